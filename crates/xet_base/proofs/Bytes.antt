@@ -1,0 +1,49 @@
+-- The bytes of numbers and hashes: how many they are, and that they tell the number.
+use Rattle.std.proofs.Common.{◌≡◌, ℕ, ◌+◌, ◌*◌, ◌<◌, ◌≤◌, ◌^◌, List, [], ◌∷◌, ◌++◌, length, flat_map, refl, sym, ap, ◌∙◌, arith}
+use Rattle.std.specs.Int.{from_le_bytes, w32, w64}
+use Rattle.std.proofs.lemmas.List.{length-append}
+use Rattle.std.proofs.Math.Nat.{mul-suc}
+use Rattle.std.proofs.lemmas.Nat.{from_le_bytes-to_le_bytes_4, from_le_bytes-to_le_bytes_8}
+use Rattle.xet_base.specs.declared.merklehash.DataHash.{DataHash}
+use Rattle.xet_base.specs.Bytes.{u32_bytes, u64_bytes}
+use Rattle.xet_base.specs.Hash.{hash_bytes, IsHash}
+use Rattle.xet_base.proofs.Lists.{same_parts}
+
+pub length-u32_bytes : (n : ℕ) → length (u32_bytes n) ≡ 4
+unfolding u32_bytes
+length-u32_bytes n = refl
+
+pub length-u64_bytes : (n : ℕ) → length (u64_bytes n) ≡ 8
+unfolding u64_bytes
+length-u64_bytes n = refl
+
+pub length-hash_bytes : (hash : DataHash) → length (hash_bytes hash) ≡ 32
+unfolding hash_bytes
+length-hash_bytes hash = simp (length-append, length-u64_bytes)
+
+pub u32_bytes-injective : (m n : ℕ) → m < 2 ^ 32 → n < 2 ^ 32 → u32_bytes m ≡ u32_bytes n → m ≡ n
+unfolding u32_bytes
+u32_bytes-injective m n m_fits n_fits same =
+    sym (from_le_bytes-to_le_bytes_4 m m_fits) ∙ ap (from_le_bytes w32) same ∙ from_le_bytes-to_le_bytes_4 n n_fits
+
+pub u64_bytes-injective : (m n : ℕ) → m < 2 ^ 64 → n < 2 ^ 64 → u64_bytes m ≡ u64_bytes n → m ≡ n
+unfolding u64_bytes
+u64_bytes-injective m n m_fits n_fits same =
+    sym (from_le_bytes-to_le_bytes_8 m m_fits) ∙ ap (from_le_bytes w64) same ∙ from_le_bytes-to_le_bytes_8 n n_fits
+
+-- the front of a list is a number's bytes in one way only
+pub u32_bytes-front : (m n : ℕ) (x y : List ℕ) → m < 2 ^ 32 → n < 2 ^ 32 → u32_bytes m ++ x ≡ u32_bytes n ++ y → (m ≡ n) × (x ≡ y)
+u32_bytes-front m n x y m_fits n_fits same =
+    let parts = same_parts (u32_bytes m) (u32_bytes n) x y (length-u32_bytes m ∙ sym (length-u32_bytes n)) same in
+    (u32_bytes-injective m n m_fits n_fits parts.0, parts.1)
+
+pub u64_bytes-front : (m n : ℕ) (x y : List ℕ) → m < 2 ^ 64 → n < 2 ^ 64 → u64_bytes m ++ x ≡ u64_bytes n ++ y → (m ≡ n) × (x ≡ y)
+u64_bytes-front m n x y m_fits n_fits same =
+    let parts = same_parts (u64_bytes m) (u64_bytes n) x y (length-u64_bytes m ∙ sym (length-u64_bytes n)) same in
+    (u64_bytes-injective m n m_fits n_fits parts.0, parts.1)
+
+-- numbers of one length each, one after another
+pub length-numbers : (bytes : ℕ → List ℕ) (size : ℕ) → ((n : ℕ) → length (bytes n) ≡ size) → (ns : List ℕ) → length (flat_map bytes ns) ≡ size * length ns
+length-numbers bytes size len [] = omega arith
+length-numbers bytes size len (n ∷ ns) =
+    length-append (bytes n) (flat_map bytes ns) ∙ omega (arith, len n, length-numbers bytes size len ns, mul-suc size (length ns))

@@ -1,0 +1,5 @@
+pub mod Bytes
+pub mod Ghost
+pub mod Hex
+pub mod Lists
+pub mod Reading

@@ -1,0 +1,42 @@
+-- The turns of the loops that fill a slice.
+use Rattle.std.proofs.Common.{◌≡◌, ℕ, ◌+◌, ◌-◌, ◌<◌, ◌≤◌, List, ◌++◌, length, take, drop, Option, None, Some, sym, ap, ◌∙◌, subst, arith, refl, add_assoc}
+use Rattle.std.proofs.lemmas.List.{drop-drop, length-append}
+use Rattle.std.proofs.Math.Seq.{take-add}
+use Rattle.std.proofs.KnownBytes.{Consumes-trans, Consumes-kept}
+use Rattle.std.proofs.lemmas.Slice.{take-put_mid_below}
+use Rattle.std.specs.Io.KnownBytes.{Consumes, Keeps, IsAtEnd}
+use borrow.Rule.Slice.PartMut.{put_mid}
+use Rattle.xet_base.specs.Bytes.{HasBytes, LacksBytes}
+use Rattle.xet_base.specs.Source.{Source, advanced, next_bytes}
+use Rattle.xet_base.proofs.Lists.{take-put_mid_part}
+
+-- one more read of n bytes into a slice that is filled up to `filled`
+pub taken_more : (a b c : Option (List ℕ)) (filled k n : ℕ) (slice part : List ℕ) → filled ≤ length slice → n ≤ length part
+    → Consumes a b (take filled slice) → Consumes b c (take n part) → Consumes a c (take (filled + n) (put_mid filled k slice part))
+taken_more a b c filled k n slice part within fits taken read =
+    subst (Consumes a c) (sym (take-put_mid_part filled k n slice part within fits)) (Consumes-trans a b c (take filled slice) (take n part) taken read)
+
+pub advanced-advanced : (s : Source) (m n : ℕ) → advanced (advanced s m) n ≡ advanced s (m + n)
+advanced-advanced s m n i = record s { at = add_assoc s.at m n i; read = add_assoc s.read m n i }
+
+pub next_bytes-add : (s : Source) (m n : ℕ) → next_bytes s (m + n) ≡ next_bytes s m ++ next_bytes (advanced s m) n
+next_bytes-add s m n = take-add m n (drop s.at s.bytes) ∙ ap (λ rest. take m (drop s.at s.bytes) ++ take n rest) (drop-drop m s.at s.bytes)
+
+-- known bytes from which some were consumed had at least these
+pub HasBytes-consumed : (a b : Option (List ℕ)) (bytes : List ℕ) (n : ℕ) → length bytes ≡ n → Consumes a b bytes → HasBytes a n
+HasBytes-consumed None b bytes n len taken = tt
+HasBytes-consumed (Some xs) None bytes n len taken = absurd taken
+HasBytes-consumed (Some xs) (Some ys) bytes n len taken = omega (arith, ap length taken ∙ length-append bytes ys)
+
+-- known bytes that lack n after some were consumed lacked as many more before
+pub LacksBytes-consumed : (a b : Option (List ℕ)) (bytes : List ℕ) (n most : ℕ) → length bytes + n ≤ most → Consumes a b bytes
+    → LacksBytes b n → LacksBytes a most
+LacksBytes-consumed None b bytes n most within taken lacks = tt
+LacksBytes-consumed (Some xs) None bytes n most within taken lacks = absurd taken
+LacksBytes-consumed (Some xs) (Some ys) bytes n most within taken lacks = omega (arith, ap length taken ∙ length-append bytes ys)
+
+-- a read that failed left the front of the slice and the known bytes
+pub taken_still : (a b c : Option (List ℕ)) (filled k : ℕ) (slice part : List ℕ) → filled ≤ length slice
+    → Consumes a b (take filled slice) → Keeps b c → Consumes a c (take filled (put_mid filled k slice part))
+taken_still a b c filled k slice part within taken kept =
+    subst (Consumes a c) (sym (take-put_mid_below filled k slice part filled (omega arith) within)) (Consumes-kept a b c (take filled slice) taken kept)

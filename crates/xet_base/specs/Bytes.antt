@@ -1,0 +1,21 @@
+-- Numbers as bytes, lowest byte first, and how many bytes a reader is known to have.
+use Rattle.std.specs.Prelude.{ℕ, ◌<◌, ◌≤◌, List, length, Option, Some, None, ⊤}
+use Rattle.std.specs.Int.{to_le_bytes, w32, w64}
+
+-- the four bytes of a number below 2 ^ 32
+unfoldable pub u32_bytes : ℕ → List ℕ
+u32_bytes n = to_le_bytes w32 n
+
+-- the eight bytes of a number below 2 ^ 64
+unfoldable pub u64_bytes : ℕ → List ℕ
+u64_bytes n = to_le_bytes w64 n
+
+-- a reader has at least n bytes, where its bytes are known
+abbrev pub HasBytes : Option (List ℕ) → ℕ → Type 0
+HasBytes None n = ⊤
+HasBytes (Some bytes) n = n ≤ length bytes
+
+-- a reader has fewer than n bytes, where its bytes are known
+abbrev pub LacksBytes : Option (List ℕ) → ℕ → Type 0
+LacksBytes None n = ⊤
+LacksBytes (Some bytes) n = length bytes < n

@@ -1,0 +1,5 @@
+pub mod Bytes
+pub mod Errors
+pub mod Hash
+pub mod Hex
+pub mod Source

@@ -1,0 +1,61 @@
+-- What a source of bytes is, and what each call does to it.
+use Rattle.std.specs.Prelude.{◌≡◌, ◌⊎◌, ℕ, ◌+◌, ◌<◌, ◌≤◌, List, length, take, drop, Option, Some}
+use Rattle.std.specs.IoError.{error_kind}
+use Rattle.std.specs.declared.io.Error.{Error}
+use Rattle.std.specs.declared.io.ErrorKind.TheVariants.{UnexpectedEof}
+
+-- the bytes, the place of the next read, the seeks made, the bytes read and the failures so far, and the latest failure
+pub record Source : Type 0 where
+  pub bytes : List ℕ
+  pub at : ℕ
+  pub seeks : ℕ
+  pub read : ℕ
+  pub failures : ℕ
+  pub last_failure : Option Error
+
+-- after a read of n bytes
+abbrev pub advanced : Source → ℕ → Source
+advanced s n = record s { at = s.at + n; read = s.read + n }
+
+-- after a seek
+abbrev pub moved : Source → ℕ → Source
+moved s to = record s { at = to; seeks = s.seeks + 1 }
+
+-- the next n bytes, or as many as are left
+abbrev pub next_bytes : Source → ℕ → List ℕ
+next_bytes s n = take n (drop s.at s.bytes)
+
+-- a read into a slice gave n bytes, and none only at the end or for an empty slice
+pub record ReadsSome (old new : Source) (slice : List ℕ) (n : ℕ) : Type 0 where
+  pub fits : n ≤ length slice
+  pub within : 0 < n → old.at + n ≤ length old.bytes
+  pub filled : take n slice ≡ next_bytes old n
+  pub end : n ≡ 0 → 0 < length slice → length old.bytes ≤ old.at
+  pub after : new ≡ advanced old n
+
+-- the device failed; the place is open
+pub record Fails (old new : Source) (made : ℕ) (e : Error) : Type 0 where
+  pub bytes : new.bytes ≡ old.bytes
+  pub seeks : new.seeks ≡ old.seeks + made
+  pub read : new.read ≡ old.read
+  pub failures : new.failures ≡ old.failures + 1
+  pub last_failure : new.last_failure ≡ Some e
+
+-- a slice was filled
+pub record Fills (old new : Source) (slice : List ℕ) : Type 0 where
+  pub within : 0 < length slice → old.at + length slice ≤ length old.bytes
+  pub filled : slice ≡ next_bytes old (length slice)
+  pub after : new ≡ advanced old (length slice)
+
+-- why n bytes were not read: the device failed, and the error is its own; or the bytes ended
+abbrev pub FillFailure : Source → Source → ℕ → Error → Type 0
+FillFailure old new n e =
+    ((new.failures ≡ old.failures + 1) × (new.last_failure ≡ Some e))
+    ⊎ ((new.failures ≡ old.failures) × (error_kind e ≡ UnexpectedEof) × (length old.bytes < old.at + n))
+
+-- a slice of n bytes was not filled; the place is open
+pub record FillsNot (old new : Source) (n : ℕ) (e : Error) : Type 0 where
+  pub bytes : new.bytes ≡ old.bytes
+  pub seeks : new.seeks ≡ old.seeks
+  pub read : new.read ≤ old.read + n
+  pub cause : FillFailure old new n e

@@ -1,0 +1,221 @@
+//! The error of every crate above.
+
+ghost use Rattle.std.specs.Prelude.{◌≡◌, ◌==◌, Option};
+ghost use Rattle.xet_base.specs.Errors.{variant_number, FromDevice, IsOtherText, IsInvalidShardText, IsOther, WithoutFormatError, CoreResult};
+ghost use Rattle.std.specs.Ordering.{on};
+ghost use Rattle.std.proofs.Common.{rules};
+ghost use Rattle.std.specs.Cmp.Rules.{comparing};
+
+use crate::merklehash::{DataHashBytesParseError, DataHashHexParseError, MerkleHash};
+use std::alloc::{AllocError, AllocFailed, Global};
+use std::{fmt, io};
+use thiserror::Error;
+
+/// The error of a hash that is parsed from text. No value of it exists.
+#[derive(Clone, Copy)]
+pub enum Infallible {}
+
+/// Why a call was refused. Two errors are equal exactly if their variants are.
+#[derive(Drop, Error)]
+pub enum CoreError {
+    /// The input ended too early (`UnexpectedEof`), or a device failed.
+    #[error("I/O error: {0}")]
+    Io(io::Error),
+    #[error("Internal error: {0}")]
+    InternalError(String),
+    #[error("{0}")]
+    Other(String),
+    /// So many records share this first word of a hash that a lookup gives up.
+    #[error("Too many collisions for truncated hash: {0}")]
+    TruncatedHashCollision(u64),
+    #[error("Shard version error: {0}")]
+    ShardVersion(String),
+    #[error("Bad filename: {0}")]
+    BadFilename(String),
+    #[error("Shard not found: {0}")]
+    ShardNotFound(MerkleHash),
+    #[error("File not found: {0}")]
+    FileNotFound(MerkleHash),
+    #[error("Query failed: {0}")]
+    QueryFailed(String),
+    #[error("Smudge query policy error: {0}")]
+    SmudgeQueryPolicy(String),
+    /// The bytes are no shard.
+    #[error("Invalid shard: {0}")]
+    InvalidShard(String),
+    #[error("Invalid range")]
+    InvalidRange,
+    #[error("Invalid arguments")]
+    InvalidArguments,
+    #[error("Malformed data: {0}")]
+    MalformedData(String),
+    #[error("Hash mismatch")]
+    HashMismatch,
+    /// Never made: its content has no value.
+    #[error("Hash parsing error")]
+    HashParsing(Infallible),
+    #[error("Chunk header parse error")]
+    ChunkHeaderParse,
+    /// A growth was refused, here or by a device.
+    #[error("Out of memory")]
+    OutOfMemory,
+}
+
+/// The result of a call that [`CoreError`] can refuse.
+pub type Result<T> = std::result::Result<T, CoreError>;
+
+impl CoreError {
+    /// `Other` of `text`, or `OutOfMemory` where the text finds no memory.
+    pub fn other(alloc: Global, text: &str) -> CoreError
+        ensures { IsOtherText text.now result }
+    {
+        match String::from_str(alloc, text) {
+            Ok(text) => CoreError::Other(text),
+            Err(_) => CoreError::OutOfMemory,
+        }
+    }
+
+    /// `InvalidShard` of `text`, or `OutOfMemory` where the text finds no memory.
+    pub fn invalid_shard(alloc: Global, text: &str) -> CoreError
+        ensures { IsInvalidShardText text.now result }
+    {
+        match String::from_str(alloc, text) {
+            Ok(text) => CoreError::InvalidShard(text),
+            Err(_) => CoreError::OutOfMemory,
+        }
+    }
+
+    /// `Other` with the text of the parse error, or `OutOfMemory` where that finds no memory.
+    pub fn of_bytes_error(alloc: Global, _error: DataHashBytesParseError) -> CoreError
+        ensures { IsOther result }
+    {
+        CoreError::other(alloc, "a hash has 32 bytes")
+    }
+
+    /// `Other` with the text of the parse error, or `OutOfMemory` where that finds no memory.
+    pub fn of_hex_error(alloc: Global, _error: DataHashHexParseError) -> CoreError
+        ensures { IsOther result }
+    {
+        CoreError::other(alloc, "the text of a hash has 64 hexadecimal digits")
+    }
+
+    fn variant_number(&self) -> u8
+        ensures { result ≡ variant_number self.now }
+    {
+        match self {
+            CoreError::Io(_) => 1,
+            CoreError::InternalError(_) => 2,
+            CoreError::Other(_) => 3,
+            CoreError::TruncatedHashCollision(_) => 4,
+            CoreError::ShardVersion(_) => 5,
+            CoreError::BadFilename(_) => 6,
+            CoreError::ShardNotFound(_) => 7,
+            CoreError::FileNotFound(_) => 8,
+            CoreError::QueryFailed(_) => 9,
+            CoreError::SmudgeQueryPolicy(_) => 10,
+            CoreError::InvalidShard(_) => 11,
+            CoreError::InvalidRange => 12,
+            CoreError::InvalidArguments => 13,
+            CoreError::MalformedData(_) => 14,
+            CoreError::HashMismatch => 15,
+            CoreError::HashParsing(_) => 16,
+            CoreError::ChunkHeaderParse => 17,
+            CoreError::OutOfMemory => 18,
+        }
+    }
+}
+
+impl PartialEq for CoreError {
+    ghost eq = { on variant_number ◌==◌ };
+
+    ghost laws = { Prim.search (comparing, rules) };
+
+    fn eq(&self, other: &CoreError) -> bool {
+        self.variant_number() == other.variant_number()
+    }
+}
+
+impl Eq for CoreError {
+    ghost laws = { Prim.search (comparing, rules) };
+}
+
+// By hand, since an enum without variants has no derived `Debug`.
+impl fmt::Debug for CoreError {
+    fn fmt<W: fmt::Write>(&self, f: &mut fmt::Formatter<W>) -> fmt::Result {
+        match self {
+            CoreError::Io(error) => write!(f, "Io({error:?})"),
+            CoreError::InternalError(text) => write!(f, "InternalError({text:?})"),
+            CoreError::Other(text) => write!(f, "Other({text:?})"),
+            CoreError::TruncatedHashCollision(word) => write!(f, "TruncatedHashCollision({word})"),
+            CoreError::ShardVersion(text) => write!(f, "ShardVersion({text:?})"),
+            CoreError::BadFilename(text) => write!(f, "BadFilename({text:?})"),
+            CoreError::ShardNotFound(hash) => write!(f, "ShardNotFound({hash})"),
+            CoreError::FileNotFound(hash) => write!(f, "FileNotFound({hash})"),
+            CoreError::QueryFailed(text) => write!(f, "QueryFailed({text:?})"),
+            CoreError::SmudgeQueryPolicy(text) => write!(f, "SmudgeQueryPolicy({text:?})"),
+            CoreError::InvalidShard(text) => write!(f, "InvalidShard({text:?})"),
+            CoreError::InvalidRange => write!(f, "InvalidRange"),
+            CoreError::InvalidArguments => write!(f, "InvalidArguments"),
+            CoreError::MalformedData(text) => write!(f, "MalformedData({text:?})"),
+            CoreError::HashMismatch => write!(f, "HashMismatch"),
+            CoreError::HashParsing(never) => match *never {},
+            CoreError::ChunkHeaderParse => write!(f, "ChunkHeaderParse"),
+            CoreError::OutOfMemory => write!(f, "OutOfMemory"),
+        }
+    }
+}
+
+impl From<io::Error> for CoreError {
+    ghost from_gives = { FromDevice };
+
+    fn from(error: io::Error) -> CoreError {
+        if error.kind() == io::ErrorKind::OutOfMemory {
+            CoreError::OutOfMemory
+        } else {
+            CoreError::Io(error)
+        }
+    }
+}
+
+impl From<AllocError> for CoreError {
+    ghost use Rattle.std.specs.Prelude.{◌≡◌};
+    ghost use Rattle.xet_base.specs.declared.error.CoreError.TheVariants.{OutOfMemory};
+
+    ghost from_gives = { λ _ e. e ≡ OutOfMemory };
+
+    fn from(_error: AllocError) -> CoreError {
+        CoreError::OutOfMemory
+    }
+}
+
+impl<T: Drop> From<AllocFailed<T>> for CoreError {
+    ghost use Rattle.std.specs.Prelude.{◌≡◌};
+    ghost use Rattle.xet_base.specs.declared.error.CoreError.TheVariants.{OutOfMemory};
+
+    ghost from_gives = { λ _ e. e ≡ OutOfMemory };
+
+    fn from(_error: AllocFailed<T>) -> CoreError {
+        CoreError::OutOfMemory
+    }
+}
+
+/// What a result becomes where malformed data is no error but no value.
+pub trait Validate<T> {
+    ghost validates: { Self → CoreResult (Option T) → Type 0 };
+
+    /// `Ok(v)` becomes `Ok(Some(v))`, `MalformedData` becomes `Ok(None)`, any other error stays.
+    fn ok_for_format_error(self) -> Result<Option<T>>
+        ensures { validates self result };
+}
+
+impl<T: Drop> Validate<T> for Result<T> {
+    ghost validates = { WithoutFormatError };
+
+    fn ok_for_format_error(self) -> Result<Option<T>> {
+        match self {
+            Ok(value) => Ok(Some(value)),
+            Err(CoreError::MalformedData(_)) => Ok(None),
+            Err(error) => Err(error),
+        }
+    }
+}

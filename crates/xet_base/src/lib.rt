@@ -1,0 +1,11 @@
+//! Hashes, errors, little-endian codecs and sources: what every layer of the shard format stands on.
+#![tactic(auto)]
+
+pub mod count;
+pub mod error;
+pub mod merklehash;
+pub mod row;
+pub mod serialization_utils;
+pub mod source;
+#[cfg(test)]
+mod tests;

@@ -1,0 +1,65 @@
+//! Rows of bytes, put together from parts and taken apart again.
+
+ghost use Rattle.std.specs.Prelude.{◌≡◌, ◌+◌, ◌≤◌, ◌++◌, length, take};
+ghost use Rattle.xet_base.specs.Bytes.{u32_bytes, u64_bytes};
+ghost use Rattle.xet_base.specs.Hash.{hash_bytes};
+
+use crate::merklehash::MerkleHash;
+
+/// Writes `bytes` into `row` at `at`, and returns the place after them.
+pub fn put(row: &mut [u8], at: usize, bytes: &[u8]) -> usize
+    requires { at + length bytes.now ≤ length row.old }
+    ensures end { result ≡ at + length bytes.now }
+    ensures front { take result row.new ≡ take at row.old ++ bytes.now }
+{
+    let end = at + bytes.len();
+    row[at..end].copy_from_slice(bytes);
+    end
+}
+
+/// The hash at the front of `bytes`, and what follows it.
+pub fn split_hash(bytes: &[u8]) -> (MerkleHash, &[u8])
+    requires { 32 ≤ length bytes.now }
+    ensures bytes { bytes.now ≡ hash_bytes result.0 ++ result.1.now }
+    ensures len { length result.1.now + 32 ≡ length bytes.now }
+{
+    let (front, rest) = bytes.split_at(32);
+    (MerkleHash::from_32(front), rest)
+}
+
+/// The number in the first four bytes, lowest byte first, and what follows them.
+pub fn split_u32(bytes: &[u8]) -> (u32, &[u8])
+    requires { 4 ≤ length bytes.now }
+    ensures bytes { bytes.now ≡ u32_bytes result.0 ++ result.1.now }
+    ensures len { length result.1.now + 4 ≡ length bytes.now }
+{
+    let (front, rest) = bytes.split_at(4);
+    (u32_of([front[0], front[1], front[2], front[3]]), rest)
+}
+
+/// The number in the first eight bytes, lowest byte first, and what follows them.
+pub fn split_u64(bytes: &[u8]) -> (u64, &[u8])
+    requires { 8 ≤ length bytes.now }
+    ensures bytes { bytes.now ≡ u64_bytes result.0 ++ result.1.now }
+    ensures len { length result.1.now + 8 ≡ length bytes.now }
+{
+    let (front, rest) = bytes.split_at(8);
+    let number = u64_of([
+        front[0], front[1], front[2], front[3], front[4], front[5], front[6], front[7],
+    ]);
+    (number, rest)
+}
+
+#[tactic(auto, unfolding(crate::specs::Bytes::u32_bytes))]
+pub(crate) fn u32_of(bytes: [u8; 4]) -> u32
+    ensures { u32_bytes result ≡ bytes }
+{
+    u32::from_le_bytes(bytes)
+}
+
+#[tactic(auto, unfolding(crate::specs::Bytes::u64_bytes))]
+pub(crate) fn u64_of(bytes: [u8; 8]) -> u64
+    ensures { u64_bytes result ≡ bytes }
+{
+    u64::from_le_bytes(bytes)
+}

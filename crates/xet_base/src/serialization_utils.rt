@@ -1,0 +1,173 @@
+//! Little-endian codecs of numbers and hashes over readers and writers.
+//!
+//! A reader that knows its bytes gives `UnexpectedEof` only where fewer bytes were left than the call
+//! reads, and no value there. A read that is interrupted is tried again.
+
+ghost use Rattle.std.specs.Prelude.{◌≡◌, ◌*◌, ◌∷◌, [], length, take, flat_map, OnOk, IfOk, IfErr, ◌≢◌};
+ghost use Rattle.std.specs.Io.KnownBytes.{Appends, Consumes};
+ghost use Rattle.std.specs.IoError.{error_kind};
+ghost use Rattle.xet_base.specs.Bytes.{u32_bytes, u64_bytes, HasBytes, LacksBytes};
+ghost use Rattle.xet_base.specs.Hash.{hash_bytes};
+
+use crate::merklehash::MerkleHash;
+use crate::row::{u32_of, u64_of};
+use std::io;
+use std::io::{ErrorKind, Read, Write};
+
+/// Appends the 32 bytes of a hash. The error is the writer's.
+pub fn write_hash<W: Write>(writer: &mut W, hash: &MerkleHash) -> io::Result<()>
+    ensures { OnOk result (Appends (W.contents writer.old) (W.contents writer.new) (hash_bytes hash.now)) }
+{
+    writer.write_all(&hash.as_bytes())
+}
+
+/// Appends one byte. The error is the writer's.
+pub fn write_u8<W: Write>(writer: &mut W, value: u8) -> io::Result<()>
+    ensures { OnOk result (Appends (W.contents writer.old) (W.contents writer.new) (value ∷ [])) }
+{
+    writer.write_all(&[value])
+}
+
+/// Appends four bytes, lowest first. The error is the writer's.
+#[tactic(auto, unfolding(crate::specs::Bytes::u32_bytes))]
+pub fn write_u32<W: Write>(writer: &mut W, value: u32) -> io::Result<()>
+    ensures { OnOk result (Appends (W.contents writer.old) (W.contents writer.new) (u32_bytes value)) }
+{
+    writer.write_all(&value.to_le_bytes())
+}
+
+/// Appends eight bytes, lowest first. The error is the writer's.
+#[tactic(auto, unfolding(crate::specs::Bytes::u64_bytes))]
+pub fn write_u64<W: Write>(writer: &mut W, value: u64) -> io::Result<()>
+    ensures { OnOk result (Appends (W.contents writer.old) (W.contents writer.new) (u64_bytes value)) }
+{
+    writer.write_all(&value.to_le_bytes())
+}
+
+/// Appends the bytes. The error is the writer's.
+pub fn write_bytes<W: Write>(writer: &mut W, bytes: &[u8]) -> io::Result<()>
+    ensures { OnOk result (Appends (W.contents writer.old) (W.contents writer.new) bytes.now) }
+{
+    writer.write_all(bytes)
+}
+
+/// Appends each number as four bytes, lowest first. The error is the writer's.
+pub fn write_u32s<W: Write>(writer: &mut W, values: &[u32]) -> io::Result<()>
+    ensures { OnOk result (Appends (W.contents writer.old) (W.contents writer.new) (flat_map u32_bytes values.now)) }
+{
+    for value in values {
+        write_u32(writer, *value)?;
+    }
+    Ok(())
+}
+
+/// Appends each number as eight bytes, lowest first. The error is the writer's.
+pub fn write_u64s<W: Write>(writer: &mut W, values: &[u64]) -> io::Result<()>
+    ensures { OnOk result (Appends (W.contents writer.old) (W.contents writer.new) (flat_map u64_bytes values.now)) }
+{
+    for value in values {
+        write_u64(writer, *value)?;
+    }
+    Ok(())
+}
+
+/// Reads 32 bytes as a hash.
+pub fn read_hash<R: Read>(reader: &mut R) -> io::Result<MerkleHash>
+    ensures value { IfOk result (λ hash. Consumes (R.remaining reader.old) (R.remaining reader.new) (hash_bytes hash)) }
+    ensures enough { OnOk result (HasBytes (R.remaining reader.old) 32) }
+    ensures end { IfErr result (λ e. error_kind e ≡ ErrorKind.UnexpectedEof → LacksBytes (R.remaining reader.old) 32) }
+{
+    let mut bytes = [0u8; 32];
+    read_bytes(reader, &mut bytes)?;
+    Ok(MerkleHash::from_32(&bytes))
+}
+
+/// Reads one byte.
+pub fn read_u8<R: Read>(reader: &mut R) -> io::Result<u8>
+    ensures value { IfOk result (λ value. Consumes (R.remaining reader.old) (R.remaining reader.new) (value ∷ [])) }
+    ensures enough { OnOk result (HasBytes (R.remaining reader.old) 1) }
+    ensures end { IfErr result (λ e. error_kind e ≡ ErrorKind.UnexpectedEof → LacksBytes (R.remaining reader.old) 1) }
+{
+    let mut bytes = [0u8; 1];
+    read_bytes(reader, &mut bytes)?;
+    Ok(bytes[0])
+}
+
+/// Reads four bytes as a number, lowest byte first.
+pub fn read_u32<R: Read>(reader: &mut R) -> io::Result<u32>
+    ensures value { IfOk result (λ value. Consumes (R.remaining reader.old) (R.remaining reader.new) (u32_bytes value)) }
+    ensures enough { OnOk result (HasBytes (R.remaining reader.old) 4) }
+    ensures end { IfErr result (λ e. error_kind e ≡ ErrorKind.UnexpectedEof → LacksBytes (R.remaining reader.old) 4) }
+{
+    let mut bytes = [0u8; 4];
+    read_bytes(reader, &mut bytes)?;
+    Ok(u32_of(bytes))
+}
+
+/// Reads eight bytes as a number, lowest byte first.
+pub fn read_u64<R: Read>(reader: &mut R) -> io::Result<u64>
+    ensures value { IfOk result (λ value. Consumes (R.remaining reader.old) (R.remaining reader.new) (u64_bytes value)) }
+    ensures enough { OnOk result (HasBytes (R.remaining reader.old) 8) }
+    ensures end { IfErr result (λ e. error_kind e ≡ ErrorKind.UnexpectedEof → LacksBytes (R.remaining reader.old) 8) }
+{
+    let mut bytes = [0u8; 8];
+    read_bytes(reader, &mut bytes)?;
+    Ok(u64_of(bytes))
+}
+
+/// Fills `slice` from the reader.
+pub fn read_bytes<R: Read>(reader: &mut R, slice: &mut [u8]) -> io::Result<()>
+    ensures value { OnOk result (Consumes (R.remaining reader.old) (R.remaining reader.new) slice.new) }
+    ensures enough { OnOk result (HasBytes (R.remaining reader.old) (length slice.old)) }
+    ensures end { IfErr result (λ e. error_kind e ≡ ErrorKind.UnexpectedEof → LacksBytes (R.remaining reader.old) (length slice.old)) }
+{
+    let mut filled = 0;
+    for _turn in 0..u64::MAX {
+        if filled == slice.len() {
+            return Ok(());
+        }
+        match reader.read(&mut slice[filled..]) {
+            Ok(0) => return Err(io::Error::from(ErrorKind::UnexpectedEof)),
+            Ok(n) => filled += n,
+            Err(error) if error.kind() == ErrorKind::Interrupted => {}
+            Err(error) => return Err(device_error(error)),
+        }
+    }
+    Err(io::Error::from(ErrorKind::TimedOut))
+}
+
+/// Reads four bytes for each place of `values`, lowest byte first.
+pub fn read_u32s<R: Read>(reader: &mut R, values: &mut [u32]) -> io::Result<()>
+    ensures value { OnOk result (Consumes (R.remaining reader.old) (R.remaining reader.new) (flat_map u32_bytes values.new)) }
+    ensures enough { OnOk result (HasBytes (R.remaining reader.old) (4 * length values.old)) }
+    ensures end { IfErr result (λ e. error_kind e ≡ ErrorKind.UnexpectedEof → LacksBytes (R.remaining reader.old) (4 * length values.old)) }
+{
+    for value in values.iter_mut() {
+        *value = read_u32(reader)?;
+    }
+    Ok(())
+}
+
+/// Reads eight bytes for each place of `values`, lowest byte first.
+pub fn read_u64s<R: Read>(reader: &mut R, values: &mut [u64]) -> io::Result<()>
+    ensures value { OnOk result (Consumes (R.remaining reader.old) (R.remaining reader.new) (flat_map u64_bytes values.new)) }
+    ensures enough { OnOk result (HasBytes (R.remaining reader.old) (8 * length values.old)) }
+    ensures end { IfErr result (λ e. error_kind e ≡ ErrorKind.UnexpectedEof → LacksBytes (R.remaining reader.old) (8 * length values.old)) }
+{
+    for value in values.iter_mut() {
+        *value = read_u64(reader)?;
+    }
+    Ok(())
+}
+
+// A device that calls its own failure an end of the input is not believed: `UnexpectedEof` is kept for
+// the end that a read of no bytes shows.
+fn device_error(error: io::Error) -> io::Error
+    ensures { error_kind result ≢ ErrorKind.UnexpectedEof }
+{
+    if error.kind() == ErrorKind::UnexpectedEof {
+        io::Error::from(ErrorKind::Other)
+    } else {
+        error
+    }
+}

@@ -1,0 +1,107 @@
+//! Sources of bytes that are read at any place, and that contracts count the cost of.
+
+ghost use Rattle.std.specs.Prelude.{◌≡◌, ℕ, length, MatchResult, None};
+ghost use Rattle.xet_base.specs.Source.{Source, ReadsSome, Fails, Fills, FillsNot, moved};
+
+use crate::count::Count;
+use std::io;
+use std::io::ErrorKind;
+
+/// Bytes with a place to read from. Contracts see the bytes, the place, the seeks made, the bytes read
+/// and the failures so far.
+pub trait ShardSource {
+    ghost meaning: { Self → Source };
+
+    /// Reads into `slice` and returns how many bytes; 0 only at the end or for an empty slice.
+    fn read_some(&mut self, slice: &mut [u8]) -> io::Result<usize>
+        ensures { MatchResult result (ReadsSome (meaning self.old) (meaning self.new) slice.new)
+            (Fails (meaning self.old) (meaning self.new) 0) };
+
+    /// The number of bytes.
+    fn length(&mut self) -> io::Result<u64>
+        ensures { MatchResult result
+            (λ n. (n ≡ length (meaning self.old).bytes) × (meaning self.new ≡ meaning self.old))
+            (Fails (meaning self.old) (meaning self.new) 0) };
+
+    /// The place of the next read, in bytes from the start.
+    fn position(&mut self) -> io::Result<u64>
+        ensures { MatchResult result
+            (λ n. (n ≡ (meaning self.old).at) × (meaning self.new ≡ meaning self.old))
+            (Fails (meaning self.old) (meaning self.new) 0) };
+
+    /// Moves the place of the next read. A place past the end is allowed; reads there find the end.
+    fn seek_to(&mut self, to: u64) -> io::Result<()>
+        ensures { MatchResult result (λ _. meaning self.new ≡ moved (meaning self.old) to)
+            (Fails (meaning self.old) (meaning self.new) 1) };
+}
+
+/// Fills `slice` from the source's place on. `UnexpectedEof` where fewer bytes are left; the device's
+/// own error at its first failure, also where that is `Interrupted`. Makes no seek.
+pub fn read_full<S: ShardSource>(source: &mut S, slice: &mut [u8]) -> io::Result<()>
+    ensures { MatchResult result (λ _. Fills (S.meaning source.old) (S.meaning source.new) slice.new)
+        (FillsNot (S.meaning source.old) (S.meaning source.new) (length slice.old)) }
+{
+    let mut filled = 0;
+    while filled < slice.len() {
+        let n = source.read_some(&mut slice[filled..])?;
+        if n == 0 {
+            return Err(io::Error::from(ErrorKind::UnexpectedEof));
+        }
+        filled += n;
+    }
+    Ok(())
+}
+
+/// A source over bytes in memory, which never fails.
+#[derive(Drop)]
+pub struct MemorySource<'a> {
+    bytes: &'a [u8],
+    at: u64,
+    seeks: Count,
+    read: Count,
+}
+
+impl<'a> MemorySource<'a> {
+    pub fn new(bytes: &'a [u8]) -> MemorySource<'a>
+        ensures { ⟦<MemorySource<'a> as ShardSource>⟧.meaning result
+            ≡ record { bytes = bytes.now; at = 0; seeks = 0; read = 0; failures = 0; last_failure = None } }
+    {
+        MemorySource {
+            bytes,
+            at: 0,
+            seeks: Count::new(),
+            read: Count::new(),
+        }
+    }
+}
+
+impl<'a> ShardSource for MemorySource<'a> {
+    ghost meaning = { λ s. record { bytes = s.bytes.now; at = s.at; seeks = s.seeks.value; read = s.read.value; failures = 0; last_failure = None } };
+
+    fn read_some(&mut self, slice: &mut [u8]) -> io::Result<usize> {
+        let length = self.bytes.len() as u64;
+        if self.at >= length {
+            return Ok(0);
+        }
+        let start = self.at as usize;
+        let n = slice.len().min(self.bytes.len() - start);
+        slice[..n].copy_from_slice(&self.bytes[start..start + n]);
+        self.at += n as u64;
+        self.read.add(n as u64);
+        Ok(n)
+    }
+
+    fn length(&mut self) -> io::Result<u64> {
+        Ok(self.bytes.len() as u64)
+    }
+
+    fn position(&mut self) -> io::Result<u64> {
+        Ok(self.at)
+    }
+
+    fn seek_to(&mut self, to: u64) -> io::Result<()> {
+        self.at = to;
+        self.seeks.add(1);
+        Ok(())
+    }
+}
