@@ -47,3 +47,19 @@ pub length-numbers : (bytes : ℕ → List ℕ) (size : ℕ) → ((n : ℕ) → 
 length-numbers bytes size len [] = omega arith
 length-numbers bytes size len (n ∷ ns) =
     length-append (bytes n) (flat_map bytes ns) ∙ omega (arith, len n, length-numbers bytes size len ns, mul-suc size (length ns))
+
+-- the bytes tell the hash
+pub hash_bytes-injective : (a b : DataHash) → IsHash a → IsHash b → hash_bytes a ≡ hash_bytes b → a ≡ b
+unfolding hash_bytes
+hash_bytes-injective a b a_fits b_fits same =
+    let len : (m n : ℕ) → length (u64_bytes m) ≡ length (u64_bytes n) = λ m n. length-u64_bytes m ∙ sym (length-u64_bytes n) in
+    let len2 : (m m' n n' : ℕ) → length (u64_bytes m ++ u64_bytes m') ≡ length (u64_bytes n ++ u64_bytes n') = λ m m' n n'. simp (length-append, length-u64_bytes) in
+    let len3 : length ((u64_bytes a.word0 ++ u64_bytes a.word1) ++ u64_bytes a.word2) ≡ length ((u64_bytes b.word0 ++ u64_bytes b.word1) ++ u64_bytes b.word2) = simp (length-append, length-u64_bytes) in
+    let last = same_parts _ _ _ _ len3 same in
+    let third = same_parts _ _ _ _ (len2 a.word0 a.word1 b.word0 b.word1) last.0 in
+    let first = same_parts _ _ _ _ (len a.word0 b.word0) third.0 in
+    let e0 = u64_bytes-injective a.word0 b.word0 a_fits.word0 b_fits.word0 first.0 in
+    let e1 = u64_bytes-injective a.word1 b.word1 a_fits.word1 b_fits.word1 first.1 in
+    let e2 = u64_bytes-injective a.word2 b.word2 a_fits.word2 b_fits.word2 third.1 in
+    let e3 = u64_bytes-injective a.word3 b.word3 a_fits.word3 b_fits.word3 last.1 in
+    λ i. record { word0 = e0 i; word1 = e1 i; word2 = e2 i; word3 = e3 i }

@@ -1,4 +1,5 @@
 pub mod Bytes
+pub mod Errors
 pub mod Ghost
 pub mod Hex
 pub mod Lists

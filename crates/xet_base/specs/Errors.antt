@@ -45,6 +45,16 @@ abbrev pub IsEndOfInput : CoreError → Type 0
 IsEndOfInput (Io e) = error_kind e ≡ UnexpectedEof
 IsEndOfInput _ = ⊥
 
+-- the bytes are no shard
+abbrev pub IsInvalidShard : CoreError → Type 0
+IsInvalidShard (InvalidShard _) = ⊤
+IsInvalidShard _ = ⊥
+
+-- a foreign tag or version
+abbrev pub IsShardVersion : CoreError → Type 0
+IsShardVersion (ShardVersion _) = ⊤
+IsShardVersion _ = ⊥
+
 -- `Other` of this text, or no memory for it
 abbrev pub IsOtherText : List ℕ → CoreError → Type 0
 IsOtherText text (Other s) = string_bytes s ≡ text

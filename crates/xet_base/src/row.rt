@@ -17,6 +17,35 @@ pub fn put(row: &mut [u8], at: usize, bytes: &[u8]) -> usize
     end
 }
 
+/// Writes the 32 bytes of `hash` into `row` at `at`, and returns the place after them.
+pub fn put_hash(row: &mut [u8], at: usize, hash: &MerkleHash) -> usize
+    requires { at + 32 ≤ length row.old }
+    ensures end { result ≡ at + 32 }
+    ensures front { take result row.new ≡ take at row.old ++ hash_bytes hash.now }
+{
+    put(row, at, &hash.as_bytes())
+}
+
+/// Writes four bytes of `value` into `row` at `at`, lowest first, and returns the place after them.
+#[tactic(auto, unfolding(crate::specs::Bytes::u32_bytes))]
+pub fn put_u32(row: &mut [u8], at: usize, value: u32) -> usize
+    requires { at + 4 ≤ length row.old }
+    ensures end { result ≡ at + 4 }
+    ensures front { take result row.new ≡ take at row.old ++ u32_bytes value }
+{
+    put(row, at, &value.to_le_bytes())
+}
+
+/// Writes eight bytes of `value` into `row` at `at`, lowest first, and returns the place after them.
+#[tactic(auto, unfolding(crate::specs::Bytes::u64_bytes))]
+pub fn put_u64(row: &mut [u8], at: usize, value: u64) -> usize
+    requires { at + 8 ≤ length row.old }
+    ensures end { result ≡ at + 8 }
+    ensures front { take result row.new ≡ take at row.old ++ u64_bytes value }
+{
+    put(row, at, &value.to_le_bytes())
+}
+
 /// The hash at the front of `bytes`, and what follows it.
 pub fn split_hash(bytes: &[u8]) -> (MerkleHash, &[u8])
     requires { 32 ≤ length bytes.now }

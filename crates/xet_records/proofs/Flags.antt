@@ -1,0 +1,18 @@
+-- The flag bits, tested by a mask.
+use Rattle.std.proofs.Common.{◌≡◌, ◌⊎◌, inl, inr, ℕ, ◌+◌, ◌*◌, ◌/◌, ◌%◌, ◌<◌, ◌^◌, Bool, true, false, not, nat_eq, refl, sym, ap, ◌∙◌, arith}
+use Rattle.std.specs.Prelude.{bit_and}
+use Rattle.std.specs.Int.{bit_at}
+use Rattle.std.proofs.lemmas.Nat.Bits.{and_pow}
+use Rattle.std.proofs.lemmas.Bool.Decides.{nat_tests}
+use Rattle.xet_records.specs.FileRecord.{has_verification, has_metadata_ext}
+
+masked : (b k : ℕ) → b < 2 → 0 < k → not (nat_eq (b * k) 0) ≡ nat_eq b 1
+masked b k small above = grind (arith, nat_tests)
+
+pub verification_masked : (flags : ℕ) → not (nat_eq (bit_and flags 2147483648) 0) ≡ has_verification flags
+verification_masked flags =
+    ap (λ m. not (nat_eq m 0)) (and_pow flags 31) ∙ masked (bit_at flags 31) 2147483648 (omega arith) (omega arith)
+
+pub metadata_ext_masked : (flags : ℕ) → not (nat_eq (bit_and flags 1073741824) 0) ≡ has_metadata_ext flags
+metadata_ext_masked flags =
+    ap (λ m. not (nat_eq m 0)) (and_pow flags 30) ∙ masked (bit_at flags 30) 1073741824 (omega arith) (omega arith)

@@ -1,0 +1,4 @@
+pub mod Flags
+pub mod Lengths
+pub mod Reading
+pub mod Record

@@ -1,0 +1,37 @@
+use Rattle.std.proofs.Common.{◌≡◌, ◌≤◌, ◌≢◌, arith, rules}
+use Rattle.xet_base.specs.Hash.{all_ones}
+use Rattle.xet_records.specs.FileRecord.{rows_after}
+use Rattle.xet_records.proofs.Record.{after_bookend, after_record, whole_record}
+use Rattle.xet_records.proofs.file_structs.MDBFileInfo.deserialize.Goals as goal
+
+pub returns-then-is_bookend-clause-whole : goal.returns-then-is_bookend-clause-whole
+returns-then-is_bookend-clause-whole g c =
+    let read = c.in_ok-metadata.ensures in
+    (after_bookend _ (g.R.Read.remaining c.deserialize.new.reader) c.in_ok-metadata.metadata read.widths read.value (c.is_bookend.ensures.0 c.if-is_bookend.true)).0
+
+pub returns-then-is_bookend-clause-fits : goal.returns-then-is_bookend-clause-fits
+returns-then-is_bookend-clause-fits g c =
+    let read = c.in_ok-metadata.ensures in
+    (after_bookend _ (g.R.Read.remaining c.deserialize.new.reader) c.in_ok-metadata.metadata read.widths read.value (c.is_bookend.ensures.0 c.if-is_bookend.true)).1
+
+pub returns-clause-found : goal.returns-clause-found
+returns-clause-found g c =
+    let h = c.in_ok-metadata.metadata in
+    let read = c.in_ok-metadata.ensures in
+    let few : rows_after h ≤ 4294967295 = omega (arith, c.rows_after.ensures.rows) in
+    let is_file : h.file_hash ≢ all_ones = λ ones. let bookend = c.is_bookend.ensures.1 ones in cc in
+    whole_record _ (g.R.Read.remaining c.deserialize.new.reader) _ h _ read.widths is_file read.value c.in_ok-read_rows_after.ensures.found few
+
+pub returns-clause-whole : goal.returns-clause-whole
+returns-clause-whole g c =
+    let h = c.in_ok-metadata.metadata in
+    let read = c.in_ok-metadata.ensures in
+    let few : rows_after h ≤ 4294967295 = omega (arith, c.rows_after.ensures.rows) in
+    (after_record _ (g.R.Read.remaining c.deserialize.new.reader) _ h _ read.widths read.value c.in_ok-read_rows_after.ensures.found few).0
+
+pub returns-clause-fits : goal.returns-clause-fits
+returns-clause-fits g c =
+    let h = c.in_ok-metadata.metadata in
+    let read = c.in_ok-metadata.ensures in
+    let few : rows_after h ≤ 4294967295 = omega (arith, c.rows_after.ensures.rows) in
+    (after_record _ (g.R.Read.remaining c.deserialize.new.reader) _ h _ read.widths read.value c.in_ok-read_rows_after.ensures.found few).1

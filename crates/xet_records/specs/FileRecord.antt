@@ -1,0 +1,81 @@
+-- A file record: a header, its segments, and two optional parts that the header's flags announce.
+use Rattle.std.specs.Prelude.{◌≡◌, ◌≢◌, ℕ, ◌+◌, ◌*◌, ◌^◌, ◌<◌, ◌≤◌, ◌==◌, ◌%◌, Bool, IsTrue, List, [], ◌∷◌, ◌++◌, length, map, flat_map, sum_by, All, Option, Some, None, IfSome, is_some, option_map, option_to_list, if◌then◌else◌}
+use Rattle.std.specs.Int.{bit_at}
+use Rattle.xet_base.specs.Hash.{all_ones}
+use Rattle.xet_records.specs.declared.file_structs.FileDataSequenceHeader.{FileDataSequenceHeader}
+use Rattle.xet_records.specs.declared.file_structs.FileDataSequenceEntry.{FileDataSequenceEntry}
+use Rattle.xet_records.specs.declared.file_structs.FileVerificationEntry.{FileVerificationEntry}
+use Rattle.xet_records.specs.declared.file_structs.FileMetadataExt.{FileMetadataExt}
+use Rattle.xet_records.specs.declared.file_structs.MDBFileInfo.{MDBFileInfo}
+use Rattle.xet_records.specs.FileRow.{header_row, segment_row, verification_row, metadata_row, FitsHeader, FitsSegment, FitsVerification, FitsMetadata, clear_verification, clear_metadata}
+
+-- bit 31 announces one verification row a segment
+abbrev pub has_verification : ℕ → Bool
+has_verification flags = bit_at flags 31 == 1
+
+-- bit 30 announces a metadata row
+abbrev pub has_metadata_ext : ℕ → Bool
+has_metadata_ext flags = bit_at flags 30 == 1
+
+-- the flags that announce these parts and nothing else
+abbrev pub flags_of : Bool → Bool → ℕ
+flags_of verification metadata_ext = (if verification then 2147483648 else 0) + (if metadata_ext then 1073741824 else 0)
+
+-- the header that ends a section: the all-ones hash, all else zero
+abbrev pub file_bookend : FileDataSequenceHeader
+file_bookend = record { file_hash = all_ones; file_flags = 0; num_entries = 0; _unused = 0 }
+
+-- the rows that a header announces after it
+abbrev pub rows_after : FileDataSequenceHeader → ℕ
+rows_after h =
+    h.num_entries + (if has_verification h.file_flags then h.num_entries else 0) + (if has_metadata_ext h.file_flags then 1 else 0)
+
+-- the rows of a record, its header included
+abbrev pub row_count : MDBFileInfo → ℕ
+row_count r = 1 + length r.segments + length r.verification + length (option_to_list r.metadata_ext)
+
+-- the rows of a record after its header, in order: segments, verification rows, metadata row
+unfoldable pub rows_text : MDBFileInfo → List ℕ
+rows_text r = (flat_map segment_row r.segments ++ flat_map verification_row r.verification) ++ flat_map metadata_row (option_to_list r.metadata_ext)
+
+-- the rows of a record in order
+unfoldable pub record_text : MDBFileInfo → List ℕ
+record_text r = header_row r.metadata ++ rows_text r
+
+-- the bytes of a file
+abbrev pub size_of_file : MDBFileInfo → ℕ
+size_of_file r = sum_by (λ s. s.unpacked_segment_bytes) r.segments
+
+-- a record has the parts that its header announces
+pub record FitsItsHeader (r : MDBFileInfo) : Type 0 where
+  pub segments : length r.segments ≡ r.metadata.num_entries
+  pub verification : length r.verification ≡ (if has_verification r.metadata.file_flags then r.metadata.num_entries else 0)
+  pub metadata_ext : is_some r.metadata_ext ≡ has_metadata_ext r.metadata.file_flags
+
+-- the widths of a record's numbers
+pub record FitsRecord (r : MDBFileInfo) : Type 0 where
+  pub metadata : FitsHeader r.metadata
+  pub segments : All FitsSegment r.segments
+  pub verification : All FitsVerification r.verification
+  pub metadata_ext : IfSome r.metadata_ext FitsMetadata
+
+-- a record that may stand in a section: not a bookend, whole, and its numbers within their widths
+pub record IsStored (r : MDBFileInfo) : Type 0 where
+  pub is_file : r.metadata.file_hash ≢ all_ones
+  pub whole : FitsItsHeader r
+  pub widths : FitsRecord r
+
+-- a record as reading hands it out: reserved words of verification and metadata rows are zero
+abbrev pub handed_out : MDBFileInfo → MDBFileInfo
+handed_out r = record r { verification = map clear_verification r.verification; metadata_ext = option_map clear_metadata r.metadata_ext }
+
+-- a record that may be put into a shard
+pub record IsWellFormed (r : MDBFileInfo) : Type 0 where
+  pub is_file : r.metadata.file_hash ≢ all_ones
+  pub known_flags : r.metadata.file_flags % 2 ^ 30 ≡ 0
+  pub reserved : r.metadata._unused ≡ 0
+  pub whole : FitsItsHeader r
+  pub clear_verification : All (λ v. v._unused ≡ 0 ∷ 0 ∷ []) r.verification
+  pub clear_metadata_ext : IfSome r.metadata_ext (λ m. m._unused ≡ 0 ∷ 0 ∷ [])
+  pub rows : row_count r ≤ 4294967295
+  pub widths : FitsRecord r

@@ -1,0 +1,4 @@
+pub mod FileRecord
+pub mod FileRow
+pub mod Reading
+pub mod Rows

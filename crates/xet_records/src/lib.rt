@@ -1,0 +1,8 @@
+//! The rows of a shard, 48 bytes each, and the records that they make.
+#![tactic(auto)]
+
+pub mod file_structs;
+pub mod rows;
+
+#[cfg(test)]
+mod tests;

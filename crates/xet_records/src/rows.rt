@@ -1,0 +1,177 @@
+//! Lists of rows, and what all rows share: 48 bytes, written and read as a whole.
+
+ghost use Rattle.std.specs.Prelude.{◌≡◌, ℕ, ◌+◌, ◌*◌, List, [], ◌∷◌, ◌++◌, length, map, flat_map, All, OnOk, OnErr, IfOk, IfErr, IsTrue, ◌↔◌, Option, is_some, IfSome, option_map, option_to_list, if◌then◌else◌};
+ghost use Rattle.std.specs.Io.KnownBytes.{Appends, Consumes};
+ghost use Rattle.std.specs.IoError.{error_kind};
+ghost use Rattle.xet_records.specs.Rows.{ReadsRow, ReadsRows, ReadsOptional};
+ghost use Rattle.xet_base.specs.Bytes.{HasBytes, LacksBytes};
+ghost use Rattle.xet_base.specs.Errors.{IsEndOfInput, IsDeviceError};
+
+use std::alloc::{AllocFailed, Global};
+use std::io;
+use std::io::{ErrorKind, Read, Write};
+use std::marker::Model;
+use xet_base::error::Result;
+use xet_base::serialization_utils::{read_bytes, write_bytes};
+
+/// The bytes of a row.
+pub const ROW_SIZE: usize = 48;
+
+/// A list of rows, which contracts see as a list. It is made from a `Vec` and gives it back without
+/// taking memory.
+#[derive(Debug, Drop)]
+pub struct Rows<T> {
+    items: Vec<T>,
+}
+
+impl<T> Model for Rows<T> {
+    ghost use Rattle.std.specs.Prelude.{List};
+    ghost use Rattle.std.specs.Coded.{coded_list};
+
+    ghost Value = { List T };
+
+    ghost coded = { coded_list T.code };
+
+    ghost view = { λ rows. rows.items.items };
+}
+
+impl<T> From<Vec<T>> for Rows<T> {
+    ghost from_gives = { λ items rows. rows ≡ items.items };
+
+    fn from(items: Vec<T>) -> Rows<T> {
+        Rows { items }
+    }
+}
+
+impl<T> Rows<T> {
+    pub fn new(alloc: Global) -> Rows<T>
+        ensures { result ≡ [] }
+    {
+        Rows {
+            items: Vec::new(alloc),
+        }
+    }
+
+    pub fn len(&self) -> usize
+        ensures { result ≡ length self.now }
+    {
+        self.items.len()
+    }
+
+    pub fn is_empty(&self) -> bool
+        ensures { IsTrue result ↔ (self.now ≡ []) }
+    {
+        self.items.is_empty()
+    }
+
+    pub fn as_slice(&self) -> &[T]
+        ensures { result.now ≡ self.now }
+    {
+        self.items.as_slice()
+    }
+
+    /// The rows as the `Vec` that they were made from.
+    pub fn into_vec(self) -> Vec<T>
+        ensures { result.items ≡ self }
+    {
+        self.items
+    }
+
+    pub fn push(&mut self, row: T) -> std::result::Result<(), AllocFailed<T>>
+        ensures ok { OnOk result (self.new ≡ self.old ++ row ∷ []) }
+        ensures err { OnErr result (self.new ≡ self.old) }
+    {
+        self.items.push(row)
+    }
+}
+
+impl<T: PartialEq> PartialEq for Rows<T> {
+    ghost use Rattle.std.specs.Cmp.Lexicographic.{pointwise, lists_per};
+
+    ghost eq = { pointwise T.eq };
+
+    ghost laws = { lists_per T.laws };
+
+    fn eq(&self, other: &Rows<T>) -> bool {
+        self.items == other.items
+    }
+}
+
+/// A row of a shard. What a row stores and what reading hands out differ in the reserved words that
+/// reading drops.
+pub trait Row: Copy {
+    ghost row_bytes: { Self → List ℕ };
+
+    ghost Fits: { Self → Type 0 };
+
+    ghost handed_out: { Self → Self };
+
+    fn to_bytes(&self) -> [u8; 48]
+        ensures { result ≡ row_bytes self.now };
+
+    fn from_bytes(bytes: &[u8; 48]) -> Self
+        ensures { (stored : Self) × Fits stored × (row_bytes stored ≡ bytes.now) × (handed_out stored ≡ result) };
+}
+
+/// Appends a row. The error is the writer's.
+pub fn write_row<T: Row, W: Write>(row: &T, writer: &mut W) -> io::Result<()>
+    ensures { OnOk result (Appends (W.contents writer.old) (W.contents writer.new) (T.row_bytes row.now)) }
+{
+    write_bytes(writer, &row.to_bytes())
+}
+
+/// Appends rows in order. The error is the writer's.
+pub fn write_rows<T: Row, W: Write>(rows: &Rows<T>, writer: &mut W) -> io::Result<()>
+    ensures { OnOk result (Appends (W.contents writer.old) (W.contents writer.new) (flat_map T.row_bytes rows.now)) }
+{
+    for row in rows.as_slice() {
+        write_row(row, writer)?;
+    }
+    Ok(())
+}
+
+/// Appends the row, if there is one. The error is the writer's.
+pub fn write_optional<T: Row, W: Write>(row: &Option<T>, writer: &mut W) -> io::Result<()>
+    ensures { OnOk result (Appends (W.contents writer.old) (W.contents writer.new) (flat_map T.row_bytes (option_to_list row.now))) }
+{
+    if let Some(row) = row {
+        write_row(row, writer)?;
+    }
+    Ok(())
+}
+
+/// Reads a row. `UnexpectedEof` where fewer than 48 bytes are left.
+pub fn read_row<T: Row, R: Read>(reader: &mut R) -> io::Result<T>
+    ensures value { IfOk result (ReadsRow T.row_bytes T.Fits T.handed_out (R.remaining reader.old) (R.remaining reader.new)) }
+    ensures enough { OnOk result (HasBytes (R.remaining reader.old) 48) }
+    ensures end { IfErr result (λ e. error_kind e ≡ ErrorKind.UnexpectedEof → LacksBytes (R.remaining reader.old) 48) }
+{
+    let mut bytes = [0u8; 48];
+    read_bytes(reader, &mut bytes)?;
+    Ok(T::from_bytes(&bytes))
+}
+
+/// Reads `count` rows. `UnexpectedEof` where the reader has fewer, `OutOfMemory` where they find none.
+pub fn read_rows<T: Row + Drop, R: Read>(alloc: Global, reader: &mut R, count: u32) -> Result<Rows<T>>
+    ensures value { IfOk result (ReadsRows T.row_bytes T.Fits T.handed_out (R.remaining reader.old) (R.remaining reader.new) count) }
+    ensures end { IfErr result (λ e. IsEndOfInput e → LacksBytes (R.remaining reader.old) (48 * count)) }
+    ensures causes { IfErr result IsDeviceError }
+{
+    let mut rows = Rows::new(alloc);
+    for _row in 0..count {
+        rows.push(read_row(reader)?)?;
+    }
+    Ok(rows)
+}
+
+/// Reads a row if it is `wanted`.
+pub fn read_optional<T: Row, R: Read>(reader: &mut R, wanted: bool) -> io::Result<Option<T>>
+    ensures value { IfOk result (ReadsOptional T.row_bytes T.Fits T.handed_out (R.remaining reader.old) (R.remaining reader.new) wanted) }
+    ensures end { IfErr result (λ e. error_kind e ≡ ErrorKind.UnexpectedEof → LacksBytes (R.remaining reader.old) (if wanted then 48 else 0)) }
+{
+    if wanted {
+        Ok(Some(read_row(reader)?))
+    } else {
+        Ok(None)
+    }
+}
