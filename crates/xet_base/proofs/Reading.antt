@@ -1,5 +1,5 @@
 -- The turns of the loops that fill a slice.
-use Rattle.std.proofs.Common.{◌≡◌, ℕ, ◌+◌, ◌-◌, ◌<◌, ◌≤◌, List, ◌++◌, length, take, drop, Option, None, Some, sym, ap, ◌∙◌, subst, arith, refl, add_assoc}
+use Rattle.std.proofs.Common.{◌≡◌, ℕ, ◌+◌, ◌-◌, ◌<◌, ◌≤◌, List, [], ◌++◌, length, take, drop, Option, None, Some, sym, ap, ◌∙◌, subst, arith, refl, add_assoc, add-zero}
 use Rattle.std.proofs.lemmas.List.{drop-drop, length-append}
 use Rattle.std.proofs.Math.Seq.{take-add}
 use Rattle.std.proofs.KnownBytes.{Consumes-trans, Consumes-kept}
@@ -7,7 +7,7 @@ use Rattle.std.proofs.lemmas.Slice.{take-put_mid_below}
 use Rattle.std.specs.Io.KnownBytes.{Consumes, Keeps, IsAtEnd}
 use borrow.Rule.Slice.PartMut.{put_mid}
 use Rattle.xet_base.specs.Bytes.{HasBytes, LacksBytes}
-use Rattle.xet_base.specs.Source.{Source, advanced, next_bytes}
+use Rattle.xet_base.specs.Source.{Source, advanced, next_bytes, Takes}
 use Rattle.xet_base.proofs.Lists.{take-put_mid_part}
 
 -- one more read of n bytes into a slice that is filled up to `filled`
@@ -40,3 +40,23 @@ pub taken_still : (a b c : Option (List ℕ)) (filled k : ℕ) (slice part : Lis
     → Consumes a b (take filled slice) → Keeps b c → Consumes a c (take filled (put_mid filled k slice part))
 taken_still a b c filled k slice part within taken kept =
     subst (Consumes a c) (sym (take-put_mid_below filled k slice part filled (omega arith) within)) (Consumes-kept a b c (take filled slice) taken kept)
+
+-- bytes that were read one after another
+pub Takes-nil : (s : Source) → Takes s s []
+Takes-nil s = record {
+  within = λ some. absurd (omega arith);
+  there = refl;
+  after = λ i. record s { at = sym (add-zero s.at) i; read = sym (add-zero s.read) i }
+}
+
+pub Takes-trans : (a b c : Source) (xs ys : List ℕ) → Takes a b xs → Takes b c ys → Takes a c (xs ++ ys)
+Takes-trans a b c xs ys first last =
+    let place : b.at ≡ a.at + length xs = ap (λ s. s.at) first.after in
+    let bytes : length b.bytes ≡ length a.bytes = ap (λ s. length s.bytes) first.after in
+    record {
+      within = λ some. grind (arith, length-append xs ys, first.within, last.within, place, bytes);
+      there = (λ i. first.there i ++ (last.there ∙ ap (λ s. next_bytes s (length ys)) first.after) i)
+        ∙ sym (next_bytes-add a (length xs) (length ys)) ∙ ap (λ n. next_bytes a n) (sym (length-append xs ys));
+      after = last.after ∙ ap (λ s. advanced s (length ys)) first.after ∙ advanced-advanced a (length xs) (length ys)
+        ∙ ap (λ n. advanced a n) (sym (length-append xs ys))
+    }

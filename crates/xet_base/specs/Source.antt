@@ -3,6 +3,9 @@ use Rattle.std.specs.Prelude.{◌≡◌, ◌⊎◌, ℕ, ◌+◌, ◌<◌, ◌�
 use Rattle.std.specs.IoError.{error_kind}
 use Rattle.std.specs.declared.io.Error.{Error}
 use Rattle.std.specs.declared.io.ErrorKind.TheVariants.{UnexpectedEof}
+use Rattle.xet_base.specs.declared.error.CoreError.{CoreError}
+use Rattle.xet_base.specs.declared.error.CoreError.TheVariants.{OutOfMemory}
+use Rattle.xet_base.specs.Errors.{FromDevice, IsEndOfInput}
 
 -- the bytes, the place of the next read, the seeks made, the bytes read and the failures so far, and the latest failure
 pub record Source : Type 0 where
@@ -41,11 +44,11 @@ pub record Fails (old new : Source) (made : ℕ) (e : Error) : Type 0 where
   pub failures : new.failures ≡ old.failures + 1
   pub last_failure : new.last_failure ≡ Some e
 
--- a slice was filled
-pub record Fills (old new : Source) (slice : List ℕ) : Type 0 where
-  pub within : 0 < length slice → old.at + length slice ≤ length old.bytes
-  pub filled : slice ≡ next_bytes old (length slice)
-  pub after : new ≡ advanced old (length slice)
+-- these bytes were read, from the source's place on
+pub record Takes (old new : Source) (taken : List ℕ) : Type 0 where
+  pub within : 0 < length taken → old.at + length taken ≤ length old.bytes
+  pub there : taken ≡ next_bytes old (length taken)
+  pub after : new ≡ advanced old (length taken)
 
 -- why n bytes were not read: the device failed, and the error is its own; or the bytes ended
 abbrev pub FillFailure : Source → Source → ℕ → Error → Type 0
@@ -59,3 +62,16 @@ pub record FillsNot (old new : Source) (n : ℕ) (e : Error) : Type 0 where
   pub seeks : new.seeks ≡ old.seeks
   pub read : new.read ≤ old.read + n
   pub cause : FillFailure old new n e
+
+-- a read of n bytes was refused: by the device, whose own error it is, or by the end of the bytes
+abbrev pub ReadFailure : Source → Source → ℕ → CoreError → Type 0
+ReadFailure old new n e =
+    ((new.failures ≡ old.failures + 1) × (failure : Error) × (new.last_failure ≡ Some failure) × FromDevice failure e)
+    ⊎ ((new.failures ≡ old.failures) × IsEndOfInput e × (length old.bytes < old.at + n))
+
+-- reading up to n bytes was refused, by the device, by the end of the bytes or for want of memory; the place is open
+pub record ReadFails (old new : Source) (n : ℕ) (e : CoreError) : Type 0 where
+  pub bytes : new.bytes ≡ old.bytes
+  pub seeks : new.seeks ≡ old.seeks
+  pub read : new.read ≤ old.read + n
+  pub cause : ReadFailure old new n e ⊎ ((new.failures ≡ old.failures) × (e ≡ OutOfMemory))

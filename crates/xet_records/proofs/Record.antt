@@ -2,7 +2,6 @@
 use Rattle.std.proofs.Common.{◌≡◌, ◌≢◌, ◌⊎◌, inl, inr, ℕ, ◌+◌, ◌*◌, ◌<◌, ◌≤◌, List, [], ◌∷◌, ◌++◌, length, flat_map, Bool, true, false, Option, None, Some, IfSome, refl, sym, ap, ◌∙◌, subst, arith, append_assoc, if◌then◌else◌}
 use Rattle.std.proofs.lemmas.List.{length-append}
 use Rattle.std.specs.Io.KnownBytes.{Consumes}
-use Rattle.std.proofs.KnownBytes.{Consumes-trans}
 use Rattle.xet_base.specs.Bytes.{LacksBytes}
 use Rattle.xet_base.specs.Bytes.{u32_bytes, u64_bytes}
 use Rattle.xet_base.specs.Hash.{hash_bytes, all_ones}
@@ -27,9 +26,9 @@ pub header_row-injective : (g h : FileDataSequenceHeader) → FitsHeader g → F
 unfolding header_row
 header_row-injective g h g_fits h_fits same =
     let last = same_parts ((hash_bytes g.file_hash ++ u32_bytes g.file_flags) ++ u32_bytes g.num_entries) ((hash_bytes h.file_hash ++ u32_bytes h.file_flags) ++ u32_bytes h.num_entries) _ _
-      (simp (length-append, length-hash_bytes, length-u32_bytes)) same in
+    (simp (length-append, length-hash_bytes, length-u32_bytes)) same in
     let third = same_parts (hash_bytes g.file_hash ++ u32_bytes g.file_flags) (hash_bytes h.file_hash ++ u32_bytes h.file_flags) _ _
-      (simp (length-append, length-hash_bytes, length-u32_bytes)) last.0 in
+    (simp (length-append, length-hash_bytes, length-u32_bytes)) last.0 in
     let first = same_parts (hash_bytes g.file_hash) (hash_bytes h.file_hash) _ _ (length-hash_bytes g.file_hash ∙ sym (length-hash_bytes h.file_hash)) third.0 in
     let e0 = hash_bytes-injective g.file_hash h.file_hash g_fits.file_hash h_fits.file_hash first.0 in
     let e1 = u32_bytes-injective g.file_flags h.file_flags g_fits.file_flags h_fits.file_flags first.1 in
@@ -75,7 +74,7 @@ after_bookend (Some bytes) None g fits taken ones = absurd taken
 after_bookend (Some bytes) (Some rest) g fits taken ones = (bookend_is_whole bytes g rest fits ones taken, bookend_has_few_rows bytes g rest fits ones taken)
 
 pub after_record : (old mid new : Option (List ℕ)) (g : FileDataSequenceHeader) (found : MDBFileInfo) → FitsHeader g → Consumes old mid (header_row g)
-    → ReadsRowsAfter g mid new found → rows_after g ≤ 4294967295
+    → ReadsRowsAfter g (Consumes mid new) found → rows_after g ≤ 4294967295
     → IfSome old (λ bytes. ¬ IsCutShort bytes) × IfSome old (λ bytes. ¬ HasTooManyRows bytes)
 after_record None mid new g found fits taken read few = (tt, tt)
 after_record (Some bytes) None new g found fits taken read few = absurd taken
@@ -85,17 +84,18 @@ after_record (Some bytes) (Some rest) (Some left) g found fits taken read few =
     (rows_are_whole bytes g rest fits taken enough, rows_are_few bytes g rest fits taken few)
 
 -- a header and the rows after it are a record
-pub whole_record : (old mid new : Option (List ℕ)) (g : FileDataSequenceHeader) (found : MDBFileInfo) → FitsHeader g → g.file_hash ≢ all_ones
-    → Consumes old mid (header_row g) → ReadsRowsAfter g mid new found → rows_after g ≤ 4294967295 → ReadsRecord old new found
+pub whole_record : (First Next Both : List ℕ → Type 0) (g : FileDataSequenceHeader) (found : MDBFileInfo)
+    → ((xs ys : List ℕ) → First xs → Next ys → Both (xs ++ ys)) → FitsHeader g → g.file_hash ≢ all_ones
+    → First (header_row g) → ReadsRowsAfter g Next found → rows_after g ≤ 4294967295 → ReadsRecord Both found
 unfolding record_text
-whole_record old mid new g found fits is_file taken read few = record {
+whole_record First Next Both g found joins fits is_file taken read few = record {
   stored = read.stored;
   is_stored = record {
     is_file = subst (λ (h : FileDataSequenceHeader). h.file_hash ≢ all_ones) (sym read.same_header) is_file;
     whole = read.whole;
-    widths = record { metadata = subst FitsHeader (sym read.same_header) fits; segments = read.segments; verification = read.verification; metadata_ext = read.metadata_ext }
+    widths = record { metadata = subst FitsHeader (sym read.same_header) fits; segments = read.segments; verification = read.verification; metadata_ext = read.metadata_ext };
   };
   rows = subst (λ (h : FileDataSequenceHeader). rows_after h ≤ 4294967295) (sym read.same_header) few;
-  taken = Consumes-trans old mid new (header_row read.stored.metadata) (rows_text read.stored) (subst (λ (h : FileDataSequenceHeader). Consumes old mid (header_row h)) (sym read.same_header) taken) read.taken;
-  handed = read.handed
+  taken = joins (header_row read.stored.metadata) (rows_text read.stored) (subst (λ (h : FileDataSequenceHeader). First (header_row h)) (sym read.same_header) taken) read.taken;
+  handed = read.handed;
 }

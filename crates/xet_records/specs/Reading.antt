@@ -1,7 +1,6 @@
 -- What the bytes at the front of an input are to a reader of file records: a bookend, a whole record, a
 -- record that is cut short, or a header that announces more rows than 32 bits count.
-use Rattle.std.specs.Prelude.{◌≡◌, ◌≢◌, ◌⊎◌, ℕ, ◌*◌, ◌<◌, ◌≤◌, List, ◌++◌, length, All, Option, IfSome}
-use Rattle.std.specs.Io.KnownBytes.{Consumes}
+use Rattle.std.specs.Prelude.{◌≡◌, ◌≢◌, ◌⊎◌, ℕ, ◌*◌, ◌<◌, ◌≤◌, List, ◌++◌, length, All, IfSome}
 use Rattle.xet_base.specs.Hash.{all_ones}
 use Rattle.xet_records.specs.declared.file_structs.FileDataSequenceHeader.{FileDataSequenceHeader}
 use Rattle.xet_records.specs.declared.file_structs.MDBFileInfo.{MDBFileInfo}
@@ -9,14 +8,14 @@ use Rattle.xet_records.specs.FileRow.{header_row, FitsHeader, FitsSegment, FitsV
 use Rattle.xet_records.specs.FileRecord.{record_text, rows_text, rows_after, FitsItsHeader, IsStored, handed_out}
 
 -- a header with the all-ones hash was read, whatever its other fields
-pub record ReadsBookend (old new : Option (List ℕ)) : Type 0 where
+pub record ReadsBookend (Took : List ℕ → Type 0) : Type 0 where
   pub header : FileDataSequenceHeader
   pub widths : FitsHeader header
   pub is_bookend : header.file_hash ≡ all_ones
-  pub taken : Consumes old new (header_row header)
+  pub taken : Took (header_row header)
 
 -- the rows after a header were read: those of a stored record, which is handed out as `found`
-pub record ReadsRowsAfter (header : FileDataSequenceHeader) (old new : Option (List ℕ)) (found : MDBFileInfo) : Type 0 where
+pub record ReadsRowsAfter (header : FileDataSequenceHeader) (Took : List ℕ → Type 0) (found : MDBFileInfo) : Type 0 where
   pub stored : MDBFileInfo
   pub same_header : stored.metadata ≡ header
   pub whole : FitsItsHeader stored
@@ -24,15 +23,15 @@ pub record ReadsRowsAfter (header : FileDataSequenceHeader) (old new : Option (L
   pub verification : All FitsVerification stored.verification
   pub metadata_ext : IfSome stored.metadata_ext FitsMetadata
   pub size : length (rows_text stored) ≡ 48 * rows_after header
-  pub taken : Consumes old new (rows_text stored)
+  pub taken : Took (rows_text stored)
   pub handed : handed_out stored ≡ found
 
 -- a stored record was read, and handed out as `found`
-pub record ReadsRecord (old new : Option (List ℕ)) (found : MDBFileInfo) : Type 0 where
+pub record ReadsRecord (Took : List ℕ → Type 0) (found : MDBFileInfo) : Type 0 where
   pub stored : MDBFileInfo
   pub is_stored : IsStored stored
   pub rows : rows_after stored.metadata ≤ 4294967295
-  pub taken : Consumes old new (record_text stored)
+  pub taken : Took (record_text stored)
   pub handed : handed_out stored ≡ found
 
 -- the bytes begin with the header of a record, not with a bookend

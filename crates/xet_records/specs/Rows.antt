@@ -1,30 +1,29 @@
--- What reading rows takes from a reader. A type of rows has the bytes of a stored row, the widths of its
--- numbers, and the row that reading hands out for a stored one.
+-- What reading rows takes from an input. A type of rows has the bytes of a stored row, the widths of its
+-- numbers, and the row that reading hands out for a stored one; an input says of some bytes that it took them.
 use Rattle.std.specs.Prelude.{◌≡◌, ℕ, ◌*◌, Bool, List, length, map, flat_map, All, Option, is_some, IfSome, option_map, option_to_list, if◌then◌else◌}
-use Rattle.std.specs.Io.KnownBytes.{Consumes}
 
 -- one stored row was read and handed out as `row`
-pub record ReadsRow {T : Type 0} (row_bytes : T → List ℕ) (Fits : T → Type 0) (handed_out : T → T) (old new : Option (List ℕ)) (row : T) : Type 0 where
+pub record ReadsRow {T : Type 0} (row_bytes : T → List ℕ) (Fits : T → Type 0) (handed_out : T → T) (Took : List ℕ → Type 0) (row : T) : Type 0 where
   pub stored : T
   pub widths : Fits stored
   pub size : length (row_bytes stored) ≡ 48
-  pub taken : Consumes old new (row_bytes stored)
+  pub taken : Took (row_bytes stored)
   pub handed : handed_out stored ≡ row
 
 -- so many stored rows were read and handed out as `rows`
-pub record ReadsRows {T : Type 0} (row_bytes : T → List ℕ) (Fits : T → Type 0) (handed_out : T → T) (old new : Option (List ℕ)) (count : ℕ) (rows : List T) : Type 0 where
+pub record ReadsRows {T : Type 0} (row_bytes : T → List ℕ) (Fits : T → Type 0) (handed_out : T → T) (Took : List ℕ → Type 0) (count : ℕ) (rows : List T) : Type 0 where
   pub stored : List T
   pub len : length stored ≡ count
   pub widths : All Fits stored
   pub size : length (flat_map row_bytes stored) ≡ 48 * count
-  pub taken : Consumes old new (flat_map row_bytes stored)
+  pub taken : Took (flat_map row_bytes stored)
   pub handed : map handed_out stored ≡ rows
 
 -- a stored row was read if it was wanted, and handed out as `row`
-pub record ReadsOptional {T : Type 0} (row_bytes : T → List ℕ) (Fits : T → Type 0) (handed_out : T → T) (old new : Option (List ℕ)) (wanted : Bool) (row : Option T) : Type 0 where
+pub record ReadsOptional {T : Type 0} (row_bytes : T → List ℕ) (Fits : T → Type 0) (handed_out : T → T) (Took : List ℕ → Type 0) (wanted : Bool) (row : Option T) : Type 0 where
   pub stored : Option T
   pub present : is_some stored ≡ wanted
   pub widths : IfSome stored Fits
   pub size : length (flat_map row_bytes (option_to_list stored)) ≡ (if wanted then 48 else 0)
-  pub taken : Consumes old new (flat_map row_bytes (option_to_list stored))
+  pub taken : Took (flat_map row_bytes (option_to_list stored))
   pub handed : option_map handed_out stored ≡ row

@@ -9,15 +9,20 @@ ghost use Rattle.xet_records.specs.FileRow.{header_row, segment_row, verificatio
 ghost use Rattle.xet_records.specs.FileRecord.{has_verification, has_metadata_ext, flags_of, file_bookend, rows_after, row_count, record_text, size_of_file, FitsItsHeader};
 ghost use Rattle.xet_records.specs.Rows.{ReadsRow};
 ghost use Rattle.xet_records.specs.Reading.{ReadsRecord, ReadsRowsAfter, ReadsBookend, IsCutShort, HasTooManyRows};
+ghost use Rattle.xet_base.specs.Source.{Takes, ReadFails};
 ghost use Rattle.xet_base.specs.Errors.{IsEndOfInput, IsDeviceError, IsInvalidShard};
 
-use crate::rows::{Row, Rows, read_optional, read_row, read_rows, write_optional, write_row, write_rows};
+use crate::rows::{
+    Row, Rows, read_optional, read_row, read_rows, read_source_optional, read_source_rows,
+    write_optional, write_row, write_rows,
+};
 use std::alloc::Global;
 use std::io;
 use std::io::{ErrorKind, Read, Write};
 use xet_base::error::{CoreError, Result};
 use xet_base::merklehash::{MerkleHash, Sha256};
 use xet_base::row::{put_hash, put_u32, put_u64, split_hash, split_u32, split_u64};
+use xet_base::source::ShardSource;
 
 /// The flags of a file that announce no optional part.
 pub const MDB_DEFAULT_FILE_FLAG: u32 = 0;
@@ -51,8 +56,16 @@ impl FileDataSequenceHeader {
     ) -> Self
         ensures { result ≡ record { file_hash = file_hash; file_flags = flags_of contains_verification contains_metadata_ext; num_entries = num_entries; _unused = 0 } }
     {
-        let verification = if contains_verification { MDB_FILE_FLAG_WITH_VERIFICATION } else { 0 };
-        let metadata_ext = if contains_metadata_ext { MDB_FILE_FLAG_WITH_METADATA_EXT } else { 0 };
+        let verification = if contains_verification {
+            MDB_FILE_FLAG_WITH_VERIFICATION
+        } else {
+            0
+        };
+        let metadata_ext = if contains_metadata_ext {
+            MDB_FILE_FLAG_WITH_METADATA_EXT
+        } else {
+            0
+        };
         FileDataSequenceHeader {
             file_hash,
             file_flags: MDB_DEFAULT_FILE_FLAG + verification + metadata_ext,
@@ -136,7 +149,11 @@ impl FileDataSequenceHeader {
     fn verification_rows(&self) -> u32
         ensures { result ≡ (if has_verification self.now.file_flags then self.now.num_entries else 0) }
     {
-        if self.contains_verification() { self.num_entries } else { 0 }
+        if self.contains_verification() {
+            self.num_entries
+        } else {
+            0
+        }
     }
 }
 
@@ -289,7 +306,7 @@ impl FileVerificationEntry {
     /// Reads the row, with zero reserved words whatever stands there. `UnexpectedEof` where fewer than
     /// 48 bytes are left.
     pub fn deserialize<R: Read>(reader: &mut R) -> io::Result<Self>
-        ensures value { IfOk result (ReadsRow verification_row FitsVerification clear_verification (R.remaining reader.old) (R.remaining reader.new)) }
+        ensures value { IfOk result (ReadsRow verification_row FitsVerification clear_verification (Consumes (R.remaining reader.old) (R.remaining reader.new))) }
         ensures enough { OnOk result (HasBytes (R.remaining reader.old) 48) }
         ensures end { IfErr result (λ e. error_kind e ≡ ErrorKind.UnexpectedEof → LacksBytes (R.remaining reader.old) 48) }
     {
@@ -352,7 +369,7 @@ impl FileMetadataExt {
     /// Reads the row, with zero reserved words whatever stands there. `UnexpectedEof` where fewer than
     /// 48 bytes are left.
     pub fn deserialize<R: Read>(reader: &mut R) -> io::Result<Self>
-        ensures value { IfOk result (ReadsRow metadata_row FitsMetadata clear_metadata (R.remaining reader.old) (R.remaining reader.new)) }
+        ensures value { IfOk result (ReadsRow metadata_row FitsMetadata clear_metadata (Consumes (R.remaining reader.old) (R.remaining reader.new))) }
         ensures enough { OnOk result (HasBytes (R.remaining reader.old) 48) }
         ensures end { IfErr result (λ e. error_kind e ≡ ErrorKind.UnexpectedEof → LacksBytes (R.remaining reader.old) 48) }
     {
@@ -454,8 +471,8 @@ impl MDBFileInfo {
     /// `InvalidShard` where these rows pass 32 bits, `OutOfMemory` where the rows find none.
     pub fn deserialize<R: Read>(alloc: Global, reader: &mut R) -> Result<Option<Self>>
         ensures found { IfOk result (λ found. MatchOption found
-            (ReadsBookend (R.remaining reader.old) (R.remaining reader.new))
-            (ReadsRecord (R.remaining reader.old) (R.remaining reader.new))) }
+            (ReadsBookend (Consumes (R.remaining reader.old) (R.remaining reader.new)))
+            (ReadsRecord (Consumes (R.remaining reader.old) (R.remaining reader.new)))) }
         ensures end { IfErr result (λ e. IsEndOfInput e → IfSome (R.remaining reader.old) IsCutShort) }
         ensures invalid { IfErr result (λ e. IsInvalidShard e → IfSome (R.remaining reader.old) HasTooManyRows) }
         ensures causes { IfErr result (λ e. IsDeviceError e ⊎ IsInvalidShard e) }
@@ -480,13 +497,35 @@ fn read_rows_after<R: Read>(
     reader: &mut R,
     metadata: FileDataSequenceHeader,
 ) -> Result<MDBFileInfo>
-    ensures found { IfOk result (ReadsRowsAfter metadata (R.remaining reader.old) (R.remaining reader.new)) }
+    ensures found { IfOk result (ReadsRowsAfter metadata (Consumes (R.remaining reader.old) (R.remaining reader.new))) }
     ensures end { IfErr result (λ e. IsEndOfInput e → LacksBytes (R.remaining reader.old) (48 * rows_after metadata)) }
     ensures causes { IfErr result IsDeviceError }
 {
     let segments = read_rows(alloc, reader, metadata.num_entries)?;
     let verification = read_rows(alloc, reader, metadata.verification_rows())?;
     let metadata_ext = read_optional(reader, metadata.contains_metadata_ext())?;
+    Ok(MDBFileInfo {
+        metadata,
+        segments,
+        verification,
+        metadata_ext,
+    })
+}
+
+/// Reads the rows that a header announces, which stand from the source's place on. `UnexpectedEof` where
+/// fewer are left, `OutOfMemory` where they find no memory.
+#[tactic(auto, unfolding(crate::specs::FileRecord::rows_text))]
+pub fn read_source_rows_after<S: ShardSource>(
+    alloc: Global,
+    source: &mut S,
+    metadata: FileDataSequenceHeader,
+) -> Result<MDBFileInfo>
+    ensures found { IfOk result (ReadsRowsAfter metadata (Takes (S.meaning source.old) (S.meaning source.new))) }
+    ensures refused { IfErr result (ReadFails (S.meaning source.old) (S.meaning source.new) (48 * rows_after metadata)) }
+{
+    let segments = read_source_rows(alloc, source, metadata.num_entries)?;
+    let verification = read_source_rows(alloc, source, metadata.verification_rows())?;
+    let metadata_ext = read_source_optional(source, metadata.contains_metadata_ext())?;
     Ok(MDBFileInfo {
         metadata,
         segments,

@@ -3,6 +3,5 @@
 
 pub mod file_structs;
 pub mod rows;
-
 #[cfg(test)]
 mod tests;

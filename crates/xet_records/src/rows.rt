@@ -5,6 +5,7 @@ ghost use Rattle.std.specs.Io.KnownBytes.{Appends, Consumes};
 ghost use Rattle.std.specs.IoError.{error_kind};
 ghost use Rattle.xet_records.specs.Rows.{ReadsRow, ReadsRows, ReadsOptional};
 ghost use Rattle.xet_base.specs.Bytes.{HasBytes, LacksBytes};
+ghost use Rattle.xet_base.specs.Source.{Takes, ReadFails};
 ghost use Rattle.xet_base.specs.Errors.{IsEndOfInput, IsDeviceError};
 
 use std::alloc::{AllocFailed, Global};
@@ -13,6 +14,7 @@ use std::io::{ErrorKind, Read, Write};
 use std::marker::Model;
 use xet_base::error::Result;
 use xet_base::serialization_utils::{read_bytes, write_bytes};
+use xet_base::source::{ShardSource, read_full};
 
 /// The bytes of a row.
 pub const ROW_SIZE: usize = 48;
@@ -142,7 +144,7 @@ pub fn write_optional<T: Row, W: Write>(row: &Option<T>, writer: &mut W) -> io::
 
 /// Reads a row. `UnexpectedEof` where fewer than 48 bytes are left.
 pub fn read_row<T: Row, R: Read>(reader: &mut R) -> io::Result<T>
-    ensures value { IfOk result (ReadsRow T.row_bytes T.Fits T.handed_out (R.remaining reader.old) (R.remaining reader.new)) }
+    ensures value { IfOk result (ReadsRow T.row_bytes T.Fits T.handed_out (Consumes (R.remaining reader.old) (R.remaining reader.new))) }
     ensures enough { OnOk result (HasBytes (R.remaining reader.old) 48) }
     ensures end { IfErr result (λ e. error_kind e ≡ ErrorKind.UnexpectedEof → LacksBytes (R.remaining reader.old) 48) }
 {
@@ -152,8 +154,12 @@ pub fn read_row<T: Row, R: Read>(reader: &mut R) -> io::Result<T>
 }
 
 /// Reads `count` rows. `UnexpectedEof` where the reader has fewer, `OutOfMemory` where they find none.
-pub fn read_rows<T: Row + Drop, R: Read>(alloc: Global, reader: &mut R, count: u32) -> Result<Rows<T>>
-    ensures value { IfOk result (ReadsRows T.row_bytes T.Fits T.handed_out (R.remaining reader.old) (R.remaining reader.new) count) }
+pub fn read_rows<T: Row + Drop, R: Read>(
+    alloc: Global,
+    reader: &mut R,
+    count: u32,
+) -> Result<Rows<T>>
+    ensures value { IfOk result (ReadsRows T.row_bytes T.Fits T.handed_out (Consumes (R.remaining reader.old) (R.remaining reader.new)) count) }
     ensures end { IfErr result (λ e. IsEndOfInput e → LacksBytes (R.remaining reader.old) (48 * count)) }
     ensures causes { IfErr result IsDeviceError }
 {
@@ -166,11 +172,53 @@ pub fn read_rows<T: Row + Drop, R: Read>(alloc: Global, reader: &mut R, count: u
 
 /// Reads a row if it is `wanted`.
 pub fn read_optional<T: Row, R: Read>(reader: &mut R, wanted: bool) -> io::Result<Option<T>>
-    ensures value { IfOk result (ReadsOptional T.row_bytes T.Fits T.handed_out (R.remaining reader.old) (R.remaining reader.new) wanted) }
+    ensures value { IfOk result (ReadsOptional T.row_bytes T.Fits T.handed_out (Consumes (R.remaining reader.old) (R.remaining reader.new)) wanted) }
     ensures end { IfErr result (λ e. error_kind e ≡ ErrorKind.UnexpectedEof → LacksBytes (R.remaining reader.old) (if wanted then 48 else 0)) }
 {
     if wanted {
         Ok(Some(read_row(reader)?))
+    } else {
+        Ok(None)
+    }
+}
+
+/// Reads a row from the source's place on. `UnexpectedEof` where fewer than 48 bytes are left.
+pub fn read_source_row<T: Row, S: ShardSource>(source: &mut S) -> Result<T>
+    ensures value { IfOk result (ReadsRow T.row_bytes T.Fits T.handed_out (Takes (S.meaning source.old) (S.meaning source.new))) }
+    ensures refused { IfErr result (ReadFails (S.meaning source.old) (S.meaning source.new) 48) }
+{
+    let mut bytes = [0u8; 48];
+    read_full(source, &mut bytes)?;
+    Ok(T::from_bytes(&bytes))
+}
+
+/// Reads `count` rows from the source's place on. `UnexpectedEof` where fewer are left, `OutOfMemory`
+/// where they find no memory.
+pub fn read_source_rows<T: Row + Drop, S: ShardSource>(
+    alloc: Global,
+    source: &mut S,
+    count: u32,
+) -> Result<Rows<T>>
+    ensures value { IfOk result (ReadsRows T.row_bytes T.Fits T.handed_out (Takes (S.meaning source.old) (S.meaning source.new)) count) }
+    ensures refused { IfErr result (ReadFails (S.meaning source.old) (S.meaning source.new) (48 * count)) }
+{
+    let mut rows = Rows::new(alloc);
+    for _row in 0..count {
+        rows.push(read_source_row(source)?)?;
+    }
+    Ok(rows)
+}
+
+/// Reads a row from the source's place on, if it is `wanted`.
+pub fn read_source_optional<T: Row, S: ShardSource>(
+    source: &mut S,
+    wanted: bool,
+) -> Result<Option<T>>
+    ensures value { IfOk result (ReadsOptional T.row_bytes T.Fits T.handed_out (Takes (S.meaning source.old) (S.meaning source.new)) wanted) }
+    ensures refused { IfErr result (ReadFails (S.meaning source.old) (S.meaning source.new) (if wanted then 48 else 0)) }
+{
+    if wanted {
+        Ok(Some(read_source_row(source)?))
     } else {
         Ok(None)
     }

@@ -23,8 +23,8 @@ returns-clause-found g c =
       verification = v.widths;
       metadata_ext = m.widths;
       size = length-three (flat_map segment_row s.stored) (flat_map verification_row v.stored) (flat_map metadata_row (option_to_list m.stored))
-        ∙ omega (arith, s.size, v.size ∙ ap (λ n. 48 * n) c.verification_rows.ensures, m.size ∙ row_or_none c.contains_metadata_ext.result, c.contains_metadata_ext.ensures, one_row c.contains_metadata_ext.ensures);
+          ∙ omega (arith, s.size, v.size ∙ ap (λ n. 48 * n) c.verification_rows.ensures, m.size ∙ row_or_none c.contains_metadata_ext.result, one_row c.contains_metadata_ext.ensures);
       taken = Consumes-trans _ (g.R.Read.remaining c.read_rows-2.new.reader) _ _ _
-        (Consumes-trans _ (g.R.Read.remaining c.read_rows.new.reader) _ _ _ s.taken v.taken) m.taken;
-      handed = λ i. record { metadata = c.args.metadata; segments = (sym (map-id s.stored) ∙ s.handed) i; verification = v.handed i; metadata_ext = m.handed i }
+          (Consumes-trans _ (g.R.Read.remaining c.read_rows.new.reader) _ _ _ s.taken v.taken) m.taken;
+      handed = λ i. record { metadata = c.args.metadata; segments = (sym (map-id s.stored) ∙ s.handed) i; verification = v.handed i; metadata_ext = m.handed i };
     }

@@ -1,4 +1,5 @@
 use Rattle.std.proofs.Common.{◌≡◌, ◌≤◌, ◌≢◌, arith, rules}
+use Rattle.std.proofs.KnownBytes.{Consumes-trans}
 use Rattle.xet_base.specs.Hash.{all_ones}
 use Rattle.xet_records.specs.FileRecord.{rows_after}
 use Rattle.xet_records.proofs.Record.{after_bookend, after_record, whole_record}
@@ -20,7 +21,7 @@ returns-clause-found g c =
     let read = c.in_ok-metadata.ensures in
     let few : rows_after h ≤ 4294967295 = omega (arith, c.rows_after.ensures.rows) in
     let is_file : h.file_hash ≢ all_ones = λ ones. let bookend = c.is_bookend.ensures.1 ones in cc in
-    whole_record _ (g.R.Read.remaining c.deserialize.new.reader) _ h _ read.widths is_file read.value c.in_ok-read_rows_after.ensures.found few
+    whole_record _ _ _ h _ (Consumes-trans _ (g.R.Read.remaining c.deserialize.new.reader) _) read.widths is_file read.value c.in_ok-read_rows_after.ensures.found few
 
 pub returns-clause-whole : goal.returns-clause-whole
 returns-clause-whole g c =

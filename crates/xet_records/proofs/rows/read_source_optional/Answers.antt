@@ -1,0 +1,7 @@
+use Rattle.std.proofs.Common.{sym, subst}
+use Rattle.xet_records.specs.Rows.{ReadsOptional}
+use Rattle.xet_records.proofs.Reading.{a_row}
+use Rattle.xet_records.proofs.rows.read_source_optional.Goals as goal
+
+pub returns-in_ok-read_source_row-clause-value : goal.returns-in_ok-read_source_row-clause-value
+returns-in_ok-read_source_row-clause-value g c = rw c.if-wanted.true (a_row _ _ _ _ _ c.in_ok-read_source_row.ensures.value)
