@@ -1,6 +1,6 @@
 //! Rows of bytes, put together from parts and taken apart again.
 
-ghost use Rattle.std.specs.Prelude.{◌≡◌, ◌+◌, ◌≤◌, ◌++◌, length, take};
+ghost use Rattle.std.specs.Prelude.{◌≡◌, ◌+◌, ◌*◌, ◌≤◌, ◌++◌, length, take, flat_map};
 ghost use Rattle.xet_base.specs.Bytes.{u32_bytes, u64_bytes};
 ghost use Rattle.xet_base.specs.Hash.{hash_bytes};
 
@@ -77,6 +77,22 @@ pub fn split_u64(bytes: &[u8]) -> (u64, &[u8])
         front[0], front[1], front[2], front[3], front[4], front[5], front[6], front[7],
     ]);
     (number, rest)
+}
+
+/// Fills `values` with the numbers at the front of `bytes`, eight bytes each, lowest byte first, and
+/// returns what follows them.
+pub fn split_u64s<'a>(bytes: &'a [u8], values: &mut [u64]) -> &'a [u8]
+    requires { 8 * length values.old ≤ length bytes.now }
+    ensures bytes { bytes.now ≡ flat_map u64_bytes values.new ++ result.now }
+    ensures len { length result.now + 8 * length values.old ≡ length bytes.now }
+{
+    let mut rest = bytes;
+    for value in values.iter_mut() {
+        let (number, after) = split_u64(rest);
+        *value = number;
+        rest = after;
+    }
+    rest
 }
 
 #[tactic(auto, unfolding(crate::specs::Bytes::u32_bytes))]

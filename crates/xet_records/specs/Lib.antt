@@ -2,3 +2,5 @@ pub mod FileRecord
 pub mod FileRow
 pub mod Reading
 pub mod Rows
+pub mod XorbRecord
+pub mod XorbRow

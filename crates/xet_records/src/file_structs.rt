@@ -187,6 +187,8 @@ impl Row for FileDataSequenceHeader {
             _unused,
         }
     }
+
+    fn widths(self) {}
 }
 
 /// A run of chunks of one xorb that a file consists of, in order.
@@ -274,6 +276,8 @@ impl Row for FileDataSequenceEntry {
             chunk_index_end,
         }
     }
+
+    fn widths(self) {}
 }
 
 /// What a segment's chunks hash to, for checking them.
@@ -337,6 +341,18 @@ impl Row for FileVerificationEntry {
         let (_second, _) = split_u64(rest);
         FileVerificationEntry::new(range_hash)
     }
+
+    fn widths(self) {
+        two_words(&self._unused);
+    }
+}
+
+// The two words of a slice.
+fn two_words(words: &[u64]) -> (u64, u64)
+    requires { length words.now ≡ 2 }
+    ensures { words.now ≡ result.0 ∷ result.1 ∷ [] }
+{
+    (words[0], words[1])
 }
 
 /// The file's SHA-256.
@@ -399,6 +415,10 @@ impl Row for FileMetadataExt {
         let (_first, rest) = split_u64(rest);
         let (_second, _) = split_u64(rest);
         FileMetadataExt::new(sha256)
+    }
+
+    fn widths(self) {
+        two_words(&self._unused);
     }
 }
 

@@ -5,3 +5,4 @@ pub mod file_structs;
 pub mod rows;
 #[cfg(test)]
 mod tests;
+pub mod xorb_structs;

@@ -113,6 +113,19 @@ pub trait Row: Copy {
 
     fn from_bytes(bytes: &[u8; 48]) -> Self
         ensures { (stored : Self) × Fits stored × (row_bytes stored ≡ bytes.now) × (handed_out stored ≡ result) };
+
+    /// Does nothing. It says that the numbers of a row in memory fit their widths.
+    fn widths(self)
+        ensures { Fits self };
+}
+
+/// Does nothing. It says that the numbers of rows in memory fit their widths.
+pub fn all_widths<T: Row>(rows: &Rows<T>)
+    ensures { All T.Fits rows.now }
+{
+    for row in rows.as_slice() {
+        (*row).widths();
+    }
 }
 
 /// Appends a row. The error is the writer's.

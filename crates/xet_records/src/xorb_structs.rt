@@ -1,0 +1,210 @@
+//! The rows and records of the xorb section.
+
+ghost use Rattle.std.specs.Prelude.{◌≡◌, OnOk, IfOk, IfErr, IsTrue, ◌↔◌};
+ghost use Rattle.std.specs.Io.KnownBytes.{Appends, Consumes};
+ghost use Rattle.std.specs.IoError.{error_kind};
+ghost use Rattle.xet_base.specs.Bytes.{HasBytes, LacksBytes};
+ghost use Rattle.xet_base.specs.Hash.{all_ones};
+ghost use Rattle.xet_records.specs.XorbRow.{xorb_header_row, chunk_row, FitsXorbHeader, FitsChunk};
+ghost use Rattle.xet_records.specs.XorbRecord.{xorb_bookend};
+
+use crate::file_structs::MDB_FILE_INFO_ENTRY_SIZE;
+use crate::rows::{Row, Rows, read_row, write_row};
+use std::io;
+use std::io::{ErrorKind, Read, Write};
+use xet_base::merklehash::MerkleHash;
+use xet_base::row::{put_hash, put_u32, split_hash, split_u32};
+
+/// The flags of a xorb.
+pub const MDB_DEFAULT_XORB_FLAG: u32 = 0;
+/// The flag of a chunk that the global index keeps whatever its hash.
+pub const MDB_CHUNK_WITH_GLOBAL_DEDUP_FLAG: u32 = 1 << 31;
+
+/// The first row of a xorb record: which xorb it is, how many chunks follow and how many bytes they have.
+#[derive(Clone, Copy, Default, Debug, PartialEq, Eq)]
+pub struct XorbChunkSequenceHeader {
+    pub xorb_hash: MerkleHash,
+    pub xorb_flags: u32,
+    pub num_entries: u32,
+    pub num_bytes_in_xorb: u32,
+    pub num_bytes_on_disk: u32,
+}
+
+impl XorbChunkSequenceHeader {
+    /// The header of a xorb with so many chunks of so many bytes, with no flags and no bytes on disk.
+    pub fn new(xorb_hash: MerkleHash, num_entries: u32, num_bytes_in_xorb: u32) -> Self
+        ensures { result ≡ record { xorb_hash = xorb_hash; xorb_flags = 0; num_entries = num_entries; num_bytes_in_xorb = num_bytes_in_xorb; num_bytes_on_disk = 0 } }
+    {
+        XorbChunkSequenceHeader {
+            xorb_hash,
+            xorb_flags: MDB_DEFAULT_XORB_FLAG,
+            num_entries,
+            num_bytes_in_xorb,
+            num_bytes_on_disk: 0,
+        }
+    }
+
+    /// The header that ends a section: the all-ones hash, all else zero.
+    pub fn bookend() -> Self
+        ensures { result ≡ xorb_bookend }
+    {
+        XorbChunkSequenceHeader::new(MerkleHash::from([u64::MAX; 4]), 0, 0)
+    }
+
+    /// Whether the hash is the all-ones hash, whatever the other fields.
+    pub fn is_bookend(&self) -> bool
+        ensures { IsTrue result ↔ (self.now.xorb_hash ≡ all_ones) }
+    {
+        self.xorb_hash == MerkleHash::from([u64::MAX; 4])
+    }
+
+    /// Appends the row and returns its 48 bytes. The error is the writer's.
+    pub fn serialize<W: Write>(&self, writer: &mut W) -> io::Result<usize>
+        ensures text { OnOk result (Appends (W.contents writer.old) (W.contents writer.new) (xorb_header_row self.now)) }
+        ensures count { IfOk result (λ n. n ≡ 48) }
+    {
+        write_row(self, writer)?;
+        Ok(MDB_FILE_INFO_ENTRY_SIZE)
+    }
+
+    /// Reads the row. `UnexpectedEof` where fewer than 48 bytes are left.
+    pub fn deserialize<R: Read>(reader: &mut R) -> io::Result<Self>
+        ensures value { IfOk result (λ row. Consumes (R.remaining reader.old) (R.remaining reader.new) (xorb_header_row row)) }
+        ensures widths { IfOk result FitsXorbHeader }
+        ensures enough { OnOk result (HasBytes (R.remaining reader.old) 48) }
+        ensures end { IfErr result (λ e. error_kind e ≡ ErrorKind.UnexpectedEof → LacksBytes (R.remaining reader.old) 48) }
+    {
+        read_row(reader)
+    }
+}
+
+impl Row for XorbChunkSequenceHeader {
+    ghost row_bytes = { xorb_header_row };
+
+    ghost Fits = { FitsXorbHeader };
+
+    ghost handed_out = { λ h. h };
+
+    #[tactic(auto, unfolding(crate::specs::XorbRow::xorb_header_row))]
+    fn to_bytes(&self) -> [u8; 48] {
+        let mut row = [0u8; 48];
+        let at = put_hash(&mut row, 0, &self.xorb_hash);
+        let at = put_u32(&mut row, at, self.xorb_flags);
+        let at = put_u32(&mut row, at, self.num_entries);
+        let at = put_u32(&mut row, at, self.num_bytes_in_xorb);
+        put_u32(&mut row, at, self.num_bytes_on_disk);
+        row
+    }
+
+    #[tactic(auto, unfolding(crate::specs::XorbRow::xorb_header_row))]
+    fn from_bytes(bytes: &[u8; 48]) -> Self {
+        let (xorb_hash, rest) = split_hash(bytes);
+        let (xorb_flags, rest) = split_u32(rest);
+        let (num_entries, rest) = split_u32(rest);
+        let (num_bytes_in_xorb, rest) = split_u32(rest);
+        let (num_bytes_on_disk, _) = split_u32(rest);
+        XorbChunkSequenceHeader {
+            xorb_hash,
+            xorb_flags,
+            num_entries,
+            num_bytes_in_xorb,
+            num_bytes_on_disk,
+        }
+    }
+
+    fn widths(self) {}
+}
+
+/// A chunk of a xorb.
+#[derive(Clone, Copy, Default, Debug, PartialEq, Eq)]
+pub struct XorbChunkSequenceEntry {
+    pub chunk_hash: MerkleHash,
+    /// Where the chunk starts in the xorb's bytes, unpacked.
+    pub chunk_byte_range_start: u32,
+    /// The bytes of the chunk, unpacked.
+    pub unpacked_segment_bytes: u32,
+    pub flags: u32,
+    pub _unused: u32,
+}
+
+impl XorbChunkSequenceEntry {
+    /// A chunk of so many bytes from such a place on, with no flags.
+    pub fn new(
+        chunk_hash: MerkleHash,
+        unpacked_segment_bytes: u32,
+        chunk_byte_range_start: u32,
+    ) -> Self
+        ensures { result ≡ record { chunk_hash = chunk_hash; chunk_byte_range_start = chunk_byte_range_start; unpacked_segment_bytes = unpacked_segment_bytes; flags = 0; _unused = 0 } }
+    {
+        XorbChunkSequenceEntry {
+            chunk_hash,
+            chunk_byte_range_start,
+            unpacked_segment_bytes,
+            flags: 0,
+            _unused: 0,
+        }
+    }
+
+    /// Appends the row and returns its 48 bytes. The error is the writer's.
+    pub fn serialize<W: Write>(&self, writer: &mut W) -> io::Result<usize>
+        ensures text { OnOk result (Appends (W.contents writer.old) (W.contents writer.new) (chunk_row self.now)) }
+        ensures count { IfOk result (λ n. n ≡ 48) }
+    {
+        write_row(self, writer)?;
+        Ok(MDB_FILE_INFO_ENTRY_SIZE)
+    }
+
+    /// Reads the row. `UnexpectedEof` where fewer than 48 bytes are left.
+    pub fn deserialize<R: Read>(reader: &mut R) -> io::Result<Self>
+        ensures value { IfOk result (λ row. Consumes (R.remaining reader.old) (R.remaining reader.new) (chunk_row row)) }
+        ensures widths { IfOk result FitsChunk }
+        ensures enough { OnOk result (HasBytes (R.remaining reader.old) 48) }
+        ensures end { IfErr result (λ e. error_kind e ≡ ErrorKind.UnexpectedEof → LacksBytes (R.remaining reader.old) 48) }
+    {
+        read_row(reader)
+    }
+}
+
+impl Row for XorbChunkSequenceEntry {
+    ghost row_bytes = { chunk_row };
+
+    ghost Fits = { FitsChunk };
+
+    ghost handed_out = { λ c. c };
+
+    #[tactic(auto, unfolding(crate::specs::XorbRow::chunk_row))]
+    fn to_bytes(&self) -> [u8; 48] {
+        let mut row = [0u8; 48];
+        let at = put_hash(&mut row, 0, &self.chunk_hash);
+        let at = put_u32(&mut row, at, self.chunk_byte_range_start);
+        let at = put_u32(&mut row, at, self.unpacked_segment_bytes);
+        let at = put_u32(&mut row, at, self.flags);
+        put_u32(&mut row, at, self._unused);
+        row
+    }
+
+    #[tactic(auto, unfolding(crate::specs::XorbRow::chunk_row))]
+    fn from_bytes(bytes: &[u8; 48]) -> Self {
+        let (chunk_hash, rest) = split_hash(bytes);
+        let (chunk_byte_range_start, rest) = split_u32(rest);
+        let (unpacked_segment_bytes, rest) = split_u32(rest);
+        let (flags, rest) = split_u32(rest);
+        let (_unused, _) = split_u32(rest);
+        XorbChunkSequenceEntry {
+            chunk_hash,
+            chunk_byte_range_start,
+            unpacked_segment_bytes,
+            flags,
+            _unused,
+        }
+    }
+
+    fn widths(self) {}
+}
+
+/// All that a shard knows of a xorb.
+#[derive(Debug, PartialEq, Drop)]
+pub struct MDBXorbInfo {
+    pub metadata: XorbChunkSequenceHeader,
+    pub chunks: Rows<XorbChunkSequenceEntry>,
+}

@@ -1,0 +1,99 @@
+-- The bytes of a shard: header, sections, tables and footer.
+use Rattle.std.specs.Prelude.{ℕ, ◌+◌, Bool, true, List, [], ◌∷◌, ◌++◌, length, flat_map, sum_by, Option, Some, None, unwrap_or, if◌then◌else◌}
+use Rattle.std.specs.FinMap.{values}
+use Rattle.xet_base.specs.declared.merklehash.DataHash.{DataHash}
+use Rattle.xet_base.specs.Bytes.{u64_bytes}
+use Rattle.xet_base.specs.Hash.{hash_bytes}
+use Rattle.xet_records.specs.declared.file_structs.MDBFileInfo.{MDBFileInfo}
+use Rattle.xet_records.specs.declared.xorb_structs.MDBXorbInfo.{MDBXorbInfo}
+use Rattle.xet_records.specs.FileRecord.{size_of_file}
+use Rattle.xet_shards.specs.declared.shard_format.header.MDBShardFileHeader.{MDBShardFileHeader}
+use Rattle.xet_shards.specs.declared.shard_format.footer.MDBShardFileFooter.{MDBShardFileFooter}
+use Rattle.xet_shards.specs.declared.shard_format.info.MDBShardInfo.{MDBShardInfo}
+use Rattle.xet_shards.specs.Shard.{Shard}
+use Rattle.xet_shards.specs.Section.{file_section, xorb_section}
+use Rattle.xet_shards.specs.Tables.{file_starts, xorb_starts, chunk_table, file_table_bytes, xorb_table_bytes, chunk_table_bytes}
+
+-- the 32 bytes that every shard begins with: `HFRepoMetaData`, a zero byte and seventeen more
+abbrev pub header_tag : List ℕ
+header_tag =
+    72 ∷ 70 ∷ 82 ∷ 101 ∷ 112 ∷ 111 ∷ 77 ∷ 101 ∷ 116 ∷ 97 ∷ 68 ∷ 97 ∷ 116 ∷ 97 ∷ 0 ∷ 85 ∷ 105 ∷ 103 ∷ 69 ∷ 106 ∷ 123 ∷ 129 ∷ 87 ∷ 131 ∷ 165 ∷ 189 ∷ 217 ∷ 92 ∷ 205 ∷ 209 ∷ 74 ∷ 169 ∷ []
+
+-- the header: the tag, whatever the value holds, its version and its footer size
+unfoldable pub header_text : MDBShardFileHeader → List ℕ
+header_text h = (header_tag ++ u64_bytes h.version) ++ u64_bytes h.footer_size
+
+-- the footer: its fields in order
+unfoldable pub footer_text : MDBShardFileFooter → List ℕ
+footer_text f =
+    (((flat_map u64_bytes (f.version ∷ f.file_info_offset ∷ f.xorb_info_offset ∷ f.file_lookup_offset ∷ f.file_lookup_num_entry ∷ f.xorb_lookup_offset ∷ f.xorb_lookup_num_entry ∷ f.chunk_lookup_offset ∷ f.chunk_lookup_num_entry ∷ [])
+    ++ hash_bytes f.chunk_hash_hmac_key)
+    ++ flat_map u64_bytes (f.shard_creation_timestamp ∷ f.shard_key_expiry ∷ []))
+    ++ flat_map u64_bytes f._buffer)
+    ++ flat_map u64_bytes (f.stored_bytes_on_disk ∷ f.materialized_bytes ∷ f.stored_bytes ∷ f.footer_offset ∷ [])
+
+-- what a writer chooses beside the records: which tables are in, the key of the chunk hashes and two moments
+pub record Form : Type 0 where
+  pub file_table : Bool
+  pub xorb_table : Bool
+  pub chunk_table : Bool
+  pub key : DataHash
+  pub creation : ℕ
+  pub expiry : ℕ
+
+-- something that is in, or nothing
+abbrev pub if_in : {X : Type 0} → Bool → List X → List X
+if_in is_in xs = if is_in then xs else []
+
+abbrev pub header_value : MDBShardFileHeader
+header_value = record { tag = header_tag; version = 2; footer_size = 200 }
+
+-- the footer: offsets are sums of lengths, counts those of the tables that are in, byte counts sums over the records
+abbrev pub footer_value : List MDBFileInfo → List MDBXorbInfo → Form → MDBShardFileFooter
+footer_value files xorbs form =
+    let xorb_info = 48 + length (file_section files) in
+    let file_lookup = xorb_info + length (xorb_section xorbs) in
+    let xorb_lookup = file_lookup + length (if_in form.file_table (file_table_bytes files)) in
+    let chunk_lookup = xorb_lookup + length (if_in form.xorb_table (xorb_table_bytes xorbs)) in
+    record {
+      version = 1;
+      file_info_offset = 48;
+      xorb_info_offset = xorb_info;
+      file_lookup_offset = file_lookup;
+      file_lookup_num_entry = length (if_in form.file_table (file_starts files));
+      xorb_lookup_offset = xorb_lookup;
+      xorb_lookup_num_entry = length (if_in form.xorb_table (xorb_starts xorbs));
+      chunk_lookup_offset = chunk_lookup;
+      chunk_lookup_num_entry = length (if_in form.chunk_table (chunk_table xorbs));
+      chunk_hash_hmac_key = form.key;
+      shard_creation_timestamp = form.creation;
+      shard_key_expiry = form.expiry;
+      _buffer = 0 ∷ 0 ∷ 0 ∷ 0 ∷ 0 ∷ 0 ∷ [];
+      stored_bytes_on_disk = sum_by (λ (x : MDBXorbInfo). x.metadata.num_bytes_on_disk) xorbs;
+      materialized_bytes = sum_by size_of_file files;
+      stored_bytes = sum_by (λ (x : MDBXorbInfo). x.metadata.num_bytes_in_xorb) xorbs;
+      footer_offset = chunk_lookup + length (if_in form.chunk_table (chunk_table_bytes xorbs))
+    }
+
+-- all the bytes of a list of files and a list of xorbs in a form
+unfoldable pub layout_of : List MDBFileInfo → List MDBXorbInfo → Form → List ℕ
+layout_of files xorbs form =
+    (((((header_text header_value ++ file_section files) ++ xorb_section xorbs) ++ if_in form.file_table (file_table_bytes files))
+    ++ if_in form.xorb_table (xorb_table_bytes xorbs)) ++ if_in form.chunk_table (chunk_table_bytes xorbs)) ++ footer_text (footer_value files xorbs form)
+
+-- all tables, no key, no creation, and an expiry or none
+abbrev pub plain_form : Option ℕ → Form
+plain_form expiry = record {
+  file_table = true; xorb_table = true; chunk_table = true;
+  key = record { word0 = 0; word1 = 0; word2 = 0; word3 = 0 };
+  creation = 0;
+  expiry = unwrap_or expiry 18446744073709551615
+}
+
+-- the bytes of a shard, its records in ascending order of their hashes
+abbrev pub layout : Shard → Option ℕ → List ℕ
+layout s expiry = layout_of (values s.files) (values s.xorbs) (plain_form expiry)
+
+-- what a reader of these bytes finds in header and footer
+abbrev pub info_value : Shard → Option ℕ → MDBShardInfo
+info_value s expiry = record { header = header_value; metadata = footer_value (values s.files) (values s.xorbs) (plain_form expiry) }

@@ -1,0 +1,4 @@
+pub mod Layout
+pub mod Section
+pub mod Shard
+pub mod Tables

@@ -1,0 +1,72 @@
+-- A shard: two finite maps, from file hash to file record and from xorb hash to xorb record.
+use Rattle.std.specs.Prelude.{◌≡◌, ℕ, ◌≤◌, List, map, sum_by, All, refl}
+use Rattle.std.specs.FinMap.{FinMap, get, insert, entries, values}
+use Rattle.std.specs.FinMap as finite
+use Rattle.std.specs.Coded.{Coded, code_by, coded×}
+use Rattle.xet_base.specs.declared.merklehash.DataHash.{DataHash}
+use Rattle.xet_base.specs.contracts.merklehash.DataHash as hash
+use Rattle.xet_base.specs.Hash.{hash_cmp}
+use Rattle.xet_records.specs.declared.file_structs.MDBFileInfo.{MDBFileInfo}
+use Rattle.xet_records.specs.contracts.file_structs.MDBFileInfo as file
+use Rattle.xet_records.specs.declared.xorb_structs.MDBXorbInfo.{MDBXorbInfo}
+use Rattle.xet_records.specs.contracts.xorb_structs.MDBXorbInfo as xorb
+use Rattle.xet_records.specs.FileRecord.{row_count, IsWellFormed}
+use Rattle.xet_records.specs.XorbRecord.{xorb_row_count, IsXorb}
+
+abbrev pub FileMap : Type 0
+FileMap = FinMap hash_cmp MDBFileInfo
+
+abbrev pub XorbMap : Type 0
+XorbMap = FinMap hash_cmp MDBXorbInfo
+
+pub record Shard : Type 0 where
+  pub files : FileMap
+  pub xorbs : XorbMap
+
+-- the codes by which proofs tell such values apart
+abbrev pub coded_files : Coded FileMap
+coded_files = finite.code hash.the_row.coded file.the_row.coded
+
+abbrev pub coded_xorbs : Coded XorbMap
+coded_xorbs = finite.code hash.the_row.coded xorb.the_row.coded
+
+abbrev pub coded_shard : Coded Shard
+coded_shard = code_by (FileMap × XorbMap) (coded× coded_files coded_xorbs) (λ s. (s.files, s.xorbs)) (λ p. record { files = p.0; xorbs = p.1 }) (λ _. refl)
+
+abbrev pub file_hash_of : MDBFileInfo → DataHash
+file_hash_of r = r.metadata.file_hash
+
+abbrev pub xorb_hash_of : MDBXorbInfo → DataHash
+xorb_hash_of r = r.metadata.xorb_hash
+
+-- the rows of a list of records
+abbrev pub total_rows : List MDBFileInfo → ℕ
+total_rows rs = sum_by row_count rs
+
+abbrev pub total_xorb_rows : List MDBXorbInfo → ℕ
+total_xorb_rows rs = sum_by xorb_row_count rs
+
+-- each key is its record's hash, and each record is well-formed
+pub record AreFiles (es : List (DataHash × MDBFileInfo)) : Type 0 where
+  pub keyed : All (λ e. e.0 ≡ file_hash_of e.1) es
+  pub well_formed : All (λ e. IsWellFormed e.1) es
+
+pub record AreXorbs (es : List (DataHash × MDBXorbInfo)) : Type 0 where
+  pub keyed : All (λ e. e.0 ≡ xorb_hash_of e.1) es
+  pub well_formed : All (λ e. IsXorb e.1) es
+
+-- such maps, whose rows 32 bits count
+pub record IsShard (s : Shard) : Type 0 where
+  pub files : AreFiles (entries s.files)
+  pub file_rows : total_rows (values s.files) ≤ 4294967295
+  pub xorbs : AreXorbs (entries s.xorbs)
+  pub xorb_rows : total_xorb_rows (values s.xorbs) ≤ 4294967295
+
+-- a record put under its hash, in the place of what is there
+abbrev pub add_file : Shard → MDBFileInfo → Shard
+add_file s r = record s { files = insert s.files (file_hash_of r) r }
+
+-- a record that may be put there
+pub record CanAddFile (s : Shard) (r : MDBFileInfo) : Type 0 where
+  pub well_formed : IsWellFormed r
+  pub rows : total_rows (values (add_file s r).files) ≤ 4294967295

@@ -1,0 +1,53 @@
+-- The lookup tables: where the records with a hash's first word start, and where the chunks with one stand.
+use Rattle.std.specs.Prelude.{ℕ, ◌+◌, List, [], ◌∷◌, ◌++◌, map, flat_map}
+use Rattle.std.specs.List.{enumerate_from}
+use Rattle.std.specs.Ordering.{nat_cmp, ordering_then}
+use Rattle.std.specs.declared.cmp.Ordering.{Ordering}
+use Rattle.std.specs.FinSet as set
+use Rattle.xet_base.specs.Bytes.{u32_bytes, u64_bytes}
+use Rattle.xet_records.specs.declared.file_structs.MDBFileInfo.{MDBFileInfo}
+use Rattle.xet_records.specs.declared.xorb_structs.MDBXorbInfo.{MDBXorbInfo}
+use Rattle.xet_shards.specs.Shard.{file_hash_of, xorb_hash_of, total_rows, total_xorb_rows}
+use Rattle.xet_shards.specs.Section.{with_fronts}
+
+-- the rows of the file table: the first word of each record's hash and where the record starts, in rows
+abbrev pub file_starts : List MDBFileInfo → List (ℕ × ℕ)
+file_starts files = map (λ e. ((file_hash_of e.1).word0, total_rows e.0)) (with_fronts [] files)
+
+abbrev pub xorb_starts : List MDBXorbInfo → List (ℕ × ℕ)
+xorb_starts xorbs = map (λ e. ((xorb_hash_of e.1).word0, total_xorb_rows e.0)) (with_fronts [] xorbs)
+
+-- where a chunk stands: the first word of its hash, where its xorb starts, and its place in the xorb
+pub record ChunkPlace : Type 0 where
+  pub word : ℕ
+  pub start : ℕ
+  pub place : ℕ
+
+abbrev pub place_cmp : ChunkPlace → ChunkPlace → Ordering
+place_cmp a b = ordering_then (nat_cmp a.word b.word) (ordering_then (nat_cmp a.start b.start) (nat_cmp a.place b.place))
+
+-- the places of a list of xorbs, in section order
+abbrev pub chunk_places : List MDBXorbInfo → List ChunkPlace
+chunk_places xorbs =
+    flat_map (λ e. map (λ c. record { word = c.1.chunk_hash.word0; start = total_xorb_rows e.0; place = c.0 }) (enumerate_from 0 e.1.chunks)) (with_fronts [] xorbs)
+
+-- the same in ascending order
+abbrev pub chunk_table : List MDBXorbInfo → List ChunkPlace
+chunk_table xorbs = set.items (set.from_list {R = place_cmp} (chunk_places xorbs))
+
+-- the bytes of a row
+abbrev pub start_row : ℕ × ℕ → List ℕ
+start_row row = u64_bytes row.0 ++ u32_bytes row.1
+
+abbrev pub place_row : ChunkPlace → List ℕ
+place_row row = (u64_bytes row.word ++ u32_bytes row.start) ++ u32_bytes row.place
+
+-- the bytes of the tables
+unfoldable pub file_table_bytes : List MDBFileInfo → List ℕ
+file_table_bytes files = flat_map start_row (file_starts files)
+
+unfoldable pub xorb_table_bytes : List MDBXorbInfo → List ℕ
+xorb_table_bytes xorbs = flat_map start_row (xorb_starts xorbs)
+
+unfoldable pub chunk_table_bytes : List MDBXorbInfo → List ℕ
+chunk_table_bytes xorbs = flat_map place_row (chunk_table xorbs)

@@ -1,0 +1,8 @@
+//! Shards: in memory, and as bytes that are written, read whole and looked up.
+#![tactic(auto)]
+
+pub mod shard_format;
+pub mod shard_in_memory;
+
+#[cfg(test)]
+mod tests;

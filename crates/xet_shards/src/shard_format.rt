@@ -1,0 +1,9 @@
+//! Shards as bytes: header, footer, writing and reading.
+
+mod footer;
+mod header;
+mod info;
+
+pub use footer::MDBShardFileFooter;
+pub use header::MDBShardFileHeader;
+pub use info::MDBShardInfo;

@@ -1,0 +1,157 @@
+//! The last 200 bytes of a shard.
+
+ghost use Rattle.std.specs.Prelude.{◌≡◌, ◌≢◌, ◌++◌, OnOk, IfOk, IfErr};
+ghost use Rattle.xet_base.specs.Bytes.{u64_bytes};
+ghost use Rattle.xet_base.specs.Errors.{IsShardVersion};
+ghost use Rattle.std.specs.Io.KnownBytes.{Appends};
+ghost use Rattle.xet_shards.specs.Layout.{footer_text};
+
+use std::alloc::Global;
+use std::io::{Read, Write};
+use xet_base::error::{CoreError, Result};
+use xet_base::merklehash::HMACKey;
+use xet_base::row::{split_hash, split_u64, split_u64s};
+use xet_base::serialization_utils::{read_bytes, write_hash, write_u64s};
+
+const MDB_SHARD_FOOTER_VERSION: u64 = 1;
+
+/// The footer of a shard: where its parts stand and what they hold. Offsets are in bytes from the start
+/// of the shard, moments in seconds.
+#[derive(Clone, Copy, Debug, PartialEq, Eq)]
+pub struct MDBShardFileFooter {
+    pub version: u64,
+    pub file_info_offset: u64,
+    pub xorb_info_offset: u64,
+    pub file_lookup_offset: u64,
+    pub file_lookup_num_entry: u64,
+    pub xorb_lookup_offset: u64,
+    pub xorb_lookup_num_entry: u64,
+    pub chunk_lookup_offset: u64,
+    pub chunk_lookup_num_entry: u64,
+    /// The key of the chunk hashes; all zero means that they are not keyed.
+    pub chunk_hash_hmac_key: HMACKey,
+    pub shard_creation_timestamp: u64,
+    /// The moment after which the shard is no longer valid.
+    pub shard_key_expiry: u64,
+    pub _buffer: [u64; 6],
+    pub stored_bytes_on_disk: u64,
+    pub materialized_bytes: u64,
+    pub stored_bytes: u64,
+    pub footer_offset: u64,
+}
+
+impl Default for MDBShardFileFooter {
+    fn default() -> Self {
+        MDBShardFileFooter {
+            version: MDB_SHARD_FOOTER_VERSION,
+            file_info_offset: 0,
+            xorb_info_offset: 0,
+            file_lookup_offset: 0,
+            file_lookup_num_entry: 0,
+            xorb_lookup_offset: 0,
+            xorb_lookup_num_entry: 0,
+            chunk_lookup_offset: 0,
+            chunk_lookup_num_entry: 0,
+            chunk_hash_hmac_key: HMACKey::default(),
+            shard_creation_timestamp: 0,
+            shard_key_expiry: u64::MAX,
+            _buffer: [0; 6],
+            stored_bytes_on_disk: 0,
+            materialized_bytes: 0,
+            stored_bytes: 0,
+            footer_offset: 0,
+        }
+    }
+}
+
+impl MDBShardFileFooter {
+    /// Appends the footer and returns its 200 bytes. The error is the writer's.
+    #[tactic(auto, unfolding(crate::specs::Layout::footer_text))]
+    pub fn serialize<W: Write>(&self, writer: &mut W) -> Result<usize>
+        ensures text { OnOk result (Appends (W.contents writer.old) (W.contents writer.new) (footer_text self.now)) }
+        ensures count { IfOk result (λ n. n ≡ 200) }
+    {
+        let offsets = [
+            self.version,
+            self.file_info_offset,
+            self.xorb_info_offset,
+            self.file_lookup_offset,
+            self.file_lookup_num_entry,
+            self.xorb_lookup_offset,
+            self.xorb_lookup_num_entry,
+            self.chunk_lookup_offset,
+            self.chunk_lookup_num_entry,
+        ];
+        write_u64s(writer, &offsets)?;
+        write_hash(writer, &self.chunk_hash_hmac_key)?;
+        write_u64s(writer, &[self.shard_creation_timestamp, self.shard_key_expiry])?;
+        write_u64s(writer, &self._buffer)?;
+        let sums = [
+            self.stored_bytes_on_disk,
+            self.materialized_bytes,
+            self.stored_bytes,
+            self.footer_offset,
+        ];
+        write_u64s(writer, &sums)?;
+        Ok(200)
+    }
+
+    /// Reads the footer. `ShardVersion` where the version is not 1, as soon as its 8 bytes are read,
+    /// `UnexpectedEof` where the bytes end before that.
+    pub fn deserialize<R: Read>(alloc: Global, reader: &mut R) -> Result<Self> {
+        let mut version = [0u8; 8];
+        read_bytes(reader, &mut version)?;
+        check_version(alloc, &version)?;
+        let mut rest = [0u8; 192];
+        read_bytes(reader, &mut rest)?;
+        Ok(MDBShardFileFooter::after_version(&rest))
+    }
+
+    // The footer whose version was read, from the 192 bytes after it.
+    #[tactic(auto, unfolding(crate::specs::Layout::footer_text))]
+    pub(super) fn after_version(rest: &[u8; 192]) -> Self
+        ensures version { result.version ≡ 1 }
+        ensures text { footer_text result ≡ u64_bytes 1 ++ rest.now }
+    {
+        let mut offsets = [0u64; 8];
+        let rest = split_u64s(rest, &mut offsets);
+        let (chunk_hash_hmac_key, rest) = split_hash(rest);
+        let mut moments = [0u64; 2];
+        let rest = split_u64s(rest, &mut moments);
+        let mut _buffer = [0u64; 6];
+        let rest = split_u64s(rest, &mut _buffer);
+        let mut sums = [0u64; 4];
+        split_u64s(rest, &mut sums);
+        MDBShardFileFooter {
+            version: MDB_SHARD_FOOTER_VERSION,
+            file_info_offset: offsets[0],
+            xorb_info_offset: offsets[1],
+            file_lookup_offset: offsets[2],
+            file_lookup_num_entry: offsets[3],
+            xorb_lookup_offset: offsets[4],
+            xorb_lookup_num_entry: offsets[5],
+            chunk_lookup_offset: offsets[6],
+            chunk_lookup_num_entry: offsets[7],
+            chunk_hash_hmac_key,
+            shard_creation_timestamp: moments[0],
+            shard_key_expiry: moments[1],
+            _buffer,
+            stored_bytes_on_disk: sums[0],
+            materialized_bytes: sums[1],
+            stored_bytes: sums[2],
+            footer_offset: sums[3],
+        }
+    }
+}
+
+// Refuses a foreign version.
+pub(super) fn check_version(alloc: Global, version: &[u8; 8]) -> Result<()>
+    ensures ok { OnOk result (version.now ≡ u64_bytes 1) }
+    ensures err { IfErr result (λ e. IsShardVersion e × (version.now ≢ u64_bytes 1)) }
+{
+    let (version, _) = split_u64(version);
+    if version != MDB_SHARD_FOOTER_VERSION {
+        return Err(CoreError::ShardVersion(String::new(alloc)));
+    }
+    Ok(())
+}

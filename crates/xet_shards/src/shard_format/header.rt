@@ -1,0 +1,96 @@
+//! The first 48 bytes of a shard.
+
+ghost use Rattle.std.specs.Prelude.{◌≡◌, ◌≢◌, ◌++◌, take, OnOk, IfOk, IfErr};
+ghost use Rattle.xet_base.specs.Bytes.{u64_bytes};
+ghost use Rattle.xet_base.specs.Errors.{IsShardVersion};
+ghost use Rattle.std.specs.Io.KnownBytes.{Appends};
+ghost use Rattle.xet_shards.specs.Layout.{header_tag, header_text};
+
+use std::alloc::Global;
+use std::io::{Read, Write};
+use xet_base::error::{CoreError, Result};
+use xet_base::row::split_u64;
+use xet_base::serialization_utils::{read_bytes, write_bytes, write_u64};
+
+/// What every shard begins with: a text and a magic number.
+const MDB_SHARD_HEADER_TAG: [u8; 32] = [
+    b'H', b'F', b'R', b'e', b'p', b'o', b'M', b'e', b't', b'a', b'D', b'a', b't', b'a', 0, 85, 105,
+    103, 69, 106, 123, 129, 87, 131, 165, 189, 217, 92, 205, 209, 74, 169,
+];
+
+const MDB_SHARD_HEADER_VERSION: u64 = 2;
+
+const MDB_SHARD_FOOTER_SIZE: u64 = 200;
+
+/// The header of a shard.
+#[derive(Clone, Copy, Debug, PartialEq, Eq)]
+pub struct MDBShardFileHeader {
+    pub tag: [u8; 32],
+    pub version: u64,
+    /// The bytes of the footer.
+    pub footer_size: u64,
+}
+
+impl Default for MDBShardFileHeader {
+    fn default() -> Self {
+        MDBShardFileHeader {
+            tag: MDB_SHARD_HEADER_TAG,
+            version: MDB_SHARD_HEADER_VERSION,
+            footer_size: MDB_SHARD_FOOTER_SIZE,
+        }
+    }
+}
+
+impl MDBShardFileHeader {
+    /// Appends the tag and the value's version and footer size, and returns their 48 bytes. The error is
+    /// the writer's.
+    #[tactic(auto, unfolding(crate::specs::Layout::header_text))]
+    pub fn serialize<W: Write>(&self, writer: &mut W) -> Result<usize>
+        ensures text { OnOk result (Appends (W.contents writer.old) (W.contents writer.new) (header_text self.now)) }
+        ensures count { IfOk result (λ n. n ≡ 48) }
+    {
+        write_bytes(writer, &MDB_SHARD_HEADER_TAG)?;
+        write_u64(writer, self.version)?;
+        write_u64(writer, self.footer_size)?;
+        Ok(48)
+    }
+
+    /// Reads the header. `ShardVersion` where the tag is another, as soon as its 32 bytes are read, or the
+    /// version is not 2, `UnexpectedEof` where the bytes end before that.
+    pub fn deserialize<R: Read>(alloc: Global, reader: &mut R) -> Result<Self> {
+        let mut tag = [0u8; 32];
+        read_bytes(reader, &mut tag)?;
+        check_tag(alloc, &tag)?;
+        let mut rest = [0u8; 16];
+        read_bytes(reader, &mut rest)?;
+        MDBShardFileHeader::after_tag(alloc, &rest)
+    }
+
+    // The header whose tag was read, from the 16 bytes after it.
+    pub(super) fn after_tag(alloc: Global, rest: &[u8; 16]) -> Result<Self>
+        ensures ok { IfOk result (λ h. (h.tag ≡ header_tag) × (h.version ≡ 2) × (rest.now ≡ u64_bytes 2 ++ u64_bytes h.footer_size)) }
+        ensures err { IfErr result (λ e. IsShardVersion e × (take 8 rest.now ≢ u64_bytes 2)) }
+    {
+        let (version, rest) = split_u64(rest);
+        let (footer_size, _) = split_u64(rest);
+        if version != MDB_SHARD_HEADER_VERSION {
+            return Err(CoreError::ShardVersion(String::new(alloc)));
+        }
+        Ok(MDBShardFileHeader {
+            tag: MDB_SHARD_HEADER_TAG,
+            version,
+            footer_size,
+        })
+    }
+}
+
+// Refuses a foreign tag.
+pub(super) fn check_tag(alloc: Global, tag: &[u8; 32]) -> Result<()>
+    ensures ok { OnOk result (tag.now ≡ header_tag) }
+    ensures err { IfErr result (λ e. IsShardVersion e × (tag.now ≢ header_tag)) }
+{
+    if *tag != MDB_SHARD_HEADER_TAG {
+        return Err(CoreError::ShardVersion(String::new(alloc)));
+    }
+    Ok(())
+}
