@@ -5,7 +5,7 @@ use Rattle.std.specs.declared.io.Error.{Error}
 use Rattle.std.specs.declared.io.ErrorKind.TheVariants.{UnexpectedEof}
 use Rattle.xet_base.specs.declared.error.CoreError.{CoreError}
 use Rattle.xet_base.specs.declared.error.CoreError.TheVariants.{Io}
-use Rattle.xet_base.specs.Errors.{FromDevice, IsEndOfInput, IsDeviceError}
+use Rattle.xet_base.specs.Errors.{FromDevice, IsEndOfInput}
 
 -- an end of the input above was one below
 pub end_from_device : (e : Error) (f : CoreError) → FromDevice e f → IsEndOfInput f → error_kind e ≡ UnexpectedEof

@@ -1,6 +1,6 @@
 -- The order of hashes is total, and only equal hashes tie.
-use Rattle.std.proofs.Common.{◌≡◌, ℕ, ap}
-use Rattle.std.specs.Ordering.{nat_cmp, ordering_then}
+use Rattle.std.proofs.Common.{ℕ, ap}
+use Rattle.std.specs.Ordering.{nat_cmp}
 use Rattle.std.specs.Cmp.{IsTotalOrder}
 use Rattle.std.specs.FinMap.{IsAntisymmetric}
 use Rattle.std.proofs.lemmas.Cmp.{then_total, on_total, nat_cmp_total}

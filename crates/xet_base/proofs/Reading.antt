@@ -1,10 +1,10 @@
 -- The turns of the loops that fill a slice.
-use Rattle.std.proofs.Common.{◌≡◌, ℕ, ◌+◌, ◌-◌, ◌<◌, ◌≤◌, List, [], ◌++◌, length, take, drop, Option, None, Some, sym, ap, ◌∙◌, subst, arith, refl, add_assoc, add-zero}
+use Rattle.std.proofs.Common.{◌≡◌, ℕ, ◌+◌, ◌≤◌, List, [], ◌++◌, length, take, drop, Option, None, Some, sym, ap, ◌∙◌, subst, arith, refl, add_assoc, add-zero}
 use Rattle.std.proofs.lemmas.List.{drop-drop, length-append}
 use Rattle.std.proofs.Math.Seq.{take-add}
 use Rattle.std.proofs.KnownBytes.{Consumes-trans, Consumes-kept}
 use Rattle.std.proofs.lemmas.Slice.{take-put_mid_below}
-use Rattle.std.specs.Io.KnownBytes.{Consumes, Keeps, IsAtEnd}
+use Rattle.std.specs.Io.KnownBytes.{Consumes, Keeps}
 use borrow.Rule.Slice.PartMut.{put_mid}
 use Rattle.xet_base.specs.Bytes.{HasBytes, LacksBytes}
 use Rattle.xet_base.specs.Source.{Source, advanced, next_bytes, Takes}
@@ -46,7 +46,7 @@ pub Takes-nil : (s : Source) → Takes s s []
 Takes-nil s = record {
   within = λ some. absurd (omega arith);
   there = refl;
-  after = λ i. record s { at = sym (add-zero s.at) i; read = sym (add-zero s.read) i }
+  after = λ i. record s { at = sym (add-zero s.at) i; read = sym (add-zero s.read) i };
 }
 
 pub Takes-trans : (a b c : Source) (xs ys : List ℕ) → Takes a b xs → Takes b c ys → Takes a c (xs ++ ys)
@@ -56,7 +56,7 @@ Takes-trans a b c xs ys first last =
     record {
       within = λ some. grind (arith, length-append xs ys, first.within, last.within, place, bytes);
       there = (λ i. first.there i ++ (last.there ∙ ap (λ s. next_bytes s (length ys)) first.after) i)
-        ∙ sym (next_bytes-add a (length xs) (length ys)) ∙ ap (λ n. next_bytes a n) (sym (length-append xs ys));
+          ∙ sym (next_bytes-add a (length xs) (length ys)) ∙ ap (λ n. next_bytes a n) (sym (length-append xs ys));
       after = last.after ∙ ap (λ s. advanced s (length ys)) first.after ∙ advanced-advanced a (length xs) (length ys)
-        ∙ ap (λ n. advanced a n) (sym (length-append xs ys))
+          ∙ ap (λ n. advanced a n) (sym (length-append xs ys));
     }

@@ -1,5 +1,5 @@
 -- What clauses say of errors.
-use Rattle.std.specs.Prelude.{◌≡◌, ◌≢◌, ◌⊎◌, ℕ, List, String, string_bytes, Option, None, Some, Ok, Err, ⊤}
+use Rattle.std.specs.Prelude.{◌≡◌, ◌≢◌, ℕ, List, string_bytes, Option, None, Some, Ok, Err, ⊤}
 use Rattle.std.specs.declared.result.Result.{Result}
 use Rattle.std.specs.IoError.{error_kind}
 use Rattle.std.specs.declared.io.Error.{Error}

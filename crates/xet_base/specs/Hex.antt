@@ -1,5 +1,5 @@
 -- The text of a hash: each word as sixteen digits, most significant first, words in order.
-use Rattle.std.specs.Prelude.{◌≡◌, ℕ, ◌+◌, ◌/◌, ◌%◌, ◌<◌, ◌≤◌, ◌⊎◌, List, [], ◌∷◌, ◌++◌, length, zero, suc, nat_lt, if◌then◌else◌, All}
+use Rattle.std.specs.Prelude.{◌≡◌, ℕ, ◌+◌, ◌/◌, ◌%◌, ◌≤◌, ◌⊎◌, List, [], ◌∷◌, ◌++◌, length, zero, suc, nat_lt, if◌then◌else◌, All}
 use Rattle.std.specs.Str.{str_to_ascii_lowercase}
 use Rattle.xet_base.specs.declared.merklehash.DataHash.{DataHash}
 

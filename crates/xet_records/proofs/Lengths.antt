@@ -1,5 +1,7 @@
 -- Each row has 48 bytes.
-use Rattle.std.proofs.Common.{◌≡◌, ℕ, ◌+◌, List, [], ◌∷◌, ◌++◌, length, flat_map, refl, sym, ap, ◌∙◌, append-nil}
+use Rattle.std.proofs.Common.{◌≡◌, ℕ, ◌+◌, ◌*◌, List, [], ◌∷◌, ◌++◌, length, flat_map, Option, None, Some, refl, ap, ◌∙◌, append-nil, arith}
+use Rattle.std.specs.Prelude.{All, IfSome, option_to_list}
+use Rattle.std.proofs.lemmas.List.Elements.{All-drop}
 use Rattle.std.proofs.lemmas.List.{length-append}
 use Rattle.xet_base.specs.Bytes.{u64_bytes}
 use Rattle.xet_base.proofs.Bytes.{length-u32_bytes, length-u64_bytes, length-hash_bytes}
@@ -7,7 +9,12 @@ use Rattle.xet_records.specs.declared.file_structs.FileDataSequenceHeader.{FileD
 use Rattle.xet_records.specs.declared.file_structs.FileDataSequenceEntry.{FileDataSequenceEntry}
 use Rattle.xet_records.specs.declared.file_structs.FileVerificationEntry.{FileVerificationEntry}
 use Rattle.xet_records.specs.declared.file_structs.FileMetadataExt.{FileMetadataExt}
-use Rattle.xet_records.specs.FileRow.{header_row, segment_row, verification_row, metadata_row, IsReserved, FitsHeader, FitsSegment, FitsVerification, FitsMetadata}
+use Rattle.xet_records.specs.declared.file_structs.MDBFileInfo.{MDBFileInfo}
+use Rattle.xet_records.specs.FileRecord.{record_text, rows_text, row_count, FitsRecord}
+use Rattle.xet_records.specs.declared.xorb_structs.XorbChunkSequenceHeader.{XorbChunkSequenceHeader}
+use Rattle.xet_records.specs.declared.xorb_structs.XorbChunkSequenceEntry.{XorbChunkSequenceEntry}
+use Rattle.xet_records.specs.XorbRow.{xorb_header_row, chunk_row}
+use Rattle.xet_records.specs.FileRow.{header_row, segment_row, verification_row, metadata_row, IsReserved, FitsVerification, FitsMetadata}
 
 pub length-header_row : (h : FileDataSequenceHeader) → length (header_row h) ≡ 48
 unfolding header_row
@@ -29,3 +36,40 @@ pub length-metadata_row : (m : FileMetadataExt) → FitsMetadata m → length (m
 unfolding metadata_row
 length-metadata_row m fits =
     length-append _ _ ∙ (λ i. length-hash_bytes m.sha256 i + length-reserved m._unused fits.unused i)
+
+pub length-xorb_header_row : (h : XorbChunkSequenceHeader) → length (xorb_header_row h) ≡ 48
+unfolding xorb_header_row
+length-xorb_header_row h = simp (length-append, length-hash_bytes, length-u32_bytes)
+
+pub length-chunk_row : (c : XorbChunkSequenceEntry) → length (chunk_row c) ≡ 48
+unfolding chunk_row
+length-chunk_row c = simp (length-append, length-hash_bytes, length-u32_bytes)
+
+-- each record has 48 bytes a row
+pub length-segment_rows : (ss : List FileDataSequenceEntry) → length (flat_map segment_row ss) ≡ 48 * length ss
+length-segment_rows [] = refl
+length-segment_rows (s ∷ ss) = length-append (segment_row s) (flat_map segment_row ss) ∙ omega (arith, length-segment_row s, length-segment_rows ss)
+
+pub length-verification_rows : (vs : List FileVerificationEntry) → All FitsVerification vs → length (flat_map verification_row vs) ≡ 48 * length vs
+length-verification_rows [] fit = refl
+length-verification_rows (v ∷ vs) fit =
+    length-append (verification_row v) (flat_map verification_row vs)
+    ∙ omega (arith, length-verification_row v (fit 0 v (omega arith)), length-verification_rows vs (All-drop FitsVerification 1 (v ∷ vs) fit))
+
+pub length-metadata_rows : (o : Option FileMetadataExt) → IfSome o FitsMetadata → length (flat_map metadata_row (option_to_list o)) ≡ 48 * length (option_to_list o)
+length-metadata_rows None fits = refl
+length-metadata_rows (Some m) fits = ap length (append-nil (metadata_row m)) ∙ length-metadata_row m fits
+
+pub length-record_text : (r : MDBFileInfo) → FitsRecord r → length (record_text r) ≡ 48 * row_count r
+unfolding record_text rows_text
+length-record_text r fits =
+    length-append (header_row r.metadata) _
+    ∙ omega (
+      arith,
+      length-header_row r.metadata,
+      length-append (flat_map segment_row r.segments ++ flat_map verification_row r.verification) (flat_map metadata_row (option_to_list r.metadata_ext)),
+      length-append (flat_map segment_row r.segments) (flat_map verification_row r.verification),
+      length-segment_rows r.segments,
+      length-verification_rows r.verification fits.verification,
+      length-metadata_rows r.metadata_ext fits.metadata_ext,
+    )

@@ -1,17 +1,17 @@
 -- The text of a record: its length, and what its header tells of the bytes that begin with it.
-use Rattle.std.proofs.Common.{◌≡◌, ◌≢◌, ◌⊎◌, inl, inr, ℕ, ◌+◌, ◌*◌, ◌<◌, ◌≤◌, List, [], ◌∷◌, ◌++◌, length, flat_map, Bool, true, false, Option, None, Some, IfSome, refl, sym, ap, ◌∙◌, subst, arith, append_assoc, if◌then◌else◌}
+use Rattle.std.proofs.Common.{◌≡◌, ◌≢◌, inl, inr, ℕ, ◌+◌, ◌*◌, ◌≤◌, List, ◌++◌, length, Bool, true, false, Option, None, Some, IfSome, refl, sym, ap, ◌∙◌, subst, arith, if◌then◌else◌}
+use Rattle.std.specs.Prelude.{option_to_list, is_some}
 use Rattle.std.proofs.lemmas.List.{length-append}
 use Rattle.std.specs.Io.KnownBytes.{Consumes}
-use Rattle.xet_base.specs.Bytes.{LacksBytes}
-use Rattle.xet_base.specs.Bytes.{u32_bytes, u64_bytes}
+use Rattle.xet_base.specs.Bytes.{u32_bytes}
 use Rattle.xet_base.specs.Hash.{hash_bytes, all_ones}
 use Rattle.xet_base.proofs.Lists.{same_parts}
-use Rattle.xet_base.proofs.Bytes.{length-u32_bytes, length-u64_bytes, length-hash_bytes, u32_bytes-injective, u64_bytes-injective, hash_bytes-injective}
+use Rattle.xet_base.proofs.Bytes.{length-u32_bytes, length-hash_bytes, u32_bytes-injective, u64_bytes-injective, hash_bytes-injective}
 use Rattle.xet_records.specs.declared.file_structs.FileDataSequenceHeader.{FileDataSequenceHeader}
 use Rattle.xet_records.specs.declared.file_structs.MDBFileInfo.{MDBFileInfo}
 use Rattle.xet_records.specs.FileRow.{header_row, FitsHeader}
-use Rattle.xet_records.specs.FileRecord.{record_text, rows_text, rows_after, IsStored}
-use Rattle.xet_records.specs.Reading.{ReadsBookend, ReadsRowsAfter, ReadsRecord, BeginsWithHeader, IsCutShort, HasTooManyRows}
+use Rattle.xet_records.specs.FileRecord.{record_text, rows_text, rows_after, row_count, has_metadata_ext, FitsItsHeader}
+use Rattle.xet_records.specs.Reading.{ReadsRowsAfter, ReadsRecord, IsCutShort, HasTooManyRows}
 use Rattle.xet_records.proofs.Lengths.{length-header_row}
 
 pub length-three : (a b c : List ℕ) → length ((a ++ b) ++ c) ≡ length a + length b + length c
@@ -99,3 +99,14 @@ whole_record First Next Both g found joins fits is_file taken read few = record 
   taken = joins (header_row read.stored.metadata) (rows_text read.stored) (subst (λ (h : FileDataSequenceHeader). First (header_row h)) (sym read.same_header) taken) read.taken;
   handed = read.handed;
 }
+
+optional_rows : {X : Type 0} (o : Option X) → length (option_to_list o) ≡ (if is_some o then 1 else 0)
+optional_rows None = refl
+optional_rows (Some x) = refl
+
+-- a record that fits its header has the rows that the header announces
+pub row_count-whole : (r : MDBFileInfo) → FitsItsHeader r → row_count r ≡ 1 + rows_after r.metadata
+row_count-whole r whole =
+    let last : length (option_to_list r.metadata_ext) ≡ (if has_metadata_ext r.metadata.file_flags then 1 else 0) =
+    optional_rows r.metadata_ext ∙ ap (λ (b : Bool). (if b then 1 else 0)) whole.metadata_ext in
+    omega (arith, whole.segments, whole.verification, last)

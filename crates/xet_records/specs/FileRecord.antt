@@ -1,11 +1,8 @@
 -- A file record: a header, its segments, and two optional parts that the header's flags announce.
-use Rattle.std.specs.Prelude.{◌≡◌, ◌≢◌, ℕ, ◌+◌, ◌*◌, ◌^◌, ◌<◌, ◌≤◌, ◌==◌, ◌%◌, Bool, IsTrue, List, [], ◌∷◌, ◌++◌, length, map, flat_map, sum_by, All, Option, Some, None, IfSome, is_some, option_map, option_to_list, if◌then◌else◌}
+use Rattle.std.specs.Prelude.{◌≡◌, ◌≢◌, ℕ, ◌+◌, ◌^◌, ◌≤◌, ◌==◌, ◌%◌, Bool, List, [], ◌∷◌, ◌++◌, length, map, flat_map, sum_by, All, IfSome, is_some, option_map, option_to_list, if◌then◌else◌}
 use Rattle.std.specs.Int.{bit_at}
 use Rattle.xet_base.specs.Hash.{all_ones}
 use Rattle.xet_records.specs.declared.file_structs.FileDataSequenceHeader.{FileDataSequenceHeader}
-use Rattle.xet_records.specs.declared.file_structs.FileDataSequenceEntry.{FileDataSequenceEntry}
-use Rattle.xet_records.specs.declared.file_structs.FileVerificationEntry.{FileVerificationEntry}
-use Rattle.xet_records.specs.declared.file_structs.FileMetadataExt.{FileMetadataExt}
 use Rattle.xet_records.specs.declared.file_structs.MDBFileInfo.{MDBFileInfo}
 use Rattle.xet_records.specs.FileRow.{header_row, segment_row, verification_row, metadata_row, FitsHeader, FitsSegment, FitsVerification, FitsMetadata, clear_verification, clear_metadata}
 

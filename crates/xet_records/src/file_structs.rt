@@ -146,7 +146,8 @@ impl FileDataSequenceHeader {
         u64::from(self.num_entries) + u64::from(self.verification_rows()) + metadata_ext
     }
 
-    fn verification_rows(&self) -> u32
+    /// The verification rows that the header announces.
+    pub fn verification_rows(&self) -> u32
         ensures { result ≡ (if has_verification self.now.file_flags then self.now.num_entries else 0) }
     {
         if self.contains_verification() {

@@ -1,5 +1,5 @@
 -- The bytes of a shard: header, sections, tables and footer.
-use Rattle.std.specs.Prelude.{ℕ, ◌+◌, Bool, true, List, [], ◌∷◌, ◌++◌, length, flat_map, sum_by, Option, Some, None, unwrap_or, if◌then◌else◌}
+use Rattle.std.specs.Prelude.{ℕ, ◌+◌, Bool, true, List, [], ◌∷◌, ◌++◌, length, flat_map, sum_by, Option, unwrap_or, if◌then◌else◌}
 use Rattle.std.specs.FinMap.{values}
 use Rattle.xet_base.specs.declared.merklehash.DataHash.{DataHash}
 use Rattle.xet_base.specs.Bytes.{u64_bytes}
@@ -31,6 +31,28 @@ footer_text f =
     ++ flat_map u64_bytes (f.shard_creation_timestamp ∷ f.shard_key_expiry ∷ []))
     ++ flat_map u64_bytes f._buffer)
     ++ flat_map u64_bytes (f.stored_bytes_on_disk ∷ f.materialized_bytes ∷ f.stored_bytes ∷ f.footer_offset ∷ [])
+
+-- the footer of no shard in particular
+abbrev pub default_footer : MDBShardFileFooter
+default_footer = record {
+  version = 1;
+  file_info_offset = 0;
+  xorb_info_offset = 0;
+  file_lookup_offset = 0;
+  file_lookup_num_entry = 0;
+  xorb_lookup_offset = 0;
+  xorb_lookup_num_entry = 0;
+  chunk_lookup_offset = 0;
+  chunk_lookup_num_entry = 0;
+  chunk_hash_hmac_key = record { word0 = 0; word1 = 0; word2 = 0; word3 = 0 };
+  shard_creation_timestamp = 0;
+  shard_key_expiry = 18446744073709551615;
+  _buffer = 0 ∷ 0 ∷ 0 ∷ 0 ∷ 0 ∷ 0 ∷ [];
+  stored_bytes_on_disk = 0;
+  materialized_bytes = 0;
+  stored_bytes = 0;
+  footer_offset = 0;
+}
 
 -- what a writer chooses beside the records: which tables are in, the key of the chunk hashes and two moments
 pub record Form : Type 0 where
@@ -72,7 +94,7 @@ footer_value files xorbs form =
       stored_bytes_on_disk = sum_by (λ (x : MDBXorbInfo). x.metadata.num_bytes_on_disk) xorbs;
       materialized_bytes = sum_by size_of_file files;
       stored_bytes = sum_by (λ (x : MDBXorbInfo). x.metadata.num_bytes_in_xorb) xorbs;
-      footer_offset = chunk_lookup + length (if_in form.chunk_table (chunk_table_bytes xorbs))
+      footer_offset = chunk_lookup + length (if_in form.chunk_table (chunk_table_bytes xorbs));
     }
 
 -- all the bytes of a list of files and a list of xorbs in a form
@@ -84,10 +106,12 @@ layout_of files xorbs form =
 -- all tables, no key, no creation, and an expiry or none
 abbrev pub plain_form : Option ℕ → Form
 plain_form expiry = record {
-  file_table = true; xorb_table = true; chunk_table = true;
+  file_table = true;
+  xorb_table = true;
+  chunk_table = true;
   key = record { word0 = 0; word1 = 0; word2 = 0; word3 = 0 };
   creation = 0;
-  expiry = unwrap_or expiry 18446744073709551615
+  expiry = unwrap_or expiry 18446744073709551615;
 }
 
 -- the bytes of a shard, its records in ascending order of their hashes

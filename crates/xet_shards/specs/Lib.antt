@@ -1,4 +1,6 @@
+pub mod FileTable
 pub mod Layout
 pub mod Section
 pub mod Shard
 pub mod Tables
+pub mod Written

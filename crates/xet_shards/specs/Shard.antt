@@ -1,6 +1,6 @@
 -- A shard: two finite maps, from file hash to file record and from xorb hash to xorb record.
-use Rattle.std.specs.Prelude.{◌≡◌, ℕ, ◌≤◌, List, map, sum_by, All, refl}
-use Rattle.std.specs.FinMap.{FinMap, get, insert, entries, values}
+use Rattle.std.specs.Prelude.{◌≡◌, ℕ, ◌≤◌, List, sum_by, All, refl}
+use Rattle.std.specs.FinMap.{FinMap, insert, entries, values}
 use Rattle.std.specs.FinMap as finite
 use Rattle.std.specs.Coded.{Coded, code_by, coded×}
 use Rattle.xet_base.specs.declared.merklehash.DataHash.{DataHash}

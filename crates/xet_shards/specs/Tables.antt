@@ -1,21 +1,28 @@
 -- The lookup tables: where the records with a hash's first word start, and where the chunks with one stand.
-use Rattle.std.specs.Prelude.{ℕ, ◌+◌, List, [], ◌∷◌, ◌++◌, map, flat_map}
+use Rattle.std.specs.Prelude.{ℕ, List, [], ◌++◌, map, flat_map}
 use Rattle.std.specs.List.{enumerate_from}
 use Rattle.std.specs.Ordering.{nat_cmp, ordering_then}
 use Rattle.std.specs.declared.cmp.Ordering.{Ordering}
-use Rattle.std.specs.FinSet as set
+use Rattle.std.specs.FinMap as finite
 use Rattle.xet_base.specs.Bytes.{u32_bytes, u64_bytes}
 use Rattle.xet_records.specs.declared.file_structs.MDBFileInfo.{MDBFileInfo}
 use Rattle.xet_records.specs.declared.xorb_structs.MDBXorbInfo.{MDBXorbInfo}
 use Rattle.xet_shards.specs.Shard.{file_hash_of, xorb_hash_of, total_rows, total_xorb_rows}
 use Rattle.xet_shards.specs.Section.{with_fronts}
 
--- the rows of the file table: the first word of each record's hash and where the record starts, in rows
+-- the row of a record in a table: the first word of its hash, and where it starts, which is the rows before it
+abbrev pub file_start : List MDBFileInfo × MDBFileInfo → ℕ × ℕ
+file_start e = ((file_hash_of e.1).word0, total_rows e.0)
+
+abbrev pub xorb_start : List MDBXorbInfo × MDBXorbInfo → ℕ × ℕ
+xorb_start e = ((xorb_hash_of e.1).word0, total_xorb_rows e.0)
+
+-- the rows of the file table and of the xorb table, in section order
 abbrev pub file_starts : List MDBFileInfo → List (ℕ × ℕ)
-file_starts files = map (λ e. ((file_hash_of e.1).word0, total_rows e.0)) (with_fronts [] files)
+file_starts files = map file_start (with_fronts [] files)
 
 abbrev pub xorb_starts : List MDBXorbInfo → List (ℕ × ℕ)
-xorb_starts xorbs = map (λ e. ((xorb_hash_of e.1).word0, total_xorb_rows e.0)) (with_fronts [] xorbs)
+xorb_starts xorbs = map xorb_start (with_fronts [] xorbs)
 
 -- where a chunk stands: the first word of its hash, where its xorb starts, and its place in the xorb
 pub record ChunkPlace : Type 0 where
@@ -31,9 +38,12 @@ abbrev pub chunk_places : List MDBXorbInfo → List ChunkPlace
 chunk_places xorbs =
     flat_map (λ e. map (λ c. record { word = c.1.chunk_hash.word0; start = total_xorb_rows e.0; place = c.0 }) (enumerate_from 0 e.1.chunks)) (with_fronts [] xorbs)
 
--- the same in ascending order
+-- places in ascending order: the keys of the finite map that has each of them
+abbrev pub ascending : List ChunkPlace → List ChunkPlace
+ascending places = finite.keys (finite.from_entries {R = place_cmp} (map (λ p. (p, tt {0})) places))
+
 abbrev pub chunk_table : List MDBXorbInfo → List ChunkPlace
-chunk_table xorbs = set.items (set.from_list {R = place_cmp} (chunk_places xorbs))
+chunk_table xorbs = ascending (chunk_places xorbs)
 
 -- the bytes of a row
 abbrev pub start_row : ℕ × ℕ → List ℕ

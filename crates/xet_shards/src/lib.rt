@@ -3,6 +3,5 @@
 
 pub mod shard_format;
 pub mod shard_in_memory;
-
 #[cfg(test)]
 mod tests;

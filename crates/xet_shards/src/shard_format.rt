@@ -3,6 +3,7 @@
 mod footer;
 mod header;
 mod info;
+mod section_writer;
 
 pub use footer::MDBShardFileFooter;
 pub use header::MDBShardFileHeader;

@@ -2,9 +2,9 @@
 
 ghost use Rattle.std.specs.Prelude.{◌≡◌, ◌≢◌, ◌++◌, OnOk, IfOk, IfErr};
 ghost use Rattle.xet_base.specs.Bytes.{u64_bytes};
-ghost use Rattle.xet_base.specs.Errors.{IsShardVersion};
+ghost use Rattle.xet_base.specs.Errors.{IsShardVersion, IsDeviceError};
 ghost use Rattle.std.specs.Io.KnownBytes.{Appends};
-ghost use Rattle.xet_shards.specs.Layout.{footer_text};
+ghost use Rattle.xet_shards.specs.Layout.{footer_text, default_footer};
 
 use std::alloc::Global;
 use std::io::{Read, Write};
@@ -41,6 +41,8 @@ pub struct MDBShardFileFooter {
 }
 
 impl Default for MDBShardFileFooter {
+    ghost is_default = { λ f. f ≡ default_footer };
+
     fn default() -> Self {
         MDBShardFileFooter {
             version: MDB_SHARD_FOOTER_VERSION,
@@ -70,6 +72,7 @@ impl MDBShardFileFooter {
     pub fn serialize<W: Write>(&self, writer: &mut W) -> Result<usize>
         ensures text { OnOk result (Appends (W.contents writer.old) (W.contents writer.new) (footer_text self.now)) }
         ensures count { IfOk result (λ n. n ≡ 200) }
+        ensures causes { IfErr result IsDeviceError }
     {
         let offsets = [
             self.version,
@@ -84,7 +87,10 @@ impl MDBShardFileFooter {
         ];
         write_u64s(writer, &offsets)?;
         write_hash(writer, &self.chunk_hash_hmac_key)?;
-        write_u64s(writer, &[self.shard_creation_timestamp, self.shard_key_expiry])?;
+        write_u64s(
+            writer,
+            &[self.shard_creation_timestamp, self.shard_key_expiry],
+        )?;
         write_u64s(writer, &self._buffer)?;
         let sums = [
             self.stored_bytes_on_disk,

@@ -2,9 +2,9 @@
 
 ghost use Rattle.std.specs.Prelude.{◌≡◌, ◌≢◌, ◌++◌, take, OnOk, IfOk, IfErr};
 ghost use Rattle.xet_base.specs.Bytes.{u64_bytes};
-ghost use Rattle.xet_base.specs.Errors.{IsShardVersion};
+ghost use Rattle.xet_base.specs.Errors.{IsShardVersion, IsDeviceError};
 ghost use Rattle.std.specs.Io.KnownBytes.{Appends};
-ghost use Rattle.xet_shards.specs.Layout.{header_tag, header_text};
+ghost use Rattle.xet_shards.specs.Layout.{header_tag, header_text, header_value};
 
 use std::alloc::Global;
 use std::io::{Read, Write};
@@ -32,6 +32,8 @@ pub struct MDBShardFileHeader {
 }
 
 impl Default for MDBShardFileHeader {
+    ghost is_default = { λ h. h ≡ header_value };
+
     fn default() -> Self {
         MDBShardFileHeader {
             tag: MDB_SHARD_HEADER_TAG,
@@ -48,6 +50,7 @@ impl MDBShardFileHeader {
     pub fn serialize<W: Write>(&self, writer: &mut W) -> Result<usize>
         ensures text { OnOk result (Appends (W.contents writer.old) (W.contents writer.new) (header_text self.now)) }
         ensures count { IfOk result (λ n. n ≡ 48) }
+        ensures causes { IfErr result IsDeviceError }
     {
         write_bytes(writer, &MDB_SHARD_HEADER_TAG)?;
         write_u64(writer, self.version)?;

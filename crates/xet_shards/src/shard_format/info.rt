@@ -1,16 +1,28 @@
 //! What a shard's header and footer tell, and the calls that stand on them.
 
-ghost use Rattle.std.specs.Prelude.{◌≡◌, ◌+◌, ◌*◌, ◌^◌, ◌<◌, ◌≤◌, ◌++◌, length, OnOk, IfOk, IfErr, values};
+ghost use Rattle.std.specs.Prelude.{◌≡◌, ◌+◌, ◌*◌, ◌^◌, ◌<◌, ◌≤◌, ◌++◌, length, List, [], All, OnOk, OnSome, IfOk, IfErr};
+ghost use Rattle.std.specs.FinMap as finite;
 ghost use Rattle.std.specs.Io.KnownBytes.{Appends};
+ghost use Rattle.xet_base.specs.Errors.{IsDeviceError};
+ghost use Rattle.std.specs.BTreeMap.{values};
+ghost use Rattle.xet_shards.specs.Shard.{AreFiles, total_rows};
+ghost use Rattle.xet_shards.specs.Section.{file_section};
+ghost use Rattle.xet_shards.specs.Written.{HasWritten};
+ghost use Rattle.xet_records.specs.declared.file_structs.MDBFileInfo.{MDBFileInfo};
+ghost use Rattle.xet_records.specs.FileRecord.{FitsRecord};
+ghost use Rattle.xet_shards.specs.Layout.{layout, info_value, footer_value, plain_form};
 
 use super::footer::{MDBShardFileFooter, check_version};
 use super::header::{MDBShardFileHeader, check_tag};
+use super::section_writer::WrittenFiles;
 use crate::shard_in_memory::MDBInMemoryShard;
 use std::alloc::Global;
+use std::collections::BTreeMap;
 use std::io;
 use std::io::{ErrorKind, Write};
 use xet_base::error::{CoreError, Result};
-use xet_base::serialization_utils::{write_bytes};
+use xet_base::merklehash::MerkleHash;
+use xet_base::serialization_utils::write_bytes;
 use xet_base::source::{ShardSource, read_full};
 use xet_records::file_structs::{FileDataSequenceHeader, MDBFileInfo, read_source_rows_after};
 use xet_records::rows::read_source_row;
@@ -54,6 +66,31 @@ impl MDBShardInfo {
         Ok(MDBShardInfo { header, metadata })
     }
 
+    /// Writes a shard: header, sections, tables and footer. The expiry is a moment in seconds, or none.
+    /// Returns what a reader of these bytes finds in header and footer.
+    ///
+    /// The error is the writer's, or `OutOfMemory` where the tables find none.
+    #[tactic(auto, unfolding(crate::specs::Layout::layout_of, crate::specs::Section::xorb_section))]
+    pub fn serialize_from<W: Write>(
+        alloc: Global,
+        writer: &mut W,
+        shard: &MDBInMemoryShard,
+        expiry: Option<u64>,
+    ) -> Result<Self>
+        ensures text { OnOk result (Appends (W.contents writer.old) (W.contents writer.new) (layout shard.now expiry)) }
+        ensures info { IfOk result (λ info. info ≡ info_value shard.now expiry) }
+        ensures causes { IfErr result IsDeviceError }
+    {
+        let header = MDBShardFileHeader::default();
+        header.serialize(writer)?;
+        let files = write_file_section(alloc, writer, shard.file_content())?;
+        XorbChunkSequenceHeader::bookend().serialize(writer)?;
+        write_bytes(writer, files.table.as_slice())?;
+        let metadata = footer_of(&files, expiry);
+        metadata.serialize(writer)?;
+        Ok(MDBShardInfo { header, metadata })
+    }
+
     /// The rows of the file table.
     pub fn num_file_entries(&self) -> u64
         ensures { result ≡ self.now.metadata.file_lookup_num_entry }
@@ -62,11 +99,90 @@ impl MDBShardInfo {
     }
 
     /// The bytes of the shard: the footer's offset and the footer. `InvalidShard` past 64 bits.
-    pub fn num_bytes(&self, alloc: Global) -> Result<u64>
-    {
+    pub fn num_bytes(&self, alloc: Global) -> Result<u64> {
         match self.metadata.footer_offset.checked_add(FOOTER_SIZE) {
             Some(bytes) => Ok(bytes),
             None => Err(CoreError::InvalidShard(String::new(alloc))),
         }
+    }
+
+    /// Reads all records of the file section, in the order in which they stand.
+    ///
+    /// `UnexpectedEof` where the source ends before the bookend, `InvalidShard` where the rows pass 32 bits,
+    /// `OutOfMemory` where the records find none.
+    pub fn read_all_file_info_sections<S: ShardSource>(
+        &self,
+        alloc: Global,
+        source: &mut S,
+    ) -> Result<Vec<MDBFileInfo>> {
+        source.seek_to(self.metadata.file_info_offset)?;
+        let mut files = Vec::new(alloc);
+        let mut rows_left = u32::MAX;
+        while let Some(file_info) = read_record(alloc, source, &mut rows_left)? {
+            files.push(file_info)?;
+        }
+        Ok(files)
+    }
+}
+
+// Reads the next record of a section, or `None` at its bookend, and counts its rows down.
+fn read_record<S: ShardSource>(
+    alloc: Global,
+    source: &mut S,
+    rows_left: &mut u32,
+) -> Result<Option<MDBFileInfo>>
+    ensures fewer { IfOk result (λ found. OnSome found (rows_left.new < rows_left.old)) }
+{
+    let header: FileDataSequenceHeader = read_source_row(source)?;
+    if header.is_bookend() {
+        return Ok(None);
+    }
+    let rows = 1 + header.rows_after();
+    if rows > u64::from(*rows_left) {
+        return Err(CoreError::InvalidShard(String::new(alloc)));
+    }
+    *rows_left -= rows as u32;
+    Ok(Some(read_source_rows_after(alloc, source, header)?))
+}
+
+// Writes the file section and gathers its table.
+#[tactic(auto, unfolding(crate::specs::Section::file_section))]
+fn write_file_section<W: Write>(
+    alloc: Global,
+    writer: &mut W,
+    files: &BTreeMap<MerkleHash, MDBFileInfo>,
+) -> Result<WrittenFiles>
+    requires files { AreFiles files.now.entries }
+    requires rows { total_rows (values files.now) ≤ 4294967295 }
+    ensures text { OnOk result (Appends (W.contents writer.old) (W.contents writer.new) (file_section (values files.now))) }
+    ensures written { IfOk result (λ written. HasWritten written (values files.now)) }
+    ensures causes { IfErr result IsDeviceError }
+{
+    let mut written = WrittenFiles::new(alloc);
+    for file_info in files.values() {
+        written.write(writer, file_info)?;
+    }
+    FileDataSequenceHeader::bookend().serialize(writer)?;
+    Ok(written)
+}
+
+// The footer of a shard with these files and no xorbs.
+fn footer_of(files: &WrittenFiles, expiry: Option<u64>) -> MDBShardFileFooter
+    ensures { (rs : List MDBFileInfo) → All FitsRecord rs → HasWritten files.now rs → result ≡ footer_value rs [] (plain_form expiry) }
+{
+    let xorb_info_offset = 48 + 48 * files.rows + 48;
+    let file_lookup_offset = xorb_info_offset + 48;
+    let table = files.table.len() as u64;
+    MDBShardFileFooter {
+        file_info_offset: 48,
+        xorb_info_offset,
+        file_lookup_offset,
+        file_lookup_num_entry: table / 12,
+        xorb_lookup_offset: file_lookup_offset + table,
+        chunk_lookup_offset: file_lookup_offset + table,
+        shard_key_expiry: expiry.unwrap_or(u64::MAX),
+        materialized_bytes: files.materialized_bytes,
+        footer_offset: file_lookup_offset + table,
+        ..MDBShardFileFooter::default()
     }
 }

@@ -1,4 +1,4 @@
-use Rattle.std.proofs.Common.{◌≡◌, ◌-◌, ◌*◌, ◌/◌, ◌%◌, ◌^◌, [], ◌∷◌, ◌++◌, string_bytes, sym, ap, ◌∙◌, append-nil, append_assoc}
+use Rattle.std.proofs.Common.{◌-◌, ◌*◌, ◌/◌, ◌%◌, ◌^◌, [], ◌∷◌, ◌++◌, string_bytes, sym, ap, ◌∙◌, append-nil, append_assoc}
 use Rattle.xet_base.specs.Hex.{hex_digit, hex_digits}
 use Rattle.xet_base.proofs.Hex.{hex_digits-zero, hex_digits-written}
 use Rattle.xet_base.proofs.merklehash.push_word.Goals as goal

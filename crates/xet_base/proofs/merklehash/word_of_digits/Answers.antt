@@ -3,7 +3,7 @@ use Rattle.std.proofs.Math.Facts.{Fits-of_lt}
 use Rattle.std.proofs.lemmas.List.{map-append, take_more}
 use Rattle.std.specs.Char.{to_ascii_lowercase}
 use Rattle.std.specs.Str.{str_to_ascii_lowercase}
-use Rattle.xet_base.specs.Hex.{hex_digit, hex_digits}
+use Rattle.xet_base.specs.Hex.{hex_digit}
 use Rattle.xet_base.proofs.Hex.{hex_digits-zero, hex_digits-read, digits_fit, digits_fit_word}
 use Rattle.xet_base.proofs.merklehash.word_of_digits.Goals as goal
 

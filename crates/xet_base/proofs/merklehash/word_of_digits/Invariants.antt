@@ -1,4 +1,4 @@
-use Rattle.std.proofs.Common.{◌≡◌, ◌*◌, ◌<◌, ◌^◌, take}
+use Rattle.std.proofs.Common.{◌≡◌, ◌<◌, ◌^◌, take}
 use Rattle.std.specs.Str.{str_to_ascii_lowercase}
 use Rattle.xet_base.specs.Hex.{hex_digits}
 use Rattle.xet_base.proofs.merklehash.word_of_digits.Given as goal

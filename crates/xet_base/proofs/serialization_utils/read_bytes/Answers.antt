@@ -1,7 +1,5 @@
-use Rattle.std.proofs.Common.{◌≡◌, ◌+◌, ◌-◌, ◌≤◌, length, take, arith, subst, sym}
-use Rattle.std.specs.Io.KnownBytes.{Consumes}
+use Rattle.std.proofs.Common.{arith}
 use Rattle.std.proofs.lemmas.Grind.{common_steps}
-use borrow.Rule.Slice.PartMut.{put_mid}
 use Rattle.xet_base.proofs.Reading.{taken_more, taken_still}
 use Rattle.xet_base.proofs.serialization_utils.read_bytes.Goals as goal
 use Rattle.xet_base.proofs.serialization_utils.read_bytes.Goals.{in-Ok, in-Err}

@@ -1,4 +1,4 @@
-use Rattle.std.proofs.Common.{◌≡◌, ◌+◌, ◌-◌, ◌<◌, ◌≤◌, ◌++◌, length, take, arith, sym, ap, ◌∙◌}
+use Rattle.std.proofs.Common.{◌++◌, take, arith, sym, ap, ◌∙◌}
 use Rattle.std.proofs.lemmas.Grind.{common_steps}
 use Rattle.xet_base.specs.Source.{advanced, next_bytes}
 use Rattle.xet_base.proofs.Lists.{take-put_mid_part}

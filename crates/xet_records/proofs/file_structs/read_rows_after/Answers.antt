@@ -1,10 +1,9 @@
-use Rattle.std.proofs.Common.{◌≡◌, ℕ, ◌+◌, ◌*◌, ◌++◌, length, flat_map, ap, ◌∙◌, sym, arith, refl, if◌then◌else◌}
+use Rattle.std.proofs.Common.{◌≡◌, ℕ, ◌*◌, flat_map, ap, ◌∙◌, sym, arith, refl, if◌then◌else◌}
 use Rattle.std.proofs.lemmas.List.{map-id}
 use Rattle.std.proofs.KnownBytes.{Consumes-trans}
 use Rattle.std.specs.Prelude.{option_to_list}
 use Rattle.xet_records.specs.FileRow.{segment_row, verification_row, metadata_row}
 use Rattle.xet_records.specs.FileRecord.{rows_text, has_metadata_ext}
-use Rattle.xet_records.specs.Reading.{ReadsRowsAfter}
 use Rattle.xet_records.proofs.Record.{length-three, row_or_none}
 use Rattle.xet_records.proofs.file_structs.read_rows_after.Goals as goal
 

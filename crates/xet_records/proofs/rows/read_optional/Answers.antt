@@ -1,5 +1,3 @@
-use Rattle.std.proofs.Common.{sym, subst}
-use Rattle.xet_records.specs.Rows.{ReadsOptional}
 use Rattle.xet_records.proofs.Reading.{a_row}
 use Rattle.xet_records.proofs.rows.read_optional.Goals as goal
 

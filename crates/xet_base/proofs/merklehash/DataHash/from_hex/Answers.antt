@@ -1,6 +1,5 @@
-use Rattle.std.proofs.Common.{◌≡◌, ◌++◌, sym, ap, ◌∙◌, subst, Ok}
-use Rattle.xet_base.specs.Hash.{IsHash}
-use Rattle.xet_base.specs.Hex.{hash_hex, IsHexText}
+use Rattle.std.proofs.Common.{sym, ap, ◌∙◌, subst, Ok}
+use Rattle.xet_base.specs.Hex.{IsHexText}
 use Rattle.xet_base.proofs.Hex.{hash_hex-IsHexText, lowered-hash_hex, hash_hex-injective}
 use Rattle.std.specs.Str.{str_to_ascii_lowercase}
 use Rattle.xet_base.proofs.merklehash.DataHash.from_hex.Goals as goal

@@ -1,4 +1,4 @@
-use Rattle.std.proofs.Common.{◌≡◌, [], ◌∷◌, ◌++◌, sym, ap, ◌∙◌, refl, rules, arith}
+use Rattle.std.proofs.Common.{[], ◌∷◌, sym, refl, rules, arith}
 use Rattle.std.proofs.lemmas.Grind.{common_steps}
 use Rattle.xet_records.specs.FileRow.{verification_row}
 use Rattle.xet_records.proofs.file_structs.FileVerificationEntryRow.from_bytes.Goals as goal

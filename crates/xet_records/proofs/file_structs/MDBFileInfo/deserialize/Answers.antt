@@ -1,4 +1,4 @@
-use Rattle.std.proofs.Common.{◌≡◌, ◌≤◌, ◌≢◌, arith, rules}
+use Rattle.std.proofs.Common.{◌≤◌, ◌≢◌, arith}
 use Rattle.std.proofs.KnownBytes.{Consumes-trans}
 use Rattle.xet_base.specs.Hash.{all_ones}
 use Rattle.xet_records.specs.FileRecord.{rows_after}

@@ -1,0 +1,101 @@
+-- Finite maps that the entries of a `BTreeMap` stand for.
+use Rattle.std.proofs.Common.{◌≡◌, ℕ, ◌+◌, Bool, true, false, ◌&&◌, List, [], ◌∷◌, map, length, Some, T, refl, sym, ap, ◌∙◌, subst, arith}
+use Rattle.std.specs.Prelude.{All, option_map, unwrap_or, sum_by, cond}
+use Rattle.std.specs.Ordering.{is_lt, match_ordering}
+use Rattle.std.specs.declared.cmp.Ordering.{Ordering}
+use Rattle.std.specs.declared.cmp.Ordering.TheVariants.{Less, Equal, Greater}
+use Rattle.std.specs.Cmp.{IsTotalOrder}
+use Rattle.std.specs.Map.{lookup, keys_of, values_of}
+use Rattle.std.specs.BTreeMap.{insert_entry, is_at}
+use Rattle.std.specs.FinMap.{FinMap, IsAntisymmetric, is_sorted, find, get, insert, entries, values, empty, from_sorted, same_map, same_entries_map, entries-from_sorted, entries-insert, entries_sorted, get-from_sorted, get-entries, get-empty, len-entries, len-empty}
+use Rattle.std.specs.FinMap.Entries.{put, is_sorted-put, by_order, below_all}
+use Rattle.std.specs.List.Sorted.{IsStrictlySortedBy}
+use Rattle.std.specs.List.{AllByRecursion}
+use Rattle.std.proofs.lemmas.Map.Entries.{sum_by-insert_entry}
+use Rattle.std.proofs.lemmas.List.Elements.{All-cons, All-drop}
+
+order_cases : {A : Type 0} (o : Ordering) (a b c d : A) → c ≡ d → match_ordering o a b c ≡ by_order o a b d
+order_cases Less a b c d same = refl
+order_cases Equal a b c d same = refl
+order_cases Greater a b c d same = same
+
+less : (o : Ordering) → T (is_lt o) → o ≡ Less
+less Less p = refl
+less Equal p = absurd p
+less Greater p = absurd p
+
+both_left : (a b : Bool) → T (a && b) → T a
+both_left true b p = tt
+both_left false b p = p
+
+both_right : (a b : Bool) → T (a && b) → T b
+both_right true b p = p
+both_right false b p = absurd p
+
+module _ {K X : Type 0} (R : K → K → Ordering) where
+  -- inserting into the entries is putting
+  pub put_is : (k : K) (v : X) (es : List (K × X)) → insert_entry R es k v ≡ put R k v es
+  put_is k v [] = refl
+  put_is k v (e ∷ es) = order_cases (R k e.0) _ _ _ _ (ap (λ rest. e ∷ rest) (put_is k v es))
+
+  pub found_is : (q : K) (es : List (K × X)) → lookup (is_at (R q)) es ≡ find R q es
+  found_is q [] = refl
+  found_is q (e ∷ es) = ap (cond (is_at (R q) e.0) (Some e.1)) (found_is q es)
+
+  below_keys : (x : K) (es : List (K × X)) → T (below_all R x es) → AllByRecursion (λ y. R x y ≡ Less) (keys_of es)
+  below_keys x [] below = tt
+  below_keys x (e ∷ es) below = (less (R x e.0) (both_left _ _ below), below_keys x es (both_right _ _ below))
+
+  -- keys that rise, as std's sums over maps want them
+  pub rising_keys : (es : List (K × X)) → T (is_sorted R es) → IsStrictlySortedBy R (keys_of es)
+  unfolding IsStrictlySortedBy
+  rising_keys [] sorted = tt
+  rising_keys (e ∷ es) sorted = (below_keys e.0 es (both_left _ _ sorted), rising_keys es (both_right _ _ sorted))
+
+module _ {K X : Type 0} {R : K → K → Ordering} (total : IsTotalOrder R) (exact : IsAntisymmetric R) where
+  pub from_sorted-nil : from_sorted {X = X} {R = R} [] ≡ empty
+  from_sorted-nil = same_map total exact (from_sorted []) empty (λ q. get-from_sorted R [] q tt ∙ sym (get-empty R q))
+
+  pub sorted-insert_entry : (es : List (K × X)) (k : K) (v : X) → T (is_sorted R es) → T (is_sorted R (insert_entry R es k v))
+  sorted-insert_entry es k v sorted = subst (λ fs. T (is_sorted R fs)) (sym (put_is R k v es)) (is_sorted-put R total k v es sorted)
+
+  -- the map of the entries after an insertion
+  pub from_sorted-insert_entry : (es : List (K × X)) (k : K) (v : X) → T (is_sorted R es) → from_sorted {R = R} (insert_entry R es k v) ≡ insert (from_sorted es) k v
+  from_sorted-insert_entry es k v sorted =
+      same_entries_map _ _ (entries-from_sorted R (insert_entry R es k v) (sorted-insert_entry es k v sorted) ∙ put_is R k v es
+      ∙ ap (put R k v) (sym (entries-from_sorted R es sorted)) ∙ sym (entries-insert total (from_sorted es) k v))
+
+  pub found : (es : List (K × X)) (q : K) → T (is_sorted R es) → lookup (is_at (R q)) es ≡ get (from_sorted {R = R} es) q
+  found es q sorted = found_is R q es ∙ sym (get-from_sorted R es q sorted)
+
+  -- what holds of each entry still does after an entry for which it holds is inserted
+  pub All-insert_entry : (P : K × X → Type 0) (es : List (K × X)) (k : K) (v : X) → All P es → P (k, v) → All P (insert_entry R es k v)
+  All-insert_entry P [] k v all new = All-cons P (k, v) [] new all
+  All-insert_entry P (e ∷ es) k v all new =
+      elim (R k e.0) as (λ o. R k e.0 ≡ o → All P (match_ordering o ((k, v) ∷ e ∷ es) ((e.0, v) ∷ es) (e ∷ insert_entry R es k v))) [
+        | Less ↦ λ is. All-cons P (k, v) (e ∷ es) new all
+        | Equal ↦ λ is. All-cons P (e.0, v) es (subst (λ q. P (q, v)) (exact k e.0 is) new) (All-drop P 1 (e ∷ es) all)
+        | Greater ↦ λ is. All-cons P e (insert_entry R es k v) (all 0 e (omega arith)) (All-insert_entry P es k v (All-drop P 1 (e ∷ es) all) new)
+      ] refl
+
+  -- the sum over a map after an insertion
+  pub sum-insert : (f : X → ℕ) (m : FinMap R X) (k : K) (v : X)
+      → sum_by f (values (insert m k v)) + unwrap_or (option_map f (get m k)) 0 ≡ sum_by f (values m) + f v
+  sum-insert f m k v =
+      let entered : entries (insert m k v) ≡ insert_entry R (entries m) k v = entries-insert total m k v ∙ sym (put_is R k v (entries m)) in
+      let old : unwrap_or (option_map f (get m k)) 0 ≡ unwrap_or (option_map f (lookup (is_at (R k)) (entries m))) 0 =
+      ap (λ o. unwrap_or (option_map f o) 0) (get-entries m k ∙ sym (found_is R k (entries m))) in
+      ap (λ es. sum_by f (map (λ e. e.1) es) + unwrap_or (option_map f (get m k)) 0) entered
+      ∙ ap (λ n. sum_by f (values_of (insert_entry R (entries m) k v)) + n) old
+      ∙ sum_by-insert_entry f total (entries m) k v (rising_keys R (entries m) (entries_sorted m))
+
+no_entries : {A : Type 0} (es : List A) → length es ≡ 0 → es ≡ []
+no_entries [] none = refl
+no_entries (e ∷ es) some = absurd (omega arith)
+
+module _ {K : Type 0} (X : Type 0) (R : K → K → Ordering) where
+  pub entries-empty : entries (empty {X = X} {R = R}) ≡ []
+  entries-empty = no_entries (entries empty) (sym (len-entries empty) ∙ len-empty R X)
+
+  pub values-empty : values (empty {X = X} {R = R}) ≡ []
+  values-empty = ap (map (λ e. e.1)) entries-empty

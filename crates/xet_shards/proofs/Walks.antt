@@ -1,0 +1,41 @@
+-- The turns of a loop over the values of a map.
+use Rattle.std.proofs.Common.{◌≡◌, ℕ, ◌+◌, ◌≤◌, List, [], ◌∷◌, ◌++◌, map, Option, None, Some, sym, ap, ◌∙◌, arith, append_assoc, append-nil}
+use Rattle.std.specs.Prelude.{All, sum_by, flat_map}
+use Rattle.std.proofs.lemmas.Grind.{flat_map-append}
+use Rattle.std.specs.Borrow.{Bor}
+use Rattle.std.specs.Map.Iter.{TakesFirst, deref}
+use Rattle.std.proofs.lemmas.List.{map-append}
+use Rattle.std.proofs.lemmas.List.Elements.{All-drop}
+use Rattle.std.proofs.lemmas.List.Sums.{sum_by-append, sum_by-cons}
+use Rattle.std.proofs.lemmas.Map.Iter.{rest_more, rest_all}
+
+module _ {X : Type 0} where
+  -- where a turn stands in the list of all values
+  pub value_turn : (all : List X) (before : List (Bor X)) (s t : List X) (r : Option (Bor X)) (x : Bor X)
+      → map deref before ++ s ≡ all → r ≡ Some x → TakesFirst deref s r t → map deref before ++ x.now ∷ t ≡ all
+  value_turn all before s t r x whole is step = ap (λ rest. map deref before ++ rest) (sym (rest_more deref s t r x is step)) ∙ whole
+
+  -- the same at the next turn
+  pub value_turned : (all : List X) (before : List (Bor X)) (t : List X) (x : Bor X)
+      → map deref before ++ x.now ∷ t ≡ all → map deref (before ++ x ∷ []) ++ t ≡ all
+  value_turned all before t x whole =
+      ap (λ front. front ++ t) (map-append deref before (x ∷ [])) ∙ append_assoc (map deref before) (x.now ∷ []) t ∙ whole
+
+  pub value_end : (all : List X) (before : List (Bor X)) (s t : List X) (r : Option (Bor X))
+      → map deref before ++ s ≡ all → r ≡ None → TakesFirst deref s r t → map deref before ≡ all
+  value_end all before s t r whole is step =
+      sym (append-nil (map deref before)) ∙ ap (λ rest. map deref before ++ rest) (sym (rest_all deref s t r is step)) ∙ whole
+
+  pub All-middle : (P : X → Type 0) (front rest : List X) (x : X) → All P (front ++ x ∷ rest) → P x
+  All-middle P [] rest x all = all 0 x (omega arith)
+  All-middle P (y ∷ front) rest x all = All-middle P front rest x (All-drop P 1 (y ∷ front ++ x ∷ rest) all)
+
+  pub sum-middle : (f : X → ℕ) (front rest : List X) (x : X) → sum_by f front + f x ≤ sum_by f (front ++ x ∷ rest)
+  sum-middle f front rest x = omega (arith, sum_by-append f front (x ∷ rest), sum_by-cons f x rest)
+
+  -- what a list of values maps to, once this turn's value is part of it
+  pub values_push : (before : List (Bor X)) (x : Bor X) → map deref (before ++ x ∷ []) ≡ map deref before ++ x.now ∷ []
+  values_push before x = map-append deref before (x ∷ [])
+
+  pub flat_map-push : {Y : Type 0} (f : X → List Y) (xs : List X) (x : X) → flat_map f (xs ++ x ∷ []) ≡ flat_map f xs ++ f x
+  flat_map-push f xs x = flat_map-append f xs (x ∷ []) ∙ ap (λ ys. flat_map f xs ++ ys) (append-nil (f x))

@@ -1,0 +1,10 @@
+use Rattle.std.proofs.Common.{sym, ap, ◌∙◌, lit≤}
+use Rattle.std.specs.FinMap.{values}
+use Rattle.xet_base.specs.Hash.{hash_cmp}
+use Rattle.xet_records.specs.declared.file_structs.MDBFileInfo.{MDBFileInfo}
+use Rattle.xet_shards.specs.Shard.{FileMap, total_rows}
+use Rattle.xet_shards.proofs.Maps.{values-empty}
+use Rattle.xet_shards.proofs.shard_in_memory.MDBInMemoryShard.new.Goals as goal
+
+pub invariant_of-result : goal.invariant_of-result
+invariant_of-result c = (sym (ap (λ (m : FileMap). total_rows (values m)) c.new.ensures ∙ ap total_rows (values-empty MDBFileInfo hash_cmp)), lit≤ tt)
