@@ -1,0 +1,41 @@
+-- How a script ends, and why it stops.
+use Rattle.std.specs.Prelude.{◌≡◌, ◌≢◌, ◌⊎◌, ℕ, ⊤}
+use Rattle.std.specs.IoError.{error_kind}
+use Rattle.std.specs.declared.io.Error.{Error}
+use Rattle.std.specs.declared.io.ErrorKind.TheVariants.{OutOfMemory as no_device_memory}
+use Rattle.shardtool.specs.declared.command.ParseError.{ParseError}
+use Rattle.shardtool.specs.declared.command.ParseError.TheVariants.{Unreadable as unreadable_line, OutOfMemory as no_memory}
+use Rattle.shardtool.specs.declared.run.Ending.{Ending}
+use Rattle.shardtool.specs.declared.run.Ending.TheVariants.{Done as done_ending, Refused as refused_ending, Unreadable as unreadable_ending, Failed as failed_ending}
+use Rattle.shardtool.specs.declared.run.Stop.{Stop}
+use Rattle.shardtool.specs.declared.run.Stop.TheVariants.{Refused, Unreadable, Failed}
+
+-- the exit status of an ending
+abbrev pub status_of : Ending → ℕ
+status_of done_ending = 0
+status_of refused_ending = 1
+status_of unreadable_ending = 2
+status_of failed_ending = 3
+
+-- a command was refused, or a growth
+abbrev pub IsRefused : Stop → Type 0
+IsRefused (Refused _) = ⊤
+IsRefused Unreadable = ⊥
+IsRefused Failed = ⊥
+
+-- the stop at a line that gives no command
+abbrev pub StopsAtLine : ParseError → Stop → Type 0
+StopsAtLine unreadable_line stop = stop ≡ Unreadable
+StopsAtLine no_memory stop = IsRefused stop
+
+-- the stop at a fault of the input or the output: want of memory is a refused growth
+abbrev pub StopsAtFault : Error → Stop → Type 0
+StopsAtFault error (Refused _) = error_kind error ≡ no_device_memory
+StopsAtFault error Unreadable = ⊥
+StopsAtFault error Failed = error_kind error ≢ no_device_memory
+
+-- the ending after a stop, or that of an output that fails while the stop is told
+abbrev pub EndsAt : Stop → Ending → Type 0
+EndsAt (Refused _) ending = (ending ≡ refused_ending) ⊎ (ending ≡ failed_ending)
+EndsAt Unreadable ending = (ending ≡ unreadable_ending) ⊎ (ending ≡ failed_ending)
+EndsAt Failed ending = ending ≡ failed_ending

@@ -1,0 +1,2 @@
+pub use Rattle.xet_base.specs.Hash
+pub use Rattle.xet_base.specs.Hex
