@@ -1,5 +1,8 @@
 //! What no contract says: worked bytes, that calls succeed, and how readers that end or fail are answered.
 
+ghost use Rattle.std.specs.Prelude.{IfOk};
+ghost use Rattle.xet_records.specs.FileRecord.{FitsItsHeader};
+
 use crate::file_structs::*;
 use crate::rows::{Row, Rows};
 use crate::xorb_structs::*;
@@ -15,7 +18,9 @@ fn small(n: u64) -> MerkleHash {
 }
 
 /// A file with two segments and both optional parts.
-fn full_file(alloc: Global) -> Result<MDBFileInfo> {
+fn full_file(alloc: Global) -> Result<MDBFileInfo>
+    ensures { IfOk result FitsItsHeader }
+{
     let mut segments = Rows::new(alloc);
     segments.push(FileDataSequenceEntry::new(small(200), 5, 0, 2))?;
     segments.push(FileDataSequenceEntry::new(small(201), 7, 2, 9))?;
@@ -72,8 +77,8 @@ fn reserved_words_are_dropped_where_the_format_says_so(rt: HostRuntime) -> std::
     let mut kept = Vec::new(rt.alloc());
     let reserved = FileVerificationEntry { range_hash: small(1), _unused: [2, 3] };
     assert_eq!(rt; reserved.serialize(&mut kept)?, 48);
-    assert_eq!(rt; kept[32], 2);
-    assert_eq!(rt; kept[40], 3);
+    assert_eq!(rt; kept.get(32), Some(&2));
+    assert_eq!(rt; kept.get(40), Some(&3));
     Ok(())
 }
 
@@ -109,17 +114,18 @@ fn records_are_read_back_and_cut_ones_refused(rt: HostRuntime) -> std::result::R
     assert_eq!(rt; file.serialize(&mut bytes)?, whole);
     assert_eq!(rt; whole, 288);
     assert_eq!(rt; file.file_size(), 12);
-    bytes.push(9)?;
-
-    let mut reader = bytes.as_slice();
-    assert_eq!(rt; MDBFileInfo::deserialize(alloc, &mut reader)?, Some(full_file(alloc)?));
-    assert_eq!(rt; reader.len(), 1);
-    for length in 0..whole {
+    assert_eq!(rt; bytes.len(), whole);
+    for length in 0..bytes.len() {
         match MDBFileInfo::deserialize(alloc, &mut &bytes[..length]) {
             Err(CoreError::Io(error)) => assert_eq!(rt; error.kind(), ErrorKind::UnexpectedEof),
             _ => assert!(rt; false, "cut to {length}"),
         }
     }
+
+    bytes.push(9)?;
+    let mut reader = bytes.as_slice();
+    assert_eq!(rt; MDBFileInfo::deserialize(alloc, &mut reader)?, Some(full_file(alloc)?));
+    assert_eq!(rt; reader.len(), 1);
     Ok(())
 }
 
