@@ -1,13 +1,13 @@
 -- The turns of the loops that fill a slice.
-use Rattle.std.proofs.Common.{◌≡◌, ℕ, ◌+◌, ◌≤◌, List, [], ◌++◌, length, take, drop, Option, None, Some, sym, ap, ◌∙◌, subst, arith, refl, add_assoc, add-zero}
-use Rattle.std.proofs.lemmas.List.{drop-drop, length-append}
+use Rattle.std.proofs.Common.{◌≡◌, ℕ, ◌+◌, ◌<◌, ◌≤◌, List, [], ◌++◌, length, take, drop, Option, None, Some, sym, ap, ◌∙◌, subst, arith, refl, add_assoc, add-zero, take-append-drop}
+use Rattle.std.proofs.lemmas.List.{drop-drop, length-append, length-drop}
 use Rattle.std.proofs.Math.Seq.{take-add}
 use Rattle.std.proofs.KnownBytes.{Consumes-trans, Consumes-kept}
 use Rattle.std.proofs.lemmas.Slice.{take-put_mid_below}
 use Rattle.std.specs.Io.KnownBytes.{Consumes, Keeps}
 use borrow.Rule.Slice.PartMut.{put_mid}
 use Rattle.xet_base.specs.Bytes.{HasBytes, LacksBytes}
-use Rattle.xet_base.specs.Source.{Source, advanced, next_bytes, Takes}
+use Rattle.xet_base.specs.Source.{Source, advanced, next_bytes, bytes_left, Takes}
 use Rattle.xet_base.proofs.Lists.{take-put_mid_part}
 
 -- one more read of n bytes into a slice that is filled up to `filled`
@@ -60,3 +60,14 @@ Takes-trans a b c xs ys first last =
       after = last.after ∙ ap (λ s. advanced s (length ys)) first.after ∙ advanced-advanced a (length xs) (length ys)
           ∙ ap (λ n. advanced a n) (sym (length-append xs ys));
     }
+
+-- what was read from a source was consumed from the bytes that it had left
+pub Takes-consumes : (a b : Source) (xs : List ℕ) → Takes a b xs → Consumes (Some (bytes_left a)) (Some (bytes_left b)) xs
+Takes-consumes a b xs taken =
+    sym (take-append-drop (length xs) (bytes_left a))
+    ∙ (λ i. sym taken.there i ++ drop-drop (length xs) a.at a.bytes i)
+    ∙ ap (λ (s : Source). xs ++ bytes_left s) (sym taken.after)
+
+-- bytes that end within the next n are fewer than n from the source's place on
+pub lacks_left : (s : Source) (n : ℕ) → 0 < n → length s.bytes < s.at + n → length (bytes_left s) < n
+lacks_left s n some ends = omega (arith, length-drop s.at s.bytes)

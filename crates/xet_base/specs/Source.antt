@@ -44,6 +44,10 @@ pub record Fails (old new : Source) (made : ℕ) (e : Error) : Type 0 where
   pub failures : new.failures ≡ old.failures + 1
   pub last_failure : new.last_failure ≡ Some e
 
+-- the bytes from the source's place on
+abbrev pub bytes_left : Source → List ℕ
+bytes_left s = drop s.at s.bytes
+
 -- these bytes were read, from the source's place on
 pub record Takes (old new : Source) (taken : List ℕ) : Type 0 where
   pub within : 0 < length taken → old.at + length taken ≤ length old.bytes
@@ -63,10 +67,15 @@ pub record FillsNot (old new : Source) (n : ℕ) (e : Error) : Type 0 where
   pub read : new.read ≤ old.read + n
   pub cause : FillFailure old new n e
 
+-- the device failed, and the error is what its own becomes
+abbrev pub DeviceFailure : Source → Source → CoreError → Type 0
+DeviceFailure old new e =
+    (new.failures ≡ old.failures + 1) × (failure : Error) × (new.last_failure ≡ Some failure) × FromDevice failure e
+
 -- a read of n bytes was refused: by the device, whose own error it is, or by the end of the bytes
 abbrev pub ReadFailure : Source → Source → ℕ → CoreError → Type 0
 ReadFailure old new n e =
-    ((new.failures ≡ old.failures + 1) × (failure : Error) × (new.last_failure ≡ Some failure) × FromDevice failure e)
+    DeviceFailure old new e
     ⊎ ((new.failures ≡ old.failures) × IsEndOfInput e × (length old.bytes < old.at + n))
 
 -- reading up to n bytes was refused, by the device, by the end of the bytes or for want of memory; the place is open

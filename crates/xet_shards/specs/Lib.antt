@@ -1,3 +1,4 @@
+pub mod Ends
 pub mod FileTable
 pub mod Layout
 pub mod Section

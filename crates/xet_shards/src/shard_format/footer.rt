@@ -1,9 +1,10 @@
 //! The last 200 bytes of a shard.
 
-ghost use Rattle.std.specs.Prelude.{◌≡◌, ◌≢◌, ◌++◌, OnOk, IfOk, IfErr};
+ghost use Rattle.std.specs.Prelude.{◌≡◌, ◌≢◌, ◌⊎◌, ◌++◌, IfSome, OnOk, IfOk, IfErr};
+ghost use Rattle.std.specs.Io.KnownBytes.{Appends, Consumes};
 ghost use Rattle.xet_base.specs.Bytes.{u64_bytes};
-ghost use Rattle.xet_base.specs.Errors.{IsShardVersion, IsDeviceError};
-ghost use Rattle.std.specs.Io.KnownBytes.{Appends};
+ghost use Rattle.xet_base.specs.Errors.{IsShardVersion, IsDeviceError, IsEndOfInput};
+ghost use Rattle.xet_shards.specs.Ends.{HasForeignFooter, EndsInFooter};
 ghost use Rattle.xet_shards.specs.Layout.{footer_text, default_footer};
 
 use std::alloc::Global;
@@ -104,7 +105,13 @@ impl MDBShardFileFooter {
 
     /// Reads the footer. `ShardVersion` where the version is not 1, as soon as its 8 bytes are read,
     /// `UnexpectedEof` where the bytes end before that.
-    pub fn deserialize<R: Read>(alloc: Global, reader: &mut R) -> Result<Self> {
+    pub fn deserialize<R: Read>(alloc: Global, reader: &mut R) -> Result<Self>
+        ensures version { IfOk result (λ f. f.version ≡ 1) }
+        ensures text { IfOk result (λ f. Consumes (R.remaining reader.old) (R.remaining reader.new) (footer_text f)) }
+        ensures foreign { IfErr result (λ e. IsShardVersion e → IfSome (R.remaining reader.old) HasForeignFooter) }
+        ensures end { IfErr result (λ e. IsEndOfInput e → IfSome (R.remaining reader.old) EndsInFooter) }
+        ensures causes { IfErr result (λ e. IsDeviceError e ⊎ IsShardVersion e) }
+    {
         let mut version = [0u8; 8];
         read_bytes(reader, &mut version)?;
         check_version(alloc, &version)?;

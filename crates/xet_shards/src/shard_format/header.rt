@@ -1,9 +1,10 @@
 //! The first 48 bytes of a shard.
 
-ghost use Rattle.std.specs.Prelude.{◌≡◌, ◌≢◌, ◌++◌, take, OnOk, IfOk, IfErr};
+ghost use Rattle.std.specs.Prelude.{◌≡◌, ◌≢◌, ◌⊎◌, ◌++◌, take, IfSome, OnOk, IfOk, IfErr};
+ghost use Rattle.std.specs.Io.KnownBytes.{Appends, Consumes};
 ghost use Rattle.xet_base.specs.Bytes.{u64_bytes};
-ghost use Rattle.xet_base.specs.Errors.{IsShardVersion, IsDeviceError};
-ghost use Rattle.std.specs.Io.KnownBytes.{Appends};
+ghost use Rattle.xet_base.specs.Errors.{IsShardVersion, IsDeviceError, IsEndOfInput};
+ghost use Rattle.xet_shards.specs.Ends.{HasForeignHeader, EndsInHeader};
 ghost use Rattle.xet_shards.specs.Layout.{header_tag, header_text, header_value};
 
 use std::alloc::Global;
@@ -60,7 +61,14 @@ impl MDBShardFileHeader {
 
     /// Reads the header. `ShardVersion` where the tag is another, as soon as its 32 bytes are read, or the
     /// version is not 2, `UnexpectedEof` where the bytes end before that.
-    pub fn deserialize<R: Read>(alloc: Global, reader: &mut R) -> Result<Self> {
+    #[tactic(auto, unfolding(crate::specs::Layout::header_text))]
+    pub fn deserialize<R: Read>(alloc: Global, reader: &mut R) -> Result<Self>
+        ensures tag { IfOk result (λ h. (h.tag ≡ header_tag) × (h.version ≡ 2)) }
+        ensures text { IfOk result (λ h. Consumes (R.remaining reader.old) (R.remaining reader.new) (header_text h)) }
+        ensures foreign { IfErr result (λ e. IsShardVersion e → IfSome (R.remaining reader.old) HasForeignHeader) }
+        ensures end { IfErr result (λ e. IsEndOfInput e → IfSome (R.remaining reader.old) EndsInHeader) }
+        ensures causes { IfErr result (λ e. IsDeviceError e ⊎ IsShardVersion e) }
+    {
         let mut tag = [0u8; 32];
         read_bytes(reader, &mut tag)?;
         check_tag(alloc, &tag)?;

@@ -1,9 +1,9 @@
 //! What a shard's header and footer tell, and the calls that stand on them.
 
-ghost use Rattle.std.specs.Prelude.{◌≡◌, ◌+◌, ◌*◌, ◌^◌, ◌<◌, ◌≤◌, ◌++◌, length, List, [], All, OnOk, OnSome, IfOk, IfErr};
+ghost use Rattle.std.specs.Prelude.{◌≡◌, ◌+◌, ◌*◌, ◌^◌, ◌<◌, ◌≤◌, ◌++◌, length, List, [], All, MatchResult, OnOk, OnSome, IfOk, IfErr};
 ghost use Rattle.std.specs.FinMap as finite;
 ghost use Rattle.std.specs.Io.KnownBytes.{Appends};
-ghost use Rattle.xet_base.specs.Errors.{IsDeviceError};
+ghost use Rattle.xet_base.specs.Errors.{IsDeviceError, IsInvalidShard};
 ghost use Rattle.std.specs.BTreeMap.{values};
 ghost use Rattle.xet_shards.specs.Shard.{AreFiles, total_rows};
 ghost use Rattle.xet_shards.specs.Section.{file_section};
@@ -99,7 +99,10 @@ impl MDBShardInfo {
     }
 
     /// The bytes of the shard: the footer's offset and the footer. `InvalidShard` past 64 bits.
-    pub fn num_bytes(&self, alloc: Global) -> Result<u64> {
+    pub fn num_bytes(&self, alloc: Global) -> Result<u64>
+        ensures { MatchResult result (λ n. n ≡ self.now.metadata.footer_offset + 200)
+            (λ e. IsInvalidShard e × (2 ^ 64 ≤ self.now.metadata.footer_offset + 200)) }
+    {
         match self.metadata.footer_offset.checked_add(FOOTER_SIZE) {
             Some(bytes) => Ok(bytes),
             None => Err(CoreError::InvalidShard(String::new(alloc))),

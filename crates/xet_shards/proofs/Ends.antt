@@ -1,0 +1,65 @@
+-- Headers and footers that are read in two steps.
+use Rattle.std.proofs.Common.{◌≡◌, ◌≢◌, ◌⊎◌, inl, inr, ℕ, ◌+◌, ◌≤◌, List, ◌++◌, length, take, drop, Option, None, Some, IfSome, sym, ap, ◌∙◌, refl, arith}
+use Rattle.std.proofs.lemmas.List.{length-append, take-append-le}
+use Rattle.std.proofs.Math.Seq.{take-append_seam, drop-append_seam}
+use Rattle.std.specs.Io.KnownBytes.{Consumes}
+use Rattle.xet_base.specs.Bytes.{u64_bytes, LacksBytes}
+use Rattle.xet_base.proofs.Bytes.{length-u64_bytes}
+use Rattle.xet_shards.specs.Layout.{header_tag}
+use Rattle.xet_shards.specs.Ends.{HasForeignHeader, EndsInHeader, HasForeignFooter, EndsInFooter}
+
+-- bytes that begin with a part of a known length
+pub front_is : (n : ℕ) (bytes part rest : List ℕ) → length part ≡ n → bytes ≡ part ++ rest → take n bytes ≡ part
+front_is n bytes part rest len are = (λ i. take (sym len i) (are i)) ∙ take-append_seam part rest
+
+pub rest_is : (n : ℕ) (bytes part rest : List ℕ) → length part ≡ n → bytes ≡ part ++ rest → drop n bytes ≡ rest
+rest_is n bytes part rest len are = (λ i. drop (sym len i) (are i)) ∙ drop-append_seam part rest
+
+length_is : (bytes part rest : List ℕ) → bytes ≡ part ++ rest → length bytes ≡ length part + length rest
+length_is bytes part rest are = ap length are ∙ length-append part rest
+
+pub foreign_tag : (old mid : Option (List ℕ)) (tag : List ℕ) → length tag ≡ 32 → Consumes old mid tag → tag ≢ header_tag → IfSome old HasForeignHeader
+foreign_tag None mid tag len taken differs = tt
+foreign_tag (Some bytes) None tag len taken differs = absurd taken
+foreign_tag (Some bytes) (Some rest) tag len taken differs =
+    inl (omega (arith, length_is bytes tag rest taken, len), λ same. differs (sym (front_is 32 bytes tag rest len taken) ∙ same))
+
+pub foreign_version : (old mid new : Option (List ℕ)) (tag rest : List ℕ) → length tag ≡ 32 → length rest ≡ 16 → Consumes old mid tag → Consumes mid new rest
+    → take 8 rest ≢ u64_bytes 2 → IfSome old HasForeignHeader
+foreign_version None mid new tag rest tag_len len first last differs = tt
+foreign_version (Some bytes) None new tag rest tag_len len first last differs = absurd first
+foreign_version (Some bytes) (Some more) None tag rest tag_len len first last differs = absurd last
+foreign_version (Some bytes) (Some more) (Some after) tag rest tag_len len first last differs =
+    inr (
+      omega (arith, length_is bytes tag more first, length_is more rest after last, tag_len, len),
+      λ same. differs (sym (take-append-le 8 rest after (omega (arith, len))) ∙ ap (take 8) (sym last ∙ sym (rest_is 32 bytes tag more tag_len first)) ∙ same),
+    )
+
+pub cut_tag : (old : Option (List ℕ)) → LacksBytes old 32 → IfSome old EndsInHeader
+cut_tag None lacks = tt
+cut_tag (Some bytes) lacks = inl lacks
+
+pub cut_header : (old mid : Option (List ℕ)) (tag : List ℕ) → tag ≡ header_tag → Consumes old mid tag → LacksBytes mid 16 → IfSome old EndsInHeader
+cut_header None mid tag is_tag taken lacks = tt
+cut_header (Some bytes) None tag is_tag taken lacks = absurd taken
+cut_header (Some bytes) (Some rest) tag is_tag taken lacks =
+    inr (omega (arith, length_is bytes tag rest taken, ap length is_tag), front_is 32 bytes tag rest (ap length is_tag) taken ∙ is_tag)
+
+pub foreign_footer : (old mid : Option (List ℕ)) (version : List ℕ) → length version ≡ 8 → Consumes old mid version → version ≢ u64_bytes 1
+    → IfSome old HasForeignFooter
+foreign_footer None mid version len taken differs = tt
+foreign_footer (Some bytes) None version len taken differs = absurd taken
+foreign_footer (Some bytes) (Some rest) version len taken differs =
+    (omega (arith, length_is bytes version rest taken, len), λ same. differs (sym (front_is 8 bytes version rest len taken) ∙ same))
+
+pub cut_version : (old : Option (List ℕ)) → LacksBytes old 8 → IfSome old EndsInFooter
+cut_version None lacks = tt
+cut_version (Some bytes) lacks = inl lacks
+
+pub cut_footer : (old mid : Option (List ℕ)) (version : List ℕ) → version ≡ u64_bytes 1 → Consumes old mid version → LacksBytes mid 192
+    → IfSome old EndsInFooter
+cut_footer None mid version is_one taken lacks = tt
+cut_footer (Some bytes) None version is_one taken lacks = absurd taken
+cut_footer (Some bytes) (Some rest) version is_one taken lacks =
+    let len : length version ≡ 8 = ap length is_one ∙ length-u64_bytes 1 in
+    inr (omega (arith, length_is bytes version rest taken, len), front_is 8 bytes version rest len taken ∙ is_one)

@@ -1,0 +1,83 @@
+-- What the first and the last bytes of a shard say: a header and a footer, foreign ones, or too few bytes.
+use Rattle.std.specs.Prelude.{◌≡◌, ◌≢◌, ◌⊎◌, ℕ, ◌+◌, ◌-◌, ◌<◌, ◌≤◌, List, length, take, drop}
+use Rattle.xet_base.specs.declared.error.CoreError.{CoreError}
+use Rattle.xet_base.specs.Bytes.{u64_bytes}
+use Rattle.xet_base.specs.Errors.{IsShardVersion, IsEndOfInput}
+use Rattle.xet_base.specs.Source.{Source, DeviceFailure, bytes_left}
+use Rattle.xet_shards.specs.declared.shard_format.info.MDBShardInfo.{MDBShardInfo}
+use Rattle.xet_shards.specs.Layout.{header_tag, header_text, footer_text}
+
+-- the bytes begin with a header that is read: the tag, version 2, and a footer size
+pub record HasHeader (bytes : List ℕ) : Type 0 where
+  pub size : 48 ≤ length bytes
+  pub tag : take 32 bytes ≡ header_tag
+  pub version : take 8 (drop 32 bytes) ≡ u64_bytes 2
+
+-- a foreign tag, which is seen once 32 bytes are read, or a foreign version, which is seen after 48
+abbrev pub HasForeignHeader : List ℕ → Type 0
+HasForeignHeader bytes =
+    ((32 ≤ length bytes) × (take 32 bytes ≢ header_tag))
+    ⊎ ((48 ≤ length bytes) × (take 8 (drop 32 bytes) ≢ u64_bytes 2))
+
+-- the bytes end before the tag is complete, or after the tag but before the header is complete
+abbrev pub EndsInHeader : List ℕ → Type 0
+EndsInHeader bytes = (length bytes < 32) ⊎ ((length bytes < 48) × (take 32 bytes ≡ header_tag))
+
+-- a foreign version of the footer, which is seen once 8 bytes are read
+abbrev pub HasForeignFooter : List ℕ → Type 0
+HasForeignFooter bytes = (8 ≤ length bytes) × (take 8 bytes ≢ u64_bytes 1)
+
+-- the bytes end before the version is complete, or after version 1 but before the footer is complete
+abbrev pub EndsInFooter : List ℕ → Type 0
+EndsInFooter bytes = (length bytes < 8) ⊎ ((length bytes < 200) × (take 8 bytes ≡ u64_bytes 1))
+
+-- the last 200 bytes
+abbrev pub last_bytes : List ℕ → List ℕ
+last_bytes bytes = drop (length bytes - 200) bytes
+
+-- the bytes begin with this header and end in this footer
+pub record HasEnds (bytes : List ℕ) (info : MDBShardInfo) : Type 0 where
+  pub size : 200 ≤ length bytes
+  pub tag : info.header.tag ≡ header_tag
+  pub header_version : info.header.version ≡ 2
+  pub header : take 48 bytes ≡ header_text info.header
+  pub footer_version : info.metadata.version ≡ 1
+  pub footer : last_bytes bytes ≡ footer_text info.metadata
+
+-- the bytes are those of another format: a foreign header, or after a header that is read a foreign footer
+abbrev pub IsForeign : List ℕ → Type 0
+IsForeign bytes =
+    HasForeignHeader bytes ⊎ (HasHeader bytes × (200 ≤ length bytes) × HasForeignFooter (last_bytes bytes))
+
+-- the bytes are too few: they end in the header, or before a footer has room
+abbrev pub IsTooShort : List ℕ → Type 0
+IsTooShort bytes = EndsInHeader bytes ⊎ (HasHeader bytes × (length bytes < 200))
+
+-- header and footer were found, by two seeks and 248 bytes read
+pub record Loads (old new : Source) (found : MDBShardInfo) : Type 0 where
+  pub bytes : new.bytes ≡ old.bytes
+  pub seeks : new.seeks ≡ old.seeks + 2
+  pub read : new.read ≡ old.read + 248
+  pub failures : new.failures ≡ old.failures
+  pub ends : HasEnds old.bytes found
+
+-- why bytes were not read as wanted: the device failed, their format is another, or they are too few
+abbrev pub Refusal : (List ℕ → Type 0) → (List ℕ → Type 0) → List ℕ → Source → Source → CoreError → Type 0
+Refusal Foreign Short bytes old new e =
+    DeviceFailure old new e
+    ⊎ ((new.failures ≡ old.failures) × IsShardVersion e × Foreign bytes)
+    ⊎ ((new.failures ≡ old.failures) × IsEndOfInput e × Short bytes)
+
+-- they were not found, by at most two seeks and 248 bytes read; the place is open
+pub record LoadsNot (old new : Source) (e : CoreError) : Type 0 where
+  pub bytes : new.bytes ≡ old.bytes
+  pub seeks : new.seeks ≤ old.seeks + 2
+  pub read : new.read ≤ old.read + 248
+  pub cause : Refusal IsForeign IsTooShort old.bytes old new e
+
+-- a header or a footer was not read from the source's place on, by at most so many bytes; the place is open
+pub record PartFails (Foreign Short : List ℕ → Type 0) (most : ℕ) (old new : Source) (e : CoreError) : Type 0 where
+  pub bytes : new.bytes ≡ old.bytes
+  pub seeks : new.seeks ≡ old.seeks
+  pub read : new.read ≤ old.read + most
+  pub cause : Refusal Foreign Short (bytes_left old) old new e
