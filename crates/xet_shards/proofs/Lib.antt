@@ -1,6 +1,7 @@
 pub mod Ends
 pub mod Files
 pub mod Layouts
+pub mod Loading
 pub mod Maps
 pub mod Tables
 pub mod Versions

@@ -10,7 +10,9 @@ ghost use Rattle.xet_shards.specs.Section.{file_section};
 ghost use Rattle.xet_shards.specs.Written.{HasWritten};
 ghost use Rattle.xet_records.specs.declared.file_structs.MDBFileInfo.{MDBFileInfo};
 ghost use Rattle.xet_records.specs.FileRecord.{FitsRecord};
-ghost use Rattle.xet_shards.specs.Layout.{layout, info_value, footer_value, plain_form};
+ghost use Rattle.xet_shards.specs.Layout.{layout, info_value, footer_value, plain_form, header_tag, header_text, footer_text};
+ghost use Rattle.xet_base.specs.Source.{Takes};
+ghost use Rattle.xet_shards.specs.Ends.{HasForeignHeader, EndsInHeader, HasForeignFooter, EndsInFooter, PartFails, Loads, LoadsNot};
 
 use super::footer::{MDBShardFileFooter, check_version};
 use super::header::{MDBShardFileHeader, check_tag};
@@ -43,26 +45,18 @@ impl MDBShardInfo {
     ///
     /// `ShardVersion` where the tag, the header's version or the footer's is foreign, `UnexpectedEof`
     /// where the source has too few bytes.
-    pub fn load_from_reader<S: ShardSource>(alloc: Global, source: &mut S) -> Result<Self> {
+    pub fn load_from_reader<S: ShardSource>(alloc: Global, source: &mut S) -> Result<Self>
+        ensures { MatchResult result (Loads (S.meaning source.old) (S.meaning source.new))
+            (LoadsNot (S.meaning source.old) (S.meaning source.new)) }
+    {
         source.seek_to(0)?;
-        let mut tag = [0u8; 32];
-        read_full(source, &mut tag)?;
-        check_tag(alloc, &tag)?;
-        let mut rest = [0u8; 16];
-        read_full(source, &mut rest)?;
-        let header = MDBShardFileHeader::after_tag(alloc, &rest)?;
-
+        let header = read_header(alloc, source)?;
         let length = source.length()?;
         if length < FOOTER_SIZE {
             return Err(CoreError::Io(io::Error::from(ErrorKind::UnexpectedEof)));
         }
         source.seek_to(length - FOOTER_SIZE)?;
-        let mut version = [0u8; 8];
-        read_full(source, &mut version)?;
-        check_version(alloc, &version)?;
-        let mut rest = [0u8; 192];
-        read_full(source, &mut rest)?;
-        let metadata = MDBShardFileFooter::after_version(&rest);
+        let metadata = read_footer(alloc, source)?;
         Ok(MDBShardInfo { header, metadata })
     }
 
@@ -126,6 +120,35 @@ impl MDBShardInfo {
         }
         Ok(files)
     }
+}
+
+// Reads a header from the source's place on.
+#[tactic(auto, unfolding(crate::specs::Layout::header_text))]
+fn read_header<S: ShardSource>(alloc: Global, source: &mut S) -> Result<MDBShardFileHeader>
+    ensures read { IfOk result (λ h. Takes (S.meaning source.old) (S.meaning source.new) (header_text h)) }
+    ensures known { IfOk result (λ h. (h.tag ≡ header_tag) × (h.version ≡ 2)) }
+    ensures refused { IfErr result (PartFails HasForeignHeader EndsInHeader 48 (S.meaning source.old) (S.meaning source.new)) }
+{
+    let mut tag = [0u8; 32];
+    read_full(source, &mut tag)?;
+    check_tag(alloc, &tag)?;
+    let mut rest = [0u8; 16];
+    read_full(source, &mut rest)?;
+    MDBShardFileHeader::after_tag(alloc, &rest)
+}
+
+// Reads a footer from the source's place on.
+fn read_footer<S: ShardSource>(alloc: Global, source: &mut S) -> Result<MDBShardFileFooter>
+    ensures read { IfOk result (λ f. Takes (S.meaning source.old) (S.meaning source.new) (footer_text f)) }
+    ensures known { IfOk result (λ f. (f.version ≡ 1) × (length (footer_text f) ≡ 200)) }
+    ensures refused { IfErr result (PartFails HasForeignFooter EndsInFooter 200 (S.meaning source.old) (S.meaning source.new)) }
+{
+    let mut version = [0u8; 8];
+    read_full(source, &mut version)?;
+    check_version(alloc, &version)?;
+    let mut rest = [0u8; 192];
+    read_full(source, &mut rest)?;
+    Ok(MDBShardFileFooter::after_version(&rest))
 }
 
 // Reads the next record of a section, or `None` at its bookend, and counts its rows down.

@@ -1,0 +1,155 @@
+-- Header and footer of a source.
+use Rattle.std.proofs.Common.{◌≡◌, ◌≢◌, inl, inr, Ok, Err, Some, ℕ, ◌+◌, ◌-◌, ◌<◌, ◌≤◌, List, [], ◌++◌, length, take, drop, append-nil, sym, ap, ◌∙◌, subst, refl, arith}
+use Rattle.std.proofs.lemmas.List.{length-append, length-drop, append_assoc, nil_from_length}
+use Rattle.std.specs.Prelude.{IfOk, IfErr}
+use Rattle.std.specs.declared.result.Result.{Result}
+use Rattle.std.specs.declared.io.Error.{Error}
+use Rattle.xet_base.specs.declared.error.CoreError.{CoreError}
+use Rattle.xet_base.specs.Bytes.{u64_bytes}
+use Rattle.xet_base.specs.Errors.{IsEndOfInput, IsShardVersion, FromDevice}
+use Rattle.xet_base.specs.Source.{Source, Takes, Fails, moved, bytes_left}
+use Rattle.xet_base.proofs.Bytes.{length-u64_bytes}
+use Rattle.xet_base.proofs.Reading.{Takes-consumes, Takes-trans}
+use Rattle.xet_shards.specs.declared.shard_format.header.MDBShardFileHeader.{MDBShardFileHeader}
+use Rattle.xet_shards.specs.declared.shard_format.footer.MDBShardFileFooter.{MDBShardFileFooter}
+use Rattle.xet_shards.specs.Layout.{header_tag, header_text, footer_text}
+use Rattle.xet_shards.specs.Ends.{HasHeader, HasForeignHeader, EndsInHeader, HasForeignFooter, EndsInFooter, last_bytes, HasEnds, IsForeign, IsTooShort, Loads, LoadsNot, PartFails, Refusal}
+use Rattle.xet_shards.proofs.Ends.{front_is, foreign_version}
+use Rattle.xet_shards.proofs.Layouts.{length-header_text}
+
+-- a refusal of a part, after calls that did not fail, is one of the whole
+pub refusal_of : (Foreign Short Foreign' Short' : List ℕ → Type 0) (bytes bytes' : List ℕ) (old mid new : Source) (e : CoreError)
+    → mid.failures ≡ old.failures → (Foreign bytes → Foreign' bytes') → (Short bytes → Short' bytes')
+    → Refusal Foreign Short bytes mid new e → Refusal Foreign' Short' bytes' old new e
+refusal_of Foreign Short Foreign' Short' bytes bytes' old mid new e same foreign short (inl failed) = inl (failed.0 ∙ ap (λ n. n + 1) same, failed.1, failed.2, failed.3)
+refusal_of Foreign Short Foreign' Short' bytes bytes' old mid new e same foreign short (inr (inl (none, is, has))) = inr (inl (none ∙ same, is, foreign has))
+refusal_of Foreign Short Foreign' Short' bytes bytes' old mid new e same foreign short (inr (inr (none, is, has))) = inr (inr (none ∙ same, is, short has))
+
+-- what follows from a value or an error holds where it is there
+pub ok_gives : {T E : Type 0} (r : Result T E) (P Q : T → Type 0) → ((v : T) → P v → Q v) → IfOk r P → IfOk r Q
+ok_gives (Ok v) P Q gives holds = gives v holds
+ok_gives (Err e) P Q gives holds = tt
+
+pub err_gives : {T E : Type 0} (r : Result T E) (P Q : E → Type 0) → ((e : E) → P e → Q e) → IfErr r P → IfErr r Q
+err_gives (Ok v) P Q gives holds = tt
+err_gives (Err e) P Q gives holds = gives e holds
+
+-- a header in two steps
+pub read_in_two : (a b c : Source) (tag rest : List ℕ) (h : MDBShardFileHeader) → tag ≡ header_tag → rest ≡ u64_bytes 2 ++ u64_bytes h.footer_size → h.version ≡ 2
+    → Takes a b tag → Takes b c rest → Takes a c (header_text h)
+unfolding header_text
+read_in_two a b c tag rest h is_tag rest_is two first last =
+    subst (Takes a c) ((λ i. is_tag i ++ rest_is i) ∙ ap (λ n. (header_tag ++ u64_bytes n) ++ u64_bytes h.footer_size) (sym two)) (Takes-trans a b c tag rest first last)
+
+pub other_version_read : (a b c : Source) (tag rest : List ℕ) (e : CoreError) → length tag ≡ 32 → length rest ≡ 16 → Takes a b tag → Takes b c rest → IsShardVersion e
+    → take 8 rest ≢ u64_bytes 2 → PartFails HasForeignHeader EndsInHeader 48 a c e
+other_version_read a b c tag rest e tag_len len first last is differs = record {
+  bytes = ap (λ (s : Source). s.bytes) last.after ∙ ap (λ (s : Source). s.bytes) first.after;
+  seeks = ap (λ (s : Source). s.seeks) last.after ∙ ap (λ (s : Source). s.seeks) first.after;
+  read = omega (arith, ap (λ (s : Source). s.read) last.after, ap (λ (s : Source). s.read) first.after, tag_len, len);
+  cause = inr (inl (
+    ap (λ (s : Source). s.failures) last.after ∙ ap (λ (s : Source). s.failures) first.after,
+    is,
+    foreign_version (Some (bytes_left a)) (Some (bytes_left b)) (Some (bytes_left c)) tag rest tag_len len (Takes-consumes a b tag first) (Takes-consumes b c rest last) differs,
+  ));
+}
+
+-- 200 bytes are enough for a footer
+has_room : (bytes : List ℕ) → length bytes ≡ 200 → ¬ EndsInFooter bytes
+has_room bytes len (inl short) = omega (arith, len)
+has_room bytes len (inr (short, _)) = omega (arith, len)
+
+-- the first 48 bytes were read, as a header
+module _ (old mid : Source) (h : MDBShardFileHeader) (taken : Takes (moved old 0) mid (header_text h)) where
+  pub bytes_same : mid.bytes ≡ old.bytes
+  bytes_same = ap (λ (s : Source). s.bytes) taken.after
+
+  pub seeks_one : mid.seeks ≡ old.seeks + 1
+  seeks_one = ap (λ (s : Source). s.seeks) taken.after
+
+  pub read_48 : mid.read ≡ old.read + 48
+  read_48 = ap (λ (s : Source). s.read) taken.after ∙ ap (λ n. old.read + n) (length-header_text h)
+
+  pub failures_same : mid.failures ≡ old.failures
+  failures_same = ap (λ (s : Source). s.failures) taken.after
+
+  begins : old.bytes ≡ header_text h ++ bytes_left mid
+  begins = Takes-consumes (moved old 0) mid (header_text h) taken
+
+  pub front_is_header : take 48 old.bytes ≡ header_text h
+  front_is_header = front_is 48 old.bytes (header_text h) (bytes_left mid) (length-header_text h) begins
+
+  pub header_there : h.version ≡ 2 → HasHeader old.bytes
+  unfolding header_text
+  header_there two =
+      let tag = header_tag ++ u64_bytes h.version in
+      let whole = tag ++ u64_bytes h.footer_size in
+      let len : length whole ≡ 48 = simp (length-append, length-u64_bytes) in
+      record {
+        size = omega (arith, ap length begins ∙ length-append whole (bytes_left mid), len);
+        tag = ap (take 32) begins;
+        version = ap (λ bs. take 8 (drop 32 bs)) begins ∙ front_is 8 _ (u64_bytes h.version) (u64_bytes h.footer_size ++ bytes_left mid) (length-u64_bytes h.version) (simp (append_assoc)) ∙ ap u64_bytes two;
+      }
+
+  pub short_of_footer : (e : CoreError) → h.version ≡ 2 → IsEndOfInput e → length old.bytes < 200 → LoadsNot old mid e
+  short_of_footer e two ended short = record {
+    bytes = bytes_same;
+    seeks = omega (arith, seeks_one);
+    read = omega (arith, read_48);
+    cause = inr (inr (failures_same, ended, inr (header_there two, short)));
+  }
+
+  pub device_failed : (new : Source) (made : ℕ) (f : Error) (e : CoreError) → made ≤ 1 → Fails mid new made f → FromDevice f e → LoadsNot old new e
+  device_failed new made f e most fails from = record {
+    bytes = fails.bytes ∙ bytes_same;
+    seeks = omega (arith, fails.seeks, seeks_one);
+    read = omega (arith, fails.read, read_48);
+    cause = inl (fails.failures ∙ ap (λ n. n + 1) failures_same, f, fails.last_failure, from);
+  }
+
+  -- the last 200 bytes
+  module _ (n : ℕ) (len : n ≡ length mid.bytes) (enough : 200 ≤ n) where
+    last_is : bytes_left (moved mid (n - 200)) ≡ last_bytes old.bytes
+    last_is = λ i. drop ((len ∙ ap length bytes_same) i - 200) (bytes_same i)
+
+    length_last : length (last_bytes old.bytes) ≡ 200
+    length_last = omega (arith, length-drop (length old.bytes - 200) old.bytes, len, ap length bytes_same)
+
+    pub not_footer : (new : Source) (e : CoreError) → h.version ≡ 2 → PartFails HasForeignFooter EndsInFooter 200 (moved mid (n - 200)) new e → LoadsNot old new e
+    not_footer new e two fails =
+        let size : 200 ≤ length old.bytes = omega (arith, len, ap length bytes_same) in
+        record {
+          bytes = fails.bytes ∙ bytes_same;
+          seeks = omega (arith, fails.seeks, seeks_one);
+          read = omega (arith, fails.read, read_48);
+          cause = refusal_of HasForeignFooter EndsInFooter IsForeign IsTooShort (bytes_left (moved mid (n - 200))) old.bytes old (moved mid (n - 200)) new e failures_same
+              (λ has. inr (header_there two, size, subst HasForeignFooter last_is has)) (λ ends. absurd (has_room (last_bytes old.bytes) length_last (subst EndsInFooter last_is ends))) fails.cause;
+        }
+
+    pub found_both : (new : Source) (f : MDBShardFileFooter) → h.tag ≡ header_tag → h.version ≡ 2 → f.version ≡ 1 → length (footer_text f) ≡ 200
+        → Takes (moved mid (n - 200)) new (footer_text f) → Loads old new (record { header = h; metadata = f })
+    found_both new f tag two one size last =
+        let left = Takes-consumes (moved mid (n - 200)) new (footer_text f) last in
+        let nothing : bytes_left new ≡ [] = nil_from_length (bytes_left new) (omega (arith, ap length left ∙ length-append (footer_text f) (bytes_left new), ap length last_is, length_last, size)) in
+        record {
+          bytes = ap (λ (s : Source). s.bytes) last.after ∙ bytes_same;
+          seeks = omega (arith, ap (λ (s : Source). s.seeks) last.after, seeks_one);
+          read = omega (arith, ap (λ (s : Source). s.read) last.after, read_48, size);
+          failures = ap (λ (s : Source). s.failures) last.after ∙ failures_same;
+          ends = record {
+            size = omega (arith, len, ap length bytes_same);
+            tag = tag;
+            header_version = two;
+            header = front_is_header;
+            footer_version = one;
+            footer = sym last_is ∙ left ∙ ap (λ bs. footer_text f ++ bs) nothing ∙ append-nil (footer_text f);
+          };
+        }
+
+pub not_header : (old new : Source) (e : CoreError) → PartFails HasForeignHeader EndsInHeader 48 (moved old 0) new e → LoadsNot old new e
+not_header old new e fails = record {
+  bytes = fails.bytes;
+  seeks = omega (arith, fails.seeks);
+  read = omega (arith, fails.read);
+  cause = refusal_of HasForeignHeader EndsInHeader IsForeign IsTooShort old.bytes old.bytes old (moved old 0) new e refl (λ has. inl has) (λ ends. inl ends) fails.cause;
+}
