@@ -6,7 +6,9 @@ ghost use Rattle.xet_base.specs.Source.{Source};
 
 use crate::count::Count;
 use crate::error::{CoreError, Result, Validate};
-use crate::merklehash::{DataHash, DataHashBytesParseError, DataHashHexParseError, hash_is_global_dedup_eligible};
+use crate::merklehash::{
+    DataHash, DataHashBytesParseError, DataHashHexParseError, hash_is_global_dedup_eligible,
+};
 use crate::serialization_utils::*;
 use crate::source::{MemorySource, ShardSource, read_full};
 use std::io;
@@ -14,8 +16,8 @@ use std::io::{ErrorKind, Read, Write};
 use std::test::Fail;
 
 const HASH_BYTES: [u8; 32] = [
-    22, 175, 58, 132, 4, 75, 131, 214, 190, 153, 138, 66, 226, 3, 153, 242, 204, 86, 80, 234, 249, 153,
-    80, 99, 159, 80, 65, 138, 236, 231, 149, 78,
+    22, 175, 58, 132, 4, 75, 131, 214, 190, 153, 138, 66, 226, 3, 153, 242, 204, 86, 80, 234, 249,
+    153, 80, 99, 159, 80, 65, 138, 236, 231, 149, 78,
 ];
 
 const HASH_HEX: &str = "d6834b04843aaf16f29903e2428a99be635099f9ea5056cc4e95e7ec8a41509f";
@@ -51,8 +53,14 @@ fn texts_of_hashes_are_64_digits_of_either_case(rt: HostRuntime) {
     assert_eq!(rt; DataHash::from_hex(short), Err(DataHashHexParseError));
     let foreign = "g6834b04843aaf16f29903e2428a99be635099f9ea5056cc4e95e7ec8a41509f";
     assert_eq!(rt; DataHash::from_hex(foreign), Err(DataHashHexParseError));
-    assert_eq!(rt; DataHash::from_slice(&HASH_BYTES[..31]), Err(DataHashBytesParseError));
-    assert_eq!(rt; DataHash::from_slice(&[0; 33]), Err(DataHashBytesParseError));
+    assert_eq!(rt;
+        DataHash::from_slice(&HASH_BYTES[..31]),
+        Err(DataHashBytesParseError)
+    );
+    assert_eq!(rt;
+        DataHash::from_slice(&[0; 33]),
+        Err(DataHashBytesParseError)
+    );
     assert!(rt; hash_is_global_dedup_eligible(&DataHash::from([7, 1, 0, 2048])));
     assert!(rt; !hash_is_global_dedup_eligible(&DataHash::from([7, 1, 0, 1])));
 }
@@ -69,10 +77,19 @@ fn errors_are_equal_by_variant_and_have_texts(rt: HostRuntime) -> std::result::R
     assert_ne!(rt; CoreError::InvalidRange, CoreError::InvalidArguments);
     let texts = [
         (CoreError::other(alloc, "words"), "words"),
-        (CoreError::invalid_shard(alloc, "no end"), "Invalid shard: no end"),
-        (CoreError::TruncatedHashCollision(5), "Too many collisions for truncated hash: 5"),
+        (
+            CoreError::invalid_shard(alloc, "no end"),
+            "Invalid shard: no end",
+        ),
+        (
+            CoreError::TruncatedHashCollision(5),
+            "Too many collisions for truncated hash: 5",
+        ),
         (CoreError::InvalidArguments, "Invalid arguments"),
-        (CoreError::of_bytes_error(alloc, DataHashBytesParseError), "a hash has 32 bytes"),
+        (
+            CoreError::of_bytes_error(alloc, DataHashBytesParseError),
+            "a hash has 32 bytes",
+        ),
         (
             CoreError::of_hex_error(alloc, DataHashHexParseError),
             "the text of a hash has 64 hexadecimal digits",
@@ -108,7 +125,10 @@ fn numbers_are_written_and_read_back(rt: HostRuntime) -> std::result::Result<(),
     write_bytes(&mut bytes, b"ab")?;
     write_hash(&mut bytes, &hash)?;
     assert_eq!(rt; bytes.len(), 71);
-    assert_eq!(rt; &bytes[..13], [1, 1, 2, 3, 4, 1, 2, 3, 4, 5, 6, 7, 8].as_slice());
+    assert_eq!(rt;
+        &bytes[..13],
+        [1, 1, 2, 3, 4, 1, 2, 3, 4, 5, 6, 7, 8].as_slice()
+    );
 
     let mut reader = bytes.as_slice();
     assert_eq!(rt; read_u8(&mut reader)?, 1);
@@ -233,22 +253,42 @@ impl Write for Slow {
 fn devices_fail_in_mid_stream(rt: HostRuntime) {
     for (name, size) in CALLS {
         for left in 0..size as u32 {
-            let mut broken = Slow { left, error: ErrorKind::BrokenPipe, fails: true };
+            let mut broken = Slow {
+                left,
+                error: ErrorKind::BrokenPipe,
+                fails: true,
+            };
             let failed = read_once(name, &mut broken).err().map(|error| error.kind());
             assert_eq!(rt; failed, Some(ErrorKind::BrokenPipe));
             // An interruption is no failure, and a device's own end of the input is no end of the input.
-            let mut interrupted = Slow { left, error: ErrorKind::Interrupted, fails: true };
+            let mut interrupted = Slow {
+                left,
+                error: ErrorKind::Interrupted,
+                fails: true,
+            };
             assert!(rt; read_once(name, &mut interrupted).is_ok());
-            let mut ended = Slow { left, error: ErrorKind::UnexpectedEof, fails: true };
+            let mut ended = Slow {
+                left,
+                error: ErrorKind::UnexpectedEof,
+                fails: true,
+            };
             let failed = read_once(name, &mut ended).err().map(|error| error.kind());
             assert_eq!(rt; failed, Some(ErrorKind::Other));
         }
     }
     for left in 0..8 {
-        let mut broken = Slow { left, error: ErrorKind::BrokenPipe, fails: true };
+        let mut broken = Slow {
+            left,
+            error: ErrorKind::BrokenPipe,
+            fails: true,
+        };
         let failed = write_u64(&mut broken, 1).err().map(|error| error.kind());
         assert_eq!(rt; failed, Some(ErrorKind::BrokenPipe));
-        let mut interrupted = Slow { left, error: ErrorKind::Interrupted, fails: true };
+        let mut interrupted = Slow {
+            left,
+            error: ErrorKind::Interrupted,
+            fails: true,
+        };
         assert!(rt; write_u64s(&mut interrupted, &[1, 2]).is_ok());
     }
 }
@@ -263,7 +303,9 @@ fn memory_is_read_at_any_place(rt: HostRuntime) -> std::result::Result<(), Fail>
     assert_eq!(rt; source.position()?, 2);
     assert_eq!(rt; source.length()?, 5);
     source.seek_to(4)?;
-    let ended = read_full(&mut source, &mut pair).err().map(|error| error.kind());
+    let ended = read_full(&mut source, &mut pair)
+        .err()
+        .map(|error| error.kind());
     assert_eq!(rt; ended, Some(ErrorKind::UnexpectedEof));
     source.seek_to(u64::MAX)?;
     assert_eq!(rt; source.read_some(&mut pair)?, 0);
@@ -331,7 +373,9 @@ fn a_source_answers_the_device_s_own_error_at_once(rt: HostRuntime) {
             has_failed: false,
         };
         assert!(rt; source.seek_to(1).is_ok());
-        let failed = read_full(&mut source, &mut [0; 2]).err().map(|error| error.kind());
+        let failed = read_full(&mut source, &mut [0; 2])
+            .err()
+            .map(|error| error.kind());
         assert_eq!(rt; failed, Some(kind));
         assert!(rt; source.seek_to(1).is_err());
     }

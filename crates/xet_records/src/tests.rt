@@ -49,10 +49,22 @@ fn rows_have_48_bytes_in_the_stated_order(rt: HostRuntime) -> std::result::Resul
     assert_eq!(rt; chunk.serialize(&mut bytes)?, 48);
     assert_eq!(rt; bytes.len(), 192);
     assert_eq!(rt; &bytes[..9], [100, 0, 0, 0, 0, 0, 0, 0, 1].as_slice());
-    assert_eq!(rt; &bytes[32..48], [0, 0, 0, 0xc0, 3, 0, 0, 0, 0, 0, 0, 0, 0, 0, 0, 0].as_slice());
-    assert_eq!(rt; &bytes[80..96], [0, 0, 0, 0, 5, 0, 0, 0, 0, 0, 0, 0, 6, 0, 0, 0].as_slice());
-    assert_eq!(rt; &bytes[128..144], [0, 0, 0, 0, 1, 0, 0, 0, 5, 0, 0, 0, 0, 0, 0, 0].as_slice());
-    assert_eq!(rt; &bytes[176..192], [4, 0, 0, 0, 5, 0, 0, 0, 0, 0, 0, 0, 0, 0, 0, 0].as_slice());
+    assert_eq!(rt;
+        &bytes[32..48],
+        [0, 0, 0, 0xc0, 3, 0, 0, 0, 0, 0, 0, 0, 0, 0, 0, 0].as_slice()
+    );
+    assert_eq!(rt;
+        &bytes[80..96],
+        [0, 0, 0, 0, 5, 0, 0, 0, 0, 0, 0, 0, 6, 0, 0, 0].as_slice()
+    );
+    assert_eq!(rt;
+        &bytes[128..144],
+        [0, 0, 0, 0, 1, 0, 0, 0, 5, 0, 0, 0, 0, 0, 0, 0].as_slice()
+    );
+    assert_eq!(rt;
+        &bytes[176..192],
+        [4, 0, 0, 0, 5, 0, 0, 0, 0, 0, 0, 0, 0, 0, 0, 0].as_slice()
+    );
 
     let mut reader = bytes.as_slice();
     assert_eq!(rt; FileDataSequenceHeader::deserialize(&mut reader)?, header);
@@ -64,7 +76,9 @@ fn rows_have_48_bytes_in_the_stated_order(rt: HostRuntime) -> std::result::Resul
 }
 
 #[test]
-fn reserved_words_are_dropped_where_the_format_says_so(rt: HostRuntime) -> std::result::Result<(), Fail> {
+fn reserved_words_are_dropped_where_the_format_says_so(
+    rt: HostRuntime,
+) -> std::result::Result<(), Fail> {
     let row = [7u8; 48];
     let verification = FileVerificationEntry::deserialize(&mut row.as_slice())?;
     assert_eq!(rt; verification._unused, [0, 0]);
@@ -75,7 +89,10 @@ fn reserved_words_are_dropped_where_the_format_says_so(rt: HostRuntime) -> std::
     assert_eq!(rt; header.file_flags, 0x0707_0707);
     assert!(rt; !header.contains_verification());
     let mut kept = Vec::new(rt.alloc());
-    let reserved = FileVerificationEntry { range_hash: small(1), _unused: [2, 3] };
+    let reserved = FileVerificationEntry {
+        range_hash: small(1),
+        _unused: [2, 3],
+    };
     assert_eq!(rt; reserved.serialize(&mut kept)?, 48);
     assert_eq!(rt; kept.get(32), Some(&2));
     assert_eq!(rt; kept.get(40), Some(&3));
@@ -124,7 +141,10 @@ fn records_are_read_back_and_cut_ones_refused(rt: HostRuntime) -> std::result::R
 
     bytes.push(9)?;
     let mut reader = bytes.as_slice();
-    assert_eq!(rt; MDBFileInfo::deserialize(alloc, &mut reader)?, Some(full_file(alloc)?));
+    assert_eq!(rt;
+        MDBFileInfo::deserialize(alloc, &mut reader)?,
+        Some(full_file(alloc)?)
+    );
     assert_eq!(rt; reader.len(), 1);
     Ok(())
 }
@@ -149,7 +169,10 @@ fn a_count_in_the_bytes_reserves_nothing(rt: HostRuntime) -> std::result::Result
     bookend.num_entries = u32::MAX;
     bookend.file_flags = u32::MAX;
     bookend.serialize(&mut bytes)?;
-    assert_eq!(rt; MDBFileInfo::deserialize(alloc, &mut bytes.as_slice())?, None);
+    assert_eq!(rt;
+        MDBFileInfo::deserialize(alloc, &mut bytes.as_slice())?,
+        None
+    );
     Ok(())
 }
 
@@ -161,7 +184,10 @@ fn a_source_gives_the_rows_after_a_header(rt: HostRuntime) -> std::result::Resul
     file.serialize(&mut bytes)?;
     let mut source = MemorySource::new(bytes.as_slice());
     source.seek_to(48)?;
-    assert_eq!(rt; read_source_rows_after(alloc, &mut source, file.metadata)?, file);
+    assert_eq!(rt;
+        read_source_rows_after(alloc, &mut source, file.metadata)?,
+        file
+    );
     source.seek_to(49)?;
     let cut = read_source_rows_after(alloc, &mut source, file.metadata);
     assert_eq!(rt; cut, Err(CoreError::Io(ErrorKind::UnexpectedEof.into())));
@@ -194,7 +220,10 @@ fn a_reader_fails_in_mid_record(rt: HostRuntime) -> std::result::Result<(), Fail
     let mut bytes = Vec::new(alloc);
     full_file(alloc)?.serialize(&mut bytes)?;
     for left in [0, 40, 48, 100, 200, 287] {
-        let mut reader = Failing { bytes: bytes.as_slice(), left };
+        let mut reader = Failing {
+            bytes: bytes.as_slice(),
+            left,
+        };
         match MDBFileInfo::deserialize(alloc, &mut reader) {
             Err(CoreError::Io(error)) => assert_eq!(rt; error.kind(), ErrorKind::BrokenPipe),
             _ => assert!(rt; false, "after {left} bytes"),

@@ -14,7 +14,8 @@ use xet_base::error::{CoreError, Result};
 use xet_base::merklehash::MerkleHash;
 use xet_base::source::{MemorySource, ShardSource};
 use xet_records::file_structs::{
-    FileDataSequenceEntry, FileDataSequenceHeader, FileMetadataExt, FileVerificationEntry, MDBFileInfo,
+    FileDataSequenceEntry, FileDataSequenceHeader, FileMetadataExt, FileVerificationEntry,
+    MDBFileInfo,
 };
 use xet_records::rows::Rows;
 
@@ -38,7 +39,8 @@ fn file_100(alloc: Global) -> Result<MDBFileInfo> {
 fn file_90(alloc: Global) -> Result<MDBFileInfo> {
     let mut file = file_100(alloc)?;
     file.metadata = FileDataSequenceHeader::new(small(90), 1, true, true);
-    file.verification.push(FileVerificationEntry::new(small(265)))?;
+    file.verification
+        .push(FileVerificationEntry::new(small(265)))?;
     file.metadata_ext = Some(FileMetadataExt::new(small(9354)));
     Ok(file)
 }
@@ -93,11 +95,20 @@ fn one_file_has_452_bytes(rt: HostRuntime) -> std::result::Result<(), Fail> {
     assert_eq!(rt; info.num_file_entries(), 1);
     assert_eq!(rt; info.num_bytes(alloc)?, 452);
     assert_eq!(rt; bytes.get(..15), Some(b"HFRepoMetaData\0".as_slice()));
-    assert_eq!(rt; bytes.get(240..252), Some([100, 0, 0, 0, 0, 0, 0, 0, 0, 0, 0, 0].as_slice()));
-    assert_eq!(rt; bytes.get(252..260), Some([1, 0, 0, 0, 0, 0, 0, 0].as_slice()));
+    assert_eq!(rt;
+        bytes.get(240..252),
+        Some([100, 0, 0, 0, 0, 0, 0, 0, 0, 0, 0, 0].as_slice())
+    );
+    assert_eq!(rt;
+        bytes.get(252..260),
+        Some([1, 0, 0, 0, 0, 0, 0, 0].as_slice())
+    );
     assert_eq!(rt; bytes.get(364..372), Some([255u8; 8].as_slice()));
     let bytes = written(alloc, &shard, Some(7))?;
-    assert_eq!(rt; bytes.get(364..372), Some([7, 0, 0, 0, 0, 0, 0, 0].as_slice()));
+    assert_eq!(rt;
+        bytes.get(364..372),
+        Some([7, 0, 0, 0, 0, 0, 0, 0].as_slice())
+    );
     Ok(())
 }
 
@@ -132,10 +143,16 @@ fn a_shard_is_read_back(rt: HostRuntime) -> std::result::Result<(), Fail> {
     assert_eq!(rt; files.get(1), Some(&file_100(alloc)?));
 
     let mut reader = bytes.as_slice();
-    assert_eq!(rt; MDBShardFileHeader::deserialize(alloc, &mut reader)?, MDBShardFileHeader::default());
+    assert_eq!(rt;
+        MDBShardFileHeader::deserialize(alloc, &mut reader)?,
+        MDBShardFileHeader::default()
+    );
     let mut footer = Vec::new(alloc);
     assert_eq!(rt; info.metadata.serialize(&mut footer)?, 200);
-    assert_eq!(rt; MDBShardFileFooter::deserialize(alloc, &mut footer.as_slice())?, info.metadata);
+    assert_eq!(rt;
+        MDBShardFileFooter::deserialize(alloc, &mut footer.as_slice())?,
+        info.metadata
+    );
     Ok(())
 }
 
@@ -144,7 +161,9 @@ fn a_file_takes_the_place_of_the_one_before(rt: HostRuntime) -> std::result::Res
     let alloc = rt.alloc();
     let mut shard = shard_of_one(alloc)?;
     let mut other = file_100(alloc)?;
-    other.segments.push(FileDataSequenceEntry::new(small(201), 6, 0, 1))?;
+    other
+        .segments
+        .push(FileDataSequenceEntry::new(small(201), 6, 0, 1))?;
     other.metadata.num_entries = 2;
     shard.add_file_reconstruction_info(alloc, other)?;
     assert_eq!(rt; shard.num_file_entries(), 1);
@@ -154,7 +173,9 @@ fn a_file_takes_the_place_of_the_one_before(rt: HostRuntime) -> std::result::Res
 }
 
 #[test]
-fn an_ill_formed_record_is_refused_and_changes_nothing(rt: HostRuntime) -> std::result::Result<(), Fail> {
+fn an_ill_formed_record_is_refused_and_changes_nothing(
+    rt: HostRuntime,
+) -> std::result::Result<(), Fail> {
     let alloc = rt.alloc();
     let mut shard = shard_of_one(alloc)?;
     let before = written(alloc, &shard, None)?;
@@ -165,7 +186,10 @@ fn an_ill_formed_record_is_refused_and_changes_nothing(rt: HostRuntime) -> std::
     let mut flagged = file_100(alloc)?;
     flagged.metadata.file_flags = 1;
     let mut reserved = file_90(alloc)?;
-    reserved.metadata_ext = Some(FileMetadataExt { sha256: small(1), _unused: [0, 1] });
+    reserved.metadata_ext = Some(FileMetadataExt {
+        sha256: small(1),
+        _unused: [0, 1],
+    });
     for file in [bookend, uncounted, flagged, reserved] {
         let refused = shard.add_file_reconstruction_info(alloc, file);
         assert_eq!(rt; refused, Err(CoreError::InvalidArguments));
@@ -181,15 +205,24 @@ fn cut_and_foreign_bytes_are_refused(rt: HostRuntime) -> std::result::Result<(),
     // One byte less, and the footer's version seems to be 256.
     let cut = [(451, true), (100, false), (47, false), (0, false)];
     for (length, foreign) in cut {
-        let found = loaded(alloc, bytes.get(..length).unwrap_or(&[])).err().map(told);
-        let wanted = if foreign { None } else { Some(ErrorKind::UnexpectedEof) };
+        let found = loaded(alloc, bytes.get(..length).unwrap_or(&[]))
+            .err()
+            .map(told);
+        let wanted = if foreign {
+            None
+        } else {
+            Some(ErrorKind::UnexpectedEof)
+        };
         assert_eq!(rt; found, Some((foreign, wanted)));
     }
     for (at, byte) in [(0, 0), (31, 0), (32, 3), (252, 2)] {
         if let Some(place) = bytes.get_mut(at) {
             let was = *place;
             *place = byte;
-            assert_eq!(rt; loaded(alloc, bytes.as_slice()).err().map(told), Some((true, None)));
+            assert_eq!(rt;
+                loaded(alloc, bytes.as_slice()).err().map(told),
+                Some((true, None))
+            );
             if let Some(place) = bytes.get_mut(at) {
                 *place = was;
             }
@@ -205,14 +238,20 @@ fn false_numbers_in_a_footer_are_refused(rt: HostRuntime) -> std::result::Result
     let bytes = written(alloc, &shard_of_one(alloc)?, None)?;
     let mut info = loaded(alloc, bytes.as_slice())?;
     info.metadata.footer_offset = u64::MAX;
-    assert_eq!(rt; info.num_bytes(alloc), Err(CoreError::InvalidShard(String::new(alloc))));
+    assert_eq!(rt;
+        info.num_bytes(alloc),
+        Err(CoreError::InvalidShard(String::new(alloc)))
+    );
     info.metadata.footer_offset = u64::MAX - 200;
     assert_eq!(rt; info.num_bytes(alloc)?, u64::MAX);
     for offset in [253, 452, u64::MAX] {
         info.metadata.file_info_offset = offset;
         let mut source = MemorySource::new(bytes.as_slice());
         let found = info.read_all_file_info_sections(alloc, &mut source);
-        assert_eq!(rt; found.err().map(told), Some((false, Some(ErrorKind::UnexpectedEof))));
+        assert_eq!(rt;
+            found.err().map(told),
+            Some((false, Some(ErrorKind::UnexpectedEof)))
+        );
     }
     Ok(())
 }
@@ -287,20 +326,30 @@ fn a_device_fails_at_each_call_in_turn(rt: HostRuntime) -> std::result::Result<(
     // Seven calls load header and footer, four read the one record.
     for left in 0..7 {
         let mut source = failing_after(bytes.as_slice(), left, ErrorKind::BrokenPipe);
-        let failed = MDBShardInfo::load_from_reader(alloc, &mut source).err().map(told);
+        let failed = MDBShardInfo::load_from_reader(alloc, &mut source)
+            .err()
+            .map(told);
         assert_eq!(rt; failed, Some((false, Some(ErrorKind::BrokenPipe))));
         let mut source = failing_after(bytes.as_slice(), left, ErrorKind::Interrupted);
-        let failed = MDBShardInfo::load_from_reader(alloc, &mut source).err().map(told);
+        let failed = MDBShardInfo::load_from_reader(alloc, &mut source)
+            .err()
+            .map(told);
         assert_eq!(rt; failed, Some((false, Some(ErrorKind::Interrupted))));
     }
     for left in 0..4 {
         let mut source = failing_after(bytes.as_slice(), left, ErrorKind::BrokenPipe);
-        let failed = info.read_all_file_info_sections(alloc, &mut source).err().map(told);
+        let failed = info
+            .read_all_file_info_sections(alloc, &mut source)
+            .err()
+            .map(told);
         assert_eq!(rt; failed, Some((false, Some(ErrorKind::BrokenPipe))));
     }
     let mut source = failing_after(bytes.as_slice(), 11, ErrorKind::BrokenPipe);
     assert_eq!(rt; MDBShardInfo::load_from_reader(alloc, &mut source)?, info);
-    assert_eq!(rt; info.read_all_file_info_sections(alloc, &mut source)?.len(), 1);
+    assert_eq!(rt;
+        info.read_all_file_info_sections(alloc, &mut source)?.len(),
+        1
+    );
     Ok(())
 }
 
@@ -345,18 +394,39 @@ fn readers_and_writers_fail_after_any_byte(rt: HostRuntime) -> std::result::Resu
     let broken = Some((false, Some(ErrorKind::BrokenPipe)));
     for left in 0..452 {
         let mut writer = Narrow { bytes: &[], left };
-        let failed = MDBShardInfo::serialize_from(alloc, &mut writer, &shard, None).err().map(told);
+        let failed = MDBShardInfo::serialize_from(alloc, &mut writer, &shard, None)
+            .err()
+            .map(told);
         assert_eq!(rt; failed, broken);
     }
-    let mut writer = Narrow { bytes: &[], left: 452 };
+    let mut writer = Narrow {
+        bytes: &[],
+        left: 452,
+    };
     assert!(rt; MDBShardInfo::serialize_from(alloc, &mut writer, &shard, None).is_ok());
     for left in 0..48 {
-        let mut reader = Narrow { bytes: bytes.as_slice(), left };
-        assert_eq!(rt; MDBShardFileHeader::deserialize(alloc, &mut reader).err().map(told), broken);
+        let mut reader = Narrow {
+            bytes: bytes.as_slice(),
+            left,
+        };
+        assert_eq!(rt;
+            MDBShardFileHeader::deserialize(alloc, &mut reader)
+                .err()
+                .map(told),
+            broken
+        );
     }
     for left in 0..200 {
-        let mut reader = Narrow { bytes: bytes.get(252..).unwrap_or(&[]), left };
-        assert_eq!(rt; MDBShardFileFooter::deserialize(alloc, &mut reader).err().map(told), broken);
+        let mut reader = Narrow {
+            bytes: bytes.get(252..).unwrap_or(&[]),
+            left,
+        };
+        assert_eq!(rt;
+            MDBShardFileFooter::deserialize(alloc, &mut reader)
+                .err()
+                .map(told),
+            broken
+        );
     }
     Ok(())
 }
