@@ -48,7 +48,7 @@ layout_of-files files expiry =
     (λ i. ((((sections ++ xorb_section-nil i) ++ table) ++ xorb_table_bytes-nil i) ++ chunk_table_bytes-nil i) ++ footer)
     ∙ ap (λ bytes. bytes ++ footer) (append-nil (((sections ++ xorb_header_row xorb_bookend) ++ table) ++ []) ∙ append-nil ((sections ++ xorb_header_row xorb_bookend) ++ table))
 
-length-texts : (files : List MDBFileInfo) → All FitsRecord files → length (flat_map record_text files) ≡ 48 * total_rows files
+pub length-texts : (files : List MDBFileInfo) → All FitsRecord files → length (flat_map record_text files) ≡ 48 * total_rows files
 length-texts [] fit = refl
 length-texts (r ∷ files) fit =
     length-append (record_text r) (flat_map record_text files)

@@ -3,6 +3,7 @@ pub mod Files
 pub mod Layouts
 pub mod Loading
 pub mod Maps
+pub mod SectionReading
 pub mod Tables
 pub mod Versions
 pub mod Walks

@@ -13,7 +13,7 @@ use Rattle.xet_base.proofs.Reading.{Takes-consumes, Takes-trans}
 use Rattle.xet_shards.specs.declared.shard_format.header.MDBShardFileHeader.{MDBShardFileHeader}
 use Rattle.xet_shards.specs.declared.shard_format.footer.MDBShardFileFooter.{MDBShardFileFooter}
 use Rattle.xet_shards.specs.Layout.{header_tag, header_text, footer_text}
-use Rattle.xet_shards.specs.Ends.{HasHeader, HasForeignHeader, EndsInHeader, HasForeignFooter, EndsInFooter, last_bytes, HasEnds, IsForeign, IsTooShort, Loads, LoadsNot, PartFails, Refusal}
+use Rattle.xet_shards.specs.Ends.{HasHeader, HasForeignHeader, EndsInHeader, HasForeignFooter, EndsInFooter, last_bytes, IsForeign, IsTooShort, Loads, LoadsNot, PartFails, Refusal}
 use Rattle.xet_shards.proofs.Ends.{front_is, foreign_version}
 use Rattle.xet_shards.proofs.Layouts.{length-header_text}
 

@@ -12,6 +12,7 @@ ghost use Rattle.xet_records.specs.declared.file_structs.MDBFileInfo.{MDBFileInf
 ghost use Rattle.xet_records.specs.FileRecord.{FitsRecord};
 ghost use Rattle.xet_shards.specs.Layout.{layout, info_value, footer_value, plain_form, header_tag, header_text, footer_text};
 ghost use Rattle.xet_base.specs.Source.{Takes};
+ghost use Rattle.xet_shards.specs.SectionReading.{ReadsOne, RecordFails, ReadsSection, SectionFails};
 ghost use Rattle.xet_shards.specs.Ends.{HasForeignHeader, EndsInHeader, HasForeignFooter, EndsInFooter, PartFails, Loads, LoadsNot};
 
 use super::footer::{MDBShardFileFooter, check_version};
@@ -111,7 +112,10 @@ impl MDBShardInfo {
         &self,
         alloc: Global,
         source: &mut S,
-    ) -> Result<Vec<MDBFileInfo>> {
+    ) -> Result<Vec<MDBFileInfo>>
+        ensures { MatchResult result (λ found. ReadsSection (S.meaning source.old) (S.meaning source.new) self.now.metadata.file_info_offset found.items)
+            (SectionFails (S.meaning source.old) (S.meaning source.new) self.now.metadata.file_info_offset) }
+    {
         source.seek_to(self.metadata.file_info_offset)?;
         let mut files = Vec::new(alloc);
         let mut rows_left = u32::MAX;
@@ -157,7 +161,8 @@ fn read_record<S: ShardSource>(
     source: &mut S,
     rows_left: &mut u32,
 ) -> Result<Option<MDBFileInfo>>
-    ensures fewer { IfOk result (λ found. OnSome found (rows_left.new < rows_left.old)) }
+    ensures read { IfOk result (ReadsOne (S.meaning source.old) (S.meaning source.new) rows_left.old rows_left.new) }
+    ensures refused { IfErr result (RecordFails rows_left.old (S.meaning source.old) (S.meaning source.new)) }
 {
     let header: FileDataSequenceHeader = read_source_row(source)?;
     if header.is_bookend() {
