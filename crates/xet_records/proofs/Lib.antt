@@ -2,3 +2,4 @@ pub mod Flags
 pub mod Lengths
 pub mod Reading
 pub mod Record
+pub mod Unique

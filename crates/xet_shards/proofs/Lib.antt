@@ -4,6 +4,7 @@ pub mod Layouts
 pub mod Loading
 pub mod Maps
 pub mod SectionReading
+pub mod SectionUnique
 pub mod Tables
 pub mod Versions
 pub mod Walks

@@ -1,0 +1,118 @@
+-- Bytes begin with the text of one record at most.
+use Rattle.std.proofs.Common.{◌≡◌, ℕ, ◌+◌, List, [], ◌∷◌, ◌++◌, length, flat_map, Bool, Option, None, Some, refl, sym, ap, ◌∙◌, subst, arith, if◌then◌else◌}
+use Rattle.std.specs.Prelude.{All, IfSome, is_some, option_to_list}
+use Rattle.std.proofs.lemmas.List.{length-append, append_assoc}
+use Rattle.std.proofs.lemmas.List.Elements.{All-drop, All-cons, All-nil}
+use Rattle.xet_base.specs.Bytes.{u32_bytes, u64_bytes}
+use Rattle.xet_base.specs.Hash.{hash_bytes}
+use Rattle.xet_base.proofs.Lists.{same_parts}
+use Rattle.xet_base.proofs.Bytes.{length-u32_bytes, length-hash_bytes, u32_bytes-injective, u64_bytes-front, hash_bytes-injective}
+use Rattle.xet_records.specs.declared.file_structs.FileDataSequenceHeader.{FileDataSequenceHeader}
+use Rattle.xet_records.specs.declared.file_structs.FileDataSequenceEntry.{FileDataSequenceEntry}
+use Rattle.xet_records.specs.declared.file_structs.FileVerificationEntry.{FileVerificationEntry}
+use Rattle.xet_records.specs.declared.file_structs.FileMetadataExt.{FileMetadataExt}
+use Rattle.xet_records.specs.declared.file_structs.MDBFileInfo.{MDBFileInfo}
+use Rattle.xet_records.specs.FileRow.{header_row, segment_row, verification_row, metadata_row, IsReserved, FitsSegment, FitsVerification, FitsMetadata}
+use Rattle.xet_records.specs.FileRecord.{record_text, rows_text, has_verification, has_metadata_ext, IsStored}
+use Rattle.xet_records.proofs.Lengths.{length-segment_row, length-verification_row, length-metadata_row}
+use Rattle.xet_records.proofs.Record.{header_row-front}
+
+-- the bytes tell the row
+pub segment_row-injective : (s t : FileDataSequenceEntry) → FitsSegment s → FitsSegment t → segment_row s ≡ segment_row t → s ≡ t
+unfolding segment_row
+segment_row-injective s t s_fits t_fits same =
+    let last = same_parts (((hash_bytes s.xorb_hash ++ u32_bytes s.xorb_flags) ++ u32_bytes s.unpacked_segment_bytes) ++ u32_bytes s.chunk_index_start)
+    (((hash_bytes t.xorb_hash ++ u32_bytes t.xorb_flags) ++ u32_bytes t.unpacked_segment_bytes) ++ u32_bytes t.chunk_index_start) _ _ (simp (length-append, length-hash_bytes, length-u32_bytes)) same in
+    let fourth = same_parts ((hash_bytes s.xorb_hash ++ u32_bytes s.xorb_flags) ++ u32_bytes s.unpacked_segment_bytes)
+    ((hash_bytes t.xorb_hash ++ u32_bytes t.xorb_flags) ++ u32_bytes t.unpacked_segment_bytes) _ _ (simp (length-append, length-hash_bytes, length-u32_bytes)) last.0 in
+    let third = same_parts (hash_bytes s.xorb_hash ++ u32_bytes s.xorb_flags) (hash_bytes t.xorb_hash ++ u32_bytes t.xorb_flags) _ _
+    (simp (length-append, length-hash_bytes, length-u32_bytes)) fourth.0 in
+    let first = same_parts (hash_bytes s.xorb_hash) (hash_bytes t.xorb_hash) _ _ (length-hash_bytes s.xorb_hash ∙ sym (length-hash_bytes t.xorb_hash)) third.0 in
+    let e0 = hash_bytes-injective s.xorb_hash t.xorb_hash s_fits.xorb_hash t_fits.xorb_hash first.0 in
+    let e1 = u32_bytes-injective s.xorb_flags t.xorb_flags s_fits.xorb_flags t_fits.xorb_flags first.1 in
+    let e2 = u32_bytes-injective s.unpacked_segment_bytes t.unpacked_segment_bytes s_fits.unpacked_segment_bytes t_fits.unpacked_segment_bytes third.1 in
+    let e3 = u32_bytes-injective s.chunk_index_start t.chunk_index_start s_fits.chunk_index_start t_fits.chunk_index_start fourth.1 in
+    let e4 = u32_bytes-injective s.chunk_index_end t.chunk_index_end s_fits.chunk_index_end t_fits.chunk_index_end last.1 in
+    λ i. record { xorb_hash = e0 i; xorb_flags = e1 i; unpacked_segment_bytes = e2 i; chunk_index_start = e3 i; chunk_index_end = e4 i }
+
+reserved-injective : (ms ns : List ℕ) → IsReserved ms → IsReserved ns → flat_map u64_bytes ms ≡ flat_map u64_bytes ns → ms ≡ ns
+reserved-injective ms ns m n same =
+    let first = u64_bytes-front m.first n.first _ _ m.first_fits n.first_fits (ap (flat_map u64_bytes) (sym m.words_are) ∙ same ∙ ap (flat_map u64_bytes) n.words_are) in
+    let second = u64_bytes-front m.second n.second [] [] m.second_fits n.second_fits first.1 in
+    m.words_are ∙ (λ i. first.0 i ∷ second.0 i ∷ []) ∙ sym n.words_are
+
+pub verification_row-injective : (v w : FileVerificationEntry) → FitsVerification v → FitsVerification w → verification_row v ≡ verification_row w → v ≡ w
+unfolding verification_row
+verification_row-injective v w v_fits w_fits same =
+    let parts = same_parts (hash_bytes v.range_hash) (hash_bytes w.range_hash) _ _ (length-hash_bytes v.range_hash ∙ sym (length-hash_bytes w.range_hash)) same in
+    let e0 = hash_bytes-injective v.range_hash w.range_hash v_fits.range_hash w_fits.range_hash parts.0 in
+    let e1 = reserved-injective v._unused w._unused v_fits.unused w_fits.unused parts.1 in
+    λ i. record { range_hash = e0 i; _unused = e1 i }
+
+pub metadata_row-injective : (m n : FileMetadataExt) → FitsMetadata m → FitsMetadata n → metadata_row m ≡ metadata_row n → m ≡ n
+unfolding metadata_row
+metadata_row-injective m n m_fits n_fits same =
+    let parts = same_parts (hash_bytes m.sha256) (hash_bytes n.sha256) _ _ (length-hash_bytes m.sha256 ∙ sym (length-hash_bytes n.sha256)) same in
+    let e0 = hash_bytes-injective m.sha256 n.sha256 m_fits.sha256 n_fits.sha256 parts.0 in
+    let e1 = reserved-injective m._unused n._unused m_fits.unused n_fits.unused parts.1 in
+    λ i. record { sha256 = e0 i; _unused = e1 i }
+
+-- so many rows at the front are told by the bytes
+module _ {T : Type 0} (row_bytes : T → List ℕ) (Fits : T → Type 0) (size : (r : T) → Fits r → length (row_bytes r) ≡ 48)
+    (tells : (r s : T) → Fits r → Fits s → row_bytes r ≡ row_bytes s → r ≡ s) where
+  pub rows_front : (rs ss : List T) (x y : List ℕ) → length rs ≡ length ss → All Fits rs → All Fits ss
+      → flat_map row_bytes rs ++ x ≡ flat_map row_bytes ss ++ y → (rs ≡ ss) × (x ≡ y)
+  rows_front [] [] x y len r_fit s_fit same = (refl, same)
+  rows_front [] (s ∷ ss) x y len r_fit s_fit same = absurd (omega (arith, len))
+  rows_front (r ∷ rs) [] x y len r_fit s_fit same = absurd (omega (arith, len))
+  rows_front (r ∷ rs) (s ∷ ss) x y len r_fit s_fit same =
+      let r_fits : Fits r = r_fit 0 r (omega arith) in
+      let s_fits : Fits s = s_fit 0 s (omega arith) in
+      let parts = same_parts (row_bytes r) (row_bytes s) (flat_map row_bytes rs ++ x) (flat_map row_bytes ss ++ y) (size r r_fits ∙ sym (size s s_fits))
+      (sym (append_assoc (row_bytes r) (flat_map row_bytes rs) x) ∙ same ∙ append_assoc (row_bytes s) (flat_map row_bytes ss) y) in
+      let rest = rows_front rs ss x y (omega (arith, len)) (All-drop Fits 1 (r ∷ rs) r_fit) (All-drop Fits 1 (s ∷ ss) s_fit) parts.1 in
+      ((λ i. tells r s r_fits s_fits parts.0 i ∷ rest.0 i), rest.1)
+
+optional_fits : (o : Option FileMetadataExt) → IfSome o FitsMetadata → All FitsMetadata (option_to_list o)
+optional_fits None fits = All-nil FitsMetadata
+optional_fits (Some m) fits = All-cons FitsMetadata m [] fits (All-nil FitsMetadata)
+
+optional_len : {X : Type 0} (o : Option X) → length (option_to_list o) ≡ (if is_some o then 1 else 0)
+optional_len None = refl
+optional_len (Some x) = refl
+
+abbrev first : {X : Type 0} → List X → Option X
+first [] = None
+first (x ∷ xs) = Some x
+
+first-of : {X : Type 0} (o : Option X) → first (option_to_list o) ≡ o
+first-of None = refl
+first-of (Some x) = refl
+
+-- bytes that begin with the texts of two records begin with those of one
+pub record_front : (r s : MDBFileInfo) (x y : List ℕ) → IsStored r → IsStored s → record_text r ++ x ≡ record_text s ++ y → (r ≡ s) × (x ≡ y)
+unfolding record_text rows_text
+record_front r s x y r_stored s_stored same =
+    let r_segments = flat_map segment_row r.segments in
+    let s_segments = flat_map segment_row s.segments in
+    let r_verification = flat_map verification_row r.verification in
+    let s_verification = flat_map verification_row s.verification in
+    let r_ext = flat_map metadata_row (option_to_list r.metadata_ext) in
+    let s_ext = flat_map metadata_row (option_to_list s.metadata_ext) in
+    let header = header_row-front r.metadata s.metadata _ _ r_stored.widths.metadata s_stored.widths.metadata
+    (sym (append_assoc (header_row r.metadata) ((r_segments ++ r_verification) ++ r_ext) x) ∙ same ∙ append_assoc (header_row s.metadata) ((s_segments ++ s_verification) ++ s_ext) y) in
+    let segments = rows_front segment_row FitsSegment (λ t _. length-segment_row t) segment_row-injective r.segments s.segments _ _
+    (r_stored.whole.segments ∙ ap (λ (h : FileDataSequenceHeader). h.num_entries) header.0 ∙ sym s_stored.whole.segments) r_stored.widths.segments s_stored.widths.segments
+    (sym (append_assoc r_segments (r_verification ++ r_ext) x) ∙ ap (λ bs. bs ++ x) (sym (append_assoc r_segments r_verification r_ext)) ∙ header.1
+    ∙ ap (λ bs. bs ++ y) (append_assoc s_segments s_verification s_ext) ∙ append_assoc s_segments (s_verification ++ s_ext) y) in
+    let verification = rows_front verification_row FitsVerification length-verification_row verification_row-injective r.verification s.verification _ _
+    (r_stored.whole.verification ∙ ap (λ (h : FileDataSequenceHeader). if has_verification h.file_flags then h.num_entries else 0) header.0 ∙ sym s_stored.whole.verification)
+    r_stored.widths.verification s_stored.widths.verification
+    (sym (append_assoc r_verification r_ext x) ∙ segments.1 ∙ append_assoc s_verification s_ext y) in
+    let has_ext : is_some r.metadata_ext ≡ is_some s.metadata_ext =
+    r_stored.whole.metadata_ext ∙ ap (λ (h : FileDataSequenceHeader). has_metadata_ext h.file_flags) header.0 ∙ sym s_stored.whole.metadata_ext in
+    let ext = rows_front metadata_row FitsMetadata length-metadata_row metadata_row-injective (option_to_list r.metadata_ext) (option_to_list s.metadata_ext) x y
+    (optional_len r.metadata_ext ∙ ap (λ (b : Bool). if b then 1 else 0) has_ext ∙ sym (optional_len s.metadata_ext))
+    (optional_fits r.metadata_ext r_stored.widths.metadata_ext) (optional_fits s.metadata_ext s_stored.widths.metadata_ext) verification.1 in
+    let option : r.metadata_ext ≡ s.metadata_ext = sym (first-of r.metadata_ext) ∙ ap first ext.0 ∙ first-of s.metadata_ext in
+    ((λ i. record { metadata = header.0 i; segments = segments.0 i; verification = verification.0 i; metadata_ext = option i }), ext.1)
