@@ -3,6 +3,7 @@ pub mod Files
 pub mod Layouts
 pub mod Loading
 pub mod Maps
+pub mod Readback
 pub mod SectionReading
 pub mod SectionUnique
 pub mod Tables

@@ -1,6 +1,6 @@
 -- Bytes are a section in one way at most: the three cases of its reading exclude each other, and at most one
 -- list of records fits.
-use Rattle.std.proofs.Common.{◌≡◌, ◌⊎◌, inl, inr, ℕ, ◌+◌, ◌-◌, ◌*◌, ◌≤◌, List, [], ◌∷◌, ◌++◌, length, flat_map, refl, sym, ap, ◌∙◌, subst, arith}
+use Rattle.std.proofs.Common.{◌≡◌, ◌⊎◌, inl, inr, ℕ, ◌-◌, ◌*◌, ◌≤◌, List, [], ◌∷◌, ◌++◌, length, flat_map, refl, sym, ap, ◌∙◌, subst, arith}
 use Rattle.std.specs.Prelude.{All}
 use Rattle.std.proofs.lemmas.List.{length-append, append_assoc}
 use Rattle.std.proofs.lemmas.List.Elements.{All-drop}
@@ -9,7 +9,6 @@ use Rattle.xet_records.specs.declared.file_structs.FileDataSequenceHeader.{FileD
 use Rattle.xet_records.specs.declared.file_structs.MDBFileInfo.{MDBFileInfo}
 use Rattle.xet_records.specs.FileRow.{header_row}
 use Rattle.xet_records.specs.FileRecord.{record_text, rows_text, row_count, rows_after, IsStored}
-use Rattle.xet_records.specs.Reading.{BeginsWithHeader}
 use Rattle.xet_records.proofs.Lengths.{length-header_row, length-record_text}
 use Rattle.xet_records.proofs.Record.{header_row-front, row_count-whole}
 use Rattle.xet_records.proofs.Unique.{record_front}

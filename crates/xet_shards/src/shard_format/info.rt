@@ -1,17 +1,17 @@
 //! What a shard's header and footer tell, and the calls that stand on them.
 
-ghost use Rattle.std.specs.Prelude.{◌≡◌, ◌+◌, ◌*◌, ◌^◌, ◌<◌, ◌≤◌, ◌++◌, length, List, [], All, MatchResult, OnOk, OnSome, IfOk, IfErr};
+ghost use Rattle.std.specs.Prelude.{◌≡◌, ◌⊎◌, ℕ, Option, ◌+◌, ◌*◌, ◌^◌, ◌<◌, ◌≤◌, ◌++◌, length, List, [], All, MatchResult, OnOk, OnSome, IfOk, IfErr};
 ghost use Rattle.std.specs.FinMap as finite;
 ghost use Rattle.std.specs.Io.KnownBytes.{Appends};
 ghost use Rattle.xet_base.specs.Errors.{IsDeviceError, IsInvalidShard};
 ghost use Rattle.std.specs.BTreeMap.{values};
-ghost use Rattle.xet_shards.specs.Shard.{AreFiles, total_rows};
+ghost use Rattle.xet_shards.specs.Shard.{Shard, IsShard, AreFiles, total_rows};
 ghost use Rattle.xet_shards.specs.Section.{file_section};
 ghost use Rattle.xet_shards.specs.Written.{HasWritten};
 ghost use Rattle.xet_records.specs.declared.file_structs.MDBFileInfo.{MDBFileInfo};
 ghost use Rattle.xet_records.specs.FileRecord.{FitsRecord};
 ghost use Rattle.xet_shards.specs.Layout.{layout, info_value, footer_value, plain_form, header_tag, header_text, footer_text};
-ghost use Rattle.xet_base.specs.Source.{Takes};
+ghost use Rattle.xet_base.specs.Source.{Takes, DeviceFailure};
 ghost use Rattle.xet_shards.specs.SectionReading.{ReadsOne, RecordFails, ReadsSection, SectionFails};
 ghost use Rattle.xet_shards.specs.Ends.{HasForeignHeader, EndsInHeader, HasForeignFooter, EndsInFooter, PartFails, Loads, LoadsNot};
 
@@ -113,17 +113,32 @@ impl MDBShardInfo {
         alloc: Global,
         source: &mut S,
     ) -> Result<Vec<MDBFileInfo>>
-        ensures { MatchResult result (λ found. ReadsSection (S.meaning source.old) (S.meaning source.new) self.now.metadata.file_info_offset found.items)
+        ensures read { MatchResult result (λ found. ReadsSection (S.meaning source.old) (S.meaning source.new) self.now.metadata.file_info_offset found.items)
             (SectionFails (S.meaning source.old) (S.meaning source.new) self.now.metadata.file_info_offset) }
+        ensures written { (s : Shard) → (expiry : Option ℕ) → IsShard s → (S.meaning source.old).bytes ≡ layout s expiry → self.now ≡ info_value s expiry
+            → MatchResult result (λ found. found.items ≡ finite.values s.files)
+            (λ e. DeviceFailure (S.meaning source.old) (S.meaning source.new) e ⊎ (e ≡ CoreError.OutOfMemory)) }
     {
-        source.seek_to(self.metadata.file_info_offset)?;
-        let mut files = Vec::new(alloc);
-        let mut rows_left = u32::MAX;
-        while let Some(file_info) = read_record(alloc, source, &mut rows_left)? {
-            files.push(file_info)?;
-        }
-        Ok(files)
+        read_section(alloc, source, self.metadata.file_info_offset)
     }
+}
+
+// Reads the records of the section at an offset.
+fn read_section<S: ShardSource>(
+    alloc: Global,
+    source: &mut S,
+    offset: u64,
+) -> Result<Vec<MDBFileInfo>>
+    ensures { MatchResult result (λ found. ReadsSection (S.meaning source.old) (S.meaning source.new) offset found.items)
+        (SectionFails (S.meaning source.old) (S.meaning source.new) offset) }
+{
+    source.seek_to(offset)?;
+    let mut files = Vec::new(alloc);
+    let mut rows_left = u32::MAX;
+    while let Some(file_info) = read_record(alloc, source, &mut rows_left)? {
+        files.push(file_info)?;
+    }
+    Ok(files)
 }
 
 // Reads a header from the source's place on.

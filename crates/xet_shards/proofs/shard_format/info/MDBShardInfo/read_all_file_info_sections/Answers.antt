@@ -1,16 +1,15 @@
-use Rattle.std.proofs.Common.{rules}
-use Rattle.std.proofs.lemmas.Result.{err_from_is_err_and}
-use Rattle.xet_shards.proofs.SectionReading.{more_read, section_ends, section_fails}
+use Rattle.std.proofs.Common.{ap, subst}
+use Rattle.std.specs.Prelude.{MatchResult}
+use Rattle.xet_shards.specs.declared.shard_format.info.MDBShardInfo.{MDBShardInfo}
+use Rattle.xet_shards.specs.SectionReading.{ReadsSection, SectionFails}
+use Rattle.xet_shards.proofs.Readback.{whole_read}
 use Rattle.xet_shards.proofs.shard_format.info.MDBShardInfo.read_all_file_info_sections.Goals as goal
 
-pub loop-files-preserved : goal.loop-files-preserved
-loop-files-preserved g c =
-    rw c.in_ok-push.ensures.items (more_read _ (g.S.ShardSource.meaning c.loop-files.source) _ _ _ _ c.in-Some.file_info c.loop-files.invariant (search rules))
-
-pub returns-in_err-file_info : goal.returns-in_err-file_info
-returns-in_err-file_info g c =
-    let p = err_from_is_err_and c.from_residual-in_err-file_info.result c.from_residual-in_err-file_info.ensures.1 in
-    rw (p.1, p.2) (section_fails _ (g.S.ShardSource.meaning c.loop-files.source) _ _ _ c.loop-files.invariant _ _ c.in_err-file_info.ensures.refused)
-
-pub returns : goal.returns
-returns g c = section_ends _ (g.S.ShardSource.meaning c.loop-files.source) _ _ _ c.loop-files.invariant _ (search rules)
+pub returns-clause-written : goal.returns-clause-written
+returns-clause-written g c =
+    let old = g.S.ShardSource.meaning c.args.source.now in
+    let new = g.S.ShardSource.meaning c.read_section.new.source in
+    λ s expiry shard are is.
+    whole_read old new s expiry c.read_section.result shard are
+    (subst (λ at. MatchResult c.read_section.result (λ found. ReadsSection old new at found.items) (SectionFails old new at))
+    (ap (λ (info : MDBShardInfo). info.metadata.file_info_offset) is) c.read_section.ensures)
