@@ -7,8 +7,8 @@ use crate::count::Count;
 use std::io;
 use std::io::ErrorKind;
 
-/// Bytes with a place to read from. Contracts see the bytes, the place, the seeks made, the bytes read
-/// and the failures so far.
+/// Bytes with a place to read from. Contracts see the bytes, the place, the seeks made, the bytes read,
+/// the failures so far and the latest failure.
 pub trait ShardSource {
     ghost meaning: { Self → Source };
 

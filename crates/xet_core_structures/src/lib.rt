@@ -2,6 +2,6 @@
 //! module names of the Rust crate `xet-core-structures`.
 #![tactic(auto)]
 
-pub use xet_base::{count, error, merklehash, serialization_utils, source};
+pub use xet_base::{count, error, merklehash, row, serialization_utils, source};
 pub use xet_records::{file_structs, rows, xorb_structs};
 pub use xet_shards::{shard_format, shard_in_memory};
