@@ -92,8 +92,13 @@ passes_or_ends : (left : ℕ) (bytes : List ℕ) → PassesLimit left bytes → 
 passes_or_ends left bytes (h, rest, begins, past) (inl short) =
     omega (arith, short, ap length begins.bytes_are, length-append (header_row h) rest, length-header_row h)
 passes_or_ends left bytes (h, rest, begins, past) (inr (k, more, starts, few, short)) =
-    omega (arith, past, few, ap (λ (j : FileDataSequenceHeader). rows_after j)
-    (header_row-front h k rest more begins.widths starts.widths (sym begins.bytes_are ∙ starts.bytes_are)).0)
+    omega (
+      arith,
+      past,
+      few,
+      ap (λ (j : FileDataSequenceHeader). rows_after j)
+          (header_row-front h k rest more begins.widths starts.widths (sym begins.bytes_are ∙ starts.bytes_are)).0,
+    )
 
 pub section_or_passes : (bytes : List ℕ) (xs : List MDBFileInfo) → IsSection bytes xs → ¬ PassesRows bytes
 section_or_passes bytes xs x (ys, b, y, passes) =
