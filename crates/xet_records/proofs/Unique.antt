@@ -1,11 +1,11 @@
 -- Bytes begin with the text of one record at most.
-use Rattle.std.proofs.Common.{◌≡◌, ℕ, ◌+◌, List, [], ◌∷◌, ◌++◌, length, flat_map, Bool, Option, None, Some, refl, sym, ap, ◌∙◌, subst, arith, if◌then◌else◌}
+use Rattle.std.proofs.Common.{◌≡◌, ℕ, List, [], ◌∷◌, ◌++◌, length, flat_map, Bool, Option, None, Some, refl, sym, ap, ◌∙◌, if◌then◌else◌}
 use Rattle.std.specs.Prelude.{All, IfSome, is_some, option_to_list}
 use Rattle.std.proofs.lemmas.List.{length-append, append_assoc}
-use Rattle.std.proofs.lemmas.List.Elements.{All-drop, All-cons, All-nil}
+use Rattle.std.proofs.lemmas.List.Elements.{All-cons, All-nil}
 use Rattle.xet_base.specs.Bytes.{u32_bytes, u64_bytes}
 use Rattle.xet_base.specs.Hash.{hash_bytes}
-use Rattle.xet_base.proofs.Lists.{same_parts}
+use Rattle.xet_base.proofs.Lists.{same_parts, parts_front}
 use Rattle.xet_base.proofs.Bytes.{length-u32_bytes, length-hash_bytes, u32_bytes-injective, u64_bytes-front, hash_bytes-injective}
 use Rattle.xet_records.specs.declared.file_structs.FileDataSequenceHeader.{FileDataSequenceHeader}
 use Rattle.xet_records.specs.declared.file_structs.FileDataSequenceEntry.{FileDataSequenceEntry}
@@ -57,22 +57,6 @@ metadata_row-injective m n m_fits n_fits same =
     let e1 = reserved-injective m._unused n._unused m_fits.unused n_fits.unused parts.1 in
     λ i. record { sha256 = e0 i; _unused = e1 i }
 
--- so many rows at the front are told by the bytes
-module _ {T : Type 0} (row_bytes : T → List ℕ) (Fits : T → Type 0) (size : (r : T) → Fits r → length (row_bytes r) ≡ 48)
-    (tells : (r s : T) → Fits r → Fits s → row_bytes r ≡ row_bytes s → r ≡ s) where
-  pub rows_front : (rs ss : List T) (x y : List ℕ) → length rs ≡ length ss → All Fits rs → All Fits ss
-      → flat_map row_bytes rs ++ x ≡ flat_map row_bytes ss ++ y → (rs ≡ ss) × (x ≡ y)
-  rows_front [] [] x y len r_fit s_fit same = (refl, same)
-  rows_front [] (s ∷ ss) x y len r_fit s_fit same = absurd (omega (arith, len))
-  rows_front (r ∷ rs) [] x y len r_fit s_fit same = absurd (omega (arith, len))
-  rows_front (r ∷ rs) (s ∷ ss) x y len r_fit s_fit same =
-      let r_fits : Fits r = r_fit 0 r (omega arith) in
-      let s_fits : Fits s = s_fit 0 s (omega arith) in
-      let parts = same_parts (row_bytes r) (row_bytes s) (flat_map row_bytes rs ++ x) (flat_map row_bytes ss ++ y) (size r r_fits ∙ sym (size s s_fits))
-      (sym (append_assoc (row_bytes r) (flat_map row_bytes rs) x) ∙ same ∙ append_assoc (row_bytes s) (flat_map row_bytes ss) y) in
-      let rest = rows_front rs ss x y (omega (arith, len)) (All-drop Fits 1 (r ∷ rs) r_fit) (All-drop Fits 1 (s ∷ ss) s_fit) parts.1 in
-      ((λ i. tells r s r_fits s_fits parts.0 i ∷ rest.0 i), rest.1)
-
 optional_fits : (o : Option FileMetadataExt) → IfSome o FitsMetadata → All FitsMetadata (option_to_list o)
 optional_fits None fits = All-nil FitsMetadata
 optional_fits (Some m) fits = All-cons FitsMetadata m [] fits (All-nil FitsMetadata)
@@ -101,17 +85,17 @@ record_front r s x y r_stored s_stored same =
     let s_ext = flat_map metadata_row (option_to_list s.metadata_ext) in
     let header = header_row-front r.metadata s.metadata _ _ r_stored.widths.metadata s_stored.widths.metadata
     (sym (append_assoc (header_row r.metadata) ((r_segments ++ r_verification) ++ r_ext) x) ∙ same ∙ append_assoc (header_row s.metadata) ((s_segments ++ s_verification) ++ s_ext) y) in
-    let segments = rows_front segment_row FitsSegment (λ t _. length-segment_row t) segment_row-injective r.segments s.segments _ _
+    let segments = parts_front 48 segment_row FitsSegment (λ t _. length-segment_row t) segment_row-injective r.segments s.segments _ _
     (r_stored.whole.segments ∙ ap (λ (h : FileDataSequenceHeader). h.num_entries) header.0 ∙ sym s_stored.whole.segments) r_stored.widths.segments s_stored.widths.segments
     (sym (append_assoc r_segments (r_verification ++ r_ext) x) ∙ ap (λ bs. bs ++ x) (sym (append_assoc r_segments r_verification r_ext)) ∙ header.1
     ∙ ap (λ bs. bs ++ y) (append_assoc s_segments s_verification s_ext) ∙ append_assoc s_segments (s_verification ++ s_ext) y) in
-    let verification = rows_front verification_row FitsVerification length-verification_row verification_row-injective r.verification s.verification _ _
+    let verification = parts_front 48 verification_row FitsVerification length-verification_row verification_row-injective r.verification s.verification _ _
     (r_stored.whole.verification ∙ ap (λ (h : FileDataSequenceHeader). if has_verification h.file_flags then h.num_entries else 0) header.0 ∙ sym s_stored.whole.verification)
     r_stored.widths.verification s_stored.widths.verification
     (sym (append_assoc r_verification r_ext x) ∙ segments.1 ∙ append_assoc s_verification s_ext y) in
     let has_ext : is_some r.metadata_ext ≡ is_some s.metadata_ext =
     r_stored.whole.metadata_ext ∙ ap (λ (h : FileDataSequenceHeader). has_metadata_ext h.file_flags) header.0 ∙ sym s_stored.whole.metadata_ext in
-    let ext = rows_front metadata_row FitsMetadata length-metadata_row metadata_row-injective (option_to_list r.metadata_ext) (option_to_list s.metadata_ext) x y
+    let ext = parts_front 48 metadata_row FitsMetadata length-metadata_row metadata_row-injective (option_to_list r.metadata_ext) (option_to_list s.metadata_ext) x y
     (optional_len r.metadata_ext ∙ ap (λ (b : Bool). if b then 1 else 0) has_ext ∙ sym (optional_len s.metadata_ext))
     (optional_fits r.metadata_ext r_stored.widths.metadata_ext) (optional_fits s.metadata_ext s_stored.widths.metadata_ext) verification.1 in
     let option : r.metadata_ext ≡ s.metadata_ext = sym (first-of r.metadata_ext) ∙ ap first ext.0 ∙ first-of s.metadata_ext in

@@ -1,4 +1,5 @@
 pub mod Ends
+pub mod EndsUnique
 pub mod Files
 pub mod Layouts
 pub mod Loading

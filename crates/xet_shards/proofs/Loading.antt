@@ -1,5 +1,5 @@
 -- Header and footer of a source.
-use Rattle.std.proofs.Common.{◌≡◌, ◌≢◌, inl, inr, Ok, Err, Some, ℕ, ◌+◌, ◌-◌, ◌<◌, ◌≤◌, List, [], ◌++◌, length, take, drop, append-nil, sym, ap, ◌∙◌, subst, refl, arith}
+use Rattle.std.proofs.Common.{◌≡◌, ◌≢◌, inl, inr, Ok, Err, Some, ℕ, ◌+◌, ◌-◌, ◌^◌, ◌<◌, ◌≤◌, List, [], ◌++◌, length, take, drop, append-nil, sym, ap, ◌∙◌, subst, refl, arith}
 use Rattle.std.proofs.lemmas.List.{length-append, length-drop, append_assoc, nil_from_length}
 use Rattle.std.specs.Prelude.{IfOk, IfErr}
 use Rattle.std.specs.declared.result.Result.{Result}
@@ -13,9 +13,9 @@ use Rattle.xet_base.proofs.Reading.{Takes-consumes, Takes-trans}
 use Rattle.xet_shards.specs.declared.shard_format.header.MDBShardFileHeader.{MDBShardFileHeader}
 use Rattle.xet_shards.specs.declared.shard_format.footer.MDBShardFileFooter.{MDBShardFileFooter}
 use Rattle.xet_shards.specs.Layout.{header_tag, header_text, footer_text}
-use Rattle.xet_shards.specs.Ends.{HasHeader, HasForeignHeader, EndsInHeader, HasForeignFooter, EndsInFooter, last_bytes, IsForeign, IsTooShort, Loads, LoadsNot, PartFails, Refusal}
+use Rattle.xet_shards.specs.Ends.{HasHeader, FitsFooter, HasForeignHeader, EndsInHeader, HasForeignFooter, EndsInFooter, last_bytes, IsForeign, IsTooShort, Loads, LoadsNot, PartFails, Refusal}
 use Rattle.xet_shards.proofs.Ends.{front_is, foreign_version}
-use Rattle.xet_shards.proofs.Layouts.{length-header_text}
+use Rattle.xet_shards.proofs.Layouts.{length-header_text, length-footer_text}
 
 -- a refusal of a part, after calls that did not fail, is one of the whole
 pub refusal_of : (Foreign Short Foreign' Short' : List ℕ → Type 0) (bytes bytes' : List ℕ) (old mid new : Source) (e : CoreError)
@@ -59,6 +59,18 @@ has_room : (bytes : List ℕ) → length bytes ≡ 200 → ¬ EndsInFooter bytes
 has_room bytes len (inl short) = omega (arith, len)
 has_room bytes len (inr (short, _)) = omega (arith, len)
 
+-- bytes that begin with a header of version 2
+pub header_of : (bytes rest : List ℕ) (h : MDBShardFileHeader) → bytes ≡ header_text h ++ rest → h.version ≡ 2 → HasHeader bytes
+unfolding header_text
+header_of bytes rest h are two =
+    let whole = (header_tag ++ u64_bytes h.version) ++ u64_bytes h.footer_size in
+    let len : length whole ≡ 48 = simp (length-append, length-u64_bytes) in
+    record {
+      size = omega (arith, ap length are ∙ length-append whole rest, len);
+      tag = ap (take 32) are;
+      version = ap (λ bs. take 8 (drop 32 bs)) are ∙ front_is 8 _ (u64_bytes h.version) (u64_bytes h.footer_size ++ rest) (length-u64_bytes h.version) (simp (append_assoc)) ∙ ap u64_bytes two;
+    }
+
 -- the first 48 bytes were read, as a header
 module _ (old mid : Source) (h : MDBShardFileHeader) (taken : Takes (moved old 0) mid (header_text h)) where
   pub bytes_same : mid.bytes ≡ old.bytes
@@ -80,16 +92,7 @@ module _ (old mid : Source) (h : MDBShardFileHeader) (taken : Takes (moved old 0
   front_is_header = front_is 48 old.bytes (header_text h) (bytes_left mid) (length-header_text h) begins
 
   pub header_there : h.version ≡ 2 → HasHeader old.bytes
-  unfolding header_text
-  header_there two =
-      let tag = header_tag ++ u64_bytes h.version in
-      let whole = tag ++ u64_bytes h.footer_size in
-      let len : length whole ≡ 48 = simp (length-append, length-u64_bytes) in
-      record {
-        size = omega (arith, ap length begins ∙ length-append whole (bytes_left mid), len);
-        tag = ap (take 32) begins;
-        version = ap (λ bs. take 8 (drop 32 bs)) begins ∙ front_is 8 _ (u64_bytes h.version) (u64_bytes h.footer_size ++ bytes_left mid) (length-u64_bytes h.version) (simp (append_assoc)) ∙ ap u64_bytes two;
-      }
+  header_there two = header_of old.bytes (bytes_left mid) h begins two
 
   pub short_of_footer : (e : CoreError) → h.version ≡ 2 → IsEndOfInput e → length old.bytes < 200 → LoadsNot old mid e
   short_of_footer e two ended short = record {
@@ -126,9 +129,10 @@ module _ (old mid : Source) (h : MDBShardFileHeader) (taken : Takes (moved old 0
               (λ has. inr (header_there two, size, subst HasForeignFooter last_is has)) (λ ends. absurd (has_room (last_bytes old.bytes) length_last (subst EndsInFooter last_is ends))) fails.cause;
         }
 
-    pub found_both : (new : Source) (f : MDBShardFileFooter) → h.tag ≡ header_tag → h.version ≡ 2 → f.version ≡ 1 → length (footer_text f) ≡ 200
+    pub found_both : (new : Source) (f : MDBShardFileFooter) → h.tag ≡ header_tag → h.version ≡ 2 → h.footer_size < 2 ^ 64 → f.version ≡ 1 → FitsFooter f
         → Takes (moved mid (n - 200)) new (footer_text f) → Loads old new (record { header = h; metadata = f })
-    found_both new f tag two one size last =
+    found_both new f tag two footer_size one widths last =
+        let size : length (footer_text f) ≡ 200 = length-footer_text f widths.buffer_size in
         let left = Takes-consumes (moved mid (n - 200)) new (footer_text f) last in
         let nothing : bytes_left new ≡ [] = nil_from_length (bytes_left new) (omega (arith, ap length left ∙ length-append (footer_text f) (bytes_left new), ap length last_is, length_last, size)) in
         record {
@@ -141,7 +145,9 @@ module _ (old mid : Source) (h : MDBShardFileHeader) (taken : Takes (moved old 0
             tag = tag;
             header_version = two;
             header = front_is_header;
+            footer_size = footer_size;
             footer_version = one;
+            footer_widths = widths;
             footer = sym last_is ∙ left ∙ ap (λ bs. footer_text f ++ bs) nothing ∙ append-nil (footer_text f);
           };
         }

@@ -51,7 +51,7 @@ module _ (files : List MDBFileInfo) (xorbs : List MDBXorbInfo) (form : Form) whe
       xorb_section xorbs ++ (if_in form.file_table (file_table_bytes files) ++ (if_in form.xorb_table (xorb_table_bytes xorbs)
       ++ (if_in form.chunk_table (chunk_table_bytes xorbs) ++ footer_text (footer_value files xorbs form))))
 
-  layout_from_48 : layout_of files xorbs form ≡ header_text header_value ++ (file_section files ++ after_section)
+  pub layout_from_48 : layout_of files xorbs form ≡ header_text header_value ++ (file_section files ++ after_section)
   unfolding layout_of
   layout_from_48 = simp (append_assoc)
 

@@ -1,11 +1,13 @@
 -- What the first and the last bytes of a shard say: a header and a footer, foreign ones, or too few bytes.
-use Rattle.std.specs.Prelude.{◌≡◌, ◌≢◌, ◌⊎◌, ℕ, ◌+◌, ◌-◌, ◌<◌, ◌≤◌, List, length, take, drop}
+use Rattle.std.specs.Prelude.{◌≡◌, ◌≢◌, ◌⊎◌, ℕ, ◌+◌, ◌-◌, ◌^◌, ◌<◌, ◌≤◌, List, length, take, drop, All}
 use Rattle.xet_base.specs.declared.error.CoreError.{CoreError}
 use Rattle.xet_base.specs.Bytes.{u64_bytes}
+use Rattle.xet_base.specs.Hash.{IsHash}
 use Rattle.xet_base.specs.Errors.{IsShardVersion, IsEndOfInput}
 use Rattle.xet_base.specs.Source.{Source, DeviceFailure, bytes_left}
+use Rattle.xet_shards.specs.declared.shard_format.footer.MDBShardFileFooter.{MDBShardFileFooter}
 use Rattle.xet_shards.specs.declared.shard_format.info.MDBShardInfo.{MDBShardInfo}
-use Rattle.xet_shards.specs.Layout.{header_tag, header_text, footer_text}
+use Rattle.xet_shards.specs.Layout.{header_tag, header_text, offsets_of, moments_of, sums_of, footer_text}
 
 -- the bytes begin with a header that is read: the tag, version 2, and a footer size
 pub record HasHeader (bytes : List ℕ) : Type 0 where
@@ -35,13 +37,24 @@ EndsInFooter bytes = (length bytes < 8) ⊎ ((length bytes < 200) × (take 8 byt
 abbrev pub last_bytes : List ℕ → List ℕ
 last_bytes bytes = drop (length bytes - 200) bytes
 
+-- the widths of a footer's numbers
+pub record FitsFooter (f : MDBShardFileFooter) : Type 0 where
+  pub offsets : All (λ n. n < 2 ^ 64) (offsets_of f)
+  pub key : IsHash f.chunk_hash_hmac_key
+  pub moments : All (λ n. n < 2 ^ 64) (moments_of f)
+  pub buffer_size : length f._buffer ≡ 6
+  pub buffer : All (λ n. n < 2 ^ 64) f._buffer
+  pub sums : All (λ n. n < 2 ^ 64) (sums_of f)
+
 -- the bytes begin with this header and end in this footer
 pub record HasEnds (bytes : List ℕ) (info : MDBShardInfo) : Type 0 where
   pub size : 200 ≤ length bytes
   pub tag : info.header.tag ≡ header_tag
   pub header_version : info.header.version ≡ 2
   pub header : take 48 bytes ≡ header_text info.header
+  pub footer_size : info.header.footer_size < 2 ^ 64
   pub footer_version : info.metadata.version ≡ 1
+  pub footer_widths : FitsFooter info.metadata
   pub footer : last_bytes bytes ≡ footer_text info.metadata
 
 -- the bytes are those of another format: a foreign header, or after a header that is read a foreign footer

@@ -23,14 +23,23 @@ header_tag =
 unfoldable pub header_text : MDBShardFileHeader → List ℕ
 header_text h = (header_tag ++ u64_bytes h.version) ++ u64_bytes h.footer_size
 
+-- the words of a footer before the key, after it, and after the words that are kept free
+abbrev pub offsets_of : MDBShardFileFooter → List ℕ
+offsets_of f =
+    f.version ∷ f.file_info_offset ∷ f.xorb_info_offset ∷ f.file_lookup_offset ∷ f.file_lookup_num_entry ∷ f.xorb_lookup_offset ∷ f.xorb_lookup_num_entry
+    ∷ f.chunk_lookup_offset ∷ f.chunk_lookup_num_entry ∷ []
+
+abbrev pub moments_of : MDBShardFileFooter → List ℕ
+moments_of f = f.shard_creation_timestamp ∷ f.shard_key_expiry ∷ []
+
+abbrev pub sums_of : MDBShardFileFooter → List ℕ
+sums_of f = f.stored_bytes_on_disk ∷ f.materialized_bytes ∷ f.stored_bytes ∷ f.footer_offset ∷ []
+
 -- the footer: its fields in order
 unfoldable pub footer_text : MDBShardFileFooter → List ℕ
 footer_text f =
-    (((flat_map u64_bytes (f.version ∷ f.file_info_offset ∷ f.xorb_info_offset ∷ f.file_lookup_offset ∷ f.file_lookup_num_entry ∷ f.xorb_lookup_offset ∷ f.xorb_lookup_num_entry ∷ f.chunk_lookup_offset ∷ f.chunk_lookup_num_entry ∷ [])
-    ++ hash_bytes f.chunk_hash_hmac_key)
-    ++ flat_map u64_bytes (f.shard_creation_timestamp ∷ f.shard_key_expiry ∷ []))
-    ++ flat_map u64_bytes f._buffer)
-    ++ flat_map u64_bytes (f.stored_bytes_on_disk ∷ f.materialized_bytes ∷ f.stored_bytes ∷ f.footer_offset ∷ [])
+    (((flat_map u64_bytes (offsets_of f) ++ hash_bytes f.chunk_hash_hmac_key) ++ flat_map u64_bytes (moments_of f)) ++ flat_map u64_bytes f._buffer)
+    ++ flat_map u64_bytes (sums_of f)
 
 -- the footer of no shard in particular
 abbrev pub default_footer : MDBShardFileFooter

@@ -1,10 +1,10 @@
 //! The last 200 bytes of a shard.
 
-ghost use Rattle.std.specs.Prelude.{◌≡◌, ◌≢◌, ◌⊎◌, ◌++◌, IfSome, OnOk, IfOk, IfErr};
+ghost use Rattle.std.specs.Prelude.{◌≡◌, ◌≢◌, ◌⊎◌, [], ◌∷◌, ◌++◌, IfSome, OnOk, IfOk, IfErr};
 ghost use Rattle.std.specs.Io.KnownBytes.{Appends, Consumes};
 ghost use Rattle.xet_base.specs.Bytes.{u64_bytes};
 ghost use Rattle.xet_base.specs.Errors.{IsShardVersion, IsDeviceError, IsEndOfInput};
-ghost use Rattle.xet_shards.specs.Ends.{HasForeignFooter, EndsInFooter};
+ghost use Rattle.xet_shards.specs.Ends.{HasForeignFooter, EndsInFooter, FitsFooter};
 ghost use Rattle.xet_shards.specs.Layout.{footer_text, default_footer};
 
 use std::alloc::Global;
@@ -125,6 +125,7 @@ impl MDBShardFileFooter {
     pub(super) fn after_version(rest: &[u8; 192]) -> Self
         ensures version { result.version ≡ 1 }
         ensures text { footer_text result ≡ u64_bytes 1 ++ rest.now }
+        ensures widths { FitsFooter result }
     {
         let mut offsets = [0u64; 8];
         let rest = split_u64s(rest, &mut offsets);
@@ -135,7 +136,7 @@ impl MDBShardFileFooter {
         let rest = split_u64s(rest, &mut _buffer);
         let mut sums = [0u64; 4];
         split_u64s(rest, &mut sums);
-        MDBShardFileFooter {
+        let footer = MDBShardFileFooter {
             version: MDB_SHARD_FOOTER_VERSION,
             file_info_offset: offsets[0],
             xorb_info_offset: offsets[1],
@@ -153,8 +154,25 @@ impl MDBShardFileFooter {
             materialized_bytes: sums[1],
             stored_bytes: sums[2],
             footer_offset: sums[3],
-        }
+        };
+        footer.widths();
+        footer
     }
+
+    // Does nothing. It says that the numbers of a footer in memory fit their widths.
+    pub(super) fn widths(self)
+        ensures { FitsFooter self }
+    {
+        six_words(self._buffer);
+    }
+}
+
+// The words of an array.
+fn six_words(words: [u64; 6]) -> (u64, u64, u64, u64, u64, u64)
+    ensures { words ≡ result.0 ∷ result.1 ∷ result.2 ∷ result.3 ∷ result.4 ∷ result.5 ∷ [] }
+{
+    let [a, b, c, d, e, f] = words;
+    (a, b, c, d, e, f)
 }
 
 // Refuses a foreign version.

@@ -1,6 +1,6 @@
 //! The first 48 bytes of a shard.
 
-ghost use Rattle.std.specs.Prelude.{◌≡◌, ◌≢◌, ◌⊎◌, ◌++◌, take, IfSome, OnOk, IfOk, IfErr};
+ghost use Rattle.std.specs.Prelude.{◌≡◌, ◌≢◌, ◌⊎◌, ◌^◌, ◌<◌, ◌++◌, take, IfSome, OnOk, IfOk, IfErr};
 ghost use Rattle.std.specs.Io.KnownBytes.{Appends, Consumes};
 ghost use Rattle.xet_base.specs.Bytes.{u64_bytes};
 ghost use Rattle.xet_base.specs.Errors.{IsShardVersion, IsDeviceError, IsEndOfInput};
@@ -80,6 +80,7 @@ impl MDBShardFileHeader {
     // The header whose tag was read, from the 16 bytes after it.
     pub(super) fn after_tag(alloc: Global, rest: &[u8; 16]) -> Result<Self>
         ensures ok { IfOk result (λ h. (h.tag ≡ header_tag) × (h.version ≡ 2) × (rest.now ≡ u64_bytes 2 ++ u64_bytes h.footer_size)) }
+        ensures width { IfOk result (λ h. h.footer_size < 2 ^ 64) }
         ensures err { IfErr result (λ e. IsShardVersion e × (take 8 rest.now ≢ u64_bytes 2)) }
     {
         let (version, rest) = split_u64(rest);

@@ -13,7 +13,7 @@ ghost use Rattle.xet_records.specs.FileRecord.{FitsRecord};
 ghost use Rattle.xet_shards.specs.Layout.{layout, info_value, footer_value, plain_form, header_tag, header_text, footer_text};
 ghost use Rattle.xet_base.specs.Source.{Takes, DeviceFailure};
 ghost use Rattle.xet_shards.specs.SectionReading.{ReadsOne, RecordFails, ReadsSection, SectionFails};
-ghost use Rattle.xet_shards.specs.Ends.{HasForeignHeader, EndsInHeader, HasForeignFooter, EndsInFooter, PartFails, Loads, LoadsNot};
+ghost use Rattle.xet_shards.specs.Ends.{HasForeignHeader, EndsInHeader, HasForeignFooter, EndsInFooter, FitsFooter, PartFails, Loads, LoadsNot};
 
 use super::footer::{MDBShardFileFooter, check_version};
 use super::header::{MDBShardFileHeader, check_tag};
@@ -47,18 +47,12 @@ impl MDBShardInfo {
     /// `ShardVersion` where the tag, the header's version or the footer's is foreign, `UnexpectedEof`
     /// where the source has too few bytes.
     pub fn load_from_reader<S: ShardSource>(alloc: Global, source: &mut S) -> Result<Self>
-        ensures { MatchResult result (Loads (S.meaning source.old) (S.meaning source.new))
+        ensures read { MatchResult result (Loads (S.meaning source.old) (S.meaning source.new))
             (LoadsNot (S.meaning source.old) (S.meaning source.new)) }
+        ensures written { (s : Shard) → (expiry : Option ℕ) → (S.meaning source.old).bytes ≡ layout s expiry → FitsFooter (info_value s expiry).metadata
+            → MatchResult result (λ info. info ≡ info_value s expiry) (DeviceFailure (S.meaning source.old) (S.meaning source.new)) }
     {
-        source.seek_to(0)?;
-        let header = read_header(alloc, source)?;
-        let length = source.length()?;
-        if length < FOOTER_SIZE {
-            return Err(CoreError::Io(io::Error::from(ErrorKind::UnexpectedEof)));
-        }
-        source.seek_to(length - FOOTER_SIZE)?;
-        let metadata = read_footer(alloc, source)?;
-        Ok(MDBShardInfo { header, metadata })
+        read_ends(alloc, source)
     }
 
     /// Writes a shard: header, sections, tables and footer. The expiry is a moment in seconds, or none.
@@ -74,6 +68,7 @@ impl MDBShardInfo {
     ) -> Result<Self>
         ensures text { OnOk result (Appends (W.contents writer.old) (W.contents writer.new) (layout shard.now expiry)) }
         ensures info { IfOk result (λ info. info ≡ info_value shard.now expiry) }
+        ensures widths { IfOk result (λ info. FitsFooter info.metadata) }
         ensures causes { IfErr result IsDeviceError }
     {
         let header = MDBShardFileHeader::default();
@@ -141,11 +136,27 @@ fn read_section<S: ShardSource>(
     Ok(files)
 }
 
+// Reads the header at the front and the footer at the end.
+fn read_ends<S: ShardSource>(alloc: Global, source: &mut S) -> Result<MDBShardInfo>
+    ensures { MatchResult result (Loads (S.meaning source.old) (S.meaning source.new))
+        (LoadsNot (S.meaning source.old) (S.meaning source.new)) }
+{
+    source.seek_to(0)?;
+    let header = read_header(alloc, source)?;
+    let length = source.length()?;
+    if length < FOOTER_SIZE {
+        return Err(CoreError::Io(io::Error::from(ErrorKind::UnexpectedEof)));
+    }
+    source.seek_to(length - FOOTER_SIZE)?;
+    let metadata = read_footer(alloc, source)?;
+    Ok(MDBShardInfo { header, metadata })
+}
+
 // Reads a header from the source's place on.
 #[tactic(auto, unfolding(crate::specs::Layout::header_text))]
 fn read_header<S: ShardSource>(alloc: Global, source: &mut S) -> Result<MDBShardFileHeader>
     ensures read { IfOk result (λ h. Takes (S.meaning source.old) (S.meaning source.new) (header_text h)) }
-    ensures known { IfOk result (λ h. (h.tag ≡ header_tag) × (h.version ≡ 2)) }
+    ensures known { IfOk result (λ h. (h.tag ≡ header_tag) × (h.version ≡ 2) × (h.footer_size < 2 ^ 64)) }
     ensures refused { IfErr result (PartFails HasForeignHeader EndsInHeader 48 (S.meaning source.old) (S.meaning source.new)) }
 {
     let mut tag = [0u8; 32];
@@ -159,7 +170,7 @@ fn read_header<S: ShardSource>(alloc: Global, source: &mut S) -> Result<MDBShard
 // Reads a footer from the source's place on.
 fn read_footer<S: ShardSource>(alloc: Global, source: &mut S) -> Result<MDBShardFileFooter>
     ensures read { IfOk result (λ f. Takes (S.meaning source.old) (S.meaning source.new) (footer_text f)) }
-    ensures known { IfOk result (λ f. (f.version ≡ 1) × (length (footer_text f) ≡ 200)) }
+    ensures known { IfOk result (λ f. (f.version ≡ 1) × FitsFooter f) }
     ensures refused { IfErr result (PartFails HasForeignFooter EndsInFooter 200 (S.meaning source.old) (S.meaning source.new)) }
 {
     let mut version = [0u8; 8];
@@ -214,12 +225,13 @@ fn write_file_section<W: Write>(
 
 // The footer of a shard with these files and no xorbs.
 fn footer_of(files: &WrittenFiles, expiry: Option<u64>) -> MDBShardFileFooter
-    ensures { (rs : List MDBFileInfo) → All FitsRecord rs → HasWritten files.now rs → result ≡ footer_value rs [] (plain_form expiry) }
+    ensures widths { FitsFooter result }
+    ensures value { (rs : List MDBFileInfo) → All FitsRecord rs → HasWritten files.now rs → result ≡ footer_value rs [] (plain_form expiry) }
 {
     let xorb_info_offset = 48 + 48 * files.rows + 48;
     let file_lookup_offset = xorb_info_offset + 48;
     let table = files.table.len() as u64;
-    MDBShardFileFooter {
+    let footer = MDBShardFileFooter {
         file_info_offset: 48,
         xorb_info_offset,
         file_lookup_offset,
@@ -230,5 +242,7 @@ fn footer_of(files: &WrittenFiles, expiry: Option<u64>) -> MDBShardFileFooter
         materialized_bytes: files.materialized_bytes,
         footer_offset: file_lookup_offset + table,
         ..MDBShardFileFooter::default()
-    }
+    };
+    footer.widths();
+    footer
 }

@@ -6,8 +6,8 @@ use Rattle.xet_shards.proofs.Layouts.{length-file_section, length-xorb_section-n
 use Rattle.xet_shards.proofs.Tables.{length-file_table_bytes, length-file_starts}
 use Rattle.xet_shards.proofs.shard_format.info.footer_of.Goals as goal
 
-pub returns : goal.returns
-returns c = λ rs fit written.
+pub returns-clause-value : goal.returns-clause-value
+returns-clause-value c = λ rs fit written.
     let files = c.args.files.now in
     let plain = c.default.ensures in
     let rows : 48 + 48 * files.rows + 48 ≡ 48 + length (file_section rs) = omega (arith, length-file_section rs fit, written.rows) in

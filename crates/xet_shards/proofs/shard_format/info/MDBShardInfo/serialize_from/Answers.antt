@@ -25,7 +25,7 @@ returns-clause-text g c =
     let bookend = ap xorb_header_row c.bookend.ensures in
     let written = c.in_ok-files.ensures.written in
     let table = c.as_slice.ensures.value ∙ written.table in
-    let footer = ap footer_text (c.footer_of-metadata.ensures rs (widths_of_values _ c.file_content.ensures.files) written) in
+    let footer = ap footer_text (c.footer_of-metadata.ensures.value rs (widths_of_values _ c.file_content.ensures.files) written) in
     let wrote = Appends-trans _ (contents c.write_bytes.new.writer) _ _ _
     (Appends-trans _ (contents c.serialize-2.new.writer) _ _ _
     (Appends-trans _ (contents c.write_file_section.new.writer) _ _ _
@@ -40,6 +40,6 @@ returns-clause-info g c =
     let rs = map (λ (e : DataHash × MDBFileInfo). e.1) c.file_content.result.now.entries in
     let files = ap (map (λ (e : DataHash × MDBFileInfo). e.1)) c.file_content.ensures.entries in
     let xorbs = ap (λ (m : XorbMap). values m) c.file_content.ensures.xorbs ∙ values-empty MDBXorbInfo hash_cmp in
-    let footer = c.footer_of-metadata.ensures rs (widths_of_values _ c.file_content.ensures.files) c.in_ok-files.ensures.written
+    let footer = c.footer_of-metadata.ensures.value rs (widths_of_values _ c.file_content.ensures.files) c.in_ok-files.ensures.written
     ∙ (λ i. footer_value (files i) (sym xorbs i) (plain_form c.args.expiry)) in
     λ i. record { header = c.default-header.ensures i; metadata = footer i }

@@ -1,0 +1,158 @@
+-- The first and the last bytes of a shard tell header and footer, and those of a written shard are its own.
+use Rattle.std.proofs.Common.{◌≡◌, inl, inr, Ok, Err, ℕ, ◌+◌, ◌-◌, ◌^◌, ◌<◌, List, [], ◌∷◌, ◌++◌, length, flat_map, take, drop, Option, refl, sym, ap, ◌∙◌, subst, arith, take-append-drop, append-nil}
+use Rattle.std.specs.Prelude.{MatchResult}
+use Rattle.std.specs.declared.result.Result.{Result}
+use Rattle.std.specs.FinMap.{values}
+use Rattle.std.proofs.lemmas.List.{length-append, append_assoc}
+use Rattle.xet_base.specs.declared.error.CoreError.{CoreError}
+use Rattle.xet_base.specs.Bytes.{u64_bytes}
+use Rattle.xet_base.specs.Hash.{hash_bytes}
+use Rattle.xet_base.specs.Source.{Source, DeviceFailure}
+use Rattle.xet_base.proofs.Lists.{same_parts, parts_front}
+use Rattle.xet_base.proofs.Bytes.{length-u64_bytes, length-hash_bytes, u64_bytes-injective, hash_bytes-injective}
+use Rattle.xet_records.specs.declared.file_structs.MDBFileInfo.{MDBFileInfo}
+use Rattle.xet_records.specs.declared.xorb_structs.MDBXorbInfo.{MDBXorbInfo}
+use Rattle.xet_shards.specs.declared.shard_format.header.MDBShardFileHeader.{MDBShardFileHeader}
+use Rattle.xet_shards.specs.declared.shard_format.footer.MDBShardFileFooter.{MDBShardFileFooter}
+use Rattle.xet_shards.specs.declared.shard_format.info.MDBShardInfo.{MDBShardInfo}
+use Rattle.xet_shards.specs.Shard.{Shard}
+use Rattle.xet_shards.specs.Section.{file_section, xorb_section}
+use Rattle.xet_shards.specs.Tables.{file_table_bytes, xorb_table_bytes, chunk_table_bytes}
+use Rattle.xet_shards.specs.Layout.{Form, if_in, header_tag, header_text, header_value, offsets_of, moments_of, sums_of, footer_text, footer_value, layout_of, layout, plain_form, info_value}
+use Rattle.xet_shards.specs.Ends.{HasHeader, FitsFooter, HasEnds, IsForeign, IsTooShort, last_bytes, Loads, LoadsNot, Refusal}
+use Rattle.xet_shards.proofs.Ends.{front_is, rest_is}
+use Rattle.xet_shards.proofs.Layouts.{length-header_text, length-footer_text}
+use Rattle.xet_shards.proofs.Loading.{header_of}
+use Rattle.xet_shards.proofs.Readback.{layout_from_48}
+
+-- a header's bytes tell it
+header_unique : (g h : MDBShardFileHeader) → g.tag ≡ header_tag → h.tag ≡ header_tag → g.version ≡ 2 → h.version ≡ 2 → g.footer_size < 2 ^ 64 → h.footer_size < 2 ^ 64
+    → header_text g ≡ header_text h → g ≡ h
+unfolding header_text
+header_unique g h g_tag h_tag g_two h_two g_fits h_fits same =
+    let last = same_parts (header_tag ++ u64_bytes g.version) (header_tag ++ u64_bytes h.version) (u64_bytes g.footer_size) (u64_bytes h.footer_size)
+    (simp (length-u64_bytes)) same in
+    let size = u64_bytes-injective g.footer_size h.footer_size g_fits h_fits last.1 in
+    λ i. record { tag = (g_tag ∙ sym h_tag) i; version = (g_two ∙ sym h_two) i; footer_size = size i }
+
+-- the first of some numbers, and those after it
+abbrev first : List ℕ → ℕ
+first [] = 0
+first (n ∷ ns) = n
+
+abbrev after : List ℕ → List ℕ
+after [] = []
+after (n ∷ ns) = ns
+
+from_right : (a b c d e : List ℕ) → (((a ++ b) ++ c) ++ d) ++ e ≡ a ++ (b ++ (c ++ (d ++ e)))
+from_right a b c d e = simp (append_assoc)
+
+word_len : (n : ℕ) → n < 2 ^ 64 → length (u64_bytes n) ≡ 8
+word_len n fits = length-u64_bytes n
+
+-- a footer's bytes tell it
+footer_unique : (f g : MDBShardFileFooter) → FitsFooter f → FitsFooter g → footer_text f ≡ footer_text g → f ≡ g
+unfolding footer_text
+footer_unique f g f_fits g_fits same =
+    let words = parts_front 8 u64_bytes (λ n. n < 2 ^ 64) word_len u64_bytes-injective in
+    let whole = sym (from_right (flat_map u64_bytes (offsets_of f)) (hash_bytes f.chunk_hash_hmac_key) (flat_map u64_bytes (moments_of f)) (flat_map u64_bytes f._buffer) (flat_map u64_bytes (sums_of f)))
+    ∙ same ∙ from_right (flat_map u64_bytes (offsets_of g)) (hash_bytes g.chunk_hash_hmac_key) (flat_map u64_bytes (moments_of g)) (flat_map u64_bytes g._buffer) (flat_map u64_bytes (sums_of g)) in
+    let offsets = words (offsets_of f) (offsets_of g) _ _ refl f_fits.offsets g_fits.offsets whole in
+    let key = same_parts (hash_bytes f.chunk_hash_hmac_key) (hash_bytes g.chunk_hash_hmac_key) _ _ (length-hash_bytes f.chunk_hash_hmac_key ∙ sym (length-hash_bytes g.chunk_hash_hmac_key)) offsets.1 in
+    let moments = words (moments_of f) (moments_of g) _ _ refl f_fits.moments g_fits.moments key.1 in
+    let buffer = words f._buffer g._buffer _ _ (f_fits.buffer_size ∙ sym g_fits.buffer_size) f_fits.buffer g_fits.buffer moments.1 in
+    let sums = words (sums_of f) (sums_of g) [] [] refl f_fits.sums g_fits.sums (append-nil (flat_map u64_bytes (sums_of f)) ∙ buffer.1 ∙ sym (append-nil (flat_map u64_bytes (sums_of g)))) in
+    let hash = hash_bytes-injective f.chunk_hash_hmac_key g.chunk_hash_hmac_key f_fits.key g_fits.key key.0 in
+    λ i. record {
+      version = first (offsets.0 i);
+      file_info_offset = first (after (offsets.0 i));
+      xorb_info_offset = first (after (after (offsets.0 i)));
+      file_lookup_offset = first (after (after (after (offsets.0 i))));
+      file_lookup_num_entry = first (after (after (after (after (offsets.0 i)))));
+      xorb_lookup_offset = first (after (after (after (after (after (offsets.0 i))))));
+      xorb_lookup_num_entry = first (after (after (after (after (after (after (offsets.0 i)))))));
+      chunk_lookup_offset = first (after (after (after (after (after (after (after (offsets.0 i))))))));
+      chunk_lookup_num_entry = first (after (after (after (after (after (after (after (after (offsets.0 i)))))))));
+      chunk_hash_hmac_key = hash i;
+      shard_creation_timestamp = first (moments.0 i);
+      shard_key_expiry = first (after (moments.0 i));
+      _buffer = buffer.0 i;
+      stored_bytes_on_disk = first (sums.0 i);
+      materialized_bytes = first (after (sums.0 i));
+      stored_bytes = first (after (after (sums.0 i)));
+      footer_offset = first (after (after (after (sums.0 i))));
+    }
+
+-- at most one header and footer fit
+pub only_info : (bytes : List ℕ) (x y : MDBShardInfo) → HasEnds bytes x → HasEnds bytes y → x ≡ y
+only_info bytes x y a b =
+    let header = header_unique x.header y.header a.tag b.tag a.header_version b.header_version a.footer_size b.footer_size (sym a.header ∙ b.header) in
+    let footer = footer_unique x.metadata y.metadata a.footer_widths b.footer_widths (sym a.footer ∙ b.footer) in
+    λ i. record { header = header i; metadata = footer i }
+
+-- such bytes are neither foreign nor too short
+module _ (bytes : List ℕ) (info : MDBShardInfo) (ends : HasEnds bytes info) where
+  header_is : HasHeader bytes
+  header_is =
+      header_of bytes (drop 48 bytes) info.header (sym (take-append-drop 48 bytes) ∙ ap (λ bs. bs ++ drop 48 bytes) ends.header) ends.header_version
+
+  version_is : take 8 (last_bytes bytes) ≡ u64_bytes 1
+  unfolding footer_text
+  version_is =
+      let f = info.metadata in
+      let rest = flat_map u64_bytes (after (offsets_of f)) ++ (hash_bytes f.chunk_hash_hmac_key ++ (flat_map u64_bytes (moments_of f) ++ (flat_map u64_bytes f._buffer ++ flat_map u64_bytes (sums_of f)))) in
+      front_is 8 (last_bytes bytes) (u64_bytes f.version) rest (length-u64_bytes f.version)
+      (ends.footer ∙ from_right (flat_map u64_bytes (offsets_of f)) (hash_bytes f.chunk_hash_hmac_key) (flat_map u64_bytes (moments_of f)) (flat_map u64_bytes f._buffer) (flat_map u64_bytes (sums_of f))
+      ∙ append_assoc (u64_bytes f.version) (flat_map u64_bytes (after (offsets_of f))) _)
+      ∙ ap u64_bytes ends.footer_version
+
+  pub not_foreign : ¬ IsForeign bytes
+  not_foreign (inl (inl (size, differs))) = differs header_is.tag
+  not_foreign (inl (inr (size, differs))) = differs header_is.version
+  not_foreign (inr (header, size, foreign)) = foreign.1 version_is
+
+  pub not_too_short : ¬ IsTooShort bytes
+  not_too_short (inl (inl short)) = omega (arith, short, ends.size)
+  not_too_short (inl (inr (short, tag))) = omega (arith, short, ends.size)
+  not_too_short (inr (header, short)) = omega (arith, short, ends.size)
+
+-- the ends of a shard's bytes
+module _ (files : List MDBFileInfo) (xorbs : List MDBXorbInfo) (form : Form) where
+  before_footer : List ℕ
+  before_footer =
+      ((((header_text header_value ++ file_section files) ++ xorb_section xorbs) ++ if_in form.file_table (file_table_bytes files)) ++ if_in form.xorb_table (xorb_table_bytes xorbs))
+      ++ if_in form.chunk_table (chunk_table_bytes xorbs)
+
+  layout_is : layout_of files xorbs form ≡ before_footer ++ footer_text (footer_value files xorbs form)
+  unfolding layout_of before_footer
+  layout_is = refl
+
+  pub ends_of_layout : FitsFooter (footer_value files xorbs form) → HasEnds (layout_of files xorbs form) (record { header = header_value; metadata = footer_value files xorbs form })
+  ends_of_layout fits =
+      let bytes = layout_of files xorbs form in
+      let footer = footer_text (footer_value files xorbs form) in
+      let size : length footer ≡ 200 = length-footer_text (footer_value files xorbs form) fits.buffer_size in
+      let whole : length bytes ≡ length before_footer + 200 = ap length layout_is ∙ length-append before_footer footer ∙ ap (λ n. length before_footer + n) size in
+      record {
+        size = omega (arith, whole);
+        tag = refl;
+        header_version = refl;
+        footer_size = omega arith;
+        header = front_is 48 bytes (header_text header_value) _ (length-header_text header_value) (layout_from_48 files xorbs form);
+        footer_version = refl;
+        footer_widths = fits;
+        footer = rest_is (length bytes - 200) bytes before_footer footer (omega (arith, whole)) layout_is;
+      }
+
+why_not_loaded : (bytes : List ℕ) (info : MDBShardInfo) (old new : Source) (e : CoreError) → HasEnds bytes info → Refusal IsForeign IsTooShort bytes old new e → DeviceFailure old new e
+why_not_loaded bytes info old new e ends (inl failed) = failed
+why_not_loaded bytes info old new e ends (inr (inl (none, is, foreign))) = absurd (not_foreign bytes info ends foreign)
+why_not_loaded bytes info old new e ends (inr (inr (none, is, short))) = absurd (not_too_short bytes info ends short)
+
+-- from these bytes header and footer are read, unless the device fails
+pub loads_written : (old new : Source) (s : Shard) (expiry : Option ℕ) (r : Result MDBShardInfo CoreError) → old.bytes ≡ layout s expiry → FitsFooter (info_value s expiry).metadata
+    → MatchResult r (Loads old new) (LoadsNot old new) → MatchResult r (λ info. info ≡ info_value s expiry) (DeviceFailure old new)
+loads_written old new s expiry (Ok info) are fits loads =
+    only_info old.bytes info (info_value s expiry) loads.ends (subst (λ bs. HasEnds bs (info_value s expiry)) (sym are) (ends_of_layout (values s.files) (values s.xorbs) (plain_form expiry) fits))
+loads_written old new s expiry (Err e) are fits fails =
+    why_not_loaded old.bytes (info_value s expiry) old new e (subst (λ bs. HasEnds bs (info_value s expiry)) (sym are) (ends_of_layout (values s.files) (values s.xorbs) (plain_form expiry) fits)) fails.cause
