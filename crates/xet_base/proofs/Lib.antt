@@ -5,3 +5,4 @@ pub mod HashOrder
 pub mod Hex
 pub mod Lists
 pub mod Reading
+pub mod Worked

@@ -10,4 +10,5 @@ pub mod SectionUnique
 pub mod Tables
 pub mod Versions
 pub mod Walks
+pub mod Worked
 pub mod Written

@@ -7,7 +7,7 @@ use Rattle.std.specs.declared.cmp.Ordering.TheVariants.{Less, Equal, Greater}
 use Rattle.std.specs.Cmp.{IsTotalOrder}
 use Rattle.std.specs.Map.{lookup, keys_of, values_of}
 use Rattle.std.specs.BTreeMap.{insert_entry, is_at}
-use Rattle.std.specs.FinMap.{FinMap, IsAntisymmetric, is_sorted, find, get, insert, entries, values, empty, from_sorted, same_map, same_entries_map, entries-from_sorted, entries-insert, entries_sorted, get-from_sorted, get-entries, get-empty, len-entries, len-empty}
+use Rattle.std.specs.FinMap.{FinMap, from_entries, IsAntisymmetric, is_sorted, find, get, insert, entries, values, empty, from_sorted, same_map, same_entries_map, entries-from_sorted, entries-insert, entries_sorted, get-from_sorted, get-entries, get-empty, len-entries, len-empty}
 use Rattle.std.specs.FinMap.Entries.{put, is_sorted-put, by_order, below_all}
 use Rattle.std.specs.List.Sorted.{IsStrictlySortedBy}
 use Rattle.std.specs.List.{AllByRecursion}
@@ -99,3 +99,12 @@ module _ {K : Type 0} (X : Type 0) (R : K → K → Ordering) where
 
   pub values-empty : values (empty {X = X} {R = R}) ≡ []
   values-empty = ap (map (λ e. e.1)) entries-empty
+
+-- entries put in one after another, the last first
+abbrev pub puts : {K X : Type 0} → (K → K → Ordering) → List (K × X) → List (K × X)
+puts R [] = []
+puts R (e ∷ es) = put R e.0 e.1 (puts R es)
+
+pub entries-from_entries : {K X : Type 0} {R : K → K → Ordering} → IsTotalOrder R → (es : List (K × X)) → entries (from_entries {R = R} es) ≡ puts R es
+entries-from_entries {X = X} {R = R} total [] = entries-empty X R
+entries-from_entries {X = X} {R = R} total (e ∷ es) = entries-insert total (from_entries es) e.0 e.1 ∙ ap (put R e.0 e.1) (entries-from_entries total es)

@@ -1,0 +1,83 @@
+-- Worked values of the layout: where the parts of small shards stand.
+use Rattle.std.proofs.Common.{◌≡◌, ℕ, ◌+◌, List, [], ◌∷◌, map, flat_map, length, None, refl, ap}
+use Rattle.std.specs.Cmp.{IsTotalOrder}
+use Rattle.std.proofs.lemmas.Cmp.{then_total, on_total, nat_cmp_total}
+use Rattle.xet_base.specs.declared.merklehash.DataHash.{DataHash}
+use Rattle.xet_base.specs.Bytes.{u32_bytes, u64_bytes}
+use Rattle.xet_base.specs.Hash.{hash_bytes}
+use Rattle.xet_records.specs.declared.file_structs.MDBFileInfo.{MDBFileInfo}
+use Rattle.xet_records.specs.declared.xorb_structs.MDBXorbInfo.{MDBXorbInfo}
+use Rattle.xet_records.specs.FileRow.{header_row, segment_row}
+use Rattle.xet_records.specs.FileRecord.{record_text, rows_text}
+use Rattle.xet_records.specs.XorbRow.{xorb_header_row, chunk_row}
+use Rattle.xet_records.specs.XorbRecord.{xorb_text}
+use Rattle.xet_shards.specs.declared.shard_format.footer.MDBShardFileFooter.{MDBShardFileFooter}
+use Rattle.xet_shards.specs.Section.{file_section, xorb_section}
+use Rattle.xet_shards.specs.Tables.{ChunkPlace, place_cmp, chunk_places, ascending, chunk_table, place_row, file_table_bytes, xorb_table_bytes, chunk_table_bytes}
+use Rattle.xet_shards.specs.Layout.{footer_value, plain_form}
+use Rattle.xet_shards.proofs.Layouts.{chunk_table-nil}
+use Rattle.xet_shards.proofs.Maps.{puts, entries-from_entries}
+
+-- the words n, 1, 0 and 0
+abbrev small : ℕ → DataHash
+small n = record { word0 = n; word1 = 1; word2 = 0; word3 = 0 }
+
+-- a file of the chunks 0 to 5, 5 bytes, of one xorb
+abbrev file : ℕ → ℕ → MDBFileInfo
+file hash xorb = record {
+  metadata = record { file_hash = small hash; file_flags = 0; num_entries = 1; _unused = 0 };
+  segments = record { xorb_hash = small xorb; xorb_flags = 0; unpacked_segment_bytes = 5; chunk_index_start = 0; chunk_index_end = 5 } ∷ [];
+  verification = [];
+  metadata_ext = None;
+}
+
+-- a xorb of one chunk of 5 bytes
+abbrev xorb : ℕ → ℕ → MDBXorbInfo
+xorb hash chunk = record {
+  metadata = record { xorb_hash = small hash; xorb_flags = 0; num_entries = 1; num_bytes_in_xorb = 5; num_bytes_on_disk = 0 };
+  chunks = record { chunk_hash = small chunk; chunk_byte_range_start = 0; unpacked_segment_bytes = 5; flags = 0; _unused = 0 } ∷ [];
+}
+
+-- where file section, xorb section, the three tables and the footer start
+abbrev places : MDBShardFileFooter → List ℕ
+places f = f.file_info_offset ∷ f.xorb_info_offset ∷ f.file_lookup_offset ∷ f.xorb_lookup_offset ∷ f.chunk_lookup_offset ∷ f.footer_offset ∷ []
+
+-- the sums that a footer holds: bytes stored, of files, and on disk
+abbrev sums : MDBShardFileFooter → List ℕ
+sums f = f.stored_bytes ∷ f.materialized_bytes ∷ f.stored_bytes_on_disk ∷ []
+
+place_total : IsTotalOrder place_cmp
+place_total =
+    then_total (on_total (λ (p : ChunkPlace). p.word) nat_cmp_total)
+    (then_total (on_total (λ (p : ChunkPlace). p.start) nat_cmp_total) (on_total (λ (p : ChunkPlace). p.place) nat_cmp_total))
+
+ascending_is : (ps : List ChunkPlace) → ascending ps ≡ map (λ e. e.0) (puts place_cmp (map (λ p. (p, tt {0})) ps))
+ascending_is ps = ap (map (λ e. e.0)) (entries-from_entries place_total (map (λ p. (p, tt {0})) ps))
+
+-- a chunk that two xorbs hold
+pub chunks_of_two : chunk_table (xorb 10 21 ∷ xorb 11 21 ∷ []) ≡ record { word = 21; start = 0; place = 0 } ∷ record { word = 21; start = 2; place = 0 } ∷ []
+chunks_of_two = ascending_is (chunk_places (xorb 10 21 ∷ xorb 11 21 ∷ []))
+
+chunks_of_p : chunk_table (xorb 10 21 ∷ []) ≡ record { word = 21; start = 0; place = 0 } ∷ []
+chunks_of_p = ascending_is (chunk_places (xorb 10 21 ∷ []))
+
+chunks_of_q : chunk_table (xorb 10 21 ∷ xorb 11 22 ∷ []) ≡ record { word = 21; start = 0; place = 0 } ∷ record { word = 22; start = 2; place = 0 } ∷ []
+chunks_of_q = ascending_is (chunk_places (xorb 10 21 ∷ xorb 11 22 ∷ []))
+
+-- the empty shard
+pub places_of_empty : places (footer_value [] [] (plain_form None)) ≡ 48 ∷ 96 ∷ 144 ∷ 144 ∷ 144 ∷ 144 ∷ []
+unfolding file_section xorb_section file_table_bytes xorb_table_bytes chunk_table_bytes record_text rows_text header_row segment_row hash_bytes u64_bytes u32_bytes xorb_text xorb_header_row chunk_row
+places_of_empty = λ i. 48 ∷ 96 ∷ 144 ∷ 144 ∷ 144 ∷ (144 + length (flat_map place_row (chunk_table-nil i))) ∷ []
+
+-- a xorb with one chunk, and a file
+pub places_of_p : places (footer_value (file 100 200 ∷ []) (xorb 10 21 ∷ []) (plain_form None)) ≡ 48 ∷ 192 ∷ 336 ∷ 348 ∷ 360 ∷ 376 ∷ []
+unfolding file_section xorb_section file_table_bytes xorb_table_bytes chunk_table_bytes record_text rows_text header_row segment_row hash_bytes u64_bytes u32_bytes xorb_text xorb_header_row chunk_row
+places_of_p = λ i. 48 ∷ 192 ∷ 336 ∷ 348 ∷ 360 ∷ (360 + length (flat_map place_row (chunks_of_p i))) ∷ []
+
+pub sums_of_p : sums (footer_value (file 100 200 ∷ []) (xorb 10 21 ∷ []) (plain_form None)) ≡ 5 ∷ 5 ∷ 0 ∷ []
+sums_of_p = refl
+
+-- a second of each
+pub places_of_q : places (footer_value (file 100 200 ∷ file 101 201 ∷ []) (xorb 10 21 ∷ xorb 11 22 ∷ []) (plain_form None)) ≡ 48 ∷ 288 ∷ 528 ∷ 552 ∷ 576 ∷ 608 ∷ []
+unfolding file_section xorb_section file_table_bytes xorb_table_bytes chunk_table_bytes record_text rows_text header_row segment_row hash_bytes u64_bytes u32_bytes xorb_text xorb_header_row chunk_row
+places_of_q = λ i. 48 ∷ 288 ∷ 528 ∷ 552 ∷ 576 ∷ (576 + length (flat_map place_row (chunks_of_q i))) ∷ []
