@@ -278,7 +278,8 @@ fn is_name_byte(byte: u8) -> bool
 fn parse_hash(word: &str) -> Result<MerkleHash, ParseError>
     ensures digits { IsHexText word.now → IsOkAnd result (Spells word.now) }
     ensures number { ¬ (IsHexText word.now) → (IsOk result ↔ IsNumber 64 word.now) }
-    ensures small { ¬ (IsHexText word.now) → IfOk result (λ hash. words_of hash ≡ small_words (digits_value 10 word.now)) }
+    ensures small { ¬ (IsHexText word.now) → IfOk result
+        (λ hash. words_of hash ≡ small_words (digits_value 10 word.now)) }
     ensures causes { IfErr result (λ e. e ≡ ParseError.Unreadable) }
 {
     match DataHash::from_hex(word) {

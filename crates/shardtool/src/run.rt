@@ -319,8 +319,10 @@ impl Workspace {
     }
 
     fn bytes_of(&self, buffer: &str) -> Result<&[u8], Stop>
-        ensures unknown { IsErrOf result Stop.Unreadable ↔ IsNone (get_by_text self.now.buffers buffer.now) }
-        ensures found { IfOk result (λ bytes. option_map (λ b. b.items) (get_by_text self.now.buffers buffer.now) ≡ Some bytes.now) }
+        ensures unknown { IsErrOf result Stop.Unreadable ↔ IsNone
+            (get_by_text self.now.buffers buffer.now) }
+        ensures found { IfOk result
+            (λ bytes. option_map (λ b. b.items) (get_by_text self.now.buffers buffer.now) ≡ Some bytes.now) }
     {
         match self.buffers.get(buffer) {
             Some(bytes) => Ok(bytes.as_slice()),
@@ -366,7 +368,8 @@ fn record_of(alloc: Global, file: FileLine) -> Result<MDBFileInfo, CoreError> {
 fn bytes_in(bytes: &[u8], range: ByteRange) -> Result<&[u8], Stop>
     ensures inside { IsOk result ↔ (range.from + range.len ≤ length bytes.now) }
     ensures causes { IfErr result (λ e. e ≡ Stop.Unreadable) }
-    ensures found { IfOk result (λ part. part.now ≡ slice_range bytes.now range.from (range.from + range.len)) }
+    ensures found { IfOk result
+        (λ part. part.now ≡ slice_range bytes.now range.from (range.from + range.len)) }
 {
     let size = bytes.len() as u64;
     if range.from > size || range.len > size - range.from {

@@ -53,7 +53,8 @@ pub fn write_bytes<W: Write>(writer: &mut W, bytes: &[u8]) -> io::Result<()>
 
 /// Appends each number as four bytes, lowest first. The error is the writer's.
 pub fn write_u32s<W: Write>(writer: &mut W, values: &[u32]) -> io::Result<()>
-    ensures { OnOk result (Appends (W.contents writer.old) (W.contents writer.new) (flat_map u32_bytes values.now)) }
+    ensures { OnOk result
+        (Appends (W.contents writer.old) (W.contents writer.new) (flat_map u32_bytes values.now)) }
 {
     for value in values {
         write_u32(writer, *value)?;
@@ -63,7 +64,8 @@ pub fn write_u32s<W: Write>(writer: &mut W, values: &[u32]) -> io::Result<()>
 
 /// Appends each number as eight bytes, lowest first. The error is the writer's.
 pub fn write_u64s<W: Write>(writer: &mut W, values: &[u64]) -> io::Result<()>
-    ensures { OnOk result (Appends (W.contents writer.old) (W.contents writer.new) (flat_map u64_bytes values.now)) }
+    ensures { OnOk result
+        (Appends (W.contents writer.old) (W.contents writer.new) (flat_map u64_bytes values.now)) }
 {
     for value in values {
         write_u64(writer, *value)?;
@@ -73,9 +75,11 @@ pub fn write_u64s<W: Write>(writer: &mut W, values: &[u64]) -> io::Result<()>
 
 /// Reads 32 bytes as a hash.
 pub fn read_hash<R: Read>(reader: &mut R) -> io::Result<MerkleHash>
-    ensures value { IfOk result (λ hash. Consumes (R.remaining reader.old) (R.remaining reader.new) (hash_bytes hash)) }
+    ensures value { IfOk result
+        (λ hash. Consumes (R.remaining reader.old) (R.remaining reader.new) (hash_bytes hash)) }
     ensures enough { OnOk result (HasBytes (R.remaining reader.old) 32) }
-    ensures end { IfErr result (λ e. error_kind e ≡ ErrorKind.UnexpectedEof → LacksBytes (R.remaining reader.old) 32) }
+    ensures end { IfErr result
+        (λ e. error_kind e ≡ ErrorKind.UnexpectedEof → LacksBytes (R.remaining reader.old) 32) }
 {
     let mut bytes = [0u8; 32];
     read_bytes(reader, &mut bytes)?;
@@ -84,9 +88,11 @@ pub fn read_hash<R: Read>(reader: &mut R) -> io::Result<MerkleHash>
 
 /// Reads one byte.
 pub fn read_u8<R: Read>(reader: &mut R) -> io::Result<u8>
-    ensures value { IfOk result (λ value. Consumes (R.remaining reader.old) (R.remaining reader.new) (value ∷ [])) }
+    ensures value { IfOk result
+        (λ value. Consumes (R.remaining reader.old) (R.remaining reader.new) (value ∷ [])) }
     ensures enough { OnOk result (HasBytes (R.remaining reader.old) 1) }
-    ensures end { IfErr result (λ e. error_kind e ≡ ErrorKind.UnexpectedEof → LacksBytes (R.remaining reader.old) 1) }
+    ensures end { IfErr result
+        (λ e. error_kind e ≡ ErrorKind.UnexpectedEof → LacksBytes (R.remaining reader.old) 1) }
 {
     let mut bytes = [0u8; 1];
     read_bytes(reader, &mut bytes)?;
@@ -95,9 +101,11 @@ pub fn read_u8<R: Read>(reader: &mut R) -> io::Result<u8>
 
 /// Reads four bytes as a number, lowest byte first.
 pub fn read_u32<R: Read>(reader: &mut R) -> io::Result<u32>
-    ensures value { IfOk result (λ value. Consumes (R.remaining reader.old) (R.remaining reader.new) (u32_bytes value)) }
+    ensures value { IfOk result
+        (λ value. Consumes (R.remaining reader.old) (R.remaining reader.new) (u32_bytes value)) }
     ensures enough { OnOk result (HasBytes (R.remaining reader.old) 4) }
-    ensures end { IfErr result (λ e. error_kind e ≡ ErrorKind.UnexpectedEof → LacksBytes (R.remaining reader.old) 4) }
+    ensures end { IfErr result
+        (λ e. error_kind e ≡ ErrorKind.UnexpectedEof → LacksBytes (R.remaining reader.old) 4) }
 {
     let mut bytes = [0u8; 4];
     read_bytes(reader, &mut bytes)?;
@@ -106,9 +114,11 @@ pub fn read_u32<R: Read>(reader: &mut R) -> io::Result<u32>
 
 /// Reads eight bytes as a number, lowest byte first.
 pub fn read_u64<R: Read>(reader: &mut R) -> io::Result<u64>
-    ensures value { IfOk result (λ value. Consumes (R.remaining reader.old) (R.remaining reader.new) (u64_bytes value)) }
+    ensures value { IfOk result
+        (λ value. Consumes (R.remaining reader.old) (R.remaining reader.new) (u64_bytes value)) }
     ensures enough { OnOk result (HasBytes (R.remaining reader.old) 8) }
-    ensures end { IfErr result (λ e. error_kind e ≡ ErrorKind.UnexpectedEof → LacksBytes (R.remaining reader.old) 8) }
+    ensures end { IfErr result
+        (λ e. error_kind e ≡ ErrorKind.UnexpectedEof → LacksBytes (R.remaining reader.old) 8) }
 {
     let mut bytes = [0u8; 8];
     read_bytes(reader, &mut bytes)?;
@@ -119,7 +129,8 @@ pub fn read_u64<R: Read>(reader: &mut R) -> io::Result<u64>
 pub fn read_bytes<R: Read>(reader: &mut R, slice: &mut [u8]) -> io::Result<()>
     ensures value { OnOk result (Consumes (R.remaining reader.old) (R.remaining reader.new) slice.new) }
     ensures enough { OnOk result (HasBytes (R.remaining reader.old) (length slice.old)) }
-    ensures end { IfErr result (λ e. error_kind e ≡ ErrorKind.UnexpectedEof → LacksBytes (R.remaining reader.old) (length slice.old)) }
+    ensures end { IfErr result
+        (λ e. error_kind e ≡ ErrorKind.UnexpectedEof → LacksBytes (R.remaining reader.old) (length slice.old)) }
 {
     let mut filled = 0;
     for _turn in 0..u64::MAX {
@@ -138,9 +149,11 @@ pub fn read_bytes<R: Read>(reader: &mut R, slice: &mut [u8]) -> io::Result<()>
 
 /// Reads four bytes for each place of `values`, lowest byte first.
 pub fn read_u32s<R: Read>(reader: &mut R, values: &mut [u32]) -> io::Result<()>
-    ensures value { OnOk result (Consumes (R.remaining reader.old) (R.remaining reader.new) (flat_map u32_bytes values.new)) }
+    ensures value { OnOk result
+        (Consumes (R.remaining reader.old) (R.remaining reader.new) (flat_map u32_bytes values.new)) }
     ensures enough { OnOk result (HasBytes (R.remaining reader.old) (4 * length values.old)) }
-    ensures end { IfErr result (λ e. error_kind e ≡ ErrorKind.UnexpectedEof → LacksBytes (R.remaining reader.old) (4 * length values.old)) }
+    ensures end { IfErr result
+        (λ e. error_kind e ≡ ErrorKind.UnexpectedEof → LacksBytes (R.remaining reader.old) (4 * length values.old)) }
 {
     for value in values.iter_mut() {
         *value = read_u32(reader)?;
@@ -150,9 +163,11 @@ pub fn read_u32s<R: Read>(reader: &mut R, values: &mut [u32]) -> io::Result<()>
 
 /// Reads eight bytes for each place of `values`, lowest byte first.
 pub fn read_u64s<R: Read>(reader: &mut R, values: &mut [u64]) -> io::Result<()>
-    ensures value { OnOk result (Consumes (R.remaining reader.old) (R.remaining reader.new) (flat_map u64_bytes values.new)) }
+    ensures value { OnOk result
+        (Consumes (R.remaining reader.old) (R.remaining reader.new) (flat_map u64_bytes values.new)) }
     ensures enough { OnOk result (HasBytes (R.remaining reader.old) (8 * length values.old)) }
-    ensures end { IfErr result (λ e. error_kind e ≡ ErrorKind.UnexpectedEof → LacksBytes (R.remaining reader.old) (8 * length values.old)) }
+    ensures end { IfErr result
+        (λ e. error_kind e ≡ ErrorKind.UnexpectedEof → LacksBytes (R.remaining reader.old) (8 * length values.old)) }
 {
     for value in values.iter_mut() {
         *value = read_u64(reader)?;

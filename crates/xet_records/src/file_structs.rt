@@ -95,7 +95,8 @@ impl FileDataSequenceHeader {
 
     /// Appends the row and returns its 48 bytes. The error is the writer's.
     pub fn serialize<W: Write>(&self, writer: &mut W) -> io::Result<usize>
-        ensures text { OnOk result (Appends (W.contents writer.old) (W.contents writer.new) (header_row self.now)) }
+        ensures text { OnOk result
+            (Appends (W.contents writer.old) (W.contents writer.new) (header_row self.now)) }
         ensures count { IfOk result (λ n. n ≡ 48) }
     {
         write_row(self, writer)?;
@@ -104,10 +105,12 @@ impl FileDataSequenceHeader {
 
     /// Reads the row with all its fields. `UnexpectedEof` where fewer than 48 bytes are left.
     pub fn deserialize<R: Read>(reader: &mut R) -> io::Result<Self>
-        ensures value { IfOk result (λ row. Consumes (R.remaining reader.old) (R.remaining reader.new) (header_row row)) }
+        ensures value { IfOk result
+            (λ row. Consumes (R.remaining reader.old) (R.remaining reader.new) (header_row row)) }
         ensures widths { IfOk result FitsHeader }
         ensures enough { OnOk result (HasBytes (R.remaining reader.old) 48) }
-        ensures end { IfErr result (λ e. error_kind e ≡ ErrorKind.UnexpectedEof → LacksBytes (R.remaining reader.old) 48) }
+        ensures end { IfErr result
+            (λ e. error_kind e ≡ ErrorKind.UnexpectedEof → LacksBytes (R.remaining reader.old) 48) }
     {
         read_row(reader)
     }
@@ -226,7 +229,8 @@ impl FileDataSequenceEntry {
 
     /// Appends the row and returns its 48 bytes. The error is the writer's.
     pub fn serialize<W: Write>(&self, writer: &mut W) -> io::Result<usize>
-        ensures text { OnOk result (Appends (W.contents writer.old) (W.contents writer.new) (segment_row self.now)) }
+        ensures text { OnOk result
+            (Appends (W.contents writer.old) (W.contents writer.new) (segment_row self.now)) }
         ensures count { IfOk result (λ n. n ≡ 48) }
     {
         write_row(self, writer)?;
@@ -235,10 +239,12 @@ impl FileDataSequenceEntry {
 
     /// Reads the row with all its fields. `UnexpectedEof` where fewer than 48 bytes are left.
     pub fn deserialize<R: Read>(reader: &mut R) -> io::Result<Self>
-        ensures value { IfOk result (λ row. Consumes (R.remaining reader.old) (R.remaining reader.new) (segment_row row)) }
+        ensures value { IfOk result
+            (λ row. Consumes (R.remaining reader.old) (R.remaining reader.new) (segment_row row)) }
         ensures widths { IfOk result FitsSegment }
         ensures enough { OnOk result (HasBytes (R.remaining reader.old) 48) }
-        ensures end { IfErr result (λ e. error_kind e ≡ ErrorKind.UnexpectedEof → LacksBytes (R.remaining reader.old) 48) }
+        ensures end { IfErr result
+            (λ e. error_kind e ≡ ErrorKind.UnexpectedEof → LacksBytes (R.remaining reader.old) 48) }
     {
         read_row(reader)
     }
@@ -301,7 +307,8 @@ impl FileVerificationEntry {
 
     /// Appends the row and returns its 48 bytes. The error is the writer's.
     pub fn serialize<W: Write>(&self, writer: &mut W) -> io::Result<usize>
-        ensures text { OnOk result (Appends (W.contents writer.old) (W.contents writer.new) (verification_row self.now)) }
+        ensures text { OnOk result
+            (Appends (W.contents writer.old) (W.contents writer.new) (verification_row self.now)) }
         ensures count { IfOk result (λ n. n ≡ 48) }
     {
         write_row(self, writer)?;
@@ -311,9 +318,11 @@ impl FileVerificationEntry {
     /// Reads the row, with zero reserved words whatever stands there. `UnexpectedEof` where fewer than
     /// 48 bytes are left.
     pub fn deserialize<R: Read>(reader: &mut R) -> io::Result<Self>
-        ensures value { IfOk result (ReadsRow verification_row FitsVerification clear_verification (Consumes (R.remaining reader.old) (R.remaining reader.new))) }
+        ensures value { IfOk result
+            (ReadsRow verification_row FitsVerification clear_verification (Consumes (R.remaining reader.old) (R.remaining reader.new))) }
         ensures enough { OnOk result (HasBytes (R.remaining reader.old) 48) }
-        ensures end { IfErr result (λ e. error_kind e ≡ ErrorKind.UnexpectedEof → LacksBytes (R.remaining reader.old) 48) }
+        ensures end { IfErr result
+            (λ e. error_kind e ≡ ErrorKind.UnexpectedEof → LacksBytes (R.remaining reader.old) 48) }
     {
         read_row(reader)
     }
@@ -376,7 +385,8 @@ impl FileMetadataExt {
 
     /// Appends the row and returns its 48 bytes. The error is the writer's.
     pub fn serialize<W: Write>(&self, writer: &mut W) -> io::Result<usize>
-        ensures text { OnOk result (Appends (W.contents writer.old) (W.contents writer.new) (metadata_row self.now)) }
+        ensures text { OnOk result
+            (Appends (W.contents writer.old) (W.contents writer.new) (metadata_row self.now)) }
         ensures count { IfOk result (λ n. n ≡ 48) }
     {
         write_row(self, writer)?;
@@ -386,9 +396,11 @@ impl FileMetadataExt {
     /// Reads the row, with zero reserved words whatever stands there. `UnexpectedEof` where fewer than
     /// 48 bytes are left.
     pub fn deserialize<R: Read>(reader: &mut R) -> io::Result<Self>
-        ensures value { IfOk result (ReadsRow metadata_row FitsMetadata clear_metadata (Consumes (R.remaining reader.old) (R.remaining reader.new))) }
+        ensures value { IfOk result
+            (ReadsRow metadata_row FitsMetadata clear_metadata (Consumes (R.remaining reader.old) (R.remaining reader.new))) }
         ensures enough { OnOk result (HasBytes (R.remaining reader.old) 48) }
-        ensures end { IfErr result (λ e. error_kind e ≡ ErrorKind.UnexpectedEof → LacksBytes (R.remaining reader.old) 48) }
+        ensures end { IfErr result
+            (λ e. error_kind e ≡ ErrorKind.UnexpectedEof → LacksBytes (R.remaining reader.old) 48) }
     {
         read_row(reader)
     }
@@ -475,7 +487,8 @@ impl MDBFileInfo {
     #[tactic(auto, unfolding(crate::specs::FileRecord::record_text, crate::specs::FileRecord::rows_text))]
     pub fn serialize<W: Write>(&self, writer: &mut W) -> io::Result<usize>
         requires { FitsItsHeader self.now }
-        ensures text { OnOk result (Appends (W.contents writer.old) (W.contents writer.new) (record_text self.now)) }
+        ensures text { OnOk result
+            (Appends (W.contents writer.old) (W.contents writer.new) (record_text self.now)) }
         ensures count { IfOk result (λ n. n ≡ 48 * row_count self.now) }
     {
         write_row(&self.metadata, writer)?;
@@ -495,7 +508,8 @@ impl MDBFileInfo {
             (ReadsBookend (Consumes (R.remaining reader.old) (R.remaining reader.new)))
             (ReadsRecord (Consumes (R.remaining reader.old) (R.remaining reader.new)))) }
         ensures end { IfErr result (λ e. IsEndOfInput e → IfSome (R.remaining reader.old) IsCutShort) }
-        ensures invalid { IfErr result (λ e. IsInvalidShard e → IfSome (R.remaining reader.old) HasTooManyRows) }
+        ensures invalid { IfErr result
+            (λ e. IsInvalidShard e → IfSome (R.remaining reader.old) HasTooManyRows) }
         ensures causes { IfErr result (λ e. IsDeviceError e ⊎ IsInvalidShard e) }
         ensures whole { OnOk result (IfSome (R.remaining reader.old) (λ bytes. ¬ IsCutShort bytes)) }
         ensures fits { OnOk result (IfSome (R.remaining reader.old) (λ bytes. ¬ HasTooManyRows bytes)) }
@@ -518,8 +532,10 @@ fn read_rows_after<R: Read>(
     reader: &mut R,
     metadata: FileDataSequenceHeader,
 ) -> Result<MDBFileInfo>
-    ensures found { IfOk result (ReadsRowsAfter metadata (Consumes (R.remaining reader.old) (R.remaining reader.new))) }
-    ensures end { IfErr result (λ e. IsEndOfInput e → LacksBytes (R.remaining reader.old) (48 * rows_after metadata)) }
+    ensures found { IfOk result
+        (ReadsRowsAfter metadata (Consumes (R.remaining reader.old) (R.remaining reader.new))) }
+    ensures end { IfErr result
+        (λ e. IsEndOfInput e → LacksBytes (R.remaining reader.old) (48 * rows_after metadata)) }
     ensures causes { IfErr result IsDeviceError }
 {
     let segments = read_rows(alloc, reader, metadata.num_entries)?;
@@ -541,8 +557,10 @@ pub fn read_source_rows_after<S: ShardSource>(
     source: &mut S,
     metadata: FileDataSequenceHeader,
 ) -> Result<MDBFileInfo>
-    ensures found { IfOk result (ReadsRowsAfter metadata (Takes (S.meaning source.old) (S.meaning source.new))) }
-    ensures refused { IfErr result (ReadFails (S.meaning source.old) (S.meaning source.new) (48 * rows_after metadata)) }
+    ensures found { IfOk result
+        (ReadsRowsAfter metadata (Takes (S.meaning source.old) (S.meaning source.new))) }
+    ensures refused { IfErr result
+        (ReadFails (S.meaning source.old) (S.meaning source.new) (48 * rows_after metadata)) }
 {
     let segments = read_source_rows(alloc, source, metadata.num_entries)?;
     let verification = read_source_rows(alloc, source, metadata.verification_rows())?;

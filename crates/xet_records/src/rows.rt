@@ -112,7 +112,8 @@ pub trait Row: Copy {
         ensures { result ≡ row_bytes self.now };
 
     fn from_bytes(bytes: &[u8; 48]) -> Self
-        ensures { (stored : Self) × Fits stored × (row_bytes stored ≡ bytes.now) × (handed_out stored ≡ result) };
+        ensures { (stored : Self) × Fits stored × (row_bytes stored ≡ bytes.now) ×
+            (handed_out stored ≡ result) };
 
     /// Does nothing. It says that the numbers of a row in memory fit their widths.
     fn widths(self)
@@ -137,7 +138,8 @@ pub fn write_row<T: Row, W: Write>(row: &T, writer: &mut W) -> io::Result<()>
 
 /// Appends rows in order. The error is the writer's.
 pub fn write_rows<T: Row, W: Write>(rows: &Rows<T>, writer: &mut W) -> io::Result<()>
-    ensures { OnOk result (Appends (W.contents writer.old) (W.contents writer.new) (flat_map T.row_bytes rows.now)) }
+    ensures { OnOk result
+        (Appends (W.contents writer.old) (W.contents writer.new) (flat_map T.row_bytes rows.now)) }
 {
     for row in rows.as_slice() {
         write_row(row, writer)?;
@@ -147,7 +149,8 @@ pub fn write_rows<T: Row, W: Write>(rows: &Rows<T>, writer: &mut W) -> io::Resul
 
 /// Appends the row, if there is one. The error is the writer's.
 pub fn write_optional<T: Row, W: Write>(row: &Option<T>, writer: &mut W) -> io::Result<()>
-    ensures { OnOk result (Appends (W.contents writer.old) (W.contents writer.new) (flat_map T.row_bytes (option_to_list row.now))) }
+    ensures { OnOk result
+        (Appends (W.contents writer.old) (W.contents writer.new) (flat_map T.row_bytes (option_to_list row.now))) }
 {
     if let Some(row) = row {
         write_row(row, writer)?;
@@ -157,9 +160,11 @@ pub fn write_optional<T: Row, W: Write>(row: &Option<T>, writer: &mut W) -> io::
 
 /// Reads a row. `UnexpectedEof` where fewer than 48 bytes are left.
 pub fn read_row<T: Row, R: Read>(reader: &mut R) -> io::Result<T>
-    ensures value { IfOk result (ReadsRow T.row_bytes T.Fits T.handed_out (Consumes (R.remaining reader.old) (R.remaining reader.new))) }
+    ensures value { IfOk result
+        (ReadsRow T.row_bytes T.Fits T.handed_out (Consumes (R.remaining reader.old) (R.remaining reader.new))) }
     ensures enough { OnOk result (HasBytes (R.remaining reader.old) 48) }
-    ensures end { IfErr result (λ e. error_kind e ≡ ErrorKind.UnexpectedEof → LacksBytes (R.remaining reader.old) 48) }
+    ensures end { IfErr result
+        (λ e. error_kind e ≡ ErrorKind.UnexpectedEof → LacksBytes (R.remaining reader.old) 48) }
 {
     let mut bytes = [0u8; 48];
     read_bytes(reader, &mut bytes)?;
@@ -172,7 +177,8 @@ pub fn read_rows<T: Row + Drop, R: Read>(
     reader: &mut R,
     count: u32,
 ) -> Result<Rows<T>>
-    ensures value { IfOk result (ReadsRows T.row_bytes T.Fits T.handed_out (Consumes (R.remaining reader.old) (R.remaining reader.new)) count) }
+    ensures value { IfOk result
+        (ReadsRows T.row_bytes T.Fits T.handed_out (Consumes (R.remaining reader.old) (R.remaining reader.new)) count) }
     ensures end { IfErr result (λ e. IsEndOfInput e → LacksBytes (R.remaining reader.old) (48 * count)) }
     ensures causes { IfErr result IsDeviceError }
 {
@@ -185,8 +191,10 @@ pub fn read_rows<T: Row + Drop, R: Read>(
 
 /// Reads a row if it is `wanted`.
 pub fn read_optional<T: Row, R: Read>(reader: &mut R, wanted: bool) -> io::Result<Option<T>>
-    ensures value { IfOk result (ReadsOptional T.row_bytes T.Fits T.handed_out (Consumes (R.remaining reader.old) (R.remaining reader.new)) wanted) }
-    ensures end { IfErr result (λ e. error_kind e ≡ ErrorKind.UnexpectedEof → LacksBytes (R.remaining reader.old) (if wanted then 48 else 0)) }
+    ensures value { IfOk result
+        (ReadsOptional T.row_bytes T.Fits T.handed_out (Consumes (R.remaining reader.old) (R.remaining reader.new)) wanted) }
+    ensures end { IfErr result
+        (λ e. error_kind e ≡ ErrorKind.UnexpectedEof → LacksBytes (R.remaining reader.old) (if wanted then 48 else 0)) }
 {
     if wanted {
         Ok(Some(read_row(reader)?))
@@ -197,7 +205,8 @@ pub fn read_optional<T: Row, R: Read>(reader: &mut R, wanted: bool) -> io::Resul
 
 /// Reads a row from the source's place on. `UnexpectedEof` where fewer than 48 bytes are left.
 pub fn read_source_row<T: Row, S: ShardSource>(source: &mut S) -> Result<T>
-    ensures value { IfOk result (ReadsRow T.row_bytes T.Fits T.handed_out (Takes (S.meaning source.old) (S.meaning source.new))) }
+    ensures value { IfOk result
+        (ReadsRow T.row_bytes T.Fits T.handed_out (Takes (S.meaning source.old) (S.meaning source.new))) }
     ensures refused { IfErr result (ReadFails (S.meaning source.old) (S.meaning source.new) 48) }
 {
     let mut bytes = [0u8; 48];
@@ -212,7 +221,8 @@ pub fn read_source_rows<T: Row + Drop, S: ShardSource>(
     source: &mut S,
     count: u32,
 ) -> Result<Rows<T>>
-    ensures value { IfOk result (ReadsRows T.row_bytes T.Fits T.handed_out (Takes (S.meaning source.old) (S.meaning source.new)) count) }
+    ensures value { IfOk result
+        (ReadsRows T.row_bytes T.Fits T.handed_out (Takes (S.meaning source.old) (S.meaning source.new)) count) }
     ensures refused { IfErr result (ReadFails (S.meaning source.old) (S.meaning source.new) (48 * count)) }
 {
     let mut rows = Rows::new(alloc);
@@ -227,8 +237,10 @@ pub fn read_source_optional<T: Row, S: ShardSource>(
     source: &mut S,
     wanted: bool,
 ) -> Result<Option<T>>
-    ensures value { IfOk result (ReadsOptional T.row_bytes T.Fits T.handed_out (Takes (S.meaning source.old) (S.meaning source.new)) wanted) }
-    ensures refused { IfErr result (ReadFails (S.meaning source.old) (S.meaning source.new) (if wanted then 48 else 0)) }
+    ensures value { IfOk result
+        (ReadsOptional T.row_bytes T.Fits T.handed_out (Takes (S.meaning source.old) (S.meaning source.new)) wanted) }
+    ensures refused { IfErr result
+        (ReadFails (S.meaning source.old) (S.meaning source.new) (if wanted then 48 else 0)) }
 {
     if wanted {
         Ok(Some(read_source_row(source)?))

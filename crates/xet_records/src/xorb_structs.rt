@@ -60,7 +60,8 @@ impl XorbChunkSequenceHeader {
 
     /// Appends the row and returns its 48 bytes. The error is the writer's.
     pub fn serialize<W: Write>(&self, writer: &mut W) -> io::Result<usize>
-        ensures text { OnOk result (Appends (W.contents writer.old) (W.contents writer.new) (xorb_header_row self.now)) }
+        ensures text { OnOk result
+            (Appends (W.contents writer.old) (W.contents writer.new) (xorb_header_row self.now)) }
         ensures count { IfOk result (λ n. n ≡ 48) }
     {
         write_row(self, writer)?;
@@ -69,10 +70,12 @@ impl XorbChunkSequenceHeader {
 
     /// Reads the row. `UnexpectedEof` where fewer than 48 bytes are left.
     pub fn deserialize<R: Read>(reader: &mut R) -> io::Result<Self>
-        ensures value { IfOk result (λ row. Consumes (R.remaining reader.old) (R.remaining reader.new) (xorb_header_row row)) }
+        ensures value { IfOk result
+            (λ row. Consumes (R.remaining reader.old) (R.remaining reader.new) (xorb_header_row row)) }
         ensures widths { IfOk result FitsXorbHeader }
         ensures enough { OnOk result (HasBytes (R.remaining reader.old) 48) }
-        ensures end { IfErr result (λ e. error_kind e ≡ ErrorKind.UnexpectedEof → LacksBytes (R.remaining reader.old) 48) }
+        ensures end { IfErr result
+            (λ e. error_kind e ≡ ErrorKind.UnexpectedEof → LacksBytes (R.remaining reader.old) 48) }
     {
         read_row(reader)
     }
@@ -147,7 +150,8 @@ impl XorbChunkSequenceEntry {
 
     /// Appends the row and returns its 48 bytes. The error is the writer's.
     pub fn serialize<W: Write>(&self, writer: &mut W) -> io::Result<usize>
-        ensures text { OnOk result (Appends (W.contents writer.old) (W.contents writer.new) (chunk_row self.now)) }
+        ensures text { OnOk result
+            (Appends (W.contents writer.old) (W.contents writer.new) (chunk_row self.now)) }
         ensures count { IfOk result (λ n. n ≡ 48) }
     {
         write_row(self, writer)?;
@@ -156,10 +160,12 @@ impl XorbChunkSequenceEntry {
 
     /// Reads the row. `UnexpectedEof` where fewer than 48 bytes are left.
     pub fn deserialize<R: Read>(reader: &mut R) -> io::Result<Self>
-        ensures value { IfOk result (λ row. Consumes (R.remaining reader.old) (R.remaining reader.new) (chunk_row row)) }
+        ensures value { IfOk result
+            (λ row. Consumes (R.remaining reader.old) (R.remaining reader.new) (chunk_row row)) }
         ensures widths { IfOk result FitsChunk }
         ensures enough { OnOk result (HasBytes (R.remaining reader.old) 48) }
-        ensures end { IfErr result (λ e. error_kind e ≡ ErrorKind.UnexpectedEof → LacksBytes (R.remaining reader.old) 48) }
+        ensures end { IfErr result
+            (λ e. error_kind e ≡ ErrorKind.UnexpectedEof → LacksBytes (R.remaining reader.old) 48) }
     {
         read_row(reader)
     }

@@ -67,7 +67,8 @@ impl MDBInMemoryShard {
         ensures admitted { OnOk result (CanAddFile self.old file_info) }
         ensures refused { IsErrOf result CoreError.InvalidArguments → ¬ CanAddFile self.old file_info }
         ensures invalid { ¬ CanAddFile self.old file_info → IsErrOf result CoreError.InvalidArguments }
-        ensures causes { IfErr result (λ e. (e ≡ CoreError.InvalidArguments) ⊎ (e ≡ CoreError.OutOfMemory)) }
+        ensures causes { IfErr result
+            (λ e. (e ≡ CoreError.InvalidArguments) ⊎ (e ≡ CoreError.OutOfMemory)) }
     {
         if !is_well_formed(&file_info) {
             return Err(CoreError::InvalidArguments);

@@ -71,7 +71,8 @@ impl MDBShardFileFooter {
     /// Appends the footer and returns its 200 bytes. The error is the writer's.
     #[tactic(auto, unfolding(crate::specs::Layout::footer_text))]
     pub fn serialize<W: Write>(&self, writer: &mut W) -> Result<usize>
-        ensures text { OnOk result (Appends (W.contents writer.old) (W.contents writer.new) (footer_text self.now)) }
+        ensures text { OnOk result
+            (Appends (W.contents writer.old) (W.contents writer.new) (footer_text self.now)) }
         ensures count { IfOk result (λ n. n ≡ 200) }
         ensures causes { IfErr result IsDeviceError }
     {
@@ -107,8 +108,10 @@ impl MDBShardFileFooter {
     /// `UnexpectedEof` where the bytes end before that.
     pub fn deserialize<R: Read>(alloc: Global, reader: &mut R) -> Result<Self>
         ensures version { IfOk result (λ f. f.version ≡ 1) }
-        ensures text { IfOk result (λ f. Consumes (R.remaining reader.old) (R.remaining reader.new) (footer_text f)) }
-        ensures foreign { IfErr result (λ e. IsShardVersion e → IfSome (R.remaining reader.old) HasForeignFooter) }
+        ensures text { IfOk result
+            (λ f. Consumes (R.remaining reader.old) (R.remaining reader.new) (footer_text f)) }
+        ensures foreign { IfErr result
+            (λ e. IsShardVersion e → IfSome (R.remaining reader.old) HasForeignFooter) }
         ensures end { IfErr result (λ e. IsEndOfInput e → IfSome (R.remaining reader.old) EndsInFooter) }
         ensures causes { IfErr result (λ e. IsDeviceError e ⊎ IsShardVersion e) }
     {

@@ -49,7 +49,8 @@ impl MDBShardFileHeader {
     /// the writer's.
     #[tactic(auto, unfolding(crate::specs::Layout::header_text))]
     pub fn serialize<W: Write>(&self, writer: &mut W) -> Result<usize>
-        ensures text { OnOk result (Appends (W.contents writer.old) (W.contents writer.new) (header_text self.now)) }
+        ensures text { OnOk result
+            (Appends (W.contents writer.old) (W.contents writer.new) (header_text self.now)) }
         ensures count { IfOk result (λ n. n ≡ 48) }
         ensures causes { IfErr result IsDeviceError }
     {
@@ -64,8 +65,10 @@ impl MDBShardFileHeader {
     #[tactic(auto, unfolding(crate::specs::Layout::header_text))]
     pub fn deserialize<R: Read>(alloc: Global, reader: &mut R) -> Result<Self>
         ensures tag { IfOk result (λ h. (h.tag ≡ header_tag) × (h.version ≡ 2)) }
-        ensures text { IfOk result (λ h. Consumes (R.remaining reader.old) (R.remaining reader.new) (header_text h)) }
-        ensures foreign { IfErr result (λ e. IsShardVersion e → IfSome (R.remaining reader.old) HasForeignHeader) }
+        ensures text { IfOk result
+            (λ h. Consumes (R.remaining reader.old) (R.remaining reader.new) (header_text h)) }
+        ensures foreign { IfErr result
+            (λ e. IsShardVersion e → IfSome (R.remaining reader.old) HasForeignHeader) }
         ensures end { IfErr result (λ e. IsEndOfInput e → IfSome (R.remaining reader.old) EndsInHeader) }
         ensures causes { IfErr result (λ e. IsDeviceError e ⊎ IsShardVersion e) }
     {
@@ -79,7 +82,8 @@ impl MDBShardFileHeader {
 
     // The header whose tag was read, from the 16 bytes after it.
     pub(super) fn after_tag(alloc: Global, rest: &[u8; 16]) -> Result<Self>
-        ensures ok { IfOk result (λ h. (h.tag ≡ header_tag) × (h.version ≡ 2) × (rest.now ≡ u64_bytes 2 ++ u64_bytes h.footer_size)) }
+        ensures ok { IfOk result
+            (λ h. (h.tag ≡ header_tag) × (h.version ≡ 2) × (rest.now ≡ u64_bytes 2 ++ u64_bytes h.footer_size)) }
         ensures width { IfOk result (λ h. h.footer_size < 2 ^ 64) }
         ensures err { IfErr result (λ e. IsShardVersion e × (take 8 rest.now ≢ u64_bytes 2)) }
     {

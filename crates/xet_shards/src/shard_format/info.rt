@@ -66,7 +66,8 @@ impl MDBShardInfo {
         shard: &MDBInMemoryShard,
         expiry: Option<u64>,
     ) -> Result<Self>
-        ensures text { OnOk result (Appends (W.contents writer.old) (W.contents writer.new) (layout shard.now expiry)) }
+        ensures text { OnOk result
+            (Appends (W.contents writer.old) (W.contents writer.new) (layout shard.now expiry)) }
         ensures info { IfOk result (λ info. info ≡ info_value shard.now expiry) }
         ensures widths { IfOk result (λ info. FitsFooter info.metadata) }
         ensures causes { IfErr result IsDeviceError }
@@ -157,7 +158,8 @@ fn read_ends<S: ShardSource>(alloc: Global, source: &mut S) -> Result<MDBShardIn
 fn read_header<S: ShardSource>(alloc: Global, source: &mut S) -> Result<MDBShardFileHeader>
     ensures read { IfOk result (λ h. Takes (S.meaning source.old) (S.meaning source.new) (header_text h)) }
     ensures known { IfOk result (λ h. (h.tag ≡ header_tag) × (h.version ≡ 2) × (h.footer_size < 2 ^ 64)) }
-    ensures refused { IfErr result (PartFails HasForeignHeader EndsInHeader 48 (S.meaning source.old) (S.meaning source.new)) }
+    ensures refused { IfErr result
+        (PartFails HasForeignHeader EndsInHeader 48 (S.meaning source.old) (S.meaning source.new)) }
 {
     let mut tag = [0u8; 32];
     read_full(source, &mut tag)?;
@@ -171,7 +173,8 @@ fn read_header<S: ShardSource>(alloc: Global, source: &mut S) -> Result<MDBShard
 fn read_footer<S: ShardSource>(alloc: Global, source: &mut S) -> Result<MDBShardFileFooter>
     ensures read { IfOk result (λ f. Takes (S.meaning source.old) (S.meaning source.new) (footer_text f)) }
     ensures known { IfOk result (λ f. (f.version ≡ 1) × FitsFooter f) }
-    ensures refused { IfErr result (PartFails HasForeignFooter EndsInFooter 200 (S.meaning source.old) (S.meaning source.new)) }
+    ensures refused { IfErr result
+        (PartFails HasForeignFooter EndsInFooter 200 (S.meaning source.old) (S.meaning source.new)) }
 {
     let mut version = [0u8; 8];
     read_full(source, &mut version)?;
@@ -187,8 +190,10 @@ fn read_record<S: ShardSource>(
     source: &mut S,
     rows_left: &mut u32,
 ) -> Result<Option<MDBFileInfo>>
-    ensures read { IfOk result (ReadsOne (S.meaning source.old) (S.meaning source.new) rows_left.old rows_left.new) }
-    ensures refused { IfErr result (RecordFails rows_left.old (S.meaning source.old) (S.meaning source.new)) }
+    ensures read { IfOk result
+        (ReadsOne (S.meaning source.old) (S.meaning source.new) rows_left.old rows_left.new) }
+    ensures refused { IfErr result
+        (RecordFails rows_left.old (S.meaning source.old) (S.meaning source.new)) }
 {
     let header: FileDataSequenceHeader = read_source_row(source)?;
     if header.is_bookend() {
@@ -211,7 +216,8 @@ fn write_file_section<W: Write>(
 ) -> Result<WrittenFiles>
     requires files { AreFiles files.now.entries }
     requires rows { total_rows (values files.now) ≤ 4294967295 }
-    ensures text { OnOk result (Appends (W.contents writer.old) (W.contents writer.new) (file_section (values files.now))) }
+    ensures text { OnOk result
+        (Appends (W.contents writer.old) (W.contents writer.new) (file_section (values files.now))) }
     ensures written { IfOk result (λ written. HasWritten written (values files.now)) }
     ensures causes { IfErr result IsDeviceError }
 {
@@ -226,7 +232,8 @@ fn write_file_section<W: Write>(
 // The footer of a shard with these files and no xorbs.
 fn footer_of(files: &WrittenFiles, expiry: Option<u64>) -> MDBShardFileFooter
     ensures widths { FitsFooter result }
-    ensures value { (rs : List MDBFileInfo) → All FitsRecord rs → HasWritten files.now rs → result ≡ footer_value rs [] (plain_form expiry) }
+    ensures value { (rs : List MDBFileInfo) → All FitsRecord rs → HasWritten files.now rs → result ≡ footer_value rs []
+        (plain_form expiry) }
 {
     let xorb_info_offset = 48 + 48 * files.rows + 48;
     let file_lookup_offset = xorb_info_offset + 48;

@@ -40,10 +40,13 @@ impl WrittenFiles {
     pub fn write<W: Write>(&mut self, writer: &mut W, file_info: &MDBFileInfo) -> Result<()>
         requires whole { FitsItsHeader file_info.now }
         requires rows { self.old.rows + row_count file_info.now ≤ 4294967295 }
-        ensures text { OnOk result (Appends (W.contents writer.old) (W.contents writer.new) (record_text file_info.now)) }
+        ensures text { OnOk result
+            (Appends (W.contents writer.old) (W.contents writer.new) (record_text file_info.now)) }
         ensures rows { OnOk result (self.new.rows ≡ self.old.rows + row_count file_info.now) }
-        ensures table { OnOk result (self.new.table.items ≡ self.old.table.items ++ start_row (file_info.now.metadata.file_hash.word0, self.old.rows)) }
-        ensures bytes { OnOk result (self.new.materialized_bytes ≡ self.old.materialized_bytes + size_of_file file_info.now) }
+        ensures table { OnOk result
+            (self.new.table.items ≡ self.old.table.items ++ start_row (file_info.now.metadata.file_hash.word0, self.old.rows)) }
+        ensures bytes { OnOk result
+            (self.new.materialized_bytes ≡ self.old.materialized_bytes + size_of_file file_info.now) }
         ensures causes { IfErr result IsDeviceError }
     {
         let mut row = [0u8; 12];
