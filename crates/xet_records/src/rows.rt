@@ -149,8 +149,9 @@ pub fn write_rows<T: Row, W: Write>(rows: &Rows<T>, writer: &mut W) -> io::Resul
 
 /// Appends the row, if there is one. The error is the writer's.
 pub fn write_optional<T: Row, W: Write>(row: &Option<T>, writer: &mut W) -> io::Result<()>
-    ensures { OnOk result
+    ensures text { OnOk result
         (Appends (W.contents writer.old) (W.contents writer.new) (flat_map T.row_bytes (option_to_list row.now))) }
+    ensures touched { IfErr result (λ _. IsTrue (is_some row.now)) }
 {
     if let Some(row) = row {
         write_row(row, writer)?;
@@ -195,6 +196,7 @@ pub fn read_optional<T: Row, R: Read>(reader: &mut R, wanted: bool) -> io::Resul
         (ReadsOptional T.row_bytes T.Fits T.handed_out (Consumes (R.remaining reader.old) (R.remaining reader.new)) wanted) }
     ensures end { IfErr result
         (λ e. error_kind e ≡ ErrorKind.UnexpectedEof → LacksBytes (R.remaining reader.old) (if wanted then 48 else 0)) }
+    ensures touched { IfErr result (λ _. IsTrue wanted) }
 {
     if wanted {
         Ok(Some(read_row(reader)?))
@@ -241,6 +243,7 @@ pub fn read_source_optional<T: Row, S: ShardSource>(
         (ReadsOptional T.row_bytes T.Fits T.handed_out (Takes (S.meaning source.old) (S.meaning source.new)) wanted) }
     ensures refused { IfErr result
         (ReadFails (S.meaning source.old) (S.meaning source.new) (if wanted then 48 else 0)) }
+    ensures touched { IfErr result (λ _. IsTrue wanted) }
 {
     if wanted {
         Ok(Some(read_source_row(source)?))
