@@ -1,12 +1,12 @@
 //! The rows and records of the file section.
 
-ghost use Rattle.std.specs.Prelude.{◌≡◌, ℕ, ◌+◌, ◌*◌, ◌^◌, ◌<◌, ◌≤◌, ◌↔◌, [], ◌∷◌, ◌⊎◌, length, MatchOption, IfSome, if◌then◌else◌, IsTrue, OnOk, OnErr, IfOk, IfErr};
+ghost use Rattle.std.specs.Prelude.{◌≡◌, ℕ, List, Some, ◌++◌, ◌+◌, ◌*◌, ◌^◌, ◌<◌, ◌≤◌, ◌↔◌, [], ◌∷◌, ◌⊎◌, length, MatchOption, IfSome, if◌then◌else◌, IsTrue, OnOk, OnErr, IfOk, IfErr};
 ghost use Rattle.std.specs.Io.KnownBytes.{Appends, Consumes};
 ghost use Rattle.std.specs.IoError.{error_kind};
 ghost use Rattle.xet_base.specs.Bytes.{HasBytes, LacksBytes};
 ghost use Rattle.xet_base.specs.Hash.{all_ones};
 ghost use Rattle.xet_records.specs.FileRow.{header_row, segment_row, verification_row, metadata_row, FitsHeader, FitsSegment, FitsVerification, FitsMetadata, clear_verification, clear_metadata};
-ghost use Rattle.xet_records.specs.FileRecord.{has_verification, has_metadata_ext, flags_of, file_bookend, rows_after, row_count, record_text, size_of_file, FitsItsHeader};
+ghost use Rattle.xet_records.specs.FileRecord.{has_verification, has_metadata_ext, flags_of, file_bookend, rows_after, row_count, record_text, size_of_file, FitsItsHeader, IsStored, handed_out};
 ghost use Rattle.xet_records.specs.Rows.{ReadsRow};
 ghost use Rattle.xet_records.specs.Reading.{ReadsRecord, ReadsRowsAfter, ReadsBookend, IsCutShort, HasTooManyRows};
 ghost use Rattle.xet_base.specs.Source.{Takes, ReadFails};
@@ -513,6 +513,8 @@ impl MDBFileInfo {
         ensures causes { IfErr result (λ e. IsDeviceError e ⊎ IsInvalidShard e) }
         ensures whole { OnOk result (IfSome (R.remaining reader.old) (λ bytes. ¬ IsCutShort bytes)) }
         ensures fits { OnOk result (IfSome (R.remaining reader.old) (λ bytes. ¬ HasTooManyRows bytes)) }
+        ensures again { (r : MDBFileInfo) → (rest : List ℕ) → IsStored r → R.remaining reader.old ≡ Some (record_text r ++ rest)
+            → IfOk result (λ found. (found ≡ Some (handed_out r)) × (R.remaining reader.new ≡ Some rest)) }
     {
         let metadata = FileDataSequenceHeader::deserialize(reader)?;
         if metadata.is_bookend() {

@@ -1,8 +1,9 @@
-use Rattle.std.proofs.Common.{◌≤◌, ◌≢◌, arith}
+use Rattle.std.proofs.Common.{None, ◌≤◌, ◌≢◌, arith}
 use Rattle.std.proofs.KnownBytes.{Consumes-trans}
 use Rattle.xet_base.specs.Hash.{all_ones}
 use Rattle.xet_records.specs.FileRecord.{rows_after}
 use Rattle.xet_records.proofs.Record.{after_bookend, after_record, whole_record}
+use Rattle.xet_records.proofs.Unique.{read_again}
 use Rattle.xet_records.proofs.file_structs.MDBFileInfo.deserialize.Goals as goal
 
 pub returns-then-is_bookend-clause-whole : goal.returns-then-is_bookend-clause-whole
@@ -36,3 +37,13 @@ returns-clause-fits g c =
     let read = c.in_ok-metadata.ensures in
     let few : rows_after h ≤ 4294967295 = omega (arith, c.rows_after.ensures.rows) in
     (after_record _ (g.R.Read.remaining c.deserialize.new.reader) _ h _ read.widths read.value c.in_ok-read_rows_after.ensures.found few).1
+
+pub returns-then-is_bookend-clause-again : goal.returns-then-is_bookend-clause-again
+returns-then-is_bookend-clause-again g c =
+    let read = c.in_ok-metadata.ensures in
+    λ r rest stored are.
+    read_again (g.R.Read.remaining c.args.reader.now) (g.R.Read.remaining c.deserialize.new.reader) r rest None stored are
+    (record { header = c.in_ok-metadata.metadata; widths = read.widths; is_bookend = c.is_bookend.ensures.0 c.if-is_bookend.true; taken = read.value })
+
+pub returns-clause-again : goal.returns-clause-again
+returns-clause-again g c = λ r rest stored are. read_again _ _ r rest _ stored are (returns-clause-found g c)
