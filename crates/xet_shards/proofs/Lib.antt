@@ -7,6 +7,7 @@ pub mod Maps
 pub mod Readback
 pub mod SectionReading
 pub mod SectionUnique
+pub mod Shards
 pub mod Tables
 pub mod Versions
 pub mod Walks

@@ -70,6 +70,7 @@ impl MDBShardInfo {
             (Appends (W.contents writer.old) (W.contents writer.new) (layout shard.now expiry)) }
         ensures info { IfOk result (λ info. info ≡ info_value shard.now expiry) }
         ensures widths { IfOk result (λ info. FitsFooter info.metadata) }
+        ensures shard { IfOk result (λ _. IsShard shard.now) }
         ensures causes { IfErr result IsDeviceError }
     {
         let header = MDBShardFileHeader::default();

@@ -11,6 +11,7 @@ use Rattle.xet_shards.specs.Shard.{XorbMap}
 use Rattle.xet_shards.specs.Section.{file_section}
 use Rattle.xet_shards.specs.Layout.{header_text, footer_text, footer_value, layout_of, plain_form}
 use Rattle.xet_shards.proofs.Files.{widths_of_values}
+use Rattle.xet_shards.proofs.Shards.{shard_of_files}
 use Rattle.xet_shards.proofs.Layouts.{layout_of-files}
 use Rattle.xet_shards.proofs.Maps.{values-empty}
 use Rattle.xet_shards.proofs.shard_format.info.MDBShardInfo.serialize_from.Goals as goal
@@ -43,3 +44,6 @@ returns-clause-info g c =
     let footer = c.footer_of-metadata.ensures.value rs (widths_of_values _ c.file_content.ensures.files) c.in_ok-files.ensures.written
     ∙ (λ i. footer_value (files i) (sym xorbs i) (plain_form c.args.expiry)) in
     λ i. record { header = c.default-header.ensures i; metadata = footer i }
+
+pub returns-clause-shard : goal.returns-clause-shard
+returns-clause-shard g c = shard_of_files _ c.file_content.result.now.entries c.file_content.ensures.entries c.file_content.ensures.files c.file_content.ensures.rows c.file_content.ensures.xorbs
