@@ -4,7 +4,7 @@ ghost use Rattle.std.specs.Prelude.{IfOk};
 ghost use Rattle.xet_records.specs.FileRecord.{FitsItsHeader};
 
 use crate::file_structs::*;
-use crate::rows::{Row, Rows};
+use crate::rows::*;
 use crate::xorb_structs::*;
 use std::alloc::Global;
 use std::io::{ErrorKind, Read};
@@ -72,6 +72,36 @@ fn rows_have_48_bytes_in_the_stated_order(rt: HostRuntime) -> std::result::Resul
     assert_eq!(rt; XorbChunkSequenceHeader::deserialize(&mut reader)?, xorb);
     assert_eq!(rt; XorbChunkSequenceEntry::deserialize(&mut reader)?, chunk);
     assert_eq!(rt; reader.len(), 0);
+    Ok(())
+}
+
+#[test]
+fn rows_of_any_type_are_a_list(rt: HostRuntime) -> std::result::Result<(), Fail> {
+    let alloc = rt.alloc();
+    let mut items = Vec::new(alloc);
+    items.push(FileVerificationEntry::new(small(1)))?;
+    let mut rows = Rows::from(items);
+    rows.push(FileVerificationEntry::new(small(2)))?;
+    assert_eq!(rt; rows.len(), 2);
+    assert!(rt; !rows.is_empty());
+    let last = Some(FileVerificationEntry::new(small(3)));
+    let none: Option<FileVerificationEntry> = None;
+    let mut bytes = Vec::new(alloc);
+    write_rows(&rows, &mut bytes)?;
+    write_optional(&last, &mut bytes)?;
+    write_optional(&none, &mut bytes)?;
+    assert_eq!(rt; bytes.len(), 144);
+
+    let mut reader = bytes.as_slice();
+    assert_eq!(rt; read_rows(alloc, &mut reader, 2)?, rows);
+    assert_eq!(rt; read_optional(&mut reader, true)?, last);
+    assert_eq!(rt; read_optional(&mut reader, false)?, none);
+    assert_eq!(rt; reader.len(), 0);
+    let mut source = MemorySource::new(bytes.as_slice());
+    assert_eq!(rt; read_source_rows(alloc, &mut source, 2)?, rows);
+    assert_eq!(rt; read_source_optional(&mut source, true)?, last);
+    assert_eq!(rt; read_source_optional(&mut source, false)?, none);
+    assert_eq!(rt; rows.into_vec().len(), 2);
     Ok(())
 }
 
