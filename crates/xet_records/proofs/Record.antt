@@ -100,7 +100,7 @@ whole_record First Next Both g found joins fits is_file taken read few = record 
   handed = read.handed;
 }
 
-optional_rows : {X : Type 0} (o : Option X) → length (option_to_list o) ≡ (if is_some o then 1 else 0)
+pub optional_rows : {X : Type 0} (o : Option X) → length (option_to_list o) ≡ (if is_some o then 1 else 0)
 optional_rows None = refl
 optional_rows (Some x) = refl
 

@@ -1,5 +1,5 @@
 -- Bytes begin with the text of one record at most.
-use Rattle.std.proofs.Common.{◌≡◌, ℕ, List, [], ◌∷◌, ◌++◌, length, flat_map, Bool, Option, None, Some, refl, sym, ap, ◌∙◌, subst, if◌then◌else◌}
+use Rattle.std.proofs.Common.{◌≡◌, ℕ, List, [], ◌∷◌, ◌++◌, flat_map, Bool, Option, None, Some, refl, sym, ap, ◌∙◌, subst, if◌then◌else◌}
 use Rattle.std.specs.Prelude.{MatchOption, All, IfSome, is_some, option_to_list}
 use Rattle.std.proofs.lemmas.List.{length-append, append_assoc}
 use Rattle.std.proofs.lemmas.List.Elements.{All-cons, All-nil}
@@ -17,7 +17,7 @@ use Rattle.xet_records.specs.FileRecord.{record_text, rows_text, has_verificatio
 use Rattle.xet_records.specs.Reading.{ReadsBookend, ReadsRecord}
 use Rattle.std.specs.Io.KnownBytes.{Consumes}
 use Rattle.xet_records.proofs.Lengths.{length-segment_row, length-verification_row, length-metadata_row}
-use Rattle.xet_records.proofs.Record.{header_row-front}
+use Rattle.xet_records.proofs.Record.{header_row-front, optional_rows}
 
 -- the bytes tell the row
 pub segment_row-injective : (s t : FileDataSequenceEntry) → FitsSegment s → FitsSegment t → segment_row s ≡ segment_row t → s ≡ t
@@ -63,10 +63,6 @@ optional_fits : (o : Option FileMetadataExt) → IfSome o FitsMetadata → All F
 optional_fits None fits = All-nil FitsMetadata
 optional_fits (Some m) fits = All-cons FitsMetadata m [] fits (All-nil FitsMetadata)
 
-optional_len : {X : Type 0} (o : Option X) → length (option_to_list o) ≡ (if is_some o then 1 else 0)
-optional_len None = refl
-optional_len (Some x) = refl
-
 abbrev first : {X : Type 0} → List X → Option X
 first [] = None
 first (x ∷ xs) = Some x
@@ -98,7 +94,7 @@ record_front r s x y r_stored s_stored same =
     let has_ext : is_some r.metadata_ext ≡ is_some s.metadata_ext =
     r_stored.whole.metadata_ext ∙ ap (λ (h : FileDataSequenceHeader). has_metadata_ext h.file_flags) header.0 ∙ sym s_stored.whole.metadata_ext in
     let ext = parts_front 48 metadata_row FitsMetadata length-metadata_row metadata_row-injective (option_to_list r.metadata_ext) (option_to_list s.metadata_ext) x y
-    (optional_len r.metadata_ext ∙ ap (λ (b : Bool). if b then 1 else 0) has_ext ∙ sym (optional_len s.metadata_ext))
+    (optional_rows r.metadata_ext ∙ ap (λ (b : Bool). if b then 1 else 0) has_ext ∙ sym (optional_rows s.metadata_ext))
     (optional_fits r.metadata_ext r_stored.widths.metadata_ext) (optional_fits s.metadata_ext s_stored.widths.metadata_ext) verification.1 in
     let option : r.metadata_ext ≡ s.metadata_ext = sym (first-of r.metadata_ext) ∙ ap first ext.0 ∙ first-of s.metadata_ext in
     ((λ i. record { metadata = header.0 i; segments = segments.0 i; verification = verification.0 i; metadata_ext = option i }), ext.1)
