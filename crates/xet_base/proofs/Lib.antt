@@ -6,3 +6,7 @@ pub mod Hex
 pub mod Lists
 pub mod Reading
 pub mod Worked
+pub mod Tables
+pub mod Search
+pub mod Collecting
+pub mod Bounds

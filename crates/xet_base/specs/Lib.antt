@@ -2,4 +2,6 @@ pub mod Bytes
 pub mod Errors
 pub mod Hash
 pub mod Hex
+pub mod Search
 pub mod Source
+pub mod Table

@@ -3,8 +3,11 @@
 
 pub mod count;
 pub mod error;
+pub mod interpolation_search;
 pub mod merklehash;
 pub mod row;
+#[cfg(test)]
+mod search_tests;
 pub mod serialization_utils;
 pub mod source;
 #[cfg(test)]

@@ -1,0 +1,70 @@
+-- The places of a table's rows, and how many of the first rows hold a key.
+use Rattle.std.proofs.Common.{◌≡◌, ◌≢◌, inl, inr, ◌&&◌, ◌==◌, if◌then◌else◌, nat_le, ℕ, zero, suc, ◌+◌, ◌*◌, ◌<◌, ◌≤◌, length, refl, ap, ◌∙◌, add-one, add-zero, arith}
+use Rattle.std.proofs.lemmas.Bool.{le-leb, lt-leb, eq-eqb, ne_eqb, and_from, and_left, and_right, cond-true, cond-false, cases_lt}
+use Rattle.std.proofs.Math.Nat.{add-mul, mul-le-mul_right}
+use Rattle.xet_base.specs.Table.{Table, row_place, place, key_at, HasKey, hits_below}
+
+pub row_place-zero : (start width : ℕ) → row_place start width 0 ≡ start
+unfolding row_place
+row_place-zero start width = omega arith
+
+-- n rows further
+pub row_place-add : (start width i n : ℕ) → row_place start width (i + n) ≡ row_place start width i + n * (8 + width)
+unfolding row_place
+row_place-add start width i n = omega (arith, add-mul i n (8 + width))
+
+pub row_place-next : (start width i : ℕ) → row_place start width (i + 1) ≡ row_place start width i + (8 + width)
+row_place-next start width i = omega (arith, row_place-add start width i 1)
+
+pub row_place-le : (start width i j : ℕ) → i ≤ j → row_place start width i ≤ row_place start width j
+unfolding row_place
+row_place-le start width i j le = omega (arith, mul-le-mul_right (8 + width) le)
+
+-- a row that is not the first stands at least a row's bytes past the start
+pub row_place-row : (start width i : ℕ) → 0 < i → 8 + width ≤ row_place start width i
+row_place-row start width i some = omega (arith, row_place-next start width 0, row_place-le start width 1 i (omega arith))
+
+hits_below-suc : (t : Table) (key i : ℕ) → hits_below t key (suc i) ≡ hits_below t key i + (if nat_le (place t i + 8) (length t.bytes) && (key_at t i == key) then 1 else 0)
+unfolding hits_below
+hits_below-suc t key i = refl
+
+-- a row with the key counts
+pub hits_below-hit : (t : Table) (key i : ℕ) → HasKey t i → key_at t i ≡ key → hits_below t key (i + 1) ≡ hits_below t key i + 1
+hits_below-hit t key i there same =
+    ap (hits_below t key) (add-one i) ∙ hits_below-suc t key i
+    ∙ ap (λ n. hits_below t key i + n) (cond-true _ 1 0 (and_from _ _ (le-leb _ _ there) (eq-eqb _ _ same)))
+
+-- a row with another key does not
+pub hits_below-miss : (t : Table) (key i : ℕ) → key_at t i ≢ key → hits_below t key (i + 1) ≡ hits_below t key i
+hits_below-miss t key i other =
+    ap (hits_below t key) (add-one i) ∙ hits_below-suc t key i
+    ∙ ap (λ n. hits_below t key i + n) (cond-false _ 1 0 (and_right _ _ (ne_eqb _ _ other))) ∙ omega arith
+
+-- nor does one that is not there
+pub hits_below-absent : (t : Table) (key i : ℕ) → length t.bytes < place t i + 8 → hits_below t key (i + 1) ≡ hits_below t key i
+hits_below-absent t key i absent =
+    ap (hits_below t key) (add-one i) ∙ hits_below-suc t key i
+    ∙ ap (λ n. hits_below t key i + n) (cond-false _ 1 0 (and_left _ _ (lt-leb _ _ absent))) ∙ omega arith
+
+-- the next row either counts or does not
+pub hits_below-more : (t : Table) (key i : ℕ) → hits_below t key i ≤ hits_below t key (i + 1)
+hits_below-more t key i = omega (arith, ap (hits_below t key) (add-one i), hits_below-suc t key i)
+
+pub hits_below-le : (t : Table) (key i n : ℕ) → hits_below t key i ≤ hits_below t key (i + n)
+hits_below-le t key i zero = omega (arith, ap (hits_below t key) (add-zero i))
+hits_below-le t key i (suc n) =
+    omega (arith, hits_below-le t key i n, hits_below-more t key (i + n), ap (hits_below t key) (next_of i n))
+  where
+    next_of : (i n : ℕ) → i + suc n ≡ i + n + 1
+    next_of i n = omega arith
+
+-- rows without the key count none
+pub hits_below-none : (t : Table) (key i n : ℕ) → ((j : ℕ) → i ≤ j → j < i + n → HasKey t j → key_at t j ≢ key) → hits_below t key (i + n) ≡ hits_below t key i
+hits_below-none t key i zero none = ap (hits_below t key) (add-zero i)
+hits_below-none t key i (suc n) none =
+    let before : hits_below t key (i + n) ≡ hits_below t key i = hits_below-none t key i n (λ j from to there. none j from (omega (arith, to)) there) in
+    let next : hits_below t key (i + n + 1) ≡ hits_below t key (i + n) = elim (cases_lt (length t.bytes) (place t (i + n) + 8)) [
+      | inl absent ↦ hits_below-absent t key (i + n) absent
+      | inr there ↦ hits_below-miss t key (i + n) (none (i + n) (omega arith) (omega arith) there)
+    ] in
+    ap (hits_below t key) (omega arith) ∙ next ∙ before

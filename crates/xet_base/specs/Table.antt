@@ -1,0 +1,132 @@
+-- A table of rows in the bytes of a source, each an eight byte key and a value of one width: the rows that hold
+-- a key, what a search may answer, and what it may cost.
+use Rattle.std.specs.Prelude.{◌≡◌, ◌≢◌, ◌⊎◌, ◌&&◌, ◌==◌, ℕ, zero, suc, ◌+◌, ◌*◌, ◌/◌, ◌^◌, ◌<◌, ◌≤◌, ◌++◌, List, length, take, drop, map, All, AllPairs, nat_le, string_bytes, [], Some, Ok, Err, if◌then◌else◌}
+use Rattle.std.specs.declared.result.Result.{Result}
+use Rattle.std.specs.Int.{from_le_bytes, w64}
+use Rattle.std.specs.IoError.{error_kind}
+use Rattle.std.specs.declared.io.Error.{Error}
+use Rattle.std.specs.declared.io.ErrorKind.TheVariants.{UnexpectedEof}
+use Rattle.xet_base.specs.declared.error.CoreError.{CoreError}
+use Rattle.xet_base.specs.declared.error.CoreError.TheVariants.{InvalidShard}
+use Rattle.xet_base.specs.Errors.{IsEndOfInput}
+use Rattle.xet_base.specs.Source.{Source, advanced, next_bytes, FillsNot, DeviceFailure}
+
+-- the bytes of the source, the place of the first row, the number of rows and the bytes of a value
+pub record Table : Type 0 where
+  pub bytes : List ℕ
+  pub start : ℕ
+  pub rows : ℕ
+  pub width : ℕ
+
+abbrev pub table_at : Source → ℕ → ℕ → ℕ → Table
+table_at source start rows width = record { bytes = source.bytes; start = start; rows = rows; width = width }
+
+-- the place of row i, counted from 0
+unfoldable pub row_place : ℕ → ℕ → ℕ → ℕ
+row_place start width i = start + i * (8 + width)
+
+abbrev pub place : Table → ℕ → ℕ
+place t i = row_place t.start t.width i
+
+-- the number that eight bytes spell, lowest byte first
+unfoldable pub spelled_u64 : List ℕ → ℕ
+spelled_u64 bytes = from_le_bytes w64 bytes
+
+-- the key of row i, where its bytes are there
+unfoldable pub key_at : Table → ℕ → ℕ
+key_at t i = spelled_u64 (take 8 (drop (place t i) t.bytes))
+
+abbrev pub HasKey : Table → ℕ → Type 0
+HasKey t i = place t i + 8 ≤ length t.bytes
+
+-- the bytes of row i's value
+abbrev pub value_at : Table → ℕ → List ℕ
+value_at t i = take t.width (drop (place t i + 8) t.bytes)
+
+-- keys do not descend, as far as the bytes go
+abbrev pub IsSorted : Table → Type 0
+IsSorted t = (i j : ℕ) → i < j → j < t.rows → HasKey t j → key_at t i ≤ key_at t j
+
+-- how many of the first n rows hold the key
+unfoldable pub hits_below : Table → ℕ → ℕ → ℕ
+hits_below t key zero = 0
+hits_below t key (suc n) = hits_below t key n + (if nat_le (place t n + 8) (length t.bytes) && (key_at t n == key) then 1 else 0)
+
+abbrev pub hits : Table → ℕ → ℕ
+hits t key = hits_below t key t.rows
+
+-- a row, and a value that was read from it
+pub record Hit (V : Type 0) : Type 0 where
+  pub row : ℕ
+  pub value : V
+
+-- the row is there, has the key, and its bytes give the value
+pub record IsHit {V : Type 0} (t : Table) (key : ℕ) (Gives : List ℕ → V → Type 0) (hit : Hit V) : Type 0 where
+  pub within : hit.row < t.rows
+  pub there : place t (hit.row + 1) ≤ length t.bytes
+  pub same_key : key_at t hit.row ≡ key
+  pub gives : Gives (value_at t hit.row) hit.value
+
+abbrev pub OtherRow : {V : Type 0} → Hit V → Hit V → Type 0
+OtherRow g h = g.row ≢ h.row
+
+-- the first `count` results are the values of so many different rows with the key, the others are as before
+pub record Finds {V : Type 0} (t : Table) (key : ℕ) (Gives : List ℕ → V → Type 0) (old new : List V) (count : ℕ) : Type 0 where
+  pub found : List (Hit V)
+  pub number : length found ≡ count
+  pub each : All (IsHit t key Gives) found
+  pub distinct : AllPairs OtherRow found
+  pub written : new ≡ map (λ hit. hit.value) found ++ drop count old
+
+-- places and row numbers of the table fit 64 bits
+pub record FitsTable (t : Table) : Type 0 where
+  pub countable : t.rows + 1 < 2 ^ 64
+  pub placed : place t t.rows < 2 ^ 64
+
+abbrev pub IsPastTable : Table → Type 0
+IsPastTable t = (2 ^ 64 ≤ t.rows + 1) ⊎ (2 ^ 64 ≤ place t t.rows)
+
+-- the device neither failed nor changed
+pub record Serves (old new : Source) : Type 0 where
+  pub bytes : new.bytes ≡ old.bytes
+  pub failures : new.failures ≡ old.failures
+  pub last_failure : new.last_failure ≡ old.last_failure
+
+-- why rows were not read: the device failed, and the error is its own; or the bytes end before the table does
+abbrev pub TableFailure : Table → Source → Source → Error → Type 0
+TableFailure t old new e =
+    ((new.failures ≡ old.failures + 1) × (new.last_failure ≡ Some e))
+    ⊎ ((new.failures ≡ old.failures) × (error_kind e ≡ UnexpectedEof) × (length old.bytes < place t t.rows))
+
+-- an error without a text that says that the bytes are no shard
+abbrev pub IsBareInvalidShard : CoreError → Type 0
+IsBareInvalidShard (InvalidShard text) = string_bytes text ≡ []
+IsBareInvalidShard _ = ⊥
+
+-- a search was refused: the numbers pass 64 bits, which is found before the first seek; the device failed; or
+-- the bytes end before the table does
+abbrev pub SearchRefused : Table → Source → Source → CoreError → Type 0
+SearchRefused t old new e =
+    (IsBareInvalidShard e × IsPastTable t × (new ≡ old))
+    ⊎ (FitsTable t × (DeviceFailure old new e ⊎ ((new.failures ≡ old.failures) × IsEndOfInput e × (length old.bytes < place t t.rows))))
+
+-- the seeks made and the bytes read are within the bounds for a sorted table
+pub record Bounded (t : Table) (key : ℕ) (old new : Source) : Type 0 where
+  pub made : ℕ
+  pub seeks : new.seeks ≡ old.seeks + made
+  pub few : made ≤ (t.rows + 1) / 128 + hits t key / 4 + 8
+  pub read : new.read ≤ old.read + (257 + hits t key + made) * (8 + t.width)
+
+-- n bytes were read
+pub record ReadsOn (old new : Source) (n : ℕ) : Type 0 where
+  pub within : 0 < n → old.at + n ≤ length old.bytes
+  pub after : new ≡ advanced old n
+
+-- a call acts on the source as filling a slice of `width` bytes does
+abbrev pub ActsAsReadFull : {V : Type 0} → ℕ → Source → Result V Error → Source → Type 0
+ActsAsReadFull width old (Ok v) new = ReadsOn old new width
+ActsAsReadFull width old (Err e) new = FillsNot old new width e
+
+-- some call, at a source whose next bytes are these, answers the value
+abbrev pub Answers : {R V : Type 0} → (R → Source) → (R → Result V Error → R → Type 0) → ℕ → List ℕ → V → Type 0
+Answers {R} meaning post width bytes v = (s : R) × (t : R) × post s (Ok v) t × (next_bytes (meaning s) width ≡ bytes)

@@ -1,0 +1,44 @@
+//! Where a table stands in a source.
+
+ghost use Rattle.std.specs.Prelude.{◌≡◌, ◌⊎◌, ◌+◌, ◌^◌, ◌<◌, ◌≤◌, IfSome, IfNone};
+ghost use Rattle.xet_base.specs.Table.{row_place};
+
+/// The rows of a table: a key of eight bytes and a value of `width` bytes each, from `start` on.
+/// Their places and numbers fit 64 bits.
+#[derive(Clone, Copy)]
+pub struct TableRange {
+    pub start: u64,
+    pub rows: u64,
+    pub width: u64,
+    pub ghost countable: { rows + 1 < 2 ^ 64 },
+    pub ghost placed: { row_place start width rows < 2 ^ 64 },
+}
+
+impl TableRange {
+    /// The range of these numbers, or `None` where `rows + 1` or the table's end is past 64 bits.
+    #[tactic(auto, unfolding(crate::specs::Table::row_place))]
+    pub fn new(start: u64, rows: u64, width: u64) -> Option<TableRange>
+        ensures some { IfSome result (λ r. (r.start ≡ start) × (r.rows ≡ rows) × (r.width ≡ width)) }
+        ensures none { IfNone result ((2 ^ 64 ≤ rows + 1) ⊎ (2 ^ 64 ≤ row_place start width rows)) }
+    {
+        if rows == u64::MAX {
+            return None;
+        }
+        if rows > 0 {
+            width.checked_add(8)?.checked_mul(rows)?.checked_add(start)?;
+        }
+        Some(TableRange { start, rows, width })
+    }
+
+    /// The place of a row, counted from 0, or the table's end.
+    #[tactic(auto, unfolding(crate::specs::Table::row_place))]
+    pub fn place(&self, row: u64) -> u64
+        requires { row ≤ self.now.rows }
+        ensures { result ≡ row_place self.now.start self.now.width row }
+    {
+        if row == 0 {
+            return self.start;
+        }
+        self.start + row * (8 + self.width)
+    }
+}
