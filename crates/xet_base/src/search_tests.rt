@@ -1,6 +1,6 @@
 //! Searches at worked tables, with the seeks and bytes that they cost, and on sources that end or fail.
 
-ghost use Rattle.std.specs.Prelude.{◌≡◌, ◌×◌, MatchResult};
+ghost use Rattle.std.specs.Prelude.{MatchResult};
 ghost use Rattle.xet_base.specs.Source.{FillsNot};
 ghost use Rattle.xet_base.specs.Table.{ReadsOn};
 
@@ -256,7 +256,7 @@ fn a_table_that_ends_early_is_refused(rt: HostRuntime) -> Result<(), Fail> {
     let alloc = rt.alloc();
     let mut bytes = Vec::new(alloc);
     push_rows(&mut bytes, 1, 3, 0)?;
-    for length in 0..36 {
+    for length in 0..bytes.len() {
         let mut source = MemorySource::new(&bytes.as_slice()[..length]);
         let refused = search_u32s(alloc, &mut source, 0, 3, 1, &mut [0; 8]);
         assert!(rt;

@@ -13,3 +13,4 @@ pub mod Versions
 pub mod Walks
 pub mod Worked
 pub mod Written
+pub mod Lookups

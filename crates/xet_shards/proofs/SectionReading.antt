@@ -39,6 +39,9 @@ pub no_header : (left : ℕ) (old new : Source) (e : CoreError) → ReadFails ol
 no_header left old new e fails = record {
   bytes = fails.bytes;
   seeks = fails.seeks;
+  taken = 48;
+  read = fails.read;
+  may_take = inl (omega arith);
   cause = refused_as (PassesLimit left) (EndsEarly left) (bytes_left old) old old new 48 e refl (λ short. inl (lacks_left old 48 (omega arith) short)) fails.cause;
 }
 
@@ -48,6 +51,9 @@ pub too_many : (left : ℕ) (old mid : Source) (h : FileDataSequenceHeader) (e :
 too_many left old mid h e fits is_file taken past is = record {
   bytes = ap (λ (s : Source). s.bytes) taken.after;
   seeks = ap (λ (s : Source). s.seeks) taken.after;
+  taken = 48;
+  read = omega (arith, ap (λ (s : Source). s.read) taken.after, length-header_row h);
+  may_take = inl (omega arith);
   cause = inr (inr (inl (ap (λ (s : Source). s.failures) taken.after, is, (h, bytes_left mid, begins_with old mid h fits is_file taken, past))));
 }
 
@@ -62,13 +68,16 @@ no_rows left old mid new h e fits is_file taken within fails =
     record {
       bytes = fails.bytes ∙ bytes;
       seeks = fails.seeks ∙ ap (λ (s : Source). s.seeks) taken.after;
+      taken = 48 * (1 + rows_after h);
+      read = omega (arith, fails.read, ap (λ (s : Source). s.read) taken.after, length-header_row h);
+      may_take = inr (h, bytes_left mid, begins_with old mid h fits is_file taken, omega arith);
       cause = refused_as (PassesLimit left) (EndsEarly left) (bytes_left old) old mid new (48 * rows_after h) e (ap (λ (s : Source). s.failures) taken.after)
           (λ short. inr (h, bytes_left mid, begins_with old mid h fits is_file taken, within, lacks_left mid (48 * rows_after h) (omega (arith, short, inside)) short)) fails.cause;
     }
 
 -- a record was read
 pub next_record : (left after : ℕ) (old mid new : Source) (h : FileDataSequenceHeader) (found : MDBFileInfo) → FitsHeader h → h.file_hash ≢ all_ones
-    → Takes old mid (header_row h) → 1 + rows_after h ≤ left → left ≤ 4294967295 → after + (1 + rows_after h) ≡ left → ReadsRowsAfter h (Takes mid new) found → ReadsNext old new left after found
+    → Takes old mid (header_row h) → 1 + rows_after h ≤ left → left ≤ 4294967296 → after + (1 + rows_after h) ≡ left → ReadsRowsAfter h (Takes mid new) found → ReadsNext old new left after found
 next_record left after old mid new h found fits is_file taken within few rows read =
     let same : h ≡ found.metadata = sym read.same_header ∙ ap (λ (r : MDBFileInfo). r.metadata) read.handed in
     record {

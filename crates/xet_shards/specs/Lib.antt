@@ -1,6 +1,7 @@
 pub mod Ends
 pub mod FileTable
 pub mod Layout
+pub mod Lookup
 pub mod Section
 pub mod SectionReading
 pub mod Shard

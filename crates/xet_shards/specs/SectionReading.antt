@@ -98,8 +98,16 @@ pub record ReadsNext (old new : Source) (left after : ℕ) (found : MDBFileInfo)
 abbrev pub ReadsOne : Source → Source → ℕ → ℕ → Option MDBFileInfo → Type 0
 ReadsOne old new left after found = MatchOption found (ReadsBookend (Takes old new)) (ReadsNext old new left after)
 
+-- reading the record at the front of the bytes may take so many: a header, or a header and the rows that it announces
+abbrev pub MayTake : List ℕ → ℕ → Type 0
+MayTake bytes n =
+    (n ≤ 48) ⊎ ((header : FileDataSequenceHeader) × (rest : List ℕ) × BeginsWithHeader bytes header rest × (n ≤ 48 * (1 + rows_after header)))
+
 -- neither was read; the place is open
 pub record RecordFails (left : ℕ) (old new : Source) (e : CoreError) : Type 0 where
   pub bytes : new.bytes ≡ old.bytes
   pub seeks : new.seeks ≡ old.seeks
+  pub taken : ℕ
+  pub read : new.read ≤ old.read + taken
+  pub may_take : MayTake (bytes_left old) taken
   pub cause : SectionFailure (PassesLimit left) (EndsEarly left) (bytes_left old) old new e

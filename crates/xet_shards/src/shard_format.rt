@@ -1,5 +1,6 @@
 //! Shards as bytes: header, footer, writing and reading.
 
+mod file_lookup;
 mod footer;
 mod header;
 mod info;

@@ -131,7 +131,7 @@ fn read_section<S: ShardSource>(
 {
     source.seek_to(offset)?;
     let mut files = Vec::new(alloc);
-    let mut rows_left = u32::MAX;
+    let mut rows_left = u64::from(u32::MAX);
     while let Some(file_info) = read_record(alloc, source, &mut rows_left)? {
         files.push(file_info)?;
     }
@@ -186,11 +186,12 @@ fn read_footer<S: ShardSource>(alloc: Global, source: &mut S) -> Result<MDBShard
 }
 
 // Reads the next record of a section, or `None` at its bookend, and counts its rows down.
-fn read_record<S: ShardSource>(
+pub(super) fn read_record<S: ShardSource>(
     alloc: Global,
     source: &mut S,
-    rows_left: &mut u32,
+    rows_left: &mut u64,
 ) -> Result<Option<MDBFileInfo>>
+    requires { rows_left.old ≤ 4294967296 }
     ensures read { IfOk result
         (ReadsOne (S.meaning source.old) (S.meaning source.new) rows_left.old rows_left.new) }
     ensures refused { IfErr result
@@ -201,10 +202,10 @@ fn read_record<S: ShardSource>(
         return Ok(None);
     }
     let rows = 1 + header.rows_after();
-    if rows > u64::from(*rows_left) {
+    if rows > *rows_left {
         return Err(CoreError::InvalidShard(String::new(alloc)));
     }
-    *rows_left -= rows as u32;
+    *rows_left -= rows;
     Ok(Some(read_source_rows_after(alloc, source, header)?))
 }
 

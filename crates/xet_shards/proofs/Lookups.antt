@@ -1,0 +1,203 @@
+-- Reading the records that a lookup leads to.
+use Rattle.std.proofs.Common.{◌≡◌, ◌≢◌, ◌&&◌, ◌==◌, true, ◌⊎◌, inl, inr, ℕ, ◌+◌, ◌*◌, ◌^◌, ◌<◌, ◌≤◌, List, [], ◌∷◌, ◌++◌, length, map, take, drop, Option, refl, sym, ap, ◌∙◌, subst, arith}
+use Rattle.std.specs.Prelude.{All, IfOk, sum}
+use Rattle.std.specs.declared.result.Result.{Result}
+use Rattle.std.proofs.lemmas.Result.{IfOk-weaker}
+use Rattle.std.specs.List.{AllZip}
+use Rattle.std.proofs.lemmas.List.{length-append, length-map, append_assoc}
+use Rattle.xet_base.specs.Table.{Table, Serves, IsSorted, Bounded, Hit, IsHit, Finds, value_at}
+use Rattle.std.proofs.lemmas.List.Elements.{AllZip-push, All-nil, All-push, All-weaker}
+use Rattle.std.proofs.Math.Seq.{take-append_seam}
+use Rattle.std.proofs.lemmas.List.Sums.{sum_by-append}
+use Rattle.std.proofs.lemmas.Bool.{and_from, eq-eqb}
+use Rattle.xet_base.specs.declared.error.CoreError.{CoreError}
+use Rattle.xet_base.specs.declared.merklehash.DataHash.{DataHash}
+use Rattle.xet_shards.specs.Shard.{file_hash_of}
+use Rattle.xet_base.specs.Source.{Source, Takes, moved, bytes_left}
+use Rattle.xet_base.proofs.Reading.{Takes-consumes}
+use Rattle.xet_records.specs.declared.file_structs.FileDataSequenceHeader.{FileDataSequenceHeader}
+use Rattle.xet_records.specs.declared.file_structs.MDBFileInfo.{MDBFileInfo}
+use Rattle.xet_records.specs.FileRow.{header_row}
+use Rattle.xet_records.specs.FileRecord.{record_text, rows_text, rows_after, IsStored}
+use Rattle.xet_records.specs.Reading.{ReadsBookend, ReadsRecord, BeginsWithHeader}
+use Rattle.xet_records.proofs.Lengths.{length-header_row, length-record_text}
+use Rattle.xet_records.proofs.Record.{row_count-whole}
+use Rattle.xet_shards.specs.SectionReading.{MayTake, BeginsWithBookend, PassesLimit, EndsEarly, SectionFailure, ReadsNext, RecordFails}
+use Rattle.xet_shards.specs.Lookup.{IsNumber, Collides, IndexFinds, VisitsSome, LooksUp, LookupAnswer, LookupRefused, Finding, FindingNot, row_at, StandsAt, RecordAt, IsBareInternalError, InfoRefusal, ReadsInfo, ReadsInfoNot, Visits, Missed}
+
+-- the bytes of a stored record begin with its header
+pub stored_begins : (bytes : List ℕ) (r : MDBFileInfo) (rest : List ℕ) → IsStored r → bytes ≡ record_text r ++ rest → BeginsWithHeader bytes r.metadata (rows_text r ++ rest)
+unfolding record_text
+stored_begins bytes r rest stored are = record {
+  widths = stored.widths.metadata;
+  is_file = stored.is_file;
+  bytes_are = are ∙ append_assoc (header_row r.metadata) (rows_text r) rest;
+}
+
+pub length-stored : (r : MDBFileInfo) → IsStored r → length (record_text r) ≡ 48 * (1 + rows_after r.metadata)
+length-stored r stored = length-record_text r stored.widths ∙ ap (λ n. 48 * n) (row_count-whole r stored.whole)
+
+-- after a seek to a row
+module _ (offset row : ℕ) (old mid new : Source) (fits : row_at offset row < 2 ^ 64) (sought : mid ≡ moved old (row_at offset row)) where
+  left_is : bytes_left mid ≡ drop (row_at offset row) old.bytes
+  left_is = ap (λ (s : Source). bytes_left s) sought
+
+  pub info_read : (left after : ℕ) (found : MDBFileInfo) → ReadsNext mid new left after found → ReadsInfo offset row old new found
+  info_read left after found next =
+      let read = next.reads in
+      let are : drop (row_at offset row) old.bytes ≡ record_text read.stored ++ bytes_left new = sym left_is ∙ Takes-consumes mid new (record_text read.stored) read.taken in
+      record {
+        within = fits;
+        stands = record { stored = read.stored; is_stored = read.is_stored; rows = read.rows; taken = (bytes_left new, are); handed = read.handed };
+        bytes = ap (λ (s : Source). s.bytes) read.taken.after ∙ ap (λ (s : Source). s.bytes) sought;
+        failures = ap (λ (s : Source). s.failures) read.taken.after ∙ ap (λ (s : Source). s.failures) sought;
+        seeks = ap (λ (s : Source). s.seeks) read.taken.after ∙ ap (λ (s : Source). s.seeks) sought;
+        taken = length (record_text read.stored);
+        read = ap (λ (s : Source). s.read) read.taken.after ∙ ap (λ (s : Source). s.read + length (record_text read.stored)) sought;
+        may_take = inr (read.stored.metadata, rows_text read.stored ++ bytes_left new, stored_begins _ read.stored (bytes_left new) read.is_stored are,
+            omega (arith, length-stored read.stored read.is_stored));
+      }
+
+  pub info_bookend : (e : CoreError) → IsBareInternalError e → ReadsBookend (Takes mid new) → ReadsInfoNot offset row old new e
+  info_bookend e bare read = record {
+    bytes = ap (λ (s : Source). s.bytes) read.taken.after ∙ ap (λ (s : Source). s.bytes) sought;
+    seeks = omega (arith, ap (λ (s : Source). s.seeks) read.taken.after, ap (λ (s : Source). s.seeks) sought);
+    taken = 48;
+    read = omega (arith, ap (λ (s : Source). s.read) read.taken.after, ap (λ (s : Source). s.read) sought, length-header_row read.header);
+    may_take = inl (omega arith);
+    cause = inr (inl (ap (λ (s : Source). s.failures) read.taken.after ∙ ap (λ (s : Source). s.failures) sought, bare, record {
+      header = read.header;
+      rest = bytes_left new;
+      widths = read.widths;
+      is_bookend = read.is_bookend;
+      bytes_are = sym left_is ∙ Takes-consumes mid new (header_row read.header) read.taken;
+    }));
+  }
+
+  pub info_fails : (e : CoreError) → RecordFails 4294967296 mid new e → ReadsInfoNot offset row old new e
+  info_fails e fails = record {
+    bytes = fails.bytes ∙ ap (λ (s : Source). s.bytes) sought;
+    seeks = omega (arith, fails.seeks, ap (λ (s : Source). s.seeks) sought);
+    taken = fails.taken;
+    read = omega (arith, fails.read, ap (λ (s : Source). s.read) sought);
+    may_take = subst (λ bytes. MayTake bytes fails.taken) left_is fails.may_take;
+    cause = inr (inr (failure_after (PassesLimit 4294967296) (EndsEarly 4294967296) (drop (row_at offset row) old.bytes) (ap (λ (s : Source). s.failures) sought) (subst (λ bytes. SectionFailure (PassesLimit 4294967296) (EndsEarly 4294967296) bytes mid new e) left_is fails.cause)));
+  }
+    where
+      failure_after : (Passes Ends : List ℕ → Type 0) (bytes : List ℕ) → mid.failures ≡ old.failures → SectionFailure Passes Ends bytes mid new e → SectionFailure Passes Ends bytes old new e
+      failure_after Passes Ends bytes same (inl failed) = inl (failed.0 ∙ ap (λ k. k + 1) same, failed.1, failed.2, failed.3)
+      failure_after Passes Ends bytes same (inr (inl (none, no_memory))) = inr (inl (none ∙ same, no_memory))
+      failure_after Passes Ends bytes same (inr (inr (inl (none, is, passes)))) = inr (inr (inl (none ∙ same, is, passes)))
+      failure_after Passes Ends bytes same (inr (inr (inr (none, is, ends)))) = inr (inr (inr (none ∙ same, is, ends)))
+
+-- one record more
+pub visits_more : (offset row n : ℕ) (rows : List ℕ) (old now new : Source) → Visits offset rows old now → new.bytes ≡ now.bytes → new.seeks ≤ now.seeks + 1
+    → new.read ≤ now.read + n → MayTake (drop (row_at offset row) now.bytes) n → Visits offset (rows ++ row ∷ []) old new
+visits_more offset row n rows old now new before bytes seeks read may_take = record {
+  bytes = bytes ∙ before.bytes;
+  seeks = omega (arith, seeks, before.seeks, length-append rows (row ∷ []));
+  taken = before.taken ++ n ∷ [];
+  may_take = AllZip-push (λ r k. MayTake (drop (row_at offset r) old.bytes) k) rows before.taken row n before.may_take
+      (subst (λ bs. MayTake (drop (row_at offset row) bs) n) before.bytes may_take);
+  read = omega (arith, read, before.read, sum_by-append (λ k. k) before.taken (n ∷ []));
+}
+
+pub visits_read : (offset row : ℕ) (rows : List ℕ) (old now new : Source) (found : MDBFileInfo) → Visits offset rows old now → ReadsInfo offset row now new found
+    → Visits offset (rows ++ row ∷ []) old new
+visits_read offset row rows old now new found before read =
+    visits_more offset row read.taken rows old now new before read.bytes (omega (arith, read.seeks)) (omega (arith, read.read)) read.may_take
+
+pub visits_read_not : (offset row : ℕ) (rows : List ℕ) (old now new : Source) (e : CoreError) → Visits offset rows old now → ReadsInfoNot offset row now new e
+    → Visits offset (rows ++ row ∷ []) old new
+visits_read_not offset row rows old now new e before read =
+    visits_more offset row read.taken rows old now new before read.bytes read.seeks read.read read.may_take
+
+-- before the first record
+pub missed_none : (offset : ℕ) (hash : DataHash) (s : Source) → Missed offset hash [] s s
+missed_none offset hash s = record {
+  visits = record { bytes = refl; seeks = omega arith; taken = []; may_take = tt; read = omega arith };
+  failures = refl;
+  others = All-nil (λ row. (found : MDBFileInfo) × RecordAt s.bytes (row_at offset row) found × (file_hash_of found ≢ hash));
+}
+
+-- one record more
+pub missed_more : (offset row : ℕ) (hash : DataHash) (rows : List ℕ) (old now new : Source) (found : MDBFileInfo) → Missed offset hash rows old now
+    → ReadsInfo offset row now new found → file_hash_of found ≢ hash → Missed offset hash (rows ++ row ∷ []) old new
+missed_more offset row hash rows old now new found before read other = record {
+  visits = visits_read offset row rows old now new found before.visits read;
+  failures = read.failures ∙ before.failures;
+  others = All-push (λ r. (info : MDBFileInfo) × RecordAt old.bytes (row_at offset r) info × (file_hash_of info ≢ hash)) rows row before.others
+      (found, subst (λ bytes. RecordAt bytes (row_at offset row) found) before.visits.bytes read.stands, other);
+}
+
+-- a refusal after reads that did not fail is one over all
+pub refusal_after : (offset row : ℕ) (old now new : Source) (e : CoreError) → now.bytes ≡ old.bytes → now.failures ≡ old.failures → InfoRefusal offset row now new e
+    → InfoRefusal offset row old new e
+refusal_after offset row old now new e bytes same (inl (none, bare, past)) = inl (none ∙ same, bare, past)
+refusal_after offset row old now new e bytes same (inr (inl (none, bare, bookend))) =
+    inr (inl (none ∙ same, bare, subst (λ bs. BeginsWithBookend (drop (row_at offset row) bs)) bytes bookend))
+refusal_after offset row old now new e bytes same (inr (inr (inl failed))) = inr (inr (inl (failed.0 ∙ ap (λ k. k + 1) same, failed.1, failed.2, failed.3)))
+refusal_after offset row old now new e bytes same (inr (inr (inr (inl (none, no_memory))))) = inr (inr (inr (inl (none ∙ same, no_memory))))
+refusal_after offset row old now new e bytes same (inr (inr (inr (inr (inl (none, is, passes)))))) =
+    inr (inr (inr (inr (inl (none ∙ same, is, subst (λ bs. PassesLimit 4294967296 (drop (row_at offset row) bs)) bytes passes)))))
+refusal_after offset row old now new e bytes same (inr (inr (inr (inr (inr (none, is, ends)))))) =
+    inr (inr (inr (inr (inr (none ∙ same, is, subst (λ bs. EndsEarly 4294967296 (drop (row_at offset row) bs)) bytes ends)))))
+
+-- places for eight results that are all taken are eight hits
+pub collides : (t : Table) (key count : ℕ) (old new : List ℕ) → Finds t key IsNumber old new count → length old ≡ 8 → length new ≡ 8 → 8 ≤ count → Collides t key
+collides t key count old new finds old_len new_len full = record {
+  found = finds.found;
+  eight = omega (arith, finds.number, full, old_len, new_len, ap length finds.written, length-append (map (λ (h : Hit ℕ). h.value) finds.found) (drop count old),
+      length-map finds.found (λ (h : Hit ℕ). h.value));
+  each = finds.each;
+  distinct = finds.distinct;
+}
+
+-- what some readings gave, others give too
+pub finds_weaker : {V E : Type 0} (t : Table) (key : ℕ) (Gives Others : List ℕ → V → Type 0) (old new : List V) (r : Result ℕ E) → ((bytes : List ℕ) (v : V) → Gives bytes v → Others bytes v)
+    → IfOk r (Finds t key Gives old new) → IfOk r (Finds t key Others old new)
+finds_weaker t key Gives Others old new r weaker = IfOk-weaker r (Finds t key Gives old new) (Finds t key Others old new) (λ n finds. record {
+  found = finds.found;
+  number = finds.number;
+  each = All-weaker (IsHit t key Gives) (IsHit t key Others) (λ h hit. record {
+    within = hit.within; there = hit.there; same_key = hit.same_key; gives = weaker (value_at t h.row) h.value hit.gives }) finds.found finds.each;
+  distinct = finds.distinct;
+  written = finds.written;
+})
+
+-- equal hashes have equal words
+pub same_words : (a b : DataHash) → a ≡ b → ((a.word0 == b.word0) && ((a.word1 == b.word1) && ((a.word2 == b.word2) && (a.word3 == b.word3)))) ≡ true
+same_words a b same =
+    and_from _ _ (eq-eqb _ _ (ap (λ (h : DataHash). h.word0) same)) (and_from _ _ (eq-eqb _ _ (ap (λ (h : DataHash). h.word1) same))
+    (and_from _ _ (eq-eqb _ _ (ap (λ (h : DataHash). h.word2) same)) (eq-eqb _ _ (ap (λ (h : DataHash). h.word3) same))))
+
+-- the row numbers that an index lookup put in front
+pub rows_in_front : (t : Table) (key count : ℕ) (old new : List ℕ) (finds : IndexFinds t key old new count) → take count new ≡ map (λ (h : Hit ℕ). h.value) finds.found
+rows_in_front t key count old new finds =
+    let values = map (λ (h : Hit ℕ). h.value) finds.found in
+    ap (take count) finds.written
+    ∙ ap (λ n. take n (values ++ drop count old)) (sym finds.number ∙ sym (length-map finds.found (λ (h : Hit ℕ). h.value)))
+    ∙ take-append_seam values (drop count old)
+
+-- the search answered, and the records at its rows were read
+module _ (t : Table) (offset count : ℕ) (hash : DataHash) (old mid new : Source) (places_old places_new : List ℕ)
+    (finds : IndexFinds t hash.word0 places_old places_new count) (serves : Serves old mid) (bounded : IsSorted t → Bounded t hash.word0 old mid)
+    (visits : VisitsSome offset (take count places_new) mid new) where
+  looked_up : (Answer : List ℕ → Type 0) → Answer (take count places_new) → LooksUp t offset hash.word0 old new Answer
+  looked_up Answer answer = record {
+    found = finds.found;
+    few = omega (arith, finds.few, finds.number);
+    are_hits = finds.are_hits;
+    searched = mid;
+    bounded = bounded;
+    visits = subst (λ rows. VisitsSome offset rows mid new) (rows_in_front t hash.word0 count places_old places_new finds) visits;
+    answer = subst Answer (rows_in_front t hash.word0 count places_old places_new finds) answer;
+  }
+
+  pub finding : (answer : Option MDBFileInfo) → LookupAnswer mid.bytes offset hash answer (take count places_new) → Finding t offset hash old new answer
+  finding answer read =
+      looked_up (LookupAnswer old.bytes offset hash answer) (subst (λ bytes. LookupAnswer bytes offset hash answer (take count places_new)) serves.bytes read)
+
+  pub finding_not : (e : CoreError) → LookupRefused offset mid new e (take count places_new) → FindingNot t offset hash old new e
+  finding_not e (row, contains, refusal) =
+      inr (looked_up (LookupRefused offset old new e) (row, contains, refusal_after offset row old mid new e serves.bytes serves.failures refusal))

@@ -1,0 +1,195 @@
+//! Lookup of one file on the bytes of a shard.
+
+ghost use Rattle.std.specs.Prelude.{◌≡◌, ◌⊎◌, ℕ, Option, ◌<◌, ◌≤◌, ◌^◌, length, min, MatchResult, OnOk, IfOk, IfErr};
+ghost use Rattle.xet_base.specs.Bytes.{u32_bytes};
+ghost use Rattle.xet_base.specs.Source.{FillsNot, next_bytes};
+ghost use Rattle.xet_base.specs.Table.{table_at, Finds, SearchRefused, hits, IsSorted, Serves, Bounded, ReadsOn};
+ghost use Rattle.xet_shards.specs.Lookup.{file_table, IsNumber, IndexFinds, IndexRefused, ReadsInfo, ReadsInfoNot, VisitsSome, Finding, FindingNot, LookupAnswer, LookupRefused};
+
+use super::info::{MDBShardInfo, read_record};
+use crate::utils::truncate_hash;
+use std::alloc::Global;
+use std::io;
+use xet_base::error::{CoreError, Result};
+use xet_base::interpolation_search::search_on_sorted_u64s;
+use xet_base::merklehash::MerkleHash;
+use xet_base::row::split_u32;
+use xet_base::source::{ShardSource, read_full};
+use xet_records::file_structs::MDBFileInfo;
+
+impl MDBShardInfo {
+    /// Looks in the file table for the first word of `hash`, and puts the row numbers of the records that
+    /// share it at the front of `dest`. Returns how many these are. Takes no memory.
+    ///
+    /// `TruncatedHashCollision` of the word where eight or more share it, `InvalidShard` where the table's
+    /// place is past 64 bits, `UnexpectedEof` where the source ends before the table does.
+    pub fn get_file_info_index_by_hash<S: ShardSource>(
+        &self,
+        alloc: Global,
+        source: &mut S,
+        hash: &MerkleHash,
+        dest: &mut [u32; 8],
+    ) -> Result<usize>
+        ensures found { IfOk result (IndexFinds (file_table self.now.metadata (S.meaning source.old)) hash.now.word0 dest.old dest.new) }
+        ensures serves { OnOk result (Serves (S.meaning source.old) (S.meaning source.new)) }
+        ensures refused { IfErr result (IndexRefused (file_table self.now.metadata (S.meaning source.old)) hash.now.word0 (S.meaning source.old) (S.meaning source.new)) }
+        ensures kept { (S.meaning source.new).bytes ≡ (S.meaning source.old).bytes }
+        ensures bounds { IsSorted (file_table self.now.metadata (S.meaning source.old))
+            → Bounded (file_table self.now.metadata (S.meaning source.old)) hash.now.word0 (S.meaning source.old) (S.meaning source.new) }
+    {
+        let start = self.metadata.file_lookup_offset;
+        let rows = self.metadata.file_lookup_num_entry;
+        find_rows(alloc, source, start, rows, truncate_hash(hash), dest)
+    }
+
+    /// Reads the record at a row of the file section.
+    ///
+    /// `InvalidShard` where the row's place is past 64 bits or the record has more rows after its header
+    /// than a `u32` counts, `InternalError` where a bookend stands there, `UnexpectedEof` where the source
+    /// ends before the record does, `OutOfMemory` where its lists find none.
+    pub fn read_file_info<S: ShardSource>(
+        &self,
+        alloc: Global,
+        source: &mut S,
+        row: u32,
+    ) -> Result<MDBFileInfo>
+        ensures { MatchResult result
+            (ReadsInfo self.now.metadata.file_info_offset row (S.meaning source.old) (S.meaning source.new))
+            (ReadsInfoNot self.now.metadata.file_info_offset row (S.meaning source.old) (S.meaning source.new)) }
+    {
+        let place = 48 * u64::from(row);
+        let Some(place) = self.metadata.file_info_offset.checked_add(place) else {
+            return Err(CoreError::InvalidShard(String::new(alloc)));
+        };
+        source.seek_to(place)?;
+        let mut rows_left = 1 + u64::from(u32::MAX);
+        match read_record(alloc, source, &mut rows_left)? {
+            Some(file_info) => Ok(file_info),
+            None => Err(CoreError::InternalError(String::new(alloc))),
+        }
+    }
+
+    /// Looks for the file with this hash: the record, or `None`.
+    ///
+    /// `TruncatedHashCollision` where eight or more files share the first word of the hash. Where the
+    /// tables or records are false, the refusals of [`MDBShardInfo::get_file_info_index_by_hash`] and
+    /// [`MDBShardInfo::read_file_info`].
+    pub fn get_file_reconstruction_info<S: ShardSource>(
+        &self,
+        alloc: Global,
+        source: &mut S,
+        hash: &MerkleHash,
+    ) -> Result<Option<MDBFileInfo>>
+        ensures read { MatchResult result
+            (Finding (file_table self.now.metadata (S.meaning source.old)) self.now.metadata.file_info_offset hash.now (S.meaning source.old) (S.meaning source.new))
+            (FindingNot (file_table self.now.metadata (S.meaning source.old)) self.now.metadata.file_info_offset hash.now (S.meaning source.old) (S.meaning source.new)) }
+        ensures kept { (S.meaning source.new).bytes ≡ (S.meaning source.old).bytes }
+    {
+        self.look_up(alloc, source, hash)
+    }
+
+    // Reads the records that the file table has for the hash's first word.
+    fn look_up<S: ShardSource>(
+        &self,
+        alloc: Global,
+        source: &mut S,
+        hash: &MerkleHash,
+    ) -> Result<Option<MDBFileInfo>>
+        ensures read { MatchResult result
+            (Finding (file_table self.now.metadata (S.meaning source.old)) self.now.metadata.file_info_offset hash.now (S.meaning source.old) (S.meaning source.new))
+            (FindingNot (file_table self.now.metadata (S.meaning source.old)) self.now.metadata.file_info_offset hash.now (S.meaning source.old) (S.meaning source.new)) }
+        ensures kept { (S.meaning source.new).bytes ≡ (S.meaning source.old).bytes }
+    {
+        let mut rows = [0; 8];
+        let found = self.get_file_info_index_by_hash(alloc, source, hash, &mut rows)?;
+        self.first_with_hash(alloc, source, hash, &rows[..found])
+    }
+
+    // Reads the records at these rows of the file section up to the first with this hash.
+    fn first_with_hash<S: ShardSource>(
+        &self,
+        alloc: Global,
+        source: &mut S,
+        hash: &MerkleHash,
+        rows: &[u32],
+    ) -> Result<Option<MDBFileInfo>>
+        ensures answer { IfOk result (λ answer. LookupAnswer (S.meaning source.old).bytes self.now.metadata.file_info_offset hash.now answer rows.now) }
+        ensures refused { IfErr result (λ e. LookupRefused self.now.metadata.file_info_offset (S.meaning source.old) (S.meaning source.new) e rows.now) }
+        ensures failures { OnOk result ((S.meaning source.new).failures ≡ (S.meaning source.old).failures) }
+        ensures visits { VisitsSome self.now.metadata.file_info_offset rows.now (S.meaning source.old) (S.meaning source.new) }
+    {
+        for row in rows {
+            let file_info = self.read_file_info(alloc, source, *row)?;
+            if file_info.metadata.file_hash == *hash {
+                return Ok(Some(file_info));
+            }
+        }
+        Ok(None)
+    }
+}
+
+// The row numbers of the rows with this word in a table of words and row numbers: fewer than eight.
+fn find_rows<S: ShardSource>(
+    alloc: Global,
+    source: &mut S,
+    start: u64,
+    rows: u64,
+    word: u64,
+    dest: &mut [u32; 8],
+) -> Result<usize>
+    ensures found { IfOk result (IndexFinds (table_at (S.meaning source.old) start rows 4) word dest.old dest.new) }
+    ensures serves { OnOk result (Serves (S.meaning source.old) (S.meaning source.new)) }
+    ensures refused { IfErr result (IndexRefused (table_at (S.meaning source.old) start rows 4) word (S.meaning source.old) (S.meaning source.new)) }
+    ensures kept { (S.meaning source.new).bytes ≡ (S.meaning source.old).bytes }
+    ensures bounds { IsSorted (table_at (S.meaning source.old) start rows 4)
+        → Bounded (table_at (S.meaning source.old) start rows 4) word (S.meaning source.old) (S.meaning source.new) }
+{
+    let found = search_row_numbers(alloc, source, start, rows, word, dest)?;
+    if found < dest.len() {
+        Ok(found)
+    } else {
+        Err(CoreError::TruncatedHashCollision(word))
+    }
+}
+
+// The row numbers of as many rows with this word as there are places.
+fn search_row_numbers<S: ShardSource>(
+    alloc: Global,
+    source: &mut S,
+    start: u64,
+    rows: u64,
+    word: u64,
+    dest: &mut [u32],
+) -> Result<usize>
+    ensures found { IfOk result (Finds (table_at (S.meaning source.old) start rows 4) word IsNumber dest.old dest.new) }
+    ensures count { IsSorted (table_at (S.meaning source.old) start rows 4) → IfOk result (λ n. n ≡ min
+        (hits (table_at (S.meaning source.old) start rows 4) word) (length dest.old)) }
+    ensures serves { OnOk result (Serves (S.meaning source.old) (S.meaning source.new)) }
+    ensures refused { IfErr result (SearchRefused (table_at (S.meaning source.old) start rows 4) (S.meaning source.old) (S.meaning source.new)) }
+    ensures kept { (S.meaning source.new).bytes ≡ (S.meaning source.old).bytes }
+    ensures bounds { IsSorted (table_at (S.meaning source.old) start rows 4)
+        → Bounded (table_at (S.meaning source.old) start rows 4) word (S.meaning source.old) (S.meaning source.new) }
+{
+    search_on_sorted_u64s(
+        alloc,
+        source,
+        start,
+        rows,
+        word,
+        4,
+        |s: &mut S| read_row_number(s),
+        dest,
+    )
+}
+
+// Reads a row number from the source's place on.
+fn read_row_number<S: ShardSource>(source: &mut S) -> io::Result<u32>
+    ensures { MatchResult result
+        (λ row. ReadsOn (S.meaning source.old) (S.meaning source.new) 4 × (row < 2 ^ 32) × (next_bytes (S.meaning source.old) 4 ≡ u32_bytes row))
+        (FillsNot (S.meaning source.old) (S.meaning source.new) 4) }
+{
+    let mut bytes = [0u8; 4];
+    read_full(source, &mut bytes)?;
+    let (row, _) = split_u32(&bytes);
+    Ok(row)
+}
