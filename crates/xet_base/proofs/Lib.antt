@@ -10,3 +10,4 @@ pub mod Tables
 pub mod Search
 pub mod Collecting
 pub mod Bounds
+pub mod KnownTable

@@ -14,3 +14,7 @@ pub mod Walks
 pub mod Worked
 pub mod Written
 pub mod Lookups
+pub mod Distinct
+pub mod FileLookups
+pub mod Found
+pub mod ShardLookups

@@ -1,9 +1,8 @@
 -- Reading the records that a lookup leads to.
-use Rattle.std.proofs.Common.{◌≡◌, ◌≢◌, ◌&&◌, ◌==◌, true, ◌⊎◌, inl, inr, ℕ, ◌+◌, ◌*◌, ◌^◌, ◌<◌, ◌≤◌, List, [], ◌∷◌, ◌++◌, length, map, take, drop, Option, refl, sym, ap, ◌∙◌, subst, arith}
-use Rattle.std.specs.Prelude.{All, IfOk, sum}
+use Rattle.std.proofs.Common.{◌≡◌, ◌≢◌, ◌&&◌, ◌==◌, true, inl, inr, ℕ, ◌+◌, ◌*◌, ◌^◌, ◌<◌, ◌≤◌, List, [], ◌∷◌, ◌++◌, length, map, take, drop, Option, refl, sym, ap, ◌∙◌, subst, arith}
+use Rattle.std.specs.Prelude.{IfOk}
 use Rattle.std.specs.declared.result.Result.{Result}
 use Rattle.std.proofs.lemmas.Result.{IfOk-weaker}
-use Rattle.std.specs.List.{AllZip}
 use Rattle.std.proofs.lemmas.List.{length-append, length-map, append_assoc}
 use Rattle.xet_base.specs.Table.{Table, Serves, IsSorted, Bounded, Hit, IsHit, Finds, value_at}
 use Rattle.std.proofs.lemmas.List.Elements.{AllZip-push, All-nil, All-push, All-weaker}
@@ -15,15 +14,14 @@ use Rattle.xet_base.specs.declared.merklehash.DataHash.{DataHash}
 use Rattle.xet_shards.specs.Shard.{file_hash_of}
 use Rattle.xet_base.specs.Source.{Source, Takes, moved, bytes_left}
 use Rattle.xet_base.proofs.Reading.{Takes-consumes}
-use Rattle.xet_records.specs.declared.file_structs.FileDataSequenceHeader.{FileDataSequenceHeader}
 use Rattle.xet_records.specs.declared.file_structs.MDBFileInfo.{MDBFileInfo}
 use Rattle.xet_records.specs.FileRow.{header_row}
 use Rattle.xet_records.specs.FileRecord.{record_text, rows_text, rows_after, IsStored}
-use Rattle.xet_records.specs.Reading.{ReadsBookend, ReadsRecord, BeginsWithHeader}
+use Rattle.xet_records.specs.Reading.{ReadsBookend, BeginsWithHeader}
 use Rattle.xet_records.proofs.Lengths.{length-header_row, length-record_text}
 use Rattle.xet_records.proofs.Record.{row_count-whole}
 use Rattle.xet_shards.specs.SectionReading.{MayTake, BeginsWithBookend, PassesLimit, EndsEarly, SectionFailure, ReadsNext, RecordFails}
-use Rattle.xet_shards.specs.Lookup.{IsNumber, Collides, IndexFinds, VisitsSome, LooksUp, LookupAnswer, LookupRefused, Finding, FindingNot, row_at, StandsAt, RecordAt, IsBareInternalError, InfoRefusal, ReadsInfo, ReadsInfoNot, Visits, Missed}
+use Rattle.xet_shards.specs.Lookup.{IsNumber, Collides, IndexFinds, VisitsSome, LooksUp, LookupAnswer, LookupRefused, Finding, FindingNot, row_at, RecordAt, IsBareInternalError, InfoRefusal, ReadsInfo, ReadsInfoNot, Visits, Missed}
 
 -- the bytes of a stored record begin with its header
 pub stored_begins : (bytes : List ℕ) (r : MDBFileInfo) (rest : List ℕ) → IsStored r → bytes ≡ record_text r ++ rest → BeginsWithHeader bytes r.metadata (rows_text r ++ rest)
@@ -54,8 +52,12 @@ module _ (offset row : ℕ) (old mid new : Source) (fits : row_at offset row < 2
         seeks = ap (λ (s : Source). s.seeks) read.taken.after ∙ ap (λ (s : Source). s.seeks) sought;
         taken = length (record_text read.stored);
         read = ap (λ (s : Source). s.read) read.taken.after ∙ ap (λ (s : Source). s.read + length (record_text read.stored)) sought;
-        may_take = inr (read.stored.metadata, rows_text read.stored ++ bytes_left new, stored_begins _ read.stored (bytes_left new) read.is_stored are,
-            omega (arith, length-stored read.stored read.is_stored));
+        may_take = inr (
+          read.stored.metadata,
+          rows_text read.stored ++ bytes_left new,
+          stored_begins _ read.stored (bytes_left new) read.is_stored are,
+          omega (arith, length-stored read.stored read.is_stored),
+        );
       }
 
   pub info_bookend : (e : CoreError) → IsBareInternalError e → ReadsBookend (Takes mid new) → ReadsInfoNot offset row old new e
@@ -65,13 +67,17 @@ module _ (offset row : ℕ) (old mid new : Source) (fits : row_at offset row < 2
     taken = 48;
     read = omega (arith, ap (λ (s : Source). s.read) read.taken.after, ap (λ (s : Source). s.read) sought, length-header_row read.header);
     may_take = inl (omega arith);
-    cause = inr (inl (ap (λ (s : Source). s.failures) read.taken.after ∙ ap (λ (s : Source). s.failures) sought, bare, record {
-      header = read.header;
-      rest = bytes_left new;
-      widths = read.widths;
-      is_bookend = read.is_bookend;
-      bytes_are = sym left_is ∙ Takes-consumes mid new (header_row read.header) read.taken;
-    }));
+    cause = inr (inl (
+      ap (λ (s : Source). s.failures) read.taken.after ∙ ap (λ (s : Source). s.failures) sought,
+      bare,
+      record {
+        header = read.header;
+        rest = bytes_left new;
+        widths = read.widths;
+        is_bookend = read.is_bookend;
+        bytes_are = sym left_is ∙ Takes-consumes mid new (header_row read.header) read.taken;
+      },
+    ));
   }
 
   pub info_fails : (e : CoreError) → RecordFails 4294967296 mid new e → ReadsInfoNot offset row old new e
@@ -147,8 +153,16 @@ refusal_after offset row old now new e bytes same (inr (inr (inr (inr (inr (none
 pub collides : (t : Table) (key count : ℕ) (old new : List ℕ) → Finds t key IsNumber old new count → length old ≡ 8 → length new ≡ 8 → 8 ≤ count → Collides t key
 collides t key count old new finds old_len new_len full = record {
   found = finds.found;
-  eight = omega (arith, finds.number, full, old_len, new_len, ap length finds.written, length-append (map (λ (h : Hit ℕ). h.value) finds.found) (drop count old),
-      length-map finds.found (λ (h : Hit ℕ). h.value));
+  eight = omega (
+    arith,
+    finds.number,
+    full,
+    old_len,
+    new_len,
+    ap length finds.written,
+    length-append (map (λ (h : Hit ℕ). h.value) finds.found) (drop count old),
+    length-map finds.found (λ (h : Hit ℕ). h.value),
+  );
   each = finds.each;
   distinct = finds.distinct;
 }
@@ -160,7 +174,11 @@ finds_weaker t key Gives Others old new r weaker = IfOk-weaker r (Finds t key Gi
   found = finds.found;
   number = finds.number;
   each = All-weaker (IsHit t key Gives) (IsHit t key Others) (λ h hit. record {
-    within = hit.within; there = hit.there; same_key = hit.same_key; gives = weaker (value_at t h.row) h.value hit.gives }) finds.found finds.each;
+    within = hit.within;
+    there = hit.there;
+    same_key = hit.same_key;
+    gives = weaker (value_at t h.row) h.value hit.gives;
+  }) finds.found finds.each;
   distinct = finds.distinct;
   written = finds.written;
 })
@@ -189,6 +207,7 @@ module _ (t : Table) (offset count : ℕ) (hash : DataHash) (old mid new : Sourc
     few = omega (arith, finds.few, finds.number);
     are_hits = finds.are_hits;
     searched = mid;
+    kept = serves.bytes;
     bounded = bounded;
     visits = subst (λ rows. VisitsSome offset rows mid new) (rows_in_front t hash.word0 count places_old places_new finds) visits;
     answer = subst Answer (rows_in_front t hash.word0 count places_old places_new finds) answer;

@@ -28,7 +28,7 @@ both_left : (a b : Bool) → T (a && b) → T a
 both_left true b p = tt
 both_left false b p = p
 
-both_right : (a b : Bool) → T (a && b) → T b
+pub both_right : (a b : Bool) → T (a && b) → T b
 both_right true b p = p
 both_right false b p = absurd p
 

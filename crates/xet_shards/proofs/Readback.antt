@@ -36,17 +36,20 @@ clear_ext : (o : Option FileMetadataExt) → IfSome o (λ m. m._unused ≡ 0 ∷
 clear_ext None clear = refl
 clear_ext (Some m) clear = λ i. Some (record { sha256 = m.sha256; _unused = sym clear i })
 
+-- so a well-formed record is handed out as it stands
+pub handed_one : (r : MDBFileInfo) → IsWellFormed r → handed_out r ≡ r
+handed_one r good =
+    let verification = clear_verifications r.verification good.clear_verification in
+    let ext = clear_ext r.metadata_ext good.clear_metadata_ext in
+    λ i. record { metadata = r.metadata; segments = r.segments; verification = verification i; metadata_ext = ext i }
+
 pub handed_same : (rs : List MDBFileInfo) → All IsWellFormed rs → map handed_out rs ≡ rs
 handed_same [] good = refl
-handed_same (r ∷ rs) good =
-    let here : IsWellFormed r = good 0 r (omega arith) in
-    let verification = clear_verifications r.verification here.clear_verification in
-    let ext = clear_ext r.metadata_ext here.clear_metadata_ext in
-    λ i. record { metadata = r.metadata; segments = r.segments; verification = verification i; metadata_ext = ext i } ∷ handed_same rs (All-drop IsWellFormed 1 (r ∷ rs) good) i
+handed_same (r ∷ rs) good = λ i. handed_one r (good 0 r (omega arith)) i ∷ handed_same rs (All-drop IsWellFormed 1 (r ∷ rs) good) i
 
 -- a shard's bytes from the file section on
 module _ (files : List MDBFileInfo) (xorbs : List MDBXorbInfo) (form : Form) where
-  abbrev after_section : List ℕ
+  abbrev pub after_section : List ℕ
   after_section =
       xorb_section xorbs ++ (if_in form.file_table (file_table_bytes files) ++ (if_in form.xorb_table (xorb_table_bytes xorbs)
       ++ (if_in form.chunk_table (chunk_table_bytes xorbs) ++ footer_text (footer_value files xorbs form))))
@@ -55,7 +58,7 @@ module _ (files : List MDBFileInfo) (xorbs : List MDBXorbInfo) (form : Form) whe
   unfolding layout_of
   layout_from_48 = simp (append_assoc)
 
-  section_at_48 : drop 48 (layout_of files xorbs form) ≡ flat_map record_text files ++ (header_row file_bookend ++ after_section)
+  pub section_at_48 : drop 48 (layout_of files xorbs form) ≡ flat_map record_text files ++ (header_row file_bookend ++ after_section)
   unfolding file_section
   section_at_48 =
       rest_is 48 (layout_of files xorbs form) (header_text header_value) (file_section files ++ after_section) (length-header_text header_value) layout_from_48

@@ -1,18 +1,19 @@
 -- Looking up a file by its hash: the file table, the records that its rows lead to, and what this costs.
 use Rattle.std.specs.Prelude.{◌≡◌, ◌≢◌, ◌⊎◌, ◌==◌, ℕ, ◌+◌, ◌*◌, ◌/◌, ◌^◌, ◌<◌, ◌≤◌, List, ◌++◌, length, take, map, filter, flat_map, sum, drop, All, AllPairs, Contains, Option, Some, None, string_bytes, []}
 use Rattle.std.specs.List.{AllZip}
+use Rattle.std.specs.FinMap.{get, values}
 use Rattle.xet_base.specs.declared.error.CoreError.{CoreError}
-use Rattle.xet_base.specs.declared.error.CoreError.TheVariants.{InternalError, TruncatedHashCollision}
+use Rattle.xet_base.specs.declared.error.CoreError.TheVariants.{InternalError, OutOfMemory, TruncatedHashCollision}
 use Rattle.xet_base.specs.declared.merklehash.DataHash.{DataHash}
 use Rattle.xet_base.specs.Bytes.{u32_bytes}
-use Rattle.xet_base.specs.Source.{Source, moved}
-use Rattle.xet_base.specs.Table.{Table, table_at, Hit, IsHit, OtherRow, Finds, IsSorted, hits, Bounded, SearchRefused, IsBareInvalidShard}
-use Rattle.xet_records.specs.declared.file_structs.FileDataSequenceHeader.{FileDataSequenceHeader}
+use Rattle.xet_base.specs.Source.{Source, DeviceFailure}
+use Rattle.xet_base.specs.Table.{Table, table_at, Hit, IsHit, OtherRow, IsSorted, hits, Bounded, SearchRefused, IsBareInvalidShard}
 use Rattle.xet_records.specs.declared.file_structs.MDBFileInfo.{MDBFileInfo}
-use Rattle.xet_records.specs.FileRecord.{record_text, rows_after}
-use Rattle.xet_records.specs.Reading.{ReadsRecord, BeginsWithHeader}
+use Rattle.xet_records.specs.FileRecord.{record_text}
+use Rattle.xet_records.specs.Reading.{ReadsRecord}
 use Rattle.xet_shards.specs.declared.shard_format.footer.MDBShardFileFooter.{MDBShardFileFooter}
 use Rattle.xet_shards.specs.Shard.{Shard, file_hash_of}
+use Rattle.xet_shards.specs.Tables.{file_starts}
 use Rattle.xet_shards.specs.SectionReading.{MayTake, BeginsWithBookend, PassesLimit, EndsEarly, SectionFailure}
 
 -- the files whose hashes have this first word
@@ -116,6 +117,7 @@ pub record LooksUp (t : Table) (offset key : ℕ) (old new : Source) (Answer : L
   pub few : length found < 8
   pub are_hits : AreHits t key found
   pub searched : Source
+  pub kept : searched.bytes ≡ old.bytes
   pub bounded : IsSorted t → Bounded t key old searched
   pub visits : VisitsSome offset (map (λ hit. hit.value) found) searched new
   pub answer : Answer (map (λ hit. hit.value) found)
@@ -160,3 +162,26 @@ abbrev pub FindingNot : Table → ℕ → DataHash → Source → Source → Cor
 FindingNot t offset hash old new e =
     (IndexRefused t hash.word0 old new e × (IsSorted t → Bounded t hash.word0 old new))
     ⊎ LooksUp t offset hash.word0 old new (LookupRefused offset old new e)
+
+-- these rows are the starts of the files that share the first word, in some order
+abbrev pub AreStarts : List MDBFileInfo → ℕ → List ℕ → Type 0
+AreStarts files word rows =
+    ((row : ℕ) → Contains rows row → Contains (file_starts files) (word, row)) × ((row : ℕ) → Contains (file_starts files) (word, row) → Contains rows row)
+
+-- an index lookup on the bytes of a shard: the starts where fewer than eight files share the first word, the
+-- collision where eight do; else the device failed
+abbrev pub StartsInShard : Shard → ℕ → List ℕ → ℕ → Type 0
+StartsInShard s word places count =
+    (length (sharing word (values s.files)) < 8) × (count ≡ length (sharing word (values s.files))) × AreStarts (values s.files) word (take count places)
+
+abbrev pub NoStartsInShard : Shard → ℕ → Source → Source → CoreError → Type 0
+NoStartsInShard s word old new e = DeviceFailure old new e ⊎ ((e ≡ TruncatedHashCollision word) × (8 ≤ length (sharing word (values s.files))))
+
+-- a file lookup on the bytes of a shard: the map's answer where fewer than eight files share the first word, the
+-- collision where eight do; else the device failed, or memory was refused
+abbrev pub FoundInShard : Shard → DataHash → Option MDBFileInfo → Type 0
+FoundInShard s hash answer = (length (sharing hash.word0 (values s.files)) < 8) × (answer ≡ get s.files hash)
+
+abbrev pub NotFoundInShard : Shard → DataHash → Source → Source → CoreError → Type 0
+NotFoundInShard s hash old new e =
+    DeviceFailure old new e ⊎ (e ≡ OutOfMemory) ⊎ ((e ≡ TruncatedHashCollision hash.word0) × (8 ≤ length (sharing hash.word0 (values s.files))))

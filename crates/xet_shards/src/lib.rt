@@ -3,6 +3,6 @@
 
 pub mod shard_format;
 pub mod shard_in_memory;
-pub mod utils;
 #[cfg(test)]
 mod tests;
+pub mod utils;

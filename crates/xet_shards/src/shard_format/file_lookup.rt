@@ -1,10 +1,13 @@
 //! Lookup of one file on the bytes of a shard.
 
 ghost use Rattle.std.specs.Prelude.{◌≡◌, ◌⊎◌, ℕ, Option, ◌<◌, ◌≤◌, ◌^◌, length, min, MatchResult, OnOk, IfOk, IfErr};
+ghost use Rattle.std.specs.FinMap as finite;
 ghost use Rattle.xet_base.specs.Bytes.{u32_bytes};
 ghost use Rattle.xet_base.specs.Source.{FillsNot, next_bytes};
 ghost use Rattle.xet_base.specs.Table.{table_at, Finds, SearchRefused, hits, IsSorted, Serves, Bounded, ReadsOn};
-ghost use Rattle.xet_shards.specs.Lookup.{file_table, IsNumber, IndexFinds, IndexRefused, ReadsInfo, ReadsInfoNot, VisitsSome, Finding, FindingNot, LookupAnswer, LookupRefused};
+ghost use Rattle.xet_shards.specs.Shard.{Shard, IsShard};
+ghost use Rattle.xet_shards.specs.Layout.{layout, info_value};
+ghost use Rattle.xet_shards.specs.Lookup.{FoundInShard, NotFoundInShard, WithinBounds, SearchWithinBounds, file_table, IsNumber, IndexFinds, IndexRefused, ReadsInfo, ReadsInfoNot, VisitsSome, Finding, FindingNot, LookupAnswer, LookupRefused};
 
 use super::info::{MDBShardInfo, read_record};
 use crate::utils::truncate_hash;
@@ -84,6 +87,13 @@ impl MDBShardInfo {
             (Finding (file_table self.now.metadata (S.meaning source.old)) self.now.metadata.file_info_offset hash.now (S.meaning source.old) (S.meaning source.new))
             (FindingNot (file_table self.now.metadata (S.meaning source.old)) self.now.metadata.file_info_offset hash.now (S.meaning source.old) (S.meaning source.new)) }
         ensures kept { (S.meaning source.new).bytes ≡ (S.meaning source.old).bytes }
+        ensures written { (s : Shard) → (expiry : Option ℕ) → IsShard s → (S.meaning source.old).bytes ≡ layout s expiry → self.now ≡ info_value s expiry
+            → MatchResult result (FoundInShard s hash.now) (NotFoundInShard s hash.now (S.meaning source.old) (S.meaning source.new)) }
+        ensures bounds { (s : Shard) → (expiry : Option ℕ) → IsShard s → (S.meaning source.old).bytes ≡ layout s expiry → self.now ≡ info_value s expiry
+            → WithinBounds (finite.values s.files) hash.now.word0 (S.meaning source.old) (S.meaning source.new) }
+        ensures collision { (s : Shard) → (expiry : Option ℕ) → IsShard s → (S.meaning source.old).bytes ≡ layout s expiry → self.now ≡ info_value s expiry
+            → IfErr result (λ e. e ≡ CoreError.TruncatedHashCollision hash.now.word0
+            → SearchWithinBounds (finite.values s.files) hash.now.word0 (S.meaning source.old) (S.meaning source.new)) }
     {
         self.look_up(alloc, source, hash)
     }

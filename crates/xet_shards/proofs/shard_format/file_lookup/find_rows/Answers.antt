@@ -1,4 +1,4 @@
-use Rattle.std.proofs.Common.{◌≡◌, length, inl, refl, arith}
+use Rattle.std.proofs.Common.{inl, refl, arith}
 use Rattle.xet_shards.proofs.Lookups.{collides}
 use Rattle.xet_shards.proofs.shard_format.file_lookup.find_rows.Goals as goal
 

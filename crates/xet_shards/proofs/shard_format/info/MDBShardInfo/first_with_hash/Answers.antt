@@ -1,4 +1,4 @@
-use Rattle.std.proofs.Common.{◌≡◌, ◌+◌, get_or, take, refl, sym, ap, ◌∙◌, subst, None, arith}
+use Rattle.std.proofs.Common.{◌+◌, get_or, take, sym, ◌∙◌, subst, None, arith}
 use Rattle.std.proofs.lemmas.List.{take_more, take_all}
 use Rattle.std.proofs.lemmas.List.Elements.{Contains-get_or}
 use Rattle.std.proofs.lemmas.Bool.{both_ways}
@@ -12,25 +12,32 @@ returns-in_err-file_info-clause-refused g c =
     let rows = c.args.rows.now in
     let i = c.loop-row.row-index in
     let p = err_from_is_err_and c.from_residual.result c.from_residual.ensures.1 in
-    rw (p.1, p.2) (get_or rows i 0, Contains-get_or rows i 0 c.loop-row-test.true,
-        refusal_after c.args.self.now.metadata.file_info_offset (get_or rows i 0) (g.S.ShardSource.meaning c.args.source.now) (g.S.ShardSource.meaning c.loop-row.source)
-            (g.S.ShardSource.meaning c.read_file_info.new.source) _ c.loop-row.invariant.visits.bytes c.loop-row.invariant.failures c.in_err-file_info.ensures.cause)
+    rw (p.1, p.2) (
+      get_or rows i 0,
+      Contains-get_or rows i 0 c.loop-row-test.true,
+      refusal_after c.args.self.now.metadata.file_info_offset (get_or rows i 0) (g.S.ShardSource.meaning c.args.source.now) (g.S.ShardSource.meaning c.loop-row.source)
+          (g.S.ShardSource.meaning c.read_file_info.new.source) _ c.loop-row.invariant.visits.bytes c.loop-row.invariant.failures c.in_err-file_info.ensures.cause,
+    )
 
 pub returns-in_err-file_info-clause-visits : goal.returns-in_err-file_info-clause-visits
 returns-in_err-file_info-clause-visits g c =
     let rows = c.args.rows.now in
     let i = c.loop-row.row-index in
-    let offset = c.args.self.now.metadata.file_info_offset in
-    (i + 1, subst (λ rs. Visits offset rs (g.S.ShardSource.meaning c.args.source.now) (g.S.ShardSource.meaning c.read_file_info.new.source)) (sym (take_more rows i 0 c.loop-row-test.true))
-        (visits_read_not offset (get_or rows i 0) (take i rows) _ (g.S.ShardSource.meaning c.loop-row.source) _ _ c.loop-row.invariant.visits c.in_err-file_info.ensures))
+    let offset = c.args.self.now.metadata.file_info_offset in (
+      i + 1,
+      subst (λ rs. Visits offset rs (g.S.ShardSource.meaning c.args.source.now) (g.S.ShardSource.meaning c.read_file_info.new.source)) (sym (take_more rows i 0 c.loop-row-test.true))
+          (visits_read_not offset (get_or rows i 0) (take i rows) _ (g.S.ShardSource.meaning c.loop-row.source) _ _ c.loop-row.invariant.visits c.in_err-file_info.ensures),
+    )
 
 pub returns-then-eq-clause-visits : goal.returns-then-eq-clause-visits
 returns-then-eq-clause-visits g c =
     let rows = c.args.rows.now in
     let i = c.loop-row.row-index in
-    let offset = c.args.self.now.metadata.file_info_offset in
-    (i + 1, subst (λ rs. Visits offset rs (g.S.ShardSource.meaning c.args.source.now) (g.S.ShardSource.meaning c.read_file_info.new.source)) (sym (take_more rows i 0 c.loop-row-test.true))
-        (visits_read offset (get_or rows i 0) (take i rows) _ (g.S.ShardSource.meaning c.loop-row.source) _ _ c.loop-row.invariant.visits c.in_ok-file_info.ensures))
+    let offset = c.args.self.now.metadata.file_info_offset in (
+      i + 1,
+      subst (λ rs. Visits offset rs (g.S.ShardSource.meaning c.args.source.now) (g.S.ShardSource.meaning c.read_file_info.new.source)) (sym (take_more rows i 0 c.loop-row-test.true))
+          (visits_read offset (get_or rows i 0) (take i rows) _ (g.S.ShardSource.meaning c.loop-row.source) _ _ c.loop-row.invariant.visits c.in_ok-file_info.ensures),
+    )
 
 pub loop-row-preserved : goal.loop-row-preserved
 loop-row-preserved g c =
@@ -38,12 +45,12 @@ loop-row-preserved g c =
     let i = c.loop-row.row-index in
     let offset = c.args.self.now.metadata.file_info_offset in
     subst (λ rs. Missed offset c.args.hash.now rs (g.S.ShardSource.meaning c.args.source.now) (g.S.ShardSource.meaning c.read_file_info.new.source)) (sym (take_more rows i 0 c.loop-row-test.true))
-        (missed_more offset (get_or rows i 0) c.args.hash.now (take i rows) _ (g.S.ShardSource.meaning c.loop-row.source) _ _ c.loop-row.invariant c.in_ok-file_info.ensures
-            (λ same. both_ways c.eq.result c.if-eq.false (c.eq.ensures ∙ same_words _ _ same)))
+    (missed_more offset (get_or rows i 0) c.args.hash.now (take i rows) _ (g.S.ShardSource.meaning c.loop-row.source) _ _ c.loop-row.invariant c.in_ok-file_info.ensures
+    (λ same. both_ways c.eq.result c.if-eq.false (c.eq.ensures ∙ same_words _ _ same)))
 
 pub returns-clause-answer : goal.returns-clause-answer
 returns-clause-answer g c =
     let rows = c.args.rows.now in
     let i = c.loop-row.row-index in
     subst (LookupAnswer (g.S.ShardSource.meaning c.args.source.now).bytes c.args.self.now.metadata.file_info_offset c.args.hash.now None)
-        (take_all i rows (omega (arith, c.loop-row-test.false))) c.loop-row.invariant.others
+    (take_all i rows (omega (arith, c.loop-row-test.false))) c.loop-row.invariant.others

@@ -14,5 +14,5 @@ returns-clause-read g c =
     let found = c.in_ok-found.ensures in
     let visits = c.first_with_hash.ensures.visits in
     MatchResult-from_both c.first_with_hash.result _ _
-        (IfOk-weaker c.first_with_hash.result _ _ (finding t offset c.in_ok-found.found hash old mid new _ _ found.found found.serves found.bounds visits) c.first_with_hash.ensures.answer)
-        (IfErr-weaker c.first_with_hash.result _ _ (finding_not t offset c.in_ok-found.found hash old mid new _ _ found.found found.serves found.bounds visits) c.first_with_hash.ensures.refused)
+    (IfOk-weaker c.first_with_hash.result _ _ (finding t offset c.in_ok-found.found hash old mid new _ _ found.found found.serves found.bounds visits) c.first_with_hash.ensures.answer)
+    (IfErr-weaker c.first_with_hash.result _ _ (finding_not t offset c.in_ok-found.found hash old mid new _ _ found.found found.serves found.bounds visits) c.first_with_hash.ensures.refused)

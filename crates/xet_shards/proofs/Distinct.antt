@@ -1,0 +1,105 @@
+-- Different rows of a table: what they add up to, and that as many of them as there are are all of them.
+use Rattle.std.proofs.Common.{◌≡◌, ◌≢◌, ◌⊎◌, inl, inr, ◌==◌, if◌then◌else◌, Bool, true, false, ℕ, zero, suc, ◌+◌, ◌<◌, ◌≤◌, List, [], ◌∷◌, ◌++◌, length, take, get_or, All, AllPairs, refl, sym, ap, ◌∙◌, arith}
+use Rattle.std.specs.Prelude.{sum_by, filter}
+use Rattle.std.proofs.lemmas.List.{take_more}
+use Rattle.std.proofs.lemmas.List.Elements.{All-drop, filter-append}
+use Rattle.std.proofs.lemmas.List.Sums.{sum_by-append, sum_by-cons}
+use Rattle.std.proofs.lemmas.Bool.{cases_eq, eq-eqb, ne_eqb, cond-true, cond-false}
+use Rattle.xet_base.specs.Table.{Hit, OtherRow}
+use Rattle.xet_base.proofs.KnownTable.{sum_below}
+
+-- f, but nothing at i
+abbrev without : (ℕ → ℕ) → ℕ → ℕ → ℕ
+without f i j = if j == i then 0 else f j
+
+without-here : (f : ℕ → ℕ) (i : ℕ) → without f i i ≡ 0
+without-here f i = cond-true {A = ℕ} (i == i) 0 (f i) (eq-eqb i i refl)
+
+without-other : (f : ℕ → ℕ) (i j : ℕ) → j ≢ i → without f i j ≡ f j
+without-other f i j other = cond-false {A = ℕ} (j == i) 0 (f j) (ne_eqb j i other)
+
+sum_below-same : (f g : ℕ → ℕ) (n : ℕ) → ((i : ℕ) → i < n → f i ≡ g i) → sum_below f n ≡ sum_below g n
+sum_below-same f g zero same = refl
+sum_below-same f g (suc n) same = λ k. sum_below-same f g n (λ i below. same i (omega (arith, below))) k + same n (omega arith) k
+
+sum_below-without : (f : ℕ → ℕ) (i n : ℕ) → i < n → sum_below f n ≡ sum_below (without f i) n + f i
+sum_below-without f i zero within = absurd (omega (arith, within))
+sum_below-without f i (suc n) within = elim (cases_eq i n) [
+  | inl same ↦ omega (
+    arith,
+    sum_below-same f (without f i) n (λ j below. sym (without-other f i j (λ e. absurd (omega (arith, below, e, same))))),
+    ap (without f i) (sym same),
+    without-here f i,
+    ap f same,
+  )
+  | inr other ↦ omega (arith, sum_below-without f i n (below_not i n within other), without-other f i n (λ e. other (sym e)))
+]
+  where
+    below_not : (i n : ℕ) → i < suc n → (i ≡ n → ⊥) → i < n
+    below_not i n lt other = omega (arith, lt, other)
+
+module _ {V : Type 0} where
+  -- a row is in a list, or each of the list is another
+  is_among : (i : ℕ) (found : List (Hit V)) → ((k : ℕ) × (k < length found) × ((d : Hit V) → (get_or found k d).row ≡ i)) ⊎ All (λ h. h.row ≢ i) found
+  is_among i [] = inr (λ k d within. absurd (omega (arith, within)))
+  is_among i (h ∷ found) = elim (cases_eq h.row i) [
+    | inl same ↦ inl (0, omega arith, λ d. same)
+    | inr other ↦ elim (is_among i found) [
+      | inl at ↦ inl (suc at.0, omega (arith, at.1), at.2)
+      | inr none ↦ inr (λ k. elim k as (λ k. (d : Hit V) → k < length (h ∷ found) → (get_or (h ∷ found) k d).row ≢ i) [
+        | zero ↦ λ d within. other
+        | suc j ↦ λ d within. none j d (omega (arith, within))
+      ])
+    ]
+  ]
+
+  sum-without : (f : ℕ → ℕ) (i : ℕ) (found : List (Hit V)) → All (λ h. h.row ≢ i) found → sum_by (λ h. without f i h.row) found ≡ sum_by (λ h. f h.row) found
+  sum-without f i [] others = refl
+  sum-without f i (h ∷ found) others =
+      sum_by-cons (λ (g : Hit V). without f i g.row) h found
+      ∙ (λ k. without-other f i h.row (others 0 h (omega arith)) k + sum-without f i found (All-drop (λ (g : Hit V). g.row ≢ i) 1 (h ∷ found) others) k)
+      ∙ sym (sum_by-cons (λ (g : Hit V). f g.row) h found)
+
+  -- different rows below n add up to no more than all below n
+  pub sum_distinct : (f : ℕ → ℕ) (n : ℕ) (found : List (Hit V)) → AllPairs OtherRow found → All (λ h. h.row < n) found → sum_by (λ h. f h.row) found ≤ sum_below f n
+  sum_distinct f n [] distinct below = omega arith
+  sum_distinct f n (h ∷ found) distinct below =
+      let others : All (λ g. g.row ≢ h.row) found = λ k d within same. distinct 0 (suc k) d (omega arith) (omega (arith, within)) (sym same) in
+      omega (
+        arith,
+        sum_by-cons (λ (g : Hit V). f g.row) h found,
+        sum_below-without f h.row n (below 0 h (omega arith)),
+        sum-without f h.row found others,
+        sum_distinct (without f h.row) n found (λ i j d lt within. distinct (suc i) (suc j) d (omega (arith, lt)) (omega (arith, within)))
+            (All-drop (λ (g : Hit V). g.row < n) 1 (h ∷ found) below),
+      )
+
+  -- so many different rows with a mark, where there are no more of them, are all of these
+  pub all_marked : (f : ℕ → ℕ) (n : ℕ) (found : List (Hit V)) (i : ℕ) → AllPairs OtherRow found → All (λ h. h.row < n) found
+      → sum_below f n ≤ sum_by (λ h. f h.row) found → i < n → 0 < f i → (k : ℕ) × (k < length found) × ((d : Hit V) → (get_or found k d).row ≡ i)
+  all_marked f n found i distinct below many within marked = elim (is_among i found) [
+    | inl at ↦ at
+    | inr others ↦ absurd (omega (arith, many, marked, sum_below-without f i n within, sum-without f i found others, sum_distinct (without f i) n found distinct below))
+  ]
+
+one_marked : {X : Type 0} (weight : X → ℕ) (x : X) (b : Bool) → sum_by weight (if b then x ∷ [] else []) ≡ (if b then weight x else 0)
+one_marked weight x true = sum_by-cons weight x [] ∙ omega arith
+one_marked weight x false = refl
+
+-- weights of the elements with a mark, summed by index and over the list of these
+pub sum_marked : {X : Type 0} (p : X → Bool) (weight : X → ℕ) (xs : List X) (d : X) (n : ℕ) → n ≤ length xs
+    → sum_below (λ i. if p (get_or xs i d) then weight (get_or xs i d) else 0) n ≡ sum_by weight (filter p (take n xs))
+sum_marked p weight xs d zero within = refl
+sum_marked p weight xs d (suc n) within =
+    let x = get_or xs n d in
+    let e : n + 1 ≡ suc n = omega arith in
+    let more : take (suc n) xs ≡ take n xs ++ x ∷ [] = ap (λ k. take k xs) (sym e) ∙ take_more xs n d (omega (arith, within)) in
+    let one : sum_by weight (filter p (x ∷ [])) ≡ (if p x then weight x else 0) = one_marked weight x (p x) in
+    omega (
+      arith,
+      sum_marked p weight xs d n (omega (arith, within)),
+      ap (λ ys. sum_by weight (filter p ys)) more,
+      ap (sum_by weight) (filter-append p (take n xs) (x ∷ [])),
+      sum_by-append weight (filter p (take n xs)) (filter p (x ∷ [])),
+      one,
+    )

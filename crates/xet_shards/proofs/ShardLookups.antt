@@ -1,0 +1,104 @@
+-- Lookups on the bytes of a shard answer as its maps do.
+use Rattle.std.proofs.Common.{◌≡◌, Ok, Err, ℕ, ◌<◌, length, get_or, Option, None, Some, refl, sym, ap, ◌∙◌, arith}
+use Rattle.std.specs.Prelude.{All, MatchResult, IfErr}
+use Rattle.std.specs.FinMap.{entries, values, get, get-entries, entries_sorted, find}
+use Rattle.std.specs.Map.{keys_of}
+use Rattle.std.specs.declared.result.Result.{Result}
+use Rattle.std.specs.declared.cmp.Ordering.TheVariants.{Less}
+use Rattle.std.proofs.lemmas.List.{get_or-map, length-map}
+use Rattle.std.proofs.lemmas.Map.Keys.{Less-from_sorted}
+use Rattle.xet_base.specs.declared.error.CoreError.{CoreError}
+use Rattle.xet_base.specs.declared.error.CoreError.TheVariants.{TruncatedHashCollision}
+use Rattle.xet_base.specs.Table.{Table}
+use Rattle.xet_base.specs.declared.merklehash.DataHash.{DataHash}
+use Rattle.xet_base.specs.Hash.{hash_cmp}
+use Rattle.xet_base.proofs.HashOrder.{hash_cmp-IsTotalOrder, hash_cmp-IsAntisymmetric}
+use Rattle.xet_base.specs.Source.{Source}
+use Rattle.xet_records.specs.declared.file_structs.MDBFileInfo.{MDBFileInfo}
+use Rattle.xet_records.specs.FileRecord.{IsWellFormed}
+use Rattle.xet_shards.specs.Shard.{Shard, IsShard, file_hash_of}
+use Rattle.xet_shards.specs.Layout.{layout, info_value, plain_form}
+use Rattle.xet_shards.specs.Lookup.{file_table, Finding, FindingNot, LookupAnswer, FoundInShard, NotFoundInShard, WithinBounds, SearchWithinBounds}
+use Rattle.xet_shards.proofs.Files.{well_formed_values}
+use Rattle.xet_shards.proofs.Maps.{rising_keys}
+use Rattle.xet_shards.proofs.Readback.{handed_one}
+use Rattle.xet_shards.proofs.Found.{first_words_ascend, found_entry, entry_found}
+use Rattle.xet_shards.proofs.FileLookups.{no_record, IsLookedUp, IsAnswer, answered, not_answered, lookup_costs, costs_refused, costs_collision}
+
+abbrev no_entry : DataHash × MDBFileInfo
+no_entry = (no_record.metadata.file_hash, no_record)
+
+module _ (s : Shard) (shard : IsShard s) where
+  good : All IsWellFormed (values s.files)
+  good = well_formed_values (entries s.files) shard.files
+
+  entry_in : (i : ℕ) → i < length (values s.files) → i < length (entries s.files)
+  entry_in i within = omega (arith, within, length-map (entries s.files) (λ (e : DataHash × MDBFileInfo). e.1))
+
+  value_of : (i : ℕ) → i < length (values s.files) → get_or (values s.files) i no_record ≡ (get_or (entries s.files) i no_entry).1
+  value_of i within = get_or-map (λ (e : DataHash × MDBFileInfo). e.1) (entries s.files) i no_entry no_record (entry_in i within)
+
+  hash_of : (i : ℕ) → i < length (values s.files) → (get_or (entries s.files) i no_entry).0 ≡ file_hash_of (get_or (values s.files) i no_record)
+  hash_of i within = shard.files.keyed i no_entry (entry_in i within) ∙ ap file_hash_of (sym (value_of i within))
+
+  pub shard_is_looked_up : (expiry : Option ℕ) → IsLookedUp (values s.files) (values s.xorbs) (plain_form expiry)
+  shard_is_looked_up expiry = record {
+    stored = λ k d below. let here = good k d below in record { is_file = here.is_file; whole = here.whole; widths = here.widths };
+    rows = shard.file_rows;
+    xorb_rows = shard.xorb_rows;
+    widths = λ k d below. (good k d below).widths.metadata.file_hash.word0;
+    ascend = λ i j less within.
+        let i_in : i < length (values s.files) = omega (arith, less, within) in
+        let keys = keys_of (entries s.files) in
+        let before : hash_cmp (get_or keys i no_entry.0) (get_or keys j no_entry.0) ≡ Less =
+        Less-from_sorted hash_cmp keys i j no_entry.0 (rising_keys hash_cmp (entries s.files) (entries_sorted s.files)) less
+        (omega (arith, entry_in j within, length-map (entries s.files) (λ (e : DataHash × MDBFileInfo). e.0))) in
+        let key : (k : ℕ) → k < length (values s.files) → get_or keys k no_entry.0 ≡ file_hash_of (get_or (values s.files) k no_record) =
+        λ k k_in. get_or-map (λ (e : DataHash × MDBFileInfo). e.0) (entries s.files) k no_entry no_entry.0 (entry_in k k_in) ∙ hash_of k k_in in
+        first_words_ascend (file_hash_of (get_or (values s.files) i no_record)) (file_hash_of (get_or (values s.files) j no_record))
+        ((λ k. hash_cmp (sym (key i i_in) k) (sym (key j within) k)) ∙ before);
+    with_table = refl;
+  }
+
+  -- the answer among the files is that of the map
+  map_answers : (hash : DataHash) (answer : Option MDBFileInfo) → IsAnswer (values s.files) hash answer → answer ≡ get s.files hash
+  map_answers hash (Some found) (i, within, is, same) =
+      let value : found ≡ get_or (values s.files) i no_record =
+      is ∙ handed_one (get_or (values s.files) i no_record) (good i no_record within) in
+      sym (get-entries s.files hash
+      ∙ entry_found hash_cmp hash_cmp-IsTotalOrder (entries s.files) i hash found no_entry (entries_sorted s.files) (entry_in i within)
+      (λ k. ((hash_of i within ∙ ap file_hash_of (sym value) ∙ same) k, (sym (value_of i within) ∙ sym value) k)))
+  map_answers hash None others = go (find hash_cmp hash (entries s.files)) refl
+    where
+      go : (o : Option MDBFileInfo) → find hash_cmp hash (entries s.files) ≡ o → None ≡ get s.files hash
+      go None is = sym (get-entries s.files hash ∙ is)
+      go (Some r) is =
+          let at = found_entry hash_cmp hash_cmp-IsAntisymmetric (entries s.files) hash r no_entry is in
+          let within : at.0 < length (values s.files) = omega (arith, at.1, length-map (entries s.files) (λ (e : DataHash × MDBFileInfo). e.1)) in
+          absurd (others at.0 within (sym (hash_of at.0 within) ∙ ap (λ (e : DataHash × MDBFileInfo). e.0) at.2))
+
+  module _ (expiry : Option ℕ) (old : Source) (are : old.bytes ≡ layout s expiry) where
+    abbrev table : Table
+    table = file_table (info_value s expiry).metadata old
+
+    -- a file lookup
+    pub lookup_written : (new : Source) (hash : DataHash) (r : Result (Option MDBFileInfo) CoreError)
+        → MatchResult r (Finding table 48 hash old new) (FindingNot table 48 hash old new) → MatchResult r (FoundInShard s hash) (NotFoundInShard s hash old new)
+    lookup_written new hash (Ok answer) finding =
+        let found = answered (values s.files) (values s.xorbs) (plain_form expiry) (shard_is_looked_up expiry) old are hash new answer finding in
+        (found.0, map_answers hash answer found.1)
+    lookup_written new hash (Err e) refused = not_answered (values s.files) (values s.xorbs) (plain_form expiry) (shard_is_looked_up expiry) old are hash new e refused
+
+    pub lookup_bounded : (new : Source) (hash : DataHash) (r : Result (Option MDBFileInfo) CoreError)
+        → MatchResult r (Finding table 48 hash old new) (FindingNot table 48 hash old new) → WithinBounds (values s.files) hash.word0 old new
+    lookup_bounded new hash (Ok answer) finding =
+        lookup_costs (values s.files) (values s.xorbs) (plain_form expiry) (shard_is_looked_up expiry) old are hash.word0 new (LookupAnswer old.bytes 48 hash answer) finding
+    lookup_bounded new hash (Err e) refused =
+        costs_refused (values s.files) (values s.xorbs) (plain_form expiry) (shard_is_looked_up expiry) old are hash new e refused
+
+    pub collision_bounded : (new : Source) (hash : DataHash) (r : Result (Option MDBFileInfo) CoreError)
+        → MatchResult r (Finding table 48 hash old new) (FindingNot table 48 hash old new)
+        → IfErr r (λ e. e ≡ TruncatedHashCollision hash.word0 → SearchWithinBounds (values s.files) hash.word0 old new)
+    collision_bounded new hash (Ok answer) finding = tt
+    collision_bounded new hash (Err e) refused =
+        costs_collision (values s.files) (values s.xorbs) (plain_form expiry) (shard_is_looked_up expiry) old are hash new e refused
