@@ -3,3 +3,4 @@ pub mod Lengths
 pub mod Reading
 pub mod Record
 pub mod Unique
+pub mod XorbReading

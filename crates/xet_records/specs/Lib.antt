@@ -2,5 +2,6 @@ pub mod FileRecord
 pub mod FileRow
 pub mod Reading
 pub mod Rows
+pub mod XorbReading
 pub mod XorbRecord
 pub mod XorbRow
