@@ -1,5 +1,6 @@
 pub mod FileRecord
 pub mod FileRow
+pub mod Merging
 pub mod Reading
 pub mod Rows
 pub mod XorbReading
