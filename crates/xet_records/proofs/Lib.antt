@@ -4,3 +4,4 @@ pub mod Reading
 pub mod Record
 pub mod Unique
 pub mod XorbReading
+pub mod Merging
