@@ -1,8 +1,10 @@
 pub mod Ends
 pub mod FileTable
+pub mod Index
 pub mod Layout
 pub mod Section
 pub mod SectionReading
 pub mod Shard
 pub mod Tables
 pub mod Written
+pub mod XorbTable
