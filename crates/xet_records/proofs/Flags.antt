@@ -1,5 +1,5 @@
 -- The flag bits, tested by a mask.
-use Rattle.std.proofs.Common.{◌≡◌, ℕ, zero, suc, refl, Bool, true, false, min, ◌+◌, ◌*◌, ◌%◌, ◌^◌, ◌<◌, not, nat_eq, ap, ◌∙◌, sym, arith}
+use Rattle.std.proofs.Common.{◌≡◌, ℕ, zero, suc, refl, false, min, ◌+◌, ◌*◌, ◌%◌, ◌^◌, ◌<◌, not, nat_eq, ap, ◌∙◌, sym, arith}
 use Rattle.std.specs.Prelude.{bit_and, bit_or}
 use Rattle.std.specs.Int.{bit_at}
 use Rattle.std.proofs.lemmas.Nat.{and_mask, and_le_r, and_comm, or_disjoint}

@@ -6,7 +6,7 @@ use Rattle.xet_records.specs.declared.file_structs.FileVerificationEntry.{FileVe
 use Rattle.xet_records.specs.declared.file_structs.FileMetadataExt.{FileMetadataExt}
 use Rattle.xet_records.specs.declared.file_structs.MDBFileInfo.{MDBFileInfo}
 use Rattle.xet_records.specs.FileRow.{FitsVerification, FitsMetadata}
-use Rattle.xet_records.specs.FileRecord.{has_verification, has_metadata_ext, flags_of, row_count, FitsItsHeader, FitsRecord, IsWellFormed}
+use Rattle.xet_records.specs.FileRecord.{has_verification, has_metadata_ext, flags_of, row_count, FitsItsHeader, IsWellFormed}
 use Rattle.xet_records.specs.Merging.{IsSameFile, verified, described, merged, Agree, joined}
 
 -- flags and the parts that they announce

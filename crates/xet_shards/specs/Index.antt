@@ -1,5 +1,5 @@
 -- The chunks of a shard's xorbs, and the lookup that keeps a place for each chunk hash.
-use Rattle.std.specs.Prelude.{◌≡◌, ◌⊎◌, ℕ, ◌<◌, List, map, Option, None, Some, IsSome, option_map, slice_get, refl}
+use Rattle.std.specs.Prelude.{◌≡◌, ℕ, Option, Some, IsSome, option_map, slice_get, refl}
 use Rattle.std.specs.FinMap.{FinMap, get, insert}
 use Rattle.std.specs.FinMap as finite
 use Rattle.std.specs.Coded.{Coded, code_by, coded×, coded_ℕ}

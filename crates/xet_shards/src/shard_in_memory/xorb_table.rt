@@ -1,13 +1,12 @@
 //! The xorbs of a shard in memory and the lookup of their chunks, without a limit on their rows.
 
-ghost use Rattle.std.specs.Prelude.{◌≡◌, ℕ, ◌≤◌, Option, None, Some, All, length, OnOk, OnErr, IfOk, IfErr};
+ghost use Rattle.std.specs.Prelude.{◌≡◌, ◌≤◌, None, All, length, OnOk, OnErr, IfOk, IfErr};
 ghost use Rattle.std.specs.FinMap as finite;
 ghost use Rattle.std.specs.HashMap.{spare};
 ghost use Rattle.xet_base.specs.declared.merklehash.DataHash.{DataHash};
-ghost use Rattle.xet_records.specs.declared.xorb_structs.MDBXorbInfo.{MDBXorbInfo as XorbRecord};
 ghost use Rattle.xet_records.specs.XorbRecord.{IsXorb};
 ghost use Rattle.xet_shards.specs.Shard.{AreXorbs, xorb_hash_of};
-ghost use Rattle.xet_shards.specs.Index.{Place, IsIndex, add_xorb};
+ghost use Rattle.xet_shards.specs.Index.{IsIndex, add_xorb};
 ghost use Rattle.xet_shards.specs.XorbTable.{shown_xorbs, placed, IsEntered};
 
 use std::alloc::Global;

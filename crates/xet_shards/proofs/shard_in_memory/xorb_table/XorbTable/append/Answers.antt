@@ -1,4 +1,4 @@
-use Rattle.std.proofs.Common.{◌≡◌, List, None, length, map, refl, sym, ap, ◌∙◌, subst, T, Global}
+use Rattle.std.proofs.Common.{◌≡◌, List, length, refl, sym, ap, ◌∙◌, subst, T, Global}
 use Rattle.std.specs.Prelude.{option_map}
 use Rattle.std.specs.BTreeMap.{insert_entry}
 use Rattle.std.specs.declared.rc.Rc.{Rc}
@@ -9,7 +9,7 @@ use Rattle.xet_base.proofs.HashOrder.{hash_cmp-IsTotalOrder, hash_cmp-IsAntisymm
 use Rattle.xet_records.specs.declared.xorb_structs.MDBXorbInfo.{MDBXorbInfo}
 use Rattle.xet_records.specs.XorbRecord.{IsXorb}
 use Rattle.xet_shards.specs.Shard.{XorbMap, AreXorbs, xorb_hash_of}
-use Rattle.xet_shards.specs.Index.{Table, IsIndex, add_xorb}
+use Rattle.xet_shards.specs.Index.{Table, IsIndex}
 use Rattle.xet_shards.specs.XorbTable.{shown_xorbs, shown_place, placed, IsEntered}
 use Rattle.xet_shards.proofs.Maps.{from_sorted-insert_entry, sorted-insert_entry, All-insert_entry}
 use Rattle.xet_shards.proofs.Index.{index-same, index-append, insert-shown, entered-from, on_err, same-shown}
