@@ -1,10 +1,12 @@
 -- The flag bits, tested by a mask.
-use Rattle.std.proofs.Common.{◌≡◌, ℕ, ◌*◌, ◌<◌, not, nat_eq, ap, ◌∙◌, arith}
-use Rattle.std.specs.Prelude.{bit_and}
+use Rattle.std.proofs.Common.{◌≡◌, ℕ, zero, suc, refl, false, min, ◌+◌, ◌*◌, ◌%◌, ◌^◌, ◌<◌, not, nat_eq, ap, ◌∙◌, sym, arith}
+use Rattle.std.specs.Prelude.{bit_and, bit_or}
 use Rattle.std.specs.Int.{bit_at}
-use Rattle.std.proofs.lemmas.Nat.Bits.{and_pow}
+use Rattle.std.proofs.lemmas.Nat.{and_mask, and_le_r, and_comm, or_disjoint}
+use Rattle.std.proofs.lemmas.Nat.Bits.{and_pow, bit_at_and, bit_at-lt, same_from_bits_below}
 use Rattle.std.proofs.lemmas.Bool.Decides.{nat_tests}
 use Rattle.xet_records.specs.FileRecord.{has_verification, has_metadata_ext}
+use Rattle.xet_records.specs.Merging.{Includes}
 
 masked : (b k : ℕ) → b < 2 → 0 < k → not (nat_eq (b * k) 0) ≡ nat_eq b 1
 masked b k small above = grind (arith, nat_tests)
@@ -16,3 +18,47 @@ verification_masked flags =
 pub metadata_ext_masked : (flags : ℕ) → not (nat_eq (bit_and flags 1073741824) 0) ≡ has_metadata_ext flags
 metadata_ext_masked flags =
     ap (λ m. not (nat_eq m 0)) (and_pow flags 30) ∙ masked (bit_at flags 30) 1073741824 (omega arith) (omega arith)
+
+-- a bit that is not set is added
+pub or_unset : (n k : ℕ) → bit_at n k ≡ 0 → bit_or n (2 ^ k) ≡ n + 2 ^ k
+or_unset n k unset = or_disjoint n (2 ^ k) (and_pow n k ∙ ap (λ b. b * 2 ^ k) unset ∙ omega arith)
+
+-- the mark of a chunk, taken away and set
+pub unmarked : (flags : ℕ) → bit_and flags 2147483647 ≡ flags % 2147483648
+unmarked flags = and_mask flags 31
+
+pub marked : (flags : ℕ) → bit_or (flags % 2147483648) 2147483648 ≡ flags % 2147483648 + 2147483648
+marked flags = or_unset (flags % 2147483648) 31 (omega arith)
+
+-- the flag of an optional part that is not announced, added
+pub verification_added : (flags : ℕ) → has_verification flags ≡ false → bit_or flags 2147483648 ≡ flags + 2147483648
+verification_added flags unset = or_unset flags 31 (grind (arith, nat_tests))
+
+pub metadata_ext_added : (flags : ℕ) → has_metadata_ext flags ≡ false → bit_or flags 1073741824 ≡ flags + 1073741824
+metadata_ext_added flags unset = or_unset flags 30 (grind (arith, nat_tests))
+
+-- inclusion of sets of bits, tested by the bits in common
+bits_in_common : (x y : ℕ) → y < 2 → (y ≡ 1 → x ≡ 1) → min x y ≡ y
+bits_in_common x zero small in_x = omega arith
+bits_in_common x (suc zero) small in_x = ap (λ n. min n 1) (in_x refl)
+bits_in_common x (suc (suc y)) small in_x = omega arith
+
+pub included_if_common : (a b : ℕ) → bit_and a b ≡ b → Includes a b
+included_if_common a b common i low set =
+    omega (arith, bit_at_and a b i, ap (λ n. bit_at n i) common, set, bit_at-lt a i)
+
+pub common_if_included : (a b : ℕ) → b < 2 ^ 32 → Includes a b → bit_and a b ≡ b
+common_if_included a b b_fits included =
+    same_from_bits_below 32 (bit_and a b) b (omega (arith, and_le_r a b)) b_fits
+    (λ i low. bit_at_and a b i ∙ bits_in_common (bit_at a i) (bit_at b i) (bit_at-lt b i) (included i low))
+
+-- the same for the other of the two
+pub included_if_common_l : (a b : ℕ) → bit_and a b ≡ a → Includes b a
+included_if_common_l a b common = included_if_common b a (and_comm b a ∙ common)
+
+pub common_if_included_l : (a b : ℕ) → a < 2 ^ 32 → Includes b a → bit_and a b ≡ a
+common_if_included_l a b a_fits included = and_comm a b ∙ common_if_included b a a_fits included
+
+-- two sets of bits that include each other are equal
+pub same_if_included : (a b : ℕ) → a < 2 ^ 32 → b < 2 ^ 32 → Includes a b → Includes b a → a ≡ b
+same_if_included a b a_fits b_fits first second = sym (common_if_included_l a b a_fits second) ∙ common_if_included a b b_fits first

@@ -3,3 +3,5 @@ pub mod Lengths
 pub mod Reading
 pub mod Record
 pub mod Unique
+pub mod XorbReading
+pub mod Merging

@@ -1,10 +1,11 @@
 -- Bytes begin with the text of one record at most.
-use Rattle.std.proofs.Common.{◌≡◌, ℕ, List, [], ◌∷◌, ◌++◌, flat_map, Bool, Option, None, Some, refl, sym, ap, ◌∙◌, subst, if◌then◌else◌}
+use Rattle.std.proofs.Common.{◌≡◌, ℕ, ◌^◌, ◌<◌, List, [], ◌∷◌, ◌++◌, flat_map, Bool, Option, None, Some, refl, sym, ap, ◌∙◌, subst, if◌then◌else◌}
 use Rattle.std.specs.Prelude.{MatchOption, All, IfSome, is_some, option_to_list}
 use Rattle.std.proofs.lemmas.List.{length-append, append_assoc}
 use Rattle.std.proofs.lemmas.List.Elements.{All-cons, All-nil}
 use Rattle.xet_base.specs.Bytes.{u32_bytes, u64_bytes}
-use Rattle.xet_base.specs.Hash.{hash_bytes}
+use Rattle.xet_base.specs.declared.merklehash.DataHash.{DataHash}
+use Rattle.xet_base.specs.Hash.{hash_bytes, IsHash}
 use Rattle.xet_base.proofs.Lists.{same_parts, parts_front}
 use Rattle.xet_base.proofs.Bytes.{length-u32_bytes, length-hash_bytes, u32_bytes-injective, u64_bytes-front, hash_bytes-injective}
 use Rattle.xet_records.specs.declared.file_structs.FileDataSequenceHeader.{FileDataSequenceHeader}
@@ -19,23 +20,31 @@ use Rattle.std.specs.Io.KnownBytes.{Consumes}
 use Rattle.xet_records.proofs.Lengths.{length-segment_row, length-verification_row, length-metadata_row}
 use Rattle.xet_records.proofs.Record.{header_row-front, optional_rows}
 
+-- the bytes of a hash and of four numbers of 32 bits tell them
+pub hash_and_numbers : (g h : DataHash) (a b c d k l m n : ℕ) → IsHash g → IsHash h → a < 2 ^ 32 → b < 2 ^ 32 → c < 2 ^ 32 → d < 2 ^ 32 → k < 2 ^ 32 → l < 2 ^ 32 → m < 2 ^ 32 → n < 2 ^ 32
+    → (((hash_bytes g ++ u32_bytes a) ++ u32_bytes c) ++ u32_bytes k) ++ u32_bytes m ≡ (((hash_bytes h ++ u32_bytes b) ++ u32_bytes d) ++ u32_bytes l) ++ u32_bytes n
+    → (g ≡ h) × ((a ≡ b) × ((c ≡ d) × ((k ≡ l) × (m ≡ n))))
+hash_and_numbers g h a b c d k l m n g_fits h_fits a_fits b_fits c_fits d_fits k_fits l_fits m_fits n_fits same =
+    let last = same_parts (((hash_bytes g ++ u32_bytes a) ++ u32_bytes c) ++ u32_bytes k) (((hash_bytes h ++ u32_bytes b) ++ u32_bytes d) ++ u32_bytes l) _ _
+    (simp (length-append, length-hash_bytes, length-u32_bytes)) same in
+    let fourth = same_parts ((hash_bytes g ++ u32_bytes a) ++ u32_bytes c) ((hash_bytes h ++ u32_bytes b) ++ u32_bytes d) _ _ (simp (length-append, length-hash_bytes, length-u32_bytes)) last.0 in
+    let third = same_parts (hash_bytes g ++ u32_bytes a) (hash_bytes h ++ u32_bytes b) _ _ (simp (length-append, length-hash_bytes, length-u32_bytes)) fourth.0 in
+    let first = same_parts (hash_bytes g) (hash_bytes h) _ _ (length-hash_bytes g ∙ sym (length-hash_bytes h)) third.0 in (
+      hash_bytes-injective g h g_fits h_fits first.0,
+      (
+        u32_bytes-injective a b a_fits b_fits first.1,
+        (u32_bytes-injective c d c_fits d_fits third.1, (u32_bytes-injective k l k_fits l_fits fourth.1, u32_bytes-injective m n m_fits n_fits last.1)),
+      ),
+    )
+
 -- the bytes tell the row
 pub segment_row-injective : (s t : FileDataSequenceEntry) → FitsSegment s → FitsSegment t → segment_row s ≡ segment_row t → s ≡ t
 unfolding segment_row
 segment_row-injective s t s_fits t_fits same =
-    let last = same_parts (((hash_bytes s.xorb_hash ++ u32_bytes s.xorb_flags) ++ u32_bytes s.unpacked_segment_bytes) ++ u32_bytes s.chunk_index_start)
-    (((hash_bytes t.xorb_hash ++ u32_bytes t.xorb_flags) ++ u32_bytes t.unpacked_segment_bytes) ++ u32_bytes t.chunk_index_start) _ _ (simp (length-append, length-hash_bytes, length-u32_bytes)) same in
-    let fourth = same_parts ((hash_bytes s.xorb_hash ++ u32_bytes s.xorb_flags) ++ u32_bytes s.unpacked_segment_bytes)
-    ((hash_bytes t.xorb_hash ++ u32_bytes t.xorb_flags) ++ u32_bytes t.unpacked_segment_bytes) _ _ (simp (length-append, length-hash_bytes, length-u32_bytes)) last.0 in
-    let third = same_parts (hash_bytes s.xorb_hash ++ u32_bytes s.xorb_flags) (hash_bytes t.xorb_hash ++ u32_bytes t.xorb_flags) _ _
-    (simp (length-append, length-hash_bytes, length-u32_bytes)) fourth.0 in
-    let first = same_parts (hash_bytes s.xorb_hash) (hash_bytes t.xorb_hash) _ _ (length-hash_bytes s.xorb_hash ∙ sym (length-hash_bytes t.xorb_hash)) third.0 in
-    let e0 = hash_bytes-injective s.xorb_hash t.xorb_hash s_fits.xorb_hash t_fits.xorb_hash first.0 in
-    let e1 = u32_bytes-injective s.xorb_flags t.xorb_flags s_fits.xorb_flags t_fits.xorb_flags first.1 in
-    let e2 = u32_bytes-injective s.unpacked_segment_bytes t.unpacked_segment_bytes s_fits.unpacked_segment_bytes t_fits.unpacked_segment_bytes third.1 in
-    let e3 = u32_bytes-injective s.chunk_index_start t.chunk_index_start s_fits.chunk_index_start t_fits.chunk_index_start fourth.1 in
-    let e4 = u32_bytes-injective s.chunk_index_end t.chunk_index_end s_fits.chunk_index_end t_fits.chunk_index_end last.1 in
-    λ i. record { xorb_hash = e0 i; xorb_flags = e1 i; unpacked_segment_bytes = e2 i; chunk_index_start = e3 i; chunk_index_end = e4 i }
+    let e = hash_and_numbers s.xorb_hash t.xorb_hash s.xorb_flags t.xorb_flags s.unpacked_segment_bytes t.unpacked_segment_bytes s.chunk_index_start t.chunk_index_start s.chunk_index_end t.chunk_index_end
+    s_fits.xorb_hash t_fits.xorb_hash s_fits.xorb_flags t_fits.xorb_flags s_fits.unpacked_segment_bytes t_fits.unpacked_segment_bytes s_fits.chunk_index_start t_fits.chunk_index_start
+    s_fits.chunk_index_end t_fits.chunk_index_end same in
+    λ i. record { xorb_hash = e.0 i; xorb_flags = e.1.0 i; unpacked_segment_bytes = e.1.1.0 i; chunk_index_start = e.1.1.1.0 i; chunk_index_end = e.1.1.1.1 i }
 
 reserved-injective : (ms ns : List ℕ) → IsReserved ms → IsReserved ns → flat_map u64_bytes ms ≡ flat_map u64_bytes ns → ms ≡ ns
 reserved-injective ms ns m n same =

@@ -1,6 +1,9 @@
 -- A xorb record: a header and its chunks.
-use Rattle.std.specs.Prelude.{◌≡◌, ◌≢◌, ℕ, ◌+◌, ◌≤◌, List, ◌++◌, length, flat_map, sum_by, All}
+use Rattle.std.specs.Prelude.{◌≡◌, ◌≢◌, ℕ, ◌+◌, ◌≤◌, List, [], ◌∷◌, ◌++◌, length, map, flat_map, sum_by, All}
+use Rattle.xet_base.specs.declared.merklehash.DataHash.{DataHash}
 use Rattle.xet_base.specs.Hash.{all_ones}
+use Rattle.xet_records.specs.declared.file_structs.FileDataSequenceEntry.{FileDataSequenceEntry}
+use Rattle.xet_records.specs.declared.xorb_structs.XorbChunkSequenceEntry.{XorbChunkSequenceEntry}
 use Rattle.xet_records.specs.declared.xorb_structs.XorbChunkSequenceHeader.{XorbChunkSequenceHeader}
 use Rattle.xet_records.specs.declared.xorb_structs.MDBXorbInfo.{MDBXorbInfo}
 use Rattle.xet_records.specs.XorbRow.{xorb_header_row, chunk_row, FitsXorbHeader, FitsChunk}
@@ -17,19 +20,51 @@ xorb_row_count r = 1 + length r.chunks
 unfoldable pub xorb_text : MDBXorbInfo → List ℕ
 xorb_text r = xorb_header_row r.metadata ++ flat_map chunk_row r.chunks
 
--- the bytes of a xorb's chunks
+-- the bytes of chunks, and those of a xorb's chunks
+abbrev pub total_bytes : List XorbChunkSequenceEntry → ℕ
+total_bytes cs = sum_by (λ c. c.unpacked_segment_bytes) cs
+
 abbrev pub size_of_chunks : MDBXorbInfo → ℕ
-size_of_chunks r = sum_by (λ c. c.unpacked_segment_bytes) r.chunks
+size_of_chunks r = total_bytes r.chunks
+
+-- the place after a chunk's last byte in the xorb's bytes
+abbrev pub end_of_chunk : XorbChunkSequenceEntry → ℕ
+end_of_chunk c = c.chunk_byte_range_start + c.unpacked_segment_bytes
+
+-- each chunk's hash with the place after its last byte
+abbrev pub boundaries : List XorbChunkSequenceEntry → List (DataHash × ℕ)
+boundaries cs = map (λ c. (c.chunk_hash, end_of_chunk c)) cs
+
+-- the segment of nothing
+abbrev pub default_segment : FileDataSequenceEntry
+default_segment =
+    record { xorb_hash = record { word0 = 0; word1 = 0; word2 = 0; word3 = 0 }; xorb_flags = 0; unpacked_segment_bytes = 0; chunk_index_start = 0; chunk_index_end = 0 }
+
+-- the segment of a file that has these chunks of a xorb, which stand from one place up to another
+abbrev pub segment_of : XorbChunkSequenceHeader → List XorbChunkSequenceEntry → ℕ → ℕ → FileDataSequenceEntry
+segment_of h [] from to = default_segment
+segment_of h (c ∷ cs) from to =
+    record { xorb_hash = h.xorb_hash; xorb_flags = h.xorb_flags; unpacked_segment_bytes = total_bytes (c ∷ cs); chunk_index_start = from; chunk_index_end = to }
 
 -- the widths of a record's numbers
 pub record FitsXorb (r : MDBXorbInfo) : Type 0 where
   pub metadata : FitsXorbHeader r.metadata
   pub chunks : All FitsChunk r.chunks
 
+-- a record has the chunks that its header announces
+abbrev pub HasItsChunks : MDBXorbInfo → Type 0
+HasItsChunks r = length r.chunks ≡ r.metadata.num_entries
+
+-- a record that may stand in a section: not a bookend, whole, and its numbers within their widths
+pub record IsStoredXorb (r : MDBXorbInfo) : Type 0 where
+  pub is_xorb : r.metadata.xorb_hash ≢ all_ones
+  pub count : HasItsChunks r
+  pub widths : FitsXorb r
+
 -- a record that may be put into a shard
 pub record IsXorb (r : MDBXorbInfo) : Type 0 where
   pub is_xorb : r.metadata.xorb_hash ≢ all_ones
-  pub count : length r.chunks ≡ r.metadata.num_entries
+  pub count : HasItsChunks r
   pub rows : xorb_row_count r ≤ 4294967295
   pub bytes : size_of_chunks r ≤ 4294967295
   pub widths : FitsXorb r

@@ -1,7 +1,8 @@
 -- The two rows of a xorb record: a hash and sixteen bytes each.
-use Rattle.std.specs.Prelude.{ℕ, ◌^◌, ◌<◌, List, ◌++◌}
+use Rattle.std.specs.Prelude.{◌⊎◌, ℕ, ◌+◌, ◌%◌, ◌^◌, ◌<◌, ◌==◌, Bool, IsTrue, List, ◌++◌, if◌then◌else◌}
+use Rattle.std.specs.Int.{bit_at}
 use Rattle.xet_base.specs.Bytes.{u32_bytes}
-use Rattle.xet_base.specs.Hash.{hash_bytes, IsHash}
+use Rattle.xet_base.specs.Hash.{hash_bytes, IsHash, IsEligible}
 use Rattle.xet_records.specs.declared.xorb_structs.XorbChunkSequenceHeader.{XorbChunkSequenceHeader}
 use Rattle.xet_records.specs.declared.xorb_structs.XorbChunkSequenceEntry.{XorbChunkSequenceEntry}
 
@@ -29,3 +30,15 @@ pub record FitsChunk (c : XorbChunkSequenceEntry) : Type 0 where
   pub unpacked_segment_bytes : c.unpacked_segment_bytes < 2 ^ 32
   pub flags : c.flags < 2 ^ 32
   pub unused : c._unused < 2 ^ 32
+
+-- bit 31 of a chunk's flags marks it for the global index, whatever its hash
+abbrev pub is_marked : ℕ → Bool
+is_marked flags = bit_at flags 31 == 1
+
+-- the flags of a chunk with the mark set or taken away, and the other 31 bits as they are
+abbrev pub with_mark : Bool → ℕ → ℕ
+with_mark marked flags = flags % 2 ^ 31 + (if marked then 2147483648 else 0)
+
+-- the global index keeps a chunk that is marked, or whose hash is eligible
+abbrev pub IsEligibleChunk : XorbChunkSequenceEntry → Type 0
+IsEligibleChunk c = IsTrue (is_marked c.flags) ⊎ IsEligible c.chunk_hash

@@ -7,6 +7,8 @@ ghost use Rattle.xet_base.specs.Bytes.{HasBytes, LacksBytes};
 ghost use Rattle.xet_base.specs.Hash.{all_ones};
 ghost use Rattle.xet_records.specs.FileRow.{header_row, segment_row, verification_row, metadata_row, FitsHeader, FitsSegment, FitsVerification, FitsMetadata, clear_verification, clear_metadata};
 ghost use Rattle.xet_records.specs.FileRecord.{has_verification, has_metadata_ext, flags_of, file_bookend, rows_after, row_count, record_text, size_of_file, FitsItsHeader, IsStored, handed_out};
+ghost use Rattle.xet_records.specs.Merging.{Compares, IsSameFile, merged};
+ghost use Rattle.xet_records.specs.XorbRecord.{total_bytes, segment_of};
 ghost use Rattle.xet_records.specs.Rows.{ReadsRow};
 ghost use Rattle.xet_records.specs.Reading.{ReadsRecord, ReadsRowsAfter, ReadsBookend, IsCutShort, HasTooManyRows};
 ghost use Rattle.xet_base.specs.Source.{Takes, ReadFails};
@@ -16,6 +18,7 @@ use crate::rows::{
     Row, Rows, read_optional, read_row, read_rows, read_source_optional, read_source_rows,
     write_optional, write_row, write_rows,
 };
+use crate::xorb_structs::{XorbChunkSequenceEntry, XorbChunkSequenceHeader};
 use std::alloc::Global;
 use std::io;
 use std::io::{ErrorKind, Read, Write};
@@ -159,6 +162,41 @@ impl FileDataSequenceHeader {
             0
         }
     }
+
+    /// Whether both headers have the same hash and the same number of segments.
+    pub fn verify_same_file(header_1: &Self, header_2: &Self) -> bool
+        ensures { IsTrue result ↔ IsSameFile header_1.now header_2.now }
+    {
+        header_1.file_hash == header_2.file_hash && header_1.num_entries == header_2.num_entries
+    }
+
+    /// Compares the 32 flag bits of two headers as sets.
+    pub fn compare_flag_superset(header_a: &Self, header_b: &Self) -> SupersetResult
+        ensures { Compares header_a.now.file_flags header_b.now.file_flags result }
+    {
+        let a = header_a.file_flags;
+        let b = header_b.file_flags;
+        let common = a & b;
+        match (common == b, common == a) {
+            (true, true) => SupersetResult::Equal,
+            (true, false) => SupersetResult::SuperA,
+            (false, true) => SupersetResult::SuperB,
+            (false, false) => SupersetResult::Neither,
+        }
+    }
+}
+
+/// How the flags of two headers `a` and `b` compare.
+#[derive(Clone, Copy, Debug, PartialEq, Eq)]
+pub enum SupersetResult {
+    /// `a` has each flag that `b` has, and one more.
+    SuperA,
+    /// `b` has each flag that `a` has, and one more.
+    SuperB,
+    /// Each has a flag that the other has not.
+    Neither,
+    /// Both have the same flags.
+    Equal,
 }
 
 impl Row for FileDataSequenceHeader {
@@ -221,6 +259,33 @@ impl FileDataSequenceEntry {
         FileDataSequenceEntry {
             xorb_hash,
             xorb_flags: MDB_DEFAULT_FILE_FLAG,
+            unpacked_segment_bytes,
+            chunk_index_start,
+            chunk_index_end,
+        }
+    }
+
+    /// The segment of these chunks of the xorb with this header, which stand from `chunk_index_start` up to
+    /// `chunk_index_end`; of no chunks it is the default. Asks that their bytes fit 32 bits.
+    pub fn from_xorb_entries(
+        metadata: &XorbChunkSequenceHeader,
+        chunks: &[XorbChunkSequenceEntry],
+        chunk_index_start: u32,
+        chunk_index_end: u32,
+    ) -> Self
+        requires { total_bytes chunks.now < 2 ^ 32 }
+        ensures { result ≡ segment_of metadata.now chunks.now chunk_index_start chunk_index_end }
+    {
+        if chunks.is_empty() {
+            return Self::default();
+        }
+        let mut unpacked_segment_bytes = 0;
+        for chunk in chunks {
+            unpacked_segment_bytes += chunk.unpacked_segment_bytes;
+        }
+        FileDataSequenceEntry {
+            xorb_hash: metadata.xorb_hash,
+            xorb_flags: metadata.xorb_flags,
             unpacked_segment_bytes,
             chunk_index_start,
             chunk_index_end,
@@ -524,6 +589,41 @@ impl MDBFileInfo {
             return Err(CoreError::InvalidShard(String::new(alloc)));
         }
         Ok(Some(read_rows_after(alloc, reader, metadata)?))
+    }
+
+    /// Takes over each optional part that only `other` has, and nothing else. Asks that both records are of
+    /// one file. Where it is refused, for want of memory, nothing changes.
+    #[tactic(auto, using(crate::proofs::Flags::verification_added, crate::proofs::Flags::metadata_ext_added))]
+    pub fn merge_from(&mut self, alloc: Global, other: &Self) -> Result<()>
+        requires { IsSameFile self.old.metadata other.now.metadata }
+        ensures ok { OnOk result (self.new ≡ merged self.old other.now) }
+        ensures err { OnErr result (self.new ≡ self.old) }
+        ensures causes { IfErr result (λ e. e ≡ CoreError.OutOfMemory) }
+    {
+        let takes_verification = other.contains_verification() && !self.contains_verification();
+        let takes_metadata_ext = other.contains_metadata_ext() && !self.contains_metadata_ext();
+        if takes_verification {
+            self.verification = other.verification.try_clone(alloc)?;
+            self.metadata.file_flags |= MDB_FILE_FLAG_WITH_VERIFICATION;
+        }
+        if takes_metadata_ext {
+            self.metadata_ext = other.metadata_ext;
+            self.metadata.file_flags |= MDB_FILE_FLAG_WITH_METADATA_EXT;
+        }
+        Ok(())
+    }
+
+    /// A copy of the record, or `OutOfMemory`.
+    pub fn try_clone(&self, alloc: Global) -> Result<Self>
+        ensures ok { IfOk result (λ copy. copy ≡ self.now) }
+        ensures causes { IfErr result (λ e. e ≡ CoreError.OutOfMemory) }
+    {
+        Ok(MDBFileInfo {
+            metadata: self.metadata,
+            segments: self.segments.try_clone(alloc)?,
+            verification: self.verification.try_clone(alloc)?,
+            metadata_ext: self.metadata_ext,
+        })
     }
 }
 

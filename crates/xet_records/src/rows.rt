@@ -8,7 +8,7 @@ ghost use Rattle.xet_base.specs.Bytes.{HasBytes, LacksBytes};
 ghost use Rattle.xet_base.specs.Source.{Takes, ReadFails};
 ghost use Rattle.xet_base.specs.Errors.{IsEndOfInput, IsDeviceError};
 
-use std::alloc::{AllocFailed, Global};
+use std::alloc::{AllocError, AllocFailed, Global};
 use std::io;
 use std::io::{ErrorKind, Read, Write};
 use std::marker::Model;
@@ -84,6 +84,16 @@ impl<T> Rows<T> {
         ensures err { OnErr result (self.new ≡ self.old) }
     {
         self.items.push(row)
+    }
+}
+
+impl<T: Copy> Rows<T> {
+    /// A copy of the list, or `AllocError` where it finds no memory.
+    pub fn try_clone(&self, alloc: Global) -> std::result::Result<Rows<T>, AllocError>
+        ensures { IfOk result (λ copy. copy ≡ self.now) }
+    {
+        let items = Vec::from_slice(alloc, self.items.as_slice())?;
+        Ok(Rows { items })
     }
 }
 

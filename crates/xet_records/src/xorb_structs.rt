@@ -1,18 +1,22 @@
 //! The rows and records of the xorb section.
 
-ghost use Rattle.std.specs.Prelude.{◌≡◌, OnOk, IfOk, IfErr, IsTrue, ◌↔◌};
+ghost use Rattle.std.specs.Prelude.{◌≡◌, ◌+◌, ◌*◌, ◌^◌, ◌<◌, ℕ, List, Some, ◌++◌, All, MatchOption, IfSome, OnOk, IfOk, IfErr, IsTrue, ◌↔◌};
 ghost use Rattle.std.specs.Io.KnownBytes.{Appends, Consumes};
 ghost use Rattle.std.specs.IoError.{error_kind};
 ghost use Rattle.xet_base.specs.Bytes.{HasBytes, LacksBytes};
 ghost use Rattle.xet_base.specs.Hash.{all_ones};
-ghost use Rattle.xet_records.specs.XorbRow.{xorb_header_row, chunk_row, FitsXorbHeader, FitsChunk};
-ghost use Rattle.xet_records.specs.XorbRecord.{xorb_bookend};
+ghost use Rattle.xet_base.specs.Errors.{IsEndOfInput, IsDeviceError};
+ghost use Rattle.xet_records.specs.XorbRow.{xorb_header_row, chunk_row, FitsXorbHeader, FitsChunk, with_mark, IsEligibleChunk};
+ghost use Rattle.xet_records.specs.XorbRecord.{xorb_bookend, xorb_row_count, xorb_text, end_of_chunk, boundaries, HasItsChunks, IsStoredXorb};
+ghost use Rattle.xet_records.specs.XorbReading.{ReadsXorbBookend, ReadsXorb, IsXorbCutShort};
 
 use crate::file_structs::MDB_FILE_INFO_ENTRY_SIZE;
-use crate::rows::{Row, Rows, read_row, write_row};
+use crate::rows::{Row, Rows, read_row, read_rows, write_row, write_rows};
+use std::alloc::Global;
 use std::io;
 use std::io::{ErrorKind, Read, Write};
-use xet_base::merklehash::MerkleHash;
+use xet_base::error::{CoreError, Result};
+use xet_base::merklehash::{MerkleHash, hash_is_global_dedup_eligible};
 use xet_base::row::{put_hash, put_u32, split_hash, split_u32};
 
 /// The flags of a xorb.
@@ -148,6 +152,29 @@ impl XorbChunkSequenceEntry {
         }
     }
 
+    /// The chunk, marked for the global index or not.
+    #[tactic(auto, using(crate::proofs::Flags::unmarked, crate::proofs::Flags::marked))]
+    pub fn with_global_dedup_flag(self, is_global_dedup_chunk: bool) -> Self
+        ensures { result ≡ record self { flags = with_mark is_global_dedup_chunk self.flags } }
+    {
+        let unmarked = self.flags & !MDB_CHUNK_WITH_GLOBAL_DEDUP_FLAG;
+        let flags = if is_global_dedup_chunk {
+            unmarked | MDB_CHUNK_WITH_GLOBAL_DEDUP_FLAG
+        } else {
+            unmarked
+        };
+        XorbChunkSequenceEntry { flags, ..self }
+    }
+
+    /// Whether the global index keeps the chunk: it is marked, or its hash is eligible.
+    #[tactic(auto, using(crate::proofs::Flags::verification_masked))]
+    pub fn is_global_dedup_eligible(&self) -> bool
+        ensures { IsTrue result ↔ IsEligibleChunk self.now }
+    {
+        self.flags & MDB_CHUNK_WITH_GLOBAL_DEDUP_FLAG != 0
+            || hash_is_global_dedup_eligible(&self.chunk_hash)
+    }
+
     /// Appends the row and returns its 48 bytes. The error is the writer's.
     pub fn serialize<W: Write>(&self, writer: &mut W) -> io::Result<usize>
         ensures text { OnOk result
@@ -208,9 +235,84 @@ impl Row for XorbChunkSequenceEntry {
     fn widths(self) {}
 }
 
-/// All that a shard knows of a xorb.
+/// All that a shard knows of a xorb. It has to have as many chunks as its header announces before it is
+/// measured or written.
 #[derive(Debug, PartialEq, Drop)]
 pub struct MDBXorbInfo {
     pub metadata: XorbChunkSequenceHeader,
     pub chunks: Rows<XorbChunkSequenceEntry>,
+}
+
+impl MDBXorbInfo {
+    /// The bytes of the record. Asks that it has as many chunks as its header announces.
+    pub fn num_bytes(&self) -> u64
+        requires { HasItsChunks self.now }
+        ensures { result ≡ 48 * xorb_row_count self.now }
+    {
+        (1 + u64::from(self.metadata.num_entries)) * MDB_FILE_INFO_ENTRY_SIZE as u64
+    }
+
+    /// Appends the rows of the record and returns their bytes. The error is the writer's. Asks that the
+    /// record has as many chunks as its header announces.
+    #[tactic(auto, unfolding(crate::specs::XorbRecord::xorb_text))]
+    pub fn serialize<W: Write>(&self, writer: &mut W) -> io::Result<usize>
+        requires { HasItsChunks self.now }
+        ensures text { OnOk result
+            (Appends (W.contents writer.old) (W.contents writer.new) (xorb_text self.now)) }
+        ensures count { IfOk result (λ n. n ≡ 48 * xorb_row_count self.now) }
+    {
+        write_row(&self.metadata, writer)?;
+        write_rows(&self.chunks, writer)?;
+        Ok(self.num_bytes() as usize)
+    }
+
+    /// Reads a record, or `None` at the header that ends a section, which has the all-ones hash, whatever
+    /// its other fields.
+    ///
+    /// `UnexpectedEof` where the bytes end before the header or the chunks that it announces,
+    /// `OutOfMemory` where these find none.
+    pub fn deserialize<R: Read>(alloc: Global, reader: &mut R) -> Result<Option<Self>>
+        ensures found { IfOk result (λ found. MatchOption found
+            (ReadsXorbBookend (Consumes (R.remaining reader.old) (R.remaining reader.new)))
+            (ReadsXorb (Consumes (R.remaining reader.old) (R.remaining reader.new)))) }
+        ensures end { IfErr result
+            (λ e. IsEndOfInput e → IfSome (R.remaining reader.old) IsXorbCutShort) }
+        ensures causes { IfErr result IsDeviceError }
+        ensures whole { OnOk result (IfSome (R.remaining reader.old) (λ bytes. ¬ IsXorbCutShort bytes)) }
+        ensures again { (r : MDBXorbInfo) → (rest : List ℕ) → IsStoredXorb r → R.remaining reader.old ≡ Some (xorb_text r ++ rest)
+            → IfOk result (λ found. (found ≡ Some r) × (R.remaining reader.new ≡ Some rest)) }
+    {
+        let metadata = XorbChunkSequenceHeader::deserialize(reader)?;
+        if metadata.is_bookend() {
+            return Ok(None);
+        }
+        let chunks = read_rows(alloc, reader, metadata.num_entries)?;
+        Ok(Some(MDBXorbInfo { metadata, chunks }))
+    }
+
+    /// Each chunk's hash with the place after its last byte in the xorb's bytes, unpacked. Asks that these
+    /// places fit 32 bits. `OutOfMemory` where the list finds none.
+    pub fn chunks_and_boundaries(&self, alloc: Global) -> Result<Vec<(MerkleHash, u32)>>
+        requires { All (λ c. end_of_chunk c < 2 ^ 32) self.now.chunks }
+        ensures ok { IfOk result (λ list. list.items ≡ boundaries self.now.chunks) }
+        ensures causes { IfErr result (λ e. e ≡ CoreError.OutOfMemory) }
+    {
+        let mut list = Vec::with_capacity(alloc, self.chunks.len())?;
+        for chunk in self.chunks.as_slice() {
+            let end = chunk.chunk_byte_range_start + chunk.unpacked_segment_bytes;
+            list.push((chunk.chunk_hash, end))?;
+        }
+        Ok(list)
+    }
+
+    /// A copy of the record, or `OutOfMemory`.
+    pub fn try_clone(&self, alloc: Global) -> Result<Self>
+        ensures ok { IfOk result (λ copy. copy ≡ self.now) }
+        ensures causes { IfErr result (λ e. e ≡ CoreError.OutOfMemory) }
+    {
+        Ok(MDBXorbInfo {
+            metadata: self.metadata,
+            chunks: self.chunks.try_clone(alloc)?,
+        })
+    }
 }

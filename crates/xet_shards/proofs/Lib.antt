@@ -1,6 +1,7 @@
 pub mod Ends
 pub mod EndsUnique
 pub mod Files
+pub mod Index
 pub mod Layouts
 pub mod Loading
 pub mod Maps

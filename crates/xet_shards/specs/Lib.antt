@@ -1,5 +1,6 @@
 pub mod Ends
 pub mod FileTable
+pub mod Index
 pub mod Layout
 pub mod Lookup
 pub mod Section
@@ -7,3 +8,4 @@ pub mod SectionReading
 pub mod Shard
 pub mod Tables
 pub mod Written
+pub mod XorbTable

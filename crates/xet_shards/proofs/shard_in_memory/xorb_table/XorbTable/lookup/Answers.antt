@@ -1,0 +1,14 @@
+use Rattle.std.proofs.Common.{sym, ap, ◌∙◌, subst}
+use Rattle.std.specs.FinMap.{get}
+use Rattle.xet_shards.specs.Index.{Table, IsIndex}
+use Rattle.xet_shards.specs.XorbTable.{shown_place, placed}
+use Rattle.xet_shards.proofs.Index.{get-shown, index-same}
+use Rattle.xet_shards.proofs.shard_in_memory.xorb_table.XorbTable.lookup.Goals as goal
+
+pub returns-clause-places : goal.returns-clause-places
+returns-clause-places c = λ q. sym (get-shown shown_place q c.self.inside.lookup.entries) ∙ ap (λ (t : Table). get t.places q) c.self.view_is
+
+pub returns-clause-index : goal.returns-clause-index
+returns-clause-index c =
+    subst (λ (t : Table). IsIndex t.xorbs (get t.places)) c.self.view_is
+    (index-same _ (placed c.self.inside.lookup) _ (λ q. get-shown shown_place q c.self.inside.lookup.entries) c.self.invariant.index)

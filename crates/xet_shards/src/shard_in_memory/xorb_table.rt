@@ -1,0 +1,116 @@
+//! The xorbs of a shard in memory and the lookup of their chunks, without a limit on their rows.
+
+ghost use Rattle.std.specs.Prelude.{◌≡◌, ◌≤◌, None, All, length, OnOk, OnErr, IfOk, IfErr};
+ghost use Rattle.std.specs.FinMap as finite;
+ghost use Rattle.std.specs.HashMap.{spare};
+ghost use Rattle.xet_base.specs.declared.merklehash.DataHash.{DataHash};
+ghost use Rattle.xet_records.specs.XorbRecord.{IsXorb};
+ghost use Rattle.xet_shards.specs.Shard.{AreXorbs, xorb_hash_of};
+ghost use Rattle.xet_shards.specs.Index.{IsIndex, add_xorb};
+ghost use Rattle.xet_shards.specs.XorbTable.{shown_xorbs, placed, IsEntered};
+
+use std::alloc::Global;
+use std::collections::{BTreeMap, HashMap};
+use std::marker::Model;
+use std::rc::Rc;
+use xet_base::error::{CoreError, Result};
+use xet_base::merklehash::MerkleHash;
+use xet_records::xorb_structs::MDBXorbInfo;
+
+/// Well-formed xorbs, each under its hash, and a place of each of their chunks. Contracts see both as finite
+/// maps.
+#[derive(Drop)]
+pub struct XorbTable {
+    content: BTreeMap<MerkleHash, Rc<MDBXorbInfo>>,
+    lookup: HashMap<MerkleHash, (Rc<MDBXorbInfo>, u64)>,
+}
+
+impl Model for XorbTable {
+    ghost use Rattle.xet_shards.specs.Index.{Table, coded_table};
+
+    ghost Value = { Table };
+
+    ghost coded = { coded_table };
+
+    ghost use Rattle.xet_shards.specs.XorbTable.{table_inside, IsSoundTable};
+
+    ghost view = { table_inside };
+
+    ghost invariant = { IsSoundTable };
+}
+
+impl XorbTable {
+    pub fn new(alloc: Global) -> XorbTable
+        ensures { result ≡ record { xorbs = finite.empty; places = finite.empty } }
+    {
+        XorbTable {
+            content: BTreeMap::new(alloc),
+            lookup: HashMap::new(alloc),
+        }
+    }
+
+    pub fn content(&self) -> &BTreeMap<MerkleHash, Rc<MDBXorbInfo>>
+        ensures entries { shown_xorbs result.now.entries ≡ finite.entries self.now.xorbs }
+        ensures xorbs { AreXorbs (shown_xorbs result.now.entries) }
+    {
+        &self.content
+    }
+
+    pub fn lookup(&self) -> &HashMap<MerkleHash, (Rc<MDBXorbInfo>, u64)>
+        ensures places { (q : DataHash) → placed result.now q ≡ finite.get self.now.places q }
+        ensures index { IsIndex self.now.xorbs (finite.get self.now.places) }
+    {
+        &self.lookup
+    }
+
+    /// Puts a xorb under its hash, under which there is none. `OutOfMemory` where it finds none, and then
+    /// nothing changes.
+    pub fn append(&mut self, alloc: Global, xorb: Rc<MDBXorbInfo>) -> Result<()>
+        requires absent { finite.get self.old.xorbs (xorb_hash_of xorb.value) ≡ None }
+        requires well_formed { IsXorb xorb.value }
+        ensures ok { OnOk result (self.new.xorbs ≡ add_xorb self.old.xorbs xorb.value) }
+        ensures err { OnErr result (self.new ≡ self.old) }
+        ensures causes { IfErr result (λ e. e ≡ CoreError.OutOfMemory) }
+    {
+        let owner = xorb.clone()?;
+        let owners = owners_of(alloc, &xorb)?;
+        self.lookup.reserve(owners.len())?;
+        // The last call that can be refused, and the first that changes what the table holds.
+        self.content.insert(xorb.metadata.xorb_hash, owner)?;
+        enter_chunks(&mut self.lookup, xorb.as_ref(), owners);
+        Ok(())
+    }
+}
+
+// An owner of the xorb for each of its chunks.
+fn owners_of(alloc: Global, xorb: &Rc<MDBXorbInfo>) -> Result<Vec<Rc<MDBXorbInfo>>>
+    ensures count { IfOk result (λ owners. length owners.items ≡ length xorb.now.value.chunks) }
+    ensures owners { IfOk result (λ owners. All (λ owner. owner.value ≡ xorb.now.value) owners.items) }
+    ensures causes { IfErr result (λ e. e ≡ CoreError.OutOfMemory) }
+{
+    let mut owners = Vec::with_capacity(alloc, xorb.chunks.len())?;
+    for _chunk in 0..xorb.chunks.len() {
+        owners.push(xorb.clone()?)?;
+    }
+    Ok(owners)
+}
+
+// Enters the chunks of a xorb, for which the lookup has room.
+fn enter_chunks(
+    lookup: &mut HashMap<MerkleHash, (Rc<MDBXorbInfo>, u64)>,
+    xorb: &MDBXorbInfo,
+    mut owners: Vec<Rc<MDBXorbInfo>>,
+)
+    requires room { length owners.items ≤ spare lookup.old }
+    requires count { length owners.items ≡ length xorb.now.chunks }
+    requires owners { All (λ owner. owner.value ≡ xorb.now) owners.items }
+    ensures { IsEntered (placed lookup.old) (placed lookup.new) xorb.now (length xorb.now.chunks) }
+{
+    let mut place = 0;
+    for chunk in xorb.chunks.as_slice() {
+        let owner = owners.pop().unwrap();
+        let inserted: std::result::Result<_, _> = lookup.insert(chunk.chunk_hash, (owner, place));
+        inserted.unwrap();
+        place += 1;
+    }
+}
