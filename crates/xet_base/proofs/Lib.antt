@@ -3,6 +3,7 @@ pub mod Errors
 pub mod Ghost
 pub mod HashOrder
 pub mod Hex
+pub mod HexText
 pub mod Lists
 pub mod Reading
 pub mod Worked

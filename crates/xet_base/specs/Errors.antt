@@ -67,12 +67,6 @@ IsInvalidShardText text (InvalidShard s) = string_bytes s ≡ text
 IsInvalidShardText text OutOfMemory = ⊤
 IsInvalidShardText text _ = ⊥
 
--- `Other` of some text, or no memory for it
-abbrev pub IsOther : CoreError → Type 0
-IsOther (Other _) = ⊤
-IsOther OutOfMemory = ⊤
-IsOther _ = ⊥
-
 -- a result of this project, under a name that no alias of a source file hides
 abbrev pub CoreResult : Type 0 → Type 0
 CoreResult T = Result T CoreError

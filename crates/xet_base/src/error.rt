@@ -1,7 +1,7 @@
 //! The error of every crate above.
 
-ghost use Rattle.std.specs.Prelude.{◌≡◌, ◌==◌, Option};
-ghost use Rattle.xet_base.specs.Errors.{variant_number, FromDevice, IsOtherText, IsInvalidShardText, IsOther, WithoutFormatError, CoreResult};
+ghost use Rattle.std.specs.Prelude.{◌≡◌, ◌==◌, Option, codes};
+ghost use Rattle.xet_base.specs.Errors.{variant_number, FromDevice, IsOtherText, IsInvalidShardText, WithoutFormatError, CoreResult};
 ghost use Rattle.std.specs.Ordering.{on};
 ghost use Rattle.std.proofs.Common.{rules};
 ghost use Rattle.std.specs.Cmp.Rules.{comparing};
@@ -87,14 +87,14 @@ impl CoreError {
 
     /// `Other` with the text of the parse error, or `OutOfMemory` where that finds no memory.
     pub fn of_bytes_error(alloc: Global, _error: DataHashBytesParseError) -> CoreError
-        ensures { IsOther result }
+        ensures { IsOtherText (codes "a hash has 32 bytes") result }
     {
         CoreError::other(alloc, "a hash has 32 bytes")
     }
 
     /// `Other` with the text of the parse error, or `OutOfMemory` where that finds no memory.
     pub fn of_hex_error(alloc: Global, _error: DataHashHexParseError) -> CoreError
-        ensures { IsOther result }
+        ensures { IsOtherText (codes "the text of a hash has 64 hexadecimal digits") result }
     {
         CoreError::other(alloc, "the text of a hash has 64 hexadecimal digits")
     }

@@ -1,6 +1,6 @@
 //! Hashes: four 64-bit words, their order, bytes and text.
 
-ghost use Rattle.std.specs.Prelude.{◌≡◌, ◌+◌, ◌*◌, ◌<◌, ◌≤◌, ◌↔◌, ◌++◌, length, IsTrue, IsOk, IsSome, IfOk, IfSome, IfErr, OnOk, Ok, string_bytes, slice_index, All};
+ghost use Rattle.std.specs.Prelude.{◌≡◌, ◌+◌, ◌*◌, ◌<◌, ◌≤◌, ◌↔◌, ◌++◌, length, IsTrue, IsOk, IsSome, IfOk, IfSome, IfErr, OnOk, Ok, Some, string_bytes, slice_index, All};
 ghost use Rattle.std.specs.Char.{to_ascii_lowercase};
 ghost use Rattle.std.specs.Str.{str_to_ascii_lowercase};
 ghost use Rattle.xet_base.specs.Bytes.{u64_bytes};
@@ -87,13 +87,16 @@ impl Index<usize> for DataHash {
 
 /// The 64 digits of [`DataHash::hex`].
 impl fmt::Display for DataHash {
+    ghost output = { λ hash. Some (hash_hex hash) };
+
     fn fmt<W: fmt::Write>(&self, f: &mut fmt::Formatter<W>) -> fmt::Result {
-        let words = *self;
-        write!(
-            f,
-            "{:016x}{:016x}{:016x}{:016x}",
-            words.word0, words.word1, words.word2, words.word3
-        )
+        let DataHash {
+            word0,
+            word1,
+            word2,
+            word3,
+        } = *self;
+        write!(f, "{word0:016x}{word1:016x}{word2:016x}{word3:016x}")
     }
 }
 

@@ -9,8 +9,10 @@ use crate::error::{CoreError, Result, Validate};
 use crate::merklehash::{
     DataHash, DataHashBytesParseError, DataHashHexParseError, hash_is_global_dedup_eligible,
 };
+use crate::row::*;
 use crate::serialization_utils::*;
 use crate::source::{MemorySource, ShardSource, read_full};
+use std::alloc::{AllocError, AllocFailed};
 use std::io;
 use std::io::{ErrorKind, Read, Write};
 use std::test::Fail;
@@ -102,6 +104,24 @@ fn errors_are_equal_by_variant_and_have_texts(rt: HostRuntime) -> std::result::R
     Ok(())
 }
 
+/// A refusal of any kind that has a `CoreError`.
+fn core_error<E: Into<CoreError>>(error: E) -> CoreError {
+    error.into()
+}
+
+#[test]
+fn a_refused_growth_is_want_of_memory(rt: HostRuntime) {
+    assert_eq!(rt; core_error(AllocError), CoreError::OutOfMemory);
+    let failed = AllocFailed { value: 7u32 };
+    assert_eq!(rt; core_error(failed), CoreError::OutOfMemory);
+    let failed = AllocFailed {
+        value: String::new(rt.alloc()),
+    };
+    assert_eq!(rt; core_error(failed), CoreError::OutOfMemory);
+    let full = io::Error::from(ErrorKind::OutOfMemory);
+    assert_eq!(rt; core_error(full), CoreError::OutOfMemory);
+}
+
 #[test]
 fn malformed_data_is_no_value(rt: HostRuntime) {
     let alloc = rt.alloc();
@@ -145,6 +165,37 @@ fn numbers_are_written_and_read_back(rt: HostRuntime) -> std::result::Result<(),
     assert_eq!(rt; text, *b"ab");
     assert_eq!(rt; read_hash(&mut reader)?, hash);
     assert_eq!(rt; reader.len(), 0);
+    Ok(())
+}
+
+#[test]
+fn rows_are_put_together_and_taken_apart(rt: HostRuntime) -> std::result::Result<(), Fail> {
+    let hash = DataHash::from_slice(&HASH_BYTES)?;
+    let mut row = [9u8; 50];
+    let at = put(&mut row, 1, &[7, 8]);
+    let at = put_hash(&mut row, at, &hash);
+    let at = put_u32(&mut row, at, 0x0403_0201);
+    let at = put_u64(&mut row, at, 0x0807_0605_0403_0201);
+    assert_eq!(rt; at, 47);
+    assert_eq!(rt; &row[..3], [9, 7, 8].as_slice());
+    assert_eq!(rt; &row[3..35], HASH_BYTES.as_slice());
+    // What stands behind a part stays.
+    assert_eq!(rt;
+        &row[35..],
+        [1, 2, 3, 4, 1, 2, 3, 4, 5, 6, 7, 8, 9, 9, 9].as_slice()
+    );
+
+    let (found, rest) = split_hash(&row[3..]);
+    assert_eq!(rt; found, hash);
+    let (number, rest) = split_u32(rest);
+    assert_eq!(rt; number, 0x0403_0201);
+    let (word, rest) = split_u64(rest);
+    assert_eq!(rt; word, 0x0807_0605_0403_0201);
+    assert_eq!(rt; rest, [9, 9, 9].as_slice());
+    let mut words = [0u64; 1];
+    let rest = split_u64s(&row[39..], &mut words);
+    assert_eq!(rt; words, [0x0807_0605_0403_0201]);
+    assert_eq!(rt; rest, [9, 9, 9].as_slice());
     Ok(())
 }
 

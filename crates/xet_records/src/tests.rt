@@ -7,7 +7,7 @@ use crate::file_structs::*;
 use crate::rows::*;
 use crate::xorb_structs::*;
 use std::alloc::Global;
-use std::io::{ErrorKind, Read};
+use std::io::{ErrorKind, Read, Write};
 use std::test::Fail;
 use xet_base::error::{CoreError, Result};
 use xet_base::merklehash::MerkleHash;
@@ -126,6 +126,10 @@ fn reserved_words_are_dropped_where_the_format_says_so(
     assert_eq!(rt; reserved.serialize(&mut kept)?, 48);
     assert_eq!(rt; kept.get(32), Some(&2));
     assert_eq!(rt; kept.get(40), Some(&3));
+    let digest = FileMetadataExt::new(small(9364));
+    kept.clear();
+    assert_eq!(rt; digest.serialize(&mut kept)?, 48);
+    assert_eq!(rt; FileMetadataExt::deserialize(&mut kept.as_slice())?, digest);
     Ok(())
 }
 
@@ -258,6 +262,50 @@ fn a_reader_fails_in_mid_record(rt: HostRuntime) -> std::result::Result<(), Fail
             Err(CoreError::Io(error)) => assert_eq!(rt; error.kind(), ErrorKind::BrokenPipe),
             _ => assert!(rt; false, "after {left} bytes"),
         }
+    }
+    Ok(())
+}
+
+/// A writer that takes `left` bytes, one a call, and then fails.
+#[derive(Drop)]
+struct Full {
+    left: u64,
+}
+
+impl Write for Full {
+    fn write(&mut self, buf: &[u8]) -> std::io::Result<usize> {
+        if self.left == 0 || buf.is_empty() {
+            return Err(ErrorKind::BrokenPipe.into());
+        }
+        self.left -= 1;
+        Ok(1)
+    }
+
+    fn flush(&mut self) -> std::io::Result<()> {
+        Ok(())
+    }
+}
+
+#[test]
+fn a_writer_fails_in_mid_record(rt: HostRuntime) -> std::result::Result<(), Fail> {
+    let file = full_file(rt.alloc())?;
+    let broken = Some(ErrorKind::BrokenPipe);
+    for left in 0..288u64 {
+        let failed = file.serialize(&mut Full { left }).err();
+        assert_eq!(rt;
+            failed.map(|error| error.kind()),
+            broken,
+            "after {left} bytes"
+        );
+    }
+    assert!(rt; file.serialize(&mut Full { left: 288 }).is_ok());
+    let failed = [
+        write_row(&file.metadata, &mut Full { left: 47 }).err(),
+        write_rows(&file.segments, &mut Full { left: 95 }).err(),
+        write_optional(&file.metadata_ext, &mut Full { left: 47 }).err(),
+    ];
+    for error in failed {
+        assert_eq!(rt; error.map(|error| error.kind()), broken);
     }
     Ok(())
 }

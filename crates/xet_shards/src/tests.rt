@@ -198,6 +198,102 @@ fn an_ill_formed_record_is_refused_and_changes_nothing(
     Ok(())
 }
 
+/// The file `n`, with one segment if its number is a multiple of 8.
+fn file_of(alloc: Global, n: u64) -> Result<MDBFileInfo> {
+    let mut segments = Rows::new(alloc);
+    if n % 8 == 0 {
+        segments.push(FileDataSequenceEntry::new(small(200), 5, 0, 5))?;
+    }
+    Ok(MDBFileInfo {
+        metadata: FileDataSequenceHeader::new(small(n), segments.len() as u32, false, false),
+        segments,
+        verification: Rows::new(alloc),
+        metadata_ext: None,
+    })
+}
+
+/// The numbers of a shard: its files, the bytes that it is written in, which tell its rows, and its files' bytes.
+fn numbers(shard: &MDBInMemoryShard) -> (usize, u64, u64) {
+    (
+        shard.num_file_entries(),
+        shard.shard_file_size(),
+        shard.materialized_bytes(),
+    )
+}
+
+fn has_files_below(shard: &MDBInMemoryShard, n: u64) -> bool {
+    for other in 0..17u64 {
+        if shard.file_content().contains_key(&small(other)) != (other < n) {
+            return false;
+        }
+    }
+    true
+}
+
+/// Adds the file `n`, by a second try where a growth is refused. Answers whether a refusal was told as such
+/// and left the shard as it was.
+fn add_twice(alloc: Global, shard: &mut MDBInMemoryShard, n: u64) -> Result<bool> {
+    let file = match file_of(alloc, n) {
+        Ok(file) => file,
+        Err(_) => file_of(alloc, n)?,
+    };
+    let before = numbers(shard);
+    let Err(error) = shard.add_file_reconstruction_info(alloc, file) else {
+        return Ok(true);
+    };
+    let is_same = numbers(shard) == before && has_files_below(shard, n);
+    shard.add_file_reconstruction_info(alloc, file_of(alloc, n)?)?;
+    Ok(is_same && error == CoreError::OutOfMemory)
+}
+
+fn write_twice(
+    alloc: Global,
+    bytes: &mut Vec<u8>,
+    shard: &MDBInMemoryShard,
+) -> Result<MDBShardInfo> {
+    match MDBShardInfo::serialize_from(alloc, bytes, shard, None) {
+        Err(CoreError::OutOfMemory) => {
+            bytes.clear();
+            MDBShardInfo::serialize_from(alloc, bytes, shard, None)
+        }
+        told => told,
+    }
+}
+
+fn read_twice(alloc: Global, info: &MDBShardInfo, bytes: &[u8]) -> Result<Vec<MDBFileInfo>> {
+    let mut source = MemorySource::new(bytes);
+    match info.read_all_file_info_sections(alloc, &mut source) {
+        Err(CoreError::OutOfMemory) => info.read_all_file_info_sections(alloc, &mut source),
+        told => told,
+    }
+}
+
+// Also for a run in which one growth is refused, whichever it is: the call tells it, the shard is as before, and
+// a second try succeeds.
+#[test]
+fn a_refused_growth_changes_nothing(rt: HostRuntime) -> std::result::Result<(), Fail> {
+    let alloc = rt.alloc();
+    let mut shard = MDBInMemoryShard::new(alloc);
+    // The map's first node holds 15 files and is then split.
+    for n in 0..17u64 {
+        assert!(rt; add_twice(alloc, &mut shard, n)?, "file {n}");
+    }
+    // 14 files have one row and 3 have two.
+    assert_eq!(rt; numbers(&shard), (17, 344 + 48 * 20 + 12 * 17, 15));
+    let mut bytes = Vec::new(alloc);
+    let info = write_twice(alloc, &mut bytes, &shard)?;
+    assert_eq!(rt; bytes.len(), 1508);
+    // This takes no memory, so that nothing is refused.
+    assert_eq!(rt; loaded(alloc, bytes.as_slice())?, info);
+    let files = read_twice(alloc, &info, bytes.as_slice())?;
+    assert_eq!(rt; files.len(), 17);
+    for (n, file) in files.iter().enumerate() {
+        let hash = small(n as u64);
+        assert_eq!(rt; shard.file_content().get(&hash), Some(file));
+    }
+    Ok(())
+}
+
 #[test]
 fn cut_and_foreign_bytes_are_refused(rt: HostRuntime) -> std::result::Result<(), Fail> {
     let alloc = rt.alloc();
