@@ -2,8 +2,8 @@
 use Rattle.std.proofs.Common.{◌≡◌, ◌≢◌, ◌⊎◌, inl, inr, ◌==◌, if◌then◌else◌, true, ℕ, zero, suc, ◌+◌, ◌-◌, ◌*◌, ◌^◌, ◌<◌, ◌≤◌, List, [], ◌∷◌, ◌++◌, length, take, drop, map, flat_map, get_or, Option, None, Some, refl, sym, ap, ◌∙◌, subst, append_assoc, append-nil, arith}
 use Rattle.std.specs.Prelude.{All, AllPairs, sum_by, sum, Contains}
 use Rattle.std.specs.List.{AllZip}
-use Rattle.std.proofs.lemmas.List.{drop-drop, take_all, length-append, length-map, length-take, take-append-drop, get_or-map}
-use Rattle.std.proofs.lemmas.List.Elements.{All-take, All-map, All-contains, All-drop, All-weaker}
+use Rattle.std.proofs.lemmas.List.{drop-drop, take_all, length-append, length-map, length-take, take-append-drop, get_or-map, get_or_default}
+use Rattle.std.proofs.lemmas.List.Elements.{All-take, All-map, All-contains, All-drop, All-weaker, Contains-get_or}
 use Rattle.std.proofs.lemmas.List.Sums.{sum_by-cons, sum_by-take-drop}
 use Rattle.std.proofs.lemmas.Grind.{flat_map-append}
 use Rattle.std.proofs.lemmas.Bool.{eq-eqb, cond-true}
@@ -34,14 +34,14 @@ use Rattle.xet_shards.specs.Section.{with_fronts, file_section, xorb_section}
 use Rattle.xet_shards.specs.Tables.{file_start, file_starts, start_row, file_table_bytes, xorb_table_bytes, chunk_table_bytes}
 use Rattle.xet_shards.specs.Layout.{Form, if_in, header_text, header_value, footer_text, footer_value, layout_of}
 use Rattle.xet_shards.specs.SectionReading.{MayTake}
-use Rattle.xet_shards.specs.Lookup.{sharing, file_table, IsNumber, row_at, RecordAt, InfoRefusal, LooksUp, LookupAnswer, LookupRefused, Finding, FindingNot, WithinBounds, SearchWithinBounds}
+use Rattle.xet_shards.specs.Lookup.{sharing, file_table, IsNumber, row_at, RecordAt, InfoRefusal, LooksUp, LookupAnswer, LookupRefused, Finding, FindingNot, WithinBounds, SearchWithinBounds, IndexFinds, IndexRefused, AreStarts}
 use Rattle.xet_shards.proofs.Ends.{rest_is}
 use Rattle.xet_shards.proofs.Files.{length-le-rows}
 use Rattle.xet_shards.proofs.Layouts.{length-header_text, length-file_section, length-texts}
 use Rattle.xet_shards.proofs.Tables.{length-file_starts}
 use Rattle.xet_shards.proofs.Readback.{after_section, section_at_48}
 use Rattle.xet_shards.proofs.Distinct.{sum_distinct, all_marked, sum_marked}
-use Rattle.xet_shards.proofs.Lookups.{stored_begins, length-stored}
+use Rattle.xet_shards.proofs.Lookups.{stored_begins, length-stored, rows_in_front}
 
 -- a record for where a list has none
 abbrev pub no_record : MDBFileInfo
@@ -368,6 +368,34 @@ module _ (files : List MDBFileInfo) (xorbs : List MDBXorbInfo) (form : Form) (is
         (others at.0 0 (omega (arith, at.1, length-map found (λ (g : Hit ℕ). g.value)))) in
         other.2 (ap file_hash_of (hit_reads h other.0 (each at.0 no_hit at.1) other.1) ∙ ap (λ j. file_hash_of (file_at j)) (at.2 no_hit) ∙ same)
 
+    -- their values are starts of files that share the word, and where they are all hits, all of these
+    pub starts_of_hits : length found ≡ hits table word → AreStarts files word (map (λ h. h.value) found)
+    starts_of_hits all = (in_starts, of_starts)
+      where
+        in_starts : (row : ℕ) → Contains (map (λ (h : Hit ℕ). h.value) found) row → Contains (file_starts files) (word, row)
+        in_starts row contains =
+            All-contains (λ v. Contains (file_starts files) (word, v)) (map (λ (h : Hit ℕ). h.value) found) row
+            (All-map (λ v. Contains (file_starts files) (word, v)) (λ (h : Hit ℕ). h.value) found
+            (All-weaker (IsHit table word IsNumber) (λ h. Contains (file_starts files) (word, h.value))
+            (λ h hit. let known = hit_is word h hit in
+            subst (λ e. Contains (file_starts files) e) (row_is h.row known.0 ∙ (λ k. (known.1 k, sym known.2 k)))
+            (Contains-get_or (file_starts files) h.row (0, 0) (in_table h.row known.0))) found each))
+            contains
+
+        of_starts : (row : ℕ) → Contains (file_starts files) (word, row) → Contains (map (λ (h : Hit ℕ). h.value) found) row
+        of_starts row (i, below, is_row) =
+            let within : i < length files = omega (arith, below, length-file_starts files) in
+            let same : ((file_hash_of (file_at i)).word0, start_at i) ≡ (word, row) = sym (row_is i within) ∙ get_or_default (file_starts files) i (0, 0) (word, row) below ∙ is_row in
+            let one : mark word i ≡ 1 = cond-true {A = ℕ} _ 1 0 (eq-eqb _ _ (ap (λ (e : ℕ × ℕ). e.0) same)) in
+            let at = all_marked (mark word) (length files) found i distinct rows_below
+            (omega (arith, sum-of_ones (λ (h : Hit ℕ). mark word h.row) found marked, sum-marks word, all, table_hits word)) within (omega (arith, one)) in
+            let no_hit : Hit ℕ = record { row = 0; value = 0 } in
+            let values = map (λ (h : Hit ℕ). h.value) found in
+            let value : get_or values at.0 0 ≡ row =
+            get_or-map (λ (g : Hit ℕ). g.value) found at.0 no_hit 0 at.1 ∙ (hit_is word (get_or found at.0 no_hit) (each at.0 no_hit at.1)).2
+            ∙ ap start_at (at.2 no_hit) ∙ ap (λ (e : ℕ × ℕ). e.1) same in
+            subst (Contains values) value (Contains-get_or values at.0 0 (omega (arith, at.1, length-map found (λ (g : Hit ℕ). g.value))))
+
     -- the record at one of the rows is read, unless the device fails or memory is refused
     pub hits_are_read : (new : Source) (e : CoreError) (row : ℕ) → Contains (map (λ h. h.value) found) row → InfoRefusal 48 row old new e
         → DeviceFailure old new e ⊎ (e ≡ OutOfMemory)
@@ -476,3 +504,20 @@ module _ (files : List MDBFileInfo) (xorbs : List MDBXorbInfo) (form : Form) (is
         | inl failed ↦ absurd (subst (FromDevice failed.1) collision failed.3)
         | inr no_memory ↦ absurd (omega (arith, ap variant_number (sym no_memory ∙ collision)))
       ]
+
+  -- an index lookup
+  pub index_answered : (word count : ℕ) (places_old places_new : List ℕ) → IndexFinds table word places_old places_new count
+      → (length (sharing word files) < 8) × (count ≡ length (sharing word files)) × AreStarts files word (take count places_new)
+  index_answered word count places_old places_new finds =
+      let all = finds.are_hits.all table_sorted in (
+        omega (arith, finds.few, finds.number, all, table_hits word),
+        omega (arith, finds.number, all, table_hits word),
+        subst (AreStarts files word) (sym (rows_in_front table word count places_old places_new finds))
+            (starts_of_hits word finds.found finds.are_hits.each finds.are_hits.distinct all),
+      )
+
+  pub index_not_answered : (word : ℕ) (new : Source) (e : CoreError) → IndexRefused table word old new e
+      → DeviceFailure old new e ⊎ ((e ≡ TruncatedHashCollision word) × (8 ≤ length (sharing word files)))
+  index_not_answered word new e (inl (none, collision, collides)) =
+      inr (collision, omega (arith, collides.eight, hits_share word collides.found collides.each collides.distinct))
+  index_not_answered word new e (inr refused) = inl (search_answers new e refused)

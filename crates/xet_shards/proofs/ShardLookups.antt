@@ -1,6 +1,6 @@
 -- Lookups on the bytes of a shard answer as its maps do.
-use Rattle.std.proofs.Common.{◌≡◌, Ok, Err, ℕ, ◌<◌, length, get_or, Option, None, Some, refl, sym, ap, ◌∙◌, arith}
-use Rattle.std.specs.Prelude.{All, MatchResult, IfErr}
+use Rattle.std.proofs.Common.{◌≡◌, Ok, Err, ℕ, ◌<◌, length, get_or, Option, None, Some, refl, sym, ap, ◌∙◌, arith, List}
+use Rattle.std.specs.Prelude.{All, MatchResult, IfErr, IfOk}
 use Rattle.std.specs.FinMap.{entries, values, get, get-entries, entries_sorted, find}
 use Rattle.std.specs.Map.{keys_of}
 use Rattle.std.specs.declared.result.Result.{Result}
@@ -9,7 +9,7 @@ use Rattle.std.proofs.lemmas.List.{get_or-map, length-map}
 use Rattle.std.proofs.lemmas.Map.Keys.{Less-from_sorted}
 use Rattle.xet_base.specs.declared.error.CoreError.{CoreError}
 use Rattle.xet_base.specs.declared.error.CoreError.TheVariants.{TruncatedHashCollision}
-use Rattle.xet_base.specs.Table.{Table}
+use Rattle.xet_base.specs.Table.{Table, IsSorted, Bounded}
 use Rattle.xet_base.specs.declared.merklehash.DataHash.{DataHash}
 use Rattle.xet_base.specs.Hash.{hash_cmp}
 use Rattle.xet_base.proofs.HashOrder.{hash_cmp-IsTotalOrder, hash_cmp-IsAntisymmetric}
@@ -18,12 +18,12 @@ use Rattle.xet_records.specs.declared.file_structs.MDBFileInfo.{MDBFileInfo}
 use Rattle.xet_records.specs.FileRecord.{IsWellFormed}
 use Rattle.xet_shards.specs.Shard.{Shard, IsShard, file_hash_of}
 use Rattle.xet_shards.specs.Layout.{layout, info_value, plain_form}
-use Rattle.xet_shards.specs.Lookup.{file_table, Finding, FindingNot, LookupAnswer, FoundInShard, NotFoundInShard, WithinBounds, SearchWithinBounds}
+use Rattle.xet_shards.specs.Lookup.{IndexFinds, IndexRefused, StartsInShard, NoStartsInShard, file_table, Finding, FindingNot, LookupAnswer, FoundInShard, NotFoundInShard, WithinBounds, SearchWithinBounds}
 use Rattle.xet_shards.proofs.Files.{well_formed_values}
 use Rattle.xet_shards.proofs.Maps.{rising_keys}
 use Rattle.xet_shards.proofs.Readback.{handed_one}
 use Rattle.xet_shards.proofs.Found.{first_words_ascend, found_entry, entry_found}
-use Rattle.xet_shards.proofs.FileLookups.{no_record, IsLookedUp, IsAnswer, answered, not_answered, lookup_costs, costs_refused, costs_collision}
+use Rattle.xet_shards.proofs.FileLookups.{no_record, IsLookedUp, IsAnswer, answered, not_answered, lookup_costs, costs_refused, costs_collision, index_answered, index_not_answered, table_sorted, search_costs}
 
 abbrev no_entry : DataHash × MDBFileInfo
 no_entry = (no_record.metadata.file_hash, no_record)
@@ -102,3 +102,16 @@ module _ (s : Shard) (shard : IsShard s) where
     collision_bounded new hash (Ok answer) finding = tt
     collision_bounded new hash (Err e) refused =
         costs_collision (values s.files) (values s.xorbs) (plain_form expiry) (shard_is_looked_up expiry) old are hash new e refused
+
+    -- an index lookup
+    pub index_written : (new : Source) (word : ℕ) (places_old places_new : List ℕ) (r : Result ℕ CoreError) → IfOk r (IndexFinds table word places_old places_new)
+        → IfErr r (IndexRefused table word old new) → MatchResult r (StartsInShard s word places_new) (NoStartsInShard s word old new)
+    index_written new word places_old places_new (Ok count) finds refused =
+        index_answered (values s.files) (values s.xorbs) (plain_form expiry) (shard_is_looked_up expiry) old are word count places_old places_new finds
+    index_written new word places_old places_new (Err e) finds refused =
+        index_not_answered (values s.files) (values s.xorbs) (plain_form expiry) (shard_is_looked_up expiry) old are word new e refused
+
+    pub index_bounded : (new : Source) (word : ℕ) → (IsSorted table → Bounded table word old new) → SearchWithinBounds (values s.files) word old new
+    index_bounded new word bounded =
+        let sorted = table_sorted (values s.files) (values s.xorbs) (plain_form expiry) (shard_is_looked_up expiry) old are in
+        search_costs (values s.files) (values s.xorbs) (plain_form expiry) (shard_is_looked_up expiry) old are word new (bounded sorted)

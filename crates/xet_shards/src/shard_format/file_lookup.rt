@@ -7,7 +7,7 @@ ghost use Rattle.xet_base.specs.Source.{FillsNot, next_bytes};
 ghost use Rattle.xet_base.specs.Table.{table_at, Finds, SearchRefused, hits, IsSorted, Serves, Bounded, ReadsOn};
 ghost use Rattle.xet_shards.specs.Shard.{Shard, IsShard};
 ghost use Rattle.xet_shards.specs.Layout.{layout, info_value};
-ghost use Rattle.xet_shards.specs.Lookup.{FoundInShard, NotFoundInShard, WithinBounds, SearchWithinBounds, file_table, IsNumber, IndexFinds, IndexRefused, ReadsInfo, ReadsInfoNot, VisitsSome, Finding, FindingNot, LookupAnswer, LookupRefused};
+ghost use Rattle.xet_shards.specs.Lookup.{StartsInShard, NoStartsInShard, FoundInShard, NotFoundInShard, WithinBounds, SearchWithinBounds, file_table, IsNumber, IndexFinds, IndexRefused, ReadsInfo, ReadsInfoNot, VisitsSome, Finding, FindingNot, LookupAnswer, LookupRefused};
 
 use super::info::{MDBShardInfo, read_record};
 use crate::utils::truncate_hash;
@@ -39,6 +39,10 @@ impl MDBShardInfo {
         ensures kept { (S.meaning source.new).bytes ≡ (S.meaning source.old).bytes }
         ensures bounds { IsSorted (file_table self.now.metadata (S.meaning source.old))
             → Bounded (file_table self.now.metadata (S.meaning source.old)) hash.now.word0 (S.meaning source.old) (S.meaning source.new) }
+        ensures written { (s : Shard) → (expiry : Option ℕ) → IsShard s → (S.meaning source.old).bytes ≡ layout s expiry → self.now ≡ info_value s expiry
+            → MatchResult result (StartsInShard s hash.now.word0 dest.new) (NoStartsInShard s hash.now.word0 (S.meaning source.old) (S.meaning source.new)) }
+        ensures costs { (s : Shard) → (expiry : Option ℕ) → IsShard s → (S.meaning source.old).bytes ≡ layout s expiry → self.now ≡ info_value s expiry
+            → SearchWithinBounds (finite.values s.files) hash.now.word0 (S.meaning source.old) (S.meaning source.new) }
     {
         let start = self.metadata.file_lookup_offset;
         let rows = self.metadata.file_lookup_num_entry;
@@ -89,7 +93,7 @@ impl MDBShardInfo {
         ensures kept { (S.meaning source.new).bytes ≡ (S.meaning source.old).bytes }
         ensures written { (s : Shard) → (expiry : Option ℕ) → IsShard s → (S.meaning source.old).bytes ≡ layout s expiry → self.now ≡ info_value s expiry
             → MatchResult result (FoundInShard s hash.now) (NotFoundInShard s hash.now (S.meaning source.old) (S.meaning source.new)) }
-        ensures bounds { (s : Shard) → (expiry : Option ℕ) → IsShard s → (S.meaning source.old).bytes ≡ layout s expiry → self.now ≡ info_value s expiry
+        ensures costs { (s : Shard) → (expiry : Option ℕ) → IsShard s → (S.meaning source.old).bytes ≡ layout s expiry → self.now ≡ info_value s expiry
             → WithinBounds (finite.values s.files) hash.now.word0 (S.meaning source.old) (S.meaning source.new) }
         ensures collision { (s : Shard) → (expiry : Option ℕ) → IsShard s → (S.meaning source.old).bytes ≡ layout s expiry → self.now ≡ info_value s expiry
             → IfErr result (λ e. e ≡ CoreError.TruncatedHashCollision hash.now.word0

@@ -23,8 +23,8 @@ returns-clause-written g c s expiry shard are is =
     lookup_written s shard expiry (g.S.ShardSource.meaning c.args.source.now) are (g.S.ShardSource.meaning c.look_up.new.source) c.args.hash.now c.look_up.result
     (says g c (info_value s expiry) is)
 
-pub returns-clause-bounds : goal.returns-clause-bounds
-returns-clause-bounds g c s expiry shard are is =
+pub returns-clause-costs : goal.returns-clause-costs
+returns-clause-costs g c s expiry shard are is =
     lookup_bounded s shard expiry (g.S.ShardSource.meaning c.args.source.now) are (g.S.ShardSource.meaning c.look_up.new.source) c.args.hash.now c.look_up.result
     (says g c (info_value s expiry) is)
 
