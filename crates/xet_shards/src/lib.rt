@@ -4,5 +4,7 @@
 pub mod shard_format;
 pub mod shard_in_memory;
 #[cfg(test)]
+mod lookup_tests;
+#[cfg(test)]
 mod tests;
 pub mod utils;

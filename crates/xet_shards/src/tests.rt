@@ -19,7 +19,7 @@ use xet_records::file_structs::{
 };
 use xet_records::rows::Rows;
 
-fn small(n: u64) -> MerkleHash {
+pub(crate) fn small(n: u64) -> MerkleHash {
     MerkleHash::from([n, 1, 0, 0])
 }
 
@@ -46,20 +46,20 @@ fn file_90(alloc: Global) -> Result<MDBFileInfo> {
 }
 
 /// The shard of file 100.
-fn shard_of_one(alloc: Global) -> Result<MDBInMemoryShard> {
+pub(crate) fn shard_of_one(alloc: Global) -> Result<MDBInMemoryShard> {
     let mut shard = MDBInMemoryShard::new(alloc);
     shard.add_file_reconstruction_info(alloc, file_100(alloc)?)?;
     Ok(shard)
 }
 
 /// The bytes of a shard.
-fn written(alloc: Global, shard: &MDBInMemoryShard, expiry: Option<u64>) -> Result<Vec<u8>> {
+pub(crate) fn written(alloc: Global, shard: &MDBInMemoryShard, expiry: Option<u64>) -> Result<Vec<u8>> {
     let mut bytes = Vec::new(alloc);
     MDBShardInfo::serialize_from(alloc, &mut bytes, shard, expiry)?;
     Ok(bytes)
 }
 
-fn loaded(alloc: Global, bytes: &[u8]) -> Result<MDBShardInfo> {
+pub(crate) fn loaded(alloc: Global, bytes: &[u8]) -> Result<MDBShardInfo> {
     MDBShardInfo::load_from_reader(alloc, &mut MemorySource::new(bytes))
 }
 
@@ -352,11 +352,13 @@ fn false_numbers_in_a_footer_are_refused(rt: HostRuntime) -> std::result::Result
     Ok(())
 }
 
-/// A source whose calls after the first few fail.
+/// A source that counts its seeks and bytes, and whose calls after the first few fail.
 #[derive(Drop)]
-struct Failing<'a> {
+pub(crate) struct Failing<'a> {
     inner: MemorySource<'a>,
     left: u32,
+    pub seeks_made: u64,
+    pub bytes_read: u64,
     error: io::Error,
     seeks: Count,
     failures: Count,
@@ -374,7 +376,9 @@ impl<'a> ShardSource for Failing<'a> {
             return Err(self.error);
         }
         self.left -= 1;
-        self.inner.read_some(slice)
+        let n = self.inner.read_some(slice)?;
+        self.bytes_read = self.bytes_read.saturating_add(n as u64);
+        Ok(n)
     }
 
     fn length(&mut self) -> io::Result<u64> {
@@ -392,6 +396,7 @@ impl<'a> ShardSource for Failing<'a> {
     }
 
     fn seek_to(&mut self, to: u64) -> io::Result<()> {
+        self.seeks_made = self.seeks_made.saturating_add(1);
         if self.left == 0 {
             self.seeks.add(1);
             self.failures.add(1);
@@ -403,10 +408,12 @@ impl<'a> ShardSource for Failing<'a> {
     }
 }
 
-fn failing_after(bytes: &[u8], left: u32, kind: ErrorKind) -> Failing<'_> {
+pub(crate) fn failing_after(bytes: &[u8], left: u32, kind: ErrorKind) -> Failing<'_> {
     Failing {
         inner: MemorySource::new(bytes),
         left,
+        seeks_made: 0,
+        bytes_read: 0,
         error: io::Error::from(kind),
         seeks: Count::new(),
         failures: Count::new(),
