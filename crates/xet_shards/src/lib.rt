@@ -1,10 +1,10 @@
 //! Shards: in memory, and as bytes that are written, read whole and looked up.
 #![tactic(auto)]
 
-pub mod shard_format;
-pub mod shard_in_memory;
 #[cfg(test)]
 mod lookup_tests;
+pub mod shard_format;
+pub mod shard_in_memory;
 #[cfg(test)]
 mod tests;
 pub mod utils;

@@ -51,6 +51,13 @@ fn find(
     Ok(found.map(|file_info| file_info.metadata.file_hash))
 }
 
+/// Puts a byte in the place of another.
+fn falsify(bytes: &mut [u8], at: usize, byte: u8) {
+    if let Some(place) = bytes.get_mut(at) {
+        *place = byte;
+    }
+}
+
 #[test]
 fn a_file_is_found_by_its_hash(rt: HostRuntime) -> std::result::Result<(), Fail> {
     let alloc = rt.alloc();
@@ -75,7 +82,10 @@ fn seven_files_may_share_the_first_word(rt: HostRuntime) -> std::result::Result<
         assert_eq!(rt; find(alloc, &info, bytes.as_slice(), hash)?, Some(hash));
     }
     assert_eq!(rt; find(alloc, &info, bytes.as_slice(), sharing(99))?, None);
-    assert_eq!(rt; find(alloc, &info, bytes.as_slice(), small(3))?, Some(small(3)));
+    assert_eq!(rt;
+        find(alloc, &info, bytes.as_slice(), small(3))?,
+        Some(small(3))
+    );
     let mut rows = [99; 8];
     let mut source = MemorySource::new(bytes.as_slice());
     let found = info.get_file_info_index_by_hash(alloc, &mut source, &sharing(99), &mut rows)?;
@@ -97,8 +107,19 @@ fn eight_files_with_one_first_word_collide(rt: HostRuntime) -> std::result::Resu
         let refused = info.get_file_info_index_by_hash(alloc, &mut source, &hash, &mut [0; 8]);
         assert!(rt; matches!(&refused, Err(CoreError::TruncatedHashCollision(5))));
     }
-    assert_eq!(rt; find(alloc, &info, bytes.as_slice(), MerkleHash::from([6, 1, 0, 0]))?, None);
-    assert_eq!(rt; find(alloc, &info, bytes.as_slice(), small(7))?, Some(small(7)));
+    assert_eq!(rt;
+        find(
+            alloc,
+            &info,
+            bytes.as_slice(),
+            MerkleHash::from([6, 1, 0, 0])
+        )?,
+        None
+    );
+    assert_eq!(rt;
+        find(alloc, &info, bytes.as_slice(), small(7))?,
+        Some(small(7))
+    );
     Ok(())
 }
 
@@ -109,11 +130,17 @@ fn a_lookup_keeps_its_bounds(rt: HostRuntime) -> std::result::Result<(), Fail> {
     let info = loaded(alloc, bytes.as_slice())?;
     // One seek for the search among nine rows, and one for each of seven records of 48 bytes.
     let mut source = failing_after(bytes.as_slice(), u32::MAX, ErrorKind::Other);
-    assert!(rt; info.get_file_reconstruction_info(alloc, &mut source, &sharing(99))?.is_none());
+    assert!(rt;
+        info.get_file_reconstruction_info(alloc, &mut source, &sharing(99))?
+            .is_none()
+    );
     assert_eq!(rt; source.seeks_made, 8);
     assert_eq!(rt; source.bytes_read, 9 * 12 + 7 * 48);
     let mut source = failing_after(bytes.as_slice(), u32::MAX, ErrorKind::Other);
-    assert!(rt; info.get_file_reconstruction_info(alloc, &mut source, &small(9))?.is_none());
+    assert!(rt;
+        info.get_file_reconstruction_info(alloc, &mut source, &small(9))?
+            .is_none()
+    );
     assert_eq!(rt; source.seeks_made, 1);
     Ok(())
 }
@@ -125,14 +152,16 @@ fn false_row_numbers_are_refused(rt: HostRuntime) -> std::result::Result<(), Fai
     let mut info = loaded(alloc, bytes.as_slice())?;
     // The row number of the file table's one row stands in bytes 248 to 251. Row 2 is the bookend, and
     // row 1 the segment, which is read as the header of file 200.
-    bytes.as_mut_slice()[248] = 2;
+    falsify(bytes.as_mut_slice(), 248, 2);
     let refused = find(alloc, &info, bytes.as_slice(), small(100));
     assert!(rt; matches!(&refused, Err(CoreError::InternalError(_))));
-    bytes.as_mut_slice()[248] = 1;
+    falsify(bytes.as_mut_slice(), 248, 1);
     assert_eq!(rt; find(alloc, &info, bytes.as_slice(), small(100))?, None);
-    bytes.as_mut_slice()[251] = 255;
+    falsify(bytes.as_mut_slice(), 251, 255);
     let refused = find(alloc, &info, bytes.as_slice(), small(100));
-    assert!(rt; matches!(&refused, Err(CoreError::Io(error)) if error.kind() == ErrorKind::UnexpectedEof));
+    assert!(rt;
+        matches!(&refused, Err(CoreError::Io(error)) if error.kind() == ErrorKind::UnexpectedEof)
+    );
     info.metadata.file_info_offset = u64::MAX;
     let refused = find(alloc, &info, bytes.as_slice(), small(100));
     assert!(rt; matches!(&refused, Err(CoreError::InvalidShard(_))));
@@ -154,12 +183,19 @@ fn false_tables_and_records_are_refused(rt: HostRuntime) -> std::result::Result<
     }
     let mut unread = info;
     unread.metadata.file_lookup_num_entry = 20;
-    let refused = find(alloc, &unread, bytes.as_slice(), MerkleHash::from([u64::MAX; 4]));
-    assert!(rt; matches!(&refused, Err(CoreError::Io(error)) if error.kind() == ErrorKind::UnexpectedEof));
+    let refused = find(
+        alloc,
+        &unread,
+        bytes.as_slice(),
+        MerkleHash::from([u64::MAX; 4]),
+    );
+    assert!(rt;
+        matches!(&refused, Err(CoreError::Io(error)) if error.kind() == ErrorKind::UnexpectedEof)
+    );
     // The header's flags stand in bytes 80 to 83, its count in bytes 84 to 87.
-    bytes.as_mut_slice()[83] = 128;
+    falsify(bytes.as_mut_slice(), 83, 128);
     for at in 84..88 {
-        bytes.as_mut_slice()[at] = 255;
+        falsify(bytes.as_mut_slice(), at, 255);
     }
     let refused = find(alloc, &info, bytes.as_slice(), small(100));
     assert!(rt; matches!(&refused, Err(CoreError::InvalidShard(_))));
@@ -175,9 +211,14 @@ fn a_device_fails_in_the_middle_of_a_lookup(rt: HostRuntime) -> std::result::Res
     for left in 0..6 {
         let mut source = failing_after(bytes.as_slice(), left, ErrorKind::Other);
         let refused = info.get_file_reconstruction_info(alloc, &mut source, &small(100));
-        assert!(rt; matches!(&refused, Err(CoreError::Io(error)) if error.kind() == ErrorKind::Other));
+        assert!(rt;
+            matches!(&refused, Err(CoreError::Io(error)) if error.kind() == ErrorKind::Other)
+        );
     }
     let mut source = failing_after(bytes.as_slice(), 6, ErrorKind::Other);
-    assert!(rt; info.get_file_reconstruction_info(alloc, &mut source, &small(100))?.is_some());
+    assert!(rt;
+        info.get_file_reconstruction_info(alloc, &mut source, &small(100))?
+            .is_some()
+    );
     Ok(())
 }

@@ -53,7 +53,11 @@ pub(crate) fn shard_of_one(alloc: Global) -> Result<MDBInMemoryShard> {
 }
 
 /// The bytes of a shard.
-pub(crate) fn written(alloc: Global, shard: &MDBInMemoryShard, expiry: Option<u64>) -> Result<Vec<u8>> {
+pub(crate) fn written(
+    alloc: Global,
+    shard: &MDBInMemoryShard,
+    expiry: Option<u64>,
+) -> Result<Vec<u8>> {
     let mut bytes = Vec::new(alloc);
     MDBShardInfo::serialize_from(alloc, &mut bytes, shard, expiry)?;
     Ok(bytes)
