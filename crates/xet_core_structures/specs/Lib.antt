@@ -1,2 +1,3 @@
 pub use Rattle.xet_base.specs.Hash
 pub use Rattle.xet_base.specs.Hex
+pub use Rattle.xet_records.specs.FileRecord
