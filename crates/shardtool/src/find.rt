@@ -1,12 +1,17 @@
 //! Looking up a file on the bytes of a shard, and printing its record.
 
-ghost use Rattle.std.specs.Prelude.{IfOk, IfSome};
+ghost use Rattle.std.specs.Prelude.{◌≡◌, ◌⊎◌, ◌≤◌, ℕ, Option, length, IfOk, IfSome, MatchResult};
+ghost use Rattle.std.specs.FinMap as finite;
 ghost use Rattle.xet_core_structures.specs.FileRecord.{FitsItsHeader};
+ghost use Rattle.xet_core_structures.specs.Shard.{Shard, IsShard};
+ghost use Rattle.xet_core_structures.specs.Layout.{layout, info_value};
+ghost use Rattle.xet_core_structures.specs.Ends.{FitsFooter};
+ghost use Rattle.xet_core_structures.specs.Lookup.{FoundInShard, sharing};
 
 use std::alloc::Global;
 use std::io;
 use std::io::Write;
-use xet_core_structures::error::Result;
+use xet_core_structures::error::{CoreError, Result};
 use xet_core_structures::file_structs::{
     FileDataSequenceEntry, FileVerificationEntry, MDBFileInfo,
 };
@@ -19,7 +24,11 @@ use xet_core_structures::source::MemorySource;
 /// The refusals are those of [`MDBShardInfo::load_from_reader`] and
 /// [`MDBShardInfo::get_file_reconstruction_info`].
 pub fn find_file(alloc: Global, bytes: &[u8], hash: &MerkleHash) -> Result<Option<MDBFileInfo>>
-    ensures { IfOk result (λ found. IfSome found FitsItsHeader) }
+    ensures fits { IfOk result (λ found. IfSome found FitsItsHeader) }
+    ensures hash { IfOk result (λ found. IfSome found (λ file. file.metadata.file_hash ≡ hash.now)) }
+    ensures written { (s : Shard) → (expiry : Option ℕ) → IsShard s → bytes.now ≡ layout s expiry → FitsFooter (info_value s expiry).metadata
+        → MatchResult result (FoundInShard s hash.now) (λ e. (e ≡ CoreError.OutOfMemory)
+        ⊎ ((e ≡ CoreError.TruncatedHashCollision hash.now.word0) × (8 ≤ length (sharing hash.now.word0 (finite.values s.files))))) }
 {
     let mut source = MemorySource::new(bytes);
     let info = MDBShardInfo::load_from_reader(alloc, &mut source)?;

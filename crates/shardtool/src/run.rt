@@ -305,8 +305,7 @@ impl Workspace {
     ) -> Result<(), Stop>
         ensures { IsErrOf result Stop.Unreadable ↔ IsNone (get_by_text self.now.buffers buffer.now) }
     {
-        let bytes = self.bytes_of(buffer)?;
-        match find_file(alloc, bytes, &hash)? {
+        match find_file(alloc, self.bytes_of(buffer)?, &hash)? {
             Some(file) => print_file(&file, output)?,
             None => writeln!(output, "none")?,
         }
