@@ -493,7 +493,7 @@ fn expect_among<R: Abort + AllocGlobal>(
 ) -> Result<(), Fail> {
     let zeros = "00000000000000000000000000000000";
     let mut lines = String::new(rt.alloc());
-    for k in 1..count + 1 {
+    for k in 1..=count {
         write!(
             lines,
             "file s 0000000000000005{k:016x}{zeros} 200:0:1:{k}\n"
