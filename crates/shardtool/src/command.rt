@@ -31,6 +31,11 @@ pub enum Command<'a> {
         buffer: &'a str,
         expiry: Option<u64>,
     },
+    /// `find B HASH`: looks up a file on a buffer's bytes and prints its record, or `none`.
+    Find {
+        buffer: &'a str,
+        hash: MerkleHash,
+    },
     /// `size B`: prints a buffer's length.
     Size {
         buffer: &'a str,
@@ -123,6 +128,7 @@ fn parse_words<'a>(alloc: Global, words: &[&'a str]) -> Result<Command<'a>, Pars
         "shard" => parse_shard(arguments),
         "file" => parse_file(alloc, arguments),
         "write" => parse_write(arguments),
+        "find" => parse_find(arguments),
         "size" => parse_size(arguments),
         "hex" => parse_hex(arguments),
         _ => Err(ParseError::Unreadable),
@@ -174,6 +180,15 @@ fn parse_write<'a>(arguments: &[&'a str]) -> Result<Command<'a>, ParseError> {
         buffer: parse_name(buffer)?,
         expiry,
     })
+}
+
+fn parse_find<'a>(arguments: &[&'a str]) -> Result<Command<'a>, ParseError> {
+    let [buffer, hash] = arguments else {
+        return Err(ParseError::Unreadable);
+    };
+    let buffer = parse_name(buffer)?;
+    let hash = parse_hash(hash)?;
+    Ok(Command::Find { buffer, hash })
 }
 
 fn parse_size<'a>(arguments: &[&'a str]) -> Result<Command<'a>, ParseError> {

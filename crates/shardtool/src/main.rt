@@ -3,6 +3,7 @@
 #![tactic(auto)]
 
 mod command;
+mod find;
 mod run;
 #[cfg(test)]
 mod tests;

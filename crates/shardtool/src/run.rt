@@ -7,12 +7,14 @@ ghost use Rattle.shardtool.specs.Ends.{IsRefused, EndsAt};
 ghost use Rattle.shardtool.specs.Words.{without_last};
 
 use crate::command::{ByteRange, Command, FileLine, ParseError, parse_line};
+use crate::find::{find_file, print_file};
 use std::alloc::{AllocError, AllocFailed, Global};
 use std::collections::BTreeMap;
 use std::io::{BufRead, BufReader, Read, Write};
 use std::{fmt, io};
 use xet_core_structures::error::CoreError;
 use xet_core_structures::file_structs::{FileDataSequenceHeader, MDBFileInfo};
+use xet_core_structures::merklehash::MerkleHash;
 use xet_core_structures::rows::Rows;
 use xet_core_structures::shard_format::MDBShardInfo;
 use xet_core_structures::shard_in_memory::MDBInMemoryShard;
@@ -242,6 +244,7 @@ impl Workspace {
                 buffer,
                 expiry,
             } => self.write_shard(alloc, shard, buffer, expiry),
+            Command::Find { buffer, hash } => self.print_found(alloc, buffer, hash, output),
             Command::Size { buffer } => self.print_size(buffer, output),
             Command::Hex { buffer, range } => self.print_hex(alloc, buffer, range, output),
         }
@@ -290,6 +293,22 @@ impl Workspace {
         MDBShardInfo::serialize_from(alloc, &mut bytes, shard, expiry)?;
         let name = String::from_str(alloc, buffer)?;
         self.buffers.insert(name, bytes)?;
+        Ok(())
+    }
+
+    fn print_found<W: Write>(
+        &self,
+        alloc: Global,
+        buffer: &str,
+        hash: MerkleHash,
+        output: &mut W,
+    ) -> Result<(), Stop>
+        ensures { IsErrOf result Stop.Unreadable ↔ IsNone (get_by_text self.now.buffers buffer.now) }
+    {
+        match find_file(alloc, self.bytes_of(buffer)?, &hash)? {
+            Some(file) => print_file(&file, output)?,
+            None => writeln!(output, "none")?,
+        }
         Ok(())
     }
 

@@ -95,6 +95,9 @@ fn commands(rt: HostRuntime) -> Result<(), Fail> {
         "write",
         "write s",
         "write s b 7 8",
+        "find",
+        "find b",
+        "find b 1 2",
         "size",
         "size b b",
         "hex",
@@ -127,6 +130,9 @@ fn names(rt: HostRuntime) -> Result<(), Fail> {
         "file b 1",
         "write t b",
         "write b b",
+        "find t 1",
+        "find s 1",
+        "find b:",
         "size t",
         "size s",
         "hex t",
@@ -159,6 +165,9 @@ fn numbers(rt: HostRuntime) -> Result<(), Fail> {
         "file s 1 2:0:5:+5",
         "write s b 18446744073709551616",
         "write s b +7",
+        "find b +1",
+        "find b 18446744073709551616",
+        "find b x",
         "hex b +0 1",
         "hex b 0 -1",
     ] {
@@ -400,6 +409,8 @@ fn failing_output(rt: HostRuntime) -> Result<(), Fail> {
         ("foo\n", 19, false, 3),
         ("shard s\nfile s 1 v= 2:0:5:5\n", 26, true, 1),
         ("shard s\nfile s 1 v= 2:0:5:5\n", 25, true, 3),
+        ("shard s\nwrite s b\nfind b 1\n", 5, true, 0),
+        ("shard s\nwrite s b\nfind b 1\n", 4, true, 3),
     ] {
         let mut input = script.as_bytes();
         let mut output = BrokenOutput { room, flushes };
@@ -420,4 +431,95 @@ fn one_file(rt: HostRuntime) -> Result<(), Fail> {
 fn expiry(rt: HostRuntime) -> Result<(), Fail> {
     let script = b"shard s\nfile s 100 200:0:5:5\nwrite s b 7\nhex b 364 8\n";
     expect(&rt, script, "0700000000000000\n", 0)
+}
+
+// Finds in the buffer of a shard with one file what that file's line says, printed in full.
+fn expect_found<R: Abort + AllocGlobal>(rt: &R, file: &str, printed: &str) -> Result<(), Fail> {
+    let lines = format!(in rt.alloc(); "file s {file}\nwrite s b\nfind b 100")?;
+    expect_below_shard(rt, lines.as_str(), printed, 0)
+}
+
+#[test]
+fn found_files(rt: HostRuntime) -> Result<(), Fail> {
+    expect_below_shard(&rt, "find b 100", "none\n", 0)?;
+    expect_found(&rt, "101 200:0:5:5", "none\n")?;
+    expect_found(
+        &rt,
+        "100",
+        "file 0000000000000064000000000000000100000000000000000000000000000000 flags 0 segments 0 bytes 0\n",
+    )?;
+    expect_found(
+        &rt,
+        "100 v=",
+        "file 0000000000000064000000000000000100000000000000000000000000000000 flags 2147483648 segments 0 bytes 0\n",
+    )?;
+    expect_found(
+        &rt,
+        "100 s=3",
+        "file 0000000000000064000000000000000100000000000000000000000000000000 flags 1073741824 segments 0 bytes 0\n\
+         sha 0000000000000003000000000000000100000000000000000000000000000000\n",
+    )?;
+    expect_found(
+        &rt,
+        "100 200:0:4294967295:4294967295 255:4294967295:7:4294967295",
+        "file 0000000000000064000000000000000100000000000000000000000000000000 flags 0 segments 2 bytes 8589934590\n\
+         seg 00000000000000c8000000000000000100000000000000000000000000000000 0 4294967295 4294967295\n\
+         seg 00000000000000ff000000000000000100000000000000000000000000000000 4294967295 7 4294967295\n",
+    )
+}
+
+#[test]
+fn a_file_with_all_its_parts(rt: HostRuntime) -> Result<(), Fail> {
+    expect_found(
+        &rt,
+        "100 v=7,FEDCBA98765432100123456789ABCDEF000000000000000A000000000000000b s=3 200:0:5:70 201:5:9:4",
+        "file 0000000000000064000000000000000100000000000000000000000000000000 flags 3221225472 segments 2 bytes 74\n\
+         seg 00000000000000c8000000000000000100000000000000000000000000000000 0 5 70\n\
+         seg 00000000000000c9000000000000000100000000000000000000000000000000 5 9 4\n\
+         ver 0000000000000007000000000000000100000000000000000000000000000000\n\
+         ver fedcba98765432100123456789abcdef000000000000000a000000000000000b\n\
+         sha 0000000000000003000000000000000100000000000000000000000000000000\n",
+    )
+}
+
+// Looks in the bytes of files with the words 5, k, 0, 0, k from 1 to `count`, for the file of some words 5 or
+// 6, k, 0, 0. File k has one segment, of k bytes.
+fn expect_among<R: Abort + AllocGlobal>(
+    rt: &R,
+    count: u64,
+    words: (u64, u64),
+    printed: &str,
+    status: u8,
+) -> Result<(), Fail> {
+    let zeros = "00000000000000000000000000000000";
+    let mut lines = String::new(rt.alloc());
+    for k in 1..=count {
+        write!(
+            lines,
+            "file s 0000000000000005{k:016x}{zeros} 200:0:1:{k}\n"
+        )?;
+    }
+    let (first, second) = words;
+    write!(lines, "write s b\nfind b {first:016x}{second:016x}{zeros}")?;
+    expect_below_shard(rt, lines.as_str(), printed, status)
+}
+
+#[test]
+fn seven_files_share_a_first_word(rt: HostRuntime) -> Result<(), Fail> {
+    for k in 1..8u64 {
+        let printed = format!(in rt.alloc();
+            "file 0000000000000005000000000000000{k}00000000000000000000000000000000 flags 0 segments 1 bytes {k}\n\
+             seg 00000000000000c8000000000000000100000000000000000000000000000000 0 1 {k}\n"
+        )?;
+        expect_among(&rt, 7, (5, k), printed.as_str(), 0)?;
+    }
+    expect_among(&rt, 7, (5, 99), "none\n", 0)?;
+    expect_among(&rt, 7, (6, 1), "none\n", 0)
+}
+
+#[test]
+fn eight_files_share_a_first_word(rt: HostRuntime) -> Result<(), Fail> {
+    expect_among(&rt, 8, (5, 3), "refused: TruncatedHashCollision 5\n", 1)?;
+    expect_among(&rt, 8, (5, 99), "refused: TruncatedHashCollision 5\n", 1)?;
+    expect_among(&rt, 8, (6, 1), "none\n", 0)
 }
