@@ -1,11 +1,10 @@
 //! Looking up a file on the bytes of a shard, and printing its record.
 
-ghost use Rattle.std.specs.Prelude.{◌≡◌, ◌⊎◌, ◌≤◌, ℕ, Option, length, IfOk, IfSome, MatchResult};
+ghost use Rattle.std.specs.Prelude.{◌≡◌, ◌⊎◌, ◌<◌, ◌≤◌, ◌^◌, ℕ, Option, length, IfOk, IfSome, MatchResult};
 ghost use Rattle.std.specs.FinMap as finite;
 ghost use Rattle.xet_core_structures.specs.FileRecord.{FitsItsHeader};
 ghost use Rattle.xet_core_structures.specs.Shard.{Shard, IsShard};
-ghost use Rattle.xet_core_structures.specs.Layout.{layout, info_value};
-ghost use Rattle.xet_core_structures.specs.Ends.{FitsFooter};
+ghost use Rattle.xet_core_structures.specs.Layout.{layout};
 ghost use Rattle.xet_core_structures.specs.Lookup.{FoundInShard, sharing};
 
 use std::alloc::Global;
@@ -26,7 +25,7 @@ use xet_core_structures::source::MemorySource;
 pub fn find_file(alloc: Global, bytes: &[u8], hash: &MerkleHash) -> Result<Option<MDBFileInfo>>
     ensures fits { IfOk result (λ found. IfSome found FitsItsHeader) }
     ensures hash { IfOk result (λ found. IfSome found (λ file. file.metadata.file_hash ≡ hash.now)) }
-    ensures written { (s : Shard) → (expiry : Option ℕ) → IsShard s → bytes.now ≡ layout s expiry → FitsFooter (info_value s expiry).metadata
+    ensures written { (s : Shard) → (expiry : Option ℕ) → IsShard s → IfSome expiry (λ e. e < 2 ^ 64) → bytes.now ≡ layout s expiry
         → MatchResult result (FoundInShard s hash.now) (λ e. (e ≡ CoreError.OutOfMemory)
         ⊎ ((e ≡ CoreError.TruncatedHashCollision hash.now.word0) × (8 ≤ length (sharing hash.now.word0 (finite.values s.files))))) }
 {

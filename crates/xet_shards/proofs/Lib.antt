@@ -19,3 +19,4 @@ pub mod Distinct
 pub mod FileLookups
 pub mod Found
 pub mod ShardLookups
+pub mod Widths

@@ -7,7 +7,9 @@ use Rattle.xet_base.proofs.Bytes.{length-u32_bytes, length-u64_bytes}
 use Rattle.xet_records.specs.declared.file_structs.MDBFileInfo.{MDBFileInfo}
 use Rattle.xet_shards.specs.Shard.{file_hash_of, total_rows}
 use Rattle.xet_shards.specs.Section.{with_fronts}
-use Rattle.xet_shards.specs.Tables.{file_start, file_starts, start_row, file_table_bytes}
+use Rattle.std.specs.Cmp.{IsTotalOrder}
+use Rattle.std.proofs.lemmas.Cmp.{then_total, on_total, nat_cmp_total}
+use Rattle.xet_shards.specs.Tables.{ChunkPlace, place_cmp, file_start, file_starts, start_row, file_table_bytes}
 
 module _ {X : Type 0} where
   pub with_fronts-push : (front xs : List X) (x : X) → with_fronts front (xs ++ x ∷ []) ≡ with_fronts front xs ++ (front ++ xs, x) ∷ []
@@ -37,7 +39,7 @@ file_table_bytes-nil = refl
 pub length-file_starts : (files : List MDBFileInfo) → length (file_starts files) ≡ length files
 length-file_starts files = length-map (with_fronts [] files) file_start ∙ length-with_fronts [] files
 
-length-start_rows : (rows : List (ℕ × ℕ)) → length (flat_map start_row rows) ≡ 12 * length rows
+pub length-start_rows : (rows : List (ℕ × ℕ)) → length (flat_map start_row rows) ≡ 12 * length rows
 length-start_rows [] = refl
 length-start_rows (row ∷ rows) =
     length-append (start_row row) (flat_map start_row rows)
@@ -47,3 +49,9 @@ length-start_rows (row ∷ rows) =
 pub length-file_table_bytes : (files : List MDBFileInfo) → length (file_table_bytes files) ≡ 12 * length files
 unfolding file_table_bytes
 length-file_table_bytes files = length-start_rows (file_starts files) ∙ ap (λ n. 12 * n) (length-file_starts files)
+
+-- the order of the chunk table is total
+pub place_total : IsTotalOrder place_cmp
+place_total =
+    then_total (on_total (λ (p : ChunkPlace). p.word) nat_cmp_total)
+    (then_total (on_total (λ (p : ChunkPlace). p.start) nat_cmp_total) (on_total (λ (p : ChunkPlace). p.place) nat_cmp_total))

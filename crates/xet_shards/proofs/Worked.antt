@@ -1,7 +1,5 @@
 -- Worked values of the layout: where the parts of small shards stand.
 use Rattle.std.proofs.Common.{◌≡◌, ℕ, ◌+◌, List, [], ◌∷◌, map, flat_map, length, None, refl, ap}
-use Rattle.std.specs.Cmp.{IsTotalOrder}
-use Rattle.std.proofs.lemmas.Cmp.{then_total, on_total, nat_cmp_total}
 use Rattle.xet_base.specs.declared.merklehash.DataHash.{DataHash}
 use Rattle.xet_base.specs.Bytes.{u32_bytes, u64_bytes}
 use Rattle.xet_base.specs.Hash.{hash_bytes}
@@ -13,6 +11,7 @@ use Rattle.xet_records.specs.XorbRow.{xorb_header_row, chunk_row}
 use Rattle.xet_records.specs.XorbRecord.{xorb_text}
 use Rattle.xet_shards.specs.declared.shard_format.footer.MDBShardFileFooter.{MDBShardFileFooter}
 use Rattle.xet_shards.specs.Section.{file_section, xorb_section}
+use Rattle.xet_shards.proofs.Tables.{place_total}
 use Rattle.xet_shards.specs.Tables.{ChunkPlace, place_cmp, chunk_places, ascending, chunk_table, place_row, file_table_bytes, xorb_table_bytes, chunk_table_bytes}
 use Rattle.xet_shards.specs.Layout.{footer_value, plain_form}
 use Rattle.xet_shards.proofs.Layouts.{chunk_table-nil}
@@ -45,11 +44,6 @@ places f = f.file_info_offset ∷ f.xorb_info_offset ∷ f.file_lookup_offset �
 -- the sums that a footer holds: bytes stored, of files, and on disk
 abbrev sums : MDBShardFileFooter → List ℕ
 sums f = f.stored_bytes ∷ f.materialized_bytes ∷ f.stored_bytes_on_disk ∷ []
-
-place_total : IsTotalOrder place_cmp
-place_total =
-    then_total (on_total (λ (p : ChunkPlace). p.word) nat_cmp_total)
-    (then_total (on_total (λ (p : ChunkPlace). p.start) nat_cmp_total) (on_total (λ (p : ChunkPlace). p.place) nat_cmp_total))
 
 ascending_is : (ps : List ChunkPlace) → ascending ps ≡ map (λ e. e.0) (puts place_cmp (map (λ p. (p, tt {0})) ps))
 ascending_is ps = ap (map (λ e. e.0)) (entries-from_entries place_total (map (λ p. (p, tt {0})) ps))

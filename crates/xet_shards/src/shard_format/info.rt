@@ -1,6 +1,6 @@
 //! What a shard's header and footer tell, and the calls that stand on them.
 
-ghost use Rattle.std.specs.Prelude.{◌≡◌, ◌⊎◌, ℕ, Option, ◌+◌, ◌*◌, ◌^◌, ◌<◌, ◌≤◌, ◌++◌, length, List, [], All, MatchResult, OnOk, IfOk, IfErr};
+ghost use Rattle.std.specs.Prelude.{◌≡◌, ◌⊎◌, ℕ, Option, ◌+◌, ◌*◌, ◌^◌, ◌<◌, ◌≤◌, ◌++◌, length, List, [], All, MatchResult, OnOk, IfOk, IfErr, IfSome};
 ghost use Rattle.std.specs.FinMap as finite;
 ghost use Rattle.std.specs.Io.KnownBytes.{Appends};
 ghost use Rattle.xet_base.specs.Errors.{IsDeviceError, IsInvalidShard};
@@ -49,7 +49,7 @@ impl MDBShardInfo {
     pub fn load_from_reader<S: ShardSource>(alloc: Global, source: &mut S) -> Result<Self>
         ensures read { MatchResult result (Loads (S.meaning source.old) (S.meaning source.new))
             (LoadsNot (S.meaning source.old) (S.meaning source.new)) }
-        ensures written { (s : Shard) → (expiry : Option ℕ) → (S.meaning source.old).bytes ≡ layout s expiry → FitsFooter (info_value s expiry).metadata
+        ensures written { (s : Shard) → (expiry : Option ℕ) → IsShard s → IfSome expiry (λ e. e < 2 ^ 64) → (S.meaning source.old).bytes ≡ layout s expiry
             → MatchResult result (λ info. info ≡ info_value s expiry) (DeviceFailure (S.meaning source.old) (S.meaning source.new)) }
     {
         read_ends(alloc, source)

@@ -1,4 +1,4 @@
-use Rattle.std.proofs.Common.{◌≡◌, ◌+◌, List, [], ◌∷◌, ◌++◌, length, sym, ap, ◌∙◌, subst, arith, Global}
+use Rattle.std.proofs.Common.{◌≡◌, List, [], ◌∷◌, ◌++◌, length, sym, ap, ◌∙◌, subst, arith, Global}
 use Rattle.std.specs.Prelude.{All, option_map, option_to_list, slice_get}
 use Rattle.std.specs.HashMap as hash_map
 use Rattle.std.specs.declared.rc.Rc.{Rc}

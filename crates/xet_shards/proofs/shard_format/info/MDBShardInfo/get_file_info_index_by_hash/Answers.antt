@@ -1,8 +1,7 @@
-use Rattle.std.proofs.Common.{◌≡◌, subst}
+use Rattle.std.proofs.Common.{subst}
 use Rattle.std.specs.Prelude.{IfOk, IfErr}
 use Rattle.xet_base.specs.Table.{IsSorted, Bounded}
 use Rattle.xet_shards.specs.declared.shard_format.info.MDBShardInfo.{MDBShardInfo}
-use Rattle.xet_shards.specs.Layout.{info_value}
 use Rattle.xet_shards.specs.Lookup.{file_table, IndexFinds, IndexRefused}
 use Rattle.xet_shards.proofs.ShardLookups.{index_written, index_bounded}
 use Rattle.xet_shards.proofs.shard_format.info.MDBShardInfo.get_file_info_index_by_hash.Goals as goal

@@ -1,7 +1,8 @@
+use Rattle.xet_shards.proofs.Widths.{fits_written}
 use Rattle.xet_shards.proofs.EndsUnique.{loads_written}
 use Rattle.xet_shards.proofs.shard_format.info.MDBShardInfo.load_from_reader.Goals as goal
 
 pub returns-clause-written : goal.returns-clause-written
 returns-clause-written g c =
-    λ s expiry are fits.
-    loads_written (g.S.ShardSource.meaning c.args.source.now) (g.S.ShardSource.meaning c.read_ends.new.source) s expiry c.read_ends.result are fits c.read_ends.ensures
+    λ s expiry shard fits are.
+    loads_written (g.S.ShardSource.meaning c.args.source.now) (g.S.ShardSource.meaning c.read_ends.new.source) s expiry c.read_ends.result are (fits_written s expiry shard fits) c.read_ends.ensures

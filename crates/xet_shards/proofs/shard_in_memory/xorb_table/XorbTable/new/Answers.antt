@@ -2,7 +2,7 @@ use Rattle.std.proofs.Common.{List, map, sym, ap, ◌∙◌, subst, T, Global}
 use Rattle.std.specs.Prelude.{option_map}
 use Rattle.std.specs.Map.{lookup}
 use Rattle.std.specs.declared.rc.Rc.{Rc}
-use Rattle.std.specs.FinMap.{get, from_sorted, from_entries, empty, is_sorted, get-empty}
+use Rattle.std.specs.FinMap.{get, from_sorted, from_entries, is_sorted, get-empty}
 use Rattle.std.proofs.lemmas.List.Elements.{All-nil}
 use Rattle.xet_base.specs.declared.merklehash.DataHash.{DataHash}
 use Rattle.xet_base.specs.Hash.{hash_cmp, hash_eq}
