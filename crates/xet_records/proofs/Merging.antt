@@ -183,7 +183,7 @@ agree-joined a b c first second = record {
 }
 
 -- the record with the parts of two well-formed records of one file is well-formed, but for the limit on rows
-joined_whole : (a b : MDBFileInfo) → FitsItsHeader a → FitsItsHeader b → IsSameFile a.metadata b.metadata → FitsItsHeader (joined a b)
+pub joined_whole : (a b : MDBFileInfo) → FitsItsHeader a → FitsItsHeader b → IsSameFile a.metadata b.metadata → FitsItsHeader (joined a b)
 joined_whole a b a_whole b_whole same = record {
   segments = a_whole.segments;
   verification = lengths (verified a) (verified b) a.verification b.verification a_whole.verification (b_whole.verification ∙ ap (λ n. if verified b then n else 0) (sym same.num_entries))

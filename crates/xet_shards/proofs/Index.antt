@@ -49,7 +49,7 @@ abbrev or_else : {X : Type 0} → X → Option X → X
 or_else x None = x
 or_else x (Some y) = y
 
-some_is : {X : Type 0} (x y : X) → Some x ≡ Some y → x ≡ y
+pub some_is : {X : Type 0} (x y : X) → Some x ≡ Some y → x ≡ y
 some_is x y e = ap (or_else x) e
 
 last_or_before : (i n : ℕ) → i < n + 1 → (i < n) ⊎ (i ≡ n)

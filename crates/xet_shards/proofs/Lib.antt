@@ -2,6 +2,7 @@ pub mod Ends
 pub mod EndsUnique
 pub mod Files
 pub mod Index
+pub mod Joining
 pub mod Layouts
 pub mod Loading
 pub mod Maps
@@ -17,6 +18,7 @@ pub mod Written
 pub mod Lookups
 pub mod Distinct
 pub mod FileLookups
+pub mod FileUnions
 pub mod Found
 pub mod ShardLookups
 pub mod Widths

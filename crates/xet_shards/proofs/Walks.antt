@@ -1,5 +1,5 @@
--- The turns of a loop over the values of a map.
-use Rattle.std.proofs.Common.{◌≡◌, ℕ, ◌+◌, ◌≤◌, List, [], ◌∷◌, ◌++◌, map, Option, None, Some, sym, ap, ◌∙◌, arith, append_assoc, append-nil}
+-- The turns of a loop over the values or the entries of a map.
+use Rattle.std.proofs.Common.{◌≡◌, ℕ, ◌+◌, ◌≤◌, List, [], ◌∷◌, ◌++◌, map, Option, None, Some, sym, ap, ◌∙◌, subst, arith, append_assoc, append-nil}
 use Rattle.std.specs.Prelude.{All, sum_by, flat_map}
 use Rattle.std.proofs.lemmas.Grind.{flat_map-append}
 use Rattle.std.specs.Borrow.{Bor}
@@ -8,6 +8,28 @@ use Rattle.std.proofs.lemmas.List.{map-append}
 use Rattle.std.proofs.lemmas.List.Elements.{All-drop}
 use Rattle.std.proofs.lemmas.List.Sums.{sum_by-append, sum_by-cons}
 use Rattle.std.proofs.lemmas.Map.Iter.{rest_more, rest_all}
+
+-- the same over the entries of a map: where a turn stands, and what its entry is
+module _ {X Y : Type 0} (show : Y → X) where
+  pub entry_turn : (all : List X) (before : List Y) (s t : List X) (r : Option Y) (y : Y)
+      → map show before ++ s ≡ all → r ≡ Some y → TakesFirst show s r t → map show before ++ show y ∷ t ≡ all
+  entry_turn all before s t r y whole is step = ap (λ rest. map show before ++ rest) (sym (rest_more show s t r y is step)) ∙ whole
+
+  pub entry_turned : (all : List X) (before : List Y) (t : List X) (y : Y) → map show before ++ show y ∷ t ≡ all → map show (before ++ y ∷ []) ++ t ≡ all
+  entry_turned all before t y whole =
+      ap (λ front. front ++ t) (map-append show before (y ∷ [])) ∙ append_assoc (map show before) (show y ∷ []) t ∙ whole
+
+  pub entry_end : (all : List X) (before : List Y) (s t : List X) (r : Option Y) → map show before ++ s ≡ all → r ≡ None → TakesFirst show s r t → map show before ≡ all
+  entry_end all before s t r whole is step =
+      sym (append-nil (map show before)) ∙ ap (λ rest. map show before ++ rest) (sym (rest_all show s t r is step)) ∙ whole
+
+module _ {X : Type 0} where
+  pub All-middle : (P : X → Type 0) (front rest : List X) (x : X) → All P (front ++ x ∷ rest) → P x
+  All-middle P [] rest x all = all 0 x (omega arith)
+  All-middle P (y ∷ front) rest x all = All-middle P front rest x (All-drop P 1 (y ∷ front ++ x ∷ rest) all)
+
+  pub entry_holds : (P : X → Type 0) (front rest all : List X) (x : X) → front ++ x ∷ rest ≡ all → All P all → P x
+  entry_holds P front rest all x whole holds = All-middle P front rest x (subst (All P) (sym whole) holds)
 
 module _ {X : Type 0} where
   -- where a turn stands in the list of all values
@@ -25,10 +47,6 @@ module _ {X : Type 0} where
       → map deref before ++ s ≡ all → r ≡ None → TakesFirst deref s r t → map deref before ≡ all
   value_end all before s t r whole is step =
       sym (append-nil (map deref before)) ∙ ap (λ rest. map deref before ++ rest) (sym (rest_all deref s t r is step)) ∙ whole
-
-  pub All-middle : (P : X → Type 0) (front rest : List X) (x : X) → All P (front ++ x ∷ rest) → P x
-  All-middle P [] rest x all = all 0 x (omega arith)
-  All-middle P (y ∷ front) rest x all = All-middle P front rest x (All-drop P 1 (y ∷ front ++ x ∷ rest) all)
 
   pub sum-middle : (f : X → ℕ) (front rest : List X) (x : X) → sum_by f front + f x ≤ sum_by f (front ++ x ∷ rest)
   sum-middle f front rest x = omega (arith, sum_by-append f front (x ∷ rest), sum_by-cons f x rest)

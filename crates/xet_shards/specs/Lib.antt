@@ -1,6 +1,7 @@
 pub mod Ends
 pub mod FileTable
 pub mod Index
+pub mod Joining
 pub mod Layout
 pub mod Lookup
 pub mod Section

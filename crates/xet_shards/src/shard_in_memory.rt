@@ -8,6 +8,8 @@ ghost use Rattle.xet_shards.specs.Shard.{Shard, AreFiles, total_rows, add_file, 
 ghost use Rattle.xet_shards.specs.Layout.{layout};
 
 mod file_table;
+#[cfg(test)]
+mod table_tests;
 mod xorb_table;
 
 use file_table::FileTable;

@@ -1,16 +1,21 @@
 //! The files of a shard in memory, without a limit on their rows.
 
-ghost use Rattle.std.specs.Prelude.{◌≡◌, ◌≤◌, OnOk, OnErr, IfErr, unwrap_or, option_map};
+ghost use Rattle.std.specs.Prelude.{◌≡◌, ◌≤◌, ◌↔◌, ◌⊎◌, T, IsTrue, is_some, IfSome, OnOk, OnErr, IfOk, IfErr, IsErrOf, unwrap_or, option_map};
+ghost use Rattle.std.specs.Option.{option_or};
 ghost use Rattle.std.specs.FinMap as finite;
+ghost use Rattle.std.specs.FinMap.{is_sorted, from_sorted};
+ghost use Rattle.xet_base.specs.declared.merklehash.DataHash.{DataHash};
+ghost use Rattle.xet_base.specs.Hash.{hash_cmp};
 ghost use Rattle.xet_records.specs.FileRecord.{row_count, IsWellFormed};
 ghost use Rattle.xet_shards.specs.Shard.{AreFiles, file_hash_of};
+ghost use Rattle.xet_shards.specs.Joining.{but, entry, CanJoinFile, CanJoinFiles, either_file, own_file};
 
 use std::alloc::Global;
 use std::collections::BTreeMap;
 use std::marker::Model;
 use xet_base::error::{CoreError, Result};
 use xet_base::merklehash::MerkleHash;
-use xet_records::file_structs::MDBFileInfo;
+use xet_records::file_structs::{FileDataSequenceHeader, MDBFileInfo};
 
 /// Well-formed files, each under its hash. Contracts see the finite map.
 #[derive(Drop)]
@@ -71,4 +76,131 @@ impl FileTable {
             .insert(file_info.metadata.file_hash, file_info)?;
         Ok(())
     }
+
+    /// Whether there is a file under this hash.
+    pub fn contains(&self, file_hash: &MerkleHash) -> bool
+        ensures { result ≡ is_some (finite.get self.now file_hash.now) }
+    {
+        self.content.contains_key(file_hash)
+    }
+
+    /// Puts those of these files under their hashes whose hashes neither this table nor `except` has.
+    /// `OutOfMemory` where they find none, and then some of them stand there.
+    fn append_missing(
+        &mut self,
+        alloc: Global,
+        others: &BTreeMap<MerkleHash, MDBFileInfo>,
+        except: &FileTable,
+    ) -> Result<()>
+        requires { AreFiles others.now.entries }
+        ensures ok { OnOk result ((q : DataHash) → finite.get self.new q
+            ≡ option_or (finite.get self.old q) (but except.now (entry others.now.entries) q)) }
+        ensures causes { IfErr result (λ e. e ≡ CoreError.OutOfMemory) }
+    {
+        for (file_hash, file_info) in others {
+            if !self.contains(file_hash) && !except.contains(file_hash) {
+                self.put(file_info.try_clone(alloc)?)?;
+            }
+        }
+        Ok(())
+    }
+
+    /// The files of both tables: where both have one under a hash, that of this table with each optional
+    /// part that only `other` has for it.
+    ///
+    /// `InvalidArguments` where such files have different numbers of segments or the rows of one pass 32
+    /// bits, `OutOfMemory` where the files find none.
+    pub fn union(&self, alloc: Global, other: &FileTable) -> Result<FileTable>
+        ensures ok { IfOk result (λ t. (q : DataHash) → finite.get t q
+            ≡ either_file (finite.get self.now q) (finite.get other.now q)) }
+        ensures admitted { OnOk result (CanJoinFiles self.now other.now) }
+        ensures refused { IsErrOf result CoreError.InvalidArguments → ¬ CanJoinFiles self.now other.now }
+        ensures invalid { ¬ CanJoinFiles self.now other.now → IsErrOf result CoreError.InvalidArguments }
+        ensures causes { IfErr result
+            (λ e. (e ≡ CoreError.InvalidArguments) ⊎ (e ≡ CoreError.OutOfMemory)) }
+    {
+        if !can_join_files(&self.content, other) {
+            return Err(CoreError::InvalidArguments);
+        }
+        let mut joined = merged_files(alloc, &self.content, other)?;
+        joined.append_missing(alloc, other.content(), self)?;
+        Ok(joined)
+    }
+
+    /// The files of `other` under hashes that this table has not. `OutOfMemory` where they find none.
+    pub fn difference(&self, alloc: Global, other: &FileTable) -> Result<FileTable>
+        ensures ok { IfOk result (λ t. (q : DataHash) → finite.get t q
+            ≡ but self.now (finite.get other.now) q) }
+        ensures causes { IfErr result (λ e. e ≡ CoreError.OutOfMemory) }
+    {
+        let mut rest = FileTable::new(alloc);
+        rest.append_missing(alloc, other.content(), self)?;
+        Ok(rest)
+    }
+
+    // The file under a hash.
+    fn get(&self, file_hash: &MerkleHash) -> Option<&MDBFileInfo>
+        ensures value { option_map (λ file. file.now) result ≡ finite.get self.now file_hash.now }
+        ensures well_formed { IfSome result (λ file. IsWellFormed file.now) }
+    {
+        self.content.get(file_hash)
+    }
+}
+
+// Whether each of these files that `other` has too may be joined with it.
+fn can_join_files(files: &BTreeMap<MerkleHash, MDBFileInfo>, other: &FileTable) -> bool
+    requires sorted { T (is_sorted hash_cmp files.now.entries) }
+    requires files { AreFiles files.now.entries }
+    ensures { IsTrue result ↔ CanJoinFiles (from_sorted files.now.entries) other.now }
+{
+    for (file_hash, file_info) in files {
+        if let Some(twin) = other.get(file_hash) {
+            if !can_join(file_info, twin) {
+                return false;
+            }
+        }
+    }
+    true
+}
+
+// Whether two records are of one file, and their join is well-formed.
+fn can_join(file_info: &MDBFileInfo, twin: &MDBFileInfo) -> bool
+    requires own { IsWellFormed file_info.now }
+    requires others { IsWellFormed twin.now }
+    ensures { IsTrue result ↔ CanJoinFile file_info.now twin.now }
+{
+    if !FileDataSequenceHeader::verify_same_file(&file_info.metadata, &twin.metadata) {
+        return false;
+    }
+    let joined = FileDataSequenceHeader::new(
+        file_info.metadata.file_hash,
+        file_info.metadata.num_entries,
+        file_info.contains_verification() || twin.contains_verification(),
+        file_info.contains_metadata_ext() || twin.contains_metadata_ext(),
+    );
+    joined.rows_after() < u64::from(u32::MAX)
+}
+
+// These files, each with the optional parts that only `other` has for it.
+fn merged_files(
+    alloc: Global,
+    files: &BTreeMap<MerkleHash, MDBFileInfo>,
+    other: &FileTable,
+) -> Result<FileTable>
+    requires sorted { T (is_sorted hash_cmp files.now.entries) }
+    requires files { AreFiles files.now.entries }
+    requires joins { CanJoinFiles (from_sorted files.now.entries) other.now }
+    ensures ok { IfOk result (λ t. (q : DataHash) → finite.get t q
+        ≡ own_file (entry files.now.entries q) (finite.get other.now q)) }
+    ensures causes { IfErr result (λ e. e ≡ CoreError.OutOfMemory) }
+{
+    let mut joined = FileTable::new(alloc);
+    for (file_hash, file_info) in files {
+        let mut copy = file_info.try_clone(alloc)?;
+        if let Some(twin) = other.get(file_hash) {
+            copy.merge_from(alloc, twin)?;
+        }
+        joined.put(copy)?;
+    }
+    Ok(joined)
 }
