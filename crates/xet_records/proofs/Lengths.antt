@@ -13,7 +13,9 @@ use Rattle.xet_records.specs.declared.file_structs.MDBFileInfo.{MDBFileInfo}
 use Rattle.xet_records.specs.FileRecord.{record_text, rows_text, row_count, FitsRecord}
 use Rattle.xet_records.specs.declared.xorb_structs.XorbChunkSequenceHeader.{XorbChunkSequenceHeader}
 use Rattle.xet_records.specs.declared.xorb_structs.XorbChunkSequenceEntry.{XorbChunkSequenceEntry}
+use Rattle.xet_records.specs.declared.xorb_structs.MDBXorbInfo.{MDBXorbInfo}
 use Rattle.xet_records.specs.XorbRow.{xorb_header_row, chunk_row}
+use Rattle.xet_records.specs.XorbRecord.{xorb_text, xorb_row_count}
 use Rattle.xet_records.specs.FileRow.{header_row, segment_row, verification_row, metadata_row, IsReserved, FitsVerification, FitsMetadata}
 
 pub length-header_row : (h : FileDataSequenceHeader) → length (header_row h) ≡ 48
@@ -73,3 +75,12 @@ length-record_text r fits =
       length-verification_rows r.verification fits.verification,
       length-metadata_rows r.metadata_ext fits.metadata_ext,
     )
+
+pub length-chunk_rows : (cs : List XorbChunkSequenceEntry) → length (flat_map chunk_row cs) ≡ 48 * length cs
+length-chunk_rows [] = refl
+length-chunk_rows (c ∷ cs) = length-append (chunk_row c) (flat_map chunk_row cs) ∙ omega (arith, length-chunk_row c, length-chunk_rows cs)
+
+pub length-xorb_text : (r : MDBXorbInfo) → length (xorb_text r) ≡ 48 * xorb_row_count r
+unfolding xorb_text
+length-xorb_text r =
+    length-append (xorb_header_row r.metadata) (flat_map chunk_row r.chunks) ∙ omega (arith, length-xorb_header_row r.metadata, length-chunk_rows r.chunks)

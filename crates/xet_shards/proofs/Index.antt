@@ -3,7 +3,7 @@ use Rattle.std.proofs.Common.{◌≡◌, ◌⊎◌, inl, inr, ℕ, zero, suc, �
 use Rattle.std.specs.Prelude.{All, IsSome, option_map, slice_get, slice_index_or, Ok, Err, OnOk, OnErr}
 use Rattle.std.specs.declared.result.Result.{Result}
 use Rattle.std.proofs.lemmas.List.Elements.{All-nil, All-cons, All-drop}
-use Rattle.std.specs.Ordering.{eq_by_cmp, is_eq, match_ordering}
+use Rattle.std.specs.Ordering.{eq_by_cmp, match_ordering}
 use Rattle.std.specs.BTreeMap.{insert_entry}
 use Rattle.std.specs.declared.cmp.Ordering.{Ordering}
 use Rattle.std.specs.declared.cmp.Ordering.TheVariants.{Less, Equal, Greater}
@@ -18,8 +18,9 @@ use Rattle.xet_base.proofs.HashOrder.{hash_cmp-IsTotalOrder, hash_cmp-IsAntisymm
 use Rattle.xet_records.specs.declared.xorb_structs.XorbChunkSequenceEntry.{XorbChunkSequenceEntry}
 use Rattle.xet_records.specs.declared.xorb_structs.MDBXorbInfo.{MDBXorbInfo}
 use Rattle.xet_shards.specs.Shard.{XorbMap, xorb_hash_of}
-use Rattle.xet_shards.specs.Index.{Place, IsPlace, IsIndex, chunk_at, add_xorb}
+use Rattle.xet_shards.specs.Index.{Place, IsPlace, IsIndex, chunk_at, put_xorb}
 use Rattle.xet_shards.specs.XorbTable.{IsEntered}
+use Rattle.xet_shards.proofs.Maps.{is_equal}
 
 -- equality of hashes, word by word
 pub same_hash : (a b : DataHash) → Decides (hash_eq a b) (a ≡ b)
@@ -28,11 +29,6 @@ same_hash a b =
     (λ e. (ap (λ (h : DataHash). h.word0) e, (ap (λ (h : DataHash). h.word1) e, (ap (λ (h : DataHash). h.word2) e, ap (λ (h : DataHash). h.word3) e))))
     (Decides-and _ _ (Decides-eqb a.word0 b.word0) (Decides-and _ _ (Decides-eqb a.word1 b.word1) (Decides-and _ _ (Decides-eqb a.word2 b.word2) (Decides-eqb a.word3 b.word3))))
 
-is_equal : (o : Ordering) → is_eq o ≡ true → o ≡ Equal
-is_equal Less tied = absurd (true≢false (sym tied))
-is_equal Equal tied = refl
-is_equal Greater tied = absurd (true≢false (sym tied))
-
 pub same_key : (a b : DataHash) → Decides (eq_by_cmp hash_cmp a b) (a ≡ b)
 same_key a b = (
   λ tied. hash_cmp-IsAntisymmetric a b (is_equal (hash_cmp a b) tied),
@@ -40,7 +36,7 @@ same_key a b = (
 )
 
 -- at the key that was inserted
-get-added : (xorbs : XorbMap) (r : MDBXorbInfo) → get (add_xorb xorbs r) (xorb_hash_of r) ≡ Some r
+get-added : (xorbs : XorbMap) (r : MDBXorbInfo) → get (put_xorb xorbs r) (xorb_hash_of r) ≡ Some r
 get-added xorbs r =
     get-insert hash_cmp-IsTotalOrder xorbs (xorb_hash_of r) r (xorb_hash_of r)
     ∙ ap (λ b. cond b (Some r) (get xorbs (xorb_hash_of r))) ((same_key (xorb_hash_of r) (xorb_hash_of r)).1 refl)
@@ -58,7 +54,7 @@ last_or_before zero (suc n) below = inl (omega arith)
 last_or_before (suc i) zero below = absurd (omega (arith, below))
 last_or_before (suc i) (suc n) below = elim (last_or_before i n (omega (arith, below))) [ inl less ↦ inl (omega (arith, less)) | inr same ↦ inr (ap suc same) ]
 
-none_or_some : {X : Type 0} (x : X) → None ≡ Some x → ⊥
+pub none_or_some : {X : Type 0} (x : X) → None ≡ Some x → ⊥
 none_or_some x e = true≢false (sym (ap is_some e))
 
 -- nothing was entered yet, whatever the order of the entries
@@ -94,32 +90,32 @@ entered-more f g h r n k here updates before = record {
     | inr last ↦ absurd (true≢false (sym ((same_hash k q).1 (some_is k q (sym here ∙ ap (λ j. chunk_at (r, j)) (sym last) ∙ at))) ∙ is))
   ]
 
-chunk_within : (cs : List XorbChunkSequenceEntry) (i : ℕ) (q : DataHash) → option_map (λ (c : XorbChunkSequenceEntry). c.chunk_hash) (slice_get cs i) ≡ Some q → i < length cs
+pub chunk_within : (cs : List XorbChunkSequenceEntry) (i : ℕ) (q : DataHash) → option_map (λ (c : XorbChunkSequenceEntry). c.chunk_hash) (slice_get cs i) ≡ Some q → i < length cs
 chunk_within [] i q at = absurd (none_or_some q at)
 chunk_within (c ∷ cs) zero q at = omega arith
 chunk_within (c ∷ cs) (suc i) q at = omega (arith, chunk_within cs i q at)
 
 -- once all chunks of a new xorb are entered, the lookup is right again
 pub index-append : (xorbs : XorbMap) (f g : DataHash → Option Place) (r : MDBXorbInfo) → get xorbs (xorb_hash_of r) ≡ None → IsIndex xorbs f → IsEntered f g r (length r.chunks)
-    → IsIndex (add_xorb xorbs r) g
+    → IsIndex (put_xorb xorbs r) g
 index-append xorbs f g r absent index entered = record {
   present = λ q p at. elim (entered.present q p at) [
     | inl old ↦ record { xorb = still p.0 (index.present q p old).xorb (eq_by_cmp hash_cmp (xorb_hash_of p.0) (xorb_hash_of r)) refl; chunk = (index.present q p old).chunk }
-    | inr (own, below, chunk) ↦ record { xorb = subst (λ t. get (add_xorb xorbs r) (xorb_hash_of t) ≡ Some t) (sym own) (get-added xorbs r); chunk = chunk }
+    | inr (own, below, chunk) ↦ record { xorb = subst (λ t. get (put_xorb xorbs r) (xorb_hash_of t) ≡ Some t) (sym own) (get-added xorbs r); chunk = chunk }
   ];
   complete = λ q p place. complete_at q p place (eq_by_cmp hash_cmp (xorb_hash_of p.0) (xorb_hash_of r)) refl;
 } where
-  other : (s : MDBXorbInfo) → eq_by_cmp hash_cmp (xorb_hash_of s) (xorb_hash_of r) ≡ false → get (add_xorb xorbs r) (xorb_hash_of s) ≡ get xorbs (xorb_hash_of s)
+  other : (s : MDBXorbInfo) → eq_by_cmp hash_cmp (xorb_hash_of s) (xorb_hash_of r) ≡ false → get (put_xorb xorbs r) (xorb_hash_of s) ≡ get xorbs (xorb_hash_of s)
   other s apart =
       get-insert hash_cmp-IsTotalOrder xorbs (xorb_hash_of r) r (xorb_hash_of s) ∙ ap (λ b. cond b (Some r) (get xorbs (xorb_hash_of s))) apart
 
-  still : (s : MDBXorbInfo) → get xorbs (xorb_hash_of s) ≡ Some s → (b : Bool) → eq_by_cmp hash_cmp (xorb_hash_of s) (xorb_hash_of r) ≡ b → get (add_xorb xorbs r) (xorb_hash_of s) ≡ Some s
+  still : (s : MDBXorbInfo) → get xorbs (xorb_hash_of s) ≡ Some s → (b : Bool) → eq_by_cmp hash_cmp (xorb_hash_of s) (xorb_hash_of r) ≡ b → get (put_xorb xorbs r) (xorb_hash_of s) ≡ Some s
   still s at true is = absurd (none_or_some s (sym absent ∙ ap (get xorbs) (sym ((same_key (xorb_hash_of s) (xorb_hash_of r)).0 is)) ∙ at))
   still s at false is = other s is ∙ at
 
-  complete_at : (q : DataHash) (p : Place) → IsPlace (add_xorb xorbs r) q p → (b : Bool) → eq_by_cmp hash_cmp (xorb_hash_of p.0) (xorb_hash_of r) ≡ b → IsSome (g q)
+  complete_at : (q : DataHash) (p : Place) → IsPlace (put_xorb xorbs r) q p → (b : Bool) → eq_by_cmp hash_cmp (xorb_hash_of p.0) (xorb_hash_of r) ≡ b → IsSome (g q)
   complete_at q p place true is =
-      let own : r ≡ p.0 = some_is r p.0 (sym (get-added xorbs r) ∙ ap (get (add_xorb xorbs r)) (sym ((same_key (xorb_hash_of p.0) (xorb_hash_of r)).0 is)) ∙ place.xorb) in
+      let own : r ≡ p.0 = some_is r p.0 (sym (get-added xorbs r) ∙ ap (get (put_xorb xorbs r)) (sym ((same_key (xorb_hash_of p.0) (xorb_hash_of r)).0 is)) ∙ place.xorb) in
       let here : chunk_at (r, p.1) ≡ Some q = ap (λ s. chunk_at (s, p.1)) own ∙ place.chunk in
       entered.complete q p.1 (chunk_within r.chunks p.1 q here) here
   complete_at q p place false is = entered.kept q (index.complete q p (record { xorb = sym (other p.0 is) ∙ place.xorb; chunk = place.chunk }))

@@ -17,7 +17,7 @@ module _ {X : Type 0} where
   abbrev pub IsFilled : (f : DataHash → Option X) (except m : FinMap hash_cmp X) (es : List (DataHash × X)) → Type 0
   IsFilled f except m es = (q : DataHash) → get m q ≡ option_or (f q) (but except (entry es) q)
 
-  or_none : (o : Option X) → option_or o None ≡ o
+  pub or_none : (o : Option X) → option_or o None ≡ o
   or_none None = refl
   or_none (Some x) = refl
 
@@ -88,6 +88,16 @@ module _ {X : Type 0} where
     filled-new none q =
         filled q ∙ ap (λ o. option_or o (but except (entry es) q)) (ap (λ e. get e q) none ∙ get-empty hash_cmp q)
         ∙ ap (λ o. cond (is_some (get except q)) None o) (entry_is q)
+
+  -- what is found outside of a map
+  pub but_found : (except : FinMap hash_cmp X) (f : DataHash → Option X) (q : DataHash) (v : X) → but except f q ≡ Some v → f q ≡ Some v
+  but_found except f q v = outside (is_some (get except q)) where
+    outside : (b : Bool) → cond b None (f q) ≡ Some v → f q ≡ Some v
+    outside true found = absurd (true≢false (sym (ap is_some found)))
+    outside false found = found
+
+  pub but_empty : (f : DataHash → Option X) (q : DataHash) → but empty f q ≡ f q
+  but_empty f q = ap (λ o. cond (is_some o) None (f q)) (get-empty hash_cmp q)
 
   -- what one entry and then the rest of a map make
   one_first : (b : Bool) (v : X) (o : Option X) → option_or (cond b (Some v) None) o ≡ cond b (Some v) o

@@ -19,7 +19,6 @@ use Rattle.xet_shards.specs.Section.{file_section, xorb_section}
 use Rattle.xet_shards.specs.Tables.{place_cmp, chunk_table, file_table_bytes, xorb_table_bytes, chunk_table_bytes, place_row}
 use Rattle.xet_shards.specs.Layout.{header_text, footer_text, header_value, footer_value, layout_of, plain_form}
 use Rattle.xet_shards.proofs.Maps.{entries-empty}
-use Rattle.xet_shards.proofs.Tables.{length-file_table_bytes}
 
 pub chunk_table-nil : chunk_table [] ≡ []
 chunk_table-nil = ap (map (λ e. e.0)) (entries-empty (Unit {0}) place_cmp)
@@ -70,24 +69,3 @@ pub length-footer_text : (f : MDBShardFileFooter) → length f._buffer ≡ 6 →
 unfolding footer_text
 length-footer_text f six =
     simp (length-append, length-u64_bytes, length-hash_bytes) (omega (arith, length-numbers u64_bytes 8 length-u64_bytes f._buffer, six))
-
--- a shard without xorbs has 344 bytes, 48 for each row of its files and 12 for each file
-pub length-layout_of-files : (files : List MDBFileInfo) (expiry : Option ℕ) → All FitsRecord files
-    → length (layout_of files [] (plain_form expiry)) ≡ 344 + 48 * total_rows files + 12 * length files
-length-layout_of-files files expiry fit =
-    let header = header_text header_value in
-    let bookend = xorb_header_row xorb_bookend in
-    let footer = footer_value files [] (plain_form expiry) in
-    ap length (layout_of-files files expiry)
-    ∙ length-append (((header ++ file_section files) ++ bookend) ++ file_table_bytes files) (footer_text footer)
-    ∙ omega (
-      arith,
-      length-append ((header ++ file_section files) ++ bookend) (file_table_bytes files),
-      length-append (header ++ file_section files) bookend,
-      length-append header (file_section files),
-      length-header_text header_value,
-      length-file_section files fit,
-      length-xorb_header_row xorb_bookend,
-      length-file_table_bytes files,
-      length-footer_text footer refl,
-    )

@@ -1,13 +1,13 @@
 -- Finite maps that the entries of a `BTreeMap` stand for.
-use Rattle.std.proofs.Common.{◌≡◌, ℕ, ◌+◌, Bool, true, false, ◌&&◌, List, [], ◌∷◌, map, length, Some, T, refl, sym, ap, ◌∙◌, subst, arith}
+use Rattle.std.proofs.Common.{◌≡◌, ℕ, ◌+◌, Bool, true, false, ◌&&◌, List, [], ◌∷◌, map, length, Some, None, T, refl, sym, ap, ◌∙◌, subst, arith, true≢false, is_some, ◌<◌, ◌≤◌}
 use Rattle.std.specs.Prelude.{All, option_map, unwrap_or, sum_by, cond}
-use Rattle.std.specs.Ordering.{is_lt, match_ordering}
+use Rattle.std.specs.Ordering.{is_lt, is_eq, eq_by_cmp, match_ordering}
 use Rattle.std.specs.declared.cmp.Ordering.{Ordering}
 use Rattle.std.specs.declared.cmp.Ordering.TheVariants.{Less, Equal, Greater}
 use Rattle.std.specs.Cmp.{IsTotalOrder}
 use Rattle.std.specs.Map.{lookup, keys_of, values_of}
 use Rattle.std.specs.BTreeMap.{insert_entry, is_at}
-use Rattle.std.specs.FinMap.{FinMap, from_entries, IsAntisymmetric, is_sorted, find, get, insert, entries, values, empty, from_sorted, same_map, same_entries_map, entries-from_sorted, entries-insert, entries_sorted, get-from_sorted, get-entries, get-empty, len-entries, len-empty}
+use Rattle.std.specs.FinMap.{FinMap, from_entries, IsAntisymmetric, is_sorted, find, get, insert, entries, values, empty, from_sorted, same_map, same_entries_map, entries-from_sorted, entries-insert, entries_sorted, get-from_sorted, get-entries, get-empty, get-from_entries, len, len-entries, len-empty, len-insert}
 use Rattle.std.specs.FinMap.Entries.{put, is_sorted-put, by_order, below_all}
 use Rattle.std.specs.List.Sorted.{IsStrictlySortedBy}
 use Rattle.std.specs.List.{AllByRecursion}
@@ -24,7 +24,12 @@ less Less p = refl
 less Equal p = absurd p
 less Greater p = absurd p
 
-both_left : (a b : Bool) → T (a && b) → T a
+pub is_equal : (o : Ordering) → is_eq o ≡ true → o ≡ Equal
+is_equal Less tied = absurd (true≢false (sym tied))
+is_equal Equal tied = refl
+is_equal Greater tied = absurd (true≢false (sym tied))
+
+pub both_left : (a b : Bool) → T (a && b) → T a
 both_left true b p = tt
 both_left false b p = p
 
@@ -41,6 +46,11 @@ module _ {K X : Type 0} (R : K → K → Ordering) where
   pub found_is : (q : K) (es : List (K × X)) → lookup (is_at (R q)) es ≡ find R q es
   found_is q [] = refl
   found_is q (e ∷ es) = ap (cond (is_at (R q) e.0) (Some e.1)) (found_is q es)
+
+  pub below_none : (x : K) (es : List (K × X)) → T (below_all R x es) → find R x es ≡ None
+  below_none x [] below = refl
+  below_none x (e ∷ es) below =
+      ap (λ o. cond (is_eq o) (Some e.1) (find R x es)) (less (R x e.0) (both_left _ _ below)) ∙ below_none x es (both_right _ _ below)
 
   below_keys : (x : K) (es : List (K × X)) → T (below_all R x es) → AllByRecursion (λ y. R x y ≡ Less) (keys_of es)
   below_keys x [] below = tt
@@ -108,3 +118,30 @@ puts R (e ∷ es) = put R e.0 e.1 (puts R es)
 pub entries-from_entries : {K X : Type 0} {R : K → K → Ordering} → IsTotalOrder R → (es : List (K × X)) → entries (from_entries {R = R} es) ≡ puts R es
 entries-from_entries {X = X} {R = R} total [] = entries-empty X R
 entries-from_entries {X = X} {R = R} total (e ∷ es) = entries-insert total (from_entries es) e.0 e.1 ∙ ap (put R e.0 e.1) (entries-from_entries total es)
+
+-- keys whose ranks rise, from n on
+abbrev pub IsRising : {K : Type 0} → (K → ℕ) → ℕ → List K → Type 0
+IsRising rank n [] = Unit {0}
+IsRising rank n (k ∷ ks) = (n ≤ rank k) × IsRising rank (rank k + 1) ks
+
+pub rising_lower : {K : Type 0} (rank : K → ℕ) (m n : ℕ) (ks : List K) → m ≤ n → IsRising rank n ks → IsRising rank m ks
+rising_lower rank m n [] below rising = tt
+rising_lower rank m n (k ∷ ks) below rising = (omega (arith, below, rising.0), rising.1)
+
+module _ {K X : Type 0} {R : K → K → Ordering} (total : IsTotalOrder R) (rank : K → ℕ) (same_rank : (x y : K) → R x y ≡ Equal → rank x ≡ rank y) where
+  none_ranked : (k : K) (n : ℕ) (es : List (K × X)) → rank k < n → IsRising rank n (keys_of es) → find R k es ≡ None
+  none_ranked k n [] below rising = refl
+  none_ranked k n (e ∷ es) below rising =
+      ap (λ b. cond b (Some e.1) (find R k es)) (apart (eq_by_cmp R k e.0) refl) ∙ none_ranked k (rank e.0 + 1) es (omega (arith, below, rising.0)) rising.1 where
+        apart : (b : Bool) → eq_by_cmp R k e.0 ≡ b → b ≡ false
+        apart true is = absurd (omega (arith, below, rising.0, same_rank k e.0 (is_equal (R k e.0) is)))
+        apart false is = refl
+
+  -- the map of entries with such keys has them all
+  pub length-from_entries : (n : ℕ) (es : List (K × X)) → IsRising rank n (keys_of es) → length (entries (from_entries {R = R} es)) ≡ length es
+  length-from_entries n [] rising = ap length (entries-empty X R)
+  length-from_entries n (e ∷ es) rising =
+      let rest : FinMap R X = from_entries es in
+      sym (len-entries (insert rest e.0 e.1)) ∙ len-insert total rest e.0 e.1
+      ∙ ap (λ o. cond (is_some {T = X} o) (len rest) (len rest + 1)) (get-from_entries total es e.0 ∙ none_ranked e.0 (rank e.0 + 1) es (omega arith) rising.1)
+      ∙ omega (arith, len-entries rest, length-from_entries (rank e.0 + 1) es rising.1)

@@ -1,21 +1,26 @@
--- Worked values of the layout: where the parts of small shards stand.
+-- Worked values: where the parts of small shards stand, and runs of chunks.
 use Rattle.std.proofs.Common.{◌≡◌, ℕ, ◌+◌, List, [], ◌∷◌, map, flat_map, length, None, refl, ap}
+use Rattle.std.proofs.lemmas.List.Elements.{All-nil}
 use Rattle.xet_base.specs.declared.merklehash.DataHash.{DataHash}
 use Rattle.xet_base.specs.Bytes.{u32_bytes, u64_bytes}
 use Rattle.xet_base.specs.Hash.{hash_bytes}
 use Rattle.xet_records.specs.declared.file_structs.MDBFileInfo.{MDBFileInfo}
 use Rattle.xet_records.specs.declared.xorb_structs.MDBXorbInfo.{MDBXorbInfo}
+use Rattle.xet_records.specs.declared.xorb_structs.XorbChunkSequenceEntry.{XorbChunkSequenceEntry}
+use Rattle.xet_records.specs.declared.file_structs.FileDataSequenceEntry.{FileDataSequenceEntry}
 use Rattle.xet_records.specs.FileRow.{header_row, segment_row}
-use Rattle.xet_records.specs.FileRecord.{record_text, rows_text}
+use Rattle.xet_records.specs.FileRecord.{record_text, rows_text, FitsRecord}
 use Rattle.xet_records.specs.XorbRow.{xorb_header_row, chunk_row}
 use Rattle.xet_records.specs.XorbRecord.{xorb_text}
 use Rattle.xet_shards.specs.declared.shard_format.footer.MDBShardFileFooter.{MDBShardFileFooter}
 use Rattle.xet_shards.specs.Section.{file_section, xorb_section}
+use Rattle.xet_shards.specs.ChunkQuery.{run_at}
 use Rattle.xet_shards.proofs.Tables.{place_total}
 use Rattle.xet_shards.specs.Tables.{ChunkPlace, place_cmp, chunk_places, ascending, chunk_table, place_row, file_table_bytes, xorb_table_bytes, chunk_table_bytes}
-use Rattle.xet_shards.specs.Layout.{footer_value, plain_form}
+use Rattle.xet_shards.specs.Layout.{footer_value, layout_of, plain_form}
 use Rattle.xet_shards.proofs.Layouts.{chunk_table-nil}
 use Rattle.xet_shards.proofs.Maps.{puts, entries-from_entries}
+use Rattle.xet_shards.proofs.XorbLayouts.{length-layout_of}
 
 -- the words n, 1, 0 and 0
 abbrev small : ℕ → DataHash
@@ -75,3 +80,29 @@ sums_of_p = refl
 pub places_of_q : places (footer_value (file 100 200 ∷ file 101 201 ∷ []) (xorb 10 21 ∷ xorb 11 22 ∷ []) (plain_form None)) ≡ 48 ∷ 288 ∷ 528 ∷ 552 ∷ 576 ∷ 608 ∷ []
 unfolding file_section xorb_section file_table_bytes xorb_table_bytes chunk_table_bytes record_text rows_text header_row segment_row hash_bytes u64_bytes u32_bytes xorb_text xorb_header_row chunk_row
 places_of_q = λ i. 48 ∷ 288 ∷ 528 ∷ 552 ∷ 576 ∷ (576 + length (flat_map place_row (chunks_of_q i))) ∷ []
+
+-- the bytes of two xorbs that hold one chunk
+pub size_of_two : length (layout_of [] (xorb 10 21 ∷ xorb 11 21 ∷ []) (plain_form None)) ≡ 592
+size_of_two = length-layout_of [] (xorb 10 21 ∷ xorb 11 21 ∷ []) None (All-nil FitsRecord)
+
+-- a chunk, and a xorb of three chunks of 5, 6 and 7 bytes
+abbrev chunk : ℕ → ℕ → ℕ → XorbChunkSequenceEntry
+chunk hash start bytes = record { chunk_hash = small hash; chunk_byte_range_start = start; unpacked_segment_bytes = bytes; flags = 0; _unused = 0 }
+
+abbrev three : MDBXorbInfo
+three = record {
+  metadata = record { xorb_hash = small 10; xorb_flags = 0; num_entries = 3; num_bytes_in_xorb = 18; num_bytes_on_disk = 0 };
+  chunks = chunk 21 0 5 ∷ chunk 22 5 6 ∷ chunk 23 11 7 ∷ [];
+}
+
+-- a segment of chunks of that xorb
+abbrev segment : ℕ → ℕ → ℕ → FileDataSequenceEntry
+segment bytes start end = record { xorb_hash = small 10; xorb_flags = 0; unpacked_segment_bytes = bytes; chunk_index_start = start; chunk_index_end = end }
+
+-- two hashes stand there in turn, the third does not
+pub run_to_other_hash : run_at (three, 1) (small 22 ∷ small 23 ∷ small 99 ∷ []) ≡ (2, segment 13 1 3)
+run_to_other_hash = refl
+
+-- the xorb ends before the hashes do
+pub run_to_end_of_xorb : run_at (three, 2) (small 23 ∷ small 24 ∷ []) ≡ (1, segment 7 2 3)
+run_to_end_of_xorb = refl

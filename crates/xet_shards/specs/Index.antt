@@ -8,7 +8,7 @@ use Rattle.xet_base.specs.contracts.merklehash.DataHash as hash
 use Rattle.xet_base.specs.Hash.{hash_cmp}
 use Rattle.xet_records.specs.declared.xorb_structs.MDBXorbInfo.{MDBXorbInfo}
 use Rattle.xet_records.specs.contracts.xorb_structs.MDBXorbInfo as xorb
-use Rattle.xet_shards.specs.Shard.{XorbMap, coded_xorbs, xorb_hash_of}
+use Rattle.xet_shards.specs.Shard.{XorbMap, coded_xorbs, xorb_hash_of, Shard, coded_shard}
 
 -- a xorb, and the place of a chunk in it
 abbrev pub Place : Type 0
@@ -22,10 +22,21 @@ pub record Table : Type 0 where
   pub xorbs : XorbMap
   pub places : PlaceMap
 
+-- the codes by which proofs tell such values apart
+abbrev pub coded_places : Coded PlaceMap
+coded_places = finite.code hash.the_row.coded (coded× xorb.the_row.coded coded_ℕ)
+
 abbrev pub coded_table : Coded Table
-coded_table =
-    code_by (XorbMap × PlaceMap) (coded× coded_xorbs (finite.code hash.the_row.coded (coded× xorb.the_row.coded coded_ℕ))) (λ t. (t.xorbs, t.places))
-    (λ p. record { xorbs = p.0; places = p.1 }) (λ _. refl)
+coded_table = code_by (XorbMap × PlaceMap) (coded× coded_xorbs coded_places) (λ t. (t.xorbs, t.places)) (λ p. record { xorbs = p.0; places = p.1 }) (λ _. refl)
+
+-- a shard, and a place under each chunk hash
+pub record IndexedShard : Type 0 where
+  pub content : Shard
+  pub places : PlaceMap
+
+abbrev pub coded_indexed_shard : Coded IndexedShard
+coded_indexed_shard =
+    code_by (Shard × PlaceMap) (coded× coded_shard coded_places) (λ s. (s.content, s.places)) (λ p. record { content = p.0; places = p.1 }) (λ _. refl)
 
 -- the hash of the chunk at a place, if there is one
 abbrev pub chunk_at : Place → Option DataHash
@@ -42,5 +53,5 @@ pub record IsIndex (xorbs : XorbMap) (places : DataHash → Option Place) : Type
   pub complete : (q : DataHash) → (p : Place) → IsPlace xorbs q p → IsSome (places q)
 
 -- a xorb put under its hash, in the place of what is there
-abbrev pub add_xorb : XorbMap → MDBXorbInfo → XorbMap
-add_xorb xorbs r = insert xorbs (xorb_hash_of r) r
+abbrev pub put_xorb : XorbMap → MDBXorbInfo → XorbMap
+put_xorb xorbs r = insert xorbs (xorb_hash_of r) r

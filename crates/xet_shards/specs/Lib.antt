@@ -1,11 +1,14 @@
+pub mod ChunkQuery
 pub mod Ends
 pub mod FileTable
+pub mod InMemoryShard
 pub mod Index
 pub mod Joining
 pub mod Layout
 pub mod Lookup
 pub mod Section
 pub mod SectionReading
+pub mod SetOperations
 pub mod Shard
 pub mod Tables
 pub mod Written

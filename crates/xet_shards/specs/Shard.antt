@@ -1,6 +1,6 @@
 -- A shard: two finite maps, from file hash to file record and from xorb hash to xorb record.
 use Rattle.std.specs.Prelude.{◌≡◌, ℕ, ◌≤◌, List, sum_by, All, refl}
-use Rattle.std.specs.FinMap.{FinMap, insert, entries, values}
+use Rattle.std.specs.FinMap.{FinMap, empty, insert, entries, values}
 use Rattle.std.specs.FinMap as finite
 use Rattle.std.specs.Coded.{Coded, code_by, coded×}
 use Rattle.xet_base.specs.declared.merklehash.DataHash.{DataHash}
@@ -62,11 +62,21 @@ pub record IsShard (s : Shard) : Type 0 where
   pub xorbs : AreXorbs (entries s.xorbs)
   pub xorb_rows : total_xorb_rows (values s.xorbs) ≤ 4294967295
 
+abbrev pub empty_shard : Shard
+empty_shard = record { files = empty; xorbs = empty }
+
 -- a record put under its hash, in the place of what is there
 abbrev pub add_file : Shard → MDBFileInfo → Shard
 add_file s r = record s { files = insert s.files (file_hash_of r) r }
+
+abbrev pub add_xorb : Shard → MDBXorbInfo → Shard
+add_xorb s r = record s { xorbs = insert s.xorbs (xorb_hash_of r) r }
 
 -- a record that may be put there
 pub record CanAddFile (s : Shard) (r : MDBFileInfo) : Type 0 where
   pub well_formed : IsWellFormed r
   pub rows : total_rows (values (add_file s r).files) ≤ 4294967295
+
+pub record CanAddXorb (s : Shard) (r : MDBXorbInfo) : Type 0 where
+  pub well_formed : IsXorb r
+  pub rows : total_xorb_rows (values (add_xorb s r).xorbs) ≤ 4294967295

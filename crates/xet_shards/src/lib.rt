@@ -3,6 +3,8 @@
 
 #[cfg(test)]
 mod lookup_tests;
+#[cfg(test)]
+mod memory_tests;
 pub mod shard_format;
 pub mod shard_in_memory;
 #[cfg(test)]

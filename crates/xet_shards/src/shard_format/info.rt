@@ -56,7 +56,8 @@ impl MDBShardInfo {
     }
 
     /// Writes a shard: header, sections, tables and footer. The expiry is a moment in seconds, or none.
-    /// Returns what a reader of these bytes finds in header and footer.
+    /// Returns what a reader of these bytes finds in header and footer. Asks that the shard has no xorbs, whose
+    /// rows it can't write yet.
     ///
     /// The error is the writer's, or `OutOfMemory` where the tables find none.
     #[tactic(auto, unfolding(crate::specs::Layout::layout_of, crate::specs::Section::xorb_section))]
@@ -66,11 +67,12 @@ impl MDBShardInfo {
         shard: &MDBInMemoryShard,
         expiry: Option<u64>,
     ) -> Result<Self>
+        requires { shard.now.content.xorbs ≡ finite.empty }
         ensures text { OnOk result
-            (Appends (W.contents writer.old) (W.contents writer.new) (layout shard.now expiry)) }
-        ensures info { IfOk result (λ info. info ≡ info_value shard.now expiry) }
+            (Appends (W.contents writer.old) (W.contents writer.new) (layout shard.now.content expiry)) }
+        ensures info { IfOk result (λ info. info ≡ info_value shard.now.content expiry) }
         ensures widths { IfOk result (λ info. FitsFooter info.metadata) }
-        ensures shard { IfOk result (λ _. IsShard shard.now) }
+        ensures shard { IfOk result (λ _. IsShard shard.now.content) }
         ensures causes { IfErr result IsDeviceError }
     {
         let header = MDBShardFileHeader::default();

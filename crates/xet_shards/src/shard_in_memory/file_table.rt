@@ -1,12 +1,13 @@
 //! The files of a shard in memory, without a limit on their rows.
 
-ghost use Rattle.std.specs.Prelude.{◌≡◌, ◌≤◌, ◌↔◌, ◌⊎◌, T, IsTrue, is_some, IfSome, OnOk, OnErr, IfOk, IfErr, IsErrOf, unwrap_or, option_map};
+ghost use Rattle.std.specs.Prelude.{[], ◌∷◌, ◌≡◌, ◌≤◌, ◌↔◌, ◌⊎◌, T, IsTrue, is_some, IfSome, OnOk, OnErr, IfOk, IfErr, IsErrOf, unwrap_or, option_map};
 ghost use Rattle.std.specs.Option.{option_or};
 ghost use Rattle.std.specs.FinMap as finite;
 ghost use Rattle.std.specs.FinMap.{is_sorted, from_sorted};
 ghost use Rattle.xet_base.specs.declared.merklehash.DataHash.{DataHash};
 ghost use Rattle.xet_base.specs.Hash.{hash_cmp};
-ghost use Rattle.xet_records.specs.FileRecord.{row_count, IsWellFormed};
+ghost use Rattle.xet_records.specs.FileRecord.{row_count, FitsItsHeader, FitsRecord, IsWellFormed};
+ghost use Rattle.xet_records.specs.Merging.{IsSameFile, joined};
 ghost use Rattle.xet_shards.specs.Shard.{AreFiles, file_hash_of};
 ghost use Rattle.xet_shards.specs.Joining.{but, entry, CanJoinFile, CanJoinFiles, either_file, own_file};
 
@@ -15,7 +16,8 @@ use std::collections::BTreeMap;
 use std::marker::Model;
 use xet_base::error::{CoreError, Result};
 use xet_base::merklehash::MerkleHash;
-use xet_records::file_structs::{FileDataSequenceHeader, MDBFileInfo};
+use xet_records::file_structs::{FileDataSequenceHeader, FileMetadataExt, MDBFileInfo};
+use xet_records::rows::{Row, all_widths};
 
 /// Well-formed files, each under its hash. Contracts see the finite map.
 #[derive(Drop)]
@@ -105,23 +107,22 @@ impl FileTable {
         Ok(())
     }
 
+    /// Whether the files that both tables have are of equal counts, and 32 bits count the rows of each of them
+    /// joined.
+    pub fn can_join(&self, other: &FileTable) -> bool
+        ensures { IsTrue result ↔ CanJoinFiles self.now other.now }
+    {
+        can_join_files(&self.content, other)
+    }
+
     /// The files of both tables: where both have one under a hash, that of this table with each optional
-    /// part that only `other` has for it.
-    ///
-    /// `InvalidArguments` where such files have different numbers of segments or the rows of one pass 32
-    /// bits, `OutOfMemory` where the files find none.
+    /// part that only `other` has for it. `OutOfMemory` where they find none.
     pub fn union(&self, alloc: Global, other: &FileTable) -> Result<FileTable>
+        requires { CanJoinFiles self.now other.now }
         ensures ok { IfOk result (λ t. (q : DataHash) → finite.get t q
             ≡ either_file (finite.get self.now q) (finite.get other.now q)) }
-        ensures admitted { OnOk result (CanJoinFiles self.now other.now) }
-        ensures refused { IsErrOf result CoreError.InvalidArguments → ¬ CanJoinFiles self.now other.now }
-        ensures invalid { ¬ CanJoinFiles self.now other.now → IsErrOf result CoreError.InvalidArguments }
-        ensures causes { IfErr result
-            (λ e. (e ≡ CoreError.InvalidArguments) ⊎ (e ≡ CoreError.OutOfMemory)) }
+        ensures causes { IfErr result (λ e. e ≡ CoreError.OutOfMemory) }
     {
-        if !can_join_files(&self.content, other) {
-            return Err(CoreError::InvalidArguments);
-        }
         let mut joined = merged_files(alloc, &self.content, other)?;
         joined.append_missing(alloc, other.content(), self)?;
         Ok(joined)
@@ -138,8 +139,8 @@ impl FileTable {
         Ok(rest)
     }
 
-    // The file under a hash.
-    fn get(&self, file_hash: &MerkleHash) -> Option<&MDBFileInfo>
+    /// The file under this hash.
+    pub fn get(&self, file_hash: &MerkleHash) -> Option<&MDBFileInfo>
         ensures value { option_map (λ file. file.now) result ≡ finite.get self.now file_hash.now }
         ensures well_formed { IfSome result (λ file. IsWellFormed file.now) }
     {
@@ -172,13 +173,23 @@ fn can_join(file_info: &MDBFileInfo, twin: &MDBFileInfo) -> bool
     if !FileDataSequenceHeader::verify_same_file(&file_info.metadata, &twin.metadata) {
         return false;
     }
+    joined_rows(file_info, twin) <= u64::from(u32::MAX)
+}
+
+/// The rows of the join of two records of one file.
+pub fn joined_rows(file_info: &MDBFileInfo, twin: &MDBFileInfo) -> u64
+    requires own { FitsItsHeader file_info.now }
+    requires others { FitsItsHeader twin.now }
+    requires same { IsSameFile file_info.now.metadata twin.now.metadata }
+    ensures { result ≡ row_count (joined file_info.now twin.now) }
+{
     let joined = FileDataSequenceHeader::new(
         file_info.metadata.file_hash,
         file_info.metadata.num_entries,
         file_info.contains_verification() || twin.contains_verification(),
         file_info.contains_metadata_ext() || twin.contains_metadata_ext(),
     );
-    joined.rows_after() < u64::from(u32::MAX)
+    1 + joined.rows_after()
 }
 
 // These files, each with the optional parts that only `other` has for it.
@@ -203,4 +214,47 @@ fn merged_files(
         joined.put(copy)?;
     }
     Ok(joined)
+}
+
+/// Whether a record may stand in a table.
+pub fn is_well_formed(file_info: &MDBFileInfo) -> bool
+    ensures { IsTrue result ↔ IsWellFormed file_info.now }
+{
+    record_widths(file_info);
+    let metadata = file_info.metadata;
+    !metadata.is_bookend()
+        && metadata.file_flags % (1 << 30) == 0
+        && metadata._unused == 0
+        && file_info.segments.len() as u64 == u64::from(metadata.num_entries)
+        && file_info.verification.len() as u64 == u64::from(metadata.verification_rows())
+        && file_info.metadata_ext.is_some() == metadata.contains_metadata_ext()
+        && file_info
+            .verification
+            .as_slice()
+            .iter()
+            .all(|row| row._unused == [0; 2])
+        && is_clear(&file_info.metadata_ext)
+        && metadata.rows_after() < u64::from(u32::MAX)
+}
+
+fn is_clear(metadata_ext: &Option<FileMetadataExt>) -> bool
+    ensures { IsTrue result ↔ IfSome metadata_ext.now (λ m. m._unused ≡ 0 ∷ 0 ∷ []) }
+{
+    match metadata_ext {
+        Some(row) => row._unused == [0; 2],
+        None => true,
+    }
+}
+
+// Does nothing. It says that the numbers of a record in memory fit their widths.
+fn record_widths(file_info: &MDBFileInfo)
+    ensures { FitsRecord file_info.now }
+{
+    let metadata = file_info.metadata;
+    metadata.widths();
+    all_widths(&file_info.segments);
+    all_widths(&file_info.verification);
+    if let Some(row) = &file_info.metadata_ext {
+        (*row).widths();
+    }
 }

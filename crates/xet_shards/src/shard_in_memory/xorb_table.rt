@@ -1,13 +1,13 @@
 //! The xorbs of a shard in memory and the lookup of their chunks, without a limit on their rows.
 
-ghost use Rattle.std.specs.Prelude.{◌≡◌, ◌≤◌, ◌↔◌, IsTrue, None, is_some, All, length, OnOk, OnErr, IfOk, IfErr};
+ghost use Rattle.std.specs.Prelude.{◌≡◌, ◌≤◌, ◌↔◌, IsTrue, None, Some, is_some, unwrap_or, option_map, All, length, OnOk, OnErr, IfOk, IfErr};
 ghost use Rattle.std.specs.FinMap as finite;
 ghost use Rattle.std.specs.HashMap.{spare};
 ghost use Rattle.std.specs.Option.{option_or};
 ghost use Rattle.xet_base.specs.declared.merklehash.DataHash.{DataHash};
-ghost use Rattle.xet_records.specs.XorbRecord.{IsXorb, FitsXorb, HasItsChunks, size_of_chunks};
+ghost use Rattle.xet_records.specs.XorbRecord.{xorb_row_count, IsXorb, FitsXorb, HasItsChunks, size_of_chunks};
 ghost use Rattle.xet_shards.specs.Shard.{AreXorbs, xorb_hash_of};
-ghost use Rattle.xet_shards.specs.Index.{IsIndex, add_xorb};
+ghost use Rattle.xet_shards.specs.Index.{Place, IsIndex, put_xorb};
 ghost use Rattle.xet_shards.specs.Joining.{but, entry};
 ghost use Rattle.xet_shards.specs.XorbTable.{shown_xorbs, placed, IsEntered};
 
@@ -62,6 +62,7 @@ impl XorbTable {
     pub fn lookup(&self) -> &HashMap<MerkleHash, (Rc<MDBXorbInfo>, u64)>
         ensures places { (q : DataHash) → placed result.now q ≡ finite.get self.now.places q }
         ensures index { IsIndex self.now.xorbs (finite.get self.now.places) }
+        ensures well_formed { (q : DataHash) → (p : Place) → finite.get self.now.places q ≡ Some p → IsXorb p.0 }
     {
         &self.lookup
     }
@@ -73,12 +74,22 @@ impl XorbTable {
         self.content.contains_key(xorb_hash)
     }
 
+    /// The rows of the xorb under this hash, or 0.
+    pub fn rows_of(&self, xorb_hash: &MerkleHash) -> u64
+        ensures { result ≡ unwrap_or (option_map xorb_row_count (finite.get self.now.xorbs xorb_hash.now)) 0 }
+    {
+        match self.content.get(xorb_hash) {
+            Some(xorb) => 1 + u64::from(xorb.metadata.num_entries),
+            None => 0,
+        }
+    }
+
     /// Puts a xorb under its hash, under which there is none. `OutOfMemory` where it finds none, and then
     /// nothing changes.
     pub fn append(&mut self, alloc: Global, xorb: Rc<MDBXorbInfo>) -> Result<()>
         requires absent { finite.get self.old.xorbs (xorb_hash_of xorb.value) ≡ None }
         requires well_formed { IsXorb xorb.value }
-        ensures ok { OnOk result (self.new.xorbs ≡ add_xorb self.old.xorbs xorb.value) }
+        ensures ok { OnOk result (self.new.xorbs ≡ put_xorb self.old.xorbs xorb.value) }
         ensures err { OnErr result (self.new ≡ self.old) }
         ensures causes { IfErr result (λ e. e ≡ CoreError.OutOfMemory) }
     {
@@ -95,7 +106,7 @@ impl XorbTable {
     /// there is none. `OutOfMemory` where it finds none, and then nothing changes.
     pub fn put(&mut self, alloc: Global, xorb: Rc<MDBXorbInfo>) -> Result<()>
         requires { IsXorb xorb.value }
-        ensures ok { OnOk result (self.new.xorbs ≡ add_xorb self.old.xorbs xorb.value) }
+        ensures ok { OnOk result (self.new.xorbs ≡ put_xorb self.old.xorbs xorb.value) }
         ensures err { OnErr result (self.new ≡ self.old) }
         ensures causes { IfErr result (λ e. e ≡ CoreError.OutOfMemory) }
     {

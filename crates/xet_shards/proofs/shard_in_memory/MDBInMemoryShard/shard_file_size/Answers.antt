@@ -1,36 +1,59 @@
-use Rattle.std.proofs.Common.{map, length, None, sym, ap, ◌∙◌, subst, arith}
+use Rattle.std.proofs.Common.{map, length, None, sym, ap, ◌∙◌, subst, arith, Global}
 use Rattle.std.specs.Prelude.{All}
-use Rattle.xet_records.specs.FileRecord.{FitsRecord}
 use Rattle.std.specs.FinMap.{values, entries}
+use Rattle.std.specs.declared.rc.Rc.{Rc}
 use Rattle.std.proofs.Math.Facts.{Fits-of_lt}
 use Rattle.std.proofs.lemmas.List.{length-map}
 use Rattle.xet_base.specs.declared.merklehash.DataHash.{DataHash}
-use Rattle.xet_base.specs.Hash.{hash_cmp}
 use Rattle.xet_records.specs.declared.file_structs.MDBFileInfo.{MDBFileInfo}
 use Rattle.xet_records.specs.declared.xorb_structs.MDBXorbInfo.{MDBXorbInfo}
-use Rattle.xet_shards.specs.Shard.{Shard}
-use Rattle.xet_shards.specs.Layout.{layout, layout_of, plain_form}
+use Rattle.xet_records.specs.FileRecord.{FitsRecord}
+use Rattle.xet_shards.specs.Index.{IndexedShard}
+use Rattle.xet_shards.specs.Layout.{layout}
 use Rattle.xet_shards.proofs.Files.{widths_of_values, length-le-rows}
-use Rattle.xet_shards.proofs.Layouts.{length-layout_of-files}
-use Rattle.xet_shards.proofs.Maps.{values-empty}
+use Rattle.xet_shards.proofs.XorbLayouts.{length-layout_of, total_xorb_rows-chunks}
 use Rattle.xet_shards.proofs.shard_in_memory.MDBInMemoryShard.shard_file_size.Goals as goal
+
+pub overflow_sub-chunks : goal.overflow_sub-chunks
+overflow_sub-chunks c =
+    let xorbs = c.len-xorbs.ensures.len ∙ sym (length-map c.content-2.result.now.entries (λ (e : DataHash × Rc MDBXorbInfo Global). (e.0, e.1.value)))
+    ∙ ap length c.content-2.ensures.entries ∙ sym (length-map (entries c.self.inside.xorbs.xorbs) (λ (e : DataHash × MDBXorbInfo). e.1)) in
+    omega (arith, xorbs, total_xorb_rows-chunks (values c.self.inside.xorbs.xorbs), c.self.invariant.xorb_rows)
 
 pub overflow_mul-result-2 : goal.overflow_mul-result-2
 overflow_mul-result-2 c =
-    let count = c.len.ensures.len ∙ ap length c.content.ensures.entries ∙ sym (length-map (entries c.self.inside.files) (λ (e : DataHash × MDBFileInfo). e.1)) in
-    Fits-of_lt (omega (arith, count, length-le-rows (values c.self.inside.files), c.self.invariant.0, c.self.invariant.1))
+    let files = c.len-files.ensures.len ∙ ap length c.content.ensures.entries ∙ sym (length-map (entries c.self.inside.files) (λ (e : DataHash × MDBFileInfo). e.1)) in
+    let xorbs = overflow_sub-chunks c in
+    Fits-of_lt (omega (arith, files, xorbs, length-le-rows (values c.self.inside.files), c.self.invariant.file_rows, c.self.invariant.few_file_rows, c.self.invariant.few_xorb_rows))
 
-pub overflow_add-result-2 : goal.overflow_add-result-2
-overflow_add-result-2 c =
-    let count = c.len.ensures.len ∙ ap length c.content.ensures.entries ∙ sym (length-map (entries c.self.inside.files) (λ (e : DataHash × MDBFileInfo). e.1)) in
-    Fits-of_lt (omega (arith, count, length-le-rows (values c.self.inside.files), c.self.invariant.0, c.self.invariant.1))
+pub overflow_add-result-4 : goal.overflow_add-result-4
+overflow_add-result-4 c =
+    let files = c.len-files.ensures.len ∙ ap length c.content.ensures.entries ∙ sym (length-map (entries c.self.inside.files) (λ (e : DataHash × MDBFileInfo). e.1)) in
+    let xorbs = overflow_sub-chunks c in
+    Fits-of_lt (omega (arith, files, xorbs, length-le-rows (values c.self.inside.files), c.self.invariant.file_rows, c.self.invariant.few_file_rows, c.self.invariant.few_xorb_rows))
+
+pub overflow_add-result-5 : goal.overflow_add-result-5
+overflow_add-result-5 c =
+    let files = c.len-files.ensures.len ∙ ap length c.content.ensures.entries ∙ sym (length-map (entries c.self.inside.files) (λ (e : DataHash × MDBFileInfo). e.1)) in
+    let xorbs = overflow_sub-chunks c in
+    Fits-of_lt (omega (arith, files, xorbs, length-le-rows (values c.self.inside.files), c.self.invariant.file_rows, c.self.invariant.few_file_rows, c.self.invariant.few_xorb_rows))
 
 pub returns : goal.returns
 returns c =
     let files = values c.self.inside.files in
-    let count = c.len.ensures.len ∙ ap length c.content.ensures.entries ∙ sym (length-map (entries c.self.inside.files) (λ (e : DataHash × MDBFileInfo). e.1)) in
+    let xorbs = values c.self.inside.xorbs.xorbs in
+    let file_count = c.len-files.ensures.len ∙ ap length c.content.ensures.entries ∙ sym (length-map (entries c.self.inside.files) (λ (e : DataHash × MDBFileInfo). e.1)) in
+    let xorb_count = c.len-xorbs.ensures.len ∙ sym (length-map c.content-2.result.now.entries (λ (e : DataHash × Rc MDBXorbInfo Global). (e.0, e.1.value)))
+    ∙ ap length c.content-2.ensures.entries ∙ sym (length-map (entries c.self.inside.xorbs.xorbs) (λ (e : DataHash × MDBXorbInfo). e.1)) in
     let seen = ap (map (λ (e : DataHash × MDBFileInfo). e.1)) c.content.ensures.entries in
     let fit = subst (All FitsRecord) seen (widths_of_values _ c.content.ensures.files) in
-    omega (arith, count, c.self.invariant.0, length-layout_of-files files None fit)
-    ∙ ap (λ xs. length (layout_of files xs (plain_form None))) (sym (values-empty MDBXorbInfo hash_cmp))
-    ∙ ap (λ (s : Shard). length (layout s None)) c.self.view_is
+    omega (
+      arith,
+      file_count,
+      xorb_count,
+      c.self.invariant.file_rows,
+      c.self.invariant.xorb_rows,
+      total_xorb_rows-chunks xorbs,
+      length-layout_of files xorbs None fit,
+    )
+    ∙ ap (λ (s : IndexedShard). length (layout s.content None)) c.self.view_is

@@ -21,7 +21,7 @@ returns-clause-text g c =
     let contents = g.W.Write.contents in
     let rs = map (λ (e : DataHash × MDBFileInfo). e.1) c.file_content.result.now.entries in
     let files = ap (map (λ (e : DataHash × MDBFileInfo). e.1)) c.file_content.ensures.entries in
-    let xorbs = ap (λ (m : XorbMap). values m) c.file_content.ensures.xorbs ∙ values-empty MDBXorbInfo hash_cmp in
+    let xorbs = ap (λ (m : XorbMap). values m) c.requires ∙ values-empty MDBXorbInfo hash_cmp in
     let header = ap header_text c.default-header.ensures in
     let bookend = ap xorb_header_row c.bookend.ensures in
     let written = c.in_ok-files.ensures.written in
@@ -40,10 +40,10 @@ pub returns-clause-info : goal.returns-clause-info
 returns-clause-info g c =
     let rs = map (λ (e : DataHash × MDBFileInfo). e.1) c.file_content.result.now.entries in
     let files = ap (map (λ (e : DataHash × MDBFileInfo). e.1)) c.file_content.ensures.entries in
-    let xorbs = ap (λ (m : XorbMap). values m) c.file_content.ensures.xorbs ∙ values-empty MDBXorbInfo hash_cmp in
+    let xorbs = ap (λ (m : XorbMap). values m) c.requires ∙ values-empty MDBXorbInfo hash_cmp in
     let footer = c.footer_of-metadata.ensures.value rs (widths_of_values _ c.file_content.ensures.files) c.in_ok-files.ensures.written
     ∙ (λ i. footer_value (files i) (sym xorbs i) (plain_form c.args.expiry)) in
     λ i. record { header = c.default-header.ensures i; metadata = footer i }
 
 pub returns-clause-shard : goal.returns-clause-shard
-returns-clause-shard g c = shard_of_files _ c.file_content.result.now.entries c.file_content.ensures.entries c.file_content.ensures.files c.file_content.ensures.rows c.file_content.ensures.xorbs
+returns-clause-shard g c = shard_of_files _ c.file_content.result.now.entries c.file_content.ensures.entries c.file_content.ensures.files c.file_content.ensures.rows c.requires

@@ -8,7 +8,7 @@ use Rattle.std.proofs.lemmas.List.Sums.{sum_by_push}
 use Rattle.xet_records.specs.FileRecord.{size_of_file, IsWellFormed}
 use Rattle.xet_shards.proofs.Files.{files_bound, well_formed_values, widths_of_values}
 use Rattle.xet_shards.proofs.Walks.{value_turn, value_turned, All-middle, sum-middle}
-use Rattle.xet_shards.proofs.shard_in_memory.materialized_bytes.Goals as goal
+use Rattle.xet_shards.proofs.shard_in_memory.sums.materialized_bytes.Goals as goal
 
 pub file_size-bytes-requires : goal.file_size-bytes-requires
 file_size-bytes-requires c =

@@ -3,19 +3,20 @@ use Rattle.std.specs.FinMap.{insert, values}
 use Rattle.xet_base.proofs.HashOrder.{hash_cmp-IsTotalOrder, hash_cmp-IsAntisymmetric}
 use Rattle.xet_records.specs.FileRecord.{row_count}
 use Rattle.xet_records.proofs.Record.{row_count-whole}
-use Rattle.xet_shards.specs.Shard.{Shard, file_hash_of, total_rows}
+use Rattle.xet_shards.specs.Shard.{file_hash_of, total_rows}
+use Rattle.xet_shards.specs.Index.{IndexedShard}
 use Rattle.xet_shards.proofs.Maps.{sum-insert}
-use Rattle.xet_shards.proofs.shard_in_memory.MDBInMemoryShard.rows_with.Goals as goal
+use Rattle.xet_shards.proofs.shard_in_memory.MDBInMemoryShard.rows_with_file.Goals as goal
 
 pub overflow_sub-result : goal.overflow_sub-result
 overflow_sub-result c =
     let file = c.args.file_info.now in
     let put_rows = sum-insert hash_cmp-IsTotalOrder hash_cmp-IsAntisymmetric row_count c.self.inside.files (file_hash_of file) file in
-    omega (arith, put_rows, row_count-whole file c.requires.whole, c.self.invariant.0, c.rows_of-replaced.ensures, c.rows_after.ensures.rows)
+    omega (arith, put_rows, row_count-whole file c.requires.whole, c.self.invariant.file_rows, c.rows_of-replaced.ensures, c.rows_after.ensures.rows)
 
 pub returns : goal.returns
 returns c =
     let file = c.args.file_info.now in
     let put_rows = sum-insert hash_cmp-IsTotalOrder hash_cmp-IsAntisymmetric row_count c.self.inside.files (file_hash_of file) file in
-    let seen = ap (λ (s : Shard). total_rows (values (insert s.files (file_hash_of file) file))) c.self.view_is in
-    omega (arith, put_rows, seen, row_count-whole file c.requires.whole, c.self.invariant.0, c.rows_of-replaced.ensures, c.rows_after.ensures.rows)
+    let seen = ap (λ (s : IndexedShard). total_rows (values (insert s.content.files (file_hash_of file) file))) c.self.view_is in
+    omega (arith, put_rows, seen, row_count-whole file c.requires.whole, c.self.invariant.file_rows, c.rows_of-replaced.ensures, c.rows_after.ensures.rows)

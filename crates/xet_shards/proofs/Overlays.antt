@@ -1,0 +1,177 @@
+-- Maps laid over others, value joined with value, and the union of two shards that they make.
+use Rattle.std.proofs.Common.{◌≡◌, ℕ, ◌+◌, ◌≤◌, Bool, true, false, List, [], ◌∷◌, ◌++◌, Option, None, Some, refl, sym, ap, ◌∙◌, subst, cond, true≢false, is_some, arith, T, map}
+use Rattle.std.specs.Prelude.{option_map, unwrap_or, sum_by}
+use Rattle.std.specs.Option.{option_or}
+use Rattle.std.specs.Ordering.{eq_by_cmp}
+use Rattle.std.specs.Map.{values_of}
+use Rattle.std.specs.FinMap.{FinMap, is_sorted, get, insert, entries, values, from_sorted, get-insert, get-entries, same_map, same_entries_map, entries-from_sorted, entries_sorted}
+use Rattle.std.proofs.lemmas.List.{map-append}
+use Rattle.std.proofs.lemmas.List.Sums.{sum_by_push}
+use Rattle.xet_base.specs.declared.merklehash.DataHash.{DataHash}
+use Rattle.xet_base.specs.Hash.{hash_cmp}
+use Rattle.xet_base.proofs.HashOrder.{hash_cmp-IsTotalOrder, hash_cmp-IsAntisymmetric}
+use Rattle.xet_records.specs.declared.file_structs.MDBFileInfo.{MDBFileInfo}
+use Rattle.xet_records.specs.declared.xorb_structs.MDBXorbInfo.{MDBXorbInfo}
+use Rattle.xet_records.specs.FileRecord.{row_count}
+use Rattle.xet_records.specs.XorbRecord.{xorb_row_count}
+use Rattle.xet_records.specs.Merging.{joined}
+use Rattle.xet_shards.specs.Shard.{Shard, FileMap, XorbMap, total_rows, total_xorb_rows}
+use Rattle.xet_shards.specs.Joining.{entry, either_file, CanJoinFiles}
+use Rattle.xet_shards.specs.SetOperations.{IsUnion, CanUnite}
+use Rattle.xet_shards.proofs.Index.{same_key}
+use Rattle.xet_shards.proofs.Maps.{sum-insert}
+use Rattle.xet_shards.proofs.Sums.{sum-remove}
+use Rattle.xet_shards.proofs.Joining.{entry-append, shown}
+use Rattle.xet_shards.proofs.FileUnions.{entry-before}
+use Rattle.xet_shards.proofs.Unions.{same_shard}
+
+module _ {X : Type 0} (join : X → X → X) where
+  -- a value, joined with another where that is there
+  abbrev pub with_twin : X → Option X → X
+  with_twin x None = x
+  with_twin x (Some y) = join x y
+
+  -- the value of two that may be there
+  abbrev pub either_joined : Option X → Option X → Option X
+  either_joined None p = p
+  either_joined (Some x) p = Some (with_twin x p)
+
+  -- entries laid over a map, each value joined with what the map has under its key
+  abbrev pub overlay : List (DataHash × X) → FinMap hash_cmp X → FinMap hash_cmp X
+  overlay [] m = m
+  overlay (e ∷ es) m = insert (overlay es m) e.0 (with_twin e.1 (get m e.0))
+
+  pub get-overlay : (es : List (DataHash × X)) (m : FinMap hash_cmp X) (q : DataHash) → get (overlay es m) q ≡ either_joined (entry es q) (get m q)
+  get-overlay [] m q = refl
+  get-overlay (e ∷ es) m q =
+      get-insert hash_cmp-IsTotalOrder (overlay es m) e.0 (with_twin e.1 (get m e.0)) q ∙ slot (eq_by_cmp hash_cmp q e.0) refl (get-overlay es m q) where
+        slot : (t : Bool) → eq_by_cmp hash_cmp q e.0 ≡ t → get (overlay es m) q ≡ either_joined (entry es q) (get m q)
+            → cond t (Some (with_twin e.1 (get m e.0))) (get (overlay es m) q) ≡ either_joined (cond t (Some e.1) (entry es q)) (get m q)
+        slot true tied rest = ap (λ k. Some (with_twin e.1 (get m k))) (sym ((same_key q e.0).0 tied))
+        slot false tied rest = rest
+
+  -- it is the only map with these values
+  pub is_overlay : (es : List (DataHash × X)) (m c : FinMap hash_cmp X) → ((q : DataHash) → get c q ≡ either_joined (entry es q) (get m q)) → c ≡ overlay es m
+  is_overlay es m c is = same_map hash_cmp-IsTotalOrder hash_cmp-IsAntisymmetric c (overlay es m) (λ q. is q ∙ sym (get-overlay es m q))
+
+  pushed_slot : (t : Bool) (o p : Option X) (x v : X) → (t ≡ true → o ≡ None) → (t ≡ true → v ≡ with_twin x p)
+      → either_joined (option_or o (cond t (Some x) None)) p ≡ cond t (Some v) (either_joined o p)
+  pushed_slot false None p x v new is = refl
+  pushed_slot false (Some y) p x v new is = refl
+  pushed_slot true None p x v new is = ap Some (sym (is refl))
+  pushed_slot true (Some y) p x v new is = absurd (true≢false (ap is_some (new refl)))
+
+  module _ (es : List (DataHash × X)) (k : DataHash) (x : X) (m : FinMap hash_cmp X) (new : entry es k ≡ None) where
+    -- one entry more, under a new key, is inserted
+    pub overlay-push : overlay (es ++ (k, x) ∷ []) m ≡ insert (overlay es m) k (with_twin x (get m k))
+    overlay-push = same_map hash_cmp-IsTotalOrder hash_cmp-IsAntisymmetric _ _ (λ q.
+        get-overlay (es ++ (k, x) ∷ []) m q ∙ ap (λ o. either_joined o (get m q)) (entry-append es k x q)
+        ∙ pushed_slot (eq_by_cmp hash_cmp q k) (entry es q) (get m q) x (with_twin x (get m k))
+        (λ tied. ap (entry es) ((same_key q k).0 tied) ∙ new)
+        (λ tied. ap (λ j. with_twin x (get m j)) (sym ((same_key q k).0 tied)))
+        ∙ sym (get-insert hash_cmp-IsTotalOrder (overlay es m) k (with_twin x (get m k)) q ∙ ap (cond (eq_by_cmp hash_cmp q k) (Some (with_twin x (get m k)))) (get-overlay es m q)))
+
+    -- what it adds to a sum
+    pub sum-overlay : (f : X → ℕ)
+        → sum_by f (values (overlay (es ++ (k, x) ∷ []) m)) + unwrap_or (option_map f (get m k)) 0 ≡ sum_by f (values (overlay es m)) + f (with_twin x (get m k))
+    sum-overlay f =
+        let before : get (overlay es m) k ≡ get m k = get-overlay es m k ∙ ap (λ o. either_joined o (get m k)) new in
+        ap (λ n. sum_by f (values n) + unwrap_or (option_map f (get m k)) 0) overlay-push
+        ∙ ap (λ o. sum_by f (values (insert (overlay es m) k (with_twin x (get m k)))) + unwrap_or (option_map f o) 0) (sym before)
+        ∙ sum-insert hash_cmp-IsTotalOrder hash_cmp-IsAntisymmetric f (overlay es m) k (with_twin x (get m k))
+
+-- a map is that of its entries
+pub from_sorted-entries : {X : Type 0} (m : FinMap hash_cmp X) (es : List (DataHash × X)) → es ≡ entries m → from_sorted es ≡ m
+from_sorted-entries m es is = ap from_sorted is ∙ same_entries_map _ _ (entries-from_sorted hash_cmp (entries m) (entries_sorted m))
+
+-- a turn of a walk over entries whose keys rise comes to a new key
+pub new_key : {X : Type 0} (front rest all : List (DataHash × X)) (e : DataHash × X) → front ++ e ∷ rest ≡ all → T (is_sorted hash_cmp all) → entry front e.0 ≡ None
+new_key front rest all e whole sorted = entry-before front rest e (subst (λ es. T (is_sorted hash_cmp es)) (sym whole) sorted)
+
+-- the same walk, whose values are shown by a function
+pub shown_whole : {X Z : Type 0} (f : Z → X) (front rest all : List (DataHash × Z)) (e : DataHash × Z) → front ++ e ∷ rest ≡ all
+    → map (shown f) front ++ shown f e ∷ map (shown f) rest ≡ map (shown f) all
+shown_whole f front rest all e whole = sym (map-append (shown f) front (e ∷ rest)) ∙ ap (map (shown f)) whole
+
+pub sum-entries : {X : Type 0} (f : X → ℕ) (es : List (DataHash × X)) (e : DataHash × X) → sum_by f (values_of (es ++ e ∷ [])) ≡ sum_by f (values_of es) + f e.1
+sum-entries f es e = ap (sum_by f) (map-append (λ d. d.1) es (e ∷ [])) ∙ sum_by_push f (values_of es) e.1
+
+-- of xorbs the other's stands there
+abbrev pub other_xorb : MDBXorbInfo → MDBXorbInfo → MDBXorbInfo
+other_xorb own other = other
+
+pub either_file_is : (o p : Option MDBFileInfo) → either_joined joined o p ≡ either_file o p
+either_file_is None p = refl
+either_file_is (Some r) None = refl
+either_file_is (Some r) (Some s) = refl
+
+either_xorb_is : (o p : Option MDBXorbInfo) → either_joined other_xorb o p ≡ option_or p o
+either_xorb_is None None = refl
+either_xorb_is None (Some s) = refl
+either_xorb_is (Some r) None = refl
+either_xorb_is (Some r) (Some s) = refl
+
+-- and where the other has one, an own xorb adds no rows
+pub rows_kept : (x : MDBXorbInfo) (o : Option MDBXorbInfo) → is_some o ≡ true → xorb_row_count (with_twin other_xorb x o) ≡ unwrap_or (option_map xorb_row_count o) 0
+rows_kept x None there = absurd (true≢false (sym there))
+rows_kept x (Some y) there = refl
+
+-- the maps that unions have
+pub are_united_files : (es : List (DataHash × MDBFileInfo)) (b c : FileMap) → ((q : DataHash) → get c q ≡ either_file (entry es q) (get b q)) → c ≡ overlay joined es b
+are_united_files es b c is = is_overlay joined es b c (λ q. is q ∙ sym (either_file_is (entry es q) (get b q)))
+
+pub are_united_xorbs : (es : List (DataHash × MDBXorbInfo)) (b c : XorbMap) → ((q : DataHash) → get c q ≡ option_or (get b q) (entry es q)) → c ≡ overlay other_xorb es b
+are_united_xorbs es b c is = is_overlay other_xorb es b c (λ q. is q ∙ sym (either_xorb_is (entry es q) (get b q)))
+
+abbrev pub united_files : FileMap → FileMap → FileMap
+united_files a b = overlay joined (entries a) b
+
+abbrev pub united_xorbs : XorbMap → XorbMap → XorbMap
+united_xorbs a b = overlay other_xorb (entries a) b
+
+-- each two shards have a union, and but one
+abbrev pub united_shard : Shard → Shard → Shard
+united_shard a b = record { files = united_files a.files b.files; xorbs = united_xorbs a.xorbs b.xorbs }
+
+pub union_exists : (a b : Shard) → IsUnion a b (united_shard a b)
+union_exists a b = record {
+  files = λ q.
+      get-overlay joined (entries a.files) b.files q ∙ ap (λ o. either_joined joined o (get b.files q)) (sym (get-entries a.files q))
+      ∙ either_file_is (get a.files q) (get b.files q);
+  xorbs = λ q.
+      get-overlay other_xorb (entries a.xorbs) b.xorbs q ∙ ap (λ o. either_joined other_xorb o (get b.xorbs q)) (sym (get-entries a.xorbs q))
+      ∙ either_xorb_is (get a.xorbs q) (get b.xorbs q);
+}
+
+-- so it is enough to count the rows of one
+pub rows_of_unions : (a b c d : Shard) → IsUnion a b c → IsUnion a b d → c ≡ d
+rows_of_unions a b c d one other = same_shard c d (λ q. one.files q ∙ sym (other.files q)) (λ q. one.xorbs q ∙ sym (other.xorbs q))
+
+-- shards that may be united have files that may be joined
+pub can_join_united : (a b : Shard) → CanUnite a b → CanJoinFiles a.files b.files
+can_join_united a b can = λ q r s own other.
+    let union = union_exists a b in
+    let few = can.rows (united_shard a b) union in
+    let there : get (united_files a.files b.files) q ≡ Some (joined r s) = union.files q ∙ (λ i. either_file (own i) (other i)) in
+    record {
+      same = can.same q r s own other;
+      rows = omega (arith, few.files, sum-remove hash_cmp-IsTotalOrder hash_cmp-IsAntisymmetric row_count (united_files a.files b.files) q (joined r s) there);
+    }
+
+-- whether shards may be united shows in the rows of their union, however they are counted
+module _ (a b : Shard) (files xorbs : ℕ) (files_are : (c : Shard) → IsUnion a b c → files ≡ total_rows (values c.files))
+    (xorbs_are : (c : Shard) → IsUnion a b c → xorbs ≡ total_xorb_rows (values c.xorbs)) where
+  pub unite_if_few : CanJoinFiles a.files b.files → files ≤ 4294967295 → xorbs ≤ 4294967295 → CanUnite a b
+  unite_if_few joins few_files few_xorbs = record {
+    same = λ q r s own other. (joins q r s own other).same;
+    rows = λ c union. record {
+      files = omega (arith, few_files, files_are c union);
+      xorbs = omega (arith, few_xorbs, xorbs_are c union);
+    };
+  }
+
+  pub few_if_unite : CanUnite a b → (files ≤ 4294967295) × (xorbs ≤ 4294967295)
+  few_if_unite can =
+      let union = union_exists a b in
+      let few = can.rows (united_shard a b) union in
+      (omega (arith, few.files, files_are (united_shard a b) union), omega (arith, few.xorbs, xorbs_are (united_shard a b) union))

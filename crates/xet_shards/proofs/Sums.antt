@@ -1,0 +1,58 @@
+-- Sums over a map, and over a map that has some of its entries.
+use Rattle.std.proofs.Common.{◌≡◌, ℕ, ◌+◌, ◌≤◌, Bool, true, false, List, [], ◌∷◌, Some, None, T, refl, sym, ap, ◌∙◌, arith, cond, true≢false, is_some}
+use Rattle.std.specs.Prelude.{option_map, unwrap_or, sum_by}
+use Rattle.std.specs.Ordering.{eq_by_cmp}
+use Rattle.std.specs.declared.cmp.Ordering.{Ordering}
+use Rattle.std.specs.Cmp.{IsTotalOrder}
+use Rattle.std.proofs.lemmas.Cmp.{eq_by_cmp_equiv}
+use Rattle.std.specs.Map.{values_of}
+use Rattle.std.specs.FinMap.{FinMap, IsAntisymmetric, is_sorted, find, get, insert, remove, entries, values, same_map, entries_sorted, get-entries, get-insert, get-remove}
+use Rattle.std.specs.FinMap.Entries.{below_all}
+use Rattle.std.proofs.lemmas.List.Sums.{sum_by-cons}
+use Rattle.xet_shards.proofs.Maps.{is_equal, sum-insert, both_left, both_right, below_none}
+
+module _ {K X : Type 0} {R : K → K → Ordering} (total : IsTotalOrder R) (exact : IsAntisymmetric R) where
+  -- an entry taken out of a map and put back
+  put_back : (m : FinMap R X) (k : K) (v : X) → get m k ≡ Some v → insert (remove m k) k v ≡ m
+  put_back m k v here = same_map total exact _ _ (λ q.
+      get-insert total (remove m k) k v q ∙ ap (cond (eq_by_cmp R q k) (Some v)) (get-remove total m k q) ∙ at q (eq_by_cmp R q k) refl) where
+        at : (q : K) (b : Bool) → eq_by_cmp R q k ≡ b → cond b (Some v) (cond b None (get m q)) ≡ get m q
+        at q true is = sym here ∙ ap (get m) (sym (exact q k (is_equal (R q k) is)))
+        at q false is = refl
+
+  removed : (m : FinMap R X) (k : K) → get (remove m k) k ≡ None
+  removed m k = get-remove total m k k ∙ ap (λ b. cond b None (get m k)) ((eq_by_cmp_equiv total).refl k)
+
+  -- a sum is that of one value and of the rest
+  pub sum-remove : (f : X → ℕ) (m : FinMap R X) (k : K) (v : X) → get m k ≡ Some v → sum_by f (values m) ≡ sum_by f (values (remove m k)) + f v
+  sum-remove f m k v here = omega (
+    arith,
+    sum-insert total exact f (remove m k) k v,
+    ap (λ n. sum_by f (values n)) (put_back m k v here),
+    ap (λ o. unwrap_or (option_map f o) 0) (removed m k),
+  )
+
+  -- the entries of a sorted list stand in the map
+  abbrev AreIn : List (K × X) → FinMap R X → Type 0
+  AreIn es m = (q : K) (v : X) → find R q es ≡ Some v → get m q ≡ Some v
+
+  in_rest : (e : K × X) (es : List (K × X)) (m : FinMap R X) → T (below_all R e.0 es) → AreIn (e ∷ es) m → AreIn es (remove m e.0)
+  in_rest e es m below all q v is = get-remove total m e.0 q ∙ at (eq_by_cmp R q e.0) refl where
+    at : (b : Bool) → eq_by_cmp R q e.0 ≡ b → cond b None (get m q) ≡ Some v
+    at true same = absurd (true≢false (sym (ap is_some is) ∙ ap is_some (ap (λ k. find R k es) (exact q e.0 (is_equal (R q e.0) same)) ∙ below_none R e.0 es below)))
+    at false same = all q v (ap (λ b. cond b (Some e.1) (find R q es)) same ∙ is)
+
+  sum_in : (f : X → ℕ) (es : List (K × X)) (m : FinMap R X) → T (is_sorted R es) → AreIn es m → sum_by f (values_of es) ≤ sum_by f (values m)
+  sum_in f [] m sorted all = omega arith
+  sum_in f (e ∷ es) m sorted all =
+      let here : get m e.0 ≡ Some e.1 = all e.0 e.1 (ap (λ b. cond b (Some e.1) (find R e.0 es)) ((eq_by_cmp_equiv total).refl e.0)) in
+      omega (
+        arith,
+        sum_by-cons f e.1 (values_of es),
+        sum-remove f m e.0 e.1 here,
+        sum_in f es (remove m e.0) (both_right _ _ sorted) (in_rest e es m (both_left _ _ sorted) all),
+      )
+
+  -- a map sums up to no more than one that has its entries
+  pub sub-sum : (f : X → ℕ) (a b : FinMap R X) → ((q : K) (v : X) → get a q ≡ Some v → get b q ≡ Some v) → sum_by f (values a) ≤ sum_by f (values b)
+  sub-sum f a b all = sum_in f (entries a) b (entries_sorted a) (λ q v is. all q v (get-entries a q ∙ is))

@@ -1,0 +1,122 @@
+-- Unions of shards: when they are joins, and that order, grouping and repetition don't matter.
+use Rattle.std.proofs.Common.{◌≡◌, Option, None, Some, refl, sym, ap, ◌∙◌}
+use Rattle.std.specs.Option.{option_or}
+use Rattle.std.specs.FinMap.{get, entries, get-empty, get-entries, same_map}
+use Rattle.xet_base.specs.declared.merklehash.DataHash.{DataHash}
+use Rattle.xet_base.specs.Hash.{hash_cmp}
+use Rattle.xet_base.proofs.HashOrder.{hash_cmp-IsTotalOrder, hash_cmp-IsAntisymmetric}
+use Rattle.xet_records.specs.declared.file_structs.MDBFileInfo.{MDBFileInfo}
+use Rattle.xet_records.specs.FileRecord.{IsWellFormed}
+use Rattle.xet_records.specs.Merging.{Agree}
+use Rattle.xet_records.proofs.Merging.{joined-comm, joined-assoc, joined-idem, same_file_if_agree}
+use Rattle.xet_shards.specs.Shard.{Shard, IsShard, empty_shard, file_hash_of}
+use Rattle.xet_shards.specs.Joining.{either_file}
+use Rattle.xet_shards.specs.SetOperations.{IsUnion, IsDifference, IsJoin, ShardsAgree, HasFewRows, CanUnite}
+use Rattle.xet_shards.proofs.FileUnions.{entry-holds}
+use Rattle.xet_shards.proofs.Joining.{or_none, but_empty}
+
+pub same_shard : (c d : Shard) → ((q : DataHash) → get c.files q ≡ get d.files q) → ((q : DataHash) → get c.xorbs q ≡ get d.xorbs q) → c ≡ d
+same_shard c d files xorbs = λ i. record {
+  files = same_map hash_cmp-IsTotalOrder hash_cmp-IsAntisymmetric c.files d.files files i;
+  xorbs = same_map hash_cmp-IsTotalOrder hash_cmp-IsAntisymmetric c.xorbs d.xorbs xorbs i;
+}
+
+-- a file in a shard is well-formed and stands under its hash
+pub record IsKnown (q : DataHash) (r : MDBFileInfo) : Type 0 where
+  pub keyed : q ≡ file_hash_of r
+  pub well_formed : IsWellFormed r
+
+pub known : (s : Shard) (q : DataHash) (r : MDBFileInfo) → IsShard s → get s.files q ≡ Some r → IsKnown q r
+known s q r shard at =
+    let found = sym (get-entries s.files q) ∙ at in
+    record {
+      keyed = entry-holds (λ e. e.0 ≡ file_hash_of e.1) (entries s.files) q r shard.files.keyed found;
+      well_formed = entry-holds (λ e. IsWellFormed e.1) (entries s.files) q r shard.files.well_formed found;
+    }
+
+same_either : {X : Type 0} (o p : Option X) → ((x y : X) → o ≡ Some x → p ≡ Some y → x ≡ y) → option_or p o ≡ option_or o p
+same_either None None same = refl
+same_either None (Some y) same = refl
+same_either (Some x) None same = refl
+same_either (Some x) (Some y) same = ap Some (sym (same x y refl refl))
+
+-- the union of shards that agree is their join
+pub join_of_union : (a b c : Shard) → ShardsAgree a b → IsUnion a b c → IsJoin a b c
+join_of_union a b c agree union = record {
+  files = union.files;
+  xorbs = λ q. union.xorbs q ∙ same_either (get a.xorbs q) (get b.xorbs q) (agree.xorbs q);
+}
+
+files_turned : (q : DataHash) (o p : Option MDBFileInfo) → ((r : MDBFileInfo) → o ≡ Some r → IsKnown q r) → ((s : MDBFileInfo) → p ≡ Some s → IsKnown q s)
+    → ((r s : MDBFileInfo) → o ≡ Some r → p ≡ Some s → Agree r s) → either_file o p ≡ either_file p o
+files_turned q None None first second agree = refl
+files_turned q None (Some s) first second agree = refl
+files_turned q (Some r) None first second agree = refl
+files_turned q (Some r) (Some s) first second agree =
+    let own = first r refl in
+    let others = second s refl in
+    ap Some (joined-comm r s own.well_formed others.well_formed (sym own.keyed ∙ others.keyed) (agree r s refl refl))
+
+-- in either order
+pub union-comm : (a b c d : Shard) → IsShard a → IsShard b → ShardsAgree a b → IsUnion a b c → IsUnion b a d → c ≡ d
+union-comm a b c d first second agree one other = same_shard c d (λ q.
+    one.files q ∙ files_turned q (get a.files q) (get b.files q) (λ r. known a q r first) (λ s. known b q s second) (agree.files q) ∙ sym (other.files q))
+    (λ q. one.xorbs q ∙ same_either (get a.xorbs q) (get b.xorbs q) (agree.xorbs q) ∙ sym (other.xorbs q))
+
+files_grouped : (o p r : Option MDBFileInfo) → either_file (either_file o p) r ≡ either_file o (either_file p r)
+files_grouped None p r = refl
+files_grouped (Some x) None r = refl
+files_grouped (Some x) (Some y) None = refl
+files_grouped (Some x) (Some y) (Some z) = ap Some (joined-assoc x y z)
+
+xorbs_grouped : {X : Type 0} (o p r : Option X) → option_or r (option_or p o) ≡ option_or (option_or r p) o
+xorbs_grouped o p None = refl
+xorbs_grouped o p (Some z) = refl
+
+-- in either grouping
+pub union-assoc : (a b c ab bc left right : Shard) → IsUnion a b ab → IsUnion ab c left → IsUnion b c bc → IsUnion a bc right → left ≡ right
+union-assoc a b c ab bc left right one then_c other then_a = same_shard left right (λ q.
+    then_c.files q ∙ ap (λ o. either_file o (get c.files q)) (one.files q) ∙ files_grouped (get a.files q) (get b.files q) (get c.files q)
+    ∙ sym (then_a.files q ∙ ap (either_file (get a.files q)) (other.files q)))
+    (λ q. then_c.xorbs q ∙ ap (option_or (get c.xorbs q)) (one.xorbs q) ∙ xorbs_grouped (get a.xorbs q) (get b.xorbs q) (get c.xorbs q)
+    ∙ sym (then_a.xorbs q ∙ ap (λ o. option_or o (get a.xorbs q)) (other.xorbs q)))
+
+files_repeated : (q : DataHash) (o : Option MDBFileInfo) → ((r : MDBFileInfo) → o ≡ Some r → IsKnown q r) → either_file o o ≡ o
+files_repeated q None first = refl
+files_repeated q (Some r) first = ap Some (joined-idem r (first r refl).well_formed)
+
+xorbs_repeated : {X : Type 0} (o : Option X) → option_or o o ≡ o
+xorbs_repeated None = refl
+xorbs_repeated (Some x) = refl
+
+-- a shard with itself
+pub union-idem : (a c : Shard) → IsShard a → IsUnion a a c → c ≡ a
+union-idem a c shard union = same_shard c a (λ q. union.files q ∙ files_repeated q (get a.files q) (λ r. known a q r shard))
+    (λ q. union.xorbs q ∙ xorbs_repeated (get a.xorbs q))
+
+no_file_after : (o : Option MDBFileInfo) → either_file o None ≡ o
+no_file_after None = refl
+no_file_after (Some r) = refl
+
+-- a shard with the empty one
+pub union-empty : (a c : Shard) → IsUnion a empty_shard c → c ≡ a
+union-empty a c union = same_shard c a (λ q. union.files q ∙ ap (either_file (get a.files q)) (get-empty hash_cmp q) ∙ no_file_after (get a.files q))
+    (λ q. union.xorbs q ∙ ap (λ o. option_or o (get a.xorbs q)) (get-empty hash_cmp q))
+
+pub union-of_empty : (a c : Shard) → IsUnion empty_shard a c → c ≡ a
+union-of_empty a c union = same_shard c a (λ q. union.files q ∙ ap (λ o. either_file o (get a.files q)) (get-empty hash_cmp q))
+    (λ q. union.xorbs q ∙ ap (option_or (get a.xorbs q)) (get-empty hash_cmp q) ∙ or_none (get a.xorbs q))
+
+-- what a shard has beside the empty one
+pub difference-of_empty : (a c : Shard) → IsDifference empty_shard a c → c ≡ a
+difference-of_empty a c rest = same_shard c a (λ q. rest.files q ∙ but_empty (get a.files) q) (λ q. rest.xorbs q ∙ but_empty (get a.xorbs) q)
+
+-- shards that agree may be united, unless their rows are too many
+pub agreeing_unite : (a b : Shard) → IsShard a → IsShard b → ShardsAgree a b → ((c : Shard) → IsUnion a b c → HasFewRows c) → CanUnite a b
+agreeing_unite a b first second agree few = record {
+  same = λ q r s own other.
+      let mine = known a q r first own in
+      let others = known b q s second other in
+      same_file_if_agree r s mine.well_formed.whole others.well_formed.whole (sym mine.keyed ∙ others.keyed) (agree.files q r s own other);
+  rows = few;
+}

@@ -1,0 +1,130 @@
+-- The lengths of the parts of a shard with xorbs, and of its layout.
+use Rattle.std.proofs.Common.{◌≡◌, ℕ, ◌+◌, ◌*◌, List, [], ◌∷◌, ◌++◌, map, flat_map, length, Option, refl, sym, ap, ◌∙◌, subst, arith}
+use Rattle.std.specs.Prelude.{All, sum_by}
+use Rattle.std.specs.List.{enumerate_from}
+use Rattle.std.specs.Map.{keys_of}
+use Rattle.std.specs.FinMap.{FinMap, from_entries, entries}
+use Rattle.std.proofs.lemmas.List.{length-append, length-map}
+use Rattle.std.proofs.lemmas.List.FromFn.{length-enumerate_from}
+use Rattle.std.proofs.lemmas.List.Sums.{sum_by-cons, sum_by_push}
+use Rattle.xet_records.specs.declared.file_structs.MDBFileInfo.{MDBFileInfo}
+use Rattle.xet_records.specs.declared.xorb_structs.MDBXorbInfo.{MDBXorbInfo}
+use Rattle.xet_records.specs.declared.xorb_structs.XorbChunkSequenceEntry.{XorbChunkSequenceEntry}
+use Rattle.xet_records.specs.FileRecord.{FitsRecord}
+use Rattle.xet_records.specs.XorbRow.{xorb_header_row}
+use Rattle.xet_records.specs.XorbRecord.{xorb_text, xorb_row_count, xorb_bookend}
+use Rattle.xet_records.proofs.Lengths.{length-xorb_header_row, length-xorb_text}
+use Rattle.xet_shards.specs.Shard.{total_rows, total_xorb_rows}
+use Rattle.xet_shards.specs.Section.{with_fronts, file_section, xorb_section}
+use Rattle.xet_shards.specs.Tables.{ChunkPlace, place_cmp, chunk_places, chunk_table, file_table_bytes, xorb_table_bytes, chunk_table_bytes}
+use Rattle.xet_shards.specs.Layout.{header_text, footer_text, header_value, footer_value, layout_of, plain_form}
+use Rattle.xet_shards.proofs.Maps.{IsRising, rising_lower, length-from_entries}
+use Rattle.xet_shards.proofs.Tables.{length-file_table_bytes, length-xorb_table_bytes, length-place_rows, place_total, place_exact}
+use Rattle.xet_shards.proofs.Layouts.{length-header_text, length-file_section, length-footer_text}
+
+abbrev pub total_chunks : List MDBXorbInfo → ℕ
+total_chunks xorbs = sum_by (λ (r : MDBXorbInfo). length r.chunks) xorbs
+
+-- each xorb has a row, and a row for each of its chunks
+pub total_xorb_rows-chunks : (xorbs : List MDBXorbInfo) → total_xorb_rows xorbs ≡ length xorbs + total_chunks xorbs
+total_xorb_rows-chunks [] = refl
+total_xorb_rows-chunks (x ∷ xorbs) =
+    omega (arith, sum_by-cons xorb_row_count x xorbs, sum_by-cons (λ (r : MDBXorbInfo). length r.chunks) x xorbs, total_xorb_rows-chunks xorbs)
+
+pub length-xorb_texts : (xorbs : List MDBXorbInfo) → length (flat_map xorb_text xorbs) ≡ 48 * total_xorb_rows xorbs
+length-xorb_texts [] = refl
+length-xorb_texts (x ∷ xorbs) =
+    length-append (xorb_text x) (flat_map xorb_text xorbs)
+    ∙ omega (arith, length-xorb_text x, length-xorb_texts xorbs, sum_by-cons xorb_row_count x xorbs)
+
+pub length-xorb_section : (xorbs : List MDBXorbInfo) → length (xorb_section xorbs) ≡ 48 * total_xorb_rows xorbs + 48
+unfolding xorb_section
+length-xorb_section xorbs =
+    length-append (flat_map xorb_text xorbs) (xorb_header_row xorb_bookend) ∙ omega (arith, length-xorb_texts xorbs, length-xorb_header_row xorb_bookend)
+
+-- the places of the chunks of xorbs that stand after others
+abbrev place_after : List MDBXorbInfo → ℕ × XorbChunkSequenceEntry → ChunkPlace
+place_after front c = record { word = c.1.chunk_hash.word0; start = total_xorb_rows front; place = c.0 }
+
+abbrev places_of : List MDBXorbInfo × MDBXorbInfo → List ChunkPlace
+places_of e = map (place_after e.0) (enumerate_from 0 e.1.chunks)
+
+abbrev places_after : List MDBXorbInfo → List MDBXorbInfo → List ChunkPlace
+places_after front xorbs = flat_map places_of (with_fronts front xorbs)
+
+length-places : (front xorbs : List MDBXorbInfo) → length (places_after front xorbs) ≡ total_chunks xorbs
+length-places front [] = refl
+length-places front (x ∷ xorbs) =
+    length-append (places_of (front, x)) (places_after (front ++ x ∷ []) xorbs)
+    ∙ omega (
+      arith,
+      length-map (enumerate_from 0 x.chunks) (place_after front),
+      length-enumerate_from 0 x.chunks,
+      length-places (front ++ x ∷ []) xorbs,
+      sum_by-cons (λ (r : MDBXorbInfo). length r.chunks) x xorbs,
+    )
+
+-- from chunk to chunk a place's start and its place in the xorb add up to more, so no two are the same
+abbrev sum_of : ChunkPlace → ℕ
+sum_of p = p.start + p.place
+
+rising_chunks : (front : List MDBXorbInfo) (n : ℕ) (cs : List XorbChunkSequenceEntry) (rest : List ChunkPlace) → IsRising sum_of (total_xorb_rows front + n + length cs) rest
+    → IsRising sum_of (total_xorb_rows front + n) (map (place_after front) (enumerate_from n cs) ++ rest)
+rising_chunks front n [] rest rising = rising_lower sum_of _ _ rest (omega arith) rising
+rising_chunks front n (c ∷ cs) rest rising =
+    (omega arith, rising_lower sum_of _ _ _ (omega arith) (rising_chunks front (n + 1) cs rest (rising_lower sum_of _ _ rest (omega arith) rising)))
+
+rising_places : (front xorbs : List MDBXorbInfo) → IsRising sum_of (total_xorb_rows front) (places_after front xorbs)
+rising_places front [] = tt
+rising_places front (x ∷ xorbs) =
+    let later = places_after (front ++ x ∷ []) xorbs in
+    rising_lower sum_of _ _ (places_of (front, x) ++ later) (omega arith)
+    (rising_chunks front 0 x.chunks later (rising_lower sum_of _ _ later (omega (arith, sum_by_push xorb_row_count front x)) (rising_places (front ++ x ∷ []) xorbs)))
+
+abbrev alone : ChunkPlace → ChunkPlace × Unit {0}
+alone p = (p, tt)
+
+keys-alone : (ps : List ChunkPlace) → keys_of (map alone ps) ≡ ps
+keys-alone [] = refl
+keys-alone (p ∷ ps) = ap (λ ks. p ∷ ks) (keys-alone ps)
+
+-- the chunk table has a row for each chunk
+pub length-chunk_table : (xorbs : List MDBXorbInfo) → length (chunk_table xorbs) ≡ total_chunks xorbs
+length-chunk_table xorbs =
+    let rows : List (ChunkPlace × Unit {0}) = map alone (chunk_places xorbs) in
+    let table : FinMap place_cmp (Unit {0}) = from_entries rows in
+    length-map (entries table) (λ (e : ChunkPlace × Unit {0}). e.0)
+    ∙ length-from_entries place_total sum_of (λ p q same. ap sum_of (place_exact p q same)) 0 rows
+    (subst (IsRising sum_of 0) (sym (keys-alone (chunk_places xorbs))) (rising_places [] xorbs))
+    ∙ length-map (chunk_places xorbs) alone
+    ∙ length-places [] xorbs
+
+pub length-chunk_table_bytes : (xorbs : List MDBXorbInfo) → length (chunk_table_bytes xorbs) ≡ 16 * total_chunks xorbs
+unfolding chunk_table_bytes
+length-chunk_table_bytes xorbs = length-place_rows (chunk_table xorbs) ∙ ap (λ n. 16 * n) (length-chunk_table xorbs)
+
+-- a shard has 344 bytes, 48 for each row of its records, 12 for each record and 16 for each chunk
+pub length-layout_of : (files : List MDBFileInfo) (xorbs : List MDBXorbInfo) (expiry : Option ℕ) → All FitsRecord files
+    → length (layout_of files xorbs (plain_form expiry))
+    ≡ 344 + 48 * (total_rows files + total_xorb_rows xorbs) + 12 * (length files + length xorbs) + 16 * (sum_by (λ (r : MDBXorbInfo). length r.chunks) xorbs)
+unfolding layout_of
+length-layout_of files xorbs expiry fit =
+    let header = header_text header_value in
+    let footer = footer_value files xorbs (plain_form expiry) in
+    let sections = (header ++ file_section files) ++ xorb_section xorbs in
+    length-append (((sections ++ file_table_bytes files) ++ xorb_table_bytes xorbs) ++ chunk_table_bytes xorbs) (footer_text footer)
+    ∙ omega (
+      arith,
+      length-append ((sections ++ file_table_bytes files) ++ xorb_table_bytes xorbs) (chunk_table_bytes xorbs),
+      length-append (sections ++ file_table_bytes files) (xorb_table_bytes xorbs),
+      length-append sections (file_table_bytes files),
+      length-append (header ++ file_section files) (xorb_section xorbs),
+      length-append header (file_section files),
+      length-header_text header_value,
+      length-file_section files fit,
+      length-xorb_section xorbs,
+      length-file_table_bytes files,
+      length-xorb_table_bytes xorbs,
+      length-chunk_table_bytes xorbs,
+      length-footer_text footer refl,
+    )

@@ -1,0 +1,43 @@
+-- Walks over the owners of xorbs, and sums over xorbs.
+use Rattle.std.proofs.Common.{◌≡◌, ℕ, ◌*◌, ◌≤◌, List, [], ◌∷◌, ◌++◌, map, Option, Some, refl, sym, ap, ◌∙◌, arith}
+use Rattle.std.specs.Prelude.{All, sum_by}
+use Rattle.std.specs.Borrow.{Bor}
+use Rattle.std.specs.Map.{values_of}
+use Rattle.std.specs.Map.Iter.{TakesFirst, deref}
+use Rattle.std.specs.declared.rc.Rc.{Rc}
+use Rattle.std.proofs.lemmas.List.{map-append}
+use Rattle.std.proofs.lemmas.List.Elements.{All-drop, All-map}
+use Rattle.std.proofs.lemmas.List.Sums.{sum_by-cons}
+use Rattle.xet_base.specs.declared.merklehash.DataHash.{DataHash}
+use Rattle.xet_records.specs.declared.xorb_structs.MDBXorbInfo.{MDBXorbInfo}
+use Rattle.xet_records.specs.XorbRecord.{xorb_row_count, IsXorb}
+use Rattle.xet_shards.specs.Shard.{AreXorbs, total_xorb_rows}
+use Rattle.xet_shards.specs.XorbTable.{shown_xorbs}
+use Rattle.xet_shards.proofs.Walks.{value_turn}
+
+module _ {Z : Type 0} where
+  abbrev pub owned : List (Rc MDBXorbInfo Z) → List MDBXorbInfo
+  owned owners = map (λ (o : Rc MDBXorbInfo Z). o.value) owners
+
+  -- the xorbs that a walk over their owners has come past
+  abbrev pub seen : List (Bor (Rc MDBXorbInfo Z)) → List MDBXorbInfo
+  seen before = owned (map deref before)
+
+  owned-values : (es : List (DataHash × Rc MDBXorbInfo Z)) → owned (values_of es) ≡ values_of (shown_xorbs es)
+  owned-values [] = refl
+  owned-values (e ∷ es) = ap (λ rs. e.1.value ∷ rs) (owned-values es)
+
+  pub seen_turn : (es : List (DataHash × Rc MDBXorbInfo Z)) (before : List (Bor (Rc MDBXorbInfo Z))) (s t : List (Rc MDBXorbInfo Z)) (r : Option (Bor (Rc MDBXorbInfo Z))) (x : Bor (Rc MDBXorbInfo Z))
+      → map deref before ++ s ≡ values_of es → r ≡ Some x → TakesFirst deref s r t → seen before ++ x.now.value ∷ owned t ≡ values_of (shown_xorbs es)
+  seen_turn es before s t r x whole is step =
+      sym (map-append (λ (o : Rc MDBXorbInfo Z). o.value) (map deref before) (x.now ∷ t)) ∙ ap owned (value_turn _ before s t r x whole is step) ∙ owned-values es
+
+-- what holds of a shard's xorbs holds of their list
+pub xorb_values : (es : List (DataHash × MDBXorbInfo)) → AreXorbs es → All IsXorb (values_of es)
+xorb_values es xorbs = All-map IsXorb (λ (e : DataHash × MDBXorbInfo). e.1) es xorbs.well_formed
+
+-- each xorb has a row, and so no sum of a number of 32 bits passes 64
+pub xorbs_bound : (f : MDBXorbInfo → ℕ) → ((r : MDBXorbInfo) → IsXorb r → f r ≤ 4294967295) → (rs : List MDBXorbInfo) → All IsXorb rs → sum_by f rs ≤ 4294967295 * total_xorb_rows rs
+xorbs_bound f small [] xorbs = omega arith
+xorbs_bound f small (r ∷ rs) xorbs =
+    omega (arith, sum_by-cons f r rs, sum_by-cons xorb_row_count r rs, small r (xorbs 0 r (omega arith)), xorbs_bound f small rs (All-drop IsXorb 1 (r ∷ rs) xorbs))

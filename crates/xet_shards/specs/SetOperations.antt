@@ -1,0 +1,40 @@
+-- Shards put together and taken apart.
+use Rattle.std.specs.Prelude.{◌≡◌, ◌≤◌, Some}
+use Rattle.std.specs.Option.{option_or}
+use Rattle.std.specs.FinMap.{get, values}
+use Rattle.xet_base.specs.declared.merklehash.DataHash.{DataHash}
+use Rattle.xet_records.specs.declared.file_structs.MDBFileInfo.{MDBFileInfo}
+use Rattle.xet_records.specs.declared.xorb_structs.MDBXorbInfo.{MDBXorbInfo}
+use Rattle.xet_records.specs.Merging.{Agree, IsSameFile}
+use Rattle.xet_shards.specs.Shard.{Shard, total_rows, total_xorb_rows}
+use Rattle.xet_shards.specs.Joining.{but, either_file}
+
+-- the records of both: files under one hash are joined, of xorbs under one hash the second's stands there
+pub record IsUnion (a b c : Shard) : Type 0 where
+  pub files : (q : DataHash) → get c.files q ≡ either_file (get a.files q) (get b.files q)
+  pub xorbs : (q : DataHash) → get c.xorbs q ≡ option_or (get b.xorbs q) (get a.xorbs q)
+
+-- the records of the second whose hashes the first has not
+pub record IsDifference (a b c : Shard) : Type 0 where
+  pub files : (q : DataHash) → get c.files q ≡ but a.files (get b.files) q
+  pub xorbs : (q : DataHash) → get c.xorbs q ≡ but a.xorbs (get b.xorbs) q
+
+-- 32 bits count the rows of both maps
+pub record HasFewRows (s : Shard) : Type 0 where
+  pub files : total_rows (values s.files) ≤ 4294967295
+  pub xorbs : total_xorb_rows (values s.xorbs) ≤ 4294967295
+
+-- files under one hash have equal counts, and 32 bits count the rows of the union
+pub record CanUnite (a b : Shard) : Type 0 where
+  pub same : (q : DataHash) → (r s : MDBFileInfo) → get a.files q ≡ Some r → get b.files q ≡ Some s → IsSameFile r.metadata s.metadata
+  pub rows : (c : Shard) → IsUnion a b c → HasFewRows c
+
+-- under one hash stand equal xorbs, and files that have equal segments and equal optional parts wherever both have them
+pub record ShardsAgree (a b : Shard) : Type 0 where
+  pub files : (q : DataHash) → (r s : MDBFileInfo) → get a.files q ≡ Some r → get b.files q ≡ Some s → Agree r s
+  pub xorbs : (q : DataHash) → (r s : MDBXorbInfo) → get a.xorbs q ≡ Some r → get b.xorbs q ≡ Some s → r ≡ s
+
+-- the join of shards that agree: under each hash the record, and each part of it, that either has
+pub record IsJoin (a b c : Shard) : Type 0 where
+  pub files : (q : DataHash) → get c.files q ≡ either_file (get a.files q) (get b.files q)
+  pub xorbs : (q : DataHash) → get c.xorbs q ≡ option_or (get a.xorbs q) (get b.xorbs q)

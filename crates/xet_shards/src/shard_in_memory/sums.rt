@@ -1,0 +1,79 @@
+//! What the files and the xorbs of a shard sum up to: their rows and their bytes.
+
+ghost use Rattle.std.specs.Prelude.{◌≡◌, ◌≤◌, sum_by};
+ghost use Rattle.std.specs.Map.{values_of};
+ghost use Rattle.std.specs.BTreeMap.{values};
+ghost use Rattle.xet_records.specs.FileRecord.{size_of_file};
+ghost use Rattle.xet_shards.specs.Shard.{AreFiles, AreXorbs, total_rows, total_xorb_rows};
+ghost use Rattle.xet_shards.specs.XorbTable.{shown_xorbs};
+
+use std::collections::BTreeMap;
+use std::rc::Rc;
+use xet_base::merklehash::MerkleHash;
+use xet_records::file_structs::MDBFileInfo;
+use xet_records::xorb_structs::MDBXorbInfo;
+
+/// The rows of files, which 32 bits count.
+pub fn file_rows(files: &BTreeMap<MerkleHash, MDBFileInfo>) -> u64
+    requires files { AreFiles files.now.entries }
+    requires rows { total_rows (values files.now) ≤ 4294967295 }
+    ensures { result ≡ total_rows (values files.now) }
+{
+    let mut rows = 0;
+    for file_info in files.values() {
+        rows += 1 + file_info.metadata.rows_after();
+    }
+    rows
+}
+
+/// The rows of xorbs, which 32 bits count.
+pub fn xorb_rows(xorbs: &BTreeMap<MerkleHash, Rc<MDBXorbInfo>>) -> u64
+    requires xorbs { AreXorbs (shown_xorbs xorbs.now.entries) }
+    requires rows { total_xorb_rows (values_of (shown_xorbs xorbs.now.entries)) ≤ 4294967295 }
+    ensures { result ≡ total_xorb_rows (values_of (shown_xorbs xorbs.now.entries)) }
+{
+    let mut rows = 0;
+    for xorb in xorbs.values() {
+        rows += 1 + xorb.chunks.len() as u64;
+    }
+    rows
+}
+
+/// The bytes of files. Their rows are few enough that the sum fits.
+pub fn materialized_bytes(files: &BTreeMap<MerkleHash, MDBFileInfo>) -> u64
+    requires files { AreFiles files.now.entries }
+    requires rows { total_rows (values files.now) ≤ 4294967295 }
+    ensures { result ≡ sum_by size_of_file (values files.now) }
+{
+    let mut bytes = 0;
+    for file_info in files.values() {
+        bytes += file_info.file_size();
+    }
+    bytes
+}
+
+/// The bytes that xorbs have on disk. Their rows are few enough that the sum fits.
+pub fn stored_bytes_on_disk(xorbs: &BTreeMap<MerkleHash, Rc<MDBXorbInfo>>) -> u64
+    requires xorbs { AreXorbs (shown_xorbs xorbs.now.entries) }
+    requires rows { total_xorb_rows (values_of (shown_xorbs xorbs.now.entries)) ≤ 4294967295 }
+    ensures { result ≡ sum_by (λ x. x.metadata.num_bytes_on_disk) (values_of (shown_xorbs xorbs.now.entries)) }
+{
+    let mut bytes = 0;
+    for xorb in xorbs.values() {
+        bytes += u64::from(xorb.metadata.num_bytes_on_disk);
+    }
+    bytes
+}
+
+/// The bytes of xorbs, unpacked. Their rows are few enough that the sum fits.
+pub fn stored_bytes(xorbs: &BTreeMap<MerkleHash, Rc<MDBXorbInfo>>) -> u64
+    requires xorbs { AreXorbs (shown_xorbs xorbs.now.entries) }
+    requires rows { total_xorb_rows (values_of (shown_xorbs xorbs.now.entries)) ≤ 4294967295 }
+    ensures { result ≡ sum_by (λ x. x.metadata.num_bytes_in_xorb) (values_of (shown_xorbs xorbs.now.entries)) }
+{
+    let mut bytes = 0;
+    for xorb in xorbs.values() {
+        bytes += u64::from(xorb.metadata.num_bytes_in_xorb);
+    }
+    bytes
+}

@@ -1,0 +1,85 @@
+//! The rows that a union has, counted before it is built.
+
+ghost use Rattle.std.specs.Prelude.{◌≡◌, ◌+◌, ◌≤◌, T, Some, IfSome, unwrap_or, option_map};
+ghost use Rattle.std.specs.Map.{values_of};
+ghost use Rattle.std.specs.Option.{option_or};
+ghost use Rattle.std.specs.BTreeMap.{values};
+ghost use Rattle.std.specs.FinMap as finite;
+ghost use Rattle.std.specs.FinMap.{is_sorted, from_sorted};
+ghost use Rattle.xet_base.specs.declared.merklehash.DataHash.{DataHash};
+ghost use Rattle.xet_base.specs.Hash.{hash_cmp};
+ghost use Rattle.xet_records.specs.FileRecord.{row_count, IsWellFormed};
+ghost use Rattle.xet_records.specs.Merging.{IsSameFile};
+ghost use Rattle.xet_shards.specs.Shard.{FileMap, XorbMap, AreFiles, AreXorbs, total_rows, total_xorb_rows};
+ghost use Rattle.xet_shards.specs.Joining.{entry, CanJoinFiles, either_file};
+ghost use Rattle.xet_shards.specs.XorbTable.{shown_xorbs};
+
+use super::file_table::{FileTable, joined_rows};
+use super::xorb_table::XorbTable;
+use std::collections::BTreeMap;
+use std::rc::Rc;
+use xet_base::merklehash::MerkleHash;
+use xet_records::file_structs::MDBFileInfo;
+use xet_records::xorb_structs::MDBXorbInfo;
+
+/// The rows of the union of these files and those of `other`, which has `other_rows`.
+pub fn united_file_rows(
+    files: &BTreeMap<MerkleHash, MDBFileInfo>,
+    other: &FileTable,
+    other_rows: u64,
+) -> u64
+    requires sorted { T (is_sorted hash_cmp files.now.entries) }
+    requires files { AreFiles files.now.entries }
+    requires rows { total_rows (values files.now) ≤ 4294967295 }
+    requires joins { CanJoinFiles (from_sorted files.now.entries) other.now }
+    requires others { other_rows ≡ total_rows (finite.values other.now) }
+    requires other_rows { other_rows ≤ 4294967295 }
+    ensures { (c : FileMap) → ((q : DataHash) → finite.get c q
+        ≡ either_file (entry files.now.entries q) (finite.get other.now q))
+        → result ≡ total_rows (finite.values c) }
+{
+    let mut rows = other_rows;
+    for (file_hash, file_info) in files {
+        rows += rows_added(file_info, other.get(file_hash));
+    }
+    rows
+}
+
+// How many rows a file has, joined with its twin, that the twin has not.
+fn rows_added(file_info: &MDBFileInfo, twin: Option<&MDBFileInfo>) -> u64
+    requires own { IsWellFormed file_info.now }
+    requires others { IfSome twin (λ t. IsWellFormed t.now) }
+    requires same { IfSome twin (λ t. IsSameFile file_info.now.metadata t.now.metadata) }
+    ensures rows { unwrap_or (option_map row_count (option_map (λ t. t.now) twin.entry)) 0 + result
+        ≡ unwrap_or (option_map row_count (either_file (Some file_info.now) (option_map (λ t. t.now) twin.entry))) 0 }
+    ensures bound { result ≤ row_count file_info.now }
+{
+    match twin {
+        Some(twin) => joined_rows(file_info, twin) - 1 - twin.metadata.rows_after(),
+        None => 1 + file_info.metadata.rows_after(),
+    }
+}
+
+/// The rows of the union of these xorbs and those of `other`, which has `other_rows`.
+pub fn united_xorb_rows(
+    xorbs: &BTreeMap<MerkleHash, Rc<MDBXorbInfo>>,
+    other: &XorbTable,
+    other_rows: u64,
+) -> u64
+    requires sorted { T (is_sorted hash_cmp (shown_xorbs xorbs.now.entries)) }
+    requires xorbs { AreXorbs (shown_xorbs xorbs.now.entries) }
+    requires rows { total_xorb_rows (values_of (shown_xorbs xorbs.now.entries)) ≤ 4294967295 }
+    requires others { other_rows ≡ total_xorb_rows (finite.values other.now.xorbs) }
+    requires other_rows { other_rows ≤ 4294967295 }
+    ensures { (c : XorbMap) → ((q : DataHash) → finite.get c q
+        ≡ option_or (finite.get other.now.xorbs q) (entry (shown_xorbs xorbs.now.entries) q))
+        → result ≡ total_xorb_rows (finite.values c) }
+{
+    let mut rows = other_rows;
+    for (xorb_hash, xorb) in xorbs {
+        if !other.contains(xorb_hash) {
+            rows += 1 + u64::from(xorb.metadata.num_entries);
+        }
+    }
+    rows
+}
