@@ -20,6 +20,11 @@ pub enum Command<'a> {
     Shard {
         shard: &'a str,
     },
+    /// `xorb S HASH CHUNK:SIZE ..`: adds a xorb to a shard.
+    Xorb {
+        shard: &'a str,
+        xorb: XorbLine,
+    },
     /// `file S HASH [v=HASH,HASH..] [s=HASH] XORB:START:END:BYTES ..`: adds a file to a shard.
     File {
         shard: &'a str,
@@ -45,6 +50,20 @@ pub enum Command<'a> {
         buffer: &'a str,
         range: Option<ByteRange>,
     },
+}
+
+/// The xorb of a `xorb` line.
+#[derive(Drop)]
+pub struct XorbLine {
+    pub hash: MerkleHash,
+    pub chunks: Vec<SizedChunk>,
+}
+
+/// A chunk's hash, and how many bytes it has.
+#[derive(Clone, Copy)]
+pub struct SizedChunk {
+    pub hash: MerkleHash,
+    pub size: u32,
 }
 
 /// The file of a `file` line.
@@ -126,6 +145,7 @@ fn parse_words<'a>(alloc: Global, words: &[&'a str]) -> Result<Command<'a>, Pars
     };
     match *command {
         "shard" => parse_shard(arguments),
+        "xorb" => parse_xorb(alloc, arguments),
         "file" => parse_file(alloc, arguments),
         "write" => parse_write(arguments),
         "find" => parse_find(arguments),
@@ -141,6 +161,17 @@ fn parse_shard<'a>(arguments: &[&'a str]) -> Result<Command<'a>, ParseError> {
     };
     let shard = parse_name(shard)?;
     Ok(Command::Shard { shard })
+}
+
+fn parse_xorb<'a>(alloc: Global, arguments: &[&'a str]) -> Result<Command<'a>, ParseError> {
+    let [shard, hash, rest @ ..] = arguments else {
+        return Err(ParseError::Unreadable);
+    };
+    let shard = parse_name(shard)?;
+    let hash = parse_hash(hash)?;
+    let chunks = parse_chunks(alloc, rest)?;
+    let xorb = XorbLine { hash, chunks };
+    Ok(Command::Xorb { shard, xorb })
 }
 
 fn parse_file<'a>(alloc: Global, arguments: &[&'a str]) -> Result<Command<'a>, ParseError> {
@@ -211,6 +242,24 @@ fn parse_hex<'a>(arguments: &[&'a str]) -> Result<Command<'a>, ParseError> {
     };
     let buffer = parse_name(buffer)?;
     Ok(Command::Hex { buffer, range })
+}
+
+fn parse_chunks(alloc: Global, words: &[&str]) -> Result<Vec<SizedChunk>, ParseError> {
+    let mut chunks = Vec::new(alloc);
+    for word in words {
+        chunks.push(parse_chunk(word)?)?;
+    }
+    Ok(chunks)
+}
+
+// A word `CHUNK:SIZE`.
+fn parse_chunk(word: &str) -> Result<SizedChunk, ParseError>
+    ensures { IfErr result (λ e. e ≡ ParseError.Unreadable) }
+{
+    let (hash, size) = split_at_colon(word)?;
+    let hash = parse_hash(hash)?;
+    let size = parse_u32(size)?;
+    Ok(SizedChunk { hash, size })
 }
 
 // What follows `prefix` in the first word, where it begins so, and the words after it.

@@ -26,7 +26,7 @@ pub fn find_file(alloc: Global, bytes: &[u8], hash: &MerkleHash) -> Result<Optio
     ensures fits { IfOk result (λ found. IfSome found FitsItsHeader) }
     ensures hash { IfOk result (λ found. IfSome found (λ file. file.metadata.file_hash ≡ hash.now)) }
     ensures written { (s : Shard) → (expiry : Option ℕ) → IsShard s → IfSome expiry (λ e. e < 2 ^ 64) → bytes.now ≡ layout s expiry
-        → MatchResult result (FoundInShard s hash.now) (λ e. (e ≡ CoreError.OutOfMemory)
+        → MatchResult result (FoundInShard s hash.now) (λ e. ((e ≡ CoreError.OutOfMemory) × (length (sharing hash.now.word0 (finite.values s.files)) < 8))
         ⊎ ((e ≡ CoreError.TruncatedHashCollision hash.now.word0) × (8 ≤ length (sharing hash.now.word0 (finite.values s.files))))) }
 {
     let mut source = MemorySource::new(bytes);
@@ -36,7 +36,7 @@ pub fn find_file(alloc: Global, bytes: &[u8], hash: &MerkleHash) -> Result<Optio
 
 /// Prints a record: a line for the file, then one for each of its rows in the order in which they stand. Asks
 /// that the record's parts fit its header.
-pub fn print_file<W: Write>(file: &MDBFileInfo, output: &mut W) -> io::Result<()>
+pub(crate) fn print_file<W: Write>(file: &MDBFileInfo, output: &mut W) -> io::Result<()>
     requires { FitsItsHeader file.now }
 {
     let header = file.metadata;

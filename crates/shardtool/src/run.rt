@@ -6,7 +6,7 @@ ghost use Rattle.std.specs.Option.{option_map};
 ghost use Rattle.shardtool.specs.Ends.{IsRefused, EndsAt};
 ghost use Rattle.shardtool.specs.Words.{without_last};
 
-use crate::command::{ByteRange, Command, FileLine, ParseError, parse_line};
+use crate::command::{ByteRange, Command, FileLine, ParseError, XorbLine, parse_line};
 use crate::find::{find_file, print_file};
 use std::alloc::{AllocError, AllocFailed, Global};
 use std::collections::BTreeMap;
@@ -18,6 +18,9 @@ use xet_core_structures::merklehash::MerkleHash;
 use xet_core_structures::rows::Rows;
 use xet_core_structures::shard_format::MDBShardInfo;
 use xet_core_structures::shard_in_memory::MDBInMemoryShard;
+use xet_core_structures::xorb_structs::{
+    MDBXorbInfo, XorbChunkSequenceEntry, XorbChunkSequenceHeader,
+};
 
 /// Runs the script that `input` holds, line by line, and writes what it prints to `output`.
 ///
@@ -238,6 +241,7 @@ impl Workspace {
     {
         match command {
             Command::Shard { shard } => self.make_shard(alloc, shard),
+            Command::Xorb { shard, xorb } => self.add_xorb(alloc, shard, xorb),
             Command::File { shard, file } => self.add_file(alloc, shard, file),
             Command::Write {
                 shard,
@@ -258,6 +262,18 @@ impl Workspace {
     {
         let name = String::from_str(alloc, name)?;
         self.shards.insert(name, MDBInMemoryShard::new(alloc))?;
+        Ok(())
+    }
+
+    fn add_xorb(&mut self, alloc: Global, shard: &str, xorb: XorbLine) -> Result<(), Stop>
+        ensures unknown { IsErrOf result Stop.Unreadable ↔ IsNone (get_by_text self.old.shards shard.now) }
+        ensures buffers { self.new.buffers ≡ self.old.buffers }
+    {
+        let Some(shard) = self.shards.get_mut(shard) else {
+            return Err(Stop::Unreadable);
+        };
+        let record = xorb_of(alloc, xorb)?;
+        shard.add_xorb_block(alloc, record)?;
         Ok(())
     }
 
@@ -365,6 +381,27 @@ fn without_last(text: &[u8], byte: u8) -> &[u8]
     ensures { result.now ≡ without_last byte text.now }
 {
     text.strip_suffix(&[byte]).unwrap_or(text)
+}
+
+// The record of a xorb whose chunks follow one another from byte 0. `InvalidArguments` where their bytes or
+// their number pass 32 bits.
+fn xorb_of(alloc: Global, xorb: XorbLine) -> Result<MDBXorbInfo, CoreError> {
+    let mut chunks = Rows::new(alloc);
+    let mut bytes = 0u32;
+    for chunk in xorb.chunks.as_slice() {
+        chunks.push(XorbChunkSequenceEntry::new(chunk.hash, chunk.size, bytes))?;
+        let Some(end) = bytes.checked_add(chunk.size) else {
+            return Err(CoreError::InvalidArguments);
+        };
+        bytes = end;
+    }
+    let Ok(count) = u32::try_from(chunks.len()) else {
+        return Err(CoreError::InvalidArguments);
+    };
+    Ok(MDBXorbInfo {
+        metadata: XorbChunkSequenceHeader::new(xorb.hash, count, bytes),
+        chunks,
+    })
 }
 
 fn record_of(alloc: Global, file: FileLine) -> Result<MDBFileInfo, CoreError> {

@@ -81,7 +81,13 @@ fn bytes_that_are_no_text(rt: HostRuntime) -> Result<(), Fail> {
 
 #[test]
 fn commands(rt: HostRuntime) -> Result<(), Fail> {
-    for line in ["shard s", "file s 1", "write s b", "write s b 7"] {
+    for line in [
+        "shard s",
+        "xorb s 1",
+        "file s 1",
+        "write s b",
+        "write s b 7",
+    ] {
         expect_readable(&rt, line)?;
     }
     for line in [
@@ -90,6 +96,8 @@ fn commands(rt: HostRuntime) -> Result<(), Fail> {
         "shards s",
         "shard",
         "shard s t",
+        "xorb",
+        "xorb s",
         "file",
         "file s",
         "write",
@@ -126,6 +134,8 @@ fn names(rt: HostRuntime) -> Result<(), Fail> {
         "shard a.b",
         "shard é",
         "write s b:",
+        "xorb t 1",
+        "xorb b 1",
         "file t 1",
         "file b 1",
         "write t b",
@@ -228,6 +238,33 @@ fn files(rt: HostRuntime) -> Result<(), Fail> {
         expect_unreadable(&rt, line)?;
     }
     Ok(())
+}
+
+#[test]
+fn xorbs(rt: HostRuntime) -> Result<(), Fail> {
+    for line in [
+        "xorb s 1 2:3",
+        "xorb s 1 2:0 2:4294967295",
+        "xorb s 1 2:3 4:5 6:7",
+    ] {
+        expect_readable(&rt, line)?;
+    }
+    for line in [
+        "xorb s 1 2",
+        "xorb s 1 2:3:4",
+        "xorb s 1 2:",
+        "xorb s 1 :3",
+        "xorb s 1 2:4294967296",
+        "xorb s 1 2:-3",
+    ] {
+        expect_unreadable(&rt, line)?;
+    }
+    expect_below_shard(
+        &rt,
+        "xorb s 1 2:4294967295 3:1",
+        "refused: InvalidArguments\n",
+        1,
+    )
 }
 
 #[test]
@@ -420,6 +457,15 @@ fn failing_output(rt: HostRuntime) -> Result<(), Fail> {
 }
 
 // The bytes of a shard with one file.
+#[test]
+fn a_xorb_and_a_file(rt: HostRuntime) -> Result<(), Fail> {
+    let script =
+        b"shard a\nxorb a 10 21:5\nfile a 100 200:0:5:5\nwrite a A 7\nsize A\nhex A 376 8\n";
+    expect(&rt, script, "576\n0100000000000000\n", 0)?;
+    // A xorb without chunks has one row in its section and one in its table.
+    expect(&rt, b"shard a\nxorb a 10\nwrite a A\nsize A\n", "404\n", 0)
+}
+
 #[test]
 fn one_file(rt: HostRuntime) -> Result<(), Fail> {
     let script = b"shard s\nfile s 100 200:0:5:5\nwrite s b\nsize b\nhex b 240 12\nhex b 252 8\n";

@@ -3,12 +3,13 @@ use Rattle.std.proofs.Common.{◌≡◌, inl, inr, ℕ, suc, ◌+◌, ◌-◌, �
 use Rattle.std.proofs.lemmas.List.{drop-drop, drop-set-lt, map-append, length-map}
 use Rattle.std.proofs.lemmas.List.Elements.{All-nil, All-push, All-weaker}
 use Rattle.std.proofs.lemmas.List.Quantifiers.{all_pairs_push}
-use Rattle.std.proofs.Math.Seq.{take-suc-set, take-append_seam, drop-append-add}
+use Rattle.std.proofs.Math.Seq.{take-suc-set, drop-append-add}
 use Rattle.std.proofs.Math.Nat.{eq-zero-or-pos, eq-or-lt_of_le}
 use Rattle.std.proofs.lemmas.Bool.{cases_lt}
 use Rattle.xet_base.specs.Source.{Source, next_bytes}
 use Rattle.xet_base.specs.Table.{Table, place, spelled_u64, key_at, value_at, HasKey, IsSorted, hits_below, hits, Hit, IsHit, OtherRow, Finds, ReadsOn}
 use Rattle.xet_base.specs.Search.{NoneSmaller, Collected, Walks}
+use Rattle.xet_base.proofs.Lists.{front_is}
 use Rattle.xet_base.proofs.Tables.{row_place-add, row_place-next, hits_below-hit, hits_below-miss, hits_below-le, hits_below-none}
 use Rattle.xet_base.proofs.Search.{keys_ascend, serves_still, serves_advanced}
 
@@ -19,11 +20,8 @@ stored_behind front back n v len room =
     let xs = front ++ drop n back in
     sym (take-append-drop (suc n) (set xs n v))
     ∙ (λ i. take-suc-set xs n v room i ++ drop-set-lt (suc n) xs n v (omega arith) i)
-    ∙ (λ i. (seam_take i ++ v ∷ []) ++ seam_drop i)
+    ∙ (λ i. (front_is n xs front (drop n back) len refl i ++ v ∷ []) ++ seam_drop i)
   where
-    seam_take : take n (front ++ drop n back) ≡ front
-    seam_take = ap (λ k. take k (front ++ drop n back)) (sym len) ∙ take-append_seam front (drop n back)
-
     seam_drop : drop (suc n) (front ++ drop n back) ≡ drop (n + 1) back
     seam_drop =
         let past : suc n ≡ length front + 1 = omega (arith, len) in

@@ -1,25 +1,18 @@
 -- A table whose rows are known: its keys and values, and how many rows hold a key.
 use Rattle.std.proofs.Common.{◌≡◌, ◌==◌, if◌then◌else◌, inl, inr, ℕ, zero, suc, ◌+◌, ◌*◌, ◌^◌, ◌<◌, ◌≤◌, List, [], ◌∷◌, ◌++◌, length, take, drop, flat_map, get_or, refl, sym, ap, ◌∙◌, append_assoc, arith, add-one}
 use Rattle.std.proofs.lemmas.List.{drop-drop, length-append, length-drop}
-use Rattle.std.proofs.Math.Seq.{take-append_seam, drop-append_seam}
 use Rattle.std.proofs.Math.Nat.{add-mul}
 use Rattle.std.proofs.lemmas.Bool.{cases_eq, eq-eqb, ne_eqb, cond-true, cond-false}
 use Rattle.std.proofs.lemmas.Nat.{from_le_bytes-to_le_bytes_8}
 use Rattle.xet_base.specs.Bytes.{u64_bytes}
 use Rattle.xet_base.specs.Table.{Table, row_place, place, spelled_u64, key_at, value_at, HasKey, hits_below}
 use Rattle.xet_base.proofs.Bytes.{length-u64_bytes}
+use Rattle.xet_base.proofs.Lists.{front_is, rest_is}
 use Rattle.xet_base.proofs.Tables.{hits_below-hit, hits_below-miss, row_place-next}
 
 pub spelled_u64-bytes : (n : ℕ) → n < 2 ^ 64 → spelled_u64 (u64_bytes n) ≡ n
 unfolding spelled_u64 u64_bytes
 spelled_u64-bytes n fits = from_le_bytes-to_le_bytes_8 n fits
-
--- a front of known length, taken and dropped
-take_front : (n : ℕ) (xs ys : List ℕ) → length xs ≡ n → take n (xs ++ ys) ≡ xs
-take_front n xs ys len = ap (λ k. take k (xs ++ ys)) (sym len) ∙ take-append_seam xs ys
-
-drop_front : (n : ℕ) (xs ys : List ℕ) → length xs ≡ n → drop n (xs ++ ys) ≡ ys
-drop_front n xs ys len = ap (λ k. drop k (xs ++ ys)) (sym len) ∙ drop-append_seam xs ys
 
 module _ {X : Type 0} (key : X → ℕ) (value : X → List ℕ) (width : ℕ) (length-value : (x : X) → length (value x) ≡ width) where
   abbrev row : X → List ℕ
@@ -41,7 +34,7 @@ module _ {X : Type 0} (key : X → ℕ) (value : X → List ℕ) (width : ℕ) (
         found.0,
         ap (λ n. drop n ((row x ++ flat_map row xs) ++ rest)) split
             ∙ sym (drop-drop (i * (8 + width)) (8 + width) ((row x ++ flat_map row xs) ++ rest))
-            ∙ ap (drop (i * (8 + width))) (ap (drop (8 + width)) (append_assoc (row x) (flat_map row xs) rest) ∙ drop_front (8 + width) (row x) (flat_map row xs ++ rest) (length-row x))
+            ∙ ap (drop (i * (8 + width))) (rest_is (8 + width) ((row x ++ flat_map row xs) ++ rest) (row x) (flat_map row xs ++ rest) (length-row x) (append_assoc (row x) (flat_map row xs) rest))
             ∙ found.1,
       )
 
@@ -68,18 +61,18 @@ module _ {X : Type 0} (key : X → ℕ) (value : X → List ℕ) (width : ℕ) (
     key_is i d within fits =
         let x = get_or xs i d in
         let found = row_stands i d within in
-        ap (λ bytes. spelled_u64 (take 8 bytes)) (found.1 ∙ append_assoc (u64_bytes (key x)) (value x) found.0)
-        ∙ ap spelled_u64 (take_front 8 (u64_bytes (key x)) (value x ++ found.0) (length-u64_bytes (key x)))
+        let split = found.1 ∙ append_assoc (u64_bytes (key x)) (value x) found.0 in
+        ap spelled_u64 (front_is 8 (drop (place t i) t.bytes) (u64_bytes (key x)) (value x ++ found.0) (length-u64_bytes (key x)) split)
         ∙ spelled_u64-bytes (key x) fits
 
     pub value_is : (i : ℕ) (d : X) → i < length xs → value_at t i ≡ value (get_or xs i d)
     value_is i d within =
         let x = get_or xs i d in
         let found = row_stands i d within in
+        let split = found.1 ∙ append_assoc (u64_bytes (key x)) (value x) found.0 in
         ap (λ w. take w (drop (place t i + 8) t.bytes)) same_width
-        ∙ ap (take width) (sym (drop-drop 8 (place t i) t.bytes) ∙ ap (drop 8) (found.1 ∙ append_assoc (u64_bytes (key x)) (value x) found.0)
-        ∙ drop_front 8 (u64_bytes (key x)) (value x ++ found.0) (length-u64_bytes (key x)))
-        ∙ take_front width (value x) found.0 (length-value x)
+        ∙ front_is width (drop (place t i + 8) t.bytes) (value x) found.0 (length-value x)
+        (sym (drop-drop 8 (place t i) t.bytes) ∙ rest_is 8 (drop (place t i) t.bytes) (u64_bytes (key x)) (value x ++ found.0) (length-u64_bytes (key x)) split)
 
 -- the sum of f over the numbers below n
 abbrev pub sum_below : (ℕ → ℕ) → ℕ → ℕ

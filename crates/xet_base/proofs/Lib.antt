@@ -1,6 +1,7 @@
 pub mod Bytes
 pub mod Errors
 pub mod Ghost
+pub mod HashMaps
 pub mod HashOrder
 pub mod Hex
 pub mod HexText

@@ -6,6 +6,13 @@ use Rattle.std.proofs.lemmas.List.Elements.{All-drop}
 use Rattle.std.proofs.Math.Seq.{take-append_seam, drop-append_seam, take-append-add}
 use borrow.Rule.Slice.PartMut.{put_mid, post_of}
 
+-- the front and the rest of joined lists, where the front's length is known
+pub front_is : {A : Type 0} (n : ℕ) (xs front rest : List A) → length front ≡ n → xs ≡ front ++ rest → take n xs ≡ front
+front_is n xs front rest len are = (λ i. take (sym len i) (are i)) ∙ take-append_seam front rest
+
+pub rest_is : {A : Type 0} (n : ℕ) (xs front rest : List A) → length front ≡ n → xs ≡ front ++ rest → drop n xs ≡ rest
+rest_is n xs front rest len are = (λ i. drop (sym len i) (are i)) ∙ drop-append_seam front rest
+
 -- two lists with fronts of one length are equal only part by part
 pub same_parts : {A : Type 0} (a b x y : List A) → length a ≡ length b → a ++ x ≡ b ++ y → (a ≡ b) × (x ≡ y)
 same_parts a b x y len same = (

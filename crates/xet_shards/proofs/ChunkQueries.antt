@@ -5,6 +5,7 @@ use Rattle.std.specs.List.{zip, prefix_len}
 use Rattle.std.specs.FinMap.{get}
 use Rattle.std.specs.HashMap as hash_map
 use Rattle.std.specs.declared.rc.Rc.{Rc}
+use Rattle.std.proofs.lemmas.Option.{none-some, same_Some}
 use Rattle.std.proofs.lemmas.List.Sums.{sum_by-take-le, sum_by-take-drop}
 use Rattle.xet_base.specs.declared.merklehash.DataHash.{DataHash}
 use Rattle.xet_base.specs.Hash.{hash_eq}
@@ -15,7 +16,7 @@ use Rattle.xet_shards.specs.Index.{Place, PlaceMap, IsIndex}
 use Rattle.xet_shards.specs.Shard.{XorbMap}
 use Rattle.xet_shards.specs.XorbTable.{shown_place, placed}
 use Rattle.xet_shards.specs.ChunkQuery.{run_length, run_at, query_answer, IsUnknown}
-use Rattle.xet_shards.proofs.Index.{some_is, none_or_some, chunk_within}
+use Rattle.xet_shards.proofs.Index.{chunk_within}
 
 -- a hash stands beside a chunk with it
 abbrev pub is_hit : DataHash × XorbChunkSequenceEntry → Bool
@@ -43,8 +44,8 @@ place_within xorbs places q p index kept = omega (arith, chunk_within p.0.chunks
 
 -- the run at the place of the first hash is the answer
 pub answer_kept : (places : PlaceMap) (qs : List DataHash) (q : DataHash) (p : Place) → Some q ≡ slice_get qs 0 → get places q ≡ Some p → Some (run_at p qs) ≡ query_answer places qs
-answer_kept places [] q p first kept = absurd (none_or_some q (sym first))
-answer_kept places (r ∷ qs) q p first kept = ap (option_map (λ s. run_at s (r ∷ qs))) (sym kept ∙ ap (get places) (some_is q r first))
+answer_kept places [] q p first kept = absurd (none-some q (sym first))
+answer_kept places (r ∷ qs) q p first kept = ap (option_map (λ s. run_at s (r ∷ qs))) (sym kept ∙ ap (get places) (same_Some q r first))
 
 pub nothing_kept : {S Z : Type 0} (m : hash_map.HashMap DataHash (Rc MDBXorbInfo Z × ℕ) S) (places : PlaceMap) (q : DataHash)
     → ((k : DataHash) → placed m k ≡ get places k) → None ≡ hash_map.get hash_eq m q → get places q ≡ None
@@ -53,5 +54,5 @@ nothing_kept m places q same found = sym (same q) ∙ ap (option_map shown_place
 -- where the lookup keeps no place, there is none
 pub unknown : (xorbs : XorbMap) (places : PlaceMap) (qs : List DataHash) (q : DataHash) → IsIndex xorbs (get places) → Some q ≡ slice_get qs 0 → get places q ≡ None → IsUnknown xorbs qs
 unknown xorbs places qs q index first kept = λ k p at place.
-    let same : q ≡ k = some_is q k (first ∙ at) in
+    let same : q ≡ k = same_Some q k (first ∙ at) in
     absurd (true≢false (sym (index.complete k p place) ∙ ap is_some (ap (get places) (sym same) ∙ kept)))

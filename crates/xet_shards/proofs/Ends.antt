@@ -1,21 +1,14 @@
 -- Headers and footers that are read in two steps.
 use Rattle.std.proofs.Common.{◌≡◌, ◌≢◌, inl, inr, ℕ, ◌+◌, ◌^◌, ◌<◌, List, [], ◌∷◌, ◌++◌, length, take, drop, Option, None, Some, IfSome, sym, ap, ◌∙◌, arith}
 use Rattle.std.proofs.lemmas.List.{length-append, take-append-le}
-use Rattle.std.proofs.Math.Seq.{take-append_seam, drop-append_seam}
 use Rattle.std.specs.Prelude.{All}
 use Rattle.std.proofs.lemmas.List.Elements.{All-cons, All-nil, All-append}
 use Rattle.std.specs.Io.KnownBytes.{Consumes}
 use Rattle.xet_base.specs.Bytes.{u64_bytes, LacksBytes}
 use Rattle.xet_base.proofs.Bytes.{length-u64_bytes}
+use Rattle.xet_base.proofs.Lists.{front_is, rest_is}
 use Rattle.xet_shards.specs.Layout.{header_tag}
 use Rattle.xet_shards.specs.Ends.{HasForeignHeader, EndsInHeader, HasForeignFooter, EndsInFooter}
-
--- bytes that begin with a part of a known length
-pub front_is : (n : ℕ) (bytes part rest : List ℕ) → length part ≡ n → bytes ≡ part ++ rest → take n bytes ≡ part
-front_is n bytes part rest len are = (λ i. take (sym len i) (are i)) ∙ take-append_seam part rest
-
-pub rest_is : (n : ℕ) (bytes part rest : List ℕ) → length part ≡ n → bytes ≡ part ++ rest → drop n bytes ≡ rest
-rest_is n bytes part rest len are = (λ i. drop (sym len i) (are i)) ∙ drop-append_seam part rest
 
 length_is : (bytes part rest : List ℕ) → bytes ≡ part ++ rest → length bytes ≡ length part + length rest
 length_is bytes part rest are = ap length are ∙ length-append part rest

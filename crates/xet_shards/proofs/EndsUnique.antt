@@ -8,7 +8,7 @@ use Rattle.xet_base.specs.declared.error.CoreError.{CoreError}
 use Rattle.xet_base.specs.Bytes.{u64_bytes}
 use Rattle.xet_base.specs.Hash.{hash_bytes}
 use Rattle.xet_base.specs.Source.{Source, DeviceFailure}
-use Rattle.xet_base.proofs.Lists.{same_parts, parts_front}
+use Rattle.xet_base.proofs.Lists.{front_is, rest_is, same_parts, parts_front}
 use Rattle.xet_base.proofs.Bytes.{length-u64_bytes, length-hash_bytes, u64_bytes-injective, hash_bytes-injective}
 use Rattle.xet_records.specs.declared.file_structs.MDBFileInfo.{MDBFileInfo}
 use Rattle.xet_records.specs.declared.xorb_structs.MDBXorbInfo.{MDBXorbInfo}
@@ -20,7 +20,6 @@ use Rattle.xet_shards.specs.Section.{file_section, xorb_section}
 use Rattle.xet_shards.specs.Tables.{file_table_bytes, xorb_table_bytes, chunk_table_bytes}
 use Rattle.xet_shards.specs.Layout.{Form, if_in, header_tag, header_text, header_value, offsets_of, moments_of, sums_of, footer_text, footer_value, layout_of, layout, plain_form, info_value}
 use Rattle.xet_shards.specs.Ends.{HasHeader, FitsFooter, HasEnds, IsForeign, IsTooShort, last_bytes, Loads, LoadsNot, Refusal}
-use Rattle.xet_shards.proofs.Ends.{front_is, rest_is}
 use Rattle.xet_shards.proofs.Layouts.{length-header_text, length-footer_text}
 use Rattle.xet_shards.proofs.Loading.{header_of}
 use Rattle.xet_shards.proofs.Readback.{layout_from_48}

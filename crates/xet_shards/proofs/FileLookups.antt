@@ -17,6 +17,7 @@ use Rattle.xet_base.specs.Errors.{FromDevice, variant_number}
 use Rattle.xet_base.specs.Source.{Source, DeviceFailure}
 use Rattle.xet_base.specs.Table.{row_place, hits_below, Table, place, key_at, HasKey, IsSorted, hits, Hit, IsHit, OtherRow, FitsTable, SearchRefused, Bounded}
 use Rattle.xet_base.proofs.Bytes.{length-u32_bytes, u32_bytes-injective}
+use Rattle.xet_base.proofs.Lists.{rest_is}
 use Rattle.xet_base.proofs.Tables.{row_place-zero}
 use Rattle.xet_base.proofs.KnownTable.{sum_below, key_is, value_is, key_is_there, row_is_there, hits_below-sum}
 use Rattle.xet_records.specs.declared.file_structs.FileDataSequenceHeader.{FileDataSequenceHeader}
@@ -35,7 +36,6 @@ use Rattle.xet_shards.specs.Tables.{file_start, file_starts, start_row, file_tab
 use Rattle.xet_shards.specs.Layout.{Form, if_in, header_text, header_value, footer_text, footer_value, layout_of}
 use Rattle.xet_shards.specs.SectionReading.{MayTake}
 use Rattle.xet_shards.specs.Lookup.{sharing, file_table, IsNumber, row_at, RecordAt, InfoRefusal, LooksUp, LookupAnswer, LookupRefused, Finding, FindingNot, WithinBounds, SearchWithinBounds, IndexFinds, IndexRefused, AreStarts}
-use Rattle.xet_shards.proofs.Ends.{rest_is}
 use Rattle.xet_shards.proofs.Files.{length-le-rows}
 use Rattle.xet_shards.proofs.Layouts.{length-header_text, length-file_section, length-texts}
 use Rattle.xet_shards.proofs.Tables.{length-file_starts}
@@ -479,14 +479,15 @@ module _ (files : List MDBFileInfo) (xorbs : List MDBXorbInfo) (form : Form) (is
 
   -- a lookup that is refused
   pub not_answered : (hash : DataHash) (new : Source) (e : CoreError) → FindingNot table 48 hash old new e
-      → DeviceFailure old new e ⊎ (e ≡ OutOfMemory) ⊎ ((e ≡ TruncatedHashCollision hash.word0) × (8 ≤ length (sharing hash.word0 files)))
+      → DeviceFailure old new e ⊎ ((e ≡ OutOfMemory) × (length (sharing hash.word0 files) < 8))
+      ⊎ ((e ≡ TruncatedHashCollision hash.word0) × (8 ≤ length (sharing hash.word0 files)))
   not_answered hash new e (inl (inl (none, collision, collides), bounded)) =
       inr (inr (collision, omega (arith, collides.eight, hits_share hash.word0 collides.found collides.each collides.distinct)))
   not_answered hash new e (inl (inr refused, bounded)) = inl (search_answers new e refused)
   not_answered hash new e (inr looks) =
       elim (hits_are_read hash.word0 looks.found looks.are_hits.each looks.are_hits.distinct new e looks.answer.0 looks.answer.1 looks.answer.2) [
         | inl failed ↦ inl failed
-        | inr no_memory ↦ inr (inl no_memory)
+        | inr no_memory ↦ inr (inl (no_memory, omega (arith, looks.few, looks.are_hits.all table_sorted, table_hits hash.word0)))
       ]
 
   pub costs_refused : (hash : DataHash) (new : Source) (e : CoreError) → FindingNot table 48 hash old new e → WithinBounds files hash.word0 old new

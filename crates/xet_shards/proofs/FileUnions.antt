@@ -8,16 +8,16 @@ use Rattle.std.specs.declared.cmp.Ordering.TheVariants.{Less, Equal, Greater}
 use Rattle.std.specs.FinMap.{get, insert, empty, from_sorted, is_sorted, get-insert, get-empty, get-from_sorted}
 use Rattle.std.specs.FinMap.Entries.{below_all}
 use Rattle.std.proofs.lemmas.List.Elements.{All-drop, All-push}
+use Rattle.std.proofs.lemmas.Option.{same_Some}
 use Rattle.xet_base.specs.declared.merklehash.DataHash.{DataHash}
 use Rattle.xet_base.specs.Hash.{hash_cmp}
-use Rattle.xet_base.proofs.HashOrder.{hash_cmp-IsTotalOrder}
+use Rattle.xet_base.proofs.HashOrder.{hash_cmp-IsTotalOrder, same_key}
 use Rattle.xet_records.specs.declared.file_structs.MDBFileInfo.{MDBFileInfo}
 use Rattle.xet_records.specs.FileRecord.{IsWellFormed}
 use Rattle.xet_records.specs.Merging.{merged}
 use Rattle.xet_records.proofs.Merging.{merged_is_joined, joined_well_formed}
 use Rattle.xet_shards.specs.Shard.{FileMap, file_hash_of}
 use Rattle.xet_shards.specs.Joining.{but, entry, CanJoinFile, CanJoinFiles, either_file, own_file}
-use Rattle.xet_shards.proofs.Index.{same_key, some_is}
 use Rattle.xet_shards.proofs.Maps.{both_right}
 use Rattle.xet_shards.proofs.Joining.{entry-append}
 
@@ -59,7 +59,7 @@ module _ {X : Type 0} where
   entry-holds P [] q x all found = absurd (true≢false (sym (ap is_some found)))
   entry-holds P (e ∷ es) q x all found = here (eq_by_cmp hash_cmp q e.0) refl found (entry-holds P es q x (All-drop P 1 (e ∷ es) all)) where
     here : (b : Bool) → eq_by_cmp hash_cmp q e.0 ≡ b → cond b (Some e.1) (entry es q) ≡ Some x → (entry es q ≡ Some x → P (q, x)) → P (q, x)
-    here true tied found later = subst P (λ i. (sym ((same_key q e.0).0 tied) i, some_is e.1 x found i)) (all 0 e (omega arith))
+    here true tied found later = subst P (λ i. (sym ((same_key q e.0).0 tied) i, same_Some e.1 x found i)) (all 0 e (omega arith))
     here false tied found later = later found
 
 -- each of these entries may be joined with what a table has

@@ -7,9 +7,8 @@ use Rattle.std.specs.Ordering.{eq_by_cmp}
 use Rattle.std.specs.FinMap.{FinMap, get, find, insert, empty, entries, get-insert, get-empty, get-entries, same_map}
 use Rattle.xet_base.specs.declared.merklehash.DataHash.{DataHash}
 use Rattle.xet_base.specs.Hash.{hash_cmp}
-use Rattle.xet_base.proofs.HashOrder.{hash_cmp-IsTotalOrder, hash_cmp-IsAntisymmetric}
+use Rattle.xet_base.proofs.HashOrder.{hash_cmp-IsTotalOrder, hash_cmp-IsAntisymmetric, same_key}
 use Rattle.xet_shards.specs.Joining.{but, entry}
-use Rattle.xet_shards.proofs.Index.{same_key}
 use Rattle.xet_shards.proofs.Walks.{All-middle}
 
 module _ {X : Type 0} where

@@ -9,12 +9,13 @@ use Rattle.xet_base.specs.Bytes.{u64_bytes}
 use Rattle.xet_base.specs.Errors.{IsEndOfInput, IsShardVersion, FromDevice}
 use Rattle.xet_base.specs.Source.{Source, Takes, Fails, moved, bytes_left}
 use Rattle.xet_base.proofs.Bytes.{length-u64_bytes}
+use Rattle.xet_base.proofs.Lists.{front_is}
 use Rattle.xet_base.proofs.Reading.{Takes-consumes, Takes-trans}
 use Rattle.xet_shards.specs.declared.shard_format.header.MDBShardFileHeader.{MDBShardFileHeader}
 use Rattle.xet_shards.specs.declared.shard_format.footer.MDBShardFileFooter.{MDBShardFileFooter}
 use Rattle.xet_shards.specs.Layout.{header_tag, header_text, footer_text}
 use Rattle.xet_shards.specs.Ends.{HasHeader, FitsFooter, HasForeignHeader, EndsInHeader, HasForeignFooter, EndsInFooter, last_bytes, IsForeign, IsTooShort, Loads, LoadsNot, PartFails, Refusal}
-use Rattle.xet_shards.proofs.Ends.{front_is, foreign_version}
+use Rattle.xet_shards.proofs.Ends.{foreign_version}
 use Rattle.xet_shards.proofs.Layouts.{length-header_text, length-footer_text}
 
 -- a refusal of a part, after calls that did not fail, is one of the whole

@@ -1,18 +1,17 @@
 -- Reading the records that a lookup leads to.
-use Rattle.std.proofs.Common.{◌≡◌, ◌≢◌, ◌&&◌, ◌==◌, true, inl, inr, ℕ, ◌+◌, ◌*◌, ◌^◌, ◌<◌, ◌≤◌, List, [], ◌∷◌, ◌++◌, length, map, take, drop, Option, refl, sym, ap, ◌∙◌, subst, arith}
+use Rattle.std.proofs.Common.{◌≡◌, ◌≢◌, inl, inr, ℕ, ◌+◌, ◌*◌, ◌^◌, ◌<◌, ◌≤◌, List, [], ◌∷◌, ◌++◌, length, map, take, drop, Option, refl, sym, ap, ◌∙◌, subst, arith}
 use Rattle.std.specs.Prelude.{IfOk}
 use Rattle.std.specs.declared.result.Result.{Result}
 use Rattle.std.proofs.lemmas.Result.{IfOk-weaker}
 use Rattle.std.proofs.lemmas.List.{length-append, length-map, append_assoc}
 use Rattle.xet_base.specs.Table.{Table, Serves, IsSorted, Bounded, Hit, IsHit, Finds, value_at}
 use Rattle.std.proofs.lemmas.List.Elements.{AllZip-push, All-nil, All-push, All-weaker}
-use Rattle.std.proofs.Math.Seq.{take-append_seam}
 use Rattle.std.proofs.lemmas.List.Sums.{sum_by-append}
-use Rattle.std.proofs.lemmas.Bool.{and_from, eq-eqb}
 use Rattle.xet_base.specs.declared.error.CoreError.{CoreError}
 use Rattle.xet_base.specs.declared.merklehash.DataHash.{DataHash}
 use Rattle.xet_shards.specs.Shard.{file_hash_of}
 use Rattle.xet_base.specs.Source.{Source, Takes, moved, bytes_left}
+use Rattle.xet_base.proofs.Lists.{front_is}
 use Rattle.xet_base.proofs.Reading.{Takes-consumes}
 use Rattle.xet_records.specs.declared.file_structs.MDBFileInfo.{MDBFileInfo}
 use Rattle.xet_records.specs.FileRow.{header_row}
@@ -183,19 +182,10 @@ finds_weaker t key Gives Others old new r weaker = IfOk-weaker r (Finds t key Gi
   written = finds.written;
 })
 
--- equal hashes have equal words
-pub same_words : (a b : DataHash) → a ≡ b → ((a.word0 == b.word0) && ((a.word1 == b.word1) && ((a.word2 == b.word2) && (a.word3 == b.word3)))) ≡ true
-same_words a b same =
-    and_from _ _ (eq-eqb _ _ (ap (λ (h : DataHash). h.word0) same)) (and_from _ _ (eq-eqb _ _ (ap (λ (h : DataHash). h.word1) same))
-    (and_from _ _ (eq-eqb _ _ (ap (λ (h : DataHash). h.word2) same)) (eq-eqb _ _ (ap (λ (h : DataHash). h.word3) same))))
-
 -- the row numbers that an index lookup put in front
 pub rows_in_front : (t : Table) (key count : ℕ) (old new : List ℕ) (finds : IndexFinds t key old new count) → take count new ≡ map (λ (h : Hit ℕ). h.value) finds.found
 rows_in_front t key count old new finds =
-    let values = map (λ (h : Hit ℕ). h.value) finds.found in
-    ap (take count) finds.written
-    ∙ ap (λ n. take n (values ++ drop count old)) (sym finds.number ∙ sym (length-map finds.found (λ (h : Hit ℕ). h.value)))
-    ∙ take-append_seam values (drop count old)
+    front_is count new (map (λ (h : Hit ℕ). h.value) finds.found) (drop count old) (length-map finds.found (λ (h : Hit ℕ). h.value) ∙ finds.number) finds.written
 
 -- the search answered, and the records at its rows were read
 module _ (t : Table) (offset count : ℕ) (hash : DataHash) (old mid new : Source) (places_old places_new : List ℕ)

@@ -1,10 +1,10 @@
 -- Finite maps that the entries of a `BTreeMap` stand for.
-use Rattle.std.proofs.Common.{◌≡◌, ℕ, ◌+◌, Bool, true, false, ◌&&◌, List, [], ◌∷◌, map, length, Some, None, T, refl, sym, ap, ◌∙◌, subst, arith, true≢false, is_some, ◌<◌, ◌≤◌}
+use Rattle.std.proofs.Common.{◌≡◌, ℕ, ◌+◌, Bool, true, false, ◌&&◌, List, [], ◌∷◌, map, length, Some, None, T, refl, sym, ap, ◌∙◌, subst, arith, is_some, ◌<◌, ◌≤◌}
 use Rattle.std.specs.Prelude.{All, option_map, unwrap_or, sum_by, cond}
 use Rattle.std.specs.Ordering.{is_lt, is_eq, eq_by_cmp, match_ordering}
 use Rattle.std.specs.declared.cmp.Ordering.{Ordering}
 use Rattle.std.specs.declared.cmp.Ordering.TheVariants.{Less, Equal, Greater}
-use Rattle.std.specs.Cmp.{IsTotalOrder}
+use Rattle.std.specs.Cmp.{IsTotalOrder, Equal-is}
 use Rattle.std.specs.Map.{lookup, keys_of, values_of}
 use Rattle.std.specs.BTreeMap.{insert_entry, is_at}
 use Rattle.std.specs.FinMap.{FinMap, from_entries, IsAntisymmetric, is_sorted, find, get, insert, entries, values, empty, from_sorted, same_map, same_entries_map, entries-from_sorted, entries-insert, entries_sorted, get-from_sorted, get-entries, get-empty, get-from_entries, len, len-entries, len-empty, len-insert}
@@ -23,11 +23,6 @@ less : (o : Ordering) → T (is_lt o) → o ≡ Less
 less Less p = refl
 less Equal p = absurd p
 less Greater p = absurd p
-
-pub is_equal : (o : Ordering) → is_eq o ≡ true → o ≡ Equal
-is_equal Less tied = absurd (true≢false (sym tied))
-is_equal Equal tied = refl
-is_equal Greater tied = absurd (true≢false (sym tied))
 
 pub both_left : (a b : Bool) → T (a && b) → T a
 both_left true b p = tt
@@ -134,7 +129,7 @@ module _ {K X : Type 0} {R : K → K → Ordering} (total : IsTotalOrder R) (ran
   none_ranked k n (e ∷ es) below rising =
       ap (λ b. cond b (Some e.1) (find R k es)) (apart (eq_by_cmp R k e.0) refl) ∙ none_ranked k (rank e.0 + 1) es (omega (arith, below, rising.0)) rising.1 where
         apart : (b : Bool) → eq_by_cmp R k e.0 ≡ b → b ≡ false
-        apart true is = absurd (omega (arith, below, rising.0, same_rank k e.0 (is_equal (R k e.0) is)))
+        apart true is = absurd (omega (arith, below, rising.0, same_rank k e.0 ((Equal-is (R k e.0)).0 is)))
         apart false is = refl
 
   -- the map of entries with such keys has them all

@@ -9,7 +9,7 @@ use Rattle.std.proofs.lemmas.List.{map-append}
 use Rattle.std.proofs.lemmas.List.Sums.{sum_by_push}
 use Rattle.xet_base.specs.declared.merklehash.DataHash.{DataHash}
 use Rattle.xet_base.specs.Hash.{hash_cmp}
-use Rattle.xet_base.proofs.HashOrder.{hash_cmp-IsTotalOrder, hash_cmp-IsAntisymmetric}
+use Rattle.xet_base.proofs.HashOrder.{hash_cmp-IsTotalOrder, hash_cmp-IsAntisymmetric, same_key}
 use Rattle.xet_records.specs.declared.file_structs.MDBFileInfo.{MDBFileInfo}
 use Rattle.xet_records.specs.declared.xorb_structs.MDBXorbInfo.{MDBXorbInfo}
 use Rattle.xet_records.specs.FileRecord.{row_count}
@@ -18,7 +18,6 @@ use Rattle.xet_records.specs.Merging.{joined}
 use Rattle.xet_shards.specs.Shard.{Shard, FileMap, XorbMap, total_rows, total_xorb_rows}
 use Rattle.xet_shards.specs.Joining.{entry, either_file, CanJoinFiles}
 use Rattle.xet_shards.specs.SetOperations.{IsUnion, CanUnite}
-use Rattle.xet_shards.proofs.Index.{same_key}
 use Rattle.xet_shards.proofs.Maps.{sum-insert}
 use Rattle.xet_shards.proofs.Sums.{sum-remove}
 use Rattle.xet_shards.proofs.Joining.{entry-append, shown}

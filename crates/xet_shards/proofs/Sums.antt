@@ -3,13 +3,13 @@ use Rattle.std.proofs.Common.{◌≡◌, ℕ, ◌+◌, ◌≤◌, Bool, true, fa
 use Rattle.std.specs.Prelude.{option_map, unwrap_or, sum_by}
 use Rattle.std.specs.Ordering.{eq_by_cmp}
 use Rattle.std.specs.declared.cmp.Ordering.{Ordering}
-use Rattle.std.specs.Cmp.{IsTotalOrder}
+use Rattle.std.specs.Cmp.{IsTotalOrder, Equal-is}
 use Rattle.std.proofs.lemmas.Cmp.{eq_by_cmp_equiv}
 use Rattle.std.specs.Map.{values_of}
 use Rattle.std.specs.FinMap.{FinMap, IsAntisymmetric, is_sorted, find, get, insert, remove, entries, values, same_map, entries_sorted, get-entries, get-insert, get-remove}
 use Rattle.std.specs.FinMap.Entries.{below_all}
 use Rattle.std.proofs.lemmas.List.Sums.{sum_by-cons}
-use Rattle.xet_shards.proofs.Maps.{is_equal, sum-insert, both_left, both_right, below_none}
+use Rattle.xet_shards.proofs.Maps.{sum-insert, both_left, both_right, below_none}
 
 module _ {K X : Type 0} {R : K → K → Ordering} (total : IsTotalOrder R) (exact : IsAntisymmetric R) where
   -- an entry taken out of a map and put back
@@ -17,7 +17,7 @@ module _ {K X : Type 0} {R : K → K → Ordering} (total : IsTotalOrder R) (exa
   put_back m k v here = same_map total exact _ _ (λ q.
       get-insert total (remove m k) k v q ∙ ap (cond (eq_by_cmp R q k) (Some v)) (get-remove total m k q) ∙ at q (eq_by_cmp R q k) refl) where
         at : (q : K) (b : Bool) → eq_by_cmp R q k ≡ b → cond b (Some v) (cond b None (get m q)) ≡ get m q
-        at q true is = sym here ∙ ap (get m) (sym (exact q k (is_equal (R q k) is)))
+        at q true is = sym here ∙ ap (get m) (sym (exact q k ((Equal-is (R q k)).0 is)))
         at q false is = refl
 
   removed : (m : FinMap R X) (k : K) → get (remove m k) k ≡ None
@@ -39,7 +39,7 @@ module _ {K X : Type 0} {R : K → K → Ordering} (total : IsTotalOrder R) (exa
   in_rest : (e : K × X) (es : List (K × X)) (m : FinMap R X) → T (below_all R e.0 es) → AreIn (e ∷ es) m → AreIn es (remove m e.0)
   in_rest e es m below all q v is = get-remove total m e.0 q ∙ at (eq_by_cmp R q e.0) refl where
     at : (b : Bool) → eq_by_cmp R q e.0 ≡ b → cond b None (get m q) ≡ Some v
-    at true same = absurd (true≢false (sym (ap is_some is) ∙ ap is_some (ap (λ k. find R k es) (exact q e.0 (is_equal (R q e.0) same)) ∙ below_none R e.0 es below)))
+    at true same = absurd (true≢false (sym (ap is_some is) ∙ ap is_some (ap (λ k. find R k es) (exact q e.0 ((Equal-is (R q e.0)).0 same)) ∙ below_none R e.0 es below)))
     at false same = all q v (ap (λ b. cond b (Some e.1) (find R q es)) same ∙ is)
 
   sum_in : (f : X → ℕ) (es : List (K × X)) (m : FinMap R X) → T (is_sorted R es) → AreIn es m → sum_by f (values_of es) ≤ sum_by f (values m)

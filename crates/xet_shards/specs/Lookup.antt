@@ -177,11 +177,12 @@ StartsInShard s word places count =
 abbrev pub NoStartsInShard : Shard → ℕ → Source → Source → CoreError → Type 0
 NoStartsInShard s word old new e = DeviceFailure old new e ⊎ ((e ≡ TruncatedHashCollision word) × (8 ≤ length (sharing word (values s.files))))
 
--- a file lookup on the bytes of a shard: the map's answer where fewer than eight files share the first word, the
--- collision where eight do; else the device failed, or memory was refused
+-- a file lookup on the bytes of a shard: where fewer than eight files share the first word, the map's answer, or
+-- memory was refused; where eight do, the collision; else the device failed
 abbrev pub FoundInShard : Shard → DataHash → Option MDBFileInfo → Type 0
 FoundInShard s hash answer = (length (sharing hash.word0 (values s.files)) < 8) × (answer ≡ get s.files hash)
 
 abbrev pub NotFoundInShard : Shard → DataHash → Source → Source → CoreError → Type 0
 NotFoundInShard s hash old new e =
-    DeviceFailure old new e ⊎ (e ≡ OutOfMemory) ⊎ ((e ≡ TruncatedHashCollision hash.word0) × (8 ≤ length (sharing hash.word0 (values s.files))))
+    DeviceFailure old new e ⊎ ((e ≡ OutOfMemory) × (length (sharing hash.word0 (values s.files)) < 8))
+    ⊎ ((e ≡ TruncatedHashCollision hash.word0) × (8 ≤ length (sharing hash.word0 (values s.files))))

@@ -4,7 +4,7 @@ use Rattle.xet_records.specs.XorbRecord.{IsXorb}
 use Rattle.xet_shards.specs.XorbTable.{shown_place}
 use Rattle.xet_shards.specs.ChunkQuery.{run_at}
 use Rattle.xet_shards.proofs.ChunkQueries.{place_kept, place_within, answer_kept, nothing_kept, unknown}
-use Rattle.xet_shards.proofs.Index.{none_or_some}
+use Rattle.std.proofs.lemmas.Option.{none-some}
 use Rattle.xet_shards.proofs.shard_in_memory.chunk_query.chunk_hash_dedup_query.Goals as goal
 
 pub run_at-requires-clause-well_formed : goal.run_at-requires-clause-well_formed
@@ -44,6 +44,6 @@ returns-clause-none c =
     let q = c.in_ok-first.field-0.now in
     let found = c.in_ok-xorb.field-0.now in
     let kept = place_kept c.lookup.result.now places q found c.lookup.ensures.places c.in_ok-xorb.ensures.value in (
-      λ none. absurd (none_or_some _ (sym none)),
+      λ none. absurd (none-some _ (sym none)),
       λ unknown. absurd (unknown q (shown_place found) (sym c.in_ok-first.ensures.value) (c.lookup.ensures.index.present q (shown_place found) kept)),
     )

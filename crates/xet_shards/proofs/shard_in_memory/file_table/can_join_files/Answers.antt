@@ -2,11 +2,11 @@ use Rattle.std.proofs.Common.{◌≡◌, [], ◌∷◌, None, sym, ap, ◌∙◌
 use Rattle.std.specs.FinMap.{get}
 use Rattle.std.specs.Map.Iter.{deref_pair}
 use Rattle.std.proofs.lemmas.List.{map-append}
+use Rattle.std.proofs.lemmas.Option.{same_Some}
 use Rattle.xet_records.specs.declared.file_structs.MDBFileInfo.{MDBFileInfo}
 use Rattle.xet_records.specs.FileRecord.{IsWellFormed}
 use Rattle.xet_shards.specs.Joining.{CanJoinFile}
 use Rattle.xet_shards.proofs.Walks.{entry_turn, entry_turned, entry_end, entry_holds}
-use Rattle.xet_shards.proofs.Index.{some_is}
 use Rattle.xet_shards.proofs.FileUnions.{CanJoinEntries, can_join_more, can_join_entries, entry_of}
 use Rattle.xet_shards.proofs.shard_in_memory.file_table.can_join_files.Goals as goal
 
@@ -32,7 +32,7 @@ loop-file_hash-preserved-else-not-can_join c =
       all = entry_turned deref_pair _ c.loop-file_hash.yielded _ (c.in-Some.file_hash, c.in-Some.file_info) whole;
       joins = subst (λ es. CanJoinEntries es c.args.other.now) (sym (map-append deref_pair c.loop-file_hash.yielded ((c.in-Some.file_hash, c.in-Some.file_info) ∷ [])))
           (can_join_more _ _ c.args.other.now c.loop-file_hash.invariant.joins
-          (λ s there. subst (CanJoinFile c.in-Some.file_info.now) (some_is _ _ (c.in-Some-get.ensures.value ∙ there)) (c.can_join.ensures.0 c.if-not-can_join.false)));
+          (λ s there. subst (CanJoinFile c.in-Some.file_info.now) (same_Some _ _ (c.in-Some-get.ensures.value ∙ there)) (c.can_join.ensures.0 c.if-not-can_join.false)));
     }
 
 pub loop-file_hash-preserved : goal.loop-file_hash-preserved

@@ -3,12 +3,14 @@ use Rattle.std.specs.Prelude.{All, option_map, option_to_list, slice_get}
 use Rattle.std.specs.HashMap as hash_map
 use Rattle.std.specs.declared.rc.Rc.{Rc}
 use Rattle.std.proofs.lemmas.List.{length-append}
+use Rattle.std.proofs.lemmas.Option.{slice_get-get_or}
+use Rattle.std.proofs.lemmas.Result.{IfOk-at_ok}
 use Rattle.xet_base.specs.Hash.{hash_eq}
 use Rattle.xet_records.specs.declared.xorb_structs.XorbChunkSequenceEntry.{XorbChunkSequenceEntry}
 use Rattle.xet_records.specs.declared.xorb_structs.MDBXorbInfo.{MDBXorbInfo}
 use Rattle.xet_shards.specs.XorbTable.{shown_place, placed}
 use Rattle.xet_shards.proofs.Walks.{All-middle}
-use Rattle.xet_shards.proofs.Index.{All-front, entered-more, cond-shown, chunk_found, on_ok}
+use Rattle.xet_shards.proofs.Index.{All-front, entered-more, cond-shown}
 use Rattle.xet_shards.proofs.shard_in_memory.xorb_table.enter_chunks.Goals as goal
 
 -- what a read past the end would give
@@ -27,8 +29,8 @@ loop-chunk-preserved c =
     let own = All-middle (λ (o : Rc MDBXorbInfo Global). o.value ≡ c.args.xorb.now) left [] owner all in
     let items = c.as_slice-chunk-items.result.now in
     let chunk = ap (λ (cs : List XorbChunkSequenceEntry). option_map (λ (d : XorbChunkSequenceEntry). d.chunk_hash) (slice_get cs c.loop-chunk.chunk-index)) (sym c.as_slice-chunk-items.ensures)
-    ∙ ap (option_map (λ (d : XorbChunkSequenceEntry). d.chunk_hash)) (chunk_found items c.loop-chunk.chunk-index no_chunk c.loop-chunk-test.true) in
-    let updates = (on_ok _ _ c.unwrap.ensures c.insert-inserted.ensures.updates).0 in
+    ∙ ap (option_map (λ (d : XorbChunkSequenceEntry). d.chunk_hash)) (slice_get-get_or items c.loop-chunk.chunk-index no_chunk c.loop-chunk-test.true) in
+    let updates = (IfOk-at_ok _ c.unwrap.ensures c.insert-inserted.ensures.updates).0 in
     record {
       place = omega (arith, before.place);
       left = omega (arith, before.left, count);

@@ -3,8 +3,9 @@ use Rattle.std.proofs.lemmas.List.{take_more, take_all}
 use Rattle.std.proofs.lemmas.List.Elements.{Contains-get_or}
 use Rattle.std.proofs.lemmas.Bool.{both_ways}
 use Rattle.std.proofs.lemmas.Result.{err_from_is_err_and}
+use Rattle.xet_base.proofs.HashOrder.{same_hash}
 use Rattle.xet_shards.specs.Lookup.{Visits, Missed, LookupAnswer}
-use Rattle.xet_shards.proofs.Lookups.{visits_read, visits_read_not, missed_more, refusal_after, same_words}
+use Rattle.xet_shards.proofs.Lookups.{visits_read, visits_read_not, missed_more, refusal_after}
 use Rattle.xet_shards.proofs.shard_format.info.MDBShardInfo.first_with_hash.Goals as goal
 
 pub returns-in_err-file_info-clause-refused : goal.returns-in_err-file_info-clause-refused
@@ -46,7 +47,7 @@ loop-row-preserved g c =
     let offset = c.args.self.now.metadata.file_info_offset in
     subst (λ rs. Missed offset c.args.hash.now rs (g.S.ShardSource.meaning c.args.source.now) (g.S.ShardSource.meaning c.read_file_info.new.source)) (sym (take_more rows i 0 c.loop-row-test.true))
     (missed_more offset (get_or rows i 0) c.args.hash.now (take i rows) _ (g.S.ShardSource.meaning c.loop-row.source) _ _ c.loop-row.invariant c.in_ok-file_info.ensures
-    (λ same. both_ways c.eq.result c.if-eq.false (c.eq.ensures ∙ same_words _ _ same)))
+    (λ same. both_ways c.eq.result c.if-eq.false (c.eq.ensures ∙ (same_hash _ _).1 same)))
 
 pub returns-clause-answer : goal.returns-clause-answer
 returns-clause-answer g c =

@@ -5,6 +5,7 @@ use Rattle.std.specs.declared.rc.Rc.{Rc}
 use Rattle.std.specs.FinMap.{get, from_sorted, is_sorted, insert}
 use Rattle.xet_base.specs.declared.merklehash.DataHash.{DataHash}
 use Rattle.xet_base.specs.Hash.{hash_cmp}
+use Rattle.xet_base.proofs.HashMaps.{insert-shown, same-shown}
 use Rattle.xet_base.proofs.HashOrder.{hash_cmp-IsTotalOrder, hash_cmp-IsAntisymmetric}
 use Rattle.xet_records.specs.declared.xorb_structs.MDBXorbInfo.{MDBXorbInfo}
 use Rattle.xet_records.specs.XorbRecord.{IsXorb}
@@ -12,7 +13,7 @@ use Rattle.xet_shards.specs.Shard.{XorbMap, AreXorbs, xorb_hash_of}
 use Rattle.xet_shards.specs.Index.{Table, IsIndex}
 use Rattle.xet_shards.specs.XorbTable.{shown_xorbs, shown_place, placed, IsEntered}
 use Rattle.xet_shards.proofs.Maps.{from_sorted-insert_entry, sorted-insert_entry, All-insert_entry}
-use Rattle.xet_shards.proofs.Index.{index-same, index-append, insert-shown, entered-from, on_err, same-shown}
+use Rattle.xet_shards.proofs.Index.{index-same, index-append, entered-from, on_err}
 use Rattle.xet_shards.proofs.shard_in_memory.xorb_table.XorbTable.append.Goals as goal
 
 pub invariant_of-self : goal.invariant_of-self

@@ -1,10 +1,11 @@
 use Rattle.std.proofs.Common.{sym, ap, ◌∙◌, subst}
 use Rattle.std.specs.FinMap.{get, get-from_sorted}
 use Rattle.xet_base.specs.Hash.{hash_cmp}
+use Rattle.xet_base.proofs.HashMaps.{get-shown}
 use Rattle.xet_records.specs.XorbRecord.{IsXorb}
 use Rattle.xet_shards.specs.Index.{Table, IsIndex}
 use Rattle.xet_shards.specs.XorbTable.{shown_place, placed}
-use Rattle.xet_shards.proofs.Index.{get-shown, index-same}
+use Rattle.xet_shards.proofs.Index.{index-same}
 use Rattle.xet_shards.proofs.FileUnions.{entry-holds}
 use Rattle.xet_shards.proofs.shard_in_memory.xorb_table.XorbTable.lookup.Goals as goal
 

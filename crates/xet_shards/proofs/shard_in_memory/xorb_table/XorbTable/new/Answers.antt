@@ -11,7 +11,7 @@ use Rattle.xet_records.specs.declared.xorb_structs.MDBXorbInfo.{MDBXorbInfo}
 use Rattle.xet_shards.specs.Shard.{AreXorbs}
 use Rattle.xet_shards.specs.XorbTable.{shown_xorbs, shown_place}
 use Rattle.xet_shards.proofs.Maps.{from_sorted-nil}
-use Rattle.xet_shards.proofs.Index.{index-none, from_entries-nil}
+use Rattle.xet_shards.proofs.Index.{index-none}
 use Rattle.xet_shards.proofs.shard_in_memory.xorb_table.XorbTable.new.Goals as goal
 
 pub invariant_of-result : goal.invariant_of-result
@@ -27,5 +27,5 @@ invariant_of-result c =
 pub returns : goal.returns
 returns c =
     let xorbs = ap (λ (es : List (DataHash × Rc MDBXorbInfo Global)). from_sorted {R = hash_cmp} (shown_xorbs es)) c.new.ensures.empty ∙ from_sorted-nil hash_cmp-IsTotalOrder hash_cmp-IsAntisymmetric in
-    let places = ap (λ es. from_entries {R = hash_cmp} (map (λ e. (e.0, shown_place e.1)) es)) c.new-2.ensures.empty ∙ from_entries-nil in
+    let places = ap (λ es. from_entries {R = hash_cmp} (map (λ e. (e.0, shown_place e.1)) es)) c.new-2.ensures.empty in
     λ i. record { xorbs = xorbs i; places = places i }
