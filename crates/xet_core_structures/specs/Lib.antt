@@ -5,5 +5,6 @@ pub use Rattle.xet_shards.specs.ChunkQuery
 pub use Rattle.xet_shards.specs.Index
 pub use Rattle.xet_shards.specs.Layout
 pub use Rattle.xet_shards.specs.Lookup
+pub use Rattle.xet_shards.specs.Names
 pub use Rattle.xet_shards.specs.SetOperations
 pub use Rattle.xet_shards.specs.Shard

@@ -1,7 +1,10 @@
-//! Laws of shards in memory that no single call states. Each is a function that does nothing: the law is its
-//! contract, and the gate proves it.
+//! Laws of shards in memory and of their names that no single call states. Each is a function that does nothing:
+//! the law is its contract, and the gate proves it.
 
-ghost use Rattle.std.specs.Prelude.{◌≡◌};
+ghost use Rattle.std.specs.Prelude.{◌≡◌, ℕ, List};
+ghost use Rattle.xet_base.specs.declared.merklehash.DataHash.{DataHash};
+ghost use Rattle.xet_base.specs.Hash.{IsHash};
+ghost use Rattle.xet_shards.specs.Names.{shard_name, NamesShard};
 ghost use Rattle.xet_shards.specs.Shard.{Shard, IsShard, empty_shard};
 ghost use Rattle.xet_shards.specs.SetOperations.{IsUnion, IsJoin, ShardsAgree, HasFewRows, CanUnite};
 
@@ -30,4 +33,11 @@ pub fn union_with_nothing()
 /// Shards that agree may be united, unless the rows of their union are too many.
 pub fn agreeing_shards_unite()
     ensures { (a b : Shard) → IsShard a → IsShard b → ShardsAgree a b → ((c : Shard) → IsUnion a b c → HasFewRows c) → CanUnite a b }
+{}
+
+/// The name of a hash's shard file names that hash, and a name names one hash only: so the hash is read back from
+/// it. From the 64 digits alone `DataHash::from_hex` reads it back by its own contract (`back`).
+pub fn shard_name_is_read()
+    ensures named { (hash : DataHash) → NamesShard (shard_name hash) hash }
+    ensures alone { (name : List ℕ) (a b : DataHash) → IsHash a → IsHash b → NamesShard name a → NamesShard name b → a ≡ b }
 {}

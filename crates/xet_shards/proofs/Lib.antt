@@ -12,6 +12,7 @@ pub mod Layouts
 pub mod Loading
 pub mod Lookups
 pub mod Maps
+pub mod Names
 pub mod Overlays
 pub mod Readback
 pub mod SectionReading

@@ -6,6 +6,7 @@ pub mod Index
 pub mod Joining
 pub mod Layout
 pub mod Lookup
+pub mod Names
 pub mod Section
 pub mod SectionReading
 pub mod SetOperations

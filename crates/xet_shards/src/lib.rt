@@ -10,3 +10,5 @@ pub mod shard_in_memory;
 #[cfg(test)]
 mod tests;
 pub mod utils;
+#[cfg(test)]
+mod utils_tests;

@@ -2,6 +2,7 @@
 
 mod file_lookup;
 mod footer;
+mod footer_facts;
 mod header;
 mod info;
 mod section_writer;
