@@ -305,10 +305,6 @@ impl Workspace {
         let Some(shard) = self.shards.get(shard) else {
             return Err(Stop::Unreadable);
         };
-        // No command adds xorbs yet, and their rows can't be written.
-        if shard.num_xorb_entries() > 0 {
-            return Err(CoreError::InternalError(String::new(alloc)).into());
-        }
         let mut bytes = Vec::new(alloc);
         MDBShardInfo::serialize_from(alloc, &mut bytes, shard, expiry)?;
         let name = String::from_str(alloc, buffer)?;

@@ -1,3 +1,4 @@
+pub mod ChunkPlaces
 pub mod ChunkQueries
 pub mod Distinct
 pub mod Ends
@@ -18,7 +19,6 @@ pub mod Readback
 pub mod SectionReading
 pub mod SectionUnique
 pub mod ShardLookups
-pub mod Shards
 pub mod Sums
 pub mod Tables
 pub mod Unions

@@ -6,7 +6,7 @@ use Rattle.xet_base.specs.Bytes.{u32_bytes, u64_bytes}
 use Rattle.xet_base.proofs.Bytes.{length-u32_bytes, length-u64_bytes}
 use Rattle.xet_records.specs.declared.file_structs.MDBFileInfo.{MDBFileInfo}
 use Rattle.xet_records.specs.declared.xorb_structs.MDBXorbInfo.{MDBXorbInfo}
-use Rattle.xet_shards.specs.Shard.{file_hash_of, total_rows}
+use Rattle.xet_shards.specs.Shard.{file_hash_of, xorb_hash_of, total_rows, total_xorb_rows}
 use Rattle.xet_shards.specs.Section.{with_fronts}
 use Rattle.std.specs.Cmp.{IsTotalOrder}
 use Rattle.std.specs.Ordering.{nat_cmp}
@@ -39,6 +39,20 @@ file_table_bytes-push files r =
 pub file_table_bytes-nil : file_table_bytes [] ≡ []
 unfolding file_table_bytes
 file_table_bytes-nil = refl
+
+pub xorb_table_bytes-push : (xorbs : List MDBXorbInfo) (r : MDBXorbInfo)
+    → xorb_table_bytes (xorbs ++ r ∷ []) ≡ xorb_table_bytes xorbs ++ start_row ((xorb_hash_of r).word0, total_xorb_rows xorbs)
+unfolding xorb_table_bytes
+xorb_table_bytes-push xorbs r =
+    let last : List MDBXorbInfo × MDBXorbInfo = (xorbs, r) in
+    ap (λ es. flat_map start_row (map xorb_start es)) (with_fronts-push [] xorbs r)
+    ∙ ap (flat_map start_row) (map-append xorb_start (with_fronts [] xorbs) (last ∷ []))
+    ∙ flat_map-append start_row (xorb_starts xorbs) (xorb_start last ∷ [])
+    ∙ ap (λ bytes. flat_map start_row (xorb_starts xorbs) ++ bytes) (append-nil (start_row ((xorb_hash_of r).word0, total_xorb_rows xorbs)))
+
+pub xorb_table_bytes-nil : xorb_table_bytes [] ≡ []
+unfolding xorb_table_bytes
+xorb_table_bytes-nil = refl
 
 pub length-file_starts : (files : List MDBFileInfo) → length (file_starts files) ≡ length files
 length-file_starts files = length-map (with_fronts [] files) file_start ∙ length-with_fronts [] files

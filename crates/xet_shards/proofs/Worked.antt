@@ -18,7 +18,7 @@ use Rattle.xet_shards.specs.ChunkQuery.{run_at}
 use Rattle.xet_shards.proofs.Tables.{place_total}
 use Rattle.xet_shards.specs.Tables.{ChunkPlace, place_cmp, chunk_places, ascending, chunk_table, place_row, file_table_bytes, xorb_table_bytes, chunk_table_bytes}
 use Rattle.xet_shards.specs.Layout.{footer_value, layout_of, plain_form}
-use Rattle.xet_shards.proofs.Layouts.{chunk_table-nil}
+use Rattle.xet_shards.proofs.ChunkPlaces.{ascending-nil}
 use Rattle.xet_shards.proofs.Maps.{puts, entries-from_entries}
 use Rattle.xet_shards.proofs.XorbLayouts.{length-layout_of}
 
@@ -66,7 +66,7 @@ chunks_of_q = ascending_is (chunk_places (xorb 10 21 ∷ xorb 11 22 ∷ []))
 -- the empty shard
 pub places_of_empty : places (footer_value [] [] (plain_form None)) ≡ 48 ∷ 96 ∷ 144 ∷ 144 ∷ 144 ∷ 144 ∷ []
 unfolding file_section xorb_section file_table_bytes xorb_table_bytes chunk_table_bytes record_text rows_text header_row segment_row hash_bytes u64_bytes u32_bytes xorb_text xorb_header_row chunk_row
-places_of_empty = λ i. 48 ∷ 96 ∷ 144 ∷ 144 ∷ 144 ∷ (144 + length (flat_map place_row (chunk_table-nil i))) ∷ []
+places_of_empty = λ i. 48 ∷ 96 ∷ 144 ∷ 144 ∷ 144 ∷ (144 + length (flat_map place_row (ascending-nil i))) ∷ []
 
 -- a xorb with one chunk, and a file
 pub places_of_p : places (footer_value (file 100 200 ∷ []) (xorb 10 21 ∷ []) (plain_form None)) ≡ 48 ∷ 192 ∷ 336 ∷ 348 ∷ 360 ∷ 376 ∷ []

@@ -16,8 +16,9 @@ use Rattle.xet_records.specs.XorbRecord.{xorb_text, xorb_row_count, xorb_bookend
 use Rattle.xet_records.proofs.Lengths.{length-xorb_header_row, length-xorb_text}
 use Rattle.xet_shards.specs.Shard.{total_rows, total_xorb_rows}
 use Rattle.xet_shards.specs.Section.{with_fronts, file_section, xorb_section}
-use Rattle.xet_shards.specs.Tables.{ChunkPlace, place_cmp, chunk_places, chunk_table, file_table_bytes, xorb_table_bytes, chunk_table_bytes}
+use Rattle.xet_shards.specs.Tables.{ChunkPlace, place_cmp, places_from, chunk_places, chunk_table, file_table_bytes, xorb_table_bytes, chunk_table_bytes}
 use Rattle.xet_shards.specs.Layout.{header_text, footer_text, header_value, footer_value, layout_of, plain_form}
+use Rattle.xet_shards.proofs.ChunkPlaces.{alone, place_of}
 use Rattle.xet_shards.proofs.Maps.{IsRising, rising_lower, length-from_entries}
 use Rattle.xet_shards.proofs.Tables.{length-file_table_bytes, length-xorb_table_bytes, length-place_rows, place_total, place_exact}
 use Rattle.xet_shards.proofs.Layouts.{length-header_text, length-file_section, length-footer_text}
@@ -44,10 +45,10 @@ length-xorb_section xorbs =
 
 -- the places of the chunks of xorbs that stand after others
 abbrev place_after : List MDBXorbInfo → ℕ × XorbChunkSequenceEntry → ChunkPlace
-place_after front c = record { word = c.1.chunk_hash.word0; start = total_xorb_rows front; place = c.0 }
+place_after front c = place_of (total_xorb_rows front) c.0 c.1
 
 abbrev places_of : List MDBXorbInfo × MDBXorbInfo → List ChunkPlace
-places_of e = map (place_after e.0) (enumerate_from 0 e.1.chunks)
+places_of e = places_from (total_xorb_rows e.0) e.1.chunks
 
 abbrev places_after : List MDBXorbInfo → List MDBXorbInfo → List ChunkPlace
 places_after front xorbs = flat_map places_of (with_fronts front xorbs)
@@ -80,9 +81,6 @@ rising_places front (x ∷ xorbs) =
     let later = places_after (front ++ x ∷ []) xorbs in
     rising_lower sum_of _ _ (places_of (front, x) ++ later) (omega arith)
     (rising_chunks front 0 x.chunks later (rising_lower sum_of _ _ later (omega (arith, sum_by_push xorb_row_count front x)) (rising_places (front ++ x ∷ []) xorbs)))
-
-abbrev alone : ChunkPlace → ChunkPlace × Unit {0}
-alone p = (p, tt)
 
 keys-alone : (ps : List ChunkPlace) → keys_of (map alone ps) ≡ ps
 keys-alone [] = refl

@@ -1,5 +1,5 @@
 -- Walks over the owners of xorbs, and sums over xorbs.
-use Rattle.std.proofs.Common.{◌≡◌, ℕ, ◌*◌, ◌≤◌, List, [], ◌∷◌, ◌++◌, map, Option, Some, refl, sym, ap, ◌∙◌, arith}
+use Rattle.std.proofs.Common.{◌≡◌, ℕ, ◌*◌, ◌≤◌, List, [], ◌∷◌, ◌++◌, map, Option, Some, None, refl, sym, ap, ◌∙◌, arith}
 use Rattle.std.specs.Prelude.{All, sum_by}
 use Rattle.std.specs.Borrow.{Bor}
 use Rattle.std.specs.Map.{values_of}
@@ -13,7 +13,7 @@ use Rattle.xet_records.specs.declared.xorb_structs.MDBXorbInfo.{MDBXorbInfo}
 use Rattle.xet_records.specs.XorbRecord.{xorb_row_count, IsXorb}
 use Rattle.xet_shards.specs.Shard.{AreXorbs, total_xorb_rows}
 use Rattle.xet_shards.specs.XorbTable.{shown_xorbs}
-use Rattle.xet_shards.proofs.Walks.{value_turn}
+use Rattle.xet_shards.proofs.Walks.{value_turn, value_end, values_push}
 
 module _ {Z : Type 0} where
   abbrev pub owned : List (Rc MDBXorbInfo Z) → List MDBXorbInfo
@@ -31,6 +31,14 @@ module _ {Z : Type 0} where
       → map deref before ++ s ≡ values_of es → r ≡ Some x → TakesFirst deref s r t → seen before ++ x.now.value ∷ owned t ≡ values_of (shown_xorbs es)
   seen_turn es before s t r x whole is step =
       sym (map-append (λ (o : Rc MDBXorbInfo Z). o.value) (map deref before) (x.now ∷ t)) ∙ ap owned (value_turn _ before s t r x whole is step) ∙ owned-values es
+
+  pub seen_end : (es : List (DataHash × Rc MDBXorbInfo Z)) (before : List (Bor (Rc MDBXorbInfo Z))) (s t : List (Rc MDBXorbInfo Z)) (r : Option (Bor (Rc MDBXorbInfo Z)))
+      → map deref before ++ s ≡ values_of es → r ≡ None → TakesFirst deref s r t → seen before ≡ values_of (shown_xorbs es)
+  seen_end es before s t r whole is step = ap owned (value_end _ before s t r whole is step) ∙ owned-values es
+
+  -- what was seen, once this turn's xorb is part of it
+  pub seen_push : (before : List (Bor (Rc MDBXorbInfo Z))) (x : Bor (Rc MDBXorbInfo Z)) → seen (before ++ x ∷ []) ≡ seen before ++ x.now.value ∷ []
+  seen_push before x = ap owned (values_push before x) ∙ map-append (λ (o : Rc MDBXorbInfo Z). o.value) (map deref before) (x.now ∷ [])
 
 -- what holds of a shard's xorbs holds of their list
 pub xorb_values : (es : List (DataHash × MDBXorbInfo)) → AreXorbs es → All IsXorb (values_of es)

@@ -7,6 +7,8 @@ use Rattle.std.specs.FinMap as finite
 use Rattle.xet_base.specs.Bytes.{u32_bytes, u64_bytes}
 use Rattle.xet_records.specs.declared.file_structs.MDBFileInfo.{MDBFileInfo}
 use Rattle.xet_records.specs.declared.xorb_structs.MDBXorbInfo.{MDBXorbInfo}
+use Rattle.xet_records.specs.declared.xorb_structs.XorbChunkSequenceEntry.{XorbChunkSequenceEntry}
+pub use Rattle.xet_shards.specs.declared.shard_format.xorb_writer.ChunkPlace.{ChunkPlace}
 use Rattle.xet_shards.specs.Shard.{file_hash_of, xorb_hash_of, total_rows, total_xorb_rows}
 use Rattle.xet_shards.specs.Section.{with_fronts}
 
@@ -24,19 +26,17 @@ file_starts files = map file_start (with_fronts [] files)
 abbrev pub xorb_starts : List MDBXorbInfo → List (ℕ × ℕ)
 xorb_starts xorbs = map xorb_start (with_fronts [] xorbs)
 
--- where a chunk stands: the first word of its hash, where its xorb starts, and its place in the xorb
-pub record ChunkPlace : Type 0 where
-  pub word : ℕ
-  pub start : ℕ
-  pub place : ℕ
-
+-- where chunks stand: by the first word of the hash, then by where the xorb starts, then by the place in the xorb
 abbrev pub place_cmp : ChunkPlace → ChunkPlace → Ordering
 place_cmp a b = ordering_then (nat_cmp a.word b.word) (ordering_then (nat_cmp a.start b.start) (nat_cmp a.place b.place))
 
+-- the places of the chunks of a xorb that starts at a row
+abbrev pub places_from : ℕ → List XorbChunkSequenceEntry → List ChunkPlace
+places_from start chunks = map (λ c. record { word = c.1.chunk_hash.word0; start = start; place = c.0 }) (enumerate_from 0 chunks)
+
 -- the places of a list of xorbs, in section order
 abbrev pub chunk_places : List MDBXorbInfo → List ChunkPlace
-chunk_places xorbs =
-    flat_map (λ e. map (λ c. record { word = c.1.chunk_hash.word0; start = total_xorb_rows e.0; place = c.0 }) (enumerate_from 0 e.1.chunks)) (with_fronts [] xorbs)
+chunk_places xorbs = flat_map (λ e. places_from (total_xorb_rows e.0) e.1.chunks) (with_fronts [] xorbs)
 
 -- places in ascending order: the keys of the finite map that has each of them
 abbrev pub ascending : List ChunkPlace → List ChunkPlace

@@ -1,11 +1,13 @@
-//! Shards in memory: worked rows, and what a refused growth leaves.
+//! Shards in memory: worked rows, the bytes that they are written as, and what a refused growth leaves.
 
+use crate::shard_format::{MDBShardFileFooter, MDBShardInfo};
 use crate::shard_in_memory::MDBInMemoryShard;
-use crate::tests::{file, small};
+use crate::tests::{file, loaded, small, written};
 use std::alloc::Global;
 use std::test::Fail;
 use xet_base::error::{CoreError, Result};
 use xet_base::merklehash::MerkleHash;
+use xet_base::source::MemorySource;
 use xet_records::file_structs::{
     FileDataSequenceEntry, FileDataSequenceHeader, FileMetadataExt, FileVerificationEntry,
     MDBFileInfo,
@@ -335,5 +337,128 @@ fn a_refused_union_tells_so(rt: HostRuntime) -> std::result::Result<(), Fail> {
     }
     assert!(rt; has_chunk(&first, 21));
     assert_eq!(rt; second.shard_file_size(), 808);
+    Ok(())
+}
+
+/// Where the sections, the three tables and the footer begin.
+fn offsets(footer: &MDBShardFileFooter) -> [u64; 6] {
+    [
+        footer.file_info_offset,
+        footer.xorb_info_offset,
+        footer.file_lookup_offset,
+        footer.xorb_lookup_offset,
+        footer.chunk_lookup_offset,
+        footer.footer_offset,
+    ]
+}
+
+/// The rows of the three tables.
+fn counts(footer: &MDBShardFileFooter) -> [u64; 3] {
+    [
+        footer.file_lookup_num_entry,
+        footer.xorb_lookup_num_entry,
+        footer.chunk_lookup_num_entry,
+    ]
+}
+
+#[test]
+fn a_shard_with_a_xorb_has_576_bytes(rt: HostRuntime) -> std::result::Result<(), Fail> {
+    let alloc = rt.alloc();
+    let mut bytes = Vec::new(alloc);
+    let info = MDBShardInfo::serialize_from(alloc, &mut bytes, &p(alloc)?, None)?;
+    let footer = info.metadata;
+    assert_eq!(rt; bytes.len(), 576);
+    assert_eq!(rt; p(alloc)?.to_bytes(alloc)?, bytes);
+    assert_eq!(rt; offsets(&footer), [48, 192, 336, 348, 360, 376]);
+    assert_eq!(rt; counts(&footer), [1, 1, 1]);
+    assert_eq!(rt; (footer.stored_bytes, footer.materialized_bytes), (5, 5));
+    assert_eq!(rt; footer.stored_bytes_on_disk, 0);
+    assert_eq!(rt;
+        bytes.get(192..200),
+        Some([10, 0, 0, 0, 0, 0, 0, 0].as_slice())
+    );
+    assert_eq!(rt;
+        bytes.get(348..376),
+        Some(
+            [
+                10, 0, 0, 0, 0, 0, 0, 0, 0, 0, 0, 0, //
+                21, 0, 0, 0, 0, 0, 0, 0, 0, 0, 0, 0, 0, 0, 0, 0,
+            ]
+            .as_slice()
+        )
+    );
+    let mut last = Vec::new(alloc);
+    footer.serialize(&mut last)?;
+    assert_eq!(rt; bytes.get(376..), Some(last.as_slice()));
+    assert_eq!(rt; loaded(alloc, bytes.as_slice())?, info);
+    let mut source = MemorySource::new(bytes.as_slice());
+    assert_eq!(rt;
+        info.get_file_reconstruction_info(alloc, &mut source, &small(100))?,
+        Some(file(alloc, 100, 200)?)
+    );
+    Ok(())
+}
+
+#[test]
+fn two_xorbs_and_two_files_have_808_bytes(rt: HostRuntime) -> std::result::Result<(), Fail> {
+    let alloc = rt.alloc();
+    let bytes = written(alloc, &q(alloc)?, Some(7))?;
+    assert_eq!(rt; bytes.len(), 808);
+    let info = loaded(alloc, bytes.as_slice())?;
+    assert_eq!(rt; offsets(&info.metadata), [48, 288, 528, 552, 576, 608]);
+    assert_eq!(rt; counts(&info.metadata), [2, 2, 2]);
+    assert_eq!(rt;
+        (info.metadata.stored_bytes, info.metadata.materialized_bytes),
+        (10, 10)
+    );
+    assert_eq!(rt; info.num_bytes(alloc)?, 808);
+    Ok(())
+}
+
+#[test]
+fn a_chunk_of_two_xorbs_has_two_rows(rt: HostRuntime) -> std::result::Result<(), Fail> {
+    let alloc = rt.alloc();
+    let mut shard = MDBInMemoryShard::new(alloc);
+    shard.add_xorb_block(alloc, xorb(alloc, 10, 21)?)?;
+    shard.add_xorb_block(alloc, xorb(alloc, 11, 21)?)?;
+    let bytes = written(alloc, &shard, None)?;
+    assert_eq!(rt;
+        bytes.get(360..392),
+        Some(
+            [
+                21, 0, 0, 0, 0, 0, 0, 0, 0, 0, 0, 0, 0, 0, 0, 0, //
+                21, 0, 0, 0, 0, 0, 0, 0, 2, 0, 0, 0, 0, 0, 0, 0,
+            ]
+            .as_slice()
+        )
+    );
+    Ok(())
+}
+
+// Chunk 20 comes first, though its xorb is the second.
+#[test]
+fn rows_of_chunks_ascend_by_their_first_words(rt: HostRuntime) -> std::result::Result<(), Fail> {
+    let alloc = rt.alloc();
+    let mut shard = MDBInMemoryShard::new(alloc);
+    shard.add_xorb_block(alloc, xorb_of_three(alloc)?)?;
+    let mut packed = xorb(alloc, 11, 20)?;
+    packed.metadata.num_bytes_on_disk = 3;
+    shard.add_xorb_block(alloc, packed)?;
+    let bytes = written(alloc, &shard, None)?;
+    assert_eq!(rt;
+        bytes.get(456..520),
+        Some(
+            [
+                20, 0, 0, 0, 0, 0, 0, 0, 4, 0, 0, 0, 0, 0, 0, 0, //
+                21, 0, 0, 0, 0, 0, 0, 0, 0, 0, 0, 0, 0, 0, 0, 0, //
+                22, 0, 0, 0, 0, 0, 0, 0, 0, 0, 0, 0, 1, 0, 0, 0, //
+                23, 0, 0, 0, 0, 0, 0, 0, 0, 0, 0, 0, 2, 0, 0, 0,
+            ]
+            .as_slice()
+        )
+    );
+    let footer = loaded(alloc, bytes.as_slice())?.metadata;
+    assert_eq!(rt; offsets(&footer), [48, 96, 432, 432, 456, 520]);
+    assert_eq!(rt; (footer.stored_bytes, footer.stored_bytes_on_disk), (23, 3));
     Ok(())
 }

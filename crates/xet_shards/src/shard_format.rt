@@ -6,6 +6,8 @@ mod footer_facts;
 mod header;
 mod info;
 mod section_writer;
+mod writer;
+mod xorb_writer;
 
 pub use footer::MDBShardFileFooter;
 pub use header::MDBShardFileHeader;

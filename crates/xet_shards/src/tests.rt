@@ -56,19 +56,6 @@ pub(crate) fn shard_of_one(alloc: Global) -> Result<MDBInMemoryShard> {
     Ok(shard)
 }
 
-/// Writes a shard of files alone; others are refused, as their xorbs can't be written yet.
-fn serialized<W: Write>(
-    alloc: Global,
-    writer: &mut W,
-    shard: &MDBInMemoryShard,
-    expiry: Option<u64>,
-) -> Result<MDBShardInfo> {
-    if shard.num_xorb_entries() > 0 {
-        return Err(CoreError::InvalidArguments);
-    }
-    MDBShardInfo::serialize_from(alloc, writer, shard, expiry)
-}
-
 /// The bytes of a shard.
 pub(crate) fn written(
     alloc: Global,
@@ -76,7 +63,7 @@ pub(crate) fn written(
     expiry: Option<u64>,
 ) -> Result<Vec<u8>> {
     let mut bytes = Vec::new(alloc);
-    serialized(alloc, &mut bytes, shard, expiry)?;
+    MDBShardInfo::serialize_from(alloc, &mut bytes, shard, expiry)?;
     Ok(bytes)
 }
 
@@ -102,7 +89,7 @@ fn one_file_has_452_bytes(rt: HostRuntime) -> std::result::Result<(), Fail> {
     assert_eq!(rt; shard.materialized_bytes(), 5);
     assert!(rt; !shard.is_empty());
     let mut bytes = Vec::new(alloc);
-    let info = serialized(alloc, &mut bytes, &shard, None)?;
+    let info = MDBShardInfo::serialize_from(alloc, &mut bytes, &shard, None)?;
     assert_eq!(rt; bytes.len(), 452);
     let footer = info.metadata;
     assert_eq!(rt; footer.file_info_offset, 48);
@@ -155,7 +142,7 @@ fn a_shard_is_read_back(rt: HostRuntime) -> std::result::Result<(), Fail> {
     let mut shard = shard_of_one(alloc)?;
     shard.add_file_reconstruction_info(alloc, file_90(alloc)?)?;
     let mut bytes = Vec::new(alloc);
-    let info = serialized(alloc, &mut bytes, &shard, Some(7))?;
+    let info = MDBShardInfo::serialize_from(alloc, &mut bytes, &shard, Some(7))?;
     assert_eq!(rt; bytes.len(), 344 + 48 * 6 + 24);
     assert_eq!(rt; loaded(alloc, bytes.as_slice())?, info);
     let files = info.read_all_file_info_sections(alloc, &mut MemorySource::new(bytes.as_slice()))?;
@@ -272,10 +259,10 @@ fn write_twice(
     bytes: &mut Vec<u8>,
     shard: &MDBInMemoryShard,
 ) -> Result<MDBShardInfo> {
-    match serialized(alloc, bytes, shard, None) {
+    match MDBShardInfo::serialize_from(alloc, bytes, shard, None) {
         Err(CoreError::OutOfMemory) => {
             bytes.clear();
-            serialized(alloc, bytes, shard, None)
+            MDBShardInfo::serialize_from(alloc, bytes, shard, None)
         }
         told => told,
     }
@@ -518,14 +505,16 @@ fn readers_and_writers_fail_after_any_byte(rt: HostRuntime) -> std::result::Resu
     let broken = Some((false, Some(ErrorKind::BrokenPipe)));
     for left in 0..452 {
         let mut writer = Narrow { bytes: &[], left };
-        let failed = serialized(alloc, &mut writer, &shard, None).err().map(told);
+        let failed = MDBShardInfo::serialize_from(alloc, &mut writer, &shard, None)
+            .err()
+            .map(told);
         assert_eq!(rt; failed, broken);
     }
     let mut writer = Narrow {
         bytes: &[],
         left: 452,
     };
-    assert!(rt; serialized(alloc, &mut writer, &shard, None).is_ok());
+    assert!(rt; MDBShardInfo::serialize_from(alloc, &mut writer, &shard, None).is_ok());
     for left in 0..48 {
         let mut reader = Narrow {
             bytes: bytes.as_slice(),

@@ -4,32 +4,24 @@ ghost use Rattle.std.specs.Prelude.{◌≡◌, ◌⊎◌, ℕ, Option, ◌+◌, 
 ghost use Rattle.std.specs.FinMap as finite;
 ghost use Rattle.std.specs.Io.KnownBytes.{Appends};
 ghost use Rattle.xet_base.specs.Errors.{IsDeviceError, IsInvalidShard};
-ghost use Rattle.std.specs.BTreeMap.{values};
-ghost use Rattle.xet_shards.specs.Shard.{Shard, IsShard, AreFiles, total_rows};
-ghost use Rattle.xet_shards.specs.Section.{file_section};
-ghost use Rattle.xet_shards.specs.Written.{HasWritten};
-ghost use Rattle.xet_records.specs.declared.file_structs.MDBFileInfo.{MDBFileInfo};
-ghost use Rattle.xet_records.specs.FileRecord.{FitsRecord};
-ghost use Rattle.xet_shards.specs.Layout.{layout, info_value, footer_value, plain_form, header_tag, header_text, footer_text};
+ghost use Rattle.xet_shards.specs.Shard.{Shard, IsShard};
+ghost use Rattle.xet_shards.specs.Layout.{layout, info_value, header_tag, header_text, footer_text};
 ghost use Rattle.xet_base.specs.Source.{Takes, DeviceFailure};
 ghost use Rattle.xet_shards.specs.SectionReading.{ReadsOne, RecordFails, ReadsSection, SectionFails};
 ghost use Rattle.xet_shards.specs.Ends.{HasForeignHeader, EndsInHeader, HasForeignFooter, EndsInFooter, FitsFooter, PartFails, Loads, LoadsNot};
 
 use super::footer::{MDBShardFileFooter, check_version};
 use super::header::{MDBShardFileHeader, check_tag};
-use super::section_writer::WrittenFiles;
+use super::writer::{footer_of, write_chunk_table, write_file_section, write_xorb_section};
 use crate::shard_in_memory::MDBInMemoryShard;
 use std::alloc::Global;
-use std::collections::BTreeMap;
 use std::io;
 use std::io::{ErrorKind, Write};
 use xet_base::error::{CoreError, Result};
-use xet_base::merklehash::MerkleHash;
 use xet_base::serialization_utils::write_bytes;
 use xet_base::source::{ShardSource, read_full};
 use xet_records::file_structs::{FileDataSequenceHeader, MDBFileInfo, read_source_rows_after};
 use xet_records::rows::read_source_row;
-use xet_records::xorb_structs::XorbChunkSequenceHeader;
 
 /// The header and the footer of a shard.
 #[derive(Clone, Copy, Default, Debug, PartialEq, Eq)]
@@ -56,18 +48,15 @@ impl MDBShardInfo {
     }
 
     /// Writes a shard: header, sections, tables and footer. The expiry is a moment in seconds, or none.
-    /// Returns what a reader of these bytes finds in header and footer. Asks that the shard has no xorbs, whose
-    /// rows it can't write yet.
+    /// Returns what a reader of these bytes finds in header and footer.
     ///
     /// The error is the writer's, or `OutOfMemory` where the tables find none.
-    #[tactic(auto, unfolding(crate::specs::Layout::layout_of, crate::specs::Section::xorb_section))]
     pub fn serialize_from<W: Write>(
         alloc: Global,
         writer: &mut W,
         shard: &MDBInMemoryShard,
         expiry: Option<u64>,
     ) -> Result<Self>
-        requires { shard.now.content.xorbs ≡ finite.empty }
         ensures text { OnOk result
             (Appends (W.contents writer.old) (W.contents writer.new) (layout shard.now.content expiry)) }
         ensures info { IfOk result (λ info. info ≡ info_value shard.now.content expiry) }
@@ -78,9 +67,11 @@ impl MDBShardInfo {
         let header = MDBShardFileHeader::default();
         header.serialize(writer)?;
         let files = write_file_section(alloc, writer, shard.file_content())?;
-        XorbChunkSequenceHeader::bookend().serialize(writer)?;
+        let xorbs = write_xorb_section(alloc, writer, shard.xorb_content())?;
         write_bytes(writer, files.table.as_slice())?;
-        let metadata = footer_of(&files, expiry);
+        write_bytes(writer, xorbs.table.as_slice())?;
+        write_chunk_table(writer, &xorbs.places)?;
+        let metadata = footer_of(&files, &xorbs, expiry);
         metadata.serialize(writer)?;
         Ok(MDBShardInfo { header, metadata })
     }
@@ -209,51 +200,4 @@ pub(super) fn read_record<S: ShardSource>(
     }
     *rows_left -= rows;
     Ok(Some(read_source_rows_after(alloc, source, header)?))
-}
-
-// Writes the file section and gathers its table.
-#[tactic(auto, unfolding(crate::specs::Section::file_section))]
-fn write_file_section<W: Write>(
-    alloc: Global,
-    writer: &mut W,
-    files: &BTreeMap<MerkleHash, MDBFileInfo>,
-) -> Result<WrittenFiles>
-    requires files { AreFiles files.now.entries }
-    requires rows { total_rows (values files.now) ≤ 4294967295 }
-    ensures text { OnOk result
-        (Appends (W.contents writer.old) (W.contents writer.new) (file_section (values files.now))) }
-    ensures written { IfOk result (λ written. HasWritten written (values files.now)) }
-    ensures causes { IfErr result IsDeviceError }
-{
-    let mut written = WrittenFiles::new(alloc);
-    for file_info in files.values() {
-        written.write(writer, file_info)?;
-    }
-    FileDataSequenceHeader::bookend().serialize(writer)?;
-    Ok(written)
-}
-
-// The footer of a shard with these files and no xorbs.
-fn footer_of(files: &WrittenFiles, expiry: Option<u64>) -> MDBShardFileFooter
-    ensures widths { FitsFooter result }
-    ensures value { (rs : List MDBFileInfo) → All FitsRecord rs → HasWritten files.now rs → result ≡ footer_value rs []
-        (plain_form expiry) }
-{
-    let xorb_info_offset = 48 + 48 * files.rows + 48;
-    let file_lookup_offset = xorb_info_offset + 48;
-    let table = files.table.len() as u64;
-    let footer = MDBShardFileFooter {
-        file_info_offset: 48,
-        xorb_info_offset,
-        file_lookup_offset,
-        file_lookup_num_entry: table / 12,
-        xorb_lookup_offset: file_lookup_offset + table,
-        chunk_lookup_offset: file_lookup_offset + table,
-        shard_key_expiry: expiry.unwrap_or(u64::MAX),
-        materialized_bytes: files.materialized_bytes,
-        footer_offset: file_lookup_offset + table,
-        ..MDBShardFileFooter::default()
-    };
-    footer.widths();
-    footer
 }

@@ -1,6 +1,6 @@
-//! Writing a section, and gathering the table that finds its records.
+//! Writing the file section, and gathering the table that finds its records.
 
-ghost use Rattle.std.specs.Prelude.{◌≡◌, ◌+◌, ◌*◌, ◌^◌, ◌<◌, ◌≤◌, ◌++◌, [], OnOk, IfErr};
+ghost use Rattle.std.specs.Prelude.{◌≡◌, ◌+◌, ◌*◌, ◌^◌, ◌<◌, ◌≤◌, ◌++◌, [], length, OnOk, IfErr};
 ghost use Rattle.std.specs.Io.KnownBytes.{Appends};
 ghost use Rattle.xet_base.specs.Errors.{IsDeviceError};
 ghost use Rattle.xet_records.specs.FileRecord.{record_text, row_count, size_of_file, FitsItsHeader};
@@ -49,13 +49,24 @@ impl WrittenFiles {
             (self.new.materialized_bytes ≡ self.old.materialized_bytes + size_of_file file_info.now) }
         ensures causes { IfErr result IsDeviceError }
     {
-        let mut row = [0u8; 12];
-        let at = put_u64(&mut row, 0, file_info.metadata.file_hash.word0);
-        put_u32(&mut row, at, self.rows as u32);
-        self.table.extend_from_slice(&row)?;
+        let word = file_info.metadata.file_hash.word0;
+        append_start(&mut self.table, word, self.rows as u32)?;
         file_info.serialize(writer)?;
         self.rows += 1 + file_info.metadata.rows_after();
         self.materialized_bytes += file_info.file_size();
         Ok(())
     }
+}
+
+// Appends the row of a record to a table: the first word of its hash, and where it starts.
+pub(super) fn append_start(table: &mut Vec<u8>, word: u64, start: u32) -> Result<()>
+    ensures ok { OnOk result (table.new.items ≡ table.old.items ++ start_row (word, start)) }
+    ensures few { length table.new.items ≤ length table.old.items + 12 }
+    ensures causes { IfErr result IsDeviceError }
+{
+    let mut row = [0u8; 12];
+    let at = put_u64(&mut row, 0, word);
+    put_u32(&mut row, at, start);
+    table.extend_from_slice(&row)?;
+    Ok(())
 }

@@ -1,49 +1,50 @@
-use Rattle.std.proofs.Common.{◌++◌, map, sym, ap, ◌∙◌, subst}
-use Rattle.std.specs.FinMap.{values}
+use Rattle.std.proofs.Common.{◌++◌, flat_map, ap, ◌∙◌, subst}
+use Rattle.std.specs.Map.{values_of}
 use Rattle.std.specs.Io.KnownBytes.{Appends}
 use Rattle.std.proofs.KnownBytes.{Appends-trans}
-use Rattle.xet_base.specs.declared.merklehash.DataHash.{DataHash}
-use Rattle.xet_base.specs.Hash.{hash_cmp}
-use Rattle.xet_records.specs.declared.file_structs.MDBFileInfo.{MDBFileInfo}
-use Rattle.xet_records.specs.declared.xorb_structs.MDBXorbInfo.{MDBXorbInfo}
-use Rattle.xet_records.specs.XorbRow.{xorb_header_row}
-use Rattle.xet_shards.specs.Shard.{XorbMap}
-use Rattle.xet_shards.specs.Section.{file_section}
+use Rattle.xet_shards.specs.Shard.{AreFiles, AreXorbs}
+use Rattle.xet_shards.specs.Section.{file_section, xorb_section}
+use Rattle.xet_shards.specs.Tables.{place_row, chunk_table_bytes}
+use Rattle.xet_shards.specs.XorbTable.{shown_xorbs}
 use Rattle.xet_shards.specs.Layout.{header_text, footer_text, footer_value, layout_of, plain_form}
 use Rattle.xet_shards.proofs.Files.{widths_of_values}
-use Rattle.xet_shards.proofs.Shards.{shard_of_files}
-use Rattle.xet_shards.proofs.Layouts.{layout_of-files}
-use Rattle.xet_shards.proofs.Maps.{values-empty}
 use Rattle.xet_shards.proofs.shard_format.info.MDBShardInfo.serialize_from.Goals as goal
 
 pub returns-clause-text : goal.returns-clause-text
+unfolding layout_of chunk_table_bytes
 returns-clause-text g c =
     let contents = g.W.Write.contents in
-    let rs = map (λ (e : DataHash × MDBFileInfo). e.1) c.file_content.result.now.entries in
-    let files = ap (map (λ (e : DataHash × MDBFileInfo). e.1)) c.file_content.ensures.entries in
-    let xorbs = ap (λ (m : XorbMap). values m) c.requires ∙ values-empty MDBXorbInfo hash_cmp in
+    let rs = values_of c.file_content.result.now.entries in
+    let xs = values_of (shown_xorbs c.xorb_content.result.now.entries) in
     let header = ap header_text c.default-header.ensures in
-    let bookend = ap xorb_header_row c.bookend.ensures in
-    let written = c.in_ok-files.ensures.written in
-    let table = c.as_slice.ensures.value ∙ written.table in
-    let footer = ap footer_text (c.footer_of-metadata.ensures.value rs (widths_of_values _ c.file_content.ensures.files) written) in
-    let wrote = Appends-trans _ (contents c.write_bytes.new.writer) _ _ _
-    (Appends-trans _ (contents c.serialize-2.new.writer) _ _ _
+    let files = c.in_ok-files.ensures.written in
+    let xorbs = c.in_ok-xorbs.ensures.written in
+    let file_table = c.as_slice.ensures.value ∙ files.table in
+    let xorb_table = c.as_slice-2.ensures.value ∙ xorbs.table in
+    let footer = ap footer_text (c.footer_of-metadata.ensures.value rs xs (widths_of_values _ c.file_content.ensures.files) files xorbs) in
+    let wrote = Appends-trans _ (contents c.write_chunk_table.new.writer) _ _ _
+    (Appends-trans _ (contents c.write_bytes-2.new.writer) _ _ _
+    (Appends-trans _ (contents c.write_bytes.new.writer) _ _ _
+    (Appends-trans _ (contents c.write_xorb_section.new.writer) _ _ _
     (Appends-trans _ (contents c.write_file_section.new.writer) _ _ _
     (Appends-trans _ (contents c.serialize.new.writer) _ _ _ c.in_ok-serialize.ensures.text c.in_ok-files.ensures.text)
-    c.in_ok-serialize-2.ensures.text) c.in_ok-write_bytes.ensures) c.in_ok-serialize-3.ensures.text in
-    subst (Appends (contents c.args.writer.now) (contents c.serialize-3.new.writer))
-    ((λ i. (((header i ++ file_section rs) ++ bookend i) ++ table i) ++ footer i) ∙ sym (layout_of-files rs c.args.expiry)
-    ∙ (λ i. layout_of (files i) (sym xorbs i) (plain_form c.args.expiry))) wrote
+    c.in_ok-xorbs.ensures.text) c.in_ok-write_bytes.ensures) c.in_ok-write_bytes-2.ensures) c.in_ok-write_chunk_table.ensures.text) c.in_ok-serialize-2.ensures.text in
+    subst (Appends (contents c.args.writer.now) (contents c.serialize-2.new.writer))
+    ((λ i. (((((header i ++ file_section rs) ++ xorb_section xs) ++ file_table i) ++ xorb_table i) ++ flat_map place_row (xorbs.places i)) ++ footer i)
+    ∙ (λ i. layout_of (values_of (c.file_content.ensures.entries i)) (values_of (c.xorb_content.ensures.entries i)) (plain_form c.args.expiry))) wrote
 
 pub returns-clause-info : goal.returns-clause-info
 returns-clause-info g c =
-    let rs = map (λ (e : DataHash × MDBFileInfo). e.1) c.file_content.result.now.entries in
-    let files = ap (map (λ (e : DataHash × MDBFileInfo). e.1)) c.file_content.ensures.entries in
-    let xorbs = ap (λ (m : XorbMap). values m) c.requires ∙ values-empty MDBXorbInfo hash_cmp in
-    let footer = c.footer_of-metadata.ensures.value rs (widths_of_values _ c.file_content.ensures.files) c.in_ok-files.ensures.written
-    ∙ (λ i. footer_value (files i) (sym xorbs i) (plain_form c.args.expiry)) in
+    let rs = values_of c.file_content.result.now.entries in
+    let xs = values_of (shown_xorbs c.xorb_content.result.now.entries) in
+    let footer = c.footer_of-metadata.ensures.value rs xs (widths_of_values _ c.file_content.ensures.files) c.in_ok-files.ensures.written c.in_ok-xorbs.ensures.written
+    ∙ (λ i. footer_value (values_of (c.file_content.ensures.entries i)) (values_of (c.xorb_content.ensures.entries i)) (plain_form c.args.expiry)) in
     λ i. record { header = c.default-header.ensures i; metadata = footer i }
 
 pub returns-clause-shard : goal.returns-clause-shard
-returns-clause-shard g c = shard_of_files _ c.file_content.result.now.entries c.file_content.ensures.entries c.file_content.ensures.files c.file_content.ensures.rows c.requires
+returns-clause-shard g c = record {
+  files = subst AreFiles c.file_content.ensures.entries c.file_content.ensures.files;
+  file_rows = c.file_content.ensures.rows;
+  xorbs = subst AreXorbs c.xorb_content.ensures.entries c.xorb_content.ensures.xorbs;
+  xorb_rows = c.xorb_content.ensures.rows;
+}

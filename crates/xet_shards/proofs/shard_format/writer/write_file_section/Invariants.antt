@@ -4,7 +4,7 @@ use Rattle.std.specs.Map.Iter.{deref}
 use Rattle.std.specs.Io.KnownBytes.{Appends}
 use Rattle.xet_records.specs.FileRecord.{record_text}
 use Rattle.xet_shards.specs.Written.{HasWritten}
-use Rattle.xet_shards.proofs.shard_format.info.write_file_section.Given as goal
+use Rattle.xet_shards.proofs.shard_format.writer.write_file_section.Given as goal
 
 abbrev pub invariant-loop-file_info : goal.invariant-loop-file_info
 invariant-loop-file_info g l = record {

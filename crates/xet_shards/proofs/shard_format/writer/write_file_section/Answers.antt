@@ -10,7 +10,7 @@ use Rattle.xet_shards.specs.Written.{HasWritten}
 use Rattle.xet_shards.proofs.Files.{well_formed_values}
 use Rattle.xet_shards.proofs.Walks.{value_turn, value_turned, value_end, values_push, flat_map-push, All-middle}
 use Rattle.xet_shards.proofs.Written.{written_nothing, written_more}
-use Rattle.xet_shards.proofs.shard_format.info.write_file_section.Goals as goal
+use Rattle.xet_shards.proofs.shard_format.writer.write_file_section.Goals as goal
 
 pub loop-file_info-init : goal.loop-file_info-init
 loop-file_info-init g c = record {

@@ -1,0 +1,140 @@
+//! The parts of a shard as they are written: sections, chunk table and footer.
+
+ghost use Rattle.std.specs.Prelude.{◌≡◌, ◌≤◌, None, List, All, OnOk, IfOk, IfErr, flat_map};
+ghost use Rattle.std.specs.Io.KnownBytes.{Appends};
+ghost use Rattle.std.specs.BTreeMap.{values};
+ghost use Rattle.std.specs.Map.{values_of};
+ghost use Rattle.xet_base.specs.Errors.{IsDeviceError};
+ghost use Rattle.xet_records.specs.declared.file_structs.MDBFileInfo.{MDBFileInfo};
+ghost use Rattle.xet_records.specs.declared.xorb_structs.MDBXorbInfo.{MDBXorbInfo};
+ghost use Rattle.xet_records.specs.FileRecord.{FitsRecord};
+ghost use Rattle.xet_shards.specs.Shard.{AreFiles, AreXorbs, total_rows, total_xorb_rows};
+ghost use Rattle.xet_shards.specs.Section.{file_section, xorb_section};
+ghost use Rattle.xet_shards.specs.Tables.{place_row};
+ghost use Rattle.xet_shards.specs.Written.{HasWritten, HasWrittenXorbs};
+ghost use Rattle.xet_shards.specs.XorbTable.{shown_xorbs};
+ghost use Rattle.xet_shards.specs.Layout.{layout, footer_value, plain_form};
+ghost use Rattle.xet_shards.specs.Ends.{FitsFooter};
+
+use super::footer::MDBShardFileFooter;
+use super::info::MDBShardInfo;
+use super::section_writer::WrittenFiles;
+use super::xorb_writer::{ChunkPlace, WrittenXorbs};
+use crate::shard_in_memory::MDBInMemoryShard;
+use std::alloc::Global;
+use std::collections::{BTreeMap, BTreeSet};
+use std::io::Write;
+use std::rc::Rc;
+use xet_base::error::{CoreError, Result};
+use xet_base::merklehash::MerkleHash;
+use xet_base::serialization_utils::write_bytes;
+use xet_records::file_structs::{FileDataSequenceHeader, MDBFileInfo};
+use xet_records::xorb_structs::{MDBXorbInfo, XorbChunkSequenceHeader};
+
+impl MDBInMemoryShard {
+    /// The bytes of the shard, without expiry: `shard_file_size` of them. `OutOfMemory` where they find none.
+    pub fn to_bytes(&self, alloc: Global) -> Result<Vec<u8>>
+        ensures ok { IfOk result (λ bytes. bytes.items ≡ layout self.now.content None) }
+        ensures causes { IfErr result (λ e. e ≡ CoreError.OutOfMemory) }
+    {
+        let mut bytes = Vec::new(alloc);
+        match MDBShardInfo::serialize_from(alloc, &mut bytes, self, None) {
+            Ok(_) => Ok(bytes),
+            // A vector fails for want of memory alone.
+            Err(_) => Err(CoreError::OutOfMemory),
+        }
+    }
+}
+
+/// Writes the file section and gathers its table.
+#[tactic(auto, unfolding(crate::specs::Section::file_section))]
+pub fn write_file_section<W: Write>(
+    alloc: Global,
+    writer: &mut W,
+    files: &BTreeMap<MerkleHash, MDBFileInfo>,
+) -> Result<WrittenFiles>
+    requires files { AreFiles files.now.entries }
+    requires rows { total_rows (values files.now) ≤ 4294967295 }
+    ensures text { OnOk result
+        (Appends (W.contents writer.old) (W.contents writer.new) (file_section (values files.now))) }
+    ensures written { IfOk result (λ written. HasWritten written (values files.now)) }
+    ensures causes { IfErr result IsDeviceError }
+{
+    let mut written = WrittenFiles::new(alloc);
+    for file_info in files.values() {
+        written.write(writer, file_info)?;
+    }
+    FileDataSequenceHeader::bookend().serialize(writer)?;
+    Ok(written)
+}
+
+/// Writes the xorb section and gathers its tables.
+#[tactic(auto, unfolding(crate::specs::Section::xorb_section))]
+pub fn write_xorb_section<W: Write>(
+    alloc: Global,
+    writer: &mut W,
+    xorbs: &BTreeMap<MerkleHash, Rc<MDBXorbInfo>>,
+) -> Result<WrittenXorbs>
+    requires xorbs { AreXorbs (shown_xorbs xorbs.now.entries) }
+    requires rows { total_xorb_rows (values_of (shown_xorbs xorbs.now.entries)) ≤ 4294967295 }
+    ensures text { OnOk result
+        (Appends (W.contents writer.old) (W.contents writer.new) (xorb_section (values_of (shown_xorbs xorbs.now.entries)))) }
+    ensures written { IfOk result (λ written. HasWrittenXorbs written (values_of (shown_xorbs xorbs.now.entries))) }
+    ensures causes { IfErr result IsDeviceError }
+{
+    let mut written = WrittenXorbs::new(alloc);
+    for xorb in xorbs.values() {
+        written.write(writer, xorb)?;
+    }
+    XorbChunkSequenceHeader::bookend().serialize(writer)?;
+    Ok(written)
+}
+
+/// Writes the rows of the chunk table, in ascending order.
+pub fn write_chunk_table<W: Write>(writer: &mut W, places: &BTreeSet<ChunkPlace>) -> Result<()>
+    ensures text { OnOk result
+        (Appends (W.contents writer.old) (W.contents writer.new) (flat_map place_row places.now.keys)) }
+    ensures causes { IfErr result IsDeviceError }
+{
+    for chunk_place in places {
+        write_bytes(writer, &chunk_place.to_bytes())?;
+    }
+    Ok(())
+}
+
+/// The footer of a shard with these files and xorbs.
+pub fn footer_of(
+    files: &WrittenFiles,
+    xorbs: &WrittenXorbs,
+    expiry: Option<u64>,
+) -> MDBShardFileFooter
+    ensures widths { FitsFooter result }
+    ensures value { (rs : List MDBFileInfo) → (xs : List MDBXorbInfo) → All FitsRecord rs → HasWritten files.now rs → HasWrittenXorbs xorbs.now xs
+        → result ≡ footer_value rs xs (plain_form expiry) }
+{
+    let file_table = files.table.len() as u64;
+    let xorb_table = xorbs.table.len() as u64;
+    let chunks = xorbs.rows - xorb_table / 12;
+    let xorb_info_offset = 48 + 48 * files.rows + 48;
+    let file_lookup_offset = xorb_info_offset + 48 * xorbs.rows + 48;
+    let xorb_lookup_offset = file_lookup_offset + file_table;
+    let chunk_lookup_offset = xorb_lookup_offset + xorb_table;
+    let footer = MDBShardFileFooter {
+        file_info_offset: 48,
+        xorb_info_offset,
+        file_lookup_offset,
+        file_lookup_num_entry: file_table / 12,
+        xorb_lookup_offset,
+        xorb_lookup_num_entry: xorb_table / 12,
+        chunk_lookup_offset,
+        chunk_lookup_num_entry: chunks,
+        shard_key_expiry: expiry.unwrap_or(u64::MAX),
+        stored_bytes_on_disk: xorbs.stored_bytes_on_disk,
+        materialized_bytes: files.materialized_bytes,
+        stored_bytes: xorbs.stored_bytes,
+        footer_offset: chunk_lookup_offset + 16 * chunks,
+        ..MDBShardFileFooter::default()
+    };
+    footer.widths();
+    footer
+}
