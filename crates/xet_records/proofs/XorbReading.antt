@@ -1,5 +1,5 @@
 -- What a header tells of the bytes that begin with it, and that bytes begin with the text of one xorb record at most.
-use Rattle.std.proofs.Common.{◌≡◌, ◌≢◌, inl, inr, ℕ, ◌+◌, ◌*◌, ◌≤◌, List, [], ◌∷◌, ◌++◌, length, flat_map, Option, None, Some, IfSome, refl, sym, ap, ◌∙◌, subst, arith}
+use Rattle.std.proofs.Common.{◌≡◌, ◌≢◌, inl, inr, ℕ, ◌*◌, ◌≤◌, List, ◌++◌, length, flat_map, Option, None, Some, IfSome, sym, ap, ◌∙◌, subst, arith}
 use Rattle.std.specs.Prelude.{MatchOption, All}
 use Rattle.std.proofs.lemmas.List.{length-append, append_assoc, map-id}
 use Rattle.std.specs.Io.KnownBytes.{Consumes}
@@ -36,15 +36,6 @@ pub xorb_header_row-front : (g h : XorbChunkSequenceHeader) (x y : List ℕ) →
 xorb_header_row-front g h x y g_fits h_fits same =
     let parts = same_parts (xorb_header_row g) (xorb_header_row h) x y (length-xorb_header_row g ∙ sym (length-xorb_header_row h)) same in
     (xorb_header_row-injective g h g_fits h_fits parts.0, parts.1)
-
--- each record has 48 bytes a row
-pub length-chunk_rows : (cs : List XorbChunkSequenceEntry) → length (flat_map chunk_row cs) ≡ 48 * length cs
-length-chunk_rows [] = refl
-length-chunk_rows (c ∷ cs) = length-append (chunk_row c) (flat_map chunk_row cs) ∙ omega (arith, length-chunk_row c, length-chunk_rows cs)
-
-pub length-xorb_text : (r : MDBXorbInfo) → length (xorb_text r) ≡ 48 * (1 + length r.chunks)
-unfolding xorb_text
-length-xorb_text r = length-append (xorb_header_row r.metadata) (flat_map chunk_row r.chunks) ∙ omega (arith, length-xorb_header_row r.metadata, length-chunk_rows r.chunks)
 
 -- bytes that begin with the texts of two records begin with those of one
 pub xorb_front : (r s : MDBXorbInfo) (x y : List ℕ) → IsStoredXorb r → IsStoredXorb s → xorb_text r ++ x ≡ xorb_text s ++ y → (r ≡ s) × (x ≡ y)

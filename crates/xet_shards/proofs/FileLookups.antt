@@ -25,9 +25,7 @@ use Rattle.xet_records.specs.declared.file_structs.MDBFileInfo.{MDBFileInfo}
 use Rattle.xet_records.specs.declared.xorb_structs.MDBXorbInfo.{MDBXorbInfo}
 use Rattle.xet_records.specs.FileRow.{header_row, FitsHeader}
 use Rattle.xet_records.specs.FileRecord.{record_text, rows_text, rows_after, row_count, file_bookend, handed_out, IsStored, FitsRecord}
-use Rattle.xet_records.specs.XorbRow.{xorb_header_row, chunk_row}
-use Rattle.xet_records.specs.XorbRecord.{xorb_text, xorb_row_count, xorb_bookend}
-use Rattle.xet_records.proofs.Lengths.{length-header_row, length-xorb_header_row, length-chunk_row}
+use Rattle.xet_records.proofs.Lengths.{length-header_row}
 use Rattle.xet_records.proofs.Record.{header_row-front, row_count-whole}
 use Rattle.xet_records.proofs.Unique.{record_front}
 use Rattle.xet_shards.specs.Shard.{file_hash_of, total_rows, total_xorb_rows}
@@ -37,6 +35,7 @@ use Rattle.xet_shards.specs.Layout.{Form, if_in, header_text, header_value, foot
 use Rattle.xet_shards.specs.SectionReading.{MayTake}
 use Rattle.xet_shards.specs.Lookup.{sharing, file_table, IsNumber, row_at, RecordAt, InfoRefusal, LooksUp, LookupAnswer, LookupRefused, Finding, FindingNot, WithinBounds, SearchWithinBounds, IndexFinds, IndexRefused, AreStarts}
 use Rattle.xet_shards.proofs.Files.{length-le-rows}
+use Rattle.xet_shards.proofs.XorbLayouts.{length-xorb_section}
 use Rattle.xet_shards.proofs.Layouts.{length-header_text, length-file_section, length-texts}
 use Rattle.xet_shards.proofs.Tables.{length-file_starts}
 use Rattle.xet_shards.proofs.Readback.{after_section, section_at_48}
@@ -55,29 +54,6 @@ starts_at front (r ∷ files) zero d e within = ap (λ rs. ((file_hash_of r).wor
 starts_at front (r ∷ files) (suc i) d e within =
     starts_at (front ++ r ∷ []) files i d e (omega (arith, within))
     ∙ ap (λ rs. ((file_hash_of (get_or files i d)).word0, total_rows rs)) (append_assoc front (r ∷ []) (take i files))
-
-length-chunk_rows : (cs : List _) → length (flat_map chunk_row cs) ≡ 48 * length cs
-length-chunk_rows [] = refl
-length-chunk_rows (c ∷ cs) = length-append (chunk_row c) (flat_map chunk_row cs) ∙ omega (arith, length-chunk_row c, length-chunk_rows cs)
-
-length-xorb_texts : (xorbs : List MDBXorbInfo) → length (flat_map xorb_text xorbs) ≡ 48 * total_xorb_rows xorbs
-unfolding xorb_text
-length-xorb_texts [] = refl
-length-xorb_texts (x ∷ xorbs) =
-    length-append (xorb_header_row x.metadata ++ flat_map chunk_row x.chunks) (flat_map xorb_text xorbs)
-    ∙ omega (
-      arith,
-      length-append (xorb_header_row x.metadata) (flat_map chunk_row x.chunks),
-      length-xorb_header_row x.metadata,
-      length-chunk_rows x.chunks,
-      length-xorb_texts xorbs,
-      sum_by-cons xorb_row_count x xorbs,
-    )
-
-pub length-xorb_section : (xorbs : List MDBXorbInfo) → length (xorb_section xorbs) ≡ 48 * total_xorb_rows xorbs + 48
-unfolding xorb_section
-length-xorb_section xorbs =
-    length-append (flat_map xorb_text xorbs) (xorb_header_row xorb_bookend) ∙ omega (arith, length-xorb_texts xorbs, length-xorb_header_row xorb_bookend)
 
 length-text_rows : (r : MDBFileInfo) → length (record_text r) ≡ 48 + length (rows_text r)
 unfolding record_text
