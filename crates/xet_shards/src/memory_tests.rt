@@ -1,4 +1,6 @@
 //! Shards in memory: worked rows, the bytes that they are written as, and what a refused growth leaves.
+//!
+//! The tests hold no shard themselves: small functions make one, ask it and drop it.
 
 use crate::shard_format::{MDBShardFileFooter, MDBShardInfo};
 use crate::shard_in_memory::MDBInMemoryShard;
@@ -14,6 +16,8 @@ use xet_records::file_structs::{
 };
 use xet_records::rows::Rows;
 use xet_records::xorb_structs::{MDBXorbInfo, XorbChunkSequenceEntry, XorbChunkSequenceHeader};
+
+type Shard = Result<MDBInMemoryShard>;
 
 /// A xorb of one chunk of 5 bytes.
 fn xorb(alloc: Global, xorb_number: u64, chunk_number: u64) -> Result<MDBXorbInfo> {
@@ -37,103 +41,179 @@ fn xorb_of_three(alloc: Global) -> Result<MDBXorbInfo> {
     })
 }
 
-/// Xorb 10 with chunk 21, and this file.
-fn shard_with(alloc: Global, file_info: MDBFileInfo) -> Result<MDBInMemoryShard> {
-    let mut shard = MDBInMemoryShard::new(alloc);
-    shard.add_xorb_block(alloc, xorb(alloc, 10, 21)?)?;
-    shard.add_file_reconstruction_info(alloc, file_info)?;
+/// The shard with this xorb besides.
+fn with_xorb(alloc: Global, shard: Shard, xorb: Result<MDBXorbInfo>) -> Shard {
+    let mut shard = shard?;
+    shard.add_xorb_block(alloc, xorb?)?;
     Ok(shard)
+}
+
+/// The shard with this file besides.
+fn with_file(alloc: Global, shard: Shard, file: Result<MDBFileInfo>) -> Shard {
+    let mut shard = shard?;
+    shard.add_file_reconstruction_info(alloc, file?)?;
+    Ok(shard)
+}
+
+fn empty(alloc: Global) -> Shard {
+    Ok(MDBInMemoryShard::new(alloc))
+}
+
+/// Xorb 10 with chunk 21, and this file.
+fn p_with(alloc: Global, file: Result<MDBFileInfo>) -> Shard {
+    with_file(
+        alloc,
+        with_xorb(alloc, empty(alloc), xorb(alloc, 10, 21)),
+        file,
+    )
 }
 
 /// Xorb 10 with chunk 21, and file 100.
-fn p(alloc: Global) -> Result<MDBInMemoryShard> {
-    shard_with(alloc, file(alloc, 100, 200)?)
+fn p(alloc: Global) -> Shard {
+    p_with(alloc, file(alloc, 100, 200))
 }
 
 /// Besides, xorb 11 with chunk 22, and file 101.
-fn q(alloc: Global) -> Result<MDBInMemoryShard> {
-    let mut shard = p(alloc)?;
-    shard.add_xorb_block(alloc, xorb(alloc, 11, 22)?)?;
-    shard.add_file_reconstruction_info(alloc, file(alloc, 101, 201)?)?;
-    Ok(shard)
+fn q(alloc: Global) -> Shard {
+    let more = with_xorb(alloc, p(alloc), xorb(alloc, 11, 22));
+    with_file(alloc, more, file(alloc, 101, 201))
 }
 
-/// The segment of these chunks, and how many of the hashes they match.
+/// Xorb 10 with three chunks, alone.
+fn three(alloc: Global) -> Shard {
+    with_xorb(alloc, empty(alloc), xorb_of_three(alloc))
+}
+
+fn union(alloc: Global, first: Shard, second: Shard) -> Shard {
+    first?.union(alloc, &second?)
+}
+
+fn difference(alloc: Global, first: Shard, second: Shard) -> Shard {
+    first?.difference(alloc, &second?)
+}
+
+fn copy(alloc: Global, shard: Shard) -> Shard {
+    shard?.try_clone(alloc)
+}
+
+fn size(shard: Shard) -> Option<u64> {
+    Some(shard.ok()?.shard_file_size())
+}
+
+/// The numbers of xorbs and files.
+fn counts(shard: Shard) -> Option<(usize, usize)> {
+    let shard = shard.ok()?;
+    Some((shard.num_xorb_entries(), shard.num_file_entries()))
+}
+
+/// The bytes of xorbs, on disk, and of files.
+fn sums(shard: Shard) -> Option<(u64, u64, u64)> {
+    let shard = shard.ok()?;
+    let on_disk = shard.stored_bytes_on_disk();
+    Some((shard.stored_bytes(), on_disk, shard.materialized_bytes()))
+}
+
+/// What the query for these chunks answers, if there is a shard.
+fn query(shard: Shard, hashes: &[MerkleHash]) -> Option<Option<(usize, FileDataSequenceEntry)>> {
+    Some(shard.ok()?.chunk_hash_dedup_query(hashes))
+}
+
+/// Such an answer: so many hashes, and the segment of their chunks.
 fn run(
     xorb_number: u64,
     bytes: u32,
     start: u32,
     end: u32,
     length: usize,
-) -> Option<(usize, FileDataSequenceEntry)> {
-    Some((
-        length,
-        FileDataSequenceEntry::new(small(xorb_number), bytes, start, end),
-    ))
+) -> Option<Option<(usize, FileDataSequenceEntry)>> {
+    let segment = FileDataSequenceEntry::new(small(xorb_number), bytes, start, end);
+    Some(Some((length, segment)))
 }
 
-/// Whether the shard has xorb and file of `p`, and of xorb 10 this chunk alone.
+/// Whether the shard answers this record for its hash.
+fn has_file(alloc: Global, shard: Shard, file: Result<MDBFileInfo>) -> Option<bool> {
+    let file = file.ok()?;
+    let found = shard
+        .ok()?
+        .get_file_reconstruction_info(alloc, &file.metadata.file_hash);
+    Some(found.ok()? == Some(file))
+}
+
+fn is_refused(shard: Shard) -> bool {
+    matches!(shard, Err(CoreError::InvalidArguments))
+}
+
+/// Whether a shard has the size of `p`, and of xorb 10 this chunk alone.
 fn has_chunk(shard: &MDBInMemoryShard, chunk_number: u64) -> bool {
     shard.shard_file_size() == 576
-        && shard.chunk_hash_dedup_query(&[small(chunk_number)]) == run(10, 5, 0, 1, 1)
+        && Some(shard.chunk_hash_dedup_query(&[small(chunk_number)])) == run(10, 5, 0, 1, 1)
 }
 
 #[test]
 fn runs_of_chunks_are_found(rt: HostRuntime) -> std::result::Result<(), Fail> {
     let alloc = rt.alloc();
-    let mut shard = MDBInMemoryShard::new(alloc);
-    shard.add_xorb_block(alloc, xorb_of_three(alloc)?)?;
     assert_eq!(rt;
-        shard.chunk_hash_dedup_query(&[small(22), small(23), small(99)]),
+        query(three(alloc), &[small(22), small(23), small(99)]),
         run(10, 13, 1, 3, 2)
     );
     assert_eq!(rt;
-        shard.chunk_hash_dedup_query(&[small(23), small(24)]),
+        query(three(alloc), &[small(23), small(24)]),
         run(10, 7, 2, 3, 1)
     );
     assert_eq!(rt;
-        shard.chunk_hash_dedup_query(&[small(21), small(22), small(23), small(21)]),
+        query(three(alloc), &[small(21), small(22), small(23), small(21)]),
         run(10, 18, 0, 3, 3)
     );
-    assert_eq!(rt; shard.chunk_hash_dedup_query(&[small(99)]), None);
-    assert_eq!(rt; shard.chunk_hash_dedup_query(&[]), None);
-    assert_eq!(rt; shard.chunk_hash_lookup().len(), 3);
+    assert_eq!(rt; query(three(alloc), &[small(99)]), Some(None));
+    assert_eq!(rt; query(three(alloc), &[]), Some(None));
     Ok(())
 }
 
 #[test]
 fn sizes_and_sums_are_those_of_the_records(rt: HostRuntime) -> std::result::Result<(), Fail> {
     let alloc = rt.alloc();
-    let mut shard = q(alloc)?;
-    assert_eq!(rt; shard.shard_file_size(), 808);
-    assert_eq!(rt;
-        (shard.num_xorb_entries(), shard.num_file_entries()),
-        (2, 2)
-    );
-    assert_eq!(rt; shard.stored_bytes(), 10);
-    assert_eq!(rt; shard.stored_bytes_on_disk(), 0);
-    assert_eq!(rt; shard.materialized_bytes(), 10);
-    assert_eq!(rt; shard.xorb_content().len(), 2);
+    assert_eq!(rt; size(p(alloc)), Some(576));
+    assert_eq!(rt; size(q(alloc)), Some(808));
+    assert_eq!(rt; counts(q(alloc)), Some((2, 2)));
+    assert_eq!(rt; sums(q(alloc)), Some((10, 0, 10)));
+    assert_eq!(rt; sums(three(alloc)), Some((18, 0, 0)));
+    Ok(())
+}
+
+/// The size after it is counted anew, and how many chunk hashes the lookup has.
+fn counted_anew(shard: Shard) -> Option<(u64, usize)> {
+    let mut shard = shard.ok()?;
     shard.recalculate_shard_size();
-    assert_eq!(rt; shard.shard_file_size(), 808);
+    Some((shard.shard_file_size(), shard.chunk_hash_lookup().len()))
+}
+
+#[test]
+fn the_size_is_right_already(rt: HostRuntime) -> std::result::Result<(), Fail> {
+    let alloc = rt.alloc();
+    assert_eq!(rt; counted_anew(q(alloc)), Some((808, 2)));
+    // Four rows and a bookend of xorbs, a row of the xorb table and three of the chunk table.
+    assert_eq!(rt;
+        counted_anew(three(alloc)),
+        Some((596, 3))
+    );
     Ok(())
 }
 
 #[test]
 fn the_union_has_the_records_of_both(rt: HostRuntime) -> std::result::Result<(), Fail> {
     let alloc = rt.alloc();
-    let joined = p(alloc)?.union(alloc, &q(alloc)?)?;
-    assert_eq!(rt; joined.shard_file_size(), 808);
+    let joined = || union(alloc, p(alloc), q(alloc));
+    assert_eq!(rt; size(joined()), Some(808));
     assert_eq!(rt;
-        joined.get_file_reconstruction_info(alloc, &small(101))?,
-        Some(file(alloc, 101, 201)?)
+        has_file(alloc, joined(), file(alloc, 101, 201)),
+        Some(true)
     );
     assert_eq!(rt;
-        joined.get_file_reconstruction_info(alloc, &small(102))?,
-        None
+        has_file(alloc, joined(), file(alloc, 102, 201)),
+        Some(false)
     );
     assert_eq!(rt;
-        joined.chunk_hash_dedup_query(&[small(22), small(21)]),
+        query(joined(), &[small(22), small(21)]),
         run(11, 5, 0, 1, 1)
     );
     Ok(())
@@ -142,206 +222,222 @@ fn the_union_has_the_records_of_both(rt: HostRuntime) -> std::result::Result<(),
 #[test]
 fn the_difference_is_what_the_second_has_more(rt: HostRuntime) -> std::result::Result<(), Fail> {
     let alloc = rt.alloc();
-    let (first, second) = (p(alloc)?, q(alloc)?);
-    let more = first.difference(alloc, &second)?;
-    assert_eq!(rt; more.shard_file_size(), 576);
-    assert_eq!(rt;
-        more.chunk_hash_dedup_query(&[small(22)]),
-        run(11, 5, 0, 1, 1)
-    );
-    assert_eq!(rt; more.chunk_hash_dedup_query(&[small(21)]), None);
-    assert_eq!(rt; more.file_content().get(&small(100)).is_some(), false);
-    let nothing = second.difference(alloc, &first)?;
-    assert_eq!(rt; nothing.shard_file_size(), 344);
-    assert!(rt; nothing.is_empty());
-    assert!(rt; !more.is_empty());
+    let more = || difference(alloc, p(alloc), q(alloc));
+    assert_eq!(rt; size(more()), Some(576));
+    assert_eq!(rt; query(more(), &[small(22)]), run(11, 5, 0, 1, 1));
+    assert_eq!(rt; query(more(), &[small(21)]), Some(None));
+    assert_eq!(rt; has_file(alloc, more(), file(alloc, 100, 200)), Some(false));
+    let nothing = difference(alloc, q(alloc), p(alloc));
+    assert_eq!(rt; nothing.ok().map(|shard| shard.is_empty()), Some(true));
+    assert_eq!(rt; more().ok().map(|shard| shard.is_empty()), Some(false));
     Ok(())
 }
 
 #[test]
 fn a_copy_has_the_same_records(rt: HostRuntime) -> std::result::Result<(), Fail> {
     let alloc = rt.alloc();
-    let shard = q(alloc)?;
-    let copy = shard.try_clone(alloc)?;
-    assert_eq!(rt; copy.file_content(), shard.file_content());
-    assert_eq!(rt; copy.shard_file_size(), 808);
+    assert_eq!(rt; size(copy(alloc, q(alloc))), Some(808));
     assert_eq!(rt;
-        copy.chunk_hash_dedup_query(&[small(21)]),
+        query(copy(alloc, q(alloc)), &[small(21)]),
         run(10, 5, 0, 1, 1)
+    );
+    assert_eq!(rt;
+        has_file(alloc, copy(alloc, q(alloc)), file(alloc, 101, 201)),
+        Some(true)
     );
     Ok(())
 }
 
-/// File 100 with verification of its one segment.
-fn verified(alloc: Global) -> Result<MDBFileInfo> {
+/// File 100 with the verification of its segment, with its SHA-256, or with both.
+fn file_with(alloc: Global, verified: bool, described: bool) -> Result<MDBFileInfo> {
     let mut info = file(alloc, 100, 200)?;
-    info.metadata = FileDataSequenceHeader::new(small(100), 1, true, false);
-    info.verification
-        .push(FileVerificationEntry::new(small(365)))?;
-    Ok(info)
-}
-
-/// File 100 with its SHA-256.
-fn described(alloc: Global) -> Result<MDBFileInfo> {
-    let mut info = file(alloc, 100, 200)?;
-    info.metadata = FileDataSequenceHeader::new(small(100), 1, false, true);
-    info.metadata_ext = Some(FileMetadataExt::new(small(9364)));
+    info.metadata = FileDataSequenceHeader::new(small(100), 1, verified, described);
+    if verified {
+        info.verification
+            .push(FileVerificationEntry::new(small(365)))?;
+    }
+    if described {
+        info.metadata_ext = Some(FileMetadataExt::new(small(9364)));
+    }
     Ok(info)
 }
 
 #[test]
 fn either_order_of_union_has_both_parts(rt: HostRuntime) -> std::result::Result<(), Fail> {
     let alloc = rt.alloc();
-    let first = shard_with(alloc, verified(alloc)?)?;
-    let second = shard_with(alloc, described(alloc)?)?;
-    let joined = first.union(alloc, &second)?;
-    let turned = second.union(alloc, &first)?;
-    let Some(info) = joined.get_file_reconstruction_info(alloc, &small(100))? else {
-        return Err(CoreError::FileNotFound(small(100)).into());
-    };
-    assert_eq!(rt; info.metadata.file_flags, 3221225472);
-    assert_eq!(rt; info.verification, verified(alloc)?.verification);
-    assert_eq!(rt; info.metadata_ext, described(alloc)?.metadata_ext);
+    let verified = || p_with(alloc, file_with(alloc, true, false));
+    let described = || p_with(alloc, file_with(alloc, false, true));
+    let flags = file_with(alloc, true, true)
+        .ok()
+        .map(|info| info.metadata.file_flags);
+    assert_eq!(rt; flags, Some(3221225472));
+    let joined = union(alloc, verified(), described());
     assert_eq!(rt;
-        turned.get_file_reconstruction_info(alloc, &small(100))?,
-        Some(info)
+        has_file(alloc, joined, file_with(alloc, true, true)),
+        Some(true)
     );
-    // 672 bytes: two rows more than the 576 of either without its part.
+    let turned = union(alloc, described(), verified());
     assert_eq!(rt;
-        (joined.shard_file_size(), turned.shard_file_size()),
-        (672, 672)
+        has_file(alloc, turned, file_with(alloc, true, true)),
+        Some(true)
     );
+    // Two rows more than the 576 bytes without these parts.
+    assert_eq!(rt; size(union(alloc, verified(), described())), Some(672));
     Ok(())
+}
+
+/// File 100 with two segments.
+fn longer_file(alloc: Global) -> Result<MDBFileInfo> {
+    let mut info = file(alloc, 100, 200)?;
+    info.segments
+        .push(FileDataSequenceEntry::new(small(201), 5, 0, 5))?;
+    info.metadata.num_entries = 2;
+    Ok(info)
 }
 
 #[test]
 fn files_of_other_counts_are_not_united(rt: HostRuntime) -> std::result::Result<(), Fail> {
     let alloc = rt.alloc();
-    let mut longer = file(alloc, 100, 200)?;
-    longer
-        .segments
-        .push(FileDataSequenceEntry::new(small(201), 5, 0, 5))?;
-    longer.metadata.num_entries = 2;
-    let (first, second) = (p(alloc)?, shard_with(alloc, longer)?);
-    assert_eq!(rt;
-        first.union(alloc, &second).err(),
-        Some(CoreError::InvalidArguments)
-    );
-    assert_eq!(rt;
-        second.union(alloc, &first).err(),
-        Some(CoreError::InvalidArguments)
-    );
+    let longer = || p_with(alloc, longer_file(alloc));
+    assert!(rt; is_refused(union(alloc, p(alloc), longer())));
+    assert!(rt; is_refused(union(alloc, longer(), p(alloc))));
+    assert!(rt; union(alloc, longer(), longer()).is_ok());
     Ok(())
+}
+
+/// Whether the file is refused, and the shard as before.
+fn file_is_refused(alloc: Global, file: Result<MDBFileInfo>) -> Option<bool> {
+    let mut shard = p(alloc).ok()?;
+    let added = shard.add_file_reconstruction_info(alloc, file.ok()?);
+    Some(added == Err(CoreError::InvalidArguments) && has_chunk(&shard, 21))
+}
+
+/// Whether the xorb is refused, and the shard as before.
+fn xorb_is_refused(alloc: Global, xorb: Result<MDBXorbInfo>) -> Option<bool> {
+    let mut shard = p(alloc).ok()?;
+    let added = shard.add_xorb_block(alloc, xorb.ok()?);
+    Some(added == Err(CoreError::InvalidArguments) && has_chunk(&shard, 21))
+}
+
+fn nameless_file(alloc: Global) -> Result<MDBFileInfo> {
+    let mut info = file(alloc, 100, 200)?;
+    info.metadata.file_hash = MerkleHash::from([u64::MAX; 4]);
+    Ok(info)
+}
+
+fn nameless_xorb(alloc: Global) -> Result<MDBXorbInfo> {
+    let mut info = xorb(alloc, 10, 22)?;
+    info.metadata.xorb_hash = MerkleHash::from([u64::MAX; 4]);
+    Ok(info)
+}
+
+fn xorb_with_other_count(alloc: Global) -> Result<MDBXorbInfo> {
+    let mut info = xorb(alloc, 10, 22)?;
+    info.metadata.num_entries = 2;
+    Ok(info)
+}
+
+/// Its chunks have 18 bytes and 4294967295 more.
+fn xorb_of_many_bytes(alloc: Global) -> Result<MDBXorbInfo> {
+    let mut info = xorb_of_three(alloc)?;
+    info.chunks
+        .push(XorbChunkSequenceEntry::new(small(24), u32::MAX, 18))?;
+    info.metadata.num_entries = 4;
+    Ok(info)
 }
 
 #[test]
 fn ill_formed_records_are_refused(rt: HostRuntime) -> std::result::Result<(), Fail> {
     let alloc = rt.alloc();
-    let mut shard = p(alloc)?;
-    let mut nameless = file(alloc, 100, 200)?;
-    nameless.metadata.file_hash = MerkleHash::from([u64::MAX; 4]);
+    assert_eq!(rt; file_is_refused(alloc, nameless_file(alloc)), Some(true));
+    assert_eq!(rt; xorb_is_refused(alloc, nameless_xorb(alloc)), Some(true));
     assert_eq!(rt;
-        shard.add_file_reconstruction_info(alloc, nameless),
-        Err(CoreError::InvalidArguments)
+        xorb_is_refused(alloc, xorb_with_other_count(alloc)),
+        Some(true)
     );
-    let mut nameless = xorb(alloc, 10, 22)?;
-    nameless.metadata.xorb_hash = MerkleHash::from([u64::MAX; 4]);
     assert_eq!(rt;
-        shard.add_xorb_block(alloc, nameless),
-        Err(CoreError::InvalidArguments)
+        xorb_is_refused(alloc, xorb_of_many_bytes(alloc)),
+        Some(true)
     );
-    let mut fewer = xorb(alloc, 10, 22)?;
-    fewer.metadata.num_entries = 2;
-    assert_eq!(rt;
-        shard.add_xorb_block(alloc, fewer),
-        Err(CoreError::InvalidArguments)
-    );
-    let mut larger = xorb_of_three(alloc)?;
-    larger
-        .chunks
-        .push(XorbChunkSequenceEntry::new(small(24), u32::MAX, 18))?;
-    larger.metadata.num_entries = 4;
-    assert_eq!(rt;
-        shard.add_xorb_block(alloc, larger),
-        Err(CoreError::InvalidArguments)
-    );
-    assert!(rt; has_chunk(&shard, 21));
+    assert_eq!(rt; xorb_is_refused(alloc, xorb_of_three(alloc)), Some(false));
     Ok(())
 }
 
 #[test]
 fn a_xorb_added_again_is_replaced(rt: HostRuntime) -> std::result::Result<(), Fail> {
     let alloc = rt.alloc();
-    let mut shard = p(alloc)?;
-    shard.add_xorb_block(alloc, xorb(alloc, 10, 22)?)?;
-    assert_eq!(rt; shard.chunk_hash_dedup_query(&[small(21)]), None);
-    assert!(rt; has_chunk(&shard, 22));
+    let replaced = || with_xorb(alloc, p(alloc), xorb(alloc, 10, 22));
+    assert_eq!(rt; query(replaced(), &[small(21)]), Some(None));
+    assert_eq!(rt; query(replaced(), &[small(22)]), run(10, 5, 0, 1, 1));
+    assert_eq!(rt; size(replaced()), Some(576));
     Ok(())
 }
 
 #[test]
 fn a_chunk_of_two_xorbs_stays_with_the_other(rt: HostRuntime) -> std::result::Result<(), Fail> {
     let alloc = rt.alloc();
-    for replaced in [10, 11] {
-        let mut shard = MDBInMemoryShard::new(alloc);
-        shard.add_xorb_block(alloc, xorb(alloc, 10, 21)?)?;
-        shard.add_xorb_block(alloc, xorb(alloc, 11, 21)?)?;
-        shard.add_xorb_block(alloc, xorb(alloc, replaced, 22)?)?;
-        assert_eq!(rt;
-            shard.chunk_hash_dedup_query(&[small(21)]),
-            run(21 - replaced, 5, 0, 1, 1)
-        );
-    }
+    let both = || {
+        let one = with_xorb(alloc, empty(alloc), xorb(alloc, 10, 21));
+        with_xorb(alloc, one, xorb(alloc, 11, 21))
+    };
+    let first = with_xorb(alloc, both(), xorb(alloc, 10, 22));
+    assert_eq!(rt; query(first, &[small(21)]), run(11, 5, 0, 1, 1));
+    let second = with_xorb(alloc, both(), xorb(alloc, 11, 22));
+    assert_eq!(rt; query(second, &[small(21)]), run(10, 5, 0, 1, 1));
     Ok(())
 }
 
-// Also for a run in which one growth is refused, whichever it is: the call tells it, and changes nothing.
+/// Whether adding a xorb either succeeds, or is refused for memory and changes nothing. Without the shard and
+/// the xorb there is nothing to tell.
+fn is_all_or_nothing(alloc: Global, xorb_number: u64) -> Option<bool> {
+    let mut shard = p(alloc).ok()?;
+    let added = shard.add_xorb_block(alloc, xorb(alloc, xorb_number, 22).ok()?);
+    let is_found = shard.chunk_hash_dedup_query(&[small(22)]).is_some();
+    let is_told = added.is_ok() || added == Err(CoreError::OutOfMemory);
+    let is_kept = added.is_ok() || has_chunk(&shard, 21);
+    Some(is_told && is_kept && is_found == added.is_ok())
+}
+
+// Also for a run in which one growth is refused, whichever it is.
 #[test]
 fn a_refused_xorb_changes_nothing(rt: HostRuntime) -> std::result::Result<(), Fail> {
     let alloc = rt.alloc();
-    let (Ok(mut shard), Ok(other), Ok(new)) = (p(alloc), xorb(alloc, 10, 22), xorb(alloc, 11, 23))
-    else {
-        return Ok(());
-    };
-    let replaced = shard.add_xorb_block(alloc, other);
-    assert!(rt; has_chunk(&shard, if replaced.is_ok() { 22 } else { 21 }));
-    assert!(rt; matches!(replaced, Ok(()) | Err(CoreError::OutOfMemory)));
-    let added = shard.add_xorb_block(alloc, new);
-    assert!(rt; matches!(added, Ok(()) | Err(CoreError::OutOfMemory)));
-    assert_eq!(rt; shard.num_xorb_entries(), if added.is_ok() { 2 } else { 1 });
-    assert_eq!(rt;
-        shard.chunk_hash_dedup_query(&[small(23)]).is_some(),
-        added.is_ok()
-    );
+    assert!(rt; is_all_or_nothing(alloc, 10).unwrap_or(true));
+    assert!(rt; is_all_or_nothing(alloc, 11).unwrap_or(true));
     Ok(())
 }
 
-// The same for the calls that make a new shard of two.
+/// Whether a call that makes a shard makes one of this size, or is refused for memory.
+fn is_made(shard: Shard, bytes: u64) -> bool {
+    match shard {
+        Ok(shard) => shard.shard_file_size() == bytes,
+        Err(error) => error == CoreError::OutOfMemory,
+    }
+}
+
+// The same for the calls that make a new shard.
 #[test]
 fn a_refused_union_tells_so(rt: HostRuntime) -> std::result::Result<(), Fail> {
     let alloc = rt.alloc();
-    let (Ok(first), Ok(second)) = (p(alloc), q(alloc)) else {
-        return Ok(());
-    };
-    match first.union(alloc, &second) {
-        Ok(joined) => assert_eq!(rt; joined.shard_file_size(), 808),
-        Err(error) => assert_eq!(rt; error, CoreError::OutOfMemory),
-    }
-    match first.difference(alloc, &second) {
-        Ok(more) => assert_eq!(rt; more.shard_file_size(), 576),
-        Err(error) => assert_eq!(rt; error, CoreError::OutOfMemory),
-    }
-    match second.try_clone(alloc) {
-        Ok(copy) => assert_eq!(rt; copy.shard_file_size(), 808),
-        Err(error) => assert_eq!(rt; error, CoreError::OutOfMemory),
-    }
-    assert!(rt; has_chunk(&first, 21));
-    assert_eq!(rt; second.shard_file_size(), 808);
+    assert!(rt; is_made(union(alloc, p(alloc), q(alloc)), 808));
+    assert!(rt; is_made(difference(alloc, p(alloc), q(alloc)), 576));
+    assert!(rt; is_made(copy(alloc, q(alloc)), 808));
     Ok(())
 }
 
+/// The footer that the shard is written with, where the bytes are those of `to_bytes` and loading finds what
+/// writing answered.
+fn footer_of(alloc: Global, shard: Shard) -> Option<MDBShardFileFooter> {
+    let shard = shard.ok()?;
+    let mut bytes = Vec::new(alloc);
+    let info = MDBShardInfo::serialize_from(alloc, &mut bytes, &shard, None).ok()?;
+    let is_same = shard.to_bytes(alloc).ok()? == bytes;
+    let is_loaded = loaded(alloc, bytes.as_slice()).ok()? == info;
+    (is_same && is_loaded).then_some(info.metadata)
+}
+
 /// Where the sections, the three tables and the footer begin.
-fn offsets(footer: &MDBShardFileFooter) -> [u64; 6] {
+fn offsets(footer: MDBShardFileFooter) -> [u64; 6] {
     [
         footer.file_info_offset,
         footer.xorb_info_offset,
@@ -352,113 +448,100 @@ fn offsets(footer: &MDBShardFileFooter) -> [u64; 6] {
     ]
 }
 
-/// The rows of the three tables.
-fn counts(footer: &MDBShardFileFooter) -> [u64; 3] {
+/// The rows of the three tables, and the bytes of xorbs, on disk, and of files.
+fn numbers(footer: MDBShardFileFooter) -> [u64; 6] {
     [
         footer.file_lookup_num_entry,
         footer.xorb_lookup_num_entry,
         footer.chunk_lookup_num_entry,
+        footer.stored_bytes,
+        footer.stored_bytes_on_disk,
+        footer.materialized_bytes,
     ]
 }
 
+/// Whether these bytes stand from a place on where the shard is written.
+fn stands_at(alloc: Global, shard: Shard, place: usize, wanted: &[u8]) -> Option<bool> {
+    let bytes = written(alloc, &shard.ok()?, None).ok()?;
+    Some(bytes.get(place..)?.starts_with(wanted))
+}
+
 #[test]
-fn a_shard_with_a_xorb_has_576_bytes(rt: HostRuntime) -> std::result::Result<(), Fail> {
+fn a_shard_with_a_xorb_is_written(rt: HostRuntime) -> std::result::Result<(), Fail> {
     let alloc = rt.alloc();
-    let mut bytes = Vec::new(alloc);
-    let info = MDBShardInfo::serialize_from(alloc, &mut bytes, &p(alloc)?, None)?;
-    let footer = info.metadata;
-    assert_eq!(rt; bytes.len(), 576);
-    assert_eq!(rt; p(alloc)?.to_bytes(alloc)?, bytes);
-    assert_eq!(rt; offsets(&footer), [48, 192, 336, 348, 360, 376]);
-    assert_eq!(rt; counts(&footer), [1, 1, 1]);
-    assert_eq!(rt; (footer.stored_bytes, footer.materialized_bytes), (5, 5));
-    assert_eq!(rt; footer.stored_bytes_on_disk, 0);
-    assert_eq!(rt;
-        bytes.get(192..200),
-        Some([10, 0, 0, 0, 0, 0, 0, 0].as_slice())
-    );
-    assert_eq!(rt;
-        bytes.get(348..376),
-        Some(
-            [
-                10, 0, 0, 0, 0, 0, 0, 0, 0, 0, 0, 0, //
-                21, 0, 0, 0, 0, 0, 0, 0, 0, 0, 0, 0, 0, 0, 0, 0,
-            ]
-            .as_slice()
-        )
-    );
-    let mut last = Vec::new(alloc);
-    footer.serialize(&mut last)?;
-    assert_eq!(rt; bytes.get(376..), Some(last.as_slice()));
-    assert_eq!(rt; loaded(alloc, bytes.as_slice())?, info);
-    let mut source = MemorySource::new(bytes.as_slice());
-    assert_eq!(rt;
-        info.get_file_reconstruction_info(alloc, &mut source, &small(100))?,
-        Some(file(alloc, 100, 200)?)
-    );
+    let footer = footer_of(alloc, p(alloc));
+    assert_eq!(rt; footer.map(offsets), Some([48, 192, 336, 348, 360, 376]));
+    assert_eq!(rt; footer.map(numbers), Some([1, 1, 1, 5, 0, 5]));
+    let xorb = [10, 0, 0, 0, 0, 0, 0, 0];
+    assert_eq!(rt; stands_at(alloc, p(alloc), 192, &xorb), Some(true));
+    let tables = [
+        10, 0, 0, 0, 0, 0, 0, 0, 0, 0, 0, 0, //
+        21, 0, 0, 0, 0, 0, 0, 0, 0, 0, 0, 0, 0, 0, 0, 0,
+    ];
+    assert_eq!(rt; stands_at(alloc, p(alloc), 348, &tables), Some(true));
     Ok(())
 }
 
 #[test]
-fn two_xorbs_and_two_files_have_808_bytes(rt: HostRuntime) -> std::result::Result<(), Fail> {
+fn two_xorbs_and_two_files_are_written(rt: HostRuntime) -> std::result::Result<(), Fail> {
     let alloc = rt.alloc();
-    let bytes = written(alloc, &q(alloc)?, Some(7))?;
-    assert_eq!(rt; bytes.len(), 808);
-    let info = loaded(alloc, bytes.as_slice())?;
-    assert_eq!(rt; offsets(&info.metadata), [48, 288, 528, 552, 576, 608]);
-    assert_eq!(rt; counts(&info.metadata), [2, 2, 2]);
-    assert_eq!(rt;
-        (info.metadata.stored_bytes, info.metadata.materialized_bytes),
-        (10, 10)
-    );
-    assert_eq!(rt; info.num_bytes(alloc)?, 808);
+    let footer = footer_of(alloc, q(alloc));
+    assert_eq!(rt; footer.map(offsets), Some([48, 288, 528, 552, 576, 608]));
+    assert_eq!(rt; footer.map(numbers), Some([2, 2, 2, 10, 0, 10]));
+    Ok(())
+}
+
+/// Whether file 100 is found on the bytes of the shard.
+fn is_found(alloc: Global, shard: Shard) -> Option<bool> {
+    let bytes = written(alloc, &shard.ok()?, Some(7)).ok()?;
+    let info = loaded(alloc, bytes.as_slice()).ok()?;
+    let mut source = MemorySource::new(bytes.as_slice());
+    let found = info.get_file_reconstruction_info(alloc, &mut source, &small(100));
+    Some(found.ok()? == Some(file(alloc, 100, 200).ok()?))
+}
+
+#[test]
+fn a_file_is_found_beside_xorbs(rt: HostRuntime) -> std::result::Result<(), Fail> {
+    let alloc = rt.alloc();
+    assert_eq!(rt; is_found(alloc, p(alloc)), Some(true));
+    assert_eq!(rt; is_found(alloc, q(alloc)), Some(true));
     Ok(())
 }
 
 #[test]
 fn a_chunk_of_two_xorbs_has_two_rows(rt: HostRuntime) -> std::result::Result<(), Fail> {
     let alloc = rt.alloc();
-    let mut shard = MDBInMemoryShard::new(alloc);
-    shard.add_xorb_block(alloc, xorb(alloc, 10, 21)?)?;
-    shard.add_xorb_block(alloc, xorb(alloc, 11, 21)?)?;
-    let bytes = written(alloc, &shard, None)?;
-    assert_eq!(rt;
-        bytes.get(360..392),
-        Some(
-            [
-                21, 0, 0, 0, 0, 0, 0, 0, 0, 0, 0, 0, 0, 0, 0, 0, //
-                21, 0, 0, 0, 0, 0, 0, 0, 2, 0, 0, 0, 0, 0, 0, 0,
-            ]
-            .as_slice()
-        )
-    );
+    let one = with_xorb(alloc, empty(alloc), xorb(alloc, 10, 21));
+    let both = with_xorb(alloc, one, xorb(alloc, 11, 21));
+    let rows = [
+        21, 0, 0, 0, 0, 0, 0, 0, 0, 0, 0, 0, 0, 0, 0, 0, //
+        21, 0, 0, 0, 0, 0, 0, 0, 2, 0, 0, 0, 0, 0, 0, 0,
+    ];
+    assert_eq!(rt; stands_at(alloc, both, 360, &rows), Some(true));
     Ok(())
+}
+
+/// Xorb 11 with chunk 20, which has 3 bytes on disk.
+fn packed_xorb(alloc: Global) -> Result<MDBXorbInfo> {
+    let mut info = xorb(alloc, 11, 20)?;
+    info.metadata.num_bytes_on_disk = 3;
+    Ok(info)
 }
 
 // Chunk 20 comes first, though its xorb is the second.
 #[test]
 fn rows_of_chunks_ascend_by_their_first_words(rt: HostRuntime) -> std::result::Result<(), Fail> {
     let alloc = rt.alloc();
-    let mut shard = MDBInMemoryShard::new(alloc);
-    shard.add_xorb_block(alloc, xorb_of_three(alloc)?)?;
-    let mut packed = xorb(alloc, 11, 20)?;
-    packed.metadata.num_bytes_on_disk = 3;
-    shard.add_xorb_block(alloc, packed)?;
-    let bytes = written(alloc, &shard, None)?;
-    assert_eq!(rt;
-        bytes.get(456..520),
-        Some(
-            [
-                20, 0, 0, 0, 0, 0, 0, 0, 4, 0, 0, 0, 0, 0, 0, 0, //
-                21, 0, 0, 0, 0, 0, 0, 0, 0, 0, 0, 0, 0, 0, 0, 0, //
-                22, 0, 0, 0, 0, 0, 0, 0, 0, 0, 0, 0, 1, 0, 0, 0, //
-                23, 0, 0, 0, 0, 0, 0, 0, 0, 0, 0, 0, 2, 0, 0, 0,
-            ]
-            .as_slice()
-        )
-    );
-    let footer = loaded(alloc, bytes.as_slice())?.metadata;
-    assert_eq!(rt; offsets(&footer), [48, 96, 432, 432, 456, 520]);
-    assert_eq!(rt; (footer.stored_bytes, footer.stored_bytes_on_disk), (23, 3));
+    let shard = || with_xorb(alloc, three(alloc), packed_xorb(alloc));
+    let footer = footer_of(alloc, shard());
+    assert_eq!(rt; footer.map(offsets), Some([48, 96, 432, 432, 456, 520]));
+    assert_eq!(rt; footer.map(numbers), Some([0, 2, 4, 23, 3, 0]));
+    let rows = [
+        20, 0, 0, 0, 0, 0, 0, 0, 4, 0, 0, 0, 0, 0, 0, 0, //
+        21, 0, 0, 0, 0, 0, 0, 0, 0, 0, 0, 0, 0, 0, 0, 0, //
+        22, 0, 0, 0, 0, 0, 0, 0, 0, 0, 0, 0, 1, 0, 0, 0, //
+        23, 0, 0, 0, 0, 0, 0, 0, 0, 0, 0, 0, 2, 0, 0, 0,
+    ];
+    assert_eq!(rt; stands_at(alloc, shard(), 456, &rows), Some(true));
     Ok(())
 }
