@@ -2,7 +2,7 @@
 
 use crate::shard_format::MDBShardInfo;
 use crate::shard_in_memory::MDBInMemoryShard;
-use crate::tests::{failing_after, loaded, shard_of_one, small, written};
+use crate::tests::{failing_after, loaded, shard_of_one, small, written_by};
 use crate::utils::truncate_hash;
 use std::alloc::Global;
 use std::io::ErrorKind;
@@ -61,7 +61,7 @@ fn falsify(bytes: &mut [u8], at: usize, byte: u8) {
 #[test]
 fn a_file_is_found_by_its_hash(rt: HostRuntime) -> std::result::Result<(), Fail> {
     let alloc = rt.alloc();
-    let bytes = written(alloc, &shard_of_one(alloc)?, Some(7))?;
+    let bytes = written_by(alloc, shard_of_one(alloc), Some(7))?;
     let info = loaded(alloc, bytes.as_slice())?;
     let mut source = MemorySource::new(bytes.as_slice());
     let found = info.get_file_reconstruction_info(alloc, &mut source, &small(100))?;
@@ -75,7 +75,7 @@ fn a_file_is_found_by_its_hash(rt: HostRuntime) -> std::result::Result<(), Fail>
 #[test]
 fn seven_files_may_share_the_first_word(rt: HostRuntime) -> std::result::Result<(), Fail> {
     let alloc = rt.alloc();
-    let bytes = written(alloc, &shard_of_sharing(alloc, 7)?, None)?;
+    let bytes = written_by(alloc, shard_of_sharing(alloc, 7), None)?;
     let info = loaded(alloc, bytes.as_slice())?;
     for k in 0..7 {
         let hash = sharing(k);
@@ -98,7 +98,7 @@ fn seven_files_may_share_the_first_word(rt: HostRuntime) -> std::result::Result<
 #[test]
 fn eight_files_with_one_first_word_collide(rt: HostRuntime) -> std::result::Result<(), Fail> {
     let alloc = rt.alloc();
-    let bytes = written(alloc, &shard_of_sharing(alloc, 8)?, None)?;
+    let bytes = written_by(alloc, shard_of_sharing(alloc, 8), None)?;
     let info = loaded(alloc, bytes.as_slice())?;
     for hash in [sharing(3), sharing(99)] {
         let refused = find(alloc, &info, bytes.as_slice(), hash);
@@ -126,7 +126,7 @@ fn eight_files_with_one_first_word_collide(rt: HostRuntime) -> std::result::Resu
 #[test]
 fn a_lookup_keeps_its_bounds(rt: HostRuntime) -> std::result::Result<(), Fail> {
     let alloc = rt.alloc();
-    let bytes = written(alloc, &shard_of_sharing(alloc, 7)?, None)?;
+    let bytes = written_by(alloc, shard_of_sharing(alloc, 7), None)?;
     let info = loaded(alloc, bytes.as_slice())?;
     // One seek for the search among nine rows, and one for each of seven records of 48 bytes.
     let mut source = failing_after(bytes.as_slice(), u32::MAX, ErrorKind::Other);
@@ -148,7 +148,7 @@ fn a_lookup_keeps_its_bounds(rt: HostRuntime) -> std::result::Result<(), Fail> {
 #[test]
 fn false_row_numbers_are_refused(rt: HostRuntime) -> std::result::Result<(), Fail> {
     let alloc = rt.alloc();
-    let mut bytes = written(alloc, &shard_of_one(alloc)?, None)?;
+    let mut bytes = written_by(alloc, shard_of_one(alloc), None)?;
     let mut info = loaded(alloc, bytes.as_slice())?;
     // The row number of the file table's one row stands in bytes 248 to 251. Row 2 is the bookend, and
     // row 1 the segment, which is read as the header of file 200.
@@ -171,7 +171,7 @@ fn false_row_numbers_are_refused(rt: HostRuntime) -> std::result::Result<(), Fai
 #[test]
 fn false_tables_and_records_are_refused(rt: HostRuntime) -> std::result::Result<(), Fail> {
     let alloc = rt.alloc();
-    let mut bytes = written(alloc, &shard_of_one(alloc)?, None)?;
+    let mut bytes = written_by(alloc, shard_of_one(alloc), None)?;
     let info = loaded(alloc, bytes.as_slice())?;
     let mut far = info;
     far.metadata.file_lookup_offset = u64::MAX;
@@ -205,7 +205,7 @@ fn false_tables_and_records_are_refused(rt: HostRuntime) -> std::result::Result<
 #[test]
 fn a_device_fails_in_the_middle_of_a_lookup(rt: HostRuntime) -> std::result::Result<(), Fail> {
     let alloc = rt.alloc();
-    let bytes = written(alloc, &shard_of_one(alloc)?, None)?;
+    let bytes = written_by(alloc, shard_of_one(alloc), None)?;
     let info = loaded(alloc, bytes.as_slice())?;
     // A seek, a key and a row number, and then a seek, a header and a segment.
     for left in 0..6 {

@@ -4,7 +4,7 @@
 
 use crate::shard_format::{MDBShardFileFooter, MDBShardInfo};
 use crate::shard_in_memory::MDBInMemoryShard;
-use crate::tests::{file, loaded, small, written};
+use crate::tests::{file, loaded, small, written_by};
 use std::alloc::Global;
 use std::test::Fail;
 use xet_base::error::{CoreError, Result};
@@ -192,10 +192,7 @@ fn the_size_is_right_already(rt: HostRuntime) -> std::result::Result<(), Fail> {
     let alloc = rt.alloc();
     assert_eq!(rt; counted_anew(q(alloc)), Some((808, 2)));
     // Four rows and a bookend of xorbs, a row of the xorb table and three of the chunk table.
-    assert_eq!(rt;
-        counted_anew(three(alloc)),
-        Some((596, 3))
-    );
+    assert_eq!(rt; counted_anew(three(alloc)), Some((596, 3)));
     Ok(())
 }
 
@@ -462,7 +459,7 @@ fn numbers(footer: MDBShardFileFooter) -> [u64; 6] {
 
 /// Whether these bytes stand from a place on where the shard is written.
 fn stands_at(alloc: Global, shard: Shard, place: usize, wanted: &[u8]) -> Option<bool> {
-    let bytes = written(alloc, &shard.ok()?, None).ok()?;
+    let bytes = written_by(alloc, shard, None).ok()?;
     Some(bytes.get(place..)?.starts_with(wanted))
 }
 
@@ -493,7 +490,7 @@ fn two_xorbs_and_two_files_are_written(rt: HostRuntime) -> std::result::Result<(
 
 /// Whether file 100 is found on the bytes of the shard.
 fn is_found(alloc: Global, shard: Shard) -> Option<bool> {
-    let bytes = written(alloc, &shard.ok()?, Some(7)).ok()?;
+    let bytes = written_by(alloc, shard, Some(7)).ok()?;
     let info = loaded(alloc, bytes.as_slice()).ok()?;
     let mut source = MemorySource::new(bytes.as_slice());
     let found = info.get_file_reconstruction_info(alloc, &mut source, &small(100));

@@ -67,6 +67,15 @@ pub(crate) fn written(
     Ok(bytes)
 }
 
+/// The same of a shard that was just made, so that the caller doesn't hold it.
+pub(crate) fn written_by(
+    alloc: Global,
+    shard: Result<MDBInMemoryShard>,
+    expiry: Option<u64>,
+) -> Result<Vec<u8>> {
+    written(alloc, &shard?, expiry)
+}
+
 pub(crate) fn loaded(alloc: Global, bytes: &[u8]) -> Result<MDBShardInfo> {
     MDBShardInfo::load_from_reader(alloc, &mut MemorySource::new(bytes))
 }
@@ -305,7 +314,7 @@ fn a_refused_growth_changes_nothing(rt: HostRuntime) -> std::result::Result<(), 
 #[test]
 fn cut_and_foreign_bytes_are_refused(rt: HostRuntime) -> std::result::Result<(), Fail> {
     let alloc = rt.alloc();
-    let mut bytes = written(alloc, &shard_of_one(alloc)?, None)?;
+    let mut bytes = written_by(alloc, shard_of_one(alloc), None)?;
     // One byte less, and the footer's version seems to be 256.
     let cut = [(451, true), (100, false), (47, false), (0, false)];
     for (length, foreign) in cut {
@@ -339,7 +348,7 @@ fn cut_and_foreign_bytes_are_refused(rt: HostRuntime) -> std::result::Result<(),
 #[test]
 fn false_numbers_in_a_footer_are_refused(rt: HostRuntime) -> std::result::Result<(), Fail> {
     let alloc = rt.alloc();
-    let bytes = written(alloc, &shard_of_one(alloc)?, None)?;
+    let bytes = written_by(alloc, shard_of_one(alloc), None)?;
     let mut info = loaded(alloc, bytes.as_slice())?;
     info.metadata.footer_offset = u64::MAX;
     assert_eq!(rt;
@@ -432,7 +441,7 @@ pub(crate) fn failing_after(bytes: &[u8], left: u32, kind: ErrorKind) -> Failing
 #[test]
 fn a_device_fails_at_each_call_in_turn(rt: HostRuntime) -> std::result::Result<(), Fail> {
     let alloc = rt.alloc();
-    let bytes = written(alloc, &shard_of_one(alloc)?, None)?;
+    let bytes = written_by(alloc, shard_of_one(alloc), None)?;
     let info = loaded(alloc, bytes.as_slice())?;
     // Seven calls load header and footer, four read the one record.
     for left in 0..7 {
