@@ -1,10 +1,8 @@
 -- The numbers of a shard's footer are within 64 bits.
-use Rattle.std.proofs.Common.{ℕ, ◌+◌, ◌*◌, ◌^◌, ◌<◌, ◌≤◌, List, [], ◌∷◌, length, Option, None, Some, refl, arith}
-use Rattle.std.specs.Prelude.{All, sum_by, IfSome, unwrap_or}
+use Rattle.std.proofs.Common.{ℕ, ◌+◌, ◌^◌, ◌<◌, ◌≤◌, length, Option, None, Some, refl, arith}
+use Rattle.std.specs.Prelude.{All, IfSome, unwrap_or}
 use Rattle.std.specs.FinMap.{entries, values}
-use Rattle.std.proofs.lemmas.List.Elements.{All-drop, All-map, All-from_recursion}
-use Rattle.std.proofs.lemmas.List.Sums.{sum_by-cons}
-use Rattle.xet_records.specs.declared.xorb_structs.MDBXorbInfo.{MDBXorbInfo}
+use Rattle.std.proofs.lemmas.List.Elements.{All-map, All-from_recursion}
 use Rattle.xet_records.specs.XorbRecord.{IsXorb}
 use Rattle.xet_shards.specs.Shard.{Shard, IsShard}
 use Rattle.xet_shards.specs.Tables.{chunk_table}
@@ -13,12 +11,8 @@ use Rattle.xet_shards.specs.Ends.{FitsFooter}
 use Rattle.xet_shards.proofs.Files.{files_bound, length-le-rows, widths_of_values}
 use Rattle.xet_shards.proofs.Layouts.{length-file_section}
 use Rattle.xet_shards.proofs.Tables.{length-file_starts, length-file_table_bytes, length-xorb_starts, length-xorb_table_bytes}
+use Rattle.xet_shards.proofs.Xorbs.{xorbs_bound}
 use Rattle.xet_shards.proofs.XorbLayouts.{length-xorb_section, length-chunk_table, length-chunk_table_bytes, total_xorb_rows-chunks}
-
--- no xorb has more bytes than 32 bits count
-xorb_sums : (f : MDBXorbInfo → ℕ) (xorbs : List MDBXorbInfo) → All (λ x. f x ≤ 4294967295) xorbs → sum_by f xorbs ≤ 4294967295 * length xorbs
-xorb_sums f [] fit = omega arith
-xorb_sums f (x ∷ xorbs) fit = omega (arith, sum_by-cons f x xorbs, fit 0 x (omega arith), xorb_sums f xorbs (All-drop (λ y. f y ≤ 4294967295) 1 (x ∷ xorbs) fit))
 
 expiry_fits : (expiry : Option ℕ) → IfSome expiry (λ e. e < 2 ^ 64) → unwrap_or expiry 18446744073709551615 < 2 ^ 64
 expiry_fits None fits = omega arith
@@ -45,5 +39,5 @@ fits_written s expiry shard fits =
       moments = All-from_recursion Fits (moments_of f) (omega arith, (expiry_fits expiry fits, tt));
       buffer_size = refl;
       buffer = All-from_recursion Fits f._buffer (omega arith, (omega arith, (omega arith, (omega arith, (omega arith, (omega arith, tt))))));
-      sums = All-from_recursion Fits (sums_of f) (omega (arith, chunks, xorb_sums (λ x. x.metadata.num_bytes_on_disk) xorbs (λ k d below. omega (arith, (good k d below).widths.metadata.num_bytes_on_disk))), (omega (arith, shard.file_rows, files_bound files widths), (omega (arith, chunks, xorb_sums (λ x. x.metadata.num_bytes_in_xorb) xorbs (λ k d below. omega (arith, (good k d below).widths.metadata.num_bytes_in_xorb))), (omega (arith, footer), tt))));
+      sums = All-from_recursion Fits (sums_of f) (omega (arith, shard.xorb_rows, xorbs_bound (λ x. x.metadata.num_bytes_on_disk) (λ r is. omega (arith, is.widths.metadata.num_bytes_on_disk)) xorbs good), (omega (arith, shard.file_rows, files_bound files widths), (omega (arith, shard.xorb_rows, xorbs_bound (λ x. x.metadata.num_bytes_in_xorb) (λ r is. omega (arith, is.widths.metadata.num_bytes_in_xorb)) xorbs good), (omega (arith, footer), tt))));
     }
