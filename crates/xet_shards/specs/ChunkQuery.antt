@@ -1,5 +1,6 @@
 -- The chunk query: how far hashes go on as the chunks of a xorb do, from the place that a lookup keeps on.
-use Rattle.std.specs.Prelude.{◌≡◌, ℕ, ◌+◌, List, [], ◌∷◌, drop, take, Option, None, Some, option_map, slice_get, if◌then◌else◌}
+use Rattle.std.specs.Prelude.{◌≡◌, ℕ, ◌+◌, List, [], ◌∷◌, drop, take, Option, None, Some, option_map, slice_get}
+use Rattle.std.specs.List.{common_prefix_len}
 use Rattle.std.specs.FinMap.{get}
 use Rattle.xet_base.specs.declared.merklehash.DataHash.{DataHash}
 use Rattle.xet_base.specs.Hash.{hash_eq}
@@ -11,9 +12,7 @@ use Rattle.xet_shards.specs.Shard.{XorbMap}
 
 -- how many of these hashes, from the first on, are those of these chunks in turn
 abbrev pub run_length : List DataHash → List XorbChunkSequenceEntry → ℕ
-run_length [] cs = 0
-run_length (q ∷ qs) [] = 0
-run_length (q ∷ qs) (c ∷ cs) = if hash_eq q c.chunk_hash then 1 + run_length qs cs else 0
+run_length qs cs = common_prefix_len (λ q c. hash_eq q c.chunk_hash) qs cs
 
 -- the run at a place: how many of the hashes stand there in turn, and the segment of their chunks
 abbrev pub run_at : Place → List DataHash → ℕ × FileDataSequenceEntry
