@@ -1,8 +1,9 @@
 -- Each row has 48 bytes.
 use Rattle.std.proofs.Common.{◌≡◌, ℕ, ◌+◌, ◌*◌, List, [], ◌∷◌, ◌++◌, length, flat_map, Option, None, Some, refl, ap, ◌∙◌, append-nil, arith}
-use Rattle.std.specs.Prelude.{All, IfSome, option_to_list}
+use Rattle.std.specs.Prelude.{All, IfSome, option_to_list, sum_by}
 use Rattle.std.proofs.lemmas.List.Elements.{All-drop}
 use Rattle.std.proofs.lemmas.List.{length-append}
+use Rattle.std.proofs.lemmas.List.Sums.{sum_by-cons}
 use Rattle.xet_base.specs.Bytes.{u64_bytes}
 use Rattle.xet_base.proofs.Bytes.{length-u32_bytes, length-u64_bytes, length-hash_bytes}
 use Rattle.xet_records.specs.declared.file_structs.FileDataSequenceHeader.{FileDataSequenceHeader}
@@ -84,3 +85,11 @@ pub length-xorb_text : (r : MDBXorbInfo) → length (xorb_text r) ≡ 48 * xorb_
 unfolding xorb_text
 length-xorb_text r =
     length-append (xorb_header_row r.metadata) (flat_map chunk_row r.chunks) ∙ omega (arith, length-xorb_header_row r.metadata, length-chunk_rows r.chunks)
+
+-- the texts of records that have 48 bytes a row
+pub length-texts : {R : Type 0} (text : R → List ℕ) (rows : R → ℕ) (Fits : R → Type 0) → ((r : R) → Fits r → length (text r) ≡ 48 * rows r)
+    → (rs : List R) → All Fits rs → length (flat_map text rs) ≡ 48 * sum_by rows rs
+length-texts text rows Fits len [] fit = refl
+length-texts text rows Fits len (r ∷ rs) fit =
+    length-append (text r) (flat_map text rs)
+    ∙ omega (arith, len r (fit 0 r (omega arith)), length-texts text rows Fits len rs (All-drop Fits 1 (r ∷ rs) fit), sum_by-cons rows r rs)

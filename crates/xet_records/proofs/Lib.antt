@@ -3,5 +3,6 @@ pub mod Lengths
 pub mod Reading
 pub mod Record
 pub mod Unique
-pub mod XorbReading
+pub mod RecordKinds
+pub mod XorbUnique
 pub mod Merging

@@ -1,6 +1,6 @@
 -- Bytes begin with the text of one record at most.
-use Rattle.std.proofs.Common.{◌≡◌, ℕ, ◌^◌, ◌<◌, List, [], ◌∷◌, ◌++◌, flat_map, Bool, Option, None, Some, refl, sym, ap, ◌∙◌, subst, if◌then◌else◌}
-use Rattle.std.specs.Prelude.{MatchOption, All, IfSome, is_some, option_to_list}
+use Rattle.std.proofs.Common.{◌≡◌, ℕ, ◌^◌, ◌<◌, List, [], ◌∷◌, ◌++◌, flat_map, Bool, Option, None, Some, refl, sym, ap, ◌∙◌, if◌then◌else◌}
+use Rattle.std.specs.Prelude.{All, IfSome, is_some, option_to_list}
 use Rattle.std.proofs.lemmas.List.{length-append, append_assoc}
 use Rattle.std.proofs.lemmas.List.Elements.{All-cons, All-nil}
 use Rattle.xet_base.specs.Bytes.{u32_bytes, u64_bytes}
@@ -14,9 +14,7 @@ use Rattle.xet_records.specs.declared.file_structs.FileVerificationEntry.{FileVe
 use Rattle.xet_records.specs.declared.file_structs.FileMetadataExt.{FileMetadataExt}
 use Rattle.xet_records.specs.declared.file_structs.MDBFileInfo.{MDBFileInfo}
 use Rattle.xet_records.specs.FileRow.{header_row, segment_row, verification_row, metadata_row, IsReserved, FitsSegment, FitsVerification, FitsMetadata}
-use Rattle.xet_records.specs.FileRecord.{record_text, rows_text, has_verification, has_metadata_ext, IsStored, handed_out}
-use Rattle.xet_records.specs.Reading.{ReadsBookend, ReadsRecord}
-use Rattle.std.specs.Io.KnownBytes.{Consumes}
+use Rattle.xet_records.specs.FileRecord.{record_text, rows_text, has_verification, has_metadata_ext, IsStored}
 use Rattle.xet_records.proofs.Lengths.{length-segment_row, length-verification_row, length-metadata_row}
 use Rattle.xet_records.proofs.Record.{header_row-front, optional_rows}
 
@@ -107,23 +105,3 @@ record_front r s x y r_stored s_stored same =
     (optional_fits r.metadata_ext r_stored.widths.metadata_ext) (optional_fits s.metadata_ext s_stored.widths.metadata_ext) verification.1 in
     let option : r.metadata_ext ≡ s.metadata_ext = sym (first-of r.metadata_ext) ∙ ap first ext.0 ∙ first-of s.metadata_ext in
     ((λ i. record { metadata = header.0 i; segments = segments.0 i; verification = verification.0 i; metadata_ext = option i }), ext.1)
-
--- what was written is read again, whatever follows
-read_front : (new : Option (List ℕ)) (r : MDBFileInfo) (rest : List ℕ) (found : Option MDBFileInfo) → IsStored r
-    → MatchOption found (ReadsBookend (Consumes (Some (record_text r ++ rest)) new)) (ReadsRecord (Consumes (Some (record_text r ++ rest)) new))
-    → (found ≡ Some (handed_out r)) × (new ≡ Some rest)
-unfolding record_text
-read_front None r rest None stored read = absurd read.taken
-read_front None r rest (Some found) stored read = absurd read.taken
-read_front (Some left) r rest None stored read =
-    absurd (stored.is_file (ap (λ (h : FileDataSequenceHeader). h.file_hash)
-    (header_row-front r.metadata read.header (rows_text r ++ rest) left stored.widths.metadata read.widths (sym (append_assoc (header_row r.metadata) (rows_text r) rest) ∙ read.taken)).0
-    ∙ read.is_bookend))
-read_front (Some left) r rest (Some found) stored read =
-    let same = record_front r read.stored rest left stored read.is_stored read.taken in
-    (ap Some (sym read.handed ∙ ap handed_out (sym same.0)), ap Some (sym same.1))
-
-pub read_again : (old new : Option (List ℕ)) (r : MDBFileInfo) (rest : List ℕ) (found : Option MDBFileInfo) → IsStored r → old ≡ Some (record_text r ++ rest)
-    → MatchOption found (ReadsBookend (Consumes old new)) (ReadsRecord (Consumes old new)) → (found ≡ Some (handed_out r)) × (new ≡ Some rest)
-read_again old new r rest found stored are read =
-    read_front new r rest found stored (subst (λ bs. MatchOption found (ReadsBookend (Consumes bs new)) (ReadsRecord (Consumes bs new))) are read)

@@ -4,6 +4,7 @@ use Rattle.std.specs.Int.{bit_at}
 use Rattle.xet_base.specs.Hash.{all_ones}
 use Rattle.xet_records.specs.declared.file_structs.FileDataSequenceHeader.{FileDataSequenceHeader}
 use Rattle.xet_records.specs.declared.file_structs.MDBFileInfo.{MDBFileInfo}
+use Rattle.xet_records.specs.RecordKind.{RecordKind}
 use Rattle.xet_records.specs.FileRow.{header_row, segment_row, verification_row, metadata_row, FitsHeader, FitsSegment, FitsVerification, FitsMetadata, clear_verification, clear_metadata}
 
 -- bit 31 announces one verification row a segment
@@ -76,3 +77,18 @@ pub record IsWellFormed (r : MDBFileInfo) : Type 0 where
   pub clear_metadata_ext : IfSome r.metadata_ext (λ m. m._unused ≡ 0 ∷ 0 ∷ [])
   pub rows : row_count r ≤ 4294967295
   pub widths : FitsRecord r
+
+-- the records of the file section
+abbrev pub file_records : RecordKind FileDataSequenceHeader MDBFileInfo
+file_records = record {
+  header_of = λ r. r.metadata;
+  hash_of = λ h. h.file_hash;
+  header_bytes = header_row;
+  Fits = FitsHeader;
+  rows_after = rows_after;
+  bytes_after = rows_text;
+  text = record_text;
+  row_count = row_count;
+  IsStored = IsStored;
+  handed_out = handed_out;
+}

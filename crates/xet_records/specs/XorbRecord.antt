@@ -6,6 +6,7 @@ use Rattle.xet_records.specs.declared.file_structs.FileDataSequenceEntry.{FileDa
 use Rattle.xet_records.specs.declared.xorb_structs.XorbChunkSequenceEntry.{XorbChunkSequenceEntry}
 use Rattle.xet_records.specs.declared.xorb_structs.XorbChunkSequenceHeader.{XorbChunkSequenceHeader}
 use Rattle.xet_records.specs.declared.xorb_structs.MDBXorbInfo.{MDBXorbInfo}
+use Rattle.xet_records.specs.RecordKind.{RecordKind}
 use Rattle.xet_records.specs.XorbRow.{xorb_header_row, chunk_row, FitsXorbHeader, FitsChunk}
 
 -- the header that ends a section: the all-ones hash, all else zero
@@ -68,3 +69,18 @@ pub record IsXorb (r : MDBXorbInfo) : Type 0 where
   pub rows : xorb_row_count r ≤ 4294967295
   pub bytes : size_of_chunks r ≤ 4294967295
   pub widths : FitsXorb r
+
+-- the records of the xorb section, which are handed out as they stand
+abbrev pub xorb_records : RecordKind XorbChunkSequenceHeader MDBXorbInfo
+xorb_records = record {
+  header_of = λ r. r.metadata;
+  hash_of = λ h. h.xorb_hash;
+  header_bytes = xorb_header_row;
+  Fits = FitsXorbHeader;
+  rows_after = λ h. h.num_entries;
+  bytes_after = λ r. flat_map chunk_row r.chunks;
+  text = xorb_text;
+  row_count = xorb_row_count;
+  IsStored = IsStoredXorb;
+  handed_out = λ r. r;
+}

@@ -6,7 +6,7 @@ ghost use Rattle.std.specs.IoError.{error_kind};
 ghost use Rattle.xet_base.specs.Bytes.{HasBytes, LacksBytes};
 ghost use Rattle.xet_base.specs.Hash.{all_ones};
 ghost use Rattle.xet_records.specs.FileRow.{header_row, segment_row, verification_row, metadata_row, FitsHeader, FitsSegment, FitsVerification, FitsMetadata, clear_verification, clear_metadata};
-ghost use Rattle.xet_records.specs.FileRecord.{has_verification, has_metadata_ext, flags_of, file_bookend, rows_after, row_count, record_text, size_of_file, FitsItsHeader, IsStored, handed_out};
+ghost use Rattle.xet_records.specs.FileRecord.{has_verification, has_metadata_ext, flags_of, file_bookend, rows_after, row_count, record_text, size_of_file, FitsItsHeader, IsStored, handed_out, file_records};
 ghost use Rattle.xet_records.specs.Merging.{Compares, IsSameFile, merged};
 ghost use Rattle.xet_records.specs.XorbRecord.{total_bytes, segment_of};
 ghost use Rattle.xet_records.specs.Rows.{ReadsRow};
@@ -570,14 +570,14 @@ impl MDBFileInfo {
     /// `InvalidShard` where these rows pass 32 bits, `OutOfMemory` where the rows find none.
     pub fn deserialize<R: Read>(alloc: Global, reader: &mut R) -> Result<Option<Self>>
         ensures found { IfOk result (λ found. MatchOption found
-            (ReadsBookend (Consumes (R.remaining reader.old) (R.remaining reader.new)))
-            (ReadsRecord (Consumes (R.remaining reader.old) (R.remaining reader.new)))) }
-        ensures end { IfErr result (λ e. IsEndOfInput e → IfSome (R.remaining reader.old) IsCutShort) }
+            (ReadsBookend file_records (Consumes (R.remaining reader.old) (R.remaining reader.new)))
+            (ReadsRecord file_records (Consumes (R.remaining reader.old) (R.remaining reader.new)))) }
+        ensures end { IfErr result (λ e. IsEndOfInput e → IfSome (R.remaining reader.old) (IsCutShort file_records)) }
         ensures invalid { IfErr result
-            (λ e. IsInvalidShard e → IfSome (R.remaining reader.old) HasTooManyRows) }
+            (λ e. IsInvalidShard e → IfSome (R.remaining reader.old) (HasTooManyRows file_records)) }
         ensures causes { IfErr result (λ e. IsDeviceError e ⊎ IsInvalidShard e) }
-        ensures whole { OnOk result (IfSome (R.remaining reader.old) (λ bytes. ¬ IsCutShort bytes)) }
-        ensures fits { OnOk result (IfSome (R.remaining reader.old) (λ bytes. ¬ HasTooManyRows bytes)) }
+        ensures whole { OnOk result (IfSome (R.remaining reader.old) (λ bytes. ¬ IsCutShort file_records bytes)) }
+        ensures fits { OnOk result (IfSome (R.remaining reader.old) (λ bytes. ¬ HasTooManyRows file_records bytes)) }
         ensures again { (r : MDBFileInfo) → (rest : List ℕ) → IsStored r → R.remaining reader.old ≡ Some (record_text r ++ rest)
             → IfOk result (λ found. (found ≡ Some (handed_out r)) × (R.remaining reader.new ≡ Some rest)) }
     {
@@ -635,7 +635,7 @@ fn read_rows_after<R: Read>(
     metadata: FileDataSequenceHeader,
 ) -> Result<MDBFileInfo>
     ensures found { IfOk result
-        (ReadsRowsAfter metadata (Consumes (R.remaining reader.old) (R.remaining reader.new))) }
+        (ReadsRowsAfter file_records metadata (Consumes (R.remaining reader.old) (R.remaining reader.new))) }
     ensures end { IfErr result
         (λ e. IsEndOfInput e → LacksBytes (R.remaining reader.old) (48 * rows_after metadata)) }
     ensures causes { IfErr result IsDeviceError }
@@ -660,7 +660,7 @@ pub fn read_source_rows_after<S: ShardSource>(
     metadata: FileDataSequenceHeader,
 ) -> Result<MDBFileInfo>
     ensures found { IfOk result
-        (ReadsRowsAfter metadata (Takes (S.meaning source.old) (S.meaning source.new))) }
+        (ReadsRowsAfter file_records metadata (Takes (S.meaning source.old) (S.meaning source.new))) }
     ensures refused { IfErr result
         (ReadFails (S.meaning source.old) (S.meaning source.new) (48 * rows_after metadata)) }
 {

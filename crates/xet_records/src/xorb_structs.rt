@@ -7,8 +7,8 @@ ghost use Rattle.xet_base.specs.Bytes.{HasBytes, LacksBytes};
 ghost use Rattle.xet_base.specs.Hash.{all_ones};
 ghost use Rattle.xet_base.specs.Errors.{IsEndOfInput, IsDeviceError};
 ghost use Rattle.xet_records.specs.XorbRow.{xorb_header_row, chunk_row, FitsXorbHeader, FitsChunk, with_mark, IsEligibleChunk};
-ghost use Rattle.xet_records.specs.XorbRecord.{xorb_bookend, xorb_row_count, xorb_text, end_of_chunk, boundaries, HasItsChunks, IsStoredXorb};
-ghost use Rattle.xet_records.specs.XorbReading.{ReadsXorbBookend, ReadsXorb, IsXorbCutShort};
+ghost use Rattle.xet_records.specs.XorbRecord.{xorb_bookend, xorb_row_count, xorb_text, end_of_chunk, boundaries, HasItsChunks, IsStoredXorb, xorb_records};
+ghost use Rattle.xet_records.specs.Reading.{ReadsBookend, ReadsRecord, IsCutShort};
 
 use crate::file_structs::MDB_FILE_INFO_ENTRY_SIZE;
 use crate::rows::{Row, Rows, read_row, read_rows, write_row, write_rows};
@@ -273,12 +273,12 @@ impl MDBXorbInfo {
     /// `OutOfMemory` where these find none.
     pub fn deserialize<R: Read>(alloc: Global, reader: &mut R) -> Result<Option<Self>>
         ensures found { IfOk result (λ found. MatchOption found
-            (ReadsXorbBookend (Consumes (R.remaining reader.old) (R.remaining reader.new)))
-            (ReadsXorb (Consumes (R.remaining reader.old) (R.remaining reader.new)))) }
+            (ReadsBookend xorb_records (Consumes (R.remaining reader.old) (R.remaining reader.new)))
+            (ReadsRecord xorb_records (Consumes (R.remaining reader.old) (R.remaining reader.new)))) }
         ensures end { IfErr result
-            (λ e. IsEndOfInput e → IfSome (R.remaining reader.old) IsXorbCutShort) }
+            (λ e. IsEndOfInput e → IfSome (R.remaining reader.old) (IsCutShort xorb_records)) }
         ensures causes { IfErr result IsDeviceError }
-        ensures whole { OnOk result (IfSome (R.remaining reader.old) (λ bytes. ¬ IsXorbCutShort bytes)) }
+        ensures whole { OnOk result (IfSome (R.remaining reader.old) (λ bytes. ¬ IsCutShort xorb_records bytes)) }
         ensures again { (r : MDBXorbInfo) → (rest : List ℕ) → IsStoredXorb r → R.remaining reader.old ≡ Some (xorb_text r ++ rest)
             → IfOk result (λ found. (found ≡ Some r) × (R.remaining reader.new ≡ Some rest)) }
     {

@@ -24,9 +24,10 @@ use Rattle.xet_records.specs.declared.file_structs.FileDataSequenceHeader.{FileD
 use Rattle.xet_records.specs.declared.file_structs.MDBFileInfo.{MDBFileInfo}
 use Rattle.xet_records.specs.declared.xorb_structs.MDBXorbInfo.{MDBXorbInfo}
 use Rattle.xet_records.specs.FileRow.{header_row, FitsHeader}
-use Rattle.xet_records.specs.FileRecord.{record_text, rows_text, rows_after, row_count, file_bookend, handed_out, IsStored, FitsRecord}
-use Rattle.xet_records.proofs.Lengths.{length-header_row}
+use Rattle.xet_records.specs.FileRecord.{record_text, rows_text, rows_after, row_count, file_bookend, handed_out, IsStored, FitsRecord, file_records}
+use Rattle.xet_records.proofs.Lengths.{length-header_row, length-record_text, length-texts}
 use Rattle.xet_records.proofs.Record.{header_row-front, row_count-whole}
+use Rattle.xet_records.proofs.RecordKinds.{file_laws, stored_begins}
 use Rattle.xet_records.proofs.Unique.{record_front}
 use Rattle.xet_shards.specs.Shard.{file_hash_of, total_rows, total_xorb_rows}
 use Rattle.xet_shards.specs.Section.{with_fronts, file_section, xorb_section}
@@ -36,11 +37,11 @@ use Rattle.xet_shards.specs.SectionReading.{MayTake}
 use Rattle.xet_shards.specs.Lookup.{sharing, file_table, IsNumber, row_at, RecordAt, InfoRefusal, LooksUp, LookupAnswer, LookupRefused, Finding, FindingNot, WithinBounds, SearchWithinBounds, IndexFinds, IndexRefused, AreStarts}
 use Rattle.xet_shards.proofs.Files.{length-le-rows}
 use Rattle.xet_shards.proofs.XorbLayouts.{length-xorb_section}
-use Rattle.xet_shards.proofs.Layouts.{length-header_text, length-file_section, length-texts}
+use Rattle.xet_shards.proofs.Layouts.{length-header_text, length-file_section}
 use Rattle.xet_shards.proofs.Tables.{length-file_starts}
 use Rattle.xet_shards.proofs.Readback.{after_section, section_at_48}
 use Rattle.xet_shards.proofs.Distinct.{sum_distinct, all_marked, sum_marked}
-use Rattle.xet_shards.proofs.Lookups.{stored_begins, length-stored, rows_in_front}
+use Rattle.xet_shards.proofs.Lookups.{length-stored, rows_in_front}
 
 -- a record for where a list has none
 abbrev pub no_record : MDBFileInfo
@@ -234,7 +235,7 @@ module _ (files : List MDBFileInfo) (xorbs : List MDBXorbInfo) (form : Form) (is
         flat_map record_text after ++ rest,
         sym (drop-drop (48 * start_at i) 48 old.bytes)
             ∙ ap (drop (48 * start_at i)) (ap (drop 48) are ∙ section_at_48 files xorbs form)
-            ∙ rest_is (48 * start_at i) (flat_map record_text files ++ rest) (flat_map record_text before) ((record_text (file_at i) ++ flat_map record_text after) ++ rest) (length-texts before widths)
+            ∙ rest_is (48 * start_at i) (flat_map record_text files ++ rest) (flat_map record_text before) ((record_text (file_at i) ++ flat_map record_text after) ++ rest) (length-texts record_text row_count FitsRecord length-record_text before widths)
             (ap (λ xs. xs ++ rest) texts ∙ append_assoc (flat_map record_text before) (record_text (file_at i) ++ flat_map record_text after) rest)
             ∙ append_assoc (record_text (file_at i)) (flat_map record_text after) rest,
       )
@@ -253,7 +254,7 @@ module _ (files : List MDBFileInfo) (xorbs : List MDBXorbInfo) (form : Form) (is
       → (h ≡ (file_at i).metadata) × (rest ≡ rows_text (file_at i) ++ (record_stands i within).0)
   header_is i h rest within fits begins =
       let here = record_stands i within in
-      let whole = stored_begins (drop (row_at 48 (start_at i)) old.bytes) (file_at i) here.0 (stored_at i within) here.1 in
+      let whole = stored_begins file_records file_laws (drop (row_at 48 (start_at i)) old.bytes) (file_at i) here.0 (stored_at i within) here.1 in
       header_row-front h (file_at i).metadata rest (rows_text (file_at i) ++ here.0) fits whole.widths (sym begins ∙ whole.bytes_are)
 
   -- the rows of a record and of those before it
@@ -265,7 +266,7 @@ module _ (files : List MDBFileInfo) (xorbs : List MDBXorbInfo) (form : Form) (is
   row_count_is i within = row_count-whole (file_at i) (stored_at i within).whole
 
   -- reading it takes no more than its text
-  pub text_is_enough : (i n : ℕ) → i < length files → MayTake (drop (row_at 48 (start_at i)) old.bytes) n → n ≤ length (record_text (file_at i))
+  pub text_is_enough : (i n : ℕ) → i < length files → MayTake file_records (drop (row_at 48 (start_at i)) old.bytes) n → n ≤ length (record_text (file_at i))
   text_is_enough i n within (inl few) = omega (arith, few, length-stored (file_at i) (stored_at i within))
   text_is_enough i n within (inr (h, rest, begins, most)) =
       omega (arith, most, length-stored (file_at i) (stored_at i within), ap rows_after (header_is i h rest within begins.widths begins.bytes_are).0)
@@ -383,21 +384,21 @@ module _ (files : List MDBFileInfo) (xorbs : List MDBXorbInfo) (form : Form) (is
         contains refusal
 
     -- the texts of the records that were read are those of files that share the word
-    pub texts_share : (n : ℕ) (taken : List ℕ) → AllZip (λ row k. MayTake (drop (row_at 48 row) old.bytes) k) (take n (map (λ h. h.value) found)) taken
+    pub texts_share : (n : ℕ) (taken : List ℕ) → AllZip (λ row k. MayTake file_records (drop (row_at 48 row) old.bytes) k) (take n (map (λ h. h.value) found)) taken
         → sum taken ≤ length (flat_map record_text (sharing word files))
     texts_share n taken zip =
         let weight : MDBFileInfo → ℕ = λ r. length (record_text r) in
         let f : ℕ → ℕ = λ i. if (file_hash_of (file_at i)).word0 == word then weight (file_at i) else 0 in
-        let most : All (λ h. (k : ℕ) → MayTake (drop (row_at 48 h.value) old.bytes) k → k ≤ f h.row) found =
-        All-weaker (IsHit table word IsNumber) (λ h. (k : ℕ) → MayTake (drop (row_at 48 h.value) old.bytes) k → k ≤ f h.row)
+        let most : All (λ h. (k : ℕ) → MayTake file_records (drop (row_at 48 h.value) old.bytes) k → k ≤ f h.row) found =
+        All-weaker (IsHit table word IsNumber) (λ h. (k : ℕ) → MayTake file_records (drop (row_at 48 h.value) old.bytes) k → k ≤ f h.row)
         (λ h hit k takes. let known = hit_is word h hit in omega (
           arith,
           cond-true {A = ℕ} _ (weight (file_at h.row)) 0 (eq-eqb _ _ known.1),
-          text_is_enough h.row k known.0 (subst (λ v. MayTake (drop (row_at 48 v) old.bytes) k) known.2 takes),
+          text_is_enough h.row k known.0 (subst (λ v. MayTake file_records (drop (row_at 48 v) old.bytes) k) known.2 takes),
         )) found each in
         omega (
           arith,
-          sum-taken (λ row k. MayTake (drop (row_at 48 row) old.bytes) k) (λ h. f h.row) found n taken most zip,
+          sum-taken (λ row k. MayTake file_records (drop (row_at 48 row) old.bytes) k) (λ h. f h.row) found n taken most zip,
           sum_distinct f (length files) found distinct rows_below,
           sum_marked (λ r. (file_hash_of r).word0 == word) weight files no_record (length files) (omega arith),
           ap (λ rs. sum_by weight (sharing word rs)) (take_all (length files) files (omega arith)),
@@ -438,7 +439,7 @@ module _ (files : List MDBFileInfo) (xorbs : List MDBXorbInfo) (form : Form) (is
           bounded.read,
           table_hits word,
           texts_share word looks.found looks.are_hits.each looks.are_hits.distinct n visits.taken
-              (subst (λ bytes. AllZip (λ row k. MayTake (drop (row_at 48 row) bytes) k) (take n rows) visits.taken) looks.kept visits.may_take),
+              (subst (λ bytes. AllZip (λ row k. MayTake file_records (drop (row_at 48 row) bytes) k) (take n rows) visits.taken) looks.kept visits.may_take),
         );
       }
 

@@ -1,31 +1,23 @@
 -- The lengths of header, file section and footer.
-use Rattle.std.proofs.Common.{◌≡◌, ◌+◌, ◌*◌, List, [], ◌∷◌, flat_map, length, refl, ◌∙◌, arith}
+use Rattle.std.proofs.Common.{◌≡◌, ◌+◌, ◌*◌, List, flat_map, length, ◌∙◌, arith}
 use Rattle.std.specs.Prelude.{All}
 use Rattle.std.proofs.lemmas.List.{length-append}
-use Rattle.std.proofs.lemmas.List.Elements.{All-drop}
-use Rattle.std.proofs.lemmas.List.Sums.{sum_by-cons}
 use Rattle.xet_base.specs.Bytes.{u64_bytes}
 use Rattle.xet_base.proofs.Bytes.{length-u64_bytes, length-hash_bytes, length-numbers}
 use Rattle.xet_records.specs.declared.file_structs.MDBFileInfo.{MDBFileInfo}
 use Rattle.xet_records.specs.FileRow.{header_row}
 use Rattle.xet_records.specs.FileRecord.{record_text, row_count, file_bookend, FitsRecord}
-use Rattle.xet_records.proofs.Lengths.{length-header_row, length-record_text}
+use Rattle.xet_records.proofs.Lengths.{length-header_row, length-record_text, length-texts}
 use Rattle.xet_shards.specs.declared.shard_format.header.MDBShardFileHeader.{MDBShardFileHeader}
 use Rattle.xet_shards.specs.declared.shard_format.footer.MDBShardFileFooter.{MDBShardFileFooter}
 use Rattle.xet_shards.specs.Shard.{total_rows}
 use Rattle.xet_shards.specs.Section.{file_section}
 use Rattle.xet_shards.specs.Layout.{header_text, footer_text}
 
-pub length-texts : (files : List MDBFileInfo) → All FitsRecord files → length (flat_map record_text files) ≡ 48 * total_rows files
-length-texts [] fit = refl
-length-texts (r ∷ files) fit =
-    length-append (record_text r) (flat_map record_text files)
-    ∙ omega (arith, length-record_text r (fit 0 r (omega arith)), length-texts files (All-drop FitsRecord 1 (r ∷ files) fit), sum_by-cons row_count r files)
-
 pub length-file_section : (files : List MDBFileInfo) → All FitsRecord files → length (file_section files) ≡ 48 * total_rows files + 48
 unfolding file_section
 length-file_section files fit =
-    length-append (flat_map record_text files) (header_row file_bookend) ∙ omega (arith, length-texts files fit, length-header_row file_bookend)
+    length-append (flat_map record_text files) (header_row file_bookend) ∙ omega (arith, length-texts record_text row_count FitsRecord length-record_text files fit, length-header_row file_bookend)
 
 pub length-header_text : (h : MDBShardFileHeader) → length (header_text h) ≡ 48
 unfolding header_text

@@ -3,7 +3,7 @@ use Rattle.std.proofs.Common.{◌≡◌, ◌≢◌, inl, inr, ℕ, ◌+◌, ◌*
 use Rattle.std.specs.Prelude.{IfOk}
 use Rattle.std.specs.declared.result.Result.{Result}
 use Rattle.std.proofs.lemmas.Result.{IfOk-weaker}
-use Rattle.std.proofs.lemmas.List.{length-append, length-map, append_assoc}
+use Rattle.std.proofs.lemmas.List.{length-append, length-map}
 use Rattle.xet_base.specs.Table.{Table, Serves, IsSorted, Bounded, Hit, IsHit, Finds, value_at}
 use Rattle.std.proofs.lemmas.List.Elements.{AllZip-push, All-nil, All-push, All-weaker}
 use Rattle.std.proofs.lemmas.List.Sums.{sum_by-append}
@@ -15,22 +15,15 @@ use Rattle.xet_base.proofs.Lists.{front_is}
 use Rattle.xet_base.proofs.Reading.{Takes-consumes}
 use Rattle.xet_records.specs.declared.file_structs.MDBFileInfo.{MDBFileInfo}
 use Rattle.xet_records.specs.FileRow.{header_row}
-use Rattle.xet_records.specs.FileRecord.{record_text, rows_text, rows_after, IsStored}
-use Rattle.xet_records.specs.Reading.{ReadsBookend, BeginsWithHeader}
+use Rattle.xet_records.specs.FileRecord.{record_text, rows_text, rows_after, IsStored, file_records}
+use Rattle.xet_records.specs.Reading.{ReadsBookend}
 use Rattle.xet_records.proofs.Lengths.{length-header_row, length-record_text}
 use Rattle.xet_records.proofs.Record.{row_count-whole}
+use Rattle.xet_records.proofs.RecordKinds.{file_laws, stored_begins}
 use Rattle.xet_shards.specs.SectionReading.{MayTake, BeginsWithBookend, PassesLimit, EndsEarly, SectionFailure, ReadsNext, RecordFails}
 use Rattle.xet_shards.specs.Lookup.{IsNumber, Collides, IndexFinds, VisitsSome, LooksUp, LookupAnswer, LookupRefused, Finding, FindingNot, row_at, RecordAt, IsBareInternalError, InfoRefusal, ReadsInfo, ReadsInfoNot, Visits, Missed}
 
--- the bytes of a stored record begin with its header
-pub stored_begins : (bytes : List ℕ) (r : MDBFileInfo) (rest : List ℕ) → IsStored r → bytes ≡ record_text r ++ rest → BeginsWithHeader bytes r.metadata (rows_text r ++ rest)
-unfolding record_text
-stored_begins bytes r rest stored are = record {
-  widths = stored.widths.metadata;
-  is_file = stored.is_file;
-  bytes_are = are ∙ append_assoc (header_row r.metadata) (rows_text r) rest;
-}
-
+-- a stored record has the rows that its header announces, and the header
 pub length-stored : (r : MDBFileInfo) → IsStored r → length (record_text r) ≡ 48 * (1 + rows_after r.metadata)
 length-stored r stored = length-record_text r stored.widths ∙ ap (λ n. 48 * n) (row_count-whole r stored.whole)
 
@@ -39,7 +32,7 @@ module _ (offset row : ℕ) (old mid new : Source) (fits : row_at offset row < 2
   left_is : bytes_left mid ≡ drop (row_at offset row) old.bytes
   left_is = ap (λ (s : Source). bytes_left s) sought
 
-  pub info_read : (left after : ℕ) (found : MDBFileInfo) → ReadsNext mid new left after found → ReadsInfo offset row old new found
+  pub info_read : (left after : ℕ) (found : MDBFileInfo) → ReadsNext file_records mid new left after found → ReadsInfo offset row old new found
   info_read left after found next =
       let read = next.reads in
       let are : drop (row_at offset row) old.bytes ≡ record_text read.stored ++ bytes_left new = sym left_is ∙ Takes-consumes mid new (record_text read.stored) read.taken in
@@ -54,12 +47,12 @@ module _ (offset row : ℕ) (old mid new : Source) (fits : row_at offset row < 2
         may_take = inr (
           read.stored.metadata,
           rows_text read.stored ++ bytes_left new,
-          stored_begins _ read.stored (bytes_left new) read.is_stored are,
+          stored_begins file_records file_laws (drop (row_at offset row) old.bytes) read.stored (bytes_left new) read.is_stored are,
           omega (arith, length-stored read.stored read.is_stored),
         );
       }
 
-  pub info_bookend : (e : CoreError) → IsBareInternalError e → ReadsBookend (Takes mid new) → ReadsInfoNot offset row old new e
+  pub info_bookend : (e : CoreError) → IsBareInternalError e → ReadsBookend file_records (Takes mid new) → ReadsInfoNot offset row old new e
   info_bookend e bare read = record {
     bytes = ap (λ (s : Source). s.bytes) read.taken.after ∙ ap (λ (s : Source). s.bytes) sought;
     seeks = omega (arith, ap (λ (s : Source). s.seeks) read.taken.after, ap (λ (s : Source). s.seeks) sought);
@@ -79,14 +72,14 @@ module _ (offset row : ℕ) (old mid new : Source) (fits : row_at offset row < 2
     ));
   }
 
-  pub info_fails : (e : CoreError) → RecordFails 4294967296 mid new e → ReadsInfoNot offset row old new e
+  pub info_fails : (e : CoreError) → RecordFails file_records 4294967296 mid new e → ReadsInfoNot offset row old new e
   info_fails e fails = record {
     bytes = fails.bytes ∙ ap (λ (s : Source). s.bytes) sought;
     seeks = omega (arith, fails.seeks, ap (λ (s : Source). s.seeks) sought);
     taken = fails.taken;
     read = omega (arith, fails.read, ap (λ (s : Source). s.read) sought);
-    may_take = subst (λ bytes. MayTake bytes fails.taken) left_is fails.may_take;
-    cause = inr (inr (failure_after (PassesLimit 4294967296) (EndsEarly 4294967296) (drop (row_at offset row) old.bytes) (ap (λ (s : Source). s.failures) sought) (subst (λ bytes. SectionFailure (PassesLimit 4294967296) (EndsEarly 4294967296) bytes mid new e) left_is fails.cause)));
+    may_take = subst (λ bytes. MayTake file_records bytes fails.taken) left_is fails.may_take;
+    cause = inr (inr (failure_after (PassesLimit file_records 4294967296) (EndsEarly file_records 4294967296) (drop (row_at offset row) old.bytes) (ap (λ (s : Source). s.failures) sought) (subst (λ bytes. SectionFailure (PassesLimit file_records 4294967296) (EndsEarly file_records 4294967296) bytes mid new e) left_is fails.cause)));
   }
     where
       failure_after : (Passes Ends : List ℕ → Type 0) (bytes : List ℕ) → mid.failures ≡ old.failures → SectionFailure Passes Ends bytes mid new e → SectionFailure Passes Ends bytes old new e
@@ -97,13 +90,13 @@ module _ (offset row : ℕ) (old mid new : Source) (fits : row_at offset row < 2
 
 -- one record more
 pub visits_more : (offset row n : ℕ) (rows : List ℕ) (old now new : Source) → Visits offset rows old now → new.bytes ≡ now.bytes → new.seeks ≤ now.seeks + 1
-    → new.read ≤ now.read + n → MayTake (drop (row_at offset row) now.bytes) n → Visits offset (rows ++ row ∷ []) old new
+    → new.read ≤ now.read + n → MayTake file_records (drop (row_at offset row) now.bytes) n → Visits offset (rows ++ row ∷ []) old new
 visits_more offset row n rows old now new before bytes seeks read may_take = record {
   bytes = bytes ∙ before.bytes;
   seeks = omega (arith, seeks, before.seeks, length-append rows (row ∷ []));
   taken = before.taken ++ n ∷ [];
-  may_take = AllZip-push (λ r k. MayTake (drop (row_at offset r) old.bytes) k) rows before.taken row n before.may_take
-      (subst (λ bs. MayTake (drop (row_at offset row) bs) n) before.bytes may_take);
+  may_take = AllZip-push (λ r k. MayTake file_records (drop (row_at offset r) old.bytes) k) rows before.taken row n before.may_take
+      (subst (λ bs. MayTake file_records (drop (row_at offset row) bs) n) before.bytes may_take);
   read = omega (arith, read, before.read, sum_by-append (λ k. k) before.taken (n ∷ []));
 }
 
@@ -140,13 +133,13 @@ pub refusal_after : (offset row : ℕ) (old now new : Source) (e : CoreError) �
     → InfoRefusal offset row old new e
 refusal_after offset row old now new e bytes same (inl (none, bare, past)) = inl (none ∙ same, bare, past)
 refusal_after offset row old now new e bytes same (inr (inl (none, bare, bookend))) =
-    inr (inl (none ∙ same, bare, subst (λ bs. BeginsWithBookend (drop (row_at offset row) bs)) bytes bookend))
+    inr (inl (none ∙ same, bare, subst (λ bs. BeginsWithBookend file_records (drop (row_at offset row) bs)) bytes bookend))
 refusal_after offset row old now new e bytes same (inr (inr (inl failed))) = inr (inr (inl (failed.0 ∙ ap (λ k. k + 1) same, failed.1, failed.2, failed.3)))
 refusal_after offset row old now new e bytes same (inr (inr (inr (inl (none, no_memory))))) = inr (inr (inr (inl (none ∙ same, no_memory))))
 refusal_after offset row old now new e bytes same (inr (inr (inr (inr (inl (none, is, passes)))))) =
-    inr (inr (inr (inr (inl (none ∙ same, is, subst (λ bs. PassesLimit 4294967296 (drop (row_at offset row) bs)) bytes passes)))))
+    inr (inr (inr (inr (inl (none ∙ same, is, subst (λ bs. PassesLimit file_records 4294967296 (drop (row_at offset row) bs)) bytes passes)))))
 refusal_after offset row old now new e bytes same (inr (inr (inr (inr (inr (none, is, ends)))))) =
-    inr (inr (inr (inr (inr (none ∙ same, is, subst (λ bs. EndsEarly 4294967296 (drop (row_at offset row) bs)) bytes ends)))))
+    inr (inr (inr (inr (inr (none ∙ same, is, subst (λ bs. EndsEarly file_records 4294967296 (drop (row_at offset row) bs)) bytes ends)))))
 
 -- places for eight results that are all taken are eight hits
 pub collides : (t : Table) (key count : ℕ) (old new : List ℕ) → Finds t key IsNumber old new count → length old ≡ 8 → length new ≡ 8 → 8 ≤ count → Collides t key

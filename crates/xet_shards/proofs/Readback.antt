@@ -1,5 +1,5 @@
 -- What is read from the bytes of a shard.
-use Rattle.std.proofs.Common.{◌≡◌, ◌⊎◌, inl, inr, Ok, Err, ℕ, List, [], ◌∷◌, ◌++◌, map, flat_map, drop, Option, None, Some, refl, sym, ap, ◌∙◌, subst, arith}
+use Rattle.std.proofs.Common.{◌≡◌, ◌⊎◌, inl, inr, Ok, Err, ℕ, List, [], ◌∷◌, ◌++◌, map, flat_map, drop, Option, None, Some, refl, sym, ap, ◌∙◌, arith}
 use Rattle.std.specs.Prelude.{All, IfSome, MatchResult, option_map}
 use Rattle.std.specs.FinMap.{entries, values}
 use Rattle.std.specs.declared.result.Result.{Result}
@@ -14,8 +14,10 @@ use Rattle.xet_records.specs.declared.file_structs.FileVerificationEntry.{FileVe
 use Rattle.xet_records.specs.declared.file_structs.FileMetadataExt.{FileMetadataExt}
 use Rattle.xet_records.specs.declared.file_structs.MDBFileInfo.{MDBFileInfo}
 use Rattle.xet_records.specs.declared.xorb_structs.MDBXorbInfo.{MDBXorbInfo}
+use Rattle.xet_records.specs.RecordKind.{RecordKind}
+use Rattle.xet_records.proofs.RecordKinds.{KindLaws}
 use Rattle.xet_records.specs.FileRow.{header_row, clear_verification, clear_metadata}
-use Rattle.xet_records.specs.FileRecord.{record_text, file_bookend, handed_out, IsWellFormed}
+use Rattle.xet_records.specs.FileRecord.{record_text, file_bookend, handed_out, IsWellFormed, file_records}
 use Rattle.xet_shards.specs.Shard.{Shard, IsShard}
 use Rattle.xet_shards.specs.Section.{file_section, xorb_section}
 use Rattle.xet_shards.specs.Tables.{file_table_bytes, xorb_table_bytes, chunk_table_bytes}
@@ -64,7 +66,7 @@ module _ (files : List MDBFileInfo) (xorbs : List MDBXorbInfo) (form : Form) whe
       rest_is 48 (layout_of files xorbs form) (header_text header_value) (file_section files ++ after_section) (length-header_text header_value) layout_from_48
       ∙ append_assoc (flat_map record_text files) (header_row file_bookend) after_section
 
-pub section_of_shard : (s : Shard) (expiry : Option ℕ) → IsShard s → IsSection (drop 48 (layout s expiry)) (values s.files)
+pub section_of_shard : (s : Shard) (expiry : Option ℕ) → IsShard s → IsSection file_records (drop 48 (layout s expiry)) (values s.files)
 section_of_shard s expiry shard =
     let good : All IsWellFormed (values s.files) = well_formed_values (entries s.files) shard.files in
     record {
@@ -83,28 +85,16 @@ section_of_shard s expiry shard =
       };
     }
 
--- on these bytes the section is read, unless the device fails or memory is refused
-pub reads_written : (old new : Source) (s : Shard) (expiry : Option ℕ) (found : List MDBFileInfo) → IsShard s → old.bytes ≡ layout s expiry → ReadsSection old new 48 found
-    → found ≡ values s.files
-reads_written old new s expiry found shard are reads =
-    let same = only_list (drop 48 old.bytes) reads.stored (values s.files) reads.section (subst (λ bs. IsSection (drop 48 bs) (values s.files)) (sym are) (section_of_shard s expiry shard)) in
-    sym reads.handed ∙ ap (map handed_out) same ∙ handed_same (values s.files) (well_formed_values (entries s.files) shard.files)
+-- bytes that are a section of records are read as these, unless the device fails or memory is refused
+module _ {H R : Type 0} (K : RecordKind H R) (laws : KindLaws K) (old new : Source) (at : ℕ) (rs : List R) (section : IsSection K (drop at old.bytes) rs) where
+  why_not : (e : CoreError) → SectionFailure (PassesRows K) (IsCutSection K) (drop at old.bytes) old new e → DeviceFailure old new e ⊎ (e ≡ OutOfMemory)
+  why_not e (inl failed) = inl failed
+  why_not e (inr (inl (none, no_memory))) = inr no_memory
+  why_not e (inr (inr (inl (none, is, passes)))) = absurd (section_or_passes K laws (drop at old.bytes) rs section passes)
+  why_not e (inr (inr (inr (none, is, ends)))) = absurd (section_or_cut K laws (drop at old.bytes) rs section ends)
 
-why_written : (bytes : List ℕ) (stored : List MDBFileInfo) (old new : Source) (e : CoreError) → IsSection bytes stored → SectionFailure PassesRows IsCutSection bytes old new e
-    → DeviceFailure old new e ⊎ (e ≡ OutOfMemory)
-why_written bytes stored old new e section (inl failed) = inl failed
-why_written bytes stored old new e section (inr (inl (none, no_memory))) = inr no_memory
-why_written bytes stored old new e section (inr (inr (inl (none, is, passes)))) = absurd (section_or_passes bytes stored section passes)
-why_written bytes stored old new e section (inr (inr (inr (none, is, ends)))) = absurd (section_or_cut bytes stored section ends)
-
-pub fails_written : (old new : Source) (s : Shard) (expiry : Option ℕ) (e : CoreError) → IsShard s → old.bytes ≡ layout s expiry → SectionFails old new 48 e
-    → DeviceFailure old new e ⊎ (e ≡ OutOfMemory)
-fails_written old new s expiry e shard are fails =
-    why_written (drop 48 old.bytes) (values s.files) old new e (subst (λ bs. IsSection (drop 48 bs) (values s.files)) (sym are) (section_of_shard s expiry shard)) fails.cause
-
--- the same of a result
-pub whole_read : {Z : Type 0} (old new : Source) (s : Shard) (expiry : Option ℕ) (r : Result (Vec MDBFileInfo Z) CoreError) → IsShard s → old.bytes ≡ layout s expiry
-    → MatchResult r (λ found. ReadsSection old new 48 found.items) (SectionFails old new 48)
-    → MatchResult r (λ found. found.items ≡ values s.files) (λ e. DeviceFailure old new e ⊎ (e ≡ OutOfMemory))
-whole_read old new s expiry (Ok found) shard are read = reads_written old new s expiry found.items shard are read
-whole_read old new s expiry (Err e) shard are fails = fails_written old new s expiry e shard are fails
+  pub whole_read : {Z : Type 0} (r : Result (Vec R Z) CoreError) → map K.handed_out rs ≡ rs
+      → MatchResult r (λ found. ReadsSection K old new at found.items) (SectionFails K old new at)
+      → MatchResult r (λ found. found.items ≡ rs) (λ e. DeviceFailure old new e ⊎ (e ≡ OutOfMemory))
+  whole_read (Ok found) same reads = sym reads.handed ∙ ap (map K.handed_out) (only_list K laws (drop at old.bytes) reads.stored rs reads.section section) ∙ same
+  whole_read (Err e) same fails = why_not e fails.cause

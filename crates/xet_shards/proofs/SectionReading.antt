@@ -1,5 +1,5 @@
 -- The turns of the loop that reads a section.
-use Rattle.std.proofs.Common.{◌≡◌, ◌≢◌, ◌⊎◌, inl, inr, ℕ, ◌+◌, ◌*◌, ◌<◌, ◌≤◌, List, [], ◌∷◌, ◌++◌, length, flat_map, drop, append-nil, sym, ap, ◌∙◌, subst, refl, arith}
+use Rattle.std.proofs.Common.{◌≡◌, ◌≢◌, ◌⊎◌, inl, inr, ℕ, ◌+◌, ◌*◌, ◌<◌, ◌≤◌, List, [], ◌∷◌, ◌++◌, length, flat_map, drop, append-nil, refl, sym, ap, ◌∙◌, subst, arith}
 use Rattle.std.proofs.lemmas.List.{map-append}
 use Rattle.std.proofs.lemmas.List.Elements.{All-append, All-cons, All-nil}
 use Rattle.std.proofs.lemmas.List.Sums.{sum_by_push}
@@ -10,21 +10,12 @@ use Rattle.xet_base.specs.Errors.{IsInvalidShard}
 use Rattle.xet_base.specs.Hash.{all_ones}
 use Rattle.xet_base.specs.Source.{Source, Takes, ReadFailure, ReadFails, moved, bytes_left}
 use Rattle.xet_base.proofs.Reading.{Takes-nil, Takes-trans, Takes-consumes, lacks_left}
-use Rattle.xet_records.specs.declared.file_structs.FileDataSequenceHeader.{FileDataSequenceHeader}
-use Rattle.xet_records.specs.declared.file_structs.MDBFileInfo.{MDBFileInfo}
-use Rattle.xet_records.specs.FileRow.{header_row, FitsHeader}
-use Rattle.xet_records.specs.FileRecord.{record_text, row_count, rows_after, IsStored, handed_out}
+use Rattle.xet_records.specs.RecordKind.{RecordKind}
 use Rattle.xet_records.specs.Rows.{ReadsRow}
 use Rattle.xet_records.specs.Reading.{ReadsBookend, ReadsRowsAfter, BeginsWithHeader}
-use Rattle.xet_records.proofs.Lengths.{length-header_row}
-use Rattle.xet_records.proofs.Record.{row_count-whole, whole_record}
-use Rattle.xet_shards.proofs.Layouts.{length-texts}
+use Rattle.xet_records.proofs.Lengths.{length-texts}
+use Rattle.xet_records.proofs.RecordKinds.{KindLaws, length-text, whole_record}
 use Rattle.xet_shards.specs.SectionReading.{HoldsRecords, PassesLimit, EndsEarly, PassesRows, IsCutSection, ReadsSection, SectionFailure, SectionFails, HasRead, ReadsNext, RecordFails, rows_left}
-
--- the header at the front of the bytes that were left
-begins_with : (old mid : Source) (h : FileDataSequenceHeader) → FitsHeader h → h.file_hash ≢ all_ones → Takes old mid (header_row h)
-    → BeginsWithHeader (bytes_left old) h (bytes_left mid)
-begins_with old mid h fits is_file taken = record { widths = fits; is_file = is_file; bytes_are = Takes-consumes old mid (header_row h) taken }
 
 -- a read of n bytes was refused, after calls that did not fail
 refused_as : (Passes Ends : List ℕ → Type 0) (bytes : List ℕ) (old mid new : Source) (n : ℕ) (e : CoreError) → mid.failures ≡ old.failures
@@ -34,134 +25,147 @@ refused_as Passes Ends bytes old mid new n e same ends (inl (inl failed)) = inl 
 refused_as Passes Ends bytes old mid new n e same ends (inl (inr (none, ended, short))) = inr (inr (inr (none ∙ same, ended, ends short)))
 refused_as Passes Ends bytes old mid new n e same ends (inr (none, no_memory)) = inr (inl (none ∙ same, no_memory))
 
--- no header was read
-pub no_header : (left : ℕ) (old new : Source) (e : CoreError) → ReadFails old new 48 e → RecordFails left old new e
-no_header left old new e fails = record {
-  bytes = fails.bytes;
-  seeks = fails.seeks;
-  taken = 48;
-  read = fails.read;
-  may_take = inl (omega arith);
-  cause = refused_as (PassesLimit left) (EndsEarly left) (bytes_left old) old old new 48 e refl (λ short. inl (lacks_left old 48 (omega arith) short)) fails.cause;
-}
-
--- the header announces more rows than are left
-pub too_many : (left : ℕ) (old mid : Source) (h : FileDataSequenceHeader) (e : CoreError) → FitsHeader h → h.file_hash ≢ all_ones → Takes old mid (header_row h)
-    → left < 1 + rows_after h → IsInvalidShard e → RecordFails left old mid e
-too_many left old mid h e fits is_file taken past is = record {
-  bytes = ap (λ (s : Source). s.bytes) taken.after;
-  seeks = ap (λ (s : Source). s.seeks) taken.after;
-  taken = 48;
-  read = omega (arith, ap (λ (s : Source). s.read) taken.after, length-header_row h);
-  may_take = inl (omega arith);
-  cause = inr (inr (inl (ap (λ (s : Source). s.failures) taken.after, is, (h, bytes_left mid, begins_with old mid h fits is_file taken, past))));
-}
-
--- the rows that the header announces were not read
-pub no_rows : (left : ℕ) (old mid new : Source) (h : FileDataSequenceHeader) (e : CoreError) → FitsHeader h → h.file_hash ≢ all_ones → Takes old mid (header_row h)
-    → 1 + rows_after h ≤ left → ReadFails mid new (48 * rows_after h) e → RecordFails left old new e
-no_rows left old mid new h e fits is_file taken within fails =
-    let bytes : mid.bytes ≡ old.bytes = ap (λ (s : Source). s.bytes) taken.after in
-    let some : 0 < length (header_row h) = omega (arith, length-header_row h) in
-    let at : mid.at ≡ old.at + length (header_row h) = ap (λ (s : Source). s.at) taken.after in
-    let inside : mid.at ≤ length mid.bytes = omega (arith, at, taken.within some, ap length bytes) in
-    record {
-      bytes = fails.bytes ∙ bytes;
-      seeks = fails.seeks ∙ ap (λ (s : Source). s.seeks) taken.after;
-      taken = 48 * (1 + rows_after h);
-      read = omega (arith, fails.read, ap (λ (s : Source). s.read) taken.after, length-header_row h);
-      may_take = inr (h, bytes_left mid, begins_with old mid h fits is_file taken, omega arith);
-      cause = refused_as (PassesLimit left) (EndsEarly left) (bytes_left old) old mid new (48 * rows_after h) e (ap (λ (s : Source). s.failures) taken.after)
-          (λ short. inr (h, bytes_left mid, begins_with old mid h fits is_file taken, within, lacks_left mid (48 * rows_after h) (omega (arith, short, inside)) short)) fails.cause;
-    }
-
--- a record was read
-pub next_record : (left after : ℕ) (old mid new : Source) (h : FileDataSequenceHeader) (found : MDBFileInfo) → FitsHeader h → h.file_hash ≢ all_ones
-    → Takes old mid (header_row h) → 1 + rows_after h ≤ left → left ≤ 4294967296 → after + (1 + rows_after h) ≡ left → ReadsRowsAfter h (Takes mid new) found → ReadsNext old new left after found
-next_record left after old mid new h found fits is_file taken within few rows read =
-    let same : h ≡ found.metadata = sym read.same_header ∙ ap (λ (r : MDBFileInfo). r.metadata) read.handed in
-    record {
-      reads = whole_record (Takes old mid) (Takes mid new) (Takes old new) h found (Takes-trans old mid new) fits is_file taken read (omega (arith, within, few));
-      rows = ap (λ (k : FileDataSequenceHeader). after + (1 + rows_after k)) (sym same) ∙ rows;
-    }
-
--- before the first record
-pub nothing_read : (start : Source) → HasRead start start [] 4294967295
-nothing_read start = record { stored = []; are_stored = All-nil IsStored; taken = Takes-nil start; rows = refl; handed = refl }
-
--- one record more
-pub more_read : (start now new : Source) (found : List MDBFileInfo) (left after : ℕ) (r : MDBFileInfo) → HasRead start now found left → ReadsNext now new left after r
-    → HasRead start new (found ++ r ∷ []) after
-more_read start now new found left after r before next =
-    let x = next.reads.stored in
-    let header : x.metadata ≡ r.metadata = ap (λ (k : MDBFileInfo). k.metadata) next.reads.handed in
-    let rows : row_count x ≡ 1 + rows_after r.metadata = row_count-whole x next.reads.is_stored.whole ∙ ap (λ (k : FileDataSequenceHeader). 1 + rows_after k) header in
-    record {
-      stored = before.stored ++ x ∷ [];
-      are_stored = All-append IsStored before.stored (x ∷ []) before.are_stored (All-cons IsStored x [] next.reads.is_stored (All-nil IsStored));
-      taken = subst (Takes start new) (ap (λ bs. flat_map record_text before.stored ++ bs) (sym (append-nil (record_text x))) ∙ sym (flat_map-append record_text before.stored (x ∷ [])))
-          (Takes-trans start now new (flat_map record_text before.stored) (record_text x) before.taken next.reads.taken);
-      rows = omega (arith, sum_by_push row_count before.stored x, before.rows, next.rows, rows);
-      handed = map-append handed_out before.stored (x ∷ []) ∙ (λ i. before.handed i ++ next.reads.handed i ∷ []);
-    }
-
--- the bytes of the section, as far as the records that were read
-module _ (old now : Source) (at : ℕ) (found : List MDBFileInfo) (left : ℕ) (read : HasRead (moved old at) now found left) where
-  holds : HoldsRecords (drop at old.bytes) read.stored (bytes_left now)
-  holds = record {
-    are_stored = read.are_stored;
-    rows = omega (arith, read.rows);
-    bytes_are = Takes-consumes (moved old at) now (flat_map record_text read.stored) read.taken;
-  }
-
-  left_is : left ≡ rows_left read.stored
-  left_is = omega (arith, read.rows)
-
-  bytes_then : now.bytes ≡ old.bytes
-  bytes_then = ap (λ (s : Source). s.bytes) read.taken.after
-
-  seeks_then : now.seeks ≡ old.seeks + 1
-  seeks_then = ap (λ (s : Source). s.seeks) read.taken.after
-
-  failures_then : now.failures ≡ old.failures
-  failures_then = ap (λ (s : Source). s.failures) read.taken.after
-
-  pub section_ends : (new : Source) → ReadsBookend (Takes now new) → ReadsSection old new at found
-  section_ends new last = record {
-    stored = read.stored;
-    section = record {
-      rest = bytes_left now;
-      records = holds;
-      bookend = record { header = last.header; rest = bytes_left new; widths = last.widths; is_bookend = last.is_bookend; bytes_are = Takes-consumes now new (header_row last.header) last.taken };
-    };
-    handed = read.handed;
-    bytes = ap (λ (s : Source). s.bytes) last.taken.after ∙ bytes_then;
-    seeks = ap (λ (s : Source). s.seeks) last.taken.after ∙ seeks_then;
-    read = omega (
-      arith,
-      ap (λ (s : Source). s.read) last.taken.after,
-      ap (λ (s : Source). s.read) read.taken.after,
-      length-header_row last.header,
-      length-texts read.stored (λ k r below. (read.are_stored k r below).widths),
-    );
-    failures = ap (λ (s : Source). s.failures) last.taken.after ∙ failures_then;
-  }
-
-  whole_cause : (new : Source) (e : CoreError) → SectionFailure (PassesLimit left) (EndsEarly left) (bytes_left now) now new e
-      → SectionFailure PassesRows IsCutSection (drop at old.bytes) old new e
-  whole_cause new e (inl failed) = inl (failed.0 ∙ ap (λ k. k + 1) failures_then, failed.1, failed.2, failed.3)
-  whole_cause new e (inr (inl (none, no_memory))) = inr (inl (none ∙ failures_then, no_memory))
-  whole_cause new e (inr (inr (inl (none, is, passes)))) =
-      inr (inr (inl (none ∙ failures_then, is, (read.stored, bytes_left now, holds, subst (λ n. PassesLimit n (bytes_left now)) left_is passes))))
-  whole_cause new e (inr (inr (inr (none, is, ends)))) =
-      inr (inr (inr (none ∙ failures_then, is, (read.stored, bytes_left now, holds, subst (λ n. EndsEarly n (bytes_left now)) left_is ends))))
-
-  pub section_fails : (new : Source) (e : CoreError) → RecordFails left now new e → SectionFails old new at e
-  section_fails new e fails = record { bytes = fails.bytes ∙ bytes_then; seeks = fails.seeks ∙ seeks_then; cause = whole_cause new e fails.cause }
-
-  pub no_memory_for_it : (e : CoreError) → e ≡ OutOfMemory → SectionFails old now at e
-  no_memory_for_it e is = record { bytes = bytes_then; seeks = seeks_then; cause = inr (inl (failures_then, is)) }
-
 -- a header row is handed out as it is stored
-pub plain_header : (Took : List ℕ → Type 0) (h : FileDataSequenceHeader) → ReadsRow header_row FitsHeader (λ k. k) Took h → FitsHeader h × Took (header_row h)
-plain_header Took h read = (subst FitsHeader read.handed read.widths, subst (λ k. Took (header_row k)) read.handed read.taken)
+pub plain_header : {H : Type 0} (row : H → List ℕ) (Fits : H → Type 0) (Took : List ℕ → Type 0) (h : H) → ReadsRow row Fits (λ k. k) Took h → Fits h × Took (row h)
+plain_header row Fits Took h read = (subst Fits read.handed read.widths, subst (λ k. Took (row k)) read.handed read.taken)
+
+module _ {H R : Type 0} (K : RecordKind H R) (laws : KindLaws K) where
+  -- the header at the front of the bytes that were left
+  begins_with : (old mid : Source) (h : H) → K.Fits h → K.hash_of h ≢ all_ones → Takes old mid (K.header_bytes h)
+      → BeginsWithHeader K (bytes_left old) h (bytes_left mid)
+  begins_with old mid h fits is_record taken = record { widths = fits; is_record = is_record; bytes_are = Takes-consumes old mid (K.header_bytes h) taken }
+
+  -- no header was read
+  pub no_header : (left : ℕ) (old new : Source) (e : CoreError) → ReadFails old new 48 e → RecordFails K left old new e
+  no_header left old new e fails = record {
+    bytes = fails.bytes;
+    seeks = fails.seeks;
+    taken = 48;
+    read = fails.read;
+    may_take = inl (omega arith);
+    cause = refused_as (PassesLimit K left) (EndsEarly K left) (bytes_left old) old old new 48 e refl (λ short. inl (lacks_left old 48 (omega arith) short)) fails.cause;
+  }
+
+  -- the header announces more rows than are left
+  pub too_many : (left : ℕ) (old mid : Source) (h : H) (e : CoreError) → K.Fits h → K.hash_of h ≢ all_ones → Takes old mid (K.header_bytes h)
+      → left < 1 + K.rows_after h → IsInvalidShard e → RecordFails K left old mid e
+  too_many left old mid h e fits is_record taken past is = record {
+    bytes = ap (λ (s : Source). s.bytes) taken.after;
+    seeks = ap (λ (s : Source). s.seeks) taken.after;
+    taken = 48;
+    read = omega (arith, ap (λ (s : Source). s.read) taken.after, laws.header_size h);
+    may_take = inl (omega arith);
+    cause = inr (inr (inl (ap (λ (s : Source). s.failures) taken.after, is, (h, bytes_left mid, begins_with old mid h fits is_record taken, past))));
+  }
+
+  -- the rows that the header announces were not read
+  pub no_rows : (left : ℕ) (old mid new : Source) (h : H) (e : CoreError) → K.Fits h → K.hash_of h ≢ all_ones → Takes old mid (K.header_bytes h)
+      → 1 + K.rows_after h ≤ left → ReadFails mid new (48 * K.rows_after h) e → RecordFails K left old new e
+  no_rows left old mid new h e fits is_record taken within fails =
+      let bytes : mid.bytes ≡ old.bytes = ap (λ (s : Source). s.bytes) taken.after in
+      let some : 0 < length (K.header_bytes h) = omega (arith, laws.header_size h) in
+      let at : mid.at ≡ old.at + length (K.header_bytes h) = ap (λ (s : Source). s.at) taken.after in
+      let inside : mid.at ≤ length mid.bytes = omega (arith, at, taken.within some, ap length bytes) in
+      record {
+        bytes = fails.bytes ∙ bytes;
+        seeks = fails.seeks ∙ ap (λ (s : Source). s.seeks) taken.after;
+        taken = 48 * (1 + K.rows_after h);
+        read = omega (arith, fails.read, ap (λ (s : Source). s.read) taken.after, laws.header_size h);
+        may_take = inr (h, bytes_left mid, begins_with old mid h fits is_record taken, omega arith);
+        cause = refused_as (PassesLimit K left) (EndsEarly K left) (bytes_left old) old mid new (48 * K.rows_after h) e (ap (λ (s : Source). s.failures) taken.after)
+            (λ short. inr (h, bytes_left mid, begins_with old mid h fits is_record taken, within, lacks_left mid (48 * K.rows_after h) (omega (arith, short, inside)) short)) fails.cause;
+      }
+
+  -- a record was read
+  pub next_record : (left after : ℕ) (old mid new : Source) (h : H) (found : R) → K.Fits h → K.hash_of h ≢ all_ones
+      → Takes old mid (K.header_bytes h) → 1 + K.rows_after h ≤ left → left ≤ 4294967296 → after + (1 + K.rows_after h) ≡ left → ReadsRowsAfter K h (Takes mid new) found
+      → ReadsNext K old new left after found
+  next_record left after old mid new h found fits is_record taken within few rows read =
+      let same : K.header_of found ≡ h = ap K.header_of (sym read.handed) ∙ laws.same_header read.stored ∙ read.same_header in
+      record {
+        reads = whole_record K laws (Takes old mid) (Takes mid new) (Takes old new) h found (Takes-trans old mid new) fits is_record taken read (omega (arith, within, few));
+        rows = ap (λ (k : H). after + (1 + K.rows_after k)) same ∙ rows;
+      }
+
+  -- before the first record
+  pub nothing_read : (start : Source) → HasRead K start start [] 4294967295
+  nothing_read start = record { stored = []; are_stored = All-nil K.IsStored; taken = Takes-nil start; rows = refl; handed = refl }
+
+  -- one record more
+  pub more_read : (start now new : Source) (found : List R) (left after : ℕ) (r : R) → HasRead K start now found left → ReadsNext K now new left after r
+      → HasRead K start new (found ++ r ∷ []) after
+  more_read start now new found left after r before next =
+      let x = next.reads.stored in
+      let header : K.header_of x ≡ K.header_of r = sym (laws.same_header x) ∙ ap K.header_of next.reads.handed in
+      let rows : K.row_count x ≡ 1 + K.rows_after (K.header_of r) = laws.rows x next.reads.is_stored ∙ ap (λ (k : H). 1 + K.rows_after k) header in
+      record {
+        stored = before.stored ++ x ∷ [];
+        are_stored = All-append K.IsStored before.stored (x ∷ []) before.are_stored (All-cons K.IsStored x [] next.reads.is_stored (All-nil K.IsStored));
+        taken = subst (Takes start new) (ap (λ bs. flat_map K.text before.stored ++ bs) (sym (append-nil (K.text x))) ∙ sym (flat_map-append K.text before.stored (x ∷ [])))
+            (Takes-trans start now new (flat_map K.text before.stored) (K.text x) before.taken next.reads.taken);
+        rows = omega (arith, sum_by_push K.row_count before.stored x, before.rows, next.rows, rows);
+        handed = map-append K.handed_out before.stored (x ∷ []) ∙ (λ i. before.handed i ++ next.reads.handed i ∷ []);
+      }
+
+  -- the bytes of the section, as far as the records that were read
+  module _ (old now : Source) (at : ℕ) (found : List R) (left : ℕ) (read : HasRead K (moved old at) now found left) where
+    holds : HoldsRecords K (drop at old.bytes) read.stored (bytes_left now)
+    holds = record {
+      are_stored = read.are_stored;
+      rows = omega (arith, read.rows);
+      bytes_are = Takes-consumes (moved old at) now (flat_map K.text read.stored) read.taken;
+    }
+
+    left_is : left ≡ rows_left K read.stored
+    left_is = omega (arith, read.rows)
+
+    bytes_then : now.bytes ≡ old.bytes
+    bytes_then = ap (λ (s : Source). s.bytes) read.taken.after
+
+    seeks_then : now.seeks ≡ old.seeks + 1
+    seeks_then = ap (λ (s : Source). s.seeks) read.taken.after
+
+    failures_then : now.failures ≡ old.failures
+    failures_then = ap (λ (s : Source). s.failures) read.taken.after
+
+    pub section_ends : (new : Source) → ReadsBookend K (Takes now new) → ReadsSection K old new at found
+    section_ends new last = record {
+      stored = read.stored;
+      section = record {
+        rest = bytes_left now;
+        records = holds;
+        bookend = record {
+          header = last.header;
+          rest = bytes_left new;
+          widths = last.widths;
+          is_bookend = last.is_bookend;
+          bytes_are = Takes-consumes now new (K.header_bytes last.header) last.taken;
+        };
+      };
+      handed = read.handed;
+      bytes = ap (λ (s : Source). s.bytes) last.taken.after ∙ bytes_then;
+      seeks = ap (λ (s : Source). s.seeks) last.taken.after ∙ seeks_then;
+      read = omega (
+        arith,
+        ap (λ (s : Source). s.read) last.taken.after,
+        ap (λ (s : Source). s.read) read.taken.after,
+        laws.header_size last.header,
+        length-texts K.text K.row_count K.IsStored (length-text K laws) read.stored read.are_stored,
+      );
+      failures = ap (λ (s : Source). s.failures) last.taken.after ∙ failures_then;
+    }
+
+    whole_cause : (new : Source) (e : CoreError) → SectionFailure (PassesLimit K left) (EndsEarly K left) (bytes_left now) now new e
+        → SectionFailure (PassesRows K) (IsCutSection K) (drop at old.bytes) old new e
+    whole_cause new e (inl failed) = inl (failed.0 ∙ ap (λ k. k + 1) failures_then, failed.1, failed.2, failed.3)
+    whole_cause new e (inr (inl (none, no_memory))) = inr (inl (none ∙ failures_then, no_memory))
+    whole_cause new e (inr (inr (inl (none, is, passes)))) =
+        inr (inr (inl (none ∙ failures_then, is, (read.stored, bytes_left now, holds, subst (λ n. PassesLimit K n (bytes_left now)) left_is passes))))
+    whole_cause new e (inr (inr (inr (none, is, ends)))) =
+        inr (inr (inr (none ∙ failures_then, is, (read.stored, bytes_left now, holds, subst (λ n. EndsEarly K n (bytes_left now)) left_is ends))))
+
+    pub section_fails : (new : Source) (e : CoreError) → RecordFails K left now new e → SectionFails K old new at e
+    section_fails new e fails = record { bytes = fails.bytes ∙ bytes_then; seeks = fails.seeks ∙ seeks_then; cause = whole_cause new e fails.cause }
+
+    pub no_memory_for_it : (e : CoreError) → e ≡ OutOfMemory → SectionFails K old now at e
+    no_memory_for_it e is = record { bytes = bytes_then; seeks = seeks_then; cause = inr (inl (failures_then, is)) }

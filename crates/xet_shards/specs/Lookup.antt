@@ -9,7 +9,7 @@ use Rattle.xet_base.specs.Bytes.{u32_bytes}
 use Rattle.xet_base.specs.Source.{Source, DeviceFailure}
 use Rattle.xet_base.specs.Table.{Table, table_at, Hit, IsHit, OtherRow, IsSorted, hits, Bounded, SearchRefused, IsBareInvalidShard}
 use Rattle.xet_records.specs.declared.file_structs.MDBFileInfo.{MDBFileInfo}
-use Rattle.xet_records.specs.FileRecord.{record_text}
+use Rattle.xet_records.specs.FileRecord.{record_text, file_records}
 use Rattle.xet_records.specs.Reading.{ReadsRecord}
 use Rattle.xet_shards.specs.declared.shard_format.footer.MDBShardFileFooter.{MDBShardFileFooter}
 use Rattle.xet_shards.specs.Shard.{Shard, file_hash_of}
@@ -38,7 +38,7 @@ StandsAt bytes place text = (rest : List ℕ) × (drop place bytes ≡ text ++ r
 
 -- a record that stands at a place is handed out as `found`
 abbrev pub RecordAt : List ℕ → ℕ → MDBFileInfo → Type 0
-RecordAt bytes place found = ReadsRecord (StandsAt bytes place) found
+RecordAt bytes place found = ReadsRecord file_records (StandsAt bytes place) found
 
 -- an error without a text that says that no record stands where one should
 abbrev pub IsBareInternalError : CoreError → Type 0
@@ -50,8 +50,8 @@ IsBareInternalError _ = ⊥
 abbrev pub InfoRefusal : ℕ → ℕ → Source → Source → CoreError → Type 0
 InfoRefusal offset row old new e =
     ((new.failures ≡ old.failures) × IsBareInvalidShard e × (2 ^ 64 ≤ row_at offset row))
-    ⊎ ((new.failures ≡ old.failures) × IsBareInternalError e × BeginsWithBookend (drop (row_at offset row) old.bytes))
-    ⊎ SectionFailure (PassesLimit 4294967296) (EndsEarly 4294967296) (drop (row_at offset row) old.bytes) old new e
+    ⊎ ((new.failures ≡ old.failures) × IsBareInternalError e × BeginsWithBookend file_records (drop (row_at offset row) old.bytes))
+    ⊎ SectionFailure (PassesLimit file_records 4294967296) (EndsEarly file_records 4294967296) (drop (row_at offset row) old.bytes) old new e
 
 -- the record at a row was read
 pub record ReadsInfo (offset row : ℕ) (old new : Source) (found : MDBFileInfo) : Type 0 where
@@ -62,7 +62,7 @@ pub record ReadsInfo (offset row : ℕ) (old new : Source) (found : MDBFileInfo)
   pub seeks : new.seeks ≡ old.seeks + 1
   pub taken : ℕ
   pub read : new.read ≡ old.read + taken
-  pub may_take : MayTake (drop (row_at offset row) old.bytes) taken
+  pub may_take : MayTake file_records (drop (row_at offset row) old.bytes) taken
 
 -- it was not; the place is open
 pub record ReadsInfoNot (offset row : ℕ) (old new : Source) (e : CoreError) : Type 0 where
@@ -70,7 +70,7 @@ pub record ReadsInfoNot (offset row : ℕ) (old new : Source) (e : CoreError) : 
   pub seeks : new.seeks ≤ old.seeks + 1
   pub taken : ℕ
   pub read : new.read ≤ old.read + taken
-  pub may_take : MayTake (drop (row_at offset row) old.bytes) taken
+  pub may_take : MayTake file_records (drop (row_at offset row) old.bytes) taken
   pub cause : InfoRefusal offset row old new e
 
 -- different rows of a table with the key, all of them where it is sorted
@@ -104,7 +104,7 @@ pub record Visits (offset : ℕ) (rows : List ℕ) (old new : Source) : Type 0 w
   pub bytes : new.bytes ≡ old.bytes
   pub seeks : new.seeks ≤ old.seeks + length rows
   pub taken : List ℕ
-  pub may_take : AllZip (λ row n. MayTake (drop (row_at offset row) old.bytes) n) rows taken
+  pub may_take : AllZip (λ row n. MayTake file_records (drop (row_at offset row) old.bytes) n) rows taken
   pub read : new.read ≤ old.read + sum taken
 
 -- the first few of them were

@@ -7,6 +7,7 @@ ghost use Rattle.xet_base.specs.Errors.{IsDeviceError, IsInvalidShard};
 ghost use Rattle.xet_shards.specs.Shard.{Shard, IsShard};
 ghost use Rattle.xet_shards.specs.Layout.{layout, info_value, header_tag, header_text, footer_text};
 ghost use Rattle.xet_base.specs.Source.{Takes, DeviceFailure};
+ghost use Rattle.xet_records.specs.FileRecord.{file_records};
 ghost use Rattle.xet_shards.specs.SectionReading.{ReadsOne, RecordFails, ReadsSection, SectionFails};
 ghost use Rattle.xet_shards.specs.Ends.{HasForeignHeader, EndsInHeader, HasForeignFooter, EndsInFooter, FitsFooter, PartFails, Loads, LoadsNot};
 
@@ -103,8 +104,8 @@ impl MDBShardInfo {
         alloc: Global,
         source: &mut S,
     ) -> Result<Vec<MDBFileInfo>>
-        ensures read { MatchResult result (λ found. ReadsSection (S.meaning source.old) (S.meaning source.new) self.now.metadata.file_info_offset found.items)
-            (SectionFails (S.meaning source.old) (S.meaning source.new) self.now.metadata.file_info_offset) }
+        ensures read { MatchResult result (λ found. ReadsSection file_records (S.meaning source.old) (S.meaning source.new) self.now.metadata.file_info_offset found.items)
+            (SectionFails file_records (S.meaning source.old) (S.meaning source.new) self.now.metadata.file_info_offset) }
         ensures written { (s : Shard) → (expiry : Option ℕ) → IsShard s → (S.meaning source.old).bytes ≡ layout s expiry → self.now ≡ info_value s expiry
             → MatchResult result (λ found. found.items ≡ finite.values s.files)
             (λ e. DeviceFailure (S.meaning source.old) (S.meaning source.new) e ⊎ (e ≡ CoreError.OutOfMemory)) }
@@ -119,8 +120,8 @@ fn read_section<S: ShardSource>(
     source: &mut S,
     offset: u64,
 ) -> Result<Vec<MDBFileInfo>>
-    ensures { MatchResult result (λ found. ReadsSection (S.meaning source.old) (S.meaning source.new) offset found.items)
-        (SectionFails (S.meaning source.old) (S.meaning source.new) offset) }
+    ensures { MatchResult result (λ found. ReadsSection file_records (S.meaning source.old) (S.meaning source.new) offset found.items)
+        (SectionFails file_records (S.meaning source.old) (S.meaning source.new) offset) }
 {
     source.seek_to(offset)?;
     let mut files = Vec::new(alloc);
@@ -186,9 +187,9 @@ pub(super) fn read_record<S: ShardSource>(
 ) -> Result<Option<MDBFileInfo>>
     requires { rows_left.old ≤ 4294967296 }
     ensures read { IfOk result
-        (ReadsOne (S.meaning source.old) (S.meaning source.new) rows_left.old rows_left.new) }
+        (ReadsOne file_records (S.meaning source.old) (S.meaning source.new) rows_left.old rows_left.new) }
     ensures refused { IfErr result
-        (RecordFails rows_left.old (S.meaning source.old) (S.meaning source.new)) }
+        (RecordFails file_records rows_left.old (S.meaning source.old) (S.meaning source.new)) }
 {
     let header: FileDataSequenceHeader = read_source_row(source)?;
     if header.is_bookend() {

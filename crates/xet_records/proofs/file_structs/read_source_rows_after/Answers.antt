@@ -17,10 +17,11 @@ returns-clause-found g c =
     record {
       stored = record { metadata = c.args.metadata; segments = s.stored; verification = v.stored; metadata_ext = m.stored };
       same_header = refl;
-      whole = record { segments = s.len; verification = v.len ∙ c.verification_rows.ensures; metadata_ext = m.present ∙ c.contains_metadata_ext.ensures };
-      segments = s.widths;
-      verification = v.widths;
-      metadata_ext = m.widths;
+      is_stored = λ is_file fits. record {
+        is_file = is_file;
+        whole = record { segments = s.len; verification = v.len ∙ c.verification_rows.ensures; metadata_ext = m.present ∙ c.contains_metadata_ext.ensures };
+        widths = record { metadata = fits; segments = s.widths; verification = v.widths; metadata_ext = m.widths };
+      };
       size = length-three (flat_map segment_row s.stored) (flat_map verification_row v.stored) (flat_map metadata_row (option_to_list m.stored))
           ∙ omega (arith, s.size, v.size ∙ ap (λ n. 48 * n) c.verification_rows.ensures, m.size ∙ row_or_none c.contains_metadata_ext.result, one_row c.contains_metadata_ext.ensures);
       taken = Takes-trans _ (g.S.ShardSource.meaning c.read_source_rows-2.new.source) _ _ _
