@@ -1,10 +1,10 @@
 -- What is read from the bytes of a shard.
-use Rattle.std.proofs.Common.{◌≡◌, ◌⊎◌, inl, inr, Ok, Err, ℕ, List, [], ◌∷◌, ◌++◌, map, flat_map, drop, Option, None, Some, refl, sym, ap, ◌∙◌, arith}
+use Rattle.std.proofs.Common.{◌≡◌, ◌⊎◌, inl, inr, Ok, Err, ℕ, List, [], ◌∷◌, ◌++◌, ◌+◌, length, map, flat_map, drop, Option, None, Some, refl, sym, ap, ◌∙◌, arith}
 use Rattle.std.specs.Prelude.{All, IfSome, MatchResult, option_map}
 use Rattle.std.specs.FinMap.{entries, values}
 use Rattle.std.specs.declared.result.Result.{Result}
 use Rattle.std.specs.declared.vec.Vec.{Vec}
-use Rattle.std.proofs.lemmas.List.{append_assoc}
+use Rattle.std.proofs.lemmas.List.{append_assoc, length-append}
 use Rattle.std.proofs.lemmas.List.Elements.{All-drop}
 use Rattle.xet_base.specs.declared.error.CoreError.{CoreError}
 use Rattle.xet_base.specs.declared.error.CoreError.TheVariants.{OutOfMemory}
@@ -18,12 +18,15 @@ use Rattle.xet_records.specs.RecordKind.{RecordKind}
 use Rattle.xet_records.proofs.RecordKinds.{KindLaws}
 use Rattle.xet_records.specs.FileRow.{header_row, clear_verification, clear_metadata}
 use Rattle.xet_records.specs.FileRecord.{record_text, file_bookend, handed_out, IsWellFormed, file_records}
+use Rattle.xet_records.specs.XorbRow.{xorb_header_row}
+use Rattle.xet_records.specs.XorbRecord.{xorb_text, xorb_bookend, IsXorb, xorb_records}
 use Rattle.xet_shards.specs.Shard.{Shard, IsShard}
 use Rattle.xet_shards.specs.Section.{file_section, xorb_section}
 use Rattle.xet_shards.specs.Tables.{file_table_bytes, xorb_table_bytes, chunk_table_bytes}
 use Rattle.xet_shards.specs.Layout.{Form, if_in, header_text, header_value, footer_text, footer_value, layout_of, layout}
 use Rattle.xet_shards.specs.SectionReading.{IsSection, ReadsSection, SectionFails, SectionFailure, PassesRows, IsCutSection}
 use Rattle.xet_shards.proofs.Files.{well_formed_values}
+use Rattle.xet_shards.proofs.Xorbs.{xorb_values}
 use Rattle.xet_shards.proofs.Layouts.{length-header_text}
 use Rattle.xet_shards.proofs.SectionUnique.{only_list, section_or_passes, section_or_cut}
 
@@ -51,10 +54,13 @@ handed_same (r ∷ rs) good = λ i. handed_one r (good 0 r (omega arith)) i ∷ 
 
 -- a shard's bytes from the file section on
 module _ (files : List MDBFileInfo) (xorbs : List MDBXorbInfo) (form : Form) where
+  abbrev pub after_xorbs : List ℕ
+  after_xorbs =
+      if_in form.file_table (file_table_bytes files) ++ (if_in form.xorb_table (xorb_table_bytes xorbs)
+      ++ (if_in form.chunk_table (chunk_table_bytes xorbs) ++ footer_text (footer_value files xorbs form)))
+
   abbrev pub after_section : List ℕ
-  after_section =
-      xorb_section xorbs ++ (if_in form.file_table (file_table_bytes files) ++ (if_in form.xorb_table (xorb_table_bytes xorbs)
-      ++ (if_in form.chunk_table (chunk_table_bytes xorbs) ++ footer_text (footer_value files xorbs form))))
+  after_section = xorb_section xorbs ++ after_xorbs
 
   pub layout_from_48 : layout_of files xorbs form ≡ header_text header_value ++ (file_section files ++ after_section)
   unfolding layout_of
@@ -65,6 +71,14 @@ module _ (files : List MDBFileInfo) (xorbs : List MDBXorbInfo) (form : Form) whe
   section_at_48 =
       rest_is 48 (layout_of files xorbs form) (header_text header_value) (file_section files ++ after_section) (length-header_text header_value) layout_from_48
       ∙ append_assoc (flat_map record_text files) (header_row file_bookend) after_section
+
+  pub xorbs_at : drop (48 + length (file_section files)) (layout_of files xorbs form) ≡ flat_map xorb_text xorbs ++ (xorb_header_row xorb_bookend ++ after_xorbs)
+  unfolding xorb_section
+  xorbs_at =
+      rest_is (48 + length (file_section files)) (layout_of files xorbs form) (header_text header_value ++ file_section files) after_section
+      (length-append (header_text header_value) (file_section files) ∙ ap (λ n. n + length (file_section files)) (length-header_text header_value))
+      (layout_from_48 ∙ sym (append_assoc (header_text header_value) (file_section files) after_section))
+      ∙ append_assoc (flat_map xorb_text xorbs) (xorb_header_row xorb_bookend) after_xorbs
 
 pub section_of_shard : (s : Shard) (expiry : Option ℕ) → IsShard s → IsSection file_records (drop 48 (layout s expiry)) (values s.files)
 section_of_shard s expiry shard =
@@ -80,6 +94,32 @@ section_of_shard s expiry shard =
         header = file_bookend;
         rest = _;
         widths = record { file_hash = record { word0 = omega arith; word1 = omega arith; word2 = omega arith; word3 = omega arith }; file_flags = omega arith; num_entries = omega arith; unused = omega arith };
+        is_bookend = refl;
+        bytes_are = refl;
+      };
+    }
+
+pub xorb_section_of_shard : (s : Shard) (expiry : Option ℕ) → IsShard s
+    → IsSection xorb_records (drop (48 + length (file_section (values s.files))) (layout s expiry)) (values s.xorbs)
+xorb_section_of_shard s expiry shard =
+    let good : All IsXorb (values s.xorbs) = xorb_values (entries s.xorbs) shard.xorbs in
+    record {
+      rest = _;
+      records = record {
+        are_stored = λ k r below. let here = good k r below in record { is_xorb = here.is_xorb; count = here.count; widths = here.widths };
+        rows = shard.xorb_rows;
+        bytes_are = xorbs_at (values s.files) (values s.xorbs) _;
+      };
+      bookend = record {
+        header = xorb_bookend;
+        rest = _;
+        widths = record {
+          xorb_hash = record { word0 = omega arith; word1 = omega arith; word2 = omega arith; word3 = omega arith };
+          xorb_flags = omega arith;
+          num_entries = omega arith;
+          num_bytes_in_xorb = omega arith;
+          num_bytes_on_disk = omega arith;
+        };
         is_bookend = refl;
         bytes_are = refl;
       };

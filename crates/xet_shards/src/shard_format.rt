@@ -5,6 +5,7 @@ mod footer;
 mod footer_facts;
 mod header;
 mod info;
+mod section_reader;
 mod section_writer;
 mod writer;
 mod xorb_writer;

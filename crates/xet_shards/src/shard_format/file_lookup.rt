@@ -9,7 +9,8 @@ ghost use Rattle.xet_shards.specs.Shard.{Shard, IsShard};
 ghost use Rattle.xet_shards.specs.Layout.{layout, info_value};
 ghost use Rattle.xet_shards.specs.Lookup.{StartsInShard, NoStartsInShard, FoundInShard, NotFoundInShard, WithinBounds, SearchWithinBounds, file_table, IsNumber, IndexFinds, IndexRefused, ReadsInfo, ReadsInfoNot, VisitsSome, Finding, FindingNot, LookupAnswer, LookupRefused};
 
-use super::info::{MDBShardInfo, read_record};
+use super::info::MDBShardInfo;
+use super::section_reader::read_file_record;
 use crate::utils::truncate_hash;
 use std::alloc::Global;
 use std::io;
@@ -70,7 +71,7 @@ impl MDBShardInfo {
         };
         source.seek_to(place)?;
         let mut rows_left = 1 + u64::from(u32::MAX);
-        match read_record(alloc, source, &mut rows_left)? {
+        match read_file_record(alloc, source, &mut rows_left)? {
             Some(file_info) => Ok(file_info),
             None => Err(CoreError::InternalError(String::new(alloc))),
         }

@@ -8,11 +8,13 @@ ghost use Rattle.xet_shards.specs.Shard.{Shard, IsShard};
 ghost use Rattle.xet_shards.specs.Layout.{layout, info_value, header_tag, header_text, footer_text};
 ghost use Rattle.xet_base.specs.Source.{Takes, DeviceFailure};
 ghost use Rattle.xet_records.specs.FileRecord.{file_records};
-ghost use Rattle.xet_shards.specs.SectionReading.{ReadsOne, RecordFails, ReadsSection, SectionFails};
+ghost use Rattle.xet_records.specs.XorbRecord.{xorb_records};
+ghost use Rattle.xet_shards.specs.SectionReading.{ReadsSection, SectionFails};
 ghost use Rattle.xet_shards.specs.Ends.{HasForeignHeader, EndsInHeader, HasForeignFooter, EndsInFooter, FitsFooter, PartFails, Loads, LoadsNot};
 
 use super::footer::{MDBShardFileFooter, check_version};
 use super::header::{MDBShardFileHeader, check_tag};
+use super::section_reader::{read_file_section, read_xorb_section};
 use super::writer::{footer_of, write_chunk_table, write_file_section, write_xorb_section};
 use crate::shard_in_memory::MDBInMemoryShard;
 use std::alloc::Global;
@@ -21,8 +23,8 @@ use std::io::{ErrorKind, Write};
 use xet_base::error::{CoreError, Result};
 use xet_base::serialization_utils::write_bytes;
 use xet_base::source::{ShardSource, read_full};
-use xet_records::file_structs::{FileDataSequenceHeader, MDBFileInfo, read_source_rows_after};
-use xet_records::rows::read_source_row;
+use xet_records::file_structs::MDBFileInfo;
+use xet_records::xorb_structs::MDBXorbInfo;
 
 /// The header and the footer of a shard.
 #[derive(Clone, Copy, Default, Debug, PartialEq, Eq)]
@@ -110,26 +112,26 @@ impl MDBShardInfo {
             → MatchResult result (λ found. found.items ≡ finite.values s.files)
             (λ e. DeviceFailure (S.meaning source.old) (S.meaning source.new) e ⊎ (e ≡ CoreError.OutOfMemory)) }
     {
-        read_section(alloc, source, self.metadata.file_info_offset)
+        read_file_section(alloc, source, self.metadata.file_info_offset)
     }
-}
 
-// Reads the records of the section at an offset.
-fn read_section<S: ShardSource>(
-    alloc: Global,
-    source: &mut S,
-    offset: u64,
-) -> Result<Vec<MDBFileInfo>>
-    ensures { MatchResult result (λ found. ReadsSection file_records (S.meaning source.old) (S.meaning source.new) offset found.items)
-        (SectionFails file_records (S.meaning source.old) (S.meaning source.new) offset) }
-{
-    source.seek_to(offset)?;
-    let mut files = Vec::new(alloc);
-    let mut rows_left = u64::from(u32::MAX);
-    while let Some(file_info) = read_record(alloc, source, &mut rows_left)? {
-        files.push(file_info)?;
+    /// Reads all records of the xorb section, in the order in which they stand.
+    ///
+    /// `UnexpectedEof` where the source ends before the bookend, `InvalidShard` where the rows pass 32 bits,
+    /// `OutOfMemory` where the records find none.
+    pub fn read_all_xorb_blocks_full<S: ShardSource>(
+        &self,
+        alloc: Global,
+        source: &mut S,
+    ) -> Result<Vec<MDBXorbInfo>>
+        ensures read { MatchResult result (λ found. ReadsSection xorb_records (S.meaning source.old) (S.meaning source.new) self.now.metadata.xorb_info_offset found.items)
+            (SectionFails xorb_records (S.meaning source.old) (S.meaning source.new) self.now.metadata.xorb_info_offset) }
+        ensures written { (s : Shard) → (expiry : Option ℕ) → IsShard s → (S.meaning source.old).bytes ≡ layout s expiry → self.now ≡ info_value s expiry
+            → MatchResult result (λ found. found.items ≡ finite.values s.xorbs)
+            (λ e. DeviceFailure (S.meaning source.old) (S.meaning source.new) e ⊎ (e ≡ CoreError.OutOfMemory)) }
+    {
+        read_xorb_section(alloc, source, self.metadata.xorb_info_offset)
     }
-    Ok(files)
 }
 
 // Reads the header at the front and the footer at the end.
@@ -177,28 +179,4 @@ fn read_footer<S: ShardSource>(alloc: Global, source: &mut S) -> Result<MDBShard
     let mut rest = [0u8; 192];
     read_full(source, &mut rest)?;
     Ok(MDBShardFileFooter::after_version(&rest))
-}
-
-// Reads the next record of a section, or `None` at its bookend, and counts its rows down.
-pub(super) fn read_record<S: ShardSource>(
-    alloc: Global,
-    source: &mut S,
-    rows_left: &mut u64,
-) -> Result<Option<MDBFileInfo>>
-    requires { rows_left.old ≤ 4294967296 }
-    ensures read { IfOk result
-        (ReadsOne file_records (S.meaning source.old) (S.meaning source.new) rows_left.old rows_left.new) }
-    ensures refused { IfErr result
-        (RecordFails file_records rows_left.old (S.meaning source.old) (S.meaning source.new)) }
-{
-    let header: FileDataSequenceHeader = read_source_row(source)?;
-    if header.is_bookend() {
-        return Ok(None);
-    }
-    let rows = 1 + header.rows_after();
-    if rows > *rows_left {
-        return Err(CoreError::InvalidShard(String::new(alloc)));
-    }
-    *rows_left -= rows;
-    Ok(Some(read_source_rows_after(alloc, source, header)?))
 }

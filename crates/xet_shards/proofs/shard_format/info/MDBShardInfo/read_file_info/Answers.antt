@@ -14,7 +14,7 @@ returns-in_err-file_info g c =
     let place : c.in-Some.place ≡ row_at offset c.args.row = omega (arith, c.in-Some.ensures, c.from-place.ensures) in
     let p = err_from_is_err_and c.from_residual-in_err-file_info.result c.from_residual-in_err-file_info.ensures.1 in
     rw (p.1, p.2) (info_fails offset c.args.row _ mid _ (omega (arith, place)) (c.in_ok-seek_to.ensures ∙ ap (moved (g.S.ShardSource.meaning c.args.source.now)) place) _
-    (subst (λ n. RecordFails file_records (1 + n) mid (g.S.ShardSource.meaning c.read_record.new.source) c.in_err-file_info.field-0.0) c.from.ensures c.in_err-file_info.ensures.refused))
+    (subst (λ n. RecordFails file_records (1 + n) mid (g.S.ShardSource.meaning c.read_file_record.new.source) c.in_err-file_info.field-0.0) c.from.ensures c.in_err-file_info.ensures.refused))
 
 pub returns-in-Some-2 : goal.returns-in-Some-2
 returns-in-Some-2 g c =
@@ -22,8 +22,8 @@ returns-in-Some-2 g c =
     let mid = g.S.ShardSource.meaning c.seek_to.new.self in
     let place : c.in-Some.place ≡ row_at offset c.args.row = omega (arith, c.in-Some.ensures, c.from-place.ensures) in
     info_read offset c.args.row _ mid _ (omega (arith, place)) (c.in_ok-seek_to.ensures ∙ ap (moved (g.S.ShardSource.meaning c.args.source.now)) place)
-    (1 + c.from.result) c.read_record.new.rows_left c.in-Some-2.file_info
-    (subst (ReadsOne file_records mid (g.S.ShardSource.meaning c.read_record.new.source) (1 + c.from.result) c.read_record.new.rows_left) c.in-Some-2.is c.in_ok-file_info.ensures.read)
+    (1 + c.from.result) c.read_file_record.new.rows_left c.in-Some-2.file_info
+    (subst (ReadsOne file_records mid (g.S.ShardSource.meaning c.read_file_record.new.source) (1 + c.from.result) c.read_file_record.new.rows_left) c.in-Some-2.is c.in_ok-file_info.ensures.read)
 
 pub returns-in-None : goal.returns-in-None
 returns-in-None g c =
@@ -31,4 +31,4 @@ returns-in-None g c =
     let mid = g.S.ShardSource.meaning c.seek_to.new.self in
     let place : c.in-Some.place ≡ row_at offset c.args.row = omega (arith, c.in-Some.ensures, c.from-place.ensures) in
     info_bookend offset c.args.row _ mid _ (omega (arith, place)) (c.in_ok-seek_to.ensures ∙ ap (moved (g.S.ShardSource.meaning c.args.source.now)) place) _ c.new-in-None.ensures.bytes
-    (subst (ReadsOne file_records mid (g.S.ShardSource.meaning c.read_record.new.source) (1 + c.from.result) c.read_record.new.rows_left) c.in-None.is c.in_ok-file_info.ensures.read)
+    (subst (ReadsOne file_records mid (g.S.ShardSource.meaning c.read_file_record.new.source) (1 + c.from.result) c.read_file_record.new.rows_left) c.in-None.is c.in_ok-file_info.ensures.read)

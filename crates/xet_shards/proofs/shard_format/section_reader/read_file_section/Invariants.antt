@@ -1,7 +1,7 @@
 use Rattle.xet_base.specs.Source.{moved}
 use Rattle.xet_records.specs.FileRecord.{file_records}
 use Rattle.xet_shards.specs.SectionReading.{HasRead}
-use Rattle.xet_shards.proofs.shard_format.info.read_section.Given as goal
+use Rattle.xet_shards.proofs.shard_format.section_reader.read_file_section.Given as goal
 
 abbrev pub invariant-loop-files : goal.invariant-loop-files
 invariant-loop-files g l =

@@ -3,7 +3,7 @@ use Rattle.std.proofs.lemmas.Result.{err_from_is_err_and}
 use Rattle.xet_records.specs.FileRecord.{file_records}
 use Rattle.xet_records.proofs.RecordKinds.{file_laws}
 use Rattle.xet_shards.proofs.SectionReading.{more_read, section_ends, section_fails}
-use Rattle.xet_shards.proofs.shard_format.info.read_section.Goals as goal
+use Rattle.xet_shards.proofs.shard_format.section_reader.read_file_section.Goals as goal
 
 pub loop-files-preserved : goal.loop-files-preserved
 loop-files-preserved g c =

@@ -5,7 +5,7 @@ use Rattle.xet_records.specs.FileRow.{header_row, FitsHeader}
 use Rattle.xet_records.specs.FileRecord.{rows_after, file_records}
 use Rattle.xet_records.proofs.RecordKinds.{file_laws}
 use Rattle.xet_shards.proofs.SectionReading.{plain_header, no_header, too_many, no_rows, next_record}
-use Rattle.xet_shards.proofs.shard_format.info.read_record.Goals as goal
+use Rattle.xet_shards.proofs.shard_format.section_reader.read_file_record.Goals as goal
 
 pub returns-in_err-header-clause-refused : goal.returns-in_err-header-clause-refused
 returns-in_err-header-clause-refused g c =

@@ -1,0 +1,23 @@
+use Rattle.std.proofs.Common.{◌+◌, length, drop, sym, ap, subst}
+use Rattle.std.specs.Prelude.{MatchResult}
+use Rattle.std.specs.FinMap.{values}
+use Rattle.std.proofs.lemmas.List.{map-id}
+use Rattle.xet_records.specs.XorbRecord.{xorb_records}
+use Rattle.xet_records.proofs.RecordKinds.{xorb_laws}
+use Rattle.xet_shards.specs.declared.shard_format.info.MDBShardInfo.{MDBShardInfo}
+use Rattle.xet_shards.specs.Section.{file_section}
+use Rattle.xet_shards.specs.SectionReading.{IsSection, ReadsSection, SectionFails}
+use Rattle.xet_shards.proofs.Readback.{whole_read, xorb_section_of_shard}
+use Rattle.xet_shards.proofs.shard_format.info.MDBShardInfo.read_all_xorb_blocks_full.Goals as goal
+
+pub returns-clause-written : goal.returns-clause-written
+returns-clause-written g c =
+    let old = g.S.ShardSource.meaning c.args.source.now in
+    let new = g.S.ShardSource.meaning c.read_xorb_section.new.source in
+    λ s expiry shard are is.
+    let at = 48 + length (file_section (values s.files)) in
+    whole_read xorb_records xorb_laws old new at (values s.xorbs)
+    (subst (λ bytes. IsSection xorb_records (drop at bytes) (values s.xorbs)) (sym are) (xorb_section_of_shard s expiry shard))
+    c.read_xorb_section.result (map-id (values s.xorbs))
+    (subst (λ at. MatchResult c.read_xorb_section.result (λ found. ReadsSection xorb_records old new at found.items) (SectionFails xorb_records old new at))
+    (ap (λ (info : MDBShardInfo). info.metadata.xorb_info_offset) is) c.read_xorb_section.ensures)

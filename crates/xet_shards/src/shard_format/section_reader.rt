@@ -1,0 +1,101 @@
+//! Reading the records of a section one after another.
+
+ghost use Rattle.std.specs.Prelude.{◌≡◌, ◌≤◌, MatchResult, IfOk, IfErr};
+ghost use Rattle.xet_records.specs.FileRecord.{file_records};
+ghost use Rattle.xet_records.specs.XorbRecord.{xorb_records};
+ghost use Rattle.xet_shards.specs.SectionReading.{ReadsOne, RecordFails, ReadsSection, SectionFails};
+
+use std::alloc::Global;
+use xet_base::error::{CoreError, Result};
+use xet_base::source::ShardSource;
+use xet_records::file_structs::{FileDataSequenceHeader, MDBFileInfo, read_source_rows_after};
+use xet_records::rows::{read_source_row, read_source_rows};
+use xet_records::xorb_structs::{MDBXorbInfo, XorbChunkSequenceHeader};
+
+/// Reads the records of the file section at an offset.
+pub(super) fn read_file_section<S: ShardSource>(
+    alloc: Global,
+    source: &mut S,
+    offset: u64,
+) -> Result<Vec<MDBFileInfo>>
+    ensures { MatchResult result (λ found. ReadsSection file_records (S.meaning source.old) (S.meaning source.new) offset found.items)
+        (SectionFails file_records (S.meaning source.old) (S.meaning source.new) offset) }
+{
+    source.seek_to(offset)?;
+    let mut files = Vec::new(alloc);
+    let mut rows_left = u64::from(u32::MAX);
+    while let Some(file_info) = read_file_record(alloc, source, &mut rows_left)? {
+        files.push(file_info)?;
+    }
+    Ok(files)
+}
+
+/// Reads the next record of a file section, or `None` at its bookend, and counts its rows down.
+pub(super) fn read_file_record<S: ShardSource>(
+    alloc: Global,
+    source: &mut S,
+    rows_left: &mut u64,
+) -> Result<Option<MDBFileInfo>>
+    requires { rows_left.old ≤ 4294967296 }
+    ensures read { IfOk result
+        (ReadsOne file_records (S.meaning source.old) (S.meaning source.new) rows_left.old rows_left.new) }
+    ensures refused { IfErr result
+        (RecordFails file_records rows_left.old (S.meaning source.old) (S.meaning source.new)) }
+{
+    let header: FileDataSequenceHeader = read_source_row(source)?;
+    if header.is_bookend() {
+        return Ok(None);
+    }
+    let rows = 1 + header.rows_after();
+    if rows > *rows_left {
+        return Err(CoreError::InvalidShard(String::new(alloc)));
+    }
+    *rows_left -= rows;
+    Ok(Some(read_source_rows_after(alloc, source, header)?))
+}
+
+/// Reads the records of the xorb section at an offset.
+pub(super) fn read_xorb_section<S: ShardSource>(
+    alloc: Global,
+    source: &mut S,
+    offset: u64,
+) -> Result<Vec<MDBXorbInfo>>
+    ensures { MatchResult result (λ found. ReadsSection xorb_records (S.meaning source.old) (S.meaning source.new) offset found.items)
+        (SectionFails xorb_records (S.meaning source.old) (S.meaning source.new) offset) }
+{
+    source.seek_to(offset)?;
+    let mut xorbs = Vec::new(alloc);
+    let mut rows_left = u64::from(u32::MAX);
+    while let Some(xorb) = read_xorb(alloc, source, &mut rows_left)? {
+        xorbs.push(xorb)?;
+    }
+    Ok(xorbs)
+}
+
+/// Reads the next record of a xorb section, or `None` at its bookend, and counts its rows down.
+pub(super) fn read_xorb<S: ShardSource>(
+    alloc: Global,
+    source: &mut S,
+    rows_left: &mut u64,
+) -> Result<Option<MDBXorbInfo>>
+    requires { rows_left.old ≤ 4294967296 }
+    ensures read { IfOk result
+        (ReadsOne xorb_records (S.meaning source.old) (S.meaning source.new) rows_left.old rows_left.new) }
+    ensures refused { IfErr result
+        (RecordFails xorb_records rows_left.old (S.meaning source.old) (S.meaning source.new)) }
+{
+    let header: XorbChunkSequenceHeader = read_source_row(source)?;
+    if header.is_bookend() {
+        return Ok(None);
+    }
+    let rows = 1 + u64::from(header.num_entries);
+    if rows > *rows_left {
+        return Err(CoreError::InvalidShard(String::new(alloc)));
+    }
+    *rows_left -= rows;
+    let chunks = read_source_rows(alloc, source, header.num_entries)?;
+    Ok(Some(MDBXorbInfo {
+        metadata: header,
+        chunks,
+    }))
+}
