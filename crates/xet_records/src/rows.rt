@@ -244,6 +244,19 @@ pub fn read_source_rows<T: Row + Drop, S: ShardSource>(
     Ok(rows)
 }
 
+/// Reads over `count` rows from the source's place on and keeps none of them, so it takes no memory.
+/// `UnexpectedEof` where fewer are left.
+pub fn skip_source_rows<T: Row, S: ShardSource>(source: &mut S, count: u32) -> Result<()>
+    ensures value { IfOk result
+        (λ _. (rows : List T) × ReadsRows T.row_bytes T.Fits T.handed_out (Takes (S.meaning source.old) (S.meaning source.new)) count rows) }
+    ensures refused { IfErr result (ReadFails (S.meaning source.old) (S.meaning source.new) (48 * count)) }
+{
+    for _row in 0..count {
+        let _skipped: T = read_source_row(source)?;
+    }
+    Ok(())
+}
+
 /// Reads a row from the source's place on, if it is `wanted`.
 pub fn read_source_optional<T: Row, S: ShardSource>(
     source: &mut S,

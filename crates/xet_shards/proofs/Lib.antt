@@ -29,3 +29,4 @@ pub mod Worked
 pub mod Written
 pub mod XorbLayouts
 pub mod Xorbs
+pub mod XorbHeaders

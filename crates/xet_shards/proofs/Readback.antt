@@ -127,14 +127,17 @@ xorb_section_of_shard s expiry shard =
 
 -- bytes that are a section of records are read as these, unless the device fails or memory is refused
 module _ {H R : Type 0} (K : RecordKind H R) (laws : KindLaws K) (old new : Source) (at : ℕ) (rs : List R) (section : IsSection K (drop at old.bytes) rs) where
-  why_not : (e : CoreError) → SectionFailure (PassesRows K) (IsCutSection K) (drop at old.bytes) old new e → DeviceFailure old new e ⊎ (e ≡ OutOfMemory)
+  pub why_not : (e : CoreError) → SectionFailure (PassesRows K) (IsCutSection K) (drop at old.bytes) old new e → DeviceFailure old new e ⊎ (e ≡ OutOfMemory)
   why_not e (inl failed) = inl failed
   why_not e (inr (inl (none, no_memory))) = inr no_memory
   why_not e (inr (inr (inl (none, is, passes)))) = absurd (section_or_passes K laws (drop at old.bytes) rs section passes)
   why_not e (inr (inr (inr (none, is, ends)))) = absurd (section_or_cut K laws (drop at old.bytes) rs section ends)
 
+  pub only_these : (found : List R) → map K.handed_out rs ≡ rs → ReadsSection K old new at found → found ≡ rs
+  only_these found same reads = sym reads.handed ∙ ap (map K.handed_out) (only_list K laws (drop at old.bytes) reads.stored rs reads.section section) ∙ same
+
   pub whole_read : {Z : Type 0} (r : Result (Vec R Z) CoreError) → map K.handed_out rs ≡ rs
       → MatchResult r (λ found. ReadsSection K old new at found.items) (SectionFails K old new at)
       → MatchResult r (λ found. found.items ≡ rs) (λ e. DeviceFailure old new e ⊎ (e ≡ OutOfMemory))
-  whole_read (Ok found) same reads = sym reads.handed ∙ ap (map K.handed_out) (only_list K laws (drop at old.bytes) reads.stored rs reads.section section) ∙ same
+  whole_read (Ok found) same reads = only_these found.items same reads
   whole_read (Err e) same fails = why_not e fails.cause

@@ -15,7 +15,7 @@ use Rattle.xet_records.specs.Rows.{ReadsRow}
 use Rattle.xet_records.specs.Reading.{ReadsBookend, ReadsRowsAfter, BeginsWithHeader}
 use Rattle.xet_records.proofs.Lengths.{length-texts}
 use Rattle.xet_records.proofs.RecordKinds.{KindLaws, length-text, whole_record}
-use Rattle.xet_shards.specs.SectionReading.{HoldsRecords, PassesLimit, EndsEarly, PassesRows, IsCutSection, ReadsSection, SectionFailure, SectionFails, HasRead, ReadsNext, RecordFails, rows_left}
+use Rattle.xet_shards.specs.SectionReading.{HoldsRecords, PassesLimit, EndsEarly, PassesRows, IsCutSection, ReadsSection, SectionFailure, SectionFails, HasRead, ReadsHeader, ReadsNext, RecordFails, rows_left}
 
 -- a read of n bytes was refused, after calls that did not fail
 refused_as : (Passes Ends : List ℕ → Type 0) (bytes : List ℕ) (old mid new : Source) (n : ℕ) (e : CoreError) → mid.failures ≡ old.failures
@@ -86,6 +86,17 @@ module _ {H R : Type 0} (K : RecordKind H R) (laws : KindLaws K) where
         reads = whole_record K laws (Takes old mid) (Takes mid new) (Takes old new) h found (Takes-trans old mid new) fits is_record taken read (omega (arith, within, few));
         rows = ap (λ (k : H). after + (1 + K.rows_after k)) same ∙ rows;
       }
+
+  -- the same, where the header's rows were counted down already
+  pub rows_after_header : (left after : ℕ) (old mid new : Source) (h : H) (found : R) → ReadsHeader K old mid left after h → left ≤ 4294967296
+      → ReadsRowsAfter K h (Takes mid new) found → ReadsNext K old new left after found
+  rows_after_header left after old mid new h found begun few read =
+      next_record left after old mid new h found begun.widths begun.is_record begun.taken (omega (arith, begun.rows)) few begun.rows read
+
+  pub no_rows_after_header : (left after : ℕ) (old mid new : Source) (h : H) (e : CoreError) → ReadsHeader K old mid left after h
+      → ReadFails mid new (48 * K.rows_after h) e → RecordFails K left old new e
+  no_rows_after_header left after old mid new h e begun fails =
+      no_rows left old mid new h e begun.widths begun.is_record begun.taken (omega (arith, begun.rows)) fails
 
   -- before the first record
   pub nothing_read : (start : Source) → HasRead K start start [] 4294967295

@@ -13,4 +13,5 @@ pub mod SetOperations
 pub mod Shard
 pub mod Tables
 pub mod Written
+pub mod XorbHeaders
 pub mod XorbTable

@@ -1,6 +1,6 @@
 -- What bytes are to a reader of a section, of files or of xorbs: the texts of a list of records and a bookend, or
 -- such texts and then a record too many, or such texts and then too few bytes.
-use Rattle.std.specs.Prelude.{◌≡◌, ◌⊎◌, ℕ, ◌+◌, ◌-◌, ◌*◌, ◌<◌, ◌≤◌, List, ◌++◌, length, map, flat_map, sum_by, drop, All, Option, MatchOption}
+use Rattle.std.specs.Prelude.{◌≡◌, ◌≢◌, ◌⊎◌, ℕ, ◌+◌, ◌-◌, ◌*◌, ◌<◌, ◌≤◌, List, ◌++◌, length, map, flat_map, sum_by, drop, All, Option, MatchOption}
 use Rattle.xet_base.specs.declared.error.CoreError.{CoreError}
 use Rattle.xet_base.specs.declared.error.CoreError.TheVariants.{OutOfMemory}
 use Rattle.xet_base.specs.Errors.{IsInvalidShard, IsEndOfInput}
@@ -90,6 +90,13 @@ pub record HasRead {H R : Type 0} (K : RecordKind H R) (start now : Source) (fou
   pub taken : Takes start now (flat_map K.text stored)
   pub rows : sum_by K.row_count stored + left ≡ 4294967295
   pub handed : map K.handed_out stored ≡ found
+
+-- the header of the next record was read, and the record's rows counted down
+pub record ReadsHeader {H R : Type 0} (K : RecordKind H R) (old new : Source) (left after : ℕ) (header : H) : Type 0 where
+  pub widths : K.Fits header
+  pub is_record : K.hash_of header ≢ all_ones
+  pub taken : Takes old new (K.header_bytes header)
+  pub rows : after + (1 + K.rows_after header) ≡ left
 
 -- a record that was read, and its rows counted down
 pub record ReadsNext {H R : Type 0} (K : RecordKind H R) (old new : Source) (left after : ℕ) (found : R) : Type 0 where

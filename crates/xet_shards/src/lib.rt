@@ -5,6 +5,8 @@
 mod lookup_tests;
 #[cfg(test)]
 mod memory_tests;
+#[cfg(test)]
+mod reading_tests;
 pub mod shard_format;
 pub mod shard_in_memory;
 #[cfg(test)]

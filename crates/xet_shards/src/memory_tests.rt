@@ -17,10 +17,10 @@ use xet_records::file_structs::{
 use xet_records::rows::Rows;
 use xet_records::xorb_structs::{MDBXorbInfo, XorbChunkSequenceEntry, XorbChunkSequenceHeader};
 
-type Shard = Result<MDBInMemoryShard>;
+pub(crate) type Shard = Result<MDBInMemoryShard>;
 
 /// A xorb of one chunk of 5 bytes.
-fn xorb(alloc: Global, xorb_number: u64, chunk_number: u64) -> Result<MDBXorbInfo> {
+pub(crate) fn xorb(alloc: Global, xorb_number: u64, chunk_number: u64) -> Result<MDBXorbInfo> {
     let mut chunks = Rows::new(alloc);
     chunks.push(XorbChunkSequenceEntry::new(small(chunk_number), 5, 0))?;
     Ok(MDBXorbInfo {
@@ -69,12 +69,12 @@ fn p_with(alloc: Global, file: Result<MDBFileInfo>) -> Shard {
 }
 
 /// Xorb 10 with chunk 21, and file 100.
-fn p(alloc: Global) -> Shard {
+pub(crate) fn p(alloc: Global) -> Shard {
     p_with(alloc, file(alloc, 100, 200))
 }
 
 /// Besides, xorb 11 with chunk 22, and file 101.
-fn q(alloc: Global) -> Shard {
+pub(crate) fn q(alloc: Global) -> Shard {
     let more = with_xorb(alloc, p(alloc), xorb(alloc, 11, 22));
     with_file(alloc, more, file(alloc, 101, 201))
 }

@@ -10,11 +10,12 @@ ghost use Rattle.xet_base.specs.Source.{Takes, DeviceFailure};
 ghost use Rattle.xet_records.specs.FileRecord.{file_records};
 ghost use Rattle.xet_records.specs.XorbRecord.{xorb_records};
 ghost use Rattle.xet_shards.specs.SectionReading.{ReadsSection, SectionFails};
+ghost use Rattle.xet_shards.specs.XorbHeaders.{xorb_headers, ReadsXorbHeaders};
 ghost use Rattle.xet_shards.specs.Ends.{HasForeignHeader, EndsInHeader, HasForeignFooter, EndsInFooter, FitsFooter, PartFails, Loads, LoadsNot};
 
 use super::footer::{MDBShardFileFooter, check_version};
 use super::header::{MDBShardFileHeader, check_tag};
-use super::section_reader::{read_file_section, read_xorb_section};
+use super::section_reader::{read_file_section, read_xorb_headers, read_xorb_section};
 use super::writer::{footer_of, write_chunk_table, write_file_section, write_xorb_section};
 use crate::shard_in_memory::MDBInMemoryShard;
 use std::alloc::Global;
@@ -24,7 +25,7 @@ use xet_base::error::{CoreError, Result};
 use xet_base::serialization_utils::write_bytes;
 use xet_base::source::{ShardSource, read_full};
 use xet_records::file_structs::MDBFileInfo;
-use xet_records::xorb_structs::MDBXorbInfo;
+use xet_records::xorb_structs::{MDBXorbInfo, XorbChunkSequenceHeader};
 
 /// The header and the footer of a shard.
 #[derive(Clone, Copy, Default, Debug, PartialEq, Eq)]
@@ -131,6 +132,25 @@ impl MDBShardInfo {
             (λ e. DeviceFailure (S.meaning source.old) (S.meaning source.new) e ⊎ (e ≡ CoreError.OutOfMemory)) }
     {
         read_xorb_section(alloc, source, self.metadata.xorb_info_offset)
+    }
+
+    /// Reads the headers of the xorb section, in the order in which they stand, each with its place in the
+    /// source, and keeps no chunk.
+    ///
+    /// `UnexpectedEof` where the source ends before the bookend, `InvalidShard` where the rows pass 32 bits,
+    /// `OutOfMemory` where the headers find none.
+    pub fn read_all_xorb_blocks<S: ShardSource>(
+        &self,
+        alloc: Global,
+        source: &mut S,
+    ) -> Result<Vec<(XorbChunkSequenceHeader, u64)>>
+        ensures read { MatchResult result (λ found. ReadsXorbHeaders (S.meaning source.old) (S.meaning source.new) self.now.metadata.xorb_info_offset found.items)
+            (SectionFails xorb_records (S.meaning source.old) (S.meaning source.new) self.now.metadata.xorb_info_offset) }
+        ensures written { (s : Shard) → (expiry : Option ℕ) → IsShard s → (S.meaning source.old).bytes ≡ layout s expiry → self.now ≡ info_value s expiry
+            → MatchResult result (λ found. found.items ≡ xorb_headers (info_value s expiry).metadata.xorb_info_offset (finite.values s.xorbs))
+            (λ e. DeviceFailure (S.meaning source.old) (S.meaning source.new) e ⊎ (e ≡ CoreError.OutOfMemory)) }
+    {
+        read_xorb_headers(alloc, source, self.metadata.xorb_info_offset)
     }
 }
 

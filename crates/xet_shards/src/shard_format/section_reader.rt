@@ -1,16 +1,19 @@
 //! Reading the records of a section one after another.
 
-ghost use Rattle.std.specs.Prelude.{◌≡◌, ◌≤◌, MatchResult, IfOk, IfErr};
+ghost use Rattle.std.specs.Prelude.{◌≡◌, ◌≤◌, MatchResult, MatchOption, IfOk, IfErr};
+ghost use Rattle.xet_base.specs.Source.{Takes};
+ghost use Rattle.xet_records.specs.Reading.{ReadsBookend};
 ghost use Rattle.xet_records.specs.FileRecord.{file_records};
 ghost use Rattle.xet_records.specs.XorbRecord.{xorb_records};
-ghost use Rattle.xet_shards.specs.SectionReading.{ReadsOne, RecordFails, ReadsSection, SectionFails};
+ghost use Rattle.xet_shards.specs.SectionReading.{ReadsHeader, ReadsOne, RecordFails, ReadsSection, SectionFails};
+ghost use Rattle.xet_shards.specs.XorbHeaders.{ReadsThrough, ReadsXorbHeaders};
 
 use std::alloc::Global;
 use xet_base::error::{CoreError, Result};
 use xet_base::source::ShardSource;
 use xet_records::file_structs::{FileDataSequenceHeader, MDBFileInfo, read_source_rows_after};
-use xet_records::rows::{read_source_row, read_source_rows};
-use xet_records::xorb_structs::{MDBXorbInfo, XorbChunkSequenceHeader};
+use xet_records::rows::{read_source_row, read_source_rows, skip_source_rows};
+use xet_records::xorb_structs::{MDBXorbInfo, XorbChunkSequenceEntry, XorbChunkSequenceHeader};
 
 /// Reads the records of the file section at an offset.
 pub(super) fn read_file_section<S: ShardSource>(
@@ -72,6 +75,24 @@ pub(super) fn read_xorb_section<S: ShardSource>(
     Ok(xorbs)
 }
 
+/// Reads the headers of the xorb section at an offset, each with its place, and reads over the chunks.
+pub(super) fn read_xorb_headers<S: ShardSource>(
+    alloc: Global,
+    source: &mut S,
+    offset: u64,
+) -> Result<Vec<(XorbChunkSequenceHeader, u64)>>
+    ensures { MatchResult result (λ found. ReadsXorbHeaders (S.meaning source.old) (S.meaning source.new) offset found.items)
+        (SectionFails xorb_records (S.meaning source.old) (S.meaning source.new) offset) }
+{
+    source.seek_to(offset)?;
+    let mut headers = Vec::new(alloc);
+    let mut rows_left = u64::from(u32::MAX);
+    while let Some(header) = skip_xorb(alloc, source, &mut rows_left)? {
+        headers.push(header)?;
+    }
+    Ok(headers)
+}
+
 /// Reads the next record of a xorb section, or `None` at its bookend, and counts its rows down.
 pub(super) fn read_xorb<S: ShardSource>(
     alloc: Global,
@@ -84,6 +105,44 @@ pub(super) fn read_xorb<S: ShardSource>(
     ensures refused { IfErr result
         (RecordFails xorb_records rows_left.old (S.meaning source.old) (S.meaning source.new)) }
 {
+    let Some(metadata) = read_xorb_header(alloc, source, rows_left)? else {
+        return Ok(None);
+    };
+    let chunks = read_source_rows(alloc, source, metadata.num_entries)?;
+    Ok(Some(MDBXorbInfo { metadata, chunks }))
+}
+
+// Reads through the next record of a xorb section, or `None` at its bookend, and keeps its header and place.
+fn skip_xorb<S: ShardSource>(
+    alloc: Global,
+    source: &mut S,
+    rows_left: &mut u64,
+) -> Result<Option<(XorbChunkSequenceHeader, u64)>>
+    requires { rows_left.old ≤ 4294967296 }
+    ensures read { IfOk result
+        (ReadsThrough (S.meaning source.old) (S.meaning source.new) rows_left.old rows_left.new) }
+    ensures refused { IfErr result
+        (RecordFails xorb_records rows_left.old (S.meaning source.old) (S.meaning source.new)) }
+{
+    let place = source.position()?;
+    let Some(header) = read_xorb_header(alloc, source, rows_left)? else {
+        return Ok(None);
+    };
+    skip_source_rows::<XorbChunkSequenceEntry, S>(source, header.num_entries)?;
+    Ok(Some((header, place)))
+}
+
+// Reads the header of the next record, or `None` at the bookend, and counts the record's rows down.
+fn read_xorb_header<S: ShardSource>(
+    alloc: Global,
+    source: &mut S,
+    rows_left: &mut u64,
+) -> Result<Option<XorbChunkSequenceHeader>>
+    ensures read { IfOk result (λ found. MatchOption found (ReadsBookend xorb_records (Takes (S.meaning source.old) (S.meaning source.new)))
+        (ReadsHeader xorb_records (S.meaning source.old) (S.meaning source.new) rows_left.old rows_left.new)) }
+    ensures refused { IfErr result
+        (RecordFails xorb_records rows_left.old (S.meaning source.old) (S.meaning source.new)) }
+{
     let header: XorbChunkSequenceHeader = read_source_row(source)?;
     if header.is_bookend() {
         return Ok(None);
@@ -93,9 +152,5 @@ pub(super) fn read_xorb<S: ShardSource>(
         return Err(CoreError::InvalidShard(String::new(alloc)));
     }
     *rows_left -= rows;
-    let chunks = read_source_rows(alloc, source, header.num_entries)?;
-    Ok(Some(MDBXorbInfo {
-        metadata: header,
-        chunks,
-    }))
+    Ok(Some(header))
 }

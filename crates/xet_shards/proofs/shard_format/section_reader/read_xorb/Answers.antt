@@ -1,40 +1,27 @@
-use Rattle.std.proofs.Common.{◌≢◌, ◌+◌, ◌<◌, ◌≤◌, arith}
+use Rattle.std.proofs.Common.{subst}
+use Rattle.std.specs.Prelude.{MatchOption}
 use Rattle.std.proofs.lemmas.Result.{err_from_is_err_and}
-use Rattle.xet_base.specs.Hash.{all_ones}
-use Rattle.xet_records.specs.XorbRow.{xorb_header_row, FitsXorbHeader}
+use Rattle.xet_base.specs.Source.{Takes}
+use Rattle.xet_records.specs.Reading.{ReadsBookend}
 use Rattle.xet_records.specs.XorbRecord.{xorb_records}
 use Rattle.xet_records.proofs.RecordKinds.{xorb_laws, chunks_after}
-use Rattle.xet_shards.proofs.SectionReading.{plain_header, no_header, too_many, no_rows, next_record}
+use Rattle.xet_shards.specs.SectionReading.{ReadsHeader}
+use Rattle.xet_shards.proofs.SectionReading.{rows_after_header, no_rows_after_header}
 use Rattle.xet_shards.proofs.shard_format.section_reader.read_xorb.Goals as goal
-
-pub returns-in_err-header-clause-refused : goal.returns-in_err-header-clause-refused
-returns-in_err-header-clause-refused g c =
-    let p = err_from_is_err_and c.from_residual.result c.from_residual.ensures.1 in
-    rw (p.1, p.2) (no_header xorb_records xorb_laws _ _ _ _ c.in_err-header.ensures.refused)
-
-pub returns-then-rows-rows_left-clause-refused : goal.returns-then-rows-rows_left-clause-refused
-returns-then-rows-rows_left-clause-refused g c =
-    let h = c.in_ok-header.header in
-    let row = plain_header xorb_header_row FitsXorbHeader _ h c.in_ok-header.ensures.value in
-    let is_xorb : h.xorb_hash ≢ all_ones = λ ones. let bookend = c.is_bookend.ensures.1 ones in cc in
-    let past : c.args.rows_left.now < 1 + h.num_entries = omega (arith, c.from-rows.ensures) in
-    too_many xorb_records xorb_laws _ _ _ h _ row.0 is_xorb row.1 past tt
 
 pub returns-in_err-chunks-clause-refused : goal.returns-in_err-chunks-clause-refused
 returns-in_err-chunks-clause-refused g c =
-    let h = c.in_ok-header.header in
-    let row = plain_header xorb_header_row FitsXorbHeader _ h c.in_ok-header.ensures.value in
-    let is_xorb : h.xorb_hash ≢ all_ones = λ ones. let bookend = c.is_bookend.ensures.1 ones in cc in
-    let within : 1 + h.num_entries ≤ c.args.rows_left.now = omega (arith, c.from-rows.ensures) in
+    let old = g.S.ShardSource.meaning c.args.source.now in
+    let mid = g.S.ShardSource.meaning c.read_xorb_header.new.source in
+    let begun = subst (λ found. MatchOption found (ReadsBookend xorb_records (Takes old mid)) (ReadsHeader xorb_records old mid c.args.rows_left.now c.read_xorb_header.new.rows_left))
+    c.in-Some.is c.in_ok-metadata.ensures.read in
     let p = err_from_is_err_and c.from_residual-in_err-chunks.result c.from_residual-in_err-chunks.ensures.1 in
-    rw (p.1, p.2) (no_rows xorb_records xorb_laws _ _ (g.S.ShardSource.meaning c.read_source_row.new.source) _ h _ row.0 is_xorb row.1 within c.in_err-chunks.ensures.refused)
+    rw (p.1, p.2) (no_rows_after_header xorb_records xorb_laws _ _ old mid _ c.in-Some.metadata _ begun c.in_err-chunks.ensures.refused)
 
 pub returns-clause-read : goal.returns-clause-read
 returns-clause-read g c =
-    let h = c.in_ok-header.header in
-    let row = plain_header xorb_header_row FitsXorbHeader _ h c.in_ok-header.ensures.value in
-    let is_xorb : h.xorb_hash ≢ all_ones = λ ones. let bookend = c.is_bookend.ensures.1 ones in cc in
-    let within : 1 + h.num_entries ≤ c.args.rows_left.now = omega (arith, c.from-rows.ensures) in
-    let few : c.args.rows_left.now ≤ 4294967296 = c.requires in
-    next_record xorb_records xorb_laws _ _ _ (g.S.ShardSource.meaning c.read_source_row.new.source) _ h _ row.0 is_xorb row.1 within few (omega (arith, within, c.from-rows.ensures))
-    (chunks_after _ h _ c.in_ok-chunks.ensures.value)
+    let old = g.S.ShardSource.meaning c.args.source.now in
+    let mid = g.S.ShardSource.meaning c.read_xorb_header.new.source in
+    let begun = subst (λ found. MatchOption found (ReadsBookend xorb_records (Takes old mid)) (ReadsHeader xorb_records old mid c.args.rows_left.now c.read_xorb_header.new.rows_left))
+    c.in-Some.is c.in_ok-metadata.ensures.read in
+    rows_after_header xorb_records xorb_laws _ _ old mid _ c.in-Some.metadata _ begun c.requires (chunks_after _ c.in-Some.metadata _ c.in_ok-chunks.ensures.value)
