@@ -8,7 +8,7 @@ use Rattle.std.proofs.lemmas.List.{append_assoc, length-append}
 use Rattle.std.proofs.lemmas.List.Elements.{All-drop}
 use Rattle.xet_base.specs.declared.error.CoreError.{CoreError}
 use Rattle.xet_base.specs.declared.error.CoreError.TheVariants.{OutOfMemory}
-use Rattle.xet_base.specs.Source.{Source, DeviceFailure}
+use Rattle.xet_base.specs.Source.{Source, DeviceFailure, bytes_left}
 use Rattle.xet_base.proofs.Lists.{rest_is}
 use Rattle.xet_records.specs.declared.file_structs.FileVerificationEntry.{FileVerificationEntry}
 use Rattle.xet_records.specs.declared.file_structs.FileMetadataExt.{FileMetadataExt}
@@ -24,7 +24,7 @@ use Rattle.xet_shards.specs.Shard.{Shard, IsShard}
 use Rattle.xet_shards.specs.Section.{file_section, xorb_section}
 use Rattle.xet_shards.specs.Tables.{file_table_bytes, xorb_table_bytes, chunk_table_bytes}
 use Rattle.xet_shards.specs.Layout.{Form, if_in, header_text, header_value, footer_text, footer_value, layout_of, layout}
-use Rattle.xet_shards.specs.SectionReading.{IsSection, ReadsSection, SectionFails, SectionFailure, PassesRows, IsCutSection}
+use Rattle.xet_shards.specs.SectionReading.{IsSection, TakesSection, TakesNoSection, SectionFailure, PassesRows, IsCutSection}
 use Rattle.xet_shards.proofs.Files.{well_formed_values}
 use Rattle.xet_shards.proofs.Xorbs.{xorb_values}
 use Rattle.xet_shards.proofs.Layouts.{length-header_text}
@@ -126,18 +126,18 @@ xorb_section_of_shard s expiry shard =
     }
 
 -- bytes that are a section of records are read as these, unless the device fails or memory is refused
-module _ {H R : Type 0} (K : RecordKind H R) (laws : KindLaws K) (old new : Source) (at : ℕ) (rs : List R) (section : IsSection K (drop at old.bytes) rs) where
-  pub why_not : (e : CoreError) → SectionFailure (PassesRows K) (IsCutSection K) (drop at old.bytes) old new e → DeviceFailure old new e ⊎ (e ≡ OutOfMemory)
+module _ {H R : Type 0} (K : RecordKind H R) (laws : KindLaws K) (old new : Source) (rs : List R) (section : IsSection K (bytes_left old) rs) where
+  pub why_not : (e : CoreError) → SectionFailure (PassesRows K) (IsCutSection K) (bytes_left old) old new e → DeviceFailure old new e ⊎ (e ≡ OutOfMemory)
   why_not e (inl failed) = inl failed
   why_not e (inr (inl (none, no_memory))) = inr no_memory
-  why_not e (inr (inr (inl (none, is, passes)))) = absurd (section_or_passes K laws (drop at old.bytes) rs section passes)
-  why_not e (inr (inr (inr (none, is, ends)))) = absurd (section_or_cut K laws (drop at old.bytes) rs section ends)
+  why_not e (inr (inr (inl (none, is, passes)))) = absurd (section_or_passes K laws (bytes_left old) rs section passes)
+  why_not e (inr (inr (inr (none, is, ends)))) = absurd (section_or_cut K laws (bytes_left old) rs section ends)
 
-  pub only_these : (found : List R) → map K.handed_out rs ≡ rs → ReadsSection K old new at found → found ≡ rs
-  only_these found same reads = sym reads.handed ∙ ap (map K.handed_out) (only_list K laws (drop at old.bytes) reads.stored rs reads.section section) ∙ same
+  pub only_these : (found : List R) → map K.handed_out rs ≡ rs → TakesSection K old new found → found ≡ rs
+  only_these found same reads = sym reads.handed ∙ ap (map K.handed_out) (only_list K laws (bytes_left old) reads.stored rs reads.section section) ∙ same
 
   pub whole_read : {Z : Type 0} (r : Result (Vec R Z) CoreError) → map K.handed_out rs ≡ rs
-      → MatchResult r (λ found. ReadsSection K old new at found.items) (SectionFails K old new at)
+      → MatchResult r (λ found. TakesSection K old new found.items) (TakesNoSection K old new)
       → MatchResult r (λ found. found.items ≡ rs) (λ e. DeviceFailure old new e ⊎ (e ≡ OutOfMemory))
   whole_read (Ok found) same reads = only_these found.items same reads
   whole_read (Err e) same fails = why_not e fails.cause

@@ -1,6 +1,6 @@
 -- The turns of the loop that reads a section.
-use Rattle.std.proofs.Common.{◌≡◌, ◌≢◌, ◌⊎◌, inl, inr, ℕ, ◌+◌, ◌*◌, ◌<◌, ◌≤◌, List, [], ◌∷◌, ◌++◌, length, flat_map, drop, append-nil, refl, sym, ap, ◌∙◌, subst, arith}
-use Rattle.std.proofs.lemmas.List.{map-append}
+use Rattle.std.proofs.Common.{◌≡◌, ◌≢◌, ◌⊎◌, inl, inr, ℕ, ◌+◌, ◌*◌, ◌<◌, ◌≤◌, List, [], ◌∷◌, ◌++◌, length, flat_map, sum_by, append-nil, refl, sym, ap, ◌∙◌, subst, arith}
+use Rattle.std.proofs.lemmas.List.{length-append, map-append}
 use Rattle.std.proofs.lemmas.List.Elements.{All-append, All-cons, All-nil}
 use Rattle.std.proofs.lemmas.List.Sums.{sum_by_push}
 use Rattle.std.proofs.lemmas.Grind.{flat_map-append}
@@ -8,14 +8,14 @@ use Rattle.xet_base.specs.declared.error.CoreError.{CoreError}
 use Rattle.xet_base.specs.declared.error.CoreError.TheVariants.{OutOfMemory}
 use Rattle.xet_base.specs.Errors.{IsInvalidShard}
 use Rattle.xet_base.specs.Hash.{all_ones}
-use Rattle.xet_base.specs.Source.{Source, Takes, ReadFailure, ReadFails, moved, bytes_left}
+use Rattle.xet_base.specs.Source.{Source, Takes, ReadFailure, ReadFails, advanced, bytes_left}
 use Rattle.xet_base.proofs.Reading.{Takes-nil, Takes-trans, Takes-consumes, lacks_left}
 use Rattle.xet_records.specs.RecordKind.{RecordKind}
 use Rattle.xet_records.specs.Rows.{ReadsRow}
 use Rattle.xet_records.specs.Reading.{ReadsBookend, ReadsRowsAfter, BeginsWithHeader}
 use Rattle.xet_records.proofs.Lengths.{length-texts}
 use Rattle.xet_records.proofs.RecordKinds.{KindLaws, length-text, whole_record}
-use Rattle.xet_shards.specs.SectionReading.{HoldsRecords, PassesLimit, EndsEarly, PassesRows, IsCutSection, ReadsSection, SectionFailure, SectionFails, HasRead, ReadsHeader, ReadsNext, RecordFails, rows_left}
+use Rattle.xet_shards.specs.SectionReading.{HoldsRecords, PassesLimit, EndsEarly, PassesRows, IsCutSection, TakesSection, TakesNoSection, SectionFailure, HasRead, ReadsHeader, ReadsNext, RecordFails, rows_left}
 
 -- a read of n bytes was refused, after calls that did not fail
 refused_as : (Passes Ends : List ℕ → Type 0) (bytes : List ℕ) (old mid new : Source) (n : ℕ) (e : CoreError) → mid.failures ≡ old.failures
@@ -119,55 +119,56 @@ module _ {H R : Type 0} (K : RecordKind H R) (laws : KindLaws K) where
       }
 
   -- the bytes of the section, as far as the records that were read
-  module _ (old now : Source) (at : ℕ) (found : List R) (left : ℕ) (read : HasRead K (moved old at) now found left) where
-    holds : HoldsRecords K (drop at old.bytes) read.stored (bytes_left now)
+  module _ (start now : Source) (found : List R) (left : ℕ) (read : HasRead K start now found left) where
+    holds : HoldsRecords K (bytes_left start) read.stored (bytes_left now)
     holds = record {
       are_stored = read.are_stored;
       rows = omega (arith, read.rows);
-      bytes_are = Takes-consumes (moved old at) now (flat_map K.text read.stored) read.taken;
+      bytes_are = Takes-consumes start now (flat_map K.text read.stored) read.taken;
     }
 
     left_is : left ≡ rows_left K read.stored
     left_is = omega (arith, read.rows)
 
-    bytes_then : now.bytes ≡ old.bytes
+    bytes_then : now.bytes ≡ start.bytes
     bytes_then = ap (λ (s : Source). s.bytes) read.taken.after
 
-    seeks_then : now.seeks ≡ old.seeks + 1
+    seeks_then : now.seeks ≡ start.seeks
     seeks_then = ap (λ (s : Source). s.seeks) read.taken.after
 
-    failures_then : now.failures ≡ old.failures
+    failures_then : now.failures ≡ start.failures
     failures_then = ap (λ (s : Source). s.failures) read.taken.after
 
-    pub section_ends : (new : Source) → ReadsBookend K (Takes now new) → ReadsSection K old new at found
-    section_ends new last = record {
-      stored = read.stored;
-      section = record {
-        rest = bytes_left now;
-        records = holds;
-        bookend = record {
-          header = last.header;
-          rest = bytes_left new;
-          widths = last.widths;
-          is_bookend = last.is_bookend;
-          bytes_are = Takes-consumes now new (K.header_bytes last.header) last.taken;
-        };
-      };
-      handed = read.handed;
-      bytes = ap (λ (s : Source). s.bytes) last.taken.after ∙ bytes_then;
-      seeks = ap (λ (s : Source). s.seeks) last.taken.after ∙ seeks_then;
-      read = omega (
-        arith,
-        ap (λ (s : Source). s.read) last.taken.after,
-        ap (λ (s : Source). s.read) read.taken.after,
-        laws.header_size last.header,
-        length-texts K.text K.row_count K.IsStored (length-text K laws) read.stored read.are_stored,
-      );
-      failures = ap (λ (s : Source). s.failures) last.taken.after ∙ failures_then;
-    }
+    pub section_ends : (new : Source) → ReadsBookend K (Takes now new) → TakesSection K start new found
+    section_ends new last =
+        let texts = flat_map K.text read.stored in
+        let bookend = K.header_bytes last.header in
+        let size : length (texts ++ bookend) ≡ 48 * (sum_by K.row_count read.stored + 1) =
+        omega (
+          arith,
+          length-append texts bookend,
+          laws.header_size last.header,
+          length-texts K.text K.row_count K.IsStored (length-text K laws) read.stored read.are_stored,
+        ) in
+        record {
+          stored = read.stored;
+          section = record {
+            rest = bytes_left now;
+            records = holds;
+            bookend = record {
+              header = last.header;
+              rest = bytes_left new;
+              widths = last.widths;
+              is_bookend = last.is_bookend;
+              bytes_are = Takes-consumes now new bookend last.taken;
+            };
+          };
+          handed = read.handed;
+          after = (Takes-trans start now new texts bookend read.taken last.taken).after ∙ ap (advanced start) size;
+        }
 
     whole_cause : (new : Source) (e : CoreError) → SectionFailure (PassesLimit K left) (EndsEarly K left) (bytes_left now) now new e
-        → SectionFailure (PassesRows K) (IsCutSection K) (drop at old.bytes) old new e
+        → SectionFailure (PassesRows K) (IsCutSection K) (bytes_left start) start new e
     whole_cause new e (inl failed) = inl (failed.0 ∙ ap (λ k. k + 1) failures_then, failed.1, failed.2, failed.3)
     whole_cause new e (inr (inl (none, no_memory))) = inr (inl (none ∙ failures_then, no_memory))
     whole_cause new e (inr (inr (inl (none, is, passes)))) =
@@ -175,8 +176,8 @@ module _ {H R : Type 0} (K : RecordKind H R) (laws : KindLaws K) where
     whole_cause new e (inr (inr (inr (none, is, ends)))) =
         inr (inr (inr (none ∙ failures_then, is, (read.stored, bytes_left now, holds, subst (λ n. EndsEarly K n (bytes_left now)) left_is ends))))
 
-    pub section_fails : (new : Source) (e : CoreError) → RecordFails K left now new e → SectionFails K old new at e
+    pub section_fails : (new : Source) (e : CoreError) → RecordFails K left now new e → TakesNoSection K start new e
     section_fails new e fails = record { bytes = fails.bytes ∙ bytes_then; seeks = fails.seeks ∙ seeks_then; cause = whole_cause new e fails.cause }
 
-    pub no_memory_for_it : (e : CoreError) → e ≡ OutOfMemory → SectionFails K old now at e
+    pub no_memory_for_it : (e : CoreError) → e ≡ OutOfMemory → TakesNoSection K start now e
     no_memory_for_it e is = record { bytes = bytes_then; seeks = seeks_then; cause = inr (inl (failures_then, is)) }

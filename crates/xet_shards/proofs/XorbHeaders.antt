@@ -48,12 +48,12 @@ more_headers start now new found left after header before (x, is, next) =
 pub headers_end : (old now new : Source) (at : ℕ) (found : List (XorbChunkSequenceHeader × ℕ)) (left : ℕ) → HasReadHeaders (moved old at) now found left
     → ReadsBookend xorb_records (Takes now new) → ReadsXorbHeaders old new at found
 headers_end old now new at found left before last =
-    (before.xorbs, section_ends xorb_records xorb_laws old now at before.xorbs left before.read new last, before.headers)
+    (before.xorbs, section_ends xorb_records xorb_laws (moved old at) now before.xorbs left before.read new last, before.headers)
 
 -- bytes that are a section of xorbs have their headers, unless the device fails or memory is refused
 pub headers_read : {Z : Type 0} (old new : Source) (at : ℕ) (xorbs : List MDBXorbInfo) (r : Result (Vec (XorbChunkSequenceHeader × ℕ) Z) CoreError)
     → IsSection xorb_records (drop at old.bytes) xorbs → MatchResult r (λ found. ReadsXorbHeaders old new at found.items) (SectionFails xorb_records old new at)
     → MatchResult r (λ found. found.items ≡ xorb_headers at xorbs) (λ e. DeviceFailure old new e ⊎ (e ≡ OutOfMemory))
 headers_read old new at xorbs (Ok found) section (read, reads, headers) =
-    headers ∙ ap (xorb_headers at) (only_these xorb_records xorb_laws old new at xorbs section read (map-id xorbs) reads)
-headers_read old new at xorbs (Err e) section fails = why_not xorb_records xorb_laws old new at xorbs section e fails.cause
+    headers ∙ ap (xorb_headers at) (only_these xorb_records xorb_laws (moved old at) new xorbs section read (map-id xorbs) reads)
+headers_read old new at xorbs (Err e) section fails = why_not xorb_records xorb_laws (moved old at) new xorbs section e fails.cause

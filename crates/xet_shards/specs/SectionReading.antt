@@ -1,11 +1,11 @@
 -- What bytes are to a reader of a section, of files or of xorbs: the texts of a list of records and a bookend, or
 -- such texts and then a record too many, or such texts and then too few bytes.
-use Rattle.std.specs.Prelude.{◌≡◌, ◌≢◌, ◌⊎◌, ℕ, ◌+◌, ◌-◌, ◌*◌, ◌<◌, ◌≤◌, List, ◌++◌, length, map, flat_map, sum_by, drop, All, Option, MatchOption}
+use Rattle.std.specs.Prelude.{◌≡◌, ◌≢◌, ◌⊎◌, ℕ, ◌+◌, ◌-◌, ◌*◌, ◌<◌, ◌≤◌, List, ◌++◌, length, map, flat_map, sum_by, All, Option, MatchOption}
 use Rattle.xet_base.specs.declared.error.CoreError.{CoreError}
 use Rattle.xet_base.specs.declared.error.CoreError.TheVariants.{OutOfMemory}
 use Rattle.xet_base.specs.Errors.{IsInvalidShard, IsEndOfInput}
 use Rattle.xet_base.specs.Hash.{all_ones}
-use Rattle.xet_base.specs.Source.{Source, Takes, DeviceFailure, bytes_left}
+use Rattle.xet_base.specs.Source.{Source, Takes, DeviceFailure, advanced, moved, bytes_left}
 use Rattle.xet_records.specs.RecordKind.{RecordKind}
 use Rattle.xet_records.specs.Reading.{ReadsBookend, ReadsRecord, BeginsWithHeader}
 
@@ -59,15 +59,16 @@ module _ {H R : Type 0} (K : RecordKind H R) where
   MayTake bytes n =
       (n ≤ 48) ⊎ ((header : H) × (rest : List ℕ) × BeginsWithHeader K bytes header rest × (n ≤ 48 * (1 + K.rows_after header)))
 
--- the records of the section at a place were read, by one seek and no byte past its bookend
-pub record ReadsSection {H R : Type 0} (K : RecordKind H R) (old new : Source) (at : ℕ) (found : List R) : Type 0 where
+-- the records of a section were read from the source's place on, without a seek and without a byte past the bookend
+pub record TakesSection {H R : Type 0} (K : RecordKind H R) (old new : Source) (found : List R) : Type 0 where
   pub stored : List R
-  pub section : IsSection K (drop at old.bytes) stored
+  pub section : IsSection K (bytes_left old) stored
   pub handed : map K.handed_out stored ≡ found
-  pub bytes : new.bytes ≡ old.bytes
-  pub seeks : new.seeks ≡ old.seeks + 1
-  pub read : new.read ≡ old.read + 48 * (sum_by K.row_count stored + 1)
-  pub failures : new.failures ≡ old.failures
+  pub after : new ≡ advanced old (48 * (sum_by K.row_count stored + 1))
+
+-- those of the section at a place were, by one seek
+abbrev pub ReadsSection : {H R : Type 0} → RecordKind H R → Source → Source → ℕ → List R → Type 0
+ReadsSection K old new at found = TakesSection K (moved old at) new found
 
 -- why records were not read: the device failed, memory was refused, a record was too many, or the bytes too few
 abbrev pub SectionFailure : (List ℕ → Type 0) → (List ℕ → Type 0) → List ℕ → Source → Source → CoreError → Type 0
@@ -77,11 +78,15 @@ SectionFailure Passes Ends bytes old new e =
     ⊎ ((new.failures ≡ old.failures) × IsInvalidShard e × Passes bytes)
     ⊎ ((new.failures ≡ old.failures) × IsEndOfInput e × Ends bytes)
 
--- the records were not read, by one seek; the place is open
-pub record SectionFails {H R : Type 0} (K : RecordKind H R) (old new : Source) (at : ℕ) (e : CoreError) : Type 0 where
+-- the records were not read; the place is open
+pub record TakesNoSection {H R : Type 0} (K : RecordKind H R) (old new : Source) (e : CoreError) : Type 0 where
   pub bytes : new.bytes ≡ old.bytes
-  pub seeks : new.seeks ≡ old.seeks + 1
-  pub cause : SectionFailure (PassesRows K) (IsCutSection K) (drop at old.bytes) old new e
+  pub seeks : new.seeks ≡ old.seeks
+  pub cause : SectionFailure (PassesRows K) (IsCutSection K) (bytes_left old) old new e
+
+-- those of the section at a place were not, by one seek
+abbrev pub SectionFails : {H R : Type 0} → RecordKind H R → Source → Source → ℕ → CoreError → Type 0
+SectionFails K old new at e = TakesNoSection K (moved old at) new e
 
 -- the records that were read so far, and the rows that are left
 pub record HasRead {H R : Type 0} (K : RecordKind H R) (start now : Source) (found : List R) (left : ℕ) : Type 0 where

@@ -12,7 +12,7 @@ loop-files-preserved g c =
 pub returns-in_err-file_info : goal.returns-in_err-file_info
 returns-in_err-file_info g c =
     let p = err_from_is_err_and c.from_residual-in_err-file_info.result c.from_residual-in_err-file_info.ensures.1 in
-    rw (p.1, p.2) (section_fails file_records file_laws _ (g.S.ShardSource.meaning c.loop-files.source) _ _ _ c.loop-files.invariant _ _ c.in_err-file_info.ensures.refused)
+    rw (p.1, p.2) (section_fails file_records file_laws _ (g.S.ShardSource.meaning c.loop-files.source) _ _ c.loop-files.invariant _ _ c.in_err-file_info.ensures.refused)
 
 pub returns : goal.returns
-returns g c = section_ends file_records file_laws _ (g.S.ShardSource.meaning c.loop-files.source) _ _ _ c.loop-files.invariant _ (search rules)
+returns g c = section_ends file_records file_laws _ (g.S.ShardSource.meaning c.loop-files.source) _ _ c.loop-files.invariant _ (search rules)

@@ -17,7 +17,7 @@ loop-headers-preserved g c =
 pub returns-in_err-header : goal.returns-in_err-header
 returns-in_err-header g c =
     let p = err_from_is_err_and c.from_residual-in_err-header.result c.from_residual-in_err-header.ensures.1 in
-    rw (p.1, p.2) (section_fails xorb_records xorb_laws _ (g.S.ShardSource.meaning c.loop-headers.source) _ _ _ c.loop-headers.invariant.read _ _ c.in_err-header.ensures.refused)
+    rw (p.1, p.2) (section_fails xorb_records xorb_laws _ (g.S.ShardSource.meaning c.loop-headers.source) _ _ c.loop-headers.invariant.read _ _ c.in_err-header.ensures.refused)
 
 pub returns : goal.returns
-returns g c = headers_end _ (g.S.ShardSource.meaning c.loop-headers.source) _ _ _ _ c.loop-headers.invariant (search rules)
+returns g c = headers_end (g.S.ShardSource.meaning c.args.source.now) (g.S.ShardSource.meaning c.loop-headers.source) _ c.args.offset _ _ c.loop-headers.invariant (search rules)

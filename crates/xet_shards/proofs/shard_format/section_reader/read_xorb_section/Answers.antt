@@ -12,7 +12,7 @@ loop-xorbs-preserved g c =
 pub returns-in_err-xorb : goal.returns-in_err-xorb
 returns-in_err-xorb g c =
     let p = err_from_is_err_and c.from_residual-in_err-xorb.result c.from_residual-in_err-xorb.ensures.1 in
-    rw (p.1, p.2) (section_fails xorb_records xorb_laws _ (g.S.ShardSource.meaning c.loop-xorbs.source) _ _ _ c.loop-xorbs.invariant _ _ c.in_err-xorb.ensures.refused)
+    rw (p.1, p.2) (section_fails xorb_records xorb_laws _ (g.S.ShardSource.meaning c.loop-xorbs.source) _ _ c.loop-xorbs.invariant _ _ c.in_err-xorb.ensures.refused)
 
 pub returns : goal.returns
-returns g c = section_ends xorb_records xorb_laws _ (g.S.ShardSource.meaning c.loop-xorbs.source) _ _ _ c.loop-xorbs.invariant _ (search rules)
+returns g c = section_ends xorb_records xorb_laws _ (g.S.ShardSource.meaning c.loop-xorbs.source) _ _ c.loop-xorbs.invariant _ (search rules)

@@ -1,5 +1,6 @@
 use Rattle.std.proofs.Common.{drop, sym, ap, subst}
 use Rattle.std.specs.Prelude.{MatchResult}
+use Rattle.xet_base.specs.Source.{moved}
 use Rattle.std.specs.FinMap.{entries, values}
 use Rattle.xet_records.specs.FileRecord.{file_records}
 use Rattle.xet_records.proofs.RecordKinds.{file_laws}
@@ -14,7 +15,7 @@ returns-clause-written g c =
     let old = g.S.ShardSource.meaning c.args.source.now in
     let new = g.S.ShardSource.meaning c.read_file_section.new.source in
     λ s expiry shard are is.
-    whole_read file_records file_laws old new 48 (values s.files)
+    whole_read file_records file_laws (moved old 48) new (values s.files)
     (subst (λ bytes. IsSection file_records (drop 48 bytes) (values s.files)) (sym are) (section_of_shard s expiry shard))
     c.read_file_section.result (handed_same (values s.files) (well_formed_values (entries s.files) shard.files))
     (subst (λ at. MatchResult c.read_file_section.result (λ found. ReadsSection file_records old new at found.items) (SectionFails file_records old new at))

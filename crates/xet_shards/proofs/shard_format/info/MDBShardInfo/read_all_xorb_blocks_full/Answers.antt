@@ -1,5 +1,6 @@
 use Rattle.std.proofs.Common.{◌+◌, length, drop, sym, ap, subst}
 use Rattle.std.specs.Prelude.{MatchResult}
+use Rattle.xet_base.specs.Source.{moved}
 use Rattle.std.specs.FinMap.{values}
 use Rattle.std.proofs.lemmas.List.{map-id}
 use Rattle.xet_records.specs.XorbRecord.{xorb_records}
@@ -16,7 +17,7 @@ returns-clause-written g c =
     let new = g.S.ShardSource.meaning c.read_xorb_section.new.source in
     λ s expiry shard are is.
     let at = 48 + length (file_section (values s.files)) in
-    whole_read xorb_records xorb_laws old new at (values s.xorbs)
+    whole_read xorb_records xorb_laws (moved old at) new (values s.xorbs)
     (subst (λ bytes. IsSection xorb_records (drop at bytes) (values s.xorbs)) (sym are) (xorb_section_of_shard s expiry shard))
     c.read_xorb_section.result (map-id (values s.xorbs))
     (subst (λ at. MatchResult c.read_xorb_section.result (λ found. ReadsSection xorb_records old new at found.items) (SectionFails xorb_records old new at))
