@@ -1,20 +1,24 @@
 -- What the two kinds of records have in common, and what follows of reading them.
-use Rattle.std.proofs.Common.{◌≡◌, ◌≢◌, inl, inr, ℕ, ◌+◌, ◌*◌, ◌≤◌, List, ◌++◌, length, Option, None, Some, IfSome, refl, sym, ap, ◌∙◌, subst, arith}
-use Rattle.std.specs.Prelude.{MatchOption}
-use Rattle.std.proofs.lemmas.List.{length-append, append_assoc, map-id}
+use Rattle.std.proofs.Common.{◌≡◌, ◌≢◌, inl, inr, ℕ, ◌+◌, ◌*◌, ◌≤◌, Bool, if◌then◌else◌, flat_map, List, ◌++◌, length, Option, None, Some, IfSome, refl, sym, ap, ◌∙◌, subst, arith}
+use Rattle.std.specs.Prelude.{MatchOption, option_map, option_to_list}
+use Rattle.std.proofs.lemmas.List.{length-append, length-map, append_assoc, map-id}
 use Rattle.std.specs.Io.KnownBytes.{Consumes}
 use Rattle.xet_base.specs.Hash.{all_ones}
+use Rattle.xet_records.specs.declared.file_structs.FileDataSequenceHeader.{FileDataSequenceHeader}
+use Rattle.xet_records.specs.declared.file_structs.FileDataSequenceEntry.{FileDataSequenceEntry}
+use Rattle.xet_records.specs.declared.file_structs.FileVerificationEntry.{FileVerificationEntry}
+use Rattle.xet_records.specs.declared.file_structs.FileMetadataExt.{FileMetadataExt}
 use Rattle.xet_records.specs.declared.xorb_structs.XorbChunkSequenceHeader.{XorbChunkSequenceHeader}
 use Rattle.xet_records.specs.declared.xorb_structs.XorbChunkSequenceEntry.{XorbChunkSequenceEntry}
 use Rattle.xet_records.specs.RecordKind.{RecordKind}
-use Rattle.xet_records.specs.FileRow.{header_row}
-use Rattle.xet_records.specs.Rows.{ReadsRows}
+use Rattle.xet_records.specs.FileRow.{header_row, segment_row, verification_row, metadata_row, FitsSegment, FitsVerification, FitsMetadata, clear_verification, clear_metadata}
+use Rattle.xet_records.specs.Rows.{ReadsRows, ReadsOptional}
 use Rattle.xet_records.specs.XorbRow.{chunk_row, FitsChunk}
-use Rattle.xet_records.specs.FileRecord.{record_text, rows_text, file_records}
+use Rattle.xet_records.specs.FileRecord.{record_text, rows_text, has_verification, has_metadata_ext, file_records}
 use Rattle.xet_records.specs.XorbRecord.{xorb_text, xorb_records}
 use Rattle.xet_records.specs.Reading.{ReadsBookend, ReadsRowsAfter, ReadsRecord, BeginsWithHeader, IsCutShort, HasTooManyRows}
 use Rattle.xet_records.proofs.Lengths.{length-header_row, length-record_text, length-xorb_header_row, length-chunk_rows}
-use Rattle.xet_records.proofs.Record.{header_row-front, row_count-whole}
+use Rattle.xet_records.proofs.Record.{length-three, row_or_none, header_row-front, row_count-whole}
 use Rattle.xet_records.proofs.Unique.{record_front}
 use Rattle.xet_records.proofs.XorbUnique.{xorb_header_row-front, xorb_front}
 
@@ -27,7 +31,13 @@ pub record KindLaws {H R : Type 0} (K : RecordKind H R) : Type 0 where
   pub header_fits : (r : R) → K.IsStored r → K.Fits (K.header_of r)
   pub is_record : (r : R) → K.IsStored r → K.hash_of (K.header_of r) ≢ all_ones
   pub same_header : (r : R) → K.header_of (K.handed_out r) ≡ K.header_of r
+  pub same_rows : (r : R) → K.row_count (K.handed_out r) ≡ K.row_count r
   pub front : (r s : R) (x y : List ℕ) → K.IsStored r → K.IsStored s → K.text r ++ x ≡ K.text s ++ y → (r ≡ s) × (x ≡ y)
+
+-- a part stays present
+present : (o : Option FileMetadataExt) → length (option_to_list (option_map clear_metadata o)) ≡ length (option_to_list o)
+present None = refl
+present (Some m) = refl
 
 pub file_laws : KindLaws file_records
 unfolding record_text
@@ -41,6 +51,7 @@ file_laws = record {
   header_fits = λ r stored. stored.widths.metadata;
   is_record = λ r stored. stored.is_file;
   same_header = λ r. refl;
+  same_rows = λ r. omega (arith, length-map r.verification clear_verification, present r.metadata_ext);
   front = record_front;
 }
 
@@ -55,6 +66,7 @@ xorb_laws = record {
   header_fits = λ r stored. stored.widths.metadata;
   is_record = λ r stored. stored.is_xorb;
   same_header = λ r. refl;
+  same_rows = λ r. refl;
   front = xorb_front;
 }
 
@@ -155,6 +167,27 @@ module _ {H R : Type 0} (K : RecordKind H R) (laws : KindLaws K) where
       → MatchOption found (ReadsBookend K (Consumes old new)) (ReadsRecord K (Consumes old new)) → (found ≡ Some (K.handed_out r)) × (new ≡ Some rest)
   read_again old new r rest found stored are read =
       read_front new r rest found stored (subst (λ bs. MatchOption found (ReadsBookend K (Consumes bs new)) (ReadsRecord K (Consumes bs new))) are read)
+
+-- the three parts after a file's header, one after another
+module _ (First Second Third Both Whole : List ℕ → Type 0) (two : (xs ys : List ℕ) → First xs → Second ys → Both (xs ++ ys)) (three : (xs ys : List ℕ) → Both xs → Third ys → Whole (xs ++ ys)) where
+  pub parts_after : (h : FileDataSequenceHeader) (count : ℕ) (wanted : Bool) (ss : List FileDataSequenceEntry) (vs : List FileVerificationEntry) (m : Option FileMetadataExt)
+      → count ≡ (if has_verification h.file_flags then h.num_entries else 0) → wanted ≡ has_metadata_ext h.file_flags
+      → ReadsRows segment_row FitsSegment (λ s. s) First h.num_entries ss → ReadsRows verification_row FitsVerification clear_verification Second count vs
+      → ReadsOptional metadata_row FitsMetadata clear_metadata Third wanted m → ReadsRowsAfter file_records h Whole (record { metadata = h; segments = ss; verification = vs; metadata_ext = m })
+  unfolding rows_text
+  parts_after h count wanted ss vs m counted wants s v e = record {
+    stored = record { metadata = h; segments = s.stored; verification = v.stored; metadata_ext = e.stored };
+    same_header = refl;
+    is_stored = λ is_file fits. record {
+      is_file = is_file;
+      whole = record { segments = s.len; verification = v.len ∙ counted; metadata_ext = e.present ∙ wants };
+      widths = record { metadata = fits; segments = s.widths; verification = v.widths; metadata_ext = e.widths };
+    };
+    size = length-three (flat_map segment_row s.stored) (flat_map verification_row v.stored) (flat_map metadata_row (option_to_list e.stored))
+        ∙ omega (arith, s.size, v.size ∙ ap (λ n. 48 * n) counted, e.size ∙ row_or_none wanted, ap {B = ℕ} (λ b. if b then 1 else 0) wants);
+    taken = three _ _ (two _ _ s.taken v.taken) e.taken;
+    handed = λ i. record { metadata = h; segments = (sym (map-id s.stored) ∙ s.handed) i; verification = v.handed i; metadata_ext = e.handed i };
+  }
 
 -- the chunks after a header
 pub chunks_after : (Took : List ℕ → Type 0) (g : XorbChunkSequenceHeader) (cs : List XorbChunkSequenceEntry) → ReadsRows chunk_row FitsChunk (λ c. c) Took g.num_entries cs

@@ -16,7 +16,7 @@ ghost use Rattle.xet_base.specs.Errors.{IsEndOfInput, IsDeviceError, IsInvalidSh
 
 use crate::rows::{
     Row, Rows, read_optional, read_row, read_rows, read_source_optional, read_source_rows,
-    write_optional, write_row, write_rows,
+    skip_source_rows, write_optional, write_row, write_rows,
 };
 use crate::xorb_structs::{XorbChunkSequenceEntry, XorbChunkSequenceHeader};
 use std::alloc::Global;
@@ -673,4 +673,21 @@ pub fn read_source_rows_after<S: ShardSource>(
         verification,
         metadata_ext,
     })
+}
+
+/// Reads over the rows that a header announces, which stand from the source's place on, and keeps the metadata row
+/// alone. Takes no memory. `UnexpectedEof` where fewer rows are left.
+#[tactic(auto, unfolding(crate::specs::FileRecord::rows_text))]
+pub fn skip_source_rows_after<S: ShardSource>(
+    source: &mut S,
+    metadata: FileDataSequenceHeader,
+) -> Result<Option<FileMetadataExt>>
+    ensures found { IfOk result (λ kept. (skipped : MDBFileInfo) × (skipped.metadata_ext ≡ kept)
+        × ReadsRowsAfter file_records metadata (Takes (S.meaning source.old) (S.meaning source.new)) skipped) }
+    ensures refused { IfErr result
+        (ReadFails (S.meaning source.old) (S.meaning source.new) (48 * rows_after metadata)) }
+{
+    skip_source_rows::<FileDataSequenceEntry, S>(source, metadata.num_entries)?;
+    skip_source_rows::<FileVerificationEntry, S>(source, metadata.verification_rows())?;
+    read_source_optional(source, metadata.contains_metadata_ext())
 }

@@ -30,3 +30,4 @@ pub mod Written
 pub mod XorbLayouts
 pub mod Xorbs
 pub mod XorbHeaders
+pub mod FileRanges

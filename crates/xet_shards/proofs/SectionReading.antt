@@ -1,20 +1,21 @@
 -- The turns of the loop that reads a section.
-use Rattle.std.proofs.Common.{◌≡◌, ◌≢◌, ◌⊎◌, inl, inr, ℕ, ◌+◌, ◌*◌, ◌<◌, ◌≤◌, List, [], ◌∷◌, ◌++◌, length, flat_map, sum_by, append-nil, refl, sym, ap, ◌∙◌, subst, arith}
+use Rattle.std.proofs.Common.{◌≡◌, ◌≢◌, ◌⊎◌, inl, inr, ℕ, ◌+◌, ◌*◌, ◌<◌, ◌≤◌, List, [], ◌∷◌, ◌++◌, length, map, flat_map, sum_by, append-nil, refl, sym, ap, ◌∙◌, subst, arith}
 use Rattle.std.proofs.lemmas.List.{length-append, map-append}
 use Rattle.std.proofs.lemmas.List.Elements.{All-append, All-cons, All-nil}
-use Rattle.std.proofs.lemmas.List.Sums.{sum_by_push}
+use Rattle.std.proofs.lemmas.List.Sums.{sum_by-cons, sum_by_push}
 use Rattle.std.proofs.lemmas.Grind.{flat_map-append}
 use Rattle.xet_base.specs.declared.error.CoreError.{CoreError}
 use Rattle.xet_base.specs.declared.error.CoreError.TheVariants.{OutOfMemory}
-use Rattle.xet_base.specs.Errors.{IsInvalidShard}
+use Rattle.std.specs.declared.io.Error.{Error}
+use Rattle.xet_base.specs.Errors.{FromDevice, IsInvalidShard}
 use Rattle.xet_base.specs.Hash.{all_ones}
-use Rattle.xet_base.specs.Source.{Source, Takes, ReadFailure, ReadFails, advanced, bytes_left}
+use Rattle.xet_base.specs.Source.{Source, Takes, Fails, ReadFailure, ReadFails, advanced, bytes_left}
 use Rattle.xet_base.proofs.Reading.{Takes-nil, Takes-trans, Takes-consumes, lacks_left}
 use Rattle.xet_records.specs.RecordKind.{RecordKind}
 use Rattle.xet_records.specs.Rows.{ReadsRow}
 use Rattle.xet_records.specs.Reading.{ReadsBookend, ReadsRowsAfter, BeginsWithHeader}
 use Rattle.xet_records.proofs.Lengths.{length-texts}
-use Rattle.xet_records.proofs.RecordKinds.{KindLaws, length-text, whole_record}
+use Rattle.xet_records.proofs.RecordKinds.{KindLaws, length-text, stored_begins, whole_record}
 use Rattle.xet_shards.specs.SectionReading.{HoldsRecords, PassesLimit, EndsEarly, PassesRows, IsCutSection, TakesSection, TakesNoSection, SectionFailure, HasRead, ReadsHeader, ReadsNext, RecordFails, rows_left}
 
 -- a read of n bytes was refused, after calls that did not fail
@@ -97,6 +98,50 @@ module _ {H R : Type 0} (K : RecordKind H R) (laws : KindLaws K) where
       → ReadFails mid new (48 * K.rows_after h) e → RecordFails K left old new e
   no_rows_after_header left after old mid new h e begun fails =
       no_rows left old mid new h e begun.widths begun.is_record begun.taken (omega (arith, begun.rows)) fails
+
+  -- the device did not tell its place, after the header or after the whole record
+  pub no_place_after_header : (left after : ℕ) (old mid new : Source) (h : H) (failure : Error) (e : CoreError) → ReadsHeader K old mid left after h
+      → Fails mid new 0 failure → FromDevice failure e → RecordFails K left old new e
+  no_place_after_header left after old mid new h failure e begun fails is = record {
+    bytes = fails.bytes ∙ ap (λ (s : Source). s.bytes) begun.taken.after;
+    seeks = omega (arith, fails.seeks, ap (λ (s : Source). s.seeks) begun.taken.after);
+    taken = 48;
+    read = omega (arith, fails.read, ap (λ (s : Source). s.read) begun.taken.after, laws.header_size h);
+    may_take = inl (omega arith);
+    cause = inl (fails.failures ∙ ap (λ (s : Source). s.failures + 1) begun.taken.after, failure, fails.last_failure, is);
+  }
+
+  pub no_place_after_record : (left after : ℕ) (old now new : Source) (found : R) (failure : Error) (e : CoreError) → ReadsNext K old now left after found
+      → Fails now new 0 failure → FromDevice failure e → RecordFails K left old new e
+  no_place_after_record left after old now new found failure e next fails is =
+      let x = next.reads.stored in
+      let taken = next.reads.taken in
+      let stored = next.reads.is_stored in
+      let are : bytes_left old ≡ K.text x ++ bytes_left now = Takes-consumes old now (K.text x) taken in
+      let size : length (K.text x) ≡ 48 * (1 + K.rows_after (K.header_of x)) = length-text K laws x stored ∙ ap (λ n. 48 * n) (laws.rows x stored) in
+      record {
+        bytes = fails.bytes ∙ ap (λ (s : Source). s.bytes) taken.after;
+        seeks = omega (arith, fails.seeks, ap (λ (s : Source). s.seeks) taken.after);
+        taken = length (K.text x);
+        read = omega (arith, fails.read, ap (λ (s : Source). s.read) taken.after);
+        may_take = inr (K.header_of x, K.bytes_after x ++ bytes_left now, stored_begins K laws (bytes_left old) x (bytes_left now) stored are, omega (arith, size));
+        cause = inl (fails.failures ∙ ap (λ (s : Source). s.failures + 1) taken.after, failure, fails.last_failure, is);
+      }
+
+  -- the place after the records that were read
+  pub place_after : (start now : Source) (found : List R) (left : ℕ) → HasRead K start now found left → now.at ≡ start.at + 48 * sum_by K.row_count found
+  place_after start now found left read = omega (
+    arith,
+    ap (λ (s : Source). s.at) read.taken.after,
+    length-texts K.text K.row_count K.IsStored (length-text K laws) read.stored read.are_stored,
+    same_total read.stored,
+    ap (λ rs. sum_by K.row_count rs) read.handed,
+  )
+    where
+      same_total : (rs : List R) → sum_by K.row_count (map K.handed_out rs) ≡ sum_by K.row_count rs
+      same_total [] = refl
+      same_total (r ∷ rs) =
+          omega (arith, sum_by-cons K.row_count (K.handed_out r) (map K.handed_out rs), sum_by-cons K.row_count r rs, laws.same_rows r, same_total rs)
 
   -- before the first record
   pub nothing_read : (start : Source) → HasRead K start start [] 4294967295

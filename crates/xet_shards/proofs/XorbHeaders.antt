@@ -1,5 +1,5 @@
 -- The turns of the loop that reads the headers of the xorb section.
-use Rattle.std.proofs.Common.{◌≡◌, ◌⊎◌, Ok, Err, drop, ℕ, ◌+◌, ◌*◌, List, [], ◌∷◌, ◌++◌, map, Some, refl, sym, ap, ◌∙◌, arith}
+use Rattle.std.proofs.Common.{◌≡◌, ◌⊎◌, Ok, Err, drop, ℕ, ◌+◌, ◌*◌, List, [], ◌∷◌, ◌++◌, map, Some, refl, sym, ap, ◌∙◌}
 use Rattle.std.proofs.lemmas.List.{map-append, map-id}
 use Rattle.std.specs.Prelude.{MatchResult}
 use Rattle.std.specs.declared.result.Result.{Result}
@@ -16,10 +16,9 @@ use Rattle.xet_shards.specs.Shard.{total_xorb_rows}
 use Rattle.xet_shards.specs.Section.{with_fronts}
 use Rattle.xet_shards.specs.SectionReading.{IsSection, SectionFails}
 use Rattle.xet_shards.specs.XorbHeaders.{xorb_headers, ReadsXorbHeaders, HasReadHeaders, ReadsThrough}
-use Rattle.xet_shards.proofs.SectionReading.{nothing_read, more_read, section_ends}
+use Rattle.xet_shards.proofs.SectionReading.{nothing_read, more_read, section_ends, place_after}
 use Rattle.xet_shards.proofs.Readback.{why_not, only_these}
 use Rattle.xet_shards.proofs.Tables.{with_fronts-push}
-use Rattle.xet_shards.proofs.XorbLayouts.{length-xorb_texts}
 
 xorb_headers-push : (at : ℕ) (xorbs : List MDBXorbInfo) (x : MDBXorbInfo) → xorb_headers at (xorbs ++ x ∷ []) ≡ xorb_headers at xorbs ++ (x.metadata, at + 48 * total_xorb_rows xorbs) ∷ []
 xorb_headers-push at xorbs x =
@@ -34,9 +33,7 @@ no_headers start = record { xorbs = []; read = nothing_read xorb_records xorb_la
 pub more_headers : (start now new : Source) (found : List (XorbChunkSequenceHeader × ℕ)) (left after : ℕ) (header : XorbChunkSequenceHeader × ℕ)
     → HasReadHeaders start now found left → ReadsThrough now new left after (Some header) → HasReadHeaders start new (found ++ header ∷ []) after
 more_headers start now new found left after header before (x, is, next) =
-    let stored : before.read.stored ≡ before.xorbs = sym (map-id before.read.stored) ∙ before.read.handed in
-    let place : now.at ≡ start.at + 48 * total_xorb_rows before.xorbs =
-    omega (arith, ap (λ (s : Source). s.at) before.read.taken.after, length-xorb_texts before.read.stored, ap total_xorb_rows stored) in
+    let place : now.at ≡ start.at + 48 * total_xorb_rows before.xorbs = place_after xorb_records xorb_laws start now before.xorbs left before.read in
     record {
       xorbs = before.xorbs ++ x ∷ [];
       read = more_read xorb_records xorb_laws start now new before.xorbs left after x before.read next;

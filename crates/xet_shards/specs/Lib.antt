@@ -1,5 +1,6 @@
 pub mod ChunkQuery
 pub mod Ends
+pub mod FileRanges
 pub mod FileTable
 pub mod InMemoryShard
 pub mod Index

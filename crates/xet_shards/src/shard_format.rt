@@ -1,6 +1,7 @@
 //! Shards as bytes: header, footer, writing and reading.
 
 mod file_lookup;
+mod file_ranges;
 mod footer;
 mod footer_facts;
 mod header;

@@ -170,9 +170,12 @@ fn read_ends<S: ShardSource>(alloc: Global, source: &mut S) -> Result<MDBShardIn
     Ok(MDBShardInfo { header, metadata })
 }
 
-// Reads a header from the source's place on.
+/// Reads a header from the source's place on.
 #[tactic(auto, unfolding(crate::specs::Layout::header_text))]
-fn read_header<S: ShardSource>(alloc: Global, source: &mut S) -> Result<MDBShardFileHeader>
+pub(super) fn read_header<S: ShardSource>(
+    alloc: Global,
+    source: &mut S,
+) -> Result<MDBShardFileHeader>
     ensures read { IfOk result (λ h. Takes (S.meaning source.old) (S.meaning source.new) (header_text h)) }
     ensures known { IfOk result (λ h. (h.tag ≡ header_tag) × (h.version ≡ 2) × (h.footer_size < 2 ^ 64)) }
     ensures refused { IfErr result

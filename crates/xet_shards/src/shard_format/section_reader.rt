@@ -45,15 +45,9 @@ pub(super) fn read_file_record<S: ShardSource>(
     ensures refused { IfErr result
         (RecordFails file_records rows_left.old (S.meaning source.old) (S.meaning source.new)) }
 {
-    let header: FileDataSequenceHeader = read_source_row(source)?;
-    if header.is_bookend() {
+    let Some(header) = read_file_header(alloc, source, rows_left)? else {
         return Ok(None);
-    }
-    let rows = 1 + header.rows_after();
-    if rows > *rows_left {
-        return Err(CoreError::InvalidShard(String::new(alloc)));
-    }
-    *rows_left -= rows;
+    };
     Ok(Some(read_source_rows_after(alloc, source, header)?))
 }
 
@@ -110,6 +104,29 @@ pub(super) fn read_xorb<S: ShardSource>(
     };
     let chunks = read_source_rows(alloc, source, metadata.num_entries)?;
     Ok(Some(MDBXorbInfo { metadata, chunks }))
+}
+
+/// Reads the header of the next record of a file section, or `None` at its bookend, and counts the record's rows down.
+pub(super) fn read_file_header<S: ShardSource>(
+    alloc: Global,
+    source: &mut S,
+    rows_left: &mut u64,
+) -> Result<Option<FileDataSequenceHeader>>
+    ensures read { IfOk result (λ found. MatchOption found (ReadsBookend file_records (Takes (S.meaning source.old) (S.meaning source.new)))
+        (ReadsHeader file_records (S.meaning source.old) (S.meaning source.new) rows_left.old rows_left.new)) }
+    ensures refused { IfErr result
+        (RecordFails file_records rows_left.old (S.meaning source.old) (S.meaning source.new)) }
+{
+    let header: FileDataSequenceHeader = read_source_row(source)?;
+    if header.is_bookend() {
+        return Ok(None);
+    }
+    let rows = 1 + header.rows_after();
+    if rows > *rows_left {
+        return Err(CoreError::InvalidShard(String::new(alloc)));
+    }
+    *rows_left -= rows;
+    Ok(Some(header))
 }
 
 // Reads through the next record of a xorb section, or `None` at its bookend, and keeps its header and place.

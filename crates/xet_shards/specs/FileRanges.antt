@@ -1,0 +1,70 @@
+-- Where the rows of each file stand in a source.
+use Rattle.std.specs.Prelude.{◌≡◌, ◌⊎◌, ℕ, ◌+◌, ◌*◌, ◌^◌, ◌<◌, List, [], map, Option, None, Some, option_map, MatchOption, if◌then◌else◌}
+use Rattle.xet_base.specs.declared.error.CoreError.{CoreError}
+use Rattle.xet_base.specs.declared.merklehash.DataHash.{DataHash}
+use Rattle.xet_base.specs.Source.{Source, Takes}
+use Rattle.xet_records.specs.declared.file_structs.FileDataSequenceHeader.{FileDataSequenceHeader}
+use Rattle.xet_records.specs.declared.file_structs.FileMetadataExt.{FileMetadataExt}
+use Rattle.xet_records.specs.declared.file_structs.MDBFileInfo.{MDBFileInfo}
+use Rattle.xet_records.specs.Reading.{ReadsBookend}
+use Rattle.xet_records.specs.FileRecord.{has_verification, file_records}
+use Rattle.xet_shards.specs.declared.shard_format.header.MDBShardFileHeader.{MDBShardFileHeader}
+use Rattle.xet_shards.specs.Shard.{total_rows}
+use Rattle.xet_shards.specs.Section.{with_fronts}
+use Rattle.xet_shards.specs.Layout.{header_tag, header_text}
+use Rattle.xet_shards.specs.Ends.{HasForeignHeader, EndsInHeader, PartFails}
+use Rattle.xet_shards.specs.SectionReading.{TakesSection, TakesNoSection, HasRead, ReadsNext}
+
+-- a file's hash, the place of its first segment and the one after its last, those of its verification rows, and its SHA-256
+abbrev pub FileRanges : Type 0
+FileRanges = DataHash × (ℕ × ℕ) × Option (ℕ × ℕ) × Option DataHash
+
+-- those of a record whose rows after the header start at a place
+abbrev pub ranges_after : ℕ → FileDataSequenceHeader → Option FileMetadataExt → FileRanges
+ranges_after start h metadata_ext =
+    let end = start + 48 * h.num_entries in (
+      h.file_hash,
+      (start, end),
+      (if has_verification h.file_flags then Some (end, end + 48 * h.num_entries) else None),
+      option_map (λ m. m.sha256) metadata_ext,
+    )
+
+-- those of a record that stands at a place
+abbrev pub ranges_at : ℕ → MDBFileInfo → FileRanges
+ranges_at place r = ranges_after (place + 48) r.metadata r.metadata_ext
+
+-- those of records whose section stands at a place
+abbrev pub file_ranges : ℕ → List MDBFileInfo → List FileRanges
+file_ranges at files = map (λ e. ranges_at (at + 48 * total_rows e.0) e.1) (with_fronts [] files)
+
+-- the file section was read through from the source's place on, and these are the ranges of its files
+abbrev pub TakesRanges : Source → Source → List FileRanges → Type 0
+TakesRanges old new found = (files : List MDBFileInfo) × TakesSection file_records old new files × (found ≡ file_ranges old.at files)
+
+-- a shard's header, and after it the file section, were read from the source's place on
+pub record ReadsFileRanges (old new : Source) (found : List FileRanges) : Type 0 where
+  pub header : MDBShardFileHeader
+  pub tag : header.tag ≡ header_tag
+  pub version : header.version ≡ 2
+  pub footer_size : header.footer_size < 2 ^ 64
+  pub after_header : Source
+  pub header_taken : Takes old after_header (header_text header)
+  pub ranges : TakesRanges after_header new found
+
+-- the header was not read, or the section after it was not
+abbrev pub FileRangesFail : Source → Source → CoreError → Type 0
+FileRangesFail old new e =
+    PartFails HasForeignHeader EndsInHeader 48 old new e
+    ⊎ ((header : MDBShardFileHeader) × (after_header : Source) × Takes old after_header (header_text header) × TakesNoSection file_records after_header new e)
+
+-- the ranges of the files that were read so far
+pub record HasReadRanges (start now : Source) (found : List FileRanges) (left : ℕ) : Type 0 where
+  pub files : List MDBFileInfo
+  pub read : HasRead file_records start now files left
+  pub ranges : found ≡ file_ranges start.at files
+
+-- the bookend was read, or the next record was read through, of which the ranges are kept
+abbrev pub ReadsRanges : Source → Source → ℕ → ℕ → Option FileRanges → Type 0
+ReadsRanges old new left after found =
+    MatchOption found (ReadsBookend file_records (Takes old new))
+    (λ ranges. (file_info : MDBFileInfo) × (ranges ≡ ranges_at old.at file_info) × ReadsNext file_records old new left after file_info)
