@@ -20,6 +20,7 @@ pub mod SectionReading
 pub mod SectionUnique
 pub mod ShardLookups
 pub mod Sums
+pub mod TableReading
 pub mod Tables
 pub mod Unions
 pub mod Versions
@@ -27,6 +28,7 @@ pub mod Walks
 pub mod Widths
 pub mod Worked
 pub mod Written
+pub mod WrittenTables
 pub mod XorbLayouts
 pub mod Xorbs
 pub mod XorbHeaders

@@ -7,11 +7,12 @@ use Rattle.std.specs.declared.cmp.Ordering.TheVariants.{Less, Equal, Greater}
 use Rattle.std.specs.Cmp.{IsTotalOrder, Equal-is}
 use Rattle.std.specs.Map.{lookup, keys_of, values_of}
 use Rattle.std.specs.BTreeMap.{insert_entry, is_at}
-use Rattle.std.specs.FinMap.{FinMap, from_entries, IsAntisymmetric, is_sorted, find, get, insert, entries, values, empty, from_sorted, same_map, same_entries_map, entries-from_sorted, entries-insert, entries_sorted, get-from_sorted, get-entries, get-empty, get-from_entries, len, len-entries, len-empty, len-insert}
+use Rattle.std.specs.FinMap.{FinMap, from_entries, IsAntisymmetric, is_sorted, find, get, insert, entries, keys, values, empty, from_sorted, same_map, same_entries_map, entries-from_sorted, entries-insert, entries_sorted, get-from_sorted, get-entries, get-empty, get-from_entries, len, len-entries, len-empty, len-insert}
 use Rattle.std.specs.FinMap.Entries.{put, is_sorted-put, by_order, below_all}
 use Rattle.std.specs.List.Sorted.{IsStrictlySortedBy}
 use Rattle.std.specs.List.{AllByRecursion}
 use Rattle.std.proofs.lemmas.Map.Entries.{sum_by-insert_entry}
+use Rattle.std.proofs.lemmas.Map.Views.{All-keys-insert_entry}
 use Rattle.std.proofs.lemmas.List.Elements.{All-cons, All-drop}
 
 order_cases : {A : Type 0} (o : Ordering) (a b c d : A) → c ≡ d → match_ordering o a b c ≡ by_order o a b d
@@ -113,6 +114,17 @@ puts R (e ∷ es) = put R e.0 e.1 (puts R es)
 pub entries-from_entries : {K X : Type 0} {R : K → K → Ordering} → IsTotalOrder R → (es : List (K × X)) → entries (from_entries {R = R} es) ≡ puts R es
 entries-from_entries {X = X} {R = R} total [] = entries-empty X R
 entries-from_entries {X = X} {R = R} total (e ∷ es) = entries-insert total (from_entries es) e.0 e.1 ∙ ap (put R e.0 e.1) (entries-from_entries total es)
+
+-- what holds of the keys of entries holds of those of their map
+pub All-keys-from_entries : {K X : Type 0} {R : K → K → Ordering} → IsTotalOrder R → (P : K → Type 0) (es : List (K × X)) → All P (keys_of es)
+    → All P (keys (from_entries {R = R} es))
+All-keys-from_entries {K = K} {X = X} {R = R} total P es all = subst (λ fs. All P (keys_of fs)) (sym (entries-from_entries total es)) (in_puts es all)
+  where
+    in_puts : (fs : List (K × X)) → All P (keys_of fs) → All P (keys_of (puts R fs))
+    in_puts [] all = all
+    in_puts (e ∷ fs) all =
+        subst (λ gs. All P (keys_of gs)) (put_is R e.0 e.1 (puts R fs))
+        (All-keys-insert_entry R e.0 e.1 P (puts R fs) (in_puts fs (All-drop P 1 (keys_of (e ∷ fs)) all)) (all 0 e.0 (omega arith)))
 
 -- keys whose ranks rise, from n on
 abbrev pub IsRising : {K : Type 0} → (K → ℕ) → ℕ → List K → Type 0

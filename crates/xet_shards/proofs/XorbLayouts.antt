@@ -82,7 +82,7 @@ rising_places front (x ∷ xorbs) =
     rising_lower sum_of _ _ (places_of (front, x) ++ later) (omega arith)
     (rising_chunks front 0 x.chunks later (rising_lower sum_of _ _ later (omega (arith, sum_by_push xorb_row_count front x)) (rising_places (front ++ x ∷ []) xorbs)))
 
-keys-alone : (ps : List ChunkPlace) → keys_of (map alone ps) ≡ ps
+pub keys-alone : (ps : List ChunkPlace) → keys_of (map alone ps) ≡ ps
 keys-alone [] = refl
 keys-alone (p ∷ ps) = ap (λ ks. p ∷ ks) (keys-alone ps)
 

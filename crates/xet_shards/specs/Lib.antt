@@ -12,6 +12,7 @@ pub mod Section
 pub mod SectionReading
 pub mod SetOperations
 pub mod Shard
+pub mod TableReading
 pub mod Tables
 pub mod Written
 pub mod XorbHeaders

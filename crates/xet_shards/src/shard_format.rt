@@ -8,6 +8,9 @@ mod header;
 mod info;
 mod section_reader;
 mod section_writer;
+mod table_reader;
+#[cfg(test)]
+mod table_reader_tests;
 mod writer;
 mod xorb_writer;
 

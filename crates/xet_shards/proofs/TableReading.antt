@@ -1,0 +1,131 @@
+-- The turns of the loop that reads a table, and what it gives where the rows are known.
+use Rattle.std.proofs.Common.{◌≡◌, ◌⊎◌, inl, inr, Ok, Err, ℕ, ◌+◌, ◌*◌, ◌<◌, ◌≤◌, List, [], ◌∷◌, ◌++◌, length, flat_map, drop, append-nil, refl, sym, ap, ◌∙◌, subst, arith}
+use Rattle.std.specs.Prelude.{All, MatchResult}
+use Rattle.std.specs.declared.result.Result.{Result}
+use Rattle.std.specs.declared.vec.Vec.{Vec}
+use Rattle.std.proofs.lemmas.List.{length-append}
+use Rattle.std.proofs.lemmas.List.Elements.{All-append, All-cons, All-drop, All-nil}
+use Rattle.std.proofs.lemmas.Grind.{flat_map-append}
+use Rattle.std.proofs.Math.Nat.{mul-suc, mul-le-mul_left}
+use Rattle.xet_base.specs.declared.error.CoreError.{CoreError}
+use Rattle.xet_base.specs.declared.error.CoreError.TheVariants.{OutOfMemory}
+use Rattle.xet_base.specs.Source.{Source, Takes, DeviceFailure, ReadFailure, ReadFails, moved, bytes_left}
+use Rattle.xet_base.proofs.Lists.{parts_front}
+use Rattle.xet_base.proofs.Reading.{Takes-nil, Takes-trans, Takes-consumes, lacks_left}
+use Rattle.xet_shards.specs.TableReading.{ReadsNextRow, ReadsTable, RowsFailure, TableFails}
+
+-- the rows that were read so far
+pub record HasReadRows {T : Type 0} (row_bytes : T → List ℕ) (Fits : T → Type 0) (size : ℕ) (start now : Source) (count : ℕ) (found : List T) : Type 0 where
+  pub number : length found ≡ count
+  pub widths : All Fits found
+  pub bytes : length (flat_map row_bytes found) ≡ size * count
+  pub taken : Takes start now (flat_map row_bytes found)
+
+module _ {T : Type 0} (row_bytes : T → List ℕ) (Fits : T → Type 0) (size : ℕ) where
+  pub no_rows_read : (start : Source) → HasReadRows row_bytes Fits size start start 0 []
+  no_rows_read start = record { number = refl; widths = All-nil Fits; bytes = omega arith; taken = Takes-nil start }
+
+  pub more_rows_read : (start now new : Source) (count : ℕ) (found : List T) (row : T) → HasReadRows row_bytes Fits size start now count found
+      → ReadsNextRow row_bytes Fits size now new row → HasReadRows row_bytes Fits size start new (count + 1) (found ++ row ∷ [])
+  more_rows_read start now new count found row before next =
+      let joined : flat_map row_bytes found ++ row_bytes row ≡ flat_map row_bytes (found ++ row ∷ []) =
+      ap (λ bs. flat_map row_bytes found ++ bs) (sym (append-nil (row_bytes row))) ∙ sym (flat_map-append row_bytes found (row ∷ [])) in
+      record {
+        number = length-append found (row ∷ []) ∙ ap (λ k. k + 1) before.number;
+        widths = All-append Fits found (row ∷ []) before.widths (All-cons Fits row [] next.widths (All-nil Fits));
+        bytes = sym (ap length joined) ∙ length-append (flat_map row_bytes found) (row_bytes row) ∙ omega (arith, before.bytes, next.bytes, mul-suc size count);
+        taken = subst (Takes start new) joined (Takes-trans start now new (flat_map row_bytes found) (row_bytes row) before.taken next.taken);
+      }
+
+  -- what stands at a place, as far as its rows were read
+  module _ (old now : Source) (at count : ℕ) (found : List T) (read : HasReadRows row_bytes Fits size (moved old at) now count found) where
+    stands_then : drop at old.bytes ≡ flat_map row_bytes found ++ bytes_left now
+    stands_then = Takes-consumes (moved old at) now (flat_map row_bytes found) read.taken
+
+    bytes_then : now.bytes ≡ old.bytes
+    bytes_then = ap (λ (s : Source). s.bytes) read.taken.after
+
+    seeks_then : now.seeks ≡ old.seeks + 1
+    seeks_then = ap (λ (s : Source). s.seeks) read.taken.after
+
+    read_then : now.read ≡ old.read + size * count
+    read_then = ap (λ (s : Source). s.read) read.taken.after ∙ ap (λ n. old.read + n) read.bytes
+
+    failures_then : now.failures ≡ old.failures
+    failures_then = ap (λ (s : Source). s.failures) read.taken.after
+
+    pub table_read : count ≤ 4294967295 → ReadsTable row_bytes Fits size old now at count found
+    table_read few = record {
+      few = few;
+      number = read.number;
+      widths = read.widths;
+      stands = (bytes_left now, stands_then);
+      bytes = bytes_then;
+      seeks = seeks_then;
+      read = read_then;
+      failures = failures_then;
+    }
+
+    -- memory was refused
+    pub no_memory_for_row : (rows : ℕ) (e : CoreError) → count ≤ rows → rows ≤ 4294967295 → e ≡ OutOfMemory → TableFails size old now at rows e
+    no_memory_for_row rows e within few is = record {
+      bytes = bytes_then;
+      seeks = omega (arith, seeks_then);
+      read = omega (arith, read_then, mul-le-mul_left size within);
+      cause = inr (few, inr (inl (failures_then, is)));
+    }
+
+    -- the next row was not read
+    next_refused : (rows : ℕ) (new : Source) (e : CoreError) → 0 < size → size * count + size ≤ size * rows
+        → ReadFailure now new size e ⊎ ((new.failures ≡ now.failures) × (e ≡ OutOfMemory)) → RowsFailure old new at (size * rows) e
+    next_refused rows new e some within (inl (inl failed)) = inl (failed.0 ∙ ap (λ k. k + 1) failures_then, failed.1, failed.2, failed.3)
+    next_refused rows new e some within (inl (inr (none, ended, short))) =
+        inr (inr (none ∙ failures_then, ended, omega (arith, ap length stands_then, length-append (flat_map row_bytes found) (bytes_left now), read.bytes, within, lacks_left now size some short)))
+    next_refused rows new e some within (inr (none, no_memory)) = inr (inl (none ∙ failures_then, no_memory))
+
+    pub row_fails : (rows : ℕ) (new : Source) (e : CoreError) → 0 < size → count < rows → rows ≤ 4294967295 → ReadFails now new size e → TableFails size old new at rows e
+    row_fails rows new e some below few fails =
+        let within : size * count + size ≤ size * rows = omega (arith, mul-suc size count, mul-le-mul_left size below) in
+        record {
+          bytes = fails.bytes ∙ bytes_then;
+          seeks = omega (arith, fails.seeks, seeks_then);
+          read = omega (arith, fails.read, read_then, within);
+          cause = inr (few, next_refused rows new e some within fails.cause);
+        }
+
+-- what a read of a table answers on any bytes, and on those of known rows
+abbrev pub ReadsOrFails : {T Z : Type 0} → (T → List ℕ) → (T → Type 0) → ℕ → Source → Source → ℕ → ℕ → Result (Vec T Z) CoreError → Type 0
+ReadsOrFails row_bytes Fits size old new at count r =
+    MatchResult r (λ found. ReadsTable row_bytes Fits size old new at count found.items) (TableFails size old new at count)
+
+abbrev pub IsReadAs : {T Z : Type 0} → Source → Source → List T → Result (Vec T Z) CoreError → Type 0
+IsReadAs old new rows r = MatchResult r (λ found. found.items ≡ rows) (λ e. DeviceFailure old new e ⊎ (e ≡ OutOfMemory))
+
+-- rows whose bytes tell them are read as they stand, unless the device fails or memory is refused
+module _ {T : Type 0} (row_bytes : T → List ℕ) (Fits : T → Type 0) (size : ℕ) (len : (t : T) → Fits t → length (row_bytes t) ≡ size)
+    (tells : (s t : T) → Fits s → Fits t → row_bytes s ≡ row_bytes t → s ≡ t) where
+  length-rows : (rows : List T) → All Fits rows → length (flat_map row_bytes rows) ≡ size * length rows
+  length-rows [] fit = omega arith
+  length-rows (row ∷ rows) fit =
+      length-append (row_bytes row) (flat_map row_bytes rows)
+      ∙ omega (arith, len row (fit 0 row (omega arith)), length-rows rows (All-drop Fits 1 (row ∷ rows) fit), mul-suc size (length rows))
+
+  module _ (old new : Source) (at : ℕ) (rows : List T) (rest : List ℕ) (few : length rows ≤ 4294967295) (fit : All Fits rows)
+      (stands : drop at old.bytes ≡ flat_map row_bytes rows ++ rest) where
+    why_not : (e : CoreError) → RowsFailure old new at (size * length rows) e → DeviceFailure old new e ⊎ (e ≡ OutOfMemory)
+    why_not e (inl failed) = inl failed
+    why_not e (inr (inl (none, no_memory))) = inr no_memory
+    why_not e (inr (inr (none, is, short))) =
+        absurd (omega (arith, short, ap length stands, length-append (flat_map row_bytes rows) rest, length-rows rows fit))
+
+    refused_because : (e : CoreError) → TableFails size old new at (length rows) e → DeviceFailure old new e ⊎ (e ≡ OutOfMemory)
+    refused_because e fails = elim fails.cause [
+      | inl past ↦ absurd (omega (arith, past.1, few))
+      | inr failed ↦ why_not e failed.1
+    ]
+
+    pub whole_table : {Z : Type 0} (r : Result (Vec T Z) CoreError)
+        → ReadsOrFails row_bytes Fits size old new at (length rows) r → IsReadAs old new rows r
+    whole_table (Ok found) reads =
+        (parts_front size row_bytes Fits len tells found.items rows reads.stands.0 rest reads.number reads.widths fit (sym reads.stands.1 ∙ stands)).0
+    whole_table (Err e) fails = refused_because e fails

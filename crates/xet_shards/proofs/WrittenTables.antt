@@ -1,0 +1,179 @@
+-- The xorb table and the chunk table in the bytes of a shard: where they stand, their widths, and that they are
+-- read as they were written.
+use Rattle.std.proofs.Common.{◌≡◌, Bool, true, false, ℕ, ◌+◌, ◌^◌, ◌<◌, ◌≤◌, List, [], ◌∷◌, ◌++◌, map, flat_map, length, drop, Option, refl, sym, ap, ◌∙◌, subst, append_assoc, arith}
+use Rattle.std.specs.Prelude.{All}
+use Rattle.std.specs.List.{enumerate_from}
+use Rattle.std.specs.FinMap.{entries, values}
+use Rattle.std.specs.declared.result.Result.{Result}
+use Rattle.std.specs.declared.vec.Vec.{Vec}
+use Rattle.std.proofs.lemmas.List.{length-append, length-map}
+use Rattle.std.proofs.lemmas.List.Elements.{All-append, All-cons, All-drop, All-map, All-nil}
+use Rattle.std.proofs.lemmas.List.Folds.{flat_map-map}
+use Rattle.std.proofs.lemmas.List.Sums.{sum_by-cons, sum_by_push}
+use Rattle.xet_base.specs.declared.error.CoreError.{CoreError}
+use Rattle.xet_base.specs.Bytes.{u32_bytes, u64_bytes}
+use Rattle.xet_base.specs.declared.merklehash.DataHash.{DataHash}
+use Rattle.xet_base.specs.Source.{Source}
+use Rattle.xet_base.proofs.Bytes.{length-u32_bytes, length-u64_bytes, u32_bytes-injective, u32_bytes-front, u64_bytes-front}
+use Rattle.xet_base.proofs.Lists.{rest_is}
+use Rattle.xet_records.specs.declared.file_structs.MDBFileInfo.{MDBFileInfo}
+use Rattle.xet_records.specs.declared.xorb_structs.MDBXorbInfo.{MDBXorbInfo}
+use Rattle.xet_records.specs.declared.xorb_structs.XorbChunkSequenceEntry.{XorbChunkSequenceEntry}
+use Rattle.xet_records.specs.XorbRow.{FitsChunk}
+use Rattle.xet_records.specs.XorbRecord.{xorb_row_count, FitsXorb}
+use Rattle.xet_shards.specs.declared.shard_format.footer.MDBShardFileFooter.{MDBShardFileFooter}
+use Rattle.xet_shards.specs.declared.shard_format.info.MDBShardInfo.{MDBShardInfo}
+use Rattle.xet_shards.specs.Shard.{Shard, IsShard, total_xorb_rows}
+use Rattle.xet_shards.specs.Section.{with_fronts, file_section, xorb_section}
+use Rattle.xet_shards.specs.Tables.{ChunkPlace, places_from, chunk_places, chunk_table, xorb_start, xorb_starts, start_row, place_row, file_table_bytes, xorb_table_bytes, chunk_table_bytes}
+use Rattle.xet_shards.specs.Layout.{Form, if_in, header_text, header_value, footer_text, footer_value, layout_of, layout, info_value, plain_form}
+use Rattle.xet_shards.specs.TableReading.{FitsStart, triple_of, triple_row, FitsTriple}
+use Rattle.xet_shards.proofs.ChunkPlaces.{alone, place_of}
+use Rattle.xet_shards.proofs.Layouts.{length-header_text}
+use Rattle.xet_shards.proofs.Maps.{All-keys-from_entries}
+use Rattle.xet_shards.proofs.TableReading.{ReadsOrFails, IsReadAs, whole_table}
+use Rattle.xet_shards.proofs.Tables.{length-xorb_starts, place_total}
+use Rattle.xet_shards.proofs.XorbLayouts.{keys-alone, length-chunk_table, total_xorb_rows-chunks}
+
+-- the bytes of a row tell it
+length-start : (row : ℕ × ℕ) → FitsStart row → length (start_row row) ≡ 12
+length-start row fits = length-append (u64_bytes row.0) (u32_bytes row.1) ∙ omega (arith, length-u64_bytes row.0, length-u32_bytes row.1)
+
+start_told : (a b : ℕ × ℕ) → FitsStart a → FitsStart b → start_row a ≡ start_row b → a ≡ b
+start_told a b a_fits b_fits same =
+    let parts = u64_bytes-front a.0 b.0 (u32_bytes a.1) (u32_bytes b.1) a_fits.word b_fits.word same in
+    let start = u32_bytes-injective a.1 b.1 a_fits.start b_fits.start parts.1 in
+    λ i. (parts.0 i, start i)
+
+length-triple : (row : ℕ × (ℕ × ℕ)) → FitsTriple row → length (triple_row row) ≡ 16
+length-triple row fits =
+    length-append (u64_bytes row.0 ++ u32_bytes row.1.0) (u32_bytes row.1.1)
+    ∙ omega (arith, length-append (u64_bytes row.0) (u32_bytes row.1.0), length-u64_bytes row.0, length-u32_bytes row.1.0, length-u32_bytes row.1.1)
+
+triple_told : (a b : ℕ × (ℕ × ℕ)) → FitsTriple a → FitsTriple b → triple_row a ≡ triple_row b → a ≡ b
+triple_told a b a_fits b_fits same =
+    let word = u64_bytes-front a.0 b.0 (u32_bytes a.1.0 ++ u32_bytes a.1.1) (u32_bytes b.1.0 ++ u32_bytes b.1.1) a_fits.word b_fits.word
+    (sym (append_assoc (u64_bytes a.0) (u32_bytes a.1.0) (u32_bytes a.1.1)) ∙ same ∙ append_assoc (u64_bytes b.0) (u32_bytes b.1.0) (u32_bytes b.1.1)) in
+    let start = u32_bytes-front a.1.0 b.1.0 (u32_bytes a.1.1) (u32_bytes b.1.1) a_fits.start b_fits.start word.1 in
+    let place = u32_bytes-injective a.1.1 b.1.1 a_fits.place b_fits.place start.1 in
+    λ i. (word.0 i, (start.0 i, place i))
+
+-- the rows of a table, if it is in
+rows_in : {X : Type 0} (b : Bool) (row : X → List ℕ) (rows : List X) → if_in b (flat_map row rows) ≡ flat_map row (if_in b rows)
+rows_in true row rows = refl
+rows_in false row rows = refl
+
+-- where the tables stand
+module _ (files : List MDBFileInfo) (xorbs : List MDBXorbInfo) (form : Form) where
+  abbrev before_tables : List ℕ
+  before_tables = ((header_text header_value ++ file_section files) ++ xorb_section xorbs) ++ if_in form.file_table (file_table_bytes files)
+
+  abbrev after_tables : List ℕ
+  after_tables = footer_text (footer_value files xorbs form)
+
+  length-before : length before_tables ≡ (footer_value files xorbs form).xorb_lookup_offset
+  length-before =
+      length-append ((header_text header_value ++ file_section files) ++ xorb_section xorbs) (if_in form.file_table (file_table_bytes files))
+      ∙ omega (
+        arith,
+        length-append (header_text header_value ++ file_section files) (xorb_section xorbs),
+        length-append (header_text header_value) (file_section files),
+        length-header_text header_value,
+      )
+
+  pub xorb_table_stands : drop (footer_value files xorbs form).xorb_lookup_offset (layout_of files xorbs form)
+      ≡ flat_map start_row (if_in form.xorb_table (xorb_starts xorbs)) ++ (if_in form.chunk_table (chunk_table_bytes xorbs) ++ after_tables)
+  unfolding layout_of xorb_table_bytes
+  xorb_table_stands =
+      rest_is _ (layout_of files xorbs form) before_tables _ length-before
+      (append_assoc (before_tables ++ if_in form.xorb_table (xorb_table_bytes xorbs)) (if_in form.chunk_table (chunk_table_bytes xorbs)) after_tables
+      ∙ append_assoc before_tables (if_in form.xorb_table (xorb_table_bytes xorbs)) (if_in form.chunk_table (chunk_table_bytes xorbs) ++ after_tables))
+      ∙ ap (λ bs. bs ++ (if_in form.chunk_table (chunk_table_bytes xorbs) ++ after_tables)) (rows_in form.xorb_table start_row (xorb_starts xorbs))
+
+  pub chunk_table_stands : drop (footer_value files xorbs form).chunk_lookup_offset (layout_of files xorbs form)
+      ≡ flat_map triple_row (map triple_of (if_in form.chunk_table (chunk_table xorbs))) ++ after_tables
+  unfolding layout_of chunk_table_bytes
+  chunk_table_stands =
+      rest_is _ (layout_of files xorbs form) (before_tables ++ if_in form.xorb_table (xorb_table_bytes xorbs)) _
+      (length-append before_tables (if_in form.xorb_table (xorb_table_bytes xorbs)) ∙ ap (λ n. n + length (if_in form.xorb_table (xorb_table_bytes xorbs))) length-before)
+      (append_assoc (before_tables ++ if_in form.xorb_table (xorb_table_bytes xorbs)) (if_in form.chunk_table (chunk_table_bytes xorbs)) after_tables)
+      ∙ ap (λ bs. bs ++ after_tables) (rows_in form.chunk_table place_row (chunk_table xorbs) ∙ sym (flat_map-map triple_row triple_of (if_in form.chunk_table (chunk_table xorbs))))
+
+-- the numbers of the rows are within their widths
+abbrev FitsPlace : ChunkPlace → Type 0
+FitsPlace p = FitsTriple (triple_of p)
+
+starts_fit : (front xorbs : List MDBXorbInfo) → All FitsXorb xorbs → total_xorb_rows front + total_xorb_rows xorbs ≤ 4294967295
+    → All FitsStart (map xorb_start (with_fronts front xorbs))
+starts_fit front [] fit few = All-nil FitsStart
+starts_fit front (x ∷ xorbs) fit few =
+    let here : FitsXorb x = fit 0 x (omega arith) in
+    let rest : total_xorb_rows (front ++ x ∷ []) + total_xorb_rows xorbs ≤ 4294967295 = omega (arith, few, sum_by_push xorb_row_count front x, sum_by-cons xorb_row_count x xorbs) in
+    All-cons FitsStart (xorb_start (front, x)) (map xorb_start (with_fronts (front ++ x ∷ []) xorbs))
+    (record { word = here.metadata.xorb_hash.word0; start = omega (arith, few) })
+    (starts_fit (front ++ x ∷ []) xorbs (All-drop FitsXorb 1 (x ∷ xorbs) fit) rest)
+
+chunks_fit : (start n : ℕ) (cs : List XorbChunkSequenceEntry) → All FitsChunk cs → start < 2 ^ 32 → n + length cs ≤ 2 ^ 32
+    → All FitsPlace (map (λ c. place_of start c.0 c.1) (enumerate_from n cs))
+chunks_fit start n [] fit start_fits few = All-nil FitsPlace
+chunks_fit start n (c ∷ cs) fit start_fits few =
+    let here : FitsChunk c = fit 0 c (omega arith) in
+    All-cons FitsPlace (place_of start n c) (map (λ d. place_of start d.0 d.1) (enumerate_from (n + 1) cs))
+    (record { word = here.chunk_hash.word0; start = start_fits; place = omega (arith, few) })
+    (chunks_fit start (n + 1) cs (All-drop FitsChunk 1 (c ∷ cs) fit) start_fits (omega (arith, few)))
+
+places_fit : (front xorbs : List MDBXorbInfo) → All FitsXorb xorbs → total_xorb_rows front + total_xorb_rows xorbs ≤ 4294967295
+    → All FitsPlace (flat_map (λ e. places_from (total_xorb_rows e.0) e.1.chunks) (with_fronts front xorbs))
+places_fit front [] fit few = All-nil FitsPlace
+places_fit front (x ∷ xorbs) fit few =
+    let here : FitsXorb x = fit 0 x (omega arith) in
+    let rest : total_xorb_rows (front ++ x ∷ []) + total_xorb_rows xorbs ≤ 4294967295 = omega (arith, few, sum_by_push xorb_row_count front x, sum_by-cons xorb_row_count x xorbs) in
+    All-append FitsPlace (places_from (total_xorb_rows front) x.chunks) (flat_map (λ e. places_from (total_xorb_rows e.0) e.1.chunks) (with_fronts (front ++ x ∷ []) xorbs))
+    (chunks_fit (total_xorb_rows front) 0 x.chunks here.chunks (omega (arith, few)) (omega (arith, few, sum_by-cons xorb_row_count x xorbs)))
+    (places_fit (front ++ x ∷ []) xorbs (All-drop FitsXorb 1 (x ∷ xorbs) fit) rest)
+
+-- the tables of a list of xorbs that stands in a section
+module _ (xorbs : List MDBXorbInfo) (fit : All FitsXorb xorbs) (few : total_xorb_rows xorbs ≤ 4294967295) where
+  pub xorb_starts_fit : All FitsStart (xorb_starts xorbs)
+  xorb_starts_fit = starts_fit [] xorbs fit (omega (arith, few))
+
+  pub chunk_table_fits : All FitsTriple (map triple_of (chunk_table xorbs))
+  chunk_table_fits =
+      All-map FitsTriple triple_of (chunk_table xorbs)
+      (All-keys-from_entries place_total FitsPlace (map alone (chunk_places xorbs)) (subst (All FitsPlace) (sym (keys-alone (chunk_places xorbs))) (places_fit [] xorbs fit (omega (arith, few)))))
+
+  few_starts : length (xorb_starts xorbs) ≤ 4294967295
+  few_starts = omega (arith, few, length-xorb_starts xorbs, total_xorb_rows-chunks xorbs)
+
+  few_places : length (map triple_of (chunk_table xorbs)) ≤ 4294967295
+  few_places = omega (arith, few, length-map (chunk_table xorbs) triple_of, length-chunk_table xorbs, total_xorb_rows-chunks xorbs)
+
+-- the tables of a shard
+module _ (s : Shard) (shard : IsShard s) (expiry : Option ℕ) (old new : Source) (are : old.bytes ≡ layout s expiry) (info : MDBShardInfo) (is : info ≡ info_value s expiry) where
+  abbrev written : MDBShardFileFooter
+  written = (info_value s expiry).metadata
+
+  abbrev xorbs : List MDBXorbInfo
+  xorbs = values s.xorbs
+
+  xorbs_fit : All FitsXorb xorbs
+  xorbs_fit = All-map FitsXorb (λ (e : DataHash × MDBXorbInfo). e.1) (entries s.xorbs) (λ k d below. (shard.xorbs.well_formed k d below).widths)
+
+  pub xorb_table_read : {Z : Type 0} (r : Result (Vec (ℕ × ℕ) Z) CoreError)
+      → ReadsOrFails start_row FitsStart 12 old new info.metadata.xorb_lookup_offset info.metadata.xorb_lookup_num_entry r
+      → IsReadAs old new (xorb_starts xorbs) r
+  xorb_table_read r read =
+      whole_table start_row FitsStart 12 length-start start_told old new written.xorb_lookup_offset (xorb_starts xorbs) _
+      (few_starts xorbs xorbs_fit shard.xorb_rows) (xorb_starts_fit xorbs xorbs_fit shard.xorb_rows)
+      (ap (drop written.xorb_lookup_offset) are ∙ xorb_table_stands (values s.files) xorbs (plain_form expiry)) r
+      (subst (λ (i : MDBShardInfo). ReadsOrFails start_row FitsStart 12 old new i.metadata.xorb_lookup_offset i.metadata.xorb_lookup_num_entry r) is read)
+
+  pub chunk_table_read : {Z : Type 0} (r : Result (Vec (ℕ × (ℕ × ℕ)) Z) CoreError)
+      → ReadsOrFails triple_row FitsTriple 16 old new info.metadata.chunk_lookup_offset info.metadata.chunk_lookup_num_entry r
+      → IsReadAs old new (map triple_of (chunk_table xorbs)) r
+  chunk_table_read r read =
+      whole_table triple_row FitsTriple 16 length-triple triple_told old new written.chunk_lookup_offset (map triple_of (chunk_table xorbs)) _
+      (few_places xorbs xorbs_fit shard.xorb_rows) (chunk_table_fits xorbs xorbs_fit shard.xorb_rows)
+      (ap (drop written.chunk_lookup_offset) are ∙ chunk_table_stands (values s.files) xorbs (plain_form expiry)) r
+      (subst (λ n. ReadsOrFails triple_row FitsTriple 16 old new written.chunk_lookup_offset n r) (sym (length-map (chunk_table xorbs) triple_of))
+      (subst (λ (i : MDBShardInfo). ReadsOrFails triple_row FitsTriple 16 old new i.metadata.chunk_lookup_offset i.metadata.chunk_lookup_num_entry r) is read))

@@ -1,0 +1,61 @@
+-- Reading a lookup table whole: so many rows of one width, in the bytes from a place on.
+use Rattle.std.specs.Prelude.{◌≡◌, ◌⊎◌, ℕ, ◌+◌, ◌*◌, ◌^◌, ◌<◌, ◌≤◌, List, ◌++◌, length, flat_map, drop, All}
+use Rattle.xet_base.specs.declared.error.CoreError.{CoreError}
+use Rattle.xet_base.specs.declared.error.CoreError.TheVariants.{OutOfMemory}
+use Rattle.xet_base.specs.Bytes.{u32_bytes, u64_bytes}
+use Rattle.xet_base.specs.Errors.{IsEndOfInput}
+use Rattle.xet_base.specs.Source.{Source, Takes, DeviceFailure}
+use Rattle.xet_base.specs.Table.{IsBareInvalidShard}
+use Rattle.xet_shards.specs.Tables.{ChunkPlace}
+
+-- the widths of the numbers of a row of the file table or the xorb table: a word and a row number
+pub record FitsStart (row : ℕ × ℕ) : Type 0 where
+  pub word : row.0 < 2 ^ 64
+  pub start : row.1 < 2 ^ 32
+
+-- a row of the chunk table as a tuple of its numbers: the word, the xorb's start and the place in the xorb
+abbrev pub triple_of : ChunkPlace → ℕ × (ℕ × ℕ)
+triple_of row = (row.word, (row.start, row.place))
+
+-- its bytes, and the widths of its numbers
+abbrev pub triple_row : ℕ × (ℕ × ℕ) → List ℕ
+triple_row row = (u64_bytes row.0 ++ u32_bytes row.1.0) ++ u32_bytes row.1.1
+
+pub record FitsTriple (row : ℕ × (ℕ × ℕ)) : Type 0 where
+  pub word : row.0 < 2 ^ 64
+  pub start : row.1.0 < 2 ^ 32
+  pub place : row.1.1 < 2 ^ 32
+
+-- the next row was read
+pub record ReadsNextRow {T : Type 0} (row_bytes : T → List ℕ) (Fits : T → Type 0) (size : ℕ) (old new : Source) (row : T) : Type 0 where
+  pub widths : Fits row
+  pub bytes : length (row_bytes row) ≡ size
+  pub taken : Takes old new (row_bytes row)
+
+-- the rows of a table at a place were read, by one seek and no byte past the table
+pub record ReadsTable {T : Type 0} (row_bytes : T → List ℕ) (Fits : T → Type 0) (size : ℕ) (old new : Source) (at count : ℕ) (found : List T) : Type 0 where
+  pub few : count ≤ 4294967295
+  pub number : length found ≡ count
+  pub widths : All Fits found
+  pub stands : (rest : List ℕ) × (drop at old.bytes ≡ flat_map row_bytes found ++ rest)
+  pub bytes : new.bytes ≡ old.bytes
+  pub seeks : new.seeks ≡ old.seeks + 1
+  pub read : new.read ≡ old.read + size * count
+  pub failures : new.failures ≡ old.failures
+
+-- why a table of so many bytes was not read from a place on: the device failed, memory was refused, or the bytes
+-- end before the table does
+abbrev pub RowsFailure : Source → Source → ℕ → ℕ → CoreError → Type 0
+RowsFailure old new at size e =
+    DeviceFailure old new e
+    ⊎ ((new.failures ≡ old.failures) × (e ≡ OutOfMemory))
+    ⊎ ((new.failures ≡ old.failures) × IsEndOfInput e × (length (drop at old.bytes) < size))
+
+-- the rows were not read: they are more than 32 bits count, which is found before the seek, or a seek and reads did
+-- not give them; the place is open
+pub record TableFails (size : ℕ) (old new : Source) (at count : ℕ) (e : CoreError) : Type 0 where
+  pub bytes : new.bytes ≡ old.bytes
+  pub seeks : new.seeks ≤ old.seeks + 1
+  pub read : new.read ≤ old.read + size * count
+  pub cause : (IsBareInvalidShard e × (4294967295 < count) × (new ≡ old))
+      ⊎ ((count ≤ 4294967295) × RowsFailure old new at (size * count) e)
