@@ -1,14 +1,30 @@
 -- The turns of the loop that reads through the file section.
-use Rattle.std.proofs.Common.{◌≡◌, ℕ, ◌+◌, ◌*◌, List, [], ◌∷◌, ◌++◌, map, Some, refl, sym, ap, ◌∙◌}
+use Rattle.std.proofs.Common.{◌≡◌, ◌⊎◌, inl, inr, Ok, Err, drop, Option, subst, arith, ℕ, ◌+◌, ◌*◌, List, [], ◌∷◌, ◌++◌, map, Some, refl, sym, ap, ◌∙◌}
 use Rattle.std.proofs.lemmas.List.{map-append}
-use Rattle.xet_base.specs.Source.{Source, Takes}
+use Rattle.std.specs.Prelude.{MatchResult}
+use Rattle.std.specs.FinMap.{entries, values}
+use Rattle.std.specs.declared.result.Result.{Result}
+use Rattle.std.specs.declared.vec.Vec.{Vec}
+use Rattle.xet_base.specs.declared.error.CoreError.{CoreError}
+use Rattle.xet_base.specs.declared.error.CoreError.TheVariants.{OutOfMemory}
+use Rattle.xet_base.specs.Source.{Source, Takes, DeviceFailure, bytes_left}
+use Rattle.xet_base.proofs.Lists.{rest_is}
+use Rattle.xet_base.proofs.Reading.{Takes-consumes}
 use Rattle.xet_records.specs.declared.file_structs.MDBFileInfo.{MDBFileInfo}
 use Rattle.xet_records.specs.Reading.{ReadsBookend}
 use Rattle.xet_records.specs.FileRecord.{file_records}
 use Rattle.xet_records.proofs.RecordKinds.{file_laws}
-use Rattle.xet_shards.specs.Shard.{total_rows}
+use Rattle.xet_shards.specs.declared.shard_format.header.MDBShardFileHeader.{MDBShardFileHeader}
+use Rattle.xet_shards.specs.Shard.{Shard, IsShard, total_rows}
+use Rattle.xet_shards.specs.Layout.{header_text, header_value, plain_form, layout}
+use Rattle.xet_shards.specs.Ends.{HasHeader, HasForeignHeader, EndsInHeader, Refusal}
+use Rattle.xet_shards.specs.SectionReading.{IsSection}
 use Rattle.xet_shards.specs.Section.{with_fronts}
-use Rattle.xet_shards.specs.FileRanges.{FileRanges, ranges_at, file_ranges, TakesRanges, HasReadRanges, ReadsRanges}
+use Rattle.xet_shards.specs.FileRanges.{FileRanges, ranges_at, file_ranges, TakesRanges, ReadsFileRanges, FileRangesFail, HasReadRanges, ReadsRanges}
+use Rattle.xet_shards.proofs.Files.{well_formed_values}
+use Rattle.xet_shards.proofs.Layouts.{length-header_text}
+use Rattle.xet_shards.proofs.Loading.{header_of}
+use Rattle.xet_shards.proofs.Readback.{layout_from_48, section_of_shard, handed_same, why_not, only_these}
 use Rattle.xet_shards.proofs.SectionReading.{nothing_read, more_read, section_ends, place_after}
 use Rattle.xet_shards.proofs.Tables.{with_fronts-push}
 
@@ -35,3 +51,41 @@ more_ranges start now new found left after ranges before (r, is, next) = record 
 pub ranges_end : (start now new : Source) (found : List FileRanges) (left : ℕ) → HasReadRanges start now found left → ReadsBookend file_records (Takes now new)
     → TakesRanges start new found
 ranges_end start now new found left before last = (before.files, section_ends file_records file_laws start now before.files left before.read new last, before.ranges)
+
+-- a shard that stands from the source's place on
+module _ (old new : Source) (s : Shard) (expiry : Option ℕ) (shard : IsShard s) (are : bytes_left old ≡ layout s expiry) where
+  has_header : HasHeader (bytes_left old)
+  has_header = header_of (bytes_left old) _ header_value (are ∙ layout_from_48 (values s.files) (values s.xorbs) (plain_form expiry)) refl
+
+  section : (header : MDBShardFileHeader) (mid : Source) → Takes old mid (header_text header) → IsSection file_records (bytes_left mid) (values s.files)
+  section header mid taken =
+      let rest : drop 48 (bytes_left old) ≡ bytes_left mid =
+      rest_is 48 (bytes_left old) (header_text header) (bytes_left mid) (length-header_text header) (Takes-consumes old mid (header_text header) taken) in
+      subst (λ bytes. IsSection file_records bytes (values s.files)) (sym (ap (drop 48) are) ∙ rest) (section_of_shard s expiry shard)
+
+  why_no_ranges : (e : CoreError) → FileRangesFail old new e → DeviceFailure old new e ⊎ (e ≡ OutOfMemory)
+  why_no_ranges e (inl part) = why_no_header part.cause
+    where
+      why_no_header : Refusal HasForeignHeader EndsInHeader (bytes_left old) old new e → DeviceFailure old new e ⊎ (e ≡ OutOfMemory)
+      why_no_header (inl failed) = inl failed
+      why_no_header (inr (inl (none, is, inl (size, differs)))) = absurd (differs has_header.tag)
+      why_no_header (inr (inl (none, is, inr (size, differs)))) = absurd (differs has_header.version)
+      why_no_header (inr (inr (none, is, inl short))) = absurd (omega (arith, short, has_header.size))
+      why_no_header (inr (inr (none, is, inr (short, tag)))) = absurd (omega (arith, short, has_header.size))
+  why_no_ranges e (inr (header, mid, taken, fails)) =
+      since (why_not file_records file_laws mid new (values s.files) (section header mid taken) e fails.cause)
+    where
+      since : DeviceFailure mid new e ⊎ (e ≡ OutOfMemory) → DeviceFailure old new e ⊎ (e ≡ OutOfMemory)
+      since (inl failed) = inl (failed.0 ∙ ap (λ (s : Source). s.failures + 1) taken.after, failed.1, failed.2, failed.3)
+      since (inr no_memory) = inr no_memory
+
+  -- is read so, unless the device fails or memory is refused
+  pub ranges_written : {Z : Type 0} (r : Result (Vec FileRanges Z) CoreError) → MatchResult r (λ found. ReadsFileRanges old new found.items) (FileRangesFail old new)
+      → MatchResult r (λ found. found.items ≡ file_ranges (old.at + 48) (values s.files)) (λ e. DeviceFailure old new e ⊎ (e ≡ OutOfMemory))
+  ranges_written (Ok found) read =
+      let mid = read.after_header in
+      let at : mid.at ≡ old.at + 48 = ap (λ (s : Source). s.at) read.header_taken.after ∙ ap (λ n. old.at + n) (length-header_text read.header) in
+      let files = only_these file_records file_laws mid new (values s.files) (section read.header mid read.header_taken) read.ranges.0
+      (handed_same (values s.files) (well_formed_values (entries s.files) shard.files)) read.ranges.1 in
+      read.ranges.2 ∙ (λ i. file_ranges (at i) (files i))
+  ranges_written (Err e) fails = why_no_ranges e fails

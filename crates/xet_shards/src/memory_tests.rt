@@ -60,7 +60,7 @@ fn empty(alloc: Global) -> Shard {
 }
 
 /// Xorb 10 with chunk 21, and this file.
-fn p_with(alloc: Global, file: Result<MDBFileInfo>) -> Shard {
+pub(crate) fn p_with(alloc: Global, file: Result<MDBFileInfo>) -> Shard {
     with_file(
         alloc,
         with_xorb(alloc, empty(alloc), xorb(alloc, 10, 21)),
@@ -246,7 +246,7 @@ fn a_copy_has_the_same_records(rt: HostRuntime) -> std::result::Result<(), Fail>
 }
 
 /// File 100 with the verification of its segment, with its SHA-256, or with both.
-fn file_with(alloc: Global, verified: bool, described: bool) -> Result<MDBFileInfo> {
+pub(crate) fn file_with(alloc: Global, verified: bool, described: bool) -> Result<MDBFileInfo> {
     let mut info = file(alloc, 100, 200)?;
     info.metadata = FileDataSequenceHeader::new(small(100), 1, verified, described);
     if verified {

@@ -1,6 +1,6 @@
-//! Whole reads of the xorb section: worked shards, and headers that are false.
+//! Whole reads of the xorb section and the places of files' rows: worked shards, and headers that are false.
 
-use crate::memory_tests::{Shard, p, q, xorb};
+use crate::memory_tests::{Shard, file_with, p, p_with, q, xorb};
 use crate::shard_format::MDBShardInfo;
 use crate::tests::{loaded, small, written_by};
 use std::alloc::Global;
@@ -82,5 +82,34 @@ fn headers_alone_are_judged(rt: HostRuntime) -> std::result::Result<(), Fail> {
         counts(alloc, XorbChunkSequenceHeader::new(ones, 3, 5))?,
         (0, 0)
     );
+    Ok(())
+}
+
+/// A file's hash, the places of its segments and its verification rows, and its SHA-256.
+type Ranges = (
+    MerkleHash,
+    (u64, u64),
+    Option<(u64, u64)>,
+    Option<MerkleHash>,
+);
+
+/// How many files stand in the shard's bytes, and the ranges of the last.
+fn last_ranges(alloc: Global, shard: Shard) -> Option<(usize, Option<Ranges>)> {
+    let bytes = written_by(alloc, shard, None).ok()?;
+    let mut source = MemorySource::new(bytes.as_slice());
+    let ranges = MDBShardInfo::read_file_info_ranges(alloc, &mut source).ok()?;
+    Some((ranges.len(), ranges.last().copied()))
+}
+
+#[test]
+fn ranges_of_files_tell_where_their_rows_stand(rt: HostRuntime) -> std::result::Result<(), Fail> {
+    let alloc = rt.alloc();
+    let in_p = (small(100), (96, 144), None, None);
+    assert_eq!(rt; last_ranges(alloc, p(alloc)), Some((1, Some(in_p))));
+    let in_q = (small(101), (192, 240), None, None);
+    assert_eq!(rt; last_ranges(alloc, q(alloc)), Some((2, Some(in_q))));
+    let with_both = (small(100), (96, 144), Some((144, 192)), Some(small(9364)));
+    let shard = p_with(alloc, file_with(alloc, true, true));
+    assert_eq!(rt; last_ranges(alloc, shard), Some((1, Some(with_both))));
     Ok(())
 }

@@ -1,14 +1,18 @@
 //! Where the rows of each file stand.
 
-ghost use Rattle.std.specs.Prelude.{◌≡◌, ◌+◌, ◌*◌, ◌^◌, ◌<◌, ◌≤◌, MatchResult, IfOk, IfErr};
+ghost use Rattle.std.specs.Prelude.{◌≡◌, ◌⊎◌, ℕ, Option, ◌+◌, ◌*◌, ◌^◌, ◌<◌, ◌≤◌, MatchResult, IfOk, IfErr};
+ghost use Rattle.std.specs.FinMap as finite;
+ghost use Rattle.xet_base.specs.Source.{DeviceFailure, bytes_left};
 ghost use Rattle.xet_records.specs.FileRecord.{rows_after, file_records};
+ghost use Rattle.xet_shards.specs.Shard.{Shard, IsShard};
+ghost use Rattle.xet_shards.specs.Layout.{layout};
 ghost use Rattle.xet_shards.specs.SectionReading.{RecordFails, TakesNoSection};
-ghost use Rattle.xet_shards.specs.FileRanges.{ranges_after, ReadsRanges, TakesRanges, ReadsFileRanges, FileRangesFail};
+ghost use Rattle.xet_shards.specs.FileRanges.{file_ranges, ranges_after, ReadsRanges, TakesRanges, ReadsFileRanges, FileRangesFail};
 
 use super::info::{MDBShardInfo, read_header};
 use super::section_reader::read_file_header;
 use std::alloc::Global;
-use xet_base::error::Result;
+use xet_base::error::{CoreError, Result};
 use xet_base::merklehash::MerkleHash;
 use xet_base::source::ShardSource;
 use xet_records::file_structs::{FileDataSequenceHeader, FileMetadataExt, skip_source_rows_after};
@@ -32,12 +36,23 @@ impl MDBShardInfo {
         alloc: Global,
         source: &mut S,
     ) -> Result<Vec<FileRanges>>
-        ensures { MatchResult result (λ found. ReadsFileRanges (S.meaning source.old) (S.meaning source.new) found.items)
+        ensures read { MatchResult result (λ found. ReadsFileRanges (S.meaning source.old) (S.meaning source.new) found.items)
             (FileRangesFail (S.meaning source.old) (S.meaning source.new)) }
+        ensures written { (s : Shard) → (expiry : Option ℕ) → IsShard s → bytes_left (S.meaning source.old) ≡ layout s expiry
+            → MatchResult result (λ found. found.items ≡ file_ranges ((S.meaning source.old).at + 48) (finite.values s.files))
+            (λ e. DeviceFailure (S.meaning source.old) (S.meaning source.new) e ⊎ (e ≡ CoreError.OutOfMemory)) }
     {
-        read_header(alloc, source)?;
-        read_ranges(alloc, source)
+        read_header_and_ranges(alloc, source)
     }
+}
+
+// Reads a shard's header and through its file section, from the source's place on.
+fn read_header_and_ranges<S: ShardSource>(alloc: Global, source: &mut S) -> Result<Vec<FileRanges>>
+    ensures { MatchResult result (λ found. ReadsFileRanges (S.meaning source.old) (S.meaning source.new) found.items)
+        (FileRangesFail (S.meaning source.old) (S.meaning source.new)) }
+{
+    read_header(alloc, source)?;
+    read_ranges(alloc, source)
 }
 
 // Reads through a file section from the source's place on.
