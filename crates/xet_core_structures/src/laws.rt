@@ -1,9 +1,14 @@
-//! Laws of shards in memory and of their names that no single call states. Each is a function that does nothing:
+//! Laws of shards, their names, hashes and errors that no single call states. Each is a function that does nothing:
 //! the law is its contract, and the gate proves it.
 
-ghost use Rattle.std.specs.Prelude.{◌≡◌, ℕ, List};
+ghost use Rattle.std.specs.Prelude.{◌≡◌, ◌↔◌, ◌<◌, ◌^◌, ℕ, List, Option, None, IfSome, IsTrue, unwrap_or};
 ghost use Rattle.xet_base.specs.declared.merklehash.DataHash.{DataHash};
+ghost use Rattle.xet_base.specs.declared.error.CoreError.{CoreError};
+ghost use Rattle.xet_base.specs.Errors.{variant_number};
 ghost use Rattle.xet_base.specs.Hash.{IsHash};
+ghost use Rattle.xet_base.specs.Hex.{hash_hex, IsHexText, Spells};
+ghost use Rattle.xet_core_structures.specs.Equality.{error_eq};
+ghost use Rattle.xet_shards.specs.Layout.{layout};
 ghost use Rattle.xet_shards.specs.Names.{shard_name, NamesShard};
 ghost use Rattle.xet_shards.specs.Shard.{Shard, IsShard, empty_shard};
 ghost use Rattle.xet_shards.specs.SetOperations.{IsUnion, IsJoin, ShardsAgree, HasFewRows, CanUnite};
@@ -40,4 +45,27 @@ pub fn agreeing_shards_unite()
 pub fn shard_name_is_read()
     ensures named { (hash : DataHash) → NamesShard (shard_name hash) hash }
     ensures alone { (name : List ℕ) (a b : DataHash) → IsHash a → IsHash b → NamesShard name a → NamesShard name b → a ≡ b }
+{}
+
+/// Shards have equal bytes exactly where they are equal. Where they are written with an expiry, in seconds, or none,
+/// equal bytes mean an equal expiry too; none is the last moment of 64 bits.
+pub fn equal_bytes_mean_equal_shards()
+    ensures contents { (s t : Shard) → IsShard s → IsShard t → (layout s None ≡ layout t None) ↔ (s ≡ t) }
+    ensures expiries { (s t : Shard) → (e f : Option ℕ) → IsShard s → IsShard t → IfSome e (λ m. m < 2 ^ 64) → IfSome f (λ m. m < 2 ^ 64)
+        → (layout s e ≡ layout t f) ↔ ((s ≡ t) × (unwrap_or e 18446744073709551615 ≡ unwrap_or f 18446744073709551615)) }
+{}
+
+/// The 64 digits of a hash spell that hash, and a text spells one hash only. So `DataHash::from_hex`, which reads the
+/// hash that a text spells, gives back the one whose text `hex` made.
+pub fn hex_is_read()
+    ensures named { (hash : DataHash) → IsHexText (hash_hex hash) × Spells (hash_hex hash) hash }
+    ensures alone { (text : List ℕ) (a b : DataHash) → IsHash a → IsHash b → Spells text a → Spells text b → a ≡ b }
+{}
+
+/// Errors are equal, as `==` tells it, exactly where their variants are, and this is an equivalence relation.
+pub fn errors_are_equal_by_variant()
+    ensures variants { (e f : CoreError) → IsTrue (error_eq e f) ↔ (variant_number e ≡ variant_number f) }
+    ensures reflexive { (e : CoreError) → IsTrue (error_eq e e) }
+    ensures symmetric { (e f : CoreError) → IsTrue (error_eq e f) → IsTrue (error_eq f e) }
+    ensures transitive { (e f g : CoreError) → IsTrue (error_eq e f) → IsTrue (error_eq f g) → IsTrue (error_eq e g) }
 {}

@@ -16,6 +16,7 @@ pub mod Maps
 pub mod Names
 pub mod Overlays
 pub mod Readback
+pub mod SameBytes
 pub mod SectionReading
 pub mod SectionUnique
 pub mod ShardLookups
