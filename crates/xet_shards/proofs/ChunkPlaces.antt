@@ -64,6 +64,11 @@ enumerate_from-push n (y ∷ xs) x =
 abbrev pub place_of : ℕ → ℕ → XorbChunkSequenceEntry → ChunkPlace
 place_of start place chunk = record { word = chunk.chunk_hash.word0; start = start; place = place }
 
+-- what a read past the end would give
+abbrev pub no_chunk : XorbChunkSequenceEntry
+no_chunk =
+    record { chunk_hash = record { word0 = 0; word1 = 0; word2 = 0; word3 = 0 }; chunk_byte_range_start = 0; unpacked_segment_bytes = 0; flags = 0; _unused = 0 }
+
 pub places_from-push : (start : ℕ) (cs : List XorbChunkSequenceEntry) (c : XorbChunkSequenceEntry) → places_from start (cs ++ c ∷ []) ≡ places_from start cs ++ place_of start (length cs) c ∷ []
 places_from-push start cs c =
     let none : 0 + length cs ≡ length cs = omega arith in

@@ -23,6 +23,7 @@ pub mod ShardLookups
 pub mod Sums
 pub mod TableReading
 pub mod Tables
+pub mod TruncatedHashes
 pub mod Unions
 pub mod Versions
 pub mod Walks

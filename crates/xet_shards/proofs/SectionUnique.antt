@@ -68,6 +68,24 @@ module _ {H R : Type 0} (K : RecordKind H R) (laws : KindLaws K) where
   pub only_list : (bytes : List ℕ) (xs ys : List R) → IsSection K bytes xs → IsSection K bytes ys → xs ≡ ys
   only_list bytes xs ys x y = (same_reading bytes xs ys x.rest y.rest x.records y.records (inl x.bookend) (inl y.bookend)).0
 
+  -- records at the front of the texts of others, which a bookend follows, are the first of these
+  first_records : (xs ys : List R) (a b : List ℕ) → All K.IsStored xs → All K.IsStored ys → BeginsWithBookend K b → flat_map K.text xs ++ a ≡ flat_map K.text ys ++ b
+      → (zs : List R) × (ys ≡ xs ++ zs)
+  first_records [] ys a b x_stored y_stored bookend same = (ys, refl)
+  first_records (x ∷ xs) [] a b x_stored y_stored bookend same =
+      let rest = flat_map K.text xs ++ a in
+      absurd (bookend_or_header b (K.header_of x) (K.bytes_after x ++ rest) bookend
+      (stored_begins K laws b x rest (x_stored 0 x (omega arith)) (sym same ∙ append_assoc (K.text x) (flat_map K.text xs) a)))
+  first_records (x ∷ xs) (y ∷ ys) a b x_stored y_stored bookend same =
+      let first = laws.front x y (flat_map K.text xs ++ a) (flat_map K.text ys ++ b) (x_stored 0 x (omega arith)) (y_stored 0 y (omega arith))
+      (sym (append_assoc (K.text x) (flat_map K.text xs) a) ∙ same ∙ append_assoc (K.text y) (flat_map K.text ys) b) in
+      let rest = first_records xs ys a b (All-drop K.IsStored 1 (x ∷ xs) x_stored) (All-drop K.IsStored 1 (y ∷ ys) y_stored) bookend first.1 in
+      (rest.0, (λ i. sym first.0 i ∷ rest.1 i))
+
+  pub first_of_section : (bytes : List ℕ) (xs ys : List R) (rest : List ℕ) → HoldsRecords K bytes xs rest → IsSection K bytes ys → (zs : List R) × (ys ≡ xs ++ zs)
+  first_of_section bytes xs ys rest x y =
+      first_records xs ys rest y.rest x.are_stored y.records.are_stored y.bookend (sym x.bytes_are ∙ y.records.bytes_are)
+
   -- a bookend, a record too many and an early end exclude each other
   bookend_or_passes : (left : ℕ) (bytes : List ℕ) → BeginsWithBookend K bytes → ¬ PassesLimit K left bytes
   bookend_or_passes left bytes bookend (h, rest, begins, past) = bookend_or_header bytes h rest bookend begins

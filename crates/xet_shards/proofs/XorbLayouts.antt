@@ -82,6 +82,10 @@ rising_places front (x ∷ xorbs) =
     rising_lower sum_of _ _ (places_of (front, x) ++ later) (omega arith)
     (rising_chunks front 0 x.chunks later (rising_lower sum_of _ _ later (omega (arith, sum_by_push xorb_row_count front x)) (rising_places (front ++ x ∷ []) xorbs)))
 
+-- each chunk has one place
+pub length-chunk_places : (xorbs : List MDBXorbInfo) → length (chunk_places xorbs) ≡ total_chunks xorbs
+length-chunk_places xorbs = length-places [] xorbs
+
 pub keys-alone : (ps : List ChunkPlace) → keys_of (map alone ps) ≡ ps
 keys-alone [] = refl
 keys-alone (p ∷ ps) = ap (λ ks. p ∷ ks) (keys-alone ps)
@@ -95,7 +99,7 @@ length-chunk_table xorbs =
     ∙ length-from_entries place_total sum_of (λ p q same. ap sum_of (place_exact p q same)) 0 rows
     (subst (IsRising sum_of 0) (sym (keys-alone (chunk_places xorbs))) (rising_places [] xorbs))
     ∙ length-map (chunk_places xorbs) alone
-    ∙ length-places [] xorbs
+    ∙ length-chunk_places xorbs
 
 pub length-chunk_table_bytes : (xorbs : List MDBXorbInfo) → length (chunk_table_bytes xorbs) ≡ 16 * total_chunks xorbs
 unfolding chunk_table_bytes

@@ -14,6 +14,7 @@ pub mod SetOperations
 pub mod Shard
 pub mod TableReading
 pub mod Tables
+pub mod TruncatedHashes
 pub mod Written
 pub mod XorbHeaders
 pub mod XorbTable

@@ -79,6 +79,12 @@ pub(crate) fn q(alloc: Global) -> Shard {
     with_file(alloc, more, file(alloc, 101, 201))
 }
 
+/// Xorbs 10 and 11, both with chunk 21.
+pub(crate) fn twins(alloc: Global) -> Shard {
+    let one = with_xorb(alloc, empty(alloc), xorb(alloc, 10, 21));
+    with_xorb(alloc, one, xorb(alloc, 11, 21))
+}
+
 /// Xorb 10 with three chunks, alone.
 fn three(alloc: Global) -> Shard {
     with_xorb(alloc, empty(alloc), xorb_of_three(alloc))
@@ -373,13 +379,9 @@ fn a_xorb_added_again_is_replaced(rt: HostRuntime) -> std::result::Result<(), Fa
 #[test]
 fn a_chunk_of_two_xorbs_stays_with_the_other(rt: HostRuntime) -> std::result::Result<(), Fail> {
     let alloc = rt.alloc();
-    let both = || {
-        let one = with_xorb(alloc, empty(alloc), xorb(alloc, 10, 21));
-        with_xorb(alloc, one, xorb(alloc, 11, 21))
-    };
-    let first = with_xorb(alloc, both(), xorb(alloc, 10, 22));
+    let first = with_xorb(alloc, twins(alloc), xorb(alloc, 10, 22));
     assert_eq!(rt; query(first, &[small(21)]), run(11, 5, 0, 1, 1));
-    let second = with_xorb(alloc, both(), xorb(alloc, 11, 22));
+    let second = with_xorb(alloc, twins(alloc), xorb(alloc, 11, 22));
     assert_eq!(rt; query(second, &[small(21)]), run(10, 5, 0, 1, 1));
     Ok(())
 }
@@ -508,13 +510,11 @@ fn a_file_is_found_beside_xorbs(rt: HostRuntime) -> std::result::Result<(), Fail
 #[test]
 fn a_chunk_of_two_xorbs_has_two_rows(rt: HostRuntime) -> std::result::Result<(), Fail> {
     let alloc = rt.alloc();
-    let one = with_xorb(alloc, empty(alloc), xorb(alloc, 10, 21));
-    let both = with_xorb(alloc, one, xorb(alloc, 11, 21));
     let rows = [
         21, 0, 0, 0, 0, 0, 0, 0, 0, 0, 0, 0, 0, 0, 0, 0, //
         21, 0, 0, 0, 0, 0, 0, 0, 2, 0, 0, 0, 0, 0, 0, 0,
     ];
-    assert_eq!(rt; stands_at(alloc, both, 360, &rows), Some(true));
+    assert_eq!(rt; stands_at(alloc, twins(alloc), 360, &rows), Some(true));
     Ok(())
 }
 
@@ -525,12 +525,16 @@ fn packed_xorb(alloc: Global) -> Result<MDBXorbInfo> {
     Ok(info)
 }
 
+/// Xorb 10 with chunks 21, 22 and 23, and xorb 11 with chunk 20.
+pub(crate) fn three_and_one(alloc: Global) -> Shard {
+    with_xorb(alloc, three(alloc), packed_xorb(alloc))
+}
+
 // Chunk 20 comes first, though its xorb is the second.
 #[test]
 fn rows_of_chunks_ascend_by_their_first_words(rt: HostRuntime) -> std::result::Result<(), Fail> {
     let alloc = rt.alloc();
-    let shard = || with_xorb(alloc, three(alloc), packed_xorb(alloc));
-    let footer = footer_of(alloc, shard());
+    let footer = footer_of(alloc, three_and_one(alloc));
     assert_eq!(rt; footer.map(offsets), Some([48, 96, 432, 432, 456, 520]));
     assert_eq!(rt; footer.map(numbers), Some([0, 2, 4, 23, 3, 0]));
     let rows = [
@@ -539,6 +543,9 @@ fn rows_of_chunks_ascend_by_their_first_words(rt: HostRuntime) -> std::result::R
         22, 0, 0, 0, 0, 0, 0, 0, 0, 0, 0, 0, 1, 0, 0, 0, //
         23, 0, 0, 0, 0, 0, 0, 0, 0, 0, 0, 0, 2, 0, 0, 0,
     ];
-    assert_eq!(rt; stands_at(alloc, shard(), 456, &rows), Some(true));
+    assert_eq!(rt;
+        stands_at(alloc, three_and_one(alloc), 456, &rows),
+        Some(true)
+    );
     Ok(())
 }

@@ -11,6 +11,9 @@ mod section_writer;
 mod table_reader;
 #[cfg(test)]
 mod table_reader_tests;
+mod truncated_hashes;
+#[cfg(test)]
+mod truncated_hashes_tests;
 mod writer;
 mod xorb_writer;
 

@@ -1,14 +1,8 @@
 use Rattle.std.proofs.Common.{◌++◌, take, get_or, sym, ap, ◌∙◌, arith}
 use Rattle.std.specs.BTreeSet.{insert_key}
-use Rattle.xet_records.specs.declared.xorb_structs.XorbChunkSequenceEntry.{XorbChunkSequenceEntry}
 use Rattle.xet_shards.specs.Tables.{place_cmp, ascending, places_from}
-use Rattle.xet_shards.proofs.ChunkPlaces.{place_of, places_from-more, ascending-more}
+use Rattle.xet_shards.proofs.ChunkPlaces.{place_of, no_chunk, places_from-more, ascending-more}
 use Rattle.xet_shards.proofs.shard_format.xorb_writer.insert_places.Goals as goal
-
--- what a read past the end would give
-abbrev no_chunk : XorbChunkSequenceEntry
-no_chunk =
-    record { chunk_hash = record { word0 = 0; word1 = 0; word2 = 0; word3 = 0 }; chunk_byte_range_start = 0; unpacked_segment_bytes = 0; flags = 0; _unused = 0 }
 
 pub loop-chunk-preserved : goal.loop-chunk-preserved
 loop-chunk-preserved c =

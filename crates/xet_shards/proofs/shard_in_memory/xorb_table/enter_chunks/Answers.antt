@@ -9,14 +9,10 @@ use Rattle.xet_base.specs.Hash.{hash_eq}
 use Rattle.xet_records.specs.declared.xorb_structs.XorbChunkSequenceEntry.{XorbChunkSequenceEntry}
 use Rattle.xet_records.specs.declared.xorb_structs.MDBXorbInfo.{MDBXorbInfo}
 use Rattle.xet_shards.specs.XorbTable.{shown_place, placed}
+use Rattle.xet_shards.proofs.ChunkPlaces.{no_chunk}
 use Rattle.xet_shards.proofs.Walks.{All-middle}
 use Rattle.xet_shards.proofs.Index.{All-front, entered-more, cond-shown}
 use Rattle.xet_shards.proofs.shard_in_memory.xorb_table.enter_chunks.Goals as goal
-
--- what a read past the end would give
-abbrev no_chunk : XorbChunkSequenceEntry
-no_chunk =
-    record { chunk_hash = record { word0 = 0; word1 = 0; word2 = 0; word3 = 0 }; chunk_byte_range_start = 0; unpacked_segment_bytes = 0; flags = 0; _unused = 0 }
 
 pub loop-chunk-preserved : goal.loop-chunk-preserved
 loop-chunk-preserved c =

@@ -1,0 +1,155 @@
+-- The turns of the walk that reads the first words of the chunks' hashes.
+use Rattle.std.proofs.Common.{◌≡◌, ◌⊎◌, inl, inr, Ok, Err, drop, flat_map, ℕ, ◌+◌, ◌*◌, ◌<◌, ◌≤◌, List, [], ◌∷◌, ◌++◌, length, map, take, get_or, refl, sym, ap, ◌∙◌, subst, append_assoc, arith}
+use Rattle.std.specs.Prelude.{All, MatchResult}
+use Rattle.std.specs.declared.result.Result.{Result}
+use Rattle.std.specs.declared.vec.Vec.{Vec}
+use Rattle.std.proofs.lemmas.List.{length-map, map-append, map-id, nil_from_length}
+use Rattle.std.proofs.lemmas.List.Sums.{sum_by-append}
+use Rattle.std.proofs.lemmas.List.Elements.{All-append, All-cons, All-nil}
+use Rattle.xet_base.specs.declared.error.CoreError.{CoreError}
+use Rattle.xet_base.specs.Source.{Source, Takes, advanced, moved, bytes_left}
+use Rattle.xet_base.proofs.Reading.{Takes-consumes}
+use Rattle.xet_records.specs.declared.xorb_structs.MDBXorbInfo.{MDBXorbInfo}
+use Rattle.xet_records.specs.declared.xorb_structs.XorbChunkSequenceEntry.{XorbChunkSequenceEntry}
+use Rattle.xet_records.specs.Reading.{ReadsBookend}
+use Rattle.xet_records.specs.XorbRecord.{xorb_text, xorb_row_count, IsStoredXorb, xorb_records}
+use Rattle.xet_records.proofs.RecordKinds.{xorb_laws, length-text}
+use Rattle.xet_records.proofs.Lengths.{length-texts}
+use Rattle.xet_shards.specs.Shard.{total_xorb_rows}
+use Rattle.xet_shards.specs.Section.{with_fronts}
+use Rattle.xet_shards.specs.Tables.{places_from, chunk_places, chunk_table}
+use Rattle.xet_shards.specs.TableReading.{triple_of}
+use Rattle.xet_shards.specs.SectionReading.{HoldsRecords, PassesLimit, EndsEarly, SectionFailure, IsSection, PassesRows, IsCutSection, rows_left}
+use Rattle.xet_shards.specs.TruncatedHashes.{hashes_of, StartBefore, ReadsHashes, PassesBefore, CutBefore, HashesFail, HasReadHashes, ReadsXorbBefore, XorbBeforeFails}
+use Rattle.xet_shards.proofs.ChunkPlaces.{chunk_places-push, places_from-more, place_of, no_chunk}
+use Rattle.xet_shards.proofs.SectionReading.{nothing_read, more_read, place_after, section_ends}
+use Rattle.xet_shards.proofs.Readback.{why_not}
+use Rattle.xet_shards.proofs.SectionUnique.{first_of_section}
+use Rattle.xet_shards.proofs.TableReading.{IsReadAs}
+use Rattle.xet_shards.proofs.Tables.{with_fronts-push}
+use Rattle.xet_shards.proofs.XorbLayouts.{total_chunks, length-chunk_places, length-chunk_table}
+
+-- one more chunk of a xorb
+pub hashes_more : (before : List (ℕ × (ℕ × ℕ))) (start i : ℕ) (chunks : List XorbChunkSequenceEntry) → i < length chunks
+    → (before ++ map triple_of (places_from start (take i chunks))) ++ triple_of (place_of start i (get_or chunks i no_chunk)) ∷ []
+    ≡ before ++ map triple_of (places_from start (take (i + 1) chunks))
+hashes_more before start i chunks below =
+    let done = places_from start (take i chunks) in
+    let place = place_of start i (get_or chunks i no_chunk) in
+    append_assoc before (map triple_of done) (triple_of place ∷ [])
+    ∙ ap (λ rows. before ++ rows) (sym (map-append triple_of done (place ∷ [])) ∙ ap (map triple_of) (sym (places_from-more start i chunks no_chunk below)))
+
+-- one more xorb
+hashes_of-push : (xorbs : List MDBXorbInfo) (x : MDBXorbInfo) → hashes_of (xorbs ++ x ∷ []) ≡ hashes_of xorbs ++ map triple_of (places_from (total_xorb_rows xorbs) x.chunks)
+hashes_of-push xorbs x = ap (map triple_of) (chunk_places-push xorbs x) ∙ map-append triple_of _ (places_from (total_xorb_rows xorbs) x.chunks)
+
+StartBefore-push : (at stop : ℕ) (xorbs : List MDBXorbInfo) (x : MDBXorbInfo) → StartBefore at stop xorbs → at + 48 * total_xorb_rows xorbs < stop → StartBefore at stop (xorbs ++ x ∷ [])
+StartBefore-push at stop xorbs x before here =
+    let Starts : List MDBXorbInfo × MDBXorbInfo → Type 0 = λ e. at + 48 * total_xorb_rows e.0 < stop in
+    subst (All Starts) (sym (with_fronts-push [] xorbs x)) (All-append Starts (with_fronts [] xorbs) ((xorbs, x) ∷ []) before (All-cons Starts (xorbs, x) [] here (All-nil Starts)))
+
+-- before the first xorb
+pub no_hashes : (stop : ℕ) (start : Source) → HasReadHashes stop start start [] 4294967295
+no_hashes stop start = record { xorbs = []; read = nothing_read xorb_records xorb_laws start; before = All-nil _; hashes = refl }
+
+-- one xorb more
+pub more_hashes : (stop : ℕ) (start now new : Source) (found : List (ℕ × (ℕ × ℕ))) (left after : ℕ) (next : ℕ × MDBXorbInfo)
+    → HasReadHashes stop start now found left → ReadsXorbBefore stop now new left after next
+    → HasReadHashes stop start new (found ++ map triple_of (places_from next.0 next.1.chunks)) after
+more_hashes stop start now new found left after next before read =
+    let place : now.at ≡ start.at + 48 * total_xorb_rows before.xorbs = place_after xorb_records xorb_laws start now before.xorbs left before.read in
+    let row : next.0 ≡ total_xorb_rows before.xorbs = omega (arith, read.start, rows_of before) in
+    record {
+      xorbs = before.xorbs ++ next.1 ∷ [];
+      read = more_read xorb_records xorb_laws start now new before.xorbs left after next.1 before.read read.next;
+      before = StartBefore-push start.at stop before.xorbs next.1 before.before (omega (arith, read.before, place));
+      hashes = (λ i. before.hashes i ++ map triple_of (places_from (row i) next.1.chunks)) ∙ sym (hashes_of-push before.xorbs next.1);
+    }
+  where
+    rows_of : (b : HasReadHashes stop start now found left) → total_xorb_rows b.xorbs + left ≡ 4294967295
+    rows_of b = omega (arith, b.read.rows, ap total_xorb_rows (sym (map-id b.read.stored) ∙ b.read.handed))
+
+-- after the xorbs that were read
+module _ (stop : ℕ) (old now : Source) (at : ℕ) (found : List (ℕ × (ℕ × ℕ))) (left : ℕ) (before : HasReadHashes stop (moved old at) now found left) where
+  -- they are handed out as they stand
+  same_xorbs : before.read.stored ≡ before.xorbs
+  same_xorbs = sym (map-id before.read.stored) ∙ before.read.handed
+
+  -- these xorbs stand there
+  holds : HoldsRecords xorb_records (bytes_left (moved old at)) before.xorbs (bytes_left now)
+  holds = subst (λ xorbs. HoldsRecords xorb_records (bytes_left (moved old at)) xorbs (bytes_left now)) same_xorbs
+      (record { are_stored = before.read.are_stored; rows = omega (arith, before.read.rows); bytes_are = Takes-consumes (moved old at) now (flat_map xorb_text before.read.stored) before.read.taken })
+
+  place : now.at ≡ at + 48 * total_xorb_rows before.xorbs
+  place = place_after xorb_records xorb_laws (moved old at) now before.xorbs left before.read
+
+  left_is : left ≡ rows_left xorb_records before.xorbs
+  left_is = omega (arith, before.read.rows, ap total_xorb_rows same_xorbs)
+
+  bytes_then : now.bytes ≡ old.bytes
+  bytes_then = ap (λ (s : Source). s.bytes) before.read.taken.after
+
+  seeks_then : now.seeks ≡ old.seeks + 1
+  seeks_then = ap (λ (s : Source). s.seeks) before.read.taken.after
+
+  failures_then : now.failures ≡ old.failures
+  failures_then = ap (λ (s : Source). s.failures) before.read.taken.after
+
+  -- the bookend, or the stop
+  pub hashes_end : (new : Source) → ((now.at < stop) × ReadsBookend xorb_records (Takes now new)) ⊎ ((stop ≤ now.at) × (new ≡ now)) → ReadsHashes old new at stop found
+  hashes_end new (inl (below, last)) =
+      let ended = section_ends xorb_records xorb_laws (moved old at) now before.xorbs left before.read new last in
+      let same : ended.stored ≡ before.xorbs = sym (map-id ended.stored) ∙ ended.handed in
+      record {
+        xorbs = before.xorbs;
+        rest = ended.section.rest;
+        records = subst (λ xorbs. HoldsRecords xorb_records (bytes_left (moved old at)) xorbs ended.section.rest) same ended.section.records;
+        before = before.before;
+        end = inl (omega (arith, below, place), ended.section.bookend, ended.after ∙ ap (λ xorbs. advanced (moved old at) (48 * (total_xorb_rows xorbs + 1))) same);
+        hashes = before.hashes;
+      }
+  hashes_end new (inr (past, same)) =
+      let size = length-texts xorb_text xorb_row_count IsStoredXorb (length-text xorb_records xorb_laws) before.read.stored before.read.are_stored in
+      record {
+        xorbs = before.xorbs;
+        rest = bytes_left now;
+        records = holds;
+        before = before.before;
+        end = inr (omega (arith, past, place), same ∙ before.read.taken.after ∙ ap (advanced (moved old at)) (size ∙ ap (λ xorbs. 48 * total_xorb_rows xorbs) same_xorbs));
+        hashes = before.hashes;
+      }
+
+  whole_cause : (new : Source) (e : CoreError)
+      → SectionFailure (λ bytes. (now.at < stop) × PassesLimit xorb_records left bytes) (λ bytes. (now.at < stop) × EndsEarly xorb_records left bytes) (bytes_left now) now new e
+      → SectionFailure (PassesBefore at stop) (CutBefore at stop) (drop at old.bytes) old new e
+  whole_cause new e (inl failed) = inl (failed.0 ∙ ap (λ k. k + 1) failures_then, failed.1, failed.2, failed.3)
+  whole_cause new e (inr (inl (none, no_memory))) = inr (inl (none ∙ failures_then, no_memory))
+  whole_cause new e (inr (inr (inl (none, is, (below, passes))))) =
+      inr (inr (inl (none ∙ failures_then, is, (before.xorbs, bytes_left now, holds, omega (arith, below, place), subst (λ n. PassesLimit xorb_records n (bytes_left now)) left_is passes))))
+  whole_cause new e (inr (inr (inr (none, is, (below, ends))))) =
+      inr (inr (inr (none ∙ failures_then, is, (before.xorbs, bytes_left now, holds, omega (arith, below, place), subst (λ n. EndsEarly xorb_records n (bytes_left now)) left_is ends))))
+
+  pub hashes_fail : (new : Source) (e : CoreError) → XorbBeforeFails stop left now new e → HashesFail old new at stop e
+  hashes_fail new e fails = record { bytes = fails.bytes ∙ bytes_then; seeks = fails.seeks ∙ seeks_then; cause = whole_cause new e fails.cause }
+
+-- xorbs without chunks have no hashes
+no_chunks_no_hashes : (xorbs : List MDBXorbInfo) → total_chunks xorbs ≡ 0 → hashes_of xorbs ≡ []
+no_chunks_no_hashes xorbs none = nil_from_length (hashes_of xorbs) (length-map (chunk_places xorbs) triple_of ∙ length-chunk_places xorbs ∙ none)
+
+-- and so the walk through their section finds none, wherever it stops, unless the device fails or memory is refused
+module _ (old new : Source) (at stop : ℕ) (xorbs : List MDBXorbInfo) (section : IsSection xorb_records (drop at old.bytes) xorbs) where
+  anywhere : (e : CoreError) → SectionFailure (PassesBefore at stop) (CutBefore at stop) (drop at old.bytes) old new e
+      → SectionFailure (PassesRows xorb_records) (IsCutSection xorb_records) (drop at old.bytes) old new e
+  anywhere e (inl failed) = inl failed
+  anywhere e (inr (inl refused)) = inr (inl refused)
+  anywhere e (inr (inr (inl (none, is, (before, rest, records, below, passes))))) = inr (inr (inl (none, is, (before, rest, records, passes))))
+  anywhere e (inr (inr (inr (none, is, (before, rest, records, below, ends))))) = inr (inr (inr (none, is, (before, rest, records, ends))))
+
+  pub no_hashes_read : {Z : Type 0} (r : Result (Vec (ℕ × (ℕ × ℕ)) Z) CoreError) → total_chunks xorbs ≡ 0
+      → MatchResult r (λ found. ReadsHashes old new at stop found.items) (HashesFail old new at stop) → IsReadAs old new (map triple_of (chunk_table xorbs)) r
+  no_hashes_read (Ok found) none read =
+      let more = first_of_section xorb_records xorb_laws (drop at old.bytes) read.xorbs xorbs read.rest read.records section in
+      let chunks : MDBXorbInfo → ℕ = λ x. length x.chunks in
+      read.hashes ∙ no_chunks_no_hashes read.xorbs (omega (arith, none, ap total_chunks more.1, sum_by-append chunks read.xorbs more.0))
+      ∙ ap (map triple_of) (sym (nil_from_length (chunk_table xorbs) (length-chunk_table xorbs ∙ none)))
+  no_hashes_read (Err e) none fails = why_not xorb_records xorb_laws (moved old at) new xorbs section e (anywhere e fails.cause)

@@ -1,0 +1,30 @@
+use Rattle.std.proofs.Common.{◌+◌, length, drop, sym, ap, ◌∙◌, subst}
+use Rattle.std.specs.Prelude.{MatchResult}
+use Rattle.std.specs.FinMap.{values}
+use Rattle.xet_records.specs.XorbRecord.{xorb_records}
+use Rattle.xet_shards.specs.declared.shard_format.info.MDBShardInfo.{MDBShardInfo}
+use Rattle.xet_shards.specs.Section.{file_section}
+use Rattle.xet_shards.specs.SectionReading.{IsSection}
+use Rattle.xet_shards.specs.TruncatedHashes.{ReadsHashes, HashesFail}
+use Rattle.xet_shards.proofs.Readback.{xorb_section_of_shard}
+use Rattle.xet_shards.proofs.TruncatedHashes.{no_hashes_read}
+use Rattle.xet_shards.proofs.WrittenTables.{chunk_table_read}
+use Rattle.xet_shards.proofs.XorbLayouts.{length-chunk_table}
+use Rattle.xet_shards.proofs.shard_format.info.MDBShardInfo.read_all_truncated_hashes.Goals as goal
+
+pub returns-then-rows-eq0-clause-written : goal.returns-then-rows-eq0-clause-written
+returns-then-rows-eq0-clause-written g c =
+    let old = g.S.ShardSource.meaning c.args.source.now in
+    let new = g.S.ShardSource.meaning c.read_section_hashes.new.source in
+    λ s expiry shard are is.
+    let at = 48 + length (file_section (values s.files)) in
+    let stop = c.args.self.now.metadata.file_lookup_offset in
+    let none = sym (length-chunk_table (values s.xorbs)) ∙ sym (ap (λ (info : MDBShardInfo). info.metadata.chunk_lookup_num_entry) is) ∙ c.if-rows-eq0.true in
+    no_hashes_read old new at stop (values s.xorbs)
+    (subst (λ bytes. IsSection xorb_records (drop at bytes) (values s.xorbs)) (sym are) (xorb_section_of_shard s expiry shard))
+    c.read_section_hashes.result none
+    (subst (λ n. MatchResult c.read_section_hashes.result (λ found. ReadsHashes old new n stop found.items) (HashesFail old new n stop))
+    (ap (λ (info : MDBShardInfo). info.metadata.xorb_info_offset) is) c.read_section_hashes.ensures)
+
+pub returns-clause-written : goal.returns-clause-written
+returns-clause-written g c = λ s expiry shard are is. chunk_table_read s shard expiry _ _ are c.args.self.now is c.read_chunk_table.result c.read_chunk_table.ensures

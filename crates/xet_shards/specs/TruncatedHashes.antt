@@ -1,0 +1,81 @@
+-- The first words of the chunks' hashes, read from the xorb section where there is no chunk table: a walk from a place
+-- up to the bookend, or to the first header that does not start before a stop.
+use Rattle.std.specs.Prelude.{◌≡◌, ◌⊎◌, ℕ, ◌+◌, ◌*◌, ◌<◌, ◌≤◌, List, [], map, drop, All, Option, MatchOption}
+use Rattle.xet_base.specs.declared.error.CoreError.{CoreError}
+use Rattle.xet_base.specs.Source.{Source, Takes, advanced, moved, bytes_left}
+use Rattle.xet_records.specs.declared.xorb_structs.MDBXorbInfo.{MDBXorbInfo}
+use Rattle.xet_records.specs.Reading.{ReadsBookend}
+use Rattle.xet_records.specs.XorbRecord.{xorb_records}
+use Rattle.xet_shards.specs.Shard.{total_xorb_rows}
+use Rattle.xet_shards.specs.Section.{with_fronts}
+use Rattle.xet_shards.specs.Tables.{chunk_places}
+use Rattle.xet_shards.specs.TableReading.{triple_of}
+use Rattle.xet_shards.specs.SectionReading.{HoldsRecords, BeginsWithBookend, PassesLimit, EndsEarly, SectionFailure, HasRead, ReadsNext, rows_left}
+
+-- the rows that a chunk table would have for these xorbs, in section order
+abbrev pub hashes_of : List MDBXorbInfo → List (ℕ × (ℕ × ℕ))
+hashes_of xorbs = map triple_of (chunk_places xorbs)
+
+-- each of the xorbs, the first of which stands at a place, starts before the stop
+abbrev pub StartBefore : ℕ → ℕ → List MDBXorbInfo → Type 0
+StartBefore at stop xorbs = All (λ e. at + 48 * total_xorb_rows e.0 < stop) (with_fronts [] xorbs)
+
+-- the walk ended after xorbs: a bookend that starts before the stop was read, or the stop reached and no byte more read
+abbrev pub WalkEnds : Source → Source → ℕ → ℕ → List MDBXorbInfo → List ℕ → Type 0
+WalkEnds old new at stop xorbs rest =
+    ((at + 48 * total_xorb_rows xorbs < stop) × BeginsWithBookend xorb_records rest
+    × (new ≡ advanced (moved old at) (48 * (total_xorb_rows xorbs + 1))))
+    ⊎ ((stop ≤ at + 48 * total_xorb_rows xorbs) × (new ≡ advanced (moved old at) (48 * total_xorb_rows xorbs)))
+
+-- the hashes were read by one seek, and no byte past the end of the walk
+pub record ReadsHashes (old new : Source) (at stop : ℕ) (found : List (ℕ × (ℕ × ℕ))) : Type 0 where
+  pub xorbs : List MDBXorbInfo
+  pub rest : List ℕ
+  pub records : HoldsRecords xorb_records (drop at old.bytes) xorbs rest
+  pub before : StartBefore at stop xorbs
+  pub end : WalkEnds old new at stop xorbs rest
+  pub hashes : found ≡ hashes_of xorbs
+
+-- xorbs, and then one that starts before the stop, as those before it do, and is too many
+abbrev pub PassesBefore : ℕ → ℕ → List ℕ → Type 0
+PassesBefore at stop bytes =
+    (xorbs : List MDBXorbInfo) × (rest : List ℕ) × HoldsRecords xorb_records bytes xorbs rest
+    × (at + 48 * total_xorb_rows xorbs < stop) × PassesLimit xorb_records (rows_left xorb_records xorbs) rest
+
+-- the same, but there are too few bytes
+abbrev pub CutBefore : ℕ → ℕ → List ℕ → Type 0
+CutBefore at stop bytes =
+    (xorbs : List MDBXorbInfo) × (rest : List ℕ) × HoldsRecords xorb_records bytes xorbs rest
+    × (at + 48 * total_xorb_rows xorbs < stop) × EndsEarly xorb_records (rows_left xorb_records xorbs) rest
+
+-- the hashes were not read, by one seek; the place is open
+pub record HashesFail (old new : Source) (at stop : ℕ) (e : CoreError) : Type 0 where
+  pub bytes : new.bytes ≡ old.bytes
+  pub seeks : new.seeks ≡ old.seeks + 1
+  pub cause : SectionFailure (PassesBefore at stop) (CutBefore at stop) (drop at old.bytes) old new e
+
+-- the hashes that were read so far
+pub record HasReadHashes (stop : ℕ) (start now : Source) (found : List (ℕ × (ℕ × ℕ))) (left : ℕ) : Type 0 where
+  pub xorbs : List MDBXorbInfo
+  pub read : HasRead xorb_records start now xorbs left
+  pub before : StartBefore start.at stop xorbs
+  pub hashes : found ≡ hashes_of xorbs
+
+-- the next xorb, which starts before the stop, was read, and the row at which it starts counted
+pub record ReadsXorbBefore (stop : ℕ) (old new : Source) (left after : ℕ) (found : ℕ × MDBXorbInfo) : Type 0 where
+  pub before : old.at < stop
+  pub start : found.0 + left ≡ 4294967295
+  pub next : ReadsNext xorb_records old new left after found.1
+
+-- that xorb, or the end of the walk
+abbrev pub ReadsBefore : ℕ → Source → Source → ℕ → ℕ → Option (ℕ × MDBXorbInfo) → Type 0
+ReadsBefore stop old new left after found =
+    MatchOption found (((old.at < stop) × ReadsBookend xorb_records (Takes old new)) ⊎ ((stop ≤ old.at) × (new ≡ old)))
+    (ReadsXorbBefore stop old new left after)
+
+-- neither was read; the place is open
+pub record XorbBeforeFails (stop left : ℕ) (old new : Source) (e : CoreError) : Type 0 where
+  pub bytes : new.bytes ≡ old.bytes
+  pub seeks : new.seeks ≡ old.seeks
+  pub cause : SectionFailure (λ bytes. (old.at < stop) × PassesLimit xorb_records left bytes) (λ bytes. (old.at < stop) × EndsEarly xorb_records left bytes)
+      (bytes_left old) old new e
