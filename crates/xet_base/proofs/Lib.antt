@@ -13,3 +13,4 @@ pub mod Search
 pub mod Collecting
 pub mod Bounds
 pub mod KnownTable
+pub mod KeyedHash

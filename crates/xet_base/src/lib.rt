@@ -4,6 +4,7 @@
 pub mod count;
 pub mod error;
 pub mod interpolation_search;
+mod keyed_hash;
 pub mod merklehash;
 pub mod row;
 #[cfg(test)]

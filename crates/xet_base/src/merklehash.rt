@@ -5,9 +5,11 @@ ghost use Rattle.std.specs.Char.{to_ascii_lowercase};
 ghost use Rattle.std.specs.Str.{str_to_ascii_lowercase};
 ghost use Rattle.xet_base.specs.Bytes.{u64_bytes};
 ghost use Rattle.xet_base.specs.Hash.{IsHash, words_of, hash_bytes, IsEligible};
+ghost use Rattle.xet_base.specs.KeyedHash.{hmac};
 ghost use Rattle.xet_base.specs.Hex.{hex_digit, hex_digits, hash_hex, IsHexDigit, IsHexText, Spells};
 
 use crate::error::{CoreError, Result};
+use crate::keyed_hash::keyed_bytes;
 use crate::row::split_u64;
 use std::alloc::{AllocError, Global};
 use std::fmt;
@@ -126,6 +128,13 @@ impl DataHash {
             return Err(DataHashBytesParseError);
         }
         Ok(DataHash::from_32(bytes))
+    }
+
+    /// The keyed hash of this hash: BLAKE3's keyed mode for the one block of its 32 bytes.
+    pub fn hmac(self, key: HMACKey) -> DataHash
+        ensures { result ≡ hmac key self }
+    {
+        DataHash::from_32(&keyed_bytes(&key.as_bytes(), &self.as_bytes()))
     }
 
     #[tactic(auto, unfolding(crate::specs::Hash::hash_bytes))]

@@ -67,6 +67,36 @@ fn texts_of_hashes_are_64_digits_of_either_case(rt: HostRuntime) {
     assert!(rt; !hash_is_global_dedup_eligible(&DataHash::from([7, 1, 0, 1])));
 }
 
+// The words were computed by another program, which gives the published values of keyed BLAKE3 for no byte and for one.
+#[test]
+fn hashes_are_keyed(rt: HostRuntime) -> std::result::Result<(), Fail> {
+    let keyed = DataHash::from([21, 1, 0, 0]).hmac(DataHash::from([7, 1, 0, 0]));
+    assert_eq!(rt;
+        keyed,
+        DataHash::from([
+            0x8e0f3ba67ec33a6e,
+            0xb9227792b2f55bf2,
+            0x609ccb2ea23ed425,
+            0x1b188d02aefae96a
+        ])
+    );
+    let key = DataHash::from_slice(b"whats the Elvish word for friend")?;
+    let mut bytes = [0u8; 32];
+    for place in 0..32 {
+        bytes[usize::from(place)] = place;
+    }
+    assert_eq!(rt;
+        DataHash::from_slice(&bytes)?.hmac(key),
+        DataHash::from([
+            0x70b2ac62fe9d835c,
+            0xa844f17258d288bf,
+            0xb08057fab591221d,
+            0xd51b51915e49c71a
+        ])
+    );
+    Ok(())
+}
+
 #[test]
 fn errors_are_equal_by_variant_and_have_texts(rt: HostRuntime) -> std::result::Result<(), Fail> {
     let alloc = rt.alloc();

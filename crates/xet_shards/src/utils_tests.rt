@@ -88,3 +88,17 @@ fn a_footer_tells_where_the_parts_stand(rt: HostRuntime) {
     assert_eq!(rt; info.chuck_lookup_byte_range(), (540, 604));
     assert_eq!(rt; MDBShardInfo::non_content_byte_size(), 344);
 }
+
+#[test]
+fn a_footer_tells_the_key_of_the_chunk_hashes(rt: HostRuntime) {
+    let hash = MerkleHash::from([21, 1, 0, 0]);
+    let mut info = MDBShardInfo::default();
+    assert!(rt; !info.chunk_hashes_protected());
+    assert_eq!(rt; info.chunk_hmac_key(), None);
+    assert_eq!(rt; info.keyed_chunk_hash(&hash), hash);
+    let key = MerkleHash::from([7, 1, 0, 0]);
+    info.metadata.chunk_hash_hmac_key = key;
+    assert!(rt; info.chunk_hashes_protected());
+    assert_eq!(rt; info.chunk_hmac_key(), Some(key));
+    assert_eq!(rt; info.keyed_chunk_hash(&hash), hash.hmac(key));
+}

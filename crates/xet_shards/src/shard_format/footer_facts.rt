@@ -1,8 +1,11 @@
 //! What a shard's footer tells of its parts: their rows, their places and the bytes of the files behind them.
 
-ghost use Rattle.std.specs.Prelude.{◌≡◌};
+ghost use Rattle.std.specs.Prelude.{◌≡◌, ◌≢◌, ◌↔◌, IsTrue, None, Some, if◌then◌else◌};
+ghost use Rattle.xet_base.specs.Hash.{hash_eq};
+ghost use Rattle.xet_base.specs.KeyedHash.{no_key, under_key};
 
 use super::info::MDBShardInfo;
+use xet_base::merklehash::{HMACKey, MerkleHash};
 
 impl MDBShardInfo {
     /// The rows of the xorb table.
@@ -85,5 +88,33 @@ impl MDBShardInfo {
         ensures { result ≡ 344 }
     {
         48 + 200 + 2 * 48
+    }
+
+    /// Whether the chunk hashes of the shard are keyed.
+    pub fn chunk_hashes_protected(&self) -> bool
+        ensures { IsTrue result ↔ (self.now.metadata.chunk_hash_hmac_key ≢ no_key) }
+    {
+        self.metadata.chunk_hash_hmac_key != HMACKey::default()
+    }
+
+    /// The key of the chunk hashes, or `None` where they are not keyed.
+    pub fn chunk_hmac_key(&self) -> Option<HMACKey>
+        ensures { result ≡ (if hash_eq self.now.metadata.chunk_hash_hmac_key no_key then None else Some self.now.metadata.chunk_hash_hmac_key) }
+    {
+        if self.metadata.chunk_hash_hmac_key == HMACKey::default() {
+            None
+        } else {
+            Some(self.metadata.chunk_hash_hmac_key)
+        }
+    }
+
+    /// A chunk's hash as it stands in the shard: keyed, where the shard has a key.
+    pub fn keyed_chunk_hash(&self, hash: &MerkleHash) -> MerkleHash
+        ensures { result ≡ under_key self.now.metadata.chunk_hash_hmac_key hash.now }
+    {
+        match self.chunk_hmac_key() {
+            Some(key) => hash.hmac(key),
+            None => *hash,
+        }
     }
 }
