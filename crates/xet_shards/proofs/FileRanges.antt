@@ -72,7 +72,7 @@ module _ (old new : Source) (s : Shard) (expiry : Option ℕ) (shard : IsShard s
       why_no_header (inr (inl (none, is, inr (size, differs)))) = absurd (differs has_header.version)
       why_no_header (inr (inr (none, is, inl short))) = absurd (omega (arith, short, has_header.size))
       why_no_header (inr (inr (none, is, inr (short, tag)))) = absurd (omega (arith, short, has_header.size))
-  why_no_ranges e (inr (header, mid, taken, fails)) =
+  why_no_ranges e (inr (header, mid, known, taken, fails)) =
       since (why_not file_records file_laws mid new (values s.files) (section header mid taken) e fails.cause)
     where
       since : DeviceFailure mid new e ⊎ (e ≡ OutOfMemory) → DeviceFailure old new e ⊎ (e ≡ OutOfMemory)

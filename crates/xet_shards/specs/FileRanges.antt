@@ -55,7 +55,8 @@ pub record ReadsFileRanges (old new : Source) (found : List FileRanges) : Type 0
 abbrev pub FileRangesFail : Source → Source → CoreError → Type 0
 FileRangesFail old new e =
     PartFails HasForeignHeader EndsInHeader 48 old new e
-    ⊎ ((header : MDBShardFileHeader) × (after_header : Source) × Takes old after_header (header_text header) × TakesNoSection file_records after_header new e)
+    ⊎ ((header : MDBShardFileHeader) × (after_header : Source) × (header.version ≡ 2) × Takes old after_header (header_text header)
+    × TakesNoSection file_records after_header new e)
 
 -- the ranges of the files that were read so far
 pub record HasReadRanges (start now : Source) (found : List FileRanges) (left : ℕ) : Type 0 where
