@@ -1,0 +1,10 @@
+//! The lines of scripts about metadata shards: their words, the values that these spell, and what is
+//! printed of the answers. A test tool's parts, and no part of the library.
+#![tactic(auto)]
+
+pub mod lines;
+pub mod print;
+pub mod ranges;
+pub mod records;
+pub mod refusal;
+pub mod words;

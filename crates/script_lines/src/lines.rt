@@ -1,0 +1,33 @@
+//! A line: its end, whether it is skipped, and its words.
+
+ghost use Rattle.std.specs.Prelude.{◌≡◌, ◌↔◌, IsTrue};
+ghost use Rattle.script_lines.specs.Words.{IsSkipped, without_last};
+
+use std::alloc::{AllocError, Global};
+
+/// The line without its end: without one LF at the end, and then without one CR.
+pub fn without_end(line: &[u8]) -> &[u8]
+    ensures { result.now ≡ without_last 13 (without_last 10 line.now) }
+{
+    without_last(without_last(line, b'\n'), b'\r')
+}
+
+fn without_last(text: &[u8], byte: u8) -> &[u8]
+    ensures { result.now ≡ without_last byte text.now }
+{
+    text.strip_suffix(&[byte]).unwrap_or(text)
+}
+
+/// Whether a line without its end is skipped: it is empty, or begins with `#`.
+pub fn is_skipped(line: &[u8]) -> bool
+    ensures { IsTrue result ↔ IsSkipped line.now }
+{
+    line.is_empty() || line[0] == b'#'
+}
+
+/// The words of a line, which are parted by one space or more.
+pub fn split_words(alloc: Global, text: &str) -> Result<Vec<&str>, AllocError> {
+    text.split(' ')
+        .filter(|word| !word.is_empty())
+        .collect(alloc)
+}

@@ -1,0 +1,38 @@
+//! Ranges of bytes, and bytes as hexadecimal digits.
+
+ghost use Rattle.std.specs.Prelude.{◌≡◌, ◌≤◌, ◌+◌, ◌↔◌, length, slice_range, IsOk, IfOk, IfErr};
+
+use crate::words::ParseError;
+use std::alloc::{AllocError, Global};
+
+/// So many bytes, from an index on.
+#[derive(Clone, Copy)]
+pub struct ByteRange {
+    pub from: u64,
+    pub len: u64,
+}
+
+/// The bytes of a range. `Unreadable` where the range ends past the end of the bytes.
+pub fn bytes_in(bytes: &[u8], range: ByteRange) -> Result<&[u8], ParseError>
+    ensures inside { IsOk result ↔ (range.from + range.len ≤ length bytes.now) }
+    ensures causes { IfErr result (λ e. e ≡ ParseError.Unreadable) }
+    ensures found { IfOk result
+        (λ part. part.now ≡ slice_range bytes.now range.from (range.from + range.len)) }
+{
+    let size = bytes.len() as u64;
+    if range.from > size || range.len > size - range.from {
+        return Err(ParseError::Unreadable);
+    }
+    let from = range.from as usize;
+    let len = range.len as usize;
+    Ok(&bytes[from..from + len])
+}
+
+/// The bytes as lower-case hexadecimal digits, two for each.
+pub fn hex_digits(alloc: Global, bytes: &[u8]) -> Result<String, AllocError> {
+    let mut digits = String::new(alloc);
+    for byte in bytes {
+        write!(digits, "{byte:02x}")?;
+    }
+    Ok(digits)
+}

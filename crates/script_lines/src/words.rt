@@ -1,0 +1,132 @@
+//! The words of a line, and the names, numbers and hashes that they spell.
+
+ghost use Rattle.std.specs.Prelude.{◌≡◌, ◌↔◌, ◌∷◌, ◌++◌, drop, IsTrue, IsOk, IfOk, IsOkAnd, IfErr, MatchOption};
+ghost use Rattle.std.specs.Result.{OkIff};
+ghost use Rattle.std.specs.Str.Parse.{digits_value};
+ghost use Rattle.xet_core_structures.specs.Hash.{words_of};
+ghost use Rattle.xet_core_structures.specs.Hex.{IsHexText, Spells};
+ghost use Rattle.script_lines.specs.Words.{IsName, IsNameByte, IsNumber, small_words};
+
+use std::alloc::{AllocError, AllocFailed};
+use xet_core_structures::merklehash::{DataHash, MerkleHash};
+
+/// Why a line can't be read.
+#[derive(Clone, Copy, Debug, PartialEq, Eq)]
+pub enum ParseError {
+    /// A word is not what its place asks for.
+    Unreadable,
+    /// An allocation for the lists of the line was refused.
+    OutOfMemory,
+}
+
+impl From<AllocError> for ParseError {
+    ghost use Rattle.std.specs.Prelude.{◌≡◌};
+    ghost use Rattle.script_lines.specs.declared.words.ParseError.TheVariants.{OutOfMemory};
+
+    ghost from_gives = { λ _ error. error ≡ OutOfMemory };
+
+    fn from(_error: AllocError) -> ParseError {
+        ParseError::OutOfMemory
+    }
+}
+
+impl<T: Drop> From<AllocFailed<T>> for ParseError {
+    ghost use Rattle.std.specs.Prelude.{◌≡◌};
+    ghost use Rattle.script_lines.specs.declared.words.ParseError.TheVariants.{OutOfMemory};
+
+    ghost from_gives = { λ _ error. error ≡ OutOfMemory };
+
+    fn from(_error: AllocFailed<T>) -> ParseError {
+        ParseError::OutOfMemory
+    }
+}
+
+/// What follows `prefix` in the first word, where it begins so, and the words after it. Where it
+/// does not begin so, or there is no word, `None` and all words.
+pub fn split_option<'w, 'a>(words: &'w [&'a str], prefix: &str) -> (Option<&'a str>, &'w [&'a str])
+    ensures { MatchOption result.0 (result.1.now ≡ words.now) (λ _. result.1.now ≡ drop 1 words.now) }
+{
+    let Some((first, rest)) = words.split_first() else {
+        return (None, words);
+    };
+    match first.strip_prefix(prefix) {
+        Some(value) => (Some(value), rest),
+        None => (None, words),
+    }
+}
+
+/// What stands before and after the first colon of a word. `Unreadable` where it has none.
+pub fn split_at_colon(word: &str) -> Result<(&str, &str), ParseError>
+    ensures parts { IfOk result (λ parts. word.now ≡ parts.0.now ++ 58 ∷ parts.1.now) }
+    ensures causes { IfErr result (λ e. e ≡ ParseError.Unreadable) }
+{
+    word.split_once(':').ok_or(ParseError::Unreadable)
+}
+
+/// The word as a name. `Unreadable` unless it has 1 to 32 ASCII letters, digits or `_`.
+pub fn parse_name(word: &str) -> Result<&str, ParseError>
+    ensures name { IfOk result (λ name. name.now ≡ word.now) }
+    ensures accepted { IsOk result ↔ IsName word.now }
+    ensures causes { IfErr result (λ e. e ≡ ParseError.Unreadable) }
+{
+    if !is_name(word) {
+        return Err(ParseError::Unreadable);
+    }
+    Ok(word)
+}
+
+fn is_name(word: &str) -> bool
+    ensures { IsTrue result ↔ IsName word.now }
+{
+    let bytes = word.as_bytes();
+    !bytes.is_empty() && bytes.len() <= 32 && bytes.iter().all(|byte| is_name_byte(*byte))
+}
+
+fn is_name_byte(byte: u8) -> bool
+    ensures { IsTrue result ↔ IsNameByte byte }
+{
+    byte.is_ascii_alphanumeric() || byte == b'_'
+}
+
+/// The hash that a word spells: 64 hexadecimal digits are the hash with these digits, and a number n
+/// of at most 64 bits is the small hash n. `Unreadable` where the word is neither.
+pub fn parse_hash(word: &str) -> Result<MerkleHash, ParseError>
+    ensures digits { IsHexText word.now → IsOkAnd result (Spells word.now) }
+    ensures number { ¬ (IsHexText word.now) → (IsOk result ↔ IsNumber 64 word.now) }
+    ensures small { ¬ (IsHexText word.now) → IfOk result
+        (λ hash. words_of hash ≡ small_words (digits_value 10 word.now)) }
+    ensures causes { IfErr result (λ e. e ≡ ParseError.Unreadable) }
+{
+    match DataHash::from_hex(word) {
+        Ok(hash) => Ok(hash),
+        Err(_) => Ok(small_hash(parse_u64(word)?)),
+    }
+}
+
+/// The small hash of a number, which has the words number, 1, 0 and 0.
+pub fn small_hash(number: u64) -> MerkleHash
+    ensures { words_of result ≡ small_words number }
+{
+    DataHash::from([number, 1, 0, 0])
+}
+
+/// The number that a word spells in decimal. `Unreadable` where the word has a sign or any other
+/// byte that is no digit, is empty, or spells a number of more than 64 bits.
+pub fn parse_u64(word: &str) -> Result<u64, ParseError>
+    ensures value { OkIff result (IsNumber 64 word.now) (digits_value 10 word.now) }
+    ensures causes { IfErr result (λ e. e ≡ ParseError.Unreadable) }
+{
+    // `parse` would take a plus.
+    if word.as_bytes().first() == Some(&b'+') {
+        return Err(ParseError::Unreadable);
+    }
+    word.parse().map_err(|_| ParseError::Unreadable)
+}
+
+/// As [`parse_u64`], for numbers of at most 32 bits.
+pub fn parse_u32(word: &str) -> Result<u32, ParseError>
+    ensures value { OkIff result (IsNumber 32 word.now) (digits_value 10 word.now) }
+    ensures causes { IfErr result (λ e. e ≡ ParseError.Unreadable) }
+{
+    u32::try_from(parse_u64(word)?).map_err(|_| ParseError::Unreadable)
+}
