@@ -1,7 +1,10 @@
 pub mod Equality
 pub use Rattle.xet_base.specs.Hash
 pub use Rattle.xet_base.specs.Hex
+pub use Rattle.xet_base.specs.Source
+pub use Rattle.xet_base.specs.Table
 pub use Rattle.xet_records.specs.FileRecord
+pub use Rattle.xet_records.specs.XorbRecord
 pub use Rattle.xet_shards.specs.ChunkQuery
 pub use Rattle.xet_shards.specs.Index
 pub use Rattle.xet_shards.specs.Layout

@@ -1,0 +1,25 @@
+//! A test tool: reads commands from standard input, one a line, calls the library and prints what each call
+//! answers. So a worked example is a line of data.
+#![tactic(auto)]
+
+mod buffers;
+mod codecs;
+mod device;
+mod fields;
+mod memory;
+mod parse;
+mod reading;
+mod script;
+mod search;
+mod show;
+mod stop;
+mod values;
+mod workspace;
+
+use std::io;
+
+fn main(rt: HostRuntime) -> io::Result<()> {
+    let mut input = rt.reader();
+    let mut output = io::writer(&rt);
+    script::run_script(rt.alloc(), &mut input, &mut output)
+}

@@ -1,0 +1,169 @@
+//! Commands on shards in memory.
+
+use crate::parse::{parse_file, parse_hashes, parse_xorb};
+use crate::show::{Segment, Short, print_file, print_found, print_if_empty, print_xorb};
+use crate::stop::Stop;
+use crate::workspace::Workspace;
+use script_lines::words::parse_hash;
+use std::alloc::Global;
+use std::io;
+use std::io::Write;
+use xet_core_structures::merklehash::MerkleHash;
+use xet_core_structures::shard_in_memory::MDBInMemoryShard;
+
+/// Runs a command that makes or changes a shard. False where the words are none.
+pub fn run_on_shards(
+    workspace: &mut Workspace,
+    alloc: Global,
+    words: &[&str],
+) -> Result<bool, Stop> {
+    match words {
+        ["shard", name] => workspace.put_shard(alloc, name, MDBInMemoryShard::new(alloc))?,
+        ["file", name, record @ ..] => add_file(workspace, alloc, name, record)?,
+        ["xorb", name, record @ ..] => add_xorb(workspace, alloc, name, record)?,
+        ["union", first, second, name] => {
+            let union = workspace
+                .shard(first)?
+                .union(alloc, workspace.shard(second)?)?;
+            workspace.put_shard(alloc, name, union)?;
+        }
+        ["difference", first, second, name] => {
+            let difference = workspace
+                .shard(first)?
+                .difference(alloc, workspace.shard(second)?)?;
+            workspace.put_shard(alloc, name, difference)?;
+        }
+        ["copy", from, name] => {
+            let copy = workspace.shard(from)?.try_clone(alloc)?;
+            workspace.put_shard(alloc, name, copy)?;
+        }
+        ["recount", name] => recount(workspace, name)?,
+        _ => return Ok(false),
+    }
+    Ok(true)
+}
+
+fn add_file(
+    workspace: &mut Workspace,
+    alloc: Global,
+    name: &str,
+    record: &[&str],
+) -> Result<(), Stop> {
+    let file = parse_file(alloc, record)?;
+    let Some(shard) = workspace.shards.get_mut(name) else {
+        return Err(Stop::Unreadable);
+    };
+    shard.add_file_reconstruction_info(alloc, file)?;
+    Ok(())
+}
+
+fn add_xorb(
+    workspace: &mut Workspace,
+    alloc: Global,
+    name: &str,
+    record: &[&str],
+) -> Result<(), Stop> {
+    let xorb = parse_xorb(alloc, record)?;
+    let Some(shard) = workspace.shards.get_mut(name) else {
+        return Err(Stop::Unreadable);
+    };
+    shard.add_xorb_block(alloc, xorb)?;
+    Ok(())
+}
+
+fn recount(workspace: &mut Workspace, name: &str) -> Result<(), Stop> {
+    let Some(shard) = workspace.shards.get_mut(name) else {
+        return Err(Stop::Unreadable);
+    };
+    shard.recalculate_shard_size();
+    Ok(())
+}
+
+/// Runs a command that prints what a shard answers. False where the words are none.
+pub fn ask_shards(
+    workspace: &Workspace,
+    alloc: Global,
+    words: &[&str],
+    out: &mut Vec<u8>,
+) -> Result<bool, Stop> {
+    match words {
+        ["get", name, hash] => {
+            let hash = parse_hash(hash)?;
+            let found = workspace
+                .shard(name)?
+                .get_file_reconstruction_info(alloc, &hash)?;
+            print_found(&found, out)?;
+        }
+        ["query", name, hashes @ ..] => {
+            let hashes = parse_hashes(alloc, hashes)?;
+            print_run(workspace.shard(name)?, hashes.as_slice(), out)?;
+        }
+        ["place", name, hash] => print_place(workspace.shard(name)?, parse_hash(hash)?, out)?,
+        ["counts", name] => print_counts(workspace.shard(name)?, out)?,
+        ["sums", name] => print_sums(workspace.shard(name)?, out)?,
+        ["files", name] => print_files(workspace.shard(name)?, out)?,
+        ["xorbs", name] => print_xorbs(workspace.shard(name)?, out)?,
+        _ => return Ok(false),
+    }
+    Ok(true)
+}
+
+fn print_run(shard: &MDBInMemoryShard, hashes: &[MerkleHash], out: &mut Vec<u8>) -> io::Result<()> {
+    match shard.chunk_hash_dedup_query(hashes) {
+        Some((count, segment)) => {
+            let segment = Segment(segment);
+            writeln!(out, "run {count} {segment}")
+        }
+        None => writeln!(out, "none"),
+    }
+}
+
+fn print_place(shard: &MDBInMemoryShard, hash: MerkleHash, out: &mut Vec<u8>) -> io::Result<()> {
+    match shard.chunk_hash_lookup().get(&hash) {
+        Some((xorb, index)) => {
+            let xorb = Short(xorb.metadata.xorb_hash);
+            writeln!(out, "{xorb}:{index}")
+        }
+        None => writeln!(out, "none"),
+    }
+}
+
+fn print_counts(shard: &MDBInMemoryShard, out: &mut Vec<u8>) -> io::Result<()> {
+    let files = shard.num_file_entries();
+    let xorbs = shard.num_xorb_entries();
+    let hashes = shard.chunk_hash_lookup().len();
+    let is_empty = shard.is_empty();
+    writeln!(
+        out,
+        "files {files} xorbs {xorbs} chunk_hashes {hashes} empty {is_empty}"
+    )
+}
+
+fn print_sums(shard: &MDBInMemoryShard, out: &mut Vec<u8>) -> io::Result<()> {
+    let stored = shard.stored_bytes();
+    let disk = shard.stored_bytes_on_disk();
+    let materialized = shard.materialized_bytes();
+    let size = shard.shard_file_size();
+    writeln!(
+        out,
+        "stored {stored} disk {disk} materialized {materialized} size {size}"
+    )
+}
+
+fn print_files(shard: &MDBInMemoryShard, out: &mut Vec<u8>) -> io::Result<()> {
+    let files = shard.file_content();
+    print_if_empty(files.is_empty(), out)?;
+    for file in files.values() {
+        print_file(file, out)?;
+    }
+    Ok(())
+}
+
+fn print_xorbs(shard: &MDBInMemoryShard, out: &mut Vec<u8>) -> io::Result<()> {
+    let xorbs = shard.xorb_content();
+    print_if_empty(xorbs.is_empty(), out)?;
+    for xorb in xorbs.values() {
+        print_xorb(xorb, out)?;
+    }
+    Ok(())
+}

@@ -1,0 +1,346 @@
+//! Commands that read a buffer through the device.
+
+use crate::device::{Device, Fault, Operation, Plan};
+use crate::fields::{print_fields, print_footer, print_header};
+use crate::search::search;
+use crate::show::{
+    Short, print_file, print_found, print_hash, print_if_empty, print_xorb, print_xorb_header,
+};
+use crate::stop::Stop;
+use crate::workspace::Workspace;
+use script_lines::words::{parse_hash, parse_u32, parse_u64};
+use std::alloc::Global;
+use std::io;
+use std::io::{ErrorKind, Write};
+use xet_core_structures::merklehash::MerkleHash;
+use xet_core_structures::shard_format::MDBShardInfo;
+use xet_core_structures::source::{MemorySource, ShardSource};
+
+/// What a command answered, and what it cost.
+#[derive(Drop)]
+pub struct Report {
+    pub answer: Result<(), Stop>,
+    pub seeks_made: u64,
+    pub bytes_read: u64,
+    pub has_failed: bool,
+}
+
+/// Runs a command on the buffer that its second word names, through a device. `Unreadable` where it is none.
+pub fn run_reading(
+    workspace: &Workspace,
+    alloc: Global,
+    plan: Plan,
+    words: &[&str],
+    out: &mut Vec<u8>,
+) -> Result<Report, Stop> {
+    let [command, name, rest @ ..] = words else {
+        return Err(Stop::Unreadable);
+    };
+    let bytes = workspace.buffer(name)?;
+    let mut source = Device::new(bytes, plan);
+    let answer = call(alloc, command, bytes, &mut source, rest, out);
+    Ok(Report {
+        answer,
+        seeks_made: source.seeks_made(),
+        bytes_read: source.bytes_read(),
+        has_failed: source.has_failed(),
+    })
+}
+
+// Makes the call of a command. Most of them begin with a header and a footer that were read from the bytes before.
+fn call(
+    alloc: Global,
+    command: &str,
+    bytes: &[u8],
+    source: &mut Device<'_>,
+    rest: &[&str],
+    out: &mut Vec<u8>,
+) -> Result<(), Stop> {
+    match command {
+        "load" => return load(alloc, source, rest, out),
+        "read_file_ranges" => return read_file_ranges(alloc, source, rest, out),
+        "search" => return search(alloc, source, rest, out),
+        _ => {}
+    }
+    let info = MDBShardInfo::load_from_reader(alloc, &mut MemorySource::new(bytes))?;
+    match rest {
+        [] => read_whole(alloc, command, &info, source, out),
+        [word] => look_up(alloc, command, &info, source, word, out),
+        _ => Err(Stop::Unreadable),
+    }
+}
+
+fn load(
+    alloc: Global,
+    source: &mut Device<'_>,
+    fields: &[&str],
+    out: &mut Vec<u8>,
+) -> Result<(), Stop> {
+    let info = MDBShardInfo::load_from_reader(alloc, source)?;
+    if fields.is_empty() {
+        print_header(&info.header, out)?;
+        print_footer(&info.metadata, out)?;
+        return Ok(());
+    }
+    print_fields(&info, fields, out)
+}
+
+fn read_file_ranges(
+    alloc: Global,
+    source: &mut Device<'_>,
+    from: &[&str],
+    out: &mut Vec<u8>,
+) -> Result<(), Stop> {
+    match from {
+        [] => {}
+        [from] => source.seek_to(parse_u64(from)?)?,
+        _ => return Err(Stop::Unreadable),
+    }
+    let ranges = MDBShardInfo::read_file_info_ranges(alloc, source)?;
+    print_if_empty(ranges.is_empty(), out)?;
+    for (hash, segments, verification, sha256) in ranges.as_slice() {
+        let hash = Short(*hash);
+        let (start, end) = *segments;
+        write!(out, "{hash} {start}-{end} ")?;
+        match verification {
+            Some((start, end)) => write!(out, "{start}-{end} ")?,
+            None => write!(out, "none ")?,
+        }
+        print_hash(*sha256, out)?;
+    }
+    Ok(())
+}
+
+// The calls without a further argument.
+fn read_whole(
+    alloc: Global,
+    command: &str,
+    info: &MDBShardInfo,
+    source: &mut Device<'_>,
+    out: &mut Vec<u8>,
+) -> Result<(), Stop> {
+    match command {
+        "totals" => print_totals(info, out)?,
+        "num_bytes" => {
+            let bytes = info.num_bytes(alloc)?;
+            writeln!(out, "{bytes}")?;
+        }
+        "ranges" => print_ranges(info, out)?,
+        "key" => print_key(info, out)?,
+        "read_files" => print_files(alloc, info, source, out)?,
+        "read_xorbs" => print_xorbs(alloc, info, source, out)?,
+        "read_xorb_headers" => print_xorb_headers(alloc, info, source, out)?,
+        "read_xorb_table" => print_xorb_table(alloc, info, source, out)?,
+        "read_words" => print_first_words(alloc, info, source, out)?,
+        _ => return Err(Stop::Unreadable),
+    }
+    Ok(())
+}
+
+fn print_totals(info: &MDBShardInfo, out: &mut Vec<u8>) -> io::Result<()> {
+    let files = info.num_file_entries();
+    let xorbs = info.num_xorb_entries();
+    let chunks = info.total_num_chunks();
+    write!(out, "files {files} xorbs {xorbs} chunks {chunks} ")?;
+    let stored = info.stored_bytes();
+    let disk = info.stored_bytes_on_disk();
+    let materialized = info.materialized_bytes();
+    writeln!(
+        out,
+        "stored {stored} disk {disk} materialized {materialized}"
+    )
+}
+
+fn print_ranges(info: &MDBShardInfo, out: &mut Vec<u8>) -> io::Result<()> {
+    let ranges = [
+        info.file_info_byte_range(),
+        info.xorb_info_byte_range(),
+        info.file_lookup_byte_range(),
+        info.xorb_lookup_byte_range(),
+        info.chuck_lookup_byte_range(),
+    ];
+    let mut separator = "";
+    for (start, end) in ranges {
+        write!(out, "{separator}{start}-{end}")?;
+        separator = " ";
+    }
+    writeln!(out)
+}
+
+fn print_key(info: &MDBShardInfo, out: &mut Vec<u8>) -> io::Result<()> {
+    if info.chunk_hashes_protected() {
+        write!(out, "protected ")?;
+    }
+    print_hash(info.chunk_hmac_key(), out)
+}
+
+fn print_files(
+    alloc: Global,
+    info: &MDBShardInfo,
+    source: &mut Device<'_>,
+    out: &mut Vec<u8>,
+) -> Result<(), Stop> {
+    let files = info.read_all_file_info_sections(alloc, source)?;
+    print_if_empty(files.is_empty(), out)?;
+    for file in files.as_slice() {
+        print_file(file, out)?;
+    }
+    Ok(())
+}
+
+fn print_xorbs(
+    alloc: Global,
+    info: &MDBShardInfo,
+    source: &mut Device<'_>,
+    out: &mut Vec<u8>,
+) -> Result<(), Stop> {
+    let xorbs = info.read_all_xorb_blocks_full(alloc, source)?;
+    print_if_empty(xorbs.is_empty(), out)?;
+    for xorb in xorbs.as_slice() {
+        print_xorb(xorb, out)?;
+    }
+    Ok(())
+}
+
+fn print_xorb_headers(
+    alloc: Global,
+    info: &MDBShardInfo,
+    source: &mut Device<'_>,
+    out: &mut Vec<u8>,
+) -> Result<(), Stop> {
+    let headers = info.read_all_xorb_blocks(alloc, source)?;
+    print_if_empty(headers.is_empty(), out)?;
+    for (header, offset) in headers.as_slice() {
+        write!(out, "{offset} ")?;
+        print_xorb_header(header, 0, out)?;
+        writeln!(out)?;
+    }
+    Ok(())
+}
+
+fn print_xorb_table(
+    alloc: Global,
+    info: &MDBShardInfo,
+    source: &mut Device<'_>,
+    out: &mut Vec<u8>,
+) -> Result<(), Stop> {
+    let rows = info.read_full_xorb_lookup(alloc, source)?;
+    print_if_empty(rows.is_empty(), out)?;
+    for (word, row) in rows.as_slice() {
+        writeln!(out, "{word} {row}")?;
+    }
+    Ok(())
+}
+
+fn print_first_words(
+    alloc: Global,
+    info: &MDBShardInfo,
+    source: &mut Device<'_>,
+    out: &mut Vec<u8>,
+) -> Result<(), Stop> {
+    let rows = info.read_all_truncated_hashes(alloc, source)?;
+    print_if_empty(rows.is_empty(), out)?;
+    for (word, (row, index)) in rows.as_slice() {
+        writeln!(out, "{word} {row} {index}")?;
+    }
+    Ok(())
+}
+
+// The calls with one further argument.
+fn look_up(
+    alloc: Global,
+    command: &str,
+    info: &MDBShardInfo,
+    source: &mut Device<'_>,
+    word: &str,
+    out: &mut Vec<u8>,
+) -> Result<(), Stop> {
+    match command {
+        "file_index" => print_file_index(alloc, info, source, parse_hash(word)?, out)?,
+        "file_at" => {
+            let file = info.read_file_info(alloc, source, parse_u32(word)?)?;
+            print_file(&file, out)?;
+        }
+        "find" => {
+            let hash = parse_hash(word)?;
+            let found = info.get_file_reconstruction_info(alloc, source, &hash)?;
+            print_found(&found, out)?;
+        }
+        "keyed" => print_hash(Some(info.keyed_chunk_hash(&parse_hash(word)?)), out)?,
+        _ => return Err(Stop::Unreadable),
+    }
+    Ok(())
+}
+
+fn print_file_index(
+    alloc: Global,
+    info: &MDBShardInfo,
+    source: &mut Device<'_>,
+    hash: MerkleHash,
+    out: &mut Vec<u8>,
+) -> Result<(), Stop> {
+    let mut rows = [0u32; 8];
+    let count = info.get_file_info_index_by_hash(alloc, source, &hash, &mut rows)?;
+    let found = &mut rows[..count];
+    found.sort_unstable();
+    write!(out, "{count}")?;
+    let mut separator = ": ";
+    for row in found.iter() {
+        write!(out, "{separator}{row}")?;
+        separator = " ";
+    }
+    writeln!(out)?;
+    Ok(())
+}
+
+/// Runs a command with each call of the device failing in turn, until a run meets no failure. Prints how many
+/// failed and what these answered, once where it is the same, and then what the run without failure prints.
+pub fn run_each_failure(
+    workspace: &Workspace,
+    alloc: Global,
+    plan: Plan,
+    words: &[&str],
+    out: &mut Vec<u8>,
+) -> Result<(), Stop> {
+    let mut answers = Vec::new(alloc);
+    let mut last = Vec::new(alloc);
+    for turn in 1..u64::MAX {
+        let mut printed = Vec::new(alloc);
+        let fault = Fault {
+            operation: Operation::Call,
+            turn,
+            kind: ErrorKind::Other,
+        };
+        let plan = Plan {
+            fault: Some(fault),
+            ..plan
+        };
+        let report = run_reading(workspace, alloc, plan, words, &mut printed)?;
+        if !report.has_failed {
+            print_failures(turn - 1, answers.as_slice(), out)?;
+            out.extend_from_slice(printed.as_slice())?;
+            return report.answer;
+        }
+        if let Err(stop) = report.answer {
+            write!(printed, "{stop}")?;
+        }
+        if printed != last {
+            write_separated(&mut answers, printed.as_slice())?;
+            last = printed;
+        }
+    }
+    Ok(())
+}
+
+fn write_separated(answers: &mut Vec<u8>, answer: &[u8]) -> io::Result<()> {
+    if !answers.is_empty() {
+        write!(answers, "; ")?;
+    }
+    answers.write_all(answer)
+}
+
+fn print_failures(count: u64, answers: &[u8], out: &mut Vec<u8>) -> io::Result<()> {
+    write!(out, "failed {count}: ")?;
+    out.write_all(answers)?;
+    writeln!(out)
+}

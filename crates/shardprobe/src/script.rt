@@ -1,0 +1,162 @@
+//! Running a script line by line.
+
+use crate::buffers::{ask_buffers, run_on_buffers};
+use crate::codecs::run_codecs;
+use crate::device::{Fault, Operation, Plan};
+use crate::memory::{ask_shards, run_on_shards};
+use crate::reading::{run_each_failure, run_reading};
+use crate::search::make_table;
+use crate::stop::Stop;
+use crate::values::{run_on_records, run_on_values};
+use crate::workspace::Workspace;
+use script_lines::lines::{is_skipped, split_words, without_end};
+use script_lines::words::parse_u64;
+use std::alloc::Global;
+use std::io::{BufRead, BufReader, ErrorKind, Read, Write};
+use std::{io, str};
+
+/// Runs the commands of `input`, one a line, and writes what they answer to `output`. The error is that of the input,
+/// of the output, or of an allocation.
+pub fn run_script<R: Read, W: Write>(
+    alloc: Global,
+    input: &mut R,
+    output: &mut W,
+) -> io::Result<()> {
+    let mut lines = BufReader::new(alloc, input)?;
+    let mut probe = Probe::new(alloc);
+    for _number in 1..u64::MAX {
+        let mut line = Vec::new(alloc);
+        if lines.read_until(b'\n', &mut line)? == 0 {
+            break;
+        }
+        let mut answer = Vec::new(alloc);
+        probe.answer(alloc, without_end(line.as_slice()), &mut answer)?;
+        output.write_all(answer.as_slice())?;
+    }
+    output.flush()
+}
+
+/// What the lines so far have made, and how the device works.
+#[derive(Drop)]
+struct Probe {
+    workspace: Workspace,
+    plan: Plan,
+    shows_costs: bool,
+}
+
+impl Probe {
+    fn new(alloc: Global) -> Probe {
+        Probe {
+            workspace: Workspace::new(alloc),
+            plan: Plan {
+                fault: None,
+                is_slow: false,
+            },
+            shows_costs: false,
+        }
+    }
+
+    // What a line prints.
+    fn answer(&mut self, alloc: Global, line: &[u8], out: &mut Vec<u8>) -> io::Result<()> {
+        if is_skipped(line) {
+            return Ok(());
+        }
+        let Ok(text) = str::from_utf8(line) else {
+            return writeln!(out, "unreadable");
+        };
+        if let Some(heading) = text.strip_prefix("say ") {
+            return writeln!(out, "{heading}");
+        }
+        let words = split_words(alloc, text)?;
+        match self.run(alloc, words.as_slice(), out) {
+            Ok(()) => Ok(()),
+            Err(stop) => writeln!(out, "{stop}"),
+        }
+    }
+
+    fn run(&mut self, alloc: Global, words: &[&str], out: &mut Vec<u8>) -> Result<(), Stop> {
+        let is_run = self.switch(words)?
+            || run_on_shards(&mut self.workspace, alloc, words)?
+            || ask_shards(&self.workspace, alloc, words, out)?
+            || run_on_buffers(&mut self.workspace, alloc, words)?
+            || ask_buffers(&self.workspace, alloc, words, out)?
+            || run_codecs(&mut self.workspace, alloc, words, out)?
+            || run_on_values(alloc, words, out)?
+            || run_on_records(alloc, words, out)?;
+        if is_run {
+            return Ok(());
+        }
+        match words {
+            ["table", name, width, rows @ ..] => {
+                make_table(&mut self.workspace, alloc, name, width, rows)
+            }
+            ["each_failure", command @ ..] => {
+                run_each_failure(&self.workspace, alloc, self.plan, command, out)
+            }
+            _ => self.read(alloc, words, out),
+        }
+    }
+
+    // Runs a command through the device, and prints its costs where they are wanted.
+    fn read(&self, alloc: Global, words: &[&str], out: &mut Vec<u8>) -> Result<(), Stop> {
+        let report = run_reading(&self.workspace, alloc, self.plan, words, out)?;
+        if let Err(stop) = &report.answer {
+            writeln!(out, "{stop}")?;
+        }
+        if self.shows_costs {
+            let seeks = report.seeks_made;
+            let read = report.bytes_read;
+            writeln!(out, "seeks {seeks} read {read}")?;
+        }
+        Ok(())
+    }
+
+    // Switches how the device works. False where the words are no switch.
+    fn switch(&mut self, words: &[&str]) -> Result<bool, Stop> {
+        match words {
+            ["fail", "none"] => self.plan.fault = None,
+            ["fail", operation, turn] => {
+                self.plan.fault = Some(parse_fault(operation, turn, "Other")?);
+            }
+            ["fail", operation, turn, kind] => {
+                self.plan.fault = Some(parse_fault(operation, turn, kind)?);
+            }
+            ["slow", "on"] => self.plan.is_slow = true,
+            ["slow", "off"] => self.plan.is_slow = false,
+            ["costs", "on"] => self.shows_costs = true,
+            ["costs", "off"] => self.shows_costs = false,
+            _ => return Ok(false),
+        }
+        Ok(true)
+    }
+}
+
+fn parse_fault(operation: &str, turn: &str, kind: &str) -> Result<Fault, Stop> {
+    Ok(Fault {
+        operation: parse_operation(operation)?,
+        turn: parse_u64(turn)?,
+        kind: parse_kind(kind)?,
+    })
+}
+
+fn parse_operation(word: &str) -> Result<Operation, Stop> {
+    match word {
+        "read" => Ok(Operation::Read),
+        "seek" => Ok(Operation::Seek),
+        "length" => Ok(Operation::Length),
+        "position" => Ok(Operation::Position),
+        "call" => Ok(Operation::Call),
+        _ => Err(Stop::Unreadable),
+    }
+}
+
+fn parse_kind(word: &str) -> Result<ErrorKind, Stop> {
+    match word {
+        "Other" => Ok(ErrorKind::Other),
+        "Interrupted" => Ok(ErrorKind::Interrupted),
+        "BrokenPipe" => Ok(ErrorKind::BrokenPipe),
+        "UnexpectedEof" => Ok(ErrorKind::UnexpectedEof),
+        "OutOfMemory" => Ok(ErrorKind::OutOfMemory),
+        _ => Err(Stop::Unreadable),
+    }
+}

@@ -1,0 +1,223 @@
+//! Hashes, rows and records as words, in the form in which commands take them.
+
+use std::alloc::Global;
+use std::io::Write;
+use std::{fmt, io};
+use xet_core_structures::file_structs::{
+    FileDataSequenceEntry, FileDataSequenceHeader, FileVerificationEntry, MDBFileInfo,
+};
+use xet_core_structures::merklehash::MerkleHash;
+use xet_core_structures::xorb_structs::{
+    MDBXorbInfo, XorbChunkSequenceEntry, XorbChunkSequenceHeader,
+};
+
+/// A hash as a word: n for the small hash n, with the words n, 1, 0, 0, else 64 digits.
+#[derive(Clone, Copy)]
+pub struct Short(pub MerkleHash);
+
+impl fmt::Display for Short {
+    fn fmt<W: fmt::Write>(&self, f: &mut fmt::Formatter<W>) -> fmt::Result {
+        let hash = self.0;
+        let word = hash[0];
+        if hash == MerkleHash::from([word, 1, 0, 0]) {
+            write!(f, "{word}")
+        } else {
+            write!(f, "{hash}")
+        }
+    }
+}
+
+/// Two reserved words behind a hash, where they are not both zero.
+#[derive(Clone, Copy)]
+struct Reserved([u64; 2]);
+
+impl fmt::Display for Reserved {
+    fn fmt<W: fmt::Write>(&self, f: &mut fmt::Formatter<W>) -> fmt::Result {
+        let [first, second] = self.0;
+        if first == 0 && second == 0 {
+            return Ok(());
+        }
+        write!(f, "/{first}/{second}")
+    }
+}
+
+/// A segment as a word, with its flags where they are not zero.
+#[derive(Clone, Copy)]
+pub struct Segment(pub FileDataSequenceEntry);
+
+impl fmt::Display for Segment {
+    fn fmt<W: fmt::Write>(&self, f: &mut fmt::Formatter<W>) -> fmt::Result {
+        let xorb = Short(self.0.xorb_hash);
+        let start = self.0.chunk_index_start;
+        let end = self.0.chunk_index_end;
+        let bytes = self.0.unpacked_segment_bytes;
+        write!(f, "{xorb}:{start}:{end}:{bytes}")?;
+        let flags = self.0.xorb_flags;
+        if flags != 0 {
+            write!(f, ":{flags}")?;
+        }
+        Ok(())
+    }
+}
+
+/// A row with a hash and two reserved words, as a word.
+#[derive(Clone, Copy)]
+pub struct HashRow(pub MerkleHash, pub [u64; 2]);
+
+impl fmt::Display for HashRow {
+    fn fmt<W: fmt::Write>(&self, f: &mut fmt::Formatter<W>) -> fmt::Result {
+        let hash = Short(self.0);
+        let reserved = Reserved(self.1);
+        write!(f, "{hash}{reserved}")
+    }
+}
+
+/// A chunk as a word, with flags and reserved word where they are not both zero.
+#[derive(Clone, Copy)]
+pub struct Chunk(pub XorbChunkSequenceEntry);
+
+impl fmt::Display for Chunk {
+    fn fmt<W: fmt::Write>(&self, f: &mut fmt::Formatter<W>) -> fmt::Result {
+        let hash = Short(self.0.chunk_hash);
+        let size = self.0.unpacked_segment_bytes;
+        let start = self.0.chunk_byte_range_start;
+        write!(f, "{hash}:{size}:{start}")?;
+        let flags = self.0.flags;
+        let unused = self.0._unused;
+        if flags != 0 || unused != 0 {
+            write!(f, ":{flags}:{unused}")?;
+        }
+        Ok(())
+    }
+}
+
+/// Prints a file record on a line.
+pub fn print_file(file: &MDBFileInfo, out: &mut Vec<u8>) -> io::Result<()> {
+    print_file_header(&file.metadata, file.segments.len(), out)?;
+    print_verification(&file.metadata, file.verification.as_slice(), out)?;
+    if let Some(row) = file.metadata_ext {
+        let row = HashRow(row.sha256, row._unused);
+        write!(out, " s={row}")?;
+    }
+    for segment in file.segments.as_slice() {
+        let segment = Segment(*segment);
+        write!(out, " {segment}")?;
+    }
+    writeln!(out)
+}
+
+/// Prints the words of a file's header, of which `segments` follow.
+pub fn print_file_header(
+    header: &FileDataSequenceHeader,
+    segments: usize,
+    out: &mut Vec<u8>,
+) -> io::Result<()> {
+    let hash = Short(header.file_hash);
+    write!(out, "{hash}")?;
+    let flags = header.file_flags;
+    if flags != 0 {
+        write!(out, " flags={flags}")?;
+    }
+    print_count(header.num_entries, segments, out)?;
+    let unused = header._unused;
+    if unused != 0 {
+        write!(out, " unused={unused}")?;
+    }
+    Ok(())
+}
+
+// Prints a header's count where it is not the number of rows.
+fn print_count(count: u32, rows: usize, out: &mut Vec<u8>) -> io::Result<()> {
+    if count as usize == rows {
+        return Ok(());
+    }
+    write!(out, " count={count}")
+}
+
+// Prints verification rows where the header announces them, or there are any.
+fn print_verification(
+    header: &FileDataSequenceHeader,
+    rows: &[FileVerificationEntry],
+    out: &mut Vec<u8>,
+) -> io::Result<()> {
+    if rows.is_empty() && !header.contains_verification() {
+        return Ok(());
+    }
+    write!(out, " v=")?;
+    for (i, row) in rows.iter().enumerate() {
+        let row = HashRow(row.range_hash, row._unused);
+        if i == 0 {
+            write!(out, "{row}")?;
+        } else {
+            write!(out, ",{row}")?;
+        }
+    }
+    Ok(())
+}
+
+/// Prints a xorb record on a line.
+pub fn print_xorb(xorb: &MDBXorbInfo, out: &mut Vec<u8>) -> io::Result<()> {
+    print_xorb_header(&xorb.metadata, xorb.chunks.len(), out)?;
+    for chunk in xorb.chunks.as_slice() {
+        let chunk = Chunk(*chunk);
+        write!(out, " {chunk}")?;
+    }
+    writeln!(out)
+}
+
+/// Prints the words of a xorb's header, of which `chunks` follow.
+pub fn print_xorb_header(
+    header: &XorbChunkSequenceHeader,
+    chunks: usize,
+    out: &mut Vec<u8>,
+) -> io::Result<()> {
+    let hash = Short(header.xorb_hash);
+    write!(out, "{hash}")?;
+    let flags = header.xorb_flags;
+    if flags != 0 {
+        write!(out, " flags={flags}")?;
+    }
+    print_count(header.num_entries, chunks, out)?;
+    let bytes = header.num_bytes_in_xorb;
+    let disk = header.num_bytes_on_disk;
+    write!(out, " bytes={bytes} disk={disk}")
+}
+
+/// Prints a record on a line, or `none`.
+pub fn print_found(file: &Option<MDBFileInfo>, out: &mut Vec<u8>) -> io::Result<()> {
+    match file {
+        Some(file) => print_file(file, out),
+        None => writeln!(out, "none"),
+    }
+}
+
+/// Prints a hash, or `none`.
+pub fn print_hash(hash: Option<MerkleHash>, out: &mut Vec<u8>) -> io::Result<()> {
+    match hash {
+        Some(hash) => {
+            let hash = Short(hash);
+            writeln!(out, "{hash}")
+        }
+        None => writeln!(out, "none"),
+    }
+}
+
+/// Prints `none` in the place of an empty list.
+pub fn print_if_empty(is_empty: bool, out: &mut Vec<u8>) -> io::Result<()> {
+    if is_empty {
+        return writeln!(out, "none");
+    }
+    Ok(())
+}
+
+/// Prints the four words of a hash in decimal.
+pub fn print_words(hash: MerkleHash, out: &mut Vec<u8>) -> io::Result<()> {
+    let (first, second, third, fourth) = (hash[0], hash[1], hash[2], hash[3]);
+    writeln!(out, "{first} {second} {third} {fourth}")
+}
+
+/// Prints bytes as hexadecimal digits on a line.
+pub fn print_bytes(alloc: Global, bytes: &[u8], out: &mut Vec<u8>) -> io::Result<()> {
+    let digits = script_lines::ranges::hex_digits(alloc, bytes)?;
+    writeln!(out, "{digits}")
+}

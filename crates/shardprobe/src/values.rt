@@ -1,0 +1,220 @@
+//! Commands on hashes, names, timestamps, flags and single records.
+
+ghost use Rattle.std.specs.Prelude.{◌<◌, ◌^◌, ◌↔◌, IsTrue};
+ghost use Rattle.xet_core_structures.specs.XorbRecord.{end_of_chunk, total_bytes};
+
+use crate::parse::{parse_bytes, parse_chunk, parse_file, parse_key, parse_xorb, split_at_with};
+use crate::show::{Segment, Short, print_bytes, print_file, print_hash, print_words};
+use crate::stop::Stop;
+use script_lines::words::{parse_hash, parse_u32, parse_u64};
+use std::alloc::Global;
+use std::io;
+use std::io::Write;
+use xet_core_structures::error::CoreError;
+use xet_core_structures::file_structs::{FileDataSequenceEntry, FileDataSequenceHeader};
+use xet_core_structures::merklehash::{MerkleHash, hash_is_global_dedup_eligible};
+use xet_core_structures::shard_format::MDBShardInfo;
+use xet_core_structures::utils::{
+    parse_shard_filename, shard_expiry_time, shard_file_name, truncate_hash,
+};
+use xet_core_structures::xorb_structs::{MDBXorbInfo, XorbChunkSequenceEntry};
+
+/// Runs a command on hashes, names or timestamps. False where the words are none.
+pub fn run_on_values(alloc: Global, words: &[&str], out: &mut Vec<u8>) -> Result<bool, Stop> {
+    match words {
+        ["digits", hash] => {
+            let digits = parse_hash(hash)?.hex(alloc)?;
+            writeln!(out, "{digits}")?;
+        }
+        ["from_hex", text] => print_words(hash_of_text(alloc, text)?, out)?,
+        ["from_bytes", digits @ ..] => print_words(hash_of_bytes(alloc, digits)?, out)?,
+        ["as_bytes", hash] => print_bytes(alloc, &parse_hash(hash)?.as_bytes(), out)?,
+        ["order", first, second] => {
+            let order = parse_hash(first)?.cmp(&parse_hash(second)?);
+            writeln!(out, "{order:?}")?;
+        }
+        ["first_word", hash] => {
+            let word = truncate_hash(&parse_hash(hash)?);
+            writeln!(out, "{word}")?;
+        }
+        ["eligible", hash] => {
+            let is_eligible = hash_is_global_dedup_eligible(&parse_hash(hash)?);
+            writeln!(out, "{is_eligible}")?;
+        }
+        ["hmac", key, hash] => {
+            let keyed = parse_hash(hash)?.hmac(parse_key(key)?);
+            writeln!(out, "{keyed}")?;
+        }
+        _ => return run_on_names(alloc, words, out),
+    }
+    Ok(true)
+}
+
+fn hash_of_text(alloc: Global, text: &str) -> Result<MerkleHash, Stop> {
+    match MerkleHash::from_hex(text) {
+        Ok(hash) => Ok(hash),
+        Err(error) => Err(Stop::Refused(CoreError::of_hex_error(alloc, error))),
+    }
+}
+
+fn hash_of_bytes(alloc: Global, digits: &[&str]) -> Result<MerkleHash, Stop> {
+    let bytes = parse_bytes(alloc, digits)?;
+    match MerkleHash::from_slice(bytes.as_slice()) {
+        Ok(hash) => Ok(hash),
+        Err(error) => Err(Stop::Refused(CoreError::of_bytes_error(alloc, error))),
+    }
+}
+
+fn run_on_names(alloc: Global, words: &[&str], out: &mut Vec<u8>) -> Result<bool, Stop> {
+    match words {
+        ["name", hash] => {
+            let name = shard_file_name(alloc, &parse_hash(hash)?)?;
+            writeln!(out, "{name}")?;
+        }
+        ["parse_name", text] => print_hash(parse_shard_filename(text), out)?,
+        ["expiry", now, valid_seconds] => {
+            let expiry = shard_expiry_time(parse_u64(now)?, parse_u64(valid_seconds)?)?;
+            writeln!(out, "{expiry}")?;
+        }
+        ["non_content"] => {
+            let bytes = MDBShardInfo::non_content_byte_size();
+            writeln!(out, "{bytes}")?;
+        }
+        _ => return Ok(false),
+    }
+    Ok(true)
+}
+
+/// Runs a command on rows or records alone. False where the words are none.
+pub fn run_on_records(alloc: Global, words: &[&str], out: &mut Vec<u8>) -> Result<bool, Stop> {
+    match words {
+        ["mark", chunk, "on"] => print_mark(parse_chunk(alloc, chunk, 0)?, true, out)?,
+        ["mark", chunk, "off"] => print_mark(parse_chunk(alloc, chunk, 0)?, false, out)?,
+        ["flags", first, second] => print_flags(parse_u32(first)?, parse_u32(second)?, out)?,
+        ["same_file", records @ ..] => print_same_file(alloc, records, out)?,
+        ["rows_after", record @ ..] => print_rows_after(alloc, record, out)?,
+        ["merge", records @ ..] => print_merged(alloc, records, out)?,
+        ["segment_of", xorb @ .., "from", start, "to", end] => {
+            let xorb = parse_xorb(alloc, xorb)?;
+            print_segment_of(&xorb, parse_u32(start)?, parse_u32(end)?, out)?;
+        }
+        ["boundaries", xorb @ ..] => print_boundaries(alloc, &parse_xorb(alloc, xorb)?, out)?,
+        _ => return Ok(false),
+    }
+    Ok(true)
+}
+
+fn print_mark(chunk: XorbChunkSequenceEntry, is_marked: bool, out: &mut Vec<u8>) -> io::Result<()> {
+    let chunk = chunk.with_global_dedup_flag(is_marked);
+    let flags = chunk.flags;
+    let is_eligible = chunk.is_global_dedup_eligible();
+    writeln!(out, "{flags} {is_eligible}")
+}
+
+fn header_with(file_flags: u32) -> FileDataSequenceHeader {
+    FileDataSequenceHeader {
+        file_flags,
+        ..FileDataSequenceHeader::default()
+    }
+}
+
+fn print_flags(first: u32, second: u32, out: &mut Vec<u8>) -> io::Result<()> {
+    let compared = FileDataSequenceHeader::compare_flag_superset(
+        &header_with(first),
+        &header_with(second),
+    );
+    writeln!(out, "{compared:?}")
+}
+
+fn print_same_file(alloc: Global, records: &[&str], out: &mut Vec<u8>) -> Result<(), Stop> {
+    let (first, second) = split_at_with(records)?;
+    let first = parse_file(alloc, first)?;
+    let second = parse_file(alloc, second)?;
+    let is_same = FileDataSequenceHeader::verify_same_file(&first.metadata, &second.metadata);
+    writeln!(out, "{is_same}")?;
+    Ok(())
+}
+
+fn print_rows_after(alloc: Global, record: &[&str], out: &mut Vec<u8>) -> Result<(), Stop> {
+    let file = parse_file(alloc, record)?;
+    if file.metadata.rows_after() > u64::from(u32::MAX) {
+        return Err(Stop::Unreadable);
+    }
+    let rows = file.metadata.num_info_entry_following();
+    writeln!(out, "{rows}")?;
+    Ok(())
+}
+
+fn print_merged(alloc: Global, records: &[&str], out: &mut Vec<u8>) -> Result<(), Stop> {
+    let (first, second) = split_at_with(records)?;
+    let mut file = parse_file(alloc, first)?;
+    let other = parse_file(alloc, second)?;
+    if !FileDataSequenceHeader::verify_same_file(&file.metadata, &other.metadata) {
+        return Err(Stop::Unreadable);
+    }
+    file.merge_from(alloc, &other)?;
+    print_file(&file, out)?;
+    Ok(())
+}
+
+fn print_segment_of(
+    xorb: &MDBXorbInfo,
+    start: u32,
+    end: u32,
+    out: &mut Vec<u8>,
+) -> Result<(), Stop> {
+    let chunks = xorb.chunks.as_slice();
+    if start > end || end as usize > chunks.len() {
+        return Err(Stop::Unreadable);
+    }
+    let chunks = &chunks[start as usize..end as usize];
+    if !sum_fits(chunks) {
+        return Err(Stop::Unreadable);
+    }
+    let segment = Segment(FileDataSequenceEntry::from_xorb_entries(
+        &xorb.metadata,
+        chunks,
+        start,
+        end,
+    ));
+    writeln!(out, "{segment}")?;
+    Ok(())
+}
+
+// Whether the bytes of these chunks add up within 32 bits.
+fn sum_fits(chunks: &[XorbChunkSequenceEntry]) -> bool
+    ensures { IsTrue result → total_bytes chunks.now < 2 ^ 32 }
+{
+    let mut sum = 0u32;
+    for chunk in chunks {
+        match sum.checked_add(chunk.unpacked_segment_bytes) {
+            Some(more) => sum = more,
+            None => return false,
+        }
+    }
+    true
+}
+
+fn print_boundaries(alloc: Global, xorb: &MDBXorbInfo, out: &mut Vec<u8>) -> Result<(), Stop> {
+    if !xorb.chunks.as_slice().iter().all(|chunk| end_fits(chunk)) {
+        return Err(Stop::Unreadable);
+    }
+    let boundaries = xorb.chunks_and_boundaries(alloc)?;
+    let mut separator = "";
+    for (hash, end) in boundaries.as_slice() {
+        let hash = Short(*hash);
+        write!(out, "{separator}{hash}:{end}")?;
+        separator = " ";
+    }
+    writeln!(out)?;
+    Ok(())
+}
+
+fn end_fits(chunk: &XorbChunkSequenceEntry) -> bool
+    ensures { IsTrue result ↔ (end_of_chunk chunk.now < 2 ^ 32) }
+{
+    chunk
+        .chunk_byte_range_start
+        .checked_add(chunk.unpacked_segment_bytes)
+        .is_some()
+}

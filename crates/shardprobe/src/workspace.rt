@@ -1,0 +1,58 @@
+//! The named shards and buffers.
+
+use crate::stop::Stop;
+use script_lines::words::parse_name;
+use std::alloc::Global;
+use std::collections::BTreeMap;
+use xet_core_structures::shard_in_memory::MDBInMemoryShard;
+
+/// What the commands so far have made, by name. Shards and buffers have separate names.
+#[derive(Drop)]
+pub struct Workspace {
+    pub shards: BTreeMap<String, MDBInMemoryShard>,
+    pub buffers: BTreeMap<String, Vec<u8>>,
+}
+
+impl Workspace {
+    pub fn new(alloc: Global) -> Workspace {
+        Workspace {
+            shards: BTreeMap::new(alloc),
+            buffers: BTreeMap::new(alloc),
+        }
+    }
+
+    /// The shard of this name. `Unreadable` where there is none.
+    pub fn shard(&self, name: &str) -> Result<&MDBInMemoryShard, Stop> {
+        match self.shards.get(name) {
+            Some(shard) => Ok(shard),
+            None => Err(Stop::Unreadable),
+        }
+    }
+
+    /// The bytes of the buffer of this name. `Unreadable` where there is none.
+    pub fn buffer(&self, name: &str) -> Result<&[u8], Stop> {
+        match self.buffers.get(name) {
+            Some(bytes) => Ok(bytes.as_slice()),
+            None => Err(Stop::Unreadable),
+        }
+    }
+
+    /// Keeps a shard under a name, in the place of what was there.
+    pub fn put_shard(
+        &mut self,
+        alloc: Global,
+        name: &str,
+        shard: MDBInMemoryShard,
+    ) -> Result<(), Stop> {
+        let name = String::from_str(alloc, parse_name(name)?)?;
+        self.shards.insert(name, shard)?;
+        Ok(())
+    }
+
+    /// Keeps bytes under a name, in the place of what was there.
+    pub fn put_buffer(&mut self, alloc: Global, name: &str, bytes: Vec<u8>) -> Result<(), Stop> {
+        let name = String::from_str(alloc, parse_name(name)?)?;
+        self.buffers.insert(name, bytes)?;
+        Ok(())
+    }
+}
