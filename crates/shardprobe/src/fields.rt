@@ -1,16 +1,20 @@
 //! The fields of a shard's header and footer, by name.
 
-use crate::show::Short;
+use crate::show::ShortKey;
 use crate::stop::Stop;
 use std::io;
 use std::io::Write;
 use xet_core_structures::shard_format::{MDBShardFileFooter, MDBShardFileHeader, MDBShardInfo};
 
-/// Prints `FIELD=VALUE` for each field of the header that the probe shows, on one line.
+/// Prints `FIELD=VALUE` for each field of the header, on one line.
 pub fn print_header(header: &MDBShardFileHeader, out: &mut Vec<u8>) -> io::Result<()> {
+    write!(out, "tag=")?;
+    for byte in header.tag {
+        write!(out, "{byte:02x}")?;
+    }
     let version = header.version;
     let footer_size = header.footer_size;
-    writeln!(out, "header_version={version} footer_size={footer_size}")
+    writeln!(out, " header_version={version} footer_size={footer_size}")
 }
 
 /// Prints `FIELD=VALUE` for each field of the footer, on one line.
@@ -64,7 +68,7 @@ const FOOTER_FIELDS: [&str; 17] = [
     "chunk_hash_hmac_key",
     "shard_creation_timestamp",
     "shard_key_expiry",
-    "buffer",
+    "_buffer",
     "stored_bytes_on_disk",
     "materialized_bytes",
     "stored_bytes",
@@ -78,10 +82,10 @@ fn print_footer_field(
 ) -> io::Result<()> {
     match name {
         "chunk_hash_hmac_key" => {
-            let key = Short(footer.chunk_hash_hmac_key);
+            let key = ShortKey(footer.chunk_hash_hmac_key);
             write!(out, "{key}")
         }
-        "buffer" => {
+        "_buffer" => {
             let [a, b, c, d, e, f] = footer._buffer;
             write!(out, "{a},{b},{c},{d},{e},{f}")
         }

@@ -6,7 +6,7 @@ use std::{fmt, io};
 use xet_core_structures::file_structs::{
     FileDataSequenceEntry, FileDataSequenceHeader, FileVerificationEntry, MDBFileInfo,
 };
-use xet_core_structures::merklehash::MerkleHash;
+use xet_core_structures::merklehash::{HMACKey, MerkleHash};
 use xet_core_structures::xorb_structs::{
     MDBXorbInfo, XorbChunkSequenceEntry, XorbChunkSequenceHeader,
 };
@@ -24,6 +24,20 @@ impl fmt::Display for Short {
         } else {
             write!(f, "{hash}")
         }
+    }
+}
+
+/// A key as a word: `0` for the key that is all zero, else as a hash.
+#[derive(Clone, Copy)]
+pub struct ShortKey(pub HMACKey);
+
+impl fmt::Display for ShortKey {
+    fn fmt<W: fmt::Write>(&self, f: &mut fmt::Formatter<W>) -> fmt::Result {
+        if self.0 == HMACKey::default() {
+            return write!(f, "0");
+        }
+        let key = Short(self.0);
+        write!(f, "{key}")
     }
 }
 
@@ -94,7 +108,7 @@ impl fmt::Display for Chunk {
 /// Prints a file record on a line.
 pub fn print_file(file: &MDBFileInfo, out: &mut Vec<u8>) -> io::Result<()> {
     print_file_header(&file.metadata, file.segments.len(), out)?;
-    print_verification(&file.metadata, file.verification.as_slice(), out)?;
+    print_verification(file.verification.as_slice(), out)?;
     if let Some(row) = file.metadata_ext {
         let row = HashRow(row.sha256, row._unused);
         write!(out, " s={row}")?;
@@ -134,23 +148,13 @@ fn print_count(count: u32, rows: usize, out: &mut Vec<u8>) -> io::Result<()> {
     write!(out, " count={count}")
 }
 
-// Prints verification rows where the header announces them, or there are any.
-fn print_verification(
-    header: &FileDataSequenceHeader,
-    rows: &[FileVerificationEntry],
-    out: &mut Vec<u8>,
-) -> io::Result<()> {
-    if rows.is_empty() && !header.contains_verification() {
-        return Ok(());
-    }
-    write!(out, " v=")?;
-    for (i, row) in rows.iter().enumerate() {
+// Prints the verification rows, if there are any.
+fn print_verification(rows: &[FileVerificationEntry], out: &mut Vec<u8>) -> io::Result<()> {
+    let mut separator = " v=";
+    for row in rows {
         let row = HashRow(row.range_hash, row._unused);
-        if i == 0 {
-            write!(out, "{row}")?;
-        } else {
-            write!(out, ",{row}")?;
-        }
+        write!(out, "{separator}{row}")?;
+        separator = ",";
     }
     Ok(())
 }

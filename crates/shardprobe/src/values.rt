@@ -200,6 +200,9 @@ fn print_boundaries(alloc: Global, xorb: &MDBXorbInfo, out: &mut Vec<u8>) -> Res
         return Err(Stop::Unreadable);
     }
     let boundaries = xorb.chunks_and_boundaries(alloc)?;
+    if boundaries.is_empty() {
+        return Ok(writeln!(out, "none")?);
+    }
     let mut separator = "";
     for (hash, end) in boundaries.as_slice() {
         let hash = Short(*hash);

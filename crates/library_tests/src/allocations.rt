@@ -1,0 +1,190 @@
+//! What a failed allocation leaves. Each test also passes in a run in which one allocation fails, whichever it is.
+
+use crate::fixtures::{file, full_file, shard, small, xorb};
+use std::alloc::Global;
+use xet_core_structures::error::{CoreError, Result};
+use xet_core_structures::shard_format::MDBShardInfo;
+use xet_core_structures::shard_in_memory::MDBInMemoryShard;
+use xet_core_structures::source::MemorySource;
+
+/// Whether a call answers what it should, or that it is out of memory. Without its arguments there is nothing to say.
+fn is_answer<T: PartialEq + Drop>(answer: Result<T>, wanted: Result<T>) -> bool {
+    match (answer, wanted) {
+        (Ok(answer), Ok(wanted)) => answer == wanted,
+        (Err(error), Ok(_)) => error == CoreError::OutOfMemory,
+        _ => true,
+    }
+}
+
+#[test]
+fn records_are_copied_or_out_of_memory(rt: HostRuntime) {
+    let alloc = rt.alloc();
+    if let Ok(file) = full_file(alloc) {
+        assert!(rt; is_answer(file.try_clone(alloc), full_file(alloc)));
+    }
+    if let Ok(xorb) = xorb(alloc, 10, 21) {
+        assert!(rt; is_answer(xorb.try_clone(alloc), crate::fixtures::xorb(alloc, 10, 21)));
+    }
+}
+
+/// Whether merging takes over both parts, or changes nothing.
+fn is_merged_or_kept(alloc: Global) -> Option<bool> {
+    let mut own = file(alloc).ok()?;
+    let other = full_file(alloc).ok()?;
+    if own.metadata.file_hash != other.metadata.file_hash
+        || own.metadata.num_entries != other.metadata.num_entries
+    {
+        return Some(false);
+    }
+    match own.merge_from(alloc, &other) {
+        Ok(()) => Some(own == other),
+        Err(error) => Some(
+            error == CoreError::OutOfMemory
+                && own.metadata.file_flags == 0
+                && own.verification.is_empty()
+                && own.metadata_ext.is_none(),
+        ),
+    }
+}
+
+#[test]
+fn a_refused_merge_changes_nothing(rt: HostRuntime) {
+    assert!(rt; is_merged_or_kept(rt.alloc()).unwrap_or(true));
+}
+
+/// Whether a shard has 576 bytes, and of xorb 10 this chunk.
+fn has_chunk(shard: &MDBInMemoryShard, chunk_number: u64) -> bool {
+    match shard.chunk_hash_dedup_query(&[small(chunk_number)]) {
+        Some((_, segment)) => shard.shard_file_size() == 576 && segment.xorb_hash == small(10),
+        None => false,
+    }
+}
+
+/// Whether adding a xorb with chunk 22 succeeds, or is out of memory and changes nothing.
+fn is_added_or_kept(alloc: Global, xorb_number: u64) -> Option<bool> {
+    let mut shard = shard(alloc).ok()?;
+    let added = shard.add_xorb_block(alloc, xorb(alloc, xorb_number, 22).ok()?);
+    let is_found = shard.chunk_hash_dedup_query(&[small(22)]).is_some();
+    match added {
+        Ok(()) => Some(is_found),
+        Err(error) => Some(error == CoreError::OutOfMemory && !is_found && has_chunk(&shard, 21)),
+    }
+}
+
+// Xorb 10 is replaced, xorb 11 is new.
+#[test]
+fn a_refused_xorb_changes_nothing(rt: HostRuntime) {
+    assert!(rt; is_added_or_kept(rt.alloc(), 10).unwrap_or(true));
+    assert!(rt; is_added_or_kept(rt.alloc(), 11).unwrap_or(true));
+}
+
+/// A shard with as many files as this, of one row each.
+fn shard_of_files(alloc: Global, count: u64) -> Result<MDBInMemoryShard> {
+    let mut shard = MDBInMemoryShard::new(alloc);
+    for number in 0..count {
+        add_file(alloc, &mut shard, number)?;
+    }
+    Ok(shard)
+}
+
+fn add_file(alloc: Global, shard: &mut MDBInMemoryShard, number: u64) -> Result<()> {
+    let mut file = file(alloc)?;
+    file.metadata.file_hash = small(number);
+    shard.add_file_reconstruction_info(alloc, file)
+}
+
+/// Whether adding a file to a shard of so many either succeeds, or is out of memory and changes nothing.
+fn is_file_added_or_kept(alloc: Global, count: u64) -> Option<bool> {
+    let mut shard = shard_of_files(alloc, count).ok()?;
+    let size = shard.shard_file_size();
+    match add_file(alloc, &mut shard, count) {
+        Ok(()) => Some(shard.file_content().contains_key(&small(count))),
+        Err(error) => Some(
+            error == CoreError::OutOfMemory
+                && shard.shard_file_size() == size
+                && !shard.file_content().contains_key(&small(count)),
+        ),
+    }
+}
+
+// A node of the map has room for 15 files, and is then split.
+#[test]
+fn a_refused_file_changes_nothing(rt: HostRuntime) {
+    for count in [0, 1, 15, 16] {
+        assert!(rt;
+            is_file_added_or_kept(rt.alloc(), count).unwrap_or(true),
+            "after {count} files"
+        );
+    }
+}
+
+/// Whether a call that makes a shard makes one of this size, or is out of memory.
+fn is_made(shard: Result<MDBInMemoryShard>, bytes: u64) -> bool {
+    match shard {
+        Ok(shard) => shard.shard_file_size() == bytes,
+        Err(error) => error == CoreError::OutOfMemory,
+    }
+}
+
+/// The shard of 576 bytes with xorb 11 besides: 96 bytes of rows, 12 and 16 of tables.
+fn larger_shard(alloc: Global) -> Result<MDBInMemoryShard> {
+    let mut shard = shard(alloc)?;
+    shard.add_xorb_block(alloc, xorb(alloc, 11, 22)?)?;
+    Ok(shard)
+}
+
+fn union(alloc: Global) -> Result<MDBInMemoryShard> {
+    shard(alloc)?.union(alloc, &larger_shard(alloc)?)
+}
+
+fn difference(alloc: Global) -> Result<MDBInMemoryShard> {
+    shard(alloc)?.difference(alloc, &larger_shard(alloc)?)
+}
+
+fn copy(alloc: Global) -> Result<MDBInMemoryShard> {
+    larger_shard(alloc)?.try_clone(alloc)
+}
+
+#[test]
+fn new_shards_are_made_or_out_of_memory(rt: HostRuntime) {
+    let alloc = rt.alloc();
+    assert!(rt; is_made(union(alloc), 700));
+    assert!(rt; is_made(difference(alloc), 468));
+    assert!(rt; is_made(copy(alloc), 700));
+}
+
+/// The number of bytes that `to_bytes` writes.
+fn size_written(alloc: Global) -> Result<usize> {
+    Ok(larger_shard(alloc)?.to_bytes(alloc)?.len())
+}
+
+/// The numbers of files, of xorbs, of their headers, of rows of the xorb table, of chunks and of file ranges that are
+/// read from the bytes of a shard.
+fn counts_read(alloc: Global, bytes: &[u8]) -> Result<[usize; 6]> {
+    let mut source = MemorySource::new(bytes);
+    let ranges = MDBShardInfo::read_file_info_ranges(alloc, &mut source)?.len();
+    let info = MDBShardInfo::load_from_reader(alloc, &mut source)?;
+    Ok([
+        info.read_all_file_info_sections(alloc, &mut source)?.len(),
+        info.read_all_xorb_blocks_full(alloc, &mut source)?.len(),
+        info.read_all_xorb_blocks(alloc, &mut source)?.len(),
+        info.read_full_xorb_lookup(alloc, &mut source)?.len(),
+        info.read_all_truncated_hashes(alloc, &mut source)?.len(),
+        ranges,
+    ])
+}
+
+#[test]
+fn bytes_are_made_or_out_of_memory(rt: HostRuntime) {
+    assert!(rt; is_answer(size_written(rt.alloc()), Ok(700)));
+}
+
+#[test]
+fn whole_reads_answer_or_are_out_of_memory(rt: HostRuntime) {
+    let alloc = rt.alloc();
+    if let Ok(shard) = larger_shard(alloc) {
+        if let Ok(bytes) = shard.to_bytes(alloc) {
+            assert!(rt; is_answer(counts_read(alloc, bytes.as_slice()), Ok([1, 2, 2, 2, 2, 1])));
+        }
+    }
+}

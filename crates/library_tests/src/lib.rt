@@ -1,0 +1,18 @@
+//! Tests of the library that no line of a script can make: streams that fail, allocations that are refused,
+//! conversions, and generic calls at concrete types.
+#![tactic(auto)]
+
+#[cfg(test)]
+mod allocations;
+#[cfg(test)]
+mod conversions;
+#[cfg(test)]
+mod fixtures;
+#[cfg(test)]
+mod numbers;
+#[cfg(test)]
+mod records;
+#[cfg(test)]
+mod shards;
+#[cfg(test)]
+mod stream;
