@@ -1,6 +1,7 @@
 //! Scripts with what they print and how they end.
 
-use crate::run::{Refusal, run_script};
+use crate::run::run_script;
+use script_lines::refusal::Refusal;
 use std::alloc::Global;
 use std::io::{Read, Write};
 use std::process::Abort;
