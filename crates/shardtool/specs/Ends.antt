@@ -3,8 +3,8 @@ use Rattle.std.specs.Prelude.{◌≡◌, ◌≢◌, ◌⊎◌, ℕ, ⊤}
 use Rattle.std.specs.IoError.{error_kind}
 use Rattle.std.specs.declared.io.Error.{Error}
 use Rattle.std.specs.declared.io.ErrorKind.TheVariants.{OutOfMemory as no_device_memory}
-use Rattle.shardtool.specs.declared.command.ParseError.{ParseError}
-use Rattle.shardtool.specs.declared.command.ParseError.TheVariants.{Unreadable as unreadable_line, OutOfMemory as no_memory}
+use Rattle.script_lines.specs.declared.words.ParseError.{ParseError}
+use Rattle.script_lines.specs.declared.words.ParseError.TheVariants.{Unreadable as unreadable_line, OutOfMemory as no_memory}
 use Rattle.shardtool.specs.declared.run.Ending.{Ending}
 use Rattle.shardtool.specs.declared.run.Ending.TheVariants.{Done as done_ending, Refused as refused_ending, Unreadable as unreadable_ending, Failed as failed_ending}
 use Rattle.shardtool.specs.declared.run.Stop.{Stop}

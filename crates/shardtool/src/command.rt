@@ -1,17 +1,17 @@
 //! The commands of a script: what one line asks for, as a value.
 
-ghost use Rattle.std.specs.Prelude.{◌≡◌, ◌↔◌, IsTrue, IsOk, IfOk, IsOkAnd, IsNone, IfErr, IsErrOf, IsUtf8};
-ghost use Rattle.std.specs.Result.{OkIff};
-ghost use Rattle.std.specs.Str.Parse.{digits_value};
-ghost use Rattle.xet_core_structures.specs.Hash.{words_of};
-ghost use Rattle.xet_core_structures.specs.Hex.{IsHexText, Spells};
-ghost use Rattle.shardtool.specs.Words.{IsSkipped, IsName, IsNameByte, IsNumber, small_words};
+ghost use Rattle.std.specs.Prelude.{IfOk, IsOkAnd, IsNone, IsErrOf, IsUtf8};
+ghost use Rattle.script_lines.specs.Words.{IsSkipped};
 
-use std::alloc::{AllocError, AllocFailed, Global};
+use script_lines::lines::{is_skipped, split_words};
+use script_lines::ranges::ByteRange;
+use script_lines::records::{SizedChunk, parse_chunks, parse_segments, parse_verification};
+use script_lines::words::{ParseError, parse_hash, parse_name, parse_u64, split_option};
+use std::alloc::Global;
 use xet_core_structures::file_structs::{
     FileDataSequenceEntry, FileMetadataExt, FileVerificationEntry,
 };
-use xet_core_structures::merklehash::{DataHash, MerkleHash};
+use xet_core_structures::merklehash::MerkleHash;
 
 /// A command. Names are those that the line gives; nothing is known of what they name.
 #[derive(Drop)]
@@ -59,13 +59,6 @@ pub struct XorbLine {
     pub chunks: Vec<SizedChunk>,
 }
 
-/// A chunk's hash, and how many bytes it has.
-#[derive(Clone, Copy)]
-pub struct SizedChunk {
-    pub hash: MerkleHash,
-    pub size: u32,
-}
-
 /// The file of a `file` line.
 #[derive(Drop)]
 pub struct FileLine {
@@ -77,44 +70,6 @@ pub struct FileLine {
     pub segments: Vec<FileDataSequenceEntry>,
 }
 
-/// So many bytes of a buffer, from an index on.
-#[derive(Clone, Copy)]
-pub struct ByteRange {
-    pub from: u64,
-    pub len: u64,
-}
-
-/// Why a line gives no command.
-#[derive(Clone, Copy, Debug, PartialEq, Eq)]
-pub enum ParseError {
-    /// The line is no command.
-    Unreadable,
-    /// The lists of the command found no memory.
-    OutOfMemory,
-}
-
-impl From<AllocError> for ParseError {
-    ghost use Rattle.std.specs.Prelude.{◌≡◌};
-    ghost use Rattle.shardtool.specs.declared.command.ParseError.TheVariants.{OutOfMemory};
-
-    ghost from_gives = { λ _ error. error ≡ OutOfMemory };
-
-    fn from(_error: AllocError) -> ParseError {
-        ParseError::OutOfMemory
-    }
-}
-
-impl<T: Drop> From<AllocFailed<T>> for ParseError {
-    ghost use Rattle.std.specs.Prelude.{◌≡◌};
-    ghost use Rattle.shardtool.specs.declared.command.ParseError.TheVariants.{OutOfMemory};
-
-    ghost from_gives = { λ _ error. error ≡ OutOfMemory };
-
-    fn from(_error: AllocFailed<T>) -> ParseError {
-        ParseError::OutOfMemory
-    }
-}
-
 /// The command of a line, which is given without its end. An empty line and one that begins with
 /// `#` have none.
 pub fn parse_line(alloc: Global, line: &[u8]) -> Result<Option<Command<'_>>, ParseError>
@@ -122,7 +77,7 @@ pub fn parse_line(alloc: Global, line: &[u8]) -> Result<Option<Command<'_>>, Par
     ensures others { IfOk result (λ command. IsNone command → IsSkipped line.now) }
     ensures text { ¬ (IsSkipped line.now) → ¬ (IsUtf8 line.now) → IsErrOf result ParseError.Unreadable }
 {
-    if line.is_empty() || line[0] == b'#' {
+    if is_skipped(line) {
         return Ok(None);
     }
     let Ok(text) = str::from_utf8(line) else {
@@ -131,12 +86,6 @@ pub fn parse_line(alloc: Global, line: &[u8]) -> Result<Option<Command<'_>>, Par
     let words = split_words(alloc, text)?;
     let command = parse_words(alloc, words.as_slice())?;
     Ok(Some(command))
-}
-
-fn split_words(alloc: Global, text: &str) -> Result<Vec<&str>, AllocError> {
-    text.split(' ')
-        .filter(|word| !word.is_empty())
-        .collect(alloc)
 }
 
 fn parse_words<'a>(alloc: Global, words: &[&'a str]) -> Result<Command<'a>, ParseError> {
@@ -242,137 +191,4 @@ fn parse_hex<'a>(arguments: &[&'a str]) -> Result<Command<'a>, ParseError> {
     };
     let buffer = parse_name(buffer)?;
     Ok(Command::Hex { buffer, range })
-}
-
-fn parse_chunks(alloc: Global, words: &[&str]) -> Result<Vec<SizedChunk>, ParseError> {
-    let mut chunks = Vec::new(alloc);
-    for word in words {
-        chunks.push(parse_chunk(word)?)?;
-    }
-    Ok(chunks)
-}
-
-// A word `CHUNK:SIZE`.
-fn parse_chunk(word: &str) -> Result<SizedChunk, ParseError>
-    ensures { IfErr result (λ e. e ≡ ParseError.Unreadable) }
-{
-    let (hash, size) = split_at_colon(word)?;
-    let hash = parse_hash(hash)?;
-    let size = parse_u32(size)?;
-    Ok(SizedChunk { hash, size })
-}
-
-// What follows `prefix` in the first word, where it begins so, and the words after it.
-fn split_option<'w, 'a>(words: &'w [&'a str], prefix: &str) -> (Option<&'a str>, &'w [&'a str]) {
-    let Some((first, rest)) = words.split_first() else {
-        return (None, words);
-    };
-    match first.strip_prefix(prefix) {
-        Some(value) => (Some(value), rest),
-        None => (None, words),
-    }
-}
-
-// The rows of a list of hashes, parted by commas. The empty list has none.
-fn parse_verification(alloc: Global, list: &str) -> Result<Vec<FileVerificationEntry>, ParseError> {
-    let mut rows = Vec::new(alloc);
-    if list.is_empty() {
-        return Ok(rows);
-    }
-    for hash in list.split(',') {
-        rows.push(FileVerificationEntry::new(parse_hash(hash)?))?;
-    }
-    Ok(rows)
-}
-
-fn parse_segments(alloc: Global, words: &[&str]) -> Result<Vec<FileDataSequenceEntry>, ParseError> {
-    let mut segments = Vec::new(alloc);
-    for word in words {
-        segments.push(parse_segment(word)?)?;
-    }
-    Ok(segments)
-}
-
-// A word `XORB:START:END:BYTES`.
-fn parse_segment(word: &str) -> Result<FileDataSequenceEntry, ParseError>
-    ensures { IfErr result (λ e. e ≡ ParseError.Unreadable) }
-{
-    let (xorb, rest) = split_at_colon(word)?;
-    let (start, rest) = split_at_colon(rest)?;
-    let (end, bytes) = split_at_colon(rest)?;
-    let xorb = parse_hash(xorb)?;
-    let start = parse_u32(start)?;
-    let end = parse_u32(end)?;
-    let bytes = parse_u32(bytes)?;
-    Ok(FileDataSequenceEntry::new(xorb, bytes, start, end))
-}
-
-fn split_at_colon(word: &str) -> Result<(&str, &str), ParseError>
-    ensures { IfErr result (λ e. e ≡ ParseError.Unreadable) }
-{
-    word.split_once(':').ok_or(ParseError::Unreadable)
-}
-
-// A name has 1 to 32 ASCII letters, digits or `_`.
-fn parse_name(word: &str) -> Result<&str, ParseError>
-    ensures name { IfOk result (λ name. name.now ≡ word.now) }
-    ensures accepted { IsOk result ↔ IsName word.now }
-    ensures causes { IfErr result (λ e. e ≡ ParseError.Unreadable) }
-{
-    if !is_name(word) {
-        return Err(ParseError::Unreadable);
-    }
-    Ok(word)
-}
-
-fn is_name(word: &str) -> bool
-    ensures { IsTrue result ↔ IsName word.now }
-{
-    let bytes = word.as_bytes();
-    !bytes.is_empty() && bytes.len() <= 32 && bytes.iter().all(|byte| is_name_byte(*byte))
-}
-
-fn is_name_byte(byte: u8) -> bool
-    ensures { IsTrue result ↔ IsNameByte byte }
-{
-    byte.is_ascii_alphanumeric() || byte == b'_'
-}
-
-// A hash is 64 hexadecimal digits, or else a number n for the small hash n.
-fn parse_hash(word: &str) -> Result<MerkleHash, ParseError>
-    ensures digits { IsHexText word.now → IsOkAnd result (Spells word.now) }
-    ensures number { ¬ (IsHexText word.now) → (IsOk result ↔ IsNumber 64 word.now) }
-    ensures small { ¬ (IsHexText word.now) → IfOk result
-        (λ hash. words_of hash ≡ small_words (digits_value 10 word.now)) }
-    ensures causes { IfErr result (λ e. e ≡ ParseError.Unreadable) }
-{
-    match DataHash::from_hex(word) {
-        Ok(hash) => Ok(hash),
-        Err(_) => Ok(small_hash(parse_u64(word)?)),
-    }
-}
-
-fn small_hash(number: u64) -> MerkleHash
-    ensures { words_of result ≡ small_words number }
-{
-    DataHash::from([number, 1, 0, 0])
-}
-
-// A number is decimal and has no sign.
-fn parse_u64(word: &str) -> Result<u64, ParseError>
-    ensures value { OkIff result (IsNumber 64 word.now) (digits_value 10 word.now) }
-    ensures causes { IfErr result (λ e. e ≡ ParseError.Unreadable) }
-{
-    // `parse` would take a plus.
-    if word.as_bytes().first() == Some(&b'+') {
-        return Err(ParseError::Unreadable);
-    }
-    word.parse().map_err(|_| ParseError::Unreadable)
-}
-
-fn parse_u32(word: &str) -> Result<u32, ParseError>
-    ensures value { OkIff result (IsNumber 32 word.now) (digits_value 10 word.now) }
-    ensures causes { IfErr result (λ e. e ≡ ParseError.Unreadable) }
-{
-    u32::try_from(parse_u64(word)?).map_err(|_| ParseError::Unreadable)
 }

@@ -1,17 +1,21 @@
 //! Running a script over named shards and buffers.
 
-ghost use Rattle.std.specs.Prelude.{◌≡◌, ◌≤◌, ◌+◌, ◌↔◌, length, slice_range, IsOk, IfOk, OnOk, OnErr, IfErr, IsErrOf, IsSome, IsNone, Some};
+ghost use Rattle.std.specs.Prelude.{◌≡◌, ◌≤◌, ◌↔◌, IfOk, OnOk, OnErr, IfErr, IsErrOf, IsSome, IsNone, Some};
 ghost use Rattle.std.specs.BTreeMap.{get_by_text, IsUnchanged};
 ghost use Rattle.std.specs.Option.{option_map};
 ghost use Rattle.shardtool.specs.Ends.{IsRefused, EndsAt};
-ghost use Rattle.shardtool.specs.Words.{without_last};
 
-use crate::command::{ByteRange, Command, FileLine, ParseError, XorbLine, parse_line};
-use crate::find::{find_file, print_file};
+use crate::command::{Command, FileLine, XorbLine, parse_line};
+use crate::find::find_file;
+use script_lines::lines::without_end;
+use script_lines::print::print_file;
+use script_lines::ranges::{ByteRange, bytes_in, hex_digits};
+use script_lines::refusal::Refusal;
+use script_lines::words::ParseError;
 use std::alloc::{AllocError, AllocFailed, Global};
 use std::collections::BTreeMap;
+use std::io;
 use std::io::{BufRead, BufReader, Read, Write};
-use std::{fmt, io};
 use xet_core_structures::error::CoreError;
 use xet_core_structures::file_structs::{FileDataSequenceHeader, MDBFileInfo};
 use xet_core_structures::merklehash::MerkleHash;
@@ -56,36 +60,6 @@ impl Ending {
             Ending::Refused => 1,
             Ending::Unreadable => 2,
             Ending::Failed => 3,
-        }
-    }
-}
-
-/// What the line of a refused command says: the name of the error's variant, and for a collision
-/// the word that collides.
-#[derive(Clone, Copy)]
-pub struct Refusal<'a>(pub &'a CoreError);
-
-impl fmt::Display for Refusal<'_> {
-    fn fmt<W: fmt::Write>(&self, f: &mut fmt::Formatter<W>) -> fmt::Result {
-        match self.0 {
-            CoreError::Io(_) => write!(f, "Io"),
-            CoreError::InternalError(_) => write!(f, "InternalError"),
-            CoreError::Other(_) => write!(f, "Other"),
-            CoreError::TruncatedHashCollision(word) => write!(f, "TruncatedHashCollision {word}"),
-            CoreError::ShardVersion(_) => write!(f, "ShardVersion"),
-            CoreError::BadFilename(_) => write!(f, "BadFilename"),
-            CoreError::ShardNotFound(_) => write!(f, "ShardNotFound"),
-            CoreError::FileNotFound(_) => write!(f, "FileNotFound"),
-            CoreError::QueryFailed(_) => write!(f, "QueryFailed"),
-            CoreError::SmudgeQueryPolicy(_) => write!(f, "SmudgeQueryPolicy"),
-            CoreError::InvalidShard(_) => write!(f, "InvalidShard"),
-            CoreError::InvalidRange => write!(f, "InvalidRange"),
-            CoreError::InvalidArguments => write!(f, "InvalidArguments"),
-            CoreError::MalformedData(_) => write!(f, "MalformedData"),
-            CoreError::HashMismatch => write!(f, "HashMismatch"),
-            CoreError::HashParsing(never) => match *never {},
-            CoreError::ChunkHeaderParse => write!(f, "ChunkHeaderParse"),
-            CoreError::OutOfMemory => write!(f, "OutOfMemory"),
         }
     }
 }
@@ -225,6 +199,7 @@ impl Workspace {
         if input.read_until(b'\n', &mut line)? == 0 {
             return Ok(false);
         }
+        // A line ends with LF or with the input; one CR before that belongs to its end.
         if let Some(command) = parse_line(alloc, without_end(line.as_slice()))? {
             self.run(alloc, command, output)?;
         }
@@ -366,19 +341,6 @@ impl Workspace {
     }
 }
 
-// A line ends with LF or with the input; one CR before that belongs to its end.
-fn without_end(line: &[u8]) -> &[u8]
-    ensures { result.now ≡ without_last 13 (without_last 10 line.now) }
-{
-    without_last(without_last(line, b'\n'), b'\r')
-}
-
-fn without_last(text: &[u8], byte: u8) -> &[u8]
-    ensures { result.now ≡ without_last byte text.now }
-{
-    text.strip_suffix(&[byte]).unwrap_or(text)
-}
-
 // The record of a xorb whose chunks follow one another from byte 0. `InvalidArguments` where their bytes or
 // their number pass 32 bits.
 fn xorb_of(alloc: Global, xorb: XorbLine) -> Result<MDBXorbInfo, CoreError> {
@@ -419,27 +381,4 @@ fn record_of(alloc: Global, file: FileLine) -> Result<MDBFileInfo, CoreError> {
         verification: Rows::from(verification.unwrap_or_else(|| Vec::new(alloc))),
         metadata_ext,
     })
-}
-
-fn bytes_in(bytes: &[u8], range: ByteRange) -> Result<&[u8], Stop>
-    ensures inside { IsOk result ↔ (range.from + range.len ≤ length bytes.now) }
-    ensures causes { IfErr result (λ e. e ≡ Stop.Unreadable) }
-    ensures found { IfOk result
-        (λ part. part.now ≡ slice_range bytes.now range.from (range.from + range.len)) }
-{
-    let size = bytes.len() as u64;
-    if range.from > size || range.len > size - range.from {
-        return Err(Stop::Unreadable);
-    }
-    let from = range.from as usize;
-    let len = range.len as usize;
-    Ok(&bytes[from..from + len])
-}
-
-fn hex_digits(alloc: Global, bytes: &[u8]) -> Result<String, AllocError> {
-    let mut digits = String::new(alloc);
-    for byte in bytes {
-        write!(digits, "{byte:02x}")?;
-    }
-    Ok(digits)
 }
