@@ -127,7 +127,8 @@ fn write_file(file: &MDBFileInfo, bytes: &mut Vec<u8>) -> Result<usize, Stop> {
     Ok(file.serialize(bytes)?)
 }
 
-fn fits_its_header(file: &MDBFileInfo) -> bool
+/// Whether a record has the parts that its header announces.
+pub fn fits_its_header(file: &MDBFileInfo) -> bool
     ensures { IsTrue result → FitsItsHeader file.now }
 {
     let header = &file.metadata;

@@ -47,7 +47,7 @@ pub fn run_reading(
     })
 }
 
-// Makes the call of a command. Most of them begin with a header and a footer that were read from the bytes before.
+// Makes the call of a command. Most calls take header and footer, which a source that does not fail reads before.
 fn call(
     alloc: Global,
     command: &str,
@@ -62,12 +62,16 @@ fn call(
         "search" => return search(alloc, source, rest, out),
         _ => {}
     }
-    let info = MDBShardInfo::load_from_reader(alloc, &mut MemorySource::new(bytes))?;
     match rest {
-        [] => read_whole(alloc, command, &info, source, out),
-        [word] => look_up(alloc, command, &info, source, word, out),
+        [] => read_whole(alloc, command, bytes, source, out),
+        [word] => look_up(alloc, command, bytes, source, word, out),
         _ => Err(Stop::Unreadable),
     }
+}
+
+// Header and footer of a shard's bytes.
+fn info_of(alloc: Global, bytes: &[u8]) -> Result<MDBShardInfo, Stop> {
+    Ok(MDBShardInfo::load_from_reader(alloc, &mut MemorySource::new(bytes))?)
 }
 
 fn load(
@@ -115,23 +119,23 @@ fn read_file_ranges(
 fn read_whole(
     alloc: Global,
     command: &str,
-    info: &MDBShardInfo,
+    bytes: &[u8],
     source: &mut Device<'_>,
     out: &mut Vec<u8>,
 ) -> Result<(), Stop> {
     match command {
-        "totals" => print_totals(info, out)?,
+        "totals" => print_totals(&info_of(alloc, bytes)?, out)?,
         "num_bytes" => {
-            let bytes = info.num_bytes(alloc)?;
-            writeln!(out, "{bytes}")?;
+            let count = info_of(alloc, bytes)?.num_bytes(alloc)?;
+            writeln!(out, "{count}")?;
         }
-        "ranges" => print_ranges(info, out)?,
-        "key" => print_key(info, out)?,
-        "read_files" => print_files(alloc, info, source, out)?,
-        "read_xorbs" => print_xorbs(alloc, info, source, out)?,
-        "read_xorb_headers" => print_xorb_headers(alloc, info, source, out)?,
-        "read_xorb_table" => print_xorb_table(alloc, info, source, out)?,
-        "read_words" => print_first_words(alloc, info, source, out)?,
+        "ranges" => print_ranges(&info_of(alloc, bytes)?, out)?,
+        "key" => print_key(&info_of(alloc, bytes)?, out)?,
+        "read_files" => print_files(alloc, &info_of(alloc, bytes)?, source, out)?,
+        "read_xorbs" => print_xorbs(alloc, &info_of(alloc, bytes)?, source, out)?,
+        "read_xorb_headers" => print_xorb_headers(alloc, &info_of(alloc, bytes)?, source, out)?,
+        "read_xorb_table" => print_xorb_table(alloc, &info_of(alloc, bytes)?, source, out)?,
+        "read_words" => print_first_words(alloc, &info_of(alloc, bytes)?, source, out)?,
         _ => return Err(Stop::Unreadable),
     }
     Ok(())
@@ -250,23 +254,31 @@ fn print_first_words(
 fn look_up(
     alloc: Global,
     command: &str,
-    info: &MDBShardInfo,
+    bytes: &[u8],
     source: &mut Device<'_>,
     word: &str,
     out: &mut Vec<u8>,
 ) -> Result<(), Stop> {
     match command {
-        "file_index" => print_file_index(alloc, info, source, parse_hash(word)?, out)?,
+        "file_index" => {
+            let hash = parse_hash(word)?;
+            print_file_index(alloc, &info_of(alloc, bytes)?, source, hash, out)?;
+        }
         "file_at" => {
-            let file = info.read_file_info(alloc, source, parse_u32(word)?)?;
+            let row = parse_u32(word)?;
+            let file = info_of(alloc, bytes)?.read_file_info(alloc, source, row)?;
             print_file(&file, out)?;
         }
         "find" => {
             let hash = parse_hash(word)?;
+            let info = info_of(alloc, bytes)?;
             let found = info.get_file_reconstruction_info(alloc, source, &hash)?;
             print_found(&found, out)?;
         }
-        "keyed" => print_hash(Some(info.keyed_chunk_hash(&parse_hash(word)?)), out)?,
+        "keyed" => {
+            let hash = parse_hash(word)?;
+            print_hash(Some(info_of(alloc, bytes)?.keyed_chunk_hash(&hash)), out)?;
+        }
         _ => return Err(Stop::Unreadable),
     }
     Ok(())
@@ -317,6 +329,9 @@ pub fn run_each_failure(
         };
         let report = run_reading(workspace, alloc, plan, words, &mut printed)?;
         if !report.has_failed {
+            if matches!(&report.answer, Err(Stop::Unreadable)) {
+                return Err(Stop::Unreadable);
+            }
             print_failures(turn - 1, answers.as_slice(), out)?;
             out.extend_from_slice(printed.as_slice())?;
             return report.answer;

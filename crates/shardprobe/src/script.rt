@@ -100,8 +100,10 @@ impl Probe {
     // Runs a command through the device, and prints its costs where they are wanted.
     fn read(&self, alloc: Global, words: &[&str], out: &mut Vec<u8>) -> Result<(), Stop> {
         let report = run_reading(&self.workspace, alloc, self.plan, words, out)?;
-        if let Err(stop) = &report.answer {
-            writeln!(out, "{stop}")?;
+        match &report.answer {
+            Ok(()) => {}
+            Err(Stop::Unreadable) => return Err(Stop::Unreadable),
+            Err(stop) => writeln!(out, "{stop}")?,
         }
         if self.shows_costs {
             let seeks = report.seeks_made;

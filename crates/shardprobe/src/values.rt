@@ -3,8 +3,9 @@
 ghost use Rattle.std.specs.Prelude.{◌<◌, ◌^◌, ◌↔◌, IsTrue};
 ghost use Rattle.xet_core_structures.specs.XorbRecord.{end_of_chunk, total_bytes};
 
+use crate::codecs::fits_its_header;
 use crate::parse::{parse_bytes, parse_chunk, parse_file, parse_key, parse_xorb, split_at_with};
-use crate::show::{Segment, Short, print_bytes, print_file, print_hash, print_words};
+use crate::show::{Segment, Short, print_bytes, print_file, print_hash, print_words, print_xorb};
 use crate::stop::Stop;
 use script_lines::words::{parse_hash, parse_u32, parse_u64};
 use std::alloc::Global;
@@ -17,7 +18,7 @@ use xet_core_structures::shard_format::MDBShardInfo;
 use xet_core_structures::utils::{
     parse_shard_filename, shard_expiry_time, shard_file_name, truncate_hash,
 };
-use xet_core_structures::xorb_structs::{MDBXorbInfo, XorbChunkSequenceEntry};
+use xet_core_structures::xorb_structs::XorbChunkSequenceEntry;
 
 /// Runs a command on hashes, names or timestamps. False where the words are none.
 pub fn run_on_values(alloc: Global, words: &[&str], out: &mut Vec<u8>) -> Result<bool, Stop> {
@@ -94,14 +95,77 @@ pub fn run_on_records(alloc: Global, words: &[&str], out: &mut Vec<u8>) -> Resul
         ["same_file", records @ ..] => print_same_file(alloc, records, out)?,
         ["rows_after", record @ ..] => print_rows_after(alloc, record, out)?,
         ["merge", records @ ..] => print_merged(alloc, records, out)?,
+        _ => return run_on_record(alloc, words, out),
+    }
+    Ok(true)
+}
+
+// Runs a command on one record. False where the words are none.
+fn run_on_record(alloc: Global, words: &[&str], out: &mut Vec<u8>) -> Result<bool, Stop> {
+    match words {
+        ["clone_file", record @ ..] => clone_file(alloc, record, out)?,
+        ["clone_xorb", record @ ..] => clone_xorb(alloc, record, out)?,
+        ["measure_file", record @ ..] => measure_file(alloc, record, out)?,
+        ["measure_xorb", record @ ..] => measure_xorb(alloc, record, out)?,
+        ["announces", record @ ..] => print_announced(alloc, record, out)?,
         ["segment_of", xorb @ .., "from", start, "to", end] => {
-            let xorb = parse_xorb(alloc, xorb)?;
-            print_segment_of(&xorb, parse_u32(start)?, parse_u32(end)?, out)?;
+            print_segment_of(alloc, xorb, parse_u32(start)?, parse_u32(end)?, out)?;
         }
-        ["boundaries", xorb @ ..] => print_boundaries(alloc, &parse_xorb(alloc, xorb)?, out)?,
+        ["boundaries", xorb @ ..] => print_boundaries(alloc, xorb, out)?,
         _ => return Ok(false),
     }
     Ok(true)
+}
+
+fn clone_file(alloc: Global, record: &[&str], out: &mut Vec<u8>) -> Result<(), Stop> {
+    let file = parse_file(alloc, record)?;
+    print_file(&file.try_clone(alloc)?, out)?;
+    Ok(())
+}
+
+fn clone_xorb(alloc: Global, record: &[&str], out: &mut Vec<u8>) -> Result<(), Stop> {
+    let xorb = parse_xorb(alloc, record)?;
+    print_xorb(&xorb.try_clone(alloc)?, out)?;
+    Ok(())
+}
+
+fn measure_file(alloc: Global, record: &[&str], out: &mut Vec<u8>) -> Result<(), Stop> {
+    let file = parse_file(alloc, record)?;
+    if !fits_its_header(&file) {
+        return Err(Stop::Unreadable);
+    }
+    let bytes = file.num_bytes();
+    let size = file.file_size();
+    writeln!(out, "bytes {bytes} file {size}")?;
+    Ok(())
+}
+
+fn measure_xorb(alloc: Global, record: &[&str], out: &mut Vec<u8>) -> Result<(), Stop> {
+    let xorb = parse_xorb(alloc, record)?;
+    if xorb.chunks.len() != xorb.metadata.num_entries as usize {
+        return Err(Stop::Unreadable);
+    }
+    let bytes = xorb.num_bytes();
+    writeln!(out, "bytes {bytes}")?;
+    Ok(())
+}
+
+// Prints which optional parts a record announces, and whether its header's calls differ from its own.
+fn print_announced(alloc: Global, record: &[&str], out: &mut Vec<u8>) -> Result<(), Stop> {
+    let file = parse_file(alloc, record)?;
+    let header = file.metadata;
+    let verification = file.contains_verification();
+    let metadata = file.contains_metadata_ext();
+    if (verification, metadata)
+        != (
+            header.contains_verification(),
+            header.contains_metadata_ext(),
+        )
+    {
+        writeln!(out, "the header announces other parts")?;
+    }
+    writeln!(out, "verification {verification} metadata {metadata}")?;
+    Ok(())
 }
 
 fn print_mark(chunk: XorbChunkSequenceEntry, is_marked: bool, out: &mut Vec<u8>) -> io::Result<()> {
@@ -158,11 +222,13 @@ fn print_merged(alloc: Global, records: &[&str], out: &mut Vec<u8>) -> Result<()
 }
 
 fn print_segment_of(
-    xorb: &MDBXorbInfo,
+    alloc: Global,
+    xorb: &[&str],
     start: u32,
     end: u32,
     out: &mut Vec<u8>,
 ) -> Result<(), Stop> {
+    let xorb = parse_xorb(alloc, xorb)?;
     let chunks = xorb.chunks.as_slice();
     if start > end || end as usize > chunks.len() {
         return Err(Stop::Unreadable);
@@ -195,7 +261,8 @@ fn sum_fits(chunks: &[XorbChunkSequenceEntry]) -> bool
     true
 }
 
-fn print_boundaries(alloc: Global, xorb: &MDBXorbInfo, out: &mut Vec<u8>) -> Result<(), Stop> {
+fn print_boundaries(alloc: Global, xorb: &[&str], out: &mut Vec<u8>) -> Result<(), Stop> {
+    let xorb = parse_xorb(alloc, xorb)?;
     if !xorb.chunks.as_slice().iter().all(|chunk| end_fits(chunk)) {
         return Err(Stop::Unreadable);
     }

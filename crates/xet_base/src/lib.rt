@@ -7,9 +7,5 @@ pub mod interpolation_search;
 mod keyed_hash;
 pub mod merklehash;
 pub mod row;
-#[cfg(test)]
-mod search_tests;
 pub mod serialization_utils;
 pub mod source;
-#[cfg(test)]
-mod tests;

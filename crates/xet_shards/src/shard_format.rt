@@ -9,11 +9,7 @@ mod info;
 mod section_reader;
 mod section_writer;
 mod table_reader;
-#[cfg(test)]
-mod table_reader_tests;
 mod truncated_hashes;
-#[cfg(test)]
-mod truncated_hashes_tests;
 mod writer;
 mod xorb_writer;
 

@@ -15,8 +15,6 @@ ghost use Rattle.xet_shards.specs.Layout.{layout};
 mod chunk_query;
 mod file_table;
 mod sums;
-#[cfg(test)]
-mod table_tests;
 mod union_rows;
 mod xorb_table;
 
