@@ -1,52 +1,77 @@
--- What a search costs: the seeks of halving, and the rows that are read on.
-use Rattle.std.proofs.Common.{◌≡◌, ℕ, ◌+◌, ◌*◌, ◌≤◌, ap, ◌∙◌, arith}
-use Rattle.std.proofs.lemmas.Nat.{mul-le}
-use Rattle.std.proofs.Math.Nat.{add-mul, mul-le-mul_right}
+-- What a search costs, wherever it ends.
+use Rattle.std.proofs.Common.{◌≡◌, ℕ, ◌+◌, ◌-◌, ◌*◌, ◌<◌, ◌≤◌, List, length, min, ap, ◌∙◌, arith, add-mul, mul-le-mul_right}
+use Rattle.xet_base.specs.declared.interpolation_search.window.Window.{Window}
+use Rattle.std.specs.declared.io.Error.{Error}
 use Rattle.xet_base.specs.Source.{Source, Fails, moved}
 use Rattle.xet_base.specs.Table.{Table, place, IsSorted, hits_below, hits, Bounded}
-use Rattle.xet_base.specs.Search.{AllSmaller, Halves, HalvesNot, Walks}
-use Rattle.xet_base.proofs.Tables.{hits_below-none}
+use Rattle.xet_base.specs.Search.{ReadsKey, Stops, IsRow, Counts, Passes, Runs}
+use Rattle.xet_base.proofs.Progress.{AllSmaller, Searches}
+use Rattle.xet_base.proofs.Tables.{row_place-add, hits_below-none}
+use Rattle.xet_base.proofs.Course.{course_end}
+use Rattle.xet_base.proofs.Searching.{below_le}
 
--- before the first row with no smaller key no row holds the key
-pub no_hits_before : (t : Table) (key low : ℕ) → AllSmaller t key low → hits_below t key low ≡ 0
+-- before rows that may have the key no row has it
+no_hits_before : (t : Table) (key low : ℕ) → AllSmaller t key low → hits_below t key low ≡ 0
 unfolding hits_below
 no_hits_before t key low smaller =
     let start : low ≡ 0 + low = omega arith in
     ap (hits_below t key) start ∙ hits_below-none t key 0 low (λ j above below there same. absurd (omega (arith, smaller j (omega (arith, below)) there, same)))
 
--- a seek for each 128 rows and one more, a key read at each but the last, and rows read on
-bounded : (t : Table) (key : ℕ) (old new : Source) (halvings made rows : ℕ) → 128 * halvings ≤ t.rows → halvings ≤ made → made ≤ halvings + 1
-    → rows ≤ 257 + hits t key → new.seeks ≡ old.seeks + made → new.read ≤ old.read + 8 * halvings + rows * (8 + t.width) → Bounded t key old new
-bounded t key old new halvings made rows few least most rows_few seeks read = record {
-  made = made;
-  seeks = seeks;
-  few = omega (arith, few, most);
-  read = omega (
-    arith,
-    read,
-    mul-le halvings 8 made (8 + t.width) least (omega arith),
-    mul-le-mul_right (8 + t.width) rows_few,
-    add-mul (257 + hits t key) made (8 + t.width),
-  );
-}
+module _ {V : Type 0} (t : Table) (key : ℕ) (Gives : List ℕ → V → Type 0) (w : Window) (old now : Source) (results_old results : List V) (count : ℕ)
+    (so_far : Searches t key Gives w old now results_old results count) where
+  -- one more seek, and the bytes of at most n more rows
+  bounded : (sorted : IsSorted t) (new : Source) (n : ℕ) → new.seeks ≡ now.seeks + 1 → new.read ≤ now.read + n * (8 + t.width)
+      → n + (so_far.sorted sorted).later ≤ 258 + hits t key → Bounded t key old new
+  bounded sorted new n seeks read few =
+      let before = so_far.sorted sorted in
+      let rows : so_far.made + before.later + n ≤ 257 + hits t key + (so_far.made + 1) = omega (arith, few) in
+      record {
+        made = so_far.made + 1;
+        seeks = omega (arith, seeks, so_far.seeks);
+        few = course_end (IsRow t key (w.high - 1)) (t.rows + 1) before.later (hits t key) w.low w.low_key w.high w.high_key key w.probe so_far.made before.course
+            (omega (arith, before.left));
+        read = omega (arith, read, before.read, mul-le-mul_right (8 + t.width) rows, add-mul (so_far.made + before.later) n (8 + t.width));
+      }
 
--- halving was cut off
-pub bounded_halves_not : (t : Table) (key : ℕ) (old new : Source) (e : _) → HalvesNot t old new e → Bounded t key old new
-bounded_halves_not t key old new e (halvings, few, stops) =
-    bounded t key old new halvings (halvings + 1) 1 few (omega arith) (omega arith) (omega arith) stops.seeks
-    (omega (arith, stops.read))
+  -- a probed row's key was not read
+  pub bounded_key_not : (sorted : IsSorted t) (new : Source) (e : Error) → Stops t 1 8 now new e → Bounded t key old new
+  bounded_key_not sorted new e stops = bounded sorted new 1 stops.seeks (omega (arith, stops.read)) (omega (arith, (so_far.sorted sorted).left))
 
--- the seek to the first row to be read on failed
-pub bounded_seek_not : (t : Table) (key low : ℕ) (old mid new : Source) (e : _) → Halves t key old mid low → Fails mid new 1 e → Bounded t key old new
-bounded_seek_not t key low old mid new e (high, near, narrows) fails =
-    bounded t key old new narrows.made (narrows.made + 1) 0 (omega (arith, narrows.few)) (omega arith) (omega arith) (omega arith)
-    (omega (arith, fails.seeks, narrows.seeks)) (omega (arith, fails.read, narrows.read))
+  -- the search ended in a run of rows with the key
+  pub bounded_runs : (sorted : IsSorted t) (mid new : Source) (found : ℕ) → w.low + 256 < w.high → ReadsKey t (w.probe - 1) now mid found
+      → Runs t key (w.probe - 1) (w.high - 1) mid new → Bounded t key old new
+  bounded_runs sorted mid new found running reads runs =
+      let before = so_far.sorted sorted in
+      let rows = runs.end - (w.probe - 1) in
+      let end_is : w.probe - 1 + rows ≡ runs.end = omega (arith, runs.past) in
+      bounded sorted new (rows + 1) (omega (arith, runs.seeks, ap (λ s. s.seeks) reads.after))
+      (omega (
+        arith,
+        runs.read,
+        ap (λ s. s.read) reads.after,
+        row_place-add t.start t.width (w.probe - 1) rows,
+        ap (place t) end_is,
+        add-mul rows 1 (8 + t.width),
+      ))
+      (omega (arith, runs.equal, runs.past, below_le t key runs.end (w.high - 1) runs.within, before.left))
 
--- rows were read on
-pub bounded_walk : (t : Table) (key low : ℕ) (old mid after new : Source) → IsSorted t → Halves t key old mid low → after ≡ moved mid (place t low)
-    → Walks t key low after new → Bounded t key old new
-bounded_walk t key low old mid after new sorted (high, near, narrows) sought walks =
-    bounded t key old new narrows.made (narrows.made + 1) walks.rows (omega (arith, narrows.few)) (omega arith) (omega arith)
-    (omega (arith, near, walks.few high sorted narrows.ordered (narrows.rest sorted)))
-    (omega (arith, walks.seeks, ap (λ s. s.seeks) sought, narrows.seeks))
-    (omega (arith, walks.read, ap (λ s. s.read) sought, narrows.read))
+  -- the seek to the last rows failed
+  pub bounded_seek_not : (sorted : IsSorted t) (new : Source) (e : Error) → Fails now new 1 e → Bounded t key old new
+  bounded_seek_not sorted new e fails = bounded sorted new 0 fails.seeks (omega (arith, fails.read)) (omega (arith, (so_far.sorted sorted).left))
+
+  -- the last rows were read
+  pub bounded_passes : (sorted : IsSorted t) (mid new : Source) → w.high ≤ w.low + 256 → mid ≡ moved now (place t w.low)
+      → Passes t w.low (w.high - 1) mid new → Bounded t key old new
+  bounded_passes sorted mid new small sought passes =
+      let rows = w.high - 1 - w.low in
+      let end_is : w.low + rows ≡ w.high - 1 = omega (arith, so_far.around.rows) in
+      bounded sorted new rows (omega (arith, passes.seeks, ap (λ s. s.seeks) sought))
+      (omega (arith, passes.read, ap (λ s. s.read) sought, row_place-add t.start t.width w.low rows, ap (place t) end_is))
+      (omega (arith, small, (so_far.sorted sorted).left))
+
+  -- how many results there are once the last rows were read
+  pub count_at_last : (sorted : IsSorted t) (count_new : ℕ) → length results ≡ length results_old
+      → Counts t key w.low (w.high - 1) (length results) count count_new → count_new ≡ min (hits t key) (length results_old)
+  count_at_last sorted count_new len counts =
+      let before = so_far.sorted sorted in
+      omega (arith, before.counted, counts, len, no_hits_before t key w.low before.smaller)

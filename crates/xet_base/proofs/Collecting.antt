@@ -1,17 +1,18 @@
--- The turns of the loop that reads rows on and keeps the values of those with the key.
-use Rattle.std.proofs.Common.{◌≡◌, inl, inr, ℕ, suc, ◌+◌, ◌-◌, ◌<◌, ◌≤◌, List, [], ◌∷◌, ◌++◌, length, take, drop, set, map, All, min, refl, sym, ap, ◌∙◌, arith, take-append-drop, length-append}
+-- The turns of the loops that read rows on and keep the values of those with the key.
+use Rattle.std.proofs.Common.{◌≡◌, ◌≢◌, ◌⊎◌, inl, inr, ℕ, suc, ◌+◌, ◌<◌, ◌≤◌, List, [], ◌∷◌, ◌++◌, length, take, drop, set, map, All, refl, sym, ap, ◌∙◌, subst, arith, take-append-drop, length-append}
 use Rattle.std.proofs.lemmas.List.{drop-drop, drop-set-lt, map-append, length-map}
 use Rattle.std.proofs.lemmas.List.Elements.{All-nil, All-push, All-weaker}
 use Rattle.std.proofs.lemmas.List.Quantifiers.{all_pairs_push}
 use Rattle.std.proofs.Math.Seq.{take-suc-set, drop-append-add}
-use Rattle.std.proofs.Math.Nat.{eq-zero-or-pos, eq-or-lt_of_le}
+use Rattle.std.proofs.Math.Nat.{eq-zero-or-pos}
 use Rattle.std.proofs.lemmas.Bool.{cases_lt}
 use Rattle.xet_base.specs.Source.{Source, next_bytes}
-use Rattle.xet_base.specs.Table.{Table, place, spelled_u64, key_at, value_at, HasKey, IsSorted, hits_below, hits, Hit, IsHit, OtherRow, Finds, ReadsOn}
-use Rattle.xet_base.specs.Search.{NoneSmaller, Collected, Walks}
+use Rattle.xet_base.specs.Table.{Table, place, spelled_u64, key_at, value_at, HasKey, hits_below, Hit, IsHit, OtherRow, Finds, ReadsOn}
+use Rattle.xet_base.specs.Search.{IsRow, Kept, FindsFrom, Counts, Passes, Runs}
+use Rattle.xet_base.proofs.Progress.{FindsAround, Collected, Keeps}
 use Rattle.xet_base.proofs.Lists.{front_is}
-use Rattle.xet_base.proofs.Tables.{row_place-add, row_place-next, hits_below-hit, hits_below-miss, hits_below-le, hits_below-none}
-use Rattle.xet_base.proofs.Search.{keys_ascend, serves_still, serves_advanced}
+use Rattle.xet_base.proofs.Tables.{row_place-next, row_place-le, hits_below-hit, hits_below-miss}
+use Rattle.xet_base.proofs.Search.{serves_still, serves_advanced}
 
 -- a value stored behind a front of known length
 stored_behind : {V : Type 0} (front back : List V) (n : ℕ) (v : V) → length front ≡ n → n < length (front ++ drop n back)
@@ -36,17 +37,17 @@ finds_none t key Gives results = record {
   written = refl;
 }
 
--- one more hit, of a row past those before
+-- one more hit, of another row than those before
 pub finds_push : {V : Type 0} (t : Table) (key : ℕ) (Gives : List ℕ → V → Type 0) (old new : List V) (count : ℕ) (hit : Hit V)
-    → (so_far : Finds t key Gives old new count) → count < length new → IsHit t key Gives hit → All (λ h. h.row < hit.row) so_far.found
+    → (so_far : Finds t key Gives old new count) → count < length new → IsHit t key Gives hit → All (λ h. OtherRow h hit) so_far.found
     → Finds t key Gives old (set new count hit.value) (count + 1)
-finds_push t key Gives old new count hit so_far room is_hit before =
+finds_push t key Gives old new count hit so_far room is_hit others =
     let values = map (λ h. h.value) so_far.found in
     record {
       found = so_far.found ++ hit ∷ [];
       number = length-append so_far.found (hit ∷ []) ∙ ap (λ n. n + 1) so_far.number;
       each = All-push (IsHit t key Gives) so_far.found hit so_far.each is_hit;
-      distinct = all_pairs_push OtherRow so_far.found hit so_far.distinct (λ k d within same. absurd (omega (arith, before k d within, same)));
+      distinct = all_pairs_push OtherRow so_far.found hit so_far.distinct others;
       written = ap (λ xs. set xs count hit.value) so_far.written
           ∙ stored_behind values old count hit.value (length-map so_far.found (λ h. h.value) ∙ so_far.number)
           (omega (arith, room, ap length so_far.written))
@@ -60,145 +61,213 @@ reads_within old new n reads inside = elim (eq-zero-or-pos n) [
   | inr some ↦ reads.within some
 ]
 
-pub collected_none : {V : Type 0} (t : Table) (key : ℕ) (Gives : List ℕ → V → Type 0) (from : ℕ) (old : Source) (results : List V)
-    → old.at ≡ place t from → Collected t key Gives from from old old results results 0
-unfolding finds_none
-collected_none t key Gives from old results stands = record {
-  serves = serves_still old;
-  at = stands;
-  seeks = refl;
-  read = refl;
-  few = λ high sorted above none. omega (arith, above);
-  finds = finds_none t key Gives results;
-  before = All-nil (λ hit. hit.row < from);
-  counted = omega arith;
+-- what was found from a later row on
+pub from_weaker : {V : Type 0} (t : Table) (key : ℕ) (Gives : List ℕ → V → Type 0) (from to : ℕ) (old new : List V) (count : ℕ) → from ≤ to
+    → FindsFrom t key Gives to old new count → FindsFrom t key Gives from old new count
+from_weaker t key Gives from to old new count le found = record {
+  finds = found.finds;
+  rows = All-weaker (λ h. to ≤ h.row) (λ h. from ≤ h.row) (λ h past. omega (arith, le, past)) found.finds.found found.rows;
 }
 
-module _ {V : Type 0} (t : Table) (key : ℕ) (Gives : List ℕ → V → Type 0) (from i : ℕ) (old now : Source) (results_old results : List V) (count : ℕ)
-    (same : t.bytes ≡ old.bytes) (start : from ≤ i) (so_far : Collected t key Gives from i old now results_old results count) where
-  -- what is read next is the row's key
-  pub next_key : (mid : Source) (found : ℕ) → ReadsOn now mid 8 → found ≡ spelled_u64 (next_bytes now 8) → found ≡ key_at t i
+pub from_none : {V : Type 0} (t : Table) (key : ℕ) (Gives : List ℕ → V → Type 0) (from : ℕ) (results : List V) → FindsFrom t key Gives from results results 0
+unfolding finds_none
+from_none t key Gives from results = record { finds = finds_none t key Gives results; rows = All-nil (λ h. from ≤ h.row) }
+
+module _ {V : Type 0} (t : Table) (key : ℕ) (Gives : List ℕ → V → Type 0) (from i to : ℕ) (old results : List V) (count : ℕ) where
+  pub around_start : FindsFrom t key Gives to old results count → FindsAround t key Gives from i to old results count
+  around_start found = record {
+    finds = found.finds;
+    rows = All-weaker (λ h. to ≤ h.row) (λ h. ((from ≤ h.row) × (h.row < i)) ⊎ (to ≤ h.row)) (λ h past. inr past) found.finds.found found.rows;
+  }
+
+  pub around_end : from ≤ to → FindsAround t key Gives from i to old results count → FindsFrom t key Gives from old results count
+  around_end le found = record {
+    finds = found.finds;
+    rows = All-weaker (λ h. ((from ≤ h.row) × (h.row < i)) ⊎ (to ≤ h.row)) (λ h. from ≤ h.row) (λ h at. elim at [ inl here ↦ here.0 | inr past ↦ omega (arith, le, past) ])
+        found.finds.found found.rows;
+  }
+
+  pub around_skip : FindsAround t key Gives from i to old results count → FindsAround t key Gives from (i + 1) to old results count
+  around_skip found = record {
+    finds = found.finds;
+    rows = All-weaker (λ h. ((from ≤ h.row) × (h.row < i)) ⊎ (to ≤ h.row)) (λ h. ((from ≤ h.row) × (h.row < i + 1)) ⊎ (to ≤ h.row))
+        (λ h at. elim at [ inl here ↦ inl (here.0, omega (arith, here.1)) | inr past ↦ inr past ]) found.finds.found found.rows;
+  }
+
+  pub around_keep : (value : V) (new : List V) (count_new : ℕ) → FindsAround t key Gives from i to old results count → from ≤ i → i < to
+      → IsHit t key Gives (record { row = i; value = value }) → Kept results new count value count_new → FindsAround t key Gives from (i + 1) to old new count_new
+  unfolding finds_push around_skip
+  around_keep value new count_new found le lt is_hit kept = elim (cases_lt count (length results)) [
+    | inl room ↦ let hit : Hit V = record { row = i; value = value } in
+        let more : FindsAround t key Gives from (i + 1) to old (set results count value) (count + 1) = record {
+          finds = finds_push t key Gives old results count hit found.finds room is_hit
+              (All-weaker (λ h. ((from ≤ h.row) × (h.row < i)) ⊎ (to ≤ h.row)) (λ h. OtherRow h hit)
+              (λ h at same. elim at [ inl here ↦ absurd (omega (arith, here.1, same)) | inr past ↦ absurd (omega (arith, past, lt, same)) ]) found.finds.found found.rows);
+          rows = All-push (λ h. ((from ≤ h.row) × (h.row < i + 1)) ⊎ (to ≤ h.row)) found.finds.found hit (around_skip found).rows (inl (le, omega arith));
+        } in
+        rw ((kept.room room).0, (kept.room room).1) more
+    | inr full ↦ rw ((kept.full full).0, (kept.full full).1) (around_skip found)
+  ]
+
+-- the key that is read at a row's place
+module _ (t : Table) (i : ℕ) (now mid : Source) (same : now.bytes ≡ t.bytes) (at : now.at ≡ place t i) (reads : ReadsOn now mid 8) where
+  pub key_is : (found : ℕ) → found ≡ spelled_u64 (next_bytes now 8) → found ≡ key_at t i
   unfolding key_at
-  next_key mid found reads is_key =
-      is_key ∙ (λ j. spelled_u64 (take 8 (drop (so_far.at j) ((so_far.serves.bytes ∙ sym same) j))))
+  key_is found is_key = is_key ∙ (λ j. spelled_u64 (take 8 (drop (at j) (same j))))
 
-  pub next_has_key : (mid : Source) → ReadsOn now mid 8 → HasKey t i
-  next_has_key mid reads = omega (arith, reads.within (omega arith), so_far.at, ap length so_far.serves.bytes, ap length same)
+  pub key_there : HasKey t i
+  key_there = omega (arith, reads.within (omega arith), at, ap length same)
 
-  -- and then its value
-  pub next_value : (mid : Source) → ReadsOn now mid 8 → next_bytes mid t.width ≡ value_at t i
-  next_value mid reads =
-      ap (λ s. next_bytes s t.width) reads.after ∙ (λ j. take t.width (drop (so_far.at j + 8) ((so_far.serves.bytes ∙ sym same) j)))
+  pub past_key : mid.at ≡ place t i + 8
+  past_key = omega (arith, ap (λ s. s.at) reads.after, at)
 
-  pub next_row : (mid after : Source) → ReadsOn now mid 8 → ReadsOn mid after t.width → place t (i + 1) ≤ length t.bytes
-  next_row mid after reads reads_value =
-      let inside : mid.at ≤ length mid.bytes = omega (
-        arith,
-        next_has_key mid reads,
-        ap (λ s. s.at) reads.after,
-        ap (λ s. length s.bytes) reads.after,
-        so_far.at,
-        ap length so_far.serves.bytes,
-        ap length same,
-      ) in
-      omega (
-        arith,
-        reads_within mid after t.width reads_value inside,
-        ap (λ s. s.at) reads.after,
-        ap (λ s. length s.bytes) reads.after,
-        so_far.at,
-        ap length so_far.serves.bytes,
-        ap length same,
-        row_place-next t.start t.width i,
-      )
+  pub key_bytes : mid.bytes ≡ t.bytes
+  key_bytes = ap (λ s. s.bytes) reads.after ∙ same
 
-  -- one more row, with a key that is not greater
-  collected_next : (mid after : Source) (results_new : List V) (count_new : ℕ) → ReadsOn now mid 8 → ReadsOn mid after t.width → i < t.rows → key_at t i ≤ key
-      → (finds : Finds t key Gives results_old results_new count_new) → All (λ hit. hit.row < i + 1) finds.found
-      → count_new + hits_below t key from ≡ min (hits_below t key (i + 1)) (length results_old + hits_below t key from)
-      → Collected t key Gives from (i + 1) old after results_old results_new count_new
-  collected_next mid after results_new count_new reads reads_value within not_greater finds before counted = record {
+-- the value that is read behind a row's key
+module _ (t : Table) (i : ℕ) (mid after : Source) (same : mid.bytes ≡ t.bytes) (at : mid.at ≡ place t i + 8) (reads : ReadsOn mid after t.width) where
+  pub value_is : next_bytes mid t.width ≡ value_at t i
+  value_is = λ j. take t.width (drop (at j) (same j))
+
+  pub row_there : HasKey t i → place t (i + 1) ≤ length t.bytes
+  row_there there = omega (
+    arith,
+    there,
+    reads_within mid after t.width reads (omega (arith, there, at, ap length same)),
+    at,
+    ap length same,
+    row_place-next t.start t.width i,
+  )
+
+  pub past_row : after.at ≡ place t (i + 1)
+  past_row = omega (arith, ap (λ s. s.at) reads.after, at, row_place-next t.start t.width i)
+
+pub collected_start : {V : Type 0} (t : Table) (key : ℕ) (Gives : List ℕ → V → Type 0) (from to : ℕ) (old : Source) (results : List V) (had : ℕ)
+    → old.at ≡ place t from → had ≤ length results → Collected t key Gives from from to 0 old old results results had had
+collected_start t key Gives from to old results had at room = record {
+  serves = serves_still old;
+  at = at;
+  seeks = refl;
+  read = omega arith;
+  finds = λ before found. around_start t key Gives from from to before results had found;
+  counted = omega (arith, room);
+}
+
+-- one more row has the key: the numbers of kept results
+counts_keep : {V : Type 0} (t : Table) (key from i had : ℕ) (value : V) (results new : List V) (places count count_new : ℕ) → Counts t key from i places had count
+    → HasKey t i → key_at t i ≡ key → length results ≡ places → Kept results new count value count_new → Counts t key from (i + 1) places had count_new
+counts_keep t key from i had value results new places count count_new counted there same_key len kept = elim (cases_lt count (length results)) [
+  | inl room ↦ omega (arith, (kept.room room).1, room, len, counted, hits_below-hit t key i there same_key)
+  | inr full ↦ omega (arith, (kept.full full).1, full, len, counted, hits_below-hit t key i there same_key)
+]
+
+-- the first of a run of rows with the key, whose key was read before
+pub collected_first : {V : Type 0} (t : Table) (key : ℕ) (Gives : List ℕ → V → Type 0) (from to : ℕ) (old after : Source) (results new : List V) (had count : ℕ) (value : V)
+    → old.bytes ≡ t.bytes → old.at ≡ place t from + 8 → IsRow t key from → from < to → had ≤ length results → ReadsOn old after t.width
+    → Gives (value_at t from) value → Kept results new had value count → Collected t key Gives from (from + 1) to 8 old after results new had count
+collected_first t key Gives from to old after results new had count value same at is_row lt room reads gives kept = record {
+  serves = serves_advanced old old after t.width (serves_still old) reads.after;
+  at = past_row t from old after same at reads;
+  seeks = ap (λ s. s.seeks) reads.after;
+  read = omega (arith, ap (λ s. s.read) reads.after, row_place-next t.start t.width from);
+  finds = λ before found. around_keep t key Gives from from to before results had value new count
+      (around_start t key Gives from from to before results had found) (omega arith) lt
+      (record { within = is_row.within; there = row_there t from old after same at reads is_row.there; same_key = is_row.same_key; gives = gives }) kept;
+  counted = counts_keep t key from from had value results new (length results) had count (omega (arith, room)) is_row.there is_row.same_key refl kept;
+}
+
+module _ {V : Type 0} (t : Table) (key : ℕ) (Gives : List ℕ → V → Type 0) (from i to skip : ℕ) (old now mid after : Source) (results_old results : List V) (had count : ℕ)
+    (same : old.bytes ≡ t.bytes) (so_far : Collected t key Gives from i to skip old now results_old results had count)
+    (reads : ReadsOn now mid 8) (reads_value : ReadsOn mid after t.width) where
+  now_same : now.bytes ≡ t.bytes
+  now_same = so_far.serves.bytes ∙ same
+
+  collected_next : (new : List V) (count_new : ℕ)
+      → ((before : List V) → FindsAround t key Gives from i to before results count → FindsAround t key Gives from (i + 1) to before new count_new)
+      → Counts t key from (i + 1) (length results_old) had count_new → Collected t key Gives from (i + 1) to skip old after results_old new had count_new
+  collected_next new count_new finds counted = record {
     serves = serves_advanced old mid after t.width (serves_advanced old now mid 8 so_far.serves reads.after) reads_value.after;
-    at = omega (arith, ap (λ s. s.at) reads_value.after, ap (λ s. s.at) reads.after, so_far.at, row_place-next t.start t.width i);
+    at = past_row t i mid after (key_bytes t i now mid now_same so_far.at reads) (past_key t i now mid now_same so_far.at reads) reads_value;
     seeks = ap (λ s. s.seeks) reads_value.after ∙ ap (λ s. s.seeks) reads.after ∙ so_far.seeks;
     read = omega (arith, ap (λ s. s.read) reads_value.after, ap (λ s. s.read) reads.after, so_far.read, row_place-next t.start t.width i);
-    few = λ high sorted above none. few_next high sorted above none;
-    finds = finds;
-    before = before;
+    finds = λ before found. finds before (so_far.finds before found);
     counted = counted;
   }
-    where
-      back : from ≤ i → from + (i + 1 - from) ≡ i + 1
-      back le = omega (arith, le)
 
-      few_next : (high : ℕ) → IsSorted t → from ≤ high → NoneSmaller t key high → i + 1 + hits_below t key from ≤ high + hits_below t key (i + 1)
-      few_next high sorted above none = elim (cases_lt i high) [
-        | inl inside ↦ omega (arith, inside, hits_below-le t key from (i + 1 - from), ap (hits_below t key) (back start))
-        | inr past ↦ omega (
-          arith,
-          so_far.few high sorted above none,
-          hits_below-hit t key i (next_has_key mid reads) (omega (arith, not_greater, none i past within (next_has_key mid reads))),
-        )
-      ]
+  pub collected_keep : (value : V) (new : List V) (count_new : ℕ) → from ≤ i → i < to → i < t.rows → key_at t i ≡ key → Gives (next_bytes mid t.width) value
+      → length results ≡ length results_old → Kept results new count value count_new → Collected t key Gives from (i + 1) to skip old after results_old new had count_new
+  collected_keep value new count_new le lt within same_key gives len kept =
+      let there : HasKey t i = key_there t i now mid now_same so_far.at reads in
+      let mid_same = key_bytes t i now mid now_same so_far.at reads in
+      let mid_at = past_key t i now mid now_same so_far.at reads in
+      let is_hit : IsHit t key Gives (record { row = i; value = value }) = record {
+        within = within;
+        there = row_there t i mid after mid_same mid_at reads_value there;
+        same_key = same_key;
+        gives = subst (λ bytes. Gives bytes value) (value_is t i mid after mid_same mid_at reads_value) gives;
+      } in
+      collected_next new count_new (λ before found. around_keep t key Gives from i to before results count value new count_new found le lt is_hit kept)
+      (counts_keep t key from i had value results new (length results_old) count count_new so_far.counted there same_key len kept)
 
-  -- the row has the key, and there is room
-  pub collected_hit : (mid after : Source) (value : V) → ReadsOn now mid 8 → ReadsOn mid after t.width → i < t.rows → key_at t i ≡ key
-      → Gives (value_at t i) value → count < length results → length results ≡ length results_old
-      → Collected t key Gives from (i + 1) old after results_old (set results count value) (count + 1)
-  unfolding finds_push
-  collected_hit mid after value reads reads_value within same_key gives room len =
-      let hit : Hit V = record { row = i; value = value } in
-      collected_next mid after (set results count value) (count + 1) reads reads_value within (omega (arith, same_key))
-      (finds_push t key Gives results_old results count hit so_far.finds room
-      (record { within = within; there = next_row mid after reads reads_value; same_key = same_key; gives = gives }) so_far.before)
-      (All-push (λ h. h.row < i + 1) so_far.finds.found hit
-      (All-weaker (λ h. h.row < i) (λ h. h.row < i + 1) (λ h below. omega (arith, below)) so_far.finds.found so_far.before) (omega arith))
-      (omega (arith, room, len, so_far.counted, hits_below-hit t key i (next_has_key mid reads) same_key))
+  pub collected_skip : key_at t i ≢ key → Collected t key Gives from (i + 1) to skip old after results_old results had count
+  collected_skip other =
+      collected_next results count (λ before found. around_skip t key Gives from i to before results count found)
+      (omega (arith, so_far.counted, hits_below-miss t key i other))
 
-  -- the row has the key, and there is no room; or it has a smaller key
-  pub collected_skip : (mid after : Source) → ReadsOn now mid 8 → ReadsOn mid after t.width → i < t.rows → key_at t i ≤ key
-      → (key_at t i ≡ key → length results ≤ count) → length results ≡ length results_old
-      → Collected t key Gives from (i + 1) old after results_old results count
-  collected_skip mid after reads reads_value within not_greater full len =
-      collected_next mid after results count reads reads_value within not_greater so_far.finds
-      (All-weaker (λ h. h.row < i) (λ h. h.row < i + 1) (λ h below. omega (arith, below)) so_far.finds.found so_far.before)
-      (elim (eq-or-lt_of_le not_greater) [
-        | inl same_key ↦ omega (arith, full same_key, len, so_far.counted, hits_below-hit t key i (next_has_key mid reads) same_key)
-        | inr less ↦ so_far.counted ∙ ap (λ n. min n (length results_old + hits_below t key from)) (sym (hits_below-miss t key i (λ e. absurd (omega (arith, less, e)))))
-      ])
-
-  -- past a greater key of a sorted table no row counts
-  pub hits_before_greater : (mid : Source) → ReadsOn now mid 8 → i < t.rows → key < key_at t i → IsSorted t → hits t key ≡ hits_below t key i
-  hits_before_greater mid reads within greater sorted =
-      ap (hits_below t key) (omega (arith, within))
-      ∙ hits_below-none t key i (t.rows - i) (λ j above below there same_key. absurd (omega (
-        arith,
-        greater,
-        same_key,
-        keys_ascend t i j sorted above (omega (arith, below, within)) there,
-      )))
-
-  -- rows up to before `to` and no more were read, the last of them perhaps in part
-  pub walks_to : (new : Source) (to extra : ℕ) → new.bytes ≡ now.bytes → new.seeks ≡ now.seeks → new.read ≤ now.read + extra
-      → i ≤ to → to ≤ i + 1 → place t i + extra ≤ place t to → i ≤ t.rows → Walks t key from old new
-  walks_to new to extra bytes seeks read least most within inside = record {
+-- the end of a pass
+module _ {V : Type 0} (t : Table) (key : ℕ) (Gives : List ℕ → V → Type 0) (from i to : ℕ) (old now : Source) (results_old results : List V) (had count : ℕ)
+    (so_far : Collected t key Gives from i to 0 old now results_old results had count) where
+  -- in row i, of which no more than all was read
+  pub passes_part : (new : Source) (part : ℕ) → new.bytes ≡ now.bytes → new.seeks ≡ now.seeks → new.read ≤ now.read + part → part ≤ 8 + t.width
+      → i < to → Passes t from to old new
+  passes_part new part bytes seeks read most lt = record {
     bytes = bytes ∙ so_far.serves.bytes;
     seeks = seeks ∙ so_far.seeks;
-    rows = to - from;
-    read = omega (arith, read, so_far.read, within, row_place-add t.start t.width from (to - from), ap (place t) (rest least));
-    few = λ high sorted above none. omega (
-      arith,
-      so_far.few high sorted above none,
-      most,
-      start,
-      above,
-      hits_below-le t key i (t.rows - i),
-      ap (hits_below t key) (end inside),
-    );
+    read = omega (arith, read, most, so_far.read, row_place-next t.start t.width i, row_place-le t.start t.width (i + 1) to (omega (arith, lt)));
   }
-    where
-      rest : i ≤ to → from + (to - from) ≡ to
-      rest le = omega (arith, le, start)
 
-      end : i ≤ t.rows → i + (t.rows - i) ≡ t.rows
-      end le = omega (arith, le)
+-- the end of a run of rows with the key
+module _ {V : Type 0} (t : Table) (key : ℕ) (Gives : List ℕ → V → Type 0) (from i to : ℕ) (old now : Source) (results_old results : List V) (had count : ℕ)
+    (so_far : Keeps t key Gives from i to old now results_old results had count) (start : from ≤ i) where
+  -- in the key of row i
+  pub runs_part : (new : Source) (part : ℕ) → new.bytes ≡ now.bytes → new.seeks ≡ now.seeks → new.read ≤ now.read + part → part ≤ 8 → i ≤ to → Runs t key from to old new
+  runs_part new part bytes seeks read most le = record {
+    bytes = bytes ∙ so_far.collected.serves.bytes;
+    seeks = seeks ∙ so_far.collected.seeks;
+    end = i;
+    past = start;
+    within = le;
+    equal = omega (arith, so_far.equal);
+    read = omega (arith, read, most, so_far.collected.read);
+  }
+
+  -- in the value of row i
+  pub runs_row : (new : Source) → new.bytes ≡ now.bytes → new.seeks ≡ now.seeks → new.read ≤ now.read + (8 + t.width) → HasKey t i → key_at t i ≡ key
+      → i < to → Runs t key from to old new
+  runs_row new bytes seeks read there same_key lt = record {
+    bytes = bytes ∙ so_far.collected.serves.bytes;
+    seeks = seeks ∙ so_far.collected.seeks;
+    end = i + 1;
+    past = omega (arith, start);
+    within = omega (arith, lt);
+    equal = omega (arith, so_far.equal, hits_below-hit t key i there same_key);
+    read = omega (arith, read, so_far.collected.read, row_place-next t.start t.width i);
+  }
+
+-- the first value of a run was read in part
+pub runs_first : (t : Table) (key from to : ℕ) (old new : Source) → IsRow t key from → from < to → new.bytes ≡ old.bytes → new.seeks ≡ old.seeks
+    → new.read ≤ old.read + t.width → Runs t key from to old new
+runs_first t key from to old new is_row lt bytes seeks read = record {
+  bytes = bytes;
+  seeks = seeks;
+  end = from + 1;
+  past = omega arith;
+  within = omega (arith, lt);
+  equal = omega (arith, hits_below-hit t key from is_row.there is_row.same_key);
+  read = omega (arith, read, row_place-next t.start t.width from);
+}
+
+-- past a greater key nothing more counts
+pub counts_rest : (t : Table) (key from i to places had count : ℕ) → Counts t key from i places had count → hits_below t key to ≡ hits_below t key i
+    → Counts t key from to places had count
+counts_rest t key from i to places had count counted none = omega (arith, counted, none)

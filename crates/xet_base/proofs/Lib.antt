@@ -9,8 +9,14 @@ pub mod Lists
 pub mod Reading
 pub mod Worked
 pub mod Tables
+pub mod Progress
+pub mod Quarter
+pub mod Probing
+pub mod Course
+pub mod Even
+pub mod Searching
+pub mod Bounds
 pub mod Search
 pub mod Collecting
-pub mod Bounds
 pub mod KnownTable
 pub mod KeyedHash

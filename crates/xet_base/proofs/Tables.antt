@@ -1,8 +1,8 @@
 -- The places of a table's rows, and how many of the first rows hold a key.
-use Rattle.std.proofs.Common.{◌≡◌, ◌≢◌, inl, inr, ◌&&◌, ◌==◌, if◌then◌else◌, nat_le, ℕ, zero, suc, ◌+◌, ◌*◌, ◌<◌, ◌≤◌, length, refl, ap, ◌∙◌, add-one, add-zero, arith}
+use Rattle.std.proofs.Common.{◌≡◌, ◌≢◌, inl, inr, ◌&&◌, ◌==◌, if◌then◌else◌, nat_le, ℕ, zero, suc, ◌+◌, ◌-◌, ◌*◌, ◌<◌, ◌≤◌, length, refl, ap, ◌∙◌, add-one, add-zero, arith}
 use Rattle.std.proofs.lemmas.Bool.{le-leb, lt-leb, eq-eqb, ne_eqb, and_from, and_left, and_right, cond-true, cond-false, cases_lt}
-use Rattle.std.proofs.Math.Nat.{add-mul, mul-le-mul_right}
-use Rattle.xet_base.specs.Table.{Table, row_place, place, key_at, HasKey, hits_below}
+use Rattle.std.proofs.Math.Nat.{add-mul, mul-le-mul_right, eq-or-lt_of_le}
+use Rattle.xet_base.specs.Table.{Table, row_place, place, key_at, HasKey, IsSorted, hits_below}
 
 pub row_place-zero : (start width : ℕ) → row_place start width 0 ≡ start
 unfolding row_place
@@ -19,10 +19,6 @@ row_place-next start width i = omega (arith, row_place-add start width i 1)
 pub row_place-le : (start width i j : ℕ) → i ≤ j → row_place start width i ≤ row_place start width j
 unfolding row_place
 row_place-le start width i j le = omega (arith, mul-le-mul_right (8 + width) le)
-
--- a row that is not the first stands at least a row's bytes past the start
-pub row_place-row : (start width i : ℕ) → 0 < i → 8 + width ≤ row_place start width i
-row_place-row start width i some = omega (arith, row_place-next start width 0, row_place-le start width 1 i (omega arith))
 
 hits_below-suc : (t : Table) (key i : ℕ) → hits_below t key (suc i) ≡ hits_below t key i + (if nat_le (place t i + 8) (length t.bytes) && (key_at t i == key) then 1 else 0)
 unfolding hits_below
@@ -68,3 +64,21 @@ hits_below-none t key i (suc n) none =
       | inr there ↦ hits_below-miss t key (i + n) (none (i + n) (omega arith) (omega arith) there)
     ] in
     ap (hits_below t key) (omega arith) ∙ next ∙ before
+
+-- on a sorted table a later key is no smaller
+pub keys_ascend : (t : Table) (i j : ℕ) → IsSorted t → i ≤ j → j < t.rows → HasKey t j → key_at t i ≤ key_at t j
+keys_ascend t i j sorted le within there = elim (eq-or-lt_of_le le) [
+  | inl same ↦ omega (arith, ap (key_at t) same)
+  | inr less ↦ sorted i j less within there
+]
+
+-- past a greater key of a sorted table no row counts
+pub none_after : (t : Table) (key i j : ℕ) → IsSorted t → HasKey t i → key < key_at t i → i ≤ j → j ≤ t.rows → hits_below t key j ≡ hits_below t key i
+none_after t key i j sorted there greater le within =
+    ap (hits_below t key) (omega (arith, le))
+    ∙ hits_below-none t key i (j - i) (λ n above below n_there same_key. absurd (omega (
+      arith,
+      greater,
+      same_key,
+      keys_ascend t i n sorted above (omega (arith, below, le, within)) n_there,
+    )))

@@ -3,6 +3,7 @@ pub mod Errors
 pub mod Hash
 pub mod Hex
 pub mod KeyedHash
+pub mod Probes
 pub mod Search
 pub mod Source
 pub mod Table

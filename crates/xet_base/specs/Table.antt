@@ -1,6 +1,6 @@
 -- A table of rows in the bytes of a source, each an eight byte key and a value of one width: the rows that hold
 -- a key, what a search may answer, and what it may cost.
-use Rattle.std.specs.Prelude.{◌≡◌, ◌≢◌, ◌⊎◌, ◌&&◌, ◌==◌, ℕ, zero, suc, ◌+◌, ◌*◌, ◌/◌, ◌^◌, ◌<◌, ◌≤◌, ◌++◌, List, length, take, drop, map, All, AllPairs, nat_le, string_bytes, [], Some, Ok, Err, if◌then◌else◌}
+use Rattle.std.specs.Prelude.{◌≡◌, ◌≢◌, ◌⊎◌, ◌&&◌, ◌==◌, ℕ, zero, suc, ◌+◌, ◌-◌, ◌*◌, ◌/◌, ◌^◌, ◌<◌, ◌≤◌, ◌++◌, List, length, take, drop, map, All, AllPairs, nat_le, string_bytes, [], Some, Ok, Err, if◌then◌else◌}
 use Rattle.std.specs.declared.result.Result.{Result}
 use Rattle.std.specs.Int.{from_le_bytes, w64}
 use Rattle.std.specs.IoError.{error_kind}
@@ -54,6 +54,15 @@ hits_below t key (suc n) = hits_below t key n + (if nat_le (place t n + 8) (leng
 
 abbrev pub hits : Table → ℕ → ℕ
 hits t key = hits_below t key t.rows
+
+-- the distance of the keys of an even table with so many rows
+abbrev pub even_step : ℕ → ℕ
+even_step rows = (2 ^ 64 - 1) / (rows + 1)
+
+-- keys are the multiples of one distance, as far as the bytes go
+pub record IsEven (t : Table) : Type 0 where
+  pub wide : t.rows + 1 ≤ even_step t.rows
+  pub keys : (i : ℕ) → i < t.rows → HasKey t i → key_at t i ≡ (i + 1) * even_step t.rows
 
 -- a row, and a value that was read from it
 pub record Hit (V : Type 0) : Type 0 where

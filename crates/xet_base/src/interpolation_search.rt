@@ -1,24 +1,28 @@
 //! Search for the rows of a key in a table that is sorted by its keys.
 
-ghost use Rattle.std.specs.Prelude.{◌≡◌, ℕ, ◌+◌, ◌<◌, ◌≤◌, length, min, MatchResult, IfOk, OnOk, IfErr};
+ghost use Rattle.std.specs.Prelude.{◌≡◌, ◌+◌, ◌<◌, ◌≤◌, List, length, min, MatchResult, IfOk, OnOk, IfErr};
 ghost use Rattle.xet_base.specs.Source.{FillsNot, next_bytes};
-ghost use Rattle.xet_base.specs.Table.{table_at, place, hits_below, hits, spelled_u64, IsSorted, Finds, FitsTable, Serves, TableFailure, SearchRefused, Bounded, ReadsOn, ActsAsReadFull, Answers, Table};
-ghost use Rattle.xet_base.specs.Search.{table_in, ReadsKey, Stops, Halves, HalvesNot, Walks};
+ghost use Rattle.xet_base.specs.Table.{table_at, place, hits_below, hits, spelled_u64, IsSorted, Finds, FitsTable, Serves, TableFailure, SearchRefused, Bounded, ReadsOn, ActsAsReadFull, Answers, IsEven};
+ghost use Rattle.xet_base.specs.Search.{table_in, ReadsKey, Stops, IsRow, Kept, FindsFrom, Counts, Passes, Runs};
 
 mod table_range;
+mod window;
 
 use crate::error::{CoreError, Result};
 use crate::source::{ShardSource, read_full};
 use std::alloc::Global;
 use std::io;
 use table_range::TableRange;
+use window::Window;
 
 /// Looks in a sorted table for the rows with this key, and puts their values at the front of `results`, as
 /// many as find room. Returns how many these are.
 ///
 /// The table has `num_entries` rows from byte `read_start` of the source on: a key of eight bytes, lowest byte
 /// first, and a value of `value_width` bytes, which `read_value` reads. Takes no memory. Each result is the
-/// value of a row of its own that has the key, also where the table is not sorted.
+/// value of a row of its own that has the key, also where the table is not sorted. On an even table of fewer
+/// than `u32::MAX` rows, where row i, counted from 1, has the key `i * (u64::MAX / (num_entries + 1))`, it makes
+/// at most three seeks.
 ///
 /// `InvalidShard` where `num_entries + 1` or the table's end is past 64 bits, `UnexpectedEof` where the source
 /// ends before the table does. With no place for a result it reads nothing and returns 0.
@@ -49,6 +53,8 @@ pub fn search_on_sorted_u64s<S: ShardSource, V: Default + Copy, F: Fn(&mut S) ->
     ensures kept { (S.meaning source.new).bytes ≡ (S.meaning source.old).bytes }
     ensures bounds { let t = table_at (S.meaning source.old) read_start num_entries value_width in
         IsSorted t → Bounded t key (S.meaning source.old) (S.meaning source.new) }
+    ensures even { IsEven (table_at (S.meaning source.old) read_start num_entries value_width)
+        → (S.meaning source.new).seeks ≤ (S.meaning source.old).seeks + 3 }
 {
     if results.is_empty() {
         return Ok(0);
@@ -59,7 +65,7 @@ pub fn search_on_sorted_u64s<S: ShardSource, V: Default + Copy, F: Fn(&mut S) ->
     Ok(search_rows(source, range, key, &read_value, results)?)
 }
 
-// Searches a table whose places fit 64 bits.
+// Searches a table whose places fit 64 bits. The window counts rows from 1, all else from 0.
 fn search_rows<S: ShardSource, V: Copy, F: Fn(&mut S) -> io::Result<V>>(
     source: &mut S,
     range: TableRange,
@@ -78,67 +84,141 @@ fn search_rows<S: ShardSource, V: Copy, F: Fn(&mut S) -> io::Result<V>>(
     ensures kept { (S.meaning source.new).bytes ≡ (S.meaning source.old).bytes }
     ensures bounds { IsSorted (table_in range (S.meaning source.old).bytes)
         → Bounded (table_in range (S.meaning source.old).bytes) key (S.meaning source.old) (S.meaning source.new) }
+    ensures even { IsEven (table_in range (S.meaning source.old).bytes)
+        → (S.meaning source.new).seeks ≤ (S.meaning source.old).seeks + 3 }
 {
-    let first = halve(source, range, key)?;
-    source.seek_to(range.place(first))?;
-    collect(source, range, first, key, read_value, results)
-}
-
-// Halves the window in which the first row with no smaller key stands until it has at most 256 rows, and
-// returns its first row.
-fn halve<S: ShardSource>(source: &mut S, range: TableRange, key: u64) -> io::Result<u64>
-    ensures { MatchResult result
-        (Halves (table_in range (S.meaning source.old).bytes) key (S.meaning source.old) (S.meaning source.new))
-        (HalvesNot (table_in range (S.meaning source.old).bytes) (S.meaning source.old) (S.meaning source.new)) }
-{
-    let mut low = 0;
-    let mut high = range.rows;
-    while high - low > 256 {
-        let middle = low + (high - low) / 2;
-        if read_key_of(source, range, middle)? < key {
-            low = middle + 1;
-        } else {
-            high = middle;
+    let mut window = Window::new(range.rows, key);
+    let mut count = 0;
+    while window.high - window.low > 256 {
+        let found = read_key_of(source, range, window.probe - 1)?;
+        if found == key {
+            count = keep_equal(
+                source,
+                range,
+                window.probe - 1,
+                window.high - 1,
+                key,
+                read_value,
+                results,
+                count,
+            )?;
         }
+        window = window.after(found, key);
     }
-    Ok(low)
+    source.seek_to(range.place(window.low))?;
+    collect(
+        source,
+        range,
+        window.low,
+        window.high - 1,
+        key,
+        read_value,
+        results,
+        count,
+    )
 }
 
-// Reads rows from row `from` on, where the source stands, to the first with a greater key, and keeps the
-// values of those with the key.
+// Keeps the value of row `from`, whose key was just read and is the key, and those of the rows after it and
+// before `to` until a key differs. Returns how many values are kept then, `had` of them before.
+fn keep_equal<S: ShardSource, V: Copy, F: Fn(&mut S) -> io::Result<V>>(
+    source: &mut S,
+    range: TableRange,
+    from: u64,
+    to: u64,
+    key: u64,
+    read_value: &F,
+    results: &mut [V],
+    had: usize,
+) -> io::Result<usize>
+    requires callable { F.IsAlwaysCallable read_value.now }
+    requires reads { (s : _) (r : _) (t : _) → F.post read_value.now s r t
+        → ActsAsReadFull range.width (S.meaning s.now) r (S.meaning t.now) }
+    requires before { from < to }
+    requires within { to ≤ range.rows }
+    requires room { had ≤ length results.old }
+    requires equal { IsRow (table_in range (S.meaning source.old).bytes) key from }
+    requires key_read { let t = table_in range (S.meaning source.old).bytes in
+        (S.meaning source.old).at ≡ place t from + 8 }
+    ensures found { let t = table_in range (S.meaning source.old).bytes in
+        let Gives = Answers (λ s. S.meaning s.now) (F.post read_value.now) range.width in
+        (before : List V) → FindsFrom t key Gives to before results.old had
+        → IfOk result (FindsFrom t key Gives from before results.new) }
+    ensures count { let t = table_in range (S.meaning source.old).bytes in
+        IsSorted t → IfOk result (Counts t key from to (length results.old) had) }
+    ensures serves { OnOk result (Serves (S.meaning source.old) (S.meaning source.new)) }
+    ensures refused { let t = table_in range (S.meaning source.old).bytes in
+        IfErr result (TableFailure t (S.meaning source.old) (S.meaning source.new)) }
+    ensures runs { let t = table_in range (S.meaning source.old).bytes in
+        Runs t key from to (S.meaning source.old) (S.meaning source.new) }
+{
+    let value = read_value(source)?;
+    let mut count = keep(results, had, value);
+    for row in from + 1..to {
+        if read_key(source)? != key {
+            return Ok(count);
+        }
+        let value = read_value(source)?;
+        count = keep(results, count, value);
+    }
+    Ok(count)
+}
+
+// Keeps the values of the rows with the key from row `from`, where the source is, to before `to`, or to the
+// first row with a greater key, whose value is read too. Returns how many values are kept then, `had` of them
+// before.
 fn collect<S: ShardSource, V: Copy, F: Fn(&mut S) -> io::Result<V>>(
     source: &mut S,
     range: TableRange,
     from: u64,
+    to: u64,
     key: u64,
     read_value: &F,
     results: &mut [V],
+    had: usize,
 ) -> io::Result<usize>
     requires callable { F.IsAlwaysCallable read_value.now }
-    requires reads { (s : _) (r : _) (t : _) → F.post read_value.now s r t → ActsAsReadFull range.width (S.meaning s.now) r (S.meaning t.now) }
-    requires within { from ≤ range.rows }
-    requires stands { (S.meaning source.old).at ≡ place (table_in range (S.meaning source.old).bytes) from }
-    ensures found { IfOk result (Finds (table_in range (S.meaning source.old).bytes) key
-        (Answers (λ s. S.meaning s.now) (F.post read_value.now) range.width) results.old results.new) }
+    requires reads { (s : _) (r : _) (t : _) → F.post read_value.now s r t
+        → ActsAsReadFull range.width (S.meaning s.now) r (S.meaning t.now) }
+    requires before { from ≤ to }
+    requires within { to ≤ range.rows }
+    requires room { had ≤ length results.old }
+    requires at_row { let t = table_in range (S.meaning source.old).bytes in
+        (S.meaning source.old).at ≡ place t from }
+    ensures found { let t = table_in range (S.meaning source.old).bytes in
+        let Gives = Answers (λ s. S.meaning s.now) (F.post read_value.now) range.width in
+        (before : List V) → FindsFrom t key Gives to before results.old had
+        → IfOk result (FindsFrom t key Gives from before results.new) }
     ensures count { let t = table_in range (S.meaning source.old).bytes in
-        IsSorted t → IfOk result (λ n. n + hits_below t key from ≡ min (hits t key) (length results.old + hits_below t key from)) }
+        IsSorted t → IfOk result (Counts t key from to (length results.old) had) }
     ensures serves { OnOk result (Serves (S.meaning source.old) (S.meaning source.new)) }
-    ensures refused { IfErr result (TableFailure (table_in range (S.meaning source.old).bytes) (S.meaning source.old) (S.meaning source.new)) }
-    ensures walks { Walks (table_in range (S.meaning source.old).bytes) key from (S.meaning source.old) (S.meaning source.new) }
+    ensures refused { let t = table_in range (S.meaning source.old).bytes in
+        IfErr result (TableFailure t (S.meaning source.old) (S.meaning source.new)) }
+    ensures passes { let t = table_in range (S.meaning source.old).bytes in
+        Passes t from to (S.meaning source.old) (S.meaning source.new) }
 {
-    let mut count = 0;
-    for row in from..range.rows {
+    let mut count = had;
+    for row in from..to {
         let found = read_key(source)?;
         let value = read_value(source)?;
         if found > key {
             return Ok(count);
         }
-        if found == key && count < results.len() {
-            results[count] = value;
-            count += 1;
+        if found == key {
+            count = keep(results, count, value);
         }
     }
     Ok(count)
+}
+
+// Stores a value behind the first `count` results, where there is room.
+fn keep<V: Copy>(results: &mut [V], count: usize, value: V) -> usize
+    ensures { Kept results.old results.new count value result }
+{
+    if count < results.len() {
+        results[count] = value;
+        return count + 1;
+    }
+    count
 }
 
 // Reads the key of a row, by one seek.

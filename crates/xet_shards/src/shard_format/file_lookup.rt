@@ -1,10 +1,10 @@
 //! Lookup of one file on the bytes of a shard.
 
-ghost use Rattle.std.specs.Prelude.{◌≡◌, ◌⊎◌, ℕ, Option, ◌<◌, ◌≤◌, ◌^◌, length, min, MatchResult, OnOk, IfOk, IfErr};
+ghost use Rattle.std.specs.Prelude.{◌≡◌, ◌⊎◌, ℕ, Option, ◌+◌, ◌<◌, ◌≤◌, ◌^◌, length, min, MatchResult, OnOk, IfOk, IfErr};
 ghost use Rattle.std.specs.FinMap as finite;
 ghost use Rattle.xet_base.specs.Bytes.{u32_bytes};
 ghost use Rattle.xet_base.specs.Source.{FillsNot, next_bytes};
-ghost use Rattle.xet_base.specs.Table.{table_at, Finds, SearchRefused, hits, IsSorted, Serves, Bounded, ReadsOn};
+ghost use Rattle.xet_base.specs.Table.{table_at, Finds, SearchRefused, hits, IsSorted, Serves, Bounded, IsEven, ReadsOn};
 ghost use Rattle.xet_shards.specs.Shard.{Shard, IsShard};
 ghost use Rattle.xet_shards.specs.Layout.{layout, info_value};
 ghost use Rattle.xet_shards.specs.Lookup.{StartsInShard, NoStartsInShard, FoundInShard, NotFoundInShard, WithinBounds, SearchWithinBounds, file_table, IsNumber, IndexFinds, IndexRefused, ReadsInfo, ReadsInfoNot, VisitsSome, Finding, FindingNot, LookupAnswer, LookupRefused};
@@ -40,6 +40,8 @@ impl MDBShardInfo {
         ensures kept { (S.meaning source.new).bytes ≡ (S.meaning source.old).bytes }
         ensures bounds { IsSorted (file_table self.now.metadata (S.meaning source.old))
             → Bounded (file_table self.now.metadata (S.meaning source.old)) hash.now.word0 (S.meaning source.old) (S.meaning source.new) }
+        ensures even { IsEven (file_table self.now.metadata (S.meaning source.old))
+            → (S.meaning source.new).seeks ≤ (S.meaning source.old).seeks + 3 }
         ensures written { (s : Shard) → (expiry : Option ℕ) → IsShard s → (S.meaning source.old).bytes ≡ layout s expiry → self.now ≡ info_value s expiry
             → MatchResult result (StartsInShard s hash.now.word0 dest.new) (NoStartsInShard s hash.now.word0 (S.meaning source.old) (S.meaning source.new)) }
         ensures costs { (s : Shard) → (expiry : Option ℕ) → IsShard s → (S.meaning source.old).bytes ≡ layout s expiry → self.now ≡ info_value s expiry
@@ -158,6 +160,8 @@ fn find_rows<S: ShardSource>(
     ensures kept { (S.meaning source.new).bytes ≡ (S.meaning source.old).bytes }
     ensures bounds { IsSorted (table_at (S.meaning source.old) start rows 4)
         → Bounded (table_at (S.meaning source.old) start rows 4) word (S.meaning source.old) (S.meaning source.new) }
+    ensures even { IsEven (table_at (S.meaning source.old) start rows 4)
+        → (S.meaning source.new).seeks ≤ (S.meaning source.old).seeks + 3 }
 {
     let found = search_row_numbers(alloc, source, start, rows, word, dest)?;
     if found < dest.len() {
@@ -184,6 +188,8 @@ fn search_row_numbers<S: ShardSource>(
     ensures kept { (S.meaning source.new).bytes ≡ (S.meaning source.old).bytes }
     ensures bounds { IsSorted (table_at (S.meaning source.old) start rows 4)
         → Bounded (table_at (S.meaning source.old) start rows 4) word (S.meaning source.old) (S.meaning source.new) }
+    ensures even { IsEven (table_at (S.meaning source.old) start rows 4)
+        → (S.meaning source.new).seeks ≤ (S.meaning source.old).seeks + 3 }
 {
     search_on_sorted_u64s(
         alloc,

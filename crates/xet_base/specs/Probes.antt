@@ -1,0 +1,68 @@
+-- The rows that a search probes. Rows are counted from 1; `low` and `high` are the rows around those that may
+-- still have the key.
+use Rattle.std.specs.Prelude.{◌≡◌, ℕ, ◌+◌, ◌-◌, ◌*◌, ◌/◌, ◌^◌, ◌<◌, ◌≤◌, min, max}
+use Rattle.xet_base.specs.declared.interpolation_search.window.Window.{Window}
+
+-- where the key is if keys rise evenly from row `low` to row `high`; neither of the two
+unfoldable pub guess_of : ℕ → ℕ → ℕ → ℕ → ℕ → ℕ
+guess_of low low_key high high_key key =
+    min (max (low + (key - low_key) * (high - low) / (high_key - low_key)) (low + 1)) (high - 1)
+
+-- the key is between the keys of two rows, which differ
+pub record Around (low low_key high high_key key : ℕ) : Type 0 where
+  pub rows : low < high
+  pub below : low_key ≤ key
+  pub above : key ≤ high_key
+  pub apart : low_key < high_key
+
+abbrev pub AroundKey : Window → ℕ → Type 0
+AroundKey w key = Around w.low w.low_key w.high w.high_key key
+
+-- below a probed row: the guess, or a step of 256 rows where the guess is nearer
+pub record AfterBelow (low probe guess next : ℕ) : Type 0 where
+  pub step : probe < guess + 256 → next ≡ probe - min 256 (probe - (low + 1))
+  pub far : guess + 256 ≤ probe → next ≡ guess
+
+-- and above it
+pub record AfterAbove (high probe guess next : ℕ) : Type 0 where
+  pub step : guess ≤ probe + 256 → next ≡ min (probe + 256) (high - 1)
+  pub far : probe + 256 < guess → next ≡ guess
+
+-- all rows of a table, between a row of key 0 and a row of the greatest key
+pub record IsWhole (rows key : ℕ) (w : Window) : Type 0 where
+  pub low : w.low ≡ 0
+  pub low_key : w.low_key ≡ 0
+  pub high : w.high ≡ rows + 1
+  pub high_key : w.high_key ≡ 2 ^ 64 - 1
+  pub probe : w.probe ≡ guess_of 0 0 (rows + 1) (2 ^ 64 - 1) key
+
+-- the probed row has a greater key
+pub record TurnsBelow (w : Window) (key found : ℕ) (new : Window) : Type 0 where
+  pub low : new.low ≡ w.low
+  pub low_key : new.low_key ≡ w.low_key
+  pub high : new.high ≡ w.probe
+  pub high_key : new.high_key ≡ found
+  pub fits : found < 2 ^ 64
+  pub probe : AfterBelow w.low w.probe (guess_of w.low w.low_key w.probe found key) new.probe
+
+-- the probed row has a smaller key
+pub record TurnsAbove (w : Window) (key found : ℕ) (new : Window) : Type 0 where
+  pub low : new.low ≡ w.probe
+  pub low_key : new.low_key ≡ found
+  pub high : new.high ≡ w.high
+  pub high_key : new.high_key ≡ w.high_key
+  pub probe : AfterAbove w.high w.probe (guess_of w.probe found w.high w.high_key key) new.probe
+
+-- the probed row has the key
+pub record TurnsEqual (w new : Window) : Type 0 where
+  pub low : new.low ≡ w.low
+  pub low_key : new.low_key ≡ w.low_key
+  pub high : new.high ≡ w.probe
+  pub high_key : new.high_key ≡ w.high_key
+  pub probe : new.probe ≡ w.probe - min 4 (w.probe - (w.low + 1))
+
+-- what is left once the probed row's key was found
+pub record Turns (w : Window) (key found : ℕ) (new : Window) : Type 0 where
+  pub below : key < found → TurnsBelow w key found new
+  pub above : found < key → TurnsAbove w key found new
+  pub equal : found ≡ key → TurnsEqual w new
