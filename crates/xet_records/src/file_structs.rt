@@ -550,11 +550,12 @@ impl MDBFileInfo {
     /// Appends the rows of the record and returns their bytes. The error is the writer's. Asks that the
     /// record's parts fit its header.
     #[tactic(auto, unfolding(crate::specs::FileRecord::record_text, crate::specs::FileRecord::rows_text))]
-    pub fn serialize<W: Write>(&self, writer: &mut W) -> io::Result<usize>
+    pub fn serialize<W: Write>(&self, writer: &mut W) -> Result<usize>
         requires { FitsItsHeader self.now }
         ensures text { OnOk result
             (Appends (W.contents writer.old) (W.contents writer.new) (record_text self.now)) }
         ensures count { IfOk result (λ n. n ≡ 48 * row_count self.now) }
+        ensures causes { IfErr result IsDeviceError }
     {
         write_row(&self.metadata, writer)?;
         write_rows(&self.segments, writer)?;

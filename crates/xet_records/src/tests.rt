@@ -291,12 +291,11 @@ fn a_writer_fails_in_mid_record(rt: HostRuntime) -> std::result::Result<(), Fail
     let file = full_file(rt.alloc())?;
     let broken = Some(ErrorKind::BrokenPipe);
     for left in 0..288u64 {
-        let failed = file.serialize(&mut Full { left }).err();
-        assert_eq!(rt;
-            failed.map(|error| error.kind()),
-            broken,
-            "after {left} bytes"
-        );
+        let failed = match file.serialize(&mut Full { left }) {
+            Err(CoreError::Io(error)) => Some(error.kind()),
+            _ => None,
+        };
+        assert_eq!(rt; failed, broken, "after {left} bytes");
     }
     assert!(rt; file.serialize(&mut Full { left: 288 }).is_ok());
     let failed = [
