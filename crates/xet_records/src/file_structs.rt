@@ -12,6 +12,7 @@ ghost use Rattle.xet_records.specs.XorbRecord.{total_bytes, segment_of};
 ghost use Rattle.xet_records.specs.Rows.{ReadsRow};
 ghost use Rattle.xet_records.specs.Reading.{ReadsRecord, ReadsRowsAfter, ReadsBookend, IsCutShort, HasTooManyRows};
 ghost use Rattle.xet_base.specs.Source.{Takes, ReadFails};
+ghost use Rattle.xet_base.specs.Table.{IsBareInvalidShard};
 ghost use Rattle.xet_base.specs.Errors.{IsEndOfInput, IsDeviceError, IsInvalidShard};
 
 use crate::rows::{
@@ -576,7 +577,7 @@ impl MDBFileInfo {
         ensures end { IfErr result (λ e. IsEndOfInput e → IfSome (R.remaining reader.old) (IsCutShort file_records)) }
         ensures invalid { IfErr result
             (λ e. IsInvalidShard e → IfSome (R.remaining reader.old) (HasTooManyRows file_records)) }
-        ensures causes { IfErr result (λ e. IsDeviceError e ⊎ IsInvalidShard e) }
+        ensures causes { IfErr result (λ e. IsDeviceError e ⊎ IsBareInvalidShard e) }
         ensures whole { OnOk result (IfSome (R.remaining reader.old) (λ bytes. ¬ IsCutShort file_records bytes)) }
         ensures fits { OnOk result (IfSome (R.remaining reader.old) (λ bytes. ¬ HasTooManyRows file_records bytes)) }
         ensures again { (r : MDBFileInfo) → (rest : List ℕ) → IsStored r → R.remaining reader.old ≡ Some (record_text r ++ rest)
