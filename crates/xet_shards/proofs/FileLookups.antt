@@ -274,20 +274,20 @@ module _ (files : List MDBFileInfo) (xorbs : List MDBXorbInfo) (form : Form) (is
   -- it is read, unless the device fails or memory is refused
   pub record_is_read : (i : ℕ) (new : Source) (e : CoreError) → i < length files → InfoRefusal 48 (start_at i) old new e → DeviceFailure old new e ⊎ (e ≡ OutOfMemory)
   record_is_read i new e within (inl (none, bare, past)) = absurd (omega (arith, past, start_bound i within))
-  record_is_read i new e within (inr (inl (none, bare, bookend))) =
+  record_is_read i new e within (inr (fits, inl (none, bare, bookend))) =
       absurd ((stored_at i within).is_file (ap (λ (h : FileDataSequenceHeader). h.file_hash) (sym (header_is i bookend.header bookend.rest within bookend.widths bookend.bytes_are).0) ∙ bookend.is_bookend))
-  record_is_read i new e within (inr (inr (inl failed))) = inl failed
-  record_is_read i new e within (inr (inr (inr (inl (none, no_memory))))) = inr no_memory
-  record_is_read i new e within (inr (inr (inr (inr (inl (none, invalid, (h, rest, begins, past))))))) =
+  record_is_read i new e within (inr (fits, inr (inl failed))) = inl failed
+  record_is_read i new e within (inr (fits, inr (inr (inl (none, no_memory))))) = inr no_memory
+  record_is_read i new e within (inr (fits, inr (inr (inr (inl (none, invalid, (h, rest, begins, past))))))) =
       absurd (omega (arith, past, ap rows_after (header_is i h rest within begins.widths begins.bytes_are).0, start_bound i within, row_count_is i within))
-  record_is_read i new e within (inr (inr (inr (inr (inr (none, ended, inl short)))))) = absurd (omega (
+  record_is_read i new e within (inr (fits, inr (inr (inr (inr (none, ended, inl short)))))) = absurd (omega (
     arith,
     short,
     ap length (record_stands i within).1,
     length-append (record_text (file_at i)) (record_stands i within).0,
     length-stored (file_at i) (stored_at i within),
   ))
-  record_is_read i new e within (inr (inr (inr (inr (inr (none, ended, inr (h, rest, begins, few, short))))))) =
+  record_is_read i new e within (inr (fits, inr (inr (inr (inr (none, ended, inr (h, rest, begins, few, short))))))) =
       let same = header_is i h rest within begins.widths begins.bytes_are in
       absurd (omega (
         arith,

@@ -10,7 +10,9 @@ use Rattle.std.proofs.lemmas.List.Sums.{sum_by-append}
 use Rattle.xet_base.specs.declared.error.CoreError.{CoreError}
 use Rattle.xet_base.specs.declared.merklehash.DataHash.{DataHash}
 use Rattle.xet_shards.specs.Shard.{file_hash_of}
-use Rattle.xet_base.specs.Source.{Source, Takes, moved, bytes_left}
+use Rattle.std.specs.declared.io.Error.{Error}
+use Rattle.xet_base.specs.Errors.{FromDevice}
+use Rattle.xet_base.specs.Source.{Source, Takes, Fails, moved, bytes_left}
 use Rattle.xet_base.proofs.Lists.{front_is}
 use Rattle.xet_base.proofs.Reading.{Takes-consumes}
 use Rattle.xet_records.specs.declared.file_structs.MDBFileInfo.{MDBFileInfo}
@@ -21,11 +23,23 @@ use Rattle.xet_records.proofs.Lengths.{length-header_row, length-record_text}
 use Rattle.xet_records.proofs.Record.{row_count-whole}
 use Rattle.xet_records.proofs.RecordKinds.{file_laws, stored_begins}
 use Rattle.xet_shards.specs.SectionReading.{MayTake, BeginsWithBookend, PassesLimit, EndsEarly, SectionFailure, ReadsNext, RecordFails}
-use Rattle.xet_shards.specs.Lookup.{IsNumber, Collides, IndexFinds, VisitsSome, LooksUp, LookupAnswer, LookupRefused, Finding, FindingNot, row_at, RecordAt, IsBareInternalError, InfoRefusal, ReadsInfo, ReadsInfoNot, Visits, Missed}
+use Rattle.xet_shards.specs.Lookup.{IsNumber, Collides, IndexFinds, VisitsSome, LooksUp, LookupAnswer, LookupRefused, Finding, FindingNot, row_at, RecordAt, IsBareInternalError, RecordRefusal, InfoRefusal, ReadsInfo, ReadsInfoNot, Visits, Missed}
 
 -- a stored record has the rows that its header announces, and the header
 pub length-stored : (r : MDBFileInfo) → IsStored r → length (record_text r) ≡ 48 * (1 + rows_after r.metadata)
 length-stored r stored = length-record_text r stored.widths ∙ ap (λ n. 48 * n) (row_count-whole r stored.whole)
+
+-- the seek to a row failed
+pub info_no_seek : (offset row : ℕ) (old new : Source) (failure : Error) (e : CoreError) → row_at offset row < 2 ^ 64 → Fails old new 1 failure → FromDevice failure e
+    → ReadsInfoNot offset row old new e
+info_no_seek offset row old new failure e fits fails is = record {
+  bytes = fails.bytes;
+  seeks = omega (arith, fails.seeks);
+  taken = 0;
+  read = omega (arith, fails.read);
+  may_take = inl (omega arith);
+  cause = inr (fits, inr (inl (fails.failures, failure, fails.last_failure, is)));
+}
 
 -- after a seek to a row
 module _ (offset row : ℕ) (old mid new : Source) (fits : row_at offset row < 2 ^ 64) (sought : mid ≡ moved old (row_at offset row)) where
@@ -59,7 +73,7 @@ module _ (offset row : ℕ) (old mid new : Source) (fits : row_at offset row < 2
     taken = 48;
     read = omega (arith, ap (λ (s : Source). s.read) read.taken.after, ap (λ (s : Source). s.read) sought, length-header_row read.header);
     may_take = inl (omega arith);
-    cause = inr (inl (
+    cause = inr (fits, inl (
       ap (λ (s : Source). s.failures) read.taken.after ∙ ap (λ (s : Source). s.failures) sought,
       bare,
       record {
@@ -79,7 +93,7 @@ module _ (offset row : ℕ) (old mid new : Source) (fits : row_at offset row < 2
     taken = fails.taken;
     read = omega (arith, fails.read, ap (λ (s : Source). s.read) sought);
     may_take = subst (λ bytes. MayTake file_records bytes fails.taken) left_is fails.may_take;
-    cause = inr (inr (failure_after (PassesLimit file_records 4294967296) (EndsEarly file_records 4294967296) (drop (row_at offset row) old.bytes) (ap (λ (s : Source). s.failures) sought) (subst (λ bytes. SectionFailure (PassesLimit file_records 4294967296) (EndsEarly file_records 4294967296) bytes mid new e) left_is fails.cause)));
+    cause = inr (fits, inr (failure_after (PassesLimit file_records 4294967296) (EndsEarly file_records 4294967296) (drop (row_at offset row) old.bytes) (ap (λ (s : Source). s.failures) sought) (subst (λ bytes. SectionFailure (PassesLimit file_records 4294967296) (EndsEarly file_records 4294967296) bytes mid new e) left_is fails.cause)));
   }
     where
       failure_after : (Passes Ends : List ℕ → Type 0) (bytes : List ℕ) → mid.failures ≡ old.failures → SectionFailure Passes Ends bytes mid new e → SectionFailure Passes Ends bytes old new e
@@ -132,14 +146,15 @@ missed_more offset row hash rows old now new found before read other = record {
 pub refusal_after : (offset row : ℕ) (old now new : Source) (e : CoreError) → now.bytes ≡ old.bytes → now.failures ≡ old.failures → InfoRefusal offset row now new e
     → InfoRefusal offset row old new e
 refusal_after offset row old now new e bytes same (inl (none, bare, past)) = inl (none ∙ same, bare, past)
-refusal_after offset row old now new e bytes same (inr (inl (none, bare, bookend))) =
-    inr (inl (none ∙ same, bare, subst (λ bs. BeginsWithBookend file_records (drop (row_at offset row) bs)) bytes bookend))
-refusal_after offset row old now new e bytes same (inr (inr (inl failed))) = inr (inr (inl (failed.0 ∙ ap (λ k. k + 1) same, failed.1, failed.2, failed.3)))
-refusal_after offset row old now new e bytes same (inr (inr (inr (inl (none, no_memory))))) = inr (inr (inr (inl (none ∙ same, no_memory))))
-refusal_after offset row old now new e bytes same (inr (inr (inr (inr (inl (none, is, passes)))))) =
-    inr (inr (inr (inr (inl (none ∙ same, is, subst (λ bs. PassesLimit file_records 4294967296 (drop (row_at offset row) bs)) bytes passes)))))
-refusal_after offset row old now new e bytes same (inr (inr (inr (inr (inr (none, is, ends)))))) =
-    inr (inr (inr (inr (inr (none ∙ same, is, subst (λ bs. EndsEarly file_records 4294967296 (drop (row_at offset row) bs)) bytes ends)))))
+refusal_after offset row old now new e bytes same (inr (fits, refusal)) =
+    inr (fits, later (subst (λ bs. RecordRefusal (drop (row_at offset row) bs) now new e) bytes refusal))
+  where
+    later : RecordRefusal (drop (row_at offset row) old.bytes) now new e → RecordRefusal (drop (row_at offset row) old.bytes) old new e
+    later (inl (none, bare, bookend)) = inl (none ∙ same, bare, bookend)
+    later (inr (inl failed)) = inr (inl (failed.0 ∙ ap (λ k. k + 1) same, failed.1, failed.2, failed.3))
+    later (inr (inr (inl (none, no_memory)))) = inr (inr (inl (none ∙ same, no_memory)))
+    later (inr (inr (inr (inl (none, is, passes))))) = inr (inr (inr (inl (none ∙ same, is, passes))))
+    later (inr (inr (inr (inr (none, is, ends))))) = inr (inr (inr (inr (none ∙ same, is, ends))))
 
 -- places for eight results that are all taken are eight hits
 pub collides : (t : Table) (key count : ℕ) (old new : List ℕ) → Finds t key IsNumber old new count → length old ≡ 8 → length new ≡ 8 → 8 ≤ count → Collides t key

@@ -45,13 +45,18 @@ abbrev pub IsBareInternalError : CoreError → Type 0
 IsBareInternalError (InternalError text) = string_bytes text ≡ []
 IsBareInternalError _ = ⊥
 
--- why the record at a row was not read: its place is past 64 bits, a bookend stands there, the device failed, memory
--- was refused, it has more rows than 32 bits count, or the bytes are too few
+-- why the record in front of some bytes was not read: a bookend stands there, the device failed, memory was refused,
+-- it has more rows than 32 bits count, or the bytes are too few
+abbrev pub RecordRefusal : List ℕ → Source → Source → CoreError → Type 0
+RecordRefusal bytes old new e =
+    ((new.failures ≡ old.failures) × IsBareInternalError e × BeginsWithBookend file_records bytes)
+    ⊎ SectionFailure (PassesLimit file_records 4294967296) (EndsEarly file_records 4294967296) bytes old new e
+
+-- why the record at a row was not read: its place is past 64 bits; or it is not, and the record there was not read
 abbrev pub InfoRefusal : ℕ → ℕ → Source → Source → CoreError → Type 0
 InfoRefusal offset row old new e =
     ((new.failures ≡ old.failures) × IsBareInvalidShard e × (2 ^ 64 ≤ row_at offset row))
-    ⊎ ((new.failures ≡ old.failures) × IsBareInternalError e × BeginsWithBookend file_records (drop (row_at offset row) old.bytes))
-    ⊎ SectionFailure (PassesLimit file_records 4294967296) (EndsEarly file_records 4294967296) (drop (row_at offset row) old.bytes) old new e
+    ⊎ ((row_at offset row < 2 ^ 64) × RecordRefusal (drop (row_at offset row) old.bytes) old new e)
 
 -- the record at a row was read
 pub record ReadsInfo (offset row : ℕ) (old new : Source) (found : MDBFileInfo) : Type 0 where
