@@ -4,7 +4,7 @@ use Rattle.std.specs.Prelude.{IfOk}
 use Rattle.std.specs.declared.result.Result.{Result}
 use Rattle.std.proofs.lemmas.Result.{IfOk-weaker}
 use Rattle.std.proofs.lemmas.List.{length-append, length-map}
-use Rattle.xet_base.specs.Table.{Table, Serves, IsSorted, Bounded, Hit, IsHit, Finds, value_at}
+use Rattle.xet_base.specs.Table.{Table, FitsTable, Serves, IsSorted, Bounded, Hit, IsHit, Finds, value_at}
 use Rattle.std.proofs.lemmas.List.Elements.{AllZip-push, All-nil, All-push, All-weaker}
 use Rattle.std.proofs.lemmas.List.Sums.{sum_by-append}
 use Rattle.xet_base.specs.declared.error.CoreError.{CoreError}
@@ -157,8 +157,9 @@ refusal_after offset row old now new e bytes same (inr (fits, refusal)) =
     later (inr (inr (inr (inr (none, is, ends))))) = inr (inr (inr (inr (none ∙ same, is, ends))))
 
 -- places for eight results that are all taken are eight hits
-pub collides : (t : Table) (key count : ℕ) (old new : List ℕ) → Finds t key IsNumber old new count → length old ≡ 8 → length new ≡ 8 → 8 ≤ count → Collides t key
-collides t key count old new finds old_len new_len full = record {
+pub collides : (t : Table) (key count : ℕ) (old new : List ℕ) → Finds t key IsNumber old new count → FitsTable t → length old ≡ 8 → length new ≡ 8 → 8 ≤ count → Collides t key
+collides t key count old new finds fits old_len new_len full = record {
+  fits = fits;
   found = finds.found;
   eight = omega (
     arith,
@@ -201,6 +202,7 @@ module _ (t : Table) (offset count : ℕ) (hash : DataHash) (old mid new : Sourc
     (visits : VisitsSome offset (take count places_new) mid new) where
   looked_up : (Answer : List ℕ → Type 0) → Answer (take count places_new) → LooksUp t offset hash.word0 old new Answer
   looked_up Answer answer = record {
+    fits = finds.fits;
     found = finds.found;
     few = omega (arith, finds.few, finds.number);
     are_hits = finds.are_hits;

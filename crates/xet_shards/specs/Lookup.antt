@@ -7,7 +7,7 @@ use Rattle.xet_base.specs.declared.error.CoreError.TheVariants.{InternalError, O
 use Rattle.xet_base.specs.declared.merklehash.DataHash.{DataHash}
 use Rattle.xet_base.specs.Bytes.{u32_bytes}
 use Rattle.xet_base.specs.Source.{Source, DeviceFailure}
-use Rattle.xet_base.specs.Table.{Table, table_at, Hit, IsHit, OtherRow, IsSorted, hits, Bounded, SearchRefused, IsBareInvalidShard}
+use Rattle.xet_base.specs.Table.{Table, table_at, Hit, IsHit, OtherRow, IsSorted, hits, FitsTable, Bounded, SearchRefused, IsBareInvalidShard}
 use Rattle.xet_records.specs.declared.file_structs.MDBFileInfo.{MDBFileInfo}
 use Rattle.xet_records.specs.FileRecord.{record_text, file_records}
 use Rattle.xet_records.specs.Reading.{ReadsRecord}
@@ -84,8 +84,9 @@ pub record AreHits (t : Table) (key : ℕ) (found : List (Hit ℕ)) : Type 0 whe
   pub distinct : AllPairs OtherRow found
   pub all : IsSorted t → length found ≡ hits t key
 
--- eight rows of the table have the key
+-- eight rows of a table that fits 64 bits have the key
 pub record Collides (t : Table) (key : ℕ) : Type 0 where
+  pub fits : FitsTable t
   pub found : List (Hit ℕ)
   pub eight : length found ≡ 8
   pub each : All (IsHit t key IsNumber) found
@@ -96,8 +97,9 @@ abbrev pub IndexRefused : Table → ℕ → Source → Source → CoreError → 
 IndexRefused t key old new e =
     ((new.failures ≡ old.failures) × (e ≡ TruncatedHashCollision key) × Collides t key) ⊎ SearchRefused t old new e
 
--- fewer than eight rows have the key, and their row numbers are handed out
+-- the table fits 64 bits, fewer than eight rows have the key, and their row numbers are handed out
 pub record IndexFinds (t : Table) (key : ℕ) (old new : List ℕ) (count : ℕ) : Type 0 where
+  pub fits : FitsTable t
   pub found : List (Hit ℕ)
   pub few : count < 8
   pub number : length found ≡ count
@@ -116,8 +118,9 @@ pub record Visits (offset : ℕ) (rows : List ℕ) (old new : Source) : Type 0 w
 abbrev pub VisitsSome : ℕ → List ℕ → Source → Source → Type 0
 VisitsSome offset rows old new = (n : ℕ) × Visits offset (take n rows) old new
 
--- a lookup: the rows with the first word are found, and records at them read
+-- a lookup: the table fits 64 bits, the rows with the first word are found, and records at them read
 pub record LooksUp (t : Table) (offset key : ℕ) (old new : Source) (Answer : List ℕ → Type 0) : Type 0 where
+  pub fits : FitsTable t
   pub found : List (Hit ℕ)
   pub few : length found < 8
   pub are_hits : AreHits t key found

@@ -4,7 +4,7 @@ ghost use Rattle.std.specs.Prelude.{◌≡◌, ◌⊎◌, ℕ, Option, ◌<◌, 
 ghost use Rattle.std.specs.FinMap as finite;
 ghost use Rattle.xet_base.specs.Bytes.{u32_bytes};
 ghost use Rattle.xet_base.specs.Source.{FillsNot, next_bytes};
-ghost use Rattle.xet_base.specs.Table.{table_at, Finds, SearchRefused, hits, IsSorted, Serves, Bounded, ReadsOn};
+ghost use Rattle.xet_base.specs.Table.{table_at, Finds, FitsTable, SearchRefused, hits, IsSorted, Serves, Bounded, ReadsOn};
 ghost use Rattle.xet_shards.specs.Shard.{Shard, IsShard};
 ghost use Rattle.xet_shards.specs.Layout.{layout, info_value};
 ghost use Rattle.xet_shards.specs.Lookup.{StartsInShard, NoStartsInShard, FoundInShard, NotFoundInShard, WithinBounds, SearchWithinBounds, file_table, IsNumber, IndexFinds, IndexRefused, ReadsInfo, ReadsInfoNot, VisitsSome, Finding, FindingNot, LookupAnswer, LookupRefused};
@@ -180,6 +180,7 @@ fn search_row_numbers<S: ShardSource>(
     ensures count { IsSorted (table_at (S.meaning source.old) start rows 4) → IfOk result (λ n. n ≡ min
         (hits (table_at (S.meaning source.old) start rows 4) word) (length dest.old)) }
     ensures serves { OnOk result (Serves (S.meaning source.old) (S.meaning source.new)) }
+    ensures fits { OnOk result (0 < length dest.old → FitsTable (table_at (S.meaning source.old) start rows 4)) }
     ensures refused { IfErr result (SearchRefused (table_at (S.meaning source.old) start rows 4) (S.meaning source.old) (S.meaning source.new)) }
     ensures kept { (S.meaning source.new).bytes ≡ (S.meaning source.old).bytes }
     ensures bounds { IsSorted (table_at (S.meaning source.old) start rows 4)
