@@ -431,8 +431,10 @@ module _ (files : List MDBFileInfo) (xorbs : List MDBXorbInfo) (form : Form) (is
       let shared = hits_share word looks.found looks.are_hits.each looks.are_hits.distinct in
       record {
         made = bounded.made;
+        more = new.seeks - looks.searched.seeks;
         few = omega (arith, bounded.few, rows_is, table_hits word);
-        seeks = omega (arith, visits.seeks, bounded.seeks, shared, length-take n rows, length-map looks.found (λ (h : Hit ℕ). h.value));
+        few_more = omega (arith, visits.seeks, shared, length-take n rows, length-map looks.found (λ (h : Hit ℕ). h.value));
+        seeks = omega (arith, visits.no_fewer, bounded.seeks);
         read = omega (
           arith,
           visits.read,
@@ -470,7 +472,7 @@ module _ (files : List MDBFileInfo) (xorbs : List MDBXorbInfo) (form : Form) (is
   pub costs_refused : (hash : DataHash) (new : Source) (e : CoreError) → FindingNot table 48 hash old new e → WithinBounds files hash.word0 old new
   costs_refused hash new e (inl (refused, bounded)) =
       let costs = search_costs hash.word0 new (bounded table_sorted) in
-      record { made = costs.made; few = costs.few; seeks = omega (arith, costs.seeks); read = omega (arith, costs.read) }
+      record { made = costs.made; more = 0; few = costs.few; few_more = omega arith; seeks = omega (arith, costs.seeks); read = omega (arith, costs.read) }
   costs_refused hash new e (inr looks) = lookup_costs hash.word0 new (LookupRefused 48 old new e) looks
 
   -- a collision is answered after the search alone

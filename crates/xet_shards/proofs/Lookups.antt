@@ -35,6 +35,7 @@ pub info_no_seek : (offset row : ℕ) (old new : Source) (failure : Error) (e : 
 info_no_seek offset row old new failure e fits fails is = record {
   bytes = fails.bytes;
   seeks = omega (arith, fails.seeks);
+  no_fewer = omega (arith, fails.seeks);
   taken = 0;
   read = omega (arith, fails.read);
   may_take = inl (omega arith);
@@ -70,6 +71,7 @@ module _ (offset row : ℕ) (old mid new : Source) (fits : row_at offset row < 2
   info_bookend e bare read = record {
     bytes = ap (λ (s : Source). s.bytes) read.taken.after ∙ ap (λ (s : Source). s.bytes) sought;
     seeks = omega (arith, ap (λ (s : Source). s.seeks) read.taken.after, ap (λ (s : Source). s.seeks) sought);
+    no_fewer = omega (arith, ap (λ (s : Source). s.seeks) read.taken.after, ap (λ (s : Source). s.seeks) sought);
     taken = 48;
     read = omega (arith, ap (λ (s : Source). s.read) read.taken.after, ap (λ (s : Source). s.read) sought, length-header_row read.header);
     may_take = inl (omega arith);
@@ -90,6 +92,7 @@ module _ (offset row : ℕ) (old mid new : Source) (fits : row_at offset row < 2
   info_fails e fails = record {
     bytes = fails.bytes ∙ ap (λ (s : Source). s.bytes) sought;
     seeks = omega (arith, fails.seeks, ap (λ (s : Source). s.seeks) sought);
+    no_fewer = omega (arith, fails.seeks, ap (λ (s : Source). s.seeks) sought);
     taken = fails.taken;
     read = omega (arith, fails.read, ap (λ (s : Source). s.read) sought);
     may_take = subst (λ bytes. MayTake file_records bytes fails.taken) left_is fails.may_take;
@@ -104,10 +107,11 @@ module _ (offset row : ℕ) (old mid new : Source) (fits : row_at offset row < 2
 
 -- one record more
 pub visits_more : (offset row n : ℕ) (rows : List ℕ) (old now new : Source) → Visits offset rows old now → new.bytes ≡ now.bytes → new.seeks ≤ now.seeks + 1
-    → new.read ≤ now.read + n → MayTake file_records (drop (row_at offset row) now.bytes) n → Visits offset (rows ++ row ∷ []) old new
-visits_more offset row n rows old now new before bytes seeks read may_take = record {
+    → now.seeks ≤ new.seeks → new.read ≤ now.read + n → MayTake file_records (drop (row_at offset row) now.bytes) n → Visits offset (rows ++ row ∷ []) old new
+visits_more offset row n rows old now new before bytes seeks no_fewer read may_take = record {
   bytes = bytes ∙ before.bytes;
   seeks = omega (arith, seeks, before.seeks, length-append rows (row ∷ []));
+  no_fewer = omega (arith, no_fewer, before.no_fewer);
   taken = before.taken ++ n ∷ [];
   may_take = AllZip-push (λ r k. MayTake file_records (drop (row_at offset r) old.bytes) k) rows before.taken row n before.may_take
       (subst (λ bs. MayTake file_records (drop (row_at offset row) bs) n) before.bytes may_take);
@@ -117,17 +121,17 @@ visits_more offset row n rows old now new before bytes seeks read may_take = rec
 pub visits_read : (offset row : ℕ) (rows : List ℕ) (old now new : Source) (found : MDBFileInfo) → Visits offset rows old now → ReadsInfo offset row now new found
     → Visits offset (rows ++ row ∷ []) old new
 visits_read offset row rows old now new found before read =
-    visits_more offset row read.taken rows old now new before read.bytes (omega (arith, read.seeks)) (omega (arith, read.read)) read.may_take
+    visits_more offset row read.taken rows old now new before read.bytes (omega (arith, read.seeks)) (omega (arith, read.seeks)) (omega (arith, read.read)) read.may_take
 
 pub visits_read_not : (offset row : ℕ) (rows : List ℕ) (old now new : Source) (e : CoreError) → Visits offset rows old now → ReadsInfoNot offset row now new e
     → Visits offset (rows ++ row ∷ []) old new
 visits_read_not offset row rows old now new e before read =
-    visits_more offset row read.taken rows old now new before read.bytes read.seeks read.read read.may_take
+    visits_more offset row read.taken rows old now new before read.bytes read.seeks read.no_fewer read.read read.may_take
 
 -- before the first record
 pub missed_none : (offset : ℕ) (hash : DataHash) (s : Source) → Missed offset hash [] s s
 missed_none offset hash s = record {
-  visits = record { bytes = refl; seeks = omega arith; taken = []; may_take = tt; read = omega arith };
+  visits = record { bytes = refl; seeks = omega arith; no_fewer = omega arith; taken = []; may_take = tt; read = omega arith };
   failures = refl;
   others = All-nil (λ row. (found : MDBFileInfo) × RecordAt s.bytes (row_at offset row) found × (file_hash_of found ≢ hash));
 }

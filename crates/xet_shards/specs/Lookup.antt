@@ -73,6 +73,7 @@ pub record ReadsInfo (offset row : ℕ) (old new : Source) (found : MDBFileInfo)
 pub record ReadsInfoNot (offset row : ℕ) (old new : Source) (e : CoreError) : Type 0 where
   pub bytes : new.bytes ≡ old.bytes
   pub seeks : new.seeks ≤ old.seeks + 1
+  pub no_fewer : old.seeks ≤ new.seeks
   pub taken : ℕ
   pub read : new.read ≤ old.read + taken
   pub may_take : MayTake file_records (drop (row_at offset row) old.bytes) taken
@@ -110,6 +111,7 @@ pub record IndexFinds (t : Table) (key : ℕ) (old new : List ℕ) (count : ℕ)
 pub record Visits (offset : ℕ) (rows : List ℕ) (old new : Source) : Type 0 where
   pub bytes : new.bytes ≡ old.bytes
   pub seeks : new.seeks ≤ old.seeks + length rows
+  pub no_fewer : old.seeks ≤ new.seeks
   pub taken : List ℕ
   pub may_take : AllZip (λ row n. MayTake file_records (drop (row_at offset row) old.bytes) n) rows taken
   pub read : new.read ≤ old.read + sum taken
@@ -147,12 +149,14 @@ pub record Missed (offset : ℕ) (hash : DataHash) (rows : List ℕ) (old new : 
 abbrev pub LookupRefused : ℕ → Source → Source → CoreError → List ℕ → Type 0
 LookupRefused offset old new e rows = (row : ℕ) × Contains rows row × InfoRefusal offset row old new e
 
--- what a lookup on the bytes of a shard costs at most: the seeks of the search and one for each file that shares
--- the first word, the bytes of the search and the texts of these files
+-- what a lookup on the bytes of a shard costs at most: the seeks that the search made, and one more for each file
+-- that shares the first word; the bytes of the search and the texts of these files
 pub record WithinBounds (files : List MDBFileInfo) (word : ℕ) (old new : Source) : Type 0 where
   pub made : ℕ
+  pub more : ℕ
   pub few : made ≤ (length files + 1) / 128 + length (sharing word files) / 4 + 8
-  pub seeks : new.seeks ≤ old.seeks + made + length (sharing word files)
+  pub few_more : more ≤ length (sharing word files)
+  pub seeks : new.seeks ≡ old.seeks + made + more
   pub read : new.read ≤ old.read + (257 + length (sharing word files) + made) * 12 + length (flat_map record_text (sharing word files))
 
 -- what the search in it costs
