@@ -441,7 +441,7 @@ module _ (files : List MDBFileInfo) (xorbs : List MDBXorbInfo) (form : Form) (is
           bounded.read,
           table_hits word,
           texts_share word looks.found looks.are_hits.each looks.are_hits.distinct n visits.taken
-              (subst (λ bytes. AllZip (λ row k. MayTake file_records (drop (row_at 48 row) bytes) k) (take n rows) visits.taken) looks.kept visits.may_take),
+              (subst (λ bytes. AllZip (λ row k. MayTake file_records (drop (row_at 48 row) bytes) k) (take n rows) visits.taken) looks.serves.bytes visits.may_take),
         );
       }
 

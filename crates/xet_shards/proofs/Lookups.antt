@@ -15,6 +15,7 @@ use Rattle.xet_base.specs.Errors.{FromDevice}
 use Rattle.xet_base.specs.Source.{Source, Takes, Fails, moved, bytes_left}
 use Rattle.xet_base.proofs.Lists.{front_is}
 use Rattle.xet_base.proofs.Reading.{Takes-consumes}
+use Rattle.xet_base.proofs.Search.{serves_still, serves_moved, serves_advanced}
 use Rattle.xet_records.specs.declared.file_structs.MDBFileInfo.{MDBFileInfo}
 use Rattle.xet_records.specs.FileRow.{header_row}
 use Rattle.xet_records.specs.FileRecord.{record_text, rows_text, rows_after, IsStored, file_records}
@@ -54,8 +55,7 @@ module _ (offset row : ℕ) (old mid new : Source) (fits : row_at offset row < 2
       record {
         within = fits;
         stands = record { stored = read.stored; is_stored = read.is_stored; rows = read.rows; taken = (bytes_left new, are); handed = read.handed };
-        bytes = ap (λ (s : Source). s.bytes) read.taken.after ∙ ap (λ (s : Source). s.bytes) sought;
-        failures = ap (λ (s : Source). s.failures) read.taken.after ∙ ap (λ (s : Source). s.failures) sought;
+        serves = serves_advanced old mid new (length (record_text read.stored)) (serves_moved old old mid (row_at offset row) (serves_still old) sought) read.taken.after;
         seeks = ap (λ (s : Source). s.seeks) read.taken.after ∙ ap (λ (s : Source). s.seeks) sought;
         taken = length (record_text read.stored);
         read = ap (λ (s : Source). s.read) read.taken.after ∙ ap (λ (s : Source). s.read + length (record_text read.stored)) sought;
@@ -121,18 +121,26 @@ visits_more offset row n rows old now new before bytes seeks no_fewer read may_t
 pub visits_read : (offset row : ℕ) (rows : List ℕ) (old now new : Source) (found : MDBFileInfo) → Visits offset rows old now → ReadsInfo offset row now new found
     → Visits offset (rows ++ row ∷ []) old new
 visits_read offset row rows old now new found before read =
-    visits_more offset row read.taken rows old now new before read.bytes (omega (arith, read.seeks)) (omega (arith, read.seeks)) (omega (arith, read.read)) read.may_take
+    visits_more offset row read.taken rows old now new before read.serves.bytes (omega (arith, read.seeks)) (omega (arith, read.seeks)) (omega (arith, read.read)) read.may_take
 
 pub visits_read_not : (offset row : ℕ) (rows : List ℕ) (old now new : Source) (e : CoreError) → Visits offset rows old now → ReadsInfoNot offset row now new e
     → Visits offset (rows ++ row ∷ []) old new
 visits_read_not offset row rows old now new e before read =
     visits_more offset row read.taken rows old now new before read.bytes read.seeks read.no_fewer read.read read.may_take
 
+-- calls that did not fail, after others
+pub serves_after : (old now new : Source) → Serves old now → Serves now new → Serves old new
+serves_after old now new first last = record {
+  bytes = last.bytes ∙ first.bytes;
+  failures = last.failures ∙ first.failures;
+  last_failure = last.last_failure ∙ first.last_failure;
+}
+
 -- before the first record
 pub missed_none : (offset : ℕ) (hash : DataHash) (s : Source) → Missed offset hash [] s s
 missed_none offset hash s = record {
   visits = record { bytes = refl; seeks = omega arith; no_fewer = omega arith; taken = []; may_take = tt; read = omega arith };
-  failures = refl;
+  serves = serves_still s;
   others = All-nil (λ row. (found : MDBFileInfo) × RecordAt s.bytes (row_at offset row) found × (file_hash_of found ≢ hash));
 }
 
@@ -141,7 +149,7 @@ pub missed_more : (offset row : ℕ) (hash : DataHash) (rows : List ℕ) (old no
     → ReadsInfo offset row now new found → file_hash_of found ≢ hash → Missed offset hash (rows ++ row ∷ []) old new
 missed_more offset row hash rows old now new found before read other = record {
   visits = visits_read offset row rows old now new found before.visits read;
-  failures = read.failures ∙ before.failures;
+  serves = serves_after old now new before.serves read.serves;
   others = All-push (λ r. (info : MDBFileInfo) × RecordAt old.bytes (row_at offset r) info × (file_hash_of info ≢ hash)) rows row before.others
       (found, subst (λ bytes. RecordAt bytes (row_at offset row) found) before.visits.bytes read.stands, other);
 }
@@ -211,7 +219,7 @@ module _ (t : Table) (offset count : ℕ) (hash : DataHash) (old mid new : Sourc
     few = omega (arith, finds.few, finds.number);
     are_hits = finds.are_hits;
     searched = mid;
-    kept = serves.bytes;
+    serves = serves;
     bounded = bounded;
     visits = subst (λ rows. VisitsSome offset rows mid new) (rows_in_front t hash.word0 count places_old places_new finds) visits;
     answer = subst Answer (rows_in_front t hash.word0 count places_old places_new finds) answer;

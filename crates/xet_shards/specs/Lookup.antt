@@ -7,7 +7,7 @@ use Rattle.xet_base.specs.declared.error.CoreError.TheVariants.{InternalError, O
 use Rattle.xet_base.specs.declared.merklehash.DataHash.{DataHash}
 use Rattle.xet_base.specs.Bytes.{u32_bytes}
 use Rattle.xet_base.specs.Source.{Source, DeviceFailure}
-use Rattle.xet_base.specs.Table.{Table, table_at, Hit, IsHit, OtherRow, IsSorted, hits, FitsTable, Bounded, SearchRefused, IsBareInvalidShard}
+use Rattle.xet_base.specs.Table.{Table, table_at, Hit, IsHit, OtherRow, IsSorted, hits, FitsTable, Serves, Bounded, SearchRefused, IsBareInvalidShard}
 use Rattle.xet_records.specs.declared.file_structs.MDBFileInfo.{MDBFileInfo}
 use Rattle.xet_records.specs.FileRecord.{record_text, file_records}
 use Rattle.xet_records.specs.Reading.{ReadsRecord}
@@ -62,8 +62,7 @@ InfoRefusal offset row old new e =
 pub record ReadsInfo (offset row : ℕ) (old new : Source) (found : MDBFileInfo) : Type 0 where
   pub within : row_at offset row < 2 ^ 64
   pub stands : RecordAt old.bytes (row_at offset row) found
-  pub bytes : new.bytes ≡ old.bytes
-  pub failures : new.failures ≡ old.failures
+  pub serves : Serves old new
   pub seeks : new.seeks ≡ old.seeks + 1
   pub taken : ℕ
   pub read : new.read ≡ old.read + taken
@@ -127,7 +126,7 @@ pub record LooksUp (t : Table) (offset key : ℕ) (old new : Source) (Answer : L
   pub few : length found < 8
   pub are_hits : AreHits t key found
   pub searched : Source
-  pub kept : searched.bytes ≡ old.bytes
+  pub serves : Serves old searched
   pub bounded : IsSorted t → Bounded t key old searched
   pub visits : VisitsSome offset (map (λ hit. hit.value) found) searched new
   pub answer : Answer (map (λ hit. hit.value) found)
@@ -142,7 +141,7 @@ LookupAnswer bytes offset hash None rows =
 -- the records at these rows were read, and none of them has the hash
 pub record Missed (offset : ℕ) (hash : DataHash) (rows : List ℕ) (old new : Source) : Type 0 where
   pub visits : Visits offset rows old new
-  pub failures : new.failures ≡ old.failures
+  pub serves : Serves old new
   pub others : LookupAnswer old.bytes offset hash None rows
 
 -- the record at one of the rows was not read

@@ -91,6 +91,7 @@ impl MDBShardInfo {
         ensures read { MatchResult result
             (Finding (file_table self.now.metadata (S.meaning source.old)) self.now.metadata.file_info_offset hash.now (S.meaning source.old) (S.meaning source.new))
             (FindingNot (file_table self.now.metadata (S.meaning source.old)) self.now.metadata.file_info_offset hash.now (S.meaning source.old) (S.meaning source.new)) }
+        ensures serves { OnOk result (Serves (S.meaning source.old) (S.meaning source.new)) }
         ensures kept { (S.meaning source.new).bytes ≡ (S.meaning source.old).bytes }
         ensures written { (s : Shard) → (expiry : Option ℕ) → IsShard s → (S.meaning source.old).bytes ≡ layout s expiry → self.now ≡ info_value s expiry
             → MatchResult result (FoundInShard s hash.now) (NotFoundInShard s hash.now (S.meaning source.old) (S.meaning source.new)) }
@@ -113,6 +114,7 @@ impl MDBShardInfo {
         ensures read { MatchResult result
             (Finding (file_table self.now.metadata (S.meaning source.old)) self.now.metadata.file_info_offset hash.now (S.meaning source.old) (S.meaning source.new))
             (FindingNot (file_table self.now.metadata (S.meaning source.old)) self.now.metadata.file_info_offset hash.now (S.meaning source.old) (S.meaning source.new)) }
+        ensures serves { OnOk result (Serves (S.meaning source.old) (S.meaning source.new)) }
         ensures kept { (S.meaning source.new).bytes ≡ (S.meaning source.old).bytes }
     {
         let mut rows = [0; 8];
@@ -130,7 +132,7 @@ impl MDBShardInfo {
     ) -> Result<Option<MDBFileInfo>>
         ensures answer { IfOk result (λ answer. LookupAnswer (S.meaning source.old).bytes self.now.metadata.file_info_offset hash.now answer rows.now) }
         ensures refused { IfErr result (λ e. LookupRefused self.now.metadata.file_info_offset (S.meaning source.old) (S.meaning source.new) e rows.now) }
-        ensures failures { OnOk result ((S.meaning source.new).failures ≡ (S.meaning source.old).failures) }
+        ensures serves { OnOk result (Serves (S.meaning source.old) (S.meaning source.new)) }
         ensures visits { VisitsSome self.now.metadata.file_info_offset rows.now (S.meaning source.old) (S.meaning source.new) }
     {
         for row in rows {
