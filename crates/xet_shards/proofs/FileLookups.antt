@@ -458,7 +458,7 @@ module _ (files : List MDBFileInfo) (xorbs : List MDBXorbInfo) (form : Form) (is
 
   -- a lookup that is refused
   pub not_answered : (hash : DataHash) (new : Source) (e : CoreError) → FindingNot table 48 hash old new e
-      → DeviceFailure old new e ⊎ ((e ≡ OutOfMemory) × (length (sharing hash.word0 files) < 8))
+      → DeviceFailure old new e ⊎ ((e ≡ OutOfMemory) × (1 ≤ length (sharing hash.word0 files)) × (length (sharing hash.word0 files) < 8))
       ⊎ ((e ≡ TruncatedHashCollision hash.word0) × (8 ≤ length (sharing hash.word0 files)))
   not_answered hash new e (inl (inl (none, collision, collides), bounded)) =
       inr (inr (collision, omega (arith, collides.eight, hits_share hash.word0 collides.found collides.each collides.distinct)))
@@ -466,8 +466,14 @@ module _ (files : List MDBFileInfo) (xorbs : List MDBXorbInfo) (form : Form) (is
   not_answered hash new e (inr looks) =
       elim (hits_are_read hash.word0 looks.found looks.are_hits.each looks.are_hits.distinct new e looks.answer.0 looks.answer.1 looks.answer.2) [
         | inl failed ↦ inl failed
-        | inr no_memory ↦ inr (inl (no_memory, omega (arith, looks.few, looks.are_hits.all table_sorted, table_hits hash.word0)))
+        | inr no_memory ↦ inr (inl (no_memory, omega (arith, one, all), omega (arith, looks.few, all)))
       ]
+    where
+      all : length looks.found ≡ length (sharing hash.word0 files)
+      all = looks.are_hits.all table_sorted ∙ table_hits hash.word0
+
+      one : 0 < length looks.found
+      one = omega (arith, looks.answer.1.1, length-map looks.found (λ (h : Hit ℕ). h.value))
 
   pub costs_refused : (hash : DataHash) (new : Source) (e : CoreError) → FindingNot table 48 hash old new e → WithinBounds files hash.word0 old new
   costs_refused hash new e (inl (refused, bounded)) =

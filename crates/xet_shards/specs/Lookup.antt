@@ -189,11 +189,12 @@ abbrev pub NoStartsInShard : Shard → ℕ → Source → Source → CoreError �
 NoStartsInShard s word old new e = DeviceFailure old new e ⊎ ((e ≡ TruncatedHashCollision word) × (8 ≤ length (sharing word (values s.files))))
 
 -- a file lookup on the bytes of a shard: where fewer than eight files share the first word, the map's answer, or
--- memory was refused; where eight do, the collision; else the device failed
+-- memory was refused, but only where one does, so that a record is read; where eight do, the collision; else the
+-- device failed
 abbrev pub FoundInShard : Shard → DataHash → Option MDBFileInfo → Type 0
 FoundInShard s hash answer = (length (sharing hash.word0 (values s.files)) < 8) × (answer ≡ get s.files hash)
 
 abbrev pub NotFoundInShard : Shard → DataHash → Source → Source → CoreError → Type 0
 NotFoundInShard s hash old new e =
-    DeviceFailure old new e ⊎ ((e ≡ OutOfMemory) × (length (sharing hash.word0 (values s.files)) < 8))
+    DeviceFailure old new e ⊎ ((e ≡ OutOfMemory) × (1 ≤ length (sharing hash.word0 (values s.files))) × (length (sharing hash.word0 (values s.files)) < 8))
     ⊎ ((e ≡ TruncatedHashCollision hash.word0) × (8 ≤ length (sharing hash.word0 (values s.files))))
