@@ -5,7 +5,7 @@ ghost use Rattle.std.specs.FinMap as finite;
 ghost use Rattle.xet_base.specs.declared.merklehash.DataHash.{DataHash};
 ghost use Rattle.xet_records.specs.FileRecord.{size_of_file, IsWellFormed};
 ghost use Rattle.xet_records.specs.XorbRecord.{IsXorb};
-ghost use Rattle.xet_shards.specs.Shard.{empty_shard, AreFiles, AreXorbs, total_rows, total_xorb_rows, add_file, add_xorb, CanAddFile, CanAddXorb};
+ghost use Rattle.xet_shards.specs.Shard.{IsShard, empty_shard, AreFiles, AreXorbs, total_rows, total_xorb_rows, add_file, add_xorb, CanAddFile, CanAddXorb};
 ghost use Rattle.xet_shards.specs.Index.{IsIndex};
 ghost use Rattle.xet_shards.specs.XorbTable.{shown_xorbs, placed};
 ghost use Rattle.xet_shards.specs.SetOperations.{IsUnion, IsDifference, HasFewRows, CanUnite, ShardsAgree, IsJoin};
@@ -167,6 +167,15 @@ impl MDBInMemoryShard {
         self.files.content()
     }
 
+    /// Does nothing. It says that each record is well-formed and stands under its hash, and that 32 bits count
+    /// the rows of the files, and those of the xorbs.
+    pub fn invariant(&self)
+        ensures { IsShard self.now.content }
+    {
+        self.file_content();
+        self.xorb_content();
+    }
+
     /// The lookup of chunks: under each chunk hash of the shard's xorbs one of these xorbs, and a place of
     /// such a chunk in it.
     pub fn chunk_hash_lookup(&self) -> &HashMap<MerkleHash, (Rc<MDBXorbInfo>, u64)>
@@ -193,6 +202,8 @@ impl MDBInMemoryShard {
         if !self.can_unite(other) {
             return Err(CoreError::InvalidArguments);
         }
+        self.invariant();
+        other.invariant();
         let files = self.files.union(alloc, &other.files)?;
         let xorbs = self.xorbs.union(alloc, &other.xorbs)?;
         Ok(MDBInMemoryShard::of_tables(files, xorbs))
