@@ -13,9 +13,15 @@ ghost use Rattle.xet_shards.specs.Names.{shard_name, NamesShard};
 ghost use Rattle.xet_shards.specs.Shard.{Shard, IsShard, empty_shard};
 ghost use Rattle.xet_shards.specs.SetOperations.{IsUnion, IsJoin, ShardsAgree, HasFewRows, CanUnite};
 
+/// Each two shards have a union, and only one.
+pub fn unions_exist()
+    ensures exists { (a b : Shard) → (c : Shard) × IsUnion a b c }
+    ensures one { (a b c d : Shard) → IsUnion a b c → IsUnion a b d → c ≡ d }
+{}
+
 /// The union of shards that agree is their join, and the same in either order.
 pub fn union_commutes()
-    ensures join { (a b c : Shard) → ShardsAgree a b → IsUnion a b c → IsJoin a b c }
+    ensures join { (a b c : Shard) → IsShard a → IsShard b → ShardsAgree a b → IsUnion a b c → IsJoin a b c }
     ensures order { (a b c d : Shard) → IsShard a → IsShard b → ShardsAgree a b → IsUnion a b c → IsUnion b a d → c ≡ d }
 {}
 
@@ -38,6 +44,11 @@ pub fn union_with_nothing()
 /// Shards that agree may be united, unless the rows of their union are too many.
 pub fn agreeing_shards_unite()
     ensures { (a b : Shard) → IsShard a → IsShard b → ShardsAgree a b → ((c : Shard) → IsUnion a b c → HasFewRows c) → CanUnite a b }
+{}
+
+/// A shard that agrees with each of two agrees with their union.
+pub fn agreement_passes_to_unions()
+    ensures { (a b c ab : Shard) → ShardsAgree a c → ShardsAgree b c → IsUnion a b ab → ShardsAgree ab c }
 {}
 
 /// The name of a hash's shard file names that hash, and a name names one hash only: so the hash is read back from

@@ -7,9 +7,10 @@ use Rattle.xet_records.specs.declared.file_structs.MDBFileInfo.{MDBFileInfo}
 use Rattle.xet_records.specs.declared.xorb_structs.MDBXorbInfo.{MDBXorbInfo}
 use Rattle.xet_records.specs.Merging.{Agree, IsSameFile}
 use Rattle.xet_shards.specs.Shard.{Shard, total_rows, total_xorb_rows}
-use Rattle.xet_shards.specs.Joining.{but, either_file}
+use Rattle.xet_shards.specs.Joining.{but, either_file, joined_file}
 
--- the records of both: files under one hash are joined, of xorbs under one hash the second's stands there
+-- the records of both: of files under one hash the first's stands there, with the parts that only the second's has; of
+-- xorbs under one hash the second's
 pub record IsUnion (a b c : Shard) : Type 0 where
   pub files : (q : DataHash) → get c.files q ≡ either_file (get a.files q) (get b.files q)
   pub xorbs : (q : DataHash) → get c.xorbs q ≡ option_or (get b.xorbs q) (get a.xorbs q)
@@ -36,5 +37,5 @@ pub record ShardsAgree (a b : Shard) : Type 0 where
 
 -- the join of shards that agree: under each hash the record, and each part of it, that either has
 pub record IsJoin (a b c : Shard) : Type 0 where
-  pub files : (q : DataHash) → get c.files q ≡ either_file (get a.files q) (get b.files q)
+  pub files : (q : DataHash) → get c.files q ≡ joined_file (get a.files q) (get b.files q)
   pub xorbs : (q : DataHash) → get c.xorbs q ≡ option_or (get a.xorbs q) (get b.xorbs q)

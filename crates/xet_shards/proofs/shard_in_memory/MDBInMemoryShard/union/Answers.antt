@@ -22,7 +22,7 @@ of_tables-requires c = (c.can_unite.ensures.0 c.if-not-can_unite.false).rows _ r
 
 pub returns-clause-join : goal.returns-clause-join
 returns-clause-join c = λ agree. subst (λ (s : IndexedShard). IsJoin c.args.self.now.content c.args.other.now.content s.content) (sym c.of_tables.ensures)
-    (join_of_union c.args.self.now.content c.args.other.now.content _ agree record {
+    (join_of_union c.args.self.now.content c.args.other.now.content _ c.invariant.ensures c.invariant-2.ensures agree record {
       files = λ q. c.in_ok-files.ensures.ok q ∙ (λ i. either_file (get (c.self.view_is i).content.files q) (get (c.other.view_is i).content.files q));
       xorbs = λ q. c.in_ok-xorbs.ensures.ok q ∙ (λ i. option_or (get (c.other.view_is i).content.xorbs q) (get (c.self.view_is i).content.xorbs q));
     })
