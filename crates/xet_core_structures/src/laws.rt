@@ -1,7 +1,9 @@
 //! Laws of shards, their names, hashes and errors that no single call states. Each is a function that does nothing:
 //! the law is its contract, and the gate proves it.
 
-ghost use Rattle.std.specs.Prelude.{◌≡◌, ◌↔◌, ◌<◌, ◌^◌, ℕ, List, Option, None, IfSome, IsTrue, unwrap_or};
+ghost use Rattle.std.specs.Prelude.{◌≡◌, ◌↔◌, ◌<◌, ◌^◌, ℕ, List, map, Contains, Option, None, IfSome, IsTrue, unwrap_or};
+ghost use Rattle.std.specs.FinMap.{values};
+ghost use Rattle.std.specs.List.Sorted.{IsStrictlySortedBy};
 ghost use Rattle.xet_base.specs.declared.merklehash.DataHash.{DataHash};
 ghost use Rattle.xet_base.specs.declared.error.CoreError.{CoreError};
 ghost use Rattle.xet_base.specs.Errors.{variant_number};
@@ -10,7 +12,10 @@ ghost use Rattle.xet_base.specs.Hex.{hash_hex, IsHexText, Spells};
 ghost use Rattle.xet_core_structures.specs.Equality.{error_eq};
 ghost use Rattle.xet_shards.specs.Layout.{layout};
 ghost use Rattle.xet_shards.specs.Names.{shard_name, NamesShard};
-ghost use Rattle.xet_shards.specs.Shard.{Shard, IsShard, empty_shard};
+ghost use Rattle.xet_records.specs.declared.xorb_structs.MDBXorbInfo.{MDBXorbInfo};
+ghost use Rattle.xet_shards.specs.declared.shard_format.xorb_writer.ChunkPlace.{ChunkPlace};
+ghost use Rattle.xet_shards.specs.Shard.{Shard, IsShard, empty_shard, file_hash_of, xorb_hash_of, total_rows, total_xorb_rows};
+ghost use Rattle.xet_shards.specs.Tables.{place_cmp, chunk_places, chunk_table, file_starts, xorb_starts, files_below, xorbs_below};
 ghost use Rattle.xet_shards.specs.SetOperations.{IsUnion, IsJoin, ShardsAgree, HasFewRows, CanUnite};
 
 /// Each two shards have a union, and only one.
@@ -49,6 +54,21 @@ pub fn agreeing_shards_unite()
 /// A shard that agrees with each of two agrees with their union.
 pub fn agreement_passes_to_unions()
     ensures { (a b c ab : Shard) → ShardsAgree a c → ShardsAgree b c → IsUnion a b ab → ShardsAgree ab c }
+{}
+
+/// A record starts after the rows of all records of its kind with smaller hashes.
+pub fn records_start_after_smaller_hashes()
+    ensures files { (s : Shard) → IsShard s → file_starts (values s.files)
+        ≡ map (λ r. ((file_hash_of r).word0, total_rows (files_below (file_hash_of r) (values s.files)))) (values s.files) }
+    ensures xorbs { (s : Shard) → IsShard s → xorb_starts (values s.xorbs)
+        ≡ map (λ r. ((xorb_hash_of r).word0, total_xorb_rows (xorbs_below (xorb_hash_of r) (values s.xorbs)))) (values s.xorbs) }
+{}
+
+/// The chunk table has exactly the places of the chunks of the xorbs, in strictly ascending order: by first word, then
+/// by where the xorb starts, then by the place in the xorb.
+pub fn chunk_table_is_sorted()
+    ensures sorted { (xorbs : List MDBXorbInfo) → IsStrictlySortedBy place_cmp (chunk_table xorbs) }
+    ensures places { (xorbs : List MDBXorbInfo) → (p : ChunkPlace) → Contains (chunk_table xorbs) p ↔ Contains (chunk_places xorbs) p }
 {}
 
 /// The name of a hash's shard file names that hash, and a name names one hash only: so the hash is read back from

@@ -21,6 +21,7 @@ pub mod SectionReading
 pub mod SectionUnique
 pub mod ShardLookups
 pub mod Sums
+pub mod TableOrder
 pub mod TableReading
 pub mod Tables
 pub mod TruncatedHashes
