@@ -1,15 +1,18 @@
 //! Laws of shards, their names, hashes and errors that no single call states. Each is a function that does nothing:
 //! the law is its contract, and the gate proves it.
 
-ghost use Rattle.std.specs.Prelude.{◌≡◌, ◌↔◌, ◌<◌, ◌^◌, ℕ, List, map, Contains, Option, None, IfSome, IsTrue, unwrap_or};
+ghost use Rattle.std.specs.Prelude.{◌≡◌, ◌↔◌, ◌<◌, ◌^◌, ℕ, List, flat_map, map, Contains, Option, None, Some, IfSome, IsTrue, unwrap_or};
+ghost use Rattle.std.specs.Cmp.{IsTotalOrder};
+ghost use Rattle.std.specs.declared.cmp.Ordering.TheVariants.{Equal};
 ghost use Rattle.std.specs.FinMap.{values};
+ghost use Rattle.std.specs.Hash as fed;
 ghost use Rattle.std.specs.List.Sorted.{IsStrictlySortedBy};
 ghost use Rattle.xet_base.specs.declared.merklehash.DataHash.{DataHash};
 ghost use Rattle.xet_base.specs.declared.error.CoreError.{CoreError};
 ghost use Rattle.xet_base.specs.Errors.{variant_number};
-ghost use Rattle.xet_base.specs.Hash.{IsHash};
+ghost use Rattle.xet_base.specs.Hash.{IsHash, hash_cmp, words_of};
 ghost use Rattle.xet_base.specs.Hex.{hash_hex, IsHexText, Spells};
-ghost use Rattle.xet_core_structures.specs.Equality.{error_eq};
+ghost use Rattle.xet_core_structures.specs.Equality.{error_eq, derived_eq, derived_partial_cmp, derived_cmp, derived_input};
 ghost use Rattle.xet_shards.specs.Layout.{layout};
 ghost use Rattle.xet_shards.specs.Names.{shard_name, NamesShard};
 ghost use Rattle.xet_records.specs.declared.xorb_structs.MDBXorbInfo.{MDBXorbInfo};
@@ -91,6 +94,23 @@ pub fn equal_bytes_mean_equal_shards()
 pub fn hex_is_read()
     ensures named { (hash : DataHash) → IsHexText (hash_hex hash) × Spells (hash_hex hash) hash }
     ensures alone { (text : List ℕ) (a b : DataHash) → IsHash a → IsHash b → Spells text a → Spells text b → a ≡ b }
+{}
+
+/// The order of hashes, as `cmp` and `partial_cmp` tell it, is that by word 0, then 1, 2 and 3. It is total, and only
+/// equal hashes tie.
+pub fn hashes_are_ordered_by_words()
+    ensures words { (a b : DataHash) → derived_cmp a b ≡ hash_cmp a b }
+    ensures partial { (a b : DataHash) → derived_partial_cmp a b ≡ Some (hash_cmp a b) }
+    ensures total { IsTotalOrder derived_cmp }
+    ensures ties { (a b : DataHash) → (derived_cmp a b ≡ Equal) ↔ (a ≡ b) }
+{}
+
+/// Hashes are equal, as `==` tells it, exactly where all their words are, and `hash` feeds a hasher these words in
+/// order, so that equal hashes hash alike.
+pub fn hashes_are_equal_by_words()
+    ensures equality { (a b : DataHash) → IsTrue (derived_eq a b) ↔ (a ≡ b) }
+    ensures words { (a b : DataHash) → (a ≡ b) ↔ (words_of a ≡ words_of b) }
+    ensures hashing { (a : DataHash) → derived_input a ≡ flat_map fed.u64 (words_of a) }
 {}
 
 /// Errors are equal, as `==` tells it, exactly where their variants are, and this is an equivalence relation.
