@@ -75,17 +75,20 @@ module _ (offset row : ℕ) (old mid new : Source) (fits : row_at offset row < 2
     taken = 48;
     read = omega (arith, ap (λ (s : Source). s.read) read.taken.after, ap (λ (s : Source). s.read) sought, length-header_row read.header);
     may_take = inl (omega arith);
-    cause = inr (fits, inl (
-      ap (λ (s : Source). s.failures) read.taken.after ∙ ap (λ (s : Source). s.failures) sought,
-      bare,
-      record {
-        header = read.header;
-        rest = bytes_left new;
-        widths = read.widths;
-        is_bookend = read.is_bookend;
-        bytes_are = sym left_is ∙ Takes-consumes mid new (header_row read.header) read.taken;
-      },
-    ));
+    cause = inr (
+      fits,
+      inl (
+        ap (λ (s : Source). s.failures) read.taken.after ∙ ap (λ (s : Source). s.failures) sought,
+        bare,
+        record {
+          header = read.header;
+          rest = bytes_left new;
+          widths = read.widths;
+          is_bookend = read.is_bookend;
+          bytes_are = sym left_is ∙ Takes-consumes mid new (header_row read.header) read.taken;
+        },
+      ),
+    );
   }
 
   pub info_fails : (e : CoreError) → RecordFails file_records 4294967296 mid new e → ReadsInfoNot offset row old new e
