@@ -1,7 +1,7 @@
 //! Laws of shards, their names, hashes and errors that no single call states. Each is a function that does nothing:
 //! the law is its contract, and the gate proves it.
 
-ghost use Rattle.std.specs.Prelude.{◌≡◌, ◌↔◌, ◌<◌, ◌^◌, ℕ, List, flat_map, map, Contains, Option, None, Some, IfSome, IsTrue, unwrap_or};
+ghost use Rattle.std.specs.Prelude.{◌≡◌, ◌↔◌, ◌<◌, ◌^◌, ℕ, List, [], ◌∷◌, flat_map, map, Contains, Option, None, Some, IfSome, IsTrue, unwrap_or};
 ghost use Rattle.std.specs.Cmp.{IsTotalOrder};
 ghost use Rattle.std.specs.declared.cmp.Ordering.TheVariants.{Equal};
 ghost use Rattle.std.specs.FinMap.{values};
@@ -19,7 +19,8 @@ ghost use Rattle.xet_records.specs.declared.xorb_structs.MDBXorbInfo.{MDBXorbInf
 ghost use Rattle.xet_shards.specs.declared.shard_format.xorb_writer.ChunkPlace.{ChunkPlace};
 ghost use Rattle.xet_shards.specs.Shard.{Shard, IsShard, empty_shard, file_hash_of, xorb_hash_of, total_rows, total_xorb_rows};
 ghost use Rattle.xet_shards.specs.Tables.{place_cmp, chunk_places, chunk_table, file_starts, xorb_starts, files_below, xorbs_below};
-ghost use Rattle.xet_shards.specs.SetOperations.{IsUnion, IsJoin, ShardsAgree, HasFewRows, CanUnite};
+ghost use Rattle.xet_shards.specs.SetOperations.{IsUnion, ShardsAgree, HasFewRows, CanUnite};
+ghost use Rattle.xet_shards.specs.Joins.{IsJoinOf};
 
 /// Each two shards have a union, and only one.
 pub fn unions_exist()
@@ -29,8 +30,13 @@ pub fn unions_exist()
 
 /// The union of shards that agree is their join, and the same in either order.
 pub fn union_commutes()
-    ensures join { (a b c : Shard) → IsShard a → IsShard b → ShardsAgree a b → IsUnion a b c → IsJoin a b c }
+    ensures join { (a b c : Shard) → IsShard a → IsShard b → ShardsAgree a b → IsUnion a b c → IsJoinOf (Contains (a ∷ b ∷ [])) c }
     ensures order { (a b c d : Shard) → IsShard a → IsShard b → ShardsAgree a b → IsUnion a b c → IsUnion b a d → c ≡ d }
+{}
+
+/// Shards have one join at most.
+pub fn joins_are_unique()
+    ensures { (shards : List Shard) → (c d : Shard) → IsJoinOf (Contains shards) c → IsJoinOf (Contains shards) d → c ≡ d }
 {}
 
 /// The union of three shards is the same in either grouping.

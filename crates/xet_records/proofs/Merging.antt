@@ -67,7 +67,7 @@ no_row : {X : Type 0} (o : Option X) → is_some o ≡ false → o ≡ None
 no_row None none = refl
 no_row (Some x) none = absurd (true≢false none)
 
-verification_absent : (r : MDBFileInfo) → FitsItsHeader r → verified r ≡ false → r.verification ≡ []
+pub verification_absent : (r : MDBFileInfo) → FitsItsHeader r → verified r ≡ false → r.verification ≡ []
 verification_absent r whole absent =
     no_rows r.verification (whole.verification ∙ ap (λ (b : Bool). if b then r.metadata.num_entries else 0) absent)
 

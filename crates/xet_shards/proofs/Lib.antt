@@ -9,6 +9,7 @@ pub mod Files
 pub mod Found
 pub mod Index
 pub mod Joining
+pub mod Joins
 pub mod Layouts
 pub mod Loading
 pub mod Lookups

@@ -1,4 +1,4 @@
--- Unions of shards: when they are joins, and that order, grouping and repetition don't matter.
+-- Unions of shards: that order, grouping and repetition don't matter.
 use Rattle.std.proofs.Common.{◌≡◌, Option, None, Some, refl, sym, ap, ◌∙◌, subst}
 use Rattle.std.specs.Option.{option_or}
 use Rattle.std.proofs.lemmas.Option.{same_Some}
@@ -11,8 +11,8 @@ use Rattle.xet_records.specs.FileRecord.{IsWellFormed}
 use Rattle.xet_records.specs.Merging.{Agree, merged, joined}
 use Rattle.xet_records.proofs.Merging.{merged_is_joined, merged-assoc, agree-merged, joined-comm, joined-idem, same_file_if_agree}
 use Rattle.xet_shards.specs.Shard.{Shard, IsShard, empty_shard, file_hash_of}
-use Rattle.xet_shards.specs.Joining.{either_file, joined_file}
-use Rattle.xet_shards.specs.SetOperations.{IsUnion, IsDifference, IsJoin, ShardsAgree, HasFewRows, CanUnite}
+use Rattle.xet_shards.specs.Joining.{either_file}
+use Rattle.xet_shards.specs.SetOperations.{IsUnion, IsDifference, ShardsAgree, HasFewRows, CanUnite}
 use Rattle.xet_shards.proofs.FileUnions.{entry-holds}
 use Rattle.xet_shards.proofs.Joining.{or_none, but_empty}
 
@@ -35,28 +35,15 @@ known s q r shard at =
       well_formed = entry-holds (λ e. IsWellFormed e.1) (entries s.files) q r shard.files.well_formed found;
     }
 
-same_either : {X : Type 0} (o p : Option X) → ((x y : X) → o ≡ Some x → p ≡ Some y → x ≡ y) → option_or p o ≡ option_or o p
+pub same_either : {X : Type 0} (o p : Option X) → ((x y : X) → o ≡ Some x → p ≡ Some y → x ≡ y) → option_or p o ≡ option_or o p
 same_either None None same = refl
 same_either None (Some y) same = refl
 same_either (Some x) None same = refl
 same_either (Some x) (Some y) same = ap Some (sym (same x y refl refl))
 
--- the records of two shards
+-- merging two records that stand under one hash
 merged_known : (q : DataHash) (r s : MDBFileInfo) → IsKnown q r → IsKnown q s → merged r s ≡ joined r s
 merged_known q r s own others = merged_is_joined r s own.well_formed others.well_formed
-
-files_joined : (q : DataHash) (o p : Option MDBFileInfo) → ((r : MDBFileInfo) → o ≡ Some r → IsKnown q r) → ((s : MDBFileInfo) → p ≡ Some s → IsKnown q s)
-    → either_file o p ≡ joined_file o p
-files_joined q None p first second = refl
-files_joined q (Some r) None first second = refl
-files_joined q (Some r) (Some s) first second = ap Some (merged_known q r s (first r refl) (second s refl))
-
--- the union of shards that agree is their join
-pub join_of_union : (a b c : Shard) → IsShard a → IsShard b → ShardsAgree a b → IsUnion a b c → IsJoin a b c
-join_of_union a b c first second agree union = record {
-  files = λ q. union.files q ∙ files_joined q (get a.files q) (get b.files q) (λ r. known a q r first) (λ s. known b q s second);
-  xorbs = λ q. union.xorbs q ∙ same_either (get a.xorbs q) (get b.xorbs q) (agree.xorbs q);
-}
 
 files_turned : (q : DataHash) (o p : Option MDBFileInfo) → ((r : MDBFileInfo) → o ≡ Some r → IsKnown q r) → ((s : MDBFileInfo) → p ≡ Some s → IsKnown q s)
     → ((r s : MDBFileInfo) → o ≡ Some r → p ≡ Some s → Agree r s) → either_file o p ≡ either_file p o

@@ -5,7 +5,7 @@ use Rattle.xet_base.specs.declared.merklehash.DataHash.{DataHash}
 use Rattle.xet_base.specs.Hash.{hash_cmp}
 use Rattle.xet_records.specs.declared.file_structs.MDBFileInfo.{MDBFileInfo}
 use Rattle.xet_records.specs.FileRecord.{row_count}
-use Rattle.xet_records.specs.Merging.{IsSameFile, merged, joined}
+use Rattle.xet_records.specs.Merging.{IsSameFile, merged}
 use Rattle.xet_shards.specs.Shard.{FileMap}
 
 -- what is found under a hash, but for the hashes that a map has
@@ -30,12 +30,6 @@ abbrev pub either_file : Option MDBFileInfo → Option MDBFileInfo → Option MD
 either_file None b = b
 either_file (Some a) None = Some a
 either_file (Some a) (Some b) = Some (merged a b)
-
--- the file of two that may be there: where both are, the record with the parts of both
-abbrev pub joined_file : Option MDBFileInfo → Option MDBFileInfo → Option MDBFileInfo
-joined_file None b = b
-joined_file (Some a) None = Some a
-joined_file (Some a) (Some b) = Some (joined a b)
 
 -- the first of them, with what the second has where that is there
 abbrev pub own_file : Option MDBFileInfo → Option MDBFileInfo → Option MDBFileInfo
