@@ -61,13 +61,13 @@ fn a_reader_fails_in_mid_xorb(rt: HostRuntime) -> std::result::Result<(), Fail> 
 /// What writing the file record answers where the writer has a fault after so many bytes.
 fn write_file(alloc: Global, left: usize, fault: Fault) -> Result<usize> {
     let file = full_file(alloc)?;
-    Ok(file.serialize(&mut Stream::new(&[], left, fault))?)
+    file.serialize(&mut Stream::new(&[], left, fault))
 }
 
 /// The same of the xorb record.
 fn write_xorb(alloc: Global, left: usize, fault: Fault) -> Result<usize> {
     let xorb = xorb(alloc, 10, 21)?;
-    Ok(xorb.serialize(&mut Stream::new(&[], left, fault))?)
+    xorb.serialize(&mut Stream::new(&[], left, fault))
 }
 
 #[test]

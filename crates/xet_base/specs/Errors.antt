@@ -1,5 +1,5 @@
 -- What clauses say of errors.
-use Rattle.std.specs.Prelude.{◌≡◌, ◌≢◌, ℕ, List, string_bytes, Option, None, Some, Ok, Err, ⊤}
+use Rattle.std.specs.Prelude.{◌≡◌, ◌≢◌, ℕ, List, [], string_bytes, Option, None, Some, Ok, Err, ⊤}
 use Rattle.std.specs.declared.result.Result.{Result}
 use Rattle.std.specs.IoError.{error_kind}
 use Rattle.std.specs.declared.io.Error.{Error}
@@ -54,6 +54,11 @@ IsInvalidShard _ = ⊥
 abbrev pub IsShardVersion : CoreError → Type 0
 IsShardVersion (ShardVersion _) = ⊤
 IsShardVersion _ = ⊥
+
+-- the same without a text
+abbrev pub IsBareShardVersion : CoreError → Type 0
+IsBareShardVersion (ShardVersion text) = string_bytes text ≡ []
+IsBareShardVersion _ = ⊥
 
 -- `Other` of this text, or no memory for it
 abbrev pub IsOtherText : List ℕ → CoreError → Type 0

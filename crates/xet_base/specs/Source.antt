@@ -60,8 +60,9 @@ FillFailure old new n e =
     ((new.failures ≡ old.failures + 1) × (new.last_failure ≡ Some e))
     ⊎ ((new.failures ≡ old.failures) × (error_kind e ≡ UnexpectedEof) × (length old.bytes < old.at + n))
 
--- a slice of n bytes was not filled; the place is open
+-- a slice of n bytes, which is not empty, was not filled; the place is open
 pub record FillsNot (old new : Source) (n : ℕ) (e : Error) : Type 0 where
+  pub some : 0 < n
   pub bytes : new.bytes ≡ old.bytes
   pub seeks : new.seeks ≡ old.seeks
   pub read : new.read ≤ old.read + n
@@ -78,8 +79,10 @@ ReadFailure old new n e =
     DeviceFailure old new e
     ⊎ ((new.failures ≡ old.failures) × IsEndOfInput e × (length old.bytes < old.at + n))
 
--- reading up to n bytes was refused, by the device, by the end of the bytes or for want of memory; the place is open
+-- reading up to n bytes, at least one, was refused, by the device, by the end of the bytes or for want of memory; the
+-- place is open
 pub record ReadFails (old new : Source) (n : ℕ) (e : CoreError) : Type 0 where
+  pub some : 0 < n
   pub bytes : new.bytes ≡ old.bytes
   pub seeks : new.seeks ≡ old.seeks
   pub read : new.read ≤ old.read + n

@@ -1,22 +1,42 @@
 //! Laws of shards, their names, hashes and errors that no single call states. Each is a function that does nothing:
 //! the law is its contract, and the gate proves it.
 
-ghost use Rattle.std.specs.Prelude.{◌≡◌, ◌↔◌, ◌<◌, ◌^◌, ℕ, List, Option, None, IfSome, IsTrue, unwrap_or};
+ghost use Rattle.std.specs.Prelude.{◌≡◌, ◌↔◌, ◌<◌, ◌^◌, ℕ, List, [], ◌∷◌, flat_map, map, Contains, Option, None, Some, IfSome, IsTrue, unwrap_or};
+ghost use Rattle.std.specs.Cmp.{IsTotalOrder};
+ghost use Rattle.std.specs.declared.cmp.Ordering.TheVariants.{Equal};
+ghost use Rattle.std.specs.FinMap.{values};
+ghost use Rattle.std.specs.Hash as fed;
+ghost use Rattle.std.specs.List.Sorted.{IsStrictlySortedBy};
 ghost use Rattle.xet_base.specs.declared.merklehash.DataHash.{DataHash};
 ghost use Rattle.xet_base.specs.declared.error.CoreError.{CoreError};
 ghost use Rattle.xet_base.specs.Errors.{variant_number};
-ghost use Rattle.xet_base.specs.Hash.{IsHash};
+ghost use Rattle.xet_base.specs.Hash.{IsHash, hash_cmp, words_of};
 ghost use Rattle.xet_base.specs.Hex.{hash_hex, IsHexText, Spells};
-ghost use Rattle.xet_core_structures.specs.Equality.{error_eq};
+ghost use Rattle.xet_core_structures.specs.Equality.{error_eq, derived_eq, derived_partial_cmp, derived_cmp, derived_input};
 ghost use Rattle.xet_shards.specs.Layout.{layout};
 ghost use Rattle.xet_shards.specs.Names.{shard_name, NamesShard};
-ghost use Rattle.xet_shards.specs.Shard.{Shard, IsShard, empty_shard};
-ghost use Rattle.xet_shards.specs.SetOperations.{IsUnion, IsJoin, ShardsAgree, HasFewRows, CanUnite};
+ghost use Rattle.xet_records.specs.declared.xorb_structs.MDBXorbInfo.{MDBXorbInfo};
+ghost use Rattle.xet_shards.specs.declared.shard_format.xorb_writer.ChunkPlace.{ChunkPlace};
+ghost use Rattle.xet_shards.specs.Shard.{Shard, IsShard, empty_shard, file_hash_of, xorb_hash_of, total_rows, total_xorb_rows};
+ghost use Rattle.xet_shards.specs.Tables.{place_cmp, chunk_places, chunk_table, file_starts, xorb_starts, files_below, xorbs_below};
+ghost use Rattle.xet_shards.specs.SetOperations.{IsUnion, ShardsAgree, HasFewRows, CanUnite};
+ghost use Rattle.xet_shards.specs.Joins.{IsJoinOf};
+
+/// Each two shards have a union, and only one.
+pub fn unions_exist()
+    ensures exists { (a b : Shard) → (c : Shard) × IsUnion a b c }
+    ensures one { (a b c d : Shard) → IsUnion a b c → IsUnion a b d → c ≡ d }
+{}
 
 /// The union of shards that agree is their join, and the same in either order.
 pub fn union_commutes()
-    ensures join { (a b c : Shard) → ShardsAgree a b → IsUnion a b c → IsJoin a b c }
+    ensures join { (a b c : Shard) → IsShard a → IsShard b → ShardsAgree a b → IsUnion a b c → IsJoinOf (Contains (a ∷ b ∷ [])) c }
     ensures order { (a b c d : Shard) → IsShard a → IsShard b → ShardsAgree a b → IsUnion a b c → IsUnion b a d → c ≡ d }
+{}
+
+/// Shards have one join at most.
+pub fn joins_are_unique()
+    ensures { (shards : List Shard) → (c d : Shard) → IsJoinOf (Contains shards) c → IsJoinOf (Contains shards) d → c ≡ d }
 {}
 
 /// The union of three shards is the same in either grouping.
@@ -40,6 +60,26 @@ pub fn agreeing_shards_unite()
     ensures { (a b : Shard) → IsShard a → IsShard b → ShardsAgree a b → ((c : Shard) → IsUnion a b c → HasFewRows c) → CanUnite a b }
 {}
 
+/// A shard that agrees with each of two agrees with their union.
+pub fn agreement_passes_to_unions()
+    ensures { (a b c ab : Shard) → ShardsAgree a c → ShardsAgree b c → IsUnion a b ab → ShardsAgree ab c }
+{}
+
+/// A record starts after the rows of all records of its kind with smaller hashes.
+pub fn records_start_after_smaller_hashes()
+    ensures files { (s : Shard) → IsShard s → file_starts (values s.files)
+        ≡ map (λ r. ((file_hash_of r).word0, total_rows (files_below (file_hash_of r) (values s.files)))) (values s.files) }
+    ensures xorbs { (s : Shard) → IsShard s → xorb_starts (values s.xorbs)
+        ≡ map (λ r. ((xorb_hash_of r).word0, total_xorb_rows (xorbs_below (xorb_hash_of r) (values s.xorbs)))) (values s.xorbs) }
+{}
+
+/// The chunk table has exactly the places of the chunks of the xorbs, in strictly ascending order: by first word, then
+/// by where the xorb starts, then by the place in the xorb.
+pub fn chunk_table_is_sorted()
+    ensures sorted { (xorbs : List MDBXorbInfo) → IsStrictlySortedBy place_cmp (chunk_table xorbs) }
+    ensures places { (xorbs : List MDBXorbInfo) → (p : ChunkPlace) → Contains (chunk_table xorbs) p ↔ Contains (chunk_places xorbs) p }
+{}
+
 /// The name of a hash's shard file names that hash, and a name names one hash only: so the hash is read back from
 /// it. From the 64 digits alone `DataHash::from_hex` reads it back by its own contract (`back`).
 pub fn shard_name_is_read()
@@ -60,6 +100,23 @@ pub fn equal_bytes_mean_equal_shards()
 pub fn hex_is_read()
     ensures named { (hash : DataHash) → IsHexText (hash_hex hash) × Spells (hash_hex hash) hash }
     ensures alone { (text : List ℕ) (a b : DataHash) → IsHash a → IsHash b → Spells text a → Spells text b → a ≡ b }
+{}
+
+/// The order of hashes, as `cmp` and `partial_cmp` tell it, is that by word 0, then 1, 2 and 3. It is total, and only
+/// equal hashes tie.
+pub fn hashes_are_ordered_by_words()
+    ensures words { (a b : DataHash) → derived_cmp a b ≡ hash_cmp a b }
+    ensures partial { (a b : DataHash) → derived_partial_cmp a b ≡ Some (hash_cmp a b) }
+    ensures total { IsTotalOrder derived_cmp }
+    ensures ties { (a b : DataHash) → (derived_cmp a b ≡ Equal) ↔ (a ≡ b) }
+{}
+
+/// Hashes are equal, as `==` tells it, exactly where all their words are, and `hash` feeds a hasher these words in
+/// order, so that equal hashes hash alike.
+pub fn hashes_are_equal_by_words()
+    ensures equality { (a b : DataHash) → IsTrue (derived_eq a b) ↔ (a ≡ b) }
+    ensures words { (a b : DataHash) → (a ≡ b) ↔ (words_of a ≡ words_of b) }
+    ensures hashing { (a : DataHash) → derived_input a ≡ flat_map fed.u64 (words_of a) }
 {}
 
 /// Errors are equal, as `==` tells it, exactly where their variants are, and this is an equivalence relation.

@@ -1,6 +1,9 @@
 -- Records of one file and their parts: what merging gives, in which order, and what agreement passes on.
-use Rattle.std.proofs.Common.{◌≡◌, ℕ, zero, suc, ◌+◌, ◌*◌, ◌/◌, ◌%◌, ◌^◌, ◌<◌, ◌≤◌, List, [], ◌∷◌, length, Bool, true, false, not, ◌&&◌, ◌||◌, Option, None, Some, IfSome, IsTrue, refl, sym, ap, ◌∙◌, subst, arith, true≢false, if◌then◌else◌}
+use Rattle.std.proofs.Common.{◌≡◌, ℕ, zero, suc, ◌+◌, ◌*◌, ◌/◌, ◌%◌, ◌^◌, ◌<◌, ◌≤◌, List, [], ◌∷◌, length, Bool, true, false, not, ◌&&◌, ◌||◌, ◌==◌, Option, None, Some, IfSome, IsTrue, refl, sym, ap, ◌∙◌, subst, arith, true≢false, if◌then◌else◌}
 use Rattle.std.specs.Prelude.{All, is_some, option_to_list}
+use Rattle.std.specs.Int.{bit_at}
+use Rattle.std.proofs.lemmas.Nat.Bits.{bit_at-lt}
+use Rattle.std.proofs.lemmas.Bool.Decides.{nat_tests}
 use Rattle.xet_records.specs.declared.file_structs.FileDataSequenceHeader.{FileDataSequenceHeader}
 use Rattle.xet_records.specs.declared.file_structs.FileVerificationEntry.{FileVerificationEntry}
 use Rattle.xet_records.specs.declared.file_structs.FileMetadataExt.{FileMetadataExt}
@@ -64,7 +67,7 @@ no_row : {X : Type 0} (o : Option X) → is_some o ≡ false → o ≡ None
 no_row None none = refl
 no_row (Some x) none = absurd (true≢false none)
 
-verification_absent : (r : MDBFileInfo) → FitsItsHeader r → verified r ≡ false → r.verification ≡ []
+pub verification_absent : (r : MDBFileInfo) → FitsItsHeader r → verified r ≡ false → r.verification ≡ []
 verification_absent r whole absent =
     no_rows r.verification (whole.verification ∙ ap (λ (b : Bool). if b then r.metadata.num_entries else 0) absent)
 
@@ -110,6 +113,107 @@ or_grouped false v w = refl
 or_itself : (v : Bool) → (v || v) ≡ v
 or_itself true = refl
 or_itself false = refl
+
+-- the flags of a record that took over parts, whatever its flags were
+bit_told : (flags k : ℕ) (v : Bool) → (bit_at flags k == 1) ≡ v → bit_at flags k ≡ (if v then 1 else 0)
+bit_told flags k true is = grind (arith, nat_tests, is)
+bit_told flags k false is = grind (arith, nat_tests, is, bit_at-lt flags k)
+
+bit_tells : (flags k : ℕ) (v : Bool) → bit_at flags k ≡ (if v then 1 else 0) → (bit_at flags k == 1) ≡ v
+bit_tells flags k true is = ap (λ b. b == 1) is
+bit_tells flags k false is = ap (λ b. b == 1) is
+
+bits_gained : (flags : ℕ) (v m w l : Bool) → bit_at flags 31 ≡ (if v then 1 else 0) → bit_at flags 30 ≡ (if m then 1 else 0)
+    → (bit_at (flags + flags_of (w && not v) (l && not m)) 31 ≡ (if v || w then 1 else 0)) × (bit_at (flags + flags_of (w && not v) (l && not m)) 30 ≡ (if m || l then 1 else 0))
+bits_gained f true true true true is_v is_d = (omega (arith, is_v, is_d), omega (arith, is_v, is_d))
+bits_gained f true true true false is_v is_d = (omega (arith, is_v, is_d), omega (arith, is_v, is_d))
+bits_gained f true true false true is_v is_d = (omega (arith, is_v, is_d), omega (arith, is_v, is_d))
+bits_gained f true true false false is_v is_d = (omega (arith, is_v, is_d), omega (arith, is_v, is_d))
+bits_gained f true false true true is_v is_d = (omega (arith, is_v, is_d), omega (arith, is_v, is_d))
+bits_gained f true false true false is_v is_d = (omega (arith, is_v, is_d), omega (arith, is_v, is_d))
+bits_gained f true false false true is_v is_d = (omega (arith, is_v, is_d), omega (arith, is_v, is_d))
+bits_gained f true false false false is_v is_d = (omega (arith, is_v, is_d), omega (arith, is_v, is_d))
+bits_gained f false true true true is_v is_d = (omega (arith, is_v, is_d), omega (arith, is_v, is_d))
+bits_gained f false true true false is_v is_d = (omega (arith, is_v, is_d), omega (arith, is_v, is_d))
+bits_gained f false true false true is_v is_d = (omega (arith, is_v, is_d), omega (arith, is_v, is_d))
+bits_gained f false true false false is_v is_d = (omega (arith, is_v, is_d), omega (arith, is_v, is_d))
+bits_gained f false false true true is_v is_d = (omega (arith, is_v, is_d), omega (arith, is_v, is_d))
+bits_gained f false false true false is_v is_d = (omega (arith, is_v, is_d), omega (arith, is_v, is_d))
+bits_gained f false false false true is_v is_d = (omega (arith, is_v, is_d), omega (arith, is_v, is_d))
+bits_gained f false false false false is_v is_d = (omega (arith, is_v, is_d), omega (arith, is_v, is_d))
+
+module _ (a b : MDBFileInfo) where
+  flags_gained : (bit_at (merged a b).metadata.file_flags 31 ≡ (if verified a || verified b then 1 else 0)) × (bit_at (merged a b).metadata.file_flags 30 ≡ (if described a || described b then 1 else 0))
+  flags_gained =
+      bits_gained a.metadata.file_flags (verified a) (described a) (verified b) (described b)
+      (bit_told a.metadata.file_flags 31 (verified a) refl) (bit_told a.metadata.file_flags 30 (described a) refl)
+
+  pub verified-merged : verified (merged a b) ≡ (verified a || verified b)
+  verified-merged = bit_tells (merged a b).metadata.file_flags 31 (verified a || verified b) flags_gained.0
+
+  pub described-merged : described (merged a b) ≡ (described a || described b)
+  described-merged = bit_tells (merged a b).metadata.file_flags 30 (described a || described b) flags_gained.1
+
+-- so merging three records is the same in either grouping
+flag_regained : (u v w : Bool) (n : ℕ) → (if v && not u then n else 0) + (if w && not (u || v) then n else 0) ≡ (if (v || w) && not u then n else 0)
+flag_regained true true true n = refl
+flag_regained true true false n = refl
+flag_regained true false true n = refl
+flag_regained true false false n = refl
+flag_regained false true true n = omega arith
+flag_regained false true false n = omega arith
+flag_regained false false true n = omega arith
+flag_regained false false false n = refl
+
+part_regained : {X : Type 0} (u v w : Bool) (x y z : X)
+    → (if w && not (u || v) then z else (if v && not u then y else x)) ≡ (if (v || w) && not u then (if w && not v then z else y) else x)
+part_regained true true true x y z = refl
+part_regained true true false x y z = refl
+part_regained true false true x y z = refl
+part_regained true false false x y z = refl
+part_regained false true true x y z = refl
+part_regained false true false x y z = refl
+part_regained false false true x y z = refl
+part_regained false false false x y z = refl
+
+pub merged-assoc : (a b c : MDBFileInfo) → merged (merged a b) c ≡ merged a (merged b c)
+merged-assoc a b c =
+    let v = verified-merged a b in
+    let m = described-merged a b in
+    let w = verified-merged b c in
+    let l = described-merged b c in
+    let flags =
+    (λ i. a.metadata.file_flags + flags_of (verified b && not (verified a)) (described b && not (described a)) + flags_of (verified c && not (v i)) (described c && not (m i)))
+    ∙ omega (
+      arith,
+      flag_regained (verified a) (verified b) (verified c) 2147483648,
+      flag_regained (described a) (described b) (described c) 1073741824,
+    )
+    ∙ (λ i. a.metadata.file_flags + flags_of (sym w i && not (verified a)) (sym l i && not (described a))) in
+    let verification =
+    ap (λ (u : Bool). if verified c && not u then c.verification else (merged a b).verification) v
+    ∙ part_regained (verified a) (verified b) (verified c) a.verification b.verification c.verification
+    ∙ ap (λ (u : Bool). if u && not (verified a) then (merged b c).verification else a.verification) (sym w) in
+    let metadata_ext =
+    ap (λ (u : Bool). if described c && not u then c.metadata_ext else (merged a b).metadata_ext) m
+    ∙ part_regained (described a) (described b) (described c) a.metadata_ext b.metadata_ext c.metadata_ext
+    ∙ ap (λ (u : Bool). if u && not (described a) then (merged b c).metadata_ext else a.metadata_ext) (sym l) in
+    λ i. record { metadata = record a.metadata { file_flags = flags i }; segments = a.segments; verification = verification i; metadata_ext = metadata_ext i }
+
+-- agreement of two records with a third passes to what merging makes of them
+part_agreed : {X : Type 0} (u v w : Bool) (x y z : X) → (IsTrue u → IsTrue w → x ≡ z) → (IsTrue v → IsTrue w → y ≡ z) → IsTrue (u || v) → IsTrue w
+    → (if v && not u then y else x) ≡ z
+part_agreed true true w x y z first second either third = first refl third
+part_agreed true false w x y z first second either third = first refl third
+part_agreed false true w x y z first second either third = second refl third
+part_agreed false false w x y z first second either third = absurd (true≢false (sym either))
+
+pub agree-merged : (a b c : MDBFileInfo) → Agree a c → Agree b c → Agree (merged a b) c
+agree-merged a b c first second = record {
+  segments = first.segments;
+  verification = λ v w. part_agreed (verified a) (verified b) (verified c) a.verification b.verification c.verification first.verification second.verification (sym (verified-merged a b) ∙ v) w;
+  metadata_ext = λ m l. part_agreed (described a) (described b) (described c) a.metadata_ext b.metadata_ext c.metadata_ext first.metadata_ext second.metadata_ext (sym (described-merged a b) ∙ m) l;
+}
 
 -- merging well-formed records gives the record with the parts of both
 pub merged_is_joined : (a b : MDBFileInfo) → IsWellFormed a → IsWellFormed b → merged a b ≡ joined a b

@@ -12,6 +12,7 @@ ghost use Rattle.xet_records.specs.XorbRecord.{total_bytes, segment_of};
 ghost use Rattle.xet_records.specs.Rows.{ReadsRow};
 ghost use Rattle.xet_records.specs.Reading.{ReadsRecord, ReadsRowsAfter, ReadsBookend, IsCutShort, HasTooManyRows};
 ghost use Rattle.xet_base.specs.Source.{Takes, ReadFails};
+ghost use Rattle.xet_base.specs.Table.{IsBareInvalidShard};
 ghost use Rattle.xet_base.specs.Errors.{IsEndOfInput, IsDeviceError, IsInvalidShard};
 
 use crate::rows::{
@@ -550,11 +551,12 @@ impl MDBFileInfo {
     /// Appends the rows of the record and returns their bytes. The error is the writer's. Asks that the
     /// record's parts fit its header.
     #[tactic(auto, unfolding(crate::specs::FileRecord::record_text, crate::specs::FileRecord::rows_text))]
-    pub fn serialize<W: Write>(&self, writer: &mut W) -> io::Result<usize>
+    pub fn serialize<W: Write>(&self, writer: &mut W) -> Result<usize>
         requires { FitsItsHeader self.now }
         ensures text { OnOk result
             (Appends (W.contents writer.old) (W.contents writer.new) (record_text self.now)) }
         ensures count { IfOk result (λ n. n ≡ 48 * row_count self.now) }
+        ensures causes { IfErr result IsDeviceError }
     {
         write_row(&self.metadata, writer)?;
         write_rows(&self.segments, writer)?;
@@ -575,7 +577,7 @@ impl MDBFileInfo {
         ensures end { IfErr result (λ e. IsEndOfInput e → IfSome (R.remaining reader.old) (IsCutShort file_records)) }
         ensures invalid { IfErr result
             (λ e. IsInvalidShard e → IfSome (R.remaining reader.old) (HasTooManyRows file_records)) }
-        ensures causes { IfErr result (λ e. IsDeviceError e ⊎ IsInvalidShard e) }
+        ensures causes { IfErr result (λ e. IsDeviceError e ⊎ IsBareInvalidShard e) }
         ensures whole { OnOk result (IfSome (R.remaining reader.old) (λ bytes. ¬ IsCutShort file_records bytes)) }
         ensures fits { OnOk result (IfSome (R.remaining reader.old) (λ bytes. ¬ HasTooManyRows file_records bytes)) }
         ensures again { (r : MDBFileInfo) → (rest : List ℕ) → IsStored r → R.remaining reader.old ≡ Some (record_text r ++ rest)

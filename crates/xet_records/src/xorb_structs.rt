@@ -255,11 +255,12 @@ impl MDBXorbInfo {
     /// Appends the rows of the record and returns their bytes. The error is the writer's. Asks that the
     /// record has as many chunks as its header announces.
     #[tactic(auto, unfolding(crate::specs::XorbRecord::xorb_text))]
-    pub fn serialize<W: Write>(&self, writer: &mut W) -> io::Result<usize>
+    pub fn serialize<W: Write>(&self, writer: &mut W) -> Result<usize>
         requires { HasItsChunks self.now }
         ensures text { OnOk result
             (Appends (W.contents writer.old) (W.contents writer.new) (xorb_text self.now)) }
         ensures count { IfOk result (λ n. n ≡ 48 * xorb_row_count self.now) }
+        ensures causes { IfErr result IsDeviceError }
     {
         write_row(&self.metadata, writer)?;
         write_rows(&self.chunks, writer)?;

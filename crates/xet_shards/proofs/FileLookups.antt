@@ -274,20 +274,20 @@ module _ (files : List MDBFileInfo) (xorbs : List MDBXorbInfo) (form : Form) (is
   -- it is read, unless the device fails or memory is refused
   pub record_is_read : (i : ℕ) (new : Source) (e : CoreError) → i < length files → InfoRefusal 48 (start_at i) old new e → DeviceFailure old new e ⊎ (e ≡ OutOfMemory)
   record_is_read i new e within (inl (none, bare, past)) = absurd (omega (arith, past, start_bound i within))
-  record_is_read i new e within (inr (inl (none, bare, bookend))) =
+  record_is_read i new e within (inr (fits, inl (none, bare, bookend))) =
       absurd ((stored_at i within).is_file (ap (λ (h : FileDataSequenceHeader). h.file_hash) (sym (header_is i bookend.header bookend.rest within bookend.widths bookend.bytes_are).0) ∙ bookend.is_bookend))
-  record_is_read i new e within (inr (inr (inl failed))) = inl failed
-  record_is_read i new e within (inr (inr (inr (inl (none, no_memory))))) = inr no_memory
-  record_is_read i new e within (inr (inr (inr (inr (inl (none, invalid, (h, rest, begins, past))))))) =
+  record_is_read i new e within (inr (fits, inr (inl failed))) = inl failed
+  record_is_read i new e within (inr (fits, inr (inr (inl (none, no_memory))))) = inr no_memory
+  record_is_read i new e within (inr (fits, inr (inr (inr (inl (none, invalid, (h, rest, begins, past))))))) =
       absurd (omega (arith, past, ap rows_after (header_is i h rest within begins.widths begins.bytes_are).0, start_bound i within, row_count_is i within))
-  record_is_read i new e within (inr (inr (inr (inr (inr (none, ended, inl short)))))) = absurd (omega (
+  record_is_read i new e within (inr (fits, inr (inr (inr (inr (none, ended, inl short)))))) = absurd (omega (
     arith,
     short,
     ap length (record_stands i within).1,
     length-append (record_text (file_at i)) (record_stands i within).0,
     length-stored (file_at i) (stored_at i within),
   ))
-  record_is_read i new e within (inr (inr (inr (inr (inr (none, ended, inr (h, rest, begins, few, short))))))) =
+  record_is_read i new e within (inr (fits, inr (inr (inr (inr (none, ended, inr (h, rest, begins, few, short))))))) =
       let same = header_is i h rest within begins.widths begins.bytes_are in
       absurd (omega (
         arith,
@@ -431,15 +431,17 @@ module _ (files : List MDBFileInfo) (xorbs : List MDBXorbInfo) (form : Form) (is
       let shared = hits_share word looks.found looks.are_hits.each looks.are_hits.distinct in
       record {
         made = bounded.made;
+        more = new.seeks - looks.searched.seeks;
         few = omega (arith, bounded.few, rows_is, table_hits word);
-        seeks = omega (arith, visits.seeks, bounded.seeks, shared, length-take n rows, length-map looks.found (λ (h : Hit ℕ). h.value));
+        few_more = omega (arith, visits.seeks, shared, length-take n rows, length-map looks.found (λ (h : Hit ℕ). h.value));
+        seeks = omega (arith, visits.no_fewer, bounded.seeks);
         read = omega (
           arith,
           visits.read,
           bounded.read,
           table_hits word,
           texts_share word looks.found looks.are_hits.each looks.are_hits.distinct n visits.taken
-              (subst (λ bytes. AllZip (λ row k. MayTake file_records (drop (row_at 48 row) bytes) k) (take n rows) visits.taken) looks.kept visits.may_take),
+              (subst (λ bytes. AllZip (λ row k. MayTake file_records (drop (row_at 48 row) bytes) k) (take n rows) visits.taken) looks.serves.bytes visits.may_take),
         );
       }
 
@@ -456,7 +458,7 @@ module _ (files : List MDBFileInfo) (xorbs : List MDBXorbInfo) (form : Form) (is
 
   -- a lookup that is refused
   pub not_answered : (hash : DataHash) (new : Source) (e : CoreError) → FindingNot table 48 hash old new e
-      → DeviceFailure old new e ⊎ ((e ≡ OutOfMemory) × (length (sharing hash.word0 files) < 8))
+      → DeviceFailure old new e ⊎ ((e ≡ OutOfMemory) × (1 ≤ length (sharing hash.word0 files)) × (length (sharing hash.word0 files) < 8))
       ⊎ ((e ≡ TruncatedHashCollision hash.word0) × (8 ≤ length (sharing hash.word0 files)))
   not_answered hash new e (inl (inl (none, collision, collides), bounded)) =
       inr (inr (collision, omega (arith, collides.eight, hits_share hash.word0 collides.found collides.each collides.distinct)))
@@ -464,13 +466,19 @@ module _ (files : List MDBFileInfo) (xorbs : List MDBXorbInfo) (form : Form) (is
   not_answered hash new e (inr looks) =
       elim (hits_are_read hash.word0 looks.found looks.are_hits.each looks.are_hits.distinct new e looks.answer.0 looks.answer.1 looks.answer.2) [
         | inl failed ↦ inl failed
-        | inr no_memory ↦ inr (inl (no_memory, omega (arith, looks.few, looks.are_hits.all table_sorted, table_hits hash.word0)))
+        | inr no_memory ↦ inr (inl (no_memory, omega (arith, one, all), omega (arith, looks.few, all)))
       ]
+    where
+      all : length looks.found ≡ length (sharing hash.word0 files)
+      all = looks.are_hits.all table_sorted ∙ table_hits hash.word0
+
+      one : 0 < length looks.found
+      one = omega (arith, looks.answer.1.1, length-map looks.found (λ (h : Hit ℕ). h.value))
 
   pub costs_refused : (hash : DataHash) (new : Source) (e : CoreError) → FindingNot table 48 hash old new e → WithinBounds files hash.word0 old new
   costs_refused hash new e (inl (refused, bounded)) =
       let costs = search_costs hash.word0 new (bounded table_sorted) in
-      record { made = costs.made; few = costs.few; seeks = omega (arith, costs.seeks); read = omega (arith, costs.read) }
+      record { made = costs.made; more = 0; few = costs.few; few_more = omega arith; seeks = omega (arith, costs.seeks); read = omega (arith, costs.read) }
   costs_refused hash new e (inr looks) = lookup_costs hash.word0 new (LookupRefused 48 old new e) looks
 
   -- a collision is answered after the search alone

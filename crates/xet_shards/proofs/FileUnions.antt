@@ -15,7 +15,7 @@ use Rattle.xet_base.proofs.HashOrder.{hash_cmp-IsTotalOrder, same_key}
 use Rattle.xet_records.specs.declared.file_structs.MDBFileInfo.{MDBFileInfo}
 use Rattle.xet_records.specs.FileRecord.{IsWellFormed}
 use Rattle.xet_records.specs.Merging.{merged}
-use Rattle.xet_records.proofs.Merging.{merged_is_joined, joined_well_formed}
+use Rattle.xet_records.proofs.Merging.{merged_well_formed}
 use Rattle.xet_shards.specs.Shard.{FileMap, file_hash_of}
 use Rattle.xet_shards.specs.Joining.{but, entry, CanJoinFile, CanJoinFiles, either_file, own_file}
 use Rattle.xet_shards.proofs.Maps.{both_right}
@@ -85,11 +85,10 @@ pub record IsOwn (b : FileMap) (k : DataHash) (r m : MDBFileInfo) : Type 0 where
 
 pub own_merged : (b : FileMap) (k : DataHash) (r s m : MDBFileInfo) → Some s ≡ get b k → m ≡ merged r s → IsWellFormed r → IsWellFormed s → CanJoinFile r s → IsOwn b k r m
 own_merged b k r s m there is r_formed s_formed can =
-    let whole = is ∙ merged_is_joined r s r_formed s_formed in
     record {
-      file = ap Some whole ∙ ap (either_file (Some r)) there;
-      hash = ap file_hash_of whole;
-      well_formed = subst IsWellFormed (sym whole) (joined_well_formed r s r_formed s_formed can.same can.rows);
+      file = ap Some is ∙ ap (either_file (Some r)) there;
+      hash = ap file_hash_of is;
+      well_formed = subst IsWellFormed (sym is) (merged_well_formed r s r_formed s_formed can.same can.rows);
     }
 
 pub own_copied : (b : FileMap) (k : DataHash) (r m : MDBFileInfo) → None ≡ get b k → m ≡ r → IsWellFormed r → IsOwn b k r m

@@ -9,6 +9,7 @@ pub mod Files
 pub mod Found
 pub mod Index
 pub mod Joining
+pub mod Joins
 pub mod Layouts
 pub mod Loading
 pub mod Lookups
@@ -21,6 +22,7 @@ pub mod SectionReading
 pub mod SectionUnique
 pub mod ShardLookups
 pub mod Sums
+pub mod TableOrder
 pub mod TableReading
 pub mod Tables
 pub mod TruncatedHashes

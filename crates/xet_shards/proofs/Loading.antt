@@ -6,7 +6,7 @@ use Rattle.std.specs.declared.result.Result.{Result}
 use Rattle.std.specs.declared.io.Error.{Error}
 use Rattle.xet_base.specs.declared.error.CoreError.{CoreError}
 use Rattle.xet_base.specs.Bytes.{u64_bytes}
-use Rattle.xet_base.specs.Errors.{IsEndOfInput, IsShardVersion, FromDevice}
+use Rattle.xet_base.specs.Errors.{IsEndOfInput, IsBareShardVersion, FromDevice}
 use Rattle.xet_base.specs.Source.{Source, Takes, Fails, moved, bytes_left}
 use Rattle.xet_base.proofs.Bytes.{length-u64_bytes}
 use Rattle.xet_base.proofs.Lists.{front_is}
@@ -42,7 +42,7 @@ unfolding header_text
 read_in_two a b c tag rest h is_tag rest_is two first last =
     subst (Takes a c) ((λ i. is_tag i ++ rest_is i) ∙ ap (λ n. (header_tag ++ u64_bytes n) ++ u64_bytes h.footer_size) (sym two)) (Takes-trans a b c tag rest first last)
 
-pub other_version_read : (a b c : Source) (tag rest : List ℕ) (e : CoreError) → length tag ≡ 32 → length rest ≡ 16 → Takes a b tag → Takes b c rest → IsShardVersion e
+pub other_version_read : (a b c : Source) (tag rest : List ℕ) (e : CoreError) → length tag ≡ 32 → length rest ≡ 16 → Takes a b tag → Takes b c rest → IsBareShardVersion e
     → take 8 rest ≢ u64_bytes 2 → PartFails HasForeignHeader EndsInHeader 48 a c e
 other_version_read a b c tag rest e tag_len len first last is differs = record {
   bytes = ap (λ (s : Source). s.bytes) last.after ∙ ap (λ (s : Source). s.bytes) first.after;

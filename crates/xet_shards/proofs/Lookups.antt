@@ -4,15 +4,18 @@ use Rattle.std.specs.Prelude.{IfOk}
 use Rattle.std.specs.declared.result.Result.{Result}
 use Rattle.std.proofs.lemmas.Result.{IfOk-weaker}
 use Rattle.std.proofs.lemmas.List.{length-append, length-map}
-use Rattle.xet_base.specs.Table.{Table, Serves, IsSorted, Bounded, Hit, IsHit, Finds, value_at}
+use Rattle.xet_base.specs.Table.{Table, FitsTable, Serves, IsSorted, Bounded, Hit, IsHit, Finds, value_at}
 use Rattle.std.proofs.lemmas.List.Elements.{AllZip-push, All-nil, All-push, All-weaker}
 use Rattle.std.proofs.lemmas.List.Sums.{sum_by-append}
 use Rattle.xet_base.specs.declared.error.CoreError.{CoreError}
 use Rattle.xet_base.specs.declared.merklehash.DataHash.{DataHash}
 use Rattle.xet_shards.specs.Shard.{file_hash_of}
-use Rattle.xet_base.specs.Source.{Source, Takes, moved, bytes_left}
+use Rattle.std.specs.declared.io.Error.{Error}
+use Rattle.xet_base.specs.Errors.{FromDevice}
+use Rattle.xet_base.specs.Source.{Source, Takes, Fails, moved, bytes_left}
 use Rattle.xet_base.proofs.Lists.{front_is}
 use Rattle.xet_base.proofs.Reading.{Takes-consumes}
+use Rattle.xet_base.proofs.Search.{serves_still, serves_moved, serves_advanced}
 use Rattle.xet_records.specs.declared.file_structs.MDBFileInfo.{MDBFileInfo}
 use Rattle.xet_records.specs.FileRow.{header_row}
 use Rattle.xet_records.specs.FileRecord.{record_text, rows_text, rows_after, IsStored, file_records}
@@ -21,11 +24,24 @@ use Rattle.xet_records.proofs.Lengths.{length-header_row, length-record_text}
 use Rattle.xet_records.proofs.Record.{row_count-whole}
 use Rattle.xet_records.proofs.RecordKinds.{file_laws, stored_begins}
 use Rattle.xet_shards.specs.SectionReading.{MayTake, BeginsWithBookend, PassesLimit, EndsEarly, SectionFailure, ReadsNext, RecordFails}
-use Rattle.xet_shards.specs.Lookup.{IsNumber, Collides, IndexFinds, VisitsSome, LooksUp, LookupAnswer, LookupRefused, Finding, FindingNot, row_at, RecordAt, IsBareInternalError, InfoRefusal, ReadsInfo, ReadsInfoNot, Visits, Missed}
+use Rattle.xet_shards.specs.Lookup.{IsNumber, Collides, IndexFinds, VisitsSome, LooksUp, LookupAnswer, LookupRefused, Finding, FindingNot, row_at, RecordAt, IsBareInternalError, RecordRefusal, InfoRefusal, ReadsInfo, ReadsInfoNot, Visits, Missed}
 
 -- a stored record has the rows that its header announces, and the header
 pub length-stored : (r : MDBFileInfo) → IsStored r → length (record_text r) ≡ 48 * (1 + rows_after r.metadata)
 length-stored r stored = length-record_text r stored.widths ∙ ap (λ n. 48 * n) (row_count-whole r stored.whole)
+
+-- the seek to a row failed
+pub info_no_seek : (offset row : ℕ) (old new : Source) (failure : Error) (e : CoreError) → row_at offset row < 2 ^ 64 → Fails old new 1 failure → FromDevice failure e
+    → ReadsInfoNot offset row old new e
+info_no_seek offset row old new failure e fits fails is = record {
+  bytes = fails.bytes;
+  seeks = omega (arith, fails.seeks);
+  no_fewer = omega (arith, fails.seeks);
+  taken = 0;
+  read = omega (arith, fails.read);
+  may_take = inl (omega arith);
+  cause = inr (fits, inr (inl (fails.failures, failure, fails.last_failure, is)));
+}
 
 -- after a seek to a row
 module _ (offset row : ℕ) (old mid new : Source) (fits : row_at offset row < 2 ^ 64) (sought : mid ≡ moved old (row_at offset row)) where
@@ -39,8 +55,7 @@ module _ (offset row : ℕ) (old mid new : Source) (fits : row_at offset row < 2
       record {
         within = fits;
         stands = record { stored = read.stored; is_stored = read.is_stored; rows = read.rows; taken = (bytes_left new, are); handed = read.handed };
-        bytes = ap (λ (s : Source). s.bytes) read.taken.after ∙ ap (λ (s : Source). s.bytes) sought;
-        failures = ap (λ (s : Source). s.failures) read.taken.after ∙ ap (λ (s : Source). s.failures) sought;
+        serves = serves_advanced old mid new (length (record_text read.stored)) (serves_moved old old mid (row_at offset row) (serves_still old) sought) read.taken.after;
         seeks = ap (λ (s : Source). s.seeks) read.taken.after ∙ ap (λ (s : Source). s.seeks) sought;
         taken = length (record_text read.stored);
         read = ap (λ (s : Source). s.read) read.taken.after ∙ ap (λ (s : Source). s.read + length (record_text read.stored)) sought;
@@ -56,30 +71,35 @@ module _ (offset row : ℕ) (old mid new : Source) (fits : row_at offset row < 2
   info_bookend e bare read = record {
     bytes = ap (λ (s : Source). s.bytes) read.taken.after ∙ ap (λ (s : Source). s.bytes) sought;
     seeks = omega (arith, ap (λ (s : Source). s.seeks) read.taken.after, ap (λ (s : Source). s.seeks) sought);
+    no_fewer = omega (arith, ap (λ (s : Source). s.seeks) read.taken.after, ap (λ (s : Source). s.seeks) sought);
     taken = 48;
     read = omega (arith, ap (λ (s : Source). s.read) read.taken.after, ap (λ (s : Source). s.read) sought, length-header_row read.header);
     may_take = inl (omega arith);
-    cause = inr (inl (
-      ap (λ (s : Source). s.failures) read.taken.after ∙ ap (λ (s : Source). s.failures) sought,
-      bare,
-      record {
-        header = read.header;
-        rest = bytes_left new;
-        widths = read.widths;
-        is_bookend = read.is_bookend;
-        bytes_are = sym left_is ∙ Takes-consumes mid new (header_row read.header) read.taken;
-      },
-    ));
+    cause = inr (
+      fits,
+      inl (
+        ap (λ (s : Source). s.failures) read.taken.after ∙ ap (λ (s : Source). s.failures) sought,
+        bare,
+        record {
+          header = read.header;
+          rest = bytes_left new;
+          widths = read.widths;
+          is_bookend = read.is_bookend;
+          bytes_are = sym left_is ∙ Takes-consumes mid new (header_row read.header) read.taken;
+        },
+      ),
+    );
   }
 
   pub info_fails : (e : CoreError) → RecordFails file_records 4294967296 mid new e → ReadsInfoNot offset row old new e
   info_fails e fails = record {
     bytes = fails.bytes ∙ ap (λ (s : Source). s.bytes) sought;
     seeks = omega (arith, fails.seeks, ap (λ (s : Source). s.seeks) sought);
+    no_fewer = omega (arith, fails.seeks, ap (λ (s : Source). s.seeks) sought);
     taken = fails.taken;
     read = omega (arith, fails.read, ap (λ (s : Source). s.read) sought);
     may_take = subst (λ bytes. MayTake file_records bytes fails.taken) left_is fails.may_take;
-    cause = inr (inr (failure_after (PassesLimit file_records 4294967296) (EndsEarly file_records 4294967296) (drop (row_at offset row) old.bytes) (ap (λ (s : Source). s.failures) sought) (subst (λ bytes. SectionFailure (PassesLimit file_records 4294967296) (EndsEarly file_records 4294967296) bytes mid new e) left_is fails.cause)));
+    cause = inr (fits, inr (failure_after (PassesLimit file_records 4294967296) (EndsEarly file_records 4294967296) (drop (row_at offset row) old.bytes) (ap (λ (s : Source). s.failures) sought) (subst (λ bytes. SectionFailure (PassesLimit file_records 4294967296) (EndsEarly file_records 4294967296) bytes mid new e) left_is fails.cause)));
   }
     where
       failure_after : (Passes Ends : List ℕ → Type 0) (bytes : List ℕ) → mid.failures ≡ old.failures → SectionFailure Passes Ends bytes mid new e → SectionFailure Passes Ends bytes old new e
@@ -90,10 +110,11 @@ module _ (offset row : ℕ) (old mid new : Source) (fits : row_at offset row < 2
 
 -- one record more
 pub visits_more : (offset row n : ℕ) (rows : List ℕ) (old now new : Source) → Visits offset rows old now → new.bytes ≡ now.bytes → new.seeks ≤ now.seeks + 1
-    → new.read ≤ now.read + n → MayTake file_records (drop (row_at offset row) now.bytes) n → Visits offset (rows ++ row ∷ []) old new
-visits_more offset row n rows old now new before bytes seeks read may_take = record {
+    → now.seeks ≤ new.seeks → new.read ≤ now.read + n → MayTake file_records (drop (row_at offset row) now.bytes) n → Visits offset (rows ++ row ∷ []) old new
+visits_more offset row n rows old now new before bytes seeks no_fewer read may_take = record {
   bytes = bytes ∙ before.bytes;
   seeks = omega (arith, seeks, before.seeks, length-append rows (row ∷ []));
+  no_fewer = omega (arith, no_fewer, before.no_fewer);
   taken = before.taken ++ n ∷ [];
   may_take = AllZip-push (λ r k. MayTake file_records (drop (row_at offset r) old.bytes) k) rows before.taken row n before.may_take
       (subst (λ bs. MayTake file_records (drop (row_at offset row) bs) n) before.bytes may_take);
@@ -103,18 +124,26 @@ visits_more offset row n rows old now new before bytes seeks read may_take = rec
 pub visits_read : (offset row : ℕ) (rows : List ℕ) (old now new : Source) (found : MDBFileInfo) → Visits offset rows old now → ReadsInfo offset row now new found
     → Visits offset (rows ++ row ∷ []) old new
 visits_read offset row rows old now new found before read =
-    visits_more offset row read.taken rows old now new before read.bytes (omega (arith, read.seeks)) (omega (arith, read.read)) read.may_take
+    visits_more offset row read.taken rows old now new before read.serves.bytes (omega (arith, read.seeks)) (omega (arith, read.seeks)) (omega (arith, read.read)) read.may_take
 
 pub visits_read_not : (offset row : ℕ) (rows : List ℕ) (old now new : Source) (e : CoreError) → Visits offset rows old now → ReadsInfoNot offset row now new e
     → Visits offset (rows ++ row ∷ []) old new
 visits_read_not offset row rows old now new e before read =
-    visits_more offset row read.taken rows old now new before read.bytes read.seeks read.read read.may_take
+    visits_more offset row read.taken rows old now new before read.bytes read.seeks read.no_fewer read.read read.may_take
+
+-- calls that did not fail, after others
+pub serves_after : (old now new : Source) → Serves old now → Serves now new → Serves old new
+serves_after old now new first last = record {
+  bytes = last.bytes ∙ first.bytes;
+  failures = last.failures ∙ first.failures;
+  last_failure = last.last_failure ∙ first.last_failure;
+}
 
 -- before the first record
 pub missed_none : (offset : ℕ) (hash : DataHash) (s : Source) → Missed offset hash [] s s
 missed_none offset hash s = record {
-  visits = record { bytes = refl; seeks = omega arith; taken = []; may_take = tt; read = omega arith };
-  failures = refl;
+  visits = record { bytes = refl; seeks = omega arith; no_fewer = omega arith; taken = []; may_take = tt; read = omega arith };
+  serves = serves_still s;
   others = All-nil (λ row. (found : MDBFileInfo) × RecordAt s.bytes (row_at offset row) found × (file_hash_of found ≢ hash));
 }
 
@@ -123,7 +152,7 @@ pub missed_more : (offset row : ℕ) (hash : DataHash) (rows : List ℕ) (old no
     → ReadsInfo offset row now new found → file_hash_of found ≢ hash → Missed offset hash (rows ++ row ∷ []) old new
 missed_more offset row hash rows old now new found before read other = record {
   visits = visits_read offset row rows old now new found before.visits read;
-  failures = read.failures ∙ before.failures;
+  serves = serves_after old now new before.serves read.serves;
   others = All-push (λ r. (info : MDBFileInfo) × RecordAt old.bytes (row_at offset r) info × (file_hash_of info ≢ hash)) rows row before.others
       (found, subst (λ bytes. RecordAt bytes (row_at offset row) found) before.visits.bytes read.stands, other);
 }
@@ -132,18 +161,20 @@ missed_more offset row hash rows old now new found before read other = record {
 pub refusal_after : (offset row : ℕ) (old now new : Source) (e : CoreError) → now.bytes ≡ old.bytes → now.failures ≡ old.failures → InfoRefusal offset row now new e
     → InfoRefusal offset row old new e
 refusal_after offset row old now new e bytes same (inl (none, bare, past)) = inl (none ∙ same, bare, past)
-refusal_after offset row old now new e bytes same (inr (inl (none, bare, bookend))) =
-    inr (inl (none ∙ same, bare, subst (λ bs. BeginsWithBookend file_records (drop (row_at offset row) bs)) bytes bookend))
-refusal_after offset row old now new e bytes same (inr (inr (inl failed))) = inr (inr (inl (failed.0 ∙ ap (λ k. k + 1) same, failed.1, failed.2, failed.3)))
-refusal_after offset row old now new e bytes same (inr (inr (inr (inl (none, no_memory))))) = inr (inr (inr (inl (none ∙ same, no_memory))))
-refusal_after offset row old now new e bytes same (inr (inr (inr (inr (inl (none, is, passes)))))) =
-    inr (inr (inr (inr (inl (none ∙ same, is, subst (λ bs. PassesLimit file_records 4294967296 (drop (row_at offset row) bs)) bytes passes)))))
-refusal_after offset row old now new e bytes same (inr (inr (inr (inr (inr (none, is, ends)))))) =
-    inr (inr (inr (inr (inr (none ∙ same, is, subst (λ bs. EndsEarly file_records 4294967296 (drop (row_at offset row) bs)) bytes ends)))))
+refusal_after offset row old now new e bytes same (inr (fits, refusal)) =
+    inr (fits, later (subst (λ bs. RecordRefusal (drop (row_at offset row) bs) now new e) bytes refusal))
+  where
+    later : RecordRefusal (drop (row_at offset row) old.bytes) now new e → RecordRefusal (drop (row_at offset row) old.bytes) old new e
+    later (inl (none, bare, bookend)) = inl (none ∙ same, bare, bookend)
+    later (inr (inl failed)) = inr (inl (failed.0 ∙ ap (λ k. k + 1) same, failed.1, failed.2, failed.3))
+    later (inr (inr (inl (none, no_memory)))) = inr (inr (inl (none ∙ same, no_memory)))
+    later (inr (inr (inr (inl (none, is, passes))))) = inr (inr (inr (inl (none ∙ same, is, passes))))
+    later (inr (inr (inr (inr (none, is, ends))))) = inr (inr (inr (inr (none ∙ same, is, ends))))
 
 -- places for eight results that are all taken are eight hits
-pub collides : (t : Table) (key count : ℕ) (old new : List ℕ) → Finds t key IsNumber old new count → length old ≡ 8 → length new ≡ 8 → 8 ≤ count → Collides t key
-collides t key count old new finds old_len new_len full = record {
+pub collides : (t : Table) (key count : ℕ) (old new : List ℕ) → Finds t key IsNumber old new count → FitsTable t → length old ≡ 8 → length new ≡ 8 → 8 ≤ count → Collides t key
+collides t key count old new finds fits old_len new_len full = record {
+  fits = fits;
   found = finds.found;
   eight = omega (
     arith,
@@ -186,11 +217,12 @@ module _ (t : Table) (offset count : ℕ) (hash : DataHash) (old mid new : Sourc
     (visits : VisitsSome offset (take count places_new) mid new) where
   looked_up : (Answer : List ℕ → Type 0) → Answer (take count places_new) → LooksUp t offset hash.word0 old new Answer
   looked_up Answer answer = record {
+    fits = finds.fits;
     found = finds.found;
     few = omega (arith, finds.few, finds.number);
     are_hits = finds.are_hits;
     searched = mid;
-    kept = serves.bytes;
+    serves = serves;
     bounded = bounded;
     visits = subst (λ rows. VisitsSome offset rows mid new) (rows_in_front t hash.word0 count places_old places_new finds) visits;
     answer = subst Answer (rows_in_front t hash.word0 count places_old places_new finds) answer;

@@ -14,7 +14,7 @@ use Rattle.xet_records.specs.declared.file_structs.MDBFileInfo.{MDBFileInfo}
 use Rattle.xet_records.specs.declared.xorb_structs.MDBXorbInfo.{MDBXorbInfo}
 use Rattle.xet_records.specs.FileRecord.{row_count}
 use Rattle.xet_records.specs.XorbRecord.{xorb_row_count}
-use Rattle.xet_records.specs.Merging.{joined}
+use Rattle.xet_records.specs.Merging.{merged}
 use Rattle.xet_shards.specs.Shard.{Shard, FileMap, XorbMap, total_rows, total_xorb_rows}
 use Rattle.xet_shards.specs.Joining.{entry, either_file, CanJoinFiles}
 use Rattle.xet_shards.specs.SetOperations.{IsUnion, CanUnite}
@@ -99,7 +99,7 @@ sum-entries f es e = ap (sum_by f) (map-append (λ d. d.1) es (e ∷ [])) ∙ su
 abbrev pub other_xorb : MDBXorbInfo → MDBXorbInfo → MDBXorbInfo
 other_xorb own other = other
 
-pub either_file_is : (o p : Option MDBFileInfo) → either_joined joined o p ≡ either_file o p
+pub either_file_is : (o p : Option MDBFileInfo) → either_joined merged o p ≡ either_file o p
 either_file_is None p = refl
 either_file_is (Some r) None = refl
 either_file_is (Some r) (Some s) = refl
@@ -116,14 +116,14 @@ rows_kept x None there = absurd (true≢false (sym there))
 rows_kept x (Some y) there = refl
 
 -- the maps that unions have
-pub are_united_files : (es : List (DataHash × MDBFileInfo)) (b c : FileMap) → ((q : DataHash) → get c q ≡ either_file (entry es q) (get b q)) → c ≡ overlay joined es b
-are_united_files es b c is = is_overlay joined es b c (λ q. is q ∙ sym (either_file_is (entry es q) (get b q)))
+pub are_united_files : (es : List (DataHash × MDBFileInfo)) (b c : FileMap) → ((q : DataHash) → get c q ≡ either_file (entry es q) (get b q)) → c ≡ overlay merged es b
+are_united_files es b c is = is_overlay merged es b c (λ q. is q ∙ sym (either_file_is (entry es q) (get b q)))
 
 pub are_united_xorbs : (es : List (DataHash × MDBXorbInfo)) (b c : XorbMap) → ((q : DataHash) → get c q ≡ option_or (get b q) (entry es q)) → c ≡ overlay other_xorb es b
 are_united_xorbs es b c is = is_overlay other_xorb es b c (λ q. is q ∙ sym (either_xorb_is (entry es q) (get b q)))
 
 abbrev pub united_files : FileMap → FileMap → FileMap
-united_files a b = overlay joined (entries a) b
+united_files a b = overlay merged (entries a) b
 
 abbrev pub united_xorbs : XorbMap → XorbMap → XorbMap
 united_xorbs a b = overlay other_xorb (entries a) b
@@ -135,26 +135,25 @@ united_shard a b = record { files = united_files a.files b.files; xorbs = united
 pub union_exists : (a b : Shard) → IsUnion a b (united_shard a b)
 union_exists a b = record {
   files = λ q.
-      get-overlay joined (entries a.files) b.files q ∙ ap (λ o. either_joined joined o (get b.files q)) (sym (get-entries a.files q))
+      get-overlay merged (entries a.files) b.files q ∙ ap (λ o. either_joined merged o (get b.files q)) (sym (get-entries a.files q))
       ∙ either_file_is (get a.files q) (get b.files q);
   xorbs = λ q.
       get-overlay other_xorb (entries a.xorbs) b.xorbs q ∙ ap (λ o. either_joined other_xorb o (get b.xorbs q)) (sym (get-entries a.xorbs q))
       ∙ either_xorb_is (get a.xorbs q) (get b.xorbs q);
 }
 
--- so it is enough to count the rows of one
-pub rows_of_unions : (a b c d : Shard) → IsUnion a b c → IsUnion a b d → c ≡ d
-rows_of_unions a b c d one other = same_shard c d (λ q. one.files q ∙ sym (other.files q)) (λ q. one.xorbs q ∙ sym (other.xorbs q))
+pub union_unique : (a b c d : Shard) → IsUnion a b c → IsUnion a b d → c ≡ d
+union_unique a b c d one other = same_shard c d (λ q. one.files q ∙ sym (other.files q)) (λ q. one.xorbs q ∙ sym (other.xorbs q))
 
 -- shards that may be united have files that may be joined
 pub can_join_united : (a b : Shard) → CanUnite a b → CanJoinFiles a.files b.files
 can_join_united a b can = λ q r s own other.
     let union = union_exists a b in
     let few = can.rows (united_shard a b) union in
-    let there : get (united_files a.files b.files) q ≡ Some (joined r s) = union.files q ∙ (λ i. either_file (own i) (other i)) in
+    let there : get (united_files a.files b.files) q ≡ Some (merged r s) = union.files q ∙ (λ i. either_file (own i) (other i)) in
     record {
       same = can.same q r s own other;
-      rows = omega (arith, few.files, sum-remove hash_cmp-IsTotalOrder hash_cmp-IsAntisymmetric row_count (united_files a.files b.files) q (joined r s) there);
+      rows = omega (arith, few.files, sum-remove hash_cmp-IsTotalOrder hash_cmp-IsAntisymmetric row_count (united_files a.files b.files) q (merged r s) there);
     }
 
 -- whether shards may be united shows in the rows of their union, however they are counted

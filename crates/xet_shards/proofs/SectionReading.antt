@@ -7,8 +7,9 @@ use Rattle.std.proofs.lemmas.Grind.{flat_map-append}
 use Rattle.xet_base.specs.declared.error.CoreError.{CoreError}
 use Rattle.xet_base.specs.declared.error.CoreError.TheVariants.{OutOfMemory}
 use Rattle.std.specs.declared.io.Error.{Error}
-use Rattle.xet_base.specs.Errors.{FromDevice, IsInvalidShard}
+use Rattle.xet_base.specs.Errors.{FromDevice}
 use Rattle.xet_base.specs.Hash.{all_ones}
+use Rattle.xet_base.specs.Table.{IsBareInvalidShard}
 use Rattle.xet_base.specs.Source.{Source, Takes, Fails, ReadFailure, ReadFails, advanced, bytes_left}
 use Rattle.xet_base.proofs.Reading.{Takes-nil, Takes-trans, Takes-consumes, lacks_left}
 use Rattle.xet_records.specs.RecordKind.{RecordKind}
@@ -49,7 +50,7 @@ module _ {H R : Type 0} (K : RecordKind H R) (laws : KindLaws K) where
 
   -- the header announces more rows than are left
   pub too_many : (left : ℕ) (old mid : Source) (h : H) (e : CoreError) → K.Fits h → K.hash_of h ≢ all_ones → Takes old mid (K.header_bytes h)
-      → left < 1 + K.rows_after h → IsInvalidShard e → RecordFails K left old mid e
+      → left < 1 + K.rows_after h → IsBareInvalidShard e → RecordFails K left old mid e
   too_many left old mid h e fits is_record taken past is = record {
     bytes = ap (λ (s : Source). s.bytes) taken.after;
     seeks = ap (λ (s : Source). s.seeks) taken.after;

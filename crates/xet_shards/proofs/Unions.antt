@@ -1,17 +1,18 @@
--- Unions of shards: when they are joins, and that order, grouping and repetition don't matter.
-use Rattle.std.proofs.Common.{◌≡◌, Option, None, Some, refl, sym, ap, ◌∙◌}
+-- Unions of shards: that order, grouping and repetition don't matter.
+use Rattle.std.proofs.Common.{◌≡◌, Option, None, Some, refl, sym, ap, ◌∙◌, subst}
 use Rattle.std.specs.Option.{option_or}
+use Rattle.std.proofs.lemmas.Option.{same_Some}
 use Rattle.std.specs.FinMap.{get, entries, get-empty, get-entries, same_map}
 use Rattle.xet_base.specs.declared.merklehash.DataHash.{DataHash}
 use Rattle.xet_base.specs.Hash.{hash_cmp}
 use Rattle.xet_base.proofs.HashOrder.{hash_cmp-IsTotalOrder, hash_cmp-IsAntisymmetric}
 use Rattle.xet_records.specs.declared.file_structs.MDBFileInfo.{MDBFileInfo}
 use Rattle.xet_records.specs.FileRecord.{IsWellFormed}
-use Rattle.xet_records.specs.Merging.{Agree}
-use Rattle.xet_records.proofs.Merging.{joined-comm, joined-assoc, joined-idem, same_file_if_agree}
+use Rattle.xet_records.specs.Merging.{Agree, merged, joined}
+use Rattle.xet_records.proofs.Merging.{merged_is_joined, merged-assoc, agree-merged, joined-comm, joined-idem, same_file_if_agree}
 use Rattle.xet_shards.specs.Shard.{Shard, IsShard, empty_shard, file_hash_of}
 use Rattle.xet_shards.specs.Joining.{either_file}
-use Rattle.xet_shards.specs.SetOperations.{IsUnion, IsDifference, IsJoin, ShardsAgree, HasFewRows, CanUnite}
+use Rattle.xet_shards.specs.SetOperations.{IsUnion, IsDifference, ShardsAgree, HasFewRows, CanUnite}
 use Rattle.xet_shards.proofs.FileUnions.{entry-holds}
 use Rattle.xet_shards.proofs.Joining.{or_none, but_empty}
 
@@ -34,18 +35,15 @@ known s q r shard at =
       well_formed = entry-holds (λ e. IsWellFormed e.1) (entries s.files) q r shard.files.well_formed found;
     }
 
-same_either : {X : Type 0} (o p : Option X) → ((x y : X) → o ≡ Some x → p ≡ Some y → x ≡ y) → option_or p o ≡ option_or o p
+pub same_either : {X : Type 0} (o p : Option X) → ((x y : X) → o ≡ Some x → p ≡ Some y → x ≡ y) → option_or p o ≡ option_or o p
 same_either None None same = refl
 same_either None (Some y) same = refl
 same_either (Some x) None same = refl
 same_either (Some x) (Some y) same = ap Some (sym (same x y refl refl))
 
--- the union of shards that agree is their join
-pub join_of_union : (a b c : Shard) → ShardsAgree a b → IsUnion a b c → IsJoin a b c
-join_of_union a b c agree union = record {
-  files = union.files;
-  xorbs = λ q. union.xorbs q ∙ same_either (get a.xorbs q) (get b.xorbs q) (agree.xorbs q);
-}
+-- merging two records that stand under one hash
+merged_known : (q : DataHash) (r s : MDBFileInfo) → IsKnown q r → IsKnown q s → merged r s ≡ joined r s
+merged_known q r s own others = merged_is_joined r s own.well_formed others.well_formed
 
 files_turned : (q : DataHash) (o p : Option MDBFileInfo) → ((r : MDBFileInfo) → o ≡ Some r → IsKnown q r) → ((s : MDBFileInfo) → p ≡ Some s → IsKnown q s)
     → ((r s : MDBFileInfo) → o ≡ Some r → p ≡ Some s → Agree r s) → either_file o p ≡ either_file p o
@@ -55,7 +53,7 @@ files_turned q (Some r) None first second agree = refl
 files_turned q (Some r) (Some s) first second agree =
     let own = first r refl in
     let others = second s refl in
-    ap Some (joined-comm r s own.well_formed others.well_formed (sym own.keyed ∙ others.keyed) (agree r s refl refl))
+    ap Some (merged_known q r s own others ∙ joined-comm r s own.well_formed others.well_formed (sym own.keyed ∙ others.keyed) (agree r s refl refl) ∙ sym (merged_known q s r others own))
 
 -- in either order
 pub union-comm : (a b c d : Shard) → IsShard a → IsShard b → ShardsAgree a b → IsUnion a b c → IsUnion b a d → c ≡ d
@@ -67,7 +65,7 @@ files_grouped : (o p r : Option MDBFileInfo) → either_file (either_file o p) r
 files_grouped None p r = refl
 files_grouped (Some x) None r = refl
 files_grouped (Some x) (Some y) None = refl
-files_grouped (Some x) (Some y) (Some z) = ap Some (joined-assoc x y z)
+files_grouped (Some x) (Some y) (Some z) = ap Some (merged-assoc x y z)
 
 xorbs_grouped : {X : Type 0} (o p r : Option X) → option_or r (option_or p o) ≡ option_or (option_or r p) o
 xorbs_grouped o p None = refl
@@ -83,7 +81,7 @@ union-assoc a b c ab bc left right one then_c other then_a = same_shard left rig
 
 files_repeated : (q : DataHash) (o : Option MDBFileInfo) → ((r : MDBFileInfo) → o ≡ Some r → IsKnown q r) → either_file o o ≡ o
 files_repeated q None first = refl
-files_repeated q (Some r) first = ap Some (joined-idem r (first r refl).well_formed)
+files_repeated q (Some r) first = let own = first r refl in ap Some (merged_known q r r own own ∙ joined-idem r own.well_formed)
 
 xorbs_repeated : {X : Type 0} (o : Option X) → option_or o o ≡ o
 xorbs_repeated None = refl
@@ -119,4 +117,21 @@ agreeing_unite a b first second agree few = record {
       let others = known b q s second other in
       same_file_if_agree r s mine.well_formed.whole others.well_formed.whole (sym mine.keyed ∙ others.keyed) (agree.files q r s own other);
   rows = few;
+}
+
+-- a third shard with which both agree agrees with their union
+files_agree : (o p : Option MDBFileInfo) (r t : MDBFileInfo) → ((x : MDBFileInfo) → o ≡ Some x → Agree x t) → ((y : MDBFileInfo) → p ≡ Some y → Agree y t)
+    → either_file o p ≡ Some r → Agree r t
+files_agree None p r t first second is = second r is
+files_agree (Some x) None r t first second is = first r is
+files_agree (Some x) (Some y) r t first second is = subst (λ z. Agree z t) (same_Some (merged x y) r is) (agree-merged x y t (first x refl) (second y refl))
+
+xorbs_agree : {X : Type 0} (o p : Option X) (r t : X) → ((x : X) → o ≡ Some x → x ≡ t) → ((y : X) → p ≡ Some y → y ≡ t) → option_or p o ≡ Some r → r ≡ t
+xorbs_agree o None r t first second is = first r is
+xorbs_agree o (Some y) r t first second is = second r is
+
+pub union_agrees : (a b c ab : Shard) → ShardsAgree a c → ShardsAgree b c → IsUnion a b ab → ShardsAgree ab c
+union_agrees a b c ab first second union = record {
+  files = λ q r t own other. files_agree (get a.files q) (get b.files q) r t (λ x at. first.files q x t at other) (λ y at. second.files q y t at other) (sym (union.files q) ∙ own);
+  xorbs = λ q r t own other. xorbs_agree (get a.xorbs q) (get b.xorbs q) r t (λ x at. first.xorbs q x t at other) (λ y at. second.xorbs q y t at other) (sym (union.xorbs q) ∙ own);
 }

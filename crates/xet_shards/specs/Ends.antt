@@ -3,7 +3,7 @@ use Rattle.std.specs.Prelude.{◌≡◌, ◌≢◌, ◌⊎◌, ℕ, ◌+◌, ◌
 use Rattle.xet_base.specs.declared.error.CoreError.{CoreError}
 use Rattle.xet_base.specs.Bytes.{u64_bytes}
 use Rattle.xet_base.specs.Hash.{IsHash}
-use Rattle.xet_base.specs.Errors.{IsShardVersion, IsEndOfInput}
+use Rattle.xet_base.specs.Errors.{IsBareShardVersion, IsEndOfInput}
 use Rattle.xet_base.specs.Source.{Source, DeviceFailure, bytes_left}
 use Rattle.xet_shards.specs.declared.shard_format.footer.MDBShardFileFooter.{MDBShardFileFooter}
 use Rattle.xet_shards.specs.declared.shard_format.info.MDBShardInfo.{MDBShardInfo}
@@ -78,7 +78,7 @@ pub record Loads (old new : Source) (found : MDBShardInfo) : Type 0 where
 abbrev pub Refusal : (List ℕ → Type 0) → (List ℕ → Type 0) → List ℕ → Source → Source → CoreError → Type 0
 Refusal Foreign Short bytes old new e =
     DeviceFailure old new e
-    ⊎ ((new.failures ≡ old.failures) × IsShardVersion e × Foreign bytes)
+    ⊎ ((new.failures ≡ old.failures) × IsBareShardVersion e × Foreign bytes)
     ⊎ ((new.failures ≡ old.failures) × IsEndOfInput e × Short bytes)
 
 -- they were not found, by at most two seeks and 248 bytes read; the place is open

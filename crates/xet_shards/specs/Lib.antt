@@ -5,6 +5,7 @@ pub mod FileTable
 pub mod InMemoryShard
 pub mod Index
 pub mod Joining
+pub mod Joins
 pub mod Layout
 pub mod Lookup
 pub mod Names

@@ -7,7 +7,7 @@ use Rattle.xet_base.specs.declared.error.CoreError.TheVariants.{InternalError, O
 use Rattle.xet_base.specs.declared.merklehash.DataHash.{DataHash}
 use Rattle.xet_base.specs.Bytes.{u32_bytes}
 use Rattle.xet_base.specs.Source.{Source, DeviceFailure}
-use Rattle.xet_base.specs.Table.{Table, table_at, Hit, IsHit, OtherRow, IsSorted, hits, Bounded, SearchRefused, IsBareInvalidShard}
+use Rattle.xet_base.specs.Table.{Table, table_at, Hit, IsHit, OtherRow, IsSorted, hits, FitsTable, Serves, Bounded, SearchRefused, IsBareInvalidShard}
 use Rattle.xet_records.specs.declared.file_structs.MDBFileInfo.{MDBFileInfo}
 use Rattle.xet_records.specs.FileRecord.{record_text, file_records}
 use Rattle.xet_records.specs.Reading.{ReadsRecord}
@@ -45,20 +45,24 @@ abbrev pub IsBareInternalError : CoreError → Type 0
 IsBareInternalError (InternalError text) = string_bytes text ≡ []
 IsBareInternalError _ = ⊥
 
--- why the record at a row was not read: its place is past 64 bits, a bookend stands there, the device failed, memory
--- was refused, it has more rows than 32 bits count, or the bytes are too few
+-- why the record in front of some bytes was not read: a bookend stands there, the device failed, memory was refused,
+-- it has more rows than 32 bits count, or the bytes are too few
+abbrev pub RecordRefusal : List ℕ → Source → Source → CoreError → Type 0
+RecordRefusal bytes old new e =
+    ((new.failures ≡ old.failures) × IsBareInternalError e × BeginsWithBookend file_records bytes)
+    ⊎ SectionFailure (PassesLimit file_records 4294967296) (EndsEarly file_records 4294967296) bytes old new e
+
+-- why the record at a row was not read: its place is past 64 bits; or it is not, and the record there was not read
 abbrev pub InfoRefusal : ℕ → ℕ → Source → Source → CoreError → Type 0
 InfoRefusal offset row old new e =
     ((new.failures ≡ old.failures) × IsBareInvalidShard e × (2 ^ 64 ≤ row_at offset row))
-    ⊎ ((new.failures ≡ old.failures) × IsBareInternalError e × BeginsWithBookend file_records (drop (row_at offset row) old.bytes))
-    ⊎ SectionFailure (PassesLimit file_records 4294967296) (EndsEarly file_records 4294967296) (drop (row_at offset row) old.bytes) old new e
+    ⊎ ((row_at offset row < 2 ^ 64) × RecordRefusal (drop (row_at offset row) old.bytes) old new e)
 
 -- the record at a row was read
 pub record ReadsInfo (offset row : ℕ) (old new : Source) (found : MDBFileInfo) : Type 0 where
   pub within : row_at offset row < 2 ^ 64
   pub stands : RecordAt old.bytes (row_at offset row) found
-  pub bytes : new.bytes ≡ old.bytes
-  pub failures : new.failures ≡ old.failures
+  pub serves : Serves old new
   pub seeks : new.seeks ≡ old.seeks + 1
   pub taken : ℕ
   pub read : new.read ≡ old.read + taken
@@ -68,6 +72,7 @@ pub record ReadsInfo (offset row : ℕ) (old new : Source) (found : MDBFileInfo)
 pub record ReadsInfoNot (offset row : ℕ) (old new : Source) (e : CoreError) : Type 0 where
   pub bytes : new.bytes ≡ old.bytes
   pub seeks : new.seeks ≤ old.seeks + 1
+  pub no_fewer : old.seeks ≤ new.seeks
   pub taken : ℕ
   pub read : new.read ≤ old.read + taken
   pub may_take : MayTake file_records (drop (row_at offset row) old.bytes) taken
@@ -79,8 +84,9 @@ pub record AreHits (t : Table) (key : ℕ) (found : List (Hit ℕ)) : Type 0 whe
   pub distinct : AllPairs OtherRow found
   pub all : IsSorted t → length found ≡ hits t key
 
--- eight rows of the table have the key
+-- eight rows of a table that fits 64 bits have the key
 pub record Collides (t : Table) (key : ℕ) : Type 0 where
+  pub fits : FitsTable t
   pub found : List (Hit ℕ)
   pub eight : length found ≡ 8
   pub each : All (IsHit t key IsNumber) found
@@ -91,8 +97,9 @@ abbrev pub IndexRefused : Table → ℕ → Source → Source → CoreError → 
 IndexRefused t key old new e =
     ((new.failures ≡ old.failures) × (e ≡ TruncatedHashCollision key) × Collides t key) ⊎ SearchRefused t old new e
 
--- fewer than eight rows have the key, and their row numbers are handed out
+-- the table fits 64 bits, fewer than eight rows have the key, and their row numbers are handed out
 pub record IndexFinds (t : Table) (key : ℕ) (old new : List ℕ) (count : ℕ) : Type 0 where
+  pub fits : FitsTable t
   pub found : List (Hit ℕ)
   pub few : count < 8
   pub number : length found ≡ count
@@ -103,6 +110,7 @@ pub record IndexFinds (t : Table) (key : ℕ) (old new : List ℕ) (count : ℕ)
 pub record Visits (offset : ℕ) (rows : List ℕ) (old new : Source) : Type 0 where
   pub bytes : new.bytes ≡ old.bytes
   pub seeks : new.seeks ≤ old.seeks + length rows
+  pub no_fewer : old.seeks ≤ new.seeks
   pub taken : List ℕ
   pub may_take : AllZip (λ row n. MayTake file_records (drop (row_at offset row) old.bytes) n) rows taken
   pub read : new.read ≤ old.read + sum taken
@@ -111,13 +119,14 @@ pub record Visits (offset : ℕ) (rows : List ℕ) (old new : Source) : Type 0 w
 abbrev pub VisitsSome : ℕ → List ℕ → Source → Source → Type 0
 VisitsSome offset rows old new = (n : ℕ) × Visits offset (take n rows) old new
 
--- a lookup: the rows with the first word are found, and records at them read
+-- a lookup: the table fits 64 bits, the rows with the first word are found, and records at them read
 pub record LooksUp (t : Table) (offset key : ℕ) (old new : Source) (Answer : List ℕ → Type 0) : Type 0 where
+  pub fits : FitsTable t
   pub found : List (Hit ℕ)
   pub few : length found < 8
   pub are_hits : AreHits t key found
   pub searched : Source
-  pub kept : searched.bytes ≡ old.bytes
+  pub serves : Serves old searched
   pub bounded : IsSorted t → Bounded t key old searched
   pub visits : VisitsSome offset (map (λ hit. hit.value) found) searched new
   pub answer : Answer (map (λ hit. hit.value) found)
@@ -132,19 +141,21 @@ LookupAnswer bytes offset hash None rows =
 -- the records at these rows were read, and none of them has the hash
 pub record Missed (offset : ℕ) (hash : DataHash) (rows : List ℕ) (old new : Source) : Type 0 where
   pub visits : Visits offset rows old new
-  pub failures : new.failures ≡ old.failures
+  pub serves : Serves old new
   pub others : LookupAnswer old.bytes offset hash None rows
 
 -- the record at one of the rows was not read
 abbrev pub LookupRefused : ℕ → Source → Source → CoreError → List ℕ → Type 0
 LookupRefused offset old new e rows = (row : ℕ) × Contains rows row × InfoRefusal offset row old new e
 
--- what a lookup on the bytes of a shard costs at most: the seeks of the search and one for each file that shares
--- the first word, the bytes of the search and the texts of these files
+-- what a lookup on the bytes of a shard costs at most: the seeks that the search made, and one more for each file
+-- that shares the first word; the bytes of the search and the texts of these files
 pub record WithinBounds (files : List MDBFileInfo) (word : ℕ) (old new : Source) : Type 0 where
   pub made : ℕ
+  pub more : ℕ
   pub few : made ≤ (length files + 1) / 128 + length (sharing word files) / 4 + 8
-  pub seeks : new.seeks ≤ old.seeks + made + length (sharing word files)
+  pub few_more : more ≤ length (sharing word files)
+  pub seeks : new.seeks ≡ old.seeks + made + more
   pub read : new.read ≤ old.read + (257 + length (sharing word files) + made) * 12 + length (flat_map record_text (sharing word files))
 
 -- what the search in it costs
@@ -178,11 +189,12 @@ abbrev pub NoStartsInShard : Shard → ℕ → Source → Source → CoreError �
 NoStartsInShard s word old new e = DeviceFailure old new e ⊎ ((e ≡ TruncatedHashCollision word) × (8 ≤ length (sharing word (values s.files))))
 
 -- a file lookup on the bytes of a shard: where fewer than eight files share the first word, the map's answer, or
--- memory was refused; where eight do, the collision; else the device failed
+-- memory was refused, but only where one does, so that a record is read; where eight do, the collision; else the
+-- device failed
 abbrev pub FoundInShard : Shard → DataHash → Option MDBFileInfo → Type 0
 FoundInShard s hash answer = (length (sharing hash.word0 (values s.files)) < 8) × (answer ≡ get s.files hash)
 
 abbrev pub NotFoundInShard : Shard → DataHash → Source → Source → CoreError → Type 0
 NotFoundInShard s hash old new e =
-    DeviceFailure old new e ⊎ ((e ≡ OutOfMemory) × (length (sharing hash.word0 (values s.files)) < 8))
+    DeviceFailure old new e ⊎ ((e ≡ OutOfMemory) × (1 ≤ length (sharing hash.word0 (values s.files))) × (length (sharing hash.word0 (values s.files)) < 8))
     ⊎ ((e ≡ TruncatedHashCollision hash.word0) × (8 ≤ length (sharing hash.word0 (values s.files))))

@@ -3,9 +3,10 @@
 use Rattle.std.specs.Prelude.{◌≡◌, ◌≢◌, ◌⊎◌, ℕ, ◌+◌, ◌-◌, ◌*◌, ◌<◌, ◌≤◌, List, ◌++◌, length, map, flat_map, sum_by, All, Option, MatchOption}
 use Rattle.xet_base.specs.declared.error.CoreError.{CoreError}
 use Rattle.xet_base.specs.declared.error.CoreError.TheVariants.{OutOfMemory}
-use Rattle.xet_base.specs.Errors.{IsInvalidShard, IsEndOfInput}
+use Rattle.xet_base.specs.Errors.{IsEndOfInput}
 use Rattle.xet_base.specs.Hash.{all_ones}
 use Rattle.xet_base.specs.Source.{Source, Takes, DeviceFailure, advanced, moved, bytes_left}
+use Rattle.xet_base.specs.Table.{IsBareInvalidShard}
 use Rattle.xet_records.specs.RecordKind.{RecordKind}
 use Rattle.xet_records.specs.Reading.{ReadsBookend, ReadsRecord, BeginsWithHeader}
 
@@ -75,7 +76,7 @@ abbrev pub SectionFailure : (List ℕ → Type 0) → (List ℕ → Type 0) → 
 SectionFailure Passes Ends bytes old new e =
     DeviceFailure old new e
     ⊎ ((new.failures ≡ old.failures) × (e ≡ OutOfMemory))
-    ⊎ ((new.failures ≡ old.failures) × IsInvalidShard e × Passes bytes)
+    ⊎ ((new.failures ≡ old.failures) × IsBareInvalidShard e × Passes bytes)
     ⊎ ((new.failures ≡ old.failures) × IsEndOfInput e × Ends bytes)
 
 -- the records were not read; the place is open

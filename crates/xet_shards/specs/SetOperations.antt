@@ -9,7 +9,8 @@ use Rattle.xet_records.specs.Merging.{Agree, IsSameFile}
 use Rattle.xet_shards.specs.Shard.{Shard, total_rows, total_xorb_rows}
 use Rattle.xet_shards.specs.Joining.{but, either_file}
 
--- the records of both: files under one hash are joined, of xorbs under one hash the second's stands there
+-- the records of both: of files under one hash the first's stands there, with the parts that only the second's has; of
+-- xorbs under one hash the second's
 pub record IsUnion (a b c : Shard) : Type 0 where
   pub files : (q : DataHash) → get c.files q ≡ either_file (get a.files q) (get b.files q)
   pub xorbs : (q : DataHash) → get c.xorbs q ≡ option_or (get b.xorbs q) (get a.xorbs q)
@@ -33,8 +34,3 @@ pub record CanUnite (a b : Shard) : Type 0 where
 pub record ShardsAgree (a b : Shard) : Type 0 where
   pub files : (q : DataHash) → (r s : MDBFileInfo) → get a.files q ≡ Some r → get b.files q ≡ Some s → Agree r s
   pub xorbs : (q : DataHash) → (r s : MDBXorbInfo) → get a.xorbs q ≡ Some r → get b.xorbs q ≡ Some s → r ≡ s
-
--- the join of shards that agree: under each hash the record, and each part of it, that either has
-pub record IsJoin (a b c : Shard) : Type 0 where
-  pub files : (q : DataHash) → get c.files q ≡ either_file (get a.files q) (get b.files q)
-  pub xorbs : (q : DataHash) → get c.xorbs q ≡ option_or (get a.xorbs q) (get b.xorbs q)

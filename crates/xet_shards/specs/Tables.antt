@@ -1,10 +1,12 @@
 -- The lookup tables: where the records with a hash's first word start, and where the chunks with one stand.
-use Rattle.std.specs.Prelude.{ℕ, List, [], ◌++◌, map, flat_map}
+use Rattle.std.specs.Prelude.{ℕ, List, [], ◌++◌, map, filter, flat_map}
 use Rattle.std.specs.List.{enumerate_from}
-use Rattle.std.specs.Ordering.{nat_cmp, ordering_then}
+use Rattle.std.specs.Ordering.{is_lt, nat_cmp, ordering_then}
 use Rattle.std.specs.declared.cmp.Ordering.{Ordering}
 use Rattle.std.specs.FinMap as finite
+use Rattle.xet_base.specs.declared.merklehash.DataHash.{DataHash}
 use Rattle.xet_base.specs.Bytes.{u32_bytes, u64_bytes}
+use Rattle.xet_base.specs.Hash.{hash_cmp}
 use Rattle.xet_records.specs.declared.file_structs.MDBFileInfo.{MDBFileInfo}
 use Rattle.xet_records.specs.declared.xorb_structs.MDBXorbInfo.{MDBXorbInfo}
 use Rattle.xet_records.specs.declared.xorb_structs.XorbChunkSequenceEntry.{XorbChunkSequenceEntry}
@@ -25,6 +27,13 @@ file_starts files = map file_start (with_fronts [] files)
 
 abbrev pub xorb_starts : List MDBXorbInfo → List (ℕ × ℕ)
 xorb_starts xorbs = map xorb_start (with_fronts [] xorbs)
+
+-- the records of a list whose hashes are smaller than one
+abbrev pub files_below : DataHash → List MDBFileInfo → List MDBFileInfo
+files_below q files = filter (λ r. is_lt (hash_cmp (file_hash_of r) q)) files
+
+abbrev pub xorbs_below : DataHash → List MDBXorbInfo → List MDBXorbInfo
+xorbs_below q xorbs = filter (λ r. is_lt (hash_cmp (xorb_hash_of r) q)) xorbs
 
 -- where chunks stand: by the first word of the hash, then by where the xorb starts, then by the place in the xorb
 abbrev pub place_cmp : ChunkPlace → ChunkPlace → Ordering

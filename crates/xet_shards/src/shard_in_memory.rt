@@ -1,14 +1,15 @@
 //! Shards in memory.
 
-ghost use Rattle.std.specs.Prelude.{◌≡◌, ◌≤◌, ◌↔◌, ◌⊎◌, length, sum_by, OnOk, OnErr, IfOk, IfErr, IsErrOf, IsTrue, None};
+ghost use Rattle.std.specs.Prelude.{◌≡◌, ◌≤◌, ◌↔◌, ◌⊎◌, [], ◌∷◌, Contains, length, sum_by, OnOk, OnErr, IfOk, IfErr, IsErrOf, IsTrue, None};
 ghost use Rattle.std.specs.FinMap as finite;
 ghost use Rattle.xet_base.specs.declared.merklehash.DataHash.{DataHash};
 ghost use Rattle.xet_records.specs.FileRecord.{size_of_file, IsWellFormed};
 ghost use Rattle.xet_records.specs.XorbRecord.{IsXorb};
-ghost use Rattle.xet_shards.specs.Shard.{empty_shard, AreFiles, AreXorbs, total_rows, total_xorb_rows, add_file, add_xorb, CanAddFile, CanAddXorb};
+ghost use Rattle.xet_shards.specs.Shard.{IsShard, empty_shard, AreFiles, AreXorbs, total_rows, total_xorb_rows, add_file, add_xorb, CanAddFile, CanAddXorb};
 ghost use Rattle.xet_shards.specs.Index.{IsIndex};
 ghost use Rattle.xet_shards.specs.XorbTable.{shown_xorbs, placed};
-ghost use Rattle.xet_shards.specs.SetOperations.{IsUnion, IsDifference, HasFewRows, CanUnite, ShardsAgree, IsJoin};
+ghost use Rattle.xet_shards.specs.SetOperations.{IsUnion, IsDifference, HasFewRows, CanUnite, ShardsAgree};
+ghost use Rattle.xet_shards.specs.Joins.{IsJoinOf};
 ghost use Rattle.xet_shards.specs.ChunkQuery.{query_answer, IsUnknown};
 ghost use Rattle.xet_shards.specs.Layout.{layout};
 
@@ -165,6 +166,15 @@ impl MDBInMemoryShard {
         self.files.content()
     }
 
+    /// Does nothing. It says that each record is well-formed and stands under its hash, and that 32 bits count
+    /// the rows of the files, and those of the xorbs.
+    pub fn invariant(&self)
+        ensures { IsShard self.now.content }
+    {
+        self.file_content();
+        self.xorb_content();
+    }
+
     /// The lookup of chunks: under each chunk hash of the shard's xorbs one of these xorbs, and a place of
     /// such a chunk in it.
     pub fn chunk_hash_lookup(&self) -> &HashMap<MerkleHash, (Rc<MDBXorbInfo>, u64)>
@@ -181,7 +191,8 @@ impl MDBInMemoryShard {
     /// rows; `OutOfMemory` where the records find none.
     pub fn union(&self, alloc: Global, other: &MDBInMemoryShard) -> Result<MDBInMemoryShard>
         ensures ok { IfOk result (λ s. IsUnion self.now.content other.now.content s.content) }
-        ensures join { ShardsAgree self.now.content other.now.content → IfOk result (λ s. IsJoin self.now.content other.now.content s.content) }
+        ensures join { ShardsAgree self.now.content other.now.content
+            → IfOk result (λ s. IsJoinOf (Contains (self.now.content ∷ other.now.content ∷ [])) s.content) }
         ensures admitted { OnOk result (CanUnite self.now.content other.now.content) }
         ensures refused { IsErrOf result CoreError.InvalidArguments → ¬ CanUnite self.now.content other.now.content }
         ensures invalid { ¬ CanUnite self.now.content other.now.content → IsErrOf result CoreError.InvalidArguments }
@@ -191,6 +202,8 @@ impl MDBInMemoryShard {
         if !self.can_unite(other) {
             return Err(CoreError::InvalidArguments);
         }
+        self.invariant();
+        other.invariant();
         let files = self.files.union(alloc, &other.files)?;
         let xorbs = self.xorbs.union(alloc, &other.xorbs)?;
         Ok(MDBInMemoryShard::of_tables(files, xorbs))

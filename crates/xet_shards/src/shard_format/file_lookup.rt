@@ -4,7 +4,7 @@ ghost use Rattle.std.specs.Prelude.{◌≡◌, ◌⊎◌, ℕ, Option, ◌+◌, 
 ghost use Rattle.std.specs.FinMap as finite;
 ghost use Rattle.xet_base.specs.Bytes.{u32_bytes};
 ghost use Rattle.xet_base.specs.Source.{FillsNot, next_bytes};
-ghost use Rattle.xet_base.specs.Table.{table_at, Finds, SearchRefused, hits, IsSorted, Serves, Bounded, IsEven, ReadsOn};
+ghost use Rattle.xet_base.specs.Table.{table_at, Finds, FitsTable, SearchRefused, hits, IsSorted, Serves, Bounded, IsEven, ReadsOn};
 ghost use Rattle.xet_shards.specs.Shard.{Shard, IsShard};
 ghost use Rattle.xet_shards.specs.Layout.{layout, info_value};
 ghost use Rattle.xet_shards.specs.Lookup.{StartsInShard, NoStartsInShard, FoundInShard, NotFoundInShard, WithinBounds, SearchWithinBounds, file_table, IsNumber, IndexFinds, IndexRefused, ReadsInfo, ReadsInfoNot, VisitsSome, Finding, FindingNot, LookupAnswer, LookupRefused};
@@ -93,6 +93,7 @@ impl MDBShardInfo {
         ensures read { MatchResult result
             (Finding (file_table self.now.metadata (S.meaning source.old)) self.now.metadata.file_info_offset hash.now (S.meaning source.old) (S.meaning source.new))
             (FindingNot (file_table self.now.metadata (S.meaning source.old)) self.now.metadata.file_info_offset hash.now (S.meaning source.old) (S.meaning source.new)) }
+        ensures serves { OnOk result (Serves (S.meaning source.old) (S.meaning source.new)) }
         ensures kept { (S.meaning source.new).bytes ≡ (S.meaning source.old).bytes }
         ensures written { (s : Shard) → (expiry : Option ℕ) → IsShard s → (S.meaning source.old).bytes ≡ layout s expiry → self.now ≡ info_value s expiry
             → MatchResult result (FoundInShard s hash.now) (NotFoundInShard s hash.now (S.meaning source.old) (S.meaning source.new)) }
@@ -115,6 +116,7 @@ impl MDBShardInfo {
         ensures read { MatchResult result
             (Finding (file_table self.now.metadata (S.meaning source.old)) self.now.metadata.file_info_offset hash.now (S.meaning source.old) (S.meaning source.new))
             (FindingNot (file_table self.now.metadata (S.meaning source.old)) self.now.metadata.file_info_offset hash.now (S.meaning source.old) (S.meaning source.new)) }
+        ensures serves { OnOk result (Serves (S.meaning source.old) (S.meaning source.new)) }
         ensures kept { (S.meaning source.new).bytes ≡ (S.meaning source.old).bytes }
     {
         let mut rows = [0; 8];
@@ -132,7 +134,7 @@ impl MDBShardInfo {
     ) -> Result<Option<MDBFileInfo>>
         ensures answer { IfOk result (λ answer. LookupAnswer (S.meaning source.old).bytes self.now.metadata.file_info_offset hash.now answer rows.now) }
         ensures refused { IfErr result (λ e. LookupRefused self.now.metadata.file_info_offset (S.meaning source.old) (S.meaning source.new) e rows.now) }
-        ensures failures { OnOk result ((S.meaning source.new).failures ≡ (S.meaning source.old).failures) }
+        ensures serves { OnOk result (Serves (S.meaning source.old) (S.meaning source.new)) }
         ensures visits { VisitsSome self.now.metadata.file_info_offset rows.now (S.meaning source.old) (S.meaning source.new) }
     {
         for row in rows {
@@ -184,6 +186,7 @@ fn search_row_numbers<S: ShardSource>(
     ensures count { IsSorted (table_at (S.meaning source.old) start rows 4) → IfOk result (λ n. n ≡ min
         (hits (table_at (S.meaning source.old) start rows 4) word) (length dest.old)) }
     ensures serves { OnOk result (Serves (S.meaning source.old) (S.meaning source.new)) }
+    ensures fits { OnOk result (0 < length dest.old → FitsTable (table_at (S.meaning source.old) start rows 4)) }
     ensures refused { IfErr result (SearchRefused (table_at (S.meaning source.old) start rows 4) (S.meaning source.old) (S.meaning source.new)) }
     ensures kept { (S.meaning source.new).bytes ≡ (S.meaning source.old).bytes }
     ensures bounds { IsSorted (table_at (S.meaning source.old) start rows 4)

@@ -3,7 +3,7 @@
 ghost use Rattle.std.specs.Prelude.{◌≡◌, ◌≢◌, ◌⊎◌, [], ◌∷◌, ◌++◌, IfSome, OnOk, IfOk, IfErr};
 ghost use Rattle.std.specs.Io.KnownBytes.{Appends, Consumes};
 ghost use Rattle.xet_base.specs.Bytes.{u64_bytes};
-ghost use Rattle.xet_base.specs.Errors.{IsShardVersion, IsDeviceError, IsEndOfInput};
+ghost use Rattle.xet_base.specs.Errors.{IsShardVersion, IsBareShardVersion, IsDeviceError, IsEndOfInput};
 ghost use Rattle.xet_shards.specs.Ends.{HasForeignFooter, EndsInFooter, FitsFooter};
 ghost use Rattle.xet_shards.specs.Layout.{footer_text, default_footer};
 
@@ -113,7 +113,7 @@ impl MDBShardFileFooter {
         ensures foreign { IfErr result
             (λ e. IsShardVersion e → IfSome (R.remaining reader.old) HasForeignFooter) }
         ensures end { IfErr result (λ e. IsEndOfInput e → IfSome (R.remaining reader.old) EndsInFooter) }
-        ensures causes { IfErr result (λ e. IsDeviceError e ⊎ IsShardVersion e) }
+        ensures causes { IfErr result (λ e. IsDeviceError e ⊎ IsBareShardVersion e) }
     {
         let mut version = [0u8; 8];
         read_bytes(reader, &mut version)?;
@@ -181,7 +181,7 @@ fn six_words(words: [u64; 6]) -> (u64, u64, u64, u64, u64, u64)
 // Refuses a foreign version.
 pub(super) fn check_version(alloc: Global, version: &[u8; 8]) -> Result<()>
     ensures ok { OnOk result (version.now ≡ u64_bytes 1) }
-    ensures err { IfErr result (λ e. IsShardVersion e × (version.now ≢ u64_bytes 1)) }
+    ensures err { IfErr result (λ e. IsBareShardVersion e × (version.now ≢ u64_bytes 1)) }
 {
     let (version, _) = split_u64(version);
     if version != MDB_SHARD_FOOTER_VERSION {

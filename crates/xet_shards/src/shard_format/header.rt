@@ -3,7 +3,7 @@
 ghost use Rattle.std.specs.Prelude.{◌≡◌, ◌≢◌, ◌⊎◌, ◌^◌, ◌<◌, ◌++◌, take, IfSome, OnOk, IfOk, IfErr};
 ghost use Rattle.std.specs.Io.KnownBytes.{Appends, Consumes};
 ghost use Rattle.xet_base.specs.Bytes.{u64_bytes};
-ghost use Rattle.xet_base.specs.Errors.{IsShardVersion, IsDeviceError, IsEndOfInput};
+ghost use Rattle.xet_base.specs.Errors.{IsShardVersion, IsBareShardVersion, IsDeviceError, IsEndOfInput};
 ghost use Rattle.xet_shards.specs.Ends.{HasForeignHeader, EndsInHeader};
 ghost use Rattle.xet_shards.specs.Layout.{header_tag, header_text, header_value};
 
@@ -70,7 +70,7 @@ impl MDBShardFileHeader {
         ensures foreign { IfErr result
             (λ e. IsShardVersion e → IfSome (R.remaining reader.old) HasForeignHeader) }
         ensures end { IfErr result (λ e. IsEndOfInput e → IfSome (R.remaining reader.old) EndsInHeader) }
-        ensures causes { IfErr result (λ e. IsDeviceError e ⊎ IsShardVersion e) }
+        ensures causes { IfErr result (λ e. IsDeviceError e ⊎ IsBareShardVersion e) }
     {
         let mut tag = [0u8; 32];
         read_bytes(reader, &mut tag)?;
@@ -85,7 +85,7 @@ impl MDBShardFileHeader {
         ensures ok { IfOk result
             (λ h. (h.tag ≡ header_tag) × (h.version ≡ 2) × (rest.now ≡ u64_bytes 2 ++ u64_bytes h.footer_size)) }
         ensures width { IfOk result (λ h. h.footer_size < 2 ^ 64) }
-        ensures err { IfErr result (λ e. IsShardVersion e × (take 8 rest.now ≢ u64_bytes 2)) }
+        ensures err { IfErr result (λ e. IsBareShardVersion e × (take 8 rest.now ≢ u64_bytes 2)) }
     {
         let (version, rest) = split_u64(rest);
         let (footer_size, _) = split_u64(rest);
@@ -103,7 +103,7 @@ impl MDBShardFileHeader {
 // Refuses a foreign tag.
 pub(super) fn check_tag(alloc: Global, tag: &[u8; 32]) -> Result<()>
     ensures ok { OnOk result (tag.now ≡ header_tag) }
-    ensures err { IfErr result (λ e. IsShardVersion e × (tag.now ≢ header_tag)) }
+    ensures err { IfErr result (λ e. IsBareShardVersion e × (tag.now ≢ header_tag)) }
 {
     if *tag != MDB_SHARD_HEADER_TAG {
         return Err(CoreError::ShardVersion(String::new(alloc)));

@@ -3,7 +3,8 @@
 ghost use Rattle.std.specs.Prelude.{◌≡◌, ◌⊎◌, ℕ, Option, ◌+◌, ◌*◌, ◌^◌, ◌<◌, ◌≤◌, ◌++◌, length, List, [], All, MatchResult, OnOk, IfOk, IfErr, IfSome};
 ghost use Rattle.std.specs.FinMap as finite;
 ghost use Rattle.std.specs.Io.KnownBytes.{Appends};
-ghost use Rattle.xet_base.specs.Errors.{IsDeviceError, IsInvalidShard};
+ghost use Rattle.xet_base.specs.Errors.{IsDeviceError};
+ghost use Rattle.xet_base.specs.Table.{IsBareInvalidShard};
 ghost use Rattle.xet_shards.specs.Shard.{Shard, IsShard};
 ghost use Rattle.xet_shards.specs.Layout.{layout, info_value, header_tag, header_text, footer_text};
 ghost use Rattle.xet_base.specs.Source.{Takes, DeviceFailure};
@@ -90,7 +91,7 @@ impl MDBShardInfo {
     /// The bytes of the shard: the footer's offset and the footer. `InvalidShard` past 64 bits.
     pub fn num_bytes(&self, alloc: Global) -> Result<u64>
         ensures { MatchResult result (λ n. n ≡ self.now.metadata.footer_offset + 200)
-            (λ e. IsInvalidShard e × (2 ^ 64 ≤ self.now.metadata.footer_offset + 200)) }
+            (λ e. IsBareInvalidShard e × (2 ^ 64 ≤ self.now.metadata.footer_offset + 200)) }
     {
         match self.metadata.footer_offset.checked_add(FOOTER_SIZE) {
             Some(bytes) => Ok(bytes),

@@ -8,7 +8,7 @@ ghost use Rattle.xet_base.specs.Errors.{IsDeviceError};
 ghost use Rattle.xet_records.specs.declared.file_structs.MDBFileInfo.{MDBFileInfo};
 ghost use Rattle.xet_records.specs.declared.xorb_structs.MDBXorbInfo.{MDBXorbInfo};
 ghost use Rattle.xet_records.specs.FileRecord.{FitsRecord};
-ghost use Rattle.xet_shards.specs.Shard.{AreFiles, AreXorbs, total_rows, total_xorb_rows};
+ghost use Rattle.xet_shards.specs.Shard.{IsShard, AreFiles, AreXorbs, total_rows, total_xorb_rows};
 ghost use Rattle.xet_shards.specs.Section.{file_section, xorb_section};
 ghost use Rattle.xet_shards.specs.Tables.{place_row};
 ghost use Rattle.xet_shards.specs.Written.{HasWritten, HasWrittenXorbs};
@@ -35,6 +35,7 @@ impl MDBInMemoryShard {
     /// The bytes of the shard, without expiry: `shard_file_size` of them. `OutOfMemory` where they find none.
     pub fn to_bytes(&self, alloc: Global) -> Result<Vec<u8>>
         ensures ok { IfOk result (λ bytes. bytes.items ≡ layout self.now.content None) }
+        ensures shard { IfOk result (λ _. IsShard self.now.content) }
         ensures causes { IfErr result (λ e. e ≡ CoreError.OutOfMemory) }
     {
         let mut bytes = Vec::new(alloc);

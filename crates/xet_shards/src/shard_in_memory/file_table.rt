@@ -7,7 +7,7 @@ ghost use Rattle.std.specs.FinMap.{is_sorted, from_sorted};
 ghost use Rattle.xet_base.specs.declared.merklehash.DataHash.{DataHash};
 ghost use Rattle.xet_base.specs.Hash.{hash_cmp};
 ghost use Rattle.xet_records.specs.FileRecord.{row_count, FitsItsHeader, FitsRecord, IsWellFormed};
-ghost use Rattle.xet_records.specs.Merging.{IsSameFile, joined};
+ghost use Rattle.xet_records.specs.Merging.{IsSameFile, merged};
 ghost use Rattle.xet_shards.specs.Shard.{AreFiles, file_hash_of};
 ghost use Rattle.xet_shards.specs.Joining.{but, entry, CanJoinFile, CanJoinFiles, either_file, own_file};
 
@@ -107,8 +107,8 @@ impl FileTable {
         Ok(())
     }
 
-    /// Whether the files that both tables have are of equal counts, and 32 bits count the rows of each of them
-    /// joined.
+    /// Whether the files that both tables have are of equal counts, and 32 bits count the rows of each of this
+    /// table's with the parts that only `other` has for it.
     pub fn can_join(&self, other: &FileTable) -> bool
         ensures { IsTrue result ↔ CanJoinFiles self.now other.now }
     {
@@ -164,7 +164,7 @@ fn can_join_files(files: &BTreeMap<MerkleHash, MDBFileInfo>, other: &FileTable) 
     true
 }
 
-// Whether two records are of one file, and their join is well-formed.
+// Whether two records are of one file, and the first with the parts that only the second has is well-formed.
 fn can_join(file_info: &MDBFileInfo, twin: &MDBFileInfo) -> bool
     requires own { IsWellFormed file_info.now }
     requires others { IsWellFormed twin.now }
@@ -176,12 +176,12 @@ fn can_join(file_info: &MDBFileInfo, twin: &MDBFileInfo) -> bool
     joined_rows(file_info, twin) <= u64::from(u32::MAX)
 }
 
-/// The rows of the join of two records of one file.
+/// The rows of the first of two records of one file, with the parts that only the second has.
 pub fn joined_rows(file_info: &MDBFileInfo, twin: &MDBFileInfo) -> u64
     requires own { FitsItsHeader file_info.now }
     requires others { FitsItsHeader twin.now }
     requires same { IsSameFile file_info.now.metadata twin.now.metadata }
-    ensures { result ≡ row_count (joined file_info.now twin.now) }
+    ensures { result ≡ row_count (merged file_info.now twin.now) }
 {
     let joined = FileDataSequenceHeader::new(
         file_info.metadata.file_hash,

@@ -18,7 +18,7 @@ returns-then-rows-rows_left-clause-refused g c =
     let row = plain_header header_row FitsHeader _ h c.in_ok-header.ensures.value in
     let is_file : h.file_hash ≢ all_ones = λ ones. true≢false (sym (c.is_bookend.ensures.1 ones) ∙ c.if-is_bookend.false) in
     let past : c.args.rows_left.now < 1 + rows_after h = omega (arith, c.rows_after-rows.ensures.rows) in
-    too_many file_records file_laws _ _ _ h _ row.0 is_file row.1 past tt
+    too_many file_records file_laws _ _ _ h _ row.0 is_file row.1 past c.new.ensures.bytes
 
 pub returns-clause-read : goal.returns-clause-read
 returns-clause-read g c =

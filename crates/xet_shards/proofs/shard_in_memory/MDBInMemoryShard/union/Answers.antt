@@ -1,11 +1,12 @@
-use Rattle.std.proofs.Common.{sym, subst, ◌∙◌}
+use Rattle.std.proofs.Common.{[], ◌∷◌, sym, subst, ◌∙◌}
+use Rattle.std.specs.Prelude.{Contains}
 use Rattle.std.specs.FinMap.{get}
 use Rattle.std.specs.Option.{option_or}
 use Rattle.xet_shards.specs.Index.{IndexedShard}
 use Rattle.xet_shards.specs.Joining.{CanJoinFiles, either_file}
-use Rattle.xet_shards.specs.SetOperations.{IsJoin}
+use Rattle.xet_shards.specs.Joins.{IsJoinOf}
 use Rattle.xet_shards.proofs.Overlays.{can_join_united}
-use Rattle.xet_shards.proofs.Unions.{join_of_union}
+use Rattle.xet_shards.proofs.Joins.{union_is_join}
 use Rattle.xet_shards.proofs.shard_in_memory.MDBInMemoryShard.union.Goals as goal
 
 pub union-requires : goal.union-requires
@@ -21,8 +22,8 @@ of_tables-requires c = (c.can_unite.ensures.0 c.if-not-can_unite.false).rows _ r
 }
 
 pub returns-clause-join : goal.returns-clause-join
-returns-clause-join c = λ agree. subst (λ (s : IndexedShard). IsJoin c.args.self.now.content c.args.other.now.content s.content) (sym c.of_tables.ensures)
-    (join_of_union c.args.self.now.content c.args.other.now.content _ agree record {
+returns-clause-join c = λ agree. subst (λ (s : IndexedShard). IsJoinOf (Contains (c.args.self.now.content ∷ c.args.other.now.content ∷ [])) s.content) (sym c.of_tables.ensures)
+    (union_is_join c.args.self.now.content c.args.other.now.content _ c.invariant.ensures c.invariant-2.ensures agree record {
       files = λ q. c.in_ok-files.ensures.ok q ∙ (λ i. either_file (get (c.self.view_is i).content.files q) (get (c.other.view_is i).content.files q));
       xorbs = λ q. c.in_ok-xorbs.ensures.ok q ∙ (λ i. option_or (get (c.other.view_is i).content.xorbs q) (get (c.self.view_is i).content.xorbs q));
     })

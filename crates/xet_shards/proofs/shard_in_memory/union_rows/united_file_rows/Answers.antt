@@ -7,7 +7,7 @@ use Rattle.std.proofs.lemmas.List.{map-append}
 use Rattle.xet_base.specs.declared.merklehash.DataHash.{DataHash}
 use Rattle.xet_records.specs.declared.file_structs.MDBFileInfo.{MDBFileInfo}
 use Rattle.xet_records.specs.FileRecord.{row_count, IsWellFormed}
-use Rattle.xet_records.specs.Merging.{IsSameFile, joined}
+use Rattle.xet_records.specs.Merging.{IsSameFile, merged}
 use Rattle.xet_shards.specs.Shard.{total_rows}
 use Rattle.xet_shards.specs.Joining.{either_file}
 use Rattle.xet_shards.proofs.Walks.{entry_turn, entry_turned, entry_end, entry_holds}
@@ -38,7 +38,7 @@ loop-file_hash-preserved c =
     let twin = get c.args.other.now c.in-Some.file_hash.now in
     let whole = entry_turn deref_pair _ c.loop-file_hash.yielded _ _ _ entry c.loop-file_hash.invariant.all c.in-Some.is c.next.ensures.steps in
     let push = map-append deref_pair c.loop-file_hash.yielded (entry ∷ []) in
-    let added : unwrap_or (option_map row_count twin) 0 + c.rows_added-rows.result ≡ row_count (with_twin joined file twin) =
+    let added : unwrap_or (option_map row_count twin) 0 + c.rows_added-rows.result ≡ row_count (with_twin merged file twin) =
     subst (λ o. unwrap_or (option_map row_count o) 0 + c.rows_added-rows.result ≡ unwrap_or (option_map row_count (either_file (Some file) o)) 0) c.get.ensures.value c.rows_added-rows.ensures.rows
     ∙ ap (λ o. unwrap_or (option_map row_count o) 0) (sym (either_file_is (Some file) twin)) in
     record {
@@ -47,8 +47,8 @@ loop-file_hash-preserved c =
       all = entry_turned deref_pair _ c.loop-file_hash.yielded _ entry whole;
       rows = omega (
         arith,
-        ap (λ es. total_rows (values (overlay joined es c.args.other.now))) push,
-        sum-overlay joined front c.in-Some.file_hash.now file c.args.other.now (new_key _ _ _ _ whole c.requires.sorted) row_count,
+        ap (λ es. total_rows (values (overlay merged es c.args.other.now))) push,
+        sum-overlay merged front c.in-Some.file_hash.now file c.args.other.now (new_key _ _ _ _ whole c.requires.sorted) row_count,
         added,
         c.loop-file_hash.invariant.rows,
       );
@@ -64,5 +64,5 @@ loop-file_hash-preserved c =
 pub returns : goal.returns
 returns c = λ m is.
     let all = entry_end deref_pair _ c.loop-file_hash.yielded _ _ _ c.loop-file_hash.invariant.all c.in-None.is c.next.ensures.steps in
-    c.loop-file_hash.invariant.rows ∙ ap (λ es. total_rows (values (overlay joined es c.args.other.now))) all
+    c.loop-file_hash.invariant.rows ∙ ap (λ es. total_rows (values (overlay merged es c.args.other.now))) all
     ∙ ap (λ n. total_rows (values n)) (sym (are_united_files c.args.files.now.entries c.args.other.now m is))

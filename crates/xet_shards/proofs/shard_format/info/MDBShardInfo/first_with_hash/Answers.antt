@@ -17,7 +17,7 @@ returns-in_err-file_info-clause-refused g c =
       get_or rows i 0,
       Contains-get_or rows i 0 c.loop-row-test.true,
       refusal_after c.args.self.now.metadata.file_info_offset (get_or rows i 0) (g.S.ShardSource.meaning c.args.source.now) (g.S.ShardSource.meaning c.loop-row.source)
-          (g.S.ShardSource.meaning c.read_file_info.new.source) _ c.loop-row.invariant.visits.bytes c.loop-row.invariant.failures c.in_err-file_info.ensures.cause,
+          (g.S.ShardSource.meaning c.read_file_info.new.source) _ c.loop-row.invariant.visits.bytes c.loop-row.invariant.serves.failures c.in_err-file_info.ensures.cause,
     )
 
 pub returns-in_err-file_info-clause-visits : goal.returns-in_err-file_info-clause-visits

@@ -4,8 +4,13 @@ use Rattle.xet_base.specs.Source.{moved}
 use Rattle.xet_records.specs.FileRecord.{file_records}
 use Rattle.xet_shards.specs.SectionReading.{RecordFails, ReadsOne}
 use Rattle.xet_shards.specs.Lookup.{row_at}
-use Rattle.xet_shards.proofs.Lookups.{info_read, info_bookend, info_fails}
+use Rattle.xet_shards.proofs.Lookups.{info_no_seek, info_read, info_bookend, info_fails}
 use Rattle.xet_shards.proofs.shard_format.info.MDBShardInfo.read_file_info.Goals as goal
+
+pub returns-in_err-seek_to : goal.returns-in_err-seek_to
+returns-in_err-seek_to g c =
+    let p = err_from_is_err_and c.from_residual.result c.from_residual.ensures.1 in
+    rw p.1 (info_no_seek c.args.self.now.metadata.file_info_offset c.args.row _ _ _ _ (omega (arith, c.in-Some.ensures, c.from-place.ensures)) c.in_err-seek_to.ensures p.2)
 
 pub returns-in_err-file_info : goal.returns-in_err-file_info
 returns-in_err-file_info g c =

@@ -1,0 +1,121 @@
+-- What the tables of a shard hold: places of chunks in strictly ascending order, and for each record the rows of those
+-- with smaller hashes.
+use Rattle.std.proofs.Common.{◌≡◌, ℕ, zero, suc, ◌+◌, ◌<◌, Bool, true, false, List, [], ◌∷◌, ◌++◌, length, map, get_or, cond, Option, Some, refl, sym, ap, ◌∙◌, subst, append_assoc, true≢false, T, arith}
+use Rattle.std.specs.Prelude.{All, Contains, filter}
+use Rattle.std.specs.List.{AllByRecursion}
+use Rattle.std.specs.List.Sorted.{IsStrictlySortedBy}
+use Rattle.std.specs.Ordering.{is_lt, is_eq, ordering_reverse}
+use Rattle.std.specs.declared.cmp.Ordering.TheVariants.{Less}
+use Rattle.std.specs.Map.{keys_of, values_of}
+use Rattle.std.specs.BTreeMap.{is_at}
+use Rattle.std.specs.FinMap.{FinMap, from_entries, find, get, entries, values, is_sorted, entries_sorted, get-entries, get-from_entries}
+use Rattle.std.proofs.lemmas.Bool.{cond-true, cond-false}
+use Rattle.std.proofs.lemmas.Cmp.{tied_itself}
+use Rattle.std.proofs.lemmas.List.{length-map, get_or-map, get_or_default}
+use Rattle.std.proofs.lemmas.List.Elements.{All-drop}
+use Rattle.xet_base.specs.declared.merklehash.DataHash.{DataHash}
+use Rattle.xet_base.specs.Hash.{hash_cmp}
+use Rattle.xet_base.proofs.HashOrder.{hash_cmp-IsTotalOrder}
+use Rattle.xet_records.specs.declared.xorb_structs.MDBXorbInfo.{MDBXorbInfo}
+use Rattle.xet_shards.specs.Shard.{Shard, IsShard, file_hash_of, xorb_hash_of, total_rows, total_xorb_rows}
+use Rattle.xet_shards.specs.Section.{with_fronts}
+use Rattle.xet_shards.specs.Tables.{ChunkPlace, place_cmp, chunk_places, chunk_table, file_starts, xorb_starts, files_below, xorbs_below}
+use Rattle.xet_shards.proofs.Maps.{rising_keys}
+use Rattle.xet_shards.proofs.Found.{found_entry, entry_found}
+use Rattle.xet_shards.proofs.Tables.{place_total, place_exact}
+use Rattle.xet_shards.proofs.ChunkPlaces.{alone}
+
+-- a place that stands in a list is found among its entries
+place_found : (p d : ChunkPlace) (ps : List ChunkPlace) (i : ℕ) → i < length ps → get_or ps i d ≡ p → find place_cmp p (map alone ps) ≡ Some (tt {0})
+place_found p d [] i within here = absurd (omega (arith, within))
+place_found p d (x ∷ ps) zero within here =
+    cond-true (is_at (place_cmp p) x) (Some (tt {0})) (find place_cmp p (map alone ps)) (ap (λ q. is_eq (place_cmp p q)) here ∙ ap is_eq (tied_itself place_total p))
+place_found p d (x ∷ ps) (suc i) within here = go (is_at (place_cmp p) x) (place_found p d ps i (omega (arith, within)) here)
+  where
+    go : (b : Bool) → find place_cmp p (map alone ps) ≡ Some (tt {0}) → cond b (Some (tt {0})) (find place_cmp p (map alone ps)) ≡ Some (tt {0})
+    go true later = refl
+    go false later = later
+
+module _ (xorbs : List MDBXorbInfo) where
+  abbrev table_map : FinMap place_cmp (Unit {0})
+  table_map = from_entries (map alone (chunk_places xorbs))
+
+  pub chunk_table-sorted : IsStrictlySortedBy place_cmp (chunk_table xorbs)
+  chunk_table-sorted = rising_keys place_cmp (entries table_map) (entries_sorted table_map)
+
+  pub in_places : (p : ChunkPlace) → Contains (chunk_table xorbs) p → Contains (chunk_places xorbs) p
+  in_places p (i, below, here) =
+      let d = alone p in
+      let i_in : i < length (entries table_map) = omega (arith, below, length-map (entries table_map) (λ (e : ChunkPlace × Unit {0}). e.0)) in
+      let key : (get_or (entries table_map) i d).0 ≡ p = sym (get_or-map (λ (e : ChunkPlace × Unit {0}). e.0) (entries table_map) i d p i_in) ∙ here in
+      let found = entry_found place_cmp place_total (entries table_map) i p tt d (entries_sorted table_map) i_in (λ k. (key k, tt)) in
+      let at = found_entry place_cmp place_exact (map alone (chunk_places xorbs)) p tt d
+      (sym (get-from_entries place_total (map alone (chunk_places xorbs)) p) ∙ get-entries table_map p ∙ found) in
+      let at_in : at.0 < length (chunk_places xorbs) = omega (arith, at.1, length-map (chunk_places xorbs) alone) in
+      (at.0, at_in, ap (λ (e : ChunkPlace × Unit {0}). e.0) (sym (get_or-map alone (chunk_places xorbs) at.0 p d at_in) ∙ at.2))
+
+  pub in_table : (p : ChunkPlace) → Contains (chunk_places xorbs) p → Contains (chunk_table xorbs) p
+  in_table p (i, below, here) =
+      let d = alone p in
+      let found = sym (get-entries table_map p) ∙ get-from_entries place_total (map alone (chunk_places xorbs)) p ∙ place_found p p (chunk_places xorbs) i below here in
+      let at = found_entry place_cmp place_exact (entries table_map) p tt d found in (
+        at.0,
+        omega (arith, at.1, length-map (entries table_map) (λ (e : ChunkPlace × Unit {0}). e.0)),
+        get_or-map (λ (e : ChunkPlace × Unit {0}). e.0) (entries table_map) at.0 d p at.1 ∙ ap (λ (e : ChunkPlace × Unit {0}). e.0) at.2,
+      )
+
+-- of records whose hashes strictly ascend, those in front of one are those with smaller hashes
+module _ {X : Type 0} (hash_of : X → DataHash) where
+  abbrev below : DataHash → List X → List X
+  below q xs = filter (λ x. is_lt (hash_cmp (hash_of x) q)) xs
+
+  none_below : (x : X) (rest : List X) → AllByRecursion (λ q. hash_cmp (hash_of x) q ≡ Less) (map hash_of rest) → below (hash_of x) rest ≡ []
+  none_below x [] less = refl
+  none_below x (y ∷ rest) less =
+      cond-false (is_lt (hash_cmp (hash_of y) (hash_of x))) (y ∷ below (hash_of x) rest) (below (hash_of x) rest)
+      (ap is_lt (hash_cmp-IsTotalOrder.antisymm (hash_of y) (hash_of x) ∙ ap ordering_reverse less.0))
+      ∙ none_below x rest less.1
+
+  less_than : (q : DataHash) (front rest : List X) (x : X) → AllByRecursion (λ k. hash_cmp q k ≡ Less) (map hash_of (front ++ x ∷ rest)) → hash_cmp q (hash_of x) ≡ Less
+  less_than q [] rest x less = less.0
+  less_than q (y ∷ front) rest x less = less_than q front rest x less.1
+
+  front_is_below : (front rest : List X) (x : X) → IsStrictlySortedBy hash_cmp (map hash_of (front ++ x ∷ rest)) → below (hash_of x) (front ++ x ∷ rest) ≡ front
+  unfolding IsStrictlySortedBy
+  front_is_below [] rest x sorted =
+      cond-false (is_lt (hash_cmp (hash_of x) (hash_of x))) (x ∷ below (hash_of x) rest) (below (hash_of x) rest) (ap is_lt (tied_itself hash_cmp-IsTotalOrder (hash_of x)))
+      ∙ none_below x rest sorted.0
+  front_is_below (y ∷ front) rest x sorted =
+      cond-true (is_lt (hash_cmp (hash_of y) (hash_of x))) (y ∷ below (hash_of x) (front ++ x ∷ rest)) (below (hash_of x) (front ++ x ∷ rest))
+      (ap is_lt (less_than (hash_of y) front rest x sorted.0))
+      ∙ ap (λ xs. y ∷ xs) (front_is_below front rest x sorted.1)
+
+  abbrev start_after : (List X → ℕ) → List X × X → ℕ × ℕ
+  start_after rows e = ((hash_of e.1).word0, rows e.0)
+
+  abbrev start_among : (List X → ℕ) → List X → X → ℕ × ℕ
+  start_among rows xs x = ((hash_of x).word0, rows (below (hash_of x) xs))
+
+  -- so the rows in front of a record are those of the records with smaller hashes
+  starts_below : (rows : List X → ℕ) (front xs : List X) → IsStrictlySortedBy hash_cmp (map hash_of (front ++ xs))
+      → map (start_after rows) (with_fronts front xs) ≡ map (start_among rows (front ++ xs)) xs
+  starts_below rows front [] sorted = refl
+  starts_below rows front (x ∷ xs) sorted =
+      let same : (front ++ x ∷ []) ++ xs ≡ front ++ x ∷ xs = append_assoc front (x ∷ []) xs in
+      let later = starts_below rows (front ++ x ∷ []) xs (subst (λ ys. IsStrictlySortedBy hash_cmp (map hash_of ys)) (sym same) sorted)
+      ∙ ap (λ ys. map (start_among rows ys) xs) same in
+      λ i. ((hash_of x).word0, rows (sym (front_is_below front xs x sorted) i)) ∷ later i
+
+  hashes_are_keys : (es : List (DataHash × X)) → All (λ e. e.0 ≡ hash_of e.1) es → map hash_of (values_of es) ≡ keys_of es
+  hashes_are_keys [] keyed = refl
+  hashes_are_keys (e ∷ es) keyed = λ i. sym (keyed 0 e (omega arith)) i ∷ hashes_are_keys es (All-drop (λ (d : DataHash × X). d.0 ≡ hash_of d.1) 1 (e ∷ es) keyed) i
+
+  hashes_ascend : (m : FinMap hash_cmp X) → All (λ e. e.0 ≡ hash_of e.1) (entries m) → IsStrictlySortedBy hash_cmp (map hash_of (values m))
+  hashes_ascend m keyed = subst (IsStrictlySortedBy hash_cmp) (sym (hashes_are_keys (entries m) keyed)) (rising_keys hash_cmp (entries m) (entries_sorted m))
+
+module _ (s : Shard) (shard : IsShard s) where
+  pub file_starts_below : file_starts (values s.files) ≡ map (λ r. ((file_hash_of r).word0, total_rows (files_below (file_hash_of r) (values s.files)))) (values s.files)
+  file_starts_below = starts_below file_hash_of total_rows [] (values s.files) (hashes_ascend file_hash_of s.files shard.files.keyed)
+
+  pub xorb_starts_below : xorb_starts (values s.xorbs) ≡ map (λ r. ((xorb_hash_of r).word0, total_xorb_rows (xorbs_below (xorb_hash_of r) (values s.xorbs)))) (values s.xorbs)
+  xorb_starts_below = starts_below xorb_hash_of total_xorb_rows [] (values s.xorbs) (hashes_ascend xorb_hash_of s.xorbs shard.xorbs.keyed)
