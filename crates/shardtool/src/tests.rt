@@ -60,68 +60,47 @@ fn names_of_other_refusals(rt: HostRuntime) -> Result<(), Fail> {
     )
 }
 
-// Gives its bytes, three at a time, and then fails.
+// An input of some bytes, and an output that forgets what it takes. It moves so many bytes, two at a time, and then
+// fails: once where it is interrupted, else for good.
 #[derive(Drop)]
-struct BrokenInput<'a> {
+struct Stream<'a> {
     bytes: &'a [u8],
-    fault: io::ErrorKind,
-}
-
-impl Read for BrokenInput<'_> {
-    fn read(&mut self, buf: &mut [u8]) -> io::Result<usize> {
-        if self.bytes.is_empty() {
-            return Err(io::Error::from(self.fault));
-        }
-        let count = buf.len().min(3);
-        self.bytes.read(&mut buf[..count])
-    }
-}
-
-// The script prints this text before its input fails, and ends with this status.
-fn expect_before_fault<R: Abort + AllocGlobal>(
-    rt: &R,
-    script: &str,
-    fault: io::ErrorKind,
-    printed: &str,
-    status: u8,
-) -> Result<(), Fail> {
-    let mut input = BrokenInput {
-        bytes: script.as_bytes(),
-        fault,
-    };
-    let mut output = Vec::new(rt.alloc());
-    let answer = run_script(rt.alloc(), &mut input, &mut output);
-    assert_eq!(rt; str::from_utf8(output.as_slice())?, printed);
-    assert_eq!(rt; answer, status);
-    Ok(())
-}
-
-#[test]
-fn failing_input(rt: HostRuntime) -> Result<(), Fail> {
-    let other = io::ErrorKind::Other;
-    let no_memory = io::ErrorKind::OutOfMemory;
-    expect_before_fault(&rt, "", other, "", 3)?;
-    expect_before_fault(&rt, "shard s\n", other, "", 3)?;
-    expect_before_fault(&rt, "shard s\nfoo", io::ErrorKind::BrokenPipe, "", 3)?;
-    expect_before_fault(&rt, "shard s\nfoo\n", other, "line 2: unreadable\n", 2)?;
-    expect_before_fault(&rt, "shard s\n", no_memory, "refused: OutOfMemory\n", 1)
-}
-
-// Takes so many bytes, two at a time, and then fails. Whether it can be flushed, `flushes` says.
-#[derive(Drop)]
-struct BrokenOutput {
-    room: usize,
+    left: usize,
+    fault: Option<io::ErrorKind>,
     flushes: bool,
 }
 
-impl Write for BrokenOutput {
-    fn write(&mut self, buf: &[u8]) -> io::Result<usize> {
-        if self.room == 0 {
-            return Err(io::Error::from(io::ErrorKind::Other));
+impl Stream<'_> {
+    // How many of these bytes this call moves.
+    fn moved(&mut self, bytes: usize) -> io::Result<usize> {
+        let Some(fault) = self.fault else {
+            return Ok(bytes.min(2));
+        };
+        if self.left == 0 {
+            if fault == io::ErrorKind::Interrupted {
+                self.fault = None;
+            }
+            return Err(io::Error::from(fault));
         }
-        let count = buf.len().min(self.room).min(2);
-        self.room -= count;
+        let count = bytes.min(self.left).min(2);
+        self.left = self.left.saturating_sub(count);
         Ok(count)
+    }
+}
+
+impl Read for Stream<'_> {
+    fn read(&mut self, buf: &mut [u8]) -> io::Result<usize> {
+        let count = self.moved(buf.len())?;
+        match buf.get_mut(..count) {
+            Some(part) => self.bytes.read(part),
+            None => Ok(0),
+        }
+    }
+}
+
+impl Write for Stream<'_> {
+    fn write(&mut self, buf: &[u8]) -> io::Result<usize> {
+        Ok(self.moved(buf.len())?.min(buf.len()))
     }
 
     fn flush(&mut self) -> io::Result<()> {
@@ -133,16 +112,78 @@ impl Write for BrokenOutput {
     }
 }
 
-// The script ends with this status on an output that takes so many bytes.
-fn expect_status<R: Abort + AllocGlobal>(
+// The script prints this text, and ends with this status, where its input has a fault after so many bytes.
+fn expect_input<R: Abort + AllocGlobal>(
     rt: &R,
     script: &str,
-    room: usize,
+    left: usize,
+    fault: io::ErrorKind,
+    printed: &str,
+    status: u8,
+) -> Result<(), Fail> {
+    let mut input = Stream {
+        bytes: script.as_bytes(),
+        left,
+        fault: Some(fault),
+        flushes: true,
+    };
+    let mut output = Vec::new(rt.alloc());
+    let answer = run_script(rt.alloc(), &mut input, &mut output);
+    assert_eq!(rt; str::from_utf8(output.as_slice())?, printed);
+    assert_eq!(rt; answer, status);
+    Ok(())
+}
+
+#[test]
+fn failing_input(rt: HostRuntime) -> Result<(), Fail> {
+    let other = io::ErrorKind::Other;
+    let out_of_memory = io::ErrorKind::OutOfMemory;
+    expect_input(&rt, "", 0, other, "", 3)?;
+    expect_input(&rt, "shard s\n", 8, other, "", 3)?;
+    expect_input(&rt, "shard s\nfoo", 11, io::ErrorKind::BrokenPipe, "", 3)?;
+    expect_input(&rt, "shard s\nfoo\n", 12, other, "line 2: unreadable\n", 2)?;
+    expect_input(
+        &rt,
+        "shard s\n",
+        8,
+        out_of_memory,
+        "refused: OutOfMemory\n",
+        1,
+    )
+}
+
+#[test]
+fn interrupted_input(rt: HostRuntime) -> Result<(), Fail> {
+    let interrupted = io::ErrorKind::Interrupted;
+    for left in 0..13usize {
+        expect_input(
+            &rt,
+            "shard s\nfoo\n",
+            left,
+            interrupted,
+            "line 2: unreadable\n",
+            2,
+        )?;
+    }
+    Ok(())
+}
+
+// The script ends with this status where its output has a fault after so many bytes.
+fn expect_output<R: Abort + AllocGlobal>(
+    rt: &R,
+    script: &str,
+    left: usize,
+    fault: io::ErrorKind,
     flushes: bool,
     status: u8,
 ) -> Result<(), Fail> {
     let mut input = script.as_bytes();
-    let mut output = BrokenOutput { room, flushes };
+    let mut output = Stream {
+        bytes: &[],
+        left,
+        fault: Some(fault),
+        flushes,
+    };
     assert_eq!(rt; run_script(rt.alloc(), &mut input, &mut output), status);
     Ok(())
 }
@@ -152,7 +193,7 @@ fn failing_output(rt: HostRuntime) -> Result<(), Fail> {
     let sizes = "shard s\nwrite s b\nsize b\nsize b\n";
     let refused = "shard s\nfile s 1 v= 2:0:5:5\n";
     let found = "shard s\nwrite s b\nfind b 1\n";
-    for (script, room, flushes, status) in [
+    for (script, left, flushes, status) in [
         (sizes, 8, true, 0),
         (sizes, 7, true, 3),
         (sizes, 0, true, 3),
@@ -166,7 +207,18 @@ fn failing_output(rt: HostRuntime) -> Result<(), Fail> {
         (found, 5, true, 0),
         (found, 4, true, 3),
     ] {
-        expect_status(&rt, script, room, flushes, status)?;
+        expect_output(&rt, script, left, io::ErrorKind::Other, flushes, status)?;
+    }
+    Ok(())
+}
+
+// An output that is out of memory can't take the line that says so either.
+#[test]
+fn output_out_of_memory_or_interrupted(rt: HostRuntime) -> Result<(), Fail> {
+    let sizes = "shard s\nwrite s b\nsize b\nsize b\n";
+    for left in 0..8usize {
+        expect_output(&rt, sizes, left, io::ErrorKind::OutOfMemory, true, 3)?;
+        expect_output(&rt, sizes, left, io::ErrorKind::Interrupted, true, 0)?;
     }
     Ok(())
 }
