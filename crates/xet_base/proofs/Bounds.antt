@@ -6,9 +6,8 @@ use Rattle.xet_base.specs.Source.{Source, Fails, moved}
 use Rattle.xet_base.specs.Table.{Table, place, IsSorted, hits_below, hits, Bounded}
 use Rattle.xet_base.specs.Search.{ReadsKey, Stops, IsRow, Counts, Passes, Runs}
 use Rattle.xet_base.proofs.Progress.{AllSmaller, Searches}
-use Rattle.xet_base.proofs.Tables.{row_place-add, hits_below-none}
+use Rattle.xet_base.proofs.Tables.{row_place-add, hits_below-le, hits_below-none}
 use Rattle.xet_base.proofs.Course.{course_end}
-use Rattle.xet_base.proofs.Searching.{below_le}
 
 -- before rows that may have the key no row has it
 no_hits_before : (t : Table) (key low : ℕ) → AllSmaller t key low → hits_below t key low ≡ 0
@@ -53,7 +52,7 @@ module _ {V : Type 0} (t : Table) (key : ℕ) (Gives : List ℕ → V → Type 0
         ap (place t) end_is,
         add-mul rows 1 (8 + t.width),
       ))
-      (omega (arith, runs.equal, runs.past, below_le t key runs.end (w.high - 1) runs.within, before.left))
+      (omega (arith, runs.equal, runs.past, hits_below-le t key runs.end (w.high - 1) runs.within, before.left))
 
   -- the seek to the last rows failed
   pub bounded_seek_not : (sorted : IsSorted t) (new : Source) (e : Error) → Fails now new 1 e → Bounded t key old new

@@ -13,11 +13,6 @@ use Rattle.xet_base.proofs.Course.{course_start, course_below, course_above, cou
 use Rattle.xet_base.proofs.Even.{even_below, even_above, even_equal}
 use Rattle.xet_base.proofs.Collecting.{from_weaker, from_none}
 
-pub below_le : (t : Table) (key i j : ℕ) → i ≤ j → hits_below t key i ≤ hits_below t key j
-below_le t key i j le =
-    let e : i + (j - i) ≡ j = omega (arith, le) in
-    omega (arith, hits_below-le t key i (j - i), ap (hits_below t key) e)
-
 -- rows between two rows with the key have it too
 between : (t : Table) (key i j n : ℕ) → IsSorted t → IsRow t key i → IsRow t key j → i ≤ n → n ≤ j → IsRow t key n
 between t key i j n sorted first last from to =
@@ -236,18 +231,18 @@ module _ {V : Type 0} (t : Table) (key : ℕ) (Gives : List ℕ → V → Type 0
       on_sorted sorted =
           let before = so_far.sorted sorted in
           let row : IsRow t key (w.probe - 1) = record { within = row_within; there = reads.there; same_key = sym reads.is_key ∙ same } in
-          let less : hits_below t key (w.probe - 1) ≤ hits_below t key (w.high - 1) = below_le t key (w.probe - 1) (w.high - 1) (omega (arith, below)) in
+          let less : hits_below t key (w.probe - 1) ≤ hits_below t key (w.high - 1) = hits_below-le t key (w.probe - 1) (w.high - 1) (omega (arith, below)) in
           let one : hits_below t key (w.probe - 1) + 1 ≤ hits_below t key (w.high - 1) = omega (
             arith,
             hits_below-hit t key (w.probe - 1) row.there row.same_key,
-            below_le t key (w.probe - 1 + 1) (w.high - 1) (omega (arith, above, below)),
+            hits_below-le t key (w.probe - 1 + 1) (w.high - 1) (omega (arith, above, below)),
           ) in
           let later_new = before.later + (hits_below t key (w.high - 1) - hits_below t key (w.probe - 1)) in
           let rows = runs.end - (w.probe - 1) in
           let end_is : w.probe - 1 + rows ≡ runs.end = omega (arith, runs.past) in
           let read : after.read ≤ mid.read + rows * (8 + t.width) =
           omega (arith, runs.read, row_place-add t.start t.width (w.probe - 1) rows, ap (place t) end_is) in
-          let few : before.later + rows ≤ later_new = omega (arith, runs.equal, runs.past, below_le t key runs.end (w.high - 1) runs.within, less) in
+          let few : before.later + rows ≤ later_new = omega (arith, runs.equal, runs.past, hits_below-le t key runs.end (w.high - 1) runs.within, less) in
           let more : Matching (IsRow t key (w.high - 1)) (t.rows + 1) before.later w.low w.high w.probe so_far.made → before.later + 4 ≤ later_new =
           λ matching. omega (
             arith,

@@ -46,13 +46,18 @@ hits_below-absent t key i absent =
 pub hits_below-more : (t : Table) (key i : ℕ) → hits_below t key i ≤ hits_below t key (i + 1)
 hits_below-more t key i = omega (arith, ap (hits_below t key) (add-one i), hits_below-suc t key i)
 
-pub hits_below-le : (t : Table) (key i n : ℕ) → hits_below t key i ≤ hits_below t key (i + n)
-hits_below-le t key i zero = omega (arith, ap (hits_below t key) (add-zero i))
-hits_below-le t key i (suc n) =
-    omega (arith, hits_below-le t key i n, hits_below-more t key (i + n), ap (hits_below t key) (next_of i n))
+hits_below-add : (t : Table) (key i n : ℕ) → hits_below t key i ≤ hits_below t key (i + n)
+hits_below-add t key i zero = omega (arith, ap (hits_below t key) (add-zero i))
+hits_below-add t key i (suc n) =
+    omega (arith, hits_below-add t key i n, hits_below-more t key (i + n), ap (hits_below t key) (next_of i n))
   where
     next_of : (i n : ℕ) → i + suc n ≡ i + n + 1
     next_of i n = omega arith
+
+pub hits_below-le : (t : Table) (key i j : ℕ) → i ≤ j → hits_below t key i ≤ hits_below t key j
+hits_below-le t key i j le =
+    let e : i + (j - i) ≡ j = omega (arith, le) in
+    omega (arith, hits_below-add t key i (j - i), ap (hits_below t key) e)
 
 -- rows without the key count none
 pub hits_below-none : (t : Table) (key i n : ℕ) → ((j : ℕ) → i ≤ j → j < i + n → HasKey t j → key_at t j ≢ key) → hits_below t key (i + n) ≡ hits_below t key i

@@ -1,4 +1,4 @@
--- The steps of a search: one key, a halved window, and rows that are read on.
+-- The steps of a search: one key, and rows that are read on.
 use Rattle.std.specs.Prelude.{◌≡◌, ℕ, ◌+◌, ◌<◌, ◌≤◌, List, length, set, min, All}
 use Rattle.std.specs.declared.io.Error.{Error}
 use Rattle.xet_base.specs.declared.interpolation_search.table_range.TableRange.{TableRange}

@@ -55,11 +55,11 @@ hits_below t key (suc n) = hits_below t key n + (if nat_le (place t n + 8) (leng
 abbrev pub hits : Table → ℕ → ℕ
 hits t key = hits_below t key t.rows
 
--- the distance of the keys of an even table with so many rows
+-- the distance between keys where so many are spread evenly over 64 bits
 abbrev pub even_step : ℕ → ℕ
 even_step rows = (2 ^ 64 - 1) / (rows + 1)
 
--- keys are the multiples of one distance, as far as the bytes go
+-- keys are spread so, as far as the bytes go, and their distance is at least the number of distances
 pub record IsEven (t : Table) : Type 0 where
   pub wide : t.rows + 1 ≤ even_step t.rows
   pub keys : (i : ℕ) → i < t.rows → HasKey t i → key_at t i ≡ (i + 1) * even_step t.rows
