@@ -30,13 +30,15 @@ pub fn unions_exist()
 
 /// The union of shards that agree is their join, and the same in either order.
 pub fn union_commutes()
-    ensures join { (a b c : Shard) → IsShard a → IsShard b → ShardsAgree a b → IsUnion a b c → IsJoinOf (Contains (a ∷ b ∷ [])) c }
+    ensures join { (a b c : Shard) → IsShard a → IsShard b → ShardsAgree a b → IsUnion a b c
+        → IsJoinOf (Contains (a ∷ b ∷ [])) c }
     ensures order { (a b c d : Shard) → IsShard a → IsShard b → ShardsAgree a b → IsUnion a b c → IsUnion b a d → c ≡ d }
 {}
 
 /// Shards have one join at most.
 pub fn joins_are_unique()
-    ensures { (shards : List Shard) → (c d : Shard) → IsJoinOf (Contains shards) c → IsJoinOf (Contains shards) d → c ≡ d }
+    ensures { (shards : List Shard) → (c d : Shard)
+        → IsJoinOf (Contains shards) c → IsJoinOf (Contains shards) d → c ≡ d }
 {}
 
 /// The union of three shards is the same in either grouping.
@@ -62,22 +64,24 @@ pub fn agreeing_shards_unite()
 
 /// A shard that agrees with each of two agrees with their union.
 pub fn agreement_passes_to_unions()
-    ensures { (a b c ab : Shard) → ShardsAgree a c → ShardsAgree b c → IsUnion a b ab → ShardsAgree ab c }
+    ensures { (a b c ab : Shard) → ShardsAgree a c → ShardsAgree b c → IsUnion a b ab
+        → ShardsAgree ab c }
 {}
 
 /// A record starts after the rows of all records of its kind with smaller hashes.
 pub fn records_start_after_smaller_hashes()
-    ensures files { (s : Shard) → IsShard s → file_starts (values s.files)
-        ≡ map (λ r. ((file_hash_of r).word0, total_rows (files_below (file_hash_of r) (values s.files)))) (values s.files) }
-    ensures xorbs { (s : Shard) → IsShard s → xorb_starts (values s.xorbs)
-        ≡ map (λ r. ((xorb_hash_of r).word0, total_xorb_rows (xorbs_below (xorb_hash_of r) (values s.xorbs)))) (values s.xorbs) }
+    ensures files { (s : Shard) → IsShard s → let files = values s.files in
+        file_starts files ≡ map (λ r. let q = file_hash_of r in (q.word0, total_rows (files_below q files))) files }
+    ensures xorbs { (s : Shard) → IsShard s → let xorbs = values s.xorbs in
+        xorb_starts xorbs ≡ map (λ r. let q = xorb_hash_of r in (q.word0, total_xorb_rows (xorbs_below q xorbs))) xorbs }
 {}
 
 /// The chunk table has exactly the places of the chunks of the xorbs, in strictly ascending order: by first word, then
 /// by where the xorb starts, then by the place in the xorb.
 pub fn chunk_table_is_sorted()
     ensures sorted { (xorbs : List MDBXorbInfo) → IsStrictlySortedBy place_cmp (chunk_table xorbs) }
-    ensures places { (xorbs : List MDBXorbInfo) → (p : ChunkPlace) → Contains (chunk_table xorbs) p ↔ Contains (chunk_places xorbs) p }
+    ensures places { (xorbs : List MDBXorbInfo) → (p : ChunkPlace)
+        → Contains (chunk_table xorbs) p ↔ Contains (chunk_places xorbs) p }
 {}
 
 /// The name of a hash's shard file names that hash, and a name names one hash only: so the hash is read back from

@@ -9,13 +9,13 @@ use Rattle.xet_records.specs.declared.file_structs.FileDataSequenceEntry.{FileDa
 use Rattle.xet_records.specs.declared.file_structs.FileVerificationEntry.{FileVerificationEntry}
 use Rattle.xet_records.specs.declared.file_structs.FileMetadataExt.{FileMetadataExt}
 use Rattle.xet_records.specs.declared.file_structs.MDBFileInfo.{MDBFileInfo}
-use Rattle.xet_records.specs.FileRecord.{flags_of, FitsItsHeader, IsWellFormed}
+use Rattle.xet_records.specs.FileRecord.{flags_of, FitsItsHeader}
 use Rattle.xet_records.specs.Merging.{Agree, verified, described, merged, joined}
-use Rattle.xet_records.proofs.Merging.{flags_are_parts, verification_absent, verified-merged, described-merged, verified-joined, described-joined, joined_whole, merged_is_joined, same_file_if_agree}
+use Rattle.xet_records.proofs.Merging.{flags_are_parts, verification_absent, verified-merged, verified-joined, described-joined, joined_whole, merged_is_joined, same_file_if_agree}
 use Rattle.xet_shards.specs.Shard.{Shard, IsShard, file_hash_of}
 use Rattle.xet_shards.specs.Joining.{either_file}
 use Rattle.xet_shards.specs.SetOperations.{IsUnion, ShardsAgree}
-use Rattle.xet_shards.specs.Joins.{verification_of, segments_under, verification_under, metadata_under, file_with, HasWhatAnyHas, FollowsParts, IsJoinOf}
+use Rattle.xet_shards.specs.Joins.{verification_of, segments_under, verification_under, metadata_under, file_with, HasWhatAnyHas, IsJoinOf}
 use Rattle.xet_shards.proofs.Joining.{or_none}
 use Rattle.xet_shards.proofs.Unions.{IsKnown, known, same_shard, same_either}
 

@@ -23,7 +23,7 @@ use Rattle.xet_records.specs.Reading.{ReadsBookend}
 use Rattle.xet_records.proofs.Lengths.{length-header_row, length-record_text}
 use Rattle.xet_records.proofs.Record.{row_count-whole}
 use Rattle.xet_records.proofs.RecordKinds.{file_laws, stored_begins}
-use Rattle.xet_shards.specs.SectionReading.{MayTake, BeginsWithBookend, PassesLimit, EndsEarly, SectionFailure, ReadsNext, RecordFails}
+use Rattle.xet_shards.specs.SectionReading.{MayTake, PassesLimit, EndsEarly, SectionFailure, ReadsNext, RecordFails}
 use Rattle.xet_shards.specs.Lookup.{IsNumber, Collides, IndexFinds, VisitsSome, LooksUp, LookupAnswer, LookupRefused, Finding, FindingNot, row_at, RecordAt, IsBareInternalError, RecordRefusal, InfoRefusal, ReadsInfo, ReadsInfoNot, Visits, Missed}
 
 -- a stored record has the rows that its header announces, and the header
