@@ -1,7 +1,7 @@
 //! The search, on tables that lines describe.
 
 ghost use Rattle.std.specs.Prelude.{◌≤◌, MatchResult, IfOk};
-ghost use Rattle.xet_core_structures.specs.Source.{FillsNot};
+ghost use Rattle.xet_core_structures.specs.Source.{FillFails};
 ghost use Rattle.xet_core_structures.specs.Table.{ReadsOn};
 
 use crate::device::Device;
@@ -125,7 +125,7 @@ pub fn search(
 fn read_value<S: ShardSource>(source: &mut S, width: usize) -> io::Result<u64>
     requires { width ≤ 64 }
     ensures { MatchResult result (λ _. ReadsOn (S.meaning source.old) (S.meaning source.new) width)
-        (FillsNot (S.meaning source.old) (S.meaning source.new) width) }
+        (FillFails (S.meaning source.old) (S.meaning source.new) width) }
 {
     let mut bytes = [0u8; 64];
     read_full(source, &mut bytes[..width])?;

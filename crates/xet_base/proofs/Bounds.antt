@@ -3,10 +3,10 @@ use Rattle.std.proofs.Common.{◌≡◌, ℕ, ◌+◌, ◌-◌, ◌*◌, ◌<◌
 use Rattle.xet_base.specs.declared.interpolation_search.window.Window.{Window}
 use Rattle.std.specs.declared.io.Error.{Error}
 use Rattle.xet_base.specs.Source.{Source, Fails, moved}
-use Rattle.xet_base.specs.Table.{Table, place, IsSorted, hits_below, hits, Bounded}
+use Rattle.xet_base.specs.Table.{Table, row_offset, IsSorted, hits_below, hits, Bounded}
 use Rattle.xet_base.specs.Search.{ReadsKey, Stops, IsRow, Counts, Passes, Runs}
 use Rattle.xet_base.proofs.Progress.{AllSmaller, Searches}
-use Rattle.xet_base.proofs.Tables.{row_place-add, hits_below-le, hits_below-none}
+use Rattle.xet_base.proofs.Tables.{offset_of_row-add, hits_below-le, hits_below-none}
 use Rattle.xet_base.proofs.Course.{course_end}
 
 -- before rows that may have the key no row has it
@@ -48,8 +48,8 @@ module _ {V : Type 0} (t : Table) (key : ℕ) (Gives : List ℕ → V → Type 0
         arith,
         runs.read,
         ap (λ s. s.read) reads.after,
-        row_place-add t.start t.width (w.probe - 1) rows,
-        ap (place t) end_is,
+        offset_of_row-add t.start t.width (w.probe - 1) rows,
+        ap (row_offset t) end_is,
         add-mul rows 1 (8 + t.width),
       ))
       (omega (arith, runs.equal, runs.past, hits_below-le t key runs.end (w.high - 1) runs.within, before.left))
@@ -59,13 +59,13 @@ module _ {V : Type 0} (t : Table) (key : ℕ) (Gives : List ℕ → V → Type 0
   bounded_seek_not sorted new e fails = bounded sorted new 0 fails.seeks (omega (arith, fails.read)) (omega (arith, (so_far.sorted sorted).left))
 
   -- the last rows were read
-  pub bounded_passes : (sorted : IsSorted t) (mid new : Source) → w.high ≤ w.low + 256 → mid ≡ moved now (place t w.low)
+  pub bounded_passes : (sorted : IsSorted t) (mid new : Source) → w.high ≤ w.low + 256 → mid ≡ moved now (row_offset t w.low)
       → Passes t w.low (w.high - 1) mid new → Bounded t key old new
   bounded_passes sorted mid new small sought passes =
       let rows = w.high - 1 - w.low in
       let end_is : w.low + rows ≡ w.high - 1 = omega (arith, so_far.around.rows) in
       bounded sorted new rows (omega (arith, passes.seeks, ap (λ s. s.seeks) sought))
-      (omega (arith, passes.read, ap (λ s. s.read) sought, row_place-add t.start t.width w.low rows, ap (place t) end_is))
+      (omega (arith, passes.read, ap (λ s. s.read) sought, offset_of_row-add t.start t.width w.low rows, ap (row_offset t) end_is))
       (omega (arith, small, (so_far.sorted sorted).left))
 
   -- how many results there are once the last rows were read

@@ -7,11 +7,11 @@ use Rattle.std.proofs.Math.Seq.{take-suc-set, drop-append-add}
 use Rattle.std.proofs.Math.Nat.{eq-zero-or-pos}
 use Rattle.std.proofs.lemmas.Bool.{cases_lt}
 use Rattle.xet_base.specs.Source.{Source, next_bytes}
-use Rattle.xet_base.specs.Table.{Table, place, spelled_u64, key_at, value_at, HasKey, hits_below, Hit, IsHit, OtherRow, Finds, ReadsOn}
+use Rattle.xet_base.specs.Table.{Table, row_offset, spelled_u64, key_at, value_at, HasKey, hits_below, Hit, IsHit, OtherRow, Finds, ReadsOn}
 use Rattle.xet_base.specs.Search.{IsRow, Kept, FindsFrom, Counts, Passes, Runs}
 use Rattle.xet_base.proofs.Progress.{FindsAround, Collected, Keeps}
 use Rattle.xet_base.proofs.Lists.{front_is}
-use Rattle.xet_base.proofs.Tables.{row_place-next, row_place-le, hits_below-hit, hits_below-miss}
+use Rattle.xet_base.proofs.Tables.{offset_of_row-next, offset_of_row-le, hits_below-hit, hits_below-miss}
 use Rattle.xet_base.proofs.Search.{serves_still, serves_advanced}
 
 -- a value stored behind a front of known length
@@ -110,7 +110,7 @@ module _ {V : Type 0} (t : Table) (key : ℕ) (Gives : List ℕ → V → Type 0
   ]
 
 -- the key that is read at a row's place
-module _ (t : Table) (i : ℕ) (now mid : Source) (same : now.bytes ≡ t.bytes) (at : now.at ≡ place t i) (reads : ReadsOn now mid 8) where
+module _ (t : Table) (i : ℕ) (now mid : Source) (same : now.bytes ≡ t.bytes) (at : now.at ≡ row_offset t i) (reads : ReadsOn now mid 8) where
   pub key_is : (found : ℕ) → found ≡ spelled_u64 (next_bytes now 8) → found ≡ key_at t i
   unfolding key_at
   key_is found is_key = is_key ∙ (λ j. spelled_u64 (take 8 (drop (at j) (same j))))
@@ -118,32 +118,32 @@ module _ (t : Table) (i : ℕ) (now mid : Source) (same : now.bytes ≡ t.bytes)
   pub key_there : HasKey t i
   key_there = omega (arith, reads.within (omega arith), at, ap length same)
 
-  pub past_key : mid.at ≡ place t i + 8
+  pub past_key : mid.at ≡ row_offset t i + 8
   past_key = omega (arith, ap (λ s. s.at) reads.after, at)
 
   pub key_bytes : mid.bytes ≡ t.bytes
   key_bytes = ap (λ s. s.bytes) reads.after ∙ same
 
 -- the value that is read behind a row's key
-module _ (t : Table) (i : ℕ) (mid after : Source) (same : mid.bytes ≡ t.bytes) (at : mid.at ≡ place t i + 8) (reads : ReadsOn mid after t.width) where
+module _ (t : Table) (i : ℕ) (mid after : Source) (same : mid.bytes ≡ t.bytes) (at : mid.at ≡ row_offset t i + 8) (reads : ReadsOn mid after t.width) where
   pub value_is : next_bytes mid t.width ≡ value_at t i
   value_is = λ j. take t.width (drop (at j) (same j))
 
-  pub row_there : HasKey t i → place t (i + 1) ≤ length t.bytes
+  pub row_there : HasKey t i → row_offset t (i + 1) ≤ length t.bytes
   row_there there = omega (
     arith,
     there,
     reads_within mid after t.width reads (omega (arith, there, at, ap length same)),
     at,
     ap length same,
-    row_place-next t.start t.width i,
+    offset_of_row-next t.start t.width i,
   )
 
-  pub past_row : after.at ≡ place t (i + 1)
-  past_row = omega (arith, ap (λ s. s.at) reads.after, at, row_place-next t.start t.width i)
+  pub past_row : after.at ≡ row_offset t (i + 1)
+  past_row = omega (arith, ap (λ s. s.at) reads.after, at, offset_of_row-next t.start t.width i)
 
 pub collected_start : {V : Type 0} (t : Table) (key : ℕ) (Gives : List ℕ → V → Type 0) (from to : ℕ) (old : Source) (results : List V) (had : ℕ)
-    → old.at ≡ place t from → had ≤ length results → Collected t key Gives from from to 0 old old results results had had
+    → old.at ≡ row_offset t from → had ≤ length results → Collected t key Gives from from to 0 old old results results had had
 collected_start t key Gives from to old results had at room = record {
   serves = serves_still old;
   at = at;
@@ -163,13 +163,13 @@ counts_keep t key from i had value results new places count count_new counted th
 
 -- the first of a run of rows with the key, whose key was read before
 pub collected_first : {V : Type 0} (t : Table) (key : ℕ) (Gives : List ℕ → V → Type 0) (from to : ℕ) (old after : Source) (results new : List V) (had count : ℕ) (value : V)
-    → old.bytes ≡ t.bytes → old.at ≡ place t from + 8 → IsRow t key from → from < to → had ≤ length results → ReadsOn old after t.width
+    → old.bytes ≡ t.bytes → old.at ≡ row_offset t from + 8 → IsRow t key from → from < to → had ≤ length results → ReadsOn old after t.width
     → Gives (value_at t from) value → Kept results new had value count → Collected t key Gives from (from + 1) to 8 old after results new had count
 collected_first t key Gives from to old after results new had count value same at is_row lt room reads gives kept = record {
   serves = serves_advanced old old after t.width (serves_still old) reads.after;
   at = past_row t from old after same at reads;
   seeks = ap (λ s. s.seeks) reads.after;
-  read = omega (arith, ap (λ s. s.read) reads.after, row_place-next t.start t.width from);
+  read = omega (arith, ap (λ s. s.read) reads.after, offset_of_row-next t.start t.width from);
   finds = λ before found. around_keep t key Gives from from to before results had value new count
       (around_start t key Gives from from to before results had found) (omega arith) lt
       (record { within = is_row.within; there = row_there t from old after same at reads is_row.there; same_key = is_row.same_key; gives = gives }) kept;
@@ -189,7 +189,7 @@ module _ {V : Type 0} (t : Table) (key : ℕ) (Gives : List ℕ → V → Type 0
     serves = serves_advanced old mid after t.width (serves_advanced old now mid 8 so_far.serves reads.after) reads_value.after;
     at = past_row t i mid after (key_bytes t i now mid now_same so_far.at reads) (past_key t i now mid now_same so_far.at reads) reads_value;
     seeks = ap (λ s. s.seeks) reads_value.after ∙ ap (λ s. s.seeks) reads.after ∙ so_far.seeks;
-    read = omega (arith, ap (λ s. s.read) reads_value.after, ap (λ s. s.read) reads.after, so_far.read, row_place-next t.start t.width i);
+    read = omega (arith, ap (λ s. s.read) reads_value.after, ap (λ s. s.read) reads.after, so_far.read, offset_of_row-next t.start t.width i);
     finds = λ before found. finds before (so_far.finds before found);
     counted = counted;
   }
@@ -223,7 +223,7 @@ module _ {V : Type 0} (t : Table) (key : ℕ) (Gives : List ℕ → V → Type 0
   passes_part new part bytes seeks read most lt = record {
     bytes = bytes ∙ so_far.serves.bytes;
     seeks = seeks ∙ so_far.seeks;
-    read = omega (arith, read, most, so_far.read, row_place-next t.start t.width i, row_place-le t.start t.width (i + 1) to (omega (arith, lt)));
+    read = omega (arith, read, most, so_far.read, offset_of_row-next t.start t.width i, offset_of_row-le t.start t.width (i + 1) to (omega (arith, lt)));
   }
 
 -- the end of a run of rows with the key
@@ -251,7 +251,7 @@ module _ {V : Type 0} (t : Table) (key : ℕ) (Gives : List ℕ → V → Type 0
     past = omega (arith, start);
     within = omega (arith, lt);
     equal = omega (arith, so_far.equal, hits_below-hit t key i there same_key);
-    read = omega (arith, read, so_far.collected.read, row_place-next t.start t.width i);
+    read = omega (arith, read, so_far.collected.read, offset_of_row-next t.start t.width i);
   }
 
 -- the first value of a run was read in part
@@ -264,7 +264,7 @@ runs_first t key from to old new is_row lt bytes seeks read = record {
   past = omega arith;
   within = omega (arith, lt);
   equal = omega (arith, hits_below-hit t key from is_row.there is_row.same_key);
-  read = omega (arith, read, row_place-next t.start t.width from);
+  read = omega (arith, read, offset_of_row-next t.start t.width from);
 }
 
 -- past a greater key nothing more counts

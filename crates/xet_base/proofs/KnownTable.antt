@@ -5,10 +5,10 @@ use Rattle.std.proofs.Math.Nat.{add-mul}
 use Rattle.std.proofs.lemmas.Bool.{cases_eq, eq-eqb, ne_eqb, cond-true, cond-false}
 use Rattle.std.proofs.lemmas.Nat.{from_le_bytes-to_le_bytes_8}
 use Rattle.xet_base.specs.Bytes.{u64_bytes}
-use Rattle.xet_base.specs.Table.{Table, row_place, place, spelled_u64, key_at, value_at, HasKey, hits_below}
+use Rattle.xet_base.specs.Table.{Table, offset_of_row, row_offset, spelled_u64, key_at, value_at, HasKey, hits_below}
 use Rattle.xet_base.proofs.Bytes.{length-u64_bytes}
 use Rattle.xet_base.proofs.Lists.{front_is, rest_is}
-use Rattle.xet_base.proofs.Tables.{hits_below-hit, hits_below-miss, row_place-next}
+use Rattle.xet_base.proofs.Tables.{hits_below-hit, hits_below-miss, offset_of_row-next}
 
 pub spelled_u64-bytes : (n : ℕ) → n < 2 ^ 64 → spelled_u64 (u64_bytes n) ≡ n
 unfolding spelled_u64 u64_bytes
@@ -39,8 +39,8 @@ module _ {X : Type 0} (key : X → ℕ) (value : X → List ℕ) (width : ℕ) (
       )
 
   module _ (t : Table) (xs : List X) (rest : List ℕ) (stands : drop t.start t.bytes ≡ flat_map row xs ++ rest) (same_width : t.width ≡ width) where
-    row_stands : (i : ℕ) (d : X) → i < length xs → (after : List ℕ) × (drop (place t i) t.bytes ≡ row (get_or xs i d) ++ after)
-    unfolding row_place
+    row_stands : (i : ℕ) (d : X) → i < length xs → (after : List ℕ) × (drop (row_offset t i) t.bytes ≡ row (get_or xs i d) ++ after)
+    unfolding offset_of_row
     row_stands i d within =
         let found = drop_rows xs rest i d within in (
           found.0,
@@ -48,13 +48,13 @@ module _ {X : Type 0} (key : X → ℕ) (value : X → List ℕ) (width : ℕ) (
               ∙ ap (drop (i * (8 + width))) stands ∙ found.1,
         )
 
-    pub row_is_there : (i : ℕ) (d : X) → i < length xs → place t (i + 1) ≤ length t.bytes
+    pub row_is_there : (i : ℕ) (d : X) → i < length xs → row_offset t (i + 1) ≤ length t.bytes
     row_is_there i d within =
         let found = row_stands i d within in
-        omega (arith, row_place-next t.start t.width i, same_width, ap length found.1, length-drop (place t i) t.bytes, length-append (row (get_or xs i d)) found.0, length-row (get_or xs i d))
+        omega (arith, offset_of_row-next t.start t.width i, same_width, ap length found.1, length-drop (row_offset t i) t.bytes, length-append (row (get_or xs i d)) found.0, length-row (get_or xs i d))
 
     pub key_is_there : (i : ℕ) (d : X) → i < length xs → HasKey t i
-    key_is_there i d within = omega (arith, row_is_there i d within, row_place-next t.start t.width i)
+    key_is_there i d within = omega (arith, row_is_there i d within, offset_of_row-next t.start t.width i)
 
     pub key_is : (i : ℕ) (d : X) → i < length xs → key (get_or xs i d) < 2 ^ 64 → key_at t i ≡ key (get_or xs i d)
     unfolding key_at
@@ -62,7 +62,7 @@ module _ {X : Type 0} (key : X → ℕ) (value : X → List ℕ) (width : ℕ) (
         let x = get_or xs i d in
         let found = row_stands i d within in
         let split = found.1 ∙ append_assoc (u64_bytes (key x)) (value x) found.0 in
-        ap spelled_u64 (front_is 8 (drop (place t i) t.bytes) (u64_bytes (key x)) (value x ++ found.0) (length-u64_bytes (key x)) split)
+        ap spelled_u64 (front_is 8 (drop (row_offset t i) t.bytes) (u64_bytes (key x)) (value x ++ found.0) (length-u64_bytes (key x)) split)
         ∙ spelled_u64-bytes (key x) fits
 
     pub value_is : (i : ℕ) (d : X) → i < length xs → value_at t i ≡ value (get_or xs i d)
@@ -70,9 +70,9 @@ module _ {X : Type 0} (key : X → ℕ) (value : X → List ℕ) (width : ℕ) (
         let x = get_or xs i d in
         let found = row_stands i d within in
         let split = found.1 ∙ append_assoc (u64_bytes (key x)) (value x) found.0 in
-        ap (λ w. take w (drop (place t i + 8) t.bytes)) same_width
-        ∙ front_is width (drop (place t i + 8) t.bytes) (value x) found.0 (length-value x)
-        (sym (drop-drop 8 (place t i) t.bytes) ∙ rest_is 8 (drop (place t i) t.bytes) (u64_bytes (key x)) (value x ++ found.0) (length-u64_bytes (key x)) split)
+        ap (λ w. take w (drop (row_offset t i + 8) t.bytes)) same_width
+        ∙ front_is width (drop (row_offset t i + 8) t.bytes) (value x) found.0 (length-value x)
+        (sym (drop-drop 8 (row_offset t i) t.bytes) ∙ rest_is 8 (drop (row_offset t i) t.bytes) (u64_bytes (key x)) (value x ++ found.0) (length-u64_bytes (key x)) split)
 
 -- the sum of f over the numbers below n
 abbrev pub sum_below : (ℕ → ℕ) → ℕ → ℕ

@@ -2,7 +2,7 @@
 use Rattle.std.specs.Prelude.{◌≡◌, ◌⊎◌, ℕ, ◌+◌, ◌-◌, ◌*◌, ◌^◌, ◌<◌, ◌≤◌, List, length, min, All}
 use Rattle.xet_base.specs.declared.interpolation_search.window.Window.{Window}
 use Rattle.xet_base.specs.Source.{Source}
-use Rattle.xet_base.specs.Table.{Table, place, key_at, HasKey, IsSorted, hits_below, hits, Finds, Serves, even_step, IsEven}
+use Rattle.xet_base.specs.Table.{Table, row_offset, key_at, HasKey, IsSorted, hits_below, hits, Finds, Serves, even_step, IsEven}
 use Rattle.xet_base.specs.Search.{IsRow, FindsFrom, Counts}
 use Rattle.xet_base.specs.Probes.{guess_of, AroundKey, IsWhole}
 
@@ -15,9 +15,9 @@ pub record FindsAround {V : Type 0} (t : Table) (key : ℕ) (Gives : List ℕ �
 pub record Collected {V : Type 0} (t : Table) (key : ℕ) (Gives : List ℕ → V → Type 0) (from i to skip : ℕ) (old new : Source)
     (results_old results : List V) (had count : ℕ) : Type 0 where
   pub serves : Serves old new
-  pub at : new.at ≡ place t i
+  pub at : new.at ≡ row_offset t i
   pub seeks : new.seeks ≡ old.seeks
-  pub read : new.read + (place t from + skip) ≡ old.read + place t i
+  pub read : new.read + (row_offset t from + skip) ≡ old.read + row_offset t i
   pub finds : (before : List V) → FindsFrom t key Gives to before results_old had → FindsAround t key Gives from i to before results count
   pub counted : Counts t key from i (length results_old) had count
 

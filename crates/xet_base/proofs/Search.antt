@@ -4,17 +4,17 @@ use Rattle.std.specs.Prelude.{MatchResult, List}
 use Rattle.xet_base.specs.declared.interpolation_search.table_range.TableRange.{TableRange}
 use Rattle.std.specs.declared.result.Result.{Result}
 use Rattle.std.specs.declared.io.Error.{Error}
-use Rattle.xet_base.specs.Source.{Source, advanced, moved, next_bytes, FillFailure, FillsNot}
-use Rattle.xet_base.specs.Table.{Table, table_at, Answers, Finds, place, spelled_u64, key_at, Serves, TableFailure, ReadsOn}
+use Rattle.xet_base.specs.Source.{Source, advanced, moved, next_bytes, FillFailure, FillFails}
+use Rattle.xet_base.specs.Table.{Table, table_at, Answers, Finds, row_offset, spelled_u64, key_at, Serves, TableFailure, ReadsOn}
 use Rattle.xet_base.specs.Search.{table_in, ReadsKey, Stops}
-use Rattle.xet_base.proofs.Tables.{row_place-next, row_place-le}
+use Rattle.xet_base.proofs.Tables.{offset_of_row-next, offset_of_row-le}
 
 -- the bytes of a row are within the table
-pub row_within : (t : Table) (i : ℕ) → i < t.rows → place t i + (8 + t.width) ≤ place t t.rows
-row_within t i within = omega (arith, row_place-next t.start t.width i, row_place-le t.start t.width (i + 1) t.rows (omega arith))
+pub row_within : (t : Table) (i : ℕ) → i < t.rows → row_offset t i + (8 + t.width) ≤ row_offset t t.rows
+row_within t i within = omega (arith, offset_of_row-next t.start t.width i, offset_of_row-le t.start t.width (i + 1) t.rows (omega arith))
 
 -- a read within the table failed, after reads that did not
-pub read_failure : (t : Table) (old mid new : Source) (n : ℕ) (e : Error) → Serves old mid → mid.at + n ≤ place t t.rows
+pub read_failure : (t : Table) (old mid new : Source) (n : ℕ) (e : Error) → Serves old mid → mid.at + n ≤ row_offset t t.rows
     → FillFailure mid new n e → TableFailure t old new e
 read_failure t old mid new n e serves within (inl failed) = inl (failed.0 ∙ ap (λ k. k + 1) serves.failures, failed.1)
 read_failure t old mid new n e serves within (inr ended) =
@@ -38,20 +38,20 @@ serves_moved old mid new to serves after = record {
 }
 
 -- after a seek to a row, its key is what is read
-pub key_read : (t : Table) (i : ℕ) (old mid new : Source) (r : Result ℕ Error) → t.bytes ≡ old.bytes → i < t.rows → mid ≡ moved old (place t i)
-    → MatchResult r (λ key. ReadsOn mid new 8 × (key ≡ spelled_u64 (next_bytes mid 8))) (FillsNot mid new 8)
+pub key_read : (t : Table) (i : ℕ) (old mid new : Source) (r : Result ℕ Error) → t.bytes ≡ old.bytes → i < t.rows → mid ≡ moved old (row_offset t i)
+    → MatchResult r (λ key. ReadsOn mid new 8 × (key ≡ spelled_u64 (next_bytes mid 8))) (FillFails mid new 8)
     → MatchResult r (ReadsKey t i old new) (Stops t 1 8 old new)
 unfolding key_at
 key_read t i old mid new (Ok key) same within sought (reads, is_key) = record {
   there = omega (arith, reads.within (omega arith), ap (λ s. s.at) sought, ap (λ s. length s.bytes) sought, ap length same);
-  is_key = is_key ∙ ap (λ s. spelled_u64 (next_bytes s 8)) sought ∙ ap (λ bytes. spelled_u64 (take 8 (drop (place t i) bytes))) (sym same);
+  is_key = is_key ∙ ap (λ s. spelled_u64 (next_bytes s 8)) sought ∙ ap (λ bytes. spelled_u64 (take 8 (drop (row_offset t i) bytes))) (sym same);
   after = reads.after ∙ ap (λ s. advanced s 8) sought;
 }
 key_read t i old mid new (Err e) same within sought fails = record {
   bytes = fails.bytes ∙ ap (λ s. s.bytes) sought;
   seeks = fails.seeks ∙ ap (λ s. s.seeks) sought;
   read = omega (arith, fails.read, ap (λ s. s.read) sought);
-  cause = read_failure t old mid new 8 e (serves_moved old old mid (place t i) (serves_still old) sought)
+  cause = read_failure t old mid new 8 e (serves_moved old old mid (row_offset t i) (serves_still old) sought)
       (omega (arith, ap (λ s. s.at) sought, row_within t i within)) fails.cause;
 }
 

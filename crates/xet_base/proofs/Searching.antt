@@ -2,11 +2,11 @@
 use Rattle.std.proofs.Common.{◌≡◌, inl, inr, ℕ, ◌+◌, ◌-◌, ◌*◌, ◌^◌, ◌<◌, ◌≤◌, List, length, refl, sym, ap, ◌∙◌, subst, arith, add-mul, mul-le-mul_right}
 use Rattle.xet_base.specs.declared.interpolation_search.window.Window.{Window}
 use Rattle.xet_base.specs.Source.{Source}
-use Rattle.xet_base.specs.Table.{Table, place, key_at, HasKey, IsSorted, hits_below, hits, Serves, even_step, IsEven}
+use Rattle.xet_base.specs.Table.{Table, row_offset, key_at, HasKey, IsSorted, hits_below, hits, Serves, even_step, IsEven}
 use Rattle.xet_base.specs.Search.{ReadsKey, IsRow, FindsFrom, Counts, Runs}
 use Rattle.xet_base.specs.Probes.{guess_of, IsWhole, TurnsBelow, TurnsAbove, TurnsEqual}
 use Rattle.xet_base.proofs.Progress.{Matching, OnSorted, OnEven, Searches}
-use Rattle.xet_base.proofs.Tables.{row_place-add, row_place-le, hits_below-hit, hits_below-le, keys_ascend, none_after}
+use Rattle.xet_base.proofs.Tables.{offset_of_row-add, offset_of_row-le, hits_below-hit, hits_below-le, keys_ascend, none_after}
 use Rattle.xet_base.proofs.Search.{serves_still, serves_moved, serves_advanced}
 use Rattle.xet_base.proofs.Probing.{guess_within, below_within, above_within, window, is_below, is_above, is_equal}
 use Rattle.xet_base.proofs.Course.{course_start, course_below, course_above, course_equal}
@@ -16,7 +16,7 @@ use Rattle.xet_base.proofs.Collecting.{from_weaker, from_none}
 -- rows between two rows with the key have it too
 between : (t : Table) (key i j n : ℕ) → IsSorted t → IsRow t key i → IsRow t key j → i ≤ n → n ≤ j → IsRow t key n
 between t key i j n sorted first last from to =
-    let there : HasKey t n = omega (arith, last.there, row_place-le t.start t.width n j to) in
+    let there : HasKey t n = omega (arith, last.there, offset_of_row-le t.start t.width n j to) in
     let within : n < t.rows = omega (arith, to, last.within) in
     record {
       within = within;
@@ -111,7 +111,7 @@ module _ {V : Type 0} (t : Table) (key : ℕ) (Gives : List ℕ → V → Type 0
   found_even even = reads.is_key ∙ even.keys (w.probe - 1) row_within reads.there ∙ ap (λ n. n * even_step t.rows) row_is
 
   pub mid_serves : Serves old mid
-  mid_serves = serves_advanced old _ mid 8 (serves_moved old now _ (place t (w.probe - 1)) so_far.serves refl) reads.after
+  mid_serves = serves_advanced old _ mid 8 (serves_moved old now _ (row_offset t (w.probe - 1)) so_far.serves refl) reads.after
 
   pub mid_seeks : mid.seeks ≡ old.seeks + (so_far.made + 1)
   mid_seeks = omega (arith, ap (λ s. s.seeks) reads.after, so_far.seeks)
@@ -241,7 +241,7 @@ module _ {V : Type 0} (t : Table) (key : ℕ) (Gives : List ℕ → V → Type 0
           let rows = runs.end - (w.probe - 1) in
           let end_is : w.probe - 1 + rows ≡ runs.end = omega (arith, runs.past) in
           let read : after.read ≤ mid.read + rows * (8 + t.width) =
-          omega (arith, runs.read, row_place-add t.start t.width (w.probe - 1) rows, ap (place t) end_is) in
+          omega (arith, runs.read, offset_of_row-add t.start t.width (w.probe - 1) rows, ap (row_offset t) end_is) in
           let few : before.later + rows ≤ later_new = omega (arith, runs.equal, runs.past, hits_below-le t key runs.end (w.high - 1) runs.within, less) in
           let more : Matching (IsRow t key (w.high - 1)) (t.rows + 1) before.later w.low w.high w.probe so_far.made → before.later + 4 ≤ later_new =
           λ matching. omega (

@@ -2,25 +2,25 @@
 use Rattle.std.proofs.Common.{◌≡◌, ◌≢◌, inl, inr, ◌&&◌, ◌==◌, if◌then◌else◌, nat_le, ℕ, zero, suc, ◌+◌, ◌-◌, ◌*◌, ◌<◌, ◌≤◌, length, refl, ap, ◌∙◌, add-one, add-zero, arith}
 use Rattle.std.proofs.lemmas.Bool.{le-leb, lt-leb, eq-eqb, ne_eqb, and_from, and_left, and_right, cond-true, cond-false, cases_lt}
 use Rattle.std.proofs.Math.Nat.{add-mul, mul-le-mul_right, eq-or-lt_of_le}
-use Rattle.xet_base.specs.Table.{Table, row_place, place, key_at, HasKey, IsSorted, hits_below}
+use Rattle.xet_base.specs.Table.{Table, offset_of_row, row_offset, key_at, HasKey, IsSorted, hits_below}
 
-pub row_place-zero : (start width : ℕ) → row_place start width 0 ≡ start
-unfolding row_place
-row_place-zero start width = omega arith
+pub offset_of_row-zero : (start width : ℕ) → offset_of_row start width 0 ≡ start
+unfolding offset_of_row
+offset_of_row-zero start width = omega arith
 
 -- n rows further
-pub row_place-add : (start width i n : ℕ) → row_place start width (i + n) ≡ row_place start width i + n * (8 + width)
-unfolding row_place
-row_place-add start width i n = omega (arith, add-mul i n (8 + width))
+pub offset_of_row-add : (start width i n : ℕ) → offset_of_row start width (i + n) ≡ offset_of_row start width i + n * (8 + width)
+unfolding offset_of_row
+offset_of_row-add start width i n = omega (arith, add-mul i n (8 + width))
 
-pub row_place-next : (start width i : ℕ) → row_place start width (i + 1) ≡ row_place start width i + (8 + width)
-row_place-next start width i = omega (arith, row_place-add start width i 1)
+pub offset_of_row-next : (start width i : ℕ) → offset_of_row start width (i + 1) ≡ offset_of_row start width i + (8 + width)
+offset_of_row-next start width i = omega (arith, offset_of_row-add start width i 1)
 
-pub row_place-le : (start width i j : ℕ) → i ≤ j → row_place start width i ≤ row_place start width j
-unfolding row_place
-row_place-le start width i j le = omega (arith, mul-le-mul_right (8 + width) le)
+pub offset_of_row-le : (start width i j : ℕ) → i ≤ j → offset_of_row start width i ≤ offset_of_row start width j
+unfolding offset_of_row
+offset_of_row-le start width i j le = omega (arith, mul-le-mul_right (8 + width) le)
 
-hits_below-suc : (t : Table) (key i : ℕ) → hits_below t key (suc i) ≡ hits_below t key i + (if nat_le (place t i + 8) (length t.bytes) && (key_at t i == key) then 1 else 0)
+hits_below-suc : (t : Table) (key i : ℕ) → hits_below t key (suc i) ≡ hits_below t key i + (if nat_le (row_offset t i + 8) (length t.bytes) && (key_at t i == key) then 1 else 0)
 unfolding hits_below
 hits_below-suc t key i = refl
 
@@ -37,7 +37,7 @@ hits_below-miss t key i other =
     ∙ ap (λ n. hits_below t key i + n) (cond-false _ 1 0 (and_right _ _ (ne_eqb _ _ other))) ∙ omega arith
 
 -- nor does one that is not there
-pub hits_below-absent : (t : Table) (key i : ℕ) → length t.bytes < place t i + 8 → hits_below t key (i + 1) ≡ hits_below t key i
+pub hits_below-absent : (t : Table) (key i : ℕ) → length t.bytes < row_offset t i + 8 → hits_below t key (i + 1) ≡ hits_below t key i
 hits_below-absent t key i absent =
     ap (hits_below t key) (add-one i) ∙ hits_below-suc t key i
     ∙ ap (λ n. hits_below t key i + n) (cond-false _ 1 0 (and_left _ _ (lt-leb _ _ absent))) ∙ omega arith
@@ -64,7 +64,7 @@ pub hits_below-none : (t : Table) (key i n : ℕ) → ((j : ℕ) → i ≤ j →
 hits_below-none t key i zero none = ap (hits_below t key) (add-zero i)
 hits_below-none t key i (suc n) none =
     let before : hits_below t key (i + n) ≡ hits_below t key i = hits_below-none t key i n (λ j from to there. none j from (omega (arith, to)) there) in
-    let next : hits_below t key (i + n + 1) ≡ hits_below t key (i + n) = elim (cases_lt (length t.bytes) (place t (i + n) + 8)) [
+    let next : hits_below t key (i + n + 1) ≡ hits_below t key (i + n) = elim (cases_lt (length t.bytes) (row_offset t (i + n) + 8)) [
       | inl absent ↦ hits_below-absent t key (i + n) absent
       | inr there ↦ hits_below-miss t key (i + n) (none (i + n) (omega arith) (omega arith) there)
     ] in

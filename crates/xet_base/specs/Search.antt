@@ -3,7 +3,7 @@ use Rattle.std.specs.Prelude.{◌≡◌, ℕ, ◌+◌, ◌<◌, ◌≤◌, List,
 use Rattle.std.specs.declared.io.Error.{Error}
 use Rattle.xet_base.specs.declared.interpolation_search.table_range.TableRange.{TableRange}
 use Rattle.xet_base.specs.Source.{Source, advanced, moved}
-use Rattle.xet_base.specs.Table.{Table, place, key_at, HasKey, hits_below, Finds, TableFailure}
+use Rattle.xet_base.specs.Table.{Table, row_offset, key_at, HasKey, hits_below, Finds, TableFailure}
 
 -- the table of a range of these bytes
 abbrev pub table_in : TableRange → List ℕ → Table
@@ -13,7 +13,7 @@ table_in range bytes = record { bytes = bytes; start = range.start; rows = range
 pub record ReadsKey (t : Table) (i : ℕ) (old new : Source) (found : ℕ) : Type 0 where
   pub there : HasKey t i
   pub is_key : found ≡ key_at t i
-  pub after : new ≡ advanced (moved old (place t i)) 8
+  pub after : new ≡ advanced (moved old (row_offset t i)) 8
 
 -- reading was cut off after so many seeks and at most so many bytes
 pub record Stops (t : Table) (made most : ℕ) (old new : Source) (e : Error) : Type 0 where
@@ -46,7 +46,7 @@ Counts t key from to places had count = count + hits_below t key from ≡ min (h
 pub record Passes (t : Table) (from to : ℕ) (old new : Source) : Type 0 where
   pub bytes : new.bytes ≡ old.bytes
   pub seeks : new.seeks ≡ old.seeks
-  pub read : new.read + place t from ≤ old.read + place t to
+  pub read : new.read + row_offset t from ≤ old.read + row_offset t to
 
 -- no more was read than the rows from `from` to before some `end`, all of which have the key
 pub record Runs (t : Table) (key from to : ℕ) (old new : Source) : Type 0 where
@@ -56,4 +56,4 @@ pub record Runs (t : Table) (key from to : ℕ) (old new : Source) : Type 0 wher
   pub past : from ≤ end
   pub within : end ≤ to
   pub equal : end + hits_below t key from ≤ hits_below t key end + from
-  pub read : new.read + place t from ≤ old.read + place t end
+  pub read : new.read + row_offset t from ≤ old.read + row_offset t end

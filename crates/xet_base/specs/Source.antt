@@ -61,7 +61,7 @@ FillFailure old new n e =
     ⊎ ((new.failures ≡ old.failures) × (error_kind e ≡ UnexpectedEof) × (length old.bytes < old.at + n))
 
 -- a slice of n bytes, which is not empty, was not filled; the place is open
-pub record FillsNot (old new : Source) (n : ℕ) (e : Error) : Type 0 where
+pub record FillFails (old new : Source) (n : ℕ) (e : Error) : Type 0 where
   pub some : 0 < n
   pub bytes : new.bytes ≡ old.bytes
   pub seeks : new.seeks ≡ old.seeks

@@ -9,7 +9,7 @@ use Rattle.std.specs.declared.io.ErrorKind.TheVariants.{UnexpectedEof}
 use Rattle.xet_base.specs.declared.error.CoreError.{CoreError}
 use Rattle.xet_base.specs.declared.error.CoreError.TheVariants.{InvalidShard}
 use Rattle.xet_base.specs.Errors.{IsEndOfInput}
-use Rattle.xet_base.specs.Source.{Source, advanced, next_bytes, FillsNot, DeviceFailure}
+use Rattle.xet_base.specs.Source.{Source, advanced, next_bytes, FillFails, DeviceFailure}
 
 -- the bytes of the source, the place of the first row, the number of rows and the bytes of a value
 pub record Table : Type 0 where
@@ -22,11 +22,11 @@ abbrev pub table_at : Source → ℕ → ℕ → ℕ → Table
 table_at source start rows width = record { bytes = source.bytes; start = start; rows = rows; width = width }
 
 -- the place of row i, counted from 0
-unfoldable pub row_place : ℕ → ℕ → ℕ → ℕ
-row_place start width i = start + i * (8 + width)
+unfoldable pub offset_of_row : ℕ → ℕ → ℕ → ℕ
+offset_of_row start width i = start + i * (8 + width)
 
-abbrev pub place : Table → ℕ → ℕ
-place t i = row_place t.start t.width i
+abbrev pub row_offset : Table → ℕ → ℕ
+row_offset t i = offset_of_row t.start t.width i
 
 -- the number that eight bytes spell, lowest byte first
 unfoldable pub spelled_u64 : List ℕ → ℕ
@@ -34,14 +34,14 @@ spelled_u64 bytes = from_le_bytes w64 bytes
 
 -- the key of row i, where its bytes are there
 unfoldable pub key_at : Table → ℕ → ℕ
-key_at t i = spelled_u64 (take 8 (drop (place t i) t.bytes))
+key_at t i = spelled_u64 (take 8 (drop (row_offset t i) t.bytes))
 
 abbrev pub HasKey : Table → ℕ → Type 0
-HasKey t i = place t i + 8 ≤ length t.bytes
+HasKey t i = row_offset t i + 8 ≤ length t.bytes
 
 -- the bytes of row i's value
 abbrev pub value_at : Table → ℕ → List ℕ
-value_at t i = take t.width (drop (place t i + 8) t.bytes)
+value_at t i = take t.width (drop (row_offset t i + 8) t.bytes)
 
 -- keys do not descend, as far as the bytes go
 abbrev pub IsSorted : Table → Type 0
@@ -50,7 +50,7 @@ IsSorted t = (i j : ℕ) → i < j → j < t.rows → HasKey t j → key_at t i 
 -- how many of the first n rows hold the key
 unfoldable pub hits_below : Table → ℕ → ℕ → ℕ
 hits_below t key zero = 0
-hits_below t key (suc n) = hits_below t key n + (if nat_le (place t n + 8) (length t.bytes) && (key_at t n == key) then 1 else 0)
+hits_below t key (suc n) = hits_below t key n + (if nat_le (row_offset t n + 8) (length t.bytes) && (key_at t n == key) then 1 else 0)
 
 abbrev pub hits : Table → ℕ → ℕ
 hits t key = hits_below t key t.rows
@@ -72,7 +72,7 @@ pub record Hit (V : Type 0) : Type 0 where
 -- the row is there, has the key, and its bytes give the value
 pub record IsHit {V : Type 0} (t : Table) (key : ℕ) (Gives : List ℕ → V → Type 0) (hit : Hit V) : Type 0 where
   pub within : hit.row < t.rows
-  pub there : place t (hit.row + 1) ≤ length t.bytes
+  pub there : row_offset t (hit.row + 1) ≤ length t.bytes
   pub same_key : key_at t hit.row ≡ key
   pub gives : Gives (value_at t hit.row) hit.value
 
@@ -90,10 +90,10 @@ pub record Finds {V : Type 0} (t : Table) (key : ℕ) (Gives : List ℕ → V �
 -- places and row numbers of the table fit 64 bits
 pub record FitsTable (t : Table) : Type 0 where
   pub countable : t.rows + 1 < 2 ^ 64
-  pub placed : place t t.rows < 2 ^ 64
+  pub placed : row_offset t t.rows < 2 ^ 64
 
 abbrev pub IsPastTable : Table → Type 0
-IsPastTable t = (2 ^ 64 ≤ t.rows + 1) ⊎ (2 ^ 64 ≤ place t t.rows)
+IsPastTable t = (2 ^ 64 ≤ t.rows + 1) ⊎ (2 ^ 64 ≤ row_offset t t.rows)
 
 -- the device neither failed nor changed
 pub record Serves (old new : Source) : Type 0 where
@@ -105,7 +105,7 @@ pub record Serves (old new : Source) : Type 0 where
 abbrev pub TableFailure : Table → Source → Source → Error → Type 0
 TableFailure t old new e =
     ((new.failures ≡ old.failures + 1) × (new.last_failure ≡ Some e))
-    ⊎ ((new.failures ≡ old.failures) × (error_kind e ≡ UnexpectedEof) × (length old.bytes < place t t.rows))
+    ⊎ ((new.failures ≡ old.failures) × (error_kind e ≡ UnexpectedEof) × (length old.bytes < row_offset t t.rows))
 
 -- an error without a text that says that the bytes are no shard
 abbrev pub IsBareInvalidShard : CoreError → Type 0
@@ -117,7 +117,7 @@ IsBareInvalidShard _ = ⊥
 abbrev pub SearchRefused : Table → Source → Source → CoreError → Type 0
 SearchRefused t old new e =
     (IsBareInvalidShard e × IsPastTable t × (new ≡ old))
-    ⊎ (FitsTable t × (DeviceFailure old new e ⊎ ((new.failures ≡ old.failures) × IsEndOfInput e × (length old.bytes < place t t.rows))))
+    ⊎ (FitsTable t × (DeviceFailure old new e ⊎ ((new.failures ≡ old.failures) × IsEndOfInput e × (length old.bytes < row_offset t t.rows))))
 
 -- the seeks made and the bytes read are within the bounds for a sorted table
 pub record Bounded (t : Table) (key : ℕ) (old new : Source) : Type 0 where
@@ -134,7 +134,7 @@ pub record ReadsOn (old new : Source) (n : ℕ) : Type 0 where
 -- a call acts on the source as filling a slice of `width` bytes does
 abbrev pub ActsAsReadFull : {V : Type 0} → ℕ → Source → Result V Error → Source → Type 0
 ActsAsReadFull width old (Ok v) new = ReadsOn old new width
-ActsAsReadFull width old (Err e) new = FillsNot old new width e
+ActsAsReadFull width old (Err e) new = FillFails old new width e
 
 -- some call, at a source whose next bytes are these, answers the value
 abbrev pub Answers : {R V : Type 0} → (R → Source) → (R → Result V Error → R → Type 0) → ℕ → List ℕ → V → Type 0

@@ -1,8 +1,8 @@
 //! Search for the rows of a key in a table that is sorted by its keys.
 
 ghost use Rattle.std.specs.Prelude.{◌≡◌, ◌+◌, ◌<◌, ◌≤◌, List, length, min, MatchResult, IfOk, OnOk, IfErr};
-ghost use Rattle.xet_base.specs.Source.{FillsNot, next_bytes};
-ghost use Rattle.xet_base.specs.Table.{table_at, place, hits_below, hits, spelled_u64, IsSorted, Finds, FitsTable, Serves, TableFailure, SearchRefused, Bounded, ReadsOn, ActsAsReadFull, Answers, IsEven};
+ghost use Rattle.xet_base.specs.Source.{FillFails, next_bytes};
+ghost use Rattle.xet_base.specs.Table.{table_at, row_offset, hits_below, hits, spelled_u64, IsSorted, Finds, FitsTable, Serves, TableFailure, SearchRefused, Bounded, ReadsOn, ActsAsReadFull, Answers, IsEven};
 ghost use Rattle.xet_base.specs.Search.{table_in, ReadsKey, Stops, IsRow, Kept, FindsFrom, Counts, Passes, Runs};
 
 mod table_range;
@@ -105,7 +105,7 @@ fn search_rows<S: ShardSource, V: Copy, F: Fn(&mut S) -> io::Result<V>>(
         }
         window = window.after(found, key);
     }
-    source.seek_to(range.place(window.low))?;
+    source.seek_to(range.row_offset(window.low))?;
     collect(
         source,
         range,
@@ -138,7 +138,7 @@ fn keep_equal<S: ShardSource, V: Copy, F: Fn(&mut S) -> io::Result<V>>(
     requires room { had ≤ length results.old }
     requires equal { IsRow (table_in range (S.meaning source.old).bytes) key from }
     requires key_read { let t = table_in range (S.meaning source.old).bytes in
-        (S.meaning source.old).at ≡ place t from + 8 }
+        (S.meaning source.old).at ≡ row_offset t from + 8 }
     ensures found { let t = table_in range (S.meaning source.old).bytes in
         let Gives = Answers (λ s. S.meaning s.now) (F.post read_value.now) range.width in
         (before : List V) → FindsFrom t key Gives to before results.old had
@@ -183,7 +183,7 @@ fn collect<S: ShardSource, V: Copy, F: Fn(&mut S) -> io::Result<V>>(
     requires within { to ≤ range.rows }
     requires room { had ≤ length results.old }
     requires at_row { let t = table_in range (S.meaning source.old).bytes in
-        (S.meaning source.old).at ≡ place t from }
+        (S.meaning source.old).at ≡ row_offset t from }
     ensures found { let t = table_in range (S.meaning source.old).bytes in
         let Gives = Answers (λ s. S.meaning s.now) (F.post read_value.now) range.width in
         (before : List V) → FindsFrom t key Gives to before results.old had
@@ -228,7 +228,7 @@ fn read_key_of<S: ShardSource>(source: &mut S, range: TableRange, row: u64) -> i
         (ReadsKey (table_in range (S.meaning source.old).bytes) row (S.meaning source.old) (S.meaning source.new))
         (Stops (table_in range (S.meaning source.old).bytes) 1 8 (S.meaning source.old) (S.meaning source.new)) }
 {
-    source.seek_to(range.place(row))?;
+    source.seek_to(range.row_offset(row))?;
     read_key(source)
 }
 
@@ -237,7 +237,7 @@ fn read_key_of<S: ShardSource>(source: &mut S, range: TableRange, row: u64) -> i
 fn read_key<S: ShardSource>(source: &mut S) -> io::Result<u64>
     ensures { MatchResult result
         (λ key. ReadsOn (S.meaning source.old) (S.meaning source.new) 8 × (key ≡ spelled_u64 (next_bytes (S.meaning source.old) 8)))
-        (FillsNot (S.meaning source.old) (S.meaning source.new) 8) }
+        (FillFails (S.meaning source.old) (S.meaning source.new) 8) }
 {
     let mut bytes = [0u8; 8];
     read_full(source, &mut bytes)?;

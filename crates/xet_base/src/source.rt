@@ -1,7 +1,7 @@
 //! Sources of bytes that are read at any place, and that contracts count the cost of.
 
 ghost use Rattle.std.specs.Prelude.{◌≡◌, ℕ, length, MatchResult, None};
-ghost use Rattle.xet_base.specs.Source.{Source, ReadsSome, Fails, Takes, FillsNot, moved};
+ghost use Rattle.xet_base.specs.Source.{Source, ReadsSome, Fails, Takes, FillFails, moved};
 
 use crate::count::Count;
 use std::io;
@@ -39,7 +39,7 @@ pub trait ShardSource {
 /// own error at its first failure, also where that is `Interrupted`. Makes no seek.
 pub fn read_full<S: ShardSource>(source: &mut S, slice: &mut [u8]) -> io::Result<()>
     ensures { MatchResult result (λ _. Takes (S.meaning source.old) (S.meaning source.new) slice.new)
-        (FillsNot (S.meaning source.old) (S.meaning source.new) (length slice.old)) }
+        (FillFails (S.meaning source.old) (S.meaning source.new) (length slice.old)) }
 {
     let mut filled = 0;
     while filled < slice.len() {

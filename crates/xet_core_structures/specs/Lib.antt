@@ -6,7 +6,7 @@ pub use Rattle.xet_base.specs.Table
 pub use Rattle.xet_records.specs.FileRecord
 pub use Rattle.xet_records.specs.XorbRecord
 pub use Rattle.xet_shards.specs.ChunkQuery
-pub use Rattle.xet_shards.specs.Index
+pub use Rattle.xet_shards.specs.ChunkLookup
 pub use Rattle.xet_shards.specs.Joins
 pub use Rattle.xet_shards.specs.Layout
 pub use Rattle.xet_shards.specs.Lookup

@@ -92,7 +92,7 @@ pub fn shard_name_is_read()
 {}
 
 /// Shards have equal bytes exactly where they are equal. Where they are written with an expiry, in seconds, or none,
-/// equal bytes mean an equal expiry too; none is the last moment of 64 bits.
+/// equal bytes mean an equal expiry too; none is the last timestamp of 64 bits.
 pub fn equal_bytes_mean_equal_shards()
     ensures contents { (s t : Shard) → IsShard s → IsShard t → (layout s None ≡ layout t None) ↔ (s ≡ t) }
     ensures expiries { (s t : Shard) → (e f : Option ℕ) → IsShard s → IsShard t → IfSome e (λ m. m < 2 ^ 64) → IfSome f (λ m. m < 2 ^ 64)

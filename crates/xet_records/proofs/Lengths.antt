@@ -11,12 +11,12 @@ use Rattle.xet_records.specs.declared.file_structs.FileDataSequenceEntry.{FileDa
 use Rattle.xet_records.specs.declared.file_structs.FileVerificationEntry.{FileVerificationEntry}
 use Rattle.xet_records.specs.declared.file_structs.FileMetadataExt.{FileMetadataExt}
 use Rattle.xet_records.specs.declared.file_structs.MDBFileInfo.{MDBFileInfo}
-use Rattle.xet_records.specs.FileRecord.{record_text, rows_text, row_count, FitsRecord}
+use Rattle.xet_records.specs.FileRecord.{file_record_bytes, file_rows_bytes, row_count, FitsRecord}
 use Rattle.xet_records.specs.declared.xorb_structs.XorbChunkSequenceHeader.{XorbChunkSequenceHeader}
 use Rattle.xet_records.specs.declared.xorb_structs.XorbChunkSequenceEntry.{XorbChunkSequenceEntry}
 use Rattle.xet_records.specs.declared.xorb_structs.MDBXorbInfo.{MDBXorbInfo}
 use Rattle.xet_records.specs.XorbRow.{xorb_header_row, chunk_row}
-use Rattle.xet_records.specs.XorbRecord.{xorb_text, xorb_row_count}
+use Rattle.xet_records.specs.XorbRecord.{xorb_record_bytes, xorb_row_count}
 use Rattle.xet_records.specs.FileRow.{header_row, segment_row, verification_row, metadata_row, IsReserved, FitsVerification, FitsMetadata}
 
 pub length-header_row : (h : FileDataSequenceHeader) → length (header_row h) ≡ 48
@@ -63,9 +63,9 @@ pub length-metadata_rows : (o : Option FileMetadataExt) → IfSome o FitsMetadat
 length-metadata_rows None fits = refl
 length-metadata_rows (Some m) fits = ap length (append-nil (metadata_row m)) ∙ length-metadata_row m fits
 
-pub length-record_text : (r : MDBFileInfo) → FitsRecord r → length (record_text r) ≡ 48 * row_count r
-unfolding record_text rows_text
-length-record_text r fits =
+pub length-file_record_bytes : (r : MDBFileInfo) → FitsRecord r → length (file_record_bytes r) ≡ 48 * row_count r
+unfolding file_record_bytes file_rows_bytes
+length-file_record_bytes r fits =
     length-append (header_row r.metadata) _
     ∙ omega (
       arith,
@@ -81,9 +81,9 @@ pub length-chunk_rows : (cs : List XorbChunkSequenceEntry) → length (flat_map 
 length-chunk_rows [] = refl
 length-chunk_rows (c ∷ cs) = length-append (chunk_row c) (flat_map chunk_row cs) ∙ omega (arith, length-chunk_row c, length-chunk_rows cs)
 
-pub length-xorb_text : (r : MDBXorbInfo) → length (xorb_text r) ≡ 48 * xorb_row_count r
-unfolding xorb_text
-length-xorb_text r =
+pub length-xorb_record_bytes : (r : MDBXorbInfo) → length (xorb_record_bytes r) ≡ 48 * xorb_row_count r
+unfolding xorb_record_bytes
+length-xorb_record_bytes r =
     length-append (xorb_header_row r.metadata) (flat_map chunk_row r.chunks) ∙ omega (arith, length-xorb_header_row r.metadata, length-chunk_rows r.chunks)
 
 -- the texts of records that have 48 bytes a row

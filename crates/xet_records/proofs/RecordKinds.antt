@@ -14,10 +14,10 @@ use Rattle.xet_records.specs.RecordKind.{RecordKind}
 use Rattle.xet_records.specs.FileRow.{header_row, segment_row, verification_row, metadata_row, FitsSegment, FitsVerification, FitsMetadata, clear_verification, clear_metadata}
 use Rattle.xet_records.specs.Rows.{ReadsRows, ReadsOptional}
 use Rattle.xet_records.specs.XorbRow.{chunk_row, FitsChunk}
-use Rattle.xet_records.specs.FileRecord.{record_text, rows_text, has_verification, has_metadata_ext, file_records}
-use Rattle.xet_records.specs.XorbRecord.{xorb_text, xorb_records}
+use Rattle.xet_records.specs.FileRecord.{file_record_bytes, file_rows_bytes, has_verification, has_metadata_ext, file_records}
+use Rattle.xet_records.specs.XorbRecord.{xorb_record_bytes, xorb_records}
 use Rattle.xet_records.specs.Reading.{ReadsBookend, ReadsRowsAfter, ReadsRecord, BeginsWithHeader, IsCutShort, HasTooManyRows}
-use Rattle.xet_records.proofs.Lengths.{length-header_row, length-record_text, length-xorb_header_row, length-chunk_rows}
+use Rattle.xet_records.proofs.Lengths.{length-header_row, length-file_record_bytes, length-xorb_header_row, length-chunk_rows}
 use Rattle.xet_records.proofs.Record.{length-three, row_or_none, header_row-front, row_count-whole}
 use Rattle.xet_records.proofs.Unique.{record_front}
 use Rattle.xet_records.proofs.XorbUnique.{xorb_header_row-front, xorb_front}
@@ -40,13 +40,13 @@ present None = refl
 present (Some m) = refl
 
 pub file_laws : KindLaws file_records
-unfolding record_text
+unfolding file_record_bytes
 file_laws = record {
   header_size = length-header_row;
   header_front = header_row-front;
   text_is = λ r. refl;
   size_after = λ r stored.
-      omega (arith, length-append (header_row r.metadata) (rows_text r), length-header_row r.metadata, length-record_text r stored.widths, row_count-whole r stored.whole);
+      omega (arith, length-append (header_row r.metadata) (file_rows_bytes r), length-header_row r.metadata, length-file_record_bytes r stored.widths, row_count-whole r stored.whole);
   rows = λ r stored. row_count-whole r stored.whole;
   header_fits = λ r stored. stored.widths.metadata;
   is_record = λ r stored. stored.is_file;
@@ -56,7 +56,7 @@ file_laws = record {
 }
 
 pub xorb_laws : KindLaws xorb_records
-unfolding xorb_text
+unfolding xorb_record_bytes
 xorb_laws = record {
   header_size = length-xorb_header_row;
   header_front = xorb_header_row-front;
@@ -174,7 +174,7 @@ module _ (First Second Third Both Whole : List ℕ → Type 0) (two : (xs ys : L
       → count ≡ (if has_verification h.file_flags then h.num_entries else 0) → wanted ≡ has_metadata_ext h.file_flags
       → ReadsRows segment_row FitsSegment (λ s. s) First h.num_entries ss → ReadsRows verification_row FitsVerification clear_verification Second count vs
       → ReadsOptional metadata_row FitsMetadata clear_metadata Third wanted m → ReadsRowsAfter file_records h Whole (record { metadata = h; segments = ss; verification = vs; metadata_ext = m })
-  unfolding rows_text
+  unfolding file_rows_bytes
   parts_after h count wanted ss vs m counted wants s v e = record {
     stored = record { metadata = h; segments = s.stored; verification = v.stored; metadata_ext = e.stored };
     same_header = refl;

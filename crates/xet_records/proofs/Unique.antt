@@ -14,7 +14,7 @@ use Rattle.xet_records.specs.declared.file_structs.FileVerificationEntry.{FileVe
 use Rattle.xet_records.specs.declared.file_structs.FileMetadataExt.{FileMetadataExt}
 use Rattle.xet_records.specs.declared.file_structs.MDBFileInfo.{MDBFileInfo}
 use Rattle.xet_records.specs.FileRow.{header_row, segment_row, verification_row, metadata_row, IsReserved, FitsSegment, FitsVerification, FitsMetadata}
-use Rattle.xet_records.specs.FileRecord.{record_text, rows_text, has_verification, has_metadata_ext, IsStored}
+use Rattle.xet_records.specs.FileRecord.{file_record_bytes, file_rows_bytes, has_verification, has_metadata_ext, IsStored}
 use Rattle.xet_records.proofs.Lengths.{length-segment_row, length-verification_row, length-metadata_row}
 use Rattle.xet_records.proofs.Record.{header_row-front, optional_rows}
 
@@ -79,8 +79,8 @@ first-of None = refl
 first-of (Some x) = refl
 
 -- bytes that begin with the texts of two records begin with those of one
-pub record_front : (r s : MDBFileInfo) (x y : List ℕ) → IsStored r → IsStored s → record_text r ++ x ≡ record_text s ++ y → (r ≡ s) × (x ≡ y)
-unfolding record_text rows_text
+pub record_front : (r s : MDBFileInfo) (x y : List ℕ) → IsStored r → IsStored s → file_record_bytes r ++ x ≡ file_record_bytes s ++ y → (r ≡ s) × (x ≡ y)
+unfolding file_record_bytes file_rows_bytes
 record_front r s x y r_stored s_stored same =
     let r_segments = flat_map segment_row r.segments in
     let s_segments = flat_map segment_row s.segments in

@@ -6,7 +6,7 @@ use Rattle.xet_records.specs.declared.xorb_structs.XorbChunkSequenceHeader.{Xorb
 use Rattle.xet_records.specs.declared.xorb_structs.XorbChunkSequenceEntry.{XorbChunkSequenceEntry}
 use Rattle.xet_records.specs.declared.xorb_structs.MDBXorbInfo.{MDBXorbInfo}
 use Rattle.xet_records.specs.XorbRow.{xorb_header_row, chunk_row, FitsXorbHeader, FitsChunk}
-use Rattle.xet_records.specs.XorbRecord.{xorb_text, IsStoredXorb}
+use Rattle.xet_records.specs.XorbRecord.{xorb_record_bytes, IsStoredXorb}
 use Rattle.xet_records.proofs.Lengths.{length-xorb_header_row, length-chunk_row}
 use Rattle.xet_records.proofs.Unique.{hash_and_numbers}
 
@@ -33,8 +33,8 @@ xorb_header_row-front g h x y g_fits h_fits same =
     (xorb_header_row-injective g h g_fits h_fits parts.0, parts.1)
 
 -- bytes that begin with the texts of two records begin with those of one
-pub xorb_front : (r s : MDBXorbInfo) (x y : List ℕ) → IsStoredXorb r → IsStoredXorb s → xorb_text r ++ x ≡ xorb_text s ++ y → (r ≡ s) × (x ≡ y)
-unfolding xorb_text
+pub xorb_front : (r s : MDBXorbInfo) (x y : List ℕ) → IsStoredXorb r → IsStoredXorb s → xorb_record_bytes r ++ x ≡ xorb_record_bytes s ++ y → (r ≡ s) × (x ≡ y)
+unfolding xorb_record_bytes
 xorb_front r s x y r_stored s_stored same =
     let header = xorb_header_row-front r.metadata s.metadata _ _ r_stored.widths.metadata s_stored.widths.metadata
     (sym (append_assoc (xorb_header_row r.metadata) (flat_map chunk_row r.chunks) x) ∙ same ∙ append_assoc (xorb_header_row s.metadata) (flat_map chunk_row s.chunks) y) in

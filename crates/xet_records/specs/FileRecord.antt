@@ -33,12 +33,12 @@ abbrev pub row_count : MDBFileInfo → ℕ
 row_count r = 1 + length r.segments + length r.verification + length (option_to_list r.metadata_ext)
 
 -- the rows of a record after its header, in order: segments, verification rows, metadata row
-unfoldable pub rows_text : MDBFileInfo → List ℕ
-rows_text r = (flat_map segment_row r.segments ++ flat_map verification_row r.verification) ++ flat_map metadata_row (option_to_list r.metadata_ext)
+unfoldable pub file_rows_bytes : MDBFileInfo → List ℕ
+file_rows_bytes r = (flat_map segment_row r.segments ++ flat_map verification_row r.verification) ++ flat_map metadata_row (option_to_list r.metadata_ext)
 
 -- the rows of a record in order
-unfoldable pub record_text : MDBFileInfo → List ℕ
-record_text r = header_row r.metadata ++ rows_text r
+unfoldable pub file_record_bytes : MDBFileInfo → List ℕ
+file_record_bytes r = header_row r.metadata ++ file_rows_bytes r
 
 -- the bytes of a file
 abbrev pub size_of_file : MDBFileInfo → ℕ
@@ -86,8 +86,8 @@ file_records = record {
   header_bytes = header_row;
   Fits = FitsHeader;
   rows_after = rows_after;
-  bytes_after = rows_text;
-  text = record_text;
+  bytes_after = file_rows_bytes;
+  text = file_record_bytes;
   row_count = row_count;
   IsStored = IsStored;
   handed_out = handed_out;

@@ -18,8 +18,8 @@ abbrev pub xorb_row_count : MDBXorbInfo → ℕ
 xorb_row_count r = 1 + length r.chunks
 
 -- the rows of a record in order
-unfoldable pub xorb_text : MDBXorbInfo → List ℕ
-xorb_text r = xorb_header_row r.metadata ++ flat_map chunk_row r.chunks
+unfoldable pub xorb_record_bytes : MDBXorbInfo → List ℕ
+xorb_record_bytes r = xorb_header_row r.metadata ++ flat_map chunk_row r.chunks
 
 -- the bytes of chunks, and those of a xorb's chunks
 abbrev pub total_bytes : List XorbChunkSequenceEntry → ℕ
@@ -79,7 +79,7 @@ xorb_records = record {
   Fits = FitsXorbHeader;
   rows_after = λ h. h.num_entries;
   bytes_after = λ r. flat_map chunk_row r.chunks;
-  text = xorb_text;
+  text = xorb_record_bytes;
   row_count = xorb_row_count;
   IsStored = IsStoredXorb;
   handed_out = λ r. r;

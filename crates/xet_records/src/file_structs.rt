@@ -6,7 +6,7 @@ ghost use Rattle.std.specs.IoError.{error_kind};
 ghost use Rattle.xet_base.specs.Bytes.{HasBytes, LacksBytes};
 ghost use Rattle.xet_base.specs.Hash.{all_ones};
 ghost use Rattle.xet_records.specs.FileRow.{header_row, segment_row, verification_row, metadata_row, FitsHeader, FitsSegment, FitsVerification, FitsMetadata, clear_verification, clear_metadata};
-ghost use Rattle.xet_records.specs.FileRecord.{has_verification, has_metadata_ext, flags_of, file_bookend, rows_after, row_count, record_text, size_of_file, FitsItsHeader, IsStored, handed_out, file_records};
+ghost use Rattle.xet_records.specs.FileRecord.{has_verification, has_metadata_ext, flags_of, file_bookend, rows_after, row_count, file_record_bytes, size_of_file, FitsItsHeader, IsStored, handed_out, file_records};
 ghost use Rattle.xet_records.specs.Merging.{Compares, IsSameFile, merged};
 ghost use Rattle.xet_records.specs.XorbRecord.{total_bytes, segment_of};
 ghost use Rattle.xet_records.specs.Rows.{ReadsRow};
@@ -550,11 +550,11 @@ impl MDBFileInfo {
 
     /// Appends the rows of the record and returns their bytes. The error is the writer's. Asks that the
     /// record's parts fit its header.
-    #[tactic(auto, unfolding(crate::specs::FileRecord::record_text, crate::specs::FileRecord::rows_text))]
+    #[tactic(auto, unfolding(crate::specs::FileRecord::file_record_bytes, crate::specs::FileRecord::file_rows_bytes))]
     pub fn serialize<W: Write>(&self, writer: &mut W) -> Result<usize>
         requires { FitsItsHeader self.now }
         ensures text { OnOk result
-            (Appends (W.contents writer.old) (W.contents writer.new) (record_text self.now)) }
+            (Appends (W.contents writer.old) (W.contents writer.new) (file_record_bytes self.now)) }
         ensures count { IfOk result (λ n. n ≡ 48 * row_count self.now) }
         ensures causes { IfErr result IsDeviceError }
     {
@@ -580,7 +580,7 @@ impl MDBFileInfo {
         ensures causes { IfErr result (λ e. IsDeviceError e ⊎ IsBareInvalidShard e) }
         ensures whole { OnOk result (IfSome (R.remaining reader.old) (λ bytes. ¬ IsCutShort file_records bytes)) }
         ensures fits { OnOk result (IfSome (R.remaining reader.old) (λ bytes. ¬ HasTooManyRows file_records bytes)) }
-        ensures again { (r : MDBFileInfo) → (rest : List ℕ) → IsStored r → R.remaining reader.old ≡ Some (record_text r ++ rest)
+        ensures again { (r : MDBFileInfo) → (rest : List ℕ) → IsStored r → R.remaining reader.old ≡ Some (file_record_bytes r ++ rest)
             → IfOk result (λ found. (found ≡ Some (handed_out r)) × (R.remaining reader.new ≡ Some rest)) }
     {
         let metadata = FileDataSequenceHeader::deserialize(reader)?;
@@ -630,7 +630,7 @@ impl MDBFileInfo {
 }
 
 // Reads the rows that a header announces.
-#[tactic(auto, unfolding(crate::specs::FileRecord::rows_text))]
+#[tactic(auto, unfolding(crate::specs::FileRecord::file_rows_bytes))]
 fn read_rows_after<R: Read>(
     alloc: Global,
     reader: &mut R,
@@ -655,7 +655,7 @@ fn read_rows_after<R: Read>(
 
 /// Reads the rows that a header announces, which stand from the source's place on. `UnexpectedEof` where
 /// fewer are left, `OutOfMemory` where they find no memory.
-#[tactic(auto, unfolding(crate::specs::FileRecord::rows_text))]
+#[tactic(auto, unfolding(crate::specs::FileRecord::file_rows_bytes))]
 pub fn read_source_rows_after<S: ShardSource>(
     alloc: Global,
     source: &mut S,
@@ -679,7 +679,7 @@ pub fn read_source_rows_after<S: ShardSource>(
 
 /// Reads over the rows that a header announces, which stand from the source's place on, and keeps the metadata row
 /// alone. Takes no memory. `UnexpectedEof` where fewer rows are left.
-#[tactic(auto, unfolding(crate::specs::FileRecord::rows_text))]
+#[tactic(auto, unfolding(crate::specs::FileRecord::file_rows_bytes))]
 pub fn skip_source_rows_after<S: ShardSource>(
     source: &mut S,
     metadata: FileDataSequenceHeader,

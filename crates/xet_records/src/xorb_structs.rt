@@ -7,7 +7,7 @@ ghost use Rattle.xet_base.specs.Bytes.{HasBytes, LacksBytes};
 ghost use Rattle.xet_base.specs.Hash.{all_ones};
 ghost use Rattle.xet_base.specs.Errors.{IsEndOfInput, IsDeviceError};
 ghost use Rattle.xet_records.specs.XorbRow.{xorb_header_row, chunk_row, FitsXorbHeader, FitsChunk, with_mark, IsEligibleChunk};
-ghost use Rattle.xet_records.specs.XorbRecord.{xorb_bookend, xorb_row_count, xorb_text, end_of_chunk, boundaries, HasItsChunks, IsStoredXorb, xorb_records};
+ghost use Rattle.xet_records.specs.XorbRecord.{xorb_bookend, xorb_row_count, xorb_record_bytes, end_of_chunk, boundaries, HasItsChunks, IsStoredXorb, xorb_records};
 ghost use Rattle.xet_records.specs.Reading.{ReadsBookend, ReadsRecord, IsCutShort};
 
 use crate::file_structs::MDB_FILE_INFO_ENTRY_SIZE;
@@ -254,11 +254,11 @@ impl MDBXorbInfo {
 
     /// Appends the rows of the record and returns their bytes. The error is the writer's. Asks that the
     /// record has as many chunks as its header announces.
-    #[tactic(auto, unfolding(crate::specs::XorbRecord::xorb_text))]
+    #[tactic(auto, unfolding(crate::specs::XorbRecord::xorb_record_bytes))]
     pub fn serialize<W: Write>(&self, writer: &mut W) -> Result<usize>
         requires { HasItsChunks self.now }
         ensures text { OnOk result
-            (Appends (W.contents writer.old) (W.contents writer.new) (xorb_text self.now)) }
+            (Appends (W.contents writer.old) (W.contents writer.new) (xorb_record_bytes self.now)) }
         ensures count { IfOk result (λ n. n ≡ 48 * xorb_row_count self.now) }
         ensures causes { IfErr result IsDeviceError }
     {
@@ -280,7 +280,7 @@ impl MDBXorbInfo {
             (λ e. IsEndOfInput e → IfSome (R.remaining reader.old) (IsCutShort xorb_records)) }
         ensures causes { IfErr result IsDeviceError }
         ensures whole { OnOk result (IfSome (R.remaining reader.old) (λ bytes. ¬ IsCutShort xorb_records bytes)) }
-        ensures again { (r : MDBXorbInfo) → (rest : List ℕ) → IsStoredXorb r → R.remaining reader.old ≡ Some (xorb_text r ++ rest)
+        ensures again { (r : MDBXorbInfo) → (rest : List ℕ) → IsStoredXorb r → R.remaining reader.old ≡ Some (xorb_record_bytes r ++ rest)
             → IfOk result (λ found. (found ≡ Some r) × (R.remaining reader.new ≡ Some rest)) }
     {
         let metadata = XorbChunkSequenceHeader::deserialize(reader)?;

@@ -12,11 +12,11 @@ use Rattle.xet_base.specs.Hash.{hash_eq}
 use Rattle.xet_records.specs.declared.xorb_structs.XorbChunkSequenceEntry.{XorbChunkSequenceEntry}
 use Rattle.xet_records.specs.declared.xorb_structs.MDBXorbInfo.{MDBXorbInfo}
 use Rattle.xet_records.specs.XorbRecord.{total_bytes}
-use Rattle.xet_shards.specs.Index.{Place, PlaceMap, IsIndex}
+use Rattle.xet_shards.specs.ChunkLookup.{Place, PlaceMap, IsChunkLookup}
 use Rattle.xet_shards.specs.Shard.{XorbMap}
-use Rattle.xet_shards.specs.XorbTable.{shown_place, placed}
+use Rattle.xet_shards.specs.XorbStore.{shown_place, placed}
 use Rattle.xet_shards.specs.ChunkQuery.{run_length, run_at, query_answer, IsUnknown}
-use Rattle.xet_shards.proofs.Index.{chunk_within}
+use Rattle.xet_shards.proofs.ChunkLookups.{chunk_within}
 
 -- a hash stands beside a chunk with it
 abbrev pub is_hit : DataHash × XorbChunkSequenceEntry → Bool
@@ -39,7 +39,7 @@ pub place_kept : {S Z : Type 0} (m : hash_map.HashMap DataHash (Rc MDBXorbInfo Z
 place_kept m places q e same found = sym (same q) ∙ ap (option_map shown_place) (sym found)
 
 -- and stands within its xorb's chunks
-pub place_within : (xorbs : XorbMap) (places : PlaceMap) (q : DataHash) (p : Place) → IsIndex xorbs (get places) → get places q ≡ Some p → p.1 ≤ length p.0.chunks
+pub place_within : (xorbs : XorbMap) (places : PlaceMap) (q : DataHash) (p : Place) → IsChunkLookup xorbs (get places) → get places q ≡ Some p → p.1 ≤ length p.0.chunks
 place_within xorbs places q p index kept = omega (arith, chunk_within p.0.chunks p.1 q (index.present q p kept).chunk)
 
 -- the run at the place of the first hash is the answer
@@ -52,7 +52,7 @@ pub nothing_kept : {S Z : Type 0} (m : hash_map.HashMap DataHash (Rc MDBXorbInfo
 nothing_kept m places q same found = sym (same q) ∙ ap (option_map shown_place) (sym found)
 
 -- where the lookup keeps no place, there is none
-pub unknown : (xorbs : XorbMap) (places : PlaceMap) (qs : List DataHash) (q : DataHash) → IsIndex xorbs (get places) → Some q ≡ slice_get qs 0 → get places q ≡ None → IsUnknown xorbs qs
+pub unknown : (xorbs : XorbMap) (places : PlaceMap) (qs : List DataHash) (q : DataHash) → IsChunkLookup xorbs (get places) → Some q ≡ slice_get qs 0 → get places q ≡ None → IsUnknown xorbs qs
 unknown xorbs places qs q index first kept = λ k p at place.
     let same : q ≡ k = same_Some q k (first ∙ at) in
     absurd (true≢false (sym (index.complete k p place) ∙ ap is_some (ap (get places) (sym same) ∙ kept)))

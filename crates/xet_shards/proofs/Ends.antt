@@ -8,19 +8,19 @@ use Rattle.xet_base.specs.Bytes.{u64_bytes, LacksBytes}
 use Rattle.xet_base.proofs.Bytes.{length-u64_bytes}
 use Rattle.xet_base.proofs.Lists.{front_is, rest_is}
 use Rattle.xet_shards.specs.Layout.{header_tag}
-use Rattle.xet_shards.specs.Ends.{HasForeignHeader, EndsInHeader, HasForeignFooter, EndsInFooter}
+use Rattle.xet_shards.specs.Ends.{HasUnsupportedHeader, EndsInHeader, HasUnsupportedFooter, EndsInFooter}
 
 length_is : (bytes part rest : List ℕ) → bytes ≡ part ++ rest → length bytes ≡ length part + length rest
 length_is bytes part rest are = ap length are ∙ length-append part rest
 
-pub foreign_tag : (old mid : Option (List ℕ)) (tag : List ℕ) → length tag ≡ 32 → Consumes old mid tag → tag ≢ header_tag → IfSome old HasForeignHeader
+pub foreign_tag : (old mid : Option (List ℕ)) (tag : List ℕ) → length tag ≡ 32 → Consumes old mid tag → tag ≢ header_tag → IfSome old HasUnsupportedHeader
 foreign_tag None mid tag len taken differs = tt
 foreign_tag (Some bytes) None tag len taken differs = absurd taken
 foreign_tag (Some bytes) (Some rest) tag len taken differs =
     inl (omega (arith, length_is bytes tag rest taken, len), λ same. differs (sym (front_is 32 bytes tag rest len taken) ∙ same))
 
 pub foreign_version : (old mid new : Option (List ℕ)) (tag rest : List ℕ) → length tag ≡ 32 → length rest ≡ 16 → Consumes old mid tag → Consumes mid new rest
-    → take 8 rest ≢ u64_bytes 2 → IfSome old HasForeignHeader
+    → take 8 rest ≢ u64_bytes 2 → IfSome old HasUnsupportedHeader
 foreign_version None mid new tag rest tag_len len first last differs = tt
 foreign_version (Some bytes) None new tag rest tag_len len first last differs = absurd first
 foreign_version (Some bytes) (Some more) None tag rest tag_len len first last differs = absurd last
@@ -41,7 +41,7 @@ cut_header (Some bytes) (Some rest) tag is_tag taken lacks =
     inr (omega (arith, length_is bytes tag rest taken, ap length is_tag), front_is 32 bytes tag rest (ap length is_tag) taken ∙ is_tag)
 
 pub foreign_footer : (old mid : Option (List ℕ)) (version : List ℕ) → length version ≡ 8 → Consumes old mid version → version ≢ u64_bytes 1
-    → IfSome old HasForeignFooter
+    → IfSome old HasUnsupportedFooter
 foreign_footer None mid version len taken differs = tt
 foreign_footer (Some bytes) None version len taken differs = absurd taken
 foreign_footer (Some bytes) (Some rest) version len taken differs =

@@ -18,16 +18,16 @@ use Rattle.xet_shards.specs.declared.shard_format.info.MDBShardInfo.{MDBShardInf
 use Rattle.xet_shards.specs.Shard.{Shard}
 use Rattle.xet_shards.specs.Section.{file_section, xorb_section}
 use Rattle.xet_shards.specs.Tables.{file_table_bytes, xorb_table_bytes, chunk_table_bytes}
-use Rattle.xet_shards.specs.Layout.{Form, if_in, header_tag, header_text, header_value, offsets_of, moments_of, sums_of, footer_text, footer_value, layout_of, layout, plain_form, info_value}
-use Rattle.xet_shards.specs.Ends.{HasHeader, FitsFooter, HasEnds, IsForeign, IsTooShort, last_bytes, Loads, LoadsNot, Refusal}
-use Rattle.xet_shards.proofs.Layouts.{length-header_text, length-footer_text}
+use Rattle.xet_shards.specs.Layout.{Form, if_in, header_tag, shard_header_bytes, header_value, offsets_of, timestamps_of, sums_of, shard_footer_bytes, footer_value, layout_of, layout, plain_form, info_value}
+use Rattle.xet_shards.specs.Ends.{HasHeader, FitsFooter, HasEnds, IsForeign, IsTooShort, last_bytes, Loads, LoadFails, Refusal}
+use Rattle.xet_shards.proofs.Layouts.{length-shard_header_bytes, length-shard_footer_bytes}
 use Rattle.xet_shards.proofs.Loading.{header_of}
 use Rattle.xet_shards.proofs.Readback.{layout_from_48}
 
 -- a header's bytes tell it
 header_unique : (g h : MDBShardFileHeader) → g.tag ≡ header_tag → h.tag ≡ header_tag → g.version ≡ 2 → h.version ≡ 2 → g.footer_size < 2 ^ 64 → h.footer_size < 2 ^ 64
-    → header_text g ≡ header_text h → g ≡ h
-unfolding header_text
+    → shard_header_bytes g ≡ shard_header_bytes h → g ≡ h
+unfolding shard_header_bytes
 header_unique g h g_tag h_tag g_two h_two g_fits h_fits same =
     let last = same_parts (header_tag ++ u64_bytes g.version) (header_tag ++ u64_bytes h.version) (u64_bytes g.footer_size) (u64_bytes h.footer_size)
     (simp (length-u64_bytes)) same in
@@ -50,16 +50,16 @@ word_len : (n : ℕ) → n < 2 ^ 64 → length (u64_bytes n) ≡ 8
 word_len n fits = length-u64_bytes n
 
 -- a footer's bytes tell it
-footer_unique : (f g : MDBShardFileFooter) → FitsFooter f → FitsFooter g → footer_text f ≡ footer_text g → f ≡ g
-unfolding footer_text
+footer_unique : (f g : MDBShardFileFooter) → FitsFooter f → FitsFooter g → shard_footer_bytes f ≡ shard_footer_bytes g → f ≡ g
+unfolding shard_footer_bytes
 footer_unique f g f_fits g_fits same =
     let words = parts_front 8 u64_bytes (λ n. n < 2 ^ 64) word_len u64_bytes-injective in
-    let whole = sym (from_right (flat_map u64_bytes (offsets_of f)) (hash_bytes f.chunk_hash_hmac_key) (flat_map u64_bytes (moments_of f)) (flat_map u64_bytes f._buffer) (flat_map u64_bytes (sums_of f)))
-    ∙ same ∙ from_right (flat_map u64_bytes (offsets_of g)) (hash_bytes g.chunk_hash_hmac_key) (flat_map u64_bytes (moments_of g)) (flat_map u64_bytes g._buffer) (flat_map u64_bytes (sums_of g)) in
+    let whole = sym (from_right (flat_map u64_bytes (offsets_of f)) (hash_bytes f.chunk_hash_hmac_key) (flat_map u64_bytes (timestamps_of f)) (flat_map u64_bytes f._buffer) (flat_map u64_bytes (sums_of f)))
+    ∙ same ∙ from_right (flat_map u64_bytes (offsets_of g)) (hash_bytes g.chunk_hash_hmac_key) (flat_map u64_bytes (timestamps_of g)) (flat_map u64_bytes g._buffer) (flat_map u64_bytes (sums_of g)) in
     let offsets = words (offsets_of f) (offsets_of g) _ _ refl f_fits.offsets g_fits.offsets whole in
     let key = same_parts (hash_bytes f.chunk_hash_hmac_key) (hash_bytes g.chunk_hash_hmac_key) _ _ (length-hash_bytes f.chunk_hash_hmac_key ∙ sym (length-hash_bytes g.chunk_hash_hmac_key)) offsets.1 in
-    let moments = words (moments_of f) (moments_of g) _ _ refl f_fits.moments g_fits.moments key.1 in
-    let buffer = words f._buffer g._buffer _ _ (f_fits.buffer_size ∙ sym g_fits.buffer_size) f_fits.buffer g_fits.buffer moments.1 in
+    let timestamps = words (timestamps_of f) (timestamps_of g) _ _ refl f_fits.timestamps g_fits.timestamps key.1 in
+    let buffer = words f._buffer g._buffer _ _ (f_fits.buffer_size ∙ sym g_fits.buffer_size) f_fits.buffer g_fits.buffer timestamps.1 in
     let sums = words (sums_of f) (sums_of g) [] [] refl f_fits.sums g_fits.sums (append-nil (flat_map u64_bytes (sums_of f)) ∙ buffer.1 ∙ sym (append-nil (flat_map u64_bytes (sums_of g)))) in
     let hash = hash_bytes-injective f.chunk_hash_hmac_key g.chunk_hash_hmac_key f_fits.key g_fits.key key.0 in
     λ i. record {
@@ -73,8 +73,8 @@ footer_unique f g f_fits g_fits same =
       chunk_lookup_offset = first (after (after (after (after (after (after (after (offsets.0 i))))))));
       chunk_lookup_num_entry = first (after (after (after (after (after (after (after (after (offsets.0 i)))))))));
       chunk_hash_hmac_key = hash i;
-      shard_creation_timestamp = first (moments.0 i);
-      shard_key_expiry = first (after (moments.0 i));
+      shard_creation_timestamp = first (timestamps.0 i);
+      shard_key_expiry = first (after (timestamps.0 i));
       _buffer = buffer.0 i;
       stored_bytes_on_disk = first (sums.0 i);
       materialized_bytes = first (after (sums.0 i));
@@ -96,12 +96,12 @@ module _ (bytes : List ℕ) (info : MDBShardInfo) (ends : HasEnds bytes info) wh
       header_of bytes (drop 48 bytes) info.header (sym (take-append-drop 48 bytes) ∙ ap (λ bs. bs ++ drop 48 bytes) ends.header) ends.header_version
 
   version_is : take 8 (last_bytes bytes) ≡ u64_bytes 1
-  unfolding footer_text
+  unfolding shard_footer_bytes
   version_is =
       let f = info.metadata in
-      let rest = flat_map u64_bytes (after (offsets_of f)) ++ (hash_bytes f.chunk_hash_hmac_key ++ (flat_map u64_bytes (moments_of f) ++ (flat_map u64_bytes f._buffer ++ flat_map u64_bytes (sums_of f)))) in
+      let rest = flat_map u64_bytes (after (offsets_of f)) ++ (hash_bytes f.chunk_hash_hmac_key ++ (flat_map u64_bytes (timestamps_of f) ++ (flat_map u64_bytes f._buffer ++ flat_map u64_bytes (sums_of f)))) in
       front_is 8 (last_bytes bytes) (u64_bytes f.version) rest (length-u64_bytes f.version)
-      (ends.footer ∙ from_right (flat_map u64_bytes (offsets_of f)) (hash_bytes f.chunk_hash_hmac_key) (flat_map u64_bytes (moments_of f)) (flat_map u64_bytes f._buffer) (flat_map u64_bytes (sums_of f))
+      (ends.footer ∙ from_right (flat_map u64_bytes (offsets_of f)) (hash_bytes f.chunk_hash_hmac_key) (flat_map u64_bytes (timestamps_of f)) (flat_map u64_bytes f._buffer) (flat_map u64_bytes (sums_of f))
       ∙ append_assoc (u64_bytes f.version) (flat_map u64_bytes (after (offsets_of f))) _)
       ∙ ap u64_bytes ends.footer_version
 
@@ -119,25 +119,25 @@ module _ (bytes : List ℕ) (info : MDBShardInfo) (ends : HasEnds bytes info) wh
 module _ (files : List MDBFileInfo) (xorbs : List MDBXorbInfo) (form : Form) where
   before_footer : List ℕ
   before_footer =
-      ((((header_text header_value ++ file_section files) ++ xorb_section xorbs) ++ if_in form.file_table (file_table_bytes files)) ++ if_in form.xorb_table (xorb_table_bytes xorbs))
+      ((((shard_header_bytes header_value ++ file_section files) ++ xorb_section xorbs) ++ if_in form.file_table (file_table_bytes files)) ++ if_in form.xorb_table (xorb_table_bytes xorbs))
       ++ if_in form.chunk_table (chunk_table_bytes xorbs)
 
-  layout_is : layout_of files xorbs form ≡ before_footer ++ footer_text (footer_value files xorbs form)
+  layout_is : layout_of files xorbs form ≡ before_footer ++ shard_footer_bytes (footer_value files xorbs form)
   unfolding layout_of before_footer
   layout_is = refl
 
   pub ends_of_layout : FitsFooter (footer_value files xorbs form) → HasEnds (layout_of files xorbs form) (record { header = header_value; metadata = footer_value files xorbs form })
   ends_of_layout fits =
       let bytes = layout_of files xorbs form in
-      let footer = footer_text (footer_value files xorbs form) in
-      let size : length footer ≡ 200 = length-footer_text (footer_value files xorbs form) fits.buffer_size in
+      let footer = shard_footer_bytes (footer_value files xorbs form) in
+      let size : length footer ≡ 200 = length-shard_footer_bytes (footer_value files xorbs form) fits.buffer_size in
       let whole : length bytes ≡ length before_footer + 200 = ap length layout_is ∙ length-append before_footer footer ∙ ap (λ n. length before_footer + n) size in
       record {
         size = omega (arith, whole);
         tag = refl;
         header_version = refl;
         footer_size = omega arith;
-        header = front_is 48 bytes (header_text header_value) _ (length-header_text header_value) (layout_from_48 files xorbs form);
+        header = front_is 48 bytes (shard_header_bytes header_value) _ (length-shard_header_bytes header_value) (layout_from_48 files xorbs form);
         footer_version = refl;
         footer_widths = fits;
         footer = rest_is (length bytes - 200) bytes before_footer footer (omega (arith, whole)) layout_is;
@@ -150,7 +150,7 @@ why_not_loaded bytes info old new e ends (inr (inr (none, is, short))) = absurd 
 
 -- from these bytes header and footer are read, unless the device fails
 pub loads_written : (old new : Source) (s : Shard) (expiry : Option ℕ) (r : Result MDBShardInfo CoreError) → old.bytes ≡ layout s expiry → FitsFooter (info_value s expiry).metadata
-    → MatchResult r (Loads old new) (LoadsNot old new) → MatchResult r (λ info. info ≡ info_value s expiry) (DeviceFailure old new)
+    → MatchResult r (Loads old new) (LoadFails old new) → MatchResult r (λ info. info ≡ info_value s expiry) (DeviceFailure old new)
 loads_written old new s expiry (Ok info) are fits loads =
     only_info old.bytes info (info_value s expiry) loads.ends (subst (λ bs. HasEnds bs (info_value s expiry)) (sym are) (ends_of_layout (values s.files) (values s.xorbs) (plain_form expiry) fits))
 loads_written old new s expiry (Err e) are fits fails =

@@ -15,29 +15,29 @@ use Rattle.xet_base.specs.declared.merklehash.DataHash.{DataHash}
 use Rattle.xet_base.specs.Bytes.{u32_bytes}
 use Rattle.xet_base.specs.Errors.{FromDevice, variant_number}
 use Rattle.xet_base.specs.Source.{Source, DeviceFailure}
-use Rattle.xet_base.specs.Table.{row_place, hits_below, Table, place, key_at, HasKey, IsSorted, hits, Hit, IsHit, OtherRow, FitsTable, SearchRefused, Bounded}
+use Rattle.xet_base.specs.Table.{offset_of_row, hits_below, Table, row_offset, key_at, HasKey, IsSorted, hits, Hit, IsHit, OtherRow, FitsTable, SearchRefused, Bounded}
 use Rattle.xet_base.proofs.Bytes.{length-u32_bytes, u32_bytes-injective}
 use Rattle.xet_base.proofs.Lists.{rest_is}
-use Rattle.xet_base.proofs.Tables.{row_place-zero}
+use Rattle.xet_base.proofs.Tables.{offset_of_row-zero}
 use Rattle.xet_base.proofs.KnownTable.{sum_below, key_is, value_is, key_is_there, row_is_there, hits_below-sum}
 use Rattle.xet_records.specs.declared.file_structs.FileDataSequenceHeader.{FileDataSequenceHeader}
 use Rattle.xet_records.specs.declared.file_structs.MDBFileInfo.{MDBFileInfo}
 use Rattle.xet_records.specs.declared.xorb_structs.MDBXorbInfo.{MDBXorbInfo}
 use Rattle.xet_records.specs.FileRow.{header_row, FitsHeader}
-use Rattle.xet_records.specs.FileRecord.{record_text, rows_text, rows_after, row_count, file_bookend, handed_out, IsStored, FitsRecord, file_records}
-use Rattle.xet_records.proofs.Lengths.{length-header_row, length-record_text, length-texts}
+use Rattle.xet_records.specs.FileRecord.{file_record_bytes, file_rows_bytes, rows_after, row_count, file_bookend, handed_out, IsStored, FitsRecord, file_records}
+use Rattle.xet_records.proofs.Lengths.{length-header_row, length-file_record_bytes, length-texts}
 use Rattle.xet_records.proofs.Record.{header_row-front, row_count-whole}
 use Rattle.xet_records.proofs.RecordKinds.{file_laws, stored_begins}
 use Rattle.xet_records.proofs.Unique.{record_front}
 use Rattle.xet_shards.specs.Shard.{file_hash_of, total_rows, total_xorb_rows}
 use Rattle.xet_shards.specs.Section.{with_fronts, file_section, xorb_section}
 use Rattle.xet_shards.specs.Tables.{file_start, file_starts, start_row, file_table_bytes, xorb_table_bytes, chunk_table_bytes}
-use Rattle.xet_shards.specs.Layout.{Form, if_in, header_text, header_value, footer_text, footer_value, layout_of}
+use Rattle.xet_shards.specs.Layout.{Form, if_in, shard_header_bytes, header_value, shard_footer_bytes, footer_value, layout_of}
 use Rattle.xet_shards.specs.SectionReading.{MayTake}
-use Rattle.xet_shards.specs.Lookup.{sharing, file_table, IsNumber, row_at, RecordAt, InfoRefusal, LooksUp, LookupAnswer, LookupRefused, Finding, FindingNot, WithinBounds, SearchWithinBounds, IndexFinds, IndexRefused, AreStarts}
+use Rattle.xet_shards.specs.Lookup.{sharing, file_table, IsNumber, row_at, RecordAt, InfoRefusal, LooksUp, LookupAnswer, LookupRefused, Finding, FindingFails, WithinBounds, SearchWithinBounds, IndexFinds, IndexRefused, AreStarts}
 use Rattle.xet_shards.proofs.Files.{length-le-rows}
 use Rattle.xet_shards.proofs.XorbLayouts.{length-xorb_section}
-use Rattle.xet_shards.proofs.Layouts.{length-header_text, length-file_section}
+use Rattle.xet_shards.proofs.Layouts.{length-shard_header_bytes, length-file_section}
 use Rattle.xet_shards.proofs.Tables.{length-file_starts}
 use Rattle.xet_shards.proofs.Readback.{after_section, section_at_48}
 use Rattle.xet_shards.proofs.Distinct.{sum_distinct, all_marked, sum_marked}
@@ -56,9 +56,9 @@ starts_at front (r ∷ files) (suc i) d e within =
     starts_at (front ++ r ∷ []) files i d e (omega (arith, within))
     ∙ ap (λ rs. ((file_hash_of (get_or files i d)).word0, total_rows rs)) (append_assoc front (r ∷ []) (take i files))
 
-length-text_rows : (r : MDBFileInfo) → length (record_text r) ≡ 48 + length (rows_text r)
-unfolding record_text
-length-text_rows r = length-append (header_row r.metadata) (rows_text r) ∙ ap (λ n. n + length (rows_text r)) (length-header_row r.metadata)
+length-text_rows : (r : MDBFileInfo) → length (file_record_bytes r) ≡ 48 + length (file_rows_bytes r)
+unfolding file_record_bytes
+length-text_rows r = length-append (header_row r.metadata) (file_rows_bytes r) ∙ ap (λ n. n + length (file_rows_bytes r)) (length-header_row r.metadata)
 
 -- what was read at some of the rows is no more than what may be read at all of them
 sum-taken : (Takes : ℕ → ℕ → Type 0) (cost : Hit ℕ → ℕ) (found : List (Hit ℕ)) (n : ℕ) (taken : List ℕ) → All (λ h. (k : ℕ) → Takes h.value k → k ≤ cost h) found
@@ -116,15 +116,15 @@ module _ (files : List MDBFileInfo) (xorbs : List MDBXorbInfo) (form : Form) (is
 
   abbrev after_table : List ℕ
   after_table =
-      if_in form.xorb_table (xorb_table_bytes xorbs) ++ (if_in form.chunk_table (chunk_table_bytes xorbs) ++ footer_text (footer_value files xorbs form))
+      if_in form.xorb_table (xorb_table_bytes xorbs) ++ (if_in form.chunk_table (chunk_table_bytes xorbs) ++ shard_footer_bytes (footer_value files xorbs form))
 
   abbrev before_table : List ℕ
-  before_table = (header_text header_value ++ file_section files) ++ xorb_section xorbs
+  before_table = (shard_header_bytes header_value ++ file_section files) ++ xorb_section xorbs
 
   length-before_table : length before_table ≡ table.start
   length-before_table =
-      length-append (header_text header_value ++ file_section files) (xorb_section xorbs)
-      ∙ omega (arith, length-append (header_text header_value) (file_section files), length-header_text header_value)
+      length-append (shard_header_bytes header_value ++ file_section files) (xorb_section xorbs)
+      ∙ omega (arith, length-append (shard_header_bytes header_value) (file_section files), length-shard_header_bytes header_value)
 
   split_at_table : old.bytes ≡ before_table ++ (if_in form.file_table (file_table_bytes files) ++ after_table)
   unfolding layout_of
@@ -160,7 +160,7 @@ module _ (files : List MDBFileInfo) (xorbs : List MDBXorbInfo) (form : Form) (is
       key_is word_of start_bytes 4 (λ row. length-u32_bytes row.1) table (file_starts files) after_table table_stands refl i (0, 0) (in_table i within) fits
       ∙ ap word_of (row_is i within)
 
-  pub table_value : (i : ℕ) → i < length files → take 4 (drop (place table i + 8) table.bytes) ≡ u32_bytes (start_at i)
+  pub table_value : (i : ℕ) → i < length files → take 4 (drop (row_offset table i + 8) table.bytes) ≡ u32_bytes (start_at i)
   table_value i within =
       value_is word_of start_bytes 4 (λ row. length-u32_bytes row.1) table (file_starts files) after_table table_stands refl i (0, 0) (in_table i within)
       ∙ ap start_bytes (row_is i within)
@@ -192,7 +192,7 @@ module _ (files : List MDBFileInfo) (xorbs : List MDBXorbInfo) (form : Form) (is
 
   -- the table stands within the bytes, which are few
   pub table_fits : FitsTable table
-  unfolding row_place
+  unfolding offset_of_row
   table_fits =
       let widths : All FitsRecord files = λ k d below. (is.stored k d below).widths in
       let sections : table.start ≡ 48 + (48 * total_rows files + 48) + (48 * total_xorb_rows xorbs + 48) =
@@ -202,42 +202,42 @@ module _ (files : List MDBFileInfo) (xorbs : List MDBXorbInfo) (form : Form) (is
         placed = omega (arith, rows_is, sections, length-le-rows files, is.rows, is.xorb_rows);
       }
 
-  pub table_there : place table table.rows ≤ length table.bytes
+  pub table_there : row_offset table table.rows ≤ length table.bytes
   table_there = elim (eq-zero-or-pos (length files)) [
     | inl none ↦ omega (
       arith,
-      ap (place table) (rows_is ∙ none),
-      row_place-zero table.start 4,
+      ap (row_offset table) (rows_is ∙ none),
+      offset_of_row-zero table.start 4,
       ap length split_at_table,
       length-append before_table (if_in form.file_table (file_table_bytes files) ++ after_table),
       length-before_table,
     )
-    | inr some ↦ omega (arith, ap (place table) (rows_is ∙ last some), there (length files - 1) (omega (arith, some)))
+    | inr some ↦ omega (arith, ap (row_offset table) (rows_is ∙ last some), there (length files - 1) (omega (arith, some)))
   ]
     where
       last : 0 < length files → length files ≡ length files - 1 + 1
       last some = omega (arith, some)
 
-      there : (i : ℕ) → i < length files → place table (i + 1) ≤ length table.bytes
+      there : (i : ℕ) → i < length files → row_offset table (i + 1) ≤ length table.bytes
       there i within =
           row_is_there word_of start_bytes 4 (λ row. length-u32_bytes row.1) table (file_starts files) after_table table_stands refl i (0, 0) (in_table i within)
 
   -- the records stand where the table says
-  pub record_stands : (i : ℕ) → i < length files → (rest : List ℕ) × (drop (row_at 48 (start_at i)) old.bytes ≡ record_text (file_at i) ++ rest)
+  pub record_stands : (i : ℕ) → i < length files → (rest : List ℕ) × (drop (row_at 48 (start_at i)) old.bytes ≡ file_record_bytes (file_at i) ++ rest)
   record_stands i within =
       let before = take i files in
       let after = drop (suc i) files in
       let rest = header_row file_bookend ++ after_section files xorbs form in
       let whole : files ≡ before ++ file_at i ∷ after = sym (take-append-drop i files) ∙ ap (λ xs. before ++ xs) (drop-cons files i no_record within) in
-      let texts : flat_map record_text files ≡ flat_map record_text before ++ (record_text (file_at i) ++ flat_map record_text after) =
-      ap (flat_map record_text) whole ∙ flat_map-append record_text before (file_at i ∷ after) in
+      let texts : flat_map file_record_bytes files ≡ flat_map file_record_bytes before ++ (file_record_bytes (file_at i) ++ flat_map file_record_bytes after) =
+      ap (flat_map file_record_bytes) whole ∙ flat_map-append file_record_bytes before (file_at i ∷ after) in
       let widths : All FitsRecord before = All-take FitsRecord i files (λ k d below. (is.stored k d below).widths) in (
-        flat_map record_text after ++ rest,
+        flat_map file_record_bytes after ++ rest,
         sym (drop-drop (48 * start_at i) 48 old.bytes)
             ∙ ap (drop (48 * start_at i)) (ap (drop 48) are ∙ section_at_48 files xorbs form)
-            ∙ rest_is (48 * start_at i) (flat_map record_text files ++ rest) (flat_map record_text before) ((record_text (file_at i) ++ flat_map record_text after) ++ rest) (length-texts record_text row_count FitsRecord length-record_text before widths)
-            (ap (λ xs. xs ++ rest) texts ∙ append_assoc (flat_map record_text before) (record_text (file_at i) ++ flat_map record_text after) rest)
-            ∙ append_assoc (record_text (file_at i)) (flat_map record_text after) rest,
+            ∙ rest_is (48 * start_at i) (flat_map file_record_bytes files ++ rest) (flat_map file_record_bytes before) ((file_record_bytes (file_at i) ++ flat_map file_record_bytes after) ++ rest) (length-texts file_record_bytes row_count FitsRecord length-file_record_bytes before widths)
+            (ap (λ xs. xs ++ rest) texts ∙ append_assoc (flat_map file_record_bytes before) (file_record_bytes (file_at i) ++ flat_map file_record_bytes after) rest)
+            ∙ append_assoc (file_record_bytes (file_at i)) (flat_map file_record_bytes after) rest,
       )
 
   stored_at : (i : ℕ) → i < length files → IsStored (file_at i)
@@ -251,11 +251,11 @@ module _ (files : List MDBFileInfo) (xorbs : List MDBXorbInfo) (form : Form) (is
 
   -- a header that begins there is this record's
   header_is : (i : ℕ) (h : FileDataSequenceHeader) (rest : List ℕ) (within : i < length files) → FitsHeader h → drop (row_at 48 (start_at i)) old.bytes ≡ header_row h ++ rest
-      → (h ≡ (file_at i).metadata) × (rest ≡ rows_text (file_at i) ++ (record_stands i within).0)
+      → (h ≡ (file_at i).metadata) × (rest ≡ file_rows_bytes (file_at i) ++ (record_stands i within).0)
   header_is i h rest within fits begins =
       let here = record_stands i within in
       let whole = stored_begins file_records file_laws (drop (row_at 48 (start_at i)) old.bytes) (file_at i) here.0 (stored_at i within) here.1 in
-      header_row-front h (file_at i).metadata rest (rows_text (file_at i) ++ here.0) fits whole.widths (sym begins ∙ whole.bytes_are)
+      header_row-front h (file_at i).metadata rest (file_rows_bytes (file_at i) ++ here.0) fits whole.widths (sym begins ∙ whole.bytes_are)
 
   -- the rows of a record and of those before it
   start_bound : (i : ℕ) → i < length files → start_at i + row_count (file_at i) ≤ 4294967295
@@ -266,7 +266,7 @@ module _ (files : List MDBFileInfo) (xorbs : List MDBXorbInfo) (form : Form) (is
   row_count_is i within = row_count-whole (file_at i) (stored_at i within).whole
 
   -- reading it takes no more than its text
-  pub text_is_enough : (i n : ℕ) → i < length files → MayTake file_records (drop (row_at 48 (start_at i)) old.bytes) n → n ≤ length (record_text (file_at i))
+  pub text_is_enough : (i n : ℕ) → i < length files → MayTake file_records (drop (row_at 48 (start_at i)) old.bytes) n → n ≤ length (file_record_bytes (file_at i))
   text_is_enough i n within (inl few) = omega (arith, few, length-stored (file_at i) (stored_at i within))
   text_is_enough i n within (inr (h, rest, begins, most)) =
       omega (arith, most, length-stored (file_at i) (stored_at i within), ap rows_after (header_is i h rest within begins.widths begins.bytes_are).0)
@@ -284,7 +284,7 @@ module _ (files : List MDBFileInfo) (xorbs : List MDBXorbInfo) (form : Form) (is
     arith,
     short,
     ap length (record_stands i within).1,
-    length-append (record_text (file_at i)) (record_stands i within).0,
+    length-append (file_record_bytes (file_at i)) (record_stands i within).0,
     length-stored (file_at i) (stored_at i within),
   ))
   record_is_read i new e within (inr (fits, inr (inr (inr (inr (none, ended, inr (h, rest, begins, few, short))))))) =
@@ -294,7 +294,7 @@ module _ (files : List MDBFileInfo) (xorbs : List MDBXorbInfo) (form : Form) (is
         short,
         ap rows_after same.0,
         ap length same.1,
-        length-append (rows_text (file_at i)) (record_stands i within).0,
+        length-append (file_rows_bytes (file_at i)) (record_stands i within).0,
         length-stored (file_at i) (stored_at i within),
         length-text_rows (file_at i),
       ))
@@ -385,9 +385,9 @@ module _ (files : List MDBFileInfo) (xorbs : List MDBXorbInfo) (form : Form) (is
 
     -- the texts of the records that were read are those of files that share the word
     pub texts_share : (n : ℕ) (taken : List ℕ) → AllZip (λ row k. MayTake file_records (drop (row_at 48 row) old.bytes) k) (take n (map (λ h. h.value) found)) taken
-        → sum taken ≤ length (flat_map record_text (sharing word files))
+        → sum taken ≤ length (flat_map file_record_bytes (sharing word files))
     texts_share n taken zip =
-        let weight : MDBFileInfo → ℕ = λ r. length (record_text r) in
+        let weight : MDBFileInfo → ℕ = λ r. length (file_record_bytes r) in
         let f : ℕ → ℕ = λ i. if (file_hash_of (file_at i)).word0 == word then weight (file_at i) else 0 in
         let most : All (λ h. (k : ℕ) → MayTake file_records (drop (row_at 48 h.value) old.bytes) k → k ≤ f h.row) found =
         All-weaker (IsHit table word IsNumber) (λ h. (k : ℕ) → MayTake file_records (drop (row_at 48 h.value) old.bytes) k → k ≤ f h.row)
@@ -402,7 +402,7 @@ module _ (files : List MDBFileInfo) (xorbs : List MDBXorbInfo) (form : Form) (is
           sum_distinct f (length files) found distinct rows_below,
           sum_marked (λ r. (file_hash_of r).word0 == word) weight files no_record (length files) (omega arith),
           ap (λ rs. sum_by weight (sharing word rs)) (take_all (length files) files (omega arith)),
-          sum-lengths record_text (sharing word files),
+          sum-lengths file_record_bytes (sharing word files),
         )
 
   -- the search is refused only where the device fails
@@ -457,7 +457,7 @@ module _ (files : List MDBFileInfo) (xorbs : List MDBXorbInfo) (form : Form) (is
       answer_is (Some r) (same, row, contains, stands) = found_is hash.word0 looks.found looks.are_hits.each looks.are_hits.distinct hash r row same contains stands
 
   -- a lookup that is refused
-  pub not_answered : (hash : DataHash) (new : Source) (e : CoreError) → FindingNot table 48 hash old new e
+  pub not_answered : (hash : DataHash) (new : Source) (e : CoreError) → FindingFails table 48 hash old new e
       → DeviceFailure old new e ⊎ ((e ≡ OutOfMemory) × (1 ≤ length (sharing hash.word0 files)) × (length (sharing hash.word0 files) < 8))
       ⊎ ((e ≡ TruncatedHashCollision hash.word0) × (8 ≤ length (sharing hash.word0 files)))
   not_answered hash new e (inl (inl (none, collision, collides), bounded)) =
@@ -475,14 +475,14 @@ module _ (files : List MDBFileInfo) (xorbs : List MDBXorbInfo) (form : Form) (is
       one : 0 < length looks.found
       one = omega (arith, looks.answer.1.1, length-map looks.found (λ (h : Hit ℕ). h.value))
 
-  pub costs_refused : (hash : DataHash) (new : Source) (e : CoreError) → FindingNot table 48 hash old new e → WithinBounds files hash.word0 old new
+  pub costs_refused : (hash : DataHash) (new : Source) (e : CoreError) → FindingFails table 48 hash old new e → WithinBounds files hash.word0 old new
   costs_refused hash new e (inl (refused, bounded)) =
       let costs = search_costs hash.word0 new (bounded table_sorted) in
       record { made = costs.made; more = 0; few = costs.few; few_more = omega arith; seeks = omega (arith, costs.seeks); read = omega (arith, costs.read) }
   costs_refused hash new e (inr looks) = lookup_costs hash.word0 new (LookupRefused 48 old new e) looks
 
   -- a collision is answered after the search alone
-  pub costs_collision : (hash : DataHash) (new : Source) (e : CoreError) → FindingNot table 48 hash old new e → e ≡ TruncatedHashCollision hash.word0
+  pub costs_collision : (hash : DataHash) (new : Source) (e : CoreError) → FindingFails table 48 hash old new e → e ≡ TruncatedHashCollision hash.word0
       → SearchWithinBounds files hash.word0 old new
   costs_collision hash new e (inl (refused, bounded)) collision = search_costs hash.word0 new (bounded table_sorted)
   costs_collision hash new e (inr looks) collision =

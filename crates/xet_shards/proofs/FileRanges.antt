@@ -16,13 +16,13 @@ use Rattle.xet_records.specs.FileRecord.{file_records}
 use Rattle.xet_records.proofs.RecordKinds.{file_laws}
 use Rattle.xet_shards.specs.declared.shard_format.header.MDBShardFileHeader.{MDBShardFileHeader}
 use Rattle.xet_shards.specs.Shard.{Shard, IsShard, total_rows}
-use Rattle.xet_shards.specs.Layout.{header_text, header_value, plain_form, layout}
-use Rattle.xet_shards.specs.Ends.{HasHeader, HasForeignHeader, EndsInHeader, Refusal}
+use Rattle.xet_shards.specs.Layout.{shard_header_bytes, header_value, plain_form, layout}
+use Rattle.xet_shards.specs.Ends.{HasHeader, HasUnsupportedHeader, EndsInHeader, Refusal}
 use Rattle.xet_shards.specs.SectionReading.{IsSection}
 use Rattle.xet_shards.specs.Section.{with_fronts}
 use Rattle.xet_shards.specs.FileRanges.{FileRanges, ranges_at, file_ranges, TakesRanges, ReadsFileRanges, FileRangesFail, HasReadRanges, ReadsRanges}
 use Rattle.xet_shards.proofs.Files.{well_formed_values}
-use Rattle.xet_shards.proofs.Layouts.{length-header_text}
+use Rattle.xet_shards.proofs.Layouts.{length-shard_header_bytes}
 use Rattle.xet_shards.proofs.Loading.{header_of}
 use Rattle.xet_shards.proofs.Readback.{layout_from_48, section_of_shard, handed_same, why_not, only_these}
 use Rattle.xet_shards.proofs.SectionReading.{nothing_read, more_read, section_ends, place_after}
@@ -57,16 +57,16 @@ module _ (old new : Source) (s : Shard) (expiry : Option ℕ) (shard : IsShard s
   has_header : HasHeader (bytes_left old)
   has_header = header_of (bytes_left old) _ header_value (are ∙ layout_from_48 (values s.files) (values s.xorbs) (plain_form expiry)) refl
 
-  section : (header : MDBShardFileHeader) (mid : Source) → Takes old mid (header_text header) → IsSection file_records (bytes_left mid) (values s.files)
+  section : (header : MDBShardFileHeader) (mid : Source) → Takes old mid (shard_header_bytes header) → IsSection file_records (bytes_left mid) (values s.files)
   section header mid taken =
       let rest : drop 48 (bytes_left old) ≡ bytes_left mid =
-      rest_is 48 (bytes_left old) (header_text header) (bytes_left mid) (length-header_text header) (Takes-consumes old mid (header_text header) taken) in
+      rest_is 48 (bytes_left old) (shard_header_bytes header) (bytes_left mid) (length-shard_header_bytes header) (Takes-consumes old mid (shard_header_bytes header) taken) in
       subst (λ bytes. IsSection file_records bytes (values s.files)) (sym (ap (drop 48) are) ∙ rest) (section_of_shard s expiry shard)
 
   why_no_ranges : (e : CoreError) → FileRangesFail old new e → DeviceFailure old new e ⊎ (e ≡ OutOfMemory)
   why_no_ranges e (inl part) = why_no_header part.cause
     where
-      why_no_header : Refusal HasForeignHeader EndsInHeader (bytes_left old) old new e → DeviceFailure old new e ⊎ (e ≡ OutOfMemory)
+      why_no_header : Refusal HasUnsupportedHeader EndsInHeader (bytes_left old) old new e → DeviceFailure old new e ⊎ (e ≡ OutOfMemory)
       why_no_header (inl failed) = inl failed
       why_no_header (inr (inl (none, is, inl (size, differs)))) = absurd (differs has_header.tag)
       why_no_header (inr (inl (none, is, inr (size, differs)))) = absurd (differs has_header.version)
@@ -84,7 +84,7 @@ module _ (old new : Source) (s : Shard) (expiry : Option ℕ) (shard : IsShard s
       → MatchResult r (λ found. found.items ≡ file_ranges (old.at + 48) (values s.files)) (λ e. DeviceFailure old new e ⊎ (e ≡ OutOfMemory))
   ranges_written (Ok found) read =
       let mid = read.after_header in
-      let at : mid.at ≡ old.at + 48 = ap (λ (s : Source). s.at) read.header_taken.after ∙ ap (λ n. old.at + n) (length-header_text read.header) in
+      let at : mid.at ≡ old.at + 48 = ap (λ (s : Source). s.at) read.header_taken.after ∙ ap (λ n. old.at + n) (length-shard_header_bytes read.header) in
       let files = only_these file_records file_laws mid new (values s.files) (section read.header mid read.header_taken) read.ranges.0
       (handed_same (values s.files) (well_formed_values (entries s.files) shard.files)) read.ranges.1 in
       read.ranges.2 ∙ (λ i. file_ranges (at i) (files i))

@@ -7,7 +7,7 @@ pub mod FileLookups
 pub mod FileUnions
 pub mod Files
 pub mod Found
-pub mod Index
+pub mod ChunkLookups
 pub mod Joining
 pub mod Joins
 pub mod Layouts

@@ -13,10 +13,10 @@ use Rattle.xet_base.proofs.Lists.{front_is}
 use Rattle.xet_base.proofs.Reading.{Takes-consumes, Takes-trans}
 use Rattle.xet_shards.specs.declared.shard_format.header.MDBShardFileHeader.{MDBShardFileHeader}
 use Rattle.xet_shards.specs.declared.shard_format.footer.MDBShardFileFooter.{MDBShardFileFooter}
-use Rattle.xet_shards.specs.Layout.{header_tag, header_text, footer_text}
-use Rattle.xet_shards.specs.Ends.{HasHeader, FitsFooter, HasForeignHeader, EndsInHeader, HasForeignFooter, EndsInFooter, last_bytes, IsForeign, IsTooShort, Loads, LoadsNot, PartFails, Refusal}
+use Rattle.xet_shards.specs.Layout.{header_tag, shard_header_bytes, shard_footer_bytes}
+use Rattle.xet_shards.specs.Ends.{HasHeader, FitsFooter, HasUnsupportedHeader, EndsInHeader, HasUnsupportedFooter, EndsInFooter, last_bytes, IsForeign, IsTooShort, Loads, LoadFails, PartFails, Refusal}
 use Rattle.xet_shards.proofs.Ends.{foreign_version}
-use Rattle.xet_shards.proofs.Layouts.{length-header_text, length-footer_text}
+use Rattle.xet_shards.proofs.Layouts.{length-shard_header_bytes, length-shard_footer_bytes}
 
 -- a refusal of a part, after calls that did not fail, is one of the whole
 pub refusal_of : (Foreign Short Foreign' Short' : List ℕ → Type 0) (bytes bytes' : List ℕ) (old mid new : Source) (e : CoreError)
@@ -37,13 +37,13 @@ err_gives (Err e) P Q gives holds = gives e holds
 
 -- a header in two steps
 pub read_in_two : (a b c : Source) (tag rest : List ℕ) (h : MDBShardFileHeader) → tag ≡ header_tag → rest ≡ u64_bytes 2 ++ u64_bytes h.footer_size → h.version ≡ 2
-    → Takes a b tag → Takes b c rest → Takes a c (header_text h)
-unfolding header_text
+    → Takes a b tag → Takes b c rest → Takes a c (shard_header_bytes h)
+unfolding shard_header_bytes
 read_in_two a b c tag rest h is_tag rest_is two first last =
     subst (Takes a c) ((λ i. is_tag i ++ rest_is i) ∙ ap (λ n. (header_tag ++ u64_bytes n) ++ u64_bytes h.footer_size) (sym two)) (Takes-trans a b c tag rest first last)
 
 pub other_version_read : (a b c : Source) (tag rest : List ℕ) (e : CoreError) → length tag ≡ 32 → length rest ≡ 16 → Takes a b tag → Takes b c rest → IsBareShardVersion e
-    → take 8 rest ≢ u64_bytes 2 → PartFails HasForeignHeader EndsInHeader 48 a c e
+    → take 8 rest ≢ u64_bytes 2 → PartFails HasUnsupportedHeader EndsInHeader 48 a c e
 other_version_read a b c tag rest e tag_len len first last is differs = record {
   bytes = ap (λ (s : Source). s.bytes) last.after ∙ ap (λ (s : Source). s.bytes) first.after;
   seeks = ap (λ (s : Source). s.seeks) last.after ∙ ap (λ (s : Source). s.seeks) first.after;
@@ -61,8 +61,8 @@ has_room bytes len (inl short) = omega (arith, len)
 has_room bytes len (inr (short, _)) = omega (arith, len)
 
 -- bytes that begin with a header of version 2
-pub header_of : (bytes rest : List ℕ) (h : MDBShardFileHeader) → bytes ≡ header_text h ++ rest → h.version ≡ 2 → HasHeader bytes
-unfolding header_text
+pub header_of : (bytes rest : List ℕ) (h : MDBShardFileHeader) → bytes ≡ shard_header_bytes h ++ rest → h.version ≡ 2 → HasHeader bytes
+unfolding shard_header_bytes
 header_of bytes rest h are two =
     let whole = (header_tag ++ u64_bytes h.version) ++ u64_bytes h.footer_size in
     let len : length whole ≡ 48 = simp (length-append, length-u64_bytes) in
@@ -73,7 +73,7 @@ header_of bytes rest h are two =
     }
 
 -- the first 48 bytes were read, as a header
-module _ (old mid : Source) (h : MDBShardFileHeader) (taken : Takes (moved old 0) mid (header_text h)) where
+module _ (old mid : Source) (h : MDBShardFileHeader) (taken : Takes (moved old 0) mid (shard_header_bytes h)) where
   pub bytes_same : mid.bytes ≡ old.bytes
   bytes_same = ap (λ (s : Source). s.bytes) taken.after
 
@@ -81,21 +81,21 @@ module _ (old mid : Source) (h : MDBShardFileHeader) (taken : Takes (moved old 0
   seeks_one = ap (λ (s : Source). s.seeks) taken.after
 
   pub read_48 : mid.read ≡ old.read + 48
-  read_48 = ap (λ (s : Source). s.read) taken.after ∙ ap (λ n. old.read + n) (length-header_text h)
+  read_48 = ap (λ (s : Source). s.read) taken.after ∙ ap (λ n. old.read + n) (length-shard_header_bytes h)
 
   pub failures_same : mid.failures ≡ old.failures
   failures_same = ap (λ (s : Source). s.failures) taken.after
 
-  begins : old.bytes ≡ header_text h ++ bytes_left mid
-  begins = Takes-consumes (moved old 0) mid (header_text h) taken
+  begins : old.bytes ≡ shard_header_bytes h ++ bytes_left mid
+  begins = Takes-consumes (moved old 0) mid (shard_header_bytes h) taken
 
-  pub front_is_header : take 48 old.bytes ≡ header_text h
-  front_is_header = front_is 48 old.bytes (header_text h) (bytes_left mid) (length-header_text h) begins
+  pub front_is_header : take 48 old.bytes ≡ shard_header_bytes h
+  front_is_header = front_is 48 old.bytes (shard_header_bytes h) (bytes_left mid) (length-shard_header_bytes h) begins
 
   pub header_there : h.version ≡ 2 → HasHeader old.bytes
   header_there two = header_of old.bytes (bytes_left mid) h begins two
 
-  pub short_of_footer : (e : CoreError) → h.version ≡ 2 → IsEndOfInput e → length old.bytes < 200 → LoadsNot old mid e
+  pub short_of_footer : (e : CoreError) → h.version ≡ 2 → IsEndOfInput e → length old.bytes < 200 → LoadFails old mid e
   short_of_footer e two ended short = record {
     bytes = bytes_same;
     seeks = omega (arith, seeks_one);
@@ -103,7 +103,7 @@ module _ (old mid : Source) (h : MDBShardFileHeader) (taken : Takes (moved old 0
     cause = inr (inr (failures_same, ended, inr (header_there two, short)));
   }
 
-  pub device_failed : (new : Source) (made : ℕ) (f : Error) (e : CoreError) → made ≤ 1 → Fails mid new made f → FromDevice f e → LoadsNot old new e
+  pub device_failed : (new : Source) (made : ℕ) (f : Error) (e : CoreError) → made ≤ 1 → Fails mid new made f → FromDevice f e → LoadFails old new e
   device_failed new made f e most fails from = record {
     bytes = fails.bytes ∙ bytes_same;
     seeks = omega (arith, fails.seeks, seeks_one);
@@ -119,23 +119,23 @@ module _ (old mid : Source) (h : MDBShardFileHeader) (taken : Takes (moved old 0
     length_last : length (last_bytes old.bytes) ≡ 200
     length_last = omega (arith, length-drop (length old.bytes - 200) old.bytes, len, ap length bytes_same)
 
-    pub not_footer : (new : Source) (e : CoreError) → h.version ≡ 2 → PartFails HasForeignFooter EndsInFooter 200 (moved mid (n - 200)) new e → LoadsNot old new e
+    pub not_footer : (new : Source) (e : CoreError) → h.version ≡ 2 → PartFails HasUnsupportedFooter EndsInFooter 200 (moved mid (n - 200)) new e → LoadFails old new e
     not_footer new e two fails =
         let size : 200 ≤ length old.bytes = omega (arith, len, ap length bytes_same) in
         record {
           bytes = fails.bytes ∙ bytes_same;
           seeks = omega (arith, fails.seeks, seeks_one);
           read = omega (arith, fails.read, read_48);
-          cause = refusal_of HasForeignFooter EndsInFooter IsForeign IsTooShort (bytes_left (moved mid (n - 200))) old.bytes old (moved mid (n - 200)) new e failures_same
-              (λ has. inr (header_there two, size, subst HasForeignFooter last_is has)) (λ ends. absurd (has_room (last_bytes old.bytes) length_last (subst EndsInFooter last_is ends))) fails.cause;
+          cause = refusal_of HasUnsupportedFooter EndsInFooter IsForeign IsTooShort (bytes_left (moved mid (n - 200))) old.bytes old (moved mid (n - 200)) new e failures_same
+              (λ has. inr (header_there two, size, subst HasUnsupportedFooter last_is has)) (λ ends. absurd (has_room (last_bytes old.bytes) length_last (subst EndsInFooter last_is ends))) fails.cause;
         }
 
     pub found_both : (new : Source) (f : MDBShardFileFooter) → h.tag ≡ header_tag → h.version ≡ 2 → h.footer_size < 2 ^ 64 → f.version ≡ 1 → FitsFooter f
-        → Takes (moved mid (n - 200)) new (footer_text f) → Loads old new (record { header = h; metadata = f })
+        → Takes (moved mid (n - 200)) new (shard_footer_bytes f) → Loads old new (record { header = h; metadata = f })
     found_both new f tag two footer_size one widths last =
-        let size : length (footer_text f) ≡ 200 = length-footer_text f widths.buffer_size in
-        let left = Takes-consumes (moved mid (n - 200)) new (footer_text f) last in
-        let nothing : bytes_left new ≡ [] = nil_from_length (bytes_left new) (omega (arith, ap length left ∙ length-append (footer_text f) (bytes_left new), ap length last_is, length_last, size)) in
+        let size : length (shard_footer_bytes f) ≡ 200 = length-shard_footer_bytes f widths.buffer_size in
+        let left = Takes-consumes (moved mid (n - 200)) new (shard_footer_bytes f) last in
+        let nothing : bytes_left new ≡ [] = nil_from_length (bytes_left new) (omega (arith, ap length left ∙ length-append (shard_footer_bytes f) (bytes_left new), ap length last_is, length_last, size)) in
         record {
           bytes = ap (λ (s : Source). s.bytes) last.after ∙ bytes_same;
           seeks = omega (arith, ap (λ (s : Source). s.seeks) last.after, seeks_one);
@@ -149,14 +149,14 @@ module _ (old mid : Source) (h : MDBShardFileHeader) (taken : Takes (moved old 0
             footer_size = footer_size;
             footer_version = one;
             footer_widths = widths;
-            footer = sym last_is ∙ left ∙ ap (λ bs. footer_text f ++ bs) nothing ∙ append-nil (footer_text f);
+            footer = sym last_is ∙ left ∙ ap (λ bs. shard_footer_bytes f ++ bs) nothing ∙ append-nil (shard_footer_bytes f);
           };
         }
 
-pub not_header : (old new : Source) (e : CoreError) → PartFails HasForeignHeader EndsInHeader 48 (moved old 0) new e → LoadsNot old new e
+pub not_header : (old new : Source) (e : CoreError) → PartFails HasUnsupportedHeader EndsInHeader 48 (moved old 0) new e → LoadFails old new e
 not_header old new e fails = record {
   bytes = fails.bytes;
   seeks = omega (arith, fails.seeks);
   read = omega (arith, fails.read);
-  cause = refusal_of HasForeignHeader EndsInHeader IsForeign IsTooShort old.bytes old.bytes old (moved old 0) new e refl (λ has. inl has) (λ ends. inl ends) fails.cause;
+  cause = refusal_of HasUnsupportedHeader EndsInHeader IsForeign IsTooShort old.bytes old.bytes old (moved old 0) new e refl (λ has. inl has) (λ ends. inl ends) fails.cause;
 }

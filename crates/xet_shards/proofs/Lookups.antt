@@ -18,21 +18,21 @@ use Rattle.xet_base.proofs.Reading.{Takes-consumes}
 use Rattle.xet_base.proofs.Search.{serves_still, serves_moved, serves_advanced}
 use Rattle.xet_records.specs.declared.file_structs.MDBFileInfo.{MDBFileInfo}
 use Rattle.xet_records.specs.FileRow.{header_row}
-use Rattle.xet_records.specs.FileRecord.{record_text, rows_text, rows_after, IsStored, file_records}
+use Rattle.xet_records.specs.FileRecord.{file_record_bytes, file_rows_bytes, rows_after, IsStored, file_records}
 use Rattle.xet_records.specs.Reading.{ReadsBookend}
-use Rattle.xet_records.proofs.Lengths.{length-header_row, length-record_text}
+use Rattle.xet_records.proofs.Lengths.{length-header_row, length-file_record_bytes}
 use Rattle.xet_records.proofs.Record.{row_count-whole}
 use Rattle.xet_records.proofs.RecordKinds.{file_laws, stored_begins}
 use Rattle.xet_shards.specs.SectionReading.{MayTake, PassesLimit, EndsEarly, SectionFailure, ReadsNext, RecordFails}
-use Rattle.xet_shards.specs.Lookup.{IsNumber, Collides, IndexFinds, VisitsSome, LooksUp, LookupAnswer, LookupRefused, Finding, FindingNot, row_at, RecordAt, IsBareInternalError, RecordRefusal, InfoRefusal, ReadsInfo, ReadsInfoNot, Visits, Missed}
+use Rattle.xet_shards.specs.Lookup.{IsNumber, Collides, IndexFinds, VisitsSome, LooksUp, LookupAnswer, LookupRefused, Finding, FindingFails, row_at, RecordAt, IsBareInternalError, RecordRefusal, InfoRefusal, ReadsInfo, ReadInfoFails, Visits, Missed}
 
 -- a stored record has the rows that its header announces, and the header
-pub length-stored : (r : MDBFileInfo) → IsStored r → length (record_text r) ≡ 48 * (1 + rows_after r.metadata)
-length-stored r stored = length-record_text r stored.widths ∙ ap (λ n. 48 * n) (row_count-whole r stored.whole)
+pub length-stored : (r : MDBFileInfo) → IsStored r → length (file_record_bytes r) ≡ 48 * (1 + rows_after r.metadata)
+length-stored r stored = length-file_record_bytes r stored.widths ∙ ap (λ n. 48 * n) (row_count-whole r stored.whole)
 
 -- the seek to a row failed
 pub info_no_seek : (offset row : ℕ) (old new : Source) (failure : Error) (e : CoreError) → row_at offset row < 2 ^ 64 → Fails old new 1 failure → FromDevice failure e
-    → ReadsInfoNot offset row old new e
+    → ReadInfoFails offset row old new e
 info_no_seek offset row old new failure e fits fails is = record {
   bytes = fails.bytes;
   seeks = omega (arith, fails.seeks);
@@ -51,23 +51,23 @@ module _ (offset row : ℕ) (old mid new : Source) (fits : row_at offset row < 2
   pub info_read : (left after : ℕ) (found : MDBFileInfo) → ReadsNext file_records mid new left after found → ReadsInfo offset row old new found
   info_read left after found next =
       let read = next.reads in
-      let are : drop (row_at offset row) old.bytes ≡ record_text read.stored ++ bytes_left new = sym left_is ∙ Takes-consumes mid new (record_text read.stored) read.taken in
+      let are : drop (row_at offset row) old.bytes ≡ file_record_bytes read.stored ++ bytes_left new = sym left_is ∙ Takes-consumes mid new (file_record_bytes read.stored) read.taken in
       record {
         within = fits;
         stands = record { stored = read.stored; is_stored = read.is_stored; rows = read.rows; taken = (bytes_left new, are); handed = read.handed };
-        serves = serves_advanced old mid new (length (record_text read.stored)) (serves_moved old old mid (row_at offset row) (serves_still old) sought) read.taken.after;
+        serves = serves_advanced old mid new (length (file_record_bytes read.stored)) (serves_moved old old mid (row_at offset row) (serves_still old) sought) read.taken.after;
         seeks = ap (λ (s : Source). s.seeks) read.taken.after ∙ ap (λ (s : Source). s.seeks) sought;
-        taken = length (record_text read.stored);
-        read = ap (λ (s : Source). s.read) read.taken.after ∙ ap (λ (s : Source). s.read + length (record_text read.stored)) sought;
+        taken = length (file_record_bytes read.stored);
+        read = ap (λ (s : Source). s.read) read.taken.after ∙ ap (λ (s : Source). s.read + length (file_record_bytes read.stored)) sought;
         may_take = inr (
           read.stored.metadata,
-          rows_text read.stored ++ bytes_left new,
+          file_rows_bytes read.stored ++ bytes_left new,
           stored_begins file_records file_laws (drop (row_at offset row) old.bytes) read.stored (bytes_left new) read.is_stored are,
           omega (arith, length-stored read.stored read.is_stored),
         );
       }
 
-  pub info_bookend : (e : CoreError) → IsBareInternalError e → ReadsBookend file_records (Takes mid new) → ReadsInfoNot offset row old new e
+  pub info_bookend : (e : CoreError) → IsBareInternalError e → ReadsBookend file_records (Takes mid new) → ReadInfoFails offset row old new e
   info_bookend e bare read = record {
     bytes = ap (λ (s : Source). s.bytes) read.taken.after ∙ ap (λ (s : Source). s.bytes) sought;
     seeks = omega (arith, ap (λ (s : Source). s.seeks) read.taken.after, ap (λ (s : Source). s.seeks) sought);
@@ -91,7 +91,7 @@ module _ (offset row : ℕ) (old mid new : Source) (fits : row_at offset row < 2
     );
   }
 
-  pub info_fails : (e : CoreError) → RecordFails file_records 4294967296 mid new e → ReadsInfoNot offset row old new e
+  pub info_fails : (e : CoreError) → RecordFails file_records 4294967296 mid new e → ReadInfoFails offset row old new e
   info_fails e fails = record {
     bytes = fails.bytes ∙ ap (λ (s : Source). s.bytes) sought;
     seeks = omega (arith, fails.seeks, ap (λ (s : Source). s.seeks) sought);
@@ -126,7 +126,7 @@ pub visits_read : (offset row : ℕ) (rows : List ℕ) (old now new : Source) (f
 visits_read offset row rows old now new found before read =
     visits_more offset row read.taken rows old now new before read.serves.bytes (omega (arith, read.seeks)) (omega (arith, read.seeks)) (omega (arith, read.read)) read.may_take
 
-pub visits_read_not : (offset row : ℕ) (rows : List ℕ) (old now new : Source) (e : CoreError) → Visits offset rows old now → ReadsInfoNot offset row now new e
+pub visits_read_not : (offset row : ℕ) (rows : List ℕ) (old now new : Source) (e : CoreError) → Visits offset rows old now → ReadInfoFails offset row now new e
     → Visits offset (rows ++ row ∷ []) old new
 visits_read_not offset row rows old now new e before read =
     visits_more offset row read.taken rows old now new before read.bytes read.seeks read.no_fewer read.read read.may_take
@@ -232,6 +232,6 @@ module _ (t : Table) (offset count : ℕ) (hash : DataHash) (old mid new : Sourc
   finding answer read =
       looked_up (LookupAnswer old.bytes offset hash answer) (subst (λ bytes. LookupAnswer bytes offset hash answer (take count places_new)) serves.bytes read)
 
-  pub finding_not : (e : CoreError) → LookupRefused offset mid new e (take count places_new) → FindingNot t offset hash old new e
+  pub finding_not : (e : CoreError) → LookupRefused offset mid new e (take count places_new) → FindingFails t offset hash old new e
   finding_not e (row, contains, refusal) =
       inr (looked_up (LookupRefused offset old new e) (row, contains, refusal_after offset row old mid new e serves.bytes serves.failures refusal))

@@ -17,17 +17,17 @@ use Rattle.xet_records.specs.declared.xorb_structs.MDBXorbInfo.{MDBXorbInfo}
 use Rattle.xet_records.specs.RecordKind.{RecordKind}
 use Rattle.xet_records.proofs.RecordKinds.{KindLaws}
 use Rattle.xet_records.specs.FileRow.{header_row, clear_verification, clear_metadata}
-use Rattle.xet_records.specs.FileRecord.{record_text, file_bookend, handed_out, IsWellFormed, file_records}
+use Rattle.xet_records.specs.FileRecord.{file_record_bytes, file_bookend, handed_out, IsWellFormed, file_records}
 use Rattle.xet_records.specs.XorbRow.{xorb_header_row}
-use Rattle.xet_records.specs.XorbRecord.{xorb_text, xorb_bookend, IsXorb, xorb_records}
+use Rattle.xet_records.specs.XorbRecord.{xorb_record_bytes, xorb_bookend, IsXorb, xorb_records}
 use Rattle.xet_shards.specs.Shard.{Shard, IsShard}
 use Rattle.xet_shards.specs.Section.{file_section, xorb_section}
 use Rattle.xet_shards.specs.Tables.{file_table_bytes, xorb_table_bytes, chunk_table_bytes}
-use Rattle.xet_shards.specs.Layout.{Form, if_in, header_text, header_value, footer_text, footer_value, layout_of, layout}
+use Rattle.xet_shards.specs.Layout.{Form, if_in, shard_header_bytes, header_value, shard_footer_bytes, footer_value, layout_of, layout}
 use Rattle.xet_shards.specs.SectionReading.{IsSection, TakesSection, TakesNoSection, SectionFailure, PassesRows, IsCutSection}
 use Rattle.xet_shards.proofs.Files.{well_formed_values}
 use Rattle.xet_shards.proofs.Xorbs.{xorb_values}
-use Rattle.xet_shards.proofs.Layouts.{length-header_text}
+use Rattle.xet_shards.proofs.Layouts.{length-shard_header_bytes}
 use Rattle.xet_shards.proofs.SectionUnique.{only_list, section_or_passes, section_or_cut}
 
 -- reserved words that are zero stay as they are
@@ -57,28 +57,28 @@ module _ (files : List MDBFileInfo) (xorbs : List MDBXorbInfo) (form : Form) whe
   abbrev pub after_xorbs : List ℕ
   after_xorbs =
       if_in form.file_table (file_table_bytes files) ++ (if_in form.xorb_table (xorb_table_bytes xorbs)
-      ++ (if_in form.chunk_table (chunk_table_bytes xorbs) ++ footer_text (footer_value files xorbs form)))
+      ++ (if_in form.chunk_table (chunk_table_bytes xorbs) ++ shard_footer_bytes (footer_value files xorbs form)))
 
   abbrev pub after_section : List ℕ
   after_section = xorb_section xorbs ++ after_xorbs
 
-  pub layout_from_48 : layout_of files xorbs form ≡ header_text header_value ++ (file_section files ++ after_section)
+  pub layout_from_48 : layout_of files xorbs form ≡ shard_header_bytes header_value ++ (file_section files ++ after_section)
   unfolding layout_of
   layout_from_48 = simp (append_assoc)
 
-  pub section_at_48 : drop 48 (layout_of files xorbs form) ≡ flat_map record_text files ++ (header_row file_bookend ++ after_section)
+  pub section_at_48 : drop 48 (layout_of files xorbs form) ≡ flat_map file_record_bytes files ++ (header_row file_bookend ++ after_section)
   unfolding file_section
   section_at_48 =
-      rest_is 48 (layout_of files xorbs form) (header_text header_value) (file_section files ++ after_section) (length-header_text header_value) layout_from_48
-      ∙ append_assoc (flat_map record_text files) (header_row file_bookend) after_section
+      rest_is 48 (layout_of files xorbs form) (shard_header_bytes header_value) (file_section files ++ after_section) (length-shard_header_bytes header_value) layout_from_48
+      ∙ append_assoc (flat_map file_record_bytes files) (header_row file_bookend) after_section
 
-  pub xorbs_at : drop (48 + length (file_section files)) (layout_of files xorbs form) ≡ flat_map xorb_text xorbs ++ (xorb_header_row xorb_bookend ++ after_xorbs)
+  pub xorbs_at : drop (48 + length (file_section files)) (layout_of files xorbs form) ≡ flat_map xorb_record_bytes xorbs ++ (xorb_header_row xorb_bookend ++ after_xorbs)
   unfolding xorb_section
   xorbs_at =
-      rest_is (48 + length (file_section files)) (layout_of files xorbs form) (header_text header_value ++ file_section files) after_section
-      (length-append (header_text header_value) (file_section files) ∙ ap (λ n. n + length (file_section files)) (length-header_text header_value))
-      (layout_from_48 ∙ sym (append_assoc (header_text header_value) (file_section files) after_section))
-      ∙ append_assoc (flat_map xorb_text xorbs) (xorb_header_row xorb_bookend) after_xorbs
+      rest_is (48 + length (file_section files)) (layout_of files xorbs form) (shard_header_bytes header_value ++ file_section files) after_section
+      (length-append (shard_header_bytes header_value) (file_section files) ∙ ap (λ n. n + length (file_section files)) (length-shard_header_bytes header_value))
+      (layout_from_48 ∙ sym (append_assoc (shard_header_bytes header_value) (file_section files) after_section))
+      ∙ append_assoc (flat_map xorb_record_bytes xorbs) (xorb_header_row xorb_bookend) after_xorbs
 
 pub section_of_shard : (s : Shard) (expiry : Option ℕ) → IsShard s → IsSection file_records (drop 48 (layout s expiry)) (values s.files)
 section_of_shard s expiry shard =

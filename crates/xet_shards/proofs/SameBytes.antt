@@ -1,4 +1,4 @@
--- The bytes of a shard tell its contents: shards with equal bytes are equal, and expire at the same moment.
+-- The bytes of a shard tell its contents: shards with equal bytes are equal, and expire at the same timestamp.
 use Rattle.std.proofs.Common.{◌≡◌, ℕ, ◌+◌, ◌^◌, ◌<◌, List, [], ◌∷◌, length, map, drop, Option, refl, sym, ap, ◌∙◌, subst, arith}
 use Rattle.std.specs.Prelude.{All, IfSome}
 use Rattle.std.specs.FinMap.{FinMap, entries, values, same_entries_map}
@@ -50,7 +50,7 @@ module _ (s t : Shard) (e f : Option ℕ) (s_shard : IsShard s) (t_shard : IsSha
       let xorbs = same_values xorb_hash_of s.xorbs t.xorbs s_shard.xorbs.keyed t_shard.xorbs.keyed xorbs_same in
       λ i. record { files = files i; xorbs = xorbs i }
 
-  -- no expiry is the last moment of 64 bits
+  -- no expiry is the last timestamp of 64 bits
   pub same_expiry : IfSome e (λ m. m < 2 ^ 64) → IfSome f (λ m. m < 2 ^ 64) → (plain_form e).expiry ≡ (plain_form f).expiry
   same_expiry e_fits f_fits =
       ap (λ (x : MDBShardInfo). x.metadata.shard_key_expiry)
@@ -60,5 +60,5 @@ module _ (s t : Shard) (e f : Option ℕ) (s_shard : IsShard s) (t_shard : IsSha
 
 -- the other way round
 pub same_layout : (s t : Shard) (e f : Option ℕ) → s ≡ t → (plain_form e).expiry ≡ (plain_form f).expiry → layout s e ≡ layout t f
-same_layout s t e f same moment =
-    λ i. layout_of (values (same i).files) (values (same i).xorbs) (record (plain_form e) { expiry = moment i })
+same_layout s t e f same timestamp =
+    λ i. layout_of (values (same i).files) (values (same i).xorbs) (record (plain_form e) { expiry = timestamp i })

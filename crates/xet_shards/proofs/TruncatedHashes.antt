@@ -12,7 +12,7 @@ use Rattle.xet_base.proofs.Reading.{Takes-consumes}
 use Rattle.xet_records.specs.declared.xorb_structs.MDBXorbInfo.{MDBXorbInfo}
 use Rattle.xet_records.specs.declared.xorb_structs.XorbChunkSequenceEntry.{XorbChunkSequenceEntry}
 use Rattle.xet_records.specs.Reading.{ReadsBookend}
-use Rattle.xet_records.specs.XorbRecord.{xorb_text, xorb_row_count, IsStoredXorb, xorb_records}
+use Rattle.xet_records.specs.XorbRecord.{xorb_record_bytes, xorb_row_count, IsStoredXorb, xorb_records}
 use Rattle.xet_records.proofs.RecordKinds.{xorb_laws, length-text}
 use Rattle.xet_records.proofs.Lengths.{length-texts}
 use Rattle.xet_shards.specs.Shard.{total_xorb_rows}
@@ -78,7 +78,7 @@ module _ (stop : ℕ) (old now : Source) (at : ℕ) (found : List (ℕ × (ℕ �
   -- these xorbs stand there
   holds : HoldsRecords xorb_records (bytes_left (moved old at)) before.xorbs (bytes_left now)
   holds = subst (λ xorbs. HoldsRecords xorb_records (bytes_left (moved old at)) xorbs (bytes_left now)) same_xorbs
-      (record { are_stored = before.read.are_stored; rows = omega (arith, before.read.rows); bytes_are = Takes-consumes (moved old at) now (flat_map xorb_text before.read.stored) before.read.taken })
+      (record { are_stored = before.read.are_stored; rows = omega (arith, before.read.rows); bytes_are = Takes-consumes (moved old at) now (flat_map xorb_record_bytes before.read.stored) before.read.taken })
 
   place : now.at ≡ at + 48 * total_xorb_rows before.xorbs
   place = place_after xorb_records xorb_laws (moved old at) now before.xorbs left before.read
@@ -109,7 +109,7 @@ module _ (stop : ℕ) (old now : Source) (at : ℕ) (found : List (ℕ × (ℕ �
         hashes = before.hashes;
       }
   hashes_end new (inr (past, same)) =
-      let size = length-texts xorb_text xorb_row_count IsStoredXorb (length-text xorb_records xorb_laws) before.read.stored before.read.are_stored in
+      let size = length-texts xorb_record_bytes xorb_row_count IsStoredXorb (length-text xorb_records xorb_laws) before.read.stored before.read.are_stored in
       record {
         xorbs = before.xorbs;
         rest = bytes_left now;

@@ -6,7 +6,7 @@ use Rattle.std.proofs.lemmas.List.Elements.{All-map, All-from_recursion}
 use Rattle.xet_records.specs.XorbRecord.{IsXorb}
 use Rattle.xet_shards.specs.Shard.{Shard, IsShard}
 use Rattle.xet_shards.specs.Tables.{chunk_table}
-use Rattle.xet_shards.specs.Layout.{info_value, offsets_of, moments_of, sums_of}
+use Rattle.xet_shards.specs.Layout.{info_value, offsets_of, timestamps_of, sums_of}
 use Rattle.xet_shards.specs.Ends.{FitsFooter}
 use Rattle.xet_shards.proofs.Files.{files_bound, length-le-rows, widths_of_values}
 use Rattle.xet_shards.proofs.Layouts.{length-file_section}
@@ -36,7 +36,7 @@ fits_written s expiry shard fits =
     record {
       offsets = All-from_recursion Fits (offsets_of f) (omega arith, (omega arith, (omega (arith, xorb_info), (omega (arith, file_lookup), (omega (arith, length-file_starts files, few_files), (omega (arith, xorb_lookup), (omega (arith, length-xorb_starts xorbs, chunks), (omega (arith, chunk_lookup), (omega (arith, chunks), tt)))))))));
       key = record { word0 = omega arith; word1 = omega arith; word2 = omega arith; word3 = omega arith };
-      moments = All-from_recursion Fits (moments_of f) (omega arith, (expiry_fits expiry fits, tt));
+      timestamps = All-from_recursion Fits (timestamps_of f) (omega arith, (expiry_fits expiry fits, tt));
       buffer_size = refl;
       buffer = All-from_recursion Fits f._buffer (omega arith, (omega arith, (omega arith, (omega arith, (omega arith, (omega arith, tt))))));
       sums = All-from_recursion Fits (sums_of f) (omega (arith, shard.xorb_rows, xorbs_bound (λ x. x.metadata.num_bytes_on_disk) (λ r is. omega (arith, is.widths.metadata.num_bytes_on_disk)) xorbs good), (omega (arith, shard.file_rows, files_bound files widths), (omega (arith, shard.xorb_rows, xorbs_bound (λ x. x.metadata.num_bytes_in_xorb) (λ r is. omega (arith, is.widths.metadata.num_bytes_in_xorb)) xorbs good), (omega (arith, footer), tt))));

@@ -5,7 +5,7 @@ use Rattle.xet_records.specs.declared.file_structs.MDBFileInfo.{MDBFileInfo}
 use Rattle.xet_records.specs.declared.xorb_structs.MDBXorbInfo.{MDBXorbInfo}
 use Rattle.xet_records.specs.FileRecord.{row_count, size_of_file}
 use Rattle.xet_records.specs.XorbRecord.{xorb_row_count}
-use Rattle.xet_shards.specs.declared.shard_format.section_writer.WrittenFiles.{WrittenFiles}
+use Rattle.xet_shards.specs.declared.shard_format.file_writer.WrittenFiles.{WrittenFiles}
 use Rattle.xet_shards.specs.declared.shard_format.xorb_writer.WrittenXorbs.{WrittenXorbs}
 use Rattle.xet_shards.specs.Shard.{file_hash_of, xorb_hash_of}
 use Rattle.xet_shards.specs.Tables.{ChunkPlace, start_row, places_from, chunk_places, ascending}

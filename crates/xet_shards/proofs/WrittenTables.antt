@@ -26,10 +26,10 @@ use Rattle.xet_shards.specs.declared.shard_format.info.MDBShardInfo.{MDBShardInf
 use Rattle.xet_shards.specs.Shard.{Shard, IsShard, total_xorb_rows}
 use Rattle.xet_shards.specs.Section.{with_fronts, file_section, xorb_section}
 use Rattle.xet_shards.specs.Tables.{ChunkPlace, places_from, chunk_places, chunk_table, xorb_start, xorb_starts, start_row, place_row, file_table_bytes, xorb_table_bytes, chunk_table_bytes}
-use Rattle.xet_shards.specs.Layout.{Form, if_in, header_text, header_value, footer_text, footer_value, layout_of, layout, info_value, plain_form}
+use Rattle.xet_shards.specs.Layout.{Form, if_in, shard_header_bytes, header_value, shard_footer_bytes, footer_value, layout_of, layout, info_value, plain_form}
 use Rattle.xet_shards.specs.TableReading.{FitsStart, triple_of, triple_row, FitsTriple}
 use Rattle.xet_shards.proofs.ChunkPlaces.{alone, place_of}
-use Rattle.xet_shards.proofs.Layouts.{length-header_text}
+use Rattle.xet_shards.proofs.Layouts.{length-shard_header_bytes}
 use Rattle.xet_shards.proofs.Maps.{All-keys-from_entries}
 use Rattle.xet_shards.proofs.TableReading.{ReadsOrFails, IsReadAs, whole_table}
 use Rattle.xet_shards.proofs.Tables.{length-xorb_starts, place_total}
@@ -66,19 +66,19 @@ rows_in false row rows = refl
 -- where the tables stand
 module _ (files : List MDBFileInfo) (xorbs : List MDBXorbInfo) (form : Form) where
   abbrev before_tables : List ℕ
-  before_tables = ((header_text header_value ++ file_section files) ++ xorb_section xorbs) ++ if_in form.file_table (file_table_bytes files)
+  before_tables = ((shard_header_bytes header_value ++ file_section files) ++ xorb_section xorbs) ++ if_in form.file_table (file_table_bytes files)
 
   abbrev after_tables : List ℕ
-  after_tables = footer_text (footer_value files xorbs form)
+  after_tables = shard_footer_bytes (footer_value files xorbs form)
 
   length-before : length before_tables ≡ (footer_value files xorbs form).xorb_lookup_offset
   length-before =
-      length-append ((header_text header_value ++ file_section files) ++ xorb_section xorbs) (if_in form.file_table (file_table_bytes files))
+      length-append ((shard_header_bytes header_value ++ file_section files) ++ xorb_section xorbs) (if_in form.file_table (file_table_bytes files))
       ∙ omega (
         arith,
-        length-append (header_text header_value ++ file_section files) (xorb_section xorbs),
-        length-append (header_text header_value) (file_section files),
-        length-header_text header_value,
+        length-append (shard_header_bytes header_value ++ file_section files) (xorb_section xorbs),
+        length-append (shard_header_bytes header_value) (file_section files),
+        length-shard_header_bytes header_value,
       )
 
   pub xorb_table_stands : drop (footer_value files xorbs form).xorb_lookup_offset (layout_of files xorbs form)

@@ -12,16 +12,16 @@ use Rattle.xet_records.specs.declared.xorb_structs.MDBXorbInfo.{MDBXorbInfo}
 use Rattle.xet_records.specs.declared.xorb_structs.XorbChunkSequenceEntry.{XorbChunkSequenceEntry}
 use Rattle.xet_records.specs.FileRecord.{FitsRecord}
 use Rattle.xet_records.specs.XorbRow.{xorb_header_row}
-use Rattle.xet_records.specs.XorbRecord.{xorb_text, xorb_row_count, xorb_bookend}
-use Rattle.xet_records.proofs.Lengths.{length-xorb_header_row, length-xorb_text}
+use Rattle.xet_records.specs.XorbRecord.{xorb_record_bytes, xorb_row_count, xorb_bookend}
+use Rattle.xet_records.proofs.Lengths.{length-xorb_header_row, length-xorb_record_bytes}
 use Rattle.xet_shards.specs.Shard.{total_rows, total_xorb_rows}
 use Rattle.xet_shards.specs.Section.{with_fronts, file_section, xorb_section}
 use Rattle.xet_shards.specs.Tables.{ChunkPlace, place_cmp, places_from, chunk_places, chunk_table, file_table_bytes, xorb_table_bytes, chunk_table_bytes}
-use Rattle.xet_shards.specs.Layout.{header_text, footer_text, header_value, footer_value, layout_of, plain_form}
+use Rattle.xet_shards.specs.Layout.{shard_header_bytes, shard_footer_bytes, header_value, footer_value, layout_of, plain_form}
 use Rattle.xet_shards.proofs.ChunkPlaces.{alone, place_of}
 use Rattle.xet_shards.proofs.Maps.{IsRising, rising_lower, length-from_entries}
 use Rattle.xet_shards.proofs.Tables.{length-file_table_bytes, length-xorb_table_bytes, length-place_rows, place_total, place_exact}
-use Rattle.xet_shards.proofs.Layouts.{length-header_text, length-file_section, length-footer_text}
+use Rattle.xet_shards.proofs.Layouts.{length-shard_header_bytes, length-file_section, length-shard_footer_bytes}
 
 abbrev pub total_chunks : List MDBXorbInfo → ℕ
 total_chunks xorbs = sum_by (λ (r : MDBXorbInfo). length r.chunks) xorbs
@@ -32,16 +32,16 @@ total_xorb_rows-chunks [] = refl
 total_xorb_rows-chunks (x ∷ xorbs) =
     omega (arith, sum_by-cons xorb_row_count x xorbs, sum_by-cons (λ (r : MDBXorbInfo). length r.chunks) x xorbs, total_xorb_rows-chunks xorbs)
 
-pub length-xorb_texts : (xorbs : List MDBXorbInfo) → length (flat_map xorb_text xorbs) ≡ 48 * total_xorb_rows xorbs
+pub length-xorb_texts : (xorbs : List MDBXorbInfo) → length (flat_map xorb_record_bytes xorbs) ≡ 48 * total_xorb_rows xorbs
 length-xorb_texts [] = refl
 length-xorb_texts (x ∷ xorbs) =
-    length-append (xorb_text x) (flat_map xorb_text xorbs)
-    ∙ omega (arith, length-xorb_text x, length-xorb_texts xorbs, sum_by-cons xorb_row_count x xorbs)
+    length-append (xorb_record_bytes x) (flat_map xorb_record_bytes xorbs)
+    ∙ omega (arith, length-xorb_record_bytes x, length-xorb_texts xorbs, sum_by-cons xorb_row_count x xorbs)
 
 pub length-xorb_section : (xorbs : List MDBXorbInfo) → length (xorb_section xorbs) ≡ 48 * total_xorb_rows xorbs + 48
 unfolding xorb_section
 length-xorb_section xorbs =
-    length-append (flat_map xorb_text xorbs) (xorb_header_row xorb_bookend) ∙ omega (arith, length-xorb_texts xorbs, length-xorb_header_row xorb_bookend)
+    length-append (flat_map xorb_record_bytes xorbs) (xorb_header_row xorb_bookend) ∙ omega (arith, length-xorb_texts xorbs, length-xorb_header_row xorb_bookend)
 
 -- the places of the chunks of xorbs that stand after others
 abbrev place_after : List MDBXorbInfo → ℕ × XorbChunkSequenceEntry → ChunkPlace
@@ -111,10 +111,10 @@ pub length-layout_of : (files : List MDBFileInfo) (xorbs : List MDBXorbInfo) (ex
     ≡ 344 + 48 * (total_rows files + total_xorb_rows xorbs) + 12 * (length files + length xorbs) + 16 * (sum_by (λ (r : MDBXorbInfo). length r.chunks) xorbs)
 unfolding layout_of
 length-layout_of files xorbs expiry fit =
-    let header = header_text header_value in
+    let header = shard_header_bytes header_value in
     let footer = footer_value files xorbs (plain_form expiry) in
     let sections = (header ++ file_section files) ++ xorb_section xorbs in
-    length-append (((sections ++ file_table_bytes files) ++ xorb_table_bytes xorbs) ++ chunk_table_bytes xorbs) (footer_text footer)
+    length-append (((sections ++ file_table_bytes files) ++ xorb_table_bytes xorbs) ++ chunk_table_bytes xorbs) (shard_footer_bytes footer)
     ∙ omega (
       arith,
       length-append ((sections ++ file_table_bytes files) ++ xorb_table_bytes xorbs) (chunk_table_bytes xorbs),
@@ -122,11 +122,11 @@ length-layout_of files xorbs expiry fit =
       length-append sections (file_table_bytes files),
       length-append (header ++ file_section files) (xorb_section xorbs),
       length-append header (file_section files),
-      length-header_text header_value,
+      length-shard_header_bytes header_value,
       length-file_section files fit,
       length-xorb_section xorbs,
       length-file_table_bytes files,
       length-xorb_table_bytes xorbs,
       length-chunk_table_bytes xorbs,
-      length-footer_text footer refl,
+      length-shard_footer_bytes footer refl,
     )

@@ -12,7 +12,7 @@ use Rattle.xet_base.specs.declared.merklehash.DataHash.{DataHash}
 use Rattle.xet_records.specs.declared.xorb_structs.MDBXorbInfo.{MDBXorbInfo}
 use Rattle.xet_records.specs.XorbRecord.{xorb_row_count, IsXorb}
 use Rattle.xet_shards.specs.Shard.{AreXorbs, total_xorb_rows}
-use Rattle.xet_shards.specs.XorbTable.{shown_xorbs}
+use Rattle.xet_shards.specs.XorbStore.{shown_xorbs}
 use Rattle.xet_shards.proofs.Walks.{value_turn, value_end, values_push}
 
 module _ {Z : Type 0} where

@@ -7,7 +7,7 @@ use Rattle.xet_base.specs.Hash.{hash_eq}
 use Rattle.xet_records.specs.declared.file_structs.FileDataSequenceEntry.{FileDataSequenceEntry}
 use Rattle.xet_records.specs.declared.xorb_structs.XorbChunkSequenceEntry.{XorbChunkSequenceEntry}
 use Rattle.xet_records.specs.XorbRecord.{segment_of}
-use Rattle.xet_shards.specs.Index.{Place, PlaceMap, IsPlace}
+use Rattle.xet_shards.specs.ChunkLookup.{Place, PlaceMap, IsPlace}
 use Rattle.xet_shards.specs.Shard.{XorbMap}
 
 -- how many of these hashes, from the first on, are those of these chunks in turn

@@ -7,7 +7,7 @@ use Rattle.xet_base.specs.Errors.{IsBareShardVersion, IsEndOfInput}
 use Rattle.xet_base.specs.Source.{Source, DeviceFailure, bytes_left}
 use Rattle.xet_shards.specs.declared.shard_format.footer.MDBShardFileFooter.{MDBShardFileFooter}
 use Rattle.xet_shards.specs.declared.shard_format.info.MDBShardInfo.{MDBShardInfo}
-use Rattle.xet_shards.specs.Layout.{header_tag, header_text, offsets_of, moments_of, sums_of, footer_text}
+use Rattle.xet_shards.specs.Layout.{header_tag, shard_header_bytes, offsets_of, timestamps_of, sums_of, shard_footer_bytes}
 
 -- the bytes begin with a header that is read: the tag, version 2, and a footer size
 pub record HasHeader (bytes : List ℕ) : Type 0 where
@@ -16,8 +16,8 @@ pub record HasHeader (bytes : List ℕ) : Type 0 where
   pub version : take 8 (drop 32 bytes) ≡ u64_bytes 2
 
 -- a foreign tag, which is seen once 32 bytes are read, or a foreign version, which is seen after 48
-abbrev pub HasForeignHeader : List ℕ → Type 0
-HasForeignHeader bytes =
+abbrev pub HasUnsupportedHeader : List ℕ → Type 0
+HasUnsupportedHeader bytes =
     ((32 ≤ length bytes) × (take 32 bytes ≢ header_tag))
     ⊎ ((48 ≤ length bytes) × (take 8 (drop 32 bytes) ≢ u64_bytes 2))
 
@@ -26,8 +26,8 @@ abbrev pub EndsInHeader : List ℕ → Type 0
 EndsInHeader bytes = (length bytes < 32) ⊎ ((length bytes < 48) × (take 32 bytes ≡ header_tag))
 
 -- a foreign version of the footer, which is seen once 8 bytes are read
-abbrev pub HasForeignFooter : List ℕ → Type 0
-HasForeignFooter bytes = (8 ≤ length bytes) × (take 8 bytes ≢ u64_bytes 1)
+abbrev pub HasUnsupportedFooter : List ℕ → Type 0
+HasUnsupportedFooter bytes = (8 ≤ length bytes) × (take 8 bytes ≢ u64_bytes 1)
 
 -- the bytes end before the version is complete, or after version 1 but before the footer is complete
 abbrev pub EndsInFooter : List ℕ → Type 0
@@ -41,7 +41,7 @@ last_bytes bytes = drop (length bytes - 200) bytes
 pub record FitsFooter (f : MDBShardFileFooter) : Type 0 where
   pub offsets : All (λ n. n < 2 ^ 64) (offsets_of f)
   pub key : IsHash f.chunk_hash_hmac_key
-  pub moments : All (λ n. n < 2 ^ 64) (moments_of f)
+  pub timestamps : All (λ n. n < 2 ^ 64) (timestamps_of f)
   pub buffer_size : length f._buffer ≡ 6
   pub buffer : All (λ n. n < 2 ^ 64) f._buffer
   pub sums : All (λ n. n < 2 ^ 64) (sums_of f)
@@ -51,16 +51,16 @@ pub record HasEnds (bytes : List ℕ) (info : MDBShardInfo) : Type 0 where
   pub size : 200 ≤ length bytes
   pub tag : info.header.tag ≡ header_tag
   pub header_version : info.header.version ≡ 2
-  pub header : take 48 bytes ≡ header_text info.header
+  pub header : take 48 bytes ≡ shard_header_bytes info.header
   pub footer_size : info.header.footer_size < 2 ^ 64
   pub footer_version : info.metadata.version ≡ 1
   pub footer_widths : FitsFooter info.metadata
-  pub footer : last_bytes bytes ≡ footer_text info.metadata
+  pub footer : last_bytes bytes ≡ shard_footer_bytes info.metadata
 
 -- the bytes are those of another format: a foreign header, or after a header that is read a foreign footer
 abbrev pub IsForeign : List ℕ → Type 0
 IsForeign bytes =
-    HasForeignHeader bytes ⊎ (HasHeader bytes × (200 ≤ length bytes) × HasForeignFooter (last_bytes bytes))
+    HasUnsupportedHeader bytes ⊎ (HasHeader bytes × (200 ≤ length bytes) × HasUnsupportedFooter (last_bytes bytes))
 
 -- the bytes are too few: they end in the header, or before a footer has room
 abbrev pub IsTooShort : List ℕ → Type 0
@@ -82,7 +82,7 @@ Refusal Foreign Short bytes old new e =
     ⊎ ((new.failures ≡ old.failures) × IsEndOfInput e × Short bytes)
 
 -- they were not found, by at most two seeks and 248 bytes read; the place is open
-pub record LoadsNot (old new : Source) (e : CoreError) : Type 0 where
+pub record LoadFails (old new : Source) (e : CoreError) : Type 0 where
   pub bytes : new.bytes ≡ old.bytes
   pub seeks : new.seeks ≤ old.seeks + 2
   pub read : new.read ≤ old.read + 248

@@ -11,8 +11,8 @@ use Rattle.xet_records.specs.FileRecord.{has_verification, file_records}
 use Rattle.xet_shards.specs.declared.shard_format.header.MDBShardFileHeader.{MDBShardFileHeader}
 use Rattle.xet_shards.specs.Shard.{total_rows}
 use Rattle.xet_shards.specs.Section.{with_fronts}
-use Rattle.xet_shards.specs.Layout.{header_tag, header_text}
-use Rattle.xet_shards.specs.Ends.{HasForeignHeader, EndsInHeader, PartFails}
+use Rattle.xet_shards.specs.Layout.{header_tag, shard_header_bytes}
+use Rattle.xet_shards.specs.Ends.{HasUnsupportedHeader, EndsInHeader, PartFails}
 use Rattle.xet_shards.specs.SectionReading.{TakesSection, TakesNoSection, HasRead, ReadsNext}
 
 -- a file's hash, the place of its first segment and the one after its last, those of its verification rows, and its SHA-256
@@ -48,14 +48,14 @@ pub record ReadsFileRanges (old new : Source) (found : List FileRanges) : Type 0
   pub version : header.version ≡ 2
   pub footer_size : header.footer_size < 2 ^ 64
   pub after_header : Source
-  pub header_taken : Takes old after_header (header_text header)
+  pub header_taken : Takes old after_header (shard_header_bytes header)
   pub ranges : TakesRanges after_header new found
 
 -- the header was not read, or the section after it was not
 abbrev pub FileRangesFail : Source → Source → CoreError → Type 0
 FileRangesFail old new e =
-    PartFails HasForeignHeader EndsInHeader 48 old new e
-    ⊎ ((header : MDBShardFileHeader) × (after_header : Source) × (header.version ≡ 2) × Takes old after_header (header_text header)
+    PartFails HasUnsupportedHeader EndsInHeader 48 old new e
+    ⊎ ((header : MDBShardFileHeader) × (after_header : Source) × (header.version ≡ 2) × Takes old after_header (shard_header_bytes header)
     × TakesNoSection file_records after_header new e)
 
 -- the ranges of the files that were read so far

@@ -2,10 +2,10 @@
 use Rattle.std.specs.Prelude.{◌≡◌, ◌≤◌}
 use Rattle.std.specs.FinMap.{values}
 use Rattle.xet_shards.specs.declared.shard_in_memory.MDBInMemoryShard.TheInside.{Inside}
-use Rattle.xet_shards.specs.Index.{IndexedShard}
+use Rattle.xet_shards.specs.ChunkLookup.{ShardWithLookup}
 use Rattle.xet_shards.specs.Shard.{total_rows, total_xorb_rows}
 
-abbrev pub shard_inside : Inside → IndexedShard
+abbrev pub shard_inside : Inside → ShardWithLookup
 shard_inside s = record { content = record { files = s.files; xorbs = s.xorbs.xorbs }; places = s.xorbs.places }
 
 -- the rows are those of the tables, and 32 bits count them

@@ -20,8 +20,8 @@ header_tag =
     72 ∷ 70 ∷ 82 ∷ 101 ∷ 112 ∷ 111 ∷ 77 ∷ 101 ∷ 116 ∷ 97 ∷ 68 ∷ 97 ∷ 116 ∷ 97 ∷ 0 ∷ 85 ∷ 105 ∷ 103 ∷ 69 ∷ 106 ∷ 123 ∷ 129 ∷ 87 ∷ 131 ∷ 165 ∷ 189 ∷ 217 ∷ 92 ∷ 205 ∷ 209 ∷ 74 ∷ 169 ∷ []
 
 -- the header: the tag, whatever the value holds, its version and its footer size
-unfoldable pub header_text : MDBShardFileHeader → List ℕ
-header_text h = (header_tag ++ u64_bytes h.version) ++ u64_bytes h.footer_size
+unfoldable pub shard_header_bytes : MDBShardFileHeader → List ℕ
+shard_header_bytes h = (header_tag ++ u64_bytes h.version) ++ u64_bytes h.footer_size
 
 -- the words of a footer before the key, after it, and after the words that are kept free
 abbrev pub offsets_of : MDBShardFileFooter → List ℕ
@@ -29,16 +29,16 @@ offsets_of f =
     f.version ∷ f.file_info_offset ∷ f.xorb_info_offset ∷ f.file_lookup_offset ∷ f.file_lookup_num_entry ∷ f.xorb_lookup_offset ∷ f.xorb_lookup_num_entry
     ∷ f.chunk_lookup_offset ∷ f.chunk_lookup_num_entry ∷ []
 
-abbrev pub moments_of : MDBShardFileFooter → List ℕ
-moments_of f = f.shard_creation_timestamp ∷ f.shard_key_expiry ∷ []
+abbrev pub timestamps_of : MDBShardFileFooter → List ℕ
+timestamps_of f = f.shard_creation_timestamp ∷ f.shard_key_expiry ∷ []
 
 abbrev pub sums_of : MDBShardFileFooter → List ℕ
 sums_of f = f.stored_bytes_on_disk ∷ f.materialized_bytes ∷ f.stored_bytes ∷ f.footer_offset ∷ []
 
 -- the footer: its fields in order
-unfoldable pub footer_text : MDBShardFileFooter → List ℕ
-footer_text f =
-    (((flat_map u64_bytes (offsets_of f) ++ hash_bytes f.chunk_hash_hmac_key) ++ flat_map u64_bytes (moments_of f)) ++ flat_map u64_bytes f._buffer)
+unfoldable pub shard_footer_bytes : MDBShardFileFooter → List ℕ
+shard_footer_bytes f =
+    (((flat_map u64_bytes (offsets_of f) ++ hash_bytes f.chunk_hash_hmac_key) ++ flat_map u64_bytes (timestamps_of f)) ++ flat_map u64_bytes f._buffer)
     ++ flat_map u64_bytes (sums_of f)
 
 -- the footer of no shard in particular
@@ -63,7 +63,7 @@ default_footer = record {
   footer_offset = 0;
 }
 
--- what a writer chooses beside the records: which tables are in, the key of the chunk hashes and two moments
+-- what a writer chooses beside the records: which tables are in, the key of the chunk hashes and two timestamps
 pub record Form : Type 0 where
   pub file_table : Bool
   pub xorb_table : Bool
@@ -109,8 +109,8 @@ footer_value files xorbs form =
 -- all the bytes of a list of files and a list of xorbs in a form
 unfoldable pub layout_of : List MDBFileInfo → List MDBXorbInfo → Form → List ℕ
 layout_of files xorbs form =
-    (((((header_text header_value ++ file_section files) ++ xorb_section xorbs) ++ if_in form.file_table (file_table_bytes files))
-    ++ if_in form.xorb_table (xorb_table_bytes xorbs)) ++ if_in form.chunk_table (chunk_table_bytes xorbs)) ++ footer_text (footer_value files xorbs form)
+    (((((shard_header_bytes header_value ++ file_section files) ++ xorb_section xorbs) ++ if_in form.file_table (file_table_bytes files))
+    ++ if_in form.xorb_table (xorb_table_bytes xorbs)) ++ if_in form.chunk_table (chunk_table_bytes xorbs)) ++ shard_footer_bytes (footer_value files xorbs form)
 
 -- all tables, no key, no creation, and an expiry or none
 abbrev pub plain_form : Option ℕ → Form

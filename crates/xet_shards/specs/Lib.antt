@@ -1,9 +1,9 @@
+pub mod ChunkLookup
 pub mod ChunkQuery
 pub mod Ends
 pub mod FileRanges
-pub mod FileTable
+pub mod FileStore
 pub mod InMemoryShard
-pub mod Index
 pub mod Joining
 pub mod Joins
 pub mod Layout
@@ -18,4 +18,4 @@ pub mod Tables
 pub mod TruncatedHashes
 pub mod Written
 pub mod XorbHeaders
-pub mod XorbTable
+pub mod XorbStore

@@ -9,7 +9,7 @@ use Rattle.xet_base.specs.Bytes.{u32_bytes}
 use Rattle.xet_base.specs.Source.{Source, DeviceFailure}
 use Rattle.xet_base.specs.Table.{Table, table_at, Hit, IsHit, OtherRow, IsSorted, hits, FitsTable, Serves, Bounded, SearchRefused, IsBareInvalidShard}
 use Rattle.xet_records.specs.declared.file_structs.MDBFileInfo.{MDBFileInfo}
-use Rattle.xet_records.specs.FileRecord.{record_text, file_records}
+use Rattle.xet_records.specs.FileRecord.{file_record_bytes, file_records}
 use Rattle.xet_records.specs.Reading.{ReadsRecord}
 use Rattle.xet_shards.specs.declared.shard_format.footer.MDBShardFileFooter.{MDBShardFileFooter}
 use Rattle.xet_shards.specs.Shard.{Shard, file_hash_of}
@@ -69,7 +69,7 @@ pub record ReadsInfo (offset row : ℕ) (old new : Source) (found : MDBFileInfo)
   pub may_take : MayTake file_records (drop (row_at offset row) old.bytes) taken
 
 -- it was not; the place is open
-pub record ReadsInfoNot (offset row : ℕ) (old new : Source) (e : CoreError) : Type 0 where
+pub record ReadInfoFails (offset row : ℕ) (old new : Source) (e : CoreError) : Type 0 where
   pub bytes : new.bytes ≡ old.bytes
   pub seeks : new.seeks ≤ old.seeks + 1
   pub no_fewer : old.seeks ≤ new.seeks
@@ -156,7 +156,7 @@ pub record WithinBounds (files : List MDBFileInfo) (word : ℕ) (old new : Sourc
   pub few : made ≤ (length files + 1) / 128 + length (sharing word files) / 4 + 8
   pub few_more : more ≤ length (sharing word files)
   pub seeks : new.seeks ≡ old.seeks + made + more
-  pub read : new.read ≤ old.read + (257 + length (sharing word files) + made) * 12 + length (flat_map record_text (sharing word files))
+  pub read : new.read ≤ old.read + (257 + length (sharing word files) + made) * 12 + length (flat_map file_record_bytes (sharing word files))
 
 -- what the search in it costs
 pub record SearchWithinBounds (files : List MDBFileInfo) (word : ℕ) (old new : Source) : Type 0 where
@@ -169,8 +169,8 @@ pub record SearchWithinBounds (files : List MDBFileInfo) (word : ℕ) (old new :
 abbrev pub Finding : Table → ℕ → DataHash → Source → Source → Option MDBFileInfo → Type 0
 Finding t offset hash old new answer = LooksUp t offset hash.word0 old new (LookupAnswer old.bytes offset hash answer)
 
-abbrev pub FindingNot : Table → ℕ → DataHash → Source → Source → CoreError → Type 0
-FindingNot t offset hash old new e =
+abbrev pub FindingFails : Table → ℕ → DataHash → Source → Source → CoreError → Type 0
+FindingFails t offset hash old new e =
     (IndexRefused t hash.word0 old new e × (IsSorted t → Bounded t hash.word0 old new))
     ⊎ LooksUp t offset hash.word0 old new (LookupRefused offset old new e)
 

@@ -3,7 +3,7 @@ use Rattle.std.specs.Prelude.{◌≡◌, List, sum_by}
 use Rattle.xet_records.specs.declared.file_structs.MDBFileInfo.{MDBFileInfo}
 use Rattle.xet_records.specs.declared.xorb_structs.MDBXorbInfo.{MDBXorbInfo}
 use Rattle.xet_records.specs.FileRecord.{size_of_file}
-use Rattle.xet_shards.specs.declared.shard_format.section_writer.WrittenFiles.{WrittenFiles}
+use Rattle.xet_shards.specs.declared.shard_format.file_writer.WrittenFiles.{WrittenFiles}
 use Rattle.xet_shards.specs.declared.shard_format.xorb_writer.WrittenXorbs.{WrittenXorbs}
 use Rattle.xet_shards.specs.Shard.{total_rows, total_xorb_rows}
 use Rattle.xet_shards.specs.Tables.{file_table_bytes, xorb_table_bytes, chunk_table}

@@ -7,7 +7,7 @@ mod footer_facts;
 mod header;
 mod info;
 mod section_reader;
-mod section_writer;
+mod file_writer;
 mod table_reader;
 mod truncated_hashes;
 mod writer;

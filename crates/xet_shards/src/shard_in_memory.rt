@@ -6,21 +6,21 @@ ghost use Rattle.xet_base.specs.declared.merklehash.DataHash.{DataHash};
 ghost use Rattle.xet_records.specs.FileRecord.{size_of_file, IsWellFormed};
 ghost use Rattle.xet_records.specs.XorbRecord.{IsXorb};
 ghost use Rattle.xet_shards.specs.Shard.{IsShard, empty_shard, AreFiles, AreXorbs, total_rows, total_xorb_rows, add_file, add_xorb, CanAddFile, CanAddXorb};
-ghost use Rattle.xet_shards.specs.Index.{IsIndex};
-ghost use Rattle.xet_shards.specs.XorbTable.{shown_xorbs, placed};
+ghost use Rattle.xet_shards.specs.ChunkLookup.{IsChunkLookup};
+ghost use Rattle.xet_shards.specs.XorbStore.{shown_xorbs, placed};
 ghost use Rattle.xet_shards.specs.SetOperations.{IsUnion, IsDifference, HasFewRows, CanUnite, ShardsAgree};
 ghost use Rattle.xet_shards.specs.Joins.{IsJoinOf};
 ghost use Rattle.xet_shards.specs.ChunkQuery.{query_answer, IsUnknown};
 ghost use Rattle.xet_shards.specs.Layout.{layout};
 
 mod chunk_query;
-mod file_table;
+mod file_store;
 mod sums;
 mod union_rows;
-mod xorb_table;
+mod xorb_store;
 
 use chunk_query::chunk_hash_dedup_query;
-use file_table::FileTable;
+use file_store::FileStore;
 use std::alloc::Global;
 use std::collections::{BTreeMap, HashMap};
 use std::marker::Model;
@@ -31,7 +31,7 @@ use xet_base::error::{CoreError, Result};
 use xet_base::merklehash::MerkleHash;
 use xet_records::file_structs::{FileDataSequenceEntry, MDBFileInfo};
 use xet_records::xorb_structs::MDBXorbInfo;
-use xorb_table::XorbTable;
+use xorb_store::XorbStore;
 
 /// A shard that grows in memory: what is known of files and of xorbs, each under its hash, and a place of
 /// each chunk of these xorbs.
@@ -39,20 +39,20 @@ use xorb_table::XorbTable;
 /// Contracts see its two maps and the places.
 #[derive(Drop)]
 pub struct MDBInMemoryShard {
-    files: FileTable,
-    xorbs: XorbTable,
+    files: FileStore,
+    xorbs: XorbStore,
     // The rows of all files, and those of all xorbs.
     file_rows: u64,
     xorb_rows: u64,
 }
 
 impl Model for MDBInMemoryShard {
-    ghost use Rattle.xet_shards.specs.Index.{IndexedShard, coded_indexed_shard};
+    ghost use Rattle.xet_shards.specs.ChunkLookup.{ShardWithLookup, coded_shard_with_lookup};
     ghost use Rattle.xet_shards.specs.InMemoryShard.{shard_inside, IsCounted};
 
-    ghost Value = { IndexedShard };
+    ghost Value = { ShardWithLookup };
 
-    ghost coded = { coded_indexed_shard };
+    ghost coded = { coded_shard_with_lookup };
 
     ghost view = { shard_inside };
 
@@ -65,8 +65,8 @@ impl MDBInMemoryShard {
         ensures { result ≡ record { content = empty_shard; places = finite.empty } }
     {
         MDBInMemoryShard {
-            files: FileTable::new(alloc),
-            xorbs: XorbTable::new(alloc),
+            files: FileStore::new(alloc),
+            xorbs: XorbStore::new(alloc),
             file_rows: 0,
             xorb_rows: 0,
         }
@@ -86,7 +86,7 @@ impl MDBInMemoryShard {
         ensures causes { IfErr result
             (λ e. (e ≡ CoreError.InvalidArguments) ⊎ (e ≡ CoreError.OutOfMemory)) }
     {
-        if !xorb_table::is_well_formed(&xorb_block) {
+        if !xorb_store::is_well_formed(&xorb_block) {
             return Err(CoreError::InvalidArguments);
         }
         let rows = self.rows_with_xorb(&xorb_block);
@@ -125,7 +125,7 @@ impl MDBInMemoryShard {
         ensures causes { IfErr result
             (λ e. (e ≡ CoreError.InvalidArguments) ⊎ (e ≡ CoreError.OutOfMemory)) }
     {
-        if !file_table::is_well_formed(&file_info) {
+        if !file_store::is_well_formed(&file_info) {
             return Err(CoreError::InvalidArguments);
         }
         let rows = self.rows_with_file(&file_info);
@@ -179,7 +179,7 @@ impl MDBInMemoryShard {
     /// such a chunk in it.
     pub fn chunk_hash_lookup(&self) -> &HashMap<MerkleHash, (Rc<MDBXorbInfo>, u64)>
         ensures places { (q : DataHash) → placed result.now q ≡ finite.get self.now.places q }
-        ensures index { IsIndex self.now.content.xorbs (finite.get self.now.places) }
+        ensures index { IsChunkLookup self.now.content.xorbs (finite.get self.now.places) }
     {
         self.xorbs.lookup()
     }
@@ -232,7 +232,7 @@ impl MDBInMemoryShard {
     }
 
     // The shard of these tables, of which 32 bits count the rows.
-    fn of_tables(files: FileTable, xorbs: XorbTable) -> MDBInMemoryShard
+    fn of_tables(files: FileStore, xorbs: XorbStore) -> MDBInMemoryShard
         requires { HasFewRows (record { files = files; xorbs = xorbs.xorbs }) }
         ensures { result ≡ record { content = record { files = files; xorbs = xorbs.xorbs }; places = xorbs.places } }
     {

@@ -1,4 +1,4 @@
-//! Small calls on hashes, names of shards and moments.
+//! Small calls on hashes, names of shards and timestamps.
 
 ghost use Rattle.std.specs.Prelude.{◌≡◌, ◌+◌, ◌^◌, ◌<◌, ◌≤◌, ◌↔◌, MatchResult, IsSome, IfSome, IfOk, IfErr, Some, string_bytes};
 ghost use Rattle.xet_base.specs.Hash.{IsHash};
@@ -48,13 +48,13 @@ fn widths(hash: MerkleHash)
     ensures { IsHash hash }
 {}
 
-/// The moment so many seconds from now, in seconds. `InvalidArguments` past 64 bits.
+/// The timestamp so many seconds from now, in seconds. `InvalidArguments` past 64 bits.
 pub fn shard_expiry_time(now: u64, valid_seconds: u64) -> Result<u64>
-    ensures { MatchResult result (λ moment. (moment ≡ now + valid_seconds) × (now + valid_seconds < 2 ^ 64))
+    ensures { MatchResult result (λ timestamp. (timestamp ≡ now + valid_seconds) × (now + valid_seconds < 2 ^ 64))
         (λ e. (e ≡ CoreError.InvalidArguments) × (2 ^ 64 ≤ now + valid_seconds)) }
 {
     match now.checked_add(valid_seconds) {
-        Some(moment) => Ok(moment),
+        Some(timestamp) => Ok(timestamp),
         None => Err(CoreError::InvalidArguments),
     }
 }

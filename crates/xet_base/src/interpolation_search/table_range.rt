@@ -1,7 +1,7 @@
 //! Where a table stands in a source.
 
 ghost use Rattle.std.specs.Prelude.{◌≡◌, ◌⊎◌, ◌+◌, ◌^◌, ◌<◌, ◌≤◌, IfSome, IfNone};
-ghost use Rattle.xet_base.specs.Table.{row_place};
+ghost use Rattle.xet_base.specs.Table.{offset_of_row};
 
 /// The rows of a table: a key of eight bytes and a value of `width` bytes each, from `start` on.
 /// Their places and numbers fit 64 bits.
@@ -11,15 +11,15 @@ pub struct TableRange {
     pub rows: u64,
     pub width: u64,
     pub ghost countable: { rows + 1 < 2 ^ 64 },
-    pub ghost placed: { row_place start width rows < 2 ^ 64 },
+    pub ghost placed: { offset_of_row start width rows < 2 ^ 64 },
 }
 
 impl TableRange {
     /// The range of these numbers, or `None` where `rows + 1` or the table's end is past 64 bits.
-    #[tactic(auto, unfolding(crate::specs::Table::row_place))]
+    #[tactic(auto, unfolding(crate::specs::Table::offset_of_row))]
     pub fn new(start: u64, rows: u64, width: u64) -> Option<TableRange>
         ensures some { IfSome result (λ r. (r.start ≡ start) × (r.rows ≡ rows) × (r.width ≡ width)) }
-        ensures none { IfNone result ((2 ^ 64 ≤ rows + 1) ⊎ (2 ^ 64 ≤ row_place start width rows)) }
+        ensures none { IfNone result ((2 ^ 64 ≤ rows + 1) ⊎ (2 ^ 64 ≤ offset_of_row start width rows)) }
     {
         if rows == u64::MAX {
             return None;
@@ -31,10 +31,10 @@ impl TableRange {
     }
 
     /// The place of a row, counted from 0, or the table's end.
-    #[tactic(auto, unfolding(crate::specs::Table::row_place))]
-    pub fn place(&self, row: u64) -> u64
+    #[tactic(auto, unfolding(crate::specs::Table::offset_of_row))]
+    pub fn row_offset(&self, row: u64) -> u64
         requires { row ≤ self.now.rows }
-        ensures { result ≡ row_place self.now.start self.now.width row }
+        ensures { result ≡ offset_of_row self.now.start self.now.width row }
     {
         if row == 0 {
             return self.start;

@@ -3,11 +3,11 @@
 ghost use Rattle.std.specs.Prelude.{◌≡◌, ◌⊎◌, ℕ, Option, ◌+◌, ◌<◌, ◌≤◌, ◌^◌, length, min, MatchResult, OnOk, IfOk, IfErr};
 ghost use Rattle.std.specs.FinMap as finite;
 ghost use Rattle.xet_base.specs.Bytes.{u32_bytes};
-ghost use Rattle.xet_base.specs.Source.{FillsNot, next_bytes};
+ghost use Rattle.xet_base.specs.Source.{FillFails, next_bytes};
 ghost use Rattle.xet_base.specs.Table.{table_at, Finds, FitsTable, SearchRefused, hits, IsSorted, Serves, Bounded, IsEven, ReadsOn};
 ghost use Rattle.xet_shards.specs.Shard.{Shard, IsShard};
 ghost use Rattle.xet_shards.specs.Layout.{layout, info_value};
-ghost use Rattle.xet_shards.specs.Lookup.{StartsInShard, NoStartsInShard, FoundInShard, NotFoundInShard, WithinBounds, SearchWithinBounds, file_table, IsNumber, IndexFinds, IndexRefused, ReadsInfo, ReadsInfoNot, VisitsSome, Finding, FindingNot, LookupAnswer, LookupRefused};
+ghost use Rattle.xet_shards.specs.Lookup.{StartsInShard, NoStartsInShard, FoundInShard, NotFoundInShard, WithinBounds, SearchWithinBounds, file_table, IsNumber, IndexFinds, IndexRefused, ReadsInfo, ReadInfoFails, VisitsSome, Finding, FindingFails, LookupAnswer, LookupRefused};
 
 use super::info::MDBShardInfo;
 use super::section_reader::read_file_record;
@@ -65,7 +65,7 @@ impl MDBShardInfo {
     ) -> Result<MDBFileInfo>
         ensures { MatchResult result
             (ReadsInfo self.now.metadata.file_info_offset row (S.meaning source.old) (S.meaning source.new))
-            (ReadsInfoNot self.now.metadata.file_info_offset row (S.meaning source.old) (S.meaning source.new)) }
+            (ReadInfoFails self.now.metadata.file_info_offset row (S.meaning source.old) (S.meaning source.new)) }
     {
         let place = 48 * u64::from(row);
         let Some(place) = self.metadata.file_info_offset.checked_add(place) else {
@@ -92,7 +92,7 @@ impl MDBShardInfo {
     ) -> Result<Option<MDBFileInfo>>
         ensures read { MatchResult result
             (Finding (file_table self.now.metadata (S.meaning source.old)) self.now.metadata.file_info_offset hash.now (S.meaning source.old) (S.meaning source.new))
-            (FindingNot (file_table self.now.metadata (S.meaning source.old)) self.now.metadata.file_info_offset hash.now (S.meaning source.old) (S.meaning source.new)) }
+            (FindingFails (file_table self.now.metadata (S.meaning source.old)) self.now.metadata.file_info_offset hash.now (S.meaning source.old) (S.meaning source.new)) }
         ensures serves { OnOk result (Serves (S.meaning source.old) (S.meaning source.new)) }
         ensures kept { (S.meaning source.new).bytes ≡ (S.meaning source.old).bytes }
         ensures written { (s : Shard) → (expiry : Option ℕ) → IsShard s → (S.meaning source.old).bytes ≡ layout s expiry → self.now ≡ info_value s expiry
@@ -115,7 +115,7 @@ impl MDBShardInfo {
     ) -> Result<Option<MDBFileInfo>>
         ensures read { MatchResult result
             (Finding (file_table self.now.metadata (S.meaning source.old)) self.now.metadata.file_info_offset hash.now (S.meaning source.old) (S.meaning source.new))
-            (FindingNot (file_table self.now.metadata (S.meaning source.old)) self.now.metadata.file_info_offset hash.now (S.meaning source.old) (S.meaning source.new)) }
+            (FindingFails (file_table self.now.metadata (S.meaning source.old)) self.now.metadata.file_info_offset hash.now (S.meaning source.old) (S.meaning source.new)) }
         ensures serves { OnOk result (Serves (S.meaning source.old) (S.meaning source.new)) }
         ensures kept { (S.meaning source.new).bytes ≡ (S.meaning source.old).bytes }
     {
@@ -210,7 +210,7 @@ fn search_row_numbers<S: ShardSource>(
 fn read_row_number<S: ShardSource>(source: &mut S) -> io::Result<u32>
     ensures { MatchResult result
         (λ row. ReadsOn (S.meaning source.old) (S.meaning source.new) 4 × (row < 2 ^ 32) × (next_bytes (S.meaning source.old) 4 ≡ u32_bytes row))
-        (FillsNot (S.meaning source.old) (S.meaning source.new) 4) }
+        (FillFails (S.meaning source.old) (S.meaning source.new) 4) }
 {
     let mut bytes = [0u8; 4];
     read_full(source, &mut bytes)?;

@@ -4,8 +4,8 @@ ghost use Rattle.std.specs.Prelude.{◌≡◌, ◌≢◌, ◌⊎◌, [], ◌∷�
 ghost use Rattle.std.specs.Io.KnownBytes.{Appends, Consumes};
 ghost use Rattle.xet_base.specs.Bytes.{u64_bytes};
 ghost use Rattle.xet_base.specs.Errors.{IsShardVersion, IsBareShardVersion, IsDeviceError, IsEndOfInput};
-ghost use Rattle.xet_shards.specs.Ends.{HasForeignFooter, EndsInFooter, FitsFooter};
-ghost use Rattle.xet_shards.specs.Layout.{footer_text, default_footer};
+ghost use Rattle.xet_shards.specs.Ends.{HasUnsupportedFooter, EndsInFooter, FitsFooter};
+ghost use Rattle.xet_shards.specs.Layout.{shard_footer_bytes, default_footer};
 
 use std::alloc::Global;
 use std::io::{Read, Write};
@@ -17,7 +17,7 @@ use xet_base::serialization_utils::{read_bytes, write_hash, write_u64s};
 const MDB_SHARD_FOOTER_VERSION: u64 = 1;
 
 /// The footer of a shard: where its parts stand and what they hold. Offsets are in bytes from the start
-/// of the shard, moments in seconds.
+/// of the shard, timestamps in seconds.
 #[derive(Clone, Copy, Debug, PartialEq, Eq)]
 pub struct MDBShardFileFooter {
     pub version: u64,
@@ -32,7 +32,7 @@ pub struct MDBShardFileFooter {
     /// The key of the chunk hashes; all zero means that they are not keyed.
     pub chunk_hash_hmac_key: HMACKey,
     pub shard_creation_timestamp: u64,
-    /// The moment after which the shard is no longer valid.
+    /// The timestamp after which the shard is no longer valid.
     pub shard_key_expiry: u64,
     pub _buffer: [u64; 6],
     pub stored_bytes_on_disk: u64,
@@ -69,10 +69,10 @@ impl Default for MDBShardFileFooter {
 
 impl MDBShardFileFooter {
     /// Appends the footer and returns its 200 bytes. The error is the writer's.
-    #[tactic(auto, unfolding(crate::specs::Layout::footer_text))]
+    #[tactic(auto, unfolding(crate::specs::Layout::shard_footer_bytes))]
     pub fn serialize<W: Write>(&self, writer: &mut W) -> Result<usize>
         ensures text { OnOk result
-            (Appends (W.contents writer.old) (W.contents writer.new) (footer_text self.now)) }
+            (Appends (W.contents writer.old) (W.contents writer.new) (shard_footer_bytes self.now)) }
         ensures count { IfOk result (λ n. n ≡ 200) }
         ensures causes { IfErr result IsDeviceError }
     {
@@ -109,9 +109,9 @@ impl MDBShardFileFooter {
     pub fn deserialize<R: Read>(alloc: Global, reader: &mut R) -> Result<Self>
         ensures version { IfOk result (λ f. f.version ≡ 1) }
         ensures text { IfOk result
-            (λ f. Consumes (R.remaining reader.old) (R.remaining reader.new) (footer_text f)) }
+            (λ f. Consumes (R.remaining reader.old) (R.remaining reader.new) (shard_footer_bytes f)) }
         ensures foreign { IfErr result
-            (λ e. IsShardVersion e → IfSome (R.remaining reader.old) HasForeignFooter) }
+            (λ e. IsShardVersion e → IfSome (R.remaining reader.old) HasUnsupportedFooter) }
         ensures end { IfErr result (λ e. IsEndOfInput e → IfSome (R.remaining reader.old) EndsInFooter) }
         ensures causes { IfErr result (λ e. IsDeviceError e ⊎ IsBareShardVersion e) }
     {
@@ -124,17 +124,17 @@ impl MDBShardFileFooter {
     }
 
     // The footer whose version was read, from the 192 bytes after it.
-    #[tactic(auto, unfolding(crate::specs::Layout::footer_text))]
+    #[tactic(auto, unfolding(crate::specs::Layout::shard_footer_bytes))]
     pub(super) fn after_version(rest: &[u8; 192]) -> Self
         ensures version { result.version ≡ 1 }
-        ensures text { footer_text result ≡ u64_bytes 1 ++ rest.now }
+        ensures text { shard_footer_bytes result ≡ u64_bytes 1 ++ rest.now }
         ensures widths { FitsFooter result }
     {
         let mut offsets = [0u64; 8];
         let rest = split_u64s(rest, &mut offsets);
         let (chunk_hash_hmac_key, rest) = split_hash(rest);
-        let mut moments = [0u64; 2];
-        let rest = split_u64s(rest, &mut moments);
+        let mut timestamps = [0u64; 2];
+        let rest = split_u64s(rest, &mut timestamps);
         let mut _buffer = [0u64; 6];
         let rest = split_u64s(rest, &mut _buffer);
         let mut sums = [0u64; 4];
@@ -150,8 +150,8 @@ impl MDBShardFileFooter {
             chunk_lookup_offset: offsets[6],
             chunk_lookup_num_entry: offsets[7],
             chunk_hash_hmac_key,
-            shard_creation_timestamp: moments[0],
-            shard_key_expiry: moments[1],
+            shard_creation_timestamp: timestamps[0],
+            shard_key_expiry: timestamps[1],
             _buffer,
             stored_bytes_on_disk: sums[0],
             materialized_bytes: sums[1],

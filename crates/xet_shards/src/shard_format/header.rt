@@ -4,8 +4,8 @@ ghost use Rattle.std.specs.Prelude.{◌≡◌, ◌≢◌, ◌⊎◌, ◌^◌, �
 ghost use Rattle.std.specs.Io.KnownBytes.{Appends, Consumes};
 ghost use Rattle.xet_base.specs.Bytes.{u64_bytes};
 ghost use Rattle.xet_base.specs.Errors.{IsShardVersion, IsBareShardVersion, IsDeviceError, IsEndOfInput};
-ghost use Rattle.xet_shards.specs.Ends.{HasForeignHeader, EndsInHeader};
-ghost use Rattle.xet_shards.specs.Layout.{header_tag, header_text, header_value};
+ghost use Rattle.xet_shards.specs.Ends.{HasUnsupportedHeader, EndsInHeader};
+ghost use Rattle.xet_shards.specs.Layout.{header_tag, shard_header_bytes, header_value};
 
 use std::alloc::Global;
 use std::io::{Read, Write};
@@ -47,10 +47,10 @@ impl Default for MDBShardFileHeader {
 impl MDBShardFileHeader {
     /// Appends the tag and the value's version and footer size, and returns their 48 bytes. The error is
     /// the writer's.
-    #[tactic(auto, unfolding(crate::specs::Layout::header_text))]
+    #[tactic(auto, unfolding(crate::specs::Layout::shard_header_bytes))]
     pub fn serialize<W: Write>(&self, writer: &mut W) -> Result<usize>
         ensures text { OnOk result
-            (Appends (W.contents writer.old) (W.contents writer.new) (header_text self.now)) }
+            (Appends (W.contents writer.old) (W.contents writer.new) (shard_header_bytes self.now)) }
         ensures count { IfOk result (λ n. n ≡ 48) }
         ensures causes { IfErr result IsDeviceError }
     {
@@ -62,13 +62,13 @@ impl MDBShardFileHeader {
 
     /// Reads the header. `ShardVersion` where the tag is another, as soon as its 32 bytes are read, or the
     /// version is not 2, `UnexpectedEof` where the bytes end before that.
-    #[tactic(auto, unfolding(crate::specs::Layout::header_text))]
+    #[tactic(auto, unfolding(crate::specs::Layout::shard_header_bytes))]
     pub fn deserialize<R: Read>(alloc: Global, reader: &mut R) -> Result<Self>
         ensures tag { IfOk result (λ h. (h.tag ≡ header_tag) × (h.version ≡ 2)) }
         ensures text { IfOk result
-            (λ h. Consumes (R.remaining reader.old) (R.remaining reader.new) (header_text h)) }
+            (λ h. Consumes (R.remaining reader.old) (R.remaining reader.new) (shard_header_bytes h)) }
         ensures foreign { IfErr result
-            (λ e. IsShardVersion e → IfSome (R.remaining reader.old) HasForeignHeader) }
+            (λ e. IsShardVersion e → IfSome (R.remaining reader.old) HasUnsupportedHeader) }
         ensures end { IfErr result (λ e. IsEndOfInput e → IfSome (R.remaining reader.old) EndsInHeader) }
         ensures causes { IfErr result (λ e. IsDeviceError e ⊎ IsBareShardVersion e) }
     {

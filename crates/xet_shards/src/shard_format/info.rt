@@ -6,13 +6,13 @@ ghost use Rattle.std.specs.Io.KnownBytes.{Appends};
 ghost use Rattle.xet_base.specs.Errors.{IsDeviceError};
 ghost use Rattle.xet_base.specs.Table.{IsBareInvalidShard};
 ghost use Rattle.xet_shards.specs.Shard.{Shard, IsShard};
-ghost use Rattle.xet_shards.specs.Layout.{layout, info_value, header_tag, header_text, footer_text};
+ghost use Rattle.xet_shards.specs.Layout.{layout, info_value, header_tag, shard_header_bytes, shard_footer_bytes};
 ghost use Rattle.xet_base.specs.Source.{Takes, DeviceFailure};
 ghost use Rattle.xet_records.specs.FileRecord.{file_records};
 ghost use Rattle.xet_records.specs.XorbRecord.{xorb_records};
 ghost use Rattle.xet_shards.specs.SectionReading.{ReadsSection, SectionFails};
 ghost use Rattle.xet_shards.specs.XorbHeaders.{xorb_headers, ReadsXorbHeaders};
-ghost use Rattle.xet_shards.specs.Ends.{HasForeignHeader, EndsInHeader, HasForeignFooter, EndsInFooter, FitsFooter, PartFails, Loads, LoadsNot};
+ghost use Rattle.xet_shards.specs.Ends.{HasUnsupportedHeader, EndsInHeader, HasUnsupportedFooter, EndsInFooter, FitsFooter, PartFails, Loads, LoadFails};
 
 use super::footer::{MDBShardFileFooter, check_version};
 use super::header::{MDBShardFileHeader, check_tag};
@@ -45,14 +45,14 @@ impl MDBShardInfo {
     /// where the source has too few bytes.
     pub fn load_from_reader<S: ShardSource>(alloc: Global, source: &mut S) -> Result<Self>
         ensures read { MatchResult result (Loads (S.meaning source.old) (S.meaning source.new))
-            (LoadsNot (S.meaning source.old) (S.meaning source.new)) }
+            (LoadFails (S.meaning source.old) (S.meaning source.new)) }
         ensures written { (s : Shard) → (expiry : Option ℕ) → IsShard s → IfSome expiry (λ e. e < 2 ^ 64) → (S.meaning source.old).bytes ≡ layout s expiry
             → MatchResult result (λ info. info ≡ info_value s expiry) (DeviceFailure (S.meaning source.old) (S.meaning source.new)) }
     {
         read_ends(alloc, source)
     }
 
-    /// Writes a shard: header, sections, tables and footer. The expiry is a moment in seconds, or none.
+    /// Writes a shard: header, sections, tables and footer. The expiry is a timestamp in seconds, or none.
     /// Returns what a reader of these bytes finds in header and footer.
     ///
     /// The error is the writer's, or `OutOfMemory` where the tables find none.
@@ -158,7 +158,7 @@ impl MDBShardInfo {
 // Reads the header at the front and the footer at the end.
 fn read_ends<S: ShardSource>(alloc: Global, source: &mut S) -> Result<MDBShardInfo>
     ensures { MatchResult result (Loads (S.meaning source.old) (S.meaning source.new))
-        (LoadsNot (S.meaning source.old) (S.meaning source.new)) }
+        (LoadFails (S.meaning source.old) (S.meaning source.new)) }
 {
     source.seek_to(0)?;
     let header = read_header(alloc, source)?;
@@ -172,15 +172,15 @@ fn read_ends<S: ShardSource>(alloc: Global, source: &mut S) -> Result<MDBShardIn
 }
 
 /// Reads a header from the source's place on.
-#[tactic(auto, unfolding(crate::specs::Layout::header_text))]
+#[tactic(auto, unfolding(crate::specs::Layout::shard_header_bytes))]
 pub(super) fn read_header<S: ShardSource>(
     alloc: Global,
     source: &mut S,
 ) -> Result<MDBShardFileHeader>
-    ensures read { IfOk result (λ h. Takes (S.meaning source.old) (S.meaning source.new) (header_text h)) }
+    ensures read { IfOk result (λ h. Takes (S.meaning source.old) (S.meaning source.new) (shard_header_bytes h)) }
     ensures known { IfOk result (λ h. (h.tag ≡ header_tag) × (h.version ≡ 2) × (h.footer_size < 2 ^ 64)) }
     ensures refused { IfErr result
-        (PartFails HasForeignHeader EndsInHeader 48 (S.meaning source.old) (S.meaning source.new)) }
+        (PartFails HasUnsupportedHeader EndsInHeader 48 (S.meaning source.old) (S.meaning source.new)) }
 {
     let mut tag = [0u8; 32];
     read_full(source, &mut tag)?;
@@ -192,10 +192,10 @@ pub(super) fn read_header<S: ShardSource>(
 
 // Reads a footer from the source's place on.
 fn read_footer<S: ShardSource>(alloc: Global, source: &mut S) -> Result<MDBShardFileFooter>
-    ensures read { IfOk result (λ f. Takes (S.meaning source.old) (S.meaning source.new) (footer_text f)) }
+    ensures read { IfOk result (λ f. Takes (S.meaning source.old) (S.meaning source.new) (shard_footer_bytes f)) }
     ensures known { IfOk result (λ f. (f.version ≡ 1) × FitsFooter f) }
     ensures refused { IfErr result
-        (PartFails HasForeignFooter EndsInFooter 200 (S.meaning source.old) (S.meaning source.new)) }
+        (PartFails HasUnsupportedFooter EndsInFooter 200 (S.meaning source.old) (S.meaning source.new)) }
 {
     let mut version = [0u8; 8];
     read_full(source, &mut version)?;

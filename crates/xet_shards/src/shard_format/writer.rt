@@ -12,13 +12,13 @@ ghost use Rattle.xet_shards.specs.Shard.{IsShard, AreFiles, AreXorbs, total_rows
 ghost use Rattle.xet_shards.specs.Section.{file_section, xorb_section};
 ghost use Rattle.xet_shards.specs.Tables.{place_row};
 ghost use Rattle.xet_shards.specs.Written.{HasWritten, HasWrittenXorbs};
-ghost use Rattle.xet_shards.specs.XorbTable.{shown_xorbs};
+ghost use Rattle.xet_shards.specs.XorbStore.{shown_xorbs};
 ghost use Rattle.xet_shards.specs.Layout.{layout, footer_value, plain_form};
 ghost use Rattle.xet_shards.specs.Ends.{FitsFooter};
 
 use super::footer::MDBShardFileFooter;
 use super::info::MDBShardInfo;
-use super::section_writer::WrittenFiles;
+use super::file_writer::WrittenFiles;
 use super::xorb_writer::{ChunkPlace, WrittenXorbs};
 use crate::shard_in_memory::MDBInMemoryShard;
 use std::alloc::Global;

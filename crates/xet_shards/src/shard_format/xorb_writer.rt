@@ -3,10 +3,10 @@
 ghost use Rattle.std.specs.Prelude.{◌≡◌, ◌+◌, ◌*◌, ◌≤◌, ◌++◌, [], List, length, OnOk, IfErr};
 ghost use Rattle.std.specs.Io.KnownBytes.{Appends};
 ghost use Rattle.xet_base.specs.Errors.{IsDeviceError};
-ghost use Rattle.xet_records.specs.XorbRecord.{xorb_text, xorb_row_count, IsXorb};
+ghost use Rattle.xet_records.specs.XorbRecord.{xorb_record_bytes, xorb_row_count, IsXorb};
 ghost use Rattle.xet_shards.specs.Tables.{start_row, place_row, places_from, ascending};
 
-use super::section_writer::append_start;
+use super::file_writer::append_start;
 use std::alloc::Global;
 use std::collections::BTreeSet;
 use std::io::Write;
@@ -74,7 +74,7 @@ impl WrittenXorbs {
         requires well_formed { IsXorb xorb.now }
         requires rows { self.old.rows + xorb_row_count xorb.now ≤ 4294967295 }
         ensures text { OnOk result
-            (Appends (W.contents writer.old) (W.contents writer.new) (xorb_text xorb.now)) }
+            (Appends (W.contents writer.old) (W.contents writer.new) (xorb_record_bytes xorb.now)) }
         ensures rows { OnOk result (self.new.rows ≡ self.old.rows + xorb_row_count xorb.now) }
         ensures table { OnOk result
             (self.new.table.items ≡ self.old.table.items ++ start_row (xorb.now.metadata.xorb_hash.word0, self.old.rows)) }

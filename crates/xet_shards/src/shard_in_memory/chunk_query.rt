@@ -4,7 +4,7 @@ ghost use Rattle.std.specs.Prelude.{◌≡◌, ◌≤◌, ◌↔◌, None, lengt
 ghost use Rattle.xet_records.specs.XorbRecord.{IsXorb};
 ghost use Rattle.xet_shards.specs.ChunkQuery.{run_length, run_at, query_answer, IsUnknown};
 
-use super::xorb_table::XorbTable;
+use super::xorb_store::XorbStore;
 use xet_base::merklehash::MerkleHash;
 use xet_records::file_structs::FileDataSequenceEntry;
 use xet_records::xorb_structs::{MDBXorbInfo, XorbChunkSequenceEntry};
@@ -12,7 +12,7 @@ use xet_records::xorb_structs::{MDBXorbInfo, XorbChunkSequenceEntry};
 /// The longest run of these hashes at the place that the lookup keeps for the first of them: how many of
 /// them, and the segment of their chunks. `None` where there is no hash, or no xorb has the first.
 pub fn chunk_hash_dedup_query(
-    xorbs: &XorbTable,
+    xorbs: &XorbStore,
     query_hashes: &[MerkleHash],
 ) -> Option<(usize, FileDataSequenceEntry)>
     ensures answer { result ≡ query_answer xorbs.now.places query_hashes.now }

@@ -5,7 +5,7 @@ ghost use Rattle.std.specs.Map.{values_of};
 ghost use Rattle.std.specs.BTreeMap.{values};
 ghost use Rattle.xet_records.specs.FileRecord.{size_of_file};
 ghost use Rattle.xet_shards.specs.Shard.{AreFiles, AreXorbs, total_rows, total_xorb_rows};
-ghost use Rattle.xet_shards.specs.XorbTable.{shown_xorbs};
+ghost use Rattle.xet_shards.specs.XorbStore.{shown_xorbs};
 
 use std::collections::BTreeMap;
 use std::rc::Rc;

@@ -12,10 +12,10 @@ ghost use Rattle.xet_records.specs.FileRecord.{row_count, IsWellFormed};
 ghost use Rattle.xet_records.specs.Merging.{IsSameFile};
 ghost use Rattle.xet_shards.specs.Shard.{FileMap, XorbMap, AreFiles, AreXorbs, total_rows, total_xorb_rows};
 ghost use Rattle.xet_shards.specs.Joining.{entry, CanJoinFiles, either_file};
-ghost use Rattle.xet_shards.specs.XorbTable.{shown_xorbs};
+ghost use Rattle.xet_shards.specs.XorbStore.{shown_xorbs};
 
-use super::file_table::{FileTable, joined_rows};
-use super::xorb_table::XorbTable;
+use super::file_store::{FileStore, joined_rows};
+use super::xorb_store::XorbStore;
 use std::collections::BTreeMap;
 use std::rc::Rc;
 use xet_base::merklehash::MerkleHash;
@@ -25,7 +25,7 @@ use xet_records::xorb_structs::MDBXorbInfo;
 /// The rows of the union of these files and those of `other`, which has `other_rows`.
 pub fn united_file_rows(
     files: &BTreeMap<MerkleHash, MDBFileInfo>,
-    other: &FileTable,
+    other: &FileStore,
     other_rows: u64,
 ) -> u64
     requires sorted { T (is_sorted hash_cmp files.now.entries) }
@@ -63,7 +63,7 @@ fn rows_added(file_info: &MDBFileInfo, twin: Option<&MDBFileInfo>) -> u64
 /// The rows of the union of these xorbs and those of `other`, which has `other_rows`.
 pub fn united_xorb_rows(
     xorbs: &BTreeMap<MerkleHash, Rc<MDBXorbInfo>>,
-    other: &XorbTable,
+    other: &XorbStore,
     other_rows: u64,
 ) -> u64
     requires sorted { T (is_sorted hash_cmp (shown_xorbs xorbs.now.entries)) }

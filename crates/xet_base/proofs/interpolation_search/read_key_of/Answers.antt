@@ -8,4 +8,4 @@ pub returns : goal.returns
 returns g c =
     let old = g.S.ShardSource.meaning c.args.source.now in
     key_read (table_in c.args.range old.bytes) c.args.row old _ _ c.read_key.result refl c.requires
-    (c.in_ok-seek_to.ensures ∙ ap (moved old) c.place.ensures) c.read_key.ensures
+    (c.in_ok-seek_to.ensures ∙ ap (moved old) c.row_offset.ensures) c.read_key.ensures

@@ -108,5 +108,5 @@ returns-clause-bounds g c sorted =
     let new = g.S.ShardSource.meaning c.collect.new.source in
     let same = ap (λ s. s.bytes) c.in_ok-seek_to.ensures ∙ c.loop-window.invariant.serves.bytes in
     bounded_passes t c.args.key _ w _ now c.args.results.now c.loop-window.results c.loop-window.count c.loop-window.invariant sorted mid new
-    (omega (arith, c.loop-window-test.false)) (c.in_ok-seek_to.ensures ∙ ap (moved now) c.place.ensures)
+    (omega (arith, c.loop-window-test.false)) (c.in_ok-seek_to.ensures ∙ ap (moved now) c.row_offset.ensures)
     (subst (λ bytes. Passes (table_in c.args.range bytes) w.low (w.high - 1) mid new) same c.collect.ensures.passes)

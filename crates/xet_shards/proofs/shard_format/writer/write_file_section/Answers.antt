@@ -4,7 +4,7 @@ use Rattle.std.specs.Map.Iter.{deref}
 use Rattle.std.specs.Io.KnownBytes.{Appends}
 use Rattle.std.proofs.KnownBytes.{Appends-nil, Appends-trans}
 use Rattle.xet_records.specs.FileRow.{header_row}
-use Rattle.xet_records.specs.FileRecord.{IsWellFormed, record_text}
+use Rattle.xet_records.specs.FileRecord.{IsWellFormed, file_record_bytes}
 use Rattle.xet_shards.specs.Section.{file_section}
 use Rattle.xet_shards.specs.Written.{HasWritten}
 use Rattle.xet_shards.proofs.Files.{well_formed_values}
@@ -41,15 +41,15 @@ loop-file_info-preserved g c =
       all = value_turned _ c.loop-file_info.yielded _ c.in-Some.file_info whole;
       written = subst (HasWritten c.write.new.self) next
           (written_more c.loop-file_info.written c.write.new.self before file c.loop-file_info.invariant.written wrote.rows wrote.table wrote.bytes);
-      text = subst (λ files. Appends (g.W.Write.contents c.args.writer.now) (g.W.Write.contents c.write.new.writer) (flat_map record_text files)) next
-          (subst (Appends (g.W.Write.contents c.args.writer.now) (g.W.Write.contents c.write.new.writer)) (sym (flat_map-push record_text before file))
-          (Appends-trans _ (g.W.Write.contents c.loop-file_info.writer) _ (flat_map record_text before) (record_text file) c.loop-file_info.invariant.text wrote.text));
+      text = subst (λ files. Appends (g.W.Write.contents c.args.writer.now) (g.W.Write.contents c.write.new.writer) (flat_map file_record_bytes files)) next
+          (subst (Appends (g.W.Write.contents c.args.writer.now) (g.W.Write.contents c.write.new.writer)) (sym (flat_map-push file_record_bytes before file))
+          (Appends-trans _ (g.W.Write.contents c.loop-file_info.writer) _ (flat_map file_record_bytes before) (file_record_bytes file) c.loop-file_info.invariant.text wrote.text));
     }
 
 pub returns-clause-text : goal.returns-clause-text
 unfolding file_section
 returns-clause-text g c =
     let all = value_end _ c.loop-file_info.yielded _ _ _ c.loop-file_info.invariant.all c.in-None.is c.next.ensures.steps in
-    let files = subst (λ files. Appends (g.W.Write.contents c.args.writer.now) (g.W.Write.contents c.loop-file_info.writer) (flat_map record_text files)) all c.loop-file_info.invariant.text in
+    let files = subst (λ files. Appends (g.W.Write.contents c.args.writer.now) (g.W.Write.contents c.loop-file_info.writer) (flat_map file_record_bytes files)) all c.loop-file_info.invariant.text in
     let bookend = subst (λ h. Appends (g.W.Write.contents c.loop-file_info.writer) (g.W.Write.contents c.serialize.new.writer) (header_row h)) c.bookend.ensures c.in_ok-serialize.ensures.text in
     Appends-trans _ (g.W.Write.contents c.loop-file_info.writer) _ _ _ files bookend

@@ -2,7 +2,7 @@ use Rattle.std.proofs.Common.{◌≡◌, ◌++◌, map, flat_map}
 use Rattle.std.specs.BTreeMap.{values}
 use Rattle.std.specs.Map.Iter.{deref}
 use Rattle.std.specs.Io.KnownBytes.{Appends}
-use Rattle.xet_records.specs.FileRecord.{record_text}
+use Rattle.xet_records.specs.FileRecord.{file_record_bytes}
 use Rattle.xet_shards.specs.Written.{HasWritten}
 use Rattle.xet_shards.proofs.shard_format.writer.write_file_section.Given as goal
 
@@ -12,5 +12,5 @@ invariant-loop-file_info g l = record {
   finite : (goal.iterator-loop-file_info g).is_finite l.file_info-iterator;
   all : map deref l.yielded ++ l.file_info-iterator ≡ values l.files;
   written : HasWritten l.written (map deref l.yielded);
-  text : Appends (g.W.Write.contents l.initial.writer) (g.W.Write.contents l.writer) (flat_map record_text (map deref l.yielded));
+  text : Appends (g.W.Write.contents l.initial.writer) (g.W.Write.contents l.writer) (flat_map file_record_bytes (map deref l.yielded));
 }

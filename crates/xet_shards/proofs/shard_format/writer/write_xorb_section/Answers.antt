@@ -4,10 +4,10 @@ use Rattle.std.specs.Map.{values_of}
 use Rattle.std.specs.Io.KnownBytes.{Appends}
 use Rattle.std.proofs.KnownBytes.{Appends-nil, Appends-trans}
 use Rattle.xet_records.specs.XorbRow.{xorb_header_row}
-use Rattle.xet_records.specs.XorbRecord.{IsXorb, xorb_text, xorb_row_count}
+use Rattle.xet_records.specs.XorbRecord.{IsXorb, xorb_record_bytes, xorb_row_count}
 use Rattle.xet_shards.specs.Section.{xorb_section}
 use Rattle.xet_shards.specs.Written.{HasWrittenXorbs}
-use Rattle.xet_shards.specs.XorbTable.{shown_xorbs}
+use Rattle.xet_shards.specs.XorbStore.{shown_xorbs}
 use Rattle.xet_shards.proofs.Walks.{value_turn, value_turned, flat_map-push, sum-middle, All-middle}
 use Rattle.xet_shards.proofs.Written.{written_no_xorbs, written_xorb}
 use Rattle.xet_shards.proofs.Xorbs.{owned, seen, seen_turn, seen_end, seen_push, xorb_values}
@@ -57,9 +57,9 @@ loop-xorb-preserved g c =
       all = value_turned _ c.loop-xorb.yielded _ c.in-Some.xorb whole;
       written = subst (HasWrittenXorbs c.write.new.self) next
           (written_xorb c.loop-xorb.written c.write.new.self before xorb c.loop-xorb.invariant.written wrote.rows wrote.table wrote.places wrote.bytes wrote.bytes_on_disk);
-      text = subst (λ xorbs. Appends (contents c.args.writer.now) (contents c.write.new.writer) (flat_map xorb_text xorbs)) next
-          (subst (Appends (contents c.args.writer.now) (contents c.write.new.writer)) (sym (flat_map-push xorb_text before xorb))
-          (Appends-trans _ (contents c.loop-xorb.writer) _ (flat_map xorb_text before) (xorb_text xorb) c.loop-xorb.invariant.text wrote.text));
+      text = subst (λ xorbs. Appends (contents c.args.writer.now) (contents c.write.new.writer) (flat_map xorb_record_bytes xorbs)) next
+          (subst (Appends (contents c.args.writer.now) (contents c.write.new.writer)) (sym (flat_map-push xorb_record_bytes before xorb))
+          (Appends-trans _ (contents c.loop-xorb.writer) _ (flat_map xorb_record_bytes before) (xorb_record_bytes xorb) c.loop-xorb.invariant.text wrote.text));
     }
 
 pub returns-clause-text : goal.returns-clause-text
@@ -67,7 +67,7 @@ unfolding xorb_section
 returns-clause-text g c =
     let contents = g.W.Write.contents in
     let all = seen_end _ c.loop-xorb.yielded _ _ _ c.loop-xorb.invariant.all c.in-None.is c.next.ensures.steps in
-    let xorbs = subst (λ xorbs. Appends (contents c.args.writer.now) (contents c.loop-xorb.writer) (flat_map xorb_text xorbs)) all c.loop-xorb.invariant.text in
+    let xorbs = subst (λ xorbs. Appends (contents c.args.writer.now) (contents c.loop-xorb.writer) (flat_map xorb_record_bytes xorbs)) all c.loop-xorb.invariant.text in
     let bookend = subst (λ h. Appends (contents c.loop-xorb.writer) (contents c.serialize.new.writer) (xorb_header_row h)) c.bookend.ensures c.in_ok-serialize.ensures.text in
     Appends-trans _ (contents c.loop-xorb.writer) _ _ _ xorbs bookend
 

@@ -2,7 +2,7 @@ use Rattle.std.proofs.Common.{◌≡◌, ◌++◌, map, flat_map}
 use Rattle.std.specs.BTreeMap.{values}
 use Rattle.std.specs.Map.Iter.{deref}
 use Rattle.std.specs.Io.KnownBytes.{Appends}
-use Rattle.xet_records.specs.XorbRecord.{xorb_text}
+use Rattle.xet_records.specs.XorbRecord.{xorb_record_bytes}
 use Rattle.xet_shards.specs.Written.{HasWrittenXorbs}
 use Rattle.xet_shards.proofs.Xorbs.{seen}
 use Rattle.xet_shards.proofs.shard_format.writer.write_xorb_section.Given as goal
@@ -13,5 +13,5 @@ invariant-loop-xorb g l = record {
   finite : (goal.iterator-loop-xorb g).is_finite l.xorb-iterator;
   all : map deref l.yielded ++ l.xorb-iterator ≡ values l.xorbs;
   written : HasWrittenXorbs l.written (seen l.yielded);
-  text : Appends (g.W.Write.contents l.initial.writer) (g.W.Write.contents l.writer) (flat_map xorb_text (seen l.yielded));
+  text : Appends (g.W.Write.contents l.initial.writer) (g.W.Write.contents l.writer) (flat_map xorb_record_bytes (seen l.yielded));
 }

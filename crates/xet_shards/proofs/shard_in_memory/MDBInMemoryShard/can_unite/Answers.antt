@@ -8,7 +8,7 @@ use Rattle.xet_base.specs.Hash.{hash_cmp}
 use Rattle.xet_records.specs.declared.file_structs.MDBFileInfo.{MDBFileInfo}
 use Rattle.xet_records.specs.declared.xorb_structs.MDBXorbInfo.{MDBXorbInfo}
 use Rattle.xet_shards.specs.Shard.{Shard, FileMap, XorbMap, total_rows, total_xorb_rows}
-use Rattle.xet_shards.specs.Index.{IndexedShard}
+use Rattle.xet_shards.specs.ChunkLookup.{ShardWithLookup}
 use Rattle.xet_shards.specs.InMemoryShard.{shard_inside}
 use Rattle.xet_shards.specs.Joining.{entry, either_file, CanJoinFiles}
 use Rattle.xet_shards.specs.SetOperations.{IsUnion, CanUnite}
@@ -16,8 +16,8 @@ use Rattle.xet_shards.proofs.Overlays.{from_sorted-entries, can_join_united, uni
 use Rattle.xet_shards.proofs.shard_in_memory.MDBInMemoryShard.can_unite.Goals as goal
 
 -- of the shards that contracts see, and not of their fields
-seen : (b : Bool) (s t u v : IndexedShard) → s ≡ u → t ≡ v → IsTrue b ↔ CanUnite s.content t.content → IsTrue b ↔ CanUnite u.content v.content
-seen b s t u v own other = subst (λ (p : IndexedShard × IndexedShard). IsTrue b ↔ CanUnite p.0.content p.1.content) (λ i. (own i, other i))
+seen : (b : Bool) (s t u v : ShardWithLookup) → s ≡ u → t ≡ v → IsTrue b ↔ CanUnite s.content t.content → IsTrue b ↔ CanUnite u.content v.content
+seen b s t u v own other = subst (λ (p : ShardWithLookup × ShardWithLookup). IsTrue b ↔ CanUnite p.0.content p.1.content) (λ i. (own i, other i))
 
 module _ (a b : Shard) where
   files_counted : (es : List (DataHash × MDBFileInfo)) (rows : ℕ) → es ≡ entries a.files

@@ -4,7 +4,7 @@ use Rattle.xet_base.specs.Hash.{hash_cmp}
 use Rattle.xet_records.specs.declared.file_structs.MDBFileInfo.{MDBFileInfo}
 use Rattle.xet_records.specs.declared.xorb_structs.MDBXorbInfo.{MDBXorbInfo}
 use Rattle.xet_shards.specs.Shard.{FileMap, total_rows, total_xorb_rows}
-use Rattle.xet_shards.specs.Index.{Table}
+use Rattle.xet_shards.specs.ChunkLookup.{Table}
 use Rattle.xet_shards.proofs.Maps.{values-empty}
 use Rattle.xet_shards.proofs.shard_in_memory.MDBInMemoryShard.new.Goals as goal
 

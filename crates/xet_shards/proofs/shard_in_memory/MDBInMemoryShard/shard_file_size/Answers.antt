@@ -8,7 +8,7 @@ use Rattle.xet_base.specs.declared.merklehash.DataHash.{DataHash}
 use Rattle.xet_records.specs.declared.file_structs.MDBFileInfo.{MDBFileInfo}
 use Rattle.xet_records.specs.declared.xorb_structs.MDBXorbInfo.{MDBXorbInfo}
 use Rattle.xet_records.specs.FileRecord.{FitsRecord}
-use Rattle.xet_shards.specs.Index.{IndexedShard}
+use Rattle.xet_shards.specs.ChunkLookup.{ShardWithLookup}
 use Rattle.xet_shards.specs.Layout.{layout}
 use Rattle.xet_shards.proofs.Files.{widths_of_values, length-le-rows}
 use Rattle.xet_shards.proofs.XorbLayouts.{length-layout_of, total_xorb_rows-chunks}
@@ -56,4 +56,4 @@ returns c =
       total_xorb_rows-chunks xorbs,
       length-layout_of files xorbs None fit,
     )
-    ∙ ap (λ (s : IndexedShard). length (layout s.content None)) c.self.view_is
+    ∙ ap (λ (s : ShardWithLookup). length (layout s.content None)) c.self.view_is

@@ -2,7 +2,7 @@ use Rattle.std.proofs.Common.{[], ◌∷◌, sym, subst, ◌∙◌}
 use Rattle.std.specs.Prelude.{Contains}
 use Rattle.std.specs.FinMap.{get}
 use Rattle.std.specs.Option.{option_or}
-use Rattle.xet_shards.specs.Index.{IndexedShard}
+use Rattle.xet_shards.specs.ChunkLookup.{ShardWithLookup}
 use Rattle.xet_shards.specs.Joining.{CanJoinFiles, either_file}
 use Rattle.xet_shards.specs.Joins.{IsJoinOf}
 use Rattle.xet_shards.proofs.Overlays.{can_join_united}
@@ -12,8 +12,8 @@ use Rattle.xet_shards.proofs.shard_in_memory.MDBInMemoryShard.union.Goals as goa
 pub union-requires : goal.union-requires
 union-requires c =
     let can = can_join_united c.args.self.now.content c.args.other.now.content (c.can_unite.ensures.0 c.if-not-can_unite.false) in
-    subst (λ (s : IndexedShard). CanJoinFiles s.content.files c.other.inside.files) (sym c.self.view_is)
-    (subst (λ (s : IndexedShard). CanJoinFiles c.args.self.now.content.files s.content.files) (sym c.other.view_is) can)
+    subst (λ (s : ShardWithLookup). CanJoinFiles s.content.files c.other.inside.files) (sym c.self.view_is)
+    (subst (λ (s : ShardWithLookup). CanJoinFiles c.args.self.now.content.files s.content.files) (sym c.other.view_is) can)
 
 pub of_tables-requires : goal.of_tables-requires
 of_tables-requires c = (c.can_unite.ensures.0 c.if-not-can_unite.false).rows _ record {
@@ -22,7 +22,7 @@ of_tables-requires c = (c.can_unite.ensures.0 c.if-not-can_unite.false).rows _ r
 }
 
 pub returns-clause-join : goal.returns-clause-join
-returns-clause-join c = λ agree. subst (λ (s : IndexedShard). IsJoinOf (Contains (c.args.self.now.content ∷ c.args.other.now.content ∷ [])) s.content) (sym c.of_tables.ensures)
+returns-clause-join c = λ agree. subst (λ (s : ShardWithLookup). IsJoinOf (Contains (c.args.self.now.content ∷ c.args.other.now.content ∷ [])) s.content) (sym c.of_tables.ensures)
     (union_is_join c.args.self.now.content c.args.other.now.content _ c.invariant.ensures c.invariant-2.ensures agree record {
       files = λ q. c.in_ok-files.ensures.ok q ∙ (λ i. either_file (get (c.self.view_is i).content.files q) (get (c.other.view_is i).content.files q));
       xorbs = λ q. c.in_ok-xorbs.ensures.ok q ∙ (λ i. option_or (get (c.other.view_is i).content.xorbs q) (get (c.self.view_is i).content.xorbs q));

@@ -1,7 +1,7 @@
 use Rattle.std.proofs.Common.{◌≤◌, length, Some, sym, ap, ◌∙◌, subst}
 use Rattle.xet_records.specs.declared.xorb_structs.MDBXorbInfo.{MDBXorbInfo}
 use Rattle.xet_records.specs.XorbRecord.{IsXorb}
-use Rattle.xet_shards.specs.XorbTable.{shown_place}
+use Rattle.xet_shards.specs.XorbStore.{shown_place}
 use Rattle.xet_shards.specs.ChunkQuery.{run_at}
 use Rattle.xet_shards.proofs.ChunkQueries.{place_kept, place_within, answer_kept, nothing_kept, unknown}
 use Rattle.std.proofs.lemmas.Option.{none-some}

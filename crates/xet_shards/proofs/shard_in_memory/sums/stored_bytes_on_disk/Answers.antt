@@ -3,7 +3,7 @@ use Rattle.std.specs.Prelude.{sum_by}
 use Rattle.std.specs.Map.{values_of}
 use Rattle.std.proofs.Math.Facts.{Fits-of_lt}
 use Rattle.xet_records.specs.declared.xorb_structs.MDBXorbInfo.{MDBXorbInfo}
-use Rattle.xet_shards.specs.XorbTable.{shown_xorbs}
+use Rattle.xet_shards.specs.XorbStore.{shown_xorbs}
 use Rattle.xet_shards.proofs.Walks.{sum-middle}
 use Rattle.xet_shards.proofs.Xorbs.{owned, seen, seen_turn, xorb_values, xorbs_bound}
 use Rattle.xet_shards.proofs.shard_in_memory.sums.stored_bytes_on_disk.Goals as goal

@@ -5,7 +5,7 @@ use Rattle.std.proofs.Math.Facts.{Fits-of_lt}
 use Rattle.xet_records.specs.declared.xorb_structs.MDBXorbInfo.{MDBXorbInfo}
 use Rattle.xet_records.specs.XorbRecord.{xorb_row_count, IsXorb}
 use Rattle.xet_shards.specs.Shard.{total_xorb_rows}
-use Rattle.xet_shards.specs.XorbTable.{shown_xorbs}
+use Rattle.xet_shards.specs.XorbStore.{shown_xorbs}
 use Rattle.xet_shards.proofs.Walks.{All-middle, sum-middle}
 use Rattle.xet_shards.proofs.Xorbs.{owned, seen, seen_turn, xorb_values}
 use Rattle.xet_shards.proofs.shard_in_memory.sums.xorb_rows.Goals as goal

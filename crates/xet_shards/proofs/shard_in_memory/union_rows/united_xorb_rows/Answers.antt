@@ -7,7 +7,7 @@ use Rattle.std.specs.FinMap.{get, values}
 use Rattle.xet_records.specs.declared.xorb_structs.MDBXorbInfo.{MDBXorbInfo}
 use Rattle.xet_records.specs.XorbRecord.{xorb_row_count, IsXorb}
 use Rattle.xet_shards.specs.Shard.{total_xorb_rows}
-use Rattle.xet_shards.specs.XorbTable.{shown_xorbs}
+use Rattle.xet_shards.specs.XorbStore.{shown_xorbs}
 use Rattle.xet_shards.proofs.Walks.{entry_turn, entry_turned, entry_end}
 use Rattle.xet_shards.proofs.Joining.{shown_push, shown_at, none_of}
 use Rattle.xet_shards.proofs.Overlays.{with_twin, overlay, other_xorb, sum-overlay, sum-entries, new_key, shown_whole, rows_kept, are_united_xorbs}

@@ -7,7 +7,7 @@ pub returns : goal.returns
 returns c = record {
   offsets = nine_words _ _ _ _ _ _ _ _ _ (search rules) (search rules) (search rules) (search rules) (search rules) (search rules) (search rules) (search rules) (search rules);
   key = search rules;
-  moments = two_words _ _ (search rules) (search rules);
+  timestamps = two_words _ _ (search rules) (search rules);
   buffer_size = search rules;
   buffer = subst (All (λ n. n < 2 ^ 64)) (sym c.six_words.ensures) (six_words _ _ _ _ _ _ (search rules) (search rules) (search rules) (search rules) (search rules) (search rules));
   sums = four_words _ _ _ _ (search rules) (search rules) (search rules) (search rules);

@@ -5,8 +5,8 @@ use Rattle.std.proofs.KnownBytes.{Appends-trans}
 use Rattle.xet_shards.specs.Shard.{AreFiles, AreXorbs}
 use Rattle.xet_shards.specs.Section.{file_section, xorb_section}
 use Rattle.xet_shards.specs.Tables.{place_row, chunk_table_bytes}
-use Rattle.xet_shards.specs.XorbTable.{shown_xorbs}
-use Rattle.xet_shards.specs.Layout.{header_text, footer_text, footer_value, layout_of, plain_form}
+use Rattle.xet_shards.specs.XorbStore.{shown_xorbs}
+use Rattle.xet_shards.specs.Layout.{shard_header_bytes, shard_footer_bytes, footer_value, layout_of, plain_form}
 use Rattle.xet_shards.proofs.Files.{widths_of_values}
 use Rattle.xet_shards.proofs.shard_format.info.MDBShardInfo.serialize_from.Goals as goal
 
@@ -16,12 +16,12 @@ returns-clause-text g c =
     let contents = g.W.Write.contents in
     let rs = values_of c.file_content.result.now.entries in
     let xs = values_of (shown_xorbs c.xorb_content.result.now.entries) in
-    let header = ap header_text c.default-header.ensures in
+    let header = ap shard_header_bytes c.default-header.ensures in
     let files = c.in_ok-files.ensures.written in
     let xorbs = c.in_ok-xorbs.ensures.written in
     let file_table = c.as_slice.ensures.value ∙ files.table in
     let xorb_table = c.as_slice-2.ensures.value ∙ xorbs.table in
-    let footer = ap footer_text (c.footer_of-metadata.ensures.value rs xs (widths_of_values _ c.file_content.ensures.files) files xorbs) in
+    let footer = ap shard_footer_bytes (c.footer_of-metadata.ensures.value rs xs (widths_of_values _ c.file_content.ensures.files) files xorbs) in
     let wrote = Appends-trans _ (contents c.write_chunk_table.new.writer) _ _ _
     (Appends-trans _ (contents c.write_bytes-2.new.writer) _ _ _
     (Appends-trans _ (contents c.write_bytes.new.writer) _ _ _

@@ -1,0 +1,20 @@
+use Rattle.std.proofs.Common.{◌≡◌, Option, None, Some, sym, ap, ◌∙◌, subst, Bor}
+use Rattle.std.specs.Prelude.{option_map, IfSome}
+use Rattle.std.specs.FinMap.{get}
+use Rattle.std.proofs.lemmas.Map.Entries.{All-lookup}
+use Rattle.xet_base.proofs.HashOrder.{hash_cmp-IsTotalOrder, hash_cmp-IsAntisymmetric}
+use Rattle.xet_records.specs.FileRecord.{IsWellFormed}
+use Rattle.xet_shards.proofs.Maps.{found}
+use Rattle.xet_shards.proofs.shard_in_memory.file_store.FileStore.get.Goals as goal
+
+lent : {X : Type 0} (P : X → Type 0) (o : Option (Bor X)) (p : Option X) → option_map (λ x. x.now) o ≡ p → IfSome p P → IfSome o (λ x. P x.now)
+lent P None p same holds = tt
+lent P (Some x) p same holds = subst (λ q. IfSome q P) (sym same) holds
+
+pub returns-clause-value : goal.returns-clause-value
+returns-clause-value c =
+    c.get.ensures.value ∙ found hash_cmp-IsTotalOrder hash_cmp-IsAntisymmetric c.self.inside.content.entries c.args.file_hash.now c.self.invariant.sorted
+    ∙ ap (λ m. get m c.args.file_hash.now) c.self.view_is
+
+pub returns-clause-well_formed : goal.returns-clause-well_formed
+returns-clause-well_formed c = lent IsWellFormed c.get.result _ c.get.ensures.value (All-lookup IsWellFormed _ _ c.self.invariant.files.well_formed)

@@ -1,0 +1,260 @@
+//! The files of a shard in memory, without a limit on their rows.
+
+ghost use Rattle.std.specs.Prelude.{[], ◌∷◌, ◌≡◌, ◌≤◌, ◌↔◌, ◌⊎◌, T, IsTrue, is_some, IfSome, OnOk, OnErr, IfOk, IfErr, IsErrOf, unwrap_or, option_map};
+ghost use Rattle.std.specs.Option.{option_or};
+ghost use Rattle.std.specs.FinMap as finite;
+ghost use Rattle.std.specs.FinMap.{is_sorted, from_sorted};
+ghost use Rattle.xet_base.specs.declared.merklehash.DataHash.{DataHash};
+ghost use Rattle.xet_base.specs.Hash.{hash_cmp};
+ghost use Rattle.xet_records.specs.FileRecord.{row_count, FitsItsHeader, FitsRecord, IsWellFormed};
+ghost use Rattle.xet_records.specs.Merging.{IsSameFile, merged};
+ghost use Rattle.xet_shards.specs.Shard.{AreFiles, file_hash_of};
+ghost use Rattle.xet_shards.specs.Joining.{but, entry, CanJoinFile, CanJoinFiles, either_file, own_file};
+
+use std::alloc::Global;
+use std::collections::BTreeMap;
+use std::marker::Model;
+use xet_base::error::{CoreError, Result};
+use xet_base::merklehash::MerkleHash;
+use xet_records::file_structs::{FileDataSequenceHeader, FileMetadataExt, MDBFileInfo};
+use xet_records::rows::{Row, all_widths};
+
+/// Well-formed files, each under its hash. Contracts see the finite map.
+#[derive(Drop)]
+pub struct FileStore {
+    content: BTreeMap<MerkleHash, MDBFileInfo>,
+}
+
+impl Model for FileStore {
+    ghost use Rattle.xet_shards.specs.Shard.{FileMap, coded_files};
+
+    ghost Value = { FileMap };
+
+    ghost coded = { coded_files };
+
+    ghost use Rattle.std.specs.FinMap.{from_sorted};
+    ghost use Rattle.xet_shards.specs.FileStore.{IsSound};
+
+    ghost view = { λ t. from_sorted t.content.entries };
+
+    ghost invariant = { IsSound };
+}
+
+impl FileStore {
+    pub fn new(alloc: Global) -> FileStore
+        ensures { result ≡ finite.empty }
+    {
+        FileStore {
+            content: BTreeMap::new(alloc),
+        }
+    }
+
+    pub fn content(&self) -> &BTreeMap<MerkleHash, MDBFileInfo>
+        ensures entries { result.now.entries ≡ finite.entries self.now }
+        ensures files { AreFiles result.now.entries }
+    {
+        &self.content
+    }
+
+    /// The rows of the file under this hash, or 0.
+    pub fn rows_of(&self, file_hash: &MerkleHash) -> u64
+        ensures { result ≡ unwrap_or (option_map row_count (finite.get self.now file_hash.now)) 0 }
+    {
+        match self.content.get(file_hash) {
+            Some(file_info) => 1 + file_info.metadata.rows_after(),
+            None => 0,
+        }
+    }
+
+    /// Puts a file under its hash, in the place of what is there. `OutOfMemory` where the map finds none,
+    /// and then nothing changes.
+    pub fn put(&mut self, file_info: MDBFileInfo) -> Result<()>
+        requires { IsWellFormed file_info }
+        ensures ok { OnOk result (self.new ≡ finite.insert self.old (file_hash_of file_info) file_info) }
+        ensures err { OnErr result (self.new ≡ self.old) }
+        ensures causes { IfErr result (λ e. e ≡ CoreError.OutOfMemory) }
+    {
+        self.content
+            .insert(file_info.metadata.file_hash, file_info)?;
+        Ok(())
+    }
+
+    /// Whether there is a file under this hash.
+    pub fn contains(&self, file_hash: &MerkleHash) -> bool
+        ensures { result ≡ is_some (finite.get self.now file_hash.now) }
+    {
+        self.content.contains_key(file_hash)
+    }
+
+    /// Puts those of these files under their hashes whose hashes neither this table nor `except` has.
+    /// `OutOfMemory` where they find none, and then some of them stand there.
+    fn append_missing(
+        &mut self,
+        alloc: Global,
+        others: &BTreeMap<MerkleHash, MDBFileInfo>,
+        except: &FileStore,
+    ) -> Result<()>
+        requires { AreFiles others.now.entries }
+        ensures ok { OnOk result ((q : DataHash) → finite.get self.new q
+            ≡ option_or (finite.get self.old q) (but except.now (entry others.now.entries) q)) }
+        ensures causes { IfErr result (λ e. e ≡ CoreError.OutOfMemory) }
+    {
+        for (file_hash, file_info) in others {
+            if !self.contains(file_hash) && !except.contains(file_hash) {
+                self.put(file_info.try_clone(alloc)?)?;
+            }
+        }
+        Ok(())
+    }
+
+    /// Whether the files that both tables have are of equal counts, and 32 bits count the rows of each of this
+    /// table's with the parts that only `other` has for it.
+    pub fn can_join(&self, other: &FileStore) -> bool
+        ensures { IsTrue result ↔ CanJoinFiles self.now other.now }
+    {
+        can_join_files(&self.content, other)
+    }
+
+    /// The files of both tables: where both have one under a hash, that of this table with each optional
+    /// part that only `other` has for it. `OutOfMemory` where they find none.
+    pub fn union(&self, alloc: Global, other: &FileStore) -> Result<FileStore>
+        requires { CanJoinFiles self.now other.now }
+        ensures ok { IfOk result (λ t. (q : DataHash) → finite.get t q
+            ≡ either_file (finite.get self.now q) (finite.get other.now q)) }
+        ensures causes { IfErr result (λ e. e ≡ CoreError.OutOfMemory) }
+    {
+        let mut joined = merged_files(alloc, &self.content, other)?;
+        joined.append_missing(alloc, other.content(), self)?;
+        Ok(joined)
+    }
+
+    /// The files of `other` under hashes that this table has not. `OutOfMemory` where they find none.
+    pub fn difference(&self, alloc: Global, other: &FileStore) -> Result<FileStore>
+        ensures ok { IfOk result (λ t. (q : DataHash) → finite.get t q
+            ≡ but self.now (finite.get other.now) q) }
+        ensures causes { IfErr result (λ e. e ≡ CoreError.OutOfMemory) }
+    {
+        let mut rest = FileStore::new(alloc);
+        rest.append_missing(alloc, other.content(), self)?;
+        Ok(rest)
+    }
+
+    /// The file under this hash.
+    pub fn get(&self, file_hash: &MerkleHash) -> Option<&MDBFileInfo>
+        ensures value { option_map (λ file. file.now) result ≡ finite.get self.now file_hash.now }
+        ensures well_formed { IfSome result (λ file. IsWellFormed file.now) }
+    {
+        self.content.get(file_hash)
+    }
+}
+
+// Whether each of these files that `other` has too may be joined with it.
+fn can_join_files(files: &BTreeMap<MerkleHash, MDBFileInfo>, other: &FileStore) -> bool
+    requires sorted { T (is_sorted hash_cmp files.now.entries) }
+    requires files { AreFiles files.now.entries }
+    ensures { IsTrue result ↔ CanJoinFiles (from_sorted files.now.entries) other.now }
+{
+    for (file_hash, file_info) in files {
+        if let Some(twin) = other.get(file_hash) {
+            if !can_join(file_info, twin) {
+                return false;
+            }
+        }
+    }
+    true
+}
+
+// Whether two records are of one file, and the first with the parts that only the second has is well-formed.
+fn can_join(file_info: &MDBFileInfo, twin: &MDBFileInfo) -> bool
+    requires own { IsWellFormed file_info.now }
+    requires others { IsWellFormed twin.now }
+    ensures { IsTrue result ↔ CanJoinFile file_info.now twin.now }
+{
+    if !FileDataSequenceHeader::verify_same_file(&file_info.metadata, &twin.metadata) {
+        return false;
+    }
+    joined_rows(file_info, twin) <= u64::from(u32::MAX)
+}
+
+/// The rows of the first of two records of one file, with the parts that only the second has.
+pub fn joined_rows(file_info: &MDBFileInfo, twin: &MDBFileInfo) -> u64
+    requires own { FitsItsHeader file_info.now }
+    requires others { FitsItsHeader twin.now }
+    requires same { IsSameFile file_info.now.metadata twin.now.metadata }
+    ensures { result ≡ row_count (merged file_info.now twin.now) }
+{
+    let joined = FileDataSequenceHeader::new(
+        file_info.metadata.file_hash,
+        file_info.metadata.num_entries,
+        file_info.contains_verification() || twin.contains_verification(),
+        file_info.contains_metadata_ext() || twin.contains_metadata_ext(),
+    );
+    1 + joined.rows_after()
+}
+
+// These files, each with the optional parts that only `other` has for it.
+fn merged_files(
+    alloc: Global,
+    files: &BTreeMap<MerkleHash, MDBFileInfo>,
+    other: &FileStore,
+) -> Result<FileStore>
+    requires sorted { T (is_sorted hash_cmp files.now.entries) }
+    requires files { AreFiles files.now.entries }
+    requires joins { CanJoinFiles (from_sorted files.now.entries) other.now }
+    ensures ok { IfOk result (λ t. (q : DataHash) → finite.get t q
+        ≡ own_file (entry files.now.entries q) (finite.get other.now q)) }
+    ensures causes { IfErr result (λ e. e ≡ CoreError.OutOfMemory) }
+{
+    let mut joined = FileStore::new(alloc);
+    for (file_hash, file_info) in files {
+        let mut copy = file_info.try_clone(alloc)?;
+        if let Some(twin) = other.get(file_hash) {
+            copy.merge_from(alloc, twin)?;
+        }
+        joined.put(copy)?;
+    }
+    Ok(joined)
+}
+
+/// Whether a record may stand in a table.
+pub fn is_well_formed(file_info: &MDBFileInfo) -> bool
+    ensures { IsTrue result ↔ IsWellFormed file_info.now }
+{
+    record_widths(file_info);
+    let metadata = file_info.metadata;
+    !metadata.is_bookend()
+        && metadata.file_flags % (1 << 30) == 0
+        && metadata._unused == 0
+        && file_info.segments.len() as u64 == u64::from(metadata.num_entries)
+        && file_info.verification.len() as u64 == u64::from(metadata.verification_rows())
+        && file_info.metadata_ext.is_some() == metadata.contains_metadata_ext()
+        && file_info
+            .verification
+            .as_slice()
+            .iter()
+            .all(|row| row._unused == [0; 2])
+        && is_clear(&file_info.metadata_ext)
+        && metadata.rows_after() < u64::from(u32::MAX)
+}
+
+fn is_clear(metadata_ext: &Option<FileMetadataExt>) -> bool
+    ensures { IsTrue result ↔ IfSome metadata_ext.now (λ m. m._unused ≡ 0 ∷ 0 ∷ []) }
+{
+    match metadata_ext {
+        Some(row) => row._unused == [0; 2],
+        None => true,
+    }
+}
+
+// Does nothing. It says that the numbers of a record in memory fit their widths.
+fn record_widths(file_info: &MDBFileInfo)
+    ensures { FitsRecord file_info.now }
+{
+    let metadata = file_info.metadata;
+    metadata.widths();
+    all_widths(&file_info.segments);
+    all_widths(&file_info.verification);
+    if let Some(row) = &file_info.metadata_ext {
+        (*row).widths();
+    }
+}

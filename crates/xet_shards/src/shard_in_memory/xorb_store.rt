@@ -1,0 +1,236 @@
+//! The xorbs of a shard in memory and the lookup of their chunks, without a limit on their rows.
+
+ghost use Rattle.std.specs.Prelude.{◌≡◌, ◌≤◌, ◌↔◌, IsTrue, None, Some, is_some, unwrap_or, option_map, All, length, OnOk, OnErr, IfOk, IfErr};
+ghost use Rattle.std.specs.FinMap as finite;
+ghost use Rattle.std.specs.HashMap.{spare};
+ghost use Rattle.std.specs.Option.{option_or};
+ghost use Rattle.xet_base.specs.declared.merklehash.DataHash.{DataHash};
+ghost use Rattle.xet_records.specs.XorbRecord.{xorb_row_count, IsXorb, FitsXorb, HasItsChunks, size_of_chunks};
+ghost use Rattle.xet_shards.specs.Shard.{AreXorbs, xorb_hash_of};
+ghost use Rattle.xet_shards.specs.ChunkLookup.{Place, IsChunkLookup, put_xorb};
+ghost use Rattle.xet_shards.specs.Joining.{but, entry};
+ghost use Rattle.xet_shards.specs.XorbStore.{shown_xorbs, placed, IsEntered};
+
+use std::alloc::Global;
+use std::collections::{BTreeMap, HashMap};
+use std::marker::Model;
+use std::rc::Rc;
+use xet_base::error::{CoreError, Result};
+use xet_base::merklehash::MerkleHash;
+use xet_records::rows::{Row, all_widths};
+use xet_records::xorb_structs::MDBXorbInfo;
+
+/// Well-formed xorbs, each under its hash, and a place of each of their chunks. Contracts see both as finite
+/// maps.
+#[derive(Drop)]
+pub struct XorbStore {
+    content: BTreeMap<MerkleHash, Rc<MDBXorbInfo>>,
+    lookup: HashMap<MerkleHash, (Rc<MDBXorbInfo>, u64)>,
+}
+
+impl Model for XorbStore {
+    ghost use Rattle.xet_shards.specs.ChunkLookup.{Table, coded_table};
+
+    ghost Value = { Table };
+
+    ghost coded = { coded_table };
+
+    ghost use Rattle.xet_shards.specs.XorbStore.{table_inside, IsSoundTable};
+
+    ghost view = { table_inside };
+
+    ghost invariant = { IsSoundTable };
+}
+
+impl XorbStore {
+    pub fn new(alloc: Global) -> XorbStore
+        ensures { result ≡ record { xorbs = finite.empty; places = finite.empty } }
+    {
+        XorbStore {
+            content: BTreeMap::new(alloc),
+            lookup: HashMap::new(alloc),
+        }
+    }
+
+    pub fn content(&self) -> &BTreeMap<MerkleHash, Rc<MDBXorbInfo>>
+        ensures entries { shown_xorbs result.now.entries ≡ finite.entries self.now.xorbs }
+        ensures xorbs { AreXorbs (shown_xorbs result.now.entries) }
+    {
+        &self.content
+    }
+
+    pub fn lookup(&self) -> &HashMap<MerkleHash, (Rc<MDBXorbInfo>, u64)>
+        ensures places { (q : DataHash) → placed result.now q ≡ finite.get self.now.places q }
+        ensures index { IsChunkLookup self.now.xorbs (finite.get self.now.places) }
+        ensures well_formed { (q : DataHash) → (p : Place) → finite.get self.now.places q ≡ Some p → IsXorb p.0 }
+    {
+        &self.lookup
+    }
+
+    /// Whether there is a xorb under this hash.
+    pub fn contains(&self, xorb_hash: &MerkleHash) -> bool
+        ensures { result ≡ is_some (finite.get self.now.xorbs xorb_hash.now) }
+    {
+        self.content.contains_key(xorb_hash)
+    }
+
+    /// The rows of the xorb under this hash, or 0.
+    pub fn rows_of(&self, xorb_hash: &MerkleHash) -> u64
+        ensures { result ≡ unwrap_or (option_map xorb_row_count (finite.get self.now.xorbs xorb_hash.now)) 0 }
+    {
+        match self.content.get(xorb_hash) {
+            Some(xorb) => 1 + u64::from(xorb.metadata.num_entries),
+            None => 0,
+        }
+    }
+
+    /// Puts a xorb under its hash, under which there is none. `OutOfMemory` where it finds none, and then
+    /// nothing changes.
+    pub fn append(&mut self, alloc: Global, xorb: Rc<MDBXorbInfo>) -> Result<()>
+        requires absent { finite.get self.old.xorbs (xorb_hash_of xorb.value) ≡ None }
+        requires well_formed { IsXorb xorb.value }
+        ensures ok { OnOk result (self.new.xorbs ≡ put_xorb self.old.xorbs xorb.value) }
+        ensures err { OnErr result (self.new ≡ self.old) }
+        ensures causes { IfErr result (λ e. e ≡ CoreError.OutOfMemory) }
+    {
+        let owner = xorb.clone()?;
+        let owners = owners_of(alloc, &xorb)?;
+        self.lookup.reserve(owners.len())?;
+        // The last call that can be refused, and the first that changes what the table holds.
+        self.content.insert(xorb.metadata.xorb_hash, owner)?;
+        enter_chunks(&mut self.lookup, xorb.as_ref(), owners);
+        Ok(())
+    }
+
+    /// Puts a xorb under its hash, in the place of what is there, and its chunks alone cost time where
+    /// there is none. `OutOfMemory` where it finds none, and then nothing changes.
+    pub fn put(&mut self, alloc: Global, xorb: Rc<MDBXorbInfo>) -> Result<()>
+        requires { IsXorb xorb.value }
+        ensures ok { OnOk result (self.new.xorbs ≡ put_xorb self.old.xorbs xorb.value) }
+        ensures err { OnErr result (self.new ≡ self.old) }
+        ensures causes { IfErr result (λ e. e ≡ CoreError.OutOfMemory) }
+    {
+        if !self.contains(&xorb.metadata.xorb_hash) {
+            return self.append(alloc, xorb);
+        }
+        // A chunk of the xorb before may stand in others too, so all chunks are entered anew.
+        let mut rebuilt = XorbStore::new(alloc);
+        rebuilt.append(alloc, xorb)?;
+        rebuilt.append_missing(alloc, self.content(), &XorbStore::new(alloc))?;
+        *self = rebuilt;
+        Ok(())
+    }
+
+    /// Puts those of these xorbs under their hashes whose hashes neither this table nor `except` has.
+    /// `OutOfMemory` where they find none, and then some of them stand there.
+    fn append_missing(
+        &mut self,
+        alloc: Global,
+        others: &BTreeMap<MerkleHash, Rc<MDBXorbInfo>>,
+        except: &XorbStore,
+    ) -> Result<()>
+        requires { AreXorbs (shown_xorbs others.now.entries) }
+        ensures ok { OnOk result ((q : DataHash) → finite.get self.new.xorbs q
+            ≡ option_or (finite.get self.old.xorbs q) (but except.now.xorbs (entry (shown_xorbs others.now.entries)) q)) }
+        ensures causes { IfErr result (λ e. e ≡ CoreError.OutOfMemory) }
+    {
+        for (xorb_hash, xorb) in others {
+            if !self.contains(xorb_hash) && !except.contains(xorb_hash) {
+                self.append(alloc, xorb.clone()?)?;
+            }
+        }
+        Ok(())
+    }
+
+    /// The xorbs of both tables: where both have one under a hash, that of `other`. `OutOfMemory` where
+    /// they find none.
+    pub fn union(&self, alloc: Global, other: &XorbStore) -> Result<XorbStore>
+        ensures ok { IfOk result (λ t. (q : DataHash) → finite.get t.xorbs q
+            ≡ option_or (finite.get other.now.xorbs q) (finite.get self.now.xorbs q)) }
+        ensures causes { IfErr result (λ e. e ≡ CoreError.OutOfMemory) }
+    {
+        let none = XorbStore::new(alloc);
+        let mut joined = XorbStore::new(alloc);
+        joined.append_missing(alloc, other.content(), &none)?;
+        joined.append_missing(alloc, self.content(), &none)?;
+        Ok(joined)
+    }
+
+    /// The xorbs of `other` under hashes that this table has not. `OutOfMemory` where they find none.
+    pub fn difference(&self, alloc: Global, other: &XorbStore) -> Result<XorbStore>
+        ensures ok { IfOk result (λ t. (q : DataHash) → finite.get t.xorbs q
+            ≡ but self.now.xorbs (finite.get other.now.xorbs) q) }
+        ensures causes { IfErr result (λ e. e ≡ CoreError.OutOfMemory) }
+    {
+        let mut rest = XorbStore::new(alloc);
+        rest.append_missing(alloc, other.content(), self)?;
+        Ok(rest)
+    }
+}
+
+// An owner of the xorb for each of its chunks.
+fn owners_of(alloc: Global, xorb: &Rc<MDBXorbInfo>) -> Result<Vec<Rc<MDBXorbInfo>>>
+    ensures count { IfOk result (λ owners. length owners.items ≡ length xorb.now.value.chunks) }
+    ensures owners { IfOk result (λ owners. All (λ owner. owner.value ≡ xorb.now.value) owners.items) }
+    ensures causes { IfErr result (λ e. e ≡ CoreError.OutOfMemory) }
+{
+    let mut owners = Vec::with_capacity(alloc, xorb.chunks.len())?;
+    for _chunk in 0..xorb.chunks.len() {
+        owners.push(xorb.clone()?)?;
+    }
+    Ok(owners)
+}
+
+// Enters the chunks of a xorb, for which the lookup has room.
+fn enter_chunks(
+    lookup: &mut HashMap<MerkleHash, (Rc<MDBXorbInfo>, u64)>,
+    xorb: &MDBXorbInfo,
+    mut owners: Vec<Rc<MDBXorbInfo>>,
+)
+    requires room { length owners.items ≤ spare lookup.old }
+    requires count { length owners.items ≡ length xorb.now.chunks }
+    requires owners { All (λ owner. owner.value ≡ xorb.now) owners.items }
+    ensures { IsEntered (placed lookup.old) (placed lookup.new) xorb.now (length xorb.now.chunks) }
+{
+    let mut place = 0;
+    for chunk in xorb.chunks.as_slice() {
+        let owner = owners.pop().unwrap();
+        let inserted: std::result::Result<_, _> = lookup.insert(chunk.chunk_hash, (owner, place));
+        inserted.unwrap();
+        place += 1;
+    }
+}
+
+/// Whether a record may stand in a table.
+pub fn is_well_formed(xorb: &MDBXorbInfo) -> bool
+    ensures { IsTrue result ↔ IsXorb xorb.now }
+{
+    record_widths(xorb);
+    let metadata = xorb.metadata;
+    !metadata.is_bookend()
+        && xorb.chunks.len() as u64 == u64::from(metadata.num_entries)
+        && metadata.num_entries < u32::MAX
+        && bytes_of(xorb) <= u64::from(u32::MAX)
+}
+
+// The bytes of a xorb's chunks.
+fn bytes_of(xorb: &MDBXorbInfo) -> u64
+    requires { HasItsChunks xorb.now }
+    ensures { result ≡ size_of_chunks xorb.now }
+{
+    prove!(xorb.chunks.len() as u64 == u64::from(xorb.metadata.num_entries));
+    let mut bytes = 0;
+    for chunk in xorb.chunks.as_slice() {
+        bytes += u64::from(chunk.unpacked_segment_bytes);
+    }
+    bytes
+}
+
+// Does nothing. It says that the numbers of a record in memory fit their widths.
+fn record_widths(xorb: &MDBXorbInfo)
+    ensures { FitsXorb xorb.now }
+{
+    let metadata = xorb.metadata;
+    metadata.widths();
+    all_widths(&xorb.chunks);
+}
