@@ -105,7 +105,7 @@ impl MDBShardFileFooter {
             self.footer_offset,
         ];
         write_u64s(writer, &sums)?;
-        Ok(200)
+        Ok(FOOTER_SIZE as usize)
     }
 
     /// Reads the footer.

@@ -5,8 +5,11 @@ ghost use Rattle.std.specs.Prelude.{◌≡◌, ◌≢◌, ◌↔◌, IsTrue, Non
 ghost use Rattle.xet_base.specs.Hash.{hash_eq};
 ghost use Rattle.xet_base.specs.KeyedHash.{no_key, under_key};
 
+use super::footer::FOOTER_SIZE;
+use super::header::HEADER_SIZE;
 use super::info::MDBShardInfo;
 use xet_base::merklehash::{HMACKey, MerkleHash};
+use xet_records::rows::ROW_SIZE;
 
 impl MDBShardInfo {
     /// The rows of the xorb table.
@@ -94,7 +97,7 @@ impl MDBShardInfo {
     pub fn non_content_byte_size() -> u64
         ensures { result ≡ 344 }
     {
-        48 + 200 + 2 * 48
+        HEADER_SIZE + FOOTER_SIZE + 2 * ROW_SIZE as u64
     }
 
     /// Whether the chunk hashes of the shard are keyed.

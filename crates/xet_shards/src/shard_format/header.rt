@@ -22,6 +22,9 @@ const MDB_SHARD_HEADER_TAG: [u8; 32] = [
 
 const MDB_SHARD_HEADER_VERSION: u64 = 2;
 
+/// The size of a header, in bytes.
+pub(super) const HEADER_SIZE: u64 = 48;
+
 /// The header of a shard.
 #[derive(Clone, Copy, Debug, PartialEq, Eq)]
 pub struct MDBShardFileHeader {
@@ -57,7 +60,7 @@ impl MDBShardFileHeader {
         write_bytes(writer, &MDB_SHARD_HEADER_TAG)?;
         write_u64(writer, self.version)?;
         write_u64(writer, self.footer_size)?;
-        Ok(48)
+        Ok(HEADER_SIZE as usize)
     }
 
     /// Reads the header.

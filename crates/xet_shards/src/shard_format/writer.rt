@@ -18,6 +18,7 @@ ghost use Rattle.xet_shards.specs.Ends.{FitsFooter};
 
 use super::file_writer::WrittenFiles;
 use super::footer::MDBShardFileFooter;
+use super::header::HEADER_SIZE;
 use super::info::MDBShardInfo;
 use super::xorb_writer::{ChunkPlace, WrittenXorbs};
 use crate::shard_in_memory::MDBInMemoryShard;
@@ -29,6 +30,7 @@ use xet_base::error::{CoreError, Result};
 use xet_base::merklehash::MerkleHash;
 use xet_base::serialization_utils::write_bytes;
 use xet_records::file_structs::{FileDataSequenceHeader, MDBFileInfo};
+use xet_records::rows::ROW_SIZE;
 use xet_records::xorb_structs::{MDBXorbInfo, XorbChunkSequenceHeader};
 
 impl MDBInMemoryShard {
@@ -122,12 +124,13 @@ pub fn footer_of(
     let file_table = files.table.len() as u64;
     let xorb_table = xorbs.table.len() as u64;
     let chunks = xorbs.rows - xorb_table / 12;
-    let xorb_info_offset = 48 + 48 * files.rows + 48;
-    let file_lookup_offset = xorb_info_offset + 48 * xorbs.rows + 48;
+    let row_size = ROW_SIZE as u64;
+    let xorb_info_offset = HEADER_SIZE + row_size * files.rows + row_size;
+    let file_lookup_offset = xorb_info_offset + row_size * xorbs.rows + row_size;
     let xorb_lookup_offset = file_lookup_offset + file_table;
     let chunk_lookup_offset = xorb_lookup_offset + xorb_table;
     let footer = MDBShardFileFooter {
-        file_info_offset: 48,
+        file_info_offset: HEADER_SIZE,
         xorb_info_offset,
         file_lookup_offset,
         file_lookup_num_entry: file_table / 12,
