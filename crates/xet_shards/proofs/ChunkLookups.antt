@@ -12,7 +12,7 @@ use Rattle.xet_base.proofs.HashOrder.{hash_cmp-IsTotalOrder, same_hash, same_key
 use Rattle.xet_records.specs.declared.xorb_structs.XorbChunkSequenceEntry.{XorbChunkSequenceEntry}
 use Rattle.xet_records.specs.declared.xorb_structs.MDBXorbInfo.{MDBXorbInfo}
 use Rattle.xet_shards.specs.Shard.{XorbMap, xorb_hash_of}
-use Rattle.xet_shards.specs.ChunkLookup.{Place, IsPlace, IsChunkLookup, chunk_at, put_xorb}
+use Rattle.xet_shards.specs.ChunkLookup.{ChunkLocation, IsLocation, IsChunkLookup, chunk_at, put_xorb}
 use Rattle.xet_shards.specs.XorbStore.{IsEntered}
 
 -- at the key that was inserted
@@ -28,7 +28,7 @@ last_or_before (suc i) zero below = absurd (omega (arith, below))
 last_or_before (suc i) (suc n) below = elim (last_or_before i n (omega (arith, below))) [ inl less ↦ inl (omega (arith, less)) | inr same ↦ inr (ap suc same) ]
 
 -- nothing was entered yet, whatever the order of the entries
-pub entered-none : (f g : DataHash → Option Place) (r : MDBXorbInfo) → ((q : DataHash) → g q ≡ f q) → IsEntered f g r 0
+pub entered-none : (f g : DataHash → Option ChunkLocation) (r : MDBXorbInfo) → ((q : DataHash) → g q ≡ f q) → IsEntered f g r 0
 entered-none f g r same = record {
   present = λ q p at. inl (sym (same q) ∙ at);
   kept = λ q some. subst IsSome (sym (same q)) some;
@@ -36,17 +36,17 @@ entered-none f g r same = record {
 }
 
 -- one chunk more
-pub entered-more : (f g h : DataHash → Option Place) (r : MDBXorbInfo) (n : ℕ) (k : DataHash) → chunk_at (r, n) ≡ Some k
+pub entered-more : (f g h : DataHash → Option ChunkLocation) (r : MDBXorbInfo) (n : ℕ) (k : DataHash) → chunk_at (r, n) ≡ Some k
     → ((q : DataHash) → h q ≡ cond (hash_eq k q) (Some (r, n)) (g q)) → IsEntered f g r n → IsEntered f h r (n + 1)
 entered-more f g h r n k here updates before = record {
   present = λ q p at. present_at q p (hash_eq k q) refl (sym (updates q) ∙ at);
   kept = λ q some. subst IsSome (sym (updates q)) (kept_at q (hash_eq k q) (before.kept q some));
   complete = λ q i below at. subst IsSome (sym (updates q)) (complete_at q i (hash_eq k q) refl below at);
 } where
-  present_at : (q : DataHash) (p : Place) (b : Bool) → hash_eq k q ≡ b → cond b (Some (r, n)) (g q) ≡ Some p → (f q ≡ Some p) ⊎ ((p.0 ≡ r) × (p.1 < n + 1) × (chunk_at p ≡ Some q))
+  present_at : (q : DataHash) (p : ChunkLocation) (b : Bool) → hash_eq k q ≡ b → cond b (Some (r, n)) (g q) ≡ Some p → (f q ≡ Some p) ⊎ ((p.0 ≡ r) × (p.1 < n + 1) × (chunk_at p ≡ Some q))
   present_at q p true is at =
       let same : (r, n) ≡ p = same_Some (r, n) p at in
-      inr (sym (ap (λ (t : Place). t.0) same), omega (arith, ap (λ (t : Place). t.1) same), ap chunk_at (sym same) ∙ here ∙ ap Some ((same_hash k q).0 is))
+      inr (sym (ap (λ (t : ChunkLocation). t.0) same), omega (arith, ap (λ (t : ChunkLocation). t.1) same), ap chunk_at (sym same) ∙ here ∙ ap Some ((same_hash k q).0 is))
   present_at q p false is at = elim (before.present q p at) [ inl old ↦ inl old | inr (own, below, chunk) ↦ inr (own, omega (arith, below), chunk) ]
 
   kept_at : (q : DataHash) (b : Bool) → IsSome (g q) → IsSome (cond b (Some (r, n)) (g q))
@@ -66,14 +66,14 @@ chunk_within (c ∷ cs) zero q at = omega arith
 chunk_within (c ∷ cs) (suc i) q at = omega (arith, chunk_within cs i q at)
 
 -- once all chunks of a new xorb are entered, the lookup is right again
-pub index-append : (xorbs : XorbMap) (f g : DataHash → Option Place) (r : MDBXorbInfo) → get xorbs (xorb_hash_of r) ≡ None → IsChunkLookup xorbs f → IsEntered f g r (length r.chunks)
+pub lookup-append : (xorbs : XorbMap) (f g : DataHash → Option ChunkLocation) (r : MDBXorbInfo) → get xorbs (xorb_hash_of r) ≡ None → IsChunkLookup xorbs f → IsEntered f g r (length r.chunks)
     → IsChunkLookup (put_xorb xorbs r) g
-index-append xorbs f g r absent index entered = record {
+lookup-append xorbs f g r absent lookup entered = record {
   present = λ q p at. elim (entered.present q p at) [
-    | inl old ↦ record { xorb = still p.0 (index.present q p old).xorb (eq_by_cmp hash_cmp (xorb_hash_of p.0) (xorb_hash_of r)) refl; chunk = (index.present q p old).chunk }
+    | inl old ↦ record { xorb = still p.0 (lookup.present q p old).xorb (eq_by_cmp hash_cmp (xorb_hash_of p.0) (xorb_hash_of r)) refl; chunk = (lookup.present q p old).chunk }
     | inr (own, below, chunk) ↦ record { xorb = subst (λ t. get (put_xorb xorbs r) (xorb_hash_of t) ≡ Some t) (sym own) (get-added xorbs r); chunk = chunk }
   ];
-  complete = λ q p place. complete_at q p place (eq_by_cmp hash_cmp (xorb_hash_of p.0) (xorb_hash_of r)) refl;
+  complete = λ q p location. complete_at q p location (eq_by_cmp hash_cmp (xorb_hash_of p.0) (xorb_hash_of r)) refl;
 } where
   other : (s : MDBXorbInfo) → eq_by_cmp hash_cmp (xorb_hash_of s) (xorb_hash_of r) ≡ false → get (put_xorb xorbs r) (xorb_hash_of s) ≡ get xorbs (xorb_hash_of s)
   other s apart =
@@ -83,18 +83,18 @@ index-append xorbs f g r absent index entered = record {
   still s at true is = absurd (none-some s (sym absent ∙ ap (get xorbs) (sym ((same_key (xorb_hash_of s) (xorb_hash_of r)).0 is)) ∙ at))
   still s at false is = other s is ∙ at
 
-  complete_at : (q : DataHash) (p : Place) → IsPlace (put_xorb xorbs r) q p → (b : Bool) → eq_by_cmp hash_cmp (xorb_hash_of p.0) (xorb_hash_of r) ≡ b → IsSome (g q)
-  complete_at q p place true is =
-      let own : r ≡ p.0 = same_Some r p.0 (sym (get-added xorbs r) ∙ ap (get (put_xorb xorbs r)) (sym ((same_key (xorb_hash_of p.0) (xorb_hash_of r)).0 is)) ∙ place.xorb) in
-      let here : chunk_at (r, p.1) ≡ Some q = ap (λ s. chunk_at (s, p.1)) own ∙ place.chunk in
+  complete_at : (q : DataHash) (p : ChunkLocation) → IsLocation (put_xorb xorbs r) q p → (b : Bool) → eq_by_cmp hash_cmp (xorb_hash_of p.0) (xorb_hash_of r) ≡ b → IsSome (g q)
+  complete_at q p location true is =
+      let own : r ≡ p.0 = same_Some r p.0 (sym (get-added xorbs r) ∙ ap (get (put_xorb xorbs r)) (sym ((same_key (xorb_hash_of p.0) (xorb_hash_of r)).0 is)) ∙ location.xorb) in
+      let here : chunk_at (r, p.1) ≡ Some q = ap (λ s. chunk_at (s, p.1)) own ∙ location.chunk in
       entered.complete q p.1 (chunk_within r.chunks p.1 q here) here
-  complete_at q p place false is = entered.kept q (index.complete q p (record { xorb = sym (other p.0 is) ∙ place.xorb; chunk = place.chunk }))
+  complete_at q p location false is = entered.kept q (lookup.complete q p (record { xorb = sym (other p.0 is) ∙ location.xorb; chunk = location.chunk }))
 
 -- the lookup of no xorbs
-pub index-none : (xorbs : XorbMap) (f : DataHash → Option Place) → ((q : DataHash) → get xorbs q ≡ None) → ((q : DataHash) → f q ≡ None) → IsChunkLookup xorbs f
-index-none xorbs f no_xorbs no_places = record {
-  present = λ q p at. absurd (none-some p (sym (no_places q) ∙ at));
-  complete = λ q p place. absurd (none-some p.0 (sym (no_xorbs (xorb_hash_of p.0)) ∙ place.xorb));
+pub lookup-none : (xorbs : XorbMap) (f : DataHash → Option ChunkLocation) → ((q : DataHash) → get xorbs q ≡ None) → ((q : DataHash) → f q ≡ None) → IsChunkLookup xorbs f
+lookup-none xorbs f no_xorbs no_locations = record {
+  present = λ q p at. absurd (none-some p (sym (no_locations q) ∙ at));
+  complete = λ q p location. absurd (none-some p.0 (sym (no_xorbs (xorb_hash_of p.0)) ∙ location.xorb));
 }
 
 -- what holds of all elements holds of those at the front
@@ -103,10 +103,10 @@ All-front P [] ys all = All-nil P
 All-front P (x ∷ xs) ys all = All-cons P x xs (all 0 x (omega arith)) (All-front P xs ys (All-drop P 1 (x ∷ xs ++ ys) all))
 
 -- the same lookup
-pub index-same : (xorbs : XorbMap) (f g : DataHash → Option Place) → ((q : DataHash) → g q ≡ f q) → IsChunkLookup xorbs f → IsChunkLookup xorbs g
-index-same xorbs f g same index = record {
-  present = λ q p at. index.present q p (sym (same q) ∙ at);
-  complete = λ q p place. subst IsSome (sym (same q)) (index.complete q p place);
+pub lookup-same : (xorbs : XorbMap) (f g : DataHash → Option ChunkLocation) → ((q : DataHash) → g q ≡ f q) → IsChunkLookup xorbs f → IsChunkLookup xorbs g
+lookup-same xorbs f g same lookup = record {
+  present = λ q p at. lookup.present q p (sym (same q) ∙ at);
+  complete = λ q p location. subst IsSome (sym (same q)) (lookup.complete q p location);
 }
 
 -- an entry written over an entry
@@ -115,7 +115,7 @@ cond-shown f true x y o same = ap Some same
 cond-shown f false x y o same = refl
 
 -- the same lookup before
-pub entered-from : (f g h : DataHash → Option Place) (r : MDBXorbInfo) (n : ℕ) → ((q : DataHash) → f q ≡ g q) → IsEntered f h r n → IsEntered g h r n
+pub entered-from : (f g h : DataHash → Option ChunkLocation) (r : MDBXorbInfo) (n : ℕ) → ((q : DataHash) → f q ≡ g q) → IsEntered f h r n → IsEntered g h r n
 entered-from f g h r n same entered = record {
   present = λ q p at. elim (entered.present q p at) [ inl old ↦ inl (sym (same q) ∙ old) | inr new ↦ inr new ];
   kept = λ q some. entered.kept q (subst IsSome (sym (same q)) some);

@@ -1,4 +1,4 @@
--- Places of chunks that are put into a set one after another.
+-- Rows of the chunk table, inserted into a set one after another.
 use Rattle.std.proofs.Common.{◌≡◌, ℕ, suc, ◌+◌, ◌<◌, Bool, true, false, cond, List, [], ◌∷◌, ◌++◌, map, length, flat_map, take, get_or, Option, Some, refl, sym, ap, ◌∙◌, arith, append_assoc}
 use Rattle.std.specs.List.{enumerate_from}
 use Rattle.std.specs.Ordering.{eq_by_cmp, match_ordering}
@@ -44,7 +44,7 @@ find-push q p [] = refl
 find-push q p (x ∷ ps) =
     ap (cond (eq_by_cmp place_cmp q x) (Some (tt {0}))) (find-push q p ps) ∙ either_first (eq_by_cmp place_cmp q x) (eq_by_cmp place_cmp q p) tt (find place_cmp q (map alone ps))
 
--- one more place stands at its place in the order
+-- one more row is inserted in order
 pub ascending-push : (ps : List ChunkPlace) (p : ChunkPlace) → insert_key place_cmp (ascending ps) p ≡ ascending (ps ++ p ∷ [])
 ascending-push ps p =
     let m : FinMap place_cmp (Unit {0}) = from_entries (map alone ps) in
@@ -54,7 +54,7 @@ ascending-push ps p =
     ∙ sym (get-insert place_total m p tt q ∙ ap (cond (eq_by_cmp place_cmp q p) (Some (tt {0}))) (get-from_entries place_total (map alone ps) q))) in
     sym (ap keys same ∙ ap keys_of (entries-insert place_total m p tt ∙ sym (put_is place_cmp p tt (entries m))) ∙ keys-insert_entry place_cmp p tt (entries m))
 
--- the place of one more chunk
+-- the row of one more chunk
 enumerate_from-push : {X : Type 0} (n : ℕ) (xs : List X) (x : X) → enumerate_from n (xs ++ x ∷ []) ≡ enumerate_from n xs ++ (n + length xs, x) ∷ []
 enumerate_from-push n [] x = let same : n ≡ n + 0 = omega arith in ap (λ k. (k, x) ∷ []) same
 enumerate_from-push n (y ∷ xs) x =
@@ -64,7 +64,7 @@ enumerate_from-push n (y ∷ xs) x =
 abbrev pub place_of : ℕ → ℕ → XorbChunkSequenceEntry → ChunkPlace
 place_of start place chunk = record { word = chunk.chunk_hash.word0; start = start; place = place }
 
--- what a read past the end would give
+-- the value of a read past the end
 abbrev pub no_chunk : XorbChunkSequenceEntry
 no_chunk =
     record { chunk_hash = record { word0 = 0; word1 = 0; word2 = 0; word3 = 0 }; chunk_byte_range_start = 0; unpacked_segment_bytes = 0; flags = 0; _unused = 0 }
@@ -89,7 +89,7 @@ ascending-more before ps p = ascending-push (before ++ ps) p ∙ ap ascending (a
 pub ascending-nil : ascending [] ≡ []
 ascending-nil = ap (map (λ e. e.0)) (entries-empty (Unit {0}) place_cmp)
 
--- the places of one more xorb
+-- the rows of one more xorb
 pub chunk_places-push : (xorbs : List MDBXorbInfo) (r : MDBXorbInfo) → chunk_places (xorbs ++ r ∷ []) ≡ chunk_places xorbs ++ places_from (total_xorb_rows xorbs) r.chunks
 chunk_places-push xorbs r =
     let places_of : List MDBXorbInfo × MDBXorbInfo → List ChunkPlace = λ e. places_from (total_xorb_rows e.0) e.1.chunks in

@@ -1,4 +1,4 @@
--- Different rows of a table: what they add up to, and that as many of them as there are are all of them.
+-- Distinct rows of a table: their sum, and that if they are as many as the rows with a property, they are all of these.
 use Rattle.std.proofs.Common.{◌≡◌, ◌≢◌, ◌⊎◌, inl, inr, ◌==◌, if◌then◌else◌, Bool, true, false, ℕ, zero, suc, ◌+◌, ◌<◌, ◌≤◌, List, [], ◌∷◌, ◌++◌, length, take, get_or, All, AllPairs, refl, sym, ap, ◌∙◌, arith}
 use Rattle.std.specs.Prelude.{sum_by, filter}
 use Rattle.std.proofs.lemmas.List.{take_more}
@@ -8,7 +8,7 @@ use Rattle.std.proofs.lemmas.Bool.{cases_eq, eq-eqb, ne_eqb, cond-true, cond-fal
 use Rattle.xet_base.specs.Table.{Hit, OtherRow}
 use Rattle.xet_base.proofs.KnownTable.{sum_below}
 
--- f, but nothing at i
+-- f, but 0 at i
 abbrev without : (ℕ → ℕ) → ℕ → ℕ → ℕ
 without f i j = if j == i then 0 else f j
 
@@ -39,7 +39,7 @@ sum_below-without f i (suc n) within = elim (cases_eq i n) [
     below_not i n lt other = omega (arith, lt, other)
 
 module _ {V : Type 0} where
-  -- a row is in a list, or each of the list is another
+  -- a row is in a list, or differs from each row of the list
   is_among : (i : ℕ) (found : List (Hit V)) → ((k : ℕ) × (k < length found) × ((d : Hit V) → (get_or found k d).row ≡ i)) ⊎ All (λ h. h.row ≢ i) found
   is_among i [] = inr (λ k d within. absurd (omega (arith, within)))
   is_among i (h ∷ found) = elim (cases_eq h.row i) [
@@ -60,7 +60,7 @@ module _ {V : Type 0} where
       ∙ (λ k. without-other f i h.row (others 0 h (omega arith)) k + sum-without f i found (All-drop (λ (g : Hit V). g.row ≢ i) 1 (h ∷ found) others) k)
       ∙ sym (sum_by-cons (λ (g : Hit V). f g.row) h found)
 
-  -- different rows below n add up to no more than all below n
+  -- the sum over distinct rows below n is at most that over all rows below n
   pub sum_distinct : (f : ℕ → ℕ) (n : ℕ) (found : List (Hit V)) → AllPairs OtherRow found → All (λ h. h.row < n) found → sum_by (λ h. f h.row) found ≤ sum_below f n
   sum_distinct f n [] distinct below = omega arith
   sum_distinct f n (h ∷ found) distinct below =
@@ -74,7 +74,7 @@ module _ {V : Type 0} where
             (All-drop (λ (g : Hit V). g.row < n) 1 (h ∷ found) below),
       )
 
-  -- so many different rows with a mark, where there are no more of them, are all of these
+  -- distinct rows with a property, if they are as many as there are, are all rows with it
   pub all_marked : (f : ℕ → ℕ) (n : ℕ) (found : List (Hit V)) (i : ℕ) → AllPairs OtherRow found → All (λ h. h.row < n) found
       → sum_below f n ≤ sum_by (λ h. f h.row) found → i < n → 0 < f i → (k : ℕ) × (k < length found) × ((d : Hit V) → (get_or found k d).row ≡ i)
   all_marked f n found i distinct below many within marked = elim (is_among i found) [
@@ -86,7 +86,7 @@ one_marked : {X : Type 0} (weight : X → ℕ) (x : X) (b : Bool) → sum_by wei
 one_marked weight x true = sum_by-cons weight x [] ∙ omega arith
 one_marked weight x false = refl
 
--- weights of the elements with a mark, summed by index and over the list of these
+-- weights of the elements with a property, summed by index and over the list of these elements
 pub sum_marked : {X : Type 0} (p : X → Bool) (weight : X → ℕ) (xs : List X) (d : X) (n : ℕ) → n ≤ length xs
     → sum_below (λ i. if p (get_or xs i d) then weight (get_or xs i d) else 0) n ≡ sum_by weight (filter p (take n xs))
 sum_marked p weight xs d zero within = refl

@@ -13,18 +13,18 @@ use Rattle.xet_shards.specs.Ends.{HasUnsupportedHeader, EndsInHeader, HasUnsuppo
 length_is : (bytes part rest : List ℕ) → bytes ≡ part ++ rest → length bytes ≡ length part + length rest
 length_is bytes part rest are = ap length are ∙ length-append part rest
 
-pub foreign_tag : (old mid : Option (List ℕ)) (tag : List ℕ) → length tag ≡ 32 → Consumes old mid tag → tag ≢ header_tag → IfSome old HasUnsupportedHeader
-foreign_tag None mid tag len taken differs = tt
-foreign_tag (Some bytes) None tag len taken differs = absurd taken
-foreign_tag (Some bytes) (Some rest) tag len taken differs =
+pub unsupported_tag : (old mid : Option (List ℕ)) (tag : List ℕ) → length tag ≡ 32 → Consumes old mid tag → tag ≢ header_tag → IfSome old HasUnsupportedHeader
+unsupported_tag None mid tag len taken differs = tt
+unsupported_tag (Some bytes) None tag len taken differs = absurd taken
+unsupported_tag (Some bytes) (Some rest) tag len taken differs =
     inl (omega (arith, length_is bytes tag rest taken, len), λ same. differs (sym (front_is 32 bytes tag rest len taken) ∙ same))
 
-pub foreign_version : (old mid new : Option (List ℕ)) (tag rest : List ℕ) → length tag ≡ 32 → length rest ≡ 16 → Consumes old mid tag → Consumes mid new rest
+pub unsupported_version : (old mid new : Option (List ℕ)) (tag rest : List ℕ) → length tag ≡ 32 → length rest ≡ 16 → Consumes old mid tag → Consumes mid new rest
     → take 8 rest ≢ u64_bytes 2 → IfSome old HasUnsupportedHeader
-foreign_version None mid new tag rest tag_len len first last differs = tt
-foreign_version (Some bytes) None new tag rest tag_len len first last differs = absurd first
-foreign_version (Some bytes) (Some more) None tag rest tag_len len first last differs = absurd last
-foreign_version (Some bytes) (Some more) (Some after) tag rest tag_len len first last differs =
+unsupported_version None mid new tag rest tag_len len first last differs = tt
+unsupported_version (Some bytes) None new tag rest tag_len len first last differs = absurd first
+unsupported_version (Some bytes) (Some more) None tag rest tag_len len first last differs = absurd last
+unsupported_version (Some bytes) (Some more) (Some after) tag rest tag_len len first last differs =
     inr (
       omega (arith, length_is bytes tag more first, length_is more rest after last, tag_len, len),
       λ same. differs (sym (take-append-le 8 rest after (omega (arith, len))) ∙ ap (take 8) (sym last ∙ sym (rest_is 32 bytes tag more tag_len first)) ∙ same),
@@ -40,11 +40,11 @@ cut_header (Some bytes) None tag is_tag taken lacks = absurd taken
 cut_header (Some bytes) (Some rest) tag is_tag taken lacks =
     inr (omega (arith, length_is bytes tag rest taken, ap length is_tag), front_is 32 bytes tag rest (ap length is_tag) taken ∙ is_tag)
 
-pub foreign_footer : (old mid : Option (List ℕ)) (version : List ℕ) → length version ≡ 8 → Consumes old mid version → version ≢ u64_bytes 1
+pub unsupported_footer : (old mid : Option (List ℕ)) (version : List ℕ) → length version ≡ 8 → Consumes old mid version → version ≢ u64_bytes 1
     → IfSome old HasUnsupportedFooter
-foreign_footer None mid version len taken differs = tt
-foreign_footer (Some bytes) None version len taken differs = absurd taken
-foreign_footer (Some bytes) (Some rest) version len taken differs =
+unsupported_footer None mid version len taken differs = tt
+unsupported_footer (Some bytes) None version len taken differs = absurd taken
+unsupported_footer (Some bytes) (Some rest) version len taken differs =
     (omega (arith, length_is bytes version rest taken, len), λ same. differs (sym (front_is 8 bytes version rest len taken) ∙ same))
 
 pub cut_version : (old : Option (List ℕ)) → LacksBytes old 8 → IfSome old EndsInFooter
@@ -59,7 +59,7 @@ cut_footer (Some bytes) (Some rest) version is_one taken lacks =
     let len : length version ≡ 8 = ap length is_one ∙ length-u64_bytes 1 in
     inr (omega (arith, length_is bytes version rest taken, len), front_is 8 bytes version rest len taken ∙ is_one)
 
--- lists of numbers that 64 bits hold
+-- lists of numbers that fit `u64`
 pub two_words : (a b : ℕ) → a < 2 ^ 64 → b < 2 ^ 64 → All (λ n. n < 2 ^ 64) (a ∷ b ∷ [])
 two_words a b x y = All-cons (λ n. n < 2 ^ 64) a (b ∷ []) x (All-cons (λ n. n < 2 ^ 64) b [] y (All-nil (λ n. n < 2 ^ 64)))
 

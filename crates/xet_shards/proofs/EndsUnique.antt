@@ -1,4 +1,4 @@
--- The first and the last bytes of a shard tell header and footer, and those of a written shard are its own.
+-- The first and the last bytes of a shard determine header and footer, and those of a written shard are its own.
 use Rattle.std.proofs.Common.{◌≡◌, inl, inr, Ok, Err, ℕ, ◌+◌, ◌-◌, ◌^◌, ◌<◌, List, [], ◌∷◌, ◌++◌, length, flat_map, take, drop, Option, refl, sym, ap, ◌∙◌, subst, arith, take-append-drop, append-nil}
 use Rattle.std.specs.Prelude.{MatchResult}
 use Rattle.std.specs.declared.result.Result.{Result}
@@ -19,12 +19,12 @@ use Rattle.xet_shards.specs.Shard.{Shard}
 use Rattle.xet_shards.specs.Section.{file_section, xorb_section}
 use Rattle.xet_shards.specs.Tables.{file_table_bytes, xorb_table_bytes, chunk_table_bytes}
 use Rattle.xet_shards.specs.Layout.{Form, if_in, header_tag, shard_header_bytes, header_value, offsets_of, timestamps_of, sums_of, shard_footer_bytes, footer_value, layout_of, layout, plain_form, info_value}
-use Rattle.xet_shards.specs.Ends.{HasHeader, FitsFooter, HasEnds, IsForeign, IsTooShort, last_bytes, Loads, LoadFails, Refusal}
+use Rattle.xet_shards.specs.Ends.{HasHeader, FitsFooter, HasEnds, IsUnsupported, IsTooShort, last_bytes, Loads, LoadFails, Refusal}
 use Rattle.xet_shards.proofs.Layouts.{length-shard_header_bytes, length-shard_footer_bytes}
 use Rattle.xet_shards.proofs.Loading.{header_of}
 use Rattle.xet_shards.proofs.Readback.{layout_from_48}
 
--- a header's bytes tell it
+-- the bytes of a header determine it
 header_unique : (g h : MDBShardFileHeader) → g.tag ≡ header_tag → h.tag ≡ header_tag → g.version ≡ 2 → h.version ≡ 2 → g.footer_size < 2 ^ 64 → h.footer_size < 2 ^ 64
     → shard_header_bytes g ≡ shard_header_bytes h → g ≡ h
 unfolding shard_header_bytes
@@ -49,7 +49,7 @@ from_right a b c d e = simp (append_assoc)
 word_len : (n : ℕ) → n < 2 ^ 64 → length (u64_bytes n) ≡ 8
 word_len n fits = length-u64_bytes n
 
--- a footer's bytes tell it
+-- the bytes of a footer determine it
 footer_unique : (f g : MDBShardFileFooter) → FitsFooter f → FitsFooter g → shard_footer_bytes f ≡ shard_footer_bytes g → f ≡ g
 unfolding shard_footer_bytes
 footer_unique f g f_fits g_fits same =
@@ -82,14 +82,14 @@ footer_unique f g f_fits g_fits same =
       footer_offset = first (after (after (after (sums.0 i))));
     }
 
--- at most one header and footer fit
+-- at most one header and footer have these bytes
 pub only_info : (bytes : List ℕ) (x y : MDBShardInfo) → HasEnds bytes x → HasEnds bytes y → x ≡ y
 only_info bytes x y a b =
     let header = header_unique x.header y.header a.tag b.tag a.header_version b.header_version a.footer_size b.footer_size (sym a.header ∙ b.header) in
     let footer = footer_unique x.metadata y.metadata a.footer_widths b.footer_widths (sym a.footer ∙ b.footer) in
     λ i. record { header = header i; metadata = footer i }
 
--- such bytes are neither foreign nor too short
+-- such bytes are neither unsupported nor too short
 module _ (bytes : List ℕ) (info : MDBShardInfo) (ends : HasEnds bytes info) where
   header_is : HasHeader bytes
   header_is =
@@ -105,10 +105,10 @@ module _ (bytes : List ℕ) (info : MDBShardInfo) (ends : HasEnds bytes info) wh
       ∙ append_assoc (u64_bytes f.version) (flat_map u64_bytes (after (offsets_of f))) _)
       ∙ ap u64_bytes ends.footer_version
 
-  pub not_foreign : ¬ IsForeign bytes
-  not_foreign (inl (inl (size, differs))) = differs header_is.tag
-  not_foreign (inl (inr (size, differs))) = differs header_is.version
-  not_foreign (inr (header, size, foreign)) = foreign.1 version_is
+  pub not_unsupported : ¬ IsUnsupported bytes
+  not_unsupported (inl (inl (size, differs))) = differs header_is.tag
+  not_unsupported (inl (inr (size, differs))) = differs header_is.version
+  not_unsupported (inr (header, size, unsupported)) = unsupported.1 version_is
 
   pub not_too_short : ¬ IsTooShort bytes
   not_too_short (inl (inl short)) = omega (arith, short, ends.size)
@@ -143,9 +143,9 @@ module _ (files : List MDBFileInfo) (xorbs : List MDBXorbInfo) (form : Form) whe
         footer = rest_is (length bytes - 200) bytes before_footer footer (omega (arith, whole)) layout_is;
       }
 
-why_not_loaded : (bytes : List ℕ) (info : MDBShardInfo) (old new : Source) (e : CoreError) → HasEnds bytes info → Refusal IsForeign IsTooShort bytes old new e → DeviceFailure old new e
+why_not_loaded : (bytes : List ℕ) (info : MDBShardInfo) (old new : Source) (e : CoreError) → HasEnds bytes info → Refusal IsUnsupported IsTooShort bytes old new e → DeviceFailure old new e
 why_not_loaded bytes info old new e ends (inl failed) = failed
-why_not_loaded bytes info old new e ends (inr (inl (none, is, foreign))) = absurd (not_foreign bytes info ends foreign)
+why_not_loaded bytes info old new e ends (inr (inl (none, is, unsupported))) = absurd (not_unsupported bytes info ends unsupported)
 why_not_loaded bytes info old new e ends (inr (inr (none, is, short))) = absurd (not_too_short bytes info ends short)
 
 -- from these bytes header and footer are read, unless the device fails

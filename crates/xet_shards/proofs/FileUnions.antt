@@ -1,4 +1,4 @@
--- Files that two tables both have: whether they may be joined, and the walk that joins them.
+-- Files that are in two stores: whether they can be joined, and the loop that joins them.
 use Rattle.std.proofs.Common.{◌≡◌, Bool, true, false, ◌&&◌, T, List, [], ◌∷◌, ◌++◌, Option, None, Some, refl, sym, ap, ◌∙◌, subst, cond, true≢false, is_some, arith}
 use Rattle.std.specs.Prelude.{All}
 use Rattle.std.specs.Option.{option_or}
@@ -36,7 +36,7 @@ apart k q less true is =
     let same = (same_key q k).0 is in
     absurd (true≢false (sym ((same_key k q).1 (sym same)) ∙ below_none (hash_cmp k q) less))
 
--- entries whose keys rise: a later one is found, and not before its place
+-- entries with ascending keys: a later one is found, and not among those before its index
 module _ {X : Type 0} where
   below_front : (k : DataHash) (front rest : List (DataHash × X)) (e : DataHash × X) → T (below_all hash_cmp k (front ++ e ∷ rest)) → T (is_lt (hash_cmp k e.0))
   below_front k [] rest e below = left _ _ below
@@ -62,7 +62,7 @@ module _ {X : Type 0} where
     here true tied found later = subst P (λ i. (sym ((same_key q e.0).0 tied) i, same_Some e.1 x found i)) (all 0 e (omega arith))
     here false tied found later = later found
 
--- each of these entries may be joined with what a table has
+-- each of these entries can be joined with the file in a store, if any
 abbrev pub CanJoinEntries : List (DataHash × MDBFileInfo) → FileMap → Type 0
 CanJoinEntries es b = All (λ e. (s : MDBFileInfo) → get b e.0 ≡ Some s → CanJoinFile e.1 s) es
 
@@ -77,7 +77,7 @@ pub can_join_more : (es : List (DataHash × MDBFileInfo)) (e : DataHash × MDBFi
     → CanJoinEntries (es ++ e ∷ []) b
 can_join_more es e b before new = All-push (λ d. (s : MDBFileInfo) → get b d.0 ≡ Some s → CanJoinFile d.1 s) es e before new
 
--- the record of this walk's turn
+-- the record of this iteration
 pub record IsOwn (b : FileMap) (k : DataHash) (r m : MDBFileInfo) : Type 0 where
   pub file : Some m ≡ either_file (Some r) (get b k)
   pub hash : file_hash_of m ≡ file_hash_of r
@@ -98,7 +98,7 @@ own_copied b k r m absent is formed = record {
   well_formed = subst IsWellFormed (sym is) formed;
 }
 
--- the walk has joined these entries with what `b` has
+-- the loop has joined these entries with those of `b`
 abbrev pub IsMerged : List (DataHash × MDBFileInfo) → FileMap → FileMap → Type 0
 IsMerged es b c = (q : DataHash) → get c q ≡ own_file (entry es q) (get b q)
 
@@ -121,7 +121,7 @@ merged-more front rest k r m b c sorted is before = λ q.
     (λ tied. is ∙ ap (λ p. either_file (Some r) (get b p)) (sym ((same_key q k).0 tied)))
     ∙ ap (λ o. own_file o (get b q)) (sym (entry-append front k r q))
 
--- own files merged, and then those that are missing
+-- own files merged, then the missing ones
 all_slots : (o p : Option MDBFileInfo) → option_or (own_file o p) (cond (is_some o) None p) ≡ either_file o p
 all_slots None p = refl
 all_slots (Some a) None = refl

@@ -17,7 +17,7 @@ segments_bound (s ∷ ss) fit =
     let here : FitsSegment s = fit 0 s (omega arith) in
     omega (arith, sum_by-cons (λ (t : FileDataSequenceEntry). t.unpacked_segment_bytes) s ss, here.unpacked_segment_bytes, segments_bound ss (All-drop FitsSegment 1 (s ∷ ss) fit))
 
--- no file has more bytes than its rows allow
+-- the size of a file is bounded by its rows
 pub files_bound : (rs : List MDBFileInfo) → All (λ r. FitsRecord r) rs → sum_by size_of_file rs ≤ 4294967295 * total_rows rs
 files_bound [] fit = omega arith
 files_bound (r ∷ rs) fit =

@@ -1,4 +1,4 @@
--- Entries that a finite map finds.
+-- Lookups in finite maps.
 use Rattle.std.proofs.Common.{◌≡◌, inl, inr, ℕ, zero, suc, ◌<◌, ◌≤◌, Bool, true, false, List, [], ◌∷◌, length, get_or, Some, T, true≢false, refl, sym, ap, ◌∙◌, arith}
 use Rattle.std.specs.Prelude.{cond}
 use Rattle.std.specs.Ordering.{is_eq, is_gt, nat_cmp, ordering_then, ordering_reverse}
@@ -33,7 +33,7 @@ first_words_ascend a b less = elim (cases_lt b.word0 a.word0) [
     after o p is then = ap (λ q. ordering_then q p) is ∙ then
 
 module _ {K X : Type 0} (R : K → K → Ordering) where
-  -- what is found stands in the entries under its key
+  -- what is found is among the entries, with its key
   pub found_entry : IsAntisymmetric R → (es : List (K × X)) (q : K) (v : X) (d : K × X) → find R q es ≡ Some v → (i : ℕ) × (i < length es) × (get_or es i d ≡ (q, v))
   found_entry exact [] q v d is = absurd (none-some v is)
   found_entry exact (e ∷ es) q v d is = go (is_at (R q) e.0) refl is (λ later. found_entry exact es q v d later)
@@ -43,7 +43,7 @@ module _ {K X : Type 0} (R : K → K → Ordering) where
       go true at same rest = (0, omega arith, λ k. (sym (exact q e.0 (tied (R q e.0) at)) k, same_Some e.1 v same k))
       go false at same rest = let found = rest same in (suc found.0, omega (arith, found.1), found.2)
 
-  -- and what stands there is found
+  -- and each entry is found
   pub entry_found : IsTotalOrder R → (es : List (K × X)) (i : ℕ) (q : K) (v : X) (d : K × X) → T (is_sorted R es) → i < length es → get_or es i d ≡ (q, v) → find R q es ≡ Some v
   entry_found total [] i q v d sorted within here = absurd (omega (arith, within))
   entry_found total (e ∷ es) zero q v d sorted within here =

@@ -1,4 +1,4 @@
--- Entries that a walk adds to a map: those that it lacks, but for the hashes of another map.
+-- Entries that a loop adds to a map: those that the map lacks, except for the hashes of another map.
 use Rattle.std.proofs.Common.{◌≡◌, ◌⊎◌, inl, inr, Bool, true, false, List, [], ◌∷◌, ◌++◌, Option, None, Some, refl, sym, ap, ◌∙◌, subst, cond, true≢false, is_some, map}
 use Rattle.std.specs.Prelude.{All}
 use Rattle.std.proofs.lemmas.List.{map-append}
@@ -12,7 +12,7 @@ use Rattle.xet_shards.specs.Joining.{but, entry}
 use Rattle.xet_shards.proofs.Walks.{All-middle}
 
 module _ {X : Type 0} where
-  -- the walk has come past the entries `es`: from `f` to `m`
+  -- the loop has passed the entries `es`: from `f` to `m`
   abbrev pub IsFilled : (f : DataHash → Option X) (except m : FinMap hash_cmp X) (es : List (DataHash × X)) → Type 0
   IsFilled f except m es = (q : DataHash) → get m q ≡ option_or (f q) (but except (entry es) q)
 
@@ -29,7 +29,7 @@ module _ {X : Type 0} where
   entry-append [] k v q = refl
   entry-append (e ∷ es) k v q = either (eq_by_cmp hash_cmp q e.0) e.1 _ _ _ (entry-append es k v q)
 
-  -- one slot of the map at a turn that adds nothing, and at a turn that adds
+  -- one key of the map at an iteration that adds nothing, and at one that adds an entry
   skipped : (o e : Option X) (b t : Bool) (v : X) → (t ≡ true → (is_some (option_or o (cond b None e)) ≡ true) ⊎ (b ≡ true))
       → option_or o (cond b None (option_or e (cond t (Some v) None))) ≡ option_or o (cond b None e)
   skipped (Some x) e b t v reason = refl
@@ -72,12 +72,12 @@ module _ {X : Type 0} where
     nothing None true = refl
     nothing None false = refl
 
-  -- a walk over all entries of a map
+  -- a loop over all entries of a map
   module _ (except m n from : FinMap hash_cmp X) (es : List (DataHash × X)) (same : es ≡ entries from) (filled : IsFilled (get m) except n es) where
     entry_is : (q : DataHash) → entry es q ≡ get from q
     entry_is q = ap (find hash_cmp q) same ∙ sym (get-entries from q)
 
-    -- that skips none, and that starts with none
+    -- without exceptions, and from the empty map
     pub filled-all : except ≡ empty → (q : DataHash) → get n q ≡ option_or (get m q) (get from q)
     filled-all none q =
         filled q ∙ ap (λ o. option_or (get m q) (cond (is_some o) None (entry es q))) (ap (λ e. get e q) none ∙ get-empty hash_cmp q)
@@ -88,7 +88,7 @@ module _ {X : Type 0} where
         filled q ∙ ap (λ o. option_or o (but except (entry es) q)) (ap (λ e. get e q) none ∙ get-empty hash_cmp q)
         ∙ ap (λ o. cond (is_some (get except q)) None o) (entry_is q)
 
-  -- what is found outside of a map
+  -- the values of hashes that a map does not have
   pub but_found : (except : FinMap hash_cmp X) (f : DataHash → Option X) (q : DataHash) (v : X) → but except f q ≡ Some v → f q ≡ Some v
   but_found except f q v = outside (is_some (get except q)) where
     outside : (b : Bool) → cond b None (f q) ≡ Some v → f q ≡ Some v
@@ -98,7 +98,7 @@ module _ {X : Type 0} where
   pub but_empty : (f : DataHash → Option X) (q : DataHash) → but empty f q ≡ f q
   but_empty f q = ap (λ o. cond (is_some o) None (f q)) (get-empty hash_cmp q)
 
-  -- what one entry and then the rest of a map make
+  -- one entry and then the rest of a map
   one_first : (b : Bool) (v : X) (o : Option X) → option_or (cond b (Some v) None) o ≡ cond b (Some v) o
   one_first true v o = refl
   one_first false v o = refl
@@ -109,7 +109,7 @@ module _ {X : Type 0} where
       ∙ ap (λ o. option_or o (get from q)) (ap (λ m. get m q) is ∙ get-insert hash_cmp-IsTotalOrder empty k v q ∙ ap (cond (eq_by_cmp hash_cmp q k) (Some v)) (get-empty hash_cmp q))
       ∙ one_first (eq_by_cmp hash_cmp q k) v (get from q) ∙ sym (get-insert hash_cmp-IsTotalOrder from k v q))
 
--- entries whose values are shown by `f`
+-- entries with `f` applied to their values
 module _ {X Z : Type 0} (f : Z → X) where
   abbrev pub shown : DataHash × Z → DataHash × X
   shown e = (e.0, f e.1)

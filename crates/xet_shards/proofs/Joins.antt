@@ -1,4 +1,4 @@
--- Joins of shards: there is but one, and the union of shards that agree is theirs.
+-- Joins of shards: a set has at most one, and the union of shards that agree is their join.
 use Rattle.std.proofs.Common.{◌≡◌, ◌⊎◌, inl, inr, ℕ, zero, suc, ◌<◌, true≢false, slice_index_or, Bool, true, false, not, ◌&&◌, ◌||◌, List, [], ◌∷◌, length, Option, None, Some, is_some, refl, sym, ap, ◌∙◌, subst, if◌then◌else◌, arith}
 use Rattle.std.specs.Prelude.{◌↔◌, Contains, IsTrue, option_map, option_and_then, unwrap_or}
 use Rattle.std.specs.Option.{option_or}
@@ -19,7 +19,7 @@ use Rattle.xet_shards.specs.Joins.{verification_of, segments_under, verification
 use Rattle.xet_shards.proofs.Joining.{or_none}
 use Rattle.xet_shards.proofs.Unions.{IsKnown, known, same_shard, same_either}
 
--- one of two parts that are equal wherever both are there
+-- one of two optional parts that are equal if both are present
 pub either_part : {X : Type 0} (o p : Option X) → ((x y : X) → o ≡ Some x → p ≡ Some y → x ≡ y) → (x : X) → (option_or o p ≡ Some x) ↔ ((o ≡ Some x) ⊎ (p ≡ Some x))
 either_part None p same x = (
   λ is. inr is,
@@ -61,7 +61,7 @@ metadata_either false false None (Some y) there other = absurd (true≢false oth
 metadata-merged : (a b : MDBFileInfo) → FitsItsHeader a → FitsItsHeader b → (merged a b).metadata_ext ≡ option_or a.metadata_ext b.metadata_ext
 metadata-merged a b first second = metadata_either (described a) (described b) a.metadata_ext b.metadata_ext first.metadata_ext second.metadata_ext
 
--- the parts of the file of two
+-- the parts of the file of a union
 module _ (q : DataHash) where
   segments_either : (o p : Option MDBFileInfo) → option_map (λ (r : MDBFileInfo). r.segments) (either_file o p) ≡ option_or (option_map (λ r. r.segments) o) (option_map (λ r. r.segments) p)
   segments_either None p = refl
@@ -106,7 +106,7 @@ module _ (q : DataHash) where
       same_Some x y (sym one ∙ (agree r s refl refl).metadata_ext
       (sym (first r refl).well_formed.whole.metadata_ext ∙ ap is_some one) (sym (second s refl).well_formed.whole.metadata_ext ∙ ap is_some other) ∙ other)
 
-  -- a record with the parts that its header announces, and no other flag, is told by its parts
+  -- a record with the parts that its header announces, and no other flag, is determined by its parts
   abbrev IsPlain : MDBFileInfo → Type 0
   IsPlain r = r ≡ file_with q r.segments (verification_of r) r.metadata_ext
 
@@ -177,7 +177,7 @@ union_is_join a b c first second agree union = record {
   follows = λ q t at. plain_either q (get a.files q) (get b.files q) t (λ r. known a q r first) (λ s. known b q s second) (agree.files q) (sym (union.files q) ∙ at);
 }
 
--- a set of shards has one join at most
+-- a set of shards has at most one join
 same_part : {X : Type 0} (o p : Option X) → ((x : X) → o ≡ Some x → p ≡ Some x) → ((x : X) → p ≡ Some x → o ≡ Some x) → o ≡ p
 same_part None None to from = refl
 same_part None (Some y) to from = absurd (none-some y (from y refl))

@@ -14,19 +14,19 @@ use Rattle.xet_base.proofs.Reading.{Takes-consumes, Takes-trans}
 use Rattle.xet_shards.specs.declared.shard_format.header.MDBShardFileHeader.{MDBShardFileHeader}
 use Rattle.xet_shards.specs.declared.shard_format.footer.MDBShardFileFooter.{MDBShardFileFooter}
 use Rattle.xet_shards.specs.Layout.{header_tag, shard_header_bytes, shard_footer_bytes}
-use Rattle.xet_shards.specs.Ends.{HasHeader, FitsFooter, HasUnsupportedHeader, EndsInHeader, HasUnsupportedFooter, EndsInFooter, last_bytes, IsForeign, IsTooShort, Loads, LoadFails, PartFails, Refusal}
-use Rattle.xet_shards.proofs.Ends.{foreign_version}
+use Rattle.xet_shards.specs.Ends.{HasHeader, FitsFooter, HasUnsupportedHeader, EndsInHeader, HasUnsupportedFooter, EndsInFooter, last_bytes, IsUnsupported, IsTooShort, Loads, LoadFails, PartFails, Refusal}
+use Rattle.xet_shards.proofs.Ends.{unsupported_version}
 use Rattle.xet_shards.proofs.Layouts.{length-shard_header_bytes, length-shard_footer_bytes}
 
--- a refusal of a part, after calls that did not fail, is one of the whole
-pub refusal_of : (Foreign Short Foreign' Short' : List ℕ → Type 0) (bytes bytes' : List ℕ) (old mid new : Source) (e : CoreError)
-    → mid.failures ≡ old.failures → (Foreign bytes → Foreign' bytes') → (Short bytes → Short' bytes')
-    → Refusal Foreign Short bytes mid new e → Refusal Foreign' Short' bytes' old new e
-refusal_of Foreign Short Foreign' Short' bytes bytes' old mid new e same foreign short (inl failed) = inl (failed.0 ∙ ap (λ n. n + 1) same, failed.1, failed.2, failed.3)
-refusal_of Foreign Short Foreign' Short' bytes bytes' old mid new e same foreign short (inr (inl (none, is, has))) = inr (inl (none ∙ same, is, foreign has))
-refusal_of Foreign Short Foreign' Short' bytes bytes' old mid new e same foreign short (inr (inr (none, is, has))) = inr (inr (none ∙ same, is, short has))
+-- why a part failed, after calls that did not fail, is why the whole failed
+pub refusal_of : (Unsupported Short Unsupported' Short' : List ℕ → Type 0) (bytes bytes' : List ℕ) (old mid new : Source) (e : CoreError)
+    → mid.failures ≡ old.failures → (Unsupported bytes → Unsupported' bytes') → (Short bytes → Short' bytes')
+    → Refusal Unsupported Short bytes mid new e → Refusal Unsupported' Short' bytes' old new e
+refusal_of Unsupported Short Unsupported' Short' bytes bytes' old mid new e same unsupported short (inl failed) = inl (failed.0 ∙ ap (λ n. n + 1) same, failed.1, failed.2, failed.3)
+refusal_of Unsupported Short Unsupported' Short' bytes bytes' old mid new e same unsupported short (inr (inl (none, is, has))) = inr (inl (none ∙ same, is, unsupported has))
+refusal_of Unsupported Short Unsupported' Short' bytes bytes' old mid new e same unsupported short (inr (inr (none, is, has))) = inr (inr (none ∙ same, is, short has))
 
--- what follows from a value or an error holds where it is there
+-- what follows from the value or from the error of a result
 pub ok_gives : {T E : Type 0} (r : Result T E) (P Q : T → Type 0) → ((v : T) → P v → Q v) → IfOk r P → IfOk r Q
 ok_gives (Ok v) P Q gives holds = gives v holds
 ok_gives (Err e) P Q gives holds = tt
@@ -51,7 +51,7 @@ other_version_read a b c tag rest e tag_len len first last is differs = record {
   cause = inr (inl (
     ap (λ (s : Source). s.failures) last.after ∙ ap (λ (s : Source). s.failures) first.after,
     is,
-    foreign_version (Some (bytes_left a)) (Some (bytes_left b)) (Some (bytes_left c)) tag rest tag_len len (Takes-consumes a b tag first) (Takes-consumes b c rest last) differs,
+    unsupported_version (Some (bytes_left a)) (Some (bytes_left b)) (Some (bytes_left c)) tag rest tag_len len (Takes-consumes a b tag first) (Takes-consumes b c rest last) differs,
   ));
 }
 
@@ -126,7 +126,7 @@ module _ (old mid : Source) (h : MDBShardFileHeader) (taken : Takes (moved old 0
           bytes = fails.bytes ∙ bytes_same;
           seeks = omega (arith, fails.seeks, seeks_one);
           read = omega (arith, fails.read, read_48);
-          cause = refusal_of HasUnsupportedFooter EndsInFooter IsForeign IsTooShort (bytes_left (moved mid (n - 200))) old.bytes old (moved mid (n - 200)) new e failures_same
+          cause = refusal_of HasUnsupportedFooter EndsInFooter IsUnsupported IsTooShort (bytes_left (moved mid (n - 200))) old.bytes old (moved mid (n - 200)) new e failures_same
               (λ has. inr (header_there two, size, subst HasUnsupportedFooter last_is has)) (λ ends. absurd (has_room (last_bytes old.bytes) length_last (subst EndsInFooter last_is ends))) fails.cause;
         }
 
@@ -158,5 +158,5 @@ not_header old new e fails = record {
   bytes = fails.bytes;
   seeks = omega (arith, fails.seeks);
   read = omega (arith, fails.read);
-  cause = refusal_of HasUnsupportedHeader EndsInHeader IsForeign IsTooShort old.bytes old.bytes old (moved old 0) new e refl (λ has. inl has) (λ ends. inl ends) fails.cause;
+  cause = refusal_of HasUnsupportedHeader EndsInHeader IsUnsupported IsTooShort old.bytes old.bytes old (moved old 0) new e refl (λ has. inl has) (λ ends. inl ends) fails.cause;
 }

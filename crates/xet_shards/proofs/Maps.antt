@@ -1,4 +1,4 @@
--- Finite maps that the entries of a `BTreeMap` stand for.
+-- The finite maps of the entries of a `BTreeMap`.
 use Rattle.std.proofs.Common.{◌≡◌, ℕ, ◌+◌, Bool, true, false, ◌&&◌, List, [], ◌∷◌, map, length, Some, None, T, refl, sym, ap, ◌∙◌, subst, arith, is_some, ◌<◌, ◌≤◌}
 use Rattle.std.specs.Prelude.{All, option_map, unwrap_or, sum_by, cond}
 use Rattle.std.specs.Ordering.{is_lt, is_eq, eq_by_cmp, match_ordering}
@@ -34,7 +34,7 @@ both_right true b p = p
 both_right false b p = absurd p
 
 module _ {K X : Type 0} (R : K → K → Ordering) where
-  -- inserting into the entries is putting
+  -- insertion into the entries is insertion into the map
   pub put_is : (k : K) (v : X) (es : List (K × X)) → insert_entry R es k v ≡ put R k v es
   put_is k v [] = refl
   put_is k v (e ∷ es) = order_cases (R k e.0) _ _ _ _ (ap (λ rest. e ∷ rest) (put_is k v es))
@@ -52,7 +52,7 @@ module _ {K X : Type 0} (R : K → K → Ordering) where
   below_keys x [] below = tt
   below_keys x (e ∷ es) below = (less (R x e.0) (both_left _ _ below), below_keys x es (both_right _ _ below))
 
-  -- keys that rise, as std's sums over maps want them
+  -- ascending keys, in the form that std's sums over maps take
   pub rising_keys : (es : List (K × X)) → T (is_sorted R es) → IsStrictlySortedBy R (keys_of es)
   unfolding IsStrictlySortedBy
   rising_keys [] sorted = tt
@@ -106,7 +106,7 @@ module _ {K : Type 0} (X : Type 0) (R : K → K → Ordering) where
   pub values-empty : values (empty {X = X} {R = R}) ≡ []
   values-empty = ap (map (λ e. e.1)) entries-empty
 
--- entries put in one after another, the last first
+-- entries inserted one after another, the last first
 abbrev pub puts : {K X : Type 0} → (K → K → Ordering) → List (K × X) → List (K × X)
 puts R [] = []
 puts R (e ∷ es) = put R e.0 e.1 (puts R es)
@@ -126,7 +126,7 @@ All-keys-from_entries {K = K} {X = X} {R = R} total P es all = subst (λ fs. All
         subst (λ gs. All P (keys_of gs)) (put_is R e.0 e.1 (puts R fs))
         (All-keys-insert_entry R e.0 e.1 P (puts R fs) (in_puts fs (All-drop P 1 (keys_of (e ∷ fs)) all)) (all 0 e.0 (omega arith)))
 
--- keys whose ranks rise, from n on
+-- keys whose ranks ascend from n on
 abbrev pub IsRising : {K : Type 0} → (K → ℕ) → ℕ → List K → Type 0
 IsRising rank n [] = Unit {0}
 IsRising rank n (k ∷ ks) = (n ≤ rank k) × IsRising rank (rank k + 1) ks

@@ -1,4 +1,4 @@
--- The names of shard files: where the digits of a name end, and that a name tells one hash.
+-- The names of shard files: the digits of a name, and that a name determines its hash.
 use Rattle.std.proofs.Common.{◌≡◌, ℕ, List, ◌++◌, length, take, drop, refl, sym, ap, ◌∙◌, subst, arith, take-append-drop}
 use Rattle.std.specs.Prelude.{codes}
 use Rattle.std.proofs.lemmas.List.{length-append}
@@ -20,7 +20,7 @@ digits_taken name digits split len = ap (take 64) split ∙ ap (λ n. take n (di
 digits_dropped : (name digits : List ℕ) → name ≡ digits ++ codes ".mdb" → length digits ≡ 64 → drop 64 name ≡ codes ".mdb"
 digits_dropped name digits split len = ap (drop 64) split ∙ ap (λ n. drop n (digits ++ codes ".mdb")) (sym len) ∙ drop-append_seam digits (codes ".mdb")
 
--- what stands before the ending of a name is its digits
+-- the part of a name before its ending is its digits
 pub digits_before : (name digits : List ℕ) → name ≡ digits ++ codes ".mdb" → IsShardName name → take 64 name ≡ digits
 digits_before name digits split is =
     let long = length-append digits (codes ".mdb") in
@@ -34,16 +34,16 @@ digits_and_ending name digits split is = record {
   ending = digits_dropped name digits split is.length;
 }
 
--- what is left of a text that ends in `.mdb`
+-- the rest of a text that ends in `.mdb`
 pub ending_stripped : (name digits : List ℕ) → StripsSuffix (FindsTextSuffix (codes ".mdb")) name digits → name ≡ digits ++ codes ".mdb"
 ending_stripped name digits stripped = stripped.1.1 ∙ ap (λ front. front ++ codes ".mdb") (sym stripped.2)
 
--- the name of a hash is one
+-- the name made from a hash is the name of a shard file
 pub shard_name-named : (hash : DataHash) → NamesShard (shard_name hash) hash
 shard_name-named hash =
     let is = hash_hex-IsHexText hash in
     (digits_and_ending (shard_name hash) (hash_hex hash) refl is, ap str_to_ascii_lowercase (digits_taken (shard_name hash) (hash_hex hash) refl is.length) ∙ lowered-hash_hex hash)
 
--- of one hash alone
+-- and determines this hash
 pub named-unique : (name : List ℕ) (a b : DataHash) → IsHash a → IsHash b → NamesShard name a → NamesShard name b → a ≡ b
 named-unique name a b a_fits b_fits a_named b_named = hash_hex-injective a b a_fits b_fits (sym a_named.1 ∙ b_named.1)

@@ -1,4 +1,4 @@
--- Maps laid over others, value joined with value, and the union of two shards that they make.
+-- Overlays of maps, in which values of the same key are joined, and the union of two shards made of them.
 use Rattle.std.proofs.Common.{◌≡◌, ℕ, ◌+◌, ◌≤◌, Bool, true, false, List, [], ◌∷◌, ◌++◌, Option, None, Some, refl, sym, ap, ◌∙◌, subst, cond, true≢false, is_some, arith, T, map}
 use Rattle.std.specs.Prelude.{option_map, unwrap_or, sum_by}
 use Rattle.std.specs.Option.{option_or}
@@ -25,17 +25,17 @@ use Rattle.xet_shards.proofs.FileUnions.{entry-before}
 use Rattle.xet_shards.proofs.Unions.{same_shard}
 
 module _ {X : Type 0} (join : X → X → X) where
-  -- a value, joined with another where that is there
+  -- a value, joined with another if there is one
   abbrev pub with_twin : X → Option X → X
   with_twin x None = x
   with_twin x (Some y) = join x y
 
-  -- the value of two that may be there
+  -- the join of two optional values
   abbrev pub either_joined : Option X → Option X → Option X
   either_joined None p = p
   either_joined (Some x) p = Some (with_twin x p)
 
-  -- entries laid over a map, each value joined with what the map has under its key
+  -- entries laid over a map, each value joined with the map's value of its key, if any
   abbrev pub overlay : List (DataHash × X) → FinMap hash_cmp X → FinMap hash_cmp X
   overlay [] m = m
   overlay (e ∷ es) m = insert (overlay es m) e.0 (with_twin e.1 (get m e.0))
@@ -49,7 +49,7 @@ module _ {X : Type 0} (join : X → X → X) where
         slot true tied rest = ap (λ k. Some (with_twin e.1 (get m k))) (sym ((same_key q e.0).0 tied))
         slot false tied rest = rest
 
-  -- it is the only map with these values
+  -- the overlay is the only map with these values
   pub is_overlay : (es : List (DataHash × X)) (m c : FinMap hash_cmp X) → ((q : DataHash) → get c q ≡ either_joined (entry es q) (get m q)) → c ≡ overlay es m
   is_overlay es m c is = same_map hash_cmp-IsTotalOrder hash_cmp-IsAntisymmetric c (overlay es m) (λ q. is q ∙ sym (get-overlay es m q))
 
@@ -61,7 +61,7 @@ module _ {X : Type 0} (join : X → X → X) where
   pushed_slot true (Some y) p x v new is = absurd (true≢false (ap is_some (new refl)))
 
   module _ (es : List (DataHash × X)) (k : DataHash) (x : X) (m : FinMap hash_cmp X) (new : entry es k ≡ None) where
-    -- one entry more, under a new key, is inserted
+    -- one more entry, with a new key, is an insertion
     pub overlay-push : overlay (es ++ (k, x) ∷ []) m ≡ insert (overlay es m) k (with_twin x (get m k))
     overlay-push = same_map hash_cmp-IsTotalOrder hash_cmp-IsAntisymmetric _ _ (λ q.
         get-overlay (es ++ (k, x) ∷ []) m q ∙ ap (λ o. either_joined o (get m q)) (entry-append es k x q)
@@ -70,7 +70,7 @@ module _ {X : Type 0} (join : X → X → X) where
         (λ tied. ap (λ j. with_twin x (get m j)) (sym ((same_key q k).0 tied)))
         ∙ sym (get-insert hash_cmp-IsTotalOrder (overlay es m) k (with_twin x (get m k)) q ∙ ap (cond (eq_by_cmp hash_cmp q k) (Some (with_twin x (get m k)))) (get-overlay es m q)))
 
-    -- what it adds to a sum
+    -- and this is what it adds to a sum
     pub sum-overlay : (f : X → ℕ)
         → sum_by f (values (overlay (es ++ (k, x) ∷ []) m)) + unwrap_or (option_map f (get m k)) 0 ≡ sum_by f (values (overlay es m)) + f (with_twin x (get m k))
     sum-overlay f =
@@ -79,15 +79,15 @@ module _ {X : Type 0} (join : X → X → X) where
         ∙ ap (λ o. sum_by f (values (insert (overlay es m) k (with_twin x (get m k)))) + unwrap_or (option_map f o) 0) (sym before)
         ∙ sum-insert hash_cmp-IsTotalOrder hash_cmp-IsAntisymmetric f (overlay es m) k (with_twin x (get m k))
 
--- a map is that of its entries
+-- a map is the map of its entries
 pub from_sorted-entries : {X : Type 0} (m : FinMap hash_cmp X) (es : List (DataHash × X)) → es ≡ entries m → from_sorted es ≡ m
 from_sorted-entries m es is = ap from_sorted is ∙ same_entries_map _ _ (entries-from_sorted hash_cmp (entries m) (entries_sorted m))
 
--- a turn of a walk over entries whose keys rise comes to a new key
+-- an iteration over entries with ascending keys comes to a new key each time
 pub new_key : {X : Type 0} (front rest all : List (DataHash × X)) (e : DataHash × X) → front ++ e ∷ rest ≡ all → T (is_sorted hash_cmp all) → entry front e.0 ≡ None
 new_key front rest all e whole sorted = entry-before front rest e (subst (λ es. T (is_sorted hash_cmp es)) (sym whole) sorted)
 
--- the same walk, whose values are shown by a function
+-- the same iteration, with a function applied to the values
 pub shown_whole : {X Z : Type 0} (f : Z → X) (front rest all : List (DataHash × Z)) (e : DataHash × Z) → front ++ e ∷ rest ≡ all
     → map (shown f) front ++ shown f e ∷ map (shown f) rest ≡ map (shown f) all
 shown_whole f front rest all e whole = sym (map-append (shown f) front (e ∷ rest)) ∙ ap (map (shown f)) whole
@@ -95,7 +95,7 @@ shown_whole f front rest all e whole = sym (map-append (shown f) front (e ∷ re
 pub sum-entries : {X : Type 0} (f : X → ℕ) (es : List (DataHash × X)) (e : DataHash × X) → sum_by f (values_of (es ++ e ∷ [])) ≡ sum_by f (values_of es) + f e.1
 sum-entries f es e = ap (sum_by f) (map-append (λ d. d.1) es (e ∷ [])) ∙ sum_by_push f (values_of es) e.1
 
--- of xorbs the other's stands there
+-- of two xorbs with the same hash, the union has the other's
 abbrev pub other_xorb : MDBXorbInfo → MDBXorbInfo → MDBXorbInfo
 other_xorb own other = other
 
@@ -110,12 +110,12 @@ either_xorb_is None (Some s) = refl
 either_xorb_is (Some r) None = refl
 either_xorb_is (Some r) (Some s) = refl
 
--- and where the other has one, an own xorb adds no rows
+-- so an own xorb whose hash the other has adds no rows
 pub rows_kept : (x : MDBXorbInfo) (o : Option MDBXorbInfo) → is_some o ≡ true → xorb_row_count (with_twin other_xorb x o) ≡ unwrap_or (option_map xorb_row_count o) 0
 rows_kept x None there = absurd (true≢false (sym there))
 rows_kept x (Some y) there = refl
 
--- the maps that unions have
+-- the maps of a union
 pub are_united_files : (es : List (DataHash × MDBFileInfo)) (b c : FileMap) → ((q : DataHash) → get c q ≡ either_file (entry es q) (get b q)) → c ≡ overlay merged es b
 are_united_files es b c is = is_overlay merged es b c (λ q. is q ∙ sym (either_file_is (entry es q) (get b q)))
 
@@ -128,7 +128,7 @@ united_files a b = overlay merged (entries a) b
 abbrev pub united_xorbs : XorbMap → XorbMap → XorbMap
 united_xorbs a b = overlay other_xorb (entries a) b
 
--- each two shards have a union, and but one
+-- each two shards have exactly one union
 abbrev pub united_shard : Shard → Shard → Shard
 united_shard a b = record { files = united_files a.files b.files; xorbs = united_xorbs a.xorbs b.xorbs }
 
@@ -145,7 +145,7 @@ union_exists a b = record {
 pub union_unique : (a b c d : Shard) → IsUnion a b c → IsUnion a b d → c ≡ d
 union_unique a b c d one other = same_shard c d (λ q. one.files q ∙ sym (other.files q)) (λ q. one.xorbs q ∙ sym (other.xorbs q))
 
--- shards that may be united have files that may be joined
+-- the files of shards that can be united can be joined
 pub can_join_united : (a b : Shard) → CanUnite a b → CanJoinFiles a.files b.files
 can_join_united a b can = λ q r s own other.
     let union = union_exists a b in
@@ -156,7 +156,7 @@ can_join_united a b can = λ q r s own other.
       rows = omega (arith, few.files, sum-remove hash_cmp-IsTotalOrder hash_cmp-IsAntisymmetric row_count (united_files a.files b.files) q (merged r s) there);
     }
 
--- whether shards may be united shows in the rows of their union, however they are counted
+-- whether shards can be united follows from the rows of their union, however these are counted
 module _ (a b : Shard) (files xorbs : ℕ) (files_are : (c : Shard) → IsUnion a b c → files ≡ total_rows (values c.files))
     (xorbs_are : (c : Shard) → IsUnion a b c → xorbs ≡ total_xorb_rows (values c.xorbs)) where
   pub unite_if_few : CanJoinFiles a.files b.files → files ≤ 4294967295 → xorbs ≤ 4294967295 → CanUnite a b

@@ -1,4 +1,4 @@
--- The bytes of a shard tell its contents: shards with equal bytes are equal, and expire at the same timestamp.
+-- The bytes of a shard determine its contents: shards with equal bytes are equal and have the same expiry.
 use Rattle.std.proofs.Common.{◌≡◌, ℕ, ◌+◌, ◌^◌, ◌<◌, List, [], ◌∷◌, length, map, drop, Option, refl, sym, ap, ◌∙◌, subst, arith}
 use Rattle.std.specs.Prelude.{All, IfSome}
 use Rattle.std.specs.FinMap.{FinMap, entries, values, same_entries_map}
@@ -19,7 +19,7 @@ use Rattle.xet_shards.proofs.Readback.{section_of_shard, xorb_section_of_shard}
 use Rattle.xet_shards.proofs.EndsUnique.{only_info, ends_of_layout}
 use Rattle.xet_shards.proofs.Widths.{fits_written}
 
--- a map whose keys its values tell is told by its values
+-- a map whose keys follow from its values is determined by its values
 module _ {X : Type 0} (key : X → DataHash) where
   entries_of : (es : List (DataHash × X)) → All (λ e. e.0 ≡ key e.1) es → es ≡ map (λ r. (key r, r)) (map (λ e. e.1) es)
   entries_of [] keyed = refl
@@ -50,7 +50,7 @@ module _ (s t : Shard) (e f : Option ℕ) (s_shard : IsShard s) (t_shard : IsSha
       let xorbs = same_values xorb_hash_of s.xorbs t.xorbs s_shard.xorbs.keyed t_shard.xorbs.keyed xorbs_same in
       λ i. record { files = files i; xorbs = xorbs i }
 
-  -- no expiry is the last timestamp of 64 bits
+  -- no expiry is stored as the greatest `u64`
   pub same_expiry : IfSome e (λ m. m < 2 ^ 64) → IfSome f (λ m. m < 2 ^ 64) → (plain_form e).expiry ≡ (plain_form f).expiry
   same_expiry e_fits f_fits =
       ap (λ (x : MDBShardInfo). x.metadata.shard_key_expiry)
@@ -58,7 +58,7 @@ module _ (s t : Shard) (e f : Option ℕ) (s_shard : IsShard s) (t_shard : IsSha
       (subst (λ bs. HasEnds bs (info_value s e)) same (ends_of_layout (values s.files) (values s.xorbs) (plain_form e) (fits_written s e s_shard e_fits)))
       (ends_of_layout (values t.files) (values t.xorbs) (plain_form f) (fits_written t f t_shard f_fits)))
 
--- the other way round
+-- the converse
 pub same_layout : (s t : Shard) (e f : Option ℕ) → s ≡ t → (plain_form e).expiry ≡ (plain_form f).expiry → layout s e ≡ layout t f
 same_layout s t e f same timestamp =
     λ i. layout_of (values (same i).files) (values (same i).xorbs) (record (plain_form e) { expiry = timestamp i })

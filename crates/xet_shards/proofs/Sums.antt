@@ -1,4 +1,4 @@
--- Sums over a map, and over a map that has some of its entries.
+-- Sums over a map, and over a map with some of its entries.
 use Rattle.std.proofs.Common.{◌≡◌, ℕ, ◌+◌, ◌≤◌, Bool, true, false, List, [], ◌∷◌, Some, None, T, refl, sym, ap, ◌∙◌, arith, cond, true≢false, is_some}
 use Rattle.std.specs.Prelude.{option_map, unwrap_or, sum_by}
 use Rattle.std.specs.Ordering.{eq_by_cmp}
@@ -12,7 +12,7 @@ use Rattle.std.proofs.lemmas.List.Sums.{sum_by-cons}
 use Rattle.xet_shards.proofs.Maps.{sum-insert, both_left, both_right, below_none}
 
 module _ {K X : Type 0} {R : K → K → Ordering} (total : IsTotalOrder R) (exact : IsAntisymmetric R) where
-  -- an entry taken out of a map and put back
+  -- an entry removed from a map and inserted again
   put_back : (m : FinMap R X) (k : K) (v : X) → get m k ≡ Some v → insert (remove m k) k v ≡ m
   put_back m k v here = same_map total exact _ _ (λ q.
       get-insert total (remove m k) k v q ∙ ap (cond (eq_by_cmp R q k) (Some v)) (get-remove total m k q) ∙ at q (eq_by_cmp R q k) refl) where
@@ -32,7 +32,7 @@ module _ {K X : Type 0} {R : K → K → Ordering} (total : IsTotalOrder R) (exa
     ap (λ o. unwrap_or (option_map f o) 0) (removed m k),
   )
 
-  -- the entries of a sorted list stand in the map
+  -- the entries of a sorted list are in its map
   abbrev AreIn : List (K × X) → FinMap R X → Type 0
   AreIn es m = (q : K) (v : X) → find R q es ≡ Some v → get m q ≡ Some v
 
@@ -53,6 +53,6 @@ module _ {K X : Type 0} {R : K → K → Ordering} (total : IsTotalOrder R) (exa
         sum_in f es (remove m e.0) (both_right _ _ sorted) (in_rest e es m (both_left _ _ sorted) all),
       )
 
-  -- a map sums up to no more than one that has its entries
+  -- the sum over a map is at most that over a map with all its entries
   pub sub-sum : (f : X → ℕ) (a b : FinMap R X) → ((q : K) (v : X) → get a q ≡ Some v → get b q ≡ Some v) → sum_by f (values a) ≤ sum_by f (values b)
   sub-sum f a b all = sum_in f (entries a) b (entries_sorted a) (λ q v is. all q v (get-entries a q ∙ is))

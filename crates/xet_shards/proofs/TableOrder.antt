@@ -1,5 +1,5 @@
--- What the tables of a shard hold: places of chunks in strictly ascending order, and for each record the rows of those
--- with smaller hashes.
+-- The contents of a shard's tables: rows of chunks in strictly ascending order, and for each record the sum of the rows
+-- of those with smaller hashes.
 use Rattle.std.proofs.Common.{◌≡◌, ℕ, zero, suc, ◌+◌, ◌<◌, Bool, true, false, List, [], ◌∷◌, ◌++◌, length, map, get_or, cond, Some, refl, sym, ap, ◌∙◌, subst, append_assoc, arith}
 use Rattle.std.specs.Prelude.{All, Contains, filter}
 use Rattle.std.specs.List.{AllByRecursion}
@@ -25,7 +25,7 @@ use Rattle.xet_shards.proofs.Found.{found_entry, entry_found}
 use Rattle.xet_shards.proofs.Tables.{place_total, place_exact}
 use Rattle.xet_shards.proofs.ChunkPlaces.{alone}
 
--- a place that stands in a list is found among its entries
+-- a row of a list is found among its entries
 place_found : (p d : ChunkPlace) (ps : List ChunkPlace) (i : ℕ) → i < length ps → get_or ps i d ≡ p → find place_cmp p (map alone ps) ≡ Some (tt {0})
 place_found p d [] i within here = absurd (omega (arith, within))
 place_found p d (x ∷ ps) zero within here =
@@ -64,7 +64,7 @@ module _ (xorbs : List MDBXorbInfo) where
         get_or-map (λ (e : ChunkPlace × Unit {0}). e.0) (entries table_map) at.0 d p at.1 ∙ ap (λ (e : ChunkPlace × Unit {0}). e.0) at.2,
       )
 
--- of records whose hashes strictly ascend, those in front of one are those with smaller hashes
+-- of records in strictly ascending order of hashes, those before one are those with smaller hashes
 module _ {X : Type 0} (hash_of : X → DataHash) where
   abbrev below : DataHash → List X → List X
   below q xs = filter (λ x. is_lt (hash_cmp (hash_of x) q)) xs
@@ -96,7 +96,7 @@ module _ {X : Type 0} (hash_of : X → DataHash) where
   abbrev start_among : (List X → ℕ) → List X → X → ℕ × ℕ
   start_among rows xs x = ((hash_of x).word0, rows (below (hash_of x) xs))
 
-  -- so the rows in front of a record are those of the records with smaller hashes
+  -- so the rows before a record are those of the records with smaller hashes
   starts_below : (rows : List X → ℕ) (front xs : List X) → IsStrictlySortedBy hash_cmp (map hash_of (front ++ xs))
       → map (start_after rows) (with_fronts front xs) ≡ map (start_among rows (front ++ xs)) xs
   starts_below rows front [] sorted = refl

@@ -22,7 +22,7 @@ same_shard c d files xorbs = λ i. record {
   xorbs = same_map hash_cmp-IsTotalOrder hash_cmp-IsAntisymmetric c.xorbs d.xorbs xorbs i;
 }
 
--- a file in a shard is well-formed and stands under its hash
+-- a file in a shard is well-formed, and its key is its hash
 pub record IsKnown (q : DataHash) (r : MDBFileInfo) : Type 0 where
   pub keyed : q ≡ file_hash_of r
   pub well_formed : IsWellFormed r
@@ -41,7 +41,7 @@ same_either None (Some y) same = refl
 same_either (Some x) None same = refl
 same_either (Some x) (Some y) same = ap Some (sym (same x y refl refl))
 
--- merging two records that stand under one hash
+-- merging two records with the same hash
 merged_known : (q : DataHash) (r s : MDBFileInfo) → IsKnown q r → IsKnown q s → merged r s ≡ joined r s
 merged_known q r s own others = merged_is_joined r s own.well_formed others.well_formed
 
@@ -105,11 +105,11 @@ pub union-of_empty : (a c : Shard) → IsUnion empty_shard a c → c ≡ a
 union-of_empty a c union = same_shard c a (λ q. union.files q ∙ ap (λ o. either_file o (get a.files q)) (get-empty hash_cmp q))
     (λ q. union.xorbs q ∙ ap (option_or (get a.xorbs q)) (get-empty hash_cmp q) ∙ or_none (get a.xorbs q))
 
--- what a shard has beside the empty one
+-- a shard before the empty one
 pub difference-of_empty : (a c : Shard) → IsDifference empty_shard a c → c ≡ a
 difference-of_empty a c rest = same_shard c a (λ q. rest.files q ∙ but_empty (get a.files) q) (λ q. rest.xorbs q ∙ but_empty (get a.xorbs) q)
 
--- shards that agree may be united, unless their rows are too many
+-- shards that agree can be united if the rows of their union fit `u32`
 pub agreeing_unite : (a b : Shard) → IsShard a → IsShard b → ShardsAgree a b → ((c : Shard) → IsUnion a b c → HasFewRows c) → CanUnite a b
 agreeing_unite a b first second agree few = record {
   same = λ q r s own other.

@@ -1,4 +1,4 @@
--- A version that differs from the one wanted, in bytes.
+-- Versions that differ, as bytes.
 use Rattle.std.proofs.Common.{◌≡◌, ◌≢◌, ℕ, ◌<◌, ◌^◌, List, ◌++◌, take, drop, sym, ap, ◌∙◌, take-append-drop}
 use Rattle.xet_base.specs.Bytes.{u64_bytes}
 use Rattle.xet_base.proofs.Bytes.{u64_bytes-front}

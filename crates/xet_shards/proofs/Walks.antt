@@ -1,4 +1,4 @@
--- The turns of a loop over the values or the entries of a map.
+-- The iterations of a loop over the values or the entries of a map.
 use Rattle.std.proofs.Common.{◌≡◌, ℕ, ◌+◌, ◌≤◌, List, [], ◌∷◌, ◌++◌, map, Option, None, Some, sym, ap, ◌∙◌, subst, arith, append_assoc, append-nil}
 use Rattle.std.specs.Prelude.{All, sum_by, flat_map}
 use Rattle.std.proofs.lemmas.Grind.{flat_map-append}
@@ -9,7 +9,7 @@ use Rattle.std.proofs.lemmas.List.Elements.{All-drop}
 use Rattle.std.proofs.lemmas.List.Sums.{sum_by-append, sum_by-cons}
 use Rattle.std.proofs.lemmas.Map.Iter.{rest_more, rest_all}
 
--- the same over the entries of a map: where a turn stands, and what its entry is
+-- the same over the entries of a map: the index of an iteration, and its entry
 module _ {X Y : Type 0} (show : Y → X) where
   pub entry_turn : (all : List X) (before : List Y) (s t : List X) (r : Option Y) (y : Y)
       → map show before ++ s ≡ all → r ≡ Some y → TakesFirst show s r t → map show before ++ show y ∷ t ≡ all
@@ -32,12 +32,12 @@ module _ {X : Type 0} where
   entry_holds P front rest all x whole holds = All-middle P front rest x (subst (All P) (sym whole) holds)
 
 module _ {X : Type 0} where
-  -- where a turn stands in the list of all values
+  -- the index of an iteration in the list of all values
   pub value_turn : (all : List X) (before : List (Bor X)) (s t : List X) (r : Option (Bor X)) (x : Bor X)
       → map deref before ++ s ≡ all → r ≡ Some x → TakesFirst deref s r t → map deref before ++ x.now ∷ t ≡ all
   value_turn all before s t r x whole is step = ap (λ rest. map deref before ++ rest) (sym (rest_more deref s t r x is step)) ∙ whole
 
-  -- the same at the next turn
+  -- the same at the next iteration
   pub value_turned : (all : List X) (before : List (Bor X)) (t : List X) (x : Bor X)
       → map deref before ++ x.now ∷ t ≡ all → map deref (before ++ x ∷ []) ++ t ≡ all
   value_turned all before t x whole =
@@ -51,7 +51,7 @@ module _ {X : Type 0} where
   pub sum-middle : (f : X → ℕ) (front rest : List X) (x : X) → sum_by f front + f x ≤ sum_by f (front ++ x ∷ rest)
   sum-middle f front rest x = omega (arith, sum_by-append f front (x ∷ rest), sum_by-cons f x rest)
 
-  -- what a list of values maps to, once this turn's value is part of it
+  -- the mapped values, with the value of this iteration
   pub values_push : (before : List (Bor X)) (x : Bor X) → map deref (before ++ x ∷ []) ≡ map deref before ++ x.now ∷ []
   values_push before x = map-append deref before (x ∷ [])
 

@@ -1,4 +1,4 @@
--- The numbers of a shard's footer are within 64 bits.
+-- The numbers of a shard's footer fit `u64`.
 use Rattle.std.proofs.Common.{ℕ, ◌+◌, ◌^◌, ◌<◌, ◌≤◌, length, Option, None, Some, refl, arith}
 use Rattle.std.specs.Prelude.{All, IfSome, unwrap_or}
 use Rattle.std.specs.FinMap.{entries, values}

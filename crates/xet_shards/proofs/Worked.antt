@@ -1,4 +1,4 @@
--- Worked values: where the parts of small shards stand, and runs of chunks.
+-- Worked examples: the offsets of the parts of small shards, and runs of chunks.
 use Rattle.std.proofs.Common.{◌≡◌, ℕ, ◌+◌, List, [], ◌∷◌, map, flat_map, length, None, refl, ap}
 use Rattle.std.proofs.lemmas.List.Elements.{All-nil}
 use Rattle.xet_base.specs.declared.merklehash.DataHash.{DataHash}
@@ -22,7 +22,7 @@ use Rattle.xet_shards.proofs.ChunkPlaces.{ascending-nil}
 use Rattle.xet_shards.proofs.Maps.{puts, entries-from_entries}
 use Rattle.xet_shards.proofs.XorbLayouts.{length-layout_of}
 
--- the words n, 1, 0 and 0
+-- the hash with the words n, 1, 0 and 0
 abbrev small : ℕ → DataHash
 small n = record { word0 = n; word1 = 1; word2 = 0; word3 = 0 }
 
@@ -42,18 +42,18 @@ xorb hash chunk = record {
   chunks = record { chunk_hash = small chunk; chunk_byte_range_start = 0; unpacked_segment_bytes = 5; flags = 0; _unused = 0 } ∷ [];
 }
 
--- where file section, xorb section, the three tables and the footer start
+-- the offsets of file section, xorb section, the three tables and the footer
 abbrev places : MDBShardFileFooter → List ℕ
 places f = f.file_info_offset ∷ f.xorb_info_offset ∷ f.file_lookup_offset ∷ f.xorb_lookup_offset ∷ f.chunk_lookup_offset ∷ f.footer_offset ∷ []
 
--- the sums that a footer holds: bytes stored, of files, and on disk
+-- the sums in a footer: stored bytes, bytes of files, and bytes on disk
 abbrev sums : MDBShardFileFooter → List ℕ
 sums f = f.stored_bytes ∷ f.materialized_bytes ∷ f.stored_bytes_on_disk ∷ []
 
 ascending_is : (ps : List ChunkPlace) → ascending ps ≡ map (λ e. e.0) (puts place_cmp (map (λ p. (p, tt {0})) ps))
 ascending_is ps = ap (map (λ e. e.0)) (entries-from_entries place_total (map (λ p. (p, tt {0})) ps))
 
--- a chunk that two xorbs hold
+-- a chunk that is in two xorbs
 pub chunks_of_two : chunk_table (xorb 10 21 ∷ xorb 11 21 ∷ []) ≡ record { word = 21; start = 0; place = 0 } ∷ record { word = 21; start = 2; place = 0 } ∷ []
 chunks_of_two = ascending_is (chunk_places (xorb 10 21 ∷ xorb 11 21 ∷ []))
 
@@ -81,7 +81,7 @@ pub places_of_q : places (footer_value (file 100 200 ∷ file 101 201 ∷ []) (x
 unfolding file_section xorb_section file_table_bytes xorb_table_bytes chunk_table_bytes file_record_bytes file_rows_bytes header_row segment_row hash_bytes u64_bytes u32_bytes xorb_record_bytes xorb_header_row chunk_row
 places_of_q = λ i. 48 ∷ 288 ∷ 528 ∷ 552 ∷ 576 ∷ (576 + length (flat_map place_row (chunks_of_q i))) ∷ []
 
--- the bytes of two xorbs that hold one chunk
+-- the sizes of two xorbs with the same chunk
 pub size_of_two : length (layout_of [] (xorb 10 21 ∷ xorb 11 21 ∷ []) (plain_form None)) ≡ 592
 size_of_two = length-layout_of [] (xorb 10 21 ∷ xorb 11 21 ∷ []) None (All-nil FitsRecord)
 
@@ -99,10 +99,10 @@ three = record {
 abbrev segment : ℕ → ℕ → ℕ → FileDataSequenceEntry
 segment bytes start end = record { xorb_hash = small 10; xorb_flags = 0; unpacked_segment_bytes = bytes; chunk_index_start = start; chunk_index_end = end }
 
--- two hashes stand there in turn, the third does not
+-- the first two hashes match, the third does not
 pub run_to_other_hash : run_at (three, 1) (small 22 ∷ small 23 ∷ small 99 ∷ []) ≡ (2, segment 13 1 3)
 run_to_other_hash = refl
 
--- the xorb ends before the hashes do
+-- the xorb ends before the hashes
 pub run_to_end_of_xorb : run_at (three, 2) (small 23 ∷ small 24 ∷ []) ≡ (1, segment 7 2 3)
 run_to_end_of_xorb = refl

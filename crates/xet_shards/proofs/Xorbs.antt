@@ -1,4 +1,4 @@
--- Walks over the owners of xorbs, and sums over xorbs.
+-- Loops over `Rc`s of xorbs, and sums over xorbs.
 use Rattle.std.proofs.Common.{◌≡◌, ℕ, ◌*◌, ◌≤◌, List, [], ◌∷◌, ◌++◌, map, Option, Some, None, refl, sym, ap, ◌∙◌, arith}
 use Rattle.std.specs.Prelude.{All, sum_by}
 use Rattle.std.specs.Borrow.{Bor}
@@ -19,7 +19,7 @@ module _ {Z : Type 0} where
   abbrev pub owned : List (Rc MDBXorbInfo Z) → List MDBXorbInfo
   owned owners = map (λ (o : Rc MDBXorbInfo Z). o.value) owners
 
-  -- the xorbs that a walk over their owners has come past
+  -- the xorbs that a loop over their `Rc`s has passed
   abbrev pub seen : List (Bor (Rc MDBXorbInfo Z)) → List MDBXorbInfo
   seen before = owned (map deref before)
 
@@ -36,7 +36,7 @@ module _ {Z : Type 0} where
       → map deref before ++ s ≡ values_of es → r ≡ None → TakesFirst deref s r t → seen before ≡ values_of (shown_xorbs es)
   seen_end es before s t r whole is step = ap owned (value_end _ before s t r whole is step) ∙ owned-values es
 
-  -- what was seen, once this turn's xorb is part of it
+  -- these, with the xorb of this iteration
   pub seen_push : (before : List (Bor (Rc MDBXorbInfo Z))) (x : Bor (Rc MDBXorbInfo Z)) → seen (before ++ x ∷ []) ≡ seen before ++ x.now.value ∷ []
   seen_push before x = ap owned (values_push before x) ∙ map-append (λ (o : Rc MDBXorbInfo Z). o.value) (map deref before) (x.now ∷ [])
 
@@ -44,7 +44,7 @@ module _ {Z : Type 0} where
 pub xorb_values : (es : List (DataHash × MDBXorbInfo)) → AreXorbs es → All IsXorb (values_of es)
 xorb_values es xorbs = All-map IsXorb (λ (e : DataHash × MDBXorbInfo). e.1) es xorbs.well_formed
 
--- each xorb has a row, and so no sum of a number of 32 bits passes 64
+-- each xorb has a row, so the sum of a `u32` over xorbs fits `u64`
 pub xorbs_bound : (f : MDBXorbInfo → ℕ) → ((r : MDBXorbInfo) → IsXorb r → f r ≤ 4294967295) → (rs : List MDBXorbInfo) → All IsXorb rs → sum_by f rs ≤ 4294967295 * total_xorb_rows rs
 xorbs_bound f small [] xorbs = omega arith
 xorbs_bound f small (r ∷ rs) xorbs =

@@ -1,4 +1,4 @@
--- What the first and the last bytes of a shard say: a header and a footer, foreign ones, or too few bytes.
+-- The header and the footer at the ends of a shard's bytes: valid, unsupported, or cut short.
 use Rattle.std.specs.Prelude.{◌≡◌, ◌≢◌, ◌⊎◌, ℕ, ◌+◌, ◌-◌, ◌^◌, ◌<◌, ◌≤◌, List, length, take, drop, All}
 use Rattle.xet_base.specs.declared.error.CoreError.{CoreError}
 use Rattle.xet_base.specs.Bytes.{u64_bytes}
@@ -9,13 +9,13 @@ use Rattle.xet_shards.specs.declared.shard_format.footer.MDBShardFileFooter.{MDB
 use Rattle.xet_shards.specs.declared.shard_format.info.MDBShardInfo.{MDBShardInfo}
 use Rattle.xet_shards.specs.Layout.{header_tag, shard_header_bytes, offsets_of, timestamps_of, sums_of, shard_footer_bytes}
 
--- the bytes begin with a header that is read: the tag, version 2, and a footer size
+-- the bytes begin with a valid header: the tag, version 2, and a footer size
 pub record HasHeader (bytes : List ℕ) : Type 0 where
   pub size : 48 ≤ length bytes
   pub tag : take 32 bytes ≡ header_tag
   pub version : take 8 (drop 32 bytes) ≡ u64_bytes 2
 
--- a foreign tag, which is seen once 32 bytes are read, or a foreign version, which is seen after 48
+-- another tag, which is checked after 32 bytes, or another version, which is checked after 48
 abbrev pub HasUnsupportedHeader : List ℕ → Type 0
 HasUnsupportedHeader bytes =
     ((32 ≤ length bytes) × (take 32 bytes ≢ header_tag))
@@ -25,7 +25,7 @@ HasUnsupportedHeader bytes =
 abbrev pub EndsInHeader : List ℕ → Type 0
 EndsInHeader bytes = (length bytes < 32) ⊎ ((length bytes < 48) × (take 32 bytes ≡ header_tag))
 
--- a foreign version of the footer, which is seen once 8 bytes are read
+-- another version of the footer, which is checked after 8 bytes
 abbrev pub HasUnsupportedFooter : List ℕ → Type 0
 HasUnsupportedFooter bytes = (8 ≤ length bytes) × (take 8 bytes ≢ u64_bytes 1)
 
@@ -57,16 +57,16 @@ pub record HasEnds (bytes : List ℕ) (info : MDBShardInfo) : Type 0 where
   pub footer_widths : FitsFooter info.metadata
   pub footer : last_bytes bytes ≡ shard_footer_bytes info.metadata
 
--- the bytes are those of another format: a foreign header, or after a header that is read a foreign footer
-abbrev pub IsForeign : List ℕ → Type 0
-IsForeign bytes =
+-- the format is unsupported: the header is, or the header is valid and the footer is
+abbrev pub IsUnsupported : List ℕ → Type 0
+IsUnsupported bytes =
     HasUnsupportedHeader bytes ⊎ (HasHeader bytes × (200 ≤ length bytes) × HasUnsupportedFooter (last_bytes bytes))
 
--- the bytes are too few: they end in the header, or before a footer has room
+-- the bytes are too few: they end in the header, or after it are fewer than a footer needs
 abbrev pub IsTooShort : List ℕ → Type 0
 IsTooShort bytes = EndsInHeader bytes ⊎ (HasHeader bytes × (length bytes < 200))
 
--- header and footer were found, by two seeks and 248 bytes read
+-- header and footer were read, with two seeks and 248 bytes
 pub record Loads (old new : Source) (found : MDBShardInfo) : Type 0 where
   pub bytes : new.bytes ≡ old.bytes
   pub seeks : new.seeks ≡ old.seeks + 2
@@ -74,23 +74,23 @@ pub record Loads (old new : Source) (found : MDBShardInfo) : Type 0 where
   pub failures : new.failures ≡ old.failures
   pub ends : HasEnds old.bytes found
 
--- why bytes were not read as wanted: the device failed, their format is another, or they are too few
+-- why a read failed: the device failed, the format is unsupported, or the bytes are too few
 abbrev pub Refusal : (List ℕ → Type 0) → (List ℕ → Type 0) → List ℕ → Source → Source → CoreError → Type 0
-Refusal Foreign Short bytes old new e =
+Refusal Unsupported Short bytes old new e =
     DeviceFailure old new e
-    ⊎ ((new.failures ≡ old.failures) × IsBareShardVersion e × Foreign bytes)
+    ⊎ ((new.failures ≡ old.failures) × IsBareShardVersion e × Unsupported bytes)
     ⊎ ((new.failures ≡ old.failures) × IsEndOfInput e × Short bytes)
 
--- they were not found, by at most two seeks and 248 bytes read; the place is open
+-- the read failed, with at most two seeks and 248 bytes; the offset is unspecified
 pub record LoadFails (old new : Source) (e : CoreError) : Type 0 where
   pub bytes : new.bytes ≡ old.bytes
   pub seeks : new.seeks ≤ old.seeks + 2
   pub read : new.read ≤ old.read + 248
-  pub cause : Refusal IsForeign IsTooShort old.bytes old new e
+  pub cause : Refusal IsUnsupported IsTooShort old.bytes old new e
 
--- a header or a footer was not read from the source's place on, by at most so many bytes; the place is open
-pub record PartFails (Foreign Short : List ℕ → Type 0) (most : ℕ) (old new : Source) (e : CoreError) : Type 0 where
+-- reading a header or a footer from the current offset on failed, after at most so many bytes; the offset is unspecified
+pub record PartFails (Unsupported Short : List ℕ → Type 0) (most : ℕ) (old new : Source) (e : CoreError) : Type 0 where
   pub bytes : new.bytes ≡ old.bytes
   pub seeks : new.seeks ≡ old.seeks
   pub read : new.read ≤ old.read + most
-  pub cause : Refusal Foreign Short (bytes_left old) old new e
+  pub cause : Refusal Unsupported Short (bytes_left old) old new e

@@ -6,9 +6,9 @@ use Rattle.xet_shards.specs.ChunkLookup.{ShardWithLookup}
 use Rattle.xet_shards.specs.Shard.{total_rows, total_xorb_rows}
 
 abbrev pub shard_inside : Inside → ShardWithLookup
-shard_inside s = record { content = record { files = s.files; xorbs = s.xorbs.xorbs }; places = s.xorbs.places }
+shard_inside s = record { content = record { files = s.files; xorbs = s.xorbs.xorbs }; locations = s.xorbs.locations }
 
--- the rows are those of the tables, and 32 bits count them
+-- the rows are those of the stores, and fit `u32`
 pub record IsCounted (s : Inside) : Type 0 where
   pub file_rows : s.file_rows ≡ total_rows (values s.files)
   pub few_file_rows : s.file_rows ≤ 4294967295

@@ -1,4 +1,4 @@
--- The join of a set of shards: under each hash what any of them has, part by part.
+-- The join of a set of shards: for each hash what any of them has, part by part.
 use Rattle.std.specs.Prelude.{◌≡◌, ◌↔◌, List, [], length, is_some, Option, None, Some, option_map, option_and_then, unwrap_or, if◌then◌else◌}
 use Rattle.std.specs.FinMap.{get}
 use Rattle.xet_base.specs.declared.merklehash.DataHash.{DataHash}
@@ -10,11 +10,11 @@ use Rattle.xet_records.specs.FileRecord.{flags_of}
 use Rattle.xet_records.specs.Merging.{verified}
 use Rattle.xet_shards.specs.Shard.{Shard}
 
--- a file's verification rows, if it has this part
+-- the verification rows of a file, if it has them
 abbrev pub verification_of : MDBFileInfo → Option (List FileVerificationEntry)
 verification_of r = if verified r then Some r.verification else None
 
--- what a shard has under a file hash: segments, and each optional part
+-- the parts of a shard's file with this hash: segments, and each optional part
 abbrev pub segments_under : DataHash → Shard → Option (List FileDataSequenceEntry)
 segments_under q s = option_map (λ r. r.segments) (get s.files q)
 
@@ -24,7 +24,7 @@ verification_under q s = option_and_then verification_of (get s.files q)
 abbrev pub metadata_under : DataHash → Shard → Option FileMetadataExt
 metadata_under q s = option_and_then (λ r. r.metadata_ext) (get s.files q)
 
--- the file with these parts: its flags announce the optional parts that are there
+-- the file with these parts: its flags say which optional parts are present
 abbrev pub file_with : DataHash → List FileDataSequenceEntry → Option (List FileVerificationEntry) → Option FileMetadataExt → MDBFileInfo
 file_with q segments verification metadata_ext = record {
   metadata = record { file_hash = q; file_flags = flags_of (is_some verification) (is_some metadata_ext); num_entries = length segments; _unused = 0 };
@@ -33,15 +33,15 @@ file_with q segments verification metadata_ext = record {
   metadata_ext = metadata_ext;
 }
 
--- what a shard has of a kind is exactly what any of the shards has
+-- the shard has a part exactly if one of the shards has it
 abbrev pub HasWhatAnyHas : {X : Type 0} → (Shard → Type 0) → Shard → (Shard → Option X) → Type 0
 HasWhatAnyHas {X} IsOne c part = (x : X) → (part c ≡ Some x) ↔ ((s : Shard) × IsOne s × (part s ≡ Some x))
 
--- each file is told by its parts
+-- each file is determined by its parts
 abbrev pub FollowsParts : Shard → Type 0
 FollowsParts c = (q : DataHash) → (r : MDBFileInfo) → get c.files q ≡ Some r → r ≡ file_with q r.segments (verification_of r) r.metadata_ext
 
--- the join of a set of shards: under each hash exactly the xorb, the segments and the optional parts that any has
+-- the join of a set of shards: for each hash exactly the xorb, the segments and the optional parts that any of them has
 pub record IsJoinOf (IsOne : Shard → Type 0) (c : Shard) : Type 0 where
   pub xorbs : (q : DataHash) → HasWhatAnyHas IsOne c (λ s. get s.xorbs q)
   pub segments : (q : DataHash) → HasWhatAnyHas IsOne c (segments_under q)

@@ -1,4 +1,4 @@
--- Shards put together and taken apart.
+-- Union and difference of shards.
 use Rattle.std.specs.Prelude.{◌≡◌, ◌≤◌, Some}
 use Rattle.std.specs.Option.{option_or}
 use Rattle.std.specs.FinMap.{get, values}
@@ -9,28 +9,29 @@ use Rattle.xet_records.specs.Merging.{Agree, IsSameFile}
 use Rattle.xet_shards.specs.Shard.{Shard, total_rows, total_xorb_rows}
 use Rattle.xet_shards.specs.Joining.{but, either_file}
 
--- the records of both: of files under one hash the first's stands there, with the parts that only the second's has; of
--- xorbs under one hash the second's
+-- the records of both shards: of two files with the same hash, the first with the parts that only the second has; of two
+-- xorbs with the same hash, the second
 pub record IsUnion (a b c : Shard) : Type 0 where
   pub files : (q : DataHash) → get c.files q ≡ either_file (get a.files q) (get b.files q)
   pub xorbs : (q : DataHash) → get c.xorbs q ≡ option_or (get b.xorbs q) (get a.xorbs q)
 
--- the records of the second whose hashes the first has not
+-- the records of the second shard whose hashes the first does not have
 pub record IsDifference (a b c : Shard) : Type 0 where
   pub files : (q : DataHash) → get c.files q ≡ but a.files (get b.files) q
   pub xorbs : (q : DataHash) → get c.xorbs q ≡ but a.xorbs (get b.xorbs) q
 
--- 32 bits count the rows of both maps
+-- the rows of each map fit `u32`
 pub record HasFewRows (s : Shard) : Type 0 where
   pub files : total_rows (values s.files) ≤ 4294967295
   pub xorbs : total_xorb_rows (values s.xorbs) ≤ 4294967295
 
--- files under one hash have equal counts, and 32 bits count the rows of the union
+-- files with the same hash have equally many segments, and the rows of the union fit `u32`
 pub record CanUnite (a b : Shard) : Type 0 where
   pub same : (q : DataHash) → (r s : MDBFileInfo) → get a.files q ≡ Some r → get b.files q ≡ Some s → IsSameFile r.metadata s.metadata
   pub rows : (c : Shard) → IsUnion a b c → HasFewRows c
 
--- under one hash stand equal xorbs, and files that have equal segments and equal optional parts wherever both have them
+-- xorbs with the same hash are equal; files with the same hash have equal segments, and equal optional parts wherever
+-- both have them
 pub record ShardsAgree (a b : Shard) : Type 0 where
   pub files : (q : DataHash) → (r s : MDBFileInfo) → get a.files q ≡ Some r → get b.files q ≡ Some s → Agree r s
   pub xorbs : (q : DataHash) → (r s : MDBXorbInfo) → get a.xorbs q ≡ Some r → get b.xorbs q ≡ Some s → r ≡ s

@@ -23,7 +23,7 @@ pub record Shard : Type 0 where
   pub files : FileMap
   pub xorbs : XorbMap
 
--- the codes by which proofs tell such values apart
+-- the encodings by which proofs distinguish such values
 abbrev pub coded_files : Coded FileMap
 coded_files = finite.code hash.the_row.coded file.the_row.coded
 
@@ -55,7 +55,7 @@ pub record AreXorbs (es : List (DataHash × MDBXorbInfo)) : Type 0 where
   pub keyed : All (λ e. e.0 ≡ xorb_hash_of e.1) es
   pub well_formed : All (λ e. IsXorb e.1) es
 
--- such maps, whose rows 32 bits count
+-- such maps, whose rows fit `u32`
 pub record IsShard (s : Shard) : Type 0 where
   pub files : AreFiles (entries s.files)
   pub file_rows : total_rows (values s.files) ≤ 4294967295
@@ -65,14 +65,14 @@ pub record IsShard (s : Shard) : Type 0 where
 abbrev pub empty_shard : Shard
 empty_shard = record { files = empty; xorbs = empty }
 
--- a record put under its hash, in the place of what is there
+-- a record inserted or replaced
 abbrev pub add_file : Shard → MDBFileInfo → Shard
 add_file s r = record s { files = insert s.files (file_hash_of r) r }
 
 abbrev pub add_xorb : Shard → MDBXorbInfo → Shard
 add_xorb s r = record s { xorbs = insert s.xorbs (xorb_hash_of r) r }
 
--- a record that may be put there
+-- a record that can be inserted
 pub record CanAddFile (s : Shard) (r : MDBFileInfo) : Type 0 where
   pub well_formed : IsWellFormed r
   pub rows : total_rows (values (add_file s r).files) ≤ 4294967295

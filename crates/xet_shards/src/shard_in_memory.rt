@@ -7,7 +7,7 @@ ghost use Rattle.xet_records.specs.FileRecord.{size_of_file, IsWellFormed};
 ghost use Rattle.xet_records.specs.XorbRecord.{IsXorb};
 ghost use Rattle.xet_shards.specs.Shard.{IsShard, empty_shard, AreFiles, AreXorbs, total_rows, total_xorb_rows, add_file, add_xorb, CanAddFile, CanAddXorb};
 ghost use Rattle.xet_shards.specs.ChunkLookup.{IsChunkLookup};
-ghost use Rattle.xet_shards.specs.XorbStore.{shown_xorbs, placed};
+ghost use Rattle.xet_shards.specs.XorbStore.{shown_xorbs, location_in};
 ghost use Rattle.xet_shards.specs.SetOperations.{IsUnion, IsDifference, HasFewRows, CanUnite, ShardsAgree};
 ghost use Rattle.xet_shards.specs.Joins.{IsJoinOf};
 ghost use Rattle.xet_shards.specs.ChunkQuery.{query_answer, IsUnknown};
@@ -33,10 +33,10 @@ use xet_records::file_structs::{FileDataSequenceEntry, MDBFileInfo};
 use xet_records::xorb_structs::MDBXorbInfo;
 use xorb_store::XorbStore;
 
-/// A shard that grows in memory: what is known of files and of xorbs, each under its hash, and a place of
-/// each chunk of these xorbs.
+/// A shard in memory: file records and xorb records, each under its hash, and a lookup from the
+/// chunk hashes of these xorbs to a location of such a chunk.
 ///
-/// Contracts see its two maps and the places.
+/// Contracts see the two maps of records and the lookup.
 #[derive(Drop)]
 pub struct MDBInMemoryShard {
     files: FileStore,
@@ -60,9 +60,9 @@ impl Model for MDBInMemoryShard {
 }
 
 impl MDBInMemoryShard {
-    /// The empty shard, which takes no memory yet.
+    /// The empty shard. Does not allocate.
     pub fn new(alloc: Global) -> MDBInMemoryShard
-        ensures { result ≡ record { content = empty_shard; places = finite.empty } }
+        ensures { result ≡ record { content = empty_shard; locations = finite.empty } }
     {
         MDBInMemoryShard {
             files: FileStore::new(alloc),
@@ -72,17 +72,18 @@ impl MDBInMemoryShard {
         }
     }
 
-    /// Puts a xorb under its hash, in the place of what is there. The chunks of the new xorb alone are
-    /// entered into the lookup where there is none, else all chunks of the shard.
+    /// Inserts or replaces a xorb; replacing rebuilds the chunk lookup.
     ///
-    /// `InvalidArguments` where the record is ill-formed or the rows of all xorbs would pass 32 bits,
-    /// `OutOfMemory` where it finds none. A refusal leaves the shard as it was.
+    /// `InvalidArguments` if the record is ill-formed or the rows of all xorbs would pass
+    /// 4294967295, `OutOfMemory` if an allocation fails. On error the shard is unchanged.
     pub fn add_xorb_block(&mut self, alloc: Global, xorb_block: MDBXorbInfo) -> Result<()>
         ensures ok { OnOk result (self.new.content ≡ add_xorb self.old.content xorb_block) }
         ensures err { OnErr result (self.new ≡ self.old) }
         ensures admitted { OnOk result (CanAddXorb self.old.content xorb_block) }
-        ensures refused { IsErrOf result CoreError.InvalidArguments → ¬ CanAddXorb self.old.content xorb_block }
-        ensures invalid { ¬ CanAddXorb self.old.content xorb_block → IsErrOf result CoreError.InvalidArguments }
+        ensures refused { IsErrOf result CoreError.InvalidArguments
+            → ¬ CanAddXorb self.old.content xorb_block }
+        ensures invalid { ¬ CanAddXorb self.old.content xorb_block
+            → IsErrOf result CoreError.InvalidArguments }
         ensures causes { IfErr result
             (λ e. (e ≡ CoreError.InvalidArguments) ⊎ (e ≡ CoreError.OutOfMemory)) }
     {
@@ -98,30 +99,33 @@ impl MDBInMemoryShard {
         Ok(())
     }
 
-    // The rows of all xorbs once this one is put under its hash.
+    // The rows of all xorbs once this one is inserted.
     fn rows_with_xorb(&self, xorb_block: &MDBXorbInfo) -> u64
         requires { IsXorb xorb_block.now }
-        ensures { result ≡ total_xorb_rows (finite.values (add_xorb self.now.content xorb_block.now).xorbs) }
+        ensures { result
+            ≡ total_xorb_rows (finite.values (add_xorb self.now.content xorb_block.now).xorbs) }
     {
         let replaced = self.xorbs.rows_of(&xorb_block.metadata.xorb_hash);
         self.xorb_rows + 1 + u64::from(xorb_block.metadata.num_entries) - replaced
     }
 
-    /// Puts a file under its hash, in the place of what is there.
+    /// Inserts or replaces a file.
     ///
-    /// `InvalidArguments` where the record is ill-formed or the rows of all files would pass 32 bits,
-    /// `OutOfMemory` where the map finds none. A refusal leaves the shard as it was.
+    /// `InvalidArguments` if the record is ill-formed or the rows of all files would pass
+    /// 4294967295, `OutOfMemory` if an allocation fails. On error the shard is unchanged.
     pub fn add_file_reconstruction_info(
         &mut self,
         _alloc: Global,
         file_info: MDBFileInfo,
     ) -> Result<()>
         ensures ok { OnOk result (self.new.content ≡ add_file self.old.content file_info) }
-        ensures places { self.new.places ≡ self.old.places }
+        ensures locations { self.new.locations ≡ self.old.locations }
         ensures err { OnErr result (self.new ≡ self.old) }
         ensures admitted { OnOk result (CanAddFile self.old.content file_info) }
-        ensures refused { IsErrOf result CoreError.InvalidArguments → ¬ CanAddFile self.old.content file_info }
-        ensures invalid { ¬ CanAddFile self.old.content file_info → IsErrOf result CoreError.InvalidArguments }
+        ensures refused { IsErrOf result CoreError.InvalidArguments
+            → ¬ CanAddFile self.old.content file_info }
+        ensures invalid { ¬ CanAddFile self.old.content file_info
+            → IsErrOf result CoreError.InvalidArguments }
         ensures causes { IfErr result
             (λ e. (e ≡ CoreError.InvalidArguments) ⊎ (e ≡ CoreError.OutOfMemory)) }
     {
@@ -137,10 +141,11 @@ impl MDBInMemoryShard {
         Ok(())
     }
 
-    // The rows of all files once this one is put under its hash.
+    // The rows of all files once this one is inserted.
     fn rows_with_file(&self, file_info: &MDBFileInfo) -> u64
         requires { IsWellFormed file_info.now }
-        ensures { result ≡ total_rows (finite.values (add_file self.now.content file_info.now).files) }
+        ensures { result
+            ≡ total_rows (finite.values (add_file self.now.content file_info.now).files) }
     {
         let replaced = self.files.rows_of(&file_info.metadata.file_hash);
         self.file_rows + 1 + file_info.metadata.rows_after() - replaced
@@ -166,8 +171,8 @@ impl MDBInMemoryShard {
         self.files.content()
     }
 
-    /// Does nothing. It says that each record is well-formed and stands under its hash, and that 32 bits count
-    /// the rows of the files, and those of the xorbs.
+    /// Does nothing. Its contract says that each record is well-formed and is under its hash, and
+    /// that the rows of the files and those of the xorbs fit `u32`.
     pub fn invariant(&self)
         ensures { IsShard self.now.content }
     {
@@ -175,27 +180,31 @@ impl MDBInMemoryShard {
         self.xorb_content();
     }
 
-    /// The lookup of chunks: under each chunk hash of the shard's xorbs one of these xorbs, and a place of
-    /// such a chunk in it.
+    /// The chunk lookup: for each chunk hash of the shard's xorbs, one of these xorbs and the index
+    /// of such a chunk in it.
     pub fn chunk_hash_lookup(&self) -> &HashMap<MerkleHash, (Rc<MDBXorbInfo>, u64)>
-        ensures places { (q : DataHash) → placed result.now q ≡ finite.get self.now.places q }
-        ensures index { IsChunkLookup self.now.content.xorbs (finite.get self.now.places) }
+        ensures locations { (q : DataHash)
+            → location_in result.now q ≡ finite.get self.now.locations q }
+        ensures lookup { IsChunkLookup self.now.content.xorbs (finite.get self.now.locations) }
     {
         self.xorbs.lookup()
     }
 
-    /// The records of both shards. Of xorbs under one hash that of `other` stands there; of files under
-    /// one hash this shard's, with each optional part that only `other` has for it.
+    /// The records of both shards. Of two xorbs with the same hash it has that of `other`; of two
+    /// files with the same hash, this shard's with each optional part that only `other` has for it.
     ///
-    /// `InvalidArguments` where such files have different numbers of segments, or 32 bits don't count the
-    /// rows; `OutOfMemory` where the records find none.
+    /// `InvalidArguments` if such files have different numbers of segments, or the rows pass
+    /// 4294967295; `OutOfMemory` if an allocation fails.
     pub fn union(&self, alloc: Global, other: &MDBInMemoryShard) -> Result<MDBInMemoryShard>
         ensures ok { IfOk result (λ s. IsUnion self.now.content other.now.content s.content) }
         ensures join { ShardsAgree self.now.content other.now.content
-            → IfOk result (λ s. IsJoinOf (Contains (self.now.content ∷ other.now.content ∷ [])) s.content) }
+            → IfOk result
+            (λ s. IsJoinOf (Contains (self.now.content ∷ other.now.content ∷ [])) s.content) }
         ensures admitted { OnOk result (CanUnite self.now.content other.now.content) }
-        ensures refused { IsErrOf result CoreError.InvalidArguments → ¬ CanUnite self.now.content other.now.content }
-        ensures invalid { ¬ CanUnite self.now.content other.now.content → IsErrOf result CoreError.InvalidArguments }
+        ensures refused { IsErrOf result CoreError.InvalidArguments
+            → ¬ CanUnite self.now.content other.now.content }
+        ensures invalid { ¬ CanUnite self.now.content other.now.content
+            → IsErrOf result CoreError.InvalidArguments }
         ensures causes { IfErr result
             (λ e. (e ≡ CoreError.InvalidArguments) ⊎ (e ≡ CoreError.OutOfMemory)) }
     {
@@ -206,10 +215,11 @@ impl MDBInMemoryShard {
         other.invariant();
         let files = self.files.union(alloc, &other.files)?;
         let xorbs = self.xorbs.union(alloc, &other.xorbs)?;
-        Ok(MDBInMemoryShard::of_tables(files, xorbs))
+        Ok(MDBInMemoryShard::from_stores(files, xorbs))
     }
 
-    // Whether files under one hash have equal counts, and 32 bits count the rows of the union.
+    // Whether files with the same hash have equally many segments, and the rows of the union fit
+    // `u32`.
     fn can_unite(&self, other: &MDBInMemoryShard) -> bool
         ensures { IsTrue result ↔ CanUnite self.now.content other.now.content }
     {
@@ -221,20 +231,24 @@ impl MDBInMemoryShard {
         file_rows <= u64::from(u32::MAX) && xorb_rows <= u64::from(u32::MAX)
     }
 
-    /// The records of `other` under hashes that this shard has not. `OutOfMemory` where they find none.
+    /// The records of `other` whose hashes this shard does not have. `OutOfMemory` if an allocation
+    /// fails.
     pub fn difference(&self, alloc: Global, other: &MDBInMemoryShard) -> Result<MDBInMemoryShard>
         ensures ok { IfOk result (λ s. IsDifference self.now.content other.now.content s.content) }
         ensures causes { IfErr result (λ e. e ≡ CoreError.OutOfMemory) }
     {
         let files = self.files.difference(alloc, &other.files)?;
         let xorbs = self.xorbs.difference(alloc, &other.xorbs)?;
-        Ok(MDBInMemoryShard::of_tables(files, xorbs))
+        Ok(MDBInMemoryShard::from_stores(files, xorbs))
     }
 
-    // The shard of these tables, of which 32 bits count the rows.
-    fn of_tables(files: FileStore, xorbs: XorbStore) -> MDBInMemoryShard
+    // The shard of these stores, whose rows fit `u32`.
+    fn from_stores(files: FileStore, xorbs: XorbStore) -> MDBInMemoryShard
         requires { HasFewRows (record { files = files; xorbs = xorbs.xorbs }) }
-        ensures { result ≡ record { content = record { files = files; xorbs = xorbs.xorbs }; places = xorbs.places } }
+        ensures { result ≡ record {
+          content = record { files = files; xorbs = xorbs.xorbs };
+          locations = xorbs.locations;
+        } }
     {
         let file_rows = file_rows(files.content());
         let xorb_rows = xorb_rows(xorbs.content());
@@ -246,8 +260,8 @@ impl MDBInMemoryShard {
         }
     }
 
-    /// A shard with the same records, or `OutOfMemory`. Of chunks that stand at several places its lookup
-    /// may keep others.
+    /// A shard with the same records. Of chunks that occur several times its lookup may keep
+    /// another location. `OutOfMemory` if an allocation fails.
     pub fn try_clone(&self, alloc: Global) -> Result<MDBInMemoryShard>
         ensures ok { IfOk result (λ s. s.content ≡ self.now.content) }
         ensures causes { IfErr result (λ e. e ≡ CoreError.OutOfMemory) }
@@ -255,18 +269,20 @@ impl MDBInMemoryShard {
         MDBInMemoryShard::new(alloc).difference(alloc, self)
     }
 
-    /// Does nothing: the size of the shard is right after each call.
+    /// Does nothing: the size of the shard is up to date after each call.
     pub fn recalculate_shard_size(&mut self)
         ensures { self.new ≡ self.old }
     {}
 
-    /// What the shard knows of a file, if it does. `OutOfMemory` where the copy finds none.
+    /// A copy of the record of this file, or `None` if the shard has none. `OutOfMemory` if an
+    /// allocation fails.
     pub fn get_file_reconstruction_info(
         &self,
         alloc: Global,
         file_hash: &MerkleHash,
     ) -> Result<Option<MDBFileInfo>>
-        ensures ok { IfOk result (λ found. found ≡ finite.get self.now.content.files file_hash.now) }
+        ensures ok { IfOk result
+            (λ found. found ≡ finite.get self.now.content.files file_hash.now) }
         ensures causes { IfErr result (λ e. e ≡ CoreError.OutOfMemory) }
     {
         match self.files.get(file_hash) {
@@ -275,14 +291,14 @@ impl MDBInMemoryShard {
         }
     }
 
-    /// The longest run of these chunk hashes that begins at the place which the lookup keeps for the first:
-    /// how many of them it has, and the segment of its chunks. `None` where no hash is given or no xorb has
-    /// the first. Takes no memory.
+    /// The longest run of these chunk hashes from the location on that the lookup keeps for the
+    /// first of them: its number of chunks, and their segment. `None` if no hash is given or no
+    /// xorb has the first. Does not allocate.
     pub fn chunk_hash_dedup_query(
         &self,
         query_hashes: &[MerkleHash],
     ) -> Option<(usize, FileDataSequenceEntry)>
-        ensures answer { result ≡ query_answer self.now.places query_hashes.now }
+        ensures answer { result ≡ query_answer self.now.locations query_hashes.now }
         ensures none { (result ≡ None) ↔ IsUnknown self.now.content.xorbs query_hashes.now }
     {
         chunk_hash_dedup_query(&self.xorbs, query_hashes)
@@ -302,35 +318,37 @@ impl MDBInMemoryShard {
         self.files.content().len()
     }
 
-    /// The bytes that all xorbs have on disk, as their headers tell.
+    /// The size of all xorbs on disk, in bytes, by their headers.
     pub fn stored_bytes_on_disk(&self) -> u64
-        ensures { result ≡ sum_by (λ x. x.metadata.num_bytes_on_disk) (finite.values self.now.content.xorbs) }
+        ensures { result
+            ≡ sum_by (λ x. x.metadata.num_bytes_on_disk) (finite.values self.now.content.xorbs) }
     {
         stored_bytes_on_disk(self.xorb_content())
     }
 
-    /// The bytes of all files: those of their segments.
+    /// The size of all files, in bytes: that of their segments.
     pub fn materialized_bytes(&self) -> u64
         ensures { result ≡ sum_by size_of_file (finite.values self.now.content.files) }
     {
         materialized_bytes(self.file_content())
     }
 
-    /// The bytes of all xorbs, as their headers tell.
+    /// The unpacked size of all xorbs, in bytes, by their headers.
     pub fn stored_bytes(&self) -> u64
-        ensures { result ≡ sum_by (λ x. x.metadata.num_bytes_in_xorb) (finite.values self.now.content.xorbs) }
+        ensures { result
+            ≡ sum_by (λ x. x.metadata.num_bytes_in_xorb) (finite.values self.now.content.xorbs) }
     {
         stored_bytes(self.xorb_content())
     }
 
-    /// Whether the shard knows of no file and no xorb.
+    /// Whether the shard has no file and no xorb.
     pub fn is_empty(&self) -> bool
         ensures { IsTrue result ↔ (self.now.content ≡ empty_shard) }
     {
         self.files.content().is_empty() && self.xorbs.content().is_empty()
     }
 
-    /// The bytes that the shard has when it is written.
+    /// The size of the shard when it is written without expiry, in bytes.
     pub fn shard_file_size(&self) -> u64
         ensures { result ≡ length (layout self.now.content None) }
     {

@@ -20,7 +20,7 @@ pub fn truncate_hash(hash: &MerkleHash) -> u64
 }
 
 /// The name of the file of the shard with this hash: its 64 digits and `.mdb`.
-/// `OutOfMemory` where the text finds none.
+/// `OutOfMemory` if an allocation fails.
 pub fn shard_file_name(alloc: Global, hash: &MerkleHash) -> Result<String>
     ensures text { IfOk result (λ name. string_bytes name ≡ shard_name hash.now) }
     ensures causes { IfErr result (λ e. e ≡ CoreError.OutOfMemory) }
@@ -30,12 +30,13 @@ pub fn shard_file_name(alloc: Global, hash: &MerkleHash) -> Result<String>
     Ok(name)
 }
 
-/// The hash that the name of a shard file tells: 64 hexadecimal digits of either case, then `.mdb`.
-/// `None` for any other text, such as a path. Takes no memory.
+/// The hash in the name of a shard file: 64 hexadecimal digits of either case, then `.mdb`.
+/// `None` for any other text, such as a path. Does not allocate.
 pub fn parse_shard_filename(filename: &str) -> Option<MerkleHash>
     ensures found { IfSome result (λ hash. NamesShard filename.now hash) }
     ensures accepted { IsSome result ↔ IsShardName filename.now }
-    ensures back { (hash : DataHash) → IsHash hash → NamesShard filename.now hash → result ≡ Some hash }
+    ensures back { (hash : DataHash) → IsHash hash → NamesShard filename.now hash
+        → result ≡ Some hash }
 {
     let digits = filename.strip_suffix(SHARD_FILE_ENDING)?;
     let hash = MerkleHash::from_hex(digits).ok()?;
@@ -43,14 +44,16 @@ pub fn parse_shard_filename(filename: &str) -> Option<MerkleHash>
     Some(hash)
 }
 
-// Does nothing. It says that the words of a hash fit their width.
+// Does nothing. Its contract says that the words of a hash fit their width.
 fn widths(hash: MerkleHash)
     ensures { IsHash hash }
 {}
 
-/// The timestamp so many seconds from now, in seconds. `InvalidArguments` past 64 bits.
+/// The timestamp `valid_seconds` after `now`, in seconds. `InvalidArguments` if it does not fit
+/// `u64`.
 pub fn shard_expiry_time(now: u64, valid_seconds: u64) -> Result<u64>
-    ensures { MatchResult result (λ timestamp. (timestamp ≡ now + valid_seconds) × (now + valid_seconds < 2 ^ 64))
+    ensures { MatchResult result
+        (λ timestamp. (timestamp ≡ now + valid_seconds) × (now + valid_seconds < 2 ^ 64))
         (λ e. (e ≡ CoreError.InvalidArguments) × (2 ^ 64 ≤ now + valid_seconds)) }
 {
     match now.checked_add(valid_seconds) {

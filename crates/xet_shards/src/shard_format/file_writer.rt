@@ -1,4 +1,4 @@
-//! Writing the file section, and gathering the table that finds its records.
+//! Writing the file section, and collecting the table by which its records are found.
 
 ghost use Rattle.std.specs.Prelude.{◌≡◌, ◌+◌, ◌*◌, ◌^◌, ◌<◌, ◌≤◌, ◌++◌, [], length, OnOk, IfErr};
 ghost use Rattle.std.specs.Io.KnownBytes.{Appends};
@@ -12,7 +12,7 @@ use xet_base::error::Result;
 use xet_base::row::{put_u32, put_u64};
 use xet_records::file_structs::MDBFileInfo;
 
-/// The files written so far: their rows, the bytes of their table and their own bytes.
+/// The files written so far: their rows, the bytes of their table, and their sizes in sum.
 #[derive(Drop)]
 pub struct WrittenFiles {
     pub rows: u64,
@@ -35,18 +35,21 @@ impl WrittenFiles {
         }
     }
 
-    /// Appends the next record and notes where it starts. The error is the writer's, or `OutOfMemory` where
-    /// the table finds none.
+    /// Writes the next record and adds the row at which it starts to the table. The error is the
+    /// writer's, or `OutOfMemory` if an allocation fails.
     pub fn write<W: Write>(&mut self, writer: &mut W, file_info: &MDBFileInfo) -> Result<()>
         requires whole { FitsItsHeader file_info.now }
         requires rows { self.old.rows + row_count file_info.now ≤ 4294967295 }
-        ensures text { OnOk result
-            (Appends (W.contents writer.old) (W.contents writer.new) (file_record_bytes file_info.now)) }
+        ensures appended { OnOk result
+            (Appends (W.contents writer.old) (W.contents writer.new)
+            (file_record_bytes file_info.now)) }
         ensures rows { OnOk result (self.new.rows ≡ self.old.rows + row_count file_info.now) }
         ensures table { OnOk result
-            (self.new.table.items ≡ self.old.table.items ++ start_row (file_info.now.metadata.file_hash.word0, self.old.rows)) }
+            (self.new.table.items ≡ self.old.table.items
+            ++ start_row (file_info.now.metadata.file_hash.word0, self.old.rows)) }
         ensures bytes { OnOk result
-            (self.new.materialized_bytes ≡ self.old.materialized_bytes + size_of_file file_info.now) }
+            (self.new.materialized_bytes
+            ≡ self.old.materialized_bytes + size_of_file file_info.now) }
         ensures causes { IfErr result IsDeviceError }
     {
         let word = file_info.metadata.file_hash.word0;
@@ -58,7 +61,8 @@ impl WrittenFiles {
     }
 }
 
-// Appends the row of a record to a table: the first word of its hash, and where it starts.
+// Appends a row to a table: the first word of a record's hash, and the row at which the record
+// starts.
 pub(super) fn append_start(table: &mut Vec<u8>, word: u64, start: u32) -> Result<()>
     ensures ok { OnOk result (table.new.items ≡ table.old.items ++ start_row (word, start)) }
     ensures few { length table.new.items ≤ length table.old.items + 12 }

@@ -16,8 +16,11 @@ use xet_base::serialization_utils::{read_bytes, write_hash, write_u64s};
 
 const MDB_SHARD_FOOTER_VERSION: u64 = 1;
 
-/// The footer of a shard: where its parts stand and what they hold. Offsets are in bytes from the start
-/// of the shard, timestamps in seconds.
+/// The size of a footer, in bytes.
+pub(super) const FOOTER_SIZE: u64 = 200;
+
+/// The footer of a shard: the offsets of its parts, the rows of its tables and the sizes of its
+/// contents. Offsets are in bytes from the start of the shard, timestamps in seconds.
 #[derive(Clone, Copy, Debug, PartialEq, Eq)]
 pub struct MDBShardFileFooter {
     pub version: u64,
@@ -29,7 +32,7 @@ pub struct MDBShardFileFooter {
     pub xorb_lookup_num_entry: u64,
     pub chunk_lookup_offset: u64,
     pub chunk_lookup_num_entry: u64,
-    /// The key of the chunk hashes; all zero means that they are not keyed.
+    /// The key of the chunk hashes; if all zero, they are not keyed.
     pub chunk_hash_hmac_key: HMACKey,
     pub shard_creation_timestamp: u64,
     /// The timestamp after which the shard is no longer valid.
@@ -68,11 +71,12 @@ impl Default for MDBShardFileFooter {
 }
 
 impl MDBShardFileFooter {
-    /// Appends the footer and returns its 200 bytes. The error is the writer's.
+    /// Writes the footer and returns 200, the number of bytes. The error is the writer's.
     #[tactic(auto, unfolding(crate::specs::Layout::shard_footer_bytes))]
     pub fn serialize<W: Write>(&self, writer: &mut W) -> Result<usize>
-        ensures text { OnOk result
-            (Appends (W.contents writer.old) (W.contents writer.new) (shard_footer_bytes self.now)) }
+        ensures bytes { OnOk result
+            (Appends (W.contents writer.old) (W.contents writer.new)
+            (shard_footer_bytes self.now)) }
         ensures count { IfOk result (λ n. n ≡ 200) }
         ensures causes { IfErr result IsDeviceError }
     {
@@ -101,18 +105,22 @@ impl MDBShardFileFooter {
             self.footer_offset,
         ];
         write_u64s(writer, &sums)?;
-        Ok(200)
+        Ok(FOOTER_SIZE as usize)
     }
 
-    /// Reads the footer. `ShardVersion` where the version is not 1, as soon as its 8 bytes are read,
-    /// `UnexpectedEof` where the bytes end before that.
+    /// Reads the footer.
+    ///
+    /// `ShardVersion` if the version is not 1, which is checked after 8 bytes; `UnexpectedEof` if
+    /// the bytes end before that.
     pub fn deserialize<R: Read>(alloc: Global, reader: &mut R) -> Result<Self>
         ensures version { IfOk result (λ f. f.version ≡ 1) }
-        ensures text { IfOk result
-            (λ f. Consumes (R.remaining reader.old) (R.remaining reader.new) (shard_footer_bytes f)) }
-        ensures foreign { IfErr result
+        ensures bytes { IfOk result
+            (λ f. Consumes (R.remaining reader.old) (R.remaining reader.new)
+            (shard_footer_bytes f)) }
+        ensures unsupported { IfErr result
             (λ e. IsShardVersion e → IfSome (R.remaining reader.old) HasUnsupportedFooter) }
-        ensures end { IfErr result (λ e. IsEndOfInput e → IfSome (R.remaining reader.old) EndsInFooter) }
+        ensures end { IfErr result
+            (λ e. IsEndOfInput e → IfSome (R.remaining reader.old) EndsInFooter) }
         ensures causes { IfErr result (λ e. IsDeviceError e ⊎ IsBareShardVersion e) }
     {
         let mut version = [0u8; 8];
@@ -123,11 +131,11 @@ impl MDBShardFileFooter {
         Ok(MDBShardFileFooter::after_version(&rest))
     }
 
-    // The footer whose version was read, from the 192 bytes after it.
+    // The footer whose version has been read, from the 192 bytes after it.
     #[tactic(auto, unfolding(crate::specs::Layout::shard_footer_bytes))]
     pub(super) fn after_version(rest: &[u8; 192]) -> Self
         ensures version { result.version ≡ 1 }
-        ensures text { shard_footer_bytes result ≡ u64_bytes 1 ++ rest.now }
+        ensures bytes { shard_footer_bytes result ≡ u64_bytes 1 ++ rest.now }
         ensures widths { FitsFooter result }
     {
         let mut offsets = [0u64; 8];
@@ -162,7 +170,7 @@ impl MDBShardFileFooter {
         footer
     }
 
-    // Does nothing. It says that the numbers of a footer in memory fit their widths.
+    // Does nothing. Its contract says that the numbers of a footer in memory fit their widths.
     pub(super) fn widths(self)
         ensures { FitsFooter self }
     {
@@ -170,7 +178,7 @@ impl MDBShardFileFooter {
     }
 }
 
-// The words of an array.
+// The words of an array, as a tuple.
 fn six_words(words: [u64; 6]) -> (u64, u64, u64, u64, u64, u64)
     ensures { words ≡ result.0 ∷ result.1 ∷ result.2 ∷ result.3 ∷ result.4 ∷ result.5 ∷ [] }
 {
@@ -178,7 +186,7 @@ fn six_words(words: [u64; 6]) -> (u64, u64, u64, u64, u64, u64)
     (a, b, c, d, e, f)
 }
 
-// Refuses a foreign version.
+// `ShardVersion` if the version is not 1.
 pub(super) fn check_version(alloc: Global, version: &[u8; 8]) -> Result<()>
     ensures ok { OnOk result (version.now ≡ u64_bytes 1) }
     ensures err { IfErr result (λ e. IsBareShardVersion e × (version.now ≢ u64_bytes 1)) }

@@ -1,11 +1,15 @@
-//! What a shard's footer tells of its parts: their rows, their places and the bytes of the files behind them.
+//! The values of a shard's footer: rows of tables, byte ranges of parts, sizes of contents, and the
+//! key.
 
 ghost use Rattle.std.specs.Prelude.{◌≡◌, ◌≢◌, ◌↔◌, IsTrue, None, Some, if◌then◌else◌};
 ghost use Rattle.xet_base.specs.Hash.{hash_eq};
 ghost use Rattle.xet_base.specs.KeyedHash.{no_key, under_key};
 
+use super::footer::FOOTER_SIZE;
+use super::header::HEADER_SIZE;
 use super::info::MDBShardInfo;
 use xet_base::merklehash::{HMACKey, MerkleHash};
+use xet_records::rows::ROW_SIZE;
 
 impl MDBShardInfo {
     /// The rows of the xorb table.
@@ -22,72 +26,78 @@ impl MDBShardInfo {
         self.metadata.chunk_lookup_num_entry
     }
 
-    /// The bytes that the xorbs have on disk.
+    /// The size of the xorbs on disk, in bytes.
     pub fn stored_bytes_on_disk(&self) -> u64
         ensures { result ≡ self.now.metadata.stored_bytes_on_disk }
     {
         self.metadata.stored_bytes_on_disk
     }
 
-    /// The bytes of the files.
+    /// The size of the files, in bytes.
     pub fn materialized_bytes(&self) -> u64
         ensures { result ≡ self.now.metadata.materialized_bytes }
     {
         self.metadata.materialized_bytes
     }
 
-    /// The bytes of the xorbs, unpacked.
+    /// The unpacked size of the xorbs, in bytes.
     pub fn stored_bytes(&self) -> u64
         ensures { result ≡ self.now.metadata.stored_bytes }
     {
         self.metadata.stored_bytes
     }
 
-    /// Where the file section begins, and where it ends.
+    /// The offsets at which the file section begins and ends.
     pub fn file_info_byte_range(&self) -> (u64, u64)
-        ensures { result ≡ (self.now.metadata.file_info_offset, self.now.metadata.xorb_info_offset) }
+        ensures { result
+            ≡ (self.now.metadata.file_info_offset, self.now.metadata.xorb_info_offset) }
     {
         let footer = &self.metadata;
         (footer.file_info_offset, footer.xorb_info_offset)
     }
 
-    /// Where the xorb section begins, and where it ends.
+    /// The offsets at which the xorb section begins and ends.
     pub fn xorb_info_byte_range(&self) -> (u64, u64)
-        ensures { result ≡ (self.now.metadata.xorb_info_offset, self.now.metadata.file_lookup_offset) }
+        ensures { result
+            ≡ (self.now.metadata.xorb_info_offset, self.now.metadata.file_lookup_offset) }
     {
         let footer = &self.metadata;
         (footer.xorb_info_offset, footer.file_lookup_offset)
     }
 
-    /// Where the file table begins, and where it ends.
+    /// The offsets at which the file table begins and ends.
     pub fn file_lookup_byte_range(&self) -> (u64, u64)
-        ensures { result ≡ (self.now.metadata.file_lookup_offset, self.now.metadata.xorb_lookup_offset) }
+        ensures { result
+            ≡ (self.now.metadata.file_lookup_offset, self.now.metadata.xorb_lookup_offset) }
     {
         let footer = &self.metadata;
         (footer.file_lookup_offset, footer.xorb_lookup_offset)
     }
 
-    /// Where the xorb table begins, and where it ends.
+    /// The offsets at which the xorb table begins and ends.
     pub fn xorb_lookup_byte_range(&self) -> (u64, u64)
-        ensures { result ≡ (self.now.metadata.xorb_lookup_offset, self.now.metadata.chunk_lookup_offset) }
+        ensures { result
+            ≡ (self.now.metadata.xorb_lookup_offset, self.now.metadata.chunk_lookup_offset) }
     {
         let footer = &self.metadata;
         (footer.xorb_lookup_offset, footer.chunk_lookup_offset)
     }
 
-    /// Where the chunk table begins, and where it ends.
+    /// The offsets at which the chunk table begins and ends.
     pub fn chuck_lookup_byte_range(&self) -> (u64, u64)
-        ensures { result ≡ (self.now.metadata.chunk_lookup_offset, self.now.metadata.footer_offset) }
+        ensures { result
+            ≡ (self.now.metadata.chunk_lookup_offset, self.now.metadata.footer_offset) }
     {
         let footer = &self.metadata;
         (footer.chunk_lookup_offset, footer.footer_offset)
     }
 
-    /// The bytes that a shard without files and xorbs has: header, footer and the bookends of both sections.
+    /// The size of a shard without files and xorbs, in bytes: header, footer and the bookends of
+    /// both sections.
     pub fn non_content_byte_size() -> u64
         ensures { result ≡ 344 }
     {
-        48 + 200 + 2 * 48
+        HEADER_SIZE + FOOTER_SIZE + 2 * ROW_SIZE as u64
     }
 
     /// Whether the chunk hashes of the shard are keyed.
@@ -97,9 +107,11 @@ impl MDBShardInfo {
         self.metadata.chunk_hash_hmac_key != HMACKey::default()
     }
 
-    /// The key of the chunk hashes, or `None` where they are not keyed.
+    /// The key of the chunk hashes, or `None` if they are not keyed.
     pub fn chunk_hmac_key(&self) -> Option<HMACKey>
-        ensures { result ≡ (if hash_eq self.now.metadata.chunk_hash_hmac_key no_key then None else Some self.now.metadata.chunk_hash_hmac_key) }
+        ensures { result ≡ (if hash_eq self.now.metadata.chunk_hash_hmac_key no_key
+            then None
+            else Some self.now.metadata.chunk_hash_hmac_key) }
     {
         if self.metadata.chunk_hash_hmac_key == HMACKey::default() {
             None
@@ -108,7 +120,7 @@ impl MDBShardInfo {
         }
     }
 
-    /// A chunk's hash as it stands in the shard: keyed, where the shard has a key.
+    /// A chunk's hash as it is stored in the shard: keyed, if the shard has a key.
     pub fn keyed_chunk_hash(&self, hash: &MerkleHash) -> MerkleHash
         ensures { result ≡ under_key self.now.metadata.chunk_hash_hmac_key hash.now }
     {

@@ -7,13 +7,14 @@ ghost use Rattle.xet_base.specs.Errors.{IsShardVersion, IsBareShardVersion, IsDe
 ghost use Rattle.xet_shards.specs.Ends.{HasUnsupportedHeader, EndsInHeader};
 ghost use Rattle.xet_shards.specs.Layout.{header_tag, shard_header_bytes, header_value};
 
+use super::footer::FOOTER_SIZE;
 use std::alloc::Global;
 use std::io::{Read, Write};
 use xet_base::error::{CoreError, Result};
 use xet_base::row::split_u64;
 use xet_base::serialization_utils::{read_bytes, write_bytes, write_u64};
 
-/// What every shard begins with: a text and a magic number.
+/// The tag at the front of every shard: a text and a magic number.
 const MDB_SHARD_HEADER_TAG: [u8; 32] = [
     b'H', b'F', b'R', b'e', b'p', b'o', b'M', b'e', b't', b'a', b'D', b'a', b't', b'a', 0, 85, 105,
     103, 69, 106, 123, 129, 87, 131, 165, 189, 217, 92, 205, 209, 74, 169,
@@ -21,14 +22,15 @@ const MDB_SHARD_HEADER_TAG: [u8; 32] = [
 
 const MDB_SHARD_HEADER_VERSION: u64 = 2;
 
-const MDB_SHARD_FOOTER_SIZE: u64 = 200;
+/// The size of a header, in bytes.
+pub(super) const HEADER_SIZE: u64 = 48;
 
 /// The header of a shard.
 #[derive(Clone, Copy, Debug, PartialEq, Eq)]
 pub struct MDBShardFileHeader {
     pub tag: [u8; 32],
     pub version: u64,
-    /// The bytes of the footer.
+    /// The size of the footer, in bytes.
     pub footer_size: u64,
 }
 
@@ -39,37 +41,42 @@ impl Default for MDBShardFileHeader {
         MDBShardFileHeader {
             tag: MDB_SHARD_HEADER_TAG,
             version: MDB_SHARD_HEADER_VERSION,
-            footer_size: MDB_SHARD_FOOTER_SIZE,
+            footer_size: FOOTER_SIZE,
         }
     }
 }
 
 impl MDBShardFileHeader {
-    /// Appends the tag and the value's version and footer size, and returns their 48 bytes. The error is
-    /// the writer's.
+    /// Writes the tag, the version and the footer size, and returns 48, the number of bytes. The
+    /// error is the writer's.
     #[tactic(auto, unfolding(crate::specs::Layout::shard_header_bytes))]
     pub fn serialize<W: Write>(&self, writer: &mut W) -> Result<usize>
-        ensures text { OnOk result
-            (Appends (W.contents writer.old) (W.contents writer.new) (shard_header_bytes self.now)) }
+        ensures bytes { OnOk result
+            (Appends (W.contents writer.old) (W.contents writer.new)
+            (shard_header_bytes self.now)) }
         ensures count { IfOk result (λ n. n ≡ 48) }
         ensures causes { IfErr result IsDeviceError }
     {
         write_bytes(writer, &MDB_SHARD_HEADER_TAG)?;
         write_u64(writer, self.version)?;
         write_u64(writer, self.footer_size)?;
-        Ok(48)
+        Ok(HEADER_SIZE as usize)
     }
 
-    /// Reads the header. `ShardVersion` where the tag is another, as soon as its 32 bytes are read, or the
-    /// version is not 2, `UnexpectedEof` where the bytes end before that.
+    /// Reads the header.
+    ///
+    /// `ShardVersion` if the tag differs, which is checked after 32 bytes, or the version is not 2;
+    /// `UnexpectedEof` if the bytes end before that.
     #[tactic(auto, unfolding(crate::specs::Layout::shard_header_bytes))]
     pub fn deserialize<R: Read>(alloc: Global, reader: &mut R) -> Result<Self>
         ensures tag { IfOk result (λ h. (h.tag ≡ header_tag) × (h.version ≡ 2)) }
-        ensures text { IfOk result
-            (λ h. Consumes (R.remaining reader.old) (R.remaining reader.new) (shard_header_bytes h)) }
-        ensures foreign { IfErr result
+        ensures bytes { IfOk result
+            (λ h. Consumes (R.remaining reader.old) (R.remaining reader.new)
+            (shard_header_bytes h)) }
+        ensures unsupported { IfErr result
             (λ e. IsShardVersion e → IfSome (R.remaining reader.old) HasUnsupportedHeader) }
-        ensures end { IfErr result (λ e. IsEndOfInput e → IfSome (R.remaining reader.old) EndsInHeader) }
+        ensures end { IfErr result
+            (λ e. IsEndOfInput e → IfSome (R.remaining reader.old) EndsInHeader) }
         ensures causes { IfErr result (λ e. IsDeviceError e ⊎ IsBareShardVersion e) }
     {
         let mut tag = [0u8; 32];
@@ -80,10 +87,11 @@ impl MDBShardFileHeader {
         MDBShardFileHeader::after_tag(alloc, &rest)
     }
 
-    // The header whose tag was read, from the 16 bytes after it.
+    // The header whose tag has been read, from the 16 bytes after it.
     pub(super) fn after_tag(alloc: Global, rest: &[u8; 16]) -> Result<Self>
         ensures ok { IfOk result
-            (λ h. (h.tag ≡ header_tag) × (h.version ≡ 2) × (rest.now ≡ u64_bytes 2 ++ u64_bytes h.footer_size)) }
+            (λ h. (h.tag ≡ header_tag) × (h.version ≡ 2)
+            × (rest.now ≡ u64_bytes 2 ++ u64_bytes h.footer_size)) }
         ensures width { IfOk result (λ h. h.footer_size < 2 ^ 64) }
         ensures err { IfErr result (λ e. IsBareShardVersion e × (take 8 rest.now ≢ u64_bytes 2)) }
     {
@@ -100,7 +108,7 @@ impl MDBShardFileHeader {
     }
 }
 
-// Refuses a foreign tag.
+// `ShardVersion` if the tag differs.
 pub(super) fn check_tag(alloc: Global, tag: &[u8; 32]) -> Result<()>
     ensures ok { OnOk result (tag.now ≡ header_tag) }
     ensures err { IfErr result (λ e. IsBareShardVersion e × (tag.now ≢ header_tag)) }

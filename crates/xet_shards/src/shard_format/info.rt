@@ -1,4 +1,4 @@
-//! What a shard's header and footer tell, and the calls that stand on them.
+//! Header and footer of a shard, writing a shard, and reading its sections.
 
 ghost use Rattle.std.specs.Prelude.{◌≡◌, ◌⊎◌, ℕ, Option, ◌+◌, ◌*◌, ◌^◌, ◌<◌, ◌≤◌, ◌++◌, length, List, [], All, MatchResult, OnOk, IfOk, IfErr, IfSome};
 ghost use Rattle.std.specs.FinMap as finite;
@@ -14,7 +14,7 @@ ghost use Rattle.xet_shards.specs.SectionReading.{ReadsSection, SectionFails};
 ghost use Rattle.xet_shards.specs.XorbHeaders.{xorb_headers, ReadsXorbHeaders};
 ghost use Rattle.xet_shards.specs.Ends.{HasUnsupportedHeader, EndsInHeader, HasUnsupportedFooter, EndsInFooter, FitsFooter, PartFails, Loads, LoadFails};
 
-use super::footer::{MDBShardFileFooter, check_version};
+use super::footer::{FOOTER_SIZE, MDBShardFileFooter, check_version};
 use super::header::{MDBShardFileHeader, check_tag};
 use super::section_reader::{read_file_section, read_xorb_headers, read_xorb_section};
 use super::writer::{footer_of, write_chunk_table, write_file_section, write_xorb_section};
@@ -35,14 +35,12 @@ pub struct MDBShardInfo {
     pub metadata: MDBShardFileFooter,
 }
 
-/// The bytes of a footer.
-const FOOTER_SIZE: u64 = 200;
-
 impl MDBShardInfo {
-    /// Reads the header at the front of the source and the footer in its last 200 bytes. Takes no memory.
+    /// Reads the header at the front of the source and the footer in its last 200 bytes. Does not
+    /// allocate.
     ///
-    /// `ShardVersion` where the tag, the header's version or the footer's is foreign, `UnexpectedEof`
-    /// where the source has too few bytes.
+    /// `ShardVersion` if the tag differs, the header's version is not 2 or the footer's is not 1,
+    /// `UnexpectedEof` if the source has too few bytes.
     pub fn load_from_reader<S: ShardSource>(alloc: Global, source: &mut S) -> Result<Self>
         ensures read { MatchResult result (Loads (S.meaning source.old) (S.meaning source.new))
             (LoadFails (S.meaning source.old) (S.meaning source.new)) }
@@ -52,18 +50,20 @@ impl MDBShardInfo {
         read_ends(alloc, source)
     }
 
-    /// Writes a shard: header, sections, tables and footer. The expiry is a timestamp in seconds, or none.
-    /// Returns what a reader of these bytes finds in header and footer.
+    /// Writes a shard: header, sections, tables and footer. The expiry is a timestamp in seconds,
+    /// or none. Returns the header and the footer, as `load_from_reader` reads them from these
+    /// bytes.
     ///
-    /// The error is the writer's, or `OutOfMemory` where the tables find none.
+    /// The error is the writer's, or `OutOfMemory` if an allocation fails.
     pub fn serialize_from<W: Write>(
         alloc: Global,
         writer: &mut W,
         shard: &MDBInMemoryShard,
         expiry: Option<u64>,
     ) -> Result<Self>
-        ensures text { OnOk result
-            (Appends (W.contents writer.old) (W.contents writer.new) (layout shard.now.content expiry)) }
+        ensures bytes { OnOk result
+            (Appends (W.contents writer.old) (W.contents writer.new)
+            (layout shard.now.content expiry)) }
         ensures info { IfOk result (λ info. info ≡ info_value shard.now.content expiry) }
         ensures widths { IfOk result (λ info. FitsFooter info.metadata) }
         ensures shard { IfOk result (λ _. IsShard shard.now.content) }
@@ -88,7 +88,8 @@ impl MDBShardInfo {
         self.metadata.file_lookup_num_entry
     }
 
-    /// The bytes of the shard: the footer's offset and the footer. `InvalidShard` past 64 bits.
+    /// The size of the shard, in bytes: the footer's offset and its size. `InvalidShard` if it does
+    /// not fit `u64`.
     pub fn num_bytes(&self, alloc: Global) -> Result<u64>
         ensures { MatchResult result (λ n. n ≡ self.now.metadata.footer_offset + 200)
             (λ e. IsBareInvalidShard e × (2 ^ 64 ≤ self.now.metadata.footer_offset + 200)) }
@@ -99,10 +100,10 @@ impl MDBShardInfo {
         }
     }
 
-    /// Reads all records of the file section, in the order in which they stand.
+    /// Reads all records of the file section, in order.
     ///
-    /// `UnexpectedEof` where the source ends before the bookend, `InvalidShard` where the rows pass 32 bits,
-    /// `OutOfMemory` where the records find none.
+    /// `UnexpectedEof` if the source ends before the bookend, `InvalidShard` if the rows pass
+    /// 4294967295, `OutOfMemory` if an allocation fails.
     pub fn read_all_file_info_sections<S: ShardSource>(
         &self,
         alloc: Global,
@@ -117,10 +118,10 @@ impl MDBShardInfo {
         read_file_section(alloc, source, self.metadata.file_info_offset)
     }
 
-    /// Reads all records of the xorb section, in the order in which they stand.
+    /// Reads all records of the xorb section, in order.
     ///
-    /// `UnexpectedEof` where the source ends before the bookend, `InvalidShard` where the rows pass 32 bits,
-    /// `OutOfMemory` where the records find none.
+    /// `UnexpectedEof` if the source ends before the bookend, `InvalidShard` if the rows pass
+    /// 4294967295, `OutOfMemory` if an allocation fails.
     pub fn read_all_xorb_blocks_full<S: ShardSource>(
         &self,
         alloc: Global,
@@ -135,11 +136,11 @@ impl MDBShardInfo {
         read_xorb_section(alloc, source, self.metadata.xorb_info_offset)
     }
 
-    /// Reads the headers of the xorb section, in the order in which they stand, each with its place in the
-    /// source, and keeps no chunk.
+    /// Reads all headers of the xorb section, in order, each with its offset in the source, and no
+    /// chunks.
     ///
-    /// `UnexpectedEof` where the source ends before the bookend, `InvalidShard` where the rows pass 32 bits,
-    /// `OutOfMemory` where the headers find none.
+    /// `UnexpectedEof` if the source ends before the bookend, `InvalidShard` if the rows pass
+    /// 4294967295, `OutOfMemory` if an allocation fails.
     pub fn read_all_xorb_blocks<S: ShardSource>(
         &self,
         alloc: Global,
@@ -171,16 +172,19 @@ fn read_ends<S: ShardSource>(alloc: Global, source: &mut S) -> Result<MDBShardIn
     Ok(MDBShardInfo { header, metadata })
 }
 
-/// Reads a header from the source's place on.
+/// Reads a header from the source's current offset on.
 #[tactic(auto, unfolding(crate::specs::Layout::shard_header_bytes))]
 pub(super) fn read_header<S: ShardSource>(
     alloc: Global,
     source: &mut S,
 ) -> Result<MDBShardFileHeader>
-    ensures read { IfOk result (λ h. Takes (S.meaning source.old) (S.meaning source.new) (shard_header_bytes h)) }
-    ensures known { IfOk result (λ h. (h.tag ≡ header_tag) × (h.version ≡ 2) × (h.footer_size < 2 ^ 64)) }
+    ensures read { IfOk result
+        (λ h. Takes (S.meaning source.old) (S.meaning source.new) (shard_header_bytes h)) }
+    ensures known { IfOk result
+        (λ h. (h.tag ≡ header_tag) × (h.version ≡ 2) × (h.footer_size < 2 ^ 64)) }
     ensures refused { IfErr result
-        (PartFails HasUnsupportedHeader EndsInHeader 48 (S.meaning source.old) (S.meaning source.new)) }
+        (PartFails HasUnsupportedHeader EndsInHeader 48 (S.meaning source.old)
+        (S.meaning source.new)) }
 {
     let mut tag = [0u8; 32];
     read_full(source, &mut tag)?;
@@ -190,12 +194,14 @@ pub(super) fn read_header<S: ShardSource>(
     MDBShardFileHeader::after_tag(alloc, &rest)
 }
 
-// Reads a footer from the source's place on.
+// Reads a footer from the source's current offset on.
 fn read_footer<S: ShardSource>(alloc: Global, source: &mut S) -> Result<MDBShardFileFooter>
-    ensures read { IfOk result (λ f. Takes (S.meaning source.old) (S.meaning source.new) (shard_footer_bytes f)) }
+    ensures read { IfOk result
+        (λ f. Takes (S.meaning source.old) (S.meaning source.new) (shard_footer_bytes f)) }
     ensures known { IfOk result (λ f. (f.version ≡ 1) × FitsFooter f) }
     ensures refused { IfErr result
-        (PartFails HasUnsupportedFooter EndsInFooter 200 (S.meaning source.old) (S.meaning source.new)) }
+        (PartFails HasUnsupportedFooter EndsInFooter 200 (S.meaning source.old)
+        (S.meaning source.new)) }
 {
     let mut version = [0u8; 8];
     read_full(source, &mut version)?;

@@ -1,4 +1,4 @@
-//! The parts of a shard as they are written: sections, chunk table and footer.
+//! Writing the parts of a shard: sections, chunk table and footer.
 
 ghost use Rattle.std.specs.Prelude.{◌≡◌, ◌≤◌, None, List, All, OnOk, IfOk, IfErr, flat_map};
 ghost use Rattle.std.specs.Io.KnownBytes.{Appends};
@@ -16,9 +16,10 @@ ghost use Rattle.xet_shards.specs.XorbStore.{shown_xorbs};
 ghost use Rattle.xet_shards.specs.Layout.{layout, footer_value, plain_form};
 ghost use Rattle.xet_shards.specs.Ends.{FitsFooter};
 
-use super::footer::MDBShardFileFooter;
-use super::info::MDBShardInfo;
 use super::file_writer::WrittenFiles;
+use super::footer::MDBShardFileFooter;
+use super::header::HEADER_SIZE;
+use super::info::MDBShardInfo;
 use super::xorb_writer::{ChunkPlace, WrittenXorbs};
 use crate::shard_in_memory::MDBInMemoryShard;
 use std::alloc::Global;
@@ -29,10 +30,12 @@ use xet_base::error::{CoreError, Result};
 use xet_base::merklehash::MerkleHash;
 use xet_base::serialization_utils::write_bytes;
 use xet_records::file_structs::{FileDataSequenceHeader, MDBFileInfo};
+use xet_records::rows::ROW_SIZE;
 use xet_records::xorb_structs::{MDBXorbInfo, XorbChunkSequenceHeader};
 
 impl MDBInMemoryShard {
-    /// The bytes of the shard, without expiry: `shard_file_size` of them. `OutOfMemory` where they find none.
+    /// The bytes of the shard, without expiry: `shard_file_size` of them. `OutOfMemory` if an
+    /// allocation fails.
     pub fn to_bytes(&self, alloc: Global) -> Result<Vec<u8>>
         ensures ok { IfOk result (λ bytes. bytes.items ≡ layout self.now.content None) }
         ensures shard { IfOk result (λ _. IsShard self.now.content) }
@@ -41,13 +44,13 @@ impl MDBInMemoryShard {
         let mut bytes = Vec::new(alloc);
         match MDBShardInfo::serialize_from(alloc, &mut bytes, self, None) {
             Ok(_) => Ok(bytes),
-            // A vector fails for want of memory alone.
+            // Writing to a vector fails only if it is out of memory.
             Err(_) => Err(CoreError::OutOfMemory),
         }
     }
 }
 
-/// Writes the file section and gathers its table.
+/// Writes the file section and collects its table.
 #[tactic(auto, unfolding(crate::specs::Section::file_section))]
 pub fn write_file_section<W: Write>(
     alloc: Global,
@@ -56,8 +59,9 @@ pub fn write_file_section<W: Write>(
 ) -> Result<WrittenFiles>
     requires files { AreFiles files.now.entries }
     requires rows { total_rows (values files.now) ≤ 4294967295 }
-    ensures text { OnOk result
-        (Appends (W.contents writer.old) (W.contents writer.new) (file_section (values files.now))) }
+    ensures bytes { OnOk result
+        (Appends (W.contents writer.old) (W.contents writer.new)
+        (file_section (values files.now))) }
     ensures written { IfOk result (λ written. HasWritten written (values files.now)) }
     ensures causes { IfErr result IsDeviceError }
 {
@@ -69,7 +73,7 @@ pub fn write_file_section<W: Write>(
     Ok(written)
 }
 
-/// Writes the xorb section and gathers its tables.
+/// Writes the xorb section and collects its tables.
 #[tactic(auto, unfolding(crate::specs::Section::xorb_section))]
 pub fn write_xorb_section<W: Write>(
     alloc: Global,
@@ -78,9 +82,11 @@ pub fn write_xorb_section<W: Write>(
 ) -> Result<WrittenXorbs>
     requires xorbs { AreXorbs (shown_xorbs xorbs.now.entries) }
     requires rows { total_xorb_rows (values_of (shown_xorbs xorbs.now.entries)) ≤ 4294967295 }
-    ensures text { OnOk result
-        (Appends (W.contents writer.old) (W.contents writer.new) (xorb_section (values_of (shown_xorbs xorbs.now.entries)))) }
-    ensures written { IfOk result (λ written. HasWrittenXorbs written (values_of (shown_xorbs xorbs.now.entries))) }
+    ensures bytes { OnOk result
+        (Appends (W.contents writer.old) (W.contents writer.new)
+        (xorb_section (values_of (shown_xorbs xorbs.now.entries)))) }
+    ensures written { IfOk result
+        (λ written. HasWrittenXorbs written (values_of (shown_xorbs xorbs.now.entries))) }
     ensures causes { IfErr result IsDeviceError }
 {
     let mut written = WrittenXorbs::new(alloc);
@@ -93,8 +99,9 @@ pub fn write_xorb_section<W: Write>(
 
 /// Writes the rows of the chunk table, in ascending order.
 pub fn write_chunk_table<W: Write>(writer: &mut W, places: &BTreeSet<ChunkPlace>) -> Result<()>
-    ensures text { OnOk result
-        (Appends (W.contents writer.old) (W.contents writer.new) (flat_map place_row places.now.keys)) }
+    ensures bytes { OnOk result
+        (Appends (W.contents writer.old) (W.contents writer.new)
+        (flat_map place_row places.now.keys)) }
     ensures causes { IfErr result IsDeviceError }
 {
     for chunk_place in places {
@@ -110,18 +117,20 @@ pub fn footer_of(
     expiry: Option<u64>,
 ) -> MDBShardFileFooter
     ensures widths { FitsFooter result }
-    ensures value { (rs : List MDBFileInfo) → (xs : List MDBXorbInfo) → All FitsRecord rs → HasWritten files.now rs → HasWrittenXorbs xorbs.now xs
+    ensures value { (rs : List MDBFileInfo) → (xs : List MDBXorbInfo) → All FitsRecord rs
+        → HasWritten files.now rs → HasWrittenXorbs xorbs.now xs
         → result ≡ footer_value rs xs (plain_form expiry) }
 {
     let file_table = files.table.len() as u64;
     let xorb_table = xorbs.table.len() as u64;
     let chunks = xorbs.rows - xorb_table / 12;
-    let xorb_info_offset = 48 + 48 * files.rows + 48;
-    let file_lookup_offset = xorb_info_offset + 48 * xorbs.rows + 48;
+    let row_size = ROW_SIZE as u64;
+    let xorb_info_offset = HEADER_SIZE + row_size * files.rows + row_size;
+    let file_lookup_offset = xorb_info_offset + row_size * xorbs.rows + row_size;
     let xorb_lookup_offset = file_lookup_offset + file_table;
     let chunk_lookup_offset = xorb_lookup_offset + xorb_table;
     let footer = MDBShardFileFooter {
-        file_info_offset: 48,
+        file_info_offset: HEADER_SIZE,
         xorb_info_offset,
         file_lookup_offset,
         file_lookup_num_entry: file_table / 12,

@@ -1,4 +1,5 @@
-//! Writing the xorb section, and gathering the tables that find its records and their chunks.
+//! Writing the xorb section, and collecting the tables by which its records and their chunks are
+//! found.
 
 ghost use Rattle.std.specs.Prelude.{◌≡◌, ◌+◌, ◌*◌, ◌≤◌, ◌++◌, [], List, length, OnOk, IfErr};
 ghost use Rattle.std.specs.Io.KnownBytes.{Appends};
@@ -14,8 +15,8 @@ use xet_base::error::Result;
 use xet_base::row::{put_u32, put_u64};
 use xet_records::xorb_structs::MDBXorbInfo;
 
-/// Where a chunk stands: the first word of its hash, the row at which its xorb starts, and its place in the
-/// xorb. In this order the chunk table has its rows.
+/// A row of the chunk table: the first word of a chunk's hash, the row at which its xorb starts,
+/// and its index in the xorb. The rows of the table ascend by this order of fields.
 #[derive(Clone, Copy, Debug, PartialEq, Eq, PartialOrd, Ord)]
 pub struct ChunkPlace {
     pub word: u64,
@@ -24,7 +25,7 @@ pub struct ChunkPlace {
 }
 
 impl ChunkPlace {
-    /// The row of the chunk table.
+    /// The bytes of the row.
     pub fn to_bytes(&self) -> [u8; 16]
         ensures { result ≡ place_row self.now }
     {
@@ -36,8 +37,8 @@ impl ChunkPlace {
     }
 }
 
-/// The xorbs written so far: their rows, the bytes of their table, the places of their chunks, and what their
-/// headers tell of their own bytes.
+/// The xorbs written so far: their rows, the bytes of their table, the rows of the chunk table, and
+/// the sums of their sizes, unpacked and on disk, by their headers.
 #[derive(Drop)]
 pub struct WrittenXorbs {
     pub rows: u64,
@@ -68,22 +69,26 @@ impl WrittenXorbs {
         }
     }
 
-    /// Appends the next record and notes where it and its chunks stand. The error is the writer's, or
-    /// `OutOfMemory` where table or places find none.
+    /// Writes the next record and adds it and its chunks to the tables. The error is the writer's,
+    /// or `OutOfMemory` if an allocation fails.
     pub fn write<W: Write>(&mut self, writer: &mut W, xorb: &MDBXorbInfo) -> Result<()>
         requires well_formed { IsXorb xorb.now }
         requires rows { self.old.rows + xorb_row_count xorb.now ≤ 4294967295 }
-        ensures text { OnOk result
+        ensures appended { OnOk result
             (Appends (W.contents writer.old) (W.contents writer.new) (xorb_record_bytes xorb.now)) }
         ensures rows { OnOk result (self.new.rows ≡ self.old.rows + xorb_row_count xorb.now) }
         ensures table { OnOk result
-            (self.new.table.items ≡ self.old.table.items ++ start_row (xorb.now.metadata.xorb_hash.word0, self.old.rows)) }
-        ensures places { OnOk result ((before : List ChunkPlace) → self.old.places.keys ≡ ascending before
-            → self.new.places.keys ≡ ascending (before ++ places_from self.old.rows xorb.now.chunks)) }
+            (self.new.table.items ≡ self.old.table.items
+            ++ start_row (xorb.now.metadata.xorb_hash.word0, self.old.rows)) }
+        ensures places { OnOk result
+            ((before : List ChunkPlace) → self.old.places.keys ≡ ascending before
+            → self.new.places.keys
+            ≡ ascending (before ++ places_from self.old.rows xorb.now.chunks)) }
         ensures bytes { OnOk result
             (self.new.stored_bytes ≡ self.old.stored_bytes + xorb.now.metadata.num_bytes_in_xorb) }
         ensures bytes_on_disk { OnOk result
-            (self.new.stored_bytes_on_disk ≡ self.old.stored_bytes_on_disk + xorb.now.metadata.num_bytes_on_disk) }
+            (self.new.stored_bytes_on_disk
+            ≡ self.old.stored_bytes_on_disk + xorb.now.metadata.num_bytes_on_disk) }
         ensures causes { IfErr result IsDeviceError }
     {
         let metadata = xorb.metadata;
@@ -98,7 +103,7 @@ impl WrittenXorbs {
     }
 }
 
-// Notes the places of the chunks of a xorb that starts at this row.
+// Adds the rows of the chunks of a xorb that starts at this row.
 fn insert_places(places: &mut BTreeSet<ChunkPlace>, start: u32, xorb: &MDBXorbInfo) -> Result<()>
     requires { IsXorb xorb.now }
     ensures ok { OnOk result ((before : List ChunkPlace) → places.old.keys ≡ ascending before

@@ -9,30 +9,31 @@ use xet_base::merklehash::MerkleHash;
 use xet_records::file_structs::FileDataSequenceEntry;
 use xet_records::xorb_structs::{MDBXorbInfo, XorbChunkSequenceEntry};
 
-/// The longest run of these hashes at the place that the lookup keeps for the first of them: how many of
-/// them, and the segment of their chunks. `None` where there is no hash, or no xorb has the first.
+/// The longest run of these hashes from the location on that the lookup keeps for the first of
+/// them: its number of chunks, and their segment. `None` if no hash is given or no xorb has the
+/// first.
 pub fn chunk_hash_dedup_query(
     xorbs: &XorbStore,
     query_hashes: &[MerkleHash],
 ) -> Option<(usize, FileDataSequenceEntry)>
-    ensures answer { result ≡ query_answer xorbs.now.places query_hashes.now }
+    ensures answer { result ≡ query_answer xorbs.now.locations query_hashes.now }
     ensures none { (result ≡ None) ↔ IsUnknown xorbs.now.xorbs query_hashes.now }
 {
-    let (xorb, place) = xorbs.lookup().get(query_hashes.first()?)?;
-    Some(run_at(xorb.as_ref(), *place, query_hashes))
+    let (xorb, index) = xorbs.lookup().get(query_hashes.first()?)?;
+    Some(run_at(xorb.as_ref(), *index, query_hashes))
 }
 
-// The run of these hashes that stands in a xorb from a place on.
+// The run of these hashes in a xorb, from the chunk at this index on.
 fn run_at(
     xorb: &MDBXorbInfo,
-    place: u64,
+    index: u64,
     query_hashes: &[MerkleHash],
 ) -> (usize, FileDataSequenceEntry)
     requires well_formed { IsXorb xorb.now }
-    requires within { place ≤ length xorb.now.chunks }
-    ensures { result ≡ run_at (xorb.now, place) query_hashes.now }
+    requires within { index ≤ length xorb.now.chunks }
+    ensures { result ≡ run_at (xorb.now, index) query_hashes.now }
 {
-    let start = place as usize;
+    let start = index as usize;
     let chunks = &xorb.chunks.as_slice()[start..];
     let length = run_length(query_hashes, chunks);
     let end = start + length;
@@ -45,7 +46,7 @@ fn run_at(
     (length, segment)
 }
 
-// How many of these hashes, from the first on, are those of these chunks in turn.
+// How many of these hashes, from the first on, equal the hashes of these chunks, one by one.
 fn run_length(query_hashes: &[MerkleHash], chunks: &[XorbChunkSequenceEntry]) -> usize
     ensures count { result ≡ run_length query_hashes.now chunks.now }
     ensures within { result ≤ length chunks.now }

@@ -1,4 +1,4 @@
-//! The files of a shard in memory, without a limit on their rows.
+//! The files of a shard in memory. Their rows are not limited here.
 
 ghost use Rattle.std.specs.Prelude.{[], ◌∷◌, ◌≡◌, ◌≤◌, ◌↔◌, ◌⊎◌, T, IsTrue, is_some, IfSome, OnOk, OnErr, IfOk, IfErr, IsErrOf, unwrap_or, option_map};
 ghost use Rattle.std.specs.Option.{option_or};
@@ -66,11 +66,11 @@ impl FileStore {
         }
     }
 
-    /// Puts a file under its hash, in the place of what is there. `OutOfMemory` where the map finds none,
-    /// and then nothing changes.
+    /// Inserts or replaces a file. `OutOfMemory` if an allocation fails; then nothing changes.
     pub fn put(&mut self, file_info: MDBFileInfo) -> Result<()>
         requires { IsWellFormed file_info }
-        ensures ok { OnOk result (self.new ≡ finite.insert self.old (file_hash_of file_info) file_info) }
+        ensures ok { OnOk result
+            (self.new ≡ finite.insert self.old (file_hash_of file_info) file_info) }
         ensures err { OnErr result (self.new ≡ self.old) }
         ensures causes { IfErr result (λ e. e ≡ CoreError.OutOfMemory) }
     {
@@ -86,8 +86,8 @@ impl FileStore {
         self.content.contains_key(file_hash)
     }
 
-    /// Puts those of these files under their hashes whose hashes neither this table nor `except` has.
-    /// `OutOfMemory` where they find none, and then some of them stand there.
+    /// Inserts those of these files whose hashes are neither in this store nor in `except`.
+    /// `OutOfMemory` if an allocation fails; then some of them are inserted.
     fn append_missing(
         &mut self,
         alloc: Global,
@@ -107,16 +107,16 @@ impl FileStore {
         Ok(())
     }
 
-    /// Whether the files that both tables have are of equal counts, and 32 bits count the rows of each of this
-    /// table's with the parts that only `other` has for it.
+    /// Whether the files that are in both stores have equally many segments, and each of this
+    /// store's, with the parts that only `other` has for it, has rows that fit `u32`.
     pub fn can_join(&self, other: &FileStore) -> bool
         ensures { IsTrue result ↔ CanJoinFiles self.now other.now }
     {
         can_join_files(&self.content, other)
     }
 
-    /// The files of both tables: where both have one under a hash, that of this table with each optional
-    /// part that only `other` has for it. `OutOfMemory` where they find none.
+    /// The files of both stores. Of two files with the same hash, this store's with each optional
+    /// part that only `other` has for it. `OutOfMemory` if an allocation fails.
     pub fn union(&self, alloc: Global, other: &FileStore) -> Result<FileStore>
         requires { CanJoinFiles self.now other.now }
         ensures ok { IfOk result (λ t. (q : DataHash) → finite.get t q
@@ -128,7 +128,8 @@ impl FileStore {
         Ok(joined)
     }
 
-    /// The files of `other` under hashes that this table has not. `OutOfMemory` where they find none.
+    /// The files of `other` whose hashes this store does not have. `OutOfMemory` if an allocation
+    /// fails.
     pub fn difference(&self, alloc: Global, other: &FileStore) -> Result<FileStore>
         ensures ok { IfOk result (λ t. (q : DataHash) → finite.get t q
             ≡ but self.now (finite.get other.now) q) }
@@ -148,7 +149,7 @@ impl FileStore {
     }
 }
 
-// Whether each of these files that `other` has too may be joined with it.
+// Whether each of these files can be joined with the one in `other`, if it is there too.
 fn can_join_files(files: &BTreeMap<MerkleHash, MDBFileInfo>, other: &FileStore) -> bool
     requires sorted { T (is_sorted hash_cmp files.now.entries) }
     requires files { AreFiles files.now.entries }
@@ -164,7 +165,8 @@ fn can_join_files(files: &BTreeMap<MerkleHash, MDBFileInfo>, other: &FileStore) 
     true
 }
 
-// Whether two records are of one file, and the first with the parts that only the second has is well-formed.
+// Whether two records are of one file, and the rows of the first with the parts that only the
+// second has fit `u32`.
 fn can_join(file_info: &MDBFileInfo, twin: &MDBFileInfo) -> bool
     requires own { IsWellFormed file_info.now }
     requires others { IsWellFormed twin.now }
@@ -216,7 +218,7 @@ fn merged_files(
     Ok(joined)
 }
 
-/// Whether a record may stand in a table.
+/// Whether a record can be in a store.
 pub fn is_well_formed(file_info: &MDBFileInfo) -> bool
     ensures { IsTrue result ↔ IsWellFormed file_info.now }
 {
@@ -246,7 +248,7 @@ fn is_clear(metadata_ext: &Option<FileMetadataExt>) -> bool
     }
 }
 
-// Does nothing. It says that the numbers of a record in memory fit their widths.
+// Does nothing. Its contract says that the numbers of a record in memory fit their widths.
 fn record_widths(file_info: &MDBFileInfo)
     ensures { FitsRecord file_info.now }
 {

@@ -1,4 +1,4 @@
-//! What the files and the xorbs of a shard sum up to: their rows and their bytes.
+//! Sums over the files and the xorbs of a shard: their rows and their sizes.
 
 ghost use Rattle.std.specs.Prelude.{◌≡◌, ◌≤◌, sum_by};
 ghost use Rattle.std.specs.Map.{values_of};
@@ -13,7 +13,7 @@ use xet_base::merklehash::MerkleHash;
 use xet_records::file_structs::MDBFileInfo;
 use xet_records::xorb_structs::MDBXorbInfo;
 
-/// The rows of files, which 32 bits count.
+/// The rows of files, which fit `u32`.
 pub fn file_rows(files: &BTreeMap<MerkleHash, MDBFileInfo>) -> u64
     requires files { AreFiles files.now.entries }
     requires rows { total_rows (values files.now) ≤ 4294967295 }
@@ -26,7 +26,7 @@ pub fn file_rows(files: &BTreeMap<MerkleHash, MDBFileInfo>) -> u64
     rows
 }
 
-/// The rows of xorbs, which 32 bits count.
+/// The rows of xorbs, which fit `u32`.
 pub fn xorb_rows(xorbs: &BTreeMap<MerkleHash, Rc<MDBXorbInfo>>) -> u64
     requires xorbs { AreXorbs (shown_xorbs xorbs.now.entries) }
     requires rows { total_xorb_rows (values_of (shown_xorbs xorbs.now.entries)) ≤ 4294967295 }
@@ -39,7 +39,7 @@ pub fn xorb_rows(xorbs: &BTreeMap<MerkleHash, Rc<MDBXorbInfo>>) -> u64
     rows
 }
 
-/// The bytes of files. Their rows are few enough that the sum fits.
+/// The size of files, in bytes. Their rows fit `u32`, so the sum fits `u64`.
 pub fn materialized_bytes(files: &BTreeMap<MerkleHash, MDBFileInfo>) -> u64
     requires files { AreFiles files.now.entries }
     requires rows { total_rows (values files.now) ≤ 4294967295 }
@@ -52,11 +52,12 @@ pub fn materialized_bytes(files: &BTreeMap<MerkleHash, MDBFileInfo>) -> u64
     bytes
 }
 
-/// The bytes that xorbs have on disk. Their rows are few enough that the sum fits.
+/// The size of xorbs on disk, in bytes. Their rows fit `u32`, so the sum fits `u64`.
 pub fn stored_bytes_on_disk(xorbs: &BTreeMap<MerkleHash, Rc<MDBXorbInfo>>) -> u64
     requires xorbs { AreXorbs (shown_xorbs xorbs.now.entries) }
     requires rows { total_xorb_rows (values_of (shown_xorbs xorbs.now.entries)) ≤ 4294967295 }
-    ensures { result ≡ sum_by (λ x. x.metadata.num_bytes_on_disk) (values_of (shown_xorbs xorbs.now.entries)) }
+    ensures { result
+        ≡ sum_by (λ x. x.metadata.num_bytes_on_disk) (values_of (shown_xorbs xorbs.now.entries)) }
 {
     let mut bytes = 0;
     for xorb in xorbs.values() {
@@ -65,11 +66,12 @@ pub fn stored_bytes_on_disk(xorbs: &BTreeMap<MerkleHash, Rc<MDBXorbInfo>>) -> u6
     bytes
 }
 
-/// The bytes of xorbs, unpacked. Their rows are few enough that the sum fits.
+/// The unpacked size of xorbs, in bytes. Their rows fit `u32`, so the sum fits `u64`.
 pub fn stored_bytes(xorbs: &BTreeMap<MerkleHash, Rc<MDBXorbInfo>>) -> u64
     requires xorbs { AreXorbs (shown_xorbs xorbs.now.entries) }
     requires rows { total_xorb_rows (values_of (shown_xorbs xorbs.now.entries)) ≤ 4294967295 }
-    ensures { result ≡ sum_by (λ x. x.metadata.num_bytes_in_xorb) (values_of (shown_xorbs xorbs.now.entries)) }
+    ensures { result
+        ≡ sum_by (λ x. x.metadata.num_bytes_in_xorb) (values_of (shown_xorbs xorbs.now.entries)) }
 {
     let mut bytes = 0;
     for xorb in xorbs.values() {

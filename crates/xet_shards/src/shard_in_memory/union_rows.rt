@@ -45,13 +45,14 @@ pub fn united_file_rows(
     rows
 }
 
-// How many rows a file has, joined with its twin, that the twin has not.
+// The rows of a file joined with its twin, less those of the twin.
 fn rows_added(file_info: &MDBFileInfo, twin: Option<&MDBFileInfo>) -> u64
     requires own { IsWellFormed file_info.now }
     requires others { IfSome twin (λ t. IsWellFormed t.now) }
     requires same { IfSome twin (λ t. IsSameFile file_info.now.metadata t.now.metadata) }
     ensures rows { unwrap_or (option_map row_count (option_map (λ t. t.now) twin.entry)) 0 + result
-        ≡ unwrap_or (option_map row_count (either_file (Some file_info.now) (option_map (λ t. t.now) twin.entry))) 0 }
+        ≡ unwrap_or (option_map row_count
+        (either_file (Some file_info.now) (option_map (λ t. t.now) twin.entry))) 0 }
     ensures bound { result ≤ row_count file_info.now }
 {
     match twin {

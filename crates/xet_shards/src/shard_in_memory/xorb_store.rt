@@ -1,4 +1,4 @@
-//! The xorbs of a shard in memory and the lookup of their chunks, without a limit on their rows.
+//! The xorbs of a shard in memory and the lookup of their chunks. Their rows are not limited here.
 
 ghost use Rattle.std.specs.Prelude.{◌≡◌, ◌≤◌, ◌↔◌, IsTrue, None, Some, is_some, unwrap_or, option_map, All, length, OnOk, OnErr, IfOk, IfErr};
 ghost use Rattle.std.specs.FinMap as finite;
@@ -7,9 +7,9 @@ ghost use Rattle.std.specs.Option.{option_or};
 ghost use Rattle.xet_base.specs.declared.merklehash.DataHash.{DataHash};
 ghost use Rattle.xet_records.specs.XorbRecord.{xorb_row_count, IsXorb, FitsXorb, HasItsChunks, size_of_chunks};
 ghost use Rattle.xet_shards.specs.Shard.{AreXorbs, xorb_hash_of};
-ghost use Rattle.xet_shards.specs.ChunkLookup.{Place, IsChunkLookup, put_xorb};
+ghost use Rattle.xet_shards.specs.ChunkLookup.{ChunkLocation, IsChunkLookup, put_xorb};
 ghost use Rattle.xet_shards.specs.Joining.{but, entry};
-ghost use Rattle.xet_shards.specs.XorbStore.{shown_xorbs, placed, IsEntered};
+ghost use Rattle.xet_shards.specs.XorbStore.{shown_xorbs, location_in, IsEntered};
 
 use std::alloc::Global;
 use std::collections::{BTreeMap, HashMap};
@@ -20,8 +20,8 @@ use xet_base::merklehash::MerkleHash;
 use xet_records::rows::{Row, all_widths};
 use xet_records::xorb_structs::MDBXorbInfo;
 
-/// Well-formed xorbs, each under its hash, and a place of each of their chunks. Contracts see both as finite
-/// maps.
+/// Well-formed xorbs, each under its hash, and a location of each of their chunk hashes. Contracts
+/// see both as finite maps.
 #[derive(Drop)]
 pub struct XorbStore {
     content: BTreeMap<MerkleHash, Rc<MDBXorbInfo>>,
@@ -29,22 +29,22 @@ pub struct XorbStore {
 }
 
 impl Model for XorbStore {
-    ghost use Rattle.xet_shards.specs.ChunkLookup.{Table, coded_table};
+    ghost use Rattle.xet_shards.specs.ChunkLookup.{XorbsWithLookup, coded_xorbs_with_lookup};
 
-    ghost Value = { Table };
+    ghost Value = { XorbsWithLookup };
 
-    ghost coded = { coded_table };
+    ghost coded = { coded_xorbs_with_lookup };
 
-    ghost use Rattle.xet_shards.specs.XorbStore.{table_inside, IsSoundTable};
+    ghost use Rattle.xet_shards.specs.XorbStore.{xorbs_inside, IsSound};
 
-    ghost view = { table_inside };
+    ghost view = { xorbs_inside };
 
-    ghost invariant = { IsSoundTable };
+    ghost invariant = { IsSound };
 }
 
 impl XorbStore {
     pub fn new(alloc: Global) -> XorbStore
-        ensures { result ≡ record { xorbs = finite.empty; places = finite.empty } }
+        ensures { result ≡ record { xorbs = finite.empty; locations = finite.empty } }
     {
         XorbStore {
             content: BTreeMap::new(alloc),
@@ -60,9 +60,11 @@ impl XorbStore {
     }
 
     pub fn lookup(&self) -> &HashMap<MerkleHash, (Rc<MDBXorbInfo>, u64)>
-        ensures places { (q : DataHash) → placed result.now q ≡ finite.get self.now.places q }
-        ensures index { IsChunkLookup self.now.xorbs (finite.get self.now.places) }
-        ensures well_formed { (q : DataHash) → (p : Place) → finite.get self.now.places q ≡ Some p → IsXorb p.0 }
+        ensures locations { (q : DataHash)
+            → location_in result.now q ≡ finite.get self.now.locations q }
+        ensures lookup { IsChunkLookup self.now.xorbs (finite.get self.now.locations) }
+        ensures well_formed { (q : DataHash) → (p : ChunkLocation)
+            → finite.get self.now.locations q ≡ Some p → IsXorb p.0 }
     {
         &self.lookup
     }
@@ -76,7 +78,8 @@ impl XorbStore {
 
     /// The rows of the xorb under this hash, or 0.
     pub fn rows_of(&self, xorb_hash: &MerkleHash) -> u64
-        ensures { result ≡ unwrap_or (option_map xorb_row_count (finite.get self.now.xorbs xorb_hash.now)) 0 }
+        ensures { result
+            ≡ unwrap_or (option_map xorb_row_count (finite.get self.now.xorbs xorb_hash.now)) 0 }
     {
         match self.content.get(xorb_hash) {
             Some(xorb) => 1 + u64::from(xorb.metadata.num_entries),
@@ -84,8 +87,8 @@ impl XorbStore {
         }
     }
 
-    /// Puts a xorb under its hash, under which there is none. `OutOfMemory` where it finds none, and then
-    /// nothing changes.
+    /// Inserts a xorb whose hash is new. `OutOfMemory` if an allocation fails; then nothing
+    /// changes.
     pub fn append(&mut self, alloc: Global, xorb: Rc<MDBXorbInfo>) -> Result<()>
         requires absent { finite.get self.old.xorbs (xorb_hash_of xorb.value) ≡ None }
         requires well_formed { IsXorb xorb.value }
@@ -96,14 +99,14 @@ impl XorbStore {
         let owner = xorb.clone()?;
         let owners = owners_of(alloc, &xorb)?;
         self.lookup.reserve(owners.len())?;
-        // The last call that can be refused, and the first that changes what the table holds.
+        // The last call that can fail, and the first that changes what the store holds.
         self.content.insert(xorb.metadata.xorb_hash, owner)?;
         enter_chunks(&mut self.lookup, xorb.as_ref(), owners);
         Ok(())
     }
 
-    /// Puts a xorb under its hash, in the place of what is there, and its chunks alone cost time where
-    /// there is none. `OutOfMemory` where it finds none, and then nothing changes.
+    /// Inserts or replaces a xorb; replacing rebuilds the chunk lookup. `OutOfMemory` if an
+    /// allocation fails; then nothing changes.
     pub fn put(&mut self, alloc: Global, xorb: Rc<MDBXorbInfo>) -> Result<()>
         requires { IsXorb xorb.value }
         ensures ok { OnOk result (self.new.xorbs ≡ put_xorb self.old.xorbs xorb.value) }
@@ -113,7 +116,7 @@ impl XorbStore {
         if !self.contains(&xorb.metadata.xorb_hash) {
             return self.append(alloc, xorb);
         }
-        // A chunk of the xorb before may stand in others too, so all chunks are entered anew.
+        // Other xorbs may have chunks of the replaced one too, so all chunks are entered again.
         let mut rebuilt = XorbStore::new(alloc);
         rebuilt.append(alloc, xorb)?;
         rebuilt.append_missing(alloc, self.content(), &XorbStore::new(alloc))?;
@@ -121,8 +124,8 @@ impl XorbStore {
         Ok(())
     }
 
-    /// Puts those of these xorbs under their hashes whose hashes neither this table nor `except` has.
-    /// `OutOfMemory` where they find none, and then some of them stand there.
+    /// Inserts those of these xorbs whose hashes are neither in this store nor in `except`.
+    /// `OutOfMemory` if an allocation fails; then some of them are inserted.
     fn append_missing(
         &mut self,
         alloc: Global,
@@ -131,7 +134,8 @@ impl XorbStore {
     ) -> Result<()>
         requires { AreXorbs (shown_xorbs others.now.entries) }
         ensures ok { OnOk result ((q : DataHash) → finite.get self.new.xorbs q
-            ≡ option_or (finite.get self.old.xorbs q) (but except.now.xorbs (entry (shown_xorbs others.now.entries)) q)) }
+            ≡ option_or (finite.get self.old.xorbs q)
+            (but except.now.xorbs (entry (shown_xorbs others.now.entries)) q)) }
         ensures causes { IfErr result (λ e. e ≡ CoreError.OutOfMemory) }
     {
         for (xorb_hash, xorb) in others {
@@ -142,8 +146,8 @@ impl XorbStore {
         Ok(())
     }
 
-    /// The xorbs of both tables: where both have one under a hash, that of `other`. `OutOfMemory` where
-    /// they find none.
+    /// The xorbs of both stores. Of two xorbs with the same hash, that of `other`. `OutOfMemory` if
+    /// an allocation fails.
     pub fn union(&self, alloc: Global, other: &XorbStore) -> Result<XorbStore>
         ensures ok { IfOk result (λ t. (q : DataHash) → finite.get t.xorbs q
             ≡ option_or (finite.get other.now.xorbs q) (finite.get self.now.xorbs q)) }
@@ -156,7 +160,8 @@ impl XorbStore {
         Ok(joined)
     }
 
-    /// The xorbs of `other` under hashes that this table has not. `OutOfMemory` where they find none.
+    /// The xorbs of `other` whose hashes this store does not have. `OutOfMemory` if an allocation
+    /// fails.
     pub fn difference(&self, alloc: Global, other: &XorbStore) -> Result<XorbStore>
         ensures ok { IfOk result (λ t. (q : DataHash) → finite.get t.xorbs q
             ≡ but self.now.xorbs (finite.get other.now.xorbs) q) }
@@ -168,10 +173,11 @@ impl XorbStore {
     }
 }
 
-// An owner of the xorb for each of its chunks.
+// A reference to the xorb for each of its chunks.
 fn owners_of(alloc: Global, xorb: &Rc<MDBXorbInfo>) -> Result<Vec<Rc<MDBXorbInfo>>>
     ensures count { IfOk result (λ owners. length owners.items ≡ length xorb.now.value.chunks) }
-    ensures owners { IfOk result (λ owners. All (λ owner. owner.value ≡ xorb.now.value) owners.items) }
+    ensures owners { IfOk result
+        (λ owners. All (λ owner. owner.value ≡ xorb.now.value) owners.items) }
     ensures causes { IfErr result (λ e. e ≡ CoreError.OutOfMemory) }
 {
     let mut owners = Vec::with_capacity(alloc, xorb.chunks.len())?;
@@ -181,7 +187,7 @@ fn owners_of(alloc: Global, xorb: &Rc<MDBXorbInfo>) -> Result<Vec<Rc<MDBXorbInfo
     Ok(owners)
 }
 
-// Enters the chunks of a xorb, for which the lookup has room.
+// Enters the chunks of a xorb into the lookup, which has capacity for them.
 fn enter_chunks(
     lookup: &mut HashMap<MerkleHash, (Rc<MDBXorbInfo>, u64)>,
     xorb: &MDBXorbInfo,
@@ -190,18 +196,19 @@ fn enter_chunks(
     requires room { length owners.items ≤ spare lookup.old }
     requires count { length owners.items ≡ length xorb.now.chunks }
     requires owners { All (λ owner. owner.value ≡ xorb.now) owners.items }
-    ensures { IsEntered (placed lookup.old) (placed lookup.new) xorb.now (length xorb.now.chunks) }
+    ensures { IsEntered (location_in lookup.old) (location_in lookup.new) xorb.now
+        (length xorb.now.chunks) }
 {
-    let mut place = 0;
+    let mut index = 0;
     for chunk in xorb.chunks.as_slice() {
         let owner = owners.pop().unwrap();
-        let inserted: std::result::Result<_, _> = lookup.insert(chunk.chunk_hash, (owner, place));
+        let inserted: std::result::Result<_, _> = lookup.insert(chunk.chunk_hash, (owner, index));
         inserted.unwrap();
-        place += 1;
+        index += 1;
     }
 }
 
-/// Whether a record may stand in a table.
+/// Whether a record can be in a store.
 pub fn is_well_formed(xorb: &MDBXorbInfo) -> bool
     ensures { IsTrue result ↔ IsXorb xorb.now }
 {
@@ -226,7 +233,7 @@ fn bytes_of(xorb: &MDBXorbInfo) -> u64
     bytes
 }
 
-// Does nothing. It says that the numbers of a record in memory fit their widths.
+// Does nothing. Its contract says that the numbers of a record in memory fit their widths.
 fn record_widths(xorb: &MDBXorbInfo)
     ensures { FitsXorb xorb.now }
 {

@@ -11,5 +11,5 @@ returns-clause-read g c =
 pub returns-clause-refused : goal.returns-clause-refused
 returns-clause-refused g c =
     err_gives c.after_tag.result _ _
-    (λ e foreign. other_version_read _ (g.S.ShardSource.meaning c.read_full.new.source) _ _ _ e (search rules) (search rules) c.in_ok-read_full.ensures c.in_ok-read_full-2.ensures foreign.0 foreign.1)
+    (λ e unsupported. other_version_read _ (g.S.ShardSource.meaning c.read_full.new.source) _ _ _ e (search rules) (search rules) c.in_ok-read_full.ensures c.in_ok-read_full-2.ensures unsupported.0 unsupported.1)
     c.after_tag.ensures.err

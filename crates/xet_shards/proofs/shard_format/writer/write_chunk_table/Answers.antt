@@ -17,7 +17,7 @@ loop-chunk_place-preserved g c =
       can = tt;
       finite = tt;
       all = value_turned _ c.loop-chunk_place.yielded _ c.in-Some.chunk_place whole;
-      text = subst (Appends (contents c.args.writer.now) (contents c.write_bytes.new.writer)) next
-          (Appends-trans _ (contents c.loop-chunk_place.writer) _ _ _ c.loop-chunk_place.invariant.text
+      bytes = subst (Appends (contents c.args.writer.now) (contents c.write_bytes.new.writer)) next
+          (Appends-trans _ (contents c.loop-chunk_place.writer) _ _ _ c.loop-chunk_place.invariant.bytes
           (subst (Appends (contents c.loop-chunk_place.writer) (contents c.write_bytes.new.writer)) c.to_bytes.ensures c.in_ok-write_bytes.ensures));
     }

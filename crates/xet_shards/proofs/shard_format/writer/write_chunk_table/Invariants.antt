@@ -9,5 +9,5 @@ invariant-loop-chunk_place g l = record {
   can : (goal.iterator-loop-chunk_place g).can_next l.chunk_place-iterator;
   finite : (goal.iterator-loop-chunk_place g).is_finite l.chunk_place-iterator;
   all : map deref l.yielded ++ l.chunk_place-iterator ≡ l.places.keys;
-  text : Appends (g.W.Write.contents l.initial.writer) (g.W.Write.contents l.writer) (flat_map place_row (map deref l.yielded));
+  bytes : Appends (g.W.Write.contents l.initial.writer) (g.W.Write.contents l.writer) (flat_map place_row (map deref l.yielded));
 }

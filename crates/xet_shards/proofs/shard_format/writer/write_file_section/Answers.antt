@@ -18,7 +18,7 @@ loop-file_info-init g c = record {
   finite = tt;
   all = c.into_iter-file_info-iterator.ensures.into_iter_gives ∙ c.values-file_info-items.ensures.rest;
   written = written_nothing c.new-written.result c.new-written.ensures.rows c.new-written.ensures.table c.new-written.ensures.bytes;
-  text = Appends-nil _;
+  bytes = Appends-nil _;
 }
 
 pub write-requires-clause-whole : goal.write-requires-clause-whole
@@ -41,15 +41,15 @@ loop-file_info-preserved g c =
       all = value_turned _ c.loop-file_info.yielded _ c.in-Some.file_info whole;
       written = subst (HasWritten c.write.new.self) next
           (written_more c.loop-file_info.written c.write.new.self before file c.loop-file_info.invariant.written wrote.rows wrote.table wrote.bytes);
-      text = subst (λ files. Appends (g.W.Write.contents c.args.writer.now) (g.W.Write.contents c.write.new.writer) (flat_map file_record_bytes files)) next
+      bytes = subst (λ files. Appends (g.W.Write.contents c.args.writer.now) (g.W.Write.contents c.write.new.writer) (flat_map file_record_bytes files)) next
           (subst (Appends (g.W.Write.contents c.args.writer.now) (g.W.Write.contents c.write.new.writer)) (sym (flat_map-push file_record_bytes before file))
-          (Appends-trans _ (g.W.Write.contents c.loop-file_info.writer) _ (flat_map file_record_bytes before) (file_record_bytes file) c.loop-file_info.invariant.text wrote.text));
+          (Appends-trans _ (g.W.Write.contents c.loop-file_info.writer) _ (flat_map file_record_bytes before) (file_record_bytes file) c.loop-file_info.invariant.bytes wrote.appended));
     }
 
-pub returns-clause-text : goal.returns-clause-text
+pub returns-clause-bytes : goal.returns-clause-bytes
 unfolding file_section
-returns-clause-text g c =
+returns-clause-bytes g c =
     let all = value_end _ c.loop-file_info.yielded _ _ _ c.loop-file_info.invariant.all c.in-None.is c.next.ensures.steps in
-    let files = subst (λ files. Appends (g.W.Write.contents c.args.writer.now) (g.W.Write.contents c.loop-file_info.writer) (flat_map file_record_bytes files)) all c.loop-file_info.invariant.text in
+    let files = subst (λ files. Appends (g.W.Write.contents c.args.writer.now) (g.W.Write.contents c.loop-file_info.writer) (flat_map file_record_bytes files)) all c.loop-file_info.invariant.bytes in
     let bookend = subst (λ h. Appends (g.W.Write.contents c.loop-file_info.writer) (g.W.Write.contents c.serialize.new.writer) (header_row h)) c.bookend.ensures c.in_ok-serialize.ensures.text in
     Appends-trans _ (g.W.Write.contents c.loop-file_info.writer) _ _ _ files bookend

@@ -12,5 +12,5 @@ invariant-loop-file_info g l = record {
   finite : (goal.iterator-loop-file_info g).is_finite l.file_info-iterator;
   all : map deref l.yielded ++ l.file_info-iterator ≡ values l.files;
   written : HasWritten l.written (map deref l.yielded);
-  text : Appends (g.W.Write.contents l.initial.writer) (g.W.Write.contents l.writer) (flat_map file_record_bytes (map deref l.yielded));
+  bytes : Appends (g.W.Write.contents l.initial.writer) (g.W.Write.contents l.writer) (flat_map file_record_bytes (map deref l.yielded));
 }

@@ -19,7 +19,7 @@ loop-xorb-init g c = record {
   finite = tt;
   all = c.into_iter-xorb-iterator.ensures.into_iter_gives ∙ c.values-xorb-items.ensures.rest;
   written = written_no_xorbs c.new-written.result c.new-written.ensures.rows c.new-written.ensures.table c.new-written.ensures.places c.new-written.ensures.bytes c.new-written.ensures.bytes_on_disk;
-  text = Appends-nil _;
+  bytes = Appends-nil _;
 }
 
 pub write-requires-clause-well_formed : goal.write-requires-clause-well_formed
@@ -57,17 +57,17 @@ loop-xorb-preserved g c =
       all = value_turned _ c.loop-xorb.yielded _ c.in-Some.xorb whole;
       written = subst (HasWrittenXorbs c.write.new.self) next
           (written_xorb c.loop-xorb.written c.write.new.self before xorb c.loop-xorb.invariant.written wrote.rows wrote.table wrote.places wrote.bytes wrote.bytes_on_disk);
-      text = subst (λ xorbs. Appends (contents c.args.writer.now) (contents c.write.new.writer) (flat_map xorb_record_bytes xorbs)) next
+      bytes = subst (λ xorbs. Appends (contents c.args.writer.now) (contents c.write.new.writer) (flat_map xorb_record_bytes xorbs)) next
           (subst (Appends (contents c.args.writer.now) (contents c.write.new.writer)) (sym (flat_map-push xorb_record_bytes before xorb))
-          (Appends-trans _ (contents c.loop-xorb.writer) _ (flat_map xorb_record_bytes before) (xorb_record_bytes xorb) c.loop-xorb.invariant.text wrote.text));
+          (Appends-trans _ (contents c.loop-xorb.writer) _ (flat_map xorb_record_bytes before) (xorb_record_bytes xorb) c.loop-xorb.invariant.bytes wrote.appended));
     }
 
-pub returns-clause-text : goal.returns-clause-text
+pub returns-clause-bytes : goal.returns-clause-bytes
 unfolding xorb_section
-returns-clause-text g c =
+returns-clause-bytes g c =
     let contents = g.W.Write.contents in
     let all = seen_end _ c.loop-xorb.yielded _ _ _ c.loop-xorb.invariant.all c.in-None.is c.next.ensures.steps in
-    let xorbs = subst (λ xorbs. Appends (contents c.args.writer.now) (contents c.loop-xorb.writer) (flat_map xorb_record_bytes xorbs)) all c.loop-xorb.invariant.text in
+    let xorbs = subst (λ xorbs. Appends (contents c.args.writer.now) (contents c.loop-xorb.writer) (flat_map xorb_record_bytes xorbs)) all c.loop-xorb.invariant.bytes in
     let bookend = subst (λ h. Appends (contents c.loop-xorb.writer) (contents c.serialize.new.writer) (xorb_header_row h)) c.bookend.ensures c.in_ok-serialize.ensures.text in
     Appends-trans _ (contents c.loop-xorb.writer) _ _ _ xorbs bookend
 

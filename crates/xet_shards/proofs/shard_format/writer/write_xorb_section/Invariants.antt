@@ -13,5 +13,5 @@ invariant-loop-xorb g l = record {
   finite : (goal.iterator-loop-xorb g).is_finite l.xorb-iterator;
   all : map deref l.yielded ++ l.xorb-iterator ≡ values l.xorbs;
   written : HasWrittenXorbs l.written (seen l.yielded);
-  text : Appends (g.W.Write.contents l.initial.writer) (g.W.Write.contents l.writer) (flat_map xorb_record_bytes (seen l.yielded));
+  bytes : Appends (g.W.Write.contents l.initial.writer) (g.W.Write.contents l.writer) (flat_map xorb_record_bytes (seen l.yielded));
 }

@@ -15,7 +15,7 @@ use Rattle.xet_shards.specs.SetOperations.{IsUnion, CanUnite}
 use Rattle.xet_shards.proofs.Overlays.{from_sorted-entries, can_join_united, unite_if_few, few_if_unite}
 use Rattle.xet_shards.proofs.shard_in_memory.MDBInMemoryShard.can_unite.Goals as goal
 
--- of the shards that contracts see, and not of their fields
+-- for the shards as contracts see them, not their fields
 seen : (b : Bool) (s t u v : ShardWithLookup) → s ≡ u → t ≡ v → IsTrue b ↔ CanUnite s.content t.content → IsTrue b ↔ CanUnite u.content v.content
 seen b s t u v own other = subst (λ (p : ShardWithLookup × ShardWithLookup). IsTrue b ↔ CanUnite p.0.content p.1.content) (λ i. (own i, other i))
 

@@ -7,8 +7,8 @@ use Rattle.xet_shards.proofs.Joining.{but_found}
 use Rattle.xet_shards.proofs.Sums.{sub-sum}
 use Rattle.xet_shards.proofs.shard_in_memory.MDBInMemoryShard.difference.Goals as goal
 
-pub of_tables-requires : goal.of_tables-requires
-of_tables-requires c = record {
+pub from_stores-requires : goal.from_stores-requires
+from_stores-requires c = record {
   files =
       let fewer = sub-sum hash_cmp-IsTotalOrder hash_cmp-IsAntisymmetric row_count c.in_ok-files.files c.other.inside.files
       (λ q r at. but_found c.self.inside.files (get c.other.inside.files) q r (sym (c.in_ok-files.ensures.ok q) ∙ at)) in

@@ -4,7 +4,7 @@ use Rattle.xet_base.specs.Hash.{hash_cmp}
 use Rattle.xet_records.specs.declared.file_structs.MDBFileInfo.{MDBFileInfo}
 use Rattle.xet_records.specs.declared.xorb_structs.MDBXorbInfo.{MDBXorbInfo}
 use Rattle.xet_shards.specs.Shard.{FileMap, total_rows, total_xorb_rows}
-use Rattle.xet_shards.specs.ChunkLookup.{Table}
+use Rattle.xet_shards.specs.ChunkLookup.{XorbsWithLookup}
 use Rattle.xet_shards.proofs.Maps.{values-empty}
 use Rattle.xet_shards.proofs.shard_in_memory.MDBInMemoryShard.new.Goals as goal
 
@@ -12,6 +12,6 @@ pub invariant_of-result : goal.invariant_of-result
 invariant_of-result c = record {
   file_rows = sym (ap (λ (m : FileMap). total_rows (values m)) c.new.ensures ∙ ap total_rows (values-empty MDBFileInfo hash_cmp));
   few_file_rows = lit≤ tt;
-  xorb_rows = sym (ap (λ (t : Table). total_xorb_rows (values t.xorbs)) c.new-2.ensures ∙ ap total_xorb_rows (values-empty MDBXorbInfo hash_cmp));
+  xorb_rows = sym (ap (λ (t : XorbsWithLookup). total_xorb_rows (values t.xorbs)) c.new-2.ensures ∙ ap total_xorb_rows (values-empty MDBXorbInfo hash_cmp));
   few_xorb_rows = lit≤ tt;
 }

@@ -8,7 +8,7 @@ use Rattle.std.proofs.lemmas.Result.{IfOk-at_ok}
 use Rattle.xet_base.specs.Hash.{hash_eq}
 use Rattle.xet_records.specs.declared.xorb_structs.XorbChunkSequenceEntry.{XorbChunkSequenceEntry}
 use Rattle.xet_records.specs.declared.xorb_structs.MDBXorbInfo.{MDBXorbInfo}
-use Rattle.xet_shards.specs.XorbStore.{shown_place, placed}
+use Rattle.xet_shards.specs.XorbStore.{shown_location, location_in}
 use Rattle.xet_shards.proofs.ChunkPlaces.{no_chunk}
 use Rattle.xet_shards.proofs.Walks.{All-middle}
 use Rattle.xet_shards.proofs.ChunkLookups.{All-front, entered-more, cond-shown}
@@ -28,12 +28,12 @@ loop-chunk-preserved c =
     ∙ ap (option_map (λ (d : XorbChunkSequenceEntry). d.chunk_hash)) (slice_get-get_or items c.loop-chunk.chunk-index no_chunk c.loop-chunk-test.true) in
     let updates = (IfOk-at_ok _ c.unwrap.ensures c.insert-inserted.ensures.updates).0 in
     record {
-      place = omega (arith, before.place);
+      index = omega (arith, before.index);
       left = omega (arith, before.left, count);
       room = omega (arith, before.room, count, c.insert-inserted.ensures.spare);
       owners = All-front (λ (o : Rc MDBXorbInfo Global). o.value ≡ c.args.xorb.now) left (owner ∷ []) all;
-      entered = entered-more _ (placed c.loop-chunk.lookup) (placed c.insert-inserted.new.self) c.args.xorb.now c.loop-chunk.chunk-index _ chunk
-          (λ q. ap (option_map shown_place) (updates q)
-          ∙ cond-shown shown_place (hash_eq _ q) (owner, c.loop-chunk.place) (c.args.xorb.now, c.loop-chunk.chunk-index) (hash_map.get hash_eq c.loop-chunk.lookup q) (λ i. (own i, before.place i)))
+      entered = entered-more _ (location_in c.loop-chunk.lookup) (location_in c.insert-inserted.new.self) c.args.xorb.now c.loop-chunk.chunk-index _ chunk
+          (λ q. ap (option_map shown_location) (updates q)
+          ∙ cond-shown shown_location (hash_eq _ q) (owner, c.loop-chunk.index) (c.args.xorb.now, c.loop-chunk.chunk-index) (hash_map.get hash_eq c.loop-chunk.lookup q) (λ i. (own i, before.index i)))
           before.entered;
     }

@@ -1,14 +1,14 @@
 use Rattle.std.proofs.Common.{rules}
 use Rattle.std.proofs.lemmas.Result.{err_from_is_err_and}
 use Rattle.xet_base.proofs.Errors.{end_from_device}
-use Rattle.xet_shards.proofs.Ends.{foreign_footer, cut_footer}
+use Rattle.xet_shards.proofs.Ends.{unsupported_footer, cut_footer}
 use Rattle.xet_shards.proofs.shard_format.footer.MDBShardFileFooter.deserialize.Goals as goal
 
-pub returns-in_err-check_version-clause-foreign : goal.returns-in_err-check_version-clause-foreign
-returns-in_err-check_version-clause-foreign g c =
+pub returns-in_err-check_version-clause-unsupported : goal.returns-in_err-check_version-clause-unsupported
+returns-in_err-check_version-clause-unsupported g c =
     let p = err_from_is_err_and c.from_residual-in_err-check_version.result c.from_residual-in_err-check_version.ensures.1 in
     rw (p.1)
-    (λ _. foreign_footer _ (g.R.Read.remaining c.read_bytes.new.reader) _ (search rules) c.in_ok-read_bytes.ensures.value c.in_err-check_version.ensures.err.1)
+    (λ _. unsupported_footer _ (g.R.Read.remaining c.read_bytes.new.reader) _ (search rules) c.in_ok-read_bytes.ensures.value c.in_err-check_version.ensures.err.1)
 
 pub returns-in_err-read_bytes-2-clause-end : goal.returns-in_err-read_bytes-2-clause-end
 returns-in_err-read_bytes-2-clause-end g c =

@@ -1,10 +1,10 @@
 use Rattle.std.proofs.Common.{rules}
 use Rattle.std.proofs.lemmas.Result.{err_from_is_err_and}
-use Rattle.xet_shards.proofs.Ends.{foreign_tag}
+use Rattle.xet_shards.proofs.Ends.{unsupported_tag}
 use Rattle.xet_shards.proofs.shard_format.header.MDBShardFileHeader.deserialize.Goals as goal
 
-pub returns-in_err-check_tag-clause-foreign : goal.returns-in_err-check_tag-clause-foreign
-returns-in_err-check_tag-clause-foreign g c =
+pub returns-in_err-check_tag-clause-unsupported : goal.returns-in_err-check_tag-clause-unsupported
+returns-in_err-check_tag-clause-unsupported g c =
     let p = err_from_is_err_and c.from_residual-in_err-check_tag.result c.from_residual-in_err-check_tag.ensures.1 in
     rw (p.1)
-    (λ _. foreign_tag _ (g.R.Read.remaining c.read_bytes.new.reader) _ (search rules) c.in_ok-read_bytes.ensures.value c.in_err-check_tag.ensures.err.1)
+    (λ _. unsupported_tag _ (g.R.Read.remaining c.read_bytes.new.reader) _ (search rules) c.in_ok-read_bytes.ensures.value c.in_err-check_tag.ensures.err.1)

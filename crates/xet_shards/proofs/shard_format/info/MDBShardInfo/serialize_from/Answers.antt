@@ -10,9 +10,9 @@ use Rattle.xet_shards.specs.Layout.{shard_header_bytes, shard_footer_bytes, foot
 use Rattle.xet_shards.proofs.Files.{widths_of_values}
 use Rattle.xet_shards.proofs.shard_format.info.MDBShardInfo.serialize_from.Goals as goal
 
-pub returns-clause-text : goal.returns-clause-text
+pub returns-clause-bytes : goal.returns-clause-bytes
 unfolding layout_of chunk_table_bytes
-returns-clause-text g c =
+returns-clause-bytes g c =
     let contents = g.W.Write.contents in
     let rs = values_of c.file_content.result.now.entries in
     let xs = values_of (shown_xorbs c.xorb_content.result.now.entries) in
@@ -27,8 +27,8 @@ returns-clause-text g c =
     (Appends-trans _ (contents c.write_bytes.new.writer) _ _ _
     (Appends-trans _ (contents c.write_xorb_section.new.writer) _ _ _
     (Appends-trans _ (contents c.write_file_section.new.writer) _ _ _
-    (Appends-trans _ (contents c.serialize.new.writer) _ _ _ c.in_ok-serialize.ensures.text c.in_ok-files.ensures.text)
-    c.in_ok-xorbs.ensures.text) c.in_ok-write_bytes.ensures) c.in_ok-write_bytes-2.ensures) c.in_ok-write_chunk_table.ensures.text) c.in_ok-serialize-2.ensures.text in
+    (Appends-trans _ (contents c.serialize.new.writer) _ _ _ c.in_ok-serialize.ensures.bytes c.in_ok-files.ensures.bytes)
+    c.in_ok-xorbs.ensures.bytes) c.in_ok-write_bytes.ensures) c.in_ok-write_bytes-2.ensures) c.in_ok-write_chunk_table.ensures.bytes) c.in_ok-serialize-2.ensures.bytes in
     subst (Appends (contents c.args.writer.now) (contents c.serialize-2.new.writer))
     ((λ i. (((((header i ++ file_section rs) ++ xorb_section xs) ++ file_table i) ++ xorb_table i) ++ flat_map place_row (xorbs.places i)) ++ footer i)
     ∙ (λ i. layout_of (values_of (c.file_content.ensures.entries i)) (values_of (c.xorb_content.ensures.entries i)) (plain_form c.args.expiry))) wrote

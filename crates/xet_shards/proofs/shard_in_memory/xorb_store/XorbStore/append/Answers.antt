@@ -10,36 +10,36 @@ use Rattle.xet_base.proofs.HashOrder.{hash_cmp-IsTotalOrder, hash_cmp-IsAntisymm
 use Rattle.xet_records.specs.declared.xorb_structs.MDBXorbInfo.{MDBXorbInfo}
 use Rattle.xet_records.specs.XorbRecord.{IsXorb}
 use Rattle.xet_shards.specs.Shard.{XorbMap, AreXorbs, xorb_hash_of}
-use Rattle.xet_shards.specs.ChunkLookup.{Table, IsChunkLookup}
-use Rattle.xet_shards.specs.XorbStore.{shown_xorbs, shown_place, placed, IsEntered}
+use Rattle.xet_shards.specs.ChunkLookup.{XorbsWithLookup, IsChunkLookup}
+use Rattle.xet_shards.specs.XorbStore.{shown_xorbs, shown_location, location_in, IsEntered}
 use Rattle.xet_shards.proofs.Maps.{from_sorted-insert_entry, sorted-insert_entry, All-insert_entry}
-use Rattle.xet_shards.proofs.ChunkLookups.{index-same, index-append, entered-from, on_err}
+use Rattle.xet_shards.proofs.ChunkLookups.{lookup-same, lookup-append, entered-from, on_err}
 use Rattle.xet_shards.proofs.shard_in_memory.xorb_store.XorbStore.append.Goals as goal
 
 pub invariant_of-self : goal.invariant_of-self
 invariant_of-self c = record {
   sorted = c.self.invariant.sorted;
   xorbs = c.self.invariant.xorbs;
-  index = index-same _ (placed c.self.inside.lookup) (placed c.reserve.new.self) (λ q. ap (option_map shown_place) (c.reserve.ensures.entries.2 q)) c.self.invariant.index;
+  lookup = lookup-same _ (location_in c.self.inside.lookup) (location_in c.reserve.new.self) (λ q. ap (option_map shown_location) (c.reserve.ensures.entries.2 q)) c.self.invariant.lookup;
 }
 
 pub invariant_of-self-in_err-insert : goal.invariant_of-self-in_err-insert
 invariant_of-self-in_err-insert c =
     let same = c.in_err-insert.ensures.err in
-    let index = index-same _ (placed c.self.inside.lookup) (placed c.reserve.new.self) (λ q. ap (option_map shown_place) (c.reserve.ensures.entries.2 q)) c.self.invariant.index in
+    let lookup = lookup-same _ (location_in c.self.inside.lookup) (location_in c.reserve.new.self) (λ q. ap (option_map shown_location) (c.reserve.ensures.entries.2 q)) c.self.invariant.lookup in
     record {
       sorted = subst (λ (es : List (DataHash × Rc MDBXorbInfo Global)). T (is_sorted hash_cmp (shown_xorbs es))) (sym same) c.self.invariant.sorted;
       xorbs = subst (λ (es : List (DataHash × Rc MDBXorbInfo Global)). AreXorbs (shown_xorbs es)) (sym same) c.self.invariant.xorbs;
-      index = subst (λ (es : List (DataHash × Rc MDBXorbInfo Global)). IsChunkLookup (from_sorted (shown_xorbs es)) (placed c.reserve.new.self)) (sym same) index;
+      lookup = subst (λ (es : List (DataHash × Rc MDBXorbInfo Global)). IsChunkLookup (from_sorted (shown_xorbs es)) (location_in c.reserve.new.self)) (sym same) lookup;
     }
 
 pub returns-in_err-insert-clause-err : goal.returns-in_err-insert-clause-err
 returns-in_err-insert-clause-err c =
     let xorbs = ap (λ (es : List (DataHash × Rc MDBXorbInfo Global)). from_sorted {R = hash_cmp} (shown_xorbs es)) c.in_err-insert.ensures.err in
-    let places = same-shown shown_place c.reserve.new.self.entries c.self.inside.lookup.entries c.reserve.ensures.entries.2 in
-    on_err _ ((λ i. record { xorbs = xorbs i; places = places i }) ∙ c.self.view_is)
+    let locations = same-shown shown_location c.reserve.new.self.entries c.self.inside.lookup.entries c.reserve.ensures.entries.2 in
+    on_err _ ((λ i. record { xorbs = xorbs i; locations = locations i }) ∙ c.self.view_is)
 
--- what the table shows once the xorb stands in it
+-- the view of the store after the xorb is inserted
 pub invariant_of-self-2 : goal.invariant_of-self-2
 invariant_of-self-2 c =
     let r = c.args.xorb.value in
@@ -47,20 +47,20 @@ invariant_of-self-2 c =
     let before = c.self.invariant in
     let shown = ap shown_xorbs c.in_ok-insert.ensures.entries ∙ insert-shown (λ (o : Rc MDBXorbInfo Global). o.value) _ c.in_ok-owner.owner es
     ∙ (λ i. insert_entry hash_cmp (shown_xorbs es) (xorb_hash_of (c.deref.ensures i)) (c.in_ok-owner.ensures.cases i)) in
-    let entered = entered-from (placed c.reserve.new.self) (placed c.self.inside.lookup) (placed c.enter_chunks.new.lookup) r (length r.chunks)
-    (λ q. ap (option_map shown_place) (c.reserve.ensures.entries.2 q))
-    (subst (λ (s : MDBXorbInfo). IsEntered (placed c.reserve.new.self) (placed c.enter_chunks.new.lookup) s (length s.chunks)) c.as_ref.ensures c.enter_chunks.ensures) in
-    let index = index-append (from_sorted (shown_xorbs es)) (placed c.self.inside.lookup) (placed c.enter_chunks.new.lookup) r
-    (ap (λ (t : Table). get t.xorbs (xorb_hash_of r)) c.self.view_is ∙ c.requires.absent) before.index entered in
+    let entered = entered-from (location_in c.reserve.new.self) (location_in c.self.inside.lookup) (location_in c.enter_chunks.new.lookup) r (length r.chunks)
+    (λ q. ap (option_map shown_location) (c.reserve.ensures.entries.2 q))
+    (subst (λ (s : MDBXorbInfo). IsEntered (location_in c.reserve.new.self) (location_in c.enter_chunks.new.lookup) s (length s.chunks)) c.as_ref.ensures c.enter_chunks.ensures) in
+    let lookup = lookup-append (from_sorted (shown_xorbs es)) (location_in c.self.inside.lookup) (location_in c.enter_chunks.new.lookup) r
+    (ap (λ (t : XorbsWithLookup). get t.xorbs (xorb_hash_of r)) c.self.view_is ∙ c.requires.absent) before.lookup entered in
     record {
       sorted = subst (λ fs. T (is_sorted hash_cmp fs)) (sym shown) (sorted-insert_entry hash_cmp-IsTotalOrder hash_cmp-IsAntisymmetric (shown_xorbs es) (xorb_hash_of r) r before.sorted);
       xorbs = subst AreXorbs (sym shown) record {
         keyed = All-insert_entry hash_cmp-IsTotalOrder hash_cmp-IsAntisymmetric (λ e. e.0 ≡ xorb_hash_of e.1) (shown_xorbs es) (xorb_hash_of r) r before.xorbs.keyed refl;
         well_formed = All-insert_entry hash_cmp-IsTotalOrder hash_cmp-IsAntisymmetric (λ e. IsXorb e.1) (shown_xorbs es) (xorb_hash_of r) r before.xorbs.well_formed c.requires.well_formed;
       };
-      index = subst (λ fs. IsChunkLookup (from_sorted fs) (placed c.enter_chunks.new.lookup)) (sym shown)
-          (subst (λ (m : XorbMap). IsChunkLookup m (placed c.enter_chunks.new.lookup))
-          (sym (from_sorted-insert_entry hash_cmp-IsTotalOrder hash_cmp-IsAntisymmetric (shown_xorbs es) (xorb_hash_of r) r before.sorted)) index);
+      lookup = subst (λ fs. IsChunkLookup (from_sorted fs) (location_in c.enter_chunks.new.lookup)) (sym shown)
+          (subst (λ (m : XorbMap). IsChunkLookup m (location_in c.enter_chunks.new.lookup))
+          (sym (from_sorted-insert_entry hash_cmp-IsTotalOrder hash_cmp-IsAntisymmetric (shown_xorbs es) (xorb_hash_of r) r before.sorted)) lookup);
     }
 
 pub returns-clause-ok : goal.returns-clause-ok
@@ -71,4 +71,4 @@ returns-clause-ok c =
     ∙ (λ i. insert_entry hash_cmp (shown_xorbs es) (xorb_hash_of (c.deref.ensures i)) (c.in_ok-owner.ensures.cases i)) in
     ap (from_sorted {R = hash_cmp}) shown
     ∙ from_sorted-insert_entry hash_cmp-IsTotalOrder hash_cmp-IsAntisymmetric (shown_xorbs es) (xorb_hash_of r) r c.self.invariant.sorted
-    ∙ ap (λ (t : Table). insert t.xorbs (xorb_hash_of r) r) c.self.view_is
+    ∙ ap (λ (t : XorbsWithLookup). insert t.xorbs (xorb_hash_of r) r) c.self.view_is

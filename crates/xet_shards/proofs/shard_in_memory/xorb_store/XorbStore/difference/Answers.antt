@@ -1,8 +1,8 @@
 use Rattle.std.proofs.Common.{ap}
-use Rattle.xet_shards.specs.ChunkLookup.{Table}
+use Rattle.xet_shards.specs.ChunkLookup.{XorbsWithLookup}
 use Rattle.xet_shards.proofs.Joining.{filled-new}
 use Rattle.xet_shards.proofs.shard_in_memory.xorb_store.XorbStore.difference.Goals as goal
 
 pub returns-clause-ok : goal.returns-clause-ok
 returns-clause-ok c =
-    filled-new c.args.self.now.xorbs c.new-rest.result.xorbs _ c.args.other.now.xorbs _ c.content.ensures.entries c.in_ok-append_missing.ensures.ok (ap (λ (t : Table). t.xorbs) c.new-rest.ensures)
+    filled-new c.args.self.now.xorbs c.new-rest.result.xorbs _ c.args.other.now.xorbs _ c.content.ensures.entries c.in_ok-append_missing.ensures.ok (ap (λ (t : XorbsWithLookup). t.xorbs) c.new-rest.ensures)

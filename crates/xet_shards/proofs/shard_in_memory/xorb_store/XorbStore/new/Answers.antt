@@ -9,9 +9,9 @@ use Rattle.xet_base.specs.Hash.{hash_cmp, hash_eq}
 use Rattle.xet_base.proofs.HashOrder.{hash_cmp-IsTotalOrder, hash_cmp-IsAntisymmetric}
 use Rattle.xet_records.specs.declared.xorb_structs.MDBXorbInfo.{MDBXorbInfo}
 use Rattle.xet_shards.specs.Shard.{AreXorbs}
-use Rattle.xet_shards.specs.XorbStore.{shown_xorbs, shown_place}
+use Rattle.xet_shards.specs.XorbStore.{shown_xorbs, shown_location}
 use Rattle.xet_shards.proofs.Maps.{from_sorted-nil}
-use Rattle.xet_shards.proofs.ChunkLookups.{index-none}
+use Rattle.xet_shards.proofs.ChunkLookups.{lookup-none}
 use Rattle.xet_shards.proofs.shard_in_memory.xorb_store.XorbStore.new.Goals as goal
 
 pub invariant_of-result : goal.invariant_of-result
@@ -21,11 +21,11 @@ invariant_of-result c =
     record {
       sorted = subst (λ (es : List (DataHash × Rc MDBXorbInfo Global)). T (is_sorted hash_cmp (shown_xorbs es))) (sym none) tt;
       xorbs = subst (λ (es : List (DataHash × Rc MDBXorbInfo Global)). AreXorbs (shown_xorbs es)) (sym none) (record { keyed = All-nil _; well_formed = All-nil _ });
-      index = index-none _ _ (λ q. ap (λ m. get m q) xorbs ∙ get-empty hash_cmp q) (λ q. ap (λ es. option_map shown_place (lookup (hash_eq q) es)) c.new-2.ensures.empty);
+      lookup = lookup-none _ _ (λ q. ap (λ m. get m q) xorbs ∙ get-empty hash_cmp q) (λ q. ap (λ es. option_map shown_location (lookup (hash_eq q) es)) c.new-2.ensures.empty);
     }
 
 pub returns : goal.returns
 returns c =
     let xorbs = ap (λ (es : List (DataHash × Rc MDBXorbInfo Global)). from_sorted {R = hash_cmp} (shown_xorbs es)) c.new.ensures.empty ∙ from_sorted-nil hash_cmp-IsTotalOrder hash_cmp-IsAntisymmetric in
-    let places = ap (λ es. from_entries {R = hash_cmp} (map (λ e. (e.0, shown_place e.1)) es)) c.new-2.ensures.empty in
-    λ i. record { xorbs = xorbs i; places = places i }
+    let locations = ap (λ es. from_entries {R = hash_cmp} (map (λ e. (e.0, shown_location e.1)) es)) c.new-2.ensures.empty in
+    λ i. record { xorbs = xorbs i; locations = locations i }
