@@ -12,12 +12,14 @@ use Rattle.xet_base.proofs.Lists.{front_is, rest_is, same_parts, parts_front}
 use Rattle.xet_base.proofs.Bytes.{length-u64_bytes, length-hash_bytes, u64_bytes-injective, hash_bytes-injective}
 use Rattle.xet_records.specs.declared.file_structs.MDBFileInfo.{MDBFileInfo}
 use Rattle.xet_records.specs.declared.xorb_structs.MDBXorbInfo.{MDBXorbInfo}
+use Rattle.xet_records.specs.FileRecord.{file_records}
+use Rattle.xet_records.specs.XorbRecord.{xorb_records}
 use Rattle.xet_shards.specs.declared.shard_format.header.MDBShardFileHeader.{MDBShardFileHeader}
 use Rattle.xet_shards.specs.declared.shard_format.footer.MDBShardFileFooter.{MDBShardFileFooter}
 use Rattle.xet_shards.specs.declared.shard_format.info.MDBShardInfo.{MDBShardInfo}
 use Rattle.xet_shards.specs.Shard.{Shard}
-use Rattle.xet_shards.specs.Section.{file_section, xorb_section}
-use Rattle.xet_shards.specs.Tables.{file_table_bytes, xorb_table_bytes, chunk_table_bytes}
+use Rattle.xet_shards.specs.Section.{section_bytes}
+use Rattle.xet_shards.specs.Tables.{table_bytes, chunk_table_bytes}
 use Rattle.xet_shards.specs.Layout.{Form, if_in, header_tag, shard_header_bytes, header_value, offsets_of, timestamps_of, sums_of, shard_footer_bytes, footer_value, layout_of, layout, plain_form, info_value}
 use Rattle.xet_shards.specs.Ends.{HasHeader, FitsFooter, HasEnds, IsForeign, IsTooShort, last_bytes, Loads, LoadFails, Refusal}
 use Rattle.xet_shards.proofs.Layouts.{length-shard_header_bytes, length-shard_footer_bytes}
@@ -119,7 +121,7 @@ module _ (bytes : List ℕ) (info : MDBShardInfo) (ends : HasEnds bytes info) wh
 module _ (files : List MDBFileInfo) (xorbs : List MDBXorbInfo) (form : Form) where
   before_footer : List ℕ
   before_footer =
-      ((((shard_header_bytes header_value ++ file_section files) ++ xorb_section xorbs) ++ if_in form.file_table (file_table_bytes files)) ++ if_in form.xorb_table (xorb_table_bytes xorbs))
+      ((((shard_header_bytes header_value ++ section_bytes file_records files) ++ section_bytes xorb_records xorbs) ++ if_in form.file_table (table_bytes file_records files)) ++ if_in form.xorb_table (table_bytes xorb_records xorbs))
       ++ if_in form.chunk_table (chunk_table_bytes xorbs)
 
   layout_is : layout_of files xorbs form ≡ before_footer ++ shard_footer_bytes (footer_value files xorbs form)

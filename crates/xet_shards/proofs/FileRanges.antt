@@ -15,11 +15,11 @@ use Rattle.xet_records.specs.Reading.{ReadsBookend}
 use Rattle.xet_records.specs.FileRecord.{file_records}
 use Rattle.xet_records.proofs.RecordKinds.{file_laws}
 use Rattle.xet_shards.specs.declared.shard_format.header.MDBShardFileHeader.{MDBShardFileHeader}
-use Rattle.xet_shards.specs.Shard.{Shard, IsShard, total_rows}
+use Rattle.xet_shards.specs.Shard.{Shard, IsShard}
 use Rattle.xet_shards.specs.Layout.{shard_header_bytes, header_value, plain_form, layout}
 use Rattle.xet_shards.specs.Ends.{HasHeader, HasUnsupportedHeader, EndsInHeader, Refusal}
 use Rattle.xet_shards.specs.SectionReading.{IsSection}
-use Rattle.xet_shards.specs.Section.{with_fronts}
+use Rattle.xet_shards.specs.Section.{total_rows, with_fronts}
 use Rattle.xet_shards.specs.FileRanges.{FileRanges, ranges_at, file_ranges, TakesRanges, ReadsFileRanges, FileRangesFail, HasReadRanges, ReadsRanges}
 use Rattle.xet_shards.proofs.Files.{well_formed_values}
 use Rattle.xet_shards.proofs.Layouts.{length-shard_header_bytes}
@@ -28,9 +28,9 @@ use Rattle.xet_shards.proofs.Readback.{layout_from_48, section_of_shard, handed_
 use Rattle.xet_shards.proofs.SectionReading.{nothing_read, more_read, section_ends, place_after}
 use Rattle.xet_shards.proofs.Tables.{with_fronts-push}
 
-file_ranges-push : (at : ℕ) (files : List MDBFileInfo) (r : MDBFileInfo) → file_ranges at (files ++ r ∷ []) ≡ file_ranges at files ++ ranges_at (at + 48 * total_rows files) r ∷ []
+file_ranges-push : (at : ℕ) (files : List MDBFileInfo) (r : MDBFileInfo) → file_ranges at (files ++ r ∷ []) ≡ file_ranges at files ++ ranges_at (at + 48 * total_rows file_records files) r ∷ []
 file_ranges-push at files r =
-    let ranges : List MDBFileInfo × MDBFileInfo → FileRanges = λ e. ranges_at (at + 48 * total_rows e.0) e.1 in
+    let ranges : List MDBFileInfo × MDBFileInfo → FileRanges = λ e. ranges_at (at + 48 * total_rows file_records e.0) e.1 in
     ap (map ranges) (with_fronts-push [] files r) ∙ map-append ranges (with_fronts [] files) ((files, r) ∷ [])
 
 -- before the first record

@@ -21,8 +21,8 @@ use Rattle.xet_records.specs.FileRecord.{file_record_bytes, file_bookend, handed
 use Rattle.xet_records.specs.XorbRow.{xorb_header_row}
 use Rattle.xet_records.specs.XorbRecord.{xorb_record_bytes, xorb_bookend, IsXorb, xorb_records}
 use Rattle.xet_shards.specs.Shard.{Shard, IsShard}
-use Rattle.xet_shards.specs.Section.{file_section, xorb_section}
-use Rattle.xet_shards.specs.Tables.{file_table_bytes, xorb_table_bytes, chunk_table_bytes}
+use Rattle.xet_shards.specs.Section.{section_bytes}
+use Rattle.xet_shards.specs.Tables.{table_bytes, chunk_table_bytes}
 use Rattle.xet_shards.specs.Layout.{Form, if_in, shard_header_bytes, header_value, shard_footer_bytes, footer_value, layout_of, layout}
 use Rattle.xet_shards.specs.SectionReading.{IsSection, TakesSection, TakesNoSection, SectionFailure, PassesRows, IsCutSection}
 use Rattle.xet_shards.proofs.Files.{well_formed_values}
@@ -56,28 +56,28 @@ handed_same (r ∷ rs) good = λ i. handed_one r (good 0 r (omega arith)) i ∷ 
 module _ (files : List MDBFileInfo) (xorbs : List MDBXorbInfo) (form : Form) where
   abbrev pub after_xorbs : List ℕ
   after_xorbs =
-      if_in form.file_table (file_table_bytes files) ++ (if_in form.xorb_table (xorb_table_bytes xorbs)
+      if_in form.file_table (table_bytes file_records files) ++ (if_in form.xorb_table (table_bytes xorb_records xorbs)
       ++ (if_in form.chunk_table (chunk_table_bytes xorbs) ++ shard_footer_bytes (footer_value files xorbs form)))
 
   abbrev pub after_section : List ℕ
-  after_section = xorb_section xorbs ++ after_xorbs
+  after_section = section_bytes xorb_records xorbs ++ after_xorbs
 
-  pub layout_from_48 : layout_of files xorbs form ≡ shard_header_bytes header_value ++ (file_section files ++ after_section)
+  pub layout_from_48 : layout_of files xorbs form ≡ shard_header_bytes header_value ++ (section_bytes file_records files ++ after_section)
   unfolding layout_of
   layout_from_48 = simp (append_assoc)
 
   pub section_at_48 : drop 48 (layout_of files xorbs form) ≡ flat_map file_record_bytes files ++ (header_row file_bookend ++ after_section)
-  unfolding file_section
+  unfolding section_bytes
   section_at_48 =
-      rest_is 48 (layout_of files xorbs form) (shard_header_bytes header_value) (file_section files ++ after_section) (length-shard_header_bytes header_value) layout_from_48
+      rest_is 48 (layout_of files xorbs form) (shard_header_bytes header_value) (section_bytes file_records files ++ after_section) (length-shard_header_bytes header_value) layout_from_48
       ∙ append_assoc (flat_map file_record_bytes files) (header_row file_bookend) after_section
 
-  pub xorbs_at : drop (48 + length (file_section files)) (layout_of files xorbs form) ≡ flat_map xorb_record_bytes xorbs ++ (xorb_header_row xorb_bookend ++ after_xorbs)
-  unfolding xorb_section
+  pub xorbs_at : drop (48 + length (section_bytes file_records files)) (layout_of files xorbs form) ≡ flat_map xorb_record_bytes xorbs ++ (xorb_header_row xorb_bookend ++ after_xorbs)
+  unfolding section_bytes
   xorbs_at =
-      rest_is (48 + length (file_section files)) (layout_of files xorbs form) (shard_header_bytes header_value ++ file_section files) after_section
-      (length-append (shard_header_bytes header_value) (file_section files) ∙ ap (λ n. n + length (file_section files)) (length-shard_header_bytes header_value))
-      (layout_from_48 ∙ sym (append_assoc (shard_header_bytes header_value) (file_section files) after_section))
+      rest_is (48 + length (section_bytes file_records files)) (layout_of files xorbs form) (shard_header_bytes header_value ++ section_bytes file_records files) after_section
+      (length-append (shard_header_bytes header_value) (section_bytes file_records files) ∙ ap (λ n. n + length (section_bytes file_records files)) (length-shard_header_bytes header_value))
+      (layout_from_48 ∙ sym (append_assoc (shard_header_bytes header_value) (section_bytes file_records files) after_section))
       ∙ append_assoc (flat_map xorb_record_bytes xorbs) (xorb_header_row xorb_bookend) after_xorbs
 
 pub section_of_shard : (s : Shard) (expiry : Option ℕ) → IsShard s → IsSection file_records (drop 48 (layout s expiry)) (values s.files)
@@ -100,7 +100,7 @@ section_of_shard s expiry shard =
     }
 
 pub xorb_section_of_shard : (s : Shard) (expiry : Option ℕ) → IsShard s
-    → IsSection xorb_records (drop (48 + length (file_section (values s.files))) (layout s expiry)) (values s.xorbs)
+    → IsSection xorb_records (drop (48 + length (section_bytes file_records (values s.files))) (layout s expiry)) (values s.xorbs)
 xorb_section_of_shard s expiry shard =
     let good : All IsXorb (values s.xorbs) = xorb_values (entries s.xorbs) shard.xorbs in
     record {

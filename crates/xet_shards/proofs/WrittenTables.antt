@@ -20,20 +20,21 @@ use Rattle.xet_records.specs.declared.file_structs.MDBFileInfo.{MDBFileInfo}
 use Rattle.xet_records.specs.declared.xorb_structs.MDBXorbInfo.{MDBXorbInfo}
 use Rattle.xet_records.specs.declared.xorb_structs.XorbChunkSequenceEntry.{XorbChunkSequenceEntry}
 use Rattle.xet_records.specs.XorbRow.{FitsChunk}
-use Rattle.xet_records.specs.XorbRecord.{xorb_row_count, FitsXorb}
+use Rattle.xet_records.specs.XorbRecord.{xorb_records, xorb_row_count, FitsXorb}
+use Rattle.xet_records.specs.FileRecord.{file_records}
 use Rattle.xet_shards.specs.declared.shard_format.footer.MDBShardFileFooter.{MDBShardFileFooter}
 use Rattle.xet_shards.specs.declared.shard_format.info.MDBShardInfo.{MDBShardInfo}
-use Rattle.xet_shards.specs.Shard.{Shard, IsShard, total_xorb_rows}
-use Rattle.xet_shards.specs.Section.{with_fronts, file_section, xorb_section}
-use Rattle.xet_shards.specs.Tables.{ChunkPlace, places_from, chunk_places, chunk_table, xorb_start, xorb_starts, start_row, place_row, file_table_bytes, xorb_table_bytes, chunk_table_bytes}
+use Rattle.xet_shards.specs.Shard.{Shard, IsShard}
+use Rattle.xet_shards.specs.Section.{total_rows, with_fronts, section_bytes}
+use Rattle.xet_shards.specs.Tables.{ChunkPlace, places_from, chunk_places, chunk_table, start_of, starts, start_row, place_row, table_bytes, chunk_table_bytes}
 use Rattle.xet_shards.specs.Layout.{Form, if_in, shard_header_bytes, header_value, shard_footer_bytes, footer_value, layout_of, layout, info_value, plain_form}
 use Rattle.xet_shards.specs.TableReading.{FitsStart, triple_of, triple_row, FitsTriple}
 use Rattle.xet_shards.proofs.ChunkPlaces.{alone, place_of}
 use Rattle.xet_shards.proofs.Layouts.{length-shard_header_bytes}
 use Rattle.xet_shards.proofs.Maps.{All-keys-from_entries}
 use Rattle.xet_shards.proofs.TableReading.{ReadsOrFails, IsReadAs, whole_table}
-use Rattle.xet_shards.proofs.Tables.{length-xorb_starts, place_total}
-use Rattle.xet_shards.proofs.XorbLayouts.{keys-alone, length-chunk_table, total_xorb_rows-chunks}
+use Rattle.xet_shards.proofs.Tables.{length-starts, place_total}
+use Rattle.xet_shards.proofs.XorbLayouts.{keys-alone, length-chunk_table, xorb_rows-chunks}
 
 -- the bytes of a row tell it
 length-start : (row : ℕ × ℕ) → FitsStart row → length (start_row row) ≡ 12
@@ -66,50 +67,50 @@ rows_in false row rows = refl
 -- where the tables stand
 module _ (files : List MDBFileInfo) (xorbs : List MDBXorbInfo) (form : Form) where
   abbrev before_tables : List ℕ
-  before_tables = ((shard_header_bytes header_value ++ file_section files) ++ xorb_section xorbs) ++ if_in form.file_table (file_table_bytes files)
+  before_tables = ((shard_header_bytes header_value ++ section_bytes file_records files) ++ section_bytes xorb_records xorbs) ++ if_in form.file_table (table_bytes file_records files)
 
   abbrev after_tables : List ℕ
   after_tables = shard_footer_bytes (footer_value files xorbs form)
 
   length-before : length before_tables ≡ (footer_value files xorbs form).xorb_lookup_offset
   length-before =
-      length-append ((shard_header_bytes header_value ++ file_section files) ++ xorb_section xorbs) (if_in form.file_table (file_table_bytes files))
+      length-append ((shard_header_bytes header_value ++ section_bytes file_records files) ++ section_bytes xorb_records xorbs) (if_in form.file_table (table_bytes file_records files))
       ∙ omega (
         arith,
-        length-append (shard_header_bytes header_value ++ file_section files) (xorb_section xorbs),
-        length-append (shard_header_bytes header_value) (file_section files),
+        length-append (shard_header_bytes header_value ++ section_bytes file_records files) (section_bytes xorb_records xorbs),
+        length-append (shard_header_bytes header_value) (section_bytes file_records files),
         length-shard_header_bytes header_value,
       )
 
   pub xorb_table_stands : drop (footer_value files xorbs form).xorb_lookup_offset (layout_of files xorbs form)
-      ≡ flat_map start_row (if_in form.xorb_table (xorb_starts xorbs)) ++ (if_in form.chunk_table (chunk_table_bytes xorbs) ++ after_tables)
-  unfolding layout_of xorb_table_bytes
+      ≡ flat_map start_row (if_in form.xorb_table (starts xorb_records xorbs)) ++ (if_in form.chunk_table (chunk_table_bytes xorbs) ++ after_tables)
+  unfolding layout_of table_bytes
   xorb_table_stands =
       rest_is _ (layout_of files xorbs form) before_tables _ length-before
-      (append_assoc (before_tables ++ if_in form.xorb_table (xorb_table_bytes xorbs)) (if_in form.chunk_table (chunk_table_bytes xorbs)) after_tables
-      ∙ append_assoc before_tables (if_in form.xorb_table (xorb_table_bytes xorbs)) (if_in form.chunk_table (chunk_table_bytes xorbs) ++ after_tables))
-      ∙ ap (λ bs. bs ++ (if_in form.chunk_table (chunk_table_bytes xorbs) ++ after_tables)) (rows_in form.xorb_table start_row (xorb_starts xorbs))
+      (append_assoc (before_tables ++ if_in form.xorb_table (table_bytes xorb_records xorbs)) (if_in form.chunk_table (chunk_table_bytes xorbs)) after_tables
+      ∙ append_assoc before_tables (if_in form.xorb_table (table_bytes xorb_records xorbs)) (if_in form.chunk_table (chunk_table_bytes xorbs) ++ after_tables))
+      ∙ ap (λ bs. bs ++ (if_in form.chunk_table (chunk_table_bytes xorbs) ++ after_tables)) (rows_in form.xorb_table start_row (starts xorb_records xorbs))
 
   pub chunk_table_stands : drop (footer_value files xorbs form).chunk_lookup_offset (layout_of files xorbs form)
       ≡ flat_map triple_row (map triple_of (if_in form.chunk_table (chunk_table xorbs))) ++ after_tables
   unfolding layout_of chunk_table_bytes
   chunk_table_stands =
-      rest_is _ (layout_of files xorbs form) (before_tables ++ if_in form.xorb_table (xorb_table_bytes xorbs)) _
-      (length-append before_tables (if_in form.xorb_table (xorb_table_bytes xorbs)) ∙ ap (λ n. n + length (if_in form.xorb_table (xorb_table_bytes xorbs))) length-before)
-      (append_assoc (before_tables ++ if_in form.xorb_table (xorb_table_bytes xorbs)) (if_in form.chunk_table (chunk_table_bytes xorbs)) after_tables)
+      rest_is _ (layout_of files xorbs form) (before_tables ++ if_in form.xorb_table (table_bytes xorb_records xorbs)) _
+      (length-append before_tables (if_in form.xorb_table (table_bytes xorb_records xorbs)) ∙ ap (λ n. n + length (if_in form.xorb_table (table_bytes xorb_records xorbs))) length-before)
+      (append_assoc (before_tables ++ if_in form.xorb_table (table_bytes xorb_records xorbs)) (if_in form.chunk_table (chunk_table_bytes xorbs)) after_tables)
       ∙ ap (λ bs. bs ++ after_tables) (rows_in form.chunk_table place_row (chunk_table xorbs) ∙ sym (flat_map-map triple_row triple_of (if_in form.chunk_table (chunk_table xorbs))))
 
 -- the numbers of the rows are within their widths
 abbrev FitsPlace : ChunkPlace → Type 0
 FitsPlace p = FitsTriple (triple_of p)
 
-starts_fit : (front xorbs : List MDBXorbInfo) → All FitsXorb xorbs → total_xorb_rows front + total_xorb_rows xorbs ≤ 4294967295
-    → All FitsStart (map xorb_start (with_fronts front xorbs))
+starts_fit : (front xorbs : List MDBXorbInfo) → All FitsXorb xorbs → total_rows xorb_records front + total_rows xorb_records xorbs ≤ 4294967295
+    → All FitsStart (map (start_of xorb_records) (with_fronts front xorbs))
 starts_fit front [] fit few = All-nil FitsStart
 starts_fit front (x ∷ xorbs) fit few =
     let here : FitsXorb x = fit 0 x (omega arith) in
-    let rest : total_xorb_rows (front ++ x ∷ []) + total_xorb_rows xorbs ≤ 4294967295 = omega (arith, few, sum_by_push xorb_row_count front x, sum_by-cons xorb_row_count x xorbs) in
-    All-cons FitsStart (xorb_start (front, x)) (map xorb_start (with_fronts (front ++ x ∷ []) xorbs))
+    let rest : total_rows xorb_records (front ++ x ∷ []) + total_rows xorb_records xorbs ≤ 4294967295 = omega (arith, few, sum_by_push xorb_row_count front x, sum_by-cons xorb_row_count x xorbs) in
+    All-cons FitsStart (start_of xorb_records (front, x)) (map (start_of xorb_records) (with_fronts (front ++ x ∷ []) xorbs))
     (record { word = here.metadata.xorb_hash.word0; start = omega (arith, few) })
     (starts_fit (front ++ x ∷ []) xorbs (All-drop FitsXorb 1 (x ∷ xorbs) fit) rest)
 
@@ -122,19 +123,19 @@ chunks_fit start n (c ∷ cs) fit start_fits few =
     (record { word = here.chunk_hash.word0; start = start_fits; place = omega (arith, few) })
     (chunks_fit start (n + 1) cs (All-drop FitsChunk 1 (c ∷ cs) fit) start_fits (omega (arith, few)))
 
-places_fit : (front xorbs : List MDBXorbInfo) → All FitsXorb xorbs → total_xorb_rows front + total_xorb_rows xorbs ≤ 4294967295
-    → All FitsPlace (flat_map (λ e. places_from (total_xorb_rows e.0) e.1.chunks) (with_fronts front xorbs))
+places_fit : (front xorbs : List MDBXorbInfo) → All FitsXorb xorbs → total_rows xorb_records front + total_rows xorb_records xorbs ≤ 4294967295
+    → All FitsPlace (flat_map (λ e. places_from (total_rows xorb_records e.0) e.1.chunks) (with_fronts front xorbs))
 places_fit front [] fit few = All-nil FitsPlace
 places_fit front (x ∷ xorbs) fit few =
     let here : FitsXorb x = fit 0 x (omega arith) in
-    let rest : total_xorb_rows (front ++ x ∷ []) + total_xorb_rows xorbs ≤ 4294967295 = omega (arith, few, sum_by_push xorb_row_count front x, sum_by-cons xorb_row_count x xorbs) in
-    All-append FitsPlace (places_from (total_xorb_rows front) x.chunks) (flat_map (λ e. places_from (total_xorb_rows e.0) e.1.chunks) (with_fronts (front ++ x ∷ []) xorbs))
-    (chunks_fit (total_xorb_rows front) 0 x.chunks here.chunks (omega (arith, few)) (omega (arith, few, sum_by-cons xorb_row_count x xorbs)))
+    let rest : total_rows xorb_records (front ++ x ∷ []) + total_rows xorb_records xorbs ≤ 4294967295 = omega (arith, few, sum_by_push xorb_row_count front x, sum_by-cons xorb_row_count x xorbs) in
+    All-append FitsPlace (places_from (total_rows xorb_records front) x.chunks) (flat_map (λ e. places_from (total_rows xorb_records e.0) e.1.chunks) (with_fronts (front ++ x ∷ []) xorbs))
+    (chunks_fit (total_rows xorb_records front) 0 x.chunks here.chunks (omega (arith, few)) (omega (arith, few, sum_by-cons xorb_row_count x xorbs)))
     (places_fit (front ++ x ∷ []) xorbs (All-drop FitsXorb 1 (x ∷ xorbs) fit) rest)
 
 -- the tables of a list of xorbs that stands in a section
-module _ (xorbs : List MDBXorbInfo) (fit : All FitsXorb xorbs) (few : total_xorb_rows xorbs ≤ 4294967295) where
-  pub xorb_starts_fit : All FitsStart (xorb_starts xorbs)
+module _ (xorbs : List MDBXorbInfo) (fit : All FitsXorb xorbs) (few : total_rows xorb_records xorbs ≤ 4294967295) where
+  pub xorb_starts_fit : All FitsStart (starts xorb_records xorbs)
   xorb_starts_fit = starts_fit [] xorbs fit (omega (arith, few))
 
   pub chunk_table_fits : All FitsTriple (map triple_of (chunk_table xorbs))
@@ -142,11 +143,11 @@ module _ (xorbs : List MDBXorbInfo) (fit : All FitsXorb xorbs) (few : total_xorb
       All-map FitsTriple triple_of (chunk_table xorbs)
       (All-keys-from_entries place_total FitsPlace (map alone (chunk_places xorbs)) (subst (All FitsPlace) (sym (keys-alone (chunk_places xorbs))) (places_fit [] xorbs fit (omega (arith, few)))))
 
-  few_starts : length (xorb_starts xorbs) ≤ 4294967295
-  few_starts = omega (arith, few, length-xorb_starts xorbs, total_xorb_rows-chunks xorbs)
+  few_starts : length (starts xorb_records xorbs) ≤ 4294967295
+  few_starts = omega (arith, few, length-starts xorb_records xorbs, xorb_rows-chunks xorbs)
 
   few_places : length (map triple_of (chunk_table xorbs)) ≤ 4294967295
-  few_places = omega (arith, few, length-map (chunk_table xorbs) triple_of, length-chunk_table xorbs, total_xorb_rows-chunks xorbs)
+  few_places = omega (arith, few, length-map (chunk_table xorbs) triple_of, length-chunk_table xorbs, xorb_rows-chunks xorbs)
 
 -- the tables of a shard
 module _ (s : Shard) (shard : IsShard s) (expiry : Option ℕ) (old new : Source) (are : old.bytes ≡ layout s expiry) (info : MDBShardInfo) (is : info ≡ info_value s expiry) where
@@ -161,9 +162,9 @@ module _ (s : Shard) (shard : IsShard s) (expiry : Option ℕ) (old new : Source
 
   pub xorb_table_read : {Z : Type 0} (r : Result (Vec (ℕ × ℕ) Z) CoreError)
       → ReadsOrFails start_row FitsStart 12 old new info.metadata.xorb_lookup_offset info.metadata.xorb_lookup_num_entry r
-      → IsReadAs old new (xorb_starts xorbs) r
+      → IsReadAs old new (starts xorb_records xorbs) r
   xorb_table_read r read =
-      whole_table start_row FitsStart 12 length-start start_told old new written.xorb_lookup_offset (xorb_starts xorbs) _
+      whole_table start_row FitsStart 12 length-start start_told old new written.xorb_lookup_offset (starts xorb_records xorbs) _
       (few_starts xorbs xorbs_fit shard.xorb_rows) (xorb_starts_fit xorbs xorbs_fit shard.xorb_rows)
       (ap (drop written.xorb_lookup_offset) are ∙ xorb_table_stands (values s.files) xorbs (plain_form expiry)) r
       (subst (λ (i : MDBShardInfo). ReadsOrFails start_row FitsStart 12 old new i.metadata.xorb_lookup_offset i.metadata.xorb_lookup_num_entry r) is read)
