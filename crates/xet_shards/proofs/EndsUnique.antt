@@ -150,10 +150,19 @@ why_not_loaded bytes info old new e ends (inl failed) = failed
 why_not_loaded bytes info old new e ends (inr (inl (none, is, foreign))) = absurd (not_foreign bytes info ends foreign)
 why_not_loaded bytes info old new e ends (inr (inr (none, is, short))) = absurd (not_too_short bytes info ends short)
 
+-- what a reader of these bytes finds in header and footer
+abbrev pub info_of : List MDBFileInfo → List MDBXorbInfo → Form → MDBShardInfo
+info_of files xorbs form = record { header = header_value; metadata = footer_value files xorbs form }
+
 -- from these bytes header and footer are read, unless the device fails
+pub loads_layout : (old new : Source) (files : List MDBFileInfo) (xorbs : List MDBXorbInfo) (form : Form) (r : Result MDBShardInfo CoreError)
+    → old.bytes ≡ layout_of files xorbs form → FitsFooter (footer_value files xorbs form) → MatchResult r (Loads old new) (LoadFails old new)
+    → MatchResult r (λ info. info ≡ info_of files xorbs form) (DeviceFailure old new)
+loads_layout old new files xorbs form (Ok info) are fits loads =
+    only_info old.bytes info (info_of files xorbs form) loads.ends (subst (λ bs. HasEnds bs (info_of files xorbs form)) (sym are) (ends_of_layout files xorbs form fits))
+loads_layout old new files xorbs form (Err e) are fits fails =
+    why_not_loaded old.bytes (info_of files xorbs form) old new e (subst (λ bs. HasEnds bs (info_of files xorbs form)) (sym are) (ends_of_layout files xorbs form fits)) fails.cause
+
 pub loads_written : (old new : Source) (s : Shard) (expiry : Option ℕ) (r : Result MDBShardInfo CoreError) → old.bytes ≡ layout s expiry → FitsFooter (info_value s expiry).metadata
     → MatchResult r (Loads old new) (LoadFails old new) → MatchResult r (λ info. info ≡ info_value s expiry) (DeviceFailure old new)
-loads_written old new s expiry (Ok info) are fits loads =
-    only_info old.bytes info (info_value s expiry) loads.ends (subst (λ bs. HasEnds bs (info_value s expiry)) (sym are) (ends_of_layout (values s.files) (values s.xorbs) (plain_form expiry) fits))
-loads_written old new s expiry (Err e) are fits fails =
-    why_not_loaded old.bytes (info_value s expiry) old new e (subst (λ bs. HasEnds bs (info_value s expiry)) (sym are) (ends_of_layout (values s.files) (values s.xorbs) (plain_form expiry) fits)) fails.cause
+loads_written old new s expiry r are fits loads = loads_layout old new (values s.files) (values s.xorbs) (plain_form expiry) r are fits loads

@@ -46,7 +46,8 @@ pub xorb_values : (es : List (DataHash × MDBXorbInfo)) → AreXorbs es → All 
 xorb_values es xorbs = All-map IsXorb (λ (e : DataHash × MDBXorbInfo). e.1) es xorbs.well_formed
 
 -- each xorb has a row, and so no sum of a number of 32 bits passes 64
-pub xorbs_bound : (f : MDBXorbInfo → ℕ) → ((r : MDBXorbInfo) → IsXorb r → f r ≤ 4294967295) → (rs : List MDBXorbInfo) → All IsXorb rs → sum_by f rs ≤ 4294967295 * total_rows xorb_records rs
-xorbs_bound f small [] xorbs = omega arith
-xorbs_bound f small (r ∷ rs) xorbs =
-    omega (arith, sum_by-cons f r rs, sum_by-cons xorb_row_count r rs, small r (xorbs 0 r (omega arith)), xorbs_bound f small rs (All-drop IsXorb 1 (r ∷ rs) xorbs))
+pub xorbs_bound : (P : MDBXorbInfo → Type 0) (f : MDBXorbInfo → ℕ) → ((r : MDBXorbInfo) → P r → f r ≤ 4294967295) → (rs : List MDBXorbInfo) → All P rs
+    → sum_by f rs ≤ 4294967295 * total_rows xorb_records rs
+xorbs_bound P f small [] xorbs = omega arith
+xorbs_bound P f small (r ∷ rs) xorbs =
+    omega (arith, sum_by-cons f r rs, sum_by-cons xorb_row_count r rs, small r (xorbs 0 r (omega arith)), xorbs_bound P f small rs (All-drop P 1 (r ∷ rs) xorbs))
