@@ -1,6 +1,8 @@
 //! Laws of shards, their names, hashes and errors that no single call states. Each is a function that does nothing:
 //! the law is its contract, and the gate proves it.
 
+ghost use Rattle.xet_records.specs.XorbRecord.{xorb_records};
+ghost use Rattle.xet_records.specs.FileRecord.{file_records};
 ghost use Rattle.std.specs.Prelude.{◌≡◌, ◌↔◌, ◌<◌, ◌^◌, ℕ, List, [], ◌∷◌, flat_map, map, Contains, Option, None, Some, IfSome, IsTrue, unwrap_or};
 ghost use Rattle.std.specs.Cmp.{IsTotalOrder};
 ghost use Rattle.std.specs.declared.cmp.Ordering.TheVariants.{Equal};
@@ -17,8 +19,9 @@ ghost use Rattle.xet_shards.specs.Layout.{layout};
 ghost use Rattle.xet_shards.specs.Names.{shard_name, NamesShard};
 ghost use Rattle.xet_records.specs.declared.xorb_structs.MDBXorbInfo.{MDBXorbInfo};
 ghost use Rattle.xet_shards.specs.declared.shard_format.xorb_writer.ChunkPlace.{ChunkPlace};
-ghost use Rattle.xet_shards.specs.Shard.{Shard, IsShard, empty_shard, file_hash_of, xorb_hash_of, total_rows, total_xorb_rows};
-ghost use Rattle.xet_shards.specs.Tables.{place_cmp, chunk_places, chunk_table, file_starts, xorb_starts, files_below, xorbs_below};
+ghost use Rattle.xet_shards.specs.Section.{total_rows};
+ghost use Rattle.xet_shards.specs.Shard.{Shard, IsShard, empty_shard, file_hash_of, xorb_hash_of};
+ghost use Rattle.xet_shards.specs.Tables.{place_cmp, chunk_places, chunk_table, starts, records_below};
 ghost use Rattle.xet_shards.specs.SetOperations.{IsUnion, ShardsAgree, HasFewRows, CanUnite};
 ghost use Rattle.xet_shards.specs.Joins.{IsJoinOf};
 
@@ -71,9 +74,9 @@ pub fn agreement_passes_to_unions()
 /// A record starts after the rows of all records of its kind with smaller hashes.
 pub fn records_start_after_smaller_hashes()
     ensures files { (s : Shard) → IsShard s → let files = values s.files in
-        file_starts files ≡ map (λ r. let q = file_hash_of r in (q.word0, total_rows (files_below q files))) files }
+        starts file_records files ≡ map (λ r. let q = file_hash_of r in (q.word0, total_rows file_records (records_below file_records q files))) files }
     ensures xorbs { (s : Shard) → IsShard s → let xorbs = values s.xorbs in
-        xorb_starts xorbs ≡ map (λ r. let q = xorb_hash_of r in (q.word0, total_xorb_rows (xorbs_below q xorbs))) xorbs }
+        starts xorb_records xorbs ≡ map (λ r. let q = xorb_hash_of r in (q.word0, total_rows xorb_records (records_below xorb_records q xorbs))) xorbs }
 {}
 
 /// The chunk table has exactly the places of the chunks of the xorbs, in strictly ascending order: by first word, then

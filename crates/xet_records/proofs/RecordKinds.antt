@@ -25,6 +25,8 @@ use Rattle.xet_records.proofs.XorbUnique.{xorb_header_row-front, xorb_front}
 pub record KindLaws {H R : Type 0} (K : RecordKind H R) : Type 0 where
   pub header_size : (h : H) → length (K.header_bytes h) ≡ 48
   pub header_front : (g h : H) (x y : List ℕ) → K.Fits g → K.Fits h → K.header_bytes g ++ x ≡ K.header_bytes h ++ y → (g ≡ h) × (x ≡ y)
+  pub bookend_fits : K.Fits K.bookend
+  pub bookend_hash : K.hash_of K.bookend ≡ all_ones
   pub text_is : (r : R) → K.text r ≡ K.header_bytes (K.header_of r) ++ K.bytes_after r
   pub size_after : (r : R) → K.IsStored r → length (K.bytes_after r) ≡ 48 * K.rows_after (K.header_of r)
   pub rows : (r : R) → K.IsStored r → K.row_count r ≡ 1 + K.rows_after (K.header_of r)
@@ -44,6 +46,8 @@ unfolding file_record_bytes
 file_laws = record {
   header_size = length-header_row;
   header_front = header_row-front;
+  bookend_fits = record { file_hash = record { word0 = omega arith; word1 = omega arith; word2 = omega arith; word3 = omega arith }; file_flags = omega arith; num_entries = omega arith; unused = omega arith };
+  bookend_hash = refl;
   text_is = λ r. refl;
   size_after = λ r stored.
       omega (arith, length-append (header_row r.metadata) (file_rows_bytes r), length-header_row r.metadata, length-file_record_bytes r stored.widths, row_count-whole r stored.whole);
@@ -60,6 +64,14 @@ unfolding xorb_record_bytes
 xorb_laws = record {
   header_size = length-xorb_header_row;
   header_front = xorb_header_row-front;
+  bookend_fits = record {
+    xorb_hash = record { word0 = omega arith; word1 = omega arith; word2 = omega arith; word3 = omega arith };
+    xorb_flags = omega arith;
+    num_entries = omega arith;
+    num_bytes_in_xorb = omega arith;
+    num_bytes_on_disk = omega arith;
+  };
+  bookend_hash = refl;
   text_is = λ r. refl;
   size_after = λ r stored. length-chunk_rows r.chunks ∙ ap (λ n. 48 * n) stored.count;
   rows = λ r stored. ap (λ n. 1 + n) stored.count;

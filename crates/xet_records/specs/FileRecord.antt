@@ -84,6 +84,7 @@ file_records = record {
   header_of = λ r. r.metadata;
   hash_of = λ h. h.file_hash;
   header_bytes = header_row;
+  bookend = file_bookend;
   Fits = FitsHeader;
   rows_after = rows_after;
   bytes_after = file_rows_bytes;

@@ -8,6 +8,8 @@ pub record RecordKind (Header Record : Type 0) : Type 1 where
   -- which file or xorb it is; the all-ones hash makes it a bookend
   pub hash_of : Header → DataHash
   pub header_bytes : Header → List ℕ
+  -- the header that ends a section
+  pub bookend : Header
   -- its numbers are within their widths
   pub Fits : Header → Type 0
   -- the rows that it announces

@@ -76,6 +76,7 @@ xorb_records = record {
   header_of = λ r. r.metadata;
   hash_of = λ h. h.xorb_hash;
   header_bytes = xorb_header_row;
+  bookend = xorb_bookend;
   Fits = FitsXorbHeader;
   rows_after = λ h. h.num_entries;
   bytes_after = λ r. flat_map chunk_row r.chunks;

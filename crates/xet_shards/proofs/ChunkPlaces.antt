@@ -12,8 +12,8 @@ use Rattle.std.proofs.lemmas.List.{map-append, length-take}
 use Rattle.std.proofs.Math.Seq.{take-suc}
 use Rattle.xet_records.specs.declared.xorb_structs.XorbChunkSequenceEntry.{XorbChunkSequenceEntry}
 use Rattle.xet_records.specs.declared.xorb_structs.MDBXorbInfo.{MDBXorbInfo}
-use Rattle.xet_shards.specs.Shard.{total_xorb_rows}
-use Rattle.xet_shards.specs.Section.{with_fronts}
+use Rattle.xet_records.specs.XorbRecord.{xorb_records}
+use Rattle.xet_shards.specs.Section.{total_rows, with_fronts}
 use Rattle.xet_shards.specs.Tables.{ChunkPlace, place_cmp, ascending, places_from, chunk_places}
 use Rattle.xet_shards.proofs.Maps.{put_is, entries-empty}
 use Rattle.xet_shards.proofs.Tables.{place_total, place_exact, with_fronts-push}
@@ -89,8 +89,8 @@ ascending-more before ps p = ascending-push (before ++ ps) p ∙ ap ascending (a
 pub ascending-nil : ascending [] ≡ []
 ascending-nil = ap (map (λ e. e.0)) (entries-empty (Unit {0}) place_cmp)
 
--- the rows of one more xorb
-pub chunk_places-push : (xorbs : List MDBXorbInfo) (r : MDBXorbInfo) → chunk_places (xorbs ++ r ∷ []) ≡ chunk_places xorbs ++ places_from (total_xorb_rows xorbs) r.chunks
+-- the places of one more xorb
+pub chunk_places-push : (xorbs : List MDBXorbInfo) (r : MDBXorbInfo) → chunk_places (xorbs ++ r ∷ []) ≡ chunk_places xorbs ++ places_from (total_rows xorb_records xorbs) r.chunks
 chunk_places-push xorbs r =
-    let places_of : List MDBXorbInfo × MDBXorbInfo → List ChunkPlace = λ e. places_from (total_xorb_rows e.0) e.1.chunks in
+    let places_of : List MDBXorbInfo × MDBXorbInfo → List ChunkPlace = λ e. places_from (total_rows xorb_records e.0) e.1.chunks in
     ap (flat_map places_of) (with_fronts-push [] xorbs r) ∙ flat_map-push places_of (with_fronts [] xorbs) (xorbs, r)

@@ -12,12 +12,14 @@ use Rattle.xet_base.proofs.Lists.{front_is, rest_is, same_parts, parts_front}
 use Rattle.xet_base.proofs.Bytes.{length-u64_bytes, length-hash_bytes, u64_bytes-injective, hash_bytes-injective}
 use Rattle.xet_records.specs.declared.file_structs.MDBFileInfo.{MDBFileInfo}
 use Rattle.xet_records.specs.declared.xorb_structs.MDBXorbInfo.{MDBXorbInfo}
+use Rattle.xet_records.specs.FileRecord.{file_records}
+use Rattle.xet_records.specs.XorbRecord.{xorb_records}
 use Rattle.xet_shards.specs.declared.shard_format.header.MDBShardFileHeader.{MDBShardFileHeader}
 use Rattle.xet_shards.specs.declared.shard_format.footer.MDBShardFileFooter.{MDBShardFileFooter}
 use Rattle.xet_shards.specs.declared.shard_format.info.MDBShardInfo.{MDBShardInfo}
 use Rattle.xet_shards.specs.Shard.{Shard}
-use Rattle.xet_shards.specs.Section.{file_section, xorb_section}
-use Rattle.xet_shards.specs.Tables.{file_table_bytes, xorb_table_bytes, chunk_table_bytes}
+use Rattle.xet_shards.specs.Section.{section_bytes}
+use Rattle.xet_shards.specs.Tables.{table_bytes, chunk_table_bytes}
 use Rattle.xet_shards.specs.Layout.{Form, if_in, header_tag, shard_header_bytes, header_value, offsets_of, timestamps_of, sums_of, shard_footer_bytes, footer_value, layout_of, layout, plain_form, info_value}
 use Rattle.xet_shards.specs.Ends.{HasHeader, FitsFooter, HasEnds, IsUnsupported, IsTooShort, last_bytes, Loads, LoadFails, Refusal}
 use Rattle.xet_shards.proofs.Layouts.{length-shard_header_bytes, length-shard_footer_bytes}
@@ -119,7 +121,7 @@ module _ (bytes : List ℕ) (info : MDBShardInfo) (ends : HasEnds bytes info) wh
 module _ (files : List MDBFileInfo) (xorbs : List MDBXorbInfo) (form : Form) where
   before_footer : List ℕ
   before_footer =
-      ((((shard_header_bytes header_value ++ file_section files) ++ xorb_section xorbs) ++ if_in form.file_table (file_table_bytes files)) ++ if_in form.xorb_table (xorb_table_bytes xorbs))
+      ((((shard_header_bytes header_value ++ section_bytes file_records files) ++ section_bytes xorb_records xorbs) ++ if_in form.file_table (table_bytes file_records files)) ++ if_in form.xorb_table (table_bytes xorb_records xorbs))
       ++ if_in form.chunk_table (chunk_table_bytes xorbs)
 
   layout_is : layout_of files xorbs form ≡ before_footer ++ shard_footer_bytes (footer_value files xorbs form)
@@ -148,10 +150,19 @@ why_not_loaded bytes info old new e ends (inl failed) = failed
 why_not_loaded bytes info old new e ends (inr (inl (none, is, unsupported))) = absurd (not_unsupported bytes info ends unsupported)
 why_not_loaded bytes info old new e ends (inr (inr (none, is, short))) = absurd (not_too_short bytes info ends short)
 
+-- what a reader of these bytes finds in header and footer
+abbrev pub info_of : List MDBFileInfo → List MDBXorbInfo → Form → MDBShardInfo
+info_of files xorbs form = record { header = header_value; metadata = footer_value files xorbs form }
+
 -- from these bytes header and footer are read, unless the device fails
+pub loads_layout : (old new : Source) (files : List MDBFileInfo) (xorbs : List MDBXorbInfo) (form : Form) (r : Result MDBShardInfo CoreError)
+    → old.bytes ≡ layout_of files xorbs form → FitsFooter (footer_value files xorbs form) → MatchResult r (Loads old new) (LoadFails old new)
+    → MatchResult r (λ info. info ≡ info_of files xorbs form) (DeviceFailure old new)
+loads_layout old new files xorbs form (Ok info) are fits loads =
+    only_info old.bytes info (info_of files xorbs form) loads.ends (subst (λ bs. HasEnds bs (info_of files xorbs form)) (sym are) (ends_of_layout files xorbs form fits))
+loads_layout old new files xorbs form (Err e) are fits fails =
+    why_not_loaded old.bytes (info_of files xorbs form) old new e (subst (λ bs. HasEnds bs (info_of files xorbs form)) (sym are) (ends_of_layout files xorbs form fits)) fails.cause
+
 pub loads_written : (old new : Source) (s : Shard) (expiry : Option ℕ) (r : Result MDBShardInfo CoreError) → old.bytes ≡ layout s expiry → FitsFooter (info_value s expiry).metadata
     → MatchResult r (Loads old new) (LoadFails old new) → MatchResult r (λ info. info ≡ info_value s expiry) (DeviceFailure old new)
-loads_written old new s expiry (Ok info) are fits loads =
-    only_info old.bytes info (info_value s expiry) loads.ends (subst (λ bs. HasEnds bs (info_value s expiry)) (sym are) (ends_of_layout (values s.files) (values s.xorbs) (plain_form expiry) fits))
-loads_written old new s expiry (Err e) are fits fails =
-    why_not_loaded old.bytes (info_value s expiry) old new e (subst (λ bs. HasEnds bs (info_value s expiry)) (sym are) (ends_of_layout (values s.files) (values s.xorbs) (plain_form expiry) fits)) fails.cause
+loads_written old new s expiry r are fits loads = loads_layout old new (values s.files) (values s.xorbs) (plain_form expiry) r are fits loads

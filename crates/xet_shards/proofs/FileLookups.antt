@@ -29,16 +29,16 @@ use Rattle.xet_records.proofs.Lengths.{length-header_row, length-file_record_byt
 use Rattle.xet_records.proofs.Record.{header_row-front, row_count-whole}
 use Rattle.xet_records.proofs.RecordKinds.{file_laws, stored_begins}
 use Rattle.xet_records.proofs.Unique.{record_front}
-use Rattle.xet_shards.specs.Shard.{file_hash_of, total_rows, total_xorb_rows}
-use Rattle.xet_shards.specs.Section.{with_fronts, file_section, xorb_section}
-use Rattle.xet_shards.specs.Tables.{file_start, file_starts, start_row, file_table_bytes, xorb_table_bytes, chunk_table_bytes}
+use Rattle.xet_records.specs.XorbRecord.{xorb_records}
+use Rattle.xet_shards.specs.Shard.{file_hash_of}
+use Rattle.xet_shards.specs.Section.{total_rows, with_fronts, section_bytes}
+use Rattle.xet_shards.specs.Tables.{start_of, starts, start_row, table_bytes, chunk_table_bytes}
 use Rattle.xet_shards.specs.Layout.{Form, if_in, shard_header_bytes, header_value, shard_footer_bytes, footer_value, layout_of}
 use Rattle.xet_shards.specs.SectionReading.{MayTake}
 use Rattle.xet_shards.specs.Lookup.{sharing, file_table, IsNumber, row_at, RecordAt, InfoRefusal, LooksUp, LookupAnswer, LookupRefused, Finding, FindingFails, WithinBounds, SearchWithinBounds, IndexFinds, IndexRefused, AreStarts}
 use Rattle.xet_shards.proofs.Files.{length-le-rows}
-use Rattle.xet_shards.proofs.XorbLayouts.{length-xorb_section}
-use Rattle.xet_shards.proofs.Layouts.{length-shard_header_bytes, length-file_section}
-use Rattle.xet_shards.proofs.Tables.{length-file_starts}
+use Rattle.xet_shards.proofs.Layouts.{length-shard_header_bytes, length-file_section, length-xorb_section}
+use Rattle.xet_shards.proofs.Tables.{length-starts}
 use Rattle.xet_shards.proofs.Readback.{after_section, section_at_48}
 use Rattle.xet_shards.proofs.Distinct.{sum_distinct, all_marked, sum_marked}
 use Rattle.xet_shards.proofs.Lookups.{length-stored, rows_in_front}
@@ -49,12 +49,12 @@ no_record = record { metadata = file_bookend; segments = []; verification = []; 
 
 -- the i-th row of the file table
 starts_at : (front files : List MDBFileInfo) (i : ℕ) (d : MDBFileInfo) (e : ℕ × ℕ) → i < length files
-    → get_or (map file_start (with_fronts front files)) i e ≡ ((file_hash_of (get_or files i d)).word0, total_rows (front ++ take i files))
+    → get_or (map (start_of file_records) (with_fronts front files)) i e ≡ ((file_hash_of (get_or files i d)).word0, total_rows file_records (front ++ take i files))
 starts_at front [] i d e within = absurd (omega (arith, within))
-starts_at front (r ∷ files) zero d e within = ap (λ rs. ((file_hash_of r).word0, total_rows rs)) (sym (append-nil front))
+starts_at front (r ∷ files) zero d e within = ap (λ rs. ((file_hash_of r).word0, total_rows file_records rs)) (sym (append-nil front))
 starts_at front (r ∷ files) (suc i) d e within =
     starts_at (front ++ r ∷ []) files i d e (omega (arith, within))
-    ∙ ap (λ rs. ((file_hash_of (get_or files i d)).word0, total_rows rs)) (append_assoc front (r ∷ []) (take i files))
+    ∙ ap (λ rs. ((file_hash_of (get_or files i d)).word0, total_rows file_records rs)) (append_assoc front (r ∷ []) (take i files))
 
 length-text_rows : (r : MDBFileInfo) → length (file_record_bytes r) ≡ 48 + length (file_rows_bytes r)
 unfolding file_record_bytes
@@ -92,8 +92,8 @@ module _ (files : List MDBFileInfo) (xorbs : List MDBXorbInfo) (form : Form) whe
   -- the files may stand in a section, with fewer rows in it and in the other than 2 ^ 32
   pub record IsLookedUp : Type 0 where
     pub stored : All IsStored files
-    pub rows : total_rows files ≤ 4294967295
-    pub xorb_rows : total_xorb_rows xorbs ≤ 4294967295
+    pub rows : total_rows file_records files ≤ 4294967295
+    pub xorb_rows : total_rows xorb_records xorbs ≤ 4294967295
     pub widths : All (λ r. (file_hash_of r).word0 < 2 ^ 64) files
     pub ascend : (i j : ℕ) → i < j → j < length files → (file_hash_of (get_or files i no_record)).word0 ≤ (file_hash_of (get_or files j no_record)).word0
     pub with_table : form.file_table ≡ true
@@ -112,34 +112,34 @@ module _ (files : List MDBFileInfo) (xorbs : List MDBXorbInfo) (form : Form) (is
   file_at i = get_or files i no_record
 
   abbrev start_at : ℕ → ℕ
-  start_at i = total_rows (take i files)
+  start_at i = total_rows file_records (take i files)
 
   abbrev after_table : List ℕ
   after_table =
-      if_in form.xorb_table (xorb_table_bytes xorbs) ++ (if_in form.chunk_table (chunk_table_bytes xorbs) ++ shard_footer_bytes (footer_value files xorbs form))
+      if_in form.xorb_table (table_bytes xorb_records xorbs) ++ (if_in form.chunk_table (chunk_table_bytes xorbs) ++ shard_footer_bytes (footer_value files xorbs form))
 
   abbrev before_table : List ℕ
-  before_table = (shard_header_bytes header_value ++ file_section files) ++ xorb_section xorbs
+  before_table = (shard_header_bytes header_value ++ section_bytes file_records files) ++ section_bytes xorb_records xorbs
 
   length-before_table : length before_table ≡ table.start
   length-before_table =
-      length-append (shard_header_bytes header_value ++ file_section files) (xorb_section xorbs)
-      ∙ omega (arith, length-append (shard_header_bytes header_value) (file_section files), length-shard_header_bytes header_value)
+      length-append (shard_header_bytes header_value ++ section_bytes file_records files) (section_bytes xorb_records xorbs)
+      ∙ omega (arith, length-append (shard_header_bytes header_value) (section_bytes file_records files), length-shard_header_bytes header_value)
 
-  split_at_table : old.bytes ≡ before_table ++ (if_in form.file_table (file_table_bytes files) ++ after_table)
+  split_at_table : old.bytes ≡ before_table ++ (if_in form.file_table (table_bytes file_records files) ++ after_table)
   unfolding layout_of
   split_at_table = are ∙ simp (append_assoc)
 
-  table_stands : drop table.start table.bytes ≡ flat_map start_row (file_starts files) ++ after_table
-  unfolding file_table_bytes
+  table_stands : drop table.start table.bytes ≡ flat_map start_row (starts file_records files) ++ after_table
+  unfolding table_bytes
   table_stands =
-      rest_is table.start old.bytes before_table (if_in form.file_table (file_table_bytes files) ++ after_table) length-before_table split_at_table
-      ∙ ap (λ b. if_in b (file_table_bytes files) ++ after_table) is.with_table
+      rest_is table.start old.bytes before_table (if_in form.file_table (table_bytes file_records files) ++ after_table) length-before_table split_at_table
+      ∙ ap (λ b. if_in b (table_bytes file_records files) ++ after_table) is.with_table
 
   pub rows_is : table.rows ≡ length files
-  rows_is = ap (λ b. length (if_in b (file_starts files))) is.with_table ∙ length-file_starts files
+  rows_is = ap (λ b. length (if_in b (starts file_records files))) is.with_table ∙ length-starts file_records files
 
-  row_is : (i : ℕ) → i < length files → get_or (file_starts files) i (0, 0) ≡ ((file_hash_of (file_at i)).word0, start_at i)
+  row_is : (i : ℕ) → i < length files → get_or (starts file_records files) i (0, 0) ≡ ((file_hash_of (file_at i)).word0, start_at i)
   row_is i within = starts_at [] files i no_record (0, 0) within
 
   abbrev word_of : ℕ × ℕ → ℕ
@@ -148,26 +148,26 @@ module _ (files : List MDBFileInfo) (xorbs : List MDBXorbInfo) (form : Form) (is
   abbrev start_bytes : ℕ × ℕ → List ℕ
   start_bytes row = u32_bytes row.1
 
-  in_table : (i : ℕ) → i < length files → i < length (file_starts files)
-  in_table i within = omega (arith, within, length-file_starts files)
+  in_table : (i : ℕ) → i < length files → i < length (starts file_records files)
+  in_table i within = omega (arith, within, length-starts file_records files)
 
   word_fits : (i : ℕ) → i < length files → (file_hash_of (file_at i)).word0 < 2 ^ 64
   word_fits i within = is.widths i no_record within
 
   pub table_key : (i : ℕ) → i < length files → key_at table i ≡ (file_hash_of (file_at i)).word0
   table_key i within =
-      let fits : word_of (get_or (file_starts files) i (0, 0)) < 2 ^ 64 = omega (arith, ap word_of (row_is i within), word_fits i within) in
-      key_is word_of start_bytes 4 (λ row. length-u32_bytes row.1) table (file_starts files) after_table table_stands refl i (0, 0) (in_table i within) fits
+      let fits : word_of (get_or (starts file_records files) i (0, 0)) < 2 ^ 64 = omega (arith, ap word_of (row_is i within), word_fits i within) in
+      key_is word_of start_bytes 4 (λ row. length-u32_bytes row.1) table (starts file_records files) after_table table_stands refl i (0, 0) (in_table i within) fits
       ∙ ap word_of (row_is i within)
 
   pub table_value : (i : ℕ) → i < length files → take 4 (drop (row_offset table i + 8) table.bytes) ≡ u32_bytes (start_at i)
   table_value i within =
-      value_is word_of start_bytes 4 (λ row. length-u32_bytes row.1) table (file_starts files) after_table table_stands refl i (0, 0) (in_table i within)
+      value_is word_of start_bytes 4 (λ row. length-u32_bytes row.1) table (starts file_records files) after_table table_stands refl i (0, 0) (in_table i within)
       ∙ ap start_bytes (row_is i within)
 
   table_has_key : (i : ℕ) → i < length files → HasKey table i
   table_has_key i within =
-      key_is_there word_of start_bytes 4 (λ row. length-u32_bytes row.1) table (file_starts files) after_table table_stands refl i (0, 0) (in_table i within)
+      key_is_there word_of start_bytes 4 (λ row. length-u32_bytes row.1) table (starts file_records files) after_table table_stands refl i (0, 0) (in_table i within)
 
   pub table_sorted : IsSorted table
   table_sorted i j less within there =
@@ -195,7 +195,7 @@ module _ (files : List MDBFileInfo) (xorbs : List MDBXorbInfo) (form : Form) (is
   unfolding offset_of_row
   table_fits =
       let widths : All FitsRecord files = λ k d below. (is.stored k d below).widths in
-      let sections : table.start ≡ 48 + (48 * total_rows files + 48) + (48 * total_xorb_rows xorbs + 48) =
+      let sections : table.start ≡ 48 + (48 * total_rows file_records files + 48) + (48 * total_rows xorb_records xorbs + 48) =
       λ i. 48 + length-file_section files widths i + length-xorb_section xorbs i in
       record {
         countable = omega (arith, rows_is, length-le-rows files, is.rows);
@@ -209,7 +209,7 @@ module _ (files : List MDBFileInfo) (xorbs : List MDBXorbInfo) (form : Form) (is
       ap (row_offset table) (rows_is ∙ none),
       offset_of_row-zero table.start 4,
       ap length split_at_table,
-      length-append before_table (if_in form.file_table (file_table_bytes files) ++ after_table),
+      length-append before_table (if_in form.file_table (table_bytes file_records files) ++ after_table),
       length-before_table,
     )
     | inr some ↦ omega (arith, ap (row_offset table) (rows_is ∙ last some), there (length files - 1) (omega (arith, some)))
@@ -220,7 +220,7 @@ module _ (files : List MDBFileInfo) (xorbs : List MDBXorbInfo) (form : Form) (is
 
       there : (i : ℕ) → i < length files → row_offset table (i + 1) ≤ length table.bytes
       there i within =
-          row_is_there word_of start_bytes 4 (λ row. length-u32_bytes row.1) table (file_starts files) after_table table_stands refl i (0, 0) (in_table i within)
+          row_is_there word_of start_bytes 4 (λ row. length-u32_bytes row.1) table (starts file_records files) after_table table_stands refl i (0, 0) (in_table i within)
 
   -- the records stand where the table says
   pub record_stands : (i : ℕ) → i < length files → (rest : List ℕ) × (drop (row_at 48 (start_at i)) old.bytes ≡ file_record_bytes (file_at i) ++ rest)
@@ -260,7 +260,7 @@ module _ (files : List MDBFileInfo) (xorbs : List MDBXorbInfo) (form : Form) (is
   -- the rows of a record and of those before it
   start_bound : (i : ℕ) → i < length files → start_at i + row_count (file_at i) ≤ 4294967295
   start_bound i within =
-      omega (arith, is.rows, sum_by-take-drop row_count files i, ap total_rows (drop-cons files i no_record within), sum_by-cons row_count (file_at i) (drop (suc i) files))
+      omega (arith, is.rows, sum_by-take-drop row_count files i, ap (total_rows file_records) (drop-cons files i no_record within), sum_by-cons row_count (file_at i) (drop (suc i) files))
 
   row_count_is : (i : ℕ) → i < length files → row_count (file_at i) ≡ 1 + rows_after (file_at i).metadata
   row_count_is i within = row_count-whole (file_at i) (stored_at i within).whole
@@ -349,20 +349,20 @@ module _ (files : List MDBFileInfo) (xorbs : List MDBXorbInfo) (form : Form) (is
     pub starts_of_hits : length found ≡ hits table word → AreStarts files word (map (λ h. h.value) found)
     starts_of_hits all = (in_starts, of_starts)
       where
-        in_starts : (row : ℕ) → Contains (map (λ (h : Hit ℕ). h.value) found) row → Contains (file_starts files) (word, row)
+        in_starts : (row : ℕ) → Contains (map (λ (h : Hit ℕ). h.value) found) row → Contains (starts file_records files) (word, row)
         in_starts row contains =
-            All-contains (λ v. Contains (file_starts files) (word, v)) (map (λ (h : Hit ℕ). h.value) found) row
-            (All-map (λ v. Contains (file_starts files) (word, v)) (λ (h : Hit ℕ). h.value) found
-            (All-weaker (IsHit table word IsNumber) (λ h. Contains (file_starts files) (word, h.value))
+            All-contains (λ v. Contains (starts file_records files) (word, v)) (map (λ (h : Hit ℕ). h.value) found) row
+            (All-map (λ v. Contains (starts file_records files) (word, v)) (λ (h : Hit ℕ). h.value) found
+            (All-weaker (IsHit table word IsNumber) (λ h. Contains (starts file_records files) (word, h.value))
             (λ h hit. let known = hit_is word h hit in
-            subst (λ e. Contains (file_starts files) e) (row_is h.row known.0 ∙ (λ k. (known.1 k, sym known.2 k)))
-            (Contains-get_or (file_starts files) h.row (0, 0) (in_table h.row known.0))) found each))
+            subst (λ e. Contains (starts file_records files) e) (row_is h.row known.0 ∙ (λ k. (known.1 k, sym known.2 k)))
+            (Contains-get_or (starts file_records files) h.row (0, 0) (in_table h.row known.0))) found each))
             contains
 
-        of_starts : (row : ℕ) → Contains (file_starts files) (word, row) → Contains (map (λ (h : Hit ℕ). h.value) found) row
+        of_starts : (row : ℕ) → Contains (starts file_records files) (word, row) → Contains (map (λ (h : Hit ℕ). h.value) found) row
         of_starts row (i, below, is_row) =
-            let within : i < length files = omega (arith, below, length-file_starts files) in
-            let same : ((file_hash_of (file_at i)).word0, start_at i) ≡ (word, row) = sym (row_is i within) ∙ get_or_default (file_starts files) i (0, 0) (word, row) below ∙ is_row in
+            let within : i < length files = omega (arith, below, length-starts file_records files) in
+            let same : ((file_hash_of (file_at i)).word0, start_at i) ≡ (word, row) = sym (row_is i within) ∙ get_or_default (starts file_records files) i (0, 0) (word, row) below ∙ is_row in
             let one : mark word i ≡ 1 = cond-true {A = ℕ} _ 1 0 (eq-eqb _ _ (ap (λ (e : ℕ × ℕ). e.0) same)) in
             let at = all_marked (mark word) (length files) found i distinct rows_below
             (omega (arith, sum-of_ones (λ (h : Hit ℕ). mark word h.row) found marked, sum-marks word, all, table_hits word)) within (omega (arith, one)) in

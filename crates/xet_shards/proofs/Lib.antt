@@ -20,6 +20,7 @@ pub mod Readback
 pub mod SameBytes
 pub mod SectionReading
 pub mod SectionUnique
+pub mod Sections
 pub mod ShardLookups
 pub mod Sums
 pub mod TableOrder

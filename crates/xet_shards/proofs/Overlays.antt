@@ -12,10 +12,11 @@ use Rattle.xet_base.specs.Hash.{hash_cmp}
 use Rattle.xet_base.proofs.HashOrder.{hash_cmp-IsTotalOrder, hash_cmp-IsAntisymmetric, same_key}
 use Rattle.xet_records.specs.declared.file_structs.MDBFileInfo.{MDBFileInfo}
 use Rattle.xet_records.specs.declared.xorb_structs.MDBXorbInfo.{MDBXorbInfo}
-use Rattle.xet_records.specs.FileRecord.{row_count}
-use Rattle.xet_records.specs.XorbRecord.{xorb_row_count}
+use Rattle.xet_records.specs.FileRecord.{file_records, row_count}
+use Rattle.xet_records.specs.XorbRecord.{xorb_records, xorb_row_count}
 use Rattle.xet_records.specs.Merging.{merged}
-use Rattle.xet_shards.specs.Shard.{Shard, FileMap, XorbMap, total_rows, total_xorb_rows}
+use Rattle.xet_shards.specs.Section.{total_rows}
+use Rattle.xet_shards.specs.Shard.{Shard, FileMap, XorbMap}
 use Rattle.xet_shards.specs.Joining.{entry, either_file, CanJoinFiles}
 use Rattle.xet_shards.specs.SetOperations.{IsUnion, CanUnite}
 use Rattle.xet_shards.proofs.Maps.{sum-insert}
@@ -156,9 +157,9 @@ can_join_united a b can = λ q r s own other.
       rows = omega (arith, few.files, sum-remove hash_cmp-IsTotalOrder hash_cmp-IsAntisymmetric row_count (united_files a.files b.files) q (merged r s) there);
     }
 
--- whether shards can be united follows from the rows of their union, however these are counted
-module _ (a b : Shard) (files xorbs : ℕ) (files_are : (c : Shard) → IsUnion a b c → files ≡ total_rows (values c.files))
-    (xorbs_are : (c : Shard) → IsUnion a b c → xorbs ≡ total_xorb_rows (values c.xorbs)) where
+-- whether shards may be united shows in the rows of their union, however they are counted
+module _ (a b : Shard) (files xorbs : ℕ) (files_are : (c : Shard) → IsUnion a b c → files ≡ total_rows file_records (values c.files))
+    (xorbs_are : (c : Shard) → IsUnion a b c → xorbs ≡ total_rows xorb_records (values c.xorbs)) where
   pub unite_if_few : CanJoinFiles a.files b.files → files ≤ 4294967295 → xorbs ≤ 4294967295 → CanUnite a b
   unite_if_few joins few_files few_xorbs = record {
     same = λ q r s own other. (joins q r s own other).same;

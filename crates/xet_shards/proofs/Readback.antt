@@ -1,7 +1,7 @@
 -- What is read from the bytes of a shard.
 use Rattle.std.proofs.Common.{◌≡◌, ◌⊎◌, inl, inr, Ok, Err, ℕ, List, [], ◌∷◌, ◌++◌, ◌+◌, length, map, flat_map, drop, Option, None, Some, refl, sym, ap, ◌∙◌, arith}
 use Rattle.std.specs.Prelude.{All, IfSome, MatchResult, option_map}
-use Rattle.std.specs.FinMap.{entries, values}
+use Rattle.std.specs.FinMap.{values}
 use Rattle.std.specs.declared.result.Result.{Result}
 use Rattle.std.specs.declared.vec.Vec.{Vec}
 use Rattle.std.proofs.lemmas.List.{append_assoc, length-append}
@@ -15,18 +15,17 @@ use Rattle.xet_records.specs.declared.file_structs.FileMetadataExt.{FileMetadata
 use Rattle.xet_records.specs.declared.file_structs.MDBFileInfo.{MDBFileInfo}
 use Rattle.xet_records.specs.declared.xorb_structs.MDBXorbInfo.{MDBXorbInfo}
 use Rattle.xet_records.specs.RecordKind.{RecordKind}
-use Rattle.xet_records.proofs.RecordKinds.{KindLaws}
+use Rattle.xet_records.proofs.RecordKinds.{KindLaws, file_laws, xorb_laws}
 use Rattle.xet_records.specs.FileRow.{header_row, clear_verification, clear_metadata}
 use Rattle.xet_records.specs.FileRecord.{file_record_bytes, file_bookend, handed_out, IsWellFormed, file_records}
 use Rattle.xet_records.specs.XorbRow.{xorb_header_row}
 use Rattle.xet_records.specs.XorbRecord.{xorb_record_bytes, xorb_bookend, IsXorb, xorb_records}
 use Rattle.xet_shards.specs.Shard.{Shard, IsShard}
-use Rattle.xet_shards.specs.Section.{file_section, xorb_section}
-use Rattle.xet_shards.specs.Tables.{file_table_bytes, xorb_table_bytes, chunk_table_bytes}
-use Rattle.xet_shards.specs.Layout.{Form, if_in, shard_header_bytes, header_value, shard_footer_bytes, footer_value, layout_of, layout}
+use Rattle.xet_shards.specs.Section.{section_bytes}
+use Rattle.xet_shards.specs.Tables.{table_bytes, chunk_table_bytes}
+use Rattle.xet_shards.specs.Layout.{Form, if_in, shard_header_bytes, header_value, shard_footer_bytes, footer_value, layout_of, layout, plain_form}
 use Rattle.xet_shards.specs.SectionReading.{IsSection, TakesSection, TakesNoSection, SectionFailure, PassesRows, IsCutSection}
-use Rattle.xet_shards.proofs.Files.{well_formed_values}
-use Rattle.xet_shards.proofs.Xorbs.{xorb_values}
+use Rattle.xet_shards.proofs.Sections.{FitsSection, section_there, files_fit, xorbs_fit}
 use Rattle.xet_shards.proofs.Layouts.{length-shard_header_bytes}
 use Rattle.xet_shards.proofs.SectionUnique.{only_list, section_or_passes, section_or_cut}
 
@@ -56,74 +55,43 @@ handed_same (r ∷ rs) good = λ i. handed_one r (good 0 r (omega arith)) i ∷ 
 module _ (files : List MDBFileInfo) (xorbs : List MDBXorbInfo) (form : Form) where
   abbrev pub after_xorbs : List ℕ
   after_xorbs =
-      if_in form.file_table (file_table_bytes files) ++ (if_in form.xorb_table (xorb_table_bytes xorbs)
+      if_in form.file_table (table_bytes file_records files) ++ (if_in form.xorb_table (table_bytes xorb_records xorbs)
       ++ (if_in form.chunk_table (chunk_table_bytes xorbs) ++ shard_footer_bytes (footer_value files xorbs form)))
 
   abbrev pub after_section : List ℕ
-  after_section = xorb_section xorbs ++ after_xorbs
+  after_section = section_bytes xorb_records xorbs ++ after_xorbs
 
-  pub layout_from_48 : layout_of files xorbs form ≡ shard_header_bytes header_value ++ (file_section files ++ after_section)
+  pub layout_from_48 : layout_of files xorbs form ≡ shard_header_bytes header_value ++ (section_bytes file_records files ++ after_section)
   unfolding layout_of
   layout_from_48 = simp (append_assoc)
 
   pub section_at_48 : drop 48 (layout_of files xorbs form) ≡ flat_map file_record_bytes files ++ (header_row file_bookend ++ after_section)
-  unfolding file_section
+  unfolding section_bytes
   section_at_48 =
-      rest_is 48 (layout_of files xorbs form) (shard_header_bytes header_value) (file_section files ++ after_section) (length-shard_header_bytes header_value) layout_from_48
+      rest_is 48 (layout_of files xorbs form) (shard_header_bytes header_value) (section_bytes file_records files ++ after_section) (length-shard_header_bytes header_value) layout_from_48
       ∙ append_assoc (flat_map file_record_bytes files) (header_row file_bookend) after_section
 
-  pub xorbs_at : drop (48 + length (file_section files)) (layout_of files xorbs form) ≡ flat_map xorb_record_bytes xorbs ++ (xorb_header_row xorb_bookend ++ after_xorbs)
-  unfolding xorb_section
+  pub xorbs_at : drop (48 + length (section_bytes file_records files)) (layout_of files xorbs form) ≡ flat_map xorb_record_bytes xorbs ++ (xorb_header_row xorb_bookend ++ after_xorbs)
+  unfolding section_bytes
   xorbs_at =
-      rest_is (48 + length (file_section files)) (layout_of files xorbs form) (shard_header_bytes header_value ++ file_section files) after_section
-      (length-append (shard_header_bytes header_value) (file_section files) ∙ ap (λ n. n + length (file_section files)) (length-shard_header_bytes header_value))
-      (layout_from_48 ∙ sym (append_assoc (shard_header_bytes header_value) (file_section files) after_section))
+      rest_is (48 + length (section_bytes file_records files)) (layout_of files xorbs form) (shard_header_bytes header_value ++ section_bytes file_records files) after_section
+      (length-append (shard_header_bytes header_value) (section_bytes file_records files) ∙ ap (λ n. n + length (section_bytes file_records files)) (length-shard_header_bytes header_value))
+      (layout_from_48 ∙ sym (append_assoc (shard_header_bytes header_value) (section_bytes file_records files) after_section))
       ∙ append_assoc (flat_map xorb_record_bytes xorbs) (xorb_header_row xorb_bookend) after_xorbs
 
+  -- both sections are in the bytes, whatever the form
+  pub file_section_in : FitsSection file_records files → IsSection file_records (drop 48 (layout_of files xorbs form)) files
+  file_section_in fits = section_there file_records file_laws files fits (drop 48 (layout_of files xorbs form)) after_section section_at_48
+
+  pub xorb_section_in : FitsSection xorb_records xorbs → IsSection xorb_records (drop (48 + length (section_bytes file_records files)) (layout_of files xorbs form)) xorbs
+  xorb_section_in fits = section_there xorb_records xorb_laws xorbs fits (drop (48 + length (section_bytes file_records files)) (layout_of files xorbs form)) after_xorbs xorbs_at
+
 pub section_of_shard : (s : Shard) (expiry : Option ℕ) → IsShard s → IsSection file_records (drop 48 (layout s expiry)) (values s.files)
-section_of_shard s expiry shard =
-    let good : All IsWellFormed (values s.files) = well_formed_values (entries s.files) shard.files in
-    record {
-      rest = _;
-      records = record {
-        are_stored = λ k r below. let here = good k r below in record { is_file = here.is_file; whole = here.whole; widths = here.widths };
-        rows = shard.file_rows;
-        bytes_are = section_at_48 (values s.files) (values s.xorbs) _;
-      };
-      bookend = record {
-        header = file_bookend;
-        rest = _;
-        widths = record { file_hash = record { word0 = omega arith; word1 = omega arith; word2 = omega arith; word3 = omega arith }; file_flags = omega arith; num_entries = omega arith; unused = omega arith };
-        is_bookend = refl;
-        bytes_are = refl;
-      };
-    }
+section_of_shard s expiry shard = file_section_in (values s.files) (values s.xorbs) (plain_form expiry) (files_fit s shard)
 
 pub xorb_section_of_shard : (s : Shard) (expiry : Option ℕ) → IsShard s
-    → IsSection xorb_records (drop (48 + length (file_section (values s.files))) (layout s expiry)) (values s.xorbs)
-xorb_section_of_shard s expiry shard =
-    let good : All IsXorb (values s.xorbs) = xorb_values (entries s.xorbs) shard.xorbs in
-    record {
-      rest = _;
-      records = record {
-        are_stored = λ k r below. let here = good k r below in record { is_xorb = here.is_xorb; count = here.count; widths = here.widths };
-        rows = shard.xorb_rows;
-        bytes_are = xorbs_at (values s.files) (values s.xorbs) _;
-      };
-      bookend = record {
-        header = xorb_bookend;
-        rest = _;
-        widths = record {
-          xorb_hash = record { word0 = omega arith; word1 = omega arith; word2 = omega arith; word3 = omega arith };
-          xorb_flags = omega arith;
-          num_entries = omega arith;
-          num_bytes_in_xorb = omega arith;
-          num_bytes_on_disk = omega arith;
-        };
-        is_bookend = refl;
-        bytes_are = refl;
-      };
-    }
+    → IsSection xorb_records (drop (48 + length (section_bytes file_records (values s.files))) (layout s expiry)) (values s.xorbs)
+xorb_section_of_shard s expiry shard = xorb_section_in (values s.files) (values s.xorbs) (plain_form expiry) (xorbs_fit s shard)
 
 -- bytes that are a section of records are read as these, unless the device fails or memory is refused
 module _ {H R : Type 0} (K : RecordKind H R) (laws : KindLaws K) (old new : Source) (rs : List R) (section : IsSection K (bytes_left old) rs) where

@@ -10,7 +10,7 @@ use Rattle.xet_records.specs.XorbRecord.{xorb_records}
 use Rattle.xet_records.proofs.RecordKinds.{file_laws, xorb_laws}
 use Rattle.xet_shards.specs.declared.shard_format.info.MDBShardInfo.{MDBShardInfo}
 use Rattle.xet_shards.specs.Shard.{Shard, IsShard, file_hash_of, xorb_hash_of}
-use Rattle.xet_shards.specs.Section.{file_section}
+use Rattle.xet_shards.specs.Section.{section_bytes}
 use Rattle.xet_shards.specs.SectionReading.{IsSection}
 use Rattle.xet_shards.specs.Layout.{layout_of, layout, plain_form, info_value}
 use Rattle.xet_shards.specs.Ends.{HasEnds}
@@ -40,8 +40,8 @@ module _ (s t : Shard) (e f : Option ℕ) (s_shard : IsShard s) (t_shard : IsSha
 
   xorbs_same : values s.xorbs ≡ values t.xorbs
   xorbs_same =
-      let at : 48 + length (file_section (values s.files)) ≡ 48 + length (file_section (values t.files)) = ap (λ rs. 48 + length (file_section rs)) files_same in
-      only_list xorb_records xorb_laws (drop (48 + length (file_section (values t.files))) (layout t f)) (values s.xorbs) (values t.xorbs)
+      let at : 48 + length (section_bytes file_records (values s.files)) ≡ 48 + length (section_bytes file_records (values t.files)) = ap (λ rs. 48 + length (section_bytes file_records rs)) files_same in
+      only_list xorb_records xorb_laws (drop (48 + length (section_bytes file_records (values t.files))) (layout t f)) (values s.xorbs) (values t.xorbs)
       (subst (λ bs. IsSection xorb_records bs (values s.xorbs)) (λ i. drop (at i) (same i)) (xorb_section_of_shard s e s_shard)) (xorb_section_of_shard t f t_shard)
 
   pub same_bytes : s ≡ t

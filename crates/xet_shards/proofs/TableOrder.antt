@@ -17,9 +17,9 @@ use Rattle.xet_base.specs.declared.merklehash.DataHash.{DataHash}
 use Rattle.xet_base.specs.Hash.{hash_cmp}
 use Rattle.xet_base.proofs.HashOrder.{hash_cmp-IsTotalOrder}
 use Rattle.xet_records.specs.declared.xorb_structs.MDBXorbInfo.{MDBXorbInfo}
-use Rattle.xet_shards.specs.Shard.{Shard, IsShard, file_hash_of, xorb_hash_of, total_rows, total_xorb_rows}
-use Rattle.xet_shards.specs.Section.{with_fronts}
-use Rattle.xet_shards.specs.Tables.{ChunkPlace, place_cmp, chunk_places, chunk_table, file_starts, xorb_starts, files_below, xorbs_below}
+use Rattle.xet_records.specs.RecordKind.{RecordKind}
+use Rattle.xet_shards.specs.Section.{total_rows, with_fronts}
+use Rattle.xet_shards.specs.Tables.{ChunkPlace, place_cmp, chunk_places, chunk_table, hash_in, starts, records_below}
 use Rattle.xet_shards.proofs.Maps.{rising_keys}
 use Rattle.xet_shards.proofs.Found.{found_entry, entry_found}
 use Rattle.xet_shards.proofs.Tables.{place_total, place_exact}
@@ -113,9 +113,8 @@ module _ {X : Type 0} (hash_of : X → DataHash) where
   hashes_ascend : (m : FinMap hash_cmp X) → All (λ e. e.0 ≡ hash_of e.1) (entries m) → IsStrictlySortedBy hash_cmp (map hash_of (values m))
   hashes_ascend m keyed = subst (IsStrictlySortedBy hash_cmp) (sym (hashes_are_keys (entries m) keyed)) (rising_keys hash_cmp (entries m) (entries_sorted m))
 
-module _ (s : Shard) (shard : IsShard s) where
-  pub file_starts_below : file_starts (values s.files) ≡ map (λ r. ((file_hash_of r).word0, total_rows (files_below (file_hash_of r) (values s.files)))) (values s.files)
-  file_starts_below = starts_below file_hash_of total_rows [] (values s.files) (hashes_ascend file_hash_of s.files shard.files.keyed)
-
-  pub xorb_starts_below : xorb_starts (values s.xorbs) ≡ map (λ r. ((xorb_hash_of r).word0, total_xorb_rows (xorbs_below (xorb_hash_of r) (values s.xorbs)))) (values s.xorbs)
-  xorb_starts_below = starts_below xorb_hash_of total_xorb_rows [] (values s.xorbs) (hashes_ascend xorb_hash_of s.xorbs shard.xorbs.keyed)
+-- the records of a map under their hashes start after the rows of those with smaller hashes
+module _ {H R : Type 0} (K : RecordKind H R) where
+  pub records_start : (m : FinMap hash_cmp R) → All (λ e. e.0 ≡ hash_in K e.1) (entries m)
+      → starts K (values m) ≡ map (λ r. ((hash_in K r).word0, total_rows K (records_below K (hash_in K r) (values m)))) (values m)
+  records_start m keyed = starts_below (hash_in K) (total_rows K) [] (values m) (hashes_ascend (hash_in K) m keyed)

@@ -15,8 +15,7 @@ use Rattle.xet_records.specs.Reading.{ReadsBookend}
 use Rattle.xet_records.specs.XorbRecord.{xorb_record_bytes, xorb_row_count, IsStoredXorb, xorb_records}
 use Rattle.xet_records.proofs.RecordKinds.{xorb_laws, length-text}
 use Rattle.xet_records.proofs.Lengths.{length-texts}
-use Rattle.xet_shards.specs.Shard.{total_xorb_rows}
-use Rattle.xet_shards.specs.Section.{with_fronts}
+use Rattle.xet_shards.specs.Section.{total_rows, with_fronts}
 use Rattle.xet_shards.specs.Tables.{places_from, chunk_places, chunk_table}
 use Rattle.xet_shards.specs.TableReading.{triple_of}
 use Rattle.xet_shards.specs.SectionReading.{HoldsRecords, PassesLimit, EndsEarly, SectionFailure, IsSection, PassesRows, IsCutSection, rows_left}
@@ -40,12 +39,12 @@ hashes_more before start i chunks below =
     ∙ ap (λ rows. before ++ rows) (sym (map-append triple_of done (place ∷ [])) ∙ ap (map triple_of) (sym (places_from-more start i chunks no_chunk below)))
 
 -- one more xorb
-hashes_of-push : (xorbs : List MDBXorbInfo) (x : MDBXorbInfo) → hashes_of (xorbs ++ x ∷ []) ≡ hashes_of xorbs ++ map triple_of (places_from (total_xorb_rows xorbs) x.chunks)
-hashes_of-push xorbs x = ap (map triple_of) (chunk_places-push xorbs x) ∙ map-append triple_of _ (places_from (total_xorb_rows xorbs) x.chunks)
+hashes_of-push : (xorbs : List MDBXorbInfo) (x : MDBXorbInfo) → hashes_of (xorbs ++ x ∷ []) ≡ hashes_of xorbs ++ map triple_of (places_from (total_rows xorb_records xorbs) x.chunks)
+hashes_of-push xorbs x = ap (map triple_of) (chunk_places-push xorbs x) ∙ map-append triple_of _ (places_from (total_rows xorb_records xorbs) x.chunks)
 
-StartBefore-push : (at stop : ℕ) (xorbs : List MDBXorbInfo) (x : MDBXorbInfo) → StartBefore at stop xorbs → at + 48 * total_xorb_rows xorbs < stop → StartBefore at stop (xorbs ++ x ∷ [])
+StartBefore-push : (at stop : ℕ) (xorbs : List MDBXorbInfo) (x : MDBXorbInfo) → StartBefore at stop xorbs → at + 48 * total_rows xorb_records xorbs < stop → StartBefore at stop (xorbs ++ x ∷ [])
 StartBefore-push at stop xorbs x before here =
-    let Starts : List MDBXorbInfo × MDBXorbInfo → Type 0 = λ e. at + 48 * total_xorb_rows e.0 < stop in
+    let Starts : List MDBXorbInfo × MDBXorbInfo → Type 0 = λ e. at + 48 * total_rows xorb_records e.0 < stop in
     subst (All Starts) (sym (with_fronts-push [] xorbs x)) (All-append Starts (with_fronts [] xorbs) ((xorbs, x) ∷ []) before (All-cons Starts (xorbs, x) [] here (All-nil Starts)))
 
 -- before the first xorb
@@ -57,8 +56,8 @@ pub more_hashes : (stop : ℕ) (start now new : Source) (found : List (ℕ × (�
     → HasReadHashes stop start now found left → ReadsXorbBefore stop now new left after next
     → HasReadHashes stop start new (found ++ map triple_of (places_from next.0 next.1.chunks)) after
 more_hashes stop start now new found left after next before read =
-    let place : now.at ≡ start.at + 48 * total_xorb_rows before.xorbs = place_after xorb_records xorb_laws start now before.xorbs left before.read in
-    let row : next.0 ≡ total_xorb_rows before.xorbs = omega (arith, read.start, rows_of before) in
+    let place : now.at ≡ start.at + 48 * total_rows xorb_records before.xorbs = place_after xorb_records xorb_laws start now before.xorbs left before.read in
+    let row : next.0 ≡ total_rows xorb_records before.xorbs = omega (arith, read.start, rows_of before) in
     record {
       xorbs = before.xorbs ++ next.1 ∷ [];
       read = more_read xorb_records xorb_laws start now new before.xorbs left after next.1 before.read read.next;
@@ -66,8 +65,8 @@ more_hashes stop start now new found left after next before read =
       hashes = (λ i. before.hashes i ++ map triple_of (places_from (row i) next.1.chunks)) ∙ sym (hashes_of-push before.xorbs next.1);
     }
   where
-    rows_of : (b : HasReadHashes stop start now found left) → total_xorb_rows b.xorbs + left ≡ 4294967295
-    rows_of b = omega (arith, b.read.rows, ap total_xorb_rows (sym (map-id b.read.stored) ∙ b.read.handed))
+    rows_of : (b : HasReadHashes stop start now found left) → total_rows xorb_records b.xorbs + left ≡ 4294967295
+    rows_of b = omega (arith, b.read.rows, ap (total_rows xorb_records) (sym (map-id b.read.stored) ∙ b.read.handed))
 
 -- after the xorbs that were read
 module _ (stop : ℕ) (old now : Source) (at : ℕ) (found : List (ℕ × (ℕ × ℕ))) (left : ℕ) (before : HasReadHashes stop (moved old at) now found left) where
@@ -80,11 +79,11 @@ module _ (stop : ℕ) (old now : Source) (at : ℕ) (found : List (ℕ × (ℕ �
   holds = subst (λ xorbs. HoldsRecords xorb_records (bytes_left (moved old at)) xorbs (bytes_left now)) same_xorbs
       (record { are_stored = before.read.are_stored; rows = omega (arith, before.read.rows); bytes_are = Takes-consumes (moved old at) now (flat_map xorb_record_bytes before.read.stored) before.read.taken })
 
-  place : now.at ≡ at + 48 * total_xorb_rows before.xorbs
+  place : now.at ≡ at + 48 * total_rows xorb_records before.xorbs
   place = place_after xorb_records xorb_laws (moved old at) now before.xorbs left before.read
 
   left_is : left ≡ rows_left xorb_records before.xorbs
-  left_is = omega (arith, before.read.rows, ap total_xorb_rows same_xorbs)
+  left_is = omega (arith, before.read.rows, ap (total_rows xorb_records) same_xorbs)
 
   bytes_then : now.bytes ≡ old.bytes
   bytes_then = ap (λ (s : Source). s.bytes) before.read.taken.after
@@ -105,7 +104,7 @@ module _ (stop : ℕ) (old now : Source) (at : ℕ) (found : List (ℕ × (ℕ �
         rest = ended.section.rest;
         records = subst (λ xorbs. HoldsRecords xorb_records (bytes_left (moved old at)) xorbs ended.section.rest) same ended.section.records;
         before = before.before;
-        end = inl (omega (arith, below, place), ended.section.bookend, ended.after ∙ ap (λ xorbs. advanced (moved old at) (48 * (total_xorb_rows xorbs + 1))) same);
+        end = inl (omega (arith, below, place), ended.section.bookend, ended.after ∙ ap (λ xorbs. advanced (moved old at) (48 * (total_rows xorb_records xorbs + 1))) same);
         hashes = before.hashes;
       }
   hashes_end new (inr (past, same)) =
@@ -115,7 +114,7 @@ module _ (stop : ℕ) (old now : Source) (at : ℕ) (found : List (ℕ × (ℕ �
         rest = bytes_left now;
         records = holds;
         before = before.before;
-        end = inr (omega (arith, past, place), same ∙ before.read.taken.after ∙ ap (advanced (moved old at)) (size ∙ ap (λ xorbs. 48 * total_xorb_rows xorbs) same_xorbs));
+        end = inr (omega (arith, past, place), same ∙ before.read.taken.after ∙ ap (advanced (moved old at)) (size ∙ ap (λ xorbs. 48 * total_rows xorb_records xorbs) same_xorbs));
         hashes = before.hashes;
       }
 

@@ -1,18 +1,54 @@
--- The numbers of a shard's footer fit `u64`.
-use Rattle.std.proofs.Common.{ℕ, ◌+◌, ◌^◌, ◌<◌, ◌≤◌, length, Option, None, Some, refl, arith}
+-- The numbers of a shard's footer are within 64 bits.
+use Rattle.std.proofs.Common.{Bool, true, false, List, ℕ, ◌+◌, ◌^◌, ◌<◌, ◌≤◌, length, Option, None, Some, refl, arith}
 use Rattle.std.specs.Prelude.{All, IfSome, unwrap_or}
-use Rattle.std.specs.FinMap.{entries, values}
-use Rattle.std.proofs.lemmas.List.Elements.{All-map, All-from_recursion}
-use Rattle.xet_records.specs.XorbRecord.{IsXorb}
+use Rattle.std.specs.FinMap.{values}
+use Rattle.std.proofs.lemmas.List.Elements.{All-from_recursion}
+use Rattle.xet_base.specs.Hash.{IsHash}
+use Rattle.xet_records.specs.declared.file_structs.MDBFileInfo.{MDBFileInfo}
+use Rattle.xet_records.specs.declared.xorb_structs.MDBXorbInfo.{MDBXorbInfo}
+use Rattle.xet_records.specs.XorbRecord.{xorb_records, IsStoredXorb}
+use Rattle.xet_records.specs.FileRecord.{file_records, FitsRecord}
 use Rattle.xet_shards.specs.Shard.{Shard, IsShard}
-use Rattle.xet_shards.specs.Tables.{chunk_table}
-use Rattle.xet_shards.specs.Layout.{info_value, offsets_of, timestamps_of, sums_of}
+use Rattle.xet_shards.specs.Tables.{starts, chunk_table, table_bytes, chunk_table_bytes}
+use Rattle.xet_shards.specs.Layout.{Form, if_in, footer_value, plain_form, info_value, offsets_of, timestamps_of, sums_of}
 use Rattle.xet_shards.specs.Ends.{FitsFooter}
-use Rattle.xet_shards.proofs.Files.{files_bound, length-le-rows, widths_of_values}
-use Rattle.xet_shards.proofs.Layouts.{length-file_section}
-use Rattle.xet_shards.proofs.Tables.{length-file_starts, length-file_table_bytes, length-xorb_starts, length-xorb_table_bytes}
+use Rattle.xet_shards.proofs.Files.{files_bound, length-le-rows}
+use Rattle.xet_shards.proofs.Layouts.{length-file_section, length-xorb_section}
+use Rattle.xet_shards.proofs.Sections.{FitsSection, files_fit, xorbs_fit}
+use Rattle.xet_shards.proofs.Tables.{length-starts, length-table_bytes}
 use Rattle.xet_shards.proofs.Xorbs.{xorbs_bound}
-use Rattle.xet_shards.proofs.XorbLayouts.{length-xorb_section, length-chunk_table, length-chunk_table_bytes, total_xorb_rows-chunks}
+use Rattle.xet_shards.proofs.XorbLayouts.{length-chunk_table, length-chunk_table_bytes, xorb_rows-chunks}
+
+-- a table that is in, or none
+in_at_most : {X : Type 0} (b : Bool) (xs : List X) → length (if_in b xs) ≤ length xs
+in_at_most true xs = omega arith
+in_at_most false xs = omega arith
+
+-- those of any records that fit their sections, in any form
+pub fits_in_form : (files : List MDBFileInfo) (xorbs : List MDBXorbInfo) (form : Form) → FitsSection file_records files → FitsSection xorb_records xorbs → IsHash form.key
+    → form.creation < 2 ^ 64 → form.expiry < 2 ^ 64 → FitsFooter (footer_value files xorbs form)
+fits_in_form files xorbs form files_in xorbs_in key creation expiry =
+    let f = footer_value files xorbs form in
+    let widths : All FitsRecord files = λ k r below. (files_in.stored k r below).widths in
+    let few_files : length files ≤ 4294967295 = omega (arith, length-le-rows files, files_in.rows) in
+    let chunks : length (chunk_table xorbs) + length xorbs ≤ 4294967295 = omega (arith, xorbs_in.rows, length-chunk_table xorbs, xorb_rows-chunks xorbs) in
+    let xorb_info : f.xorb_info_offset ≤ 2 ^ 40 = omega (arith, length-file_section files widths, files_in.rows) in
+    let file_lookup : f.file_lookup_offset ≤ 2 ^ 41 = omega (arith, xorb_info, length-xorb_section xorbs, xorbs_in.rows) in
+    let xorb_lookup : f.xorb_lookup_offset ≤ 2 ^ 42 = omega (arith, file_lookup, in_at_most form.file_table (table_bytes file_records files), length-table_bytes file_records files, few_files) in
+    let chunk_lookup : f.chunk_lookup_offset ≤ 2 ^ 43 = omega (arith, xorb_lookup, in_at_most form.xorb_table (table_bytes xorb_records xorbs), length-table_bytes xorb_records xorbs, chunks) in
+    let footer : f.footer_offset ≤ 2 ^ 44 = omega (arith, chunk_lookup, in_at_most form.chunk_table (chunk_table_bytes xorbs), length-chunk_table_bytes xorbs, length-chunk_table xorbs, chunks) in
+    let file_count : f.file_lookup_num_entry < 2 ^ 64 = omega (arith, in_at_most form.file_table (starts file_records files), length-starts file_records files, few_files) in
+    let xorb_count : f.xorb_lookup_num_entry < 2 ^ 64 = omega (arith, in_at_most form.xorb_table (starts xorb_records xorbs), length-starts xorb_records xorbs, chunks) in
+    let chunk_count : f.chunk_lookup_num_entry < 2 ^ 64 = omega (arith, in_at_most form.chunk_table (chunk_table xorbs), chunks) in
+    let Fits : ℕ → Type 0 = λ n. n < 2 ^ 64 in
+    record {
+      offsets = All-from_recursion Fits (offsets_of f) (omega arith, (omega arith, (omega (arith, xorb_info), (omega (arith, file_lookup), (file_count, (omega (arith, xorb_lookup), (xorb_count, (omega (arith, chunk_lookup), (chunk_count, tt)))))))));
+      key = key;
+      timestamps = All-from_recursion Fits (timestamps_of f) (creation, (expiry, tt));
+      buffer_size = refl;
+      buffer = All-from_recursion Fits f._buffer (omega arith, (omega arith, (omega arith, (omega arith, (omega arith, (omega arith, tt))))));
+      sums = All-from_recursion Fits (sums_of f) (omega (arith, xorbs_in.rows, xorbs_bound IsStoredXorb (λ x. x.metadata.num_bytes_on_disk) (λ r is. omega (arith, is.widths.metadata.num_bytes_on_disk)) xorbs xorbs_in.stored), (omega (arith, files_in.rows, files_bound files widths), (omega (arith, xorbs_in.rows, xorbs_bound IsStoredXorb (λ x. x.metadata.num_bytes_in_xorb) (λ r is. omega (arith, is.widths.metadata.num_bytes_in_xorb)) xorbs xorbs_in.stored), (omega (arith, footer), tt))));
+    }
 
 expiry_fits : (expiry : Option ℕ) → IfSome expiry (λ e. e < 2 ^ 64) → unwrap_or expiry 18446744073709551615 < 2 ^ 64
 expiry_fits None fits = omega arith
@@ -20,24 +56,5 @@ expiry_fits (Some e) fits = fits
 
 pub fits_written : (s : Shard) (expiry : Option ℕ) → IsShard s → IfSome expiry (λ e. e < 2 ^ 64) → FitsFooter (info_value s expiry).metadata
 fits_written s expiry shard fits =
-    let files = values s.files in
-    let xorbs = values s.xorbs in
-    let f = (info_value s expiry).metadata in
-    let widths = widths_of_values (entries s.files) shard.files in
-    let good : All IsXorb xorbs = All-map IsXorb (λ e. e.1) (entries s.xorbs) shard.xorbs.well_formed in
-    let few_files : length files ≤ 4294967295 = omega (arith, length-le-rows files, shard.file_rows) in
-    let chunks : length (chunk_table xorbs) + length xorbs ≤ 4294967295 = omega (arith, shard.xorb_rows, length-chunk_table xorbs, total_xorb_rows-chunks xorbs) in
-    let xorb_info : f.xorb_info_offset ≤ 2 ^ 40 = omega (arith, length-file_section files widths, shard.file_rows) in
-    let file_lookup : f.file_lookup_offset ≤ 2 ^ 41 = omega (arith, xorb_info, length-xorb_section xorbs, shard.xorb_rows) in
-    let xorb_lookup : f.xorb_lookup_offset ≤ 2 ^ 42 = omega (arith, file_lookup, length-file_table_bytes files, few_files) in
-    let chunk_lookup : f.chunk_lookup_offset ≤ 2 ^ 43 = omega (arith, xorb_lookup, length-xorb_table_bytes xorbs, chunks) in
-    let footer : f.footer_offset ≤ 2 ^ 44 = omega (arith, chunk_lookup, length-chunk_table_bytes xorbs, length-chunk_table xorbs, chunks) in
-    let Fits : ℕ → Type 0 = λ n. n < 2 ^ 64 in
-    record {
-      offsets = All-from_recursion Fits (offsets_of f) (omega arith, (omega arith, (omega (arith, xorb_info), (omega (arith, file_lookup), (omega (arith, length-file_starts files, few_files), (omega (arith, xorb_lookup), (omega (arith, length-xorb_starts xorbs, chunks), (omega (arith, chunk_lookup), (omega (arith, chunks), tt)))))))));
-      key = record { word0 = omega arith; word1 = omega arith; word2 = omega arith; word3 = omega arith };
-      timestamps = All-from_recursion Fits (timestamps_of f) (omega arith, (expiry_fits expiry fits, tt));
-      buffer_size = refl;
-      buffer = All-from_recursion Fits f._buffer (omega arith, (omega arith, (omega arith, (omega arith, (omega arith, (omega arith, tt))))));
-      sums = All-from_recursion Fits (sums_of f) (omega (arith, shard.xorb_rows, xorbs_bound (λ x. x.metadata.num_bytes_on_disk) (λ r is. omega (arith, is.widths.metadata.num_bytes_on_disk)) xorbs good), (omega (arith, shard.file_rows, files_bound files widths), (omega (arith, shard.xorb_rows, xorbs_bound (λ x. x.metadata.num_bytes_in_xorb) (λ r is. omega (arith, is.widths.metadata.num_bytes_in_xorb)) xorbs good), (omega (arith, footer), tt))));
-    }
+    fits_in_form (values s.files) (values s.xorbs) (plain_form expiry) (files_fit s shard) (xorbs_fit s shard)
+    (record { word0 = omega arith; word1 = omega arith; word2 = omega arith; word3 = omega arith }) (omega arith) (expiry_fits expiry fits)

@@ -13,10 +13,10 @@ use Rattle.xet_records.specs.FileRecord.{file_record_bytes, file_rows_bytes, Fit
 use Rattle.xet_records.specs.XorbRow.{xorb_header_row, chunk_row}
 use Rattle.xet_records.specs.XorbRecord.{xorb_record_bytes}
 use Rattle.xet_shards.specs.declared.shard_format.footer.MDBShardFileFooter.{MDBShardFileFooter}
-use Rattle.xet_shards.specs.Section.{file_section, xorb_section}
+use Rattle.xet_shards.specs.Section.{section_bytes}
 use Rattle.xet_shards.specs.ChunkQuery.{run_at}
 use Rattle.xet_shards.proofs.Tables.{place_total}
-use Rattle.xet_shards.specs.Tables.{ChunkPlace, place_cmp, chunk_places, ascending, chunk_table, place_row, file_table_bytes, xorb_table_bytes, chunk_table_bytes}
+use Rattle.xet_shards.specs.Tables.{ChunkPlace, place_cmp, chunk_places, ascending, chunk_table, place_row, table_bytes, chunk_table_bytes}
 use Rattle.xet_shards.specs.Layout.{footer_value, layout_of, plain_form}
 use Rattle.xet_shards.proofs.ChunkPlaces.{ascending-nil}
 use Rattle.xet_shards.proofs.Maps.{puts, entries-from_entries}
@@ -65,12 +65,12 @@ chunks_of_q = ascending_is (chunk_places (xorb 10 21 ∷ xorb 11 22 ∷ []))
 
 -- the empty shard
 pub places_of_empty : places (footer_value [] [] (plain_form None)) ≡ 48 ∷ 96 ∷ 144 ∷ 144 ∷ 144 ∷ 144 ∷ []
-unfolding file_section xorb_section file_table_bytes xorb_table_bytes chunk_table_bytes file_record_bytes file_rows_bytes header_row segment_row hash_bytes u64_bytes u32_bytes xorb_record_bytes xorb_header_row chunk_row
+unfolding section_bytes table_bytes chunk_table_bytes file_record_bytes file_rows_bytes header_row segment_row hash_bytes u64_bytes u32_bytes xorb_record_bytes xorb_header_row chunk_row
 places_of_empty = λ i. 48 ∷ 96 ∷ 144 ∷ 144 ∷ 144 ∷ (144 + length (flat_map place_row (ascending-nil i))) ∷ []
 
 -- a xorb with one chunk, and a file
 pub places_of_p : places (footer_value (file 100 200 ∷ []) (xorb 10 21 ∷ []) (plain_form None)) ≡ 48 ∷ 192 ∷ 336 ∷ 348 ∷ 360 ∷ 376 ∷ []
-unfolding file_section xorb_section file_table_bytes xorb_table_bytes chunk_table_bytes file_record_bytes file_rows_bytes header_row segment_row hash_bytes u64_bytes u32_bytes xorb_record_bytes xorb_header_row chunk_row
+unfolding section_bytes table_bytes chunk_table_bytes file_record_bytes file_rows_bytes header_row segment_row hash_bytes u64_bytes u32_bytes xorb_record_bytes xorb_header_row chunk_row
 places_of_p = λ i. 48 ∷ 192 ∷ 336 ∷ 348 ∷ 360 ∷ (360 + length (flat_map place_row (chunks_of_p i))) ∷ []
 
 pub sums_of_p : sums (footer_value (file 100 200 ∷ []) (xorb 10 21 ∷ []) (plain_form None)) ≡ 5 ∷ 5 ∷ 0 ∷ []
@@ -78,7 +78,7 @@ sums_of_p = refl
 
 -- a second of each
 pub places_of_q : places (footer_value (file 100 200 ∷ file 101 201 ∷ []) (xorb 10 21 ∷ xorb 11 22 ∷ []) (plain_form None)) ≡ 48 ∷ 288 ∷ 528 ∷ 552 ∷ 576 ∷ 608 ∷ []
-unfolding file_section xorb_section file_table_bytes xorb_table_bytes chunk_table_bytes file_record_bytes file_rows_bytes header_row segment_row hash_bytes u64_bytes u32_bytes xorb_record_bytes xorb_header_row chunk_row
+unfolding section_bytes table_bytes chunk_table_bytes file_record_bytes file_rows_bytes header_row segment_row hash_bytes u64_bytes u32_bytes xorb_record_bytes xorb_header_row chunk_row
 places_of_q = λ i. 48 ∷ 288 ∷ 528 ∷ 552 ∷ 576 ∷ (576 + length (flat_map place_row (chunks_of_q i))) ∷ []
 
 -- the sizes of two xorbs with the same chunk

@@ -20,20 +20,23 @@ use Rattle.xet_records.specs.declared.file_structs.MDBFileInfo.{MDBFileInfo}
 use Rattle.xet_records.specs.declared.xorb_structs.MDBXorbInfo.{MDBXorbInfo}
 use Rattle.xet_records.specs.declared.xorb_structs.XorbChunkSequenceEntry.{XorbChunkSequenceEntry}
 use Rattle.xet_records.specs.XorbRow.{FitsChunk}
-use Rattle.xet_records.specs.XorbRecord.{xorb_row_count, FitsXorb}
+use Rattle.xet_records.specs.XorbRecord.{xorb_records, xorb_row_count, FitsXorb}
+use Rattle.xet_records.specs.FileRecord.{file_records}
+use Rattle.xet_records.specs.RecordKind.{RecordKind}
 use Rattle.xet_shards.specs.declared.shard_format.footer.MDBShardFileFooter.{MDBShardFileFooter}
 use Rattle.xet_shards.specs.declared.shard_format.info.MDBShardInfo.{MDBShardInfo}
-use Rattle.xet_shards.specs.Shard.{Shard, IsShard, total_xorb_rows}
-use Rattle.xet_shards.specs.Section.{with_fronts, file_section, xorb_section}
-use Rattle.xet_shards.specs.Tables.{ChunkPlace, places_from, chunk_places, chunk_table, xorb_start, xorb_starts, start_row, place_row, file_table_bytes, xorb_table_bytes, chunk_table_bytes}
+use Rattle.xet_shards.specs.Shard.{Shard, IsShard}
+use Rattle.xet_shards.specs.Section.{total_rows, with_fronts, section_bytes}
+use Rattle.xet_shards.specs.Tables.{ChunkPlace, hash_in, places_from, chunk_places, chunk_table, start_of, starts, start_row, place_row, table_bytes, chunk_table_bytes}
 use Rattle.xet_shards.specs.Layout.{Form, if_in, shard_header_bytes, header_value, shard_footer_bytes, footer_value, layout_of, layout, info_value, plain_form}
 use Rattle.xet_shards.specs.TableReading.{FitsStart, triple_of, triple_row, FitsTriple}
 use Rattle.xet_shards.proofs.ChunkPlaces.{alone, place_of}
 use Rattle.xet_shards.proofs.Layouts.{length-shard_header_bytes}
 use Rattle.xet_shards.proofs.Maps.{All-keys-from_entries}
+use Rattle.xet_shards.proofs.Sections.{FitsSection, xorbs_fit}
 use Rattle.xet_shards.proofs.TableReading.{ReadsOrFails, IsReadAs, whole_table}
-use Rattle.xet_shards.proofs.Tables.{length-xorb_starts, place_total}
-use Rattle.xet_shards.proofs.XorbLayouts.{keys-alone, length-chunk_table, total_xorb_rows-chunks}
+use Rattle.xet_shards.proofs.Tables.{length-starts, place_total}
+use Rattle.xet_shards.proofs.XorbLayouts.{keys-alone, length-chunk_table, xorb_rows-chunks}
 
 -- the bytes of a row tell it
 length-start : (row : ℕ × ℕ) → FitsStart row → length (start_row row) ≡ 12
@@ -66,52 +69,51 @@ rows_in false row rows = refl
 -- where the tables stand
 module _ (files : List MDBFileInfo) (xorbs : List MDBXorbInfo) (form : Form) where
   abbrev before_tables : List ℕ
-  before_tables = ((shard_header_bytes header_value ++ file_section files) ++ xorb_section xorbs) ++ if_in form.file_table (file_table_bytes files)
+  before_tables = ((shard_header_bytes header_value ++ section_bytes file_records files) ++ section_bytes xorb_records xorbs) ++ if_in form.file_table (table_bytes file_records files)
 
   abbrev after_tables : List ℕ
   after_tables = shard_footer_bytes (footer_value files xorbs form)
 
   length-before : length before_tables ≡ (footer_value files xorbs form).xorb_lookup_offset
   length-before =
-      length-append ((shard_header_bytes header_value ++ file_section files) ++ xorb_section xorbs) (if_in form.file_table (file_table_bytes files))
+      length-append ((shard_header_bytes header_value ++ section_bytes file_records files) ++ section_bytes xorb_records xorbs) (if_in form.file_table (table_bytes file_records files))
       ∙ omega (
         arith,
-        length-append (shard_header_bytes header_value ++ file_section files) (xorb_section xorbs),
-        length-append (shard_header_bytes header_value) (file_section files),
+        length-append (shard_header_bytes header_value ++ section_bytes file_records files) (section_bytes xorb_records xorbs),
+        length-append (shard_header_bytes header_value) (section_bytes file_records files),
         length-shard_header_bytes header_value,
       )
 
   pub xorb_table_stands : drop (footer_value files xorbs form).xorb_lookup_offset (layout_of files xorbs form)
-      ≡ flat_map start_row (if_in form.xorb_table (xorb_starts xorbs)) ++ (if_in form.chunk_table (chunk_table_bytes xorbs) ++ after_tables)
-  unfolding layout_of xorb_table_bytes
+      ≡ flat_map start_row (if_in form.xorb_table (starts xorb_records xorbs)) ++ (if_in form.chunk_table (chunk_table_bytes xorbs) ++ after_tables)
+  unfolding layout_of table_bytes
   xorb_table_stands =
       rest_is _ (layout_of files xorbs form) before_tables _ length-before
-      (append_assoc (before_tables ++ if_in form.xorb_table (xorb_table_bytes xorbs)) (if_in form.chunk_table (chunk_table_bytes xorbs)) after_tables
-      ∙ append_assoc before_tables (if_in form.xorb_table (xorb_table_bytes xorbs)) (if_in form.chunk_table (chunk_table_bytes xorbs) ++ after_tables))
-      ∙ ap (λ bs. bs ++ (if_in form.chunk_table (chunk_table_bytes xorbs) ++ after_tables)) (rows_in form.xorb_table start_row (xorb_starts xorbs))
+      (append_assoc (before_tables ++ if_in form.xorb_table (table_bytes xorb_records xorbs)) (if_in form.chunk_table (chunk_table_bytes xorbs)) after_tables
+      ∙ append_assoc before_tables (if_in form.xorb_table (table_bytes xorb_records xorbs)) (if_in form.chunk_table (chunk_table_bytes xorbs) ++ after_tables))
+      ∙ ap (λ bs. bs ++ (if_in form.chunk_table (chunk_table_bytes xorbs) ++ after_tables)) (rows_in form.xorb_table start_row (starts xorb_records xorbs))
 
   pub chunk_table_stands : drop (footer_value files xorbs form).chunk_lookup_offset (layout_of files xorbs form)
       ≡ flat_map triple_row (map triple_of (if_in form.chunk_table (chunk_table xorbs))) ++ after_tables
   unfolding layout_of chunk_table_bytes
   chunk_table_stands =
-      rest_is _ (layout_of files xorbs form) (before_tables ++ if_in form.xorb_table (xorb_table_bytes xorbs)) _
-      (length-append before_tables (if_in form.xorb_table (xorb_table_bytes xorbs)) ∙ ap (λ n. n + length (if_in form.xorb_table (xorb_table_bytes xorbs))) length-before)
-      (append_assoc (before_tables ++ if_in form.xorb_table (xorb_table_bytes xorbs)) (if_in form.chunk_table (chunk_table_bytes xorbs)) after_tables)
+      rest_is _ (layout_of files xorbs form) (before_tables ++ if_in form.xorb_table (table_bytes xorb_records xorbs)) _
+      (length-append before_tables (if_in form.xorb_table (table_bytes xorb_records xorbs)) ∙ ap (λ n. n + length (if_in form.xorb_table (table_bytes xorb_records xorbs))) length-before)
+      (append_assoc (before_tables ++ if_in form.xorb_table (table_bytes xorb_records xorbs)) (if_in form.chunk_table (chunk_table_bytes xorbs)) after_tables)
       ∙ ap (λ bs. bs ++ after_tables) (rows_in form.chunk_table place_row (chunk_table xorbs) ∙ sym (flat_map-map triple_row triple_of (if_in form.chunk_table (chunk_table xorbs))))
 
 -- the numbers of the rows are within their widths
 abbrev FitsPlace : ChunkPlace → Type 0
 FitsPlace p = FitsTriple (triple_of p)
 
-starts_fit : (front xorbs : List MDBXorbInfo) → All FitsXorb xorbs → total_xorb_rows front + total_xorb_rows xorbs ≤ 4294967295
-    → All FitsStart (map xorb_start (with_fronts front xorbs))
-starts_fit front [] fit few = All-nil FitsStart
-starts_fit front (x ∷ xorbs) fit few =
-    let here : FitsXorb x = fit 0 x (omega arith) in
-    let rest : total_xorb_rows (front ++ x ∷ []) + total_xorb_rows xorbs ≤ 4294967295 = omega (arith, few, sum_by_push xorb_row_count front x, sum_by-cons xorb_row_count x xorbs) in
-    All-cons FitsStart (xorb_start (front, x)) (map xorb_start (with_fronts (front ++ x ∷ []) xorbs))
-    (record { word = here.metadata.xorb_hash.word0; start = omega (arith, few) })
-    (starts_fit (front ++ x ∷ []) xorbs (All-drop FitsXorb 1 (x ∷ xorbs) fit) rest)
+starts_fit : {H R : Type 0} (K : RecordKind H R) (front records : List R) → All (λ r. (hash_in K r).word0 < 2 ^ 64) records → ((r : R) → 0 < K.row_count r)
+    → total_rows K front + total_rows K records ≤ 4294967295 → All FitsStart (map (start_of K) (with_fronts front records))
+starts_fit K front [] fit some few = All-nil FitsStart
+starts_fit K front (x ∷ records) fit some few =
+    let rest : total_rows K (front ++ x ∷ []) + total_rows K records ≤ 4294967295 = omega (arith, few, sum_by_push K.row_count front x, sum_by-cons K.row_count x records) in
+    All-cons FitsStart (start_of K (front, x)) (map (start_of K) (with_fronts (front ++ x ∷ []) records))
+    (record { word = fit 0 x (omega arith); start = omega (arith, few) })
+    (starts_fit K (front ++ x ∷ []) records (All-drop (λ r. (hash_in K r).word0 < 2 ^ 64) 1 (x ∷ records) fit) some rest)
 
 chunks_fit : (start n : ℕ) (cs : List XorbChunkSequenceEntry) → All FitsChunk cs → start < 2 ^ 32 → n + length cs ≤ 2 ^ 32
     → All FitsPlace (map (λ c. place_of start c.0 c.1) (enumerate_from n cs))
@@ -122,58 +124,84 @@ chunks_fit start n (c ∷ cs) fit start_fits few =
     (record { word = here.chunk_hash.word0; start = start_fits; place = omega (arith, few) })
     (chunks_fit start (n + 1) cs (All-drop FitsChunk 1 (c ∷ cs) fit) start_fits (omega (arith, few)))
 
-places_fit : (front xorbs : List MDBXorbInfo) → All FitsXorb xorbs → total_xorb_rows front + total_xorb_rows xorbs ≤ 4294967295
-    → All FitsPlace (flat_map (λ e. places_from (total_xorb_rows e.0) e.1.chunks) (with_fronts front xorbs))
+places_fit : (front xorbs : List MDBXorbInfo) → All FitsXorb xorbs → total_rows xorb_records front + total_rows xorb_records xorbs ≤ 4294967295
+    → All FitsPlace (flat_map (λ e. places_from (total_rows xorb_records e.0) e.1.chunks) (with_fronts front xorbs))
 places_fit front [] fit few = All-nil FitsPlace
 places_fit front (x ∷ xorbs) fit few =
     let here : FitsXorb x = fit 0 x (omega arith) in
-    let rest : total_xorb_rows (front ++ x ∷ []) + total_xorb_rows xorbs ≤ 4294967295 = omega (arith, few, sum_by_push xorb_row_count front x, sum_by-cons xorb_row_count x xorbs) in
-    All-append FitsPlace (places_from (total_xorb_rows front) x.chunks) (flat_map (λ e. places_from (total_xorb_rows e.0) e.1.chunks) (with_fronts (front ++ x ∷ []) xorbs))
-    (chunks_fit (total_xorb_rows front) 0 x.chunks here.chunks (omega (arith, few)) (omega (arith, few, sum_by-cons xorb_row_count x xorbs)))
+    let rest : total_rows xorb_records (front ++ x ∷ []) + total_rows xorb_records xorbs ≤ 4294967295 = omega (arith, few, sum_by_push xorb_row_count front x, sum_by-cons xorb_row_count x xorbs) in
+    All-append FitsPlace (places_from (total_rows xorb_records front) x.chunks) (flat_map (λ e. places_from (total_rows xorb_records e.0) e.1.chunks) (with_fronts (front ++ x ∷ []) xorbs))
+    (chunks_fit (total_rows xorb_records front) 0 x.chunks here.chunks (omega (arith, few)) (omega (arith, few, sum_by-cons xorb_row_count x xorbs)))
     (places_fit (front ++ x ∷ []) xorbs (All-drop FitsXorb 1 (x ∷ xorbs) fit) rest)
 
 -- the tables of a list of xorbs that stands in a section
-module _ (xorbs : List MDBXorbInfo) (fit : All FitsXorb xorbs) (few : total_xorb_rows xorbs ≤ 4294967295) where
-  pub xorb_starts_fit : All FitsStart (xorb_starts xorbs)
-  xorb_starts_fit = starts_fit [] xorbs fit (omega (arith, few))
+module _ (xorbs : List MDBXorbInfo) (fit : All FitsXorb xorbs) (few : total_rows xorb_records xorbs ≤ 4294967295) where
+  pub xorb_starts_fit : All FitsStart (starts xorb_records xorbs)
+  xorb_starts_fit = starts_fit xorb_records [] xorbs (λ k r below. (fit k r below).metadata.xorb_hash.word0) (λ r. omega arith) (omega (arith, few))
 
   pub chunk_table_fits : All FitsTriple (map triple_of (chunk_table xorbs))
   chunk_table_fits =
       All-map FitsTriple triple_of (chunk_table xorbs)
       (All-keys-from_entries place_total FitsPlace (map alone (chunk_places xorbs)) (subst (All FitsPlace) (sym (keys-alone (chunk_places xorbs))) (places_fit [] xorbs fit (omega (arith, few)))))
 
-  few_starts : length (xorb_starts xorbs) ≤ 4294967295
-  few_starts = omega (arith, few, length-xorb_starts xorbs, total_xorb_rows-chunks xorbs)
+  few_starts : length (starts xorb_records xorbs) ≤ 4294967295
+  few_starts = omega (arith, few, length-starts xorb_records xorbs, xorb_rows-chunks xorbs)
 
   few_places : length (map triple_of (chunk_table xorbs)) ≤ 4294967295
-  few_places = omega (arith, few, length-map (chunk_table xorbs) triple_of, length-chunk_table xorbs, total_xorb_rows-chunks xorbs)
+  few_places = omega (arith, few, length-map (chunk_table xorbs) triple_of, length-chunk_table xorbs, xorb_rows-chunks xorbs)
+
+-- rows of a table that is in, or none
+in_fits : {X : Type 0} (Fits : X → Type 0) (b : Bool) (rows : List X) → All Fits rows → All Fits (if_in b rows)
+in_fits Fits true rows fit = fit
+in_fits Fits false rows fit = All-nil Fits
+
+in_few : {X : Type 0} (b : Bool) (rows : List X) → length rows ≤ 4294967295 → length (if_in b rows) ≤ 4294967295
+in_few true rows few = few
+in_few false rows few = omega arith
+
+map_in : {X Y : Type 0} (f : X → Y) (b : Bool) (rows : List X) → map f (if_in b rows) ≡ if_in b (map f rows)
+map_in f true rows = refl
+map_in f false rows = refl
+
+-- the tables of such records in any form
+module _ (files : List MDBFileInfo) (xorbs : List MDBXorbInfo) (form : Form) (fits : FitsSection xorb_records xorbs)
+    (old new : Source) (are : old.bytes ≡ layout_of files xorbs form) where
+  abbrev written : MDBShardFileFooter
+  written = footer_value files xorbs form
+
+  widths : All FitsXorb xorbs
+  widths k r below = (fits.stored k r below).widths
+
+  pub xorb_table_in : {Z : Type 0} (r : Result (Vec (ℕ × ℕ) Z) CoreError)
+      → ReadsOrFails start_row FitsStart 12 old new written.xorb_lookup_offset written.xorb_lookup_num_entry r → IsReadAs old new (if_in form.xorb_table (starts xorb_records xorbs)) r
+  xorb_table_in r read =
+      whole_table start_row FitsStart 12 length-start start_told old new written.xorb_lookup_offset (if_in form.xorb_table (starts xorb_records xorbs)) _
+      (in_few form.xorb_table (starts xorb_records xorbs) (few_starts xorbs widths fits.rows)) (in_fits FitsStart form.xorb_table (starts xorb_records xorbs) (xorb_starts_fit xorbs widths fits.rows))
+      (ap (drop written.xorb_lookup_offset) are ∙ xorb_table_stands files xorbs form) r read
+
+  pub chunk_table_in : {Z : Type 0} (r : Result (Vec (ℕ × (ℕ × ℕ)) Z) CoreError)
+      → ReadsOrFails triple_row FitsTriple 16 old new written.chunk_lookup_offset written.chunk_lookup_num_entry r → IsReadAs old new (map triple_of (if_in form.chunk_table (chunk_table xorbs))) r
+  chunk_table_in r read =
+      let rows = map triple_of (if_in form.chunk_table (chunk_table xorbs)) in
+      let same : rows ≡ if_in form.chunk_table (map triple_of (chunk_table xorbs)) = map_in triple_of form.chunk_table (chunk_table xorbs) in
+      whole_table triple_row FitsTriple 16 length-triple triple_told old new written.chunk_lookup_offset rows _
+      (subst (λ rs. length rs ≤ 4294967295) (sym same) (in_few form.chunk_table (map triple_of (chunk_table xorbs)) (few_places xorbs widths fits.rows)))
+      (subst (All FitsTriple) (sym same) (in_fits FitsTriple form.chunk_table (map triple_of (chunk_table xorbs)) (chunk_table_fits xorbs widths fits.rows)))
+      (ap (drop written.chunk_lookup_offset) are ∙ chunk_table_stands files xorbs form) r
+      (subst (λ n. ReadsOrFails triple_row FitsTriple 16 old new written.chunk_lookup_offset n r) (sym (length-map (if_in form.chunk_table (chunk_table xorbs)) triple_of)) read)
 
 -- the tables of a shard
 module _ (s : Shard) (shard : IsShard s) (expiry : Option ℕ) (old new : Source) (are : old.bytes ≡ layout s expiry) (info : MDBShardInfo) (is : info ≡ info_value s expiry) where
-  abbrev written : MDBShardFileFooter
-  written = (info_value s expiry).metadata
-
-  abbrev xorbs : List MDBXorbInfo
-  xorbs = values s.xorbs
-
-  xorbs_fit : All FitsXorb xorbs
-  xorbs_fit = All-map FitsXorb (λ (e : DataHash × MDBXorbInfo). e.1) (entries s.xorbs) (λ k d below. (shard.xorbs.well_formed k d below).widths)
-
   pub xorb_table_read : {Z : Type 0} (r : Result (Vec (ℕ × ℕ) Z) CoreError)
       → ReadsOrFails start_row FitsStart 12 old new info.metadata.xorb_lookup_offset info.metadata.xorb_lookup_num_entry r
-      → IsReadAs old new (xorb_starts xorbs) r
+      → IsReadAs old new (starts xorb_records (values s.xorbs)) r
   xorb_table_read r read =
-      whole_table start_row FitsStart 12 length-start start_told old new written.xorb_lookup_offset (xorb_starts xorbs) _
-      (few_starts xorbs xorbs_fit shard.xorb_rows) (xorb_starts_fit xorbs xorbs_fit shard.xorb_rows)
-      (ap (drop written.xorb_lookup_offset) are ∙ xorb_table_stands (values s.files) xorbs (plain_form expiry)) r
+      xorb_table_in (values s.files) (values s.xorbs) (plain_form expiry) (xorbs_fit s shard) old new are r
       (subst (λ (i : MDBShardInfo). ReadsOrFails start_row FitsStart 12 old new i.metadata.xorb_lookup_offset i.metadata.xorb_lookup_num_entry r) is read)
 
   pub chunk_table_read : {Z : Type 0} (r : Result (Vec (ℕ × (ℕ × ℕ)) Z) CoreError)
       → ReadsOrFails triple_row FitsTriple 16 old new info.metadata.chunk_lookup_offset info.metadata.chunk_lookup_num_entry r
-      → IsReadAs old new (map triple_of (chunk_table xorbs)) r
+      → IsReadAs old new (map triple_of (chunk_table (values s.xorbs))) r
   chunk_table_read r read =
-      whole_table triple_row FitsTriple 16 length-triple triple_told old new written.chunk_lookup_offset (map triple_of (chunk_table xorbs)) _
-      (few_places xorbs xorbs_fit shard.xorb_rows) (chunk_table_fits xorbs xorbs_fit shard.xorb_rows)
-      (ap (drop written.chunk_lookup_offset) are ∙ chunk_table_stands (values s.files) xorbs (plain_form expiry)) r
-      (subst (λ n. ReadsOrFails triple_row FitsTriple 16 old new written.chunk_lookup_offset n r) (sym (length-map (chunk_table xorbs) triple_of))
-      (subst (λ (i : MDBShardInfo). ReadsOrFails triple_row FitsTriple 16 old new i.metadata.chunk_lookup_offset i.metadata.chunk_lookup_num_entry r) is read))
+      chunk_table_in (values s.files) (values s.xorbs) (plain_form expiry) (xorbs_fit s shard) old new are r
+      (subst (λ (i : MDBShardInfo). ReadsOrFails triple_row FitsTriple 16 old new i.metadata.chunk_lookup_offset i.metadata.chunk_lookup_num_entry r) is read)

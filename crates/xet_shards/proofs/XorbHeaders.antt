@@ -12,17 +12,16 @@ use Rattle.xet_records.specs.declared.xorb_structs.MDBXorbInfo.{MDBXorbInfo}
 use Rattle.xet_records.specs.Reading.{ReadsBookend}
 use Rattle.xet_records.specs.XorbRecord.{xorb_records}
 use Rattle.xet_records.proofs.RecordKinds.{xorb_laws}
-use Rattle.xet_shards.specs.Shard.{total_xorb_rows}
-use Rattle.xet_shards.specs.Section.{with_fronts}
+use Rattle.xet_shards.specs.Section.{total_rows, with_fronts}
 use Rattle.xet_shards.specs.SectionReading.{IsSection, SectionFails}
 use Rattle.xet_shards.specs.XorbHeaders.{xorb_headers, ReadsXorbHeaders, HasReadHeaders, ReadsThrough}
 use Rattle.xet_shards.proofs.SectionReading.{nothing_read, more_read, section_ends, place_after}
 use Rattle.xet_shards.proofs.Readback.{why_not, only_these}
 use Rattle.xet_shards.proofs.Tables.{with_fronts-push}
 
-xorb_headers-push : (at : ℕ) (xorbs : List MDBXorbInfo) (x : MDBXorbInfo) → xorb_headers at (xorbs ++ x ∷ []) ≡ xorb_headers at xorbs ++ (x.metadata, at + 48 * total_xorb_rows xorbs) ∷ []
+xorb_headers-push : (at : ℕ) (xorbs : List MDBXorbInfo) (x : MDBXorbInfo) → xorb_headers at (xorbs ++ x ∷ []) ≡ xorb_headers at xorbs ++ (x.metadata, at + 48 * total_rows xorb_records xorbs) ∷ []
 xorb_headers-push at xorbs x =
-    let header : List MDBXorbInfo × MDBXorbInfo → XorbChunkSequenceHeader × ℕ = λ e. (e.1.metadata, at + 48 * total_xorb_rows e.0) in
+    let header : List MDBXorbInfo × MDBXorbInfo → XorbChunkSequenceHeader × ℕ = λ e. (e.1.metadata, at + 48 * total_rows xorb_records e.0) in
     ap (map header) (with_fronts-push [] xorbs x) ∙ map-append header (with_fronts [] xorbs) ((xorbs, x) ∷ [])
 
 -- before the first header
@@ -33,7 +32,7 @@ no_headers start = record { xorbs = []; read = nothing_read xorb_records xorb_la
 pub more_headers : (start now new : Source) (found : List (XorbChunkSequenceHeader × ℕ)) (left after : ℕ) (header : XorbChunkSequenceHeader × ℕ)
     → HasReadHeaders start now found left → ReadsThrough now new left after (Some header) → HasReadHeaders start new (found ++ header ∷ []) after
 more_headers start now new found left after header before (x, is, next) =
-    let place : now.at ≡ start.at + 48 * total_xorb_rows before.xorbs = place_after xorb_records xorb_laws start now before.xorbs left before.read in
+    let place : now.at ≡ start.at + 48 * total_rows xorb_records before.xorbs = place_after xorb_records xorb_laws start now before.xorbs left before.read in
     record {
       xorbs = before.xorbs ++ x ∷ [];
       read = more_read xorb_records xorb_laws start now new before.xorbs left after x before.read next;

@@ -1,5 +1,5 @@
 -- The lengths of the parts of a shard with xorbs, and of its layout.
-use Rattle.std.proofs.Common.{◌≡◌, ℕ, ◌+◌, ◌*◌, List, [], ◌∷◌, ◌++◌, map, flat_map, length, Option, refl, sym, ap, ◌∙◌, subst, arith}
+use Rattle.std.proofs.Common.{◌≡◌, Bool, true, false, ℕ, ◌+◌, ◌*◌, List, [], ◌∷◌, ◌++◌, map, flat_map, length, Option, refl, sym, ap, ◌∙◌, subst, arith}
 use Rattle.std.specs.Prelude.{All, sum_by}
 use Rattle.std.specs.List.{enumerate_from}
 use Rattle.std.specs.Map.{keys_of}
@@ -10,45 +10,33 @@ use Rattle.std.proofs.lemmas.List.Sums.{sum_by-cons, sum_by_push}
 use Rattle.xet_records.specs.declared.file_structs.MDBFileInfo.{MDBFileInfo}
 use Rattle.xet_records.specs.declared.xorb_structs.MDBXorbInfo.{MDBXorbInfo}
 use Rattle.xet_records.specs.declared.xorb_structs.XorbChunkSequenceEntry.{XorbChunkSequenceEntry}
-use Rattle.xet_records.specs.FileRecord.{FitsRecord}
+use Rattle.xet_records.specs.FileRecord.{file_records, FitsRecord}
 use Rattle.xet_records.specs.XorbRow.{xorb_header_row}
-use Rattle.xet_records.specs.XorbRecord.{xorb_record_bytes, xorb_row_count, xorb_bookend}
+use Rattle.xet_records.specs.XorbRecord.{xorb_records, xorb_record_bytes, xorb_row_count, xorb_bookend}
 use Rattle.xet_records.proofs.Lengths.{length-xorb_header_row, length-xorb_record_bytes}
-use Rattle.xet_shards.specs.Shard.{total_rows, total_xorb_rows}
-use Rattle.xet_shards.specs.Section.{with_fronts, file_section, xorb_section}
-use Rattle.xet_shards.specs.Tables.{ChunkPlace, place_cmp, places_from, chunk_places, chunk_table, file_table_bytes, xorb_table_bytes, chunk_table_bytes}
-use Rattle.xet_shards.specs.Layout.{shard_header_bytes, shard_footer_bytes, header_value, footer_value, layout_of, plain_form}
+use Rattle.xet_shards.specs.Section.{total_rows, with_fronts, section_bytes}
+use Rattle.xet_shards.specs.Tables.{ChunkPlace, place_cmp, places_from, chunk_places, chunk_table, table_bytes, chunk_table_bytes}
+use Rattle.xet_shards.specs.Layout.{Form, if_in, shard_header_bytes, shard_footer_bytes, header_value, footer_value, layout_of, plain_form}
 use Rattle.xet_shards.proofs.ChunkPlaces.{alone, place_of}
 use Rattle.xet_shards.proofs.Maps.{IsRising, rising_lower, length-from_entries}
-use Rattle.xet_shards.proofs.Tables.{length-file_table_bytes, length-xorb_table_bytes, length-place_rows, place_total, place_exact}
-use Rattle.xet_shards.proofs.Layouts.{length-shard_header_bytes, length-file_section, length-shard_footer_bytes}
+use Rattle.xet_shards.proofs.Tables.{length-table_bytes, length-place_rows, place_total, place_exact}
+use Rattle.xet_shards.proofs.Layouts.{length-shard_header_bytes, length-file_section, length-xorb_section, length-shard_footer_bytes}
 
 abbrev pub total_chunks : List MDBXorbInfo → ℕ
 total_chunks xorbs = sum_by (λ (r : MDBXorbInfo). length r.chunks) xorbs
 
 -- each xorb has a row, and a row for each of its chunks
-pub total_xorb_rows-chunks : (xorbs : List MDBXorbInfo) → total_xorb_rows xorbs ≡ length xorbs + total_chunks xorbs
-total_xorb_rows-chunks [] = refl
-total_xorb_rows-chunks (x ∷ xorbs) =
-    omega (arith, sum_by-cons xorb_row_count x xorbs, sum_by-cons (λ (r : MDBXorbInfo). length r.chunks) x xorbs, total_xorb_rows-chunks xorbs)
-
-pub length-xorb_texts : (xorbs : List MDBXorbInfo) → length (flat_map xorb_record_bytes xorbs) ≡ 48 * total_xorb_rows xorbs
-length-xorb_texts [] = refl
-length-xorb_texts (x ∷ xorbs) =
-    length-append (xorb_record_bytes x) (flat_map xorb_record_bytes xorbs)
-    ∙ omega (arith, length-xorb_record_bytes x, length-xorb_texts xorbs, sum_by-cons xorb_row_count x xorbs)
-
-pub length-xorb_section : (xorbs : List MDBXorbInfo) → length (xorb_section xorbs) ≡ 48 * total_xorb_rows xorbs + 48
-unfolding xorb_section
-length-xorb_section xorbs =
-    length-append (flat_map xorb_record_bytes xorbs) (xorb_header_row xorb_bookend) ∙ omega (arith, length-xorb_texts xorbs, length-xorb_header_row xorb_bookend)
+pub xorb_rows-chunks : (xorbs : List MDBXorbInfo) → total_rows xorb_records xorbs ≡ length xorbs + total_chunks xorbs
+xorb_rows-chunks [] = refl
+xorb_rows-chunks (x ∷ xorbs) =
+    omega (arith, sum_by-cons xorb_row_count x xorbs, sum_by-cons (λ (r : MDBXorbInfo). length r.chunks) x xorbs, xorb_rows-chunks xorbs)
 
 -- the places of the chunks of xorbs that stand after others
 abbrev place_after : List MDBXorbInfo → ℕ × XorbChunkSequenceEntry → ChunkPlace
-place_after front c = place_of (total_xorb_rows front) c.0 c.1
+place_after front c = place_of (total_rows xorb_records front) c.0 c.1
 
 abbrev places_of : List MDBXorbInfo × MDBXorbInfo → List ChunkPlace
-places_of e = places_from (total_xorb_rows e.0) e.1.chunks
+places_of e = places_from (total_rows xorb_records e.0) e.1.chunks
 
 abbrev places_after : List MDBXorbInfo → List MDBXorbInfo → List ChunkPlace
 places_after front xorbs = flat_map places_of (with_fronts front xorbs)
@@ -69,13 +57,13 @@ length-places front (x ∷ xorbs) =
 abbrev sum_of : ChunkPlace → ℕ
 sum_of p = p.start + p.place
 
-rising_chunks : (front : List MDBXorbInfo) (n : ℕ) (cs : List XorbChunkSequenceEntry) (rest : List ChunkPlace) → IsRising sum_of (total_xorb_rows front + n + length cs) rest
-    → IsRising sum_of (total_xorb_rows front + n) (map (place_after front) (enumerate_from n cs) ++ rest)
+rising_chunks : (front : List MDBXorbInfo) (n : ℕ) (cs : List XorbChunkSequenceEntry) (rest : List ChunkPlace) → IsRising sum_of (total_rows xorb_records front + n + length cs) rest
+    → IsRising sum_of (total_rows xorb_records front + n) (map (place_after front) (enumerate_from n cs) ++ rest)
 rising_chunks front n [] rest rising = rising_lower sum_of _ _ rest (omega arith) rising
 rising_chunks front n (c ∷ cs) rest rising =
     (omega arith, rising_lower sum_of _ _ _ (omega arith) (rising_chunks front (n + 1) cs rest (rising_lower sum_of _ _ rest (omega arith) rising)))
 
-rising_places : (front xorbs : List MDBXorbInfo) → IsRising sum_of (total_xorb_rows front) (places_after front xorbs)
+rising_places : (front xorbs : List MDBXorbInfo) → IsRising sum_of (total_rows xorb_records front) (places_after front xorbs)
 rising_places front [] = tt
 rising_places front (x ∷ xorbs) =
     let later = places_after (front ++ x ∷ []) xorbs in
@@ -101,32 +89,51 @@ length-chunk_table xorbs =
     ∙ length-map (chunk_places xorbs) alone
     ∙ length-chunk_places xorbs
 
-pub length-chunk_table_bytes : (xorbs : List MDBXorbInfo) → length (chunk_table_bytes xorbs) ≡ 16 * total_chunks xorbs
+length-chunk_rows : (xorbs : List MDBXorbInfo) → length (chunk_table_bytes xorbs) ≡ 16 * length (chunk_table xorbs)
 unfolding chunk_table_bytes
-length-chunk_table_bytes xorbs = length-place_rows (chunk_table xorbs) ∙ ap (λ n. 16 * n) (length-chunk_table xorbs)
+length-chunk_rows xorbs = length-place_rows (chunk_table xorbs)
 
--- a shard has 344 bytes, 48 for each row of its records, 12 for each record and 16 for each chunk
-pub length-layout_of : (files : List MDBFileInfo) (xorbs : List MDBXorbInfo) (expiry : Option ℕ) → All FitsRecord files
-    → length (layout_of files xorbs (plain_form expiry))
-    ≡ 344 + 48 * (total_rows files + total_xorb_rows xorbs) + 12 * (length files + length xorbs) + 16 * (sum_by (λ (r : MDBXorbInfo). length r.chunks) xorbs)
+pub length-chunk_table_bytes : (xorbs : List MDBXorbInfo) → length (chunk_table_bytes xorbs) ≡ 16 * total_chunks xorbs
+length-chunk_table_bytes xorbs = length-chunk_rows xorbs ∙ ap (λ n. 16 * n) (length-chunk_table xorbs)
+
+-- the bytes of a table that is in, or none
+length-in : {X : Type 0} (b : Bool) (bytes : List ℕ) (rows : List X) (size : ℕ) → length bytes ≡ size * length rows → length (if_in b bytes) ≡ size * length (if_in b rows)
+length-in true bytes rows size len = len
+length-in false bytes rows size len = omega arith
+
+-- header, footer and two bookends have 344 bytes; there are 48 for each row of the records, and in the tables that are
+-- in, 12 for each record and 16 for each chunk
+pub length-in_form : (files : List MDBFileInfo) (xorbs : List MDBXorbInfo) (form : Form) → All FitsRecord files
+    → length (layout_of files xorbs form)
+    ≡ 344 + 48 * (total_rows file_records files + total_rows xorb_records xorbs) + 12 * (length (if_in form.file_table files) + length (if_in form.xorb_table xorbs))
+    + 16 * length (if_in form.chunk_table (chunk_table xorbs))
 unfolding layout_of
-length-layout_of files xorbs expiry fit =
+length-in_form files xorbs form fit =
     let header = shard_header_bytes header_value in
-    let footer = footer_value files xorbs (plain_form expiry) in
-    let sections = (header ++ file_section files) ++ xorb_section xorbs in
-    length-append (((sections ++ file_table_bytes files) ++ xorb_table_bytes xorbs) ++ chunk_table_bytes xorbs) (shard_footer_bytes footer)
+    let footer = footer_value files xorbs form in
+    let sections = (header ++ section_bytes file_records files) ++ section_bytes xorb_records xorbs in
+    let file_table = if_in form.file_table (table_bytes file_records files) in
+    let xorb_table = if_in form.xorb_table (table_bytes xorb_records xorbs) in
+    let chunks = if_in form.chunk_table (chunk_table_bytes xorbs) in
+    length-append (((sections ++ file_table) ++ xorb_table) ++ chunks) (shard_footer_bytes footer)
     ∙ omega (
       arith,
-      length-append ((sections ++ file_table_bytes files) ++ xorb_table_bytes xorbs) (chunk_table_bytes xorbs),
-      length-append (sections ++ file_table_bytes files) (xorb_table_bytes xorbs),
-      length-append sections (file_table_bytes files),
-      length-append (header ++ file_section files) (xorb_section xorbs),
-      length-append header (file_section files),
+      length-append ((sections ++ file_table) ++ xorb_table) chunks,
+      length-append (sections ++ file_table) xorb_table,
+      length-append sections file_table,
+      length-append (header ++ section_bytes file_records files) (section_bytes xorb_records xorbs),
+      length-append header (section_bytes file_records files),
       length-shard_header_bytes header_value,
       length-file_section files fit,
       length-xorb_section xorbs,
-      length-file_table_bytes files,
-      length-xorb_table_bytes xorbs,
-      length-chunk_table_bytes xorbs,
+      length-in form.file_table (table_bytes file_records files) files 12 (length-table_bytes file_records files),
+      length-in form.xorb_table (table_bytes xorb_records xorbs) xorbs 12 (length-table_bytes xorb_records xorbs),
+      length-in form.chunk_table (chunk_table_bytes xorbs) (chunk_table xorbs) 16 (length-chunk_rows xorbs),
       length-shard_footer_bytes footer refl,
     )
+
+-- in the plain form all tables are in
+pub length-layout_of : (files : List MDBFileInfo) (xorbs : List MDBXorbInfo) (expiry : Option ℕ) → All FitsRecord files
+    → length (layout_of files xorbs (plain_form expiry))
+    ≡ 344 + 48 * (total_rows file_records files + total_rows xorb_records xorbs) + 12 * (length files + length xorbs) + 16 * (sum_by (λ (r : MDBXorbInfo). length r.chunks) xorbs)
+length-layout_of files xorbs expiry fit = length-in_form files xorbs (plain_form expiry) fit ∙ omega (arith, length-chunk_table xorbs)

@@ -10,8 +10,9 @@ use Rattle.std.proofs.lemmas.List.Elements.{All-drop, All-map}
 use Rattle.std.proofs.lemmas.List.Sums.{sum_by-cons}
 use Rattle.xet_base.specs.declared.merklehash.DataHash.{DataHash}
 use Rattle.xet_records.specs.declared.xorb_structs.MDBXorbInfo.{MDBXorbInfo}
-use Rattle.xet_records.specs.XorbRecord.{xorb_row_count, IsXorb}
-use Rattle.xet_shards.specs.Shard.{AreXorbs, total_xorb_rows}
+use Rattle.xet_records.specs.XorbRecord.{xorb_records, xorb_row_count, IsXorb}
+use Rattle.xet_shards.specs.Section.{total_rows}
+use Rattle.xet_shards.specs.Shard.{AreXorbs}
 use Rattle.xet_shards.specs.XorbStore.{shown_xorbs}
 use Rattle.xet_shards.proofs.Walks.{value_turn, value_end, values_push}
 
@@ -44,8 +45,9 @@ module _ {Z : Type 0} where
 pub xorb_values : (es : List (DataHash × MDBXorbInfo)) → AreXorbs es → All IsXorb (values_of es)
 xorb_values es xorbs = All-map IsXorb (λ (e : DataHash × MDBXorbInfo). e.1) es xorbs.well_formed
 
--- each xorb has a row, so the sum of a `u32` over xorbs fits `u64`
-pub xorbs_bound : (f : MDBXorbInfo → ℕ) → ((r : MDBXorbInfo) → IsXorb r → f r ≤ 4294967295) → (rs : List MDBXorbInfo) → All IsXorb rs → sum_by f rs ≤ 4294967295 * total_xorb_rows rs
-xorbs_bound f small [] xorbs = omega arith
-xorbs_bound f small (r ∷ rs) xorbs =
-    omega (arith, sum_by-cons f r rs, sum_by-cons xorb_row_count r rs, small r (xorbs 0 r (omega arith)), xorbs_bound f small rs (All-drop IsXorb 1 (r ∷ rs) xorbs))
+-- each xorb has a row, and so no sum of a number of 32 bits passes 64
+pub xorbs_bound : (P : MDBXorbInfo → Type 0) (f : MDBXorbInfo → ℕ) → ((r : MDBXorbInfo) → P r → f r ≤ 4294967295) → (rs : List MDBXorbInfo) → All P rs
+    → sum_by f rs ≤ 4294967295 * total_rows xorb_records rs
+xorbs_bound P f small [] xorbs = omega arith
+xorbs_bound P f small (r ∷ rs) xorbs =
+    omega (arith, sum_by-cons f r rs, sum_by-cons xorb_row_count r rs, small r (xorbs 0 r (omega arith)), xorbs_bound P f small rs (All-drop P 1 (r ∷ rs) xorbs))

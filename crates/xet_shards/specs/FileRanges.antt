@@ -9,8 +9,7 @@ use Rattle.xet_records.specs.declared.file_structs.MDBFileInfo.{MDBFileInfo}
 use Rattle.xet_records.specs.Reading.{ReadsBookend}
 use Rattle.xet_records.specs.FileRecord.{has_verification, file_records}
 use Rattle.xet_shards.specs.declared.shard_format.header.MDBShardFileHeader.{MDBShardFileHeader}
-use Rattle.xet_shards.specs.Shard.{total_rows}
-use Rattle.xet_shards.specs.Section.{with_fronts}
+use Rattle.xet_shards.specs.Section.{total_rows, with_fronts}
 use Rattle.xet_shards.specs.Layout.{header_tag, shard_header_bytes}
 use Rattle.xet_shards.specs.Ends.{HasUnsupportedHeader, EndsInHeader, PartFails}
 use Rattle.xet_shards.specs.SectionReading.{TakesSection, TakesNoSection, HasRead, ReadsNext}
@@ -35,7 +34,7 @@ ranges_at place r = ranges_after (place + 48) r.metadata r.metadata_ext
 
 -- those of records whose section stands at a place
 abbrev pub file_ranges : ℕ → List MDBFileInfo → List FileRanges
-file_ranges at files = map (λ e. ranges_at (at + 48 * total_rows e.0) e.1) (with_fronts [] files)
+file_ranges at files = map (λ e. ranges_at (at + 48 * total_rows file_records e.0) e.1) (with_fronts [] files)
 
 -- the file section was read through from the source's place on, and these are the ranges of its files
 abbrev pub TakesRanges : Source → Source → List FileRanges → Type 0

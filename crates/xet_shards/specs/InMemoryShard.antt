@@ -1,16 +1,18 @@
 -- The fields of a shard in memory.
 use Rattle.std.specs.Prelude.{◌≡◌, ◌≤◌}
 use Rattle.std.specs.FinMap.{values}
+use Rattle.xet_records.specs.FileRecord.{file_records}
+use Rattle.xet_records.specs.XorbRecord.{xorb_records}
 use Rattle.xet_shards.specs.declared.shard_in_memory.MDBInMemoryShard.TheInside.{Inside}
 use Rattle.xet_shards.specs.ChunkLookup.{ShardWithLookup}
-use Rattle.xet_shards.specs.Shard.{total_rows, total_xorb_rows}
+use Rattle.xet_shards.specs.Section.{total_rows}
 
 abbrev pub shard_inside : Inside → ShardWithLookup
 shard_inside s = record { content = record { files = s.files; xorbs = s.xorbs.xorbs }; locations = s.xorbs.locations }
 
 -- the rows are those of the stores, and fit `u32`
 pub record IsCounted (s : Inside) : Type 0 where
-  pub file_rows : s.file_rows ≡ total_rows (values s.files)
+  pub file_rows : s.file_rows ≡ total_rows file_records (values s.files)
   pub few_file_rows : s.file_rows ≤ 4294967295
-  pub xorb_rows : s.xorb_rows ≡ total_xorb_rows (values s.xorbs.xorbs)
+  pub xorb_rows : s.xorb_rows ≡ total_rows xorb_records (values s.xorbs.xorbs)
   pub few_xorb_rows : s.xorb_rows ≤ 4294967295

@@ -6,13 +6,14 @@ use Rattle.xet_base.specs.Bytes.{u64_bytes}
 use Rattle.xet_base.specs.Hash.{hash_bytes}
 use Rattle.xet_records.specs.declared.file_structs.MDBFileInfo.{MDBFileInfo}
 use Rattle.xet_records.specs.declared.xorb_structs.MDBXorbInfo.{MDBXorbInfo}
-use Rattle.xet_records.specs.FileRecord.{size_of_file}
+use Rattle.xet_records.specs.FileRecord.{file_records, size_of_file}
+use Rattle.xet_records.specs.XorbRecord.{xorb_records}
 use Rattle.xet_shards.specs.declared.shard_format.header.MDBShardFileHeader.{MDBShardFileHeader}
 use Rattle.xet_shards.specs.declared.shard_format.footer.MDBShardFileFooter.{MDBShardFileFooter}
 use Rattle.xet_shards.specs.declared.shard_format.info.MDBShardInfo.{MDBShardInfo}
 use Rattle.xet_shards.specs.Shard.{Shard}
-use Rattle.xet_shards.specs.Section.{file_section, xorb_section}
-use Rattle.xet_shards.specs.Tables.{file_starts, xorb_starts, chunk_table, file_table_bytes, xorb_table_bytes, chunk_table_bytes}
+use Rattle.xet_shards.specs.Section.{section_bytes}
+use Rattle.xet_shards.specs.Tables.{starts, chunk_table, table_bytes, chunk_table_bytes}
 
 -- the 32 bytes that every shard begins with: `HFRepoMetaData`, a zero byte and seventeen more
 abbrev pub header_tag : List ℕ
@@ -82,18 +83,18 @@ header_value = record { tag = header_tag; version = 2; footer_size = 200 }
 -- the footer: offsets are sums of lengths, counts those of the tables that are in, byte counts sums over the records
 abbrev pub footer_value : List MDBFileInfo → List MDBXorbInfo → Form → MDBShardFileFooter
 footer_value files xorbs form =
-    let xorb_info = 48 + length (file_section files) in
-    let file_lookup = xorb_info + length (xorb_section xorbs) in
-    let xorb_lookup = file_lookup + length (if_in form.file_table (file_table_bytes files)) in
-    let chunk_lookup = xorb_lookup + length (if_in form.xorb_table (xorb_table_bytes xorbs)) in
+    let xorb_info = 48 + length (section_bytes file_records files) in
+    let file_lookup = xorb_info + length (section_bytes xorb_records xorbs) in
+    let xorb_lookup = file_lookup + length (if_in form.file_table (table_bytes file_records files)) in
+    let chunk_lookup = xorb_lookup + length (if_in form.xorb_table (table_bytes xorb_records xorbs)) in
     record {
       version = 1;
       file_info_offset = 48;
       xorb_info_offset = xorb_info;
       file_lookup_offset = file_lookup;
-      file_lookup_num_entry = length (if_in form.file_table (file_starts files));
+      file_lookup_num_entry = length (if_in form.file_table (starts file_records files));
       xorb_lookup_offset = xorb_lookup;
-      xorb_lookup_num_entry = length (if_in form.xorb_table (xorb_starts xorbs));
+      xorb_lookup_num_entry = length (if_in form.xorb_table (starts xorb_records xorbs));
       chunk_lookup_offset = chunk_lookup;
       chunk_lookup_num_entry = length (if_in form.chunk_table (chunk_table xorbs));
       chunk_hash_hmac_key = form.key;
@@ -109,8 +110,8 @@ footer_value files xorbs form =
 -- all the bytes of a list of files and a list of xorbs in a form
 unfoldable pub layout_of : List MDBFileInfo → List MDBXorbInfo → Form → List ℕ
 layout_of files xorbs form =
-    (((((shard_header_bytes header_value ++ file_section files) ++ xorb_section xorbs) ++ if_in form.file_table (file_table_bytes files))
-    ++ if_in form.xorb_table (xorb_table_bytes xorbs)) ++ if_in form.chunk_table (chunk_table_bytes xorbs)) ++ shard_footer_bytes (footer_value files xorbs form)
+    (((((shard_header_bytes header_value ++ section_bytes file_records files) ++ section_bytes xorb_records xorbs) ++ if_in form.file_table (table_bytes file_records files))
+    ++ if_in form.xorb_table (table_bytes xorb_records xorbs)) ++ if_in form.chunk_table (chunk_table_bytes xorbs)) ++ shard_footer_bytes (footer_value files xorbs form)
 
 -- all tables, no key, no creation, and an expiry or none
 abbrev pub plain_form : Option ℕ → Form

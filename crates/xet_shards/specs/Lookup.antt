@@ -13,7 +13,7 @@ use Rattle.xet_records.specs.FileRecord.{file_record_bytes, file_records}
 use Rattle.xet_records.specs.Reading.{ReadsRecord}
 use Rattle.xet_shards.specs.declared.shard_format.footer.MDBShardFileFooter.{MDBShardFileFooter}
 use Rattle.xet_shards.specs.Shard.{Shard, file_hash_of}
-use Rattle.xet_shards.specs.Tables.{file_starts}
+use Rattle.xet_shards.specs.Tables.{starts}
 use Rattle.xet_shards.specs.SectionReading.{MayTake, BeginsWithBookend, PassesLimit, EndsEarly, SectionFailure}
 
 -- the files whose hashes have this first word
@@ -177,7 +177,7 @@ FindingFails t offset hash old new e =
 -- these rows are the starts of the files that share the first word, in some order
 abbrev pub AreStarts : List MDBFileInfo → ℕ → List ℕ → Type 0
 AreStarts files word rows =
-    ((row : ℕ) → Contains rows row → Contains (file_starts files) (word, row)) × ((row : ℕ) → Contains (file_starts files) (word, row) → Contains rows row)
+    ((row : ℕ) → Contains rows row → Contains (starts file_records files) (word, row)) × ((row : ℕ) → Contains (starts file_records files) (word, row) → Contains rows row)
 
 -- an index lookup on the bytes of a shard: the starts where fewer than eight files share the first word, the
 -- collision where eight do; else the device failed

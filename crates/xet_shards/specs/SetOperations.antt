@@ -6,7 +6,10 @@ use Rattle.xet_base.specs.declared.merklehash.DataHash.{DataHash}
 use Rattle.xet_records.specs.declared.file_structs.MDBFileInfo.{MDBFileInfo}
 use Rattle.xet_records.specs.declared.xorb_structs.MDBXorbInfo.{MDBXorbInfo}
 use Rattle.xet_records.specs.Merging.{Agree, IsSameFile}
-use Rattle.xet_shards.specs.Shard.{Shard, total_rows, total_xorb_rows}
+use Rattle.xet_records.specs.FileRecord.{file_records}
+use Rattle.xet_records.specs.XorbRecord.{xorb_records}
+use Rattle.xet_shards.specs.Section.{total_rows}
+use Rattle.xet_shards.specs.Shard.{Shard}
 use Rattle.xet_shards.specs.Joining.{but, either_file}
 
 -- the records of both shards: of two files with the same hash, the first with the parts that only the second has; of two
@@ -22,8 +25,8 @@ pub record IsDifference (a b c : Shard) : Type 0 where
 
 -- the rows of each map fit `u32`
 pub record HasFewRows (s : Shard) : Type 0 where
-  pub files : total_rows (values s.files) ≤ 4294967295
-  pub xorbs : total_xorb_rows (values s.xorbs) ≤ 4294967295
+  pub files : total_rows file_records (values s.files) ≤ 4294967295
+  pub xorbs : total_rows xorb_records (values s.xorbs) ≤ 4294967295
 
 -- files with the same hash have equally many segments, and the rows of the union fit `u32`
 pub record CanUnite (a b : Shard) : Type 0 where

@@ -1,5 +1,5 @@
 -- A shard: two finite maps, from file hash to file record and from xorb hash to xorb record.
-use Rattle.std.specs.Prelude.{◌≡◌, ℕ, ◌≤◌, List, sum_by, All, refl}
+use Rattle.std.specs.Prelude.{◌≡◌, ◌≤◌, List, All, refl}
 use Rattle.std.specs.FinMap.{FinMap, empty, insert, entries, values}
 use Rattle.std.specs.FinMap as finite
 use Rattle.std.specs.Coded.{Coded, code_by, coded×}
@@ -10,8 +10,9 @@ use Rattle.xet_records.specs.declared.file_structs.MDBFileInfo.{MDBFileInfo}
 use Rattle.xet_records.specs.contracts.file_structs.MDBFileInfo as file
 use Rattle.xet_records.specs.declared.xorb_structs.MDBXorbInfo.{MDBXorbInfo}
 use Rattle.xet_records.specs.contracts.xorb_structs.MDBXorbInfo as xorb
-use Rattle.xet_records.specs.FileRecord.{row_count, IsWellFormed}
-use Rattle.xet_records.specs.XorbRecord.{xorb_row_count, IsXorb}
+use Rattle.xet_records.specs.FileRecord.{file_records, IsWellFormed}
+use Rattle.xet_records.specs.XorbRecord.{xorb_records, IsXorb}
+use Rattle.xet_shards.specs.Section.{total_rows}
 
 abbrev pub FileMap : Type 0
 FileMap = FinMap hash_cmp MDBFileInfo
@@ -39,13 +40,6 @@ file_hash_of r = r.metadata.file_hash
 abbrev pub xorb_hash_of : MDBXorbInfo → DataHash
 xorb_hash_of r = r.metadata.xorb_hash
 
--- the rows of a list of records
-abbrev pub total_rows : List MDBFileInfo → ℕ
-total_rows rs = sum_by row_count rs
-
-abbrev pub total_xorb_rows : List MDBXorbInfo → ℕ
-total_xorb_rows rs = sum_by xorb_row_count rs
-
 -- each key is its record's hash, and each record is well-formed
 pub record AreFiles (es : List (DataHash × MDBFileInfo)) : Type 0 where
   pub keyed : All (λ e. e.0 ≡ file_hash_of e.1) es
@@ -55,12 +49,12 @@ pub record AreXorbs (es : List (DataHash × MDBXorbInfo)) : Type 0 where
   pub keyed : All (λ e. e.0 ≡ xorb_hash_of e.1) es
   pub well_formed : All (λ e. IsXorb e.1) es
 
--- such maps, whose rows fit `u32`
+-- such maps, the rows of each of which fit `u32`
 pub record IsShard (s : Shard) : Type 0 where
   pub files : AreFiles (entries s.files)
-  pub file_rows : total_rows (values s.files) ≤ 4294967295
+  pub file_rows : total_rows file_records (values s.files) ≤ 4294967295
   pub xorbs : AreXorbs (entries s.xorbs)
-  pub xorb_rows : total_xorb_rows (values s.xorbs) ≤ 4294967295
+  pub xorb_rows : total_rows xorb_records (values s.xorbs) ≤ 4294967295
 
 abbrev pub empty_shard : Shard
 empty_shard = record { files = empty; xorbs = empty }
@@ -75,8 +69,8 @@ add_xorb s r = record s { xorbs = insert s.xorbs (xorb_hash_of r) r }
 -- a record that can be inserted
 pub record CanAddFile (s : Shard) (r : MDBFileInfo) : Type 0 where
   pub well_formed : IsWellFormed r
-  pub rows : total_rows (values (add_file s r).files) ≤ 4294967295
+  pub rows : total_rows file_records (values (add_file s r).files) ≤ 4294967295
 
 pub record CanAddXorb (s : Shard) (r : MDBXorbInfo) : Type 0 where
   pub well_formed : IsXorb r
-  pub rows : total_xorb_rows (values (add_xorb s r).xorbs) ≤ 4294967295
+  pub rows : total_rows xorb_records (values (add_xorb s r).xorbs) ≤ 4294967295

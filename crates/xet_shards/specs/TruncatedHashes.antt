@@ -6,8 +6,7 @@ use Rattle.xet_base.specs.Source.{Source, Takes, advanced, moved, bytes_left}
 use Rattle.xet_records.specs.declared.xorb_structs.MDBXorbInfo.{MDBXorbInfo}
 use Rattle.xet_records.specs.Reading.{ReadsBookend}
 use Rattle.xet_records.specs.XorbRecord.{xorb_records}
-use Rattle.xet_shards.specs.Shard.{total_xorb_rows}
-use Rattle.xet_shards.specs.Section.{with_fronts}
+use Rattle.xet_shards.specs.Section.{total_rows, with_fronts}
 use Rattle.xet_shards.specs.Tables.{chunk_places}
 use Rattle.xet_shards.specs.TableReading.{triple_of}
 use Rattle.xet_shards.specs.SectionReading.{HoldsRecords, BeginsWithBookend, PassesLimit, EndsEarly, SectionFailure, HasRead, ReadsNext, rows_left}
@@ -18,14 +17,14 @@ hashes_of xorbs = map triple_of (chunk_places xorbs)
 
 -- each of the xorbs, the first of which stands at a place, starts before the stop
 abbrev pub StartBefore : ℕ → ℕ → List MDBXorbInfo → Type 0
-StartBefore at stop xorbs = All (λ e. at + 48 * total_xorb_rows e.0 < stop) (with_fronts [] xorbs)
+StartBefore at stop xorbs = All (λ e. at + 48 * total_rows xorb_records e.0 < stop) (with_fronts [] xorbs)
 
 -- the walk ended after xorbs: a bookend that starts before the stop was read, or the stop reached and no byte more read
 abbrev pub WalkEnds : Source → Source → ℕ → ℕ → List MDBXorbInfo → List ℕ → Type 0
 WalkEnds old new at stop xorbs rest =
-    ((at + 48 * total_xorb_rows xorbs < stop) × BeginsWithBookend xorb_records rest
-    × (new ≡ advanced (moved old at) (48 * (total_xorb_rows xorbs + 1))))
-    ⊎ ((stop ≤ at + 48 * total_xorb_rows xorbs) × (new ≡ advanced (moved old at) (48 * total_xorb_rows xorbs)))
+    ((at + 48 * total_rows xorb_records xorbs < stop) × BeginsWithBookend xorb_records rest
+    × (new ≡ advanced (moved old at) (48 * (total_rows xorb_records xorbs + 1))))
+    ⊎ ((stop ≤ at + 48 * total_rows xorb_records xorbs) × (new ≡ advanced (moved old at) (48 * total_rows xorb_records xorbs)))
 
 -- the hashes were read by one seek, and no byte past the end of the walk
 pub record ReadsHashes (old new : Source) (at stop : ℕ) (found : List (ℕ × (ℕ × ℕ))) : Type 0 where
@@ -40,13 +39,13 @@ pub record ReadsHashes (old new : Source) (at stop : ℕ) (found : List (ℕ × 
 abbrev pub PassesBefore : ℕ → ℕ → List ℕ → Type 0
 PassesBefore at stop bytes =
     (xorbs : List MDBXorbInfo) × (rest : List ℕ) × HoldsRecords xorb_records bytes xorbs rest
-    × (at + 48 * total_xorb_rows xorbs < stop) × PassesLimit xorb_records (rows_left xorb_records xorbs) rest
+    × (at + 48 * total_rows xorb_records xorbs < stop) × PassesLimit xorb_records (rows_left xorb_records xorbs) rest
 
 -- the same, but there are too few bytes
 abbrev pub CutBefore : ℕ → ℕ → List ℕ → Type 0
 CutBefore at stop bytes =
     (xorbs : List MDBXorbInfo) × (rest : List ℕ) × HoldsRecords xorb_records bytes xorbs rest
-    × (at + 48 * total_xorb_rows xorbs < stop) × EndsEarly xorb_records (rows_left xorb_records xorbs) rest
+    × (at + 48 * total_rows xorb_records xorbs < stop) × EndsEarly xorb_records (rows_left xorb_records xorbs) rest
 
 -- the hashes were not read, by one seek; the place is open
 pub record HashesFail (old new : Source) (at stop : ℕ) (e : CoreError) : Type 0 where

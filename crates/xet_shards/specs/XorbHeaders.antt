@@ -5,13 +5,12 @@ use Rattle.xet_records.specs.declared.xorb_structs.XorbChunkSequenceHeader.{Xorb
 use Rattle.xet_records.specs.declared.xorb_structs.MDBXorbInfo.{MDBXorbInfo}
 use Rattle.xet_records.specs.Reading.{ReadsBookend}
 use Rattle.xet_records.specs.XorbRecord.{xorb_records}
-use Rattle.xet_shards.specs.Shard.{total_xorb_rows}
-use Rattle.xet_shards.specs.Section.{with_fronts}
+use Rattle.xet_shards.specs.Section.{total_rows, with_fronts}
 use Rattle.xet_shards.specs.SectionReading.{ReadsSection, HasRead, ReadsNext}
 
 -- the headers of xorbs whose section stands at a place, and where each stands
 abbrev pub xorb_headers : ℕ → List MDBXorbInfo → List (XorbChunkSequenceHeader × ℕ)
-xorb_headers at xorbs = map (λ e. (e.1.metadata, at + 48 * total_xorb_rows e.0)) (with_fronts [] xorbs)
+xorb_headers at xorbs = map (λ e. (e.1.metadata, at + 48 * total_rows xorb_records e.0)) (with_fronts [] xorbs)
 
 -- the section at a place was read through, and these are its headers
 abbrev pub ReadsXorbHeaders : Source → Source → ℕ → List (XorbChunkSequenceHeader × ℕ) → Type 0

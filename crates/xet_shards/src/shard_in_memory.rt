@@ -3,9 +3,10 @@
 ghost use Rattle.std.specs.Prelude.{◌≡◌, ◌≤◌, ◌↔◌, ◌⊎◌, [], ◌∷◌, Contains, length, sum_by, OnOk, OnErr, IfOk, IfErr, IsErrOf, IsTrue, None};
 ghost use Rattle.std.specs.FinMap as finite;
 ghost use Rattle.xet_base.specs.declared.merklehash.DataHash.{DataHash};
-ghost use Rattle.xet_records.specs.FileRecord.{size_of_file, IsWellFormed};
-ghost use Rattle.xet_records.specs.XorbRecord.{IsXorb};
-ghost use Rattle.xet_shards.specs.Shard.{IsShard, empty_shard, AreFiles, AreXorbs, total_rows, total_xorb_rows, add_file, add_xorb, CanAddFile, CanAddXorb};
+ghost use Rattle.xet_records.specs.FileRecord.{file_records, size_of_file, IsWellFormed};
+ghost use Rattle.xet_records.specs.XorbRecord.{xorb_records, IsXorb};
+ghost use Rattle.xet_shards.specs.Section.{total_rows};
+ghost use Rattle.xet_shards.specs.Shard.{IsShard, empty_shard, AreFiles, AreXorbs, add_file, add_xorb, CanAddFile, CanAddXorb};
 ghost use Rattle.xet_shards.specs.ChunkLookup.{IsChunkLookup};
 ghost use Rattle.xet_shards.specs.XorbStore.{shown_xorbs, location_in};
 ghost use Rattle.xet_shards.specs.SetOperations.{IsUnion, IsDifference, HasFewRows, CanUnite, ShardsAgree};
@@ -102,8 +103,7 @@ impl MDBInMemoryShard {
     // The rows of all xorbs once this one is inserted.
     fn rows_with_xorb(&self, xorb_block: &MDBXorbInfo) -> u64
         requires { IsXorb xorb_block.now }
-        ensures { result
-            ≡ total_xorb_rows (finite.values (add_xorb self.now.content xorb_block.now).xorbs) }
+        ensures { result ≡ total_rows xorb_records (finite.values (add_xorb self.now.content xorb_block.now).xorbs) }
     {
         let replaced = self.xorbs.rows_of(&xorb_block.metadata.xorb_hash);
         self.xorb_rows + 1 + u64::from(xorb_block.metadata.num_entries) - replaced
@@ -144,8 +144,7 @@ impl MDBInMemoryShard {
     // The rows of all files once this one is inserted.
     fn rows_with_file(&self, file_info: &MDBFileInfo) -> u64
         requires { IsWellFormed file_info.now }
-        ensures { result
-            ≡ total_rows (finite.values (add_file self.now.content file_info.now).files) }
+        ensures { result ≡ total_rows file_records (finite.values (add_file self.now.content file_info.now).files) }
     {
         let replaced = self.files.rows_of(&file_info.metadata.file_hash);
         self.file_rows + 1 + file_info.metadata.rows_after() - replaced
@@ -155,7 +154,7 @@ impl MDBInMemoryShard {
     pub fn xorb_content(&self) -> &BTreeMap<MerkleHash, Rc<MDBXorbInfo>>
         ensures entries { shown_xorbs result.now.entries ≡ finite.entries self.now.content.xorbs }
         ensures xorbs { AreXorbs (shown_xorbs result.now.entries) }
-        ensures rows { total_xorb_rows (finite.values self.now.content.xorbs) ≤ 4294967295 }
+        ensures rows { total_rows xorb_records (finite.values self.now.content.xorbs) ≤ 4294967295 }
     {
         let _rows = self.xorb_rows;
         self.xorbs.content()
@@ -165,7 +164,7 @@ impl MDBInMemoryShard {
     pub fn file_content(&self) -> &BTreeMap<MerkleHash, MDBFileInfo>
         ensures entries { result.now.entries ≡ finite.entries self.now.content.files }
         ensures files { AreFiles result.now.entries }
-        ensures rows { total_rows (finite.values self.now.content.files) ≤ 4294967295 }
+        ensures rows { total_rows file_records (finite.values self.now.content.files) ≤ 4294967295 }
     {
         let _rows = self.file_rows;
         self.files.content()

@@ -4,8 +4,9 @@ ghost use Rattle.std.specs.Prelude.{◌≡◌, ◌⊎◌, ℕ, List, Option, Mat
 ghost use Rattle.std.proofs.Common.{rules};
 ghost use Rattle.std.specs.FinMap as finite;
 ghost use Rattle.xet_base.specs.Source.{DeviceFailure, ReadFails};
+ghost use Rattle.xet_records.specs.XorbRecord.{xorb_records};
 ghost use Rattle.xet_shards.specs.Shard.{Shard, IsShard};
-ghost use Rattle.xet_shards.specs.Tables.{start_row, xorb_starts};
+ghost use Rattle.xet_shards.specs.Tables.{start_row, starts};
 ghost use Rattle.xet_shards.specs.Layout.{layout, info_value};
 ghost use Rattle.xet_shards.specs.TableReading.{FitsStart, triple_row, FitsTriple, ReadsNextRow, ReadsTable, TableFails};
 
@@ -30,7 +31,7 @@ impl MDBShardInfo {
             (λ found. ReadsTable start_row FitsStart 12 (S.meaning source.old) (S.meaning source.new) self.now.metadata.xorb_lookup_offset self.now.metadata.xorb_lookup_num_entry found.items)
             (TableFails 12 (S.meaning source.old) (S.meaning source.new) self.now.metadata.xorb_lookup_offset self.now.metadata.xorb_lookup_num_entry) }
         ensures written { (s : Shard) → (expiry : Option ℕ) → IsShard s → (S.meaning source.old).bytes ≡ layout s expiry → self.now ≡ info_value s expiry
-            → MatchResult result (λ found. found.items ≡ xorb_starts (finite.values s.xorbs))
+            → MatchResult result (λ found. found.items ≡ starts xorb_records (finite.values s.xorbs))
             (λ e. DeviceFailure (S.meaning source.old) (S.meaning source.new) e ⊎ (e ≡ CoreError.OutOfMemory)) }
     {
         let offset = self.metadata.xorb_lookup_offset;

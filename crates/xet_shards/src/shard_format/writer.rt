@@ -7,9 +7,10 @@ ghost use Rattle.std.specs.Map.{values_of};
 ghost use Rattle.xet_base.specs.Errors.{IsDeviceError};
 ghost use Rattle.xet_records.specs.declared.file_structs.MDBFileInfo.{MDBFileInfo};
 ghost use Rattle.xet_records.specs.declared.xorb_structs.MDBXorbInfo.{MDBXorbInfo};
-ghost use Rattle.xet_records.specs.FileRecord.{FitsRecord};
-ghost use Rattle.xet_shards.specs.Shard.{IsShard, AreFiles, AreXorbs, total_rows, total_xorb_rows};
-ghost use Rattle.xet_shards.specs.Section.{file_section, xorb_section};
+ghost use Rattle.xet_records.specs.FileRecord.{file_records, FitsRecord};
+ghost use Rattle.xet_records.specs.XorbRecord.{xorb_records};
+ghost use Rattle.xet_shards.specs.Shard.{IsShard, AreFiles, AreXorbs};
+ghost use Rattle.xet_shards.specs.Section.{total_rows, section_bytes};
 ghost use Rattle.xet_shards.specs.Tables.{place_row};
 ghost use Rattle.xet_shards.specs.Written.{HasWritten, HasWrittenXorbs};
 ghost use Rattle.xet_shards.specs.XorbStore.{shown_xorbs};
@@ -50,18 +51,17 @@ impl MDBInMemoryShard {
     }
 }
 
-/// Writes the file section and collects its table.
-#[tactic(auto, unfolding(crate::specs::Section::file_section))]
+/// Writes the file section and gathers its table.
+#[tactic(auto, unfolding(crate::specs::Section::section_bytes))]
 pub fn write_file_section<W: Write>(
     alloc: Global,
     writer: &mut W,
     files: &BTreeMap<MerkleHash, MDBFileInfo>,
 ) -> Result<WrittenFiles>
     requires files { AreFiles files.now.entries }
-    requires rows { total_rows (values files.now) ≤ 4294967295 }
-    ensures bytes { OnOk result
-        (Appends (W.contents writer.old) (W.contents writer.new)
-        (file_section (values files.now))) }
+    requires rows { total_rows file_records (values files.now) ≤ 4294967295 }
+    ensures text { OnOk result
+        (Appends (W.contents writer.old) (W.contents writer.new) (section_bytes file_records (values files.now))) }
     ensures written { IfOk result (λ written. HasWritten written (values files.now)) }
     ensures causes { IfErr result IsDeviceError }
 {
@@ -73,20 +73,18 @@ pub fn write_file_section<W: Write>(
     Ok(written)
 }
 
-/// Writes the xorb section and collects its tables.
-#[tactic(auto, unfolding(crate::specs::Section::xorb_section))]
+/// Writes the xorb section and gathers its tables.
+#[tactic(auto, unfolding(crate::specs::Section::section_bytes))]
 pub fn write_xorb_section<W: Write>(
     alloc: Global,
     writer: &mut W,
     xorbs: &BTreeMap<MerkleHash, Rc<MDBXorbInfo>>,
 ) -> Result<WrittenXorbs>
     requires xorbs { AreXorbs (shown_xorbs xorbs.now.entries) }
-    requires rows { total_xorb_rows (values_of (shown_xorbs xorbs.now.entries)) ≤ 4294967295 }
-    ensures bytes { OnOk result
-        (Appends (W.contents writer.old) (W.contents writer.new)
-        (xorb_section (values_of (shown_xorbs xorbs.now.entries)))) }
-    ensures written { IfOk result
-        (λ written. HasWrittenXorbs written (values_of (shown_xorbs xorbs.now.entries))) }
+    requires rows { total_rows xorb_records (values_of (shown_xorbs xorbs.now.entries)) ≤ 4294967295 }
+    ensures text { OnOk result
+        (Appends (W.contents writer.old) (W.contents writer.new) (section_bytes xorb_records (values_of (shown_xorbs xorbs.now.entries)))) }
+    ensures written { IfOk result (λ written. HasWrittenXorbs written (values_of (shown_xorbs xorbs.now.entries))) }
     ensures causes { IfErr result IsDeviceError }
 {
     let mut written = WrittenXorbs::new(alloc);

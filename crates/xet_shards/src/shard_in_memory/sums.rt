@@ -3,8 +3,10 @@
 ghost use Rattle.std.specs.Prelude.{◌≡◌, ◌≤◌, sum_by};
 ghost use Rattle.std.specs.Map.{values_of};
 ghost use Rattle.std.specs.BTreeMap.{values};
-ghost use Rattle.xet_records.specs.FileRecord.{size_of_file};
-ghost use Rattle.xet_shards.specs.Shard.{AreFiles, AreXorbs, total_rows, total_xorb_rows};
+ghost use Rattle.xet_records.specs.FileRecord.{file_records, size_of_file};
+ghost use Rattle.xet_records.specs.XorbRecord.{xorb_records};
+ghost use Rattle.xet_shards.specs.Section.{total_rows};
+ghost use Rattle.xet_shards.specs.Shard.{AreFiles, AreXorbs};
 ghost use Rattle.xet_shards.specs.XorbStore.{shown_xorbs};
 
 use std::collections::BTreeMap;
@@ -16,8 +18,8 @@ use xet_records::xorb_structs::MDBXorbInfo;
 /// The rows of files, which fit `u32`.
 pub fn file_rows(files: &BTreeMap<MerkleHash, MDBFileInfo>) -> u64
     requires files { AreFiles files.now.entries }
-    requires rows { total_rows (values files.now) ≤ 4294967295 }
-    ensures { result ≡ total_rows (values files.now) }
+    requires rows { total_rows file_records (values files.now) ≤ 4294967295 }
+    ensures { result ≡ total_rows file_records (values files.now) }
 {
     let mut rows = 0;
     for file_info in files.values() {
@@ -29,8 +31,8 @@ pub fn file_rows(files: &BTreeMap<MerkleHash, MDBFileInfo>) -> u64
 /// The rows of xorbs, which fit `u32`.
 pub fn xorb_rows(xorbs: &BTreeMap<MerkleHash, Rc<MDBXorbInfo>>) -> u64
     requires xorbs { AreXorbs (shown_xorbs xorbs.now.entries) }
-    requires rows { total_xorb_rows (values_of (shown_xorbs xorbs.now.entries)) ≤ 4294967295 }
-    ensures { result ≡ total_xorb_rows (values_of (shown_xorbs xorbs.now.entries)) }
+    requires rows { total_rows xorb_records (values_of (shown_xorbs xorbs.now.entries)) ≤ 4294967295 }
+    ensures { result ≡ total_rows xorb_records (values_of (shown_xorbs xorbs.now.entries)) }
 {
     let mut rows = 0;
     for xorb in xorbs.values() {
@@ -42,7 +44,7 @@ pub fn xorb_rows(xorbs: &BTreeMap<MerkleHash, Rc<MDBXorbInfo>>) -> u64
 /// The size of files, in bytes. Their rows fit `u32`, so the sum fits `u64`.
 pub fn materialized_bytes(files: &BTreeMap<MerkleHash, MDBFileInfo>) -> u64
     requires files { AreFiles files.now.entries }
-    requires rows { total_rows (values files.now) ≤ 4294967295 }
+    requires rows { total_rows file_records (values files.now) ≤ 4294967295 }
     ensures { result ≡ sum_by size_of_file (values files.now) }
 {
     let mut bytes = 0;
@@ -55,9 +57,8 @@ pub fn materialized_bytes(files: &BTreeMap<MerkleHash, MDBFileInfo>) -> u64
 /// The size of xorbs on disk, in bytes. Their rows fit `u32`, so the sum fits `u64`.
 pub fn stored_bytes_on_disk(xorbs: &BTreeMap<MerkleHash, Rc<MDBXorbInfo>>) -> u64
     requires xorbs { AreXorbs (shown_xorbs xorbs.now.entries) }
-    requires rows { total_xorb_rows (values_of (shown_xorbs xorbs.now.entries)) ≤ 4294967295 }
-    ensures { result
-        ≡ sum_by (λ x. x.metadata.num_bytes_on_disk) (values_of (shown_xorbs xorbs.now.entries)) }
+    requires rows { total_rows xorb_records (values_of (shown_xorbs xorbs.now.entries)) ≤ 4294967295 }
+    ensures { result ≡ sum_by (λ x. x.metadata.num_bytes_on_disk) (values_of (shown_xorbs xorbs.now.entries)) }
 {
     let mut bytes = 0;
     for xorb in xorbs.values() {
@@ -69,9 +70,8 @@ pub fn stored_bytes_on_disk(xorbs: &BTreeMap<MerkleHash, Rc<MDBXorbInfo>>) -> u6
 /// The unpacked size of xorbs, in bytes. Their rows fit `u32`, so the sum fits `u64`.
 pub fn stored_bytes(xorbs: &BTreeMap<MerkleHash, Rc<MDBXorbInfo>>) -> u64
     requires xorbs { AreXorbs (shown_xorbs xorbs.now.entries) }
-    requires rows { total_xorb_rows (values_of (shown_xorbs xorbs.now.entries)) ≤ 4294967295 }
-    ensures { result
-        ≡ sum_by (λ x. x.metadata.num_bytes_in_xorb) (values_of (shown_xorbs xorbs.now.entries)) }
+    requires rows { total_rows xorb_records (values_of (shown_xorbs xorbs.now.entries)) ≤ 4294967295 }
+    ensures { result ≡ sum_by (λ x. x.metadata.num_bytes_in_xorb) (values_of (shown_xorbs xorbs.now.entries)) }
 {
     let mut bytes = 0;
     for xorb in xorbs.values() {

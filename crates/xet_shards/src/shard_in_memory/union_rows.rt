@@ -8,9 +8,11 @@ ghost use Rattle.std.specs.FinMap as finite;
 ghost use Rattle.std.specs.FinMap.{is_sorted, from_sorted};
 ghost use Rattle.xet_base.specs.declared.merklehash.DataHash.{DataHash};
 ghost use Rattle.xet_base.specs.Hash.{hash_cmp};
-ghost use Rattle.xet_records.specs.FileRecord.{row_count, IsWellFormed};
+ghost use Rattle.xet_records.specs.FileRecord.{file_records, row_count, IsWellFormed};
 ghost use Rattle.xet_records.specs.Merging.{IsSameFile};
-ghost use Rattle.xet_shards.specs.Shard.{FileMap, XorbMap, AreFiles, AreXorbs, total_rows, total_xorb_rows};
+ghost use Rattle.xet_records.specs.XorbRecord.{xorb_records};
+ghost use Rattle.xet_shards.specs.Section.{total_rows};
+ghost use Rattle.xet_shards.specs.Shard.{FileMap, XorbMap, AreFiles, AreXorbs};
 ghost use Rattle.xet_shards.specs.Joining.{entry, CanJoinFiles, either_file};
 ghost use Rattle.xet_shards.specs.XorbStore.{shown_xorbs};
 
@@ -30,13 +32,13 @@ pub fn united_file_rows(
 ) -> u64
     requires sorted { T (is_sorted hash_cmp files.now.entries) }
     requires files { AreFiles files.now.entries }
-    requires rows { total_rows (values files.now) ≤ 4294967295 }
+    requires rows { total_rows file_records (values files.now) ≤ 4294967295 }
     requires joins { CanJoinFiles (from_sorted files.now.entries) other.now }
-    requires others { other_rows ≡ total_rows (finite.values other.now) }
+    requires others { other_rows ≡ total_rows file_records (finite.values other.now) }
     requires other_rows { other_rows ≤ 4294967295 }
     ensures { (c : FileMap) → ((q : DataHash) → finite.get c q
         ≡ either_file (entry files.now.entries q) (finite.get other.now q))
-        → result ≡ total_rows (finite.values c) }
+        → result ≡ total_rows file_records (finite.values c) }
 {
     let mut rows = other_rows;
     for (file_hash, file_info) in files {
@@ -69,12 +71,12 @@ pub fn united_xorb_rows(
 ) -> u64
     requires sorted { T (is_sorted hash_cmp (shown_xorbs xorbs.now.entries)) }
     requires xorbs { AreXorbs (shown_xorbs xorbs.now.entries) }
-    requires rows { total_xorb_rows (values_of (shown_xorbs xorbs.now.entries)) ≤ 4294967295 }
-    requires others { other_rows ≡ total_xorb_rows (finite.values other.now.xorbs) }
+    requires rows { total_rows xorb_records (values_of (shown_xorbs xorbs.now.entries)) ≤ 4294967295 }
+    requires others { other_rows ≡ total_rows xorb_records (finite.values other.now.xorbs) }
     requires other_rows { other_rows ≤ 4294967295 }
     ensures { (c : XorbMap) → ((q : DataHash) → finite.get c q
         ≡ option_or (finite.get other.now.xorbs q) (entry (shown_xorbs xorbs.now.entries) q))
-        → result ≡ total_xorb_rows (finite.values c) }
+        → result ≡ total_rows xorb_records (finite.values c) }
 {
     let mut rows = other_rows;
     for (xorb_hash, xorb) in xorbs {

@@ -5,7 +5,7 @@ use Rattle.std.specs.Io.KnownBytes.{Appends}
 use Rattle.std.proofs.KnownBytes.{Appends-nil, Appends-trans}
 use Rattle.xet_records.specs.FileRow.{header_row}
 use Rattle.xet_records.specs.FileRecord.{IsWellFormed, file_record_bytes}
-use Rattle.xet_shards.specs.Section.{file_section}
+use Rattle.xet_shards.specs.Section.{section_bytes}
 use Rattle.xet_shards.specs.Written.{HasWritten}
 use Rattle.xet_shards.proofs.Files.{well_formed_values}
 use Rattle.xet_shards.proofs.Walks.{value_turn, value_turned, value_end, values_push, flat_map-push, All-middle}
@@ -46,9 +46,9 @@ loop-file_info-preserved g c =
           (Appends-trans _ (g.W.Write.contents c.loop-file_info.writer) _ (flat_map file_record_bytes before) (file_record_bytes file) c.loop-file_info.invariant.bytes wrote.appended));
     }
 
-pub returns-clause-bytes : goal.returns-clause-bytes
-unfolding file_section
-returns-clause-bytes g c =
+pub returns-clause-text : goal.returns-clause-text
+unfolding section_bytes
+returns-clause-text g c =
     let all = value_end _ c.loop-file_info.yielded _ _ _ c.loop-file_info.invariant.all c.in-None.is c.next.ensures.steps in
     let files = subst (λ files. Appends (g.W.Write.contents c.args.writer.now) (g.W.Write.contents c.loop-file_info.writer) (flat_map file_record_bytes files)) all c.loop-file_info.invariant.bytes in
     let bookend = subst (λ h. Appends (g.W.Write.contents c.loop-file_info.writer) (g.W.Write.contents c.serialize.new.writer) (header_row h)) c.bookend.ensures c.in_ok-serialize.ensures.text in

@@ -5,7 +5,7 @@ use Rattle.std.specs.Io.KnownBytes.{Appends}
 use Rattle.std.proofs.KnownBytes.{Appends-nil, Appends-trans}
 use Rattle.xet_records.specs.XorbRow.{xorb_header_row}
 use Rattle.xet_records.specs.XorbRecord.{IsXorb, xorb_record_bytes, xorb_row_count}
-use Rattle.xet_shards.specs.Section.{xorb_section}
+use Rattle.xet_shards.specs.Section.{section_bytes}
 use Rattle.xet_shards.specs.Written.{HasWrittenXorbs}
 use Rattle.xet_shards.specs.XorbStore.{shown_xorbs}
 use Rattle.xet_shards.proofs.Walks.{value_turn, value_turned, flat_map-push, sum-middle, All-middle}
@@ -62,9 +62,9 @@ loop-xorb-preserved g c =
           (Appends-trans _ (contents c.loop-xorb.writer) _ (flat_map xorb_record_bytes before) (xorb_record_bytes xorb) c.loop-xorb.invariant.bytes wrote.appended));
     }
 
-pub returns-clause-bytes : goal.returns-clause-bytes
-unfolding xorb_section
-returns-clause-bytes g c =
+pub returns-clause-text : goal.returns-clause-text
+unfolding section_bytes
+returns-clause-text g c =
     let contents = g.W.Write.contents in
     let all = seen_end _ c.loop-xorb.yielded _ _ _ c.loop-xorb.invariant.all c.in-None.is c.next.ensures.steps in
     let xorbs = subst (λ xorbs. Appends (contents c.args.writer.now) (contents c.loop-xorb.writer) (flat_map xorb_record_bytes xorbs)) all c.loop-xorb.invariant.bytes in

@@ -7,7 +7,10 @@ use Rattle.xet_base.specs.declared.merklehash.DataHash.{DataHash}
 use Rattle.xet_base.specs.Hash.{hash_cmp}
 use Rattle.xet_records.specs.declared.file_structs.MDBFileInfo.{MDBFileInfo}
 use Rattle.xet_records.specs.declared.xorb_structs.MDBXorbInfo.{MDBXorbInfo}
-use Rattle.xet_shards.specs.Shard.{Shard, FileMap, XorbMap, total_rows, total_xorb_rows}
+use Rattle.xet_records.specs.FileRecord.{file_records}
+use Rattle.xet_records.specs.XorbRecord.{xorb_records}
+use Rattle.xet_shards.specs.Section.{total_rows}
+use Rattle.xet_shards.specs.Shard.{Shard, FileMap, XorbMap}
 use Rattle.xet_shards.specs.ChunkLookup.{ShardWithLookup}
 use Rattle.xet_shards.specs.InMemoryShard.{shard_inside}
 use Rattle.xet_shards.specs.Joining.{entry, either_file, CanJoinFiles}
@@ -21,14 +24,14 @@ seen b s t u v own other = subst (λ (p : ShardWithLookup × ShardWithLookup). I
 
 module _ (a b : Shard) where
   files_counted : (es : List (DataHash × MDBFileInfo)) (rows : ℕ) → es ≡ entries a.files
-      → ((m : FileMap) → ((q : DataHash) → get m q ≡ either_file (entry es q) (get b.files q)) → rows ≡ total_rows (values m))
-      → (c : Shard) → IsUnion a b c → rows ≡ total_rows (values c.files)
+      → ((m : FileMap) → ((q : DataHash) → get m q ≡ either_file (entry es q) (get b.files q)) → rows ≡ total_rows file_records (values m))
+      → (c : Shard) → IsUnion a b c → rows ≡ total_rows file_records (values c.files)
   files_counted es rows same counted c union =
       counted c.files (λ q. union.files q ∙ ap (λ o. either_file o (get b.files q)) (get-entries a.files q ∙ ap (find hash_cmp q) (sym same)))
 
   xorbs_counted : (es : List (DataHash × MDBXorbInfo)) (rows : ℕ) → es ≡ entries a.xorbs
-      → ((m : XorbMap) → ((q : DataHash) → get m q ≡ option_or (get b.xorbs q) (entry es q)) → rows ≡ total_xorb_rows (values m))
-      → (c : Shard) → IsUnion a b c → rows ≡ total_xorb_rows (values c.xorbs)
+      → ((m : XorbMap) → ((q : DataHash) → get m q ≡ option_or (get b.xorbs q) (entry es q)) → rows ≡ total_rows xorb_records (values m))
+      → (c : Shard) → IsUnion a b c → rows ≡ total_rows xorb_records (values c.xorbs)
   xorbs_counted es rows same counted c union =
       counted c.xorbs (λ q. union.xorbs q ∙ ap (option_or (get b.xorbs q)) (get-entries a.xorbs q ∙ ap (find hash_cmp q) (sym same)))
 

@@ -1,9 +1,10 @@
 use Rattle.std.proofs.Common.{ap, arith}
 use Rattle.std.specs.FinMap.{insert, values}
 use Rattle.xet_base.proofs.HashOrder.{hash_cmp-IsTotalOrder, hash_cmp-IsAntisymmetric}
-use Rattle.xet_records.specs.FileRecord.{row_count}
+use Rattle.xet_records.specs.FileRecord.{file_records, row_count}
 use Rattle.xet_records.proofs.Record.{row_count-whole}
-use Rattle.xet_shards.specs.Shard.{file_hash_of, total_rows}
+use Rattle.xet_shards.specs.Section.{total_rows}
+use Rattle.xet_shards.specs.Shard.{file_hash_of}
 use Rattle.xet_shards.specs.ChunkLookup.{ShardWithLookup}
 use Rattle.xet_shards.proofs.Maps.{sum-insert}
 use Rattle.xet_shards.proofs.shard_in_memory.MDBInMemoryShard.rows_with_file.Goals as goal
@@ -18,5 +19,5 @@ pub returns : goal.returns
 returns c =
     let file = c.args.file_info.now in
     let put_rows = sum-insert hash_cmp-IsTotalOrder hash_cmp-IsAntisymmetric row_count c.self.inside.files (file_hash_of file) file in
-    let seen = ap (λ (s : ShardWithLookup). total_rows (values (insert s.content.files (file_hash_of file) file))) c.self.view_is in
+    let seen = ap (λ (s : ShardWithLookup). total_rows file_records (values (insert s.content.files (file_hash_of file) file))) c.self.view_is in
     omega (arith, put_rows, seen, row_count-whole file c.requires.whole, c.self.invariant.file_rows, c.rows_of-replaced.ensures, c.rows_after.ensures.rows)

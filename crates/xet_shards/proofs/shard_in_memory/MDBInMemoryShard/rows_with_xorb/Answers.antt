@@ -1,8 +1,9 @@
 use Rattle.std.proofs.Common.{ap, arith}
 use Rattle.std.specs.FinMap.{insert, values}
 use Rattle.xet_base.proofs.HashOrder.{hash_cmp-IsTotalOrder, hash_cmp-IsAntisymmetric}
-use Rattle.xet_records.specs.XorbRecord.{xorb_row_count}
-use Rattle.xet_shards.specs.Shard.{xorb_hash_of, total_xorb_rows}
+use Rattle.xet_records.specs.XorbRecord.{xorb_records, xorb_row_count}
+use Rattle.xet_shards.specs.Section.{total_rows}
+use Rattle.xet_shards.specs.Shard.{xorb_hash_of}
 use Rattle.xet_shards.specs.ChunkLookup.{ShardWithLookup}
 use Rattle.xet_shards.proofs.Maps.{sum-insert}
 use Rattle.xet_shards.proofs.shard_in_memory.MDBInMemoryShard.rows_with_xorb.Goals as goal
@@ -17,5 +18,5 @@ pub returns : goal.returns
 returns c =
     let xorb = c.args.xorb_block.now in
     let put_rows = sum-insert hash_cmp-IsTotalOrder hash_cmp-IsAntisymmetric xorb_row_count c.self.inside.xorbs.xorbs (xorb_hash_of xorb) xorb in
-    let seen = ap (λ (s : ShardWithLookup). total_xorb_rows (values (insert s.content.xorbs (xorb_hash_of xorb) xorb))) c.self.view_is in
+    let seen = ap (λ (s : ShardWithLookup). total_rows xorb_records (values (insert s.content.xorbs (xorb_hash_of xorb) xorb))) c.self.view_is in
     omega (arith, put_rows, seen, c.requires.count, c.self.invariant.xorb_rows, c.rows_of-replaced.ensures)

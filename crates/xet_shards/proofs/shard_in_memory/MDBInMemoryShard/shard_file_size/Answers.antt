@@ -11,14 +11,14 @@ use Rattle.xet_records.specs.FileRecord.{FitsRecord}
 use Rattle.xet_shards.specs.ChunkLookup.{ShardWithLookup}
 use Rattle.xet_shards.specs.Layout.{layout}
 use Rattle.xet_shards.proofs.Files.{widths_of_values, length-le-rows}
-use Rattle.xet_shards.proofs.XorbLayouts.{length-layout_of, total_xorb_rows-chunks}
+use Rattle.xet_shards.proofs.XorbLayouts.{length-layout_of, xorb_rows-chunks}
 use Rattle.xet_shards.proofs.shard_in_memory.MDBInMemoryShard.shard_file_size.Goals as goal
 
 pub overflow_sub-chunks : goal.overflow_sub-chunks
 overflow_sub-chunks c =
     let xorbs = c.len-xorbs.ensures.len ∙ sym (length-map c.content-2.result.now.entries (λ (e : DataHash × Rc MDBXorbInfo Global). (e.0, e.1.value)))
     ∙ ap length c.content-2.ensures.entries ∙ sym (length-map (entries c.self.inside.xorbs.xorbs) (λ (e : DataHash × MDBXorbInfo). e.1)) in
-    omega (arith, xorbs, total_xorb_rows-chunks (values c.self.inside.xorbs.xorbs), c.self.invariant.xorb_rows)
+    omega (arith, xorbs, xorb_rows-chunks (values c.self.inside.xorbs.xorbs), c.self.invariant.xorb_rows)
 
 pub overflow_mul-result-2 : goal.overflow_mul-result-2
 overflow_mul-result-2 c =
@@ -53,7 +53,7 @@ returns c =
       xorb_count,
       c.self.invariant.file_rows,
       c.self.invariant.xorb_rows,
-      total_xorb_rows-chunks xorbs,
+      xorb_rows-chunks xorbs,
       length-layout_of files xorbs None fit,
     )
     ∙ ap (λ (s : ShardWithLookup). length (layout s.content None)) c.self.view_is

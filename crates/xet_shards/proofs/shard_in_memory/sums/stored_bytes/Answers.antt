@@ -3,6 +3,7 @@ use Rattle.std.specs.Prelude.{sum_by}
 use Rattle.std.specs.Map.{values_of}
 use Rattle.std.proofs.Math.Facts.{Fits-of_lt}
 use Rattle.xet_records.specs.declared.xorb_structs.MDBXorbInfo.{MDBXorbInfo}
+use Rattle.xet_records.specs.XorbRecord.{IsXorb}
 use Rattle.xet_shards.specs.XorbStore.{shown_xorbs}
 use Rattle.xet_shards.proofs.Walks.{sum-middle}
 use Rattle.xet_shards.proofs.Xorbs.{owned, seen, seen_turn, xorb_values, xorbs_bound}
@@ -18,7 +19,7 @@ overflow_add-bytes c =
       arith,
       sum,
       sum-middle bytes (seen c.loop-xorb.yielded) (owned c.next.new.self) xorb,
-      xorbs_bound bytes (λ r is. omega (arith, is.widths.metadata.num_bytes_in_xorb)) _ (xorb_values _ c.requires.xorbs),
+      xorbs_bound IsXorb bytes (λ r is. omega (arith, is.widths.metadata.num_bytes_in_xorb)) _ (xorb_values _ c.requires.xorbs),
       c.requires.rows,
       c.loop-xorb.invariant.bytes,
       c.from-bytes.ensures,

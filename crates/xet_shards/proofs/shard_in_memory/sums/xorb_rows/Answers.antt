@@ -3,8 +3,8 @@ use Rattle.std.specs.Prelude.{All}
 use Rattle.std.specs.Map.{values_of}
 use Rattle.std.proofs.Math.Facts.{Fits-of_lt}
 use Rattle.xet_records.specs.declared.xorb_structs.MDBXorbInfo.{MDBXorbInfo}
-use Rattle.xet_records.specs.XorbRecord.{xorb_row_count, IsXorb}
-use Rattle.xet_shards.specs.Shard.{total_xorb_rows}
+use Rattle.xet_records.specs.XorbRecord.{xorb_records, xorb_row_count, IsXorb}
+use Rattle.xet_shards.specs.Section.{total_rows}
 use Rattle.xet_shards.specs.XorbStore.{shown_xorbs}
 use Rattle.xet_shards.proofs.Walks.{All-middle, sum-middle}
 use Rattle.xet_shards.proofs.Xorbs.{owned, seen, seen_turn, xorb_values}
@@ -20,7 +20,7 @@ pub overflow_add-rows-in-loop-xorb : goal.overflow_add-rows-in-loop-xorb
 overflow_add-rows-in-loop-xorb c =
     let xorb = c.in-Some.xorb.now.value in
     let whole = seen_turn _ c.loop-xorb.yielded _ _ _ c.in-Some.xorb c.loop-xorb.invariant.all c.in-Some.is c.next.ensures.steps in
-    let sum : total_xorb_rows (seen c.loop-xorb.yielded ++ xorb ∷ owned c.next.new.self) ≡ total_xorb_rows (values_of (shown_xorbs c.args.xorbs.now.entries)) = ap (λ rs. total_xorb_rows rs) whole in
+    let sum : total_rows xorb_records (seen c.loop-xorb.yielded ++ xorb ∷ owned c.next.new.self) ≡ total_rows xorb_records (values_of (shown_xorbs c.args.xorbs.now.entries)) = ap (λ rs. total_rows xorb_records rs) whole in
     Fits-of_lt (omega (
       arith,
       sum,

@@ -1,7 +1,8 @@
 use Rattle.std.proofs.Common.{◌≡◌, ◌++◌, map}
 use Rattle.std.specs.BTreeMap.{values}
 use Rattle.std.specs.Map.Iter.{deref}
-use Rattle.xet_shards.specs.Shard.{total_xorb_rows}
+use Rattle.xet_records.specs.XorbRecord.{xorb_records}
+use Rattle.xet_shards.specs.Section.{total_rows}
 use Rattle.xet_shards.proofs.Xorbs.{seen}
 use Rattle.xet_shards.proofs.shard_in_memory.sums.xorb_rows.Given as goal
 
@@ -10,5 +11,5 @@ invariant-loop-xorb l = record {
   can : goal.iterator-loop-xorb.can_next l.xorb-iterator;
   finite : goal.iterator-loop-xorb.is_finite l.xorb-iterator;
   all : map deref l.yielded ++ l.xorb-iterator ≡ values l.xorbs;
-  rows : l.rows ≡ total_xorb_rows (seen l.yielded);
+  rows : l.rows ≡ total_rows xorb_records (seen l.yielded);
 }

@@ -6,9 +6,9 @@ use Rattle.std.specs.FinMap.{get, values}
 use Rattle.std.proofs.lemmas.List.{map-append}
 use Rattle.xet_base.specs.declared.merklehash.DataHash.{DataHash}
 use Rattle.xet_records.specs.declared.file_structs.MDBFileInfo.{MDBFileInfo}
-use Rattle.xet_records.specs.FileRecord.{row_count, IsWellFormed}
+use Rattle.xet_records.specs.FileRecord.{file_records, row_count, IsWellFormed}
 use Rattle.xet_records.specs.Merging.{IsSameFile, merged}
-use Rattle.xet_shards.specs.Shard.{total_rows}
+use Rattle.xet_shards.specs.Section.{total_rows}
 use Rattle.xet_shards.specs.Joining.{either_file}
 use Rattle.xet_shards.proofs.Walks.{entry_turn, entry_turned, entry_end, entry_holds}
 use Rattle.xet_shards.proofs.FileUnions.{entry_of}
@@ -47,14 +47,14 @@ loop-file_hash-preserved c =
       all = entry_turned deref_pair _ c.loop-file_hash.yielded _ entry whole;
       rows = omega (
         arith,
-        ap (λ es. total_rows (values (overlay merged es c.args.other.now))) push,
+        ap (λ es. total_rows file_records (values (overlay merged es c.args.other.now))) push,
         sum-overlay merged front c.in-Some.file_hash.now file c.args.other.now (new_key _ _ _ _ whole c.requires.sorted) row_count,
         added,
         c.loop-file_hash.invariant.rows,
       );
       bound = omega (
         arith,
-        ap (λ es. total_rows (values_of es)) push,
+        ap (λ es. total_rows file_records (values_of es)) push,
         sum-entries row_count front (c.in-Some.file_hash.now, file),
         c.rows_added-rows.ensures.bound,
         c.loop-file_hash.invariant.bound,
@@ -64,5 +64,5 @@ loop-file_hash-preserved c =
 pub returns : goal.returns
 returns c = λ m is.
     let all = entry_end deref_pair _ c.loop-file_hash.yielded _ _ _ c.loop-file_hash.invariant.all c.in-None.is c.next.ensures.steps in
-    c.loop-file_hash.invariant.rows ∙ ap (λ es. total_rows (values (overlay merged es c.args.other.now))) all
-    ∙ ap (λ n. total_rows (values n)) (sym (are_united_files c.args.files.now.entries c.args.other.now m is))
+    c.loop-file_hash.invariant.rows ∙ ap (λ es. total_rows file_records (values (overlay merged es c.args.other.now))) all
+    ∙ ap (λ n. total_rows file_records (values n)) (sym (are_united_files c.args.files.now.entries c.args.other.now m is))

@@ -3,7 +3,8 @@ use Rattle.std.specs.Map.{values_of}
 use Rattle.std.specs.Map.Iter.{deref_pair}
 use Rattle.std.specs.FinMap.{values}
 use Rattle.xet_records.specs.Merging.{merged}
-use Rattle.xet_shards.specs.Shard.{total_rows}
+use Rattle.xet_records.specs.FileRecord.{file_records}
+use Rattle.xet_shards.specs.Section.{total_rows}
 use Rattle.xet_shards.proofs.Overlays.{overlay}
 use Rattle.xet_shards.proofs.shard_in_memory.union_rows.united_file_rows.Given as goal
 
@@ -12,6 +13,6 @@ invariant-loop-file_hash l = record {
   can : goal.iterator-loop-file_hash.can_next l.file_hash-iterator;
   finite : goal.iterator-loop-file_hash.is_finite l.file_hash-iterator;
   all : map deref_pair l.yielded ++ l.file_hash-iterator ≡ l.files.entries;
-  rows : l.rows ≡ total_rows (values (overlay merged (map deref_pair l.yielded) l.other));
-  bound : l.rows ≤ 4294967295 + total_rows (values_of (map deref_pair l.yielded));
+  rows : l.rows ≡ total_rows file_records (values (overlay merged (map deref_pair l.yielded) l.other));
+  bound : l.rows ≤ 4294967295 + total_rows file_records (values_of (map deref_pair l.yielded));
 }

@@ -5,8 +5,8 @@ use Rattle.std.specs.Map.{values_of}
 use Rattle.std.specs.Map.Iter.{deref_pair}
 use Rattle.std.specs.FinMap.{get, values}
 use Rattle.xet_records.specs.declared.xorb_structs.MDBXorbInfo.{MDBXorbInfo}
-use Rattle.xet_records.specs.XorbRecord.{xorb_row_count, IsXorb}
-use Rattle.xet_shards.specs.Shard.{total_xorb_rows}
+use Rattle.xet_records.specs.XorbRecord.{xorb_records, xorb_row_count, IsXorb}
+use Rattle.xet_shards.specs.Section.{total_rows}
 use Rattle.xet_shards.specs.XorbStore.{shown_xorbs}
 use Rattle.xet_shards.proofs.Walks.{entry_turn, entry_turned, entry_end}
 use Rattle.xet_shards.proofs.Joining.{shown_push, shown_at, none_of}
@@ -31,14 +31,14 @@ loop-xorb_hash-preserved-then-not-contains c =
       all = entry_turned deref_pair _ c.loop-xorb_hash.yielded _ (c.in-Some.xorb_hash, c.in-Some.xorb) whole;
       rows = omega (
         arith,
-        ap (λ es. total_xorb_rows (values (overlay other_xorb es c.args.other.now.xorbs))) push,
+        ap (λ es. total_rows xorb_records (values (overlay other_xorb es c.args.other.now.xorbs))) push,
         sum-overlay other_xorb front c.in-Some.xorb_hash.now xorb c.args.other.now.xorbs new xorb_row_count,
         added,
         c.loop-xorb_hash.invariant.rows,
       );
       bound = omega (
         arith,
-        ap (λ es. total_xorb_rows (values_of es)) push,
+        ap (λ es. total_rows xorb_records (values_of es)) push,
         sum-entries xorb_row_count front (c.in-Some.xorb_hash.now, xorb),
         counted,
         c.loop-xorb_hash.invariant.bound,
@@ -59,14 +59,14 @@ loop-xorb_hash-preserved c =
       all = entry_turned deref_pair _ c.loop-xorb_hash.yielded _ (c.in-Some.xorb_hash, c.in-Some.xorb) whole;
       rows = omega (
         arith,
-        ap (λ es. total_xorb_rows (values (overlay other_xorb es c.args.other.now.xorbs))) push,
+        ap (λ es. total_rows xorb_records (values (overlay other_xorb es c.args.other.now.xorbs))) push,
         sum-overlay other_xorb front c.in-Some.xorb_hash.now xorb c.args.other.now.xorbs new xorb_row_count,
         rows_kept xorb twin (sym c.contains.ensures ∙ c.if-not-contains.false),
         c.loop-xorb_hash.invariant.rows,
       );
       bound = omega (
         arith,
-        ap (λ es. total_xorb_rows (values_of es)) push,
+        ap (λ es. total_rows xorb_records (values_of es)) push,
         sum-entries xorb_row_count front (c.in-Some.xorb_hash.now, xorb),
         c.loop-xorb_hash.invariant.bound,
       );
@@ -75,5 +75,5 @@ loop-xorb_hash-preserved c =
 pub returns : goal.returns
 returns c = λ m is.
     let all = entry_end deref_pair _ c.loop-xorb_hash.yielded _ _ _ c.loop-xorb_hash.invariant.all c.in-None.is c.next.ensures.steps in
-    c.loop-xorb_hash.invariant.rows ∙ ap (λ es. total_xorb_rows (values (overlay other_xorb (shown_xorbs es) c.args.other.now.xorbs))) all
-    ∙ ap (λ n. total_xorb_rows (values n)) (sym (are_united_xorbs (shown_xorbs c.args.xorbs.now.entries) c.args.other.now.xorbs m is))
+    c.loop-xorb_hash.invariant.rows ∙ ap (λ es. total_rows xorb_records (values (overlay other_xorb (shown_xorbs es) c.args.other.now.xorbs))) all
+    ∙ ap (λ n. total_rows xorb_records (values n)) (sym (are_united_xorbs (shown_xorbs c.args.xorbs.now.entries) c.args.other.now.xorbs m is))

@@ -2,8 +2,9 @@ use Rattle.std.proofs.Common.{◌+◌, length, drop, sym, ap, ◌∙◌, subst}
 use Rattle.std.specs.Prelude.{MatchResult}
 use Rattle.std.specs.FinMap.{values}
 use Rattle.xet_records.specs.XorbRecord.{xorb_records}
+use Rattle.xet_records.specs.FileRecord.{file_records}
 use Rattle.xet_shards.specs.declared.shard_format.info.MDBShardInfo.{MDBShardInfo}
-use Rattle.xet_shards.specs.Section.{file_section}
+use Rattle.xet_shards.specs.Section.{section_bytes}
 use Rattle.xet_shards.specs.SectionReading.{IsSection}
 use Rattle.xet_shards.specs.TruncatedHashes.{ReadsHashes, HashesFail}
 use Rattle.xet_shards.proofs.Readback.{xorb_section_of_shard}
@@ -17,7 +18,7 @@ returns-then-rows-eq0-clause-written g c =
     let old = g.S.ShardSource.meaning c.args.source.now in
     let new = g.S.ShardSource.meaning c.read_section_hashes.new.source in
     λ s expiry shard are is.
-    let at = 48 + length (file_section (values s.files)) in
+    let at = 48 + length (section_bytes file_records (values s.files)) in
     let stop = c.args.self.now.metadata.file_lookup_offset in
     let none = sym (length-chunk_table (values s.xorbs)) ∙ sym (ap (λ (info : MDBShardInfo). info.metadata.chunk_lookup_num_entry) is) ∙ c.if-rows-eq0.true in
     no_hashes_read old new at stop (values s.xorbs)

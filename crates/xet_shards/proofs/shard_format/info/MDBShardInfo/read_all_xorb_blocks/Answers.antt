@@ -2,8 +2,9 @@ use Rattle.std.proofs.Common.{◌+◌, length, drop, sym, ap, subst}
 use Rattle.std.specs.Prelude.{MatchResult}
 use Rattle.std.specs.FinMap.{values}
 use Rattle.xet_records.specs.XorbRecord.{xorb_records}
+use Rattle.xet_records.specs.FileRecord.{file_records}
 use Rattle.xet_shards.specs.declared.shard_format.info.MDBShardInfo.{MDBShardInfo}
-use Rattle.xet_shards.specs.Section.{file_section}
+use Rattle.xet_shards.specs.Section.{section_bytes}
 use Rattle.xet_shards.specs.SectionReading.{IsSection, SectionFails}
 use Rattle.xet_shards.specs.XorbHeaders.{ReadsXorbHeaders}
 use Rattle.xet_shards.proofs.Readback.{xorb_section_of_shard}
@@ -15,7 +16,7 @@ returns-clause-written g c =
     let old = g.S.ShardSource.meaning c.args.source.now in
     let new = g.S.ShardSource.meaning c.read_xorb_headers.new.source in
     λ s expiry shard are is.
-    let at = 48 + length (file_section (values s.files)) in
+    let at = 48 + length (section_bytes file_records (values s.files)) in
     headers_read old new at (values s.xorbs) c.read_xorb_headers.result
     (subst (λ bytes. IsSection xorb_records (drop at bytes) (values s.xorbs)) (sym are) (xorb_section_of_shard s expiry shard))
     (subst (λ n. MatchResult c.read_xorb_headers.result (λ found. ReadsXorbHeaders old new n found.items) (SectionFails xorb_records old new n))

@@ -5,8 +5,9 @@ use Rattle.std.specs.FinMap.{values}
 use Rattle.std.proofs.lemmas.List.{map-id}
 use Rattle.xet_records.specs.XorbRecord.{xorb_records}
 use Rattle.xet_records.proofs.RecordKinds.{xorb_laws}
+use Rattle.xet_records.specs.FileRecord.{file_records}
 use Rattle.xet_shards.specs.declared.shard_format.info.MDBShardInfo.{MDBShardInfo}
-use Rattle.xet_shards.specs.Section.{file_section}
+use Rattle.xet_shards.specs.Section.{section_bytes}
 use Rattle.xet_shards.specs.SectionReading.{IsSection, ReadsSection, SectionFails}
 use Rattle.xet_shards.proofs.Readback.{whole_read, xorb_section_of_shard}
 use Rattle.xet_shards.proofs.shard_format.info.MDBShardInfo.read_all_xorb_blocks_full.Goals as goal
@@ -16,7 +17,7 @@ returns-clause-written g c =
     let old = g.S.ShardSource.meaning c.args.source.now in
     let new = g.S.ShardSource.meaning c.read_xorb_section.new.source in
     λ s expiry shard are is.
-    let at = 48 + length (file_section (values s.files)) in
+    let at = 48 + length (section_bytes file_records (values s.files)) in
     whole_read xorb_records xorb_laws (moved old at) new (values s.xorbs)
     (subst (λ bytes. IsSection xorb_records (drop at bytes) (values s.xorbs)) (sym are) (xorb_section_of_shard s expiry shard))
     c.read_xorb_section.result (map-id (values s.xorbs))

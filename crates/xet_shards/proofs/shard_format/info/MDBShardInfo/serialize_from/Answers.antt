@@ -2,8 +2,10 @@ use Rattle.std.proofs.Common.{◌++◌, flat_map, ap, ◌∙◌, subst}
 use Rattle.std.specs.Map.{values_of}
 use Rattle.std.specs.Io.KnownBytes.{Appends}
 use Rattle.std.proofs.KnownBytes.{Appends-trans}
+use Rattle.xet_records.specs.FileRecord.{file_records}
+use Rattle.xet_records.specs.XorbRecord.{xorb_records}
 use Rattle.xet_shards.specs.Shard.{AreFiles, AreXorbs}
-use Rattle.xet_shards.specs.Section.{file_section, xorb_section}
+use Rattle.xet_shards.specs.Section.{section_bytes}
 use Rattle.xet_shards.specs.Tables.{place_row, chunk_table_bytes}
 use Rattle.xet_shards.specs.XorbStore.{shown_xorbs}
 use Rattle.xet_shards.specs.Layout.{shard_header_bytes, shard_footer_bytes, footer_value, layout_of, plain_form}
@@ -30,7 +32,7 @@ returns-clause-bytes g c =
     (Appends-trans _ (contents c.serialize.new.writer) _ _ _ c.in_ok-serialize.ensures.bytes c.in_ok-files.ensures.bytes)
     c.in_ok-xorbs.ensures.bytes) c.in_ok-write_bytes.ensures) c.in_ok-write_bytes-2.ensures) c.in_ok-write_chunk_table.ensures.bytes) c.in_ok-serialize-2.ensures.bytes in
     subst (Appends (contents c.args.writer.now) (contents c.serialize-2.new.writer))
-    ((λ i. (((((header i ++ file_section rs) ++ xorb_section xs) ++ file_table i) ++ xorb_table i) ++ flat_map place_row (xorbs.places i)) ++ footer i)
+    ((λ i. (((((header i ++ section_bytes file_records rs) ++ section_bytes xorb_records xs) ++ file_table i) ++ xorb_table i) ++ flat_map place_row (xorbs.places i)) ++ footer i)
     ∙ (λ i. layout_of (values_of (c.file_content.ensures.entries i)) (values_of (c.xorb_content.ensures.entries i)) (plain_form c.args.expiry))) wrote
 
 pub returns-clause-info : goal.returns-clause-info
