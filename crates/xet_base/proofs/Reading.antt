@@ -1,13 +1,12 @@
 -- The turns of the loops that fill a slice.
-use Rattle.std.proofs.Common.{◌≡◌, ℕ, ◌+◌, ◌<◌, ◌≤◌, List, [], ◌++◌, length, take, drop, Option, None, Some, sym, ap, ◌∙◌, subst, arith, refl, add_assoc, add-zero, take-append-drop}
+use Rattle.std.proofs.Common.{◌≡◌, ℕ, ◌+◌, ◌<◌, ◌≤◌, List, ◌++◌, length, take, Option, None, Some, sym, ap, ◌∙◌, subst, arith, take-append-drop}
 use Rattle.std.proofs.lemmas.List.{drop-drop, length-append, length-drop}
-use Rattle.std.proofs.Math.Seq.{take-add}
 use Rattle.std.proofs.KnownBytes.{Consumes-trans, Consumes-kept}
 use Rattle.std.proofs.lemmas.Slice.{take-put_mid_below}
 use Rattle.std.specs.Io.KnownBytes.{Consumes, Keeps}
 use borrow.Rule.Slice.PartMut.{put_mid}
-use Rattle.xet_base.specs.Bytes.{HasBytes, LacksBytes}
-use Rattle.xet_base.specs.Source.{Source, advanced, next_bytes, bytes_left, Takes}
+use Rattle.xet_base.specs.Bytes.{HasBytes}
+use Rattle.xet_base.specs.Source.{Source, bytes_left, Takes}
 use Rattle.xet_base.proofs.Lists.{take-put_mid_part}
 
 -- one more read of n bytes into a slice that is filled up to `filled`
@@ -16,50 +15,17 @@ pub taken_more : (a b c : Option (List ℕ)) (filled k n : ℕ) (slice part : Li
 taken_more a b c filled k n slice part within fits taken read =
     subst (Consumes a c) (sym (take-put_mid_part filled k n slice part within fits)) (Consumes-trans a b c (take filled slice) (take n part) taken read)
 
-pub advanced-advanced : (s : Source) (m n : ℕ) → advanced (advanced s m) n ≡ advanced s (m + n)
-advanced-advanced s m n i = record s { at = add_assoc s.at m n i; read = add_assoc s.read m n i }
-
-pub next_bytes-add : (s : Source) (m n : ℕ) → next_bytes s (m + n) ≡ next_bytes s m ++ next_bytes (advanced s m) n
-next_bytes-add s m n = take-add m n (drop s.at s.bytes) ∙ ap (λ rest. take m (drop s.at s.bytes) ++ take n rest) (drop-drop m s.at s.bytes)
-
 -- known bytes from which some were consumed had at least these
 pub HasBytes-consumed : (a b : Option (List ℕ)) (bytes : List ℕ) (n : ℕ) → length bytes ≡ n → Consumes a b bytes → HasBytes a n
 HasBytes-consumed None b bytes n len taken = tt
 HasBytes-consumed (Some xs) None bytes n len taken = absurd taken
 HasBytes-consumed (Some xs) (Some ys) bytes n len taken = omega (arith, ap length taken ∙ length-append bytes ys)
 
--- known bytes that lack n after some were consumed lacked as many more before
-pub LacksBytes-consumed : (a b : Option (List ℕ)) (bytes : List ℕ) (n most : ℕ) → length bytes + n ≤ most → Consumes a b bytes
-    → LacksBytes b n → LacksBytes a most
-LacksBytes-consumed None b bytes n most within taken lacks = tt
-LacksBytes-consumed (Some xs) None bytes n most within taken lacks = absurd taken
-LacksBytes-consumed (Some xs) (Some ys) bytes n most within taken lacks = omega (arith, ap length taken ∙ length-append bytes ys)
-
 -- a read that failed left the front of the slice and the known bytes
 pub taken_still : (a b c : Option (List ℕ)) (filled k : ℕ) (slice part : List ℕ) → filled ≤ length slice
     → Consumes a b (take filled slice) → Keeps b c → Consumes a c (take filled (put_mid filled k slice part))
 taken_still a b c filled k slice part within taken kept =
     subst (Consumes a c) (sym (take-put_mid_below filled k slice part filled (omega arith) within)) (Consumes-kept a b c (take filled slice) taken kept)
-
--- bytes that were read one after another
-pub Takes-nil : (s : Source) → Takes s s []
-Takes-nil s = record {
-  within = λ some. absurd (omega arith);
-  there = refl;
-  after = λ i. record s { at = sym (add-zero s.at) i; read = sym (add-zero s.read) i };
-}
-
-pub Takes-trans : (a b c : Source) (xs ys : List ℕ) → Takes a b xs → Takes b c ys → Takes a c (xs ++ ys)
-Takes-trans a b c xs ys first last =
-    let place : b.at ≡ a.at + length xs = ap (λ s. s.at) first.after in
-    let bytes : length b.bytes ≡ length a.bytes = ap (λ s. length s.bytes) first.after in
-    record {
-      within = λ some. grind (arith, length-append xs ys, first.within, last.within, place, bytes);
-      there = (λ i. first.there i ++ (last.there ∙ ap (λ s. next_bytes s (length ys)) first.after) i)
-          ∙ sym (next_bytes-add a (length xs) (length ys)) ∙ ap (λ n. next_bytes a n) (sym (length-append xs ys));
-      after = last.after ∙ ap (λ s. advanced s (length ys)) first.after ∙ advanced-advanced a (length xs) (length ys)
-          ∙ ap (λ n. advanced a n) (sym (length-append xs ys));
-    }
 
 -- what was read from a source was consumed from the bytes that it had left
 pub Takes-consumes : (a b : Source) (xs : List ℕ) → Takes a b xs → Consumes (Some (bytes_left a)) (Some (bytes_left b)) xs

@@ -2,6 +2,8 @@ pub mod Bytes
 pub mod Errors
 pub mod Hash
 pub mod Hex
+pub mod Input
+pub mod InputLaws
 pub mod KeyedHash
 pub mod Probes
 pub mod Search

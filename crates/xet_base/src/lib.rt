@@ -3,6 +3,7 @@
 
 pub mod count;
 pub mod error;
+pub mod input;
 pub mod interpolation_search;
 mod keyed_hash;
 pub mod merklehash;

@@ -10,7 +10,8 @@ use Rattle.xet_base.specs.Errors.{IsEndOfInput, IsBareShardVersion, FromDevice}
 use Rattle.xet_base.specs.Source.{Source, Takes, Fails, moved, bytes_left}
 use Rattle.xet_base.proofs.Bytes.{length-u64_bytes}
 use Rattle.xet_base.proofs.Lists.{front_is}
-use Rattle.xet_base.proofs.Reading.{Takes-consumes, Takes-trans}
+use Rattle.xet_base.specs.InputLaws.{Takes-trans}
+use Rattle.xet_base.proofs.Reading.{Takes-consumes}
 use Rattle.xet_shards.specs.declared.shard_format.header.MDBShardFileHeader.{MDBShardFileHeader}
 use Rattle.xet_shards.specs.declared.shard_format.footer.MDBShardFileFooter.{MDBShardFileFooter}
 use Rattle.xet_shards.specs.Layout.{header_tag, shard_header_bytes, shard_footer_bytes}

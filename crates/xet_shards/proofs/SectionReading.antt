@@ -11,7 +11,8 @@ use Rattle.xet_base.specs.Errors.{FromDevice}
 use Rattle.xet_base.specs.Hash.{all_ones}
 use Rattle.xet_base.specs.Table.{IsBareInvalidShard}
 use Rattle.xet_base.specs.Source.{Source, Takes, Fails, ReadFailure, ReadFails, advanced, bytes_left}
-use Rattle.xet_base.proofs.Reading.{Takes-nil, Takes-trans, Takes-consumes, lacks_left}
+use Rattle.xet_base.specs.InputLaws.{Takes-nil, Takes-trans}
+use Rattle.xet_base.proofs.Reading.{Takes-consumes, lacks_left}
 use Rattle.xet_records.specs.RecordKind.{RecordKind}
 use Rattle.xet_records.specs.Rows.{ReadsRow}
 use Rattle.xet_records.specs.Reading.{ReadsBookend, ReadsRowsAfter, BeginsWithHeader}

@@ -3,7 +3,8 @@ use Rattle.std.proofs.lemmas.List.{length-take}
 use Rattle.std.proofs.lemmas.Result.{err_from_is_err_and}
 use Rattle.xet_base.specs.Bytes.{u64_bytes}
 use Rattle.xet_base.proofs.Bytes.{length-u64_bytes, length-numbers}
-use Rattle.xet_base.proofs.Reading.{HasBytes-consumed, LacksBytes-consumed}
+use Rattle.xet_base.specs.InputLaws.{LacksBytes-consumed}
+use Rattle.xet_base.proofs.Reading.{HasBytes-consumed}
 use Rattle.xet_base.proofs.serialization_utils.read_u64s.Goals as goal
 
 pub returns-in_err-value-clause-end : goal.returns-in_err-value-clause-end

@@ -2,7 +2,7 @@ use Rattle.std.proofs.Common.{◌++◌, take, arith, sym, ap, ◌∙◌}
 use Rattle.std.proofs.lemmas.Grind.{common_steps}
 use Rattle.xet_base.specs.Source.{advanced, next_bytes}
 use Rattle.xet_base.proofs.Lists.{take-put_mid_part}
-use Rattle.xet_base.proofs.Reading.{advanced-advanced, next_bytes-add}
+use Rattle.xet_base.specs.InputLaws.{advanced-advanced, next_bytes-add}
 use Rattle.xet_base.proofs.source.read_full.Goals as goal
 
 pub loop-filled-preserved : goal.loop-filled-preserved

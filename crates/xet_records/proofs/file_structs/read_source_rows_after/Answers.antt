@@ -1,4 +1,4 @@
-use Rattle.xet_base.proofs.Reading.{Takes-trans}
+use Rattle.xet_base.specs.InputLaws.{Takes-trans}
 use Rattle.xet_records.proofs.RecordKinds.{parts_after}
 use Rattle.xet_records.proofs.file_structs.read_source_rows_after.Goals as goal
 

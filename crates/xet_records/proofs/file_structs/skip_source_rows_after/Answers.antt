@@ -1,6 +1,6 @@
 use Rattle.std.proofs.Common.{refl}
 use Rattle.std.proofs.lemmas.Result.{IfOk-weaker}
-use Rattle.xet_base.proofs.Reading.{Takes-trans}
+use Rattle.xet_base.specs.InputLaws.{Takes-trans}
 use Rattle.xet_records.proofs.RecordKinds.{parts_after}
 use Rattle.xet_records.proofs.file_structs.skip_source_rows_after.Goals as goal
 

@@ -2,7 +2,7 @@ use Rattle.std.proofs.Common.{◌+◌, ◌*◌, ◌≤◌, length, flat_map, ari
 use Rattle.std.proofs.lemmas.Result.{err_from_is_err_and}
 use Rattle.std.proofs.KnownBytes.{Consumes-nil, Consumes-trans}
 use Rattle.xet_base.proofs.Errors.{end_from_device}
-use Rattle.xet_base.proofs.Reading.{LacksBytes-consumed}
+use Rattle.xet_base.specs.InputLaws.{LacksBytes-consumed}
 use Rattle.xet_records.proofs.Reading.{no_rows, more_rows}
 use Rattle.xet_records.proofs.rows.read_rows.Goals as goal
 

@@ -1,4 +1,4 @@
-use Rattle.xet_base.proofs.Reading.{Takes-nil, Takes-trans}
+use Rattle.xet_base.specs.InputLaws.{Takes-nil, Takes-trans}
 use Rattle.xet_records.proofs.Reading.{no_rows, more_rows}
 use Rattle.xet_records.proofs.rows.read_source_rows.Goals as goal
 

@@ -1,5 +1,5 @@
 use Rattle.std.proofs.Common.{[], ◌∷◌, ◌++◌}
-use Rattle.xet_base.proofs.Reading.{Takes-nil, Takes-trans}
+use Rattle.xet_base.specs.InputLaws.{Takes-nil, Takes-trans}
 use Rattle.xet_records.proofs.Reading.{no_rows, more_rows}
 use Rattle.xet_records.proofs.rows.skip_source_rows.Goals as goal
 

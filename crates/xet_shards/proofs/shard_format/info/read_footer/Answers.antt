@@ -1,6 +1,6 @@
 use Rattle.std.proofs.Common.{◌++◌, sym, ap, ◌∙◌, subst}
 use Rattle.xet_base.specs.Source.{Takes}
-use Rattle.xet_base.proofs.Reading.{Takes-trans}
+use Rattle.xet_base.specs.InputLaws.{Takes-trans}
 use Rattle.xet_shards.proofs.shard_format.info.read_footer.Goals as goal
 
 pub returns-clause-read : goal.returns-clause-read
