@@ -19,6 +19,7 @@ ghost use Rattle.xet_shards.specs.Ends.{FitsFooter};
 
 use super::file_writer::WrittenFiles;
 use super::footer::MDBShardFileFooter;
+use super::header::HEADER_SIZE;
 use super::info::MDBShardInfo;
 use super::xorb_writer::{ChunkPlace, WrittenXorbs};
 use crate::shard_in_memory::MDBInMemoryShard;
