@@ -1,4 +1,5 @@
-//! What a failed allocation leaves. Each test also passes in a run in which one allocation fails, whichever it is.
+//! The effects of failed allocations. Each test also passes in a run in which one allocation fails,
+//! whichever it is.
 
 use crate::fixtures::{file, full_file, shard, small, xorb};
 use std::alloc::Global;
@@ -7,7 +8,8 @@ use xet_core_structures::shard_format::MDBShardInfo;
 use xet_core_structures::shard_in_memory::MDBInMemoryShard;
 use xet_core_structures::source::MemorySource;
 
-/// Whether a call answers what it should, or that it is out of memory. Without its arguments there is nothing to say.
+/// Whether a call returns the expected value or `OutOfMemory`. True if its arguments could not be
+/// allocated.
 fn is_answer<T: PartialEq + Drop>(answer: Result<T>, wanted: Result<T>) -> bool {
     match (answer, wanted) {
         (Ok(answer), Ok(wanted)) => answer == wanted,
@@ -27,7 +29,7 @@ fn records_are_copied_or_out_of_memory(rt: HostRuntime) {
     }
 }
 
-/// Whether merging takes over both parts, or changes nothing.
+/// Whether merging adds both parts, or changes nothing.
 fn is_merged_or_kept(alloc: Global) -> Option<bool> {
     let mut own = file(alloc).ok()?;
     let other = full_file(alloc).ok()?;
@@ -52,7 +54,7 @@ fn a_refused_merge_changes_nothing(rt: HostRuntime) {
     assert!(rt; is_merged_or_kept(rt.alloc()).unwrap_or(true));
 }
 
-/// Whether a shard has 576 bytes, and of xorb 10 this chunk.
+/// Whether a shard has 576 bytes, and this chunk in xorb 10.
 fn has_chunk(shard: &MDBInMemoryShard, chunk_number: u64) -> bool {
     match shard.chunk_hash_dedup_query(&[small(chunk_number)]) {
         Some((_, segment)) => shard.shard_file_size() == 576 && segment.xorb_hash == small(10),
@@ -93,7 +95,8 @@ fn add_file(alloc: Global, shard: &mut MDBInMemoryShard, number: u64) -> Result<
     shard.add_file_reconstruction_info(alloc, file)
 }
 
-/// Whether adding a file to a shard of so many either succeeds, or is out of memory and changes nothing.
+/// Whether adding a file to a shard of so many either succeeds, or is out of memory and changes
+/// nothing.
 fn is_file_added_or_kept(alloc: Global, count: u64) -> Option<bool> {
     let mut shard = shard_of_files(alloc, count).ok()?;
     let size = shard.shard_file_size();
@@ -158,8 +161,8 @@ fn size_written(alloc: Global) -> Result<usize> {
     Ok(larger_shard(alloc)?.to_bytes(alloc)?.len())
 }
 
-/// The numbers of files, of xorbs, of their headers, of rows of the xorb table, of chunks and of file ranges that are
-/// read from the bytes of a shard.
+/// The numbers of files, of xorbs, of their headers, of rows of the xorb table, of chunks and of
+/// file ranges that are read from the bytes of a shard.
 fn counts_read(alloc: Global, bytes: &[u8]) -> Result<[usize; 6]> {
     let mut source = MemorySource::new(bytes);
     let ranges = MDBShardInfo::read_file_info_ranges(alloc, &mut source)?.len();

@@ -1,4 +1,4 @@
-//! Conversions to errors, texts of errors, and calls that no command of a script reaches.
+//! Conversions to errors, messages of errors, and calls that no script makes.
 
 use std::alloc::{AllocError, AllocFailed, Global};
 use std::io;
@@ -8,7 +8,7 @@ use xet_core_structures::error::{CoreError, Result, Validate};
 use xet_core_structures::merklehash::{DataHash, DataHashBytesParseError, DataHashHexParseError};
 use xet_core_structures::source::{MemorySource, ShardSource, read_full};
 
-/// An error of any kind that has a `CoreError`.
+/// An error of each type that converts to `CoreError`.
 fn core_error<E: Into<CoreError>>(error: E) -> CoreError {
     error.into()
 }
@@ -35,7 +35,7 @@ fn errors_are_equal_by_variant(rt: HostRuntime) {
     assert_ne!(rt; CoreError::InvalidRange, CoreError::InvalidArguments);
 }
 
-/// Whether an error has this text.
+/// Whether an error has this message.
 fn has_text(alloc: Global, error: CoreError, text: &str) -> Result<bool> {
     Ok(format!(in alloc; "{error}")?.as_str() == text)
 }

@@ -1,4 +1,4 @@
-//! Records and shards that several tests use, and what an error says.
+//! Records and shards that several tests use, and the kind of an error.
 
 ghost use Rattle.std.specs.Prelude.{IfOk};
 ghost use Rattle.xet_core_structures.specs.FileRecord.{FitsItsHeader};

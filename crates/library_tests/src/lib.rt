@@ -1,5 +1,5 @@
-//! Tests of the library that no line of a script can make: streams that fail, allocations that are refused,
-//! conversions, and generic calls at concrete types.
+//! Tests of the library that no line of a script can make: streams that fail, allocations that
+//! fail, conversions, and generic calls at concrete types.
 #![tactic(auto)]
 
 #[cfg(test)]

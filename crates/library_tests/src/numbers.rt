@@ -91,12 +91,12 @@ fn reads_succeed_exactly_where_enough_is_left(rt: HostRuntime) {
     }
 }
 
-/// What a read answers where the stream has a fault after so many bytes.
+/// The result of a read if the stream fails after this many bytes.
 fn read_with(item: Item, left: usize, fault: Fault) -> Option<ErrorKind> {
     kind_of(read(item, &mut Stream::new(&BYTES, left, fault)))
 }
 
-// An interruption is no failure, and a device's own `UnexpectedEof` is not the end of the input.
+// An interruption is not a failure, and a device's own `UnexpectedEof` is not the end of the input.
 #[test]
 fn reads_fail_with_the_device_s_error(rt: HostRuntime) {
     for (item, size) in ITEMS {
@@ -113,7 +113,7 @@ fn reads_fail_with_the_device_s_error(rt: HostRuntime) {
     }
 }
 
-/// What a write answers where the stream has a fault after so many bytes.
+/// The result of a write if the stream fails after this many bytes.
 fn write_with(item: Item, left: usize, fault: Fault) -> Option<ErrorKind> {
     kind_of(write(item, &mut Stream::new(&[], left, fault)))
 }
@@ -179,7 +179,7 @@ fn numbers_are_read_back(rt: HostRuntime) -> Result<(), Fail> {
     Ok(())
 }
 
-// What is behind a part stays.
+// The bytes after a part are unchanged.
 #[test]
 fn rows_are_put_together(rt: HostRuntime) {
     let mut row = [9u8; 50];

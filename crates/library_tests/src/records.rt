@@ -58,13 +58,13 @@ fn a_reader_fails_in_mid_xorb(rt: HostRuntime) -> std::result::Result<(), Fail> 
     Ok(())
 }
 
-/// What writing the file record answers where the writer has a fault after so many bytes.
+/// The result of writing the file record if the writer fails after this many bytes.
 fn write_file(alloc: Global, left: usize, fault: Fault) -> Result<usize> {
     let file = full_file(alloc)?;
     file.serialize(&mut Stream::new(&[], left, fault))
 }
 
-/// The same of the xorb record.
+/// The same for the xorb record.
 fn write_xorb(alloc: Global, left: usize, fault: Fault) -> Result<usize> {
     let xorb = xorb(alloc, 10, 21)?;
     xorb.serialize(&mut Stream::new(&[], left, fault))
@@ -154,7 +154,7 @@ fn rows_are_a_list(rt: HostRuntime) -> std::result::Result<(), Fail> {
     Ok(())
 }
 
-/// What a generic writer of rows answers where the stream fails after so many bytes.
+/// The result of writing rows generically if the stream fails after this many bytes.
 fn kind_of(answer: std::io::Result<()>) -> Option<ErrorKind> {
     Some(answer.err()?.kind())
 }

@@ -10,7 +10,7 @@ use xet_core_structures::shard_format::{MDBShardFileFooter, MDBShardFileHeader, 
 
 const BROKEN: Fault = Fault::Fails(ErrorKind::BrokenPipe);
 
-/// What writing a shard of 576 bytes answers where the writer has a fault after so many bytes.
+/// The result of writing a shard of 576 bytes if the writer fails after this many bytes.
 fn write_shard(alloc: Global, left: usize, fault: Fault) -> Result<MDBShardInfo> {
     let mut writer = Stream::new(&[], left, fault);
     MDBShardInfo::serialize_from(alloc, &mut writer, &shard(alloc)?, None)

@@ -1,22 +1,22 @@
-//! A stream that moves one byte a call, and fails or stops after some of them.
+//! A stream that transfers one byte a call, and fails or stops after some of them.
 
 use std::io;
 use std::io::{ErrorKind, Read, Write};
 
-/// What a stream does in the place of moving a byte.
+/// What a stream does instead of transferring a byte.
 #[derive(Clone, Copy)]
 pub enum Fault {
     /// One call fails with an error of this kind.
     Fails(ErrorKind),
-    /// No call moves a byte any more.
+    /// No further call transfers a byte.
     Stops,
 }
 
-/// A reader of some bytes, and a writer that forgets what it takes.
+/// A reader of some bytes, and a writer that discards what is written.
 #[derive(Drop)]
 pub struct Stream<'a> {
     bytes: &'a [u8],
-    // How many bytes it moves before the fault.
+    // How many bytes it transfers before the fault.
     left: usize,
     fault: Option<Fault>,
 }
@@ -30,7 +30,7 @@ impl<'a> Stream<'a> {
         }
     }
 
-    // Whether this call moves a byte.
+    // Whether this call transfers a byte.
     fn moves(&mut self) -> io::Result<bool> {
         if self.left > 0 {
             self.left -= 1;

@@ -7,7 +7,7 @@ use Rattle.std.specs.Str.Parse.{IsNumeral, digits_value}
 abbrev pub IsSkipped : List ℕ → Type 0
 IsSkipped line = (line ≡ []) ⊎ (slice_index line 0 ≡ 35)
 
--- a text without this byte at its end
+-- a line without this byte at its end
 abbrev pub without_last : ℕ → List ℕ → List ℕ
 without_last byte text = if slice_index text (length text - 1) == byte then take (length text - 1) text else text
 
@@ -15,14 +15,14 @@ without_last byte text = if slice_index text (length text - 1) == byte then take
 abbrev pub IsNameByte : ℕ → Type 0
 IsNameByte byte = IsInRange 48 57 byte ⊎ IsInRange 65 90 byte ⊎ IsInRange 97 122 byte ⊎ (byte ≡ 95)
 
--- 1 to 32 of them
+-- 1 to 32 such bytes
 abbrev pub IsName : List ℕ → Type 0
 IsName word = (1 ≤ length word) × (length word ≤ 32) × All IsNameByte word
 
--- a decimal number of at most so many bits, with no sign
+-- a decimal number of at most this many bits, without a sign
 abbrev pub IsNumber : ℕ → List ℕ → Type 0
 IsNumber bits word = IsNumeral 10 word × (digits_value 10 word < 2 ^ bits)
 
--- the words of the hash that a number n stands for
+-- the words of the small hash n
 abbrev pub small_words : ℕ → List ℕ
 small_words n = n ∷ 1 ∷ 0 ∷ 0 ∷ []

@@ -25,7 +25,7 @@ pub fn is_skipped(line: &[u8]) -> bool
     line.is_empty() || line[0] == b'#'
 }
 
-/// The words of a line, which are parted by one space or more.
+/// The words of a line, separated by one or more spaces.
 pub fn split_words(alloc: Global, text: &str) -> Result<Vec<&str>, AllocError> {
     text.split(' ')
         .filter(|word| !word.is_empty())

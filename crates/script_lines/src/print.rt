@@ -8,8 +8,8 @@ use xet_core_structures::file_structs::{
     FileDataSequenceEntry, FileVerificationEntry, MDBFileInfo,
 };
 
-/// Prints a record: a line for the file, then one for each of its rows in the order in which they stand. Asks
-/// that the record's parts fit its header.
+/// Prints a record: a line for the file, then one for each of its rows, in order. Requires that the
+/// record's parts match its header.
 pub fn print_file<W: Write>(file: &MDBFileInfo, output: &mut W) -> io::Result<()>
     requires { FitsItsHeader file.now }
 {

@@ -5,14 +5,14 @@ ghost use Rattle.std.specs.Prelude.{◌≡◌, ◌≤◌, ◌+◌, ◌↔◌, le
 use crate::words::ParseError;
 use std::alloc::{AllocError, Global};
 
-/// So many bytes, from an index on.
+/// A range of `len` bytes, from the index `from` on.
 #[derive(Clone, Copy)]
 pub struct ByteRange {
     pub from: u64,
     pub len: u64,
 }
 
-/// The bytes of a range. `Unreadable` where the range ends past the end of the bytes.
+/// The bytes of a range. `Unreadable` if the range ends past the end of the bytes.
 pub fn bytes_in(bytes: &[u8], range: ByteRange) -> Result<&[u8], ParseError>
     ensures inside { IsOk result ↔ (range.from + range.len ≤ length bytes.now) }
     ensures causes { IfErr result (λ e. e ≡ ParseError.Unreadable) }

@@ -7,14 +7,14 @@ use std::alloc::Global;
 use xet_core_structures::file_structs::{FileDataSequenceEntry, FileVerificationEntry};
 use xet_core_structures::merklehash::MerkleHash;
 
-/// A chunk's hash, and how many bytes it has.
+/// A chunk's hash, and its size in bytes.
 #[derive(Clone, Copy)]
 pub struct SizedChunk {
     pub hash: MerkleHash,
     pub size: u32,
 }
 
-/// The chunks of words `CHUNK:SIZE`, in order. `Unreadable` where a word is none of these.
+/// The chunks of words `CHUNK:SIZE`, in order. `Unreadable` if a word does not have this form.
 pub fn parse_chunks(alloc: Global, words: &[&str]) -> Result<Vec<SizedChunk>, ParseError>
     ensures count { IfOk result (λ chunks. length chunks.items ≡ length words.now) }
 {
@@ -25,7 +25,7 @@ pub fn parse_chunks(alloc: Global, words: &[&str]) -> Result<Vec<SizedChunk>, Pa
     Ok(chunks)
 }
 
-/// The chunk of a word `CHUNK:SIZE`. `Unreadable` where the word is no such.
+/// The chunk of a word `CHUNK:SIZE`. `Unreadable` if the word does not have this form.
 pub fn parse_chunk(word: &str) -> Result<SizedChunk, ParseError>
     ensures { IfErr result (λ e. e ≡ ParseError.Unreadable) }
 {
@@ -35,7 +35,8 @@ pub fn parse_chunk(word: &str) -> Result<SizedChunk, ParseError>
     Ok(SizedChunk { hash, size })
 }
 
-/// The segments of words `XORB:START:END:BYTES`, in order. `Unreadable` where a word is none of these.
+/// The segments of words `XORB:START:END:BYTES`, in order. `Unreadable` if a word does not have
+/// this form.
 pub fn parse_segments(
     alloc: Global,
     words: &[&str],
@@ -49,9 +50,9 @@ pub fn parse_segments(
     Ok(segments)
 }
 
-/// The segment of a word `XORB:START:END:BYTES`, with no flag set: the chunks of the xorb from place
-/// `START` up to place `END`, which is not among them, and their bytes. `Unreadable` where the word
-/// is no such.
+/// The segment of a word `XORB:START:END:BYTES`, with no flag set: the chunks of the xorb from
+/// index `START` up to, but not including, index `END`, and their size in bytes. `Unreadable` if
+/// the word does not have this form.
 pub fn parse_segment(word: &str) -> Result<FileDataSequenceEntry, ParseError>
     ensures flags { IfOk result (λ segment. segment.xorb_flags ≡ 0) }
     ensures causes { IfErr result (λ e. e ≡ ParseError.Unreadable) }
@@ -66,8 +67,8 @@ pub fn parse_segment(word: &str) -> Result<FileDataSequenceEntry, ParseError>
     Ok(FileDataSequenceEntry::new(xorb, bytes, start, end))
 }
 
-/// The verification rows of a list of hashes, which are parted by commas. The empty list has none.
-/// `Unreadable` where what stands between two commas is no hash.
+/// The verification rows of a list of hashes, separated by commas. The empty list has none.
+/// `Unreadable` if a part between commas is not a hash.
 pub fn parse_verification(
     alloc: Global,
     list: &str,

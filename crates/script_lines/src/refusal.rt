@@ -1,10 +1,9 @@
-//! How a refusal is printed.
+//! How the error of a refused command is printed.
 
 use std::fmt;
 use xet_core_structures::error::CoreError;
 
-/// What is printed of a refusal: the name of the error's variant, and for a collision the word that
-/// collides.
+/// Prints the name of the error's variant, and for a collision the word that collides.
 #[derive(Clone, Copy)]
 pub struct Refusal<'a>(pub &'a CoreError);
 

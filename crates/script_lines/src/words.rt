@@ -13,9 +13,9 @@ use xet_core_structures::merklehash::{DataHash, MerkleHash};
 /// Why a line can't be read.
 #[derive(Clone, Copy, Debug, PartialEq, Eq)]
 pub enum ParseError {
-    /// A word is not what its place asks for.
+    /// A word does not have the form that its position requires.
     Unreadable,
-    /// An allocation for the lists of the line was refused.
+    /// An allocation for the lists of the line failed.
     OutOfMemory,
 }
 
@@ -41,10 +41,11 @@ impl<T: Drop> From<AllocFailed<T>> for ParseError {
     }
 }
 
-/// What follows `prefix` in the first word, where it begins so, and the words after it. Where it
-/// does not begin so, or there is no word, `None` and all words.
+/// The rest of the first word after `prefix`, and the words after it. If the first word does not
+/// begin with `prefix`, or there is none, `None` and all words.
 pub fn split_option<'w, 'a>(words: &'w [&'a str], prefix: &str) -> (Option<&'a str>, &'w [&'a str])
-    ensures { MatchOption result.0 (result.1.now ≡ words.now) (λ _. result.1.now ≡ drop 1 words.now) }
+    ensures { MatchOption result.0 (result.1.now ≡ words.now)
+        (λ _. result.1.now ≡ drop 1 words.now) }
 {
     let Some((first, rest)) = words.split_first() else {
         return (None, words);
@@ -55,7 +56,7 @@ pub fn split_option<'w, 'a>(words: &'w [&'a str], prefix: &str) -> (Option<&'a s
     }
 }
 
-/// What stands before and after the first colon of a word. `Unreadable` where it has none.
+/// The parts of a word before and after its first colon. `Unreadable` if it has none.
 pub fn split_at_colon(word: &str) -> Result<(&str, &str), ParseError>
     ensures parts { IfOk result (λ parts. word.now ≡ parts.0.now ++ 58 ∷ parts.1.now) }
     ensures causes { IfErr result (λ e. e ≡ ParseError.Unreadable) }
@@ -88,8 +89,8 @@ fn is_name_byte(byte: u8) -> bool
     byte.is_ascii_alphanumeric() || byte == b'_'
 }
 
-/// The hash that a word spells: 64 hexadecimal digits are the hash with these digits, and a number n
-/// of at most 64 bits is the small hash n. `Unreadable` where the word is neither.
+/// The hash that a word spells: 64 hexadecimal digits are the hash with these digits, and a decimal
+/// number n that fits `u64` is the small hash n. `Unreadable` if the word is neither.
 pub fn parse_hash(word: &str) -> Result<MerkleHash, ParseError>
     ensures digits { IsHexText word.now → IsOkAnd result (Spells word.now) }
     ensures number { ¬ (IsHexText word.now) → (IsOk result ↔ IsNumber 64 word.now) }
@@ -103,27 +104,27 @@ pub fn parse_hash(word: &str) -> Result<MerkleHash, ParseError>
     }
 }
 
-/// The small hash of a number, which has the words number, 1, 0 and 0.
+/// The small hash of a number: the hash with the words number, 1, 0 and 0.
 pub fn small_hash(number: u64) -> MerkleHash
     ensures { words_of result ≡ small_words number }
 {
     DataHash::from([number, 1, 0, 0])
 }
 
-/// The number that a word spells in decimal. `Unreadable` where the word has a sign or any other
-/// byte that is no digit, is empty, or spells a number of more than 64 bits.
+/// The number that a word spells in decimal. `Unreadable` if the word is empty, has a sign or any
+/// other byte that is not a digit, or the number does not fit `u64`.
 pub fn parse_u64(word: &str) -> Result<u64, ParseError>
     ensures value { OkIff result (IsNumber 64 word.now) (digits_value 10 word.now) }
     ensures causes { IfErr result (λ e. e ≡ ParseError.Unreadable) }
 {
-    // `parse` would take a plus.
+    // `parse` accepts a plus.
     if word.as_bytes().first() == Some(&b'+') {
         return Err(ParseError::Unreadable);
     }
     word.parse().map_err(|_| ParseError::Unreadable)
 }
 
-/// As [`parse_u64`], for numbers of at most 32 bits.
+/// As [`parse_u64`], for numbers that fit `u32`.
 pub fn parse_u32(word: &str) -> Result<u32, ParseError>
     ensures value { OkIff result (IsNumber 32 word.now) (digits_value 10 word.now) }
     ensures causes { IfErr result (λ e. e ≡ ParseError.Unreadable) }

@@ -10,7 +10,7 @@ use std::alloc::Global;
 use std::io::Write;
 use xet_core_structures::shard_format::MDBShardInfo;
 
-/// Runs a command that makes or changes a buffer. False where the words are none.
+/// Runs a command that makes or changes a buffer. `false` if the words are no such command.
 pub fn run_on_buffers(
     workspace: &mut Workspace,
     alloc: Global,
@@ -86,7 +86,7 @@ fn put(workspace: &mut Workspace, name: &str, offset: u64, new: &[u8]) -> Result
     Ok(())
 }
 
-/// Runs a command that prints what a buffer holds. False where the words are none.
+/// Runs a command that prints the contents of a buffer. `false` if the words are no such command.
 pub fn ask_buffers(
     workspace: &Workspace,
     alloc: Global,

@@ -25,7 +25,7 @@ use xet_core_structures::xorb_structs::{
     MDBXorbInfo, XorbChunkSequenceEntry, XorbChunkSequenceHeader,
 };
 
-/// Runs a command that writes or reads a row or a record. False where the words are none.
+/// Runs a command that writes or reads a row or a record. `false` if the words are no such command.
 pub fn run_codecs(
     workspace: &mut Workspace,
     alloc: Global,

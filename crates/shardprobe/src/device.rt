@@ -1,4 +1,4 @@
-//! A source over bytes in memory that counts what it costs and fails where it is told to.
+//! A source over bytes in memory that counts its costs and fails by a plan.
 
 ghost use Rattle.std.specs.Prelude.{◌≡◌, ◌+◌, IfNone, IfSome, Some};
 
@@ -7,12 +7,12 @@ use std::io::ErrorKind;
 use xet_core_structures::count::Count;
 use xet_core_structures::source::{MemorySource, ShardSource};
 
-/// What a device does beside its work.
+/// How a device deviates from one that works.
 #[derive(Clone, Copy)]
 pub struct Plan {
-    /// What fails, if anything does.
+    /// The call that fails, if any.
     pub fault: Option<Fault>,
-    /// Whether each read gives one byte.
+    /// Whether each read returns one byte.
     pub is_slow: bool,
 }
 
@@ -76,7 +76,7 @@ impl<'a> Device<'a> {
         self.last_failure.is_some()
     }
 
-    // The failure of this call, where the plan has one.
+    // The failure of this call, if the plan has one.
     fn failure_of(&mut self, operation: Operation) -> Option<io::Error>
         ensures inner { self.new.inner ≡ self.old.inner }
         ensures seeks { self.new.seeks ≡ self.old.seeks }

@@ -28,7 +28,8 @@ pub fn print_footer(footer: &MDBShardFileFooter, out: &mut Vec<u8>) -> io::Resul
     writeln!(out)
 }
 
-/// Prints `FIELD=VALUE` for each field that is named, on one line. `Unreadable` where one has another name.
+/// Prints `FIELD=VALUE` for each field that is named, on one line. `Unreadable` if one has another
+/// name.
 pub fn print_fields(info: &MDBShardInfo, names: &[&str], out: &mut Vec<u8>) -> Result<(), Stop> {
     let mut separator = "";
     for name in names {

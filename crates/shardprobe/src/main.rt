@@ -1,5 +1,5 @@
-//! A test tool: reads commands from standard input, one a line, calls the library and prints what each call
-//! answers. So a worked example is a line of data.
+//! A test tool: reads commands from standard input, one a line, calls the library and prints the
+//! result of each call. So a worked example is a line of data.
 #![tactic(auto)]
 
 mod buffers;

@@ -11,7 +11,7 @@ use std::io::Write;
 use xet_core_structures::merklehash::MerkleHash;
 use xet_core_structures::shard_in_memory::MDBInMemoryShard;
 
-/// Runs a command that makes or changes a shard. False where the words are none.
+/// Runs a command that makes or changes a shard. `false` if the words are no such command.
 pub fn run_on_shards(
     workspace: &mut Workspace,
     alloc: Global,
@@ -79,7 +79,8 @@ fn recount(workspace: &mut Workspace, name: &str) -> Result<(), Stop> {
     Ok(())
 }
 
-/// Runs a command that prints what a shard answers. False where the words are none.
+/// Runs a command that prints the result of a call on a shard. `false` if the words are no such
+/// command.
 pub fn ask_shards(
     workspace: &Workspace,
     alloc: Global,

@@ -15,8 +15,8 @@ use xet_core_structures::xorb_structs::{
     MDBXorbInfo, XorbChunkSequenceEntry, XorbChunkSequenceHeader,
 };
 
-/// The record of words `HASH flags=N count=N unused=N v=ROW,ROW.. s=ROW SEGMENT ..`, of which all but the hash may
-/// be left out. Flags and count are then those of the parts.
+/// The record of words `HASH flags=N count=N unused=N v=ROW,ROW.. s=ROW SEGMENT ..`, of which all
+/// but the hash may be left out. Flags and count are then those of the parts.
 pub fn parse_file(alloc: Global, words: &[&str]) -> Result<MDBFileInfo, Stop> {
     let Some((hash, rest)) = words.split_first() else {
         return Err(Stop::Unreadable);
@@ -47,7 +47,7 @@ pub fn parse_file(alloc: Global, words: &[&str]) -> Result<MDBFileInfo, Stop> {
     })
 }
 
-// The number behind `prefix` in the first word, where it begins so, and the words after it.
+// The number after `prefix` in the first word, if it begins so, and the words after it.
 fn parse_u32_option<'w, 'a>(
     words: &'w [&'a str],
     prefix: &str,
@@ -130,8 +130,8 @@ pub fn parse_segment(alloc: Global, word: &str) -> Result<FileDataSequenceEntry,
     })
 }
 
-/// The record of words `HASH flags=N count=N bytes=N disk=N CHUNK ..`, of which all but the hash may be left out. Count
-/// and bytes are then those of the chunks.
+/// The record of words `HASH flags=N count=N bytes=N disk=N CHUNK ..`, of which all but the hash
+/// may be left out. Count and bytes are then those of the chunks.
 pub fn parse_xorb(alloc: Global, words: &[&str]) -> Result<MDBXorbInfo, Stop> {
     let Some((hash, rest)) = words.split_first() else {
         return Err(Stop::Unreadable);
@@ -174,8 +174,8 @@ fn parse_chunks(
     Ok((chunks, sum))
 }
 
-/// The chunk of a word `HASH:SIZE:START:FLAGS:UNUSED`, of which all but hash and size may be left out. It then starts
-/// at `next`.
+/// The chunk of a word `HASH:SIZE:START:FLAGS:UNUSED`, of which all but hash and size may be left
+/// out. It then starts at `next`.
 pub fn parse_chunk(alloc: Global, word: &str, next: u32) -> Result<XorbChunkSequenceEntry, Stop> {
     let parts = split_parts(alloc, word, ':')?;
     let (hash, size, rest) = match parts.as_slice() {
@@ -217,7 +217,7 @@ pub fn parse_key(word: &str) -> Result<HMACKey, Stop> {
     Ok(parse_hash(word)?)
 }
 
-/// The words before and after the word `with`. `Unreadable` where it is not among them.
+/// The words before and after the word `with`. `Unreadable` if the word is missing.
 pub fn split_at_with<'w, 'a>(words: &'w [&'a str]) -> Result<(&'w [&'a str], &'w [&'a str]), Stop> {
     for (i, word) in words.iter().enumerate() {
         if *word == "with" {

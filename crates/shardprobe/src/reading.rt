@@ -16,7 +16,7 @@ use xet_core_structures::merklehash::MerkleHash;
 use xet_core_structures::shard_format::MDBShardInfo;
 use xet_core_structures::source::{MemorySource, ShardSource};
 
-/// What a command answered, and what it cost.
+/// The result of a command, and its costs.
 #[derive(Drop)]
 pub struct Report {
     pub answer: Result<(), Stop>,
@@ -25,7 +25,8 @@ pub struct Report {
     pub has_failed: bool,
 }
 
-/// Runs a command on the buffer that its second word names, through a device. `Unreadable` where it is none.
+/// Runs a command on the buffer that its second word names, through a device. `Unreadable` if there
+/// is none.
 pub fn run_reading(
     workspace: &Workspace,
     alloc: Global,
@@ -47,7 +48,8 @@ pub fn run_reading(
     })
 }
 
-// Makes the call of a command. Most calls take header and footer, which a source that does not fail reads before.
+// Makes the call of a command. Most calls take header and footer, which are read before from a
+// source that does not fail.
 fn call(
     alloc: Global,
     command: &str,
@@ -305,8 +307,9 @@ fn print_file_index(
     Ok(())
 }
 
-/// Runs a command with each call of the device failing in turn, until a run meets no failure. Prints how many
-/// failed and what these answered, once where it is the same, and then what the run without failure prints.
+/// Runs a command with each call of the device failing in turn, until a run meets no failure.
+/// Prints how many failed and the errors, one if they are all the same, and then the output of the
+/// run without failure.
 pub fn run_each_failure(
     workspace: &Workspace,
     alloc: Global,

@@ -15,8 +15,8 @@ use std::alloc::Global;
 use std::io::{BufRead, BufReader, ErrorKind, Read, Write};
 use std::{io, str};
 
-/// Runs the commands of `input`, one a line, and writes what they answer to `output`. The error is that of the input,
-/// of the output, or of an allocation.
+/// Runs the commands of `input`, one a line, and writes their results to `output`. The error is
+/// that of the input, of the output, or of an allocation.
 pub fn run_script<R: Read, W: Write>(
     alloc: Global,
     input: &mut R,
@@ -36,7 +36,7 @@ pub fn run_script<R: Read, W: Write>(
     output.flush()
 }
 
-/// What the lines so far have made, and how the device works.
+/// The shards and buffers made so far, and how the device works.
 #[derive(Drop)]
 struct Probe {
     workspace: Workspace,
@@ -56,7 +56,7 @@ impl Probe {
         }
     }
 
-    // What a line prints.
+    // Runs a line and returns its output.
     fn answer(&mut self, alloc: Global, line: &[u8], out: &mut Vec<u8>) -> io::Result<()> {
         if is_skipped(line) {
             return Ok(());
@@ -97,7 +97,7 @@ impl Probe {
         }
     }
 
-    // Runs a command through the device, and prints its costs where they are wanted.
+    // Runs a command through the device, and prints its costs if they are switched on.
     fn read(&self, alloc: Global, words: &[&str], out: &mut Vec<u8>) -> Result<(), Stop> {
         let report = run_reading(&self.workspace, alloc, self.plan, words, out)?;
         match &report.answer {
@@ -113,7 +113,7 @@ impl Probe {
         Ok(())
     }
 
-    // Switches how the device works. False where the words are no switch.
+    // Switches how the device works. `false` if the words are no such switch.
     fn switch(&mut self, words: &[&str]) -> Result<bool, Stop> {
         match words {
             ["fail", "none"] => self.plan.fault = None,

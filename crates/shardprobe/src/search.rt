@@ -14,14 +14,15 @@ use std::io::Write;
 use xet_core_structures::interpolation_search::search_on_sorted_u64s;
 use xet_core_structures::source::{ShardSource, read_full};
 
-/// The most bytes that a value has here.
+/// The greatest width of a value, in bytes.
 const MOST_BYTES: u64 = 64;
 
 /// The value of a table's first row.
 const FIRST_VALUE: u64 = 100;
 
-/// Makes a table of these rows. `KEY` is a row with this key, `KEYxN` so many, and `even:N` so many with the keys
-/// i * s, s the greatest for which all of them are below the end of 64 bits. The values count up.
+/// Makes a table of these rows. `KEY` is a row with this key, `KEYxN` so many, and `even:N` so many
+/// with the keys i * s, s the greatest for which all of them are below the end of 64 bits. The
+/// values count up.
 pub fn make_table(
     workspace: &mut Workspace,
     alloc: Global,
@@ -92,7 +93,8 @@ fn value_bytes(value: u64) -> [u8; 64] {
     bytes
 }
 
-/// Searches a table from byte START on, of so many rows, for a key, and prints the values, ascending.
+/// Searches a table from byte START on, of so many rows, for a key, and prints the values,
+/// ascending.
 pub fn search(
     alloc: Global,
     source: &mut Device<'_>,

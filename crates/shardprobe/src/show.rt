@@ -41,7 +41,7 @@ impl fmt::Display for ShortKey {
     }
 }
 
-/// Two reserved words behind a hash, where they are not both zero.
+/// Two reserved words after a hash, if they are not both zero.
 #[derive(Clone, Copy)]
 struct Reserved([u64; 2]);
 
@@ -55,7 +55,7 @@ impl fmt::Display for Reserved {
     }
 }
 
-/// A segment as a word, with its flags where they are not zero.
+/// A segment as a word, with its flags if they are not zero.
 #[derive(Clone, Copy)]
 pub struct Segment(pub FileDataSequenceEntry);
 
@@ -86,7 +86,7 @@ impl fmt::Display for HashRow {
     }
 }
 
-/// A chunk as a word, with flags and reserved word where they are not both zero.
+/// A chunk as a word, with flags and reserved word if they are not both zero.
 #[derive(Clone, Copy)]
 pub struct Chunk(pub XorbChunkSequenceEntry);
 
@@ -140,7 +140,7 @@ pub fn print_file_header(
     Ok(())
 }
 
-// Prints a header's count where it is not the number of rows.
+// Prints a header's count if it is not the number of rows.
 fn print_count(count: u32, rows: usize, out: &mut Vec<u8>) -> io::Result<()> {
     if count as usize == rows {
         return Ok(());
@@ -206,7 +206,7 @@ pub fn print_hash(hash: Option<MerkleHash>, out: &mut Vec<u8>) -> io::Result<()>
     }
 }
 
-/// Prints `none` in the place of an empty list.
+/// Prints `none` for an empty list.
 pub fn print_if_empty(is_empty: bool, out: &mut Vec<u8>) -> io::Result<()> {
     if is_empty {
         return writeln!(out, "none");

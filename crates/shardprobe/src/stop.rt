@@ -1,4 +1,4 @@
-//! Why a line prints no answer.
+//! Why a line has no result.
 
 use script_lines::refusal::Refusal;
 use script_lines::words::ParseError;
@@ -6,12 +6,12 @@ use std::alloc::{AllocError, AllocFailed};
 use std::{fmt, io};
 use xet_core_structures::error::CoreError;
 
-/// Why a line prints no answer.
+/// Why a line has no result.
 #[derive(Drop)]
 pub enum Stop {
-    /// The call was refused, or an allocation of the probe failed.
+    /// The call failed, or an allocation of the probe did.
     Refused(CoreError),
-    /// The line is no command, or names what is not there.
+    /// The line is not a command, or a name in it does not exist.
     Unreadable,
 }
 
@@ -62,7 +62,8 @@ impl fmt::Display for Stop {
     }
 }
 
-/// What the name of an error's variant does not say: the kind of a device's error, and the text, where there is one.
+/// The parts of an error besides its variant: the kind of a device's error, and the text, if there
+/// is one.
 #[derive(Clone, Copy)]
 struct Details<'a>(&'a CoreError);
 

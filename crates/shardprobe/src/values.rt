@@ -20,7 +20,7 @@ use xet_core_structures::utils::{
 };
 use xet_core_structures::xorb_structs::XorbChunkSequenceEntry;
 
-/// Runs a command on hashes, names or timestamps. False where the words are none.
+/// Runs a command on hashes, names or timestamps. `false` if the words are no such command.
 pub fn run_on_values(alloc: Global, words: &[&str], out: &mut Vec<u8>) -> Result<bool, Stop> {
     match words {
         ["digits", hash] => {
@@ -86,7 +86,7 @@ fn run_on_names(alloc: Global, words: &[&str], out: &mut Vec<u8>) -> Result<bool
     Ok(true)
 }
 
-/// Runs a command on rows or records alone. False where the words are none.
+/// Runs a command on rows or records alone. `false` if the words are no such command.
 pub fn run_on_records(alloc: Global, words: &[&str], out: &mut Vec<u8>) -> Result<bool, Stop> {
     match words {
         ["mark", chunk, "on"] => print_mark(parse_chunk(alloc, chunk, 0)?, true, out)?,
@@ -100,7 +100,7 @@ pub fn run_on_records(alloc: Global, words: &[&str], out: &mut Vec<u8>) -> Resul
     Ok(true)
 }
 
-// Runs a command on one record. False where the words are none.
+// Runs a command on one record. `false` if the words are no such command.
 fn run_on_record(alloc: Global, words: &[&str], out: &mut Vec<u8>) -> Result<bool, Stop> {
     match words {
         ["clone_file", record @ ..] => clone_file(alloc, record, out)?,
@@ -150,7 +150,8 @@ fn measure_xorb(alloc: Global, record: &[&str], out: &mut Vec<u8>) -> Result<(),
     Ok(())
 }
 
-// Prints which optional parts a record announces, and whether its header's calls differ from its own.
+// Prints which optional parts a record announces, and whether its header's calls differ from its
+// own.
 fn print_announced(alloc: Global, record: &[&str], out: &mut Vec<u8>) -> Result<(), Stop> {
     let file = parse_file(alloc, record)?;
     let header = file.metadata;
@@ -247,7 +248,7 @@ fn print_segment_of(
     Ok(())
 }
 
-// Whether the bytes of these chunks add up within 32 bits.
+// Whether the sum of the sizes of these chunks fits `u32`.
 fn sum_fits(chunks: &[XorbChunkSequenceEntry]) -> bool
     ensures { IsTrue result → total_bytes chunks.now < 2 ^ 32 }
 {

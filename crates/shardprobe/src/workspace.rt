@@ -6,7 +6,7 @@ use std::alloc::Global;
 use std::collections::BTreeMap;
 use xet_core_structures::shard_in_memory::MDBInMemoryShard;
 
-/// What the commands so far have made, by name. Shards and buffers have separate names.
+/// The shards and buffers made so far, by name. Shards and buffers have separate names.
 #[derive(Drop)]
 pub struct Workspace {
     pub shards: BTreeMap<String, MDBInMemoryShard>,
@@ -21,7 +21,7 @@ impl Workspace {
         }
     }
 
-    /// The shard of this name. `Unreadable` where there is none.
+    /// The shard of this name. `Unreadable` if there is none.
     pub fn shard(&self, name: &str) -> Result<&MDBInMemoryShard, Stop> {
         match self.shards.get(name) {
             Some(shard) => Ok(shard),
@@ -29,7 +29,7 @@ impl Workspace {
         }
     }
 
-    /// The bytes of the buffer of this name. `Unreadable` where there is none.
+    /// The bytes of the buffer of this name. `Unreadable` if there is none.
     pub fn buffer(&self, name: &str) -> Result<&[u8], Stop> {
         match self.buffers.get(name) {
             Some(bytes) => Ok(bytes.as_slice()),
@@ -37,7 +37,7 @@ impl Workspace {
         }
     }
 
-    /// Keeps a shard under a name, in the place of what was there.
+    /// Stores a shard under a name, and replaces one that has the name.
     pub fn put_shard(
         &mut self,
         alloc: Global,
@@ -49,7 +49,7 @@ impl Workspace {
         Ok(())
     }
 
-    /// Keeps bytes under a name, in the place of what was there.
+    /// Stores bytes under a name, and replaces those that have the name.
     pub fn put_buffer(&mut self, alloc: Global, name: &str, bytes: Vec<u8>) -> Result<(), Stop> {
         let name = String::from_str(alloc, parse_name(name)?)?;
         self.buffers.insert(name, bytes)?;

@@ -2,9 +2,9 @@
 use Rattle.std.specs.Prelude.{◌≡◌, ◌≢◌, ◌⊎◌, ℕ, ⊤}
 use Rattle.std.specs.IoError.{error_kind}
 use Rattle.std.specs.declared.io.Error.{Error}
-use Rattle.std.specs.declared.io.ErrorKind.TheVariants.{OutOfMemory as no_device_memory}
+use Rattle.std.specs.declared.io.ErrorKind.TheVariants.{OutOfMemory as device_out_of_memory}
 use Rattle.script_lines.specs.declared.words.ParseError.{ParseError}
-use Rattle.script_lines.specs.declared.words.ParseError.TheVariants.{Unreadable as unreadable_line, OutOfMemory as no_memory}
+use Rattle.script_lines.specs.declared.words.ParseError.TheVariants.{Unreadable as unreadable_line, OutOfMemory as line_out_of_memory}
 use Rattle.shardtool.specs.declared.run.Ending.{Ending}
 use Rattle.shardtool.specs.declared.run.Ending.TheVariants.{Done as done_ending, Refused as refused_ending, Unreadable as unreadable_ending, Failed as failed_ending}
 use Rattle.shardtool.specs.declared.run.Stop.{Stop}
@@ -17,24 +17,24 @@ status_of refused_ending = 1
 status_of unreadable_ending = 2
 status_of failed_ending = 3
 
--- a command was refused, or a growth
+-- a command was refused, or an allocation failed
 abbrev pub IsRefused : Stop → Type 0
 IsRefused (Refused _) = ⊤
 IsRefused Unreadable = ⊥
 IsRefused Failed = ⊥
 
--- the stop at a line that gives no command
+-- the stop at a line that is not a command
 abbrev pub StopsAtLine : ParseError → Stop → Type 0
 StopsAtLine unreadable_line stop = stop ≡ Unreadable
-StopsAtLine no_memory stop = IsRefused stop
+StopsAtLine line_out_of_memory stop = IsRefused stop
 
--- the stop at a fault of the input or the output: want of memory is a refused growth
+-- the stop at an error of the input or the output: out of memory counts as a failed allocation
 abbrev pub StopsAtFault : Error → Stop → Type 0
-StopsAtFault error (Refused _) = error_kind error ≡ no_device_memory
+StopsAtFault error (Refused _) = error_kind error ≡ device_out_of_memory
 StopsAtFault error Unreadable = ⊥
-StopsAtFault error Failed = error_kind error ≢ no_device_memory
+StopsAtFault error Failed = error_kind error ≢ device_out_of_memory
 
--- the ending after a stop, or that of an output that fails while the stop is told
+-- the ending after a stop, or that of an output that fails while the stop is printed
 abbrev pub EndsAt : Stop → Ending → Type 0
 EndsAt (Refused _) ending = (ending ≡ refused_ending) ⊎ (ending ≡ failed_ending)
 EndsAt Unreadable ending = (ending ≡ unreadable_ending) ⊎ (ending ≡ failed_ending)

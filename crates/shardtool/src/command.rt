@@ -1,4 +1,4 @@
-//! The commands of a script: what one line asks for, as a value.
+//! The commands of a script, parsed from its lines.
 
 ghost use Rattle.std.specs.Prelude.{IfOk, IsOkAnd, IsNone, IsErrOf, IsUtf8};
 ghost use Rattle.script_lines.specs.Words.{IsSkipped};
@@ -13,7 +13,7 @@ use xet_core_structures::file_structs::{
 };
 use xet_core_structures::merklehash::MerkleHash;
 
-/// A command. Names are those that the line gives; nothing is known of what they name.
+/// A command. Its names are those in the line; whether they exist is not checked here.
 #[derive(Drop)]
 pub enum Command<'a> {
     /// `shard S`: an empty shard.
@@ -36,7 +36,7 @@ pub enum Command<'a> {
         buffer: &'a str,
         expiry: Option<u64>,
     },
-    /// `find B HASH`: looks up a file on a buffer's bytes and prints its record, or `none`.
+    /// `find B HASH`: looks up a file in a buffer's bytes and prints its record, or `none`.
     Find {
         buffer: &'a str,
         hash: MerkleHash,
@@ -63,19 +63,20 @@ pub struct XorbLine {
 #[derive(Drop)]
 pub struct FileLine {
     pub hash: MerkleHash,
-    /// The rows of `v=`, where the line has it.
+    /// The rows of `v=`, if the line has it.
     pub verification: Option<Vec<FileVerificationEntry>>,
-    /// The row of `s=`, where the line has it.
+    /// The row of `s=`, if the line has it.
     pub metadata_ext: Option<FileMetadataExt>,
     pub segments: Vec<FileDataSequenceEntry>,
 }
 
-/// The command of a line, which is given without its end. An empty line and one that begins with
-/// `#` have none.
+/// The command of a line without its line end, or `None` for an empty line or one that begins with
+/// `#`. `Unreadable` if the line is not UTF-8 or not a command.
 pub fn parse_line(alloc: Global, line: &[u8]) -> Result<Option<Command<'_>>, ParseError>
     ensures skipped { IsSkipped line.now → IsOkAnd result IsNone }
     ensures others { IfOk result (λ command. IsNone command → IsSkipped line.now) }
-    ensures text { ¬ (IsSkipped line.now) → ¬ (IsUtf8 line.now) → IsErrOf result ParseError.Unreadable }
+    ensures text { ¬ (IsSkipped line.now) → ¬ (IsUtf8 line.now)
+        → IsErrOf result ParseError.Unreadable }
 {
     if is_skipped(line) {
         return Ok(None);

@@ -1,4 +1,4 @@
-//! Looking up a file on the bytes of a shard.
+//! Looking up a file in the bytes of a shard.
 
 ghost use Rattle.std.specs.Prelude.{◌≡◌, ◌⊎◌, ◌<◌, ◌≤◌, ◌^◌, ℕ, Option, length, IfOk, IfSome, MatchResult};
 ghost use Rattle.std.specs.FinMap as finite;
@@ -14,9 +14,9 @@ use xet_core_structures::merklehash::MerkleHash;
 use xet_core_structures::shard_format::MDBShardInfo;
 use xet_core_structures::source::MemorySource;
 
-/// Looks for the file with this hash on the bytes of a shard: its record, or `None`.
+/// Looks up the file with this hash in the bytes of a shard: its record, or `None`.
 ///
-/// The refusals are those of [`MDBShardInfo::load_from_reader`] and
+/// The errors are those of [`MDBShardInfo::load_from_reader`] and
 /// [`MDBShardInfo::get_file_reconstruction_info`].
 pub fn find_file(alloc: Global, bytes: &[u8], hash: &MerkleHash) -> Result<Option<MDBFileInfo>>
     ensures fits { IfOk result (λ found. IfSome found FitsItsHeader) }

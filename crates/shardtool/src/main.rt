@@ -1,5 +1,5 @@
-//! Runs a script of commands on metadata shards: standard input holds the script, standard output
-//! gets what it prints, and the exit status tells how it ended.
+//! Runs a script of commands on metadata shards: reads the script from standard input, prints to
+//! standard output, and returns an exit status that says how the script ended.
 #![tactic(auto)]
 
 mod command;

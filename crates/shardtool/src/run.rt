@@ -26,10 +26,11 @@ use xet_core_structures::xorb_structs::{
     MDBXorbInfo, XorbChunkSequenceEntry, XorbChunkSequenceHeader,
 };
 
-/// Runs the script that `input` holds, line by line, and writes what it prints to `output`.
+/// Runs the script in `input`, line by line, and prints to `output`.
 ///
-/// The status is 0 after the last line, 1 at the first refused command, 2 at a line that can't be
-/// read, and 3 where input or output failed. After 1 and 2 the last line of the output says why.
+/// The status is 0 after the last line, 1 at the first command that is refused, 2 at the first
+/// unreadable line, and 3 if input or output fails. For 1 and 2 the last line of the output says
+/// why.
 pub fn run_script<R: Read, W: Write>(alloc: Global, input: &mut R, output: &mut W) -> u8
     ensures { result ≤ 3 }
 {
@@ -67,9 +68,9 @@ impl Ending {
 /// Why a script stops before its end.
 #[derive(Drop)]
 enum Stop {
-    /// A command was refused, or a growth anywhere in the program.
+    /// A command was refused, or an allocation anywhere in the program failed.
     Refused(CoreError),
-    /// The line is no command, or names what is not there.
+    /// The line is not a command, or a name in it does not exist.
     Unreadable,
     /// Input or output failed.
     Failed,
@@ -119,8 +120,8 @@ impl From<ParseError> for Stop {
     }
 }
 
-// For the input and the output of the script. A fault of theirs for want of memory is a refused
-// growth too.
+// For the input and the output of the script. Their out-of-memory errors count as failed
+// allocations.
 impl From<io::Error> for Stop {
     ghost use Rattle.shardtool.specs.Ends.{StopsAtFault};
 
@@ -148,11 +149,11 @@ fn run_lines<R: Read, W: Write>(alloc: Global, input: &mut R, output: &mut W) ->
             Err(stop) => return report(stop, number, output),
         }
     }
-    // An input with more lines than can be counted does not end.
+    // An input with more lines than `u64` counts does not end.
     Ending::Failed
 }
 
-// Prints why the script stops at the line with this number.
+// Prints why the script stops, with the number of the line.
 fn report<W: Write>(stop: Stop, number: u64, output: &mut W) -> Ending
     ensures { EndsAt stop result }
 {
@@ -173,7 +174,7 @@ fn report<W: Write>(stop: Stop, number: u64, output: &mut W) -> Ending
     }
 }
 
-/// What the commands of a script have made so far, by name.
+/// The shards and buffers that the commands of a script have made so far, by name.
 #[derive(Drop)]
 struct Workspace {
     shards: BTreeMap<String, MDBInMemoryShard>,
@@ -188,7 +189,7 @@ impl Workspace {
         }
     }
 
-    // Whether there was a line to run.
+    // Runs the next line. `false` at the end of the input.
     fn run_next_line<R: BufRead, W: Write>(
         &mut self,
         alloc: Global,
@@ -199,7 +200,7 @@ impl Workspace {
         if input.read_until(b'\n', &mut line)? == 0 {
             return Ok(false);
         }
-        // A line ends with LF or with the input; one CR before that belongs to its end.
+        // A line ends with LF or at the end of the input; one CR before that is part of its end.
         if let Some(command) = parse_line(alloc, without_end(line.as_slice()))? {
             self.run(alloc, command, output)?;
         }
@@ -241,7 +242,8 @@ impl Workspace {
     }
 
     fn add_xorb(&mut self, alloc: Global, shard: &str, xorb: XorbLine) -> Result<(), Stop>
-        ensures unknown { IsErrOf result Stop.Unreadable ↔ IsNone (get_by_text self.old.shards shard.now) }
+        ensures unknown { IsErrOf result Stop.Unreadable
+            ↔ IsNone (get_by_text self.old.shards shard.now) }
         ensures buffers { self.new.buffers ≡ self.old.buffers }
     {
         let Some(shard) = self.shards.get_mut(shard) else {
@@ -253,7 +255,8 @@ impl Workspace {
     }
 
     fn add_file(&mut self, alloc: Global, name: &str, file: FileLine) -> Result<(), Stop>
-        ensures unknown { IsErrOf result Stop.Unreadable ↔ IsNone (get_by_text self.old.shards name.now) }
+        ensures unknown { IsErrOf result Stop.Unreadable
+            ↔ IsNone (get_by_text self.old.shards name.now) }
         ensures buffers { self.new.buffers ≡ self.old.buffers }
     {
         let Some(shard) = self.shards.get_mut(name) else {
@@ -264,7 +267,7 @@ impl Workspace {
         Ok(())
     }
 
-    // The buffer is made anew only once the shard is written, so a refusal leaves it as it was.
+    // The buffer is replaced only after the shard is written, so an error leaves it unchanged.
     fn write_shard(
         &mut self,
         alloc: Global,
@@ -272,7 +275,8 @@ impl Workspace {
         buffer: &str,
         expiry: Option<u64>,
     ) -> Result<(), Stop>
-        ensures unknown { IsErrOf result Stop.Unreadable ↔ IsNone (get_by_text self.old.shards shard.now) }
+        ensures unknown { IsErrOf result Stop.Unreadable
+            ↔ IsNone (get_by_text self.old.shards shard.now) }
         ensures made { OnOk result (IsSome (get_by_text self.new.buffers buffer.now)) }
         ensures err { OnErr result (IsUnchanged self.old.buffers self.new.buffers) }
         ensures shards { self.new.shards ≡ self.old.shards }
@@ -294,7 +298,8 @@ impl Workspace {
         hash: MerkleHash,
         output: &mut W,
     ) -> Result<(), Stop>
-        ensures { IsErrOf result Stop.Unreadable ↔ IsNone (get_by_text self.now.buffers buffer.now) }
+        ensures { IsErrOf result Stop.Unreadable
+            ↔ IsNone (get_by_text self.now.buffers buffer.now) }
     {
         match find_file(alloc, self.bytes_of(buffer)?, &hash)? {
             Some(file) => print_file(&file, output)?,
@@ -304,7 +309,8 @@ impl Workspace {
     }
 
     fn print_size<W: Write>(&self, buffer: &str, output: &mut W) -> Result<(), Stop>
-        ensures { IsErrOf result Stop.Unreadable ↔ IsNone (get_by_text self.now.buffers buffer.now) }
+        ensures { IsErrOf result Stop.Unreadable
+            ↔ IsNone (get_by_text self.now.buffers buffer.now) }
     {
         let size = self.bytes_of(buffer)?.len();
         writeln!(output, "{size}")?;
@@ -332,7 +338,8 @@ impl Workspace {
         ensures unknown { IsErrOf result Stop.Unreadable ↔ IsNone
             (get_by_text self.now.buffers buffer.now) }
         ensures found { IfOk result
-            (λ bytes. option_map (λ b. b.items) (get_by_text self.now.buffers buffer.now) ≡ Some bytes.now) }
+            (λ bytes. option_map (λ b. b.items) (get_by_text self.now.buffers buffer.now)
+            ≡ Some bytes.now) }
     {
         match self.buffers.get(buffer) {
             Some(bytes) => Ok(bytes.as_slice()),
@@ -341,8 +348,8 @@ impl Workspace {
     }
 }
 
-// The record of a xorb whose chunks follow one another from byte 0. `InvalidArguments` where their bytes or
-// their number pass 32 bits.
+// The record of a xorb whose chunks are contiguous from byte 0. `InvalidArguments` if their size or
+// their number does not fit `u32`.
 fn xorb_of(alloc: Global, xorb: XorbLine) -> Result<MDBXorbInfo, CoreError> {
     let mut chunks = Rows::new(alloc);
     let mut bytes = 0u32;

@@ -1,4 +1,4 @@
-//! What no script can show: the name of each refusal, an input that fails, an output that fails.
+//! Tests that no script can make: the printed name of each error, and inputs and outputs that fail.
 
 use crate::run::run_script;
 use script_lines::refusal::Refusal;
@@ -60,8 +60,8 @@ fn names_of_other_refusals(rt: HostRuntime) -> Result<(), Fail> {
     )
 }
 
-// An input of some bytes, and an output that forgets what it takes. It moves so many bytes, two at a time, and then
-// fails: once where it is interrupted, else for good.
+// An input of some bytes, and an output that discards what is written. It transfers `left` bytes,
+// two at a time, and then fails: once if interrupted, else for good.
 #[derive(Drop)]
 struct Stream<'a> {
     bytes: &'a [u8],
@@ -71,7 +71,7 @@ struct Stream<'a> {
 }
 
 impl Stream<'_> {
-    // How many of these bytes this call moves.
+    // How many of these bytes this call transfers.
     fn moved(&mut self, bytes: usize) -> io::Result<usize> {
         let Some(fault) = self.fault else {
             return Ok(bytes.min(2));
@@ -112,7 +112,7 @@ impl Write for Stream<'_> {
     }
 }
 
-// The script prints this text, and ends with this status, where its input has a fault after so many bytes.
+// The script prints this text, and ends with this status, if its input fails after `left` bytes.
 fn expect_input<R: Abort + AllocGlobal>(
     rt: &R,
     script: &str,
@@ -168,7 +168,7 @@ fn interrupted_input(rt: HostRuntime) -> Result<(), Fail> {
     Ok(())
 }
 
-// The script ends with this status where its output has a fault after so many bytes.
+// The script ends with this status if its output fails after `left` bytes.
 fn expect_output<R: Abort + AllocGlobal>(
     rt: &R,
     script: &str,
@@ -212,7 +212,7 @@ fn failing_output(rt: HostRuntime) -> Result<(), Fail> {
     Ok(())
 }
 
-// An output that is out of memory can't take the line that says so either.
+// An output that is out of memory can't print the line that says so either.
 #[test]
 fn output_out_of_memory_or_interrupted(rt: HostRuntime) -> Result<(), Fail> {
     let sizes = "shard s\nwrite s b\nsize b\nsize b\n";

@@ -1,4 +1,4 @@
--- Equality of errors, and equality, order and hashing of hashes, as clauses can cite them.
+-- Equality of errors, and equality, order and hashing of hashes, under names that clauses can cite.
 use Rattle.std.specs.Prelude.{Bool, Option}
 use Rattle.std.specs.Hash.{HashWrites}
 use Rattle.std.specs.declared.cmp.Ordering.{Ordering}
@@ -10,11 +10,11 @@ use Rattle.xet_base.specs.contracts.merklehash.DataHashPartialOrd as hash_partia
 use Rattle.xet_base.specs.contracts.merklehash.DataHashOrd as hash_order
 use Rattle.xet_base.specs.contracts.merklehash.DataHashHash as hashing
 
--- what `==` of errors answers
+-- the result of `==` on errors
 abbrev pub error_eq : CoreError → CoreError → Bool
 error_eq = (equality.TheImpl.ghosts).eq
 
--- what `==`, `partial_cmp` and `cmp` of hashes answer
+-- the results of `==`, `partial_cmp` and `cmp` on hashes
 abbrev pub derived_eq : DataHash → DataHash → Bool
 derived_eq = (hash_equality.TheImpl.ghosts).eq
 
@@ -24,6 +24,6 @@ derived_partial_cmp = (hash_partial_order.TheImpl.ghosts).partial_cmp
 abbrev pub derived_cmp : DataHash → DataHash → Ordering
 derived_cmp = (hash_order.TheImpl.ghosts).cmp
 
--- what `hash` of a hash feeds to a hasher
+-- what `hash` feeds to a hasher for a hash
 abbrev pub derived_input : DataHash → HashWrites
 derived_input = (hashing.TheImpl.ghosts).hash_input

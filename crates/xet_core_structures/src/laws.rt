@@ -1,5 +1,5 @@
-//! Laws of shards, their names, hashes and errors that no single call states. Each is a function that does nothing:
-//! the law is its contract, and the gate proves it.
+//! Laws of shards, their names, hashes and errors that no contract of a single call states. Each is
+//! a function that does nothing; its contract is the law.
 
 ghost use Rattle.xet_records.specs.XorbRecord.{xorb_records};
 ghost use Rattle.xet_records.specs.FileRecord.{file_records};
@@ -25,7 +25,7 @@ ghost use Rattle.xet_shards.specs.Tables.{place_cmp, chunk_places, chunk_table, 
 ghost use Rattle.xet_shards.specs.SetOperations.{IsUnion, ShardsAgree, HasFewRows, CanUnite};
 ghost use Rattle.xet_shards.specs.Joins.{IsJoinOf};
 
-/// Each two shards have a union, and only one.
+/// Each two shards have exactly one union.
 pub fn unions_exist()
     ensures exists { (a b : Shard) → (c : Shard) × IsUnion a b c }
     ensures one { (a b c d : Shard) → IsUnion a b c → IsUnion a b d → c ≡ d }
@@ -35,10 +35,11 @@ pub fn unions_exist()
 pub fn union_commutes()
     ensures join { (a b c : Shard) → IsShard a → IsShard b → ShardsAgree a b → IsUnion a b c
         → IsJoinOf (Contains (a ∷ b ∷ [])) c }
-    ensures order { (a b c d : Shard) → IsShard a → IsShard b → ShardsAgree a b → IsUnion a b c → IsUnion b a d → c ≡ d }
+    ensures order { (a b c d : Shard) → IsShard a → IsShard b → ShardsAgree a b
+        → IsUnion a b c → IsUnion b a d → c ≡ d }
 {}
 
-/// Shards have one join at most.
+/// A set of shards has at most one join.
 pub fn joins_are_unique()
     ensures { (shards : List Shard) → (c d : Shard)
         → IsJoinOf (Contains shards) c → IsJoinOf (Contains shards) d → c ≡ d }
@@ -46,7 +47,8 @@ pub fn joins_are_unique()
 
 /// The union of three shards is the same in either grouping.
 pub fn union_associates()
-    ensures { (a b c ab bc left right : Shard) → IsUnion a b ab → IsUnion ab c left → IsUnion b c bc → IsUnion a bc right → left ≡ right }
+    ensures { (a b c ab bc left right : Shard)
+        → IsUnion a b ab → IsUnion ab c left → IsUnion b c bc → IsUnion a bc right → left ≡ right }
 {}
 
 /// The union of a shard with itself is that shard.
@@ -60,9 +62,10 @@ pub fn union_with_nothing()
     ensures left { (a c : Shard) → IsUnion empty_shard a c → c ≡ a }
 {}
 
-/// Shards that agree may be united, unless the rows of their union are too many.
+/// Shards that agree can be united if the rows of their union fit `u32`.
 pub fn agreeing_shards_unite()
-    ensures { (a b : Shard) → IsShard a → IsShard b → ShardsAgree a b → ((c : Shard) → IsUnion a b c → HasFewRows c) → CanUnite a b }
+    ensures { (a b : Shard) → IsShard a → IsShard b → ShardsAgree a b
+        → ((c : Shard) → IsUnion a b c → HasFewRows c) → CanUnite a b }
 {}
 
 /// A shard that agrees with each of two agrees with their union.
@@ -79,38 +82,45 @@ pub fn records_start_after_smaller_hashes()
         starts xorb_records xorbs ≡ map (λ r. let q = xorb_hash_of r in (q.word0, total_rows xorb_records (records_below xorb_records q xorbs))) xorbs }
 {}
 
-/// The chunk table has exactly the places of the chunks of the xorbs, in strictly ascending order: by first word, then
-/// by where the xorb starts, then by the place in the xorb.
+/// The chunk table has exactly one row for each chunk of the xorbs, in strictly ascending order: by
+/// first word, then by the row at which the xorb starts, then by the index in the xorb.
 pub fn chunk_table_is_sorted()
     ensures sorted { (xorbs : List MDBXorbInfo) → IsStrictlySortedBy place_cmp (chunk_table xorbs) }
     ensures places { (xorbs : List MDBXorbInfo) → (p : ChunkPlace)
         → Contains (chunk_table xorbs) p ↔ Contains (chunk_places xorbs) p }
 {}
 
-/// The name of a hash's shard file names that hash, and a name names one hash only: so the hash is read back from
-/// it. From the 64 digits alone `DataHash::from_hex` reads it back by its own contract (`back`).
+/// The name of the shard file of a hash spells that hash, and no other: so `parse_shard_filename`
+/// gives it back. From the 64 digits alone `DataHash::from_hex` gives it back, by its own contract
+/// (`back`).
 pub fn shard_name_is_read()
     ensures named { (hash : DataHash) → NamesShard (shard_name hash) hash }
-    ensures alone { (name : List ℕ) (a b : DataHash) → IsHash a → IsHash b → NamesShard name a → NamesShard name b → a ≡ b }
+    ensures alone { (name : List ℕ) (a b : DataHash) → IsHash a → IsHash b
+        → NamesShard name a → NamesShard name b → a ≡ b }
 {}
 
-/// Shards have equal bytes exactly where they are equal. Where they are written with an expiry, in seconds, or none,
-/// equal bytes mean an equal expiry too; none is the last timestamp of 64 bits.
+/// Shards have equal bytes if and only if they are equal. If they are written with an expiry, in
+/// seconds, or none, equal bytes mean equal expiries too; no expiry is stored as the greatest
+/// `u64`.
 pub fn equal_bytes_mean_equal_shards()
-    ensures contents { (s t : Shard) → IsShard s → IsShard t → (layout s None ≡ layout t None) ↔ (s ≡ t) }
-    ensures expiries { (s t : Shard) → (e f : Option ℕ) → IsShard s → IsShard t → IfSome e (λ m. m < 2 ^ 64) → IfSome f (λ m. m < 2 ^ 64)
-        → (layout s e ≡ layout t f) ↔ ((s ≡ t) × (unwrap_or e 18446744073709551615 ≡ unwrap_or f 18446744073709551615)) }
+    ensures contents { (s t : Shard) → IsShard s → IsShard t
+        → (layout s None ≡ layout t None) ↔ (s ≡ t) }
+    ensures expiries { (s t : Shard) → (e f : Option ℕ) → IsShard s → IsShard t
+        → IfSome e (λ m. m < 2 ^ 64) → IfSome f (λ m. m < 2 ^ 64)
+        → (layout s e ≡ layout t f)
+        ↔ ((s ≡ t) × (unwrap_or e 18446744073709551615 ≡ unwrap_or f 18446744073709551615)) }
 {}
 
-/// The 64 digits of a hash spell that hash, and a text spells one hash only. So `DataHash::from_hex`, which reads the
-/// hash that a text spells, gives back the one whose text `hex` made.
+/// The 64 digits of a hash spell that hash, and no other. So `DataHash::from_hex`, which reads the
+/// hash that a text spells, is the inverse of `hex`.
 pub fn hex_is_read()
     ensures named { (hash : DataHash) → IsHexText (hash_hex hash) × Spells (hash_hex hash) hash }
-    ensures alone { (text : List ℕ) (a b : DataHash) → IsHash a → IsHash b → Spells text a → Spells text b → a ≡ b }
+    ensures alone { (text : List ℕ) (a b : DataHash) → IsHash a → IsHash b
+        → Spells text a → Spells text b → a ≡ b }
 {}
 
-/// The order of hashes, as `cmp` and `partial_cmp` tell it, is that by word 0, then 1, 2 and 3. It is total, and only
-/// equal hashes tie.
+/// `cmp` and `partial_cmp` order hashes by word 0, then 1, 2 and 3. The order is total, and only
+/// equal hashes compare as equal.
 pub fn hashes_are_ordered_by_words()
     ensures words { (a b : DataHash) → derived_cmp a b ≡ hash_cmp a b }
     ensures partial { (a b : DataHash) → derived_partial_cmp a b ≡ Some (hash_cmp a b) }
@@ -118,18 +128,21 @@ pub fn hashes_are_ordered_by_words()
     ensures ties { (a b : DataHash) → (derived_cmp a b ≡ Equal) ↔ (a ≡ b) }
 {}
 
-/// Hashes are equal, as `==` tells it, exactly where all their words are, and `hash` feeds a hasher these words in
-/// order, so that equal hashes hash alike.
+/// Hashes are equal by `==` if and only if all their words are equal, and `hash` feeds these words
+/// to a hasher in order, so equal hashes have equal hash values.
 pub fn hashes_are_equal_by_words()
     ensures equality { (a b : DataHash) → IsTrue (derived_eq a b) ↔ (a ≡ b) }
     ensures words { (a b : DataHash) → (a ≡ b) ↔ (words_of a ≡ words_of b) }
     ensures hashing { (a : DataHash) → derived_input a ≡ flat_map fed.u64 (words_of a) }
 {}
 
-/// Errors are equal, as `==` tells it, exactly where their variants are, and this is an equivalence relation.
+/// Errors are equal by `==` if and only if their variants are equal, and this is an equivalence
+/// relation.
 pub fn errors_are_equal_by_variant()
-    ensures variants { (e f : CoreError) → IsTrue (error_eq e f) ↔ (variant_number e ≡ variant_number f) }
+    ensures variants { (e f : CoreError) → IsTrue (error_eq e f)
+        ↔ (variant_number e ≡ variant_number f) }
     ensures reflexive { (e : CoreError) → IsTrue (error_eq e e) }
     ensures symmetric { (e f : CoreError) → IsTrue (error_eq e f) → IsTrue (error_eq f e) }
-    ensures transitive { (e f g : CoreError) → IsTrue (error_eq e f) → IsTrue (error_eq f g) → IsTrue (error_eq e g) }
+    ensures transitive { (e f g : CoreError)
+        → IsTrue (error_eq e f) → IsTrue (error_eq f g) → IsTrue (error_eq e g) }
 {}

@@ -1,5 +1,5 @@
-//! The metadata shards of Xet storage under one roof: the public modules of the crates below, but for `row`,
-//! whose calls ask that a slice has room and serve those crates alone.
+//! Metadata shards of Xet storage: the public modules of the crates below, except `row`, whose
+//! calls require that a slice is long enough and are for those crates only.
 #![tactic(auto)]
 
 pub mod laws;

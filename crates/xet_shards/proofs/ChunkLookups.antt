@@ -1,4 +1,4 @@
--- The lookup of chunks: what entering the chunks of one more xorb does to it.
+-- The chunk lookup after the chunks of one more xorb are entered.
 use Rattle.std.proofs.Common.{◌≡◌, ◌⊎◌, inl, inr, ℕ, zero, suc, ◌+◌, ◌<◌, Bool, true, false, List, [], ◌∷◌, ◌++◌, length, Option, None, Some, refl, sym, ap, ◌∙◌, subst, arith, cond, true≢false}
 use Rattle.std.specs.Prelude.{All, IsSome, option_map, slice_get, Ok, Err, OnErr}
 use Rattle.std.specs.declared.result.Result.{Result}
@@ -27,7 +27,7 @@ last_or_before zero (suc n) below = inl (omega arith)
 last_or_before (suc i) zero below = absurd (omega (arith, below))
 last_or_before (suc i) (suc n) below = elim (last_or_before i n (omega (arith, below))) [ inl less ↦ inl (omega (arith, less)) | inr same ↦ inr (ap suc same) ]
 
--- nothing was entered yet, whatever the order of the entries
+-- before any chunk is entered, in any order of the entries
 pub entered-none : (f g : DataHash → Option ChunkLocation) (r : MDBXorbInfo) → ((q : DataHash) → g q ≡ f q) → IsEntered f g r 0
 entered-none f g r same = record {
   present = λ q p at. inl (sym (same q) ∙ at);
@@ -35,7 +35,7 @@ entered-none f g r same = record {
   complete = λ q i below at. absurd (omega (arith, below));
 }
 
--- one chunk more
+-- one more chunk
 pub entered-more : (f g h : DataHash → Option ChunkLocation) (r : MDBXorbInfo) (n : ℕ) (k : DataHash) → chunk_at (r, n) ≡ Some k
     → ((q : DataHash) → h q ≡ cond (hash_eq k q) (Some (r, n)) (g q)) → IsEntered f g r n → IsEntered f h r (n + 1)
 entered-more f g h r n k here updates before = record {
@@ -65,7 +65,7 @@ chunk_within [] i q at = absurd (none-some q at)
 chunk_within (c ∷ cs) zero q at = omega arith
 chunk_within (c ∷ cs) (suc i) q at = omega (arith, chunk_within cs i q at)
 
--- once all chunks of a new xorb are entered, the lookup is right again
+-- after all chunks of a new xorb are entered, the lookup is that of the xorbs with the new one
 pub lookup-append : (xorbs : XorbMap) (f g : DataHash → Option ChunkLocation) (r : MDBXorbInfo) → get xorbs (xorb_hash_of r) ≡ None → IsChunkLookup xorbs f → IsEntered f g r (length r.chunks)
     → IsChunkLookup (put_xorb xorbs r) g
 lookup-append xorbs f g r absent lookup entered = record {
@@ -97,7 +97,7 @@ lookup-none xorbs f no_xorbs no_locations = record {
   complete = λ q p location. absurd (none-some p.0 (sym (no_xorbs (xorb_hash_of p.0)) ∙ location.xorb));
 }
 
--- what holds of all elements holds of those at the front
+-- what holds of all elements of a list holds of those at its front
 pub All-front : {X : Type 0} (P : X → Type 0) (xs ys : List X) → All P (xs ++ ys) → All P xs
 All-front P [] ys all = All-nil P
 All-front P (x ∷ xs) ys all = All-cons P x xs (all 0 x (omega arith)) (All-front P xs ys (All-drop P 1 (x ∷ xs ++ ys) all))
@@ -109,7 +109,7 @@ lookup-same xorbs f g same lookup = record {
   complete = λ q p location. subst IsSome (sym (same q)) (lookup.complete q p location);
 }
 
--- an entry written over an entry
+-- an entry that replaces an entry
 pub cond-shown : {A B : Type 0} (f : A → B) (b : Bool) (x : A) (y : B) (o : Option A) → f x ≡ y → option_map f (cond b (Some x) o) ≡ cond b (Some y) (option_map f o)
 cond-shown f true x y o same = ap Some same
 cond-shown f false x y o same = refl

@@ -47,8 +47,8 @@ impl Default for MDBShardFileHeader {
 }
 
 impl MDBShardFileHeader {
-    /// Writes the tag, the version and the footer size, and returns 48, the number of bytes. The
-    /// error is the writer's.
+    /// Writes the tag of every shard, then this value's version and footer size, and returns 48, the
+    /// number of bytes. The error is the writer's.
     #[tactic(auto, unfolding(crate::specs::Layout::shard_header_bytes))]
     pub fn serialize<W: Write>(&self, writer: &mut W) -> Result<usize>
         ensures bytes { OnOk result
