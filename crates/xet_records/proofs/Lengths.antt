@@ -6,10 +6,10 @@ use Rattle.std.proofs.lemmas.List.{length-append}
 use Rattle.std.proofs.lemmas.List.Sums.{sum_by-cons}
 use Rattle.xet_base.specs.Bytes.{u64_bytes}
 use Rattle.xet_base.proofs.Bytes.{length-u32_bytes, length-u64_bytes, length-hash_bytes}
-use Rattle.xet_records.specs.declared.file_structs.FileDataSequenceHeader.{FileDataSequenceHeader}
-use Rattle.xet_records.specs.declared.file_structs.FileDataSequenceEntry.{FileDataSequenceEntry}
-use Rattle.xet_records.specs.declared.file_structs.FileVerificationEntry.{FileVerificationEntry}
-use Rattle.xet_records.specs.declared.file_structs.FileMetadataExt.{FileMetadataExt}
+use Rattle.xet_records.specs.declared.file_structs.header.FileDataSequenceHeader.{FileDataSequenceHeader}
+use Rattle.xet_records.specs.declared.file_structs.rows.FileDataSequenceEntry.{FileDataSequenceEntry}
+use Rattle.xet_records.specs.declared.file_structs.rows.FileVerificationEntry.{FileVerificationEntry}
+use Rattle.xet_records.specs.declared.file_structs.rows.FileMetadataExt.{FileMetadataExt}
 use Rattle.xet_records.specs.declared.file_structs.MDBFileInfo.{MDBFileInfo}
 use Rattle.xet_records.specs.FileRecord.{file_record_bytes, file_rows_bytes, row_count, FitsRecord}
 use Rattle.xet_records.specs.declared.xorb_structs.XorbChunkSequenceHeader.{XorbChunkSequenceHeader}

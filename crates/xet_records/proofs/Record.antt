@@ -6,7 +6,7 @@ use Rattle.xet_base.specs.Bytes.{u32_bytes}
 use Rattle.xet_base.specs.Hash.{hash_bytes}
 use Rattle.xet_base.proofs.Lists.{same_parts}
 use Rattle.xet_base.proofs.Bytes.{length-u32_bytes, length-hash_bytes, u32_bytes-injective, u64_bytes-injective, hash_bytes-injective}
-use Rattle.xet_records.specs.declared.file_structs.FileDataSequenceHeader.{FileDataSequenceHeader}
+use Rattle.xet_records.specs.declared.file_structs.header.FileDataSequenceHeader.{FileDataSequenceHeader}
 use Rattle.xet_records.specs.declared.file_structs.MDBFileInfo.{MDBFileInfo}
 use Rattle.xet_records.specs.FileRow.{header_row, FitsHeader}
 use Rattle.xet_records.specs.FileRecord.{rows_after, row_count, has_metadata_ext, FitsItsHeader}

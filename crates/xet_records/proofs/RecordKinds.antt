@@ -4,17 +4,17 @@ use Rattle.std.specs.Prelude.{MatchOption, option_map, option_to_list}
 use Rattle.std.proofs.lemmas.List.{length-append, length-map, append_assoc, map-id}
 use Rattle.std.specs.Io.KnownBytes.{Consumes}
 use Rattle.xet_base.specs.Hash.{all_ones}
-use Rattle.xet_records.specs.declared.file_structs.FileDataSequenceHeader.{FileDataSequenceHeader}
-use Rattle.xet_records.specs.declared.file_structs.FileDataSequenceEntry.{FileDataSequenceEntry}
-use Rattle.xet_records.specs.declared.file_structs.FileVerificationEntry.{FileVerificationEntry}
-use Rattle.xet_records.specs.declared.file_structs.FileMetadataExt.{FileMetadataExt}
+use Rattle.xet_records.specs.declared.file_structs.header.FileDataSequenceHeader.{FileDataSequenceHeader}
+use Rattle.xet_records.specs.declared.file_structs.rows.FileDataSequenceEntry.{FileDataSequenceEntry}
+use Rattle.xet_records.specs.declared.file_structs.rows.FileVerificationEntry.{FileVerificationEntry}
+use Rattle.xet_records.specs.declared.file_structs.rows.FileMetadataExt.{FileMetadataExt}
 use Rattle.xet_records.specs.declared.xorb_structs.XorbChunkSequenceHeader.{XorbChunkSequenceHeader}
 use Rattle.xet_records.specs.declared.xorb_structs.XorbChunkSequenceEntry.{XorbChunkSequenceEntry}
 use Rattle.xet_records.specs.RecordKind.{RecordKind}
 use Rattle.xet_records.specs.FileRow.{header_row, segment_row, verification_row, metadata_row, FitsSegment, FitsVerification, FitsMetadata, clear_verification, clear_metadata}
 use Rattle.xet_records.specs.Rows.{ReadsRows, ReadsOptional}
 use Rattle.xet_records.specs.XorbRow.{chunk_row, FitsChunk}
-use Rattle.xet_records.specs.FileRecord.{file_record_bytes, file_rows_bytes, has_verification, has_metadata_ext, file_records}
+use Rattle.xet_records.specs.FileRecord.{file_record_bytes, file_rows_bytes, has_verification, has_metadata_ext, rows_after, file_records}
 use Rattle.xet_records.specs.XorbRecord.{xorb_record_bytes, xorb_records}
 use Rattle.xet_records.specs.Reading.{ReadsBookend, ReadsRowsAfter, ReadsRecord, BeginsWithHeader, IsCutShort, HasTooManyRows}
 use Rattle.xet_records.proofs.Lengths.{length-header_row, length-file_record_bytes, length-xorb_header_row, length-chunk_rows}
@@ -200,6 +200,19 @@ module _ (First Second Third Both Whole : List ℕ → Type 0) (two : (xs ys : L
     taken = three _ _ (two _ _ s.taken v.taken) e.taken;
     handed = λ i. record { metadata = h; segments = (sym (map-id s.stored) ∙ s.handed) i; verification = v.handed i; metadata_ext = e.handed i };
   }
+
+-- the bytes of two parts, with those of the third, are no more than the header announces
+pub rows_within : (h : FileDataSequenceHeader) (count : ℕ) (wanted : Bool) (xs ys : List ℕ) → count ≡ (if has_verification h.file_flags then h.num_entries else 0)
+    → wanted ≡ has_metadata_ext h.file_flags → length xs ≡ 48 * h.num_entries → length ys ≡ 48 * count
+    → length (xs ++ ys) + (if wanted then 48 else 0) ≤ 48 * rows_after h
+rows_within h count wanted xs ys counted wants first second = omega (
+  arith,
+  length-append xs ys,
+  first,
+  second ∙ ap (λ n. 48 * n) counted,
+  row_or_none wanted,
+  ap {B = ℕ} (λ b. if b then 1 else 0) wants,
+)
 
 -- the chunks after a header
 pub chunks_after : (Took : List ℕ → Type 0) (g : XorbChunkSequenceHeader) (cs : List XorbChunkSequenceEntry) → ReadsRows chunk_row FitsChunk (λ c. c) Took g.num_entries cs

@@ -2,10 +2,10 @@
 use Rattle.std.specs.Prelude.{◌≡◌, ℕ, ◌^◌, ◌<◌, List, [], ◌∷◌, ◌++◌, flat_map}
 use Rattle.xet_base.specs.Bytes.{u32_bytes, u64_bytes}
 use Rattle.xet_base.specs.Hash.{hash_bytes, IsHash}
-use Rattle.xet_records.specs.declared.file_structs.FileDataSequenceHeader.{FileDataSequenceHeader}
-use Rattle.xet_records.specs.declared.file_structs.FileDataSequenceEntry.{FileDataSequenceEntry}
-use Rattle.xet_records.specs.declared.file_structs.FileVerificationEntry.{FileVerificationEntry}
-use Rattle.xet_records.specs.declared.file_structs.FileMetadataExt.{FileMetadataExt}
+use Rattle.xet_records.specs.declared.file_structs.header.FileDataSequenceHeader.{FileDataSequenceHeader}
+use Rattle.xet_records.specs.declared.file_structs.rows.FileDataSequenceEntry.{FileDataSequenceEntry}
+use Rattle.xet_records.specs.declared.file_structs.rows.FileVerificationEntry.{FileVerificationEntry}
+use Rattle.xet_records.specs.declared.file_structs.rows.FileMetadataExt.{FileMetadataExt}
 
 -- the header: the file's hash, its flags, the number of segments and a reserved word
 unfoldable pub header_row : FileDataSequenceHeader → List ℕ

@@ -1,10 +1,10 @@
 -- Two records of one file: which has more parts, and the record that has the parts of both.
 use Rattle.std.specs.Prelude.{◌≡◌, ℕ, ◌+◌, ◌<◌, Bool, not, ◌&&◌, ◌||◌, IsTrue, if◌then◌else◌}
 use Rattle.std.specs.Int.{bit_at}
-use Rattle.xet_records.specs.declared.file_structs.FileDataSequenceHeader.{FileDataSequenceHeader}
+use Rattle.xet_records.specs.declared.file_structs.header.FileDataSequenceHeader.{FileDataSequenceHeader}
 use Rattle.xet_records.specs.declared.file_structs.MDBFileInfo.{MDBFileInfo}
-use Rattle.xet_records.specs.declared.file_structs.SupersetResult.{SupersetResult}
-use Rattle.xet_records.specs.declared.file_structs.SupersetResult.TheVariants.{SuperA, SuperB, Neither, Equal}
+use Rattle.xet_records.specs.declared.file_structs.header.SupersetResult.{SupersetResult}
+use Rattle.xet_records.specs.declared.file_structs.header.SupersetResult.TheVariants.{SuperA, SuperB, Neither, Equal}
 use Rattle.xet_records.specs.FileRecord.{has_verification, has_metadata_ext, flags_of}
 
 -- each of the 32 bits that is set in `b` is set in `a`

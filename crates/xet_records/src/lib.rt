@@ -2,5 +2,6 @@
 #![tactic(auto)]
 
 pub mod file_structs;
+pub mod input_rows;
 pub mod rows;
 pub mod xorb_structs;

@@ -8,13 +8,15 @@ ghost use Rattle.xet_base.specs.Bytes.{HasBytes, LacksBytes};
 ghost use Rattle.xet_base.specs.Source.{Takes, ReadFails};
 ghost use Rattle.xet_base.specs.Errors.{IsEndOfInput, IsDeviceError};
 
+use crate::input_rows;
 use std::alloc::{AllocError, AllocFailed, Global};
 use std::io;
 use std::io::{ErrorKind, Read, Write};
 use std::marker::Model;
 use xet_base::error::Result;
-use xet_base::serialization_utils::{read_bytes, write_bytes};
-use xet_base::source::{ShardSource, read_full};
+use xet_base::input::{OfReader, OfSource};
+use xet_base::serialization_utils::write_bytes;
+use xet_base::source::ShardSource;
 
 /// The bytes of a row.
 pub const ROW_SIZE: usize = 48;
@@ -169,7 +171,7 @@ pub fn write_optional<T: Row, W: Write>(row: &Option<T>, writer: &mut W) -> io::
     Ok(())
 }
 
-/// Reads a row. `UnexpectedEof` where fewer than 48 bytes are left.
+/// Reads a row. `UnexpectedEof` if fewer than 48 bytes are left.
 pub fn read_row<T: Row, R: Read>(reader: &mut R) -> io::Result<T>
     ensures value { IfOk result
         (ReadsRow T.row_bytes T.Fits T.handed_out (Consumes (R.remaining reader.old) (R.remaining reader.new))) }
@@ -177,12 +179,10 @@ pub fn read_row<T: Row, R: Read>(reader: &mut R) -> io::Result<T>
     ensures end { IfErr result
         (λ e. error_kind e ≡ ErrorKind.UnexpectedEof → LacksBytes (R.remaining reader.old) 48) }
 {
-    let mut bytes = [0u8; 48];
-    read_bytes(reader, &mut bytes)?;
-    Ok(T::from_bytes(&bytes))
+    input_rows::read_row::<T, OfReader, R>(reader)
 }
 
-/// Reads `count` rows. `UnexpectedEof` where the reader has fewer, `OutOfMemory` where they find none.
+/// Reads `count` rows. `UnexpectedEof` if fewer are left. May fail with `OutOfMemory`.
 pub fn read_rows<T: Row + Drop, R: Read>(
     alloc: Global,
     reader: &mut R,
@@ -193,14 +193,10 @@ pub fn read_rows<T: Row + Drop, R: Read>(
     ensures end { IfErr result (λ e. IsEndOfInput e → LacksBytes (R.remaining reader.old) (48 * count)) }
     ensures causes { IfErr result IsDeviceError }
 {
-    let mut rows = Rows::new(alloc);
-    for _row in 0..count {
-        rows.push(read_row(reader)?)?;
-    }
-    Ok(rows)
+    input_rows::read_rows::<T, OfReader, R>(alloc, reader, count)
 }
 
-/// Reads a row if it is `wanted`.
+/// Reads a row if it is `wanted`. `UnexpectedEof` if it is and fewer than 48 bytes are left.
 pub fn read_optional<T: Row, R: Read>(reader: &mut R, wanted: bool) -> io::Result<Option<T>>
     ensures value { IfOk result
         (ReadsOptional T.row_bytes T.Fits T.handed_out (Consumes (R.remaining reader.old) (R.remaining reader.new)) wanted) }
@@ -208,26 +204,20 @@ pub fn read_optional<T: Row, R: Read>(reader: &mut R, wanted: bool) -> io::Resul
         (λ e. error_kind e ≡ ErrorKind.UnexpectedEof → LacksBytes (R.remaining reader.old) (if wanted then 48 else 0)) }
     ensures touched { IfErr result (λ _. IsTrue wanted) }
 {
-    if wanted {
-        Ok(Some(read_row(reader)?))
-    } else {
-        Ok(None)
-    }
+    input_rows::read_optional::<T, OfReader, R>(reader, wanted)
 }
 
-/// Reads a row from the source's place on. `UnexpectedEof` where fewer than 48 bytes are left.
+/// Reads a row at the source's offset. `UnexpectedEof` if fewer than 48 bytes are left.
 pub fn read_source_row<T: Row, S: ShardSource>(source: &mut S) -> Result<T>
     ensures value { IfOk result
         (ReadsRow T.row_bytes T.Fits T.handed_out (Takes (S.meaning source.old) (S.meaning source.new))) }
     ensures refused { IfErr result (ReadFails (S.meaning source.old) (S.meaning source.new) 48) }
 {
-    let mut bytes = [0u8; 48];
-    read_full(source, &mut bytes)?;
-    Ok(T::from_bytes(&bytes))
+    Ok(input_rows::read_row::<T, OfSource, S>(source)?)
 }
 
-/// Reads `count` rows from the source's place on. `UnexpectedEof` where fewer are left, `OutOfMemory`
-/// where they find no memory.
+/// Reads `count` rows at the source's offset. `UnexpectedEof` if fewer are left. May fail with
+/// `OutOfMemory`.
 pub fn read_source_rows<T: Row + Drop, S: ShardSource>(
     alloc: Global,
     source: &mut S,
@@ -237,27 +227,20 @@ pub fn read_source_rows<T: Row + Drop, S: ShardSource>(
         (ReadsRows T.row_bytes T.Fits T.handed_out (Takes (S.meaning source.old) (S.meaning source.new)) count) }
     ensures refused { IfErr result (ReadFails (S.meaning source.old) (S.meaning source.new) (48 * count)) }
 {
-    let mut rows = Rows::new(alloc);
-    for _row in 0..count {
-        rows.push(read_source_row(source)?)?;
-    }
-    Ok(rows)
+    input_rows::read_rows::<T, OfSource, S>(alloc, source, count)
 }
 
-/// Reads over `count` rows from the source's place on and keeps none of them, so it takes no memory.
-/// `UnexpectedEof` where fewer are left.
+/// Reads past `count` rows at the source's offset. Does not allocate. `UnexpectedEof` if fewer are left.
 pub fn skip_source_rows<T: Row, S: ShardSource>(source: &mut S, count: u32) -> Result<()>
     ensures value { IfOk result
         (λ _. (rows : List T) × ReadsRows T.row_bytes T.Fits T.handed_out (Takes (S.meaning source.old) (S.meaning source.new)) count rows) }
     ensures refused { IfErr result (ReadFails (S.meaning source.old) (S.meaning source.new) (48 * count)) }
 {
-    for _row in 0..count {
-        let _skipped: T = read_source_row(source)?;
-    }
-    Ok(())
+    input_rows::skip_rows::<T, OfSource, S>(source, count)
 }
 
-/// Reads a row from the source's place on, if it is `wanted`.
+/// Reads a row at the source's offset if it is `wanted`. `UnexpectedEof` if it is and fewer than 48 bytes
+/// are left.
 pub fn read_source_optional<T: Row, S: ShardSource>(
     source: &mut S,
     wanted: bool,
@@ -268,9 +251,5 @@ pub fn read_source_optional<T: Row, S: ShardSource>(
         (ReadFails (S.meaning source.old) (S.meaning source.new) (if wanted then 48 else 0)) }
     ensures touched { IfErr result (λ _. IsTrue wanted) }
 {
-    if wanted {
-        Ok(Some(read_source_row(source)?))
-    } else {
-        Ok(None)
-    }
+    Ok(input_rows::read_optional::<T, OfSource, S>(source, wanted)?)
 }

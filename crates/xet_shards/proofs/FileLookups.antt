@@ -20,7 +20,7 @@ use Rattle.xet_base.proofs.Bytes.{length-u32_bytes, u32_bytes-injective}
 use Rattle.xet_base.proofs.Lists.{rest_is}
 use Rattle.xet_base.proofs.Tables.{offset_of_row-zero}
 use Rattle.xet_base.proofs.KnownTable.{sum_below, key_is, value_is, key_is_there, row_is_there, hits_below-sum}
-use Rattle.xet_records.specs.declared.file_structs.FileDataSequenceHeader.{FileDataSequenceHeader}
+use Rattle.xet_records.specs.declared.file_structs.header.FileDataSequenceHeader.{FileDataSequenceHeader}
 use Rattle.xet_records.specs.declared.file_structs.MDBFileInfo.{MDBFileInfo}
 use Rattle.xet_records.specs.declared.xorb_structs.MDBXorbInfo.{MDBXorbInfo}
 use Rattle.xet_records.specs.FileRow.{header_row, FitsHeader}

@@ -4,7 +4,7 @@ use Rattle.std.specs.Prelude.{All, sum_by}
 use Rattle.std.proofs.lemmas.List.Sums.{sum_by-cons}
 use Rattle.std.proofs.lemmas.List.Elements.{All-drop, All-map}
 use Rattle.xet_base.specs.declared.merklehash.DataHash.{DataHash}
-use Rattle.xet_records.specs.declared.file_structs.FileDataSequenceEntry.{FileDataSequenceEntry}
+use Rattle.xet_records.specs.declared.file_structs.rows.FileDataSequenceEntry.{FileDataSequenceEntry}
 use Rattle.xet_records.specs.declared.file_structs.MDBFileInfo.{MDBFileInfo}
 use Rattle.xet_records.specs.FileRow.{FitsSegment}
 use Rattle.xet_records.specs.FileRecord.{file_records, row_count, size_of_file, FitsRecord, IsWellFormed}

@@ -7,7 +7,7 @@ use Rattle.xet_base.specs.Hash.{hash_bytes}
 use Rattle.xet_records.specs.declared.file_structs.MDBFileInfo.{MDBFileInfo}
 use Rattle.xet_records.specs.declared.xorb_structs.MDBXorbInfo.{MDBXorbInfo}
 use Rattle.xet_records.specs.declared.xorb_structs.XorbChunkSequenceEntry.{XorbChunkSequenceEntry}
-use Rattle.xet_records.specs.declared.file_structs.FileDataSequenceEntry.{FileDataSequenceEntry}
+use Rattle.xet_records.specs.declared.file_structs.rows.FileDataSequenceEntry.{FileDataSequenceEntry}
 use Rattle.xet_records.specs.FileRow.{header_row, segment_row}
 use Rattle.xet_records.specs.FileRecord.{file_record_bytes, file_rows_bytes, FitsRecord}
 use Rattle.xet_records.specs.XorbRow.{xorb_header_row, chunk_row}

@@ -4,7 +4,7 @@ use Rattle.std.specs.List.{common_prefix_len}
 use Rattle.std.specs.FinMap.{get}
 use Rattle.xet_base.specs.declared.merklehash.DataHash.{DataHash}
 use Rattle.xet_base.specs.Hash.{hash_eq}
-use Rattle.xet_records.specs.declared.file_structs.FileDataSequenceEntry.{FileDataSequenceEntry}
+use Rattle.xet_records.specs.declared.file_structs.rows.FileDataSequenceEntry.{FileDataSequenceEntry}
 use Rattle.xet_records.specs.declared.xorb_structs.XorbChunkSequenceEntry.{XorbChunkSequenceEntry}
 use Rattle.xet_records.specs.XorbRecord.{segment_of}
 use Rattle.xet_shards.specs.ChunkLookup.{ChunkLocation, LocationMap, IsLocation}

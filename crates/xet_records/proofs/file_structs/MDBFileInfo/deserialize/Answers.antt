@@ -21,21 +21,21 @@ returns-clause-found g c =
     let read = c.in_ok-metadata.ensures in
     let few : rows_after h ≤ 4294967295 = omega (arith, c.rows_after.ensures.rows) in
     let is_file : h.file_hash ≢ all_ones = λ ones. let bookend = c.is_bookend.ensures.1 ones in cc in
-    whole_record file_records file_laws _ _ _ h _ (Consumes-trans _ (g.R.Read.remaining c.deserialize.new.reader) _) read.widths is_file read.value c.in_ok-read_rows_after.ensures.found few
+    whole_record file_records file_laws _ _ _ h _ (Consumes-trans _ (g.R.Read.remaining c.deserialize.new.reader) _) read.widths is_file read.value c.in_ok-read_rows_after.ensures few
 
 pub returns-clause-whole : goal.returns-clause-whole
 returns-clause-whole g c =
     let h = c.in_ok-metadata.metadata in
     let read = c.in_ok-metadata.ensures in
     let few : rows_after h ≤ 4294967295 = omega (arith, c.rows_after.ensures.rows) in
-    (after_record file_records file_laws _ (g.R.Read.remaining c.deserialize.new.reader) _ h _ read.widths read.value c.in_ok-read_rows_after.ensures.found few).0
+    (after_record file_records file_laws _ (g.R.Read.remaining c.deserialize.new.reader) _ h _ read.widths read.value c.in_ok-read_rows_after.ensures few).0
 
 pub returns-clause-fits : goal.returns-clause-fits
 returns-clause-fits g c =
     let h = c.in_ok-metadata.metadata in
     let read = c.in_ok-metadata.ensures in
     let few : rows_after h ≤ 4294967295 = omega (arith, c.rows_after.ensures.rows) in
-    (after_record file_records file_laws _ (g.R.Read.remaining c.deserialize.new.reader) _ h _ read.widths read.value c.in_ok-read_rows_after.ensures.found few).1
+    (after_record file_records file_laws _ (g.R.Read.remaining c.deserialize.new.reader) _ h _ read.widths read.value c.in_ok-read_rows_after.ensures few).1
 
 pub returns-then-is_bookend-clause-again : goal.returns-then-is_bookend-clause-again
 returns-then-is_bookend-clause-again g c =

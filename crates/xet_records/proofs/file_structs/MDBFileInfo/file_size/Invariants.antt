@@ -1,5 +1,5 @@
 use Rattle.std.proofs.Common.{◌≡◌, ◌*◌, ◌≤◌, take, sum_by}
-use Rattle.xet_records.specs.declared.file_structs.FileDataSequenceEntry.{FileDataSequenceEntry}
+use Rattle.xet_records.specs.declared.file_structs.rows.FileDataSequenceEntry.{FileDataSequenceEntry}
 use Rattle.xet_records.proofs.file_structs.MDBFileInfo.file_size.Given as goal
 
 abbrev pub invariant-loop-segment : goal.invariant-loop-segment

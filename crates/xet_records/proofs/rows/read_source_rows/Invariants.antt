@@ -1,7 +1,0 @@
-use Rattle.xet_base.specs.Source.{Takes}
-use Rattle.xet_records.specs.Rows.{ReadsRows}
-use Rattle.xet_records.proofs.rows.read_source_rows.Given as goal
-
-abbrev pub invariant-loop-row : goal.invariant-loop-row
-invariant-loop-row g l =
-    ReadsRows g.T.Row.row_bytes g.T.Row.Fits g.T.Row.handed_out (Takes (g.S.ShardSource.meaning l.initial.source) (g.S.ShardSource.meaning l.source)) l._row l.rows

@@ -1,0 +1,284 @@
+//! The rows of a file record after its header.
+
+ghost use Rattle.std.specs.Prelude.{◌≡◌, ◌^◌, ◌<◌, [], ◌∷◌, length, OnOk, IfOk, IfErr};
+ghost use Rattle.std.specs.Io.KnownBytes.{Appends, Consumes};
+ghost use Rattle.std.specs.IoError.{error_kind};
+ghost use Rattle.xet_base.specs.Bytes.{HasBytes, LacksBytes};
+ghost use Rattle.xet_records.specs.FileRow.{segment_row, verification_row, metadata_row, FitsSegment, FitsVerification, FitsMetadata, clear_verification, clear_metadata};
+ghost use Rattle.xet_records.specs.XorbRecord.{total_bytes, segment_of};
+ghost use Rattle.xet_records.specs.Rows.{ReadsRow};
+
+use super::{MDB_DEFAULT_FILE_FLAG, MDB_FILE_INFO_ENTRY_SIZE};
+use crate::rows::{Row, read_row, write_row};
+use crate::xorb_structs::{XorbChunkSequenceEntry, XorbChunkSequenceHeader};
+use std::io;
+use std::io::{ErrorKind, Read, Write};
+use xet_base::merklehash::{MerkleHash, Sha256};
+use xet_base::row::{put_hash, put_u32, put_u64, split_hash, split_u32, split_u64};
+
+/// A run of chunks of one xorb that a file consists of, in order.
+#[derive(Clone, Copy, Default, Debug, PartialEq, Eq)]
+pub struct FileDataSequenceEntry {
+    pub xorb_hash: MerkleHash,
+    pub xorb_flags: u32,
+    /// The bytes of the segment, unpacked.
+    pub unpacked_segment_bytes: u32,
+    /// The place of the first chunk in the xorb.
+    pub chunk_index_start: u32,
+    /// The place after the last chunk in the xorb.
+    pub chunk_index_end: u32,
+}
+
+impl FileDataSequenceEntry {
+    /// A segment of the chunks from `chunk_index_start` up to `chunk_index_end`, with no flags.
+    pub fn new(
+        xorb_hash: MerkleHash,
+        unpacked_segment_bytes: u32,
+        chunk_index_start: u32,
+        chunk_index_end: u32,
+    ) -> Self
+        ensures { result ≡ record { xorb_hash = xorb_hash; xorb_flags = 0; unpacked_segment_bytes = unpacked_segment_bytes; chunk_index_start = chunk_index_start; chunk_index_end = chunk_index_end } }
+    {
+        FileDataSequenceEntry {
+            xorb_hash,
+            xorb_flags: MDB_DEFAULT_FILE_FLAG,
+            unpacked_segment_bytes,
+            chunk_index_start,
+            chunk_index_end,
+        }
+    }
+
+    /// The segment of these chunks of the xorb with this header, which stand from `chunk_index_start` up to
+    /// `chunk_index_end`; of no chunks it is the default. Asks that their bytes fit 32 bits.
+    pub fn from_xorb_entries(
+        metadata: &XorbChunkSequenceHeader,
+        chunks: &[XorbChunkSequenceEntry],
+        chunk_index_start: u32,
+        chunk_index_end: u32,
+    ) -> Self
+        requires { total_bytes chunks.now < 2 ^ 32 }
+        ensures { result ≡ segment_of metadata.now chunks.now chunk_index_start chunk_index_end }
+    {
+        if chunks.is_empty() {
+            return Self::default();
+        }
+        let mut unpacked_segment_bytes = 0;
+        for chunk in chunks {
+            unpacked_segment_bytes += chunk.unpacked_segment_bytes;
+        }
+        FileDataSequenceEntry {
+            xorb_hash: metadata.xorb_hash,
+            xorb_flags: metadata.xorb_flags,
+            unpacked_segment_bytes,
+            chunk_index_start,
+            chunk_index_end,
+        }
+    }
+
+    /// Appends the row and returns its 48 bytes. The error is the writer's.
+    pub fn serialize<W: Write>(&self, writer: &mut W) -> io::Result<usize>
+        ensures text { OnOk result
+            (Appends (W.contents writer.old) (W.contents writer.new) (segment_row self.now)) }
+        ensures count { IfOk result (λ n. n ≡ 48) }
+    {
+        write_row(self, writer)?;
+        Ok(MDB_FILE_INFO_ENTRY_SIZE)
+    }
+
+    /// Reads the row with all its fields. `UnexpectedEof` where fewer than 48 bytes are left.
+    pub fn deserialize<R: Read>(reader: &mut R) -> io::Result<Self>
+        ensures value { IfOk result
+            (λ row. Consumes (R.remaining reader.old) (R.remaining reader.new) (segment_row row)) }
+        ensures widths { IfOk result FitsSegment }
+        ensures enough { OnOk result (HasBytes (R.remaining reader.old) 48) }
+        ensures end { IfErr result
+            (λ e. error_kind e ≡ ErrorKind.UnexpectedEof → LacksBytes (R.remaining reader.old) 48) }
+    {
+        read_row(reader)
+    }
+}
+
+impl Row for FileDataSequenceEntry {
+    ghost row_bytes = { segment_row };
+
+    ghost Fits = { FitsSegment };
+
+    ghost handed_out = { λ s. s };
+
+    #[tactic(auto, unfolding(crate::specs::FileRow::segment_row))]
+    fn to_bytes(&self) -> [u8; 48] {
+        let mut row = [0u8; 48];
+        let at = put_hash(&mut row, 0, &self.xorb_hash);
+        let at = put_u32(&mut row, at, self.xorb_flags);
+        let at = put_u32(&mut row, at, self.unpacked_segment_bytes);
+        let at = put_u32(&mut row, at, self.chunk_index_start);
+        put_u32(&mut row, at, self.chunk_index_end);
+        row
+    }
+
+    #[tactic(auto, unfolding(crate::specs::FileRow::segment_row))]
+    fn from_bytes(bytes: &[u8; 48]) -> Self {
+        let (xorb_hash, rest) = split_hash(bytes);
+        let (xorb_flags, rest) = split_u32(rest);
+        let (unpacked_segment_bytes, rest) = split_u32(rest);
+        let (chunk_index_start, rest) = split_u32(rest);
+        let (chunk_index_end, _) = split_u32(rest);
+        FileDataSequenceEntry {
+            xorb_hash,
+            xorb_flags,
+            unpacked_segment_bytes,
+            chunk_index_start,
+            chunk_index_end,
+        }
+    }
+
+    fn widths(self) {}
+}
+
+/// What a segment's chunks hash to, for checking them.
+#[derive(Clone, Copy, Default, Debug, PartialEq, Eq)]
+pub struct FileVerificationEntry {
+    pub range_hash: MerkleHash,
+    pub _unused: [u64; 2],
+}
+
+impl FileVerificationEntry {
+    /// A row of this hash, with zero reserved words.
+    pub fn new(range_hash: MerkleHash) -> Self
+        ensures { result ≡ record { range_hash = range_hash; _unused = 0 ∷ 0 ∷ [] } }
+    {
+        FileVerificationEntry {
+            range_hash,
+            _unused: [0; 2],
+        }
+    }
+
+    /// Appends the row and returns its 48 bytes. The error is the writer's.
+    pub fn serialize<W: Write>(&self, writer: &mut W) -> io::Result<usize>
+        ensures text { OnOk result
+            (Appends (W.contents writer.old) (W.contents writer.new) (verification_row self.now)) }
+        ensures count { IfOk result (λ n. n ≡ 48) }
+    {
+        write_row(self, writer)?;
+        Ok(MDB_FILE_INFO_ENTRY_SIZE)
+    }
+
+    /// Reads the row, with zero reserved words whatever stands there. `UnexpectedEof` where fewer than
+    /// 48 bytes are left.
+    pub fn deserialize<R: Read>(reader: &mut R) -> io::Result<Self>
+        ensures value { IfOk result
+            (ReadsRow verification_row FitsVerification clear_verification (Consumes (R.remaining reader.old) (R.remaining reader.new))) }
+        ensures enough { OnOk result (HasBytes (R.remaining reader.old) 48) }
+        ensures end { IfErr result
+            (λ e. error_kind e ≡ ErrorKind.UnexpectedEof → LacksBytes (R.remaining reader.old) 48) }
+    {
+        read_row(reader)
+    }
+}
+
+impl Row for FileVerificationEntry {
+    ghost row_bytes = { verification_row };
+
+    ghost Fits = { FitsVerification };
+
+    ghost handed_out = { clear_verification };
+
+    #[tactic(auto, unfolding(crate::specs::FileRow::verification_row))]
+    fn to_bytes(&self) -> [u8; 48] {
+        let mut row = [0u8; 48];
+        let at = put_hash(&mut row, 0, &self.range_hash);
+        let at = put_u64(&mut row, at, self._unused[0]);
+        put_u64(&mut row, at, self._unused[1]);
+        row
+    }
+
+    #[tactic(auto, unfolding(crate::specs::FileRow::verification_row))]
+    fn from_bytes(bytes: &[u8; 48]) -> Self {
+        let (range_hash, rest) = split_hash(bytes);
+        let (_first, rest) = split_u64(rest);
+        let (_second, _) = split_u64(rest);
+        FileVerificationEntry::new(range_hash)
+    }
+
+    fn widths(self) {
+        two_words(&self._unused);
+    }
+}
+
+// The two words of a slice.
+fn two_words(words: &[u64]) -> (u64, u64)
+    requires { length words.now ≡ 2 }
+    ensures { words.now ≡ result.0 ∷ result.1 ∷ [] }
+{
+    (words[0], words[1])
+}
+
+/// The file's SHA-256.
+#[derive(Clone, Copy, Default, Debug, PartialEq, Eq)]
+pub struct FileMetadataExt {
+    pub sha256: Sha256,
+    pub _unused: [u64; 2],
+}
+
+impl FileMetadataExt {
+    /// A row of this SHA-256, with zero reserved words.
+    pub fn new(sha256: Sha256) -> Self
+        ensures { result ≡ record { sha256 = sha256; _unused = 0 ∷ 0 ∷ [] } }
+    {
+        FileMetadataExt {
+            sha256,
+            _unused: [0; 2],
+        }
+    }
+
+    /// Appends the row and returns its 48 bytes. The error is the writer's.
+    pub fn serialize<W: Write>(&self, writer: &mut W) -> io::Result<usize>
+        ensures text { OnOk result
+            (Appends (W.contents writer.old) (W.contents writer.new) (metadata_row self.now)) }
+        ensures count { IfOk result (λ n. n ≡ 48) }
+    {
+        write_row(self, writer)?;
+        Ok(MDB_FILE_INFO_ENTRY_SIZE)
+    }
+
+    /// Reads the row, with zero reserved words whatever stands there. `UnexpectedEof` where fewer than
+    /// 48 bytes are left.
+    pub fn deserialize<R: Read>(reader: &mut R) -> io::Result<Self>
+        ensures value { IfOk result
+            (ReadsRow metadata_row FitsMetadata clear_metadata (Consumes (R.remaining reader.old) (R.remaining reader.new))) }
+        ensures enough { OnOk result (HasBytes (R.remaining reader.old) 48) }
+        ensures end { IfErr result
+            (λ e. error_kind e ≡ ErrorKind.UnexpectedEof → LacksBytes (R.remaining reader.old) 48) }
+    {
+        read_row(reader)
+    }
+}
+
+impl Row for FileMetadataExt {
+    ghost row_bytes = { metadata_row };
+
+    ghost Fits = { FitsMetadata };
+
+    ghost handed_out = { clear_metadata };
+
+    #[tactic(auto, unfolding(crate::specs::FileRow::metadata_row))]
+    fn to_bytes(&self) -> [u8; 48] {
+        let mut row = [0u8; 48];
+        let at = put_hash(&mut row, 0, &self.sha256);
+        let at = put_u64(&mut row, at, self._unused[0]);
+        put_u64(&mut row, at, self._unused[1]);
+        row
+    }
+
+    #[tactic(auto, unfolding(crate::specs::FileRow::metadata_row))]
+    fn from_bytes(bytes: &[u8; 48]) -> Self {
+        let (sha256, rest) = split_hash(bytes);
+        let (_first, rest) = split_u64(rest);
+        let (_second, _) = split_u64(rest);
+        FileMetadataExt::new(sha256)
+    }
+
+    fn widths(self) {
+        two_words(&self._unused);
+    }
+}
