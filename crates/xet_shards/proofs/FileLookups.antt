@@ -179,12 +179,12 @@ module _ (files : List MDBFileInfo) (xorbs : List MDBXorbInfo) (form : Form) (is
   abbrev mark : ℕ → ℕ → ℕ
   mark word i = if (file_hash_of (file_at i)).word0 == word then 1 else 0
 
-  sum-marks : (word : ℕ) → sum_below (mark word) (length files) ≡ length (sharing word files)
+  sum-marks : (word : ℕ) → sum_below (mark word) (length files) ≡ length (sharing file_records word files)
   sum-marks word =
       sum_marked (λ r. (file_hash_of r).word0 == word) (λ r. 1) files no_record (length files) (omega arith)
-      ∙ ap (λ rs. sum_by (λ (r : MDBFileInfo). 1) (sharing word rs)) (take_all (length files) files (omega arith)) ∙ sum-of_ones (λ (r : MDBFileInfo). 1) (sharing word files) (λ k d below. refl)
+      ∙ ap (λ rs. sum_by (λ (r : MDBFileInfo). 1) (sharing file_records word rs)) (take_all (length files) files (omega arith)) ∙ sum-of_ones (λ (r : MDBFileInfo). 1) (sharing file_records word files) (λ k d below. refl)
 
-  pub table_hits : (word : ℕ) → hits table word ≡ length (sharing word files)
+  pub table_hits : (word : ℕ) → hits table word ≡ length (sharing file_records word files)
   table_hits word =
       ap (hits_below table word) rows_is
       ∙ hits_below-sum table word (length files) (mark word) table_has_key (λ i within. ap (λ k. if k == word then 1 else 0) (sym (table_key i within)))
@@ -244,7 +244,7 @@ module _ (files : List MDBFileInfo) (xorbs : List MDBXorbInfo) (form : Form) (is
   stored_at i within = is.stored i no_record within
 
   -- a record that is read there is this one
-  pub record_is : (i : ℕ) (found : MDBFileInfo) → i < length files → RecordAt old.bytes (row_at 48 (start_at i)) found → found ≡ handed_out (file_at i)
+  pub record_is : (i : ℕ) (found : MDBFileInfo) → i < length files → RecordAt file_records old.bytes (row_at 48 (start_at i)) found → found ≡ handed_out (file_at i)
   record_is i found within reads =
       let here = record_stands i within in
       sym reads.handed ∙ ap handed_out (record_front reads.stored (file_at i) reads.taken.0 here.0 reads.is_stored (stored_at i within) (sym reads.taken.1 ∙ here.1)).0
@@ -267,12 +267,12 @@ module _ (files : List MDBFileInfo) (xorbs : List MDBXorbInfo) (form : Form) (is
 
   -- reading it takes no more than its text
   pub text_is_enough : (i n : ℕ) → i < length files → MayTake file_records (drop (row_at 48 (start_at i)) old.bytes) n → n ≤ length (file_record_bytes (file_at i))
-  text_is_enough i n within (inl few) = omega (arith, few, length-stored (file_at i) (stored_at i within))
+  text_is_enough i n within (inl few) = omega (arith, few, length-stored file_records file_laws (file_at i) (stored_at i within))
   text_is_enough i n within (inr (h, rest, begins, most)) =
-      omega (arith, most, length-stored (file_at i) (stored_at i within), ap rows_after (header_is i h rest within begins.widths begins.bytes_are).0)
+      omega (arith, most, length-stored file_records file_laws (file_at i) (stored_at i within), ap rows_after (header_is i h rest within begins.widths begins.bytes_are).0)
 
   -- it is read, unless the device fails or memory is refused
-  pub record_is_read : (i : ℕ) (new : Source) (e : CoreError) → i < length files → InfoRefusal 48 (start_at i) old new e → DeviceFailure old new e ⊎ (e ≡ OutOfMemory)
+  pub record_is_read : (i : ℕ) (new : Source) (e : CoreError) → i < length files → InfoRefusal file_records 48 (start_at i) old new e → DeviceFailure old new e ⊎ (e ≡ OutOfMemory)
   record_is_read i new e within (inl (none, bare, past)) = absurd (omega (arith, past, start_bound i within))
   record_is_read i new e within (inr (fits, inl (none, bare, bookend))) =
       absurd ((stored_at i within).is_file (ap (λ (h : FileDataSequenceHeader). h.file_hash) (sym (header_is i bookend.header bookend.rest within bookend.widths bookend.bytes_are).0) ∙ bookend.is_bookend))
@@ -285,7 +285,7 @@ module _ (files : List MDBFileInfo) (xorbs : List MDBXorbInfo) (form : Form) (is
     short,
     ap length (record_stands i within).1,
     length-append (file_record_bytes (file_at i)) (record_stands i within).0,
-    length-stored (file_at i) (stored_at i within),
+    length-stored file_records file_laws (file_at i) (stored_at i within),
   ))
   record_is_read i new e within (inr (fits, inr (inr (inr (inr (none, ended, inr (h, rest, begins, few, short))))))) =
       let same = header_is i h rest within begins.widths begins.bytes_are in
@@ -295,7 +295,7 @@ module _ (files : List MDBFileInfo) (xorbs : List MDBXorbInfo) (form : Form) (is
         ap rows_after same.0,
         ap length same.1,
         length-append (file_rows_bytes (file_at i)) (record_stands i within).0,
-        length-stored (file_at i) (stored_at i within),
+        length-stored file_records file_laws (file_at i) (stored_at i within),
         length-text_rows (file_at i),
       ))
 
@@ -316,37 +316,37 @@ module _ (files : List MDBFileInfo) (xorbs : List MDBXorbInfo) (form : Form) (is
     marked : All (λ h. mark word h.row ≡ 1) found
     marked = All-weaker (IsHit table word IsNumber) (λ h. mark word h.row ≡ 1) (λ h hit. cond-true {A = ℕ} _ 1 0 (eq-eqb _ _ (hit_is word h hit).1)) found each
 
-    pub hits_share : length found ≤ length (sharing word files)
+    pub hits_share : length found ≤ length (sharing file_records word files)
     hits_share = omega (arith, sum-of_ones (λ (h : Hit ℕ). mark word h.row) found marked, sum_distinct (mark word) (length files) found distinct rows_below, sum-marks word)
 
     -- a record that stands at the start of a hit is that of the file
-    hit_reads : (h : Hit ℕ) (r : MDBFileInfo) → IsHit table word IsNumber h → RecordAt old.bytes (row_at 48 h.value) r → r ≡ handed_out (file_at h.row)
+    hit_reads : (h : Hit ℕ) (r : MDBFileInfo) → IsHit table word IsNumber h → RecordAt file_records old.bytes (row_at 48 h.value) r → r ≡ handed_out (file_at h.row)
     hit_reads h r hit stands =
         let known = hit_is word h hit in
-        record_is h.row r known.0 (subst (λ v. RecordAt old.bytes (row_at 48 v) r) known.2 stands)
+        record_is h.row r known.0 (subst (λ v. RecordAt file_records old.bytes (row_at 48 v) r) known.2 stands)
 
-    pub found_is : (hash : DataHash) (r : MDBFileInfo) (row : ℕ) → file_hash_of r ≡ hash → Contains (map (λ h. h.value) found) row → RecordAt old.bytes (row_at 48 row) r
+    pub found_is : (hash : DataHash) (r : MDBFileInfo) (row : ℕ) → file_hash_of r ≡ hash → Contains (map (λ h. h.value) found) row → RecordAt file_records old.bytes (row_at 48 row) r
         → IsAnswer files hash (Some r)
     found_is hash r row same contains stands =
-        All-contains (λ v. RecordAt old.bytes (row_at 48 v) r → IsAnswer files hash (Some r)) (map (λ h. h.value) found) row
-        (All-map (λ v. RecordAt old.bytes (row_at 48 v) r → IsAnswer files hash (Some r)) (λ (h : Hit ℕ). h.value) found
-        (All-weaker (IsHit table word IsNumber) (λ h. RecordAt old.bytes (row_at 48 h.value) r → IsAnswer files hash (Some r))
+        All-contains (λ v. RecordAt file_records old.bytes (row_at 48 v) r → IsAnswer files hash (Some r)) (map (λ h. h.value) found) row
+        (All-map (λ v. RecordAt file_records old.bytes (row_at 48 v) r → IsAnswer files hash (Some r)) (λ (h : Hit ℕ). h.value) found
+        (All-weaker (IsHit table word IsNumber) (λ h. RecordAt file_records old.bytes (row_at 48 h.value) r → IsAnswer files hash (Some r))
         (λ h hit at. (h.row, (hit_is word h hit).0, hit_reads h r hit at, same)) found each))
         contains stands
 
-    pub found_none : (hash : DataHash) → hash.word0 ≡ word → length found ≡ hits table word → LookupAnswer old.bytes 48 hash None (map (λ h. h.value) found) → IsAnswer files hash None
+    pub found_none : (hash : DataHash) → hash.word0 ≡ word → length found ≡ hits table word → LookupAnswer file_records old.bytes 48 hash None (map (λ h. h.value) found) → IsAnswer files hash None
     found_none hash same_word all others i within same =
         let one : mark word i ≡ 1 = cond-true {A = ℕ} _ 1 0 (eq-eqb _ _ (ap (λ (h : DataHash). h.word0) same ∙ same_word)) in
         let at = all_marked (mark word) (length files) found i distinct rows_below
         (omega (arith, sum-of_ones (λ (h : Hit ℕ). mark word h.row) found marked, sum-marks word, all, table_hits word)) within (omega (arith, one)) in
         let no_hit : Hit ℕ = record { row = 0; value = 0 } in
         let h = get_or found at.0 no_hit in
-        let other = subst (λ v. (r : MDBFileInfo) × RecordAt old.bytes (row_at 48 v) r × (file_hash_of r ≢ hash)) (get_or-map (λ (g : Hit ℕ). g.value) found at.0 no_hit 0 at.1)
+        let other = subst (λ v. (r : MDBFileInfo) × RecordAt file_records old.bytes (row_at 48 v) r × (file_hash_of r ≢ hash)) (get_or-map (λ (g : Hit ℕ). g.value) found at.0 no_hit 0 at.1)
         (others at.0 0 (omega (arith, at.1, length-map found (λ (g : Hit ℕ). g.value)))) in
         other.2 (ap file_hash_of (hit_reads h other.0 (each at.0 no_hit at.1) other.1) ∙ ap (λ j. file_hash_of (file_at j)) (at.2 no_hit) ∙ same)
 
     -- their values are starts of files that share the word, and where they are all hits, all of these
-    pub starts_of_hits : length found ≡ hits table word → AreStarts files word (map (λ h. h.value) found)
+    pub starts_of_hits : length found ≡ hits table word → AreStarts file_records files word (map (λ h. h.value) found)
     starts_of_hits all = (in_starts, of_starts)
       where
         in_starts : (row : ℕ) → Contains (map (λ (h : Hit ℕ). h.value) found) row → Contains (starts file_records files) (word, row)
@@ -374,18 +374,18 @@ module _ (files : List MDBFileInfo) (xorbs : List MDBXorbInfo) (form : Form) (is
             subst (Contains values) value (Contains-get_or values at.0 0 (omega (arith, at.1, length-map found (λ (g : Hit ℕ). g.value))))
 
     -- the record at one of the rows is read, unless the device fails or memory is refused
-    pub hits_are_read : (new : Source) (e : CoreError) (row : ℕ) → Contains (map (λ h. h.value) found) row → InfoRefusal 48 row old new e
+    pub hits_are_read : (new : Source) (e : CoreError) (row : ℕ) → Contains (map (λ h. h.value) found) row → InfoRefusal file_records 48 row old new e
         → DeviceFailure old new e ⊎ (e ≡ OutOfMemory)
     hits_are_read new e row contains refusal =
-        All-contains (λ v. InfoRefusal 48 v old new e → DeviceFailure old new e ⊎ (e ≡ OutOfMemory)) (map (λ h. h.value) found) row
-        (All-map (λ v. InfoRefusal 48 v old new e → DeviceFailure old new e ⊎ (e ≡ OutOfMemory)) (λ (h : Hit ℕ). h.value) found
-        (All-weaker (IsHit table word IsNumber) (λ h. InfoRefusal 48 h.value old new e → DeviceFailure old new e ⊎ (e ≡ OutOfMemory))
-        (λ h hit refused. let known = hit_is word h hit in record_is_read h.row new e known.0 (subst (λ v. InfoRefusal 48 v old new e) known.2 refused)) found each))
+        All-contains (λ v. InfoRefusal file_records 48 v old new e → DeviceFailure old new e ⊎ (e ≡ OutOfMemory)) (map (λ h. h.value) found) row
+        (All-map (λ v. InfoRefusal file_records 48 v old new e → DeviceFailure old new e ⊎ (e ≡ OutOfMemory)) (λ (h : Hit ℕ). h.value) found
+        (All-weaker (IsHit table word IsNumber) (λ h. InfoRefusal file_records 48 h.value old new e → DeviceFailure old new e ⊎ (e ≡ OutOfMemory))
+        (λ h hit refused. let known = hit_is word h hit in record_is_read h.row new e known.0 (subst (λ v. InfoRefusal file_records 48 v old new e) known.2 refused)) found each))
         contains refusal
 
     -- the texts of the records that were read are those of files that share the word
     pub texts_share : (n : ℕ) (taken : List ℕ) → AllZip (λ row k. MayTake file_records (drop (row_at 48 row) old.bytes) k) (take n (map (λ h. h.value) found)) taken
-        → sum taken ≤ length (flat_map file_record_bytes (sharing word files))
+        → sum taken ≤ length (flat_map file_record_bytes (sharing file_records word files))
     texts_share n taken zip =
         let weight : MDBFileInfo → ℕ = λ r. length (file_record_bytes r) in
         let f : ℕ → ℕ = λ i. if (file_hash_of (file_at i)).word0 == word then weight (file_at i) else 0 in
@@ -401,8 +401,8 @@ module _ (files : List MDBFileInfo) (xorbs : List MDBXorbInfo) (form : Form) (is
           sum-taken (λ row k. MayTake file_records (drop (row_at 48 row) old.bytes) k) (λ h. f h.row) found n taken most zip,
           sum_distinct f (length files) found distinct rows_below,
           sum_marked (λ r. (file_hash_of r).word0 == word) weight files no_record (length files) (omega arith),
-          ap (λ rs. sum_by weight (sharing word rs)) (take_all (length files) files (omega arith)),
-          sum-lengths file_record_bytes (sharing word files),
+          ap (λ rs. sum_by weight (sharing file_records word rs)) (take_all (length files) files (omega arith)),
+          sum-lengths file_record_bytes (sharing file_records word files),
         )
 
   -- the search is refused only where the device fails
@@ -413,7 +413,7 @@ module _ (files : List MDBFileInfo) (xorbs : List MDBXorbInfo) (form : Form) (is
   search_answers new e (inr (fits, inr (none, ended, short))) = absurd (omega (arith, short, table_there))
 
   -- what the search costs, and what the lookup does
-  pub search_costs : (word : ℕ) (new : Source) → Bounded table word old new → SearchWithinBounds files word old new
+  pub search_costs : (word : ℕ) (new : Source) → Bounded table word old new → SearchWithinBounds file_records files word old new
   search_costs word new bounded = record {
     made = bounded.made;
     few = omega (arith, bounded.few, rows_is, table_hits word);
@@ -422,7 +422,7 @@ module _ (files : List MDBFileInfo) (xorbs : List MDBXorbInfo) (form : Form) (is
   }
 
   -- a lookup reads at most the records of the files that share the first word
-  pub lookup_costs : (word : ℕ) (new : Source) (Answer : List ℕ → Type 0) → LooksUp table 48 word old new Answer → WithinBounds files word old new
+  pub lookup_costs : (word : ℕ) (new : Source) (Answer : List ℕ → Type 0) → LooksUp file_records table 48 word old new Answer → WithinBounds file_records files word old new
   lookup_costs word new Answer looks =
       let bounded = looks.bounded table_sorted in
       let visits = looks.visits.1 in
@@ -446,20 +446,20 @@ module _ (files : List MDBFileInfo) (xorbs : List MDBXorbInfo) (form : Form) (is
       }
 
   -- a lookup that answers
-  pub answered : (hash : DataHash) (new : Source) (answer : Option MDBFileInfo) → Finding table 48 hash old new answer
-      → (length (sharing hash.word0 files) < 8) × IsAnswer files hash answer
+  pub answered : (hash : DataHash) (new : Source) (answer : Option MDBFileInfo) → Finding file_records table 48 hash old new answer
+      → (length (sharing file_records hash.word0 files) < 8) × IsAnswer files hash answer
   answered hash new answer looks =
       let all = looks.are_hits.all table_sorted in
       (omega (arith, looks.few, all, table_hits hash.word0), answer_is answer looks.answer)
     where
-      answer_is : (o : Option MDBFileInfo) → LookupAnswer old.bytes 48 hash o (map (λ h. h.value) looks.found) → IsAnswer files hash o
+      answer_is : (o : Option MDBFileInfo) → LookupAnswer file_records old.bytes 48 hash o (map (λ h. h.value) looks.found) → IsAnswer files hash o
       answer_is None others = found_none hash.word0 looks.found looks.are_hits.each looks.are_hits.distinct hash refl (looks.are_hits.all table_sorted) others
       answer_is (Some r) (same, row, contains, stands) = found_is hash.word0 looks.found looks.are_hits.each looks.are_hits.distinct hash r row same contains stands
 
   -- a lookup that is refused
-  pub not_answered : (hash : DataHash) (new : Source) (e : CoreError) → FindingFails table 48 hash old new e
-      → DeviceFailure old new e ⊎ ((e ≡ OutOfMemory) × (1 ≤ length (sharing hash.word0 files)) × (length (sharing hash.word0 files) < 8))
-      ⊎ ((e ≡ TruncatedHashCollision hash.word0) × (8 ≤ length (sharing hash.word0 files)))
+  pub not_answered : (hash : DataHash) (new : Source) (e : CoreError) → FindingFails file_records table 48 hash old new e
+      → DeviceFailure old new e ⊎ ((e ≡ OutOfMemory) × (1 ≤ length (sharing file_records hash.word0 files)) × (length (sharing file_records hash.word0 files) < 8))
+      ⊎ ((e ≡ TruncatedHashCollision hash.word0) × (8 ≤ length (sharing file_records hash.word0 files)))
   not_answered hash new e (inl (inl (none, collision, collides), bounded)) =
       inr (inr (collision, omega (arith, collides.eight, hits_share hash.word0 collides.found collides.each collides.distinct)))
   not_answered hash new e (inl (inr refused, bounded)) = inl (search_answers new e refused)
@@ -469,21 +469,21 @@ module _ (files : List MDBFileInfo) (xorbs : List MDBXorbInfo) (form : Form) (is
         | inr no_memory ↦ inr (inl (no_memory, omega (arith, one, all), omega (arith, looks.few, all)))
       ]
     where
-      all : length looks.found ≡ length (sharing hash.word0 files)
+      all : length looks.found ≡ length (sharing file_records hash.word0 files)
       all = looks.are_hits.all table_sorted ∙ table_hits hash.word0
 
       one : 0 < length looks.found
       one = omega (arith, looks.answer.1.1, length-map looks.found (λ (h : Hit ℕ). h.value))
 
-  pub costs_refused : (hash : DataHash) (new : Source) (e : CoreError) → FindingFails table 48 hash old new e → WithinBounds files hash.word0 old new
+  pub costs_refused : (hash : DataHash) (new : Source) (e : CoreError) → FindingFails file_records table 48 hash old new e → WithinBounds file_records files hash.word0 old new
   costs_refused hash new e (inl (refused, bounded)) =
       let costs = search_costs hash.word0 new (bounded table_sorted) in
       record { made = costs.made; more = 0; few = costs.few; few_more = omega arith; seeks = omega (arith, costs.seeks); read = omega (arith, costs.read) }
-  costs_refused hash new e (inr looks) = lookup_costs hash.word0 new (LookupRefused 48 old new e) looks
+  costs_refused hash new e (inr looks) = lookup_costs hash.word0 new (LookupRefused file_records 48 old new e) looks
 
   -- a collision is answered after the search alone
-  pub costs_collision : (hash : DataHash) (new : Source) (e : CoreError) → FindingFails table 48 hash old new e → e ≡ TruncatedHashCollision hash.word0
-      → SearchWithinBounds files hash.word0 old new
+  pub costs_collision : (hash : DataHash) (new : Source) (e : CoreError) → FindingFails file_records table 48 hash old new e → e ≡ TruncatedHashCollision hash.word0
+      → SearchWithinBounds file_records files hash.word0 old new
   costs_collision hash new e (inl (refused, bounded)) collision = search_costs hash.word0 new (bounded table_sorted)
   costs_collision hash new e (inr looks) collision =
       elim (hits_are_read hash.word0 looks.found looks.are_hits.each looks.are_hits.distinct new e looks.answer.0 looks.answer.1 looks.answer.2) [
@@ -493,17 +493,17 @@ module _ (files : List MDBFileInfo) (xorbs : List MDBXorbInfo) (form : Form) (is
 
   -- an index lookup
   pub index_answered : (word count : ℕ) (places_old places_new : List ℕ) → IndexFinds table word places_old places_new count
-      → (length (sharing word files) < 8) × (count ≡ length (sharing word files)) × AreStarts files word (take count places_new)
+      → (length (sharing file_records word files) < 8) × (count ≡ length (sharing file_records word files)) × AreStarts file_records files word (take count places_new)
   index_answered word count places_old places_new finds =
       let all = finds.are_hits.all table_sorted in (
         omega (arith, finds.few, finds.number, all, table_hits word),
         omega (arith, finds.number, all, table_hits word),
-        subst (AreStarts files word) (sym (rows_in_front table word count places_old places_new finds))
+        subst (AreStarts file_records files word) (sym (rows_in_front table word count places_old places_new finds))
             (starts_of_hits word finds.found finds.are_hits.each finds.are_hits.distinct all),
       )
 
   pub index_not_answered : (word : ℕ) (new : Source) (e : CoreError) → IndexRefused table word old new e
-      → DeviceFailure old new e ⊎ ((e ≡ TruncatedHashCollision word) × (8 ≤ length (sharing word files)))
+      → DeviceFailure old new e ⊎ ((e ≡ TruncatedHashCollision word) × (8 ≤ length (sharing file_records word files)))
   index_not_answered word new e (inl (none, collision, collides)) =
       inr (collision, omega (arith, collides.eight, hits_share word collides.found collides.each collides.distinct))
   index_not_answered word new e (inr refused) = inl (search_answers new e refused)

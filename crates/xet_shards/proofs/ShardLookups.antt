@@ -16,6 +16,7 @@ use Rattle.xet_base.proofs.HashOrder.{hash_cmp-IsTotalOrder, hash_cmp-IsAntisymm
 use Rattle.xet_base.specs.Source.{Source}
 use Rattle.xet_records.specs.declared.file_structs.MDBFileInfo.{MDBFileInfo}
 use Rattle.xet_records.specs.FileRecord.{IsWellFormed}
+use Rattle.xet_records.specs.FileRecord.{file_records}
 use Rattle.xet_shards.specs.Shard.{Shard, IsShard, file_hash_of}
 use Rattle.xet_shards.specs.Layout.{layout, info_value, plain_form}
 use Rattle.xet_shards.specs.Lookup.{IndexFinds, IndexRefused, StartsInShard, NoStartsInShard, file_table, Finding, FindingFails, LookupAnswer, FoundInShard, NotFoundInShard, WithinBounds, SearchWithinBounds}
@@ -83,22 +84,22 @@ module _ (s : Shard) (shard : IsShard s) where
 
     -- a file lookup
     pub lookup_written : (new : Source) (hash : DataHash) (r : Result (Option MDBFileInfo) CoreError)
-        → MatchResult r (Finding table 48 hash old new) (FindingFails table 48 hash old new) → MatchResult r (FoundInShard s hash) (NotFoundInShard s hash old new)
+        → MatchResult r (Finding file_records table 48 hash old new) (FindingFails file_records table 48 hash old new) → MatchResult r (FoundInShard s hash) (NotFoundInShard s hash old new)
     lookup_written new hash (Ok answer) finding =
         let found = answered (values s.files) (values s.xorbs) (plain_form expiry) (shard_is_looked_up expiry) old are hash new answer finding in
         (found.0, map_answers hash answer found.1)
     lookup_written new hash (Err e) refused = not_answered (values s.files) (values s.xorbs) (plain_form expiry) (shard_is_looked_up expiry) old are hash new e refused
 
     pub lookup_bounded : (new : Source) (hash : DataHash) (r : Result (Option MDBFileInfo) CoreError)
-        → MatchResult r (Finding table 48 hash old new) (FindingFails table 48 hash old new) → WithinBounds (values s.files) hash.word0 old new
+        → MatchResult r (Finding file_records table 48 hash old new) (FindingFails file_records table 48 hash old new) → WithinBounds file_records (values s.files) hash.word0 old new
     lookup_bounded new hash (Ok answer) finding =
-        lookup_costs (values s.files) (values s.xorbs) (plain_form expiry) (shard_is_looked_up expiry) old are hash.word0 new (LookupAnswer old.bytes 48 hash answer) finding
+        lookup_costs (values s.files) (values s.xorbs) (plain_form expiry) (shard_is_looked_up expiry) old are hash.word0 new (LookupAnswer file_records old.bytes 48 hash answer) finding
     lookup_bounded new hash (Err e) refused =
         costs_refused (values s.files) (values s.xorbs) (plain_form expiry) (shard_is_looked_up expiry) old are hash new e refused
 
     pub collision_bounded : (new : Source) (hash : DataHash) (r : Result (Option MDBFileInfo) CoreError)
-        → MatchResult r (Finding table 48 hash old new) (FindingFails table 48 hash old new)
-        → IfErr r (λ e. e ≡ TruncatedHashCollision hash.word0 → SearchWithinBounds (values s.files) hash.word0 old new)
+        → MatchResult r (Finding file_records table 48 hash old new) (FindingFails file_records table 48 hash old new)
+        → IfErr r (λ e. e ≡ TruncatedHashCollision hash.word0 → SearchWithinBounds file_records (values s.files) hash.word0 old new)
     collision_bounded new hash (Ok answer) finding = tt
     collision_bounded new hash (Err e) refused =
         costs_collision (values s.files) (values s.xorbs) (plain_form expiry) (shard_is_looked_up expiry) old are hash new e refused
@@ -111,7 +112,7 @@ module _ (s : Shard) (shard : IsShard s) where
     index_written new word places_old places_new (Err e) finds refused =
         index_not_answered (values s.files) (values s.xorbs) (plain_form expiry) (shard_is_looked_up expiry) old are word new e refused
 
-    pub index_bounded : (new : Source) (word : ℕ) → (IsSorted table → Bounded table word old new) → SearchWithinBounds (values s.files) word old new
+    pub index_bounded : (new : Source) (word : ℕ) → (IsSorted table → Bounded table word old new) → SearchWithinBounds file_records (values s.files) word old new
     index_bounded new word bounded =
         let sorted = table_sorted (values s.files) (values s.xorbs) (plain_form expiry) (shard_is_looked_up expiry) old are in
         search_costs (values s.files) (values s.xorbs) (plain_form expiry) (shard_is_looked_up expiry) old are word new (bounded sorted)
