@@ -1,4 +1,4 @@
--- The xorb table and the chunk table in the bytes of a shard: where they stand, their widths, and that they are
+-- The tables in the bytes of a shard: where they are, their widths, and that they are
 -- read as they were written.
 use Rattle.std.proofs.Common.{◌≡◌, Bool, true, false, ℕ, ◌+◌, ◌^◌, ◌<◌, ◌≤◌, List, [], ◌∷◌, ◌++◌, map, flat_map, length, drop, Option, refl, sym, ap, ◌∙◌, subst, append_assoc, arith}
 use Rattle.std.specs.Prelude.{All}
@@ -66,23 +66,48 @@ rows_in : {X : Type 0} (b : Bool) (row : X → List ℕ) (rows : List X) → if_
 rows_in true row rows = refl
 rows_in false row rows = refl
 
--- where the tables stand
+-- where the tables are
 module _ (files : List MDBFileInfo) (xorbs : List MDBXorbInfo) (form : Form) where
+  abbrev before_file_table : List ℕ
+  before_file_table = (shard_header_bytes header_value ++ section_bytes file_records files) ++ section_bytes xorb_records xorbs
+
   abbrev before_tables : List ℕ
-  before_tables = ((shard_header_bytes header_value ++ section_bytes file_records files) ++ section_bytes xorb_records xorbs) ++ if_in form.file_table (table_bytes file_records files)
+  before_tables = before_file_table ++ if_in form.file_table (table_bytes file_records files)
 
   abbrev after_tables : List ℕ
   after_tables = shard_footer_bytes (footer_value files xorbs form)
 
+  abbrev pub after_file_table : List ℕ
+  after_file_table = if_in form.xorb_table (table_bytes xorb_records xorbs) ++ (if_in form.chunk_table (chunk_table_bytes xorbs) ++ after_tables)
+
+  length-before_file_table : length before_file_table ≡ (footer_value files xorbs form).file_lookup_offset
+  length-before_file_table =
+      length-append (shard_header_bytes header_value ++ section_bytes file_records files) (section_bytes xorb_records xorbs)
+      ∙ omega (arith, length-append (shard_header_bytes header_value) (section_bytes file_records files), length-shard_header_bytes header_value)
+
   length-before : length before_tables ≡ (footer_value files xorbs form).xorb_lookup_offset
   length-before =
-      length-append ((shard_header_bytes header_value ++ section_bytes file_records files) ++ section_bytes xorb_records xorbs) (if_in form.file_table (table_bytes file_records files))
-      ∙ omega (
+      length-append before_file_table (if_in form.file_table (table_bytes file_records files)) ∙ ap (λ n. n + length (if_in form.file_table (table_bytes file_records files))) length-before_file_table
+
+  split_at_file_table : layout_of files xorbs form ≡ before_file_table ++ (if_in form.file_table (table_bytes file_records files) ++ after_file_table)
+  unfolding layout_of
+  split_at_file_table = simp (append_assoc)
+
+  pub file_table_there : (footer_value files xorbs form).file_lookup_offset ≤ length (layout_of files xorbs form)
+  file_table_there =
+      omega (
         arith,
-        length-append (shard_header_bytes header_value ++ section_bytes file_records files) (section_bytes xorb_records xorbs),
-        length-append (shard_header_bytes header_value) (section_bytes file_records files),
-        length-shard_header_bytes header_value,
+        ap length split_at_file_table,
+        length-append before_file_table (if_in form.file_table (table_bytes file_records files) ++ after_file_table),
+        length-before_file_table,
       )
+
+  pub file_table_stands : drop (footer_value files xorbs form).file_lookup_offset (layout_of files xorbs form)
+      ≡ flat_map start_row (if_in form.file_table (starts file_records files)) ++ after_file_table
+  unfolding table_bytes
+  file_table_stands =
+      rest_is _ (layout_of files xorbs form) before_file_table (if_in form.file_table (table_bytes file_records files) ++ after_file_table) length-before_file_table split_at_file_table
+      ∙ ap (λ bs. bs ++ after_file_table) (rows_in form.file_table start_row (starts file_records files))
 
   pub xorb_table_stands : drop (footer_value files xorbs form).xorb_lookup_offset (layout_of files xorbs form)
       ≡ flat_map start_row (if_in form.xorb_table (starts xorb_records xorbs)) ++ (if_in form.chunk_table (chunk_table_bytes xorbs) ++ after_tables)
