@@ -1,4 +1,4 @@
--- The first and the last bytes of a shard tell header and footer, and those of a written shard are its own.
+-- The first and the last bytes of a shard determine header and footer, and those of a written shard are its own.
 use Rattle.std.proofs.Common.{◌≡◌, inl, inr, Ok, Err, ℕ, ◌+◌, ◌-◌, ◌^◌, ◌<◌, List, [], ◌∷◌, ◌++◌, length, flat_map, take, drop, Option, refl, sym, ap, ◌∙◌, subst, arith, take-append-drop, append-nil}
 use Rattle.std.specs.Prelude.{MatchResult}
 use Rattle.std.specs.declared.result.Result.{Result}
@@ -26,7 +26,7 @@ use Rattle.xet_shards.proofs.Layouts.{length-shard_header_bytes, length-shard_fo
 use Rattle.xet_shards.proofs.Loading.{header_of}
 use Rattle.xet_shards.proofs.Readback.{layout_from_48}
 
--- a header's bytes tell it
+-- the bytes of a header determine it
 header_unique : (g h : MDBShardFileHeader) → g.tag ≡ header_tag → h.tag ≡ header_tag → g.version ≡ 2 → h.version ≡ 2 → g.footer_size < 2 ^ 64 → h.footer_size < 2 ^ 64
     → shard_header_bytes g ≡ shard_header_bytes h → g ≡ h
 unfolding shard_header_bytes
@@ -51,7 +51,7 @@ from_right a b c d e = simp (append_assoc)
 word_len : (n : ℕ) → n < 2 ^ 64 → length (u64_bytes n) ≡ 8
 word_len n fits = length-u64_bytes n
 
--- a footer's bytes tell it
+-- the bytes of a footer determine it
 footer_unique : (f g : MDBShardFileFooter) → FitsFooter f → FitsFooter g → shard_footer_bytes f ≡ shard_footer_bytes g → f ≡ g
 unfolding shard_footer_bytes
 footer_unique f g f_fits g_fits same =
@@ -91,7 +91,7 @@ only_info bytes x y a b =
     let footer = footer_unique x.metadata y.metadata a.footer_widths b.footer_widths (sym a.footer ∙ b.footer) in
     λ i. record { header = header i; metadata = footer i }
 
--- such bytes are neither foreign nor too short
+-- such bytes are neither unsupported nor too short
 module _ (bytes : List ℕ) (info : MDBShardInfo) (ends : HasEnds bytes info) where
   header_is : HasHeader bytes
   header_is =

@@ -81,15 +81,15 @@ module _ (s : Shard) (shard : IsShard s) where
   words_ascend : (i j : ℕ) → i < j → j < length (values s.files)
       → (file_hash_of (get_or (values s.files) i no_record)).word0 ≤ (file_hash_of (get_or (values s.files) j no_record)).word0
   words_ascend i j less within =
-        let i_in : i < length (values s.files) = omega (arith, less, within) in
-        let keys = keys_of (entries s.files) in
-        let before : hash_cmp (get_or keys i no_entry.0) (get_or keys j no_entry.0) ≡ Less =
-        Less-from_sorted hash_cmp keys i j no_entry.0 (rising_keys hash_cmp (entries s.files) (entries_sorted s.files)) less
-        (omega (arith, entry_in j within, length-map (entries s.files) (λ (e : DataHash × MDBFileInfo). e.0))) in
-        let key : (k : ℕ) → k < length (values s.files) → get_or keys k no_entry.0 ≡ file_hash_of (get_or (values s.files) k no_record) =
-        λ k k_in. get_or-map (λ (e : DataHash × MDBFileInfo). e.0) (entries s.files) k no_entry no_entry.0 (entry_in k k_in) ∙ hash_of k k_in in
-        first_words_ascend (file_hash_of (get_or (values s.files) i no_record)) (file_hash_of (get_or (values s.files) j no_record))
-        ((λ k. hash_cmp (sym (key i i_in) k) (sym (key j within) k)) ∙ before)
+      let i_in : i < length (values s.files) = omega (arith, less, within) in
+      let keys = keys_of (entries s.files) in
+      let before : hash_cmp (get_or keys i no_entry.0) (get_or keys j no_entry.0) ≡ Less =
+      Less-from_sorted hash_cmp keys i j no_entry.0 (rising_keys hash_cmp (entries s.files) (entries_sorted s.files)) less
+      (omega (arith, entry_in j within, length-map (entries s.files) (λ (e : DataHash × MDBFileInfo). e.0))) in
+      let key : (k : ℕ) → k < length (values s.files) → get_or keys k no_entry.0 ≡ file_hash_of (get_or (values s.files) k no_record) =
+      λ k k_in. get_or-map (λ (e : DataHash × MDBFileInfo). e.0) (entries s.files) k no_entry no_entry.0 (entry_in k k_in) ∙ hash_of k k_in in
+      first_words_ascend (file_hash_of (get_or (values s.files) i no_record)) (file_hash_of (get_or (values s.files) j no_record))
+      ((λ k. hash_cmp (sym (key i i_in) k) (sym (key j within) k)) ∙ before)
 
   pub shard_is_looked_up : (expiry : Option ℕ) (old : Source) → old.bytes ≡ layout s expiry
       → IsLookedUp file_records no_record (values s.files) 48 (info_value s expiry).metadata.file_lookup_offset (info_value s expiry).metadata.file_lookup_num_entry old

@@ -274,7 +274,7 @@ module _ {H R : Type 0} (K : RecordKind H R) (laws : KindLaws K) (d : R) (record
     pub hits_share : length found ≤ length (sharing K word records)
     hits_share = omega (arith, sum-of_ones (λ (h : Hit ℕ). mark word h.row) found marked, sum_distinct (mark word) (length records) found distinct rows_below, sum-marks word)
 
-    -- a record that stands at the start of a hit is that of the file
+    -- a record that is at the start of a hit is the one of that row
     hit_reads : (h : Hit ℕ) (r : R) → IsHit table word IsNumber h → RecordAt K old.bytes (row_at offset h.value) r → r ≡ K.handed_out (record_at h.row)
     hit_reads h r hit stands =
         let known = hit_is word h hit in

@@ -3,7 +3,7 @@
 use Rattle.std.proofs.Common.{◌≡◌, Bool, true, false, ℕ, ◌+◌, ◌^◌, ◌<◌, ◌≤◌, List, [], ◌∷◌, ◌++◌, map, flat_map, length, drop, Option, refl, sym, ap, ◌∙◌, subst, append_assoc, arith}
 use Rattle.std.specs.Prelude.{All}
 use Rattle.std.specs.List.{enumerate_from}
-use Rattle.std.specs.FinMap.{entries, values}
+use Rattle.std.specs.FinMap.{values}
 use Rattle.std.specs.declared.result.Result.{Result}
 use Rattle.std.specs.declared.vec.Vec.{Vec}
 use Rattle.std.proofs.lemmas.List.{length-append, length-map}
@@ -12,7 +12,6 @@ use Rattle.std.proofs.lemmas.List.Folds.{flat_map-map}
 use Rattle.std.proofs.lemmas.List.Sums.{sum_by-cons, sum_by_push}
 use Rattle.xet_base.specs.declared.error.CoreError.{CoreError}
 use Rattle.xet_base.specs.Bytes.{u32_bytes, u64_bytes}
-use Rattle.xet_base.specs.declared.merklehash.DataHash.{DataHash}
 use Rattle.xet_base.specs.Source.{Source}
 use Rattle.xet_base.proofs.Bytes.{length-u32_bytes, length-u64_bytes, u32_bytes-injective, u32_bytes-front, u64_bytes-front}
 use Rattle.xet_base.proofs.Lists.{rest_is}
@@ -38,7 +37,7 @@ use Rattle.xet_shards.proofs.TableReading.{ReadsOrFails, IsReadAs, whole_table}
 use Rattle.xet_shards.proofs.Tables.{length-starts, place_total}
 use Rattle.xet_shards.proofs.XorbLayouts.{keys-alone, length-chunk_table, xorb_rows-chunks}
 
--- the bytes of a row tell it
+-- the bytes of a row determine it
 length-start : (row : ℕ × ℕ) → FitsStart row → length (start_row row) ≡ 12
 length-start row fits = length-append (u64_bytes row.0) (u32_bytes row.1) ∙ omega (arith, length-u64_bytes row.0, length-u32_bytes row.1)
 
@@ -159,7 +158,7 @@ places_fit front (x ∷ xorbs) fit few =
     (chunks_fit (total_rows xorb_records front) 0 x.chunks here.chunks (omega (arith, few)) (omega (arith, few, sum_by-cons xorb_row_count x xorbs)))
     (places_fit (front ++ x ∷ []) xorbs (All-drop FitsXorb 1 (x ∷ xorbs) fit) rest)
 
--- the tables of a list of xorbs that stands in a section
+-- the tables of a list of xorbs that may be in a section
 module _ (xorbs : List MDBXorbInfo) (fit : All FitsXorb xorbs) (few : total_rows xorb_records xorbs ≤ 4294967295) where
   pub xorb_starts_fit : All FitsStart (starts xorb_records xorbs)
   xorb_starts_fit = starts_fit xorb_records [] xorbs (λ k r below. (fit k r below).metadata.xorb_hash.word0) (λ r. omega arith) (omega (arith, few))

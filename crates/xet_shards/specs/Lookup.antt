@@ -1,4 +1,4 @@
--- Looking up a file by its hash: the file table, the records that its rows lead to, and what this costs.
+-- Looking up a record by its hash: the table of starts, the records that its rows lead to, and what this costs.
 use Rattle.std.specs.Prelude.{◌≡◌, ◌≢◌, ◌⊎◌, ◌==◌, ℕ, ◌+◌, ◌*◌, ◌/◌, ◌^◌, ◌<◌, ◌≤◌, List, ◌++◌, length, take, map, filter, flat_map, sum, drop, All, AllPairs, Contains, Option, Some, None, string_bytes, []}
 use Rattle.std.specs.List.{AllZip}
 use Rattle.std.specs.FinMap.{get, values}
@@ -21,7 +21,7 @@ use Rattle.xet_shards.specs.SectionReading.{MayTake, BeginsWithBookend, PassesLi
 abbrev pub sharing : {H R : Type 0} → RecordKind H R → ℕ → List R → List R
 sharing K word records = filter (λ r. (hash_in K r).word0 == word) records
 
--- the file table that a footer tells: the first word of a hash, and four bytes of a row number
+-- the file table at the offset that a footer gives: the first word of a hash, and four bytes of a row number
 abbrev pub file_table : MDBShardFileFooter → Source → Table
 file_table footer source = table_at source footer.file_lookup_offset footer.file_lookup_num_entry 4
 
@@ -29,31 +29,31 @@ file_table footer source = table_at source footer.file_lookup_offset footer.file
 abbrev pub IsNumber : List ℕ → ℕ → Type 0
 IsNumber bytes n = (n < 2 ^ 32) × (bytes ≡ u32_bytes n)
 
--- the place of a row of a section
+-- the offset of a row of a section
 abbrev pub row_at : ℕ → ℕ → ℕ
 row_at offset row = offset + 48 * row
 
--- a text stands at a place
+-- bytes are at an offset
 abbrev pub StandsAt : List ℕ → ℕ → List ℕ → Type 0
 StandsAt bytes place text = (rest : List ℕ) × (drop place bytes ≡ text ++ rest)
 
--- a record that stands at a place is handed out as `found`
+-- a record that is at an offset is handed out as `found`
 abbrev pub RecordAt : {H R : Type 0} → RecordKind H R → List ℕ → ℕ → R → Type 0
 RecordAt K bytes place found = ReadsRecord K (StandsAt bytes place) found
 
--- an error without a text that says that no record stands where one should
+-- an error without a text: there is no record where one should be
 abbrev pub IsBareInternalError : CoreError → Type 0
 IsBareInternalError (InternalError text) = string_bytes text ≡ []
 IsBareInternalError _ = ⊥
 
--- why the record in front of some bytes was not read: a bookend stands there, the device failed, memory was refused,
--- it has more rows than 32 bits count, or the bytes are too few
+-- why the record in front of some bytes was not read: there is a bookend, the device failed, out of memory, it has more
+-- rows than fit `u32`, or the bytes are too few
 abbrev pub RecordRefusal : {H R : Type 0} → RecordKind H R → List ℕ → Source → Source → CoreError → Type 0
 RecordRefusal K bytes old new e =
     ((new.failures ≡ old.failures) × IsBareInternalError e × BeginsWithBookend K bytes)
     ⊎ SectionFailure (PassesLimit K 4294967296) (EndsEarly K 4294967296) bytes old new e
 
--- why the record at a row was not read: its place is past 64 bits; or it is not, and the record there was not read
+-- why the record at a row was not read: its offset passes 64 bits; or it does not, and the record there was not read
 abbrev pub InfoRefusal : {H R : Type 0} → RecordKind H R → ℕ → ℕ → Source → Source → CoreError → Type 0
 InfoRefusal K offset row old new e =
     ((new.failures ≡ old.failures) × IsBareInvalidShard e × (2 ^ 64 ≤ row_at offset row))
@@ -69,7 +69,7 @@ pub record ReadsInfo {H R : Type 0} (K : RecordKind H R) (offset row : ℕ) (old
   pub read : new.read ≡ old.read + taken
   pub may_take : MayTake K (drop (row_at offset row) old.bytes) taken
 
--- it was not; the place is open
+-- it was not; the source may then be at any offset
 pub record ReadInfoFails {H R : Type 0} (K : RecordKind H R) (offset row : ℕ) (old new : Source) (e : CoreError) : Type 0 where
   pub bytes : new.bytes ≡ old.bytes
   pub seeks : new.seeks ≤ old.seeks + 1

@@ -2,12 +2,12 @@
 
 mod file_lookup;
 mod file_ranges;
+mod file_writer;
 mod footer;
 mod footer_facts;
 mod header;
 mod info;
 mod section_reader;
-mod file_writer;
 mod table_reader;
 mod truncated_hashes;
 mod writer;

@@ -11,7 +11,7 @@ ghost use Rattle.xet_shards.specs.Layout.{layout, info_value};
 ghost use Rattle.xet_shards.specs.Lookup.{StartsInShard, NoStartsInShard, FoundInShard, NotFoundInShard, WithinBounds, SearchWithinBounds, file_table, IsNumber, IndexFinds, IndexRefused, ReadsInfo, ReadInfoFails, VisitsSome, Finding, FindingFails, LookupAnswer, LookupRefused};
 
 use super::info::MDBShardInfo;
-use super::section_reader::read_file_record;
+use super::section_reader::read_record_at;
 use crate::utils::truncate_hash;
 use std::alloc::Global;
 use std::io;
@@ -68,16 +68,7 @@ impl MDBShardInfo {
             (ReadsInfo file_records self.now.metadata.file_info_offset row (S.meaning source.old) (S.meaning source.new))
             (ReadInfoFails file_records self.now.metadata.file_info_offset row (S.meaning source.old) (S.meaning source.new)) }
     {
-        let place = 48 * u64::from(row);
-        let Some(place) = self.metadata.file_info_offset.checked_add(place) else {
-            return Err(CoreError::InvalidShard(String::new(alloc)));
-        };
-        source.seek_to(place)?;
-        let mut rows_left = 1 + u64::from(u32::MAX);
-        match read_file_record(alloc, source, &mut rows_left)? {
-            Some(file_info) => Ok(file_info),
-            None => Err(CoreError::InternalError(String::new(alloc))),
-        }
+        read_record_at(alloc, source, self.metadata.file_info_offset, row)
     }
 
     /// Looks for the file with this hash: the record, or `None`.

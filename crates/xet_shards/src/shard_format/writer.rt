@@ -17,9 +17,9 @@ ghost use Rattle.xet_shards.specs.XorbStore.{shown_xorbs};
 ghost use Rattle.xet_shards.specs.Layout.{layout, footer_value, plain_form};
 ghost use Rattle.xet_shards.specs.Ends.{FitsFooter};
 
+use super::file_writer::WrittenFiles;
 use super::footer::MDBShardFileFooter;
 use super::info::MDBShardInfo;
-use super::file_writer::WrittenFiles;
 use super::xorb_writer::{ChunkPlace, WrittenXorbs};
 use crate::shard_in_memory::MDBInMemoryShard;
 use std::alloc::Global;
