@@ -2,7 +2,7 @@
 
 ghost use Rattle.std.specs.Prelude.{◌≡◌, ◌⊎◌, ◌<◌, ◌≤◌, ◌^◌, ℕ, Option, length, IfOk, IfSome, MatchResult};
 ghost use Rattle.std.specs.FinMap as finite;
-ghost use Rattle.xet_core_structures.specs.FileRecord.{FitsItsHeader};
+ghost use Rattle.xet_core_structures.specs.FileRecord.{FitsItsHeader, file_records};
 ghost use Rattle.xet_core_structures.specs.Shard.{Shard, IsShard};
 ghost use Rattle.xet_core_structures.specs.Layout.{layout};
 ghost use Rattle.xet_core_structures.specs.Lookup.{FoundInShard, sharing};
@@ -22,8 +22,8 @@ pub fn find_file(alloc: Global, bytes: &[u8], hash: &MerkleHash) -> Result<Optio
     ensures fits { IfOk result (λ found. IfSome found FitsItsHeader) }
     ensures hash { IfOk result (λ found. IfSome found (λ file. file.metadata.file_hash ≡ hash.now)) }
     ensures written { (s : Shard) → (expiry : Option ℕ) → IsShard s → IfSome expiry (λ e. e < 2 ^ 64) → bytes.now ≡ layout s expiry
-        → MatchResult result (FoundInShard s hash.now) (λ e. ((e ≡ CoreError.OutOfMemory) × (length (sharing hash.now.word0 (finite.values s.files)) < 8))
-        ⊎ ((e ≡ CoreError.TruncatedHashCollision hash.now.word0) × (8 ≤ length (sharing hash.now.word0 (finite.values s.files))))) }
+        → MatchResult result (FoundInShard s hash.now) (λ e. ((e ≡ CoreError.OutOfMemory) × (length (sharing file_records hash.now.word0 (finite.values s.files)) < 8))
+        ⊎ ((e ≡ CoreError.TruncatedHashCollision hash.now.word0) × (8 ≤ length (sharing file_records hash.now.word0 (finite.values s.files))))) }
 {
     let mut source = MemorySource::new(bytes);
     let info = MDBShardInfo::load_from_reader(alloc, &mut source)?;

@@ -3,7 +3,6 @@ pub mod ChunkQueries
 pub mod Distinct
 pub mod Ends
 pub mod EndsUnique
-pub mod FileLookups
 pub mod FileUnions
 pub mod Files
 pub mod Found
@@ -23,6 +22,7 @@ pub mod SectionUnique
 pub mod Sections
 pub mod ShardLookups
 pub mod Sums
+pub mod TableLookups
 pub mod TableOrder
 pub mod TableReading
 pub mod Tables

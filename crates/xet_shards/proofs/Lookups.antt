@@ -9,127 +9,18 @@ use Rattle.std.proofs.lemmas.List.Elements.{AllZip-push, All-nil, All-push, All-
 use Rattle.std.proofs.lemmas.List.Sums.{sum_by-append}
 use Rattle.xet_base.specs.declared.error.CoreError.{CoreError}
 use Rattle.xet_base.specs.declared.merklehash.DataHash.{DataHash}
-use Rattle.xet_shards.specs.Shard.{file_hash_of}
+use Rattle.xet_shards.specs.Tables.{hash_in}
 use Rattle.std.specs.declared.io.Error.{Error}
 use Rattle.xet_base.specs.Errors.{FromDevice}
 use Rattle.xet_base.specs.Source.{Source, Takes, Fails, moved, bytes_left}
 use Rattle.xet_base.proofs.Lists.{front_is}
 use Rattle.xet_base.proofs.Reading.{Takes-consumes}
 use Rattle.xet_base.proofs.Search.{serves_still, serves_moved, serves_advanced}
-use Rattle.xet_records.specs.declared.file_structs.MDBFileInfo.{MDBFileInfo}
-use Rattle.xet_records.specs.FileRow.{header_row}
-use Rattle.xet_records.specs.FileRecord.{file_record_bytes, file_rows_bytes, rows_after, IsStored, file_records}
+use Rattle.xet_records.specs.RecordKind.{RecordKind}
 use Rattle.xet_records.specs.Reading.{ReadsBookend}
-use Rattle.xet_records.proofs.Lengths.{length-header_row, length-file_record_bytes}
-use Rattle.xet_records.proofs.Record.{row_count-whole}
-use Rattle.xet_records.proofs.RecordKinds.{file_laws, stored_begins}
+use Rattle.xet_records.proofs.RecordKinds.{KindLaws, length-text, stored_begins}
 use Rattle.xet_shards.specs.SectionReading.{MayTake, PassesLimit, EndsEarly, SectionFailure, ReadsNext, RecordFails}
 use Rattle.xet_shards.specs.Lookup.{IsNumber, Collides, IndexFinds, VisitsSome, LooksUp, LookupAnswer, LookupRefused, Finding, FindingFails, row_at, RecordAt, IsBareInternalError, RecordRefusal, InfoRefusal, ReadsInfo, ReadInfoFails, Visits, Missed}
-
--- a stored record has the rows that its header announces, and the header
-pub length-stored : (r : MDBFileInfo) → IsStored r → length (file_record_bytes r) ≡ 48 * (1 + rows_after r.metadata)
-length-stored r stored = length-file_record_bytes r stored.widths ∙ ap (λ n. 48 * n) (row_count-whole r stored.whole)
-
--- the seek to a row failed
-pub info_no_seek : (offset row : ℕ) (old new : Source) (failure : Error) (e : CoreError) → row_at offset row < 2 ^ 64 → Fails old new 1 failure → FromDevice failure e
-    → ReadInfoFails offset row old new e
-info_no_seek offset row old new failure e fits fails is = record {
-  bytes = fails.bytes;
-  seeks = omega (arith, fails.seeks);
-  no_fewer = omega (arith, fails.seeks);
-  taken = 0;
-  read = omega (arith, fails.read);
-  may_take = inl (omega arith);
-  cause = inr (fits, inr (inl (fails.failures, failure, fails.last_failure, is)));
-}
-
--- after a seek to a row
-module _ (offset row : ℕ) (old mid new : Source) (fits : row_at offset row < 2 ^ 64) (sought : mid ≡ moved old (row_at offset row)) where
-  left_is : bytes_left mid ≡ drop (row_at offset row) old.bytes
-  left_is = ap (λ (s : Source). bytes_left s) sought
-
-  pub info_read : (left after : ℕ) (found : MDBFileInfo) → ReadsNext file_records mid new left after found → ReadsInfo offset row old new found
-  info_read left after found next =
-      let read = next.reads in
-      let are : drop (row_at offset row) old.bytes ≡ file_record_bytes read.stored ++ bytes_left new = sym left_is ∙ Takes-consumes mid new (file_record_bytes read.stored) read.taken in
-      record {
-        within = fits;
-        stands = record { stored = read.stored; is_stored = read.is_stored; rows = read.rows; taken = (bytes_left new, are); handed = read.handed };
-        serves = serves_advanced old mid new (length (file_record_bytes read.stored)) (serves_moved old old mid (row_at offset row) (serves_still old) sought) read.taken.after;
-        seeks = ap (λ (s : Source). s.seeks) read.taken.after ∙ ap (λ (s : Source). s.seeks) sought;
-        taken = length (file_record_bytes read.stored);
-        read = ap (λ (s : Source). s.read) read.taken.after ∙ ap (λ (s : Source). s.read + length (file_record_bytes read.stored)) sought;
-        may_take = inr (
-          read.stored.metadata,
-          file_rows_bytes read.stored ++ bytes_left new,
-          stored_begins file_records file_laws (drop (row_at offset row) old.bytes) read.stored (bytes_left new) read.is_stored are,
-          omega (arith, length-stored read.stored read.is_stored),
-        );
-      }
-
-  pub info_bookend : (e : CoreError) → IsBareInternalError e → ReadsBookend file_records (Takes mid new) → ReadInfoFails offset row old new e
-  info_bookend e bare read = record {
-    bytes = ap (λ (s : Source). s.bytes) read.taken.after ∙ ap (λ (s : Source). s.bytes) sought;
-    seeks = omega (arith, ap (λ (s : Source). s.seeks) read.taken.after, ap (λ (s : Source). s.seeks) sought);
-    no_fewer = omega (arith, ap (λ (s : Source). s.seeks) read.taken.after, ap (λ (s : Source). s.seeks) sought);
-    taken = 48;
-    read = omega (arith, ap (λ (s : Source). s.read) read.taken.after, ap (λ (s : Source). s.read) sought, length-header_row read.header);
-    may_take = inl (omega arith);
-    cause = inr (
-      fits,
-      inl (
-        ap (λ (s : Source). s.failures) read.taken.after ∙ ap (λ (s : Source). s.failures) sought,
-        bare,
-        record {
-          header = read.header;
-          rest = bytes_left new;
-          widths = read.widths;
-          is_bookend = read.is_bookend;
-          bytes_are = sym left_is ∙ Takes-consumes mid new (header_row read.header) read.taken;
-        },
-      ),
-    );
-  }
-
-  pub info_fails : (e : CoreError) → RecordFails file_records 4294967296 mid new e → ReadInfoFails offset row old new e
-  info_fails e fails = record {
-    bytes = fails.bytes ∙ ap (λ (s : Source). s.bytes) sought;
-    seeks = omega (arith, fails.seeks, ap (λ (s : Source). s.seeks) sought);
-    no_fewer = omega (arith, fails.seeks, ap (λ (s : Source). s.seeks) sought);
-    taken = fails.taken;
-    read = omega (arith, fails.read, ap (λ (s : Source). s.read) sought);
-    may_take = subst (λ bytes. MayTake file_records bytes fails.taken) left_is fails.may_take;
-    cause = inr (fits, inr (failure_after (PassesLimit file_records 4294967296) (EndsEarly file_records 4294967296) (drop (row_at offset row) old.bytes) (ap (λ (s : Source). s.failures) sought) (subst (λ bytes. SectionFailure (PassesLimit file_records 4294967296) (EndsEarly file_records 4294967296) bytes mid new e) left_is fails.cause)));
-  }
-    where
-      failure_after : (Passes Ends : List ℕ → Type 0) (bytes : List ℕ) → mid.failures ≡ old.failures → SectionFailure Passes Ends bytes mid new e → SectionFailure Passes Ends bytes old new e
-      failure_after Passes Ends bytes same (inl failed) = inl (failed.0 ∙ ap (λ k. k + 1) same, failed.1, failed.2, failed.3)
-      failure_after Passes Ends bytes same (inr (inl (none, no_memory))) = inr (inl (none ∙ same, no_memory))
-      failure_after Passes Ends bytes same (inr (inr (inl (none, is, passes)))) = inr (inr (inl (none ∙ same, is, passes)))
-      failure_after Passes Ends bytes same (inr (inr (inr (none, is, ends)))) = inr (inr (inr (none ∙ same, is, ends)))
-
--- one record more
-pub visits_more : (offset row n : ℕ) (rows : List ℕ) (old now new : Source) → Visits offset rows old now → new.bytes ≡ now.bytes → new.seeks ≤ now.seeks + 1
-    → now.seeks ≤ new.seeks → new.read ≤ now.read + n → MayTake file_records (drop (row_at offset row) now.bytes) n → Visits offset (rows ++ row ∷ []) old new
-visits_more offset row n rows old now new before bytes seeks no_fewer read may_take = record {
-  bytes = bytes ∙ before.bytes;
-  seeks = omega (arith, seeks, before.seeks, length-append rows (row ∷ []));
-  no_fewer = omega (arith, no_fewer, before.no_fewer);
-  taken = before.taken ++ n ∷ [];
-  may_take = AllZip-push (λ r k. MayTake file_records (drop (row_at offset r) old.bytes) k) rows before.taken row n before.may_take
-      (subst (λ bs. MayTake file_records (drop (row_at offset row) bs) n) before.bytes may_take);
-  read = omega (arith, read, before.read, sum_by-append (λ k. k) before.taken (n ∷ []));
-}
-
-pub visits_read : (offset row : ℕ) (rows : List ℕ) (old now new : Source) (found : MDBFileInfo) → Visits offset rows old now → ReadsInfo offset row now new found
-    → Visits offset (rows ++ row ∷ []) old new
-visits_read offset row rows old now new found before read =
-    visits_more offset row read.taken rows old now new before read.serves.bytes (omega (arith, read.seeks)) (omega (arith, read.seeks)) (omega (arith, read.read)) read.may_take
-
-pub visits_read_not : (offset row : ℕ) (rows : List ℕ) (old now new : Source) (e : CoreError) → Visits offset rows old now → ReadInfoFails offset row now new e
-    → Visits offset (rows ++ row ∷ []) old new
-visits_read_not offset row rows old now new e before read =
-    visits_more offset row read.taken rows old now new before read.bytes read.seeks read.no_fewer read.read read.may_take
 
 -- calls that did not fail, after others
 pub serves_after : (old now new : Source) → Serves old now → Serves now new → Serves old new
@@ -138,38 +29,6 @@ serves_after old now new first last = record {
   failures = last.failures ∙ first.failures;
   last_failure = last.last_failure ∙ first.last_failure;
 }
-
--- before the first record
-pub missed_none : (offset : ℕ) (hash : DataHash) (s : Source) → Missed offset hash [] s s
-missed_none offset hash s = record {
-  visits = record { bytes = refl; seeks = omega arith; no_fewer = omega arith; taken = []; may_take = tt; read = omega arith };
-  serves = serves_still s;
-  others = All-nil (λ row. (found : MDBFileInfo) × RecordAt s.bytes (row_at offset row) found × (file_hash_of found ≢ hash));
-}
-
--- one record more
-pub missed_more : (offset row : ℕ) (hash : DataHash) (rows : List ℕ) (old now new : Source) (found : MDBFileInfo) → Missed offset hash rows old now
-    → ReadsInfo offset row now new found → file_hash_of found ≢ hash → Missed offset hash (rows ++ row ∷ []) old new
-missed_more offset row hash rows old now new found before read other = record {
-  visits = visits_read offset row rows old now new found before.visits read;
-  serves = serves_after old now new before.serves read.serves;
-  others = All-push (λ r. (info : MDBFileInfo) × RecordAt old.bytes (row_at offset r) info × (file_hash_of info ≢ hash)) rows row before.others
-      (found, subst (λ bytes. RecordAt bytes (row_at offset row) found) before.visits.bytes read.stands, other);
-}
-
--- a refusal after reads that did not fail is one over all
-pub refusal_after : (offset row : ℕ) (old now new : Source) (e : CoreError) → now.bytes ≡ old.bytes → now.failures ≡ old.failures → InfoRefusal offset row now new e
-    → InfoRefusal offset row old new e
-refusal_after offset row old now new e bytes same (inl (none, bare, past)) = inl (none ∙ same, bare, past)
-refusal_after offset row old now new e bytes same (inr (fits, refusal)) =
-    inr (fits, later (subst (λ bs. RecordRefusal (drop (row_at offset row) bs) now new e) bytes refusal))
-  where
-    later : RecordRefusal (drop (row_at offset row) old.bytes) now new e → RecordRefusal (drop (row_at offset row) old.bytes) old new e
-    later (inl (none, bare, bookend)) = inl (none ∙ same, bare, bookend)
-    later (inr (inl failed)) = inr (inl (failed.0 ∙ ap (λ k. k + 1) same, failed.1, failed.2, failed.3))
-    later (inr (inr (inl (none, no_memory)))) = inr (inr (inl (none ∙ same, no_memory)))
-    later (inr (inr (inr (inl (none, is, passes))))) = inr (inr (inr (inl (none ∙ same, is, passes))))
-    later (inr (inr (inr (inr (none, is, ends))))) = inr (inr (inr (inr (none ∙ same, is, ends))))
 
 -- places for eight results that are all taken are eight hits
 pub collides : (t : Table) (key count : ℕ) (old new : List ℕ) → Finds t key IsNumber old new count → FitsTable t → length old ≡ 8 → length new ≡ 8 → 8 ≤ count → Collides t key
@@ -211,27 +70,165 @@ pub rows_in_front : (t : Table) (key count : ℕ) (old new : List ℕ) (finds : 
 rows_in_front t key count old new finds =
     front_is count new (map (λ (h : Hit ℕ). h.value) finds.found) (drop count old) (length-map finds.found (λ (h : Hit ℕ). h.value) ∙ finds.number) finds.written
 
--- the search answered, and the records at its rows were read
-module _ (t : Table) (offset count : ℕ) (hash : DataHash) (old mid new : Source) (places_old places_new : List ℕ)
-    (finds : IndexFinds t hash.word0 places_old places_new count) (serves : Serves old mid) (bounded : IsSorted t → Bounded t hash.word0 old mid)
-    (visits : VisitsSome offset (take count places_new) mid new) where
-  looked_up : (Answer : List ℕ → Type 0) → Answer (take count places_new) → LooksUp t offset hash.word0 old new Answer
-  looked_up Answer answer = record {
-    fits = finds.fits;
-    found = finds.found;
-    few = omega (arith, finds.few, finds.number);
-    are_hits = finds.are_hits;
-    searched = mid;
-    serves = serves;
-    bounded = bounded;
-    visits = subst (λ rows. VisitsSome offset rows mid new) (rows_in_front t hash.word0 count places_old places_new finds) visits;
-    answer = subst Answer (rows_in_front t hash.word0 count places_old places_new finds) answer;
+module _ {H R : Type 0} (K : RecordKind H R) (laws : KindLaws K) where
+  -- a stored record has the rows that its header announces, and the header
+  pub length-stored : (r : R) → K.IsStored r → length (K.text r) ≡ 48 * (1 + K.rows_after (K.header_of r))
+  length-stored r stored = length-text K laws r stored ∙ ap (λ n. 48 * n) (laws.rows r stored)
+
+  -- the seek to a row failed
+  pub info_no_seek : (offset row : ℕ) (old new : Source) (failure : Error) (e : CoreError) → row_at offset row < 2 ^ 64 → Fails old new 1 failure → FromDevice failure e
+      → ReadInfoFails K offset row old new e
+  info_no_seek offset row old new failure e fits fails is = record {
+    bytes = fails.bytes;
+    seeks = omega (arith, fails.seeks);
+    no_fewer = omega (arith, fails.seeks);
+    taken = 0;
+    read = omega (arith, fails.read);
+    may_take = inl (omega arith);
+    cause = inr (fits, inr (inl (fails.failures, failure, fails.last_failure, is)));
   }
 
-  pub finding : (answer : Option MDBFileInfo) → LookupAnswer mid.bytes offset hash answer (take count places_new) → Finding t offset hash old new answer
-  finding answer read =
-      looked_up (LookupAnswer old.bytes offset hash answer) (subst (λ bytes. LookupAnswer bytes offset hash answer (take count places_new)) serves.bytes read)
+  -- after a seek to a row
+  module _ (offset row : ℕ) (old mid new : Source) (fits : row_at offset row < 2 ^ 64) (sought : mid ≡ moved old (row_at offset row)) where
+    left_is : bytes_left mid ≡ drop (row_at offset row) old.bytes
+    left_is = ap (λ (s : Source). bytes_left s) sought
 
-  pub finding_not : (e : CoreError) → LookupRefused offset mid new e (take count places_new) → FindingFails t offset hash old new e
-  finding_not e (row, contains, refusal) =
-      inr (looked_up (LookupRefused offset old new e) (row, contains, refusal_after offset row old mid new e serves.bytes serves.failures refusal))
+    pub info_read : (left after : ℕ) (found : R) → ReadsNext K mid new left after found → ReadsInfo K offset row old new found
+    info_read left after found next =
+        let read = next.reads in
+        let are : drop (row_at offset row) old.bytes ≡ K.text read.stored ++ bytes_left new = sym left_is ∙ Takes-consumes mid new (K.text read.stored) read.taken in
+        record {
+          within = fits;
+          stands = record { stored = read.stored; is_stored = read.is_stored; rows = read.rows; taken = (bytes_left new, are); handed = read.handed };
+          serves = serves_advanced old mid new (length (K.text read.stored)) (serves_moved old old mid (row_at offset row) (serves_still old) sought) read.taken.after;
+          seeks = ap (λ (s : Source). s.seeks) read.taken.after ∙ ap (λ (s : Source). s.seeks) sought;
+          taken = length (K.text read.stored);
+          read = ap (λ (s : Source). s.read) read.taken.after ∙ ap (λ (s : Source). s.read + length (K.text read.stored)) sought;
+          may_take = inr (
+            K.header_of read.stored,
+            K.bytes_after read.stored ++ bytes_left new,
+            stored_begins K laws (drop (row_at offset row) old.bytes) read.stored (bytes_left new) read.is_stored are,
+            omega (arith, length-stored read.stored read.is_stored),
+          );
+        }
+
+    pub info_bookend : (e : CoreError) → IsBareInternalError e → ReadsBookend K (Takes mid new) → ReadInfoFails K offset row old new e
+    info_bookend e bare read = record {
+      bytes = ap (λ (s : Source). s.bytes) read.taken.after ∙ ap (λ (s : Source). s.bytes) sought;
+      seeks = omega (arith, ap (λ (s : Source). s.seeks) read.taken.after, ap (λ (s : Source). s.seeks) sought);
+      no_fewer = omega (arith, ap (λ (s : Source). s.seeks) read.taken.after, ap (λ (s : Source). s.seeks) sought);
+      taken = 48;
+      read = omega (arith, ap (λ (s : Source). s.read) read.taken.after, ap (λ (s : Source). s.read) sought, laws.header_size read.header);
+      may_take = inl (omega arith);
+      cause = inr (
+        fits,
+        inl (
+          ap (λ (s : Source). s.failures) read.taken.after ∙ ap (λ (s : Source). s.failures) sought,
+          bare,
+          record {
+            header = read.header;
+            rest = bytes_left new;
+            widths = read.widths;
+            is_bookend = read.is_bookend;
+            bytes_are = sym left_is ∙ Takes-consumes mid new (K.header_bytes read.header) read.taken;
+          },
+        ),
+      );
+    }
+
+    pub info_fails : (e : CoreError) → RecordFails K 4294967296 mid new e → ReadInfoFails K offset row old new e
+    info_fails e fails = record {
+      bytes = fails.bytes ∙ ap (λ (s : Source). s.bytes) sought;
+      seeks = omega (arith, fails.seeks, ap (λ (s : Source). s.seeks) sought);
+      no_fewer = omega (arith, fails.seeks, ap (λ (s : Source). s.seeks) sought);
+      taken = fails.taken;
+      read = omega (arith, fails.read, ap (λ (s : Source). s.read) sought);
+      may_take = subst (λ bytes. MayTake K bytes fails.taken) left_is fails.may_take;
+      cause = inr (fits, inr (failure_after (PassesLimit K 4294967296) (EndsEarly K 4294967296) (drop (row_at offset row) old.bytes) (ap (λ (s : Source). s.failures) sought) (subst (λ bytes. SectionFailure (PassesLimit K 4294967296) (EndsEarly K 4294967296) bytes mid new e) left_is fails.cause)));
+    }
+      where
+        failure_after : (Passes Ends : List ℕ → Type 0) (bytes : List ℕ) → mid.failures ≡ old.failures → SectionFailure Passes Ends bytes mid new e → SectionFailure Passes Ends bytes old new e
+        failure_after Passes Ends bytes same (inl failed) = inl (failed.0 ∙ ap (λ k. k + 1) same, failed.1, failed.2, failed.3)
+        failure_after Passes Ends bytes same (inr (inl (none, no_memory))) = inr (inl (none ∙ same, no_memory))
+        failure_after Passes Ends bytes same (inr (inr (inl (none, is, passes)))) = inr (inr (inl (none ∙ same, is, passes)))
+        failure_after Passes Ends bytes same (inr (inr (inr (none, is, ends)))) = inr (inr (inr (none ∙ same, is, ends)))
+
+  -- one record more
+  pub visits_more : (offset row n : ℕ) (rows : List ℕ) (old now new : Source) → Visits K offset rows old now → new.bytes ≡ now.bytes → new.seeks ≤ now.seeks + 1
+      → now.seeks ≤ new.seeks → new.read ≤ now.read + n → MayTake K (drop (row_at offset row) now.bytes) n → Visits K offset (rows ++ row ∷ []) old new
+  visits_more offset row n rows old now new before bytes seeks no_fewer read may_take = record {
+    bytes = bytes ∙ before.bytes;
+    seeks = omega (arith, seeks, before.seeks, length-append rows (row ∷ []));
+    no_fewer = omega (arith, no_fewer, before.no_fewer);
+    taken = before.taken ++ n ∷ [];
+    may_take = AllZip-push (λ r k. MayTake K (drop (row_at offset r) old.bytes) k) rows before.taken row n before.may_take
+        (subst (λ bs. MayTake K (drop (row_at offset row) bs) n) before.bytes may_take);
+    read = omega (arith, read, before.read, sum_by-append (λ k. k) before.taken (n ∷ []));
+  }
+
+  pub visits_read : (offset row : ℕ) (rows : List ℕ) (old now new : Source) (found : R) → Visits K offset rows old now → ReadsInfo K offset row now new found
+      → Visits K offset (rows ++ row ∷ []) old new
+  visits_read offset row rows old now new found before read =
+      visits_more offset row read.taken rows old now new before read.serves.bytes (omega (arith, read.seeks)) (omega (arith, read.seeks)) (omega (arith, read.read)) read.may_take
+
+  pub visits_read_not : (offset row : ℕ) (rows : List ℕ) (old now new : Source) (e : CoreError) → Visits K offset rows old now → ReadInfoFails K offset row now new e
+      → Visits K offset (rows ++ row ∷ []) old new
+  visits_read_not offset row rows old now new e before read =
+      visits_more offset row read.taken rows old now new before read.bytes read.seeks read.no_fewer read.read read.may_take
+
+  -- before the first record
+  pub missed_none : (offset : ℕ) (hash : DataHash) (s : Source) → Missed K offset hash [] s s
+  missed_none offset hash s = record {
+    visits = record { bytes = refl; seeks = omega arith; no_fewer = omega arith; taken = []; may_take = tt; read = omega arith };
+    serves = serves_still s;
+    others = All-nil (λ row. (found : R) × RecordAt K s.bytes (row_at offset row) found × (hash_in K found ≢ hash));
+  }
+
+  -- one record more
+  pub missed_more : (offset row : ℕ) (hash : DataHash) (rows : List ℕ) (old now new : Source) (found : R) → Missed K offset hash rows old now
+      → ReadsInfo K offset row now new found → hash_in K found ≢ hash → Missed K offset hash (rows ++ row ∷ []) old new
+  missed_more offset row hash rows old now new found before read other = record {
+    visits = visits_read offset row rows old now new found before.visits read;
+    serves = serves_after old now new before.serves read.serves;
+    others = All-push (λ r. (info : R) × RecordAt K old.bytes (row_at offset r) info × (hash_in K info ≢ hash)) rows row before.others
+        (found, subst (λ bytes. RecordAt K bytes (row_at offset row) found) before.visits.bytes read.stands, other);
+  }
+
+  -- a refusal after reads that did not fail is one over all
+  pub refusal_after : (offset row : ℕ) (old now new : Source) (e : CoreError) → now.bytes ≡ old.bytes → now.failures ≡ old.failures → InfoRefusal K offset row now new e
+      → InfoRefusal K offset row old new e
+  refusal_after offset row old now new e bytes same (inl (none, bare, past)) = inl (none ∙ same, bare, past)
+  refusal_after offset row old now new e bytes same (inr (fits, refusal)) =
+      inr (fits, later (subst (λ bs. RecordRefusal K (drop (row_at offset row) bs) now new e) bytes refusal))
+    where
+      later : RecordRefusal K (drop (row_at offset row) old.bytes) now new e → RecordRefusal K (drop (row_at offset row) old.bytes) old new e
+      later (inl (none, bare, bookend)) = inl (none ∙ same, bare, bookend)
+      later (inr (inl failed)) = inr (inl (failed.0 ∙ ap (λ k. k + 1) same, failed.1, failed.2, failed.3))
+      later (inr (inr (inl (none, no_memory)))) = inr (inr (inl (none ∙ same, no_memory)))
+      later (inr (inr (inr (inl (none, is, passes))))) = inr (inr (inr (inl (none ∙ same, is, passes))))
+      later (inr (inr (inr (inr (none, is, ends))))) = inr (inr (inr (inr (none ∙ same, is, ends))))
+
+  -- the search answered, and the records at its rows were read
+  module _ (t : Table) (offset count : ℕ) (hash : DataHash) (old mid new : Source) (places_old places_new : List ℕ)
+      (finds : IndexFinds t hash.word0 places_old places_new count) (serves : Serves old mid) (bounded : IsSorted t → Bounded t hash.word0 old mid)
+      (visits : VisitsSome K offset (take count places_new) mid new) where
+    looked_up : (Answer : List ℕ → Type 0) → Answer (take count places_new) → LooksUp K t offset hash.word0 old new Answer
+    looked_up Answer answer = record {
+      fits = finds.fits;
+      found = finds.found;
+      few = omega (arith, finds.few, finds.number);
+      are_hits = finds.are_hits;
+      searched = mid;
+      serves = serves;
+      bounded = bounded;
+      visits = subst (λ rows. VisitsSome K offset rows mid new) (rows_in_front t hash.word0 count places_old places_new finds) visits;
+      answer = subst Answer (rows_in_front t hash.word0 count places_old places_new finds) answer;
+    }
+
+    pub finding : (answer : Option R) → LookupAnswer K mid.bytes offset hash answer (take count places_new) → Finding K t offset hash old new answer
+    finding answer read =
+        looked_up (LookupAnswer K old.bytes offset hash answer) (subst (λ bytes. LookupAnswer K bytes offset hash answer (take count places_new)) serves.bytes read)
+
+    pub finding_not : (e : CoreError) → LookupRefused K offset mid new e (take count places_new) → FindingFails K t offset hash old new e
+    finding_not e (row, contains, refusal) =
+        inr (looked_up (LookupRefused K offset old new e) (row, contains, refusal_after offset row old mid new e serves.bytes serves.failures refusal))

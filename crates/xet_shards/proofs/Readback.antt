@@ -19,7 +19,7 @@ use Rattle.xet_records.proofs.RecordKinds.{KindLaws, file_laws, xorb_laws}
 use Rattle.xet_records.specs.FileRow.{header_row, clear_verification, clear_metadata}
 use Rattle.xet_records.specs.FileRecord.{file_record_bytes, file_bookend, handed_out, IsWellFormed, file_records}
 use Rattle.xet_records.specs.XorbRow.{xorb_header_row}
-use Rattle.xet_records.specs.XorbRecord.{xorb_record_bytes, xorb_bookend, IsXorb, xorb_records}
+use Rattle.xet_records.specs.XorbRecord.{xorb_record_bytes, xorb_bookend, xorb_records}
 use Rattle.xet_shards.specs.Shard.{Shard, IsShard}
 use Rattle.xet_shards.specs.Section.{section_bytes}
 use Rattle.xet_shards.specs.Tables.{table_bytes, chunk_table_bytes}
@@ -40,7 +40,7 @@ clear_ext : (o : Option FileMetadataExt) → IfSome o (λ m. m._unused ≡ 0 ∷
 clear_ext None clear = refl
 clear_ext (Some m) clear = λ i. Some (record { sha256 = m.sha256; _unused = sym clear i })
 
--- so a well-formed record is handed out as it stands
+-- so a well-formed record is handed out as it is
 pub handed_one : (r : MDBFileInfo) → IsWellFormed r → handed_out r ≡ r
 handed_one r good =
     let verification = clear_verifications r.verification good.clear_verification in

@@ -1,6 +1,6 @@
--- The contents of a shard's tables: rows of chunks in strictly ascending order, and for each record the sum of the rows
--- of those with smaller hashes.
-use Rattle.std.proofs.Common.{◌≡◌, ℕ, zero, suc, ◌+◌, ◌<◌, Bool, true, false, List, [], ◌∷◌, ◌++◌, length, map, get_or, cond, Some, refl, sym, ap, ◌∙◌, subst, append_assoc, arith}
+-- What the tables of a shard hold: places of chunks in strictly ascending order, and for each record the rows of those
+-- with smaller hashes.
+use Rattle.std.proofs.Common.{◌≡◌, ℕ, zero, suc, ◌<◌, Bool, true, false, List, [], ◌∷◌, ◌++◌, length, map, get_or, cond, Some, refl, sym, ap, ◌∙◌, subst, append_assoc, arith}
 use Rattle.std.specs.Prelude.{All, Contains, filter}
 use Rattle.std.specs.List.{AllByRecursion}
 use Rattle.std.specs.List.Sorted.{IsStrictlySortedBy}
@@ -25,7 +25,7 @@ use Rattle.xet_shards.proofs.Found.{found_entry, entry_found}
 use Rattle.xet_shards.proofs.Tables.{place_total, place_exact}
 use Rattle.xet_shards.proofs.ChunkPlaces.{alone}
 
--- a row of a list is found among its entries
+-- a place that is in a list is found among its entries
 place_found : (p d : ChunkPlace) (ps : List ChunkPlace) (i : ℕ) → i < length ps → get_or ps i d ≡ p → find place_cmp p (map alone ps) ≡ Some (tt {0})
 place_found p d [] i within here = absurd (omega (arith, within))
 place_found p d (x ∷ ps) zero within here =

@@ -1,9 +1,9 @@
--- The xorb table and the chunk table in the bytes of a shard: where they stand, their widths, and that they are
+-- The tables in the bytes of a shard: where they are, their widths, and that they are
 -- read as they were written.
 use Rattle.std.proofs.Common.{◌≡◌, Bool, true, false, ℕ, ◌+◌, ◌^◌, ◌<◌, ◌≤◌, List, [], ◌∷◌, ◌++◌, map, flat_map, length, drop, Option, refl, sym, ap, ◌∙◌, subst, append_assoc, arith}
 use Rattle.std.specs.Prelude.{All}
 use Rattle.std.specs.List.{enumerate_from}
-use Rattle.std.specs.FinMap.{entries, values}
+use Rattle.std.specs.FinMap.{values}
 use Rattle.std.specs.declared.result.Result.{Result}
 use Rattle.std.specs.declared.vec.Vec.{Vec}
 use Rattle.std.proofs.lemmas.List.{length-append, length-map}
@@ -12,7 +12,6 @@ use Rattle.std.proofs.lemmas.List.Folds.{flat_map-map}
 use Rattle.std.proofs.lemmas.List.Sums.{sum_by-cons, sum_by_push}
 use Rattle.xet_base.specs.declared.error.CoreError.{CoreError}
 use Rattle.xet_base.specs.Bytes.{u32_bytes, u64_bytes}
-use Rattle.xet_base.specs.declared.merklehash.DataHash.{DataHash}
 use Rattle.xet_base.specs.Source.{Source}
 use Rattle.xet_base.proofs.Bytes.{length-u32_bytes, length-u64_bytes, u32_bytes-injective, u32_bytes-front, u64_bytes-front}
 use Rattle.xet_base.proofs.Lists.{rest_is}
@@ -38,7 +37,7 @@ use Rattle.xet_shards.proofs.TableReading.{ReadsOrFails, IsReadAs, whole_table}
 use Rattle.xet_shards.proofs.Tables.{length-starts, place_total}
 use Rattle.xet_shards.proofs.XorbLayouts.{keys-alone, length-chunk_table, xorb_rows-chunks}
 
--- the bytes of a row tell it
+-- the bytes of a row determine it
 length-start : (row : ℕ × ℕ) → FitsStart row → length (start_row row) ≡ 12
 length-start row fits = length-append (u64_bytes row.0) (u32_bytes row.1) ∙ omega (arith, length-u64_bytes row.0, length-u32_bytes row.1)
 
@@ -66,23 +65,48 @@ rows_in : {X : Type 0} (b : Bool) (row : X → List ℕ) (rows : List X) → if_
 rows_in true row rows = refl
 rows_in false row rows = refl
 
--- where the tables stand
+-- where the tables are
 module _ (files : List MDBFileInfo) (xorbs : List MDBXorbInfo) (form : Form) where
+  abbrev before_file_table : List ℕ
+  before_file_table = (shard_header_bytes header_value ++ section_bytes file_records files) ++ section_bytes xorb_records xorbs
+
   abbrev before_tables : List ℕ
-  before_tables = ((shard_header_bytes header_value ++ section_bytes file_records files) ++ section_bytes xorb_records xorbs) ++ if_in form.file_table (table_bytes file_records files)
+  before_tables = before_file_table ++ if_in form.file_table (table_bytes file_records files)
 
   abbrev after_tables : List ℕ
   after_tables = shard_footer_bytes (footer_value files xorbs form)
 
+  abbrev pub after_file_table : List ℕ
+  after_file_table = if_in form.xorb_table (table_bytes xorb_records xorbs) ++ (if_in form.chunk_table (chunk_table_bytes xorbs) ++ after_tables)
+
+  length-before_file_table : length before_file_table ≡ (footer_value files xorbs form).file_lookup_offset
+  length-before_file_table =
+      length-append (shard_header_bytes header_value ++ section_bytes file_records files) (section_bytes xorb_records xorbs)
+      ∙ omega (arith, length-append (shard_header_bytes header_value) (section_bytes file_records files), length-shard_header_bytes header_value)
+
   length-before : length before_tables ≡ (footer_value files xorbs form).xorb_lookup_offset
   length-before =
-      length-append ((shard_header_bytes header_value ++ section_bytes file_records files) ++ section_bytes xorb_records xorbs) (if_in form.file_table (table_bytes file_records files))
-      ∙ omega (
+      length-append before_file_table (if_in form.file_table (table_bytes file_records files)) ∙ ap (λ n. n + length (if_in form.file_table (table_bytes file_records files))) length-before_file_table
+
+  split_at_file_table : layout_of files xorbs form ≡ before_file_table ++ (if_in form.file_table (table_bytes file_records files) ++ after_file_table)
+  unfolding layout_of
+  split_at_file_table = simp (append_assoc)
+
+  pub file_table_there : (footer_value files xorbs form).file_lookup_offset ≤ length (layout_of files xorbs form)
+  file_table_there =
+      omega (
         arith,
-        length-append (shard_header_bytes header_value ++ section_bytes file_records files) (section_bytes xorb_records xorbs),
-        length-append (shard_header_bytes header_value) (section_bytes file_records files),
-        length-shard_header_bytes header_value,
+        ap length split_at_file_table,
+        length-append before_file_table (if_in form.file_table (table_bytes file_records files) ++ after_file_table),
+        length-before_file_table,
       )
+
+  pub file_table_stands : drop (footer_value files xorbs form).file_lookup_offset (layout_of files xorbs form)
+      ≡ flat_map start_row (if_in form.file_table (starts file_records files)) ++ after_file_table
+  unfolding table_bytes
+  file_table_stands =
+      rest_is _ (layout_of files xorbs form) before_file_table (if_in form.file_table (table_bytes file_records files) ++ after_file_table) length-before_file_table split_at_file_table
+      ∙ ap (λ bs. bs ++ after_file_table) (rows_in form.file_table start_row (starts file_records files))
 
   pub xorb_table_stands : drop (footer_value files xorbs form).xorb_lookup_offset (layout_of files xorbs form)
       ≡ flat_map start_row (if_in form.xorb_table (starts xorb_records xorbs)) ++ (if_in form.chunk_table (chunk_table_bytes xorbs) ++ after_tables)
@@ -134,7 +158,7 @@ places_fit front (x ∷ xorbs) fit few =
     (chunks_fit (total_rows xorb_records front) 0 x.chunks here.chunks (omega (arith, few)) (omega (arith, few, sum_by-cons xorb_row_count x xorbs)))
     (places_fit (front ++ x ∷ []) xorbs (All-drop FitsXorb 1 (x ∷ xorbs) fit) rest)
 
--- the tables of a list of xorbs that stands in a section
+-- the tables of a list of xorbs that may be in a section
 module _ (xorbs : List MDBXorbInfo) (fit : All FitsXorb xorbs) (few : total_rows xorb_records xorbs ≤ 4294967295) where
   pub xorb_starts_fit : All FitsStart (starts xorb_records xorbs)
   xorb_starts_fit = starts_fit xorb_records [] xorbs (λ k r below. (fit k r below).metadata.xorb_hash.word0) (λ r. omega arith) (omega (arith, few))

@@ -11,9 +11,7 @@ use Rattle.xet_records.specs.declared.file_structs.MDBFileInfo.{MDBFileInfo}
 use Rattle.xet_records.specs.declared.xorb_structs.MDBXorbInfo.{MDBXorbInfo}
 use Rattle.xet_records.specs.declared.xorb_structs.XorbChunkSequenceEntry.{XorbChunkSequenceEntry}
 use Rattle.xet_records.specs.FileRecord.{file_records, FitsRecord}
-use Rattle.xet_records.specs.XorbRow.{xorb_header_row}
-use Rattle.xet_records.specs.XorbRecord.{xorb_records, xorb_record_bytes, xorb_row_count, xorb_bookend}
-use Rattle.xet_records.proofs.Lengths.{length-xorb_header_row, length-xorb_record_bytes}
+use Rattle.xet_records.specs.XorbRecord.{xorb_records, xorb_row_count}
 use Rattle.xet_shards.specs.Section.{total_rows, with_fronts, section_bytes}
 use Rattle.xet_shards.specs.Tables.{ChunkPlace, place_cmp, places_from, chunk_places, chunk_table, table_bytes, chunk_table_bytes}
 use Rattle.xet_shards.specs.Layout.{Form, if_in, shard_header_bytes, shard_footer_bytes, header_value, footer_value, layout_of, plain_form}

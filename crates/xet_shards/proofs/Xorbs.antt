@@ -45,7 +45,7 @@ module _ {Z : Type 0} where
 pub xorb_values : (es : List (DataHash × MDBXorbInfo)) → AreXorbs es → All IsXorb (values_of es)
 xorb_values es xorbs = All-map IsXorb (λ (e : DataHash × MDBXorbInfo). e.1) es xorbs.well_formed
 
--- each xorb has a row, and so no sum of a number of 32 bits passes 64
+-- each xorb has a row, and so no sum of numbers that fit `u32` passes `u64`
 pub xorbs_bound : (P : MDBXorbInfo → Type 0) (f : MDBXorbInfo → ℕ) → ((r : MDBXorbInfo) → P r → f r ≤ 4294967295) → (rs : List MDBXorbInfo) → All P rs
     → sum_by f rs ≤ 4294967295 * total_rows xorb_records rs
 xorbs_bound P f small [] xorbs = omega arith

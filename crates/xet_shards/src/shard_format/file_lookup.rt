@@ -5,12 +5,13 @@ ghost use Rattle.std.specs.FinMap as finite;
 ghost use Rattle.xet_base.specs.Bytes.{u32_bytes};
 ghost use Rattle.xet_base.specs.Source.{FillFails, next_bytes};
 ghost use Rattle.xet_base.specs.Table.{table_at, Finds, FitsTable, SearchRefused, hits, IsSorted, Serves, Bounded, IsEven, ReadsOn};
+ghost use Rattle.xet_records.specs.FileRecord.{file_records};
 ghost use Rattle.xet_shards.specs.Shard.{Shard, IsShard};
 ghost use Rattle.xet_shards.specs.Layout.{layout, info_value};
 ghost use Rattle.xet_shards.specs.Lookup.{StartsInShard, NoStartsInShard, FoundInShard, NotFoundInShard, WithinBounds, SearchWithinBounds, file_table, IsNumber, IndexFinds, IndexRefused, ReadsInfo, ReadInfoFails, VisitsSome, Finding, FindingFails, LookupAnswer, LookupRefused};
 
 use super::info::MDBShardInfo;
-use super::section_reader::read_file_record;
+use super::section_reader::read_record_at;
 use crate::utils::truncate_hash;
 use std::alloc::Global;
 use std::io;
@@ -45,7 +46,7 @@ impl MDBShardInfo {
         ensures written { (s : Shard) → (expiry : Option ℕ) → IsShard s → (S.meaning source.old).bytes ≡ layout s expiry → self.now ≡ info_value s expiry
             → MatchResult result (StartsInShard s hash.now.word0 dest.new) (NoStartsInShard s hash.now.word0 (S.meaning source.old) (S.meaning source.new)) }
         ensures costs { (s : Shard) → (expiry : Option ℕ) → IsShard s → (S.meaning source.old).bytes ≡ layout s expiry → self.now ≡ info_value s expiry
-            → SearchWithinBounds (finite.values s.files) hash.now.word0 (S.meaning source.old) (S.meaning source.new) }
+            → SearchWithinBounds file_records (finite.values s.files) hash.now.word0 (S.meaning source.old) (S.meaning source.new) }
     {
         let start = self.metadata.file_lookup_offset;
         let rows = self.metadata.file_lookup_num_entry;
@@ -64,19 +65,10 @@ impl MDBShardInfo {
         row: u32,
     ) -> Result<MDBFileInfo>
         ensures { MatchResult result
-            (ReadsInfo self.now.metadata.file_info_offset row (S.meaning source.old) (S.meaning source.new))
-            (ReadInfoFails self.now.metadata.file_info_offset row (S.meaning source.old) (S.meaning source.new)) }
+            (ReadsInfo file_records self.now.metadata.file_info_offset row (S.meaning source.old) (S.meaning source.new))
+            (ReadInfoFails file_records self.now.metadata.file_info_offset row (S.meaning source.old) (S.meaning source.new)) }
     {
-        let place = 48 * u64::from(row);
-        let Some(place) = self.metadata.file_info_offset.checked_add(place) else {
-            return Err(CoreError::InvalidShard(String::new(alloc)));
-        };
-        source.seek_to(place)?;
-        let mut rows_left = 1 + u64::from(u32::MAX);
-        match read_file_record(alloc, source, &mut rows_left)? {
-            Some(file_info) => Ok(file_info),
-            None => Err(CoreError::InternalError(String::new(alloc))),
-        }
+        read_record_at(alloc, source, self.metadata.file_info_offset, row)
     }
 
     /// Looks for the file with this hash: the record, or `None`.
@@ -91,17 +83,17 @@ impl MDBShardInfo {
         hash: &MerkleHash,
     ) -> Result<Option<MDBFileInfo>>
         ensures read { MatchResult result
-            (Finding (file_table self.now.metadata (S.meaning source.old)) self.now.metadata.file_info_offset hash.now (S.meaning source.old) (S.meaning source.new))
-            (FindingFails (file_table self.now.metadata (S.meaning source.old)) self.now.metadata.file_info_offset hash.now (S.meaning source.old) (S.meaning source.new)) }
+            (Finding file_records (file_table self.now.metadata (S.meaning source.old)) self.now.metadata.file_info_offset hash.now (S.meaning source.old) (S.meaning source.new))
+            (FindingFails file_records (file_table self.now.metadata (S.meaning source.old)) self.now.metadata.file_info_offset hash.now (S.meaning source.old) (S.meaning source.new)) }
         ensures serves { OnOk result (Serves (S.meaning source.old) (S.meaning source.new)) }
         ensures kept { (S.meaning source.new).bytes ≡ (S.meaning source.old).bytes }
         ensures written { (s : Shard) → (expiry : Option ℕ) → IsShard s → (S.meaning source.old).bytes ≡ layout s expiry → self.now ≡ info_value s expiry
             → MatchResult result (FoundInShard s hash.now) (NotFoundInShard s hash.now (S.meaning source.old) (S.meaning source.new)) }
         ensures costs { (s : Shard) → (expiry : Option ℕ) → IsShard s → (S.meaning source.old).bytes ≡ layout s expiry → self.now ≡ info_value s expiry
-            → WithinBounds (finite.values s.files) hash.now.word0 (S.meaning source.old) (S.meaning source.new) }
+            → WithinBounds file_records (finite.values s.files) hash.now.word0 (S.meaning source.old) (S.meaning source.new) }
         ensures collision { (s : Shard) → (expiry : Option ℕ) → IsShard s → (S.meaning source.old).bytes ≡ layout s expiry → self.now ≡ info_value s expiry
             → IfErr result (λ e. e ≡ CoreError.TruncatedHashCollision hash.now.word0
-            → SearchWithinBounds (finite.values s.files) hash.now.word0 (S.meaning source.old) (S.meaning source.new)) }
+            → SearchWithinBounds file_records (finite.values s.files) hash.now.word0 (S.meaning source.old) (S.meaning source.new)) }
     {
         self.look_up(alloc, source, hash)
     }
@@ -114,8 +106,8 @@ impl MDBShardInfo {
         hash: &MerkleHash,
     ) -> Result<Option<MDBFileInfo>>
         ensures read { MatchResult result
-            (Finding (file_table self.now.metadata (S.meaning source.old)) self.now.metadata.file_info_offset hash.now (S.meaning source.old) (S.meaning source.new))
-            (FindingFails (file_table self.now.metadata (S.meaning source.old)) self.now.metadata.file_info_offset hash.now (S.meaning source.old) (S.meaning source.new)) }
+            (Finding file_records (file_table self.now.metadata (S.meaning source.old)) self.now.metadata.file_info_offset hash.now (S.meaning source.old) (S.meaning source.new))
+            (FindingFails file_records (file_table self.now.metadata (S.meaning source.old)) self.now.metadata.file_info_offset hash.now (S.meaning source.old) (S.meaning source.new)) }
         ensures serves { OnOk result (Serves (S.meaning source.old) (S.meaning source.new)) }
         ensures kept { (S.meaning source.new).bytes ≡ (S.meaning source.old).bytes }
     {
@@ -132,10 +124,10 @@ impl MDBShardInfo {
         hash: &MerkleHash,
         rows: &[u32],
     ) -> Result<Option<MDBFileInfo>>
-        ensures answer { IfOk result (λ answer. LookupAnswer (S.meaning source.old).bytes self.now.metadata.file_info_offset hash.now answer rows.now) }
-        ensures refused { IfErr result (λ e. LookupRefused self.now.metadata.file_info_offset (S.meaning source.old) (S.meaning source.new) e rows.now) }
+        ensures answer { IfOk result (λ answer. LookupAnswer file_records (S.meaning source.old).bytes self.now.metadata.file_info_offset hash.now answer rows.now) }
+        ensures refused { IfErr result (λ e. LookupRefused file_records self.now.metadata.file_info_offset (S.meaning source.old) (S.meaning source.new) e rows.now) }
         ensures serves { OnOk result (Serves (S.meaning source.old) (S.meaning source.new)) }
-        ensures visits { VisitsSome self.now.metadata.file_info_offset rows.now (S.meaning source.old) (S.meaning source.new) }
+        ensures visits { VisitsSome file_records self.now.metadata.file_info_offset rows.now (S.meaning source.old) (S.meaning source.new) }
     {
         for row in rows {
             let file_info = self.read_file_info(alloc, source, *row)?;

@@ -16,7 +16,7 @@ ghost use Rattle.xet_shards.specs.Ends.{HasUnsupportedHeader, EndsInHeader, HasU
 
 use super::footer::{FOOTER_SIZE, MDBShardFileFooter, check_version};
 use super::header::{MDBShardFileHeader, check_tag};
-use super::section_reader::{read_file_section, read_xorb_headers, read_xorb_section};
+use super::section_reader::{read_section, read_xorb_headers};
 use super::writer::{footer_of, write_chunk_table, write_file_section, write_xorb_section};
 use crate::shard_in_memory::MDBInMemoryShard;
 use std::alloc::Global;
@@ -115,7 +115,7 @@ impl MDBShardInfo {
             → MatchResult result (λ found. found.items ≡ finite.values s.files)
             (λ e. DeviceFailure (S.meaning source.old) (S.meaning source.new) e ⊎ (e ≡ CoreError.OutOfMemory)) }
     {
-        read_file_section(alloc, source, self.metadata.file_info_offset)
+        read_section(alloc, source, self.metadata.file_info_offset)
     }
 
     /// Reads all records of the xorb section, in order.
@@ -133,7 +133,7 @@ impl MDBShardInfo {
             → MatchResult result (λ found. found.items ≡ finite.values s.xorbs)
             (λ e. DeviceFailure (S.meaning source.old) (S.meaning source.new) e ⊎ (e ≡ CoreError.OutOfMemory)) }
     {
-        read_xorb_section(alloc, source, self.metadata.xorb_info_offset)
+        read_section(alloc, source, self.metadata.xorb_info_offset)
     }
 
     /// Reads all headers of the xorb section, in order, each with its offset in the source, and no

@@ -3,9 +3,12 @@
 ghost use Rattle.std.specs.Prelude.{◌≡◌, ◌≤◌, MatchResult, MatchOption, IfOk, IfErr};
 ghost use Rattle.xet_base.specs.Source.{Takes};
 ghost use Rattle.xet_records.specs.Reading.{ReadsBookend};
+ghost use Rattle.xet_records.specs.RecordKind.{RecordKind};
 ghost use Rattle.xet_records.specs.FileRecord.{file_records};
 ghost use Rattle.xet_records.specs.XorbRecord.{xorb_records};
+ghost use Rattle.xet_records.proofs.RecordKinds.{KindLaws, file_laws, xorb_laws};
 ghost use Rattle.xet_shards.specs.SectionReading.{ReadsHeader, ReadsOne, RecordFails, ReadsSection, SectionFails};
+ghost use Rattle.xet_shards.specs.Lookup.{ReadsInfo, ReadInfoFails};
 ghost use Rattle.xet_shards.specs.XorbHeaders.{ReadsThrough, ReadsXorbHeaders};
 
 use std::alloc::Global;
@@ -15,22 +18,102 @@ use xet_records::file_structs::{FileDataSequenceHeader, MDBFileInfo, read_source
 use xet_records::rows::{read_source_row, read_source_rows, skip_source_rows};
 use xet_records::xorb_structs::{MDBXorbInfo, XorbChunkSequenceEntry, XorbChunkSequenceHeader};
 
-/// Reads the records of the file section at an offset.
-pub(super) fn read_file_section<S: ShardSource>(
+/// A record of a section: a file or a xorb.
+pub(super) trait SectionRecord {
+    ghost Header: { Type 0 };
+
+    ghost kind: { RecordKind Header Self };
+
+    ghost laws: { KindLaws kind };
+
+    /// Reads the next record of a section, or `None` at its bookend, and counts its rows down.
+    fn read_next<S: ShardSource>(
+        alloc: Global,
+        source: &mut S,
+        rows_left: &mut u64,
+    ) -> Result<Option<Self>>
+        requires { rows_left.old ≤ 4294967296 }
+        ensures read { IfOk result
+            (ReadsOne kind (S.meaning source.old) (S.meaning source.new) rows_left.old rows_left.new) }
+        ensures refused { IfErr result
+            (RecordFails kind rows_left.old (S.meaning source.old) (S.meaning source.new)) };
+}
+
+impl SectionRecord for MDBFileInfo {
+    ghost use Rattle.xet_records.specs.declared.file_structs.FileDataSequenceHeader.{FileDataSequenceHeader};
+
+    ghost Header = { FileDataSequenceHeader };
+
+    ghost kind = { file_records };
+
+    ghost laws = { file_laws };
+
+    fn read_next<S: ShardSource>(
+        alloc: Global,
+        source: &mut S,
+        rows_left: &mut u64,
+    ) -> Result<Option<MDBFileInfo>> {
+        read_file_record(alloc, source, rows_left)
+    }
+}
+
+impl SectionRecord for MDBXorbInfo {
+    ghost use Rattle.xet_records.specs.declared.xorb_structs.XorbChunkSequenceHeader.{XorbChunkSequenceHeader};
+
+    ghost Header = { XorbChunkSequenceHeader };
+
+    ghost kind = { xorb_records };
+
+    ghost laws = { xorb_laws };
+
+    fn read_next<S: ShardSource>(
+        alloc: Global,
+        source: &mut S,
+        rows_left: &mut u64,
+    ) -> Result<Option<MDBXorbInfo>> {
+        read_xorb(alloc, source, rows_left)
+    }
+}
+
+/// Reads the records of the section at an offset.
+pub(super) fn read_section<R: SectionRecord + Drop, S: ShardSource>(
     alloc: Global,
     source: &mut S,
     offset: u64,
-) -> Result<Vec<MDBFileInfo>>
-    ensures { MatchResult result (λ found. ReadsSection file_records (S.meaning source.old) (S.meaning source.new) offset found.items)
-        (SectionFails file_records (S.meaning source.old) (S.meaning source.new) offset) }
+) -> Result<Vec<R>>
+    ensures { MatchResult result
+        (λ found. ReadsSection R.kind (S.meaning source.old) (S.meaning source.new) offset found.items)
+        (SectionFails R.kind (S.meaning source.old) (S.meaning source.new) offset) }
 {
     source.seek_to(offset)?;
-    let mut files = Vec::new(alloc);
+    let mut records = Vec::new(alloc);
     let mut rows_left = u64::from(u32::MAX);
-    while let Some(file_info) = read_file_record(alloc, source, &mut rows_left)? {
-        files.push(file_info)?;
+    while let Some(next) = R::read_next(alloc, source, &mut rows_left)? {
+        records.push(next)?;
     }
-    Ok(files)
+    Ok(records)
+}
+
+/// Reads the record at a row of the section at an offset.
+pub(super) fn read_record_at<R: SectionRecord + Drop, S: ShardSource>(
+    alloc: Global,
+    source: &mut S,
+    offset: u64,
+    row: u32,
+) -> Result<R>
+    ensures { MatchResult result (ReadsInfo R.kind offset row (S.meaning source.old) (S.meaning source.new))
+        (ReadInfoFails R.kind offset row (S.meaning source.old) (S.meaning source.new)) }
+{
+    let place = 48 * u64::from(row);
+    let Some(place) = offset.checked_add(place) else {
+        return Err(CoreError::InvalidShard(String::new(alloc)));
+    };
+    source.seek_to(place)?;
+    let mut rows_left = 1 + u64::from(u32::MAX);
+    match R::read_next(alloc, source, &mut rows_left)? {
+        Some(found) => Ok(found),
+        None => Err(CoreError::InternalError(String::new(alloc))),
+    }
 }
 
 /// Reads the next record of a file section, or `None` at its bookend, and counts its rows down.
@@ -49,24 +132,6 @@ pub(super) fn read_file_record<S: ShardSource>(
         return Ok(None);
     };
     Ok(Some(read_source_rows_after(alloc, source, header)?))
-}
-
-/// Reads the records of the xorb section at an offset.
-pub(super) fn read_xorb_section<S: ShardSource>(
-    alloc: Global,
-    source: &mut S,
-    offset: u64,
-) -> Result<Vec<MDBXorbInfo>>
-    ensures { MatchResult result (λ found. ReadsSection xorb_records (S.meaning source.old) (S.meaning source.new) offset found.items)
-        (SectionFails xorb_records (S.meaning source.old) (S.meaning source.new) offset) }
-{
-    source.seek_to(offset)?;
-    let mut xorbs = Vec::new(alloc);
-    let mut rows_left = u64::from(u32::MAX);
-    while let Some(xorb) = read_xorb(alloc, source, &mut rows_left)? {
-        xorbs.push(xorb)?;
-    }
-    Ok(xorbs)
 }
 
 /// Reads the headers of the xorb section at an offset, each with its place, and reads over the chunks.

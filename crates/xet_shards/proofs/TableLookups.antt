@@ -1,0 +1,464 @@
+-- Lookups in a source that holds a section of records and a table of their starts.
+use Rattle.std.proofs.Common.{◌≡◌, ◌≢◌, ◌⊎◌, inl, inr, ◌==◌, if◌then◌else◌, ℕ, zero, suc, ◌+◌, ◌-◌, ◌*◌, ◌^◌, ◌<◌, ◌≤◌, List, [], ◌∷◌, ◌++◌, length, take, drop, map, flat_map, get_or, Option, None, Some, refl, sym, ap, ◌∙◌, subst, append_assoc, append-nil, arith}
+use Rattle.std.specs.Prelude.{All, AllPairs, sum_by, sum, Contains}
+use Rattle.std.specs.List.{AllZip}
+use Rattle.std.proofs.lemmas.List.{drop-drop, take_all, length-append, length-map, length-take, take-append-drop, get_or-map, get_or_default}
+use Rattle.std.proofs.lemmas.List.Elements.{All-take, All-map, All-contains, All-drop, All-weaker, Contains-get_or}
+use Rattle.std.proofs.lemmas.List.Sums.{sum_by-cons, sum_by-take-drop}
+use Rattle.std.proofs.lemmas.Grind.{flat_map-append}
+use Rattle.std.proofs.lemmas.Bool.{eq-eqb, cond-true}
+use Rattle.std.proofs.Math.Seq.{drop-cons}
+use Rattle.std.proofs.Math.Nat.{eq-zero-or-pos}
+use Rattle.xet_base.specs.declared.error.CoreError.{CoreError}
+use Rattle.xet_base.specs.declared.error.CoreError.TheVariants.{OutOfMemory, TruncatedHashCollision}
+use Rattle.xet_base.specs.declared.merklehash.DataHash.{DataHash}
+use Rattle.xet_base.specs.Bytes.{u32_bytes}
+use Rattle.xet_base.specs.Errors.{FromDevice, variant_number}
+use Rattle.xet_base.specs.Source.{Source, DeviceFailure}
+use Rattle.xet_base.specs.Table.{offset_of_row, table_at, hits_below, Table, row_offset, key_at, HasKey, IsSorted, hits, Hit, IsHit, OtherRow, FitsTable, SearchRefused, Bounded}
+use Rattle.xet_base.proofs.Bytes.{length-u32_bytes, u32_bytes-injective}
+use Rattle.xet_base.proofs.Lists.{rest_is}
+use Rattle.xet_base.proofs.Tables.{offset_of_row-zero}
+use Rattle.xet_base.proofs.KnownTable.{sum_below, key_is, value_is, key_is_there, row_is_there, hits_below-sum}
+use Rattle.xet_records.specs.RecordKind.{RecordKind}
+use Rattle.xet_records.proofs.Lengths.{length-texts}
+use Rattle.xet_records.proofs.RecordKinds.{KindLaws, length-text, stored_begins}
+use Rattle.xet_shards.specs.Section.{total_rows, with_fronts}
+use Rattle.xet_shards.specs.Tables.{hash_in, start_of, starts, start_row}
+use Rattle.xet_shards.specs.SectionReading.{MayTake}
+use Rattle.xet_shards.specs.Lookup.{sharing, IsNumber, row_at, RecordAt, InfoRefusal, LooksUp, LookupAnswer, LookupRefused, Finding, FindingFails, WithinBounds, SearchWithinBounds, IndexFinds, IndexRefused, AreStarts}
+use Rattle.xet_shards.proofs.Tables.{length-starts}
+use Rattle.xet_shards.proofs.Distinct.{sum_distinct, all_marked, sum_marked}
+use Rattle.xet_shards.proofs.Lookups.{length-stored, rows_in_front}
+
+-- the i-th row of a table of starts
+starts_at : {H R : Type 0} (K : RecordKind H R) (front records : List R) (i : ℕ) (d : R) (e : ℕ × ℕ) → i < length records
+    → get_or (map (start_of K) (with_fronts front records)) i e ≡ ((hash_in K (get_or records i d)).word0, total_rows K (front ++ take i records))
+starts_at K front [] i d e within = absurd (omega (arith, within))
+starts_at K front (r ∷ records) zero d e within = ap (λ rs. ((hash_in K r).word0, total_rows K rs)) (sym (append-nil front))
+starts_at K front (r ∷ records) (suc i) d e within =
+    starts_at K (front ++ r ∷ []) records i d e (omega (arith, within))
+    ∙ ap (λ rs. ((hash_in K (get_or records i d)).word0, total_rows K rs)) (append_assoc front (r ∷ []) (take i records))
+
+-- what was read at some of the rows is no more than what may be read at all of them
+sum-taken : (Takes : ℕ → ℕ → Type 0) (cost : Hit ℕ → ℕ) (found : List (Hit ℕ)) (n : ℕ) (taken : List ℕ) → All (λ h. (k : ℕ) → Takes h.value k → k ≤ cost h) found
+    → AllZip Takes (take n (map (λ h. h.value) found)) taken → sum taken ≤ sum_by cost found
+sum-taken Takes cost [] zero [] most zip = omega arith
+sum-taken Takes cost [] (suc n) [] most zip = omega arith
+sum-taken Takes cost [] zero (k ∷ taken) most zip = absurd zip
+sum-taken Takes cost [] (suc n) (k ∷ taken) most zip = absurd zip
+sum-taken Takes cost (h ∷ found) zero [] most zip = omega arith
+sum-taken Takes cost (h ∷ found) zero (k ∷ taken) most zip = absurd zip
+sum-taken Takes cost (h ∷ found) (suc n) [] most zip = absurd zip
+sum-taken Takes cost (h ∷ found) (suc n) (k ∷ taken) most zip =
+    omega (
+      arith,
+      most 0 h (omega arith) k zip.0,
+      sum_by-cons (λ (j : ℕ). j) k taken,
+      sum_by-cons cost h found,
+      sum-taken Takes cost found n taken (All-drop (λ (g : Hit ℕ). (j : ℕ) → Takes g.value j → j ≤ cost g) 1 (h ∷ found) most) zip.1,
+    )
+
+sum-lengths : {X : Type 0} (f : X → List ℕ) (xs : List X) → sum_by (λ x. length (f x)) xs ≡ length (flat_map f xs)
+sum-lengths f [] = refl
+sum-lengths f (x ∷ xs) = sum_by-cons (λ y. length (f y)) x xs ∙ omega (arith, sum-lengths f xs, length-append (f x) (flat_map f xs))
+
+-- a list of ones
+sum-of_ones : {X : Type 0} (f : X → ℕ) (xs : List X) → All (λ x. f x ≡ 1) xs → sum_by f xs ≡ length xs
+sum-of_ones f [] ones = refl
+sum-of_ones f (x ∷ xs) ones = sum_by-cons f x xs ∙ omega (arith, ones 0 x (omega arith), sum-of_ones f xs (All-drop (λ y. f y ≡ 1) 1 (x ∷ xs) ones))
+
+-- stored records, in ascending order of the first words of their hashes, with their section at an offset of a source, and
+-- a table of their starts at another; `d` is a record for where a list has none
+pub record IsLookedUp {H R : Type 0} (K : RecordKind H R) (d : R) (records : List R) (offset start count : ℕ) (old : Source) : Type 0 where
+  pub stored : All K.IsStored records
+  pub rows : total_rows K records ≤ 4294967295
+  pub few : length records ≤ total_rows K records
+  pub words : All (λ r. (hash_in K r).word0 < 2 ^ 64) records
+  pub ascend : (i j : ℕ) → i < j → j < length records → (hash_in K (get_or records i d)).word0 ≤ (hash_in K (get_or records j d)).word0
+  pub offset_fits : offset ≤ 2 ^ 48
+  pub rest : List ℕ
+  pub records_are : drop offset old.bytes ≡ flat_map K.text records ++ rest
+  pub count_is : count ≡ length records
+  pub start_fits : start ≤ 2 ^ 48
+  pub start_there : start ≤ length old.bytes
+  pub after : List ℕ
+  pub table_is : drop start old.bytes ≡ flat_map start_row (starts K records) ++ after
+
+-- the answer to a lookup among records: one with the hash, as it is handed out, or none where each has another
+abbrev pub IsAnswer : {H R : Type 0} → RecordKind H R → R → List R → DataHash → Option R → Type 0
+IsAnswer {R = R} K d records hash (Some found) = (i : ℕ) × (i < length records) × (found ≡ K.handed_out (get_or records i d)) × (hash_in K found ≡ hash)
+IsAnswer {R = R} K d records hash None = (i : ℕ) → i < length records → hash_in K (get_or records i d) ≢ hash
+
+module _ {H R : Type 0} (K : RecordKind H R) (laws : KindLaws K) (d : R) (records : List R) (offset start count : ℕ) (old : Source) (is : IsLookedUp K d records offset start count old) where
+  abbrev table : Table
+  table = table_at old start count 4
+
+  abbrev record_at : ℕ → R
+  record_at i = get_or records i d
+
+  abbrev start_at : ℕ → ℕ
+  start_at i = total_rows K (take i records)
+
+  pub rows_is : table.rows ≡ length records
+  rows_is = is.count_is
+
+  length-text_rows : (r : R) → length (K.text r) ≡ 48 + length (K.bytes_after r)
+  length-text_rows r =
+      ap length (laws.text_is r) ∙ length-append (K.header_bytes (K.header_of r)) (K.bytes_after r) ∙ ap (λ n. n + length (K.bytes_after r)) (laws.header_size (K.header_of r))
+
+  row_is : (i : ℕ) → i < length records → get_or (starts K records) i (0, 0) ≡ ((hash_in K (record_at i)).word0, start_at i)
+  row_is i within = starts_at K [] records i d (0, 0) within
+
+  abbrev word_of : ℕ × ℕ → ℕ
+  word_of row = row.0
+
+  abbrev start_bytes : ℕ × ℕ → List ℕ
+  start_bytes row = u32_bytes row.1
+
+  in_table : (i : ℕ) → i < length records → i < length (starts K records)
+  in_table i within = omega (arith, within, length-starts K records)
+
+  word_fits : (i : ℕ) → i < length records → (hash_in K (record_at i)).word0 < 2 ^ 64
+  word_fits i within = is.words i d within
+
+  pub table_key : (i : ℕ) → i < length records → key_at table i ≡ (hash_in K (record_at i)).word0
+  table_key i within =
+      let fits : word_of (get_or (starts K records) i (0, 0)) < 2 ^ 64 = omega (arith, ap word_of (row_is i within), word_fits i within) in
+      key_is word_of start_bytes 4 (λ row. length-u32_bytes row.1) table (starts K records) is.after is.table_is refl i (0, 0) (in_table i within) fits
+      ∙ ap word_of (row_is i within)
+
+  pub table_value : (i : ℕ) → i < length records → take 4 (drop (row_offset table i + 8) table.bytes) ≡ u32_bytes (start_at i)
+  table_value i within =
+      value_is word_of start_bytes 4 (λ row. length-u32_bytes row.1) table (starts K records) is.after is.table_is refl i (0, 0) (in_table i within)
+      ∙ ap start_bytes (row_is i within)
+
+  table_has_key : (i : ℕ) → i < length records → HasKey table i
+  table_has_key i within =
+      key_is_there word_of start_bytes 4 (λ row. length-u32_bytes row.1) table (starts K records) is.after is.table_is refl i (0, 0) (in_table i within)
+
+  pub table_sorted : IsSorted table
+  table_sorted i j less within there =
+      let j_in : j < length records = omega (arith, within, rows_is) in
+      let i_in : i < length records = omega (arith, less, j_in) in
+      omega (arith, table_key i i_in, table_key j j_in, is.ascend i j less j_in)
+
+  -- so many records as share the word are hits
+  abbrev mark : ℕ → ℕ → ℕ
+  mark word i = if (hash_in K (record_at i)).word0 == word then 1 else 0
+
+  sum-marks : (word : ℕ) → sum_below (mark word) (length records) ≡ length (sharing K word records)
+  sum-marks word =
+      sum_marked (λ r. (hash_in K r).word0 == word) (λ r. 1) records d (length records) (omega arith)
+      ∙ ap (λ rs. sum_by (λ (r : R). 1) (sharing K word rs)) (take_all (length records) records (omega arith)) ∙ sum-of_ones (λ (r : R). 1) (sharing K word records) (λ k d below. refl)
+
+  pub table_hits : (word : ℕ) → hits table word ≡ length (sharing K word records)
+  table_hits word =
+      ap (hits_below table word) rows_is
+      ∙ hits_below-sum table word (length records) (mark word) table_has_key (λ i within. ap (λ k. if k == word then 1 else 0) (sym (table_key i within)))
+      ∙ sum-marks word
+
+  -- the table fits 64 bits
+  pub table_fits : FitsTable table
+  unfolding offset_of_row
+  table_fits = record {
+    countable = omega (arith, rows_is, is.few, is.rows);
+    placed = omega (arith, rows_is, is.start_fits, is.few, is.rows);
+  }
+
+  pub table_there : row_offset table table.rows ≤ length table.bytes
+  table_there = elim (eq-zero-or-pos (length records)) [
+    | inl none ↦ omega (arith, ap (row_offset table) (rows_is ∙ none), offset_of_row-zero table.start 4, is.start_there)
+    | inr some ↦ omega (arith, ap (row_offset table) (rows_is ∙ last some), there (length records - 1) (omega (arith, some)))
+  ]
+    where
+      last : 0 < length records → length records ≡ length records - 1 + 1
+      last some = omega (arith, some)
+
+      there : (i : ℕ) → i < length records → row_offset table (i + 1) ≤ length table.bytes
+      there i within =
+          row_is_there word_of start_bytes 4 (λ row. length-u32_bytes row.1) table (starts K records) is.after is.table_is refl i (0, 0) (in_table i within)
+
+  -- the records stand where the table says
+  pub record_stands : (i : ℕ) → i < length records → (rest : List ℕ) × (drop (row_at offset (start_at i)) old.bytes ≡ K.text (record_at i) ++ rest)
+  record_stands i within =
+      let before = take i records in
+      let after = drop (suc i) records in
+      let whole : records ≡ before ++ record_at i ∷ after = sym (take-append-drop i records) ∙ ap (λ xs. before ++ xs) (drop-cons records i d within) in
+      let texts : flat_map K.text records ≡ flat_map K.text before ++ (K.text (record_at i) ++ flat_map K.text after) = ap (flat_map K.text) whole ∙ flat_map-append K.text before (record_at i ∷ after) in (
+        flat_map K.text after ++ is.rest,
+        sym (drop-drop (48 * start_at i) offset old.bytes)
+            ∙ ap (drop (48 * start_at i)) is.records_are
+            ∙ rest_is (48 * start_at i) (flat_map K.text records ++ is.rest) (flat_map K.text before) ((K.text (record_at i) ++ flat_map K.text after) ++ is.rest)
+            (length-texts K.text K.row_count K.IsStored (length-text K laws) before (All-take K.IsStored i records is.stored))
+            (ap (λ xs. xs ++ is.rest) texts ∙ append_assoc (flat_map K.text before) (K.text (record_at i) ++ flat_map K.text after) is.rest)
+            ∙ append_assoc (K.text (record_at i)) (flat_map K.text after) is.rest,
+      )
+
+  stored_at : (i : ℕ) → i < length records → K.IsStored (record_at i)
+  stored_at i within = is.stored i d within
+
+  -- a record that is read there is this one
+  pub record_is : (i : ℕ) (found : R) → i < length records → RecordAt K old.bytes (row_at offset (start_at i)) found → found ≡ K.handed_out (record_at i)
+  record_is i found within reads =
+      let here = record_stands i within in
+      sym reads.handed ∙ ap K.handed_out (laws.front reads.stored (record_at i) reads.taken.0 here.0 reads.is_stored (stored_at i within) (sym reads.taken.1 ∙ here.1)).0
+
+  -- a header that begins there is this record's
+  header_is : (i : ℕ) (h : H) (rest : List ℕ) (within : i < length records) → K.Fits h → drop (row_at offset (start_at i)) old.bytes ≡ K.header_bytes h ++ rest
+      → (h ≡ (K.header_of (record_at i))) × (rest ≡ K.bytes_after (record_at i) ++ (record_stands i within).0)
+  header_is i h rest within fits begins =
+      let here = record_stands i within in
+      let whole = stored_begins K laws (drop (row_at offset (start_at i)) old.bytes) (record_at i) here.0 (stored_at i within) here.1 in
+      laws.header_front h (K.header_of (record_at i)) rest (K.bytes_after (record_at i) ++ here.0) fits whole.widths (sym begins ∙ whole.bytes_are)
+
+  -- the rows of a record and of those before it
+  start_bound : (i : ℕ) → i < length records → start_at i + K.row_count (record_at i) ≤ 4294967295
+  start_bound i within =
+      omega (arith, is.rows, sum_by-take-drop K.row_count records i, ap (total_rows K) (drop-cons records i d within), sum_by-cons K.row_count (record_at i) (drop (suc i) records))
+
+  row_count_is : (i : ℕ) → i < length records → K.row_count (record_at i) ≡ 1 + K.rows_after (K.header_of (record_at i))
+  row_count_is i within = laws.rows (record_at i) (stored_at i within)
+
+  -- reading it takes no more than its text
+  pub text_is_enough : (i n : ℕ) → i < length records → MayTake K (drop (row_at offset (start_at i)) old.bytes) n → n ≤ length (K.text (record_at i))
+  text_is_enough i n within (inl few) = omega (arith, few, length-stored K laws (record_at i) (stored_at i within))
+  text_is_enough i n within (inr (h, rest, begins, most)) =
+      omega (arith, most, length-stored K laws (record_at i) (stored_at i within), ap (λ (k : H). K.rows_after k) (header_is i h rest within begins.widths begins.bytes_are).0)
+
+  -- it is read, unless the device fails or memory is refused
+  pub record_is_read : (i : ℕ) (new : Source) (e : CoreError) → i < length records → InfoRefusal K offset (start_at i) old new e → DeviceFailure old new e ⊎ (e ≡ OutOfMemory)
+  record_is_read i new e within (inl (none, bare, past)) = absurd (omega (arith, past, is.offset_fits, start_bound i within))
+  record_is_read i new e within (inr (fits, inl (none, bare, bookend))) =
+      absurd (laws.is_record (record_at i) (stored_at i within) (ap (λ (h : H). K.hash_of h) (sym (header_is i bookend.header bookend.rest within bookend.widths bookend.bytes_are).0) ∙ bookend.is_bookend))
+  record_is_read i new e within (inr (fits, inr (inl failed))) = inl failed
+  record_is_read i new e within (inr (fits, inr (inr (inl (none, no_memory))))) = inr no_memory
+  record_is_read i new e within (inr (fits, inr (inr (inr (inl (none, invalid, (h, rest, begins, past))))))) =
+      absurd (omega (arith, past, ap (λ (k : H). K.rows_after k) (header_is i h rest within begins.widths begins.bytes_are).0, start_bound i within, row_count_is i within))
+  record_is_read i new e within (inr (fits, inr (inr (inr (inr (none, ended, inl short)))))) = absurd (omega (
+    arith,
+    short,
+    ap length (record_stands i within).1,
+    length-append (K.text (record_at i)) (record_stands i within).0,
+    length-stored K laws (record_at i) (stored_at i within),
+  ))
+  record_is_read i new e within (inr (fits, inr (inr (inr (inr (none, ended, inr (h, rest, begins, few, short))))))) =
+      let same = header_is i h rest within begins.widths begins.bytes_are in
+      absurd (omega (
+        arith,
+        short,
+        ap (λ (k : H). K.rows_after k) same.0,
+        ap length same.1,
+        length-append (K.bytes_after (record_at i)) (record_stands i within).0,
+        length-stored K laws (record_at i) (stored_at i within),
+        length-text_rows (record_at i),
+      ))
+
+  -- a hit of the table: a file that shares the word, and its start
+  pub hit_is : (word : ℕ) (h : Hit ℕ) → IsHit table word IsNumber h
+      → (h.row < length records) × ((hash_in K (record_at h.row)).word0 ≡ word) × (h.value ≡ start_at h.row)
+  hit_is word h hit =
+      let within : h.row < length records = omega (arith, hit.within, rows_is) in (
+        within,
+        sym (table_key h.row within) ∙ hit.same_key,
+        u32_bytes-injective h.value (start_at h.row) hit.gives.0 (omega (arith, start_bound h.row within)) (sym hit.gives.1 ∙ table_value h.row within),
+      )
+
+  module _ (word : ℕ) (found : List (Hit ℕ)) (each : All (IsHit table word IsNumber) found) (distinct : AllPairs OtherRow found) where
+    rows_below : All (λ h. h.row < length records) found
+    rows_below = All-weaker (IsHit table word IsNumber) (λ h. h.row < length records) (λ h hit. (hit_is word h hit).0) found each
+
+    marked : All (λ h. mark word h.row ≡ 1) found
+    marked = All-weaker (IsHit table word IsNumber) (λ h. mark word h.row ≡ 1) (λ h hit. cond-true {A = ℕ} _ 1 0 (eq-eqb _ _ (hit_is word h hit).1)) found each
+
+    pub hits_share : length found ≤ length (sharing K word records)
+    hits_share = omega (arith, sum-of_ones (λ (h : Hit ℕ). mark word h.row) found marked, sum_distinct (mark word) (length records) found distinct rows_below, sum-marks word)
+
+    -- a record that is at the start of a hit is the one of that row
+    hit_reads : (h : Hit ℕ) (r : R) → IsHit table word IsNumber h → RecordAt K old.bytes (row_at offset h.value) r → r ≡ K.handed_out (record_at h.row)
+    hit_reads h r hit stands =
+        let known = hit_is word h hit in
+        record_is h.row r known.0 (subst (λ v. RecordAt K old.bytes (row_at offset v) r) known.2 stands)
+
+    pub found_is : (hash : DataHash) (r : R) (row : ℕ) → hash_in K r ≡ hash → Contains (map (λ h. h.value) found) row → RecordAt K old.bytes (row_at offset row) r
+        → IsAnswer K d records hash (Some r)
+    found_is hash r row same contains stands =
+        All-contains (λ v. RecordAt K old.bytes (row_at offset v) r → IsAnswer K d records hash (Some r)) (map (λ h. h.value) found) row
+        (All-map (λ v. RecordAt K old.bytes (row_at offset v) r → IsAnswer K d records hash (Some r)) (λ (h : Hit ℕ). h.value) found
+        (All-weaker (IsHit table word IsNumber) (λ h. RecordAt K old.bytes (row_at offset h.value) r → IsAnswer K d records hash (Some r))
+        (λ h hit at. (h.row, (hit_is word h hit).0, hit_reads h r hit at, same)) found each))
+        contains stands
+
+    pub found_none : (hash : DataHash) → hash.word0 ≡ word → length found ≡ hits table word → LookupAnswer K old.bytes offset hash None (map (λ h. h.value) found) → IsAnswer K d records hash None
+    found_none hash same_word all others i within same =
+        let one : mark word i ≡ 1 = cond-true {A = ℕ} _ 1 0 (eq-eqb _ _ (ap (λ (h : DataHash). h.word0) same ∙ same_word)) in
+        let at = all_marked (mark word) (length records) found i distinct rows_below
+        (omega (arith, sum-of_ones (λ (h : Hit ℕ). mark word h.row) found marked, sum-marks word, all, table_hits word)) within (omega (arith, one)) in
+        let no_hit : Hit ℕ = record { row = 0; value = 0 } in
+        let h = get_or found at.0 no_hit in
+        let other = subst (λ v. (r : R) × RecordAt K old.bytes (row_at offset v) r × (hash_in K r ≢ hash)) (get_or-map (λ (g : Hit ℕ). g.value) found at.0 no_hit 0 at.1)
+        (others at.0 0 (omega (arith, at.1, length-map found (λ (g : Hit ℕ). g.value)))) in
+        other.2 (ap (hash_in K) (hit_reads h other.0 (each at.0 no_hit at.1) other.1) ∙ ap K.hash_of (laws.same_header (record_at h.row)) ∙ ap (λ j. hash_in K (record_at j)) (at.2 no_hit) ∙ same)
+
+    -- their values are starts of records that share the word, and where they are all hits, all of these
+    pub starts_of_hits : length found ≡ hits table word → AreStarts K records word (map (λ h. h.value) found)
+    starts_of_hits all = (in_starts, of_starts)
+      where
+        in_starts : (row : ℕ) → Contains (map (λ (h : Hit ℕ). h.value) found) row → Contains (starts K records) (word, row)
+        in_starts row contains =
+            All-contains (λ v. Contains (starts K records) (word, v)) (map (λ (h : Hit ℕ). h.value) found) row
+            (All-map (λ v. Contains (starts K records) (word, v)) (λ (h : Hit ℕ). h.value) found
+            (All-weaker (IsHit table word IsNumber) (λ h. Contains (starts K records) (word, h.value))
+            (λ h hit. let known = hit_is word h hit in
+            subst (λ e. Contains (starts K records) e) (row_is h.row known.0 ∙ (λ k. (known.1 k, sym known.2 k)))
+            (Contains-get_or (starts K records) h.row (0, 0) (in_table h.row known.0))) found each))
+            contains
+
+        of_starts : (row : ℕ) → Contains (starts K records) (word, row) → Contains (map (λ (h : Hit ℕ). h.value) found) row
+        of_starts row (i, below, is_row) =
+            let within : i < length records = omega (arith, below, length-starts K records) in
+            let same : ((hash_in K (record_at i)).word0, start_at i) ≡ (word, row) = sym (row_is i within) ∙ get_or_default (starts K records) i (0, 0) (word, row) below ∙ is_row in
+            let one : mark word i ≡ 1 = cond-true {A = ℕ} _ 1 0 (eq-eqb _ _ (ap (λ (e : ℕ × ℕ). e.0) same)) in
+            let at = all_marked (mark word) (length records) found i distinct rows_below
+            (omega (arith, sum-of_ones (λ (h : Hit ℕ). mark word h.row) found marked, sum-marks word, all, table_hits word)) within (omega (arith, one)) in
+            let no_hit : Hit ℕ = record { row = 0; value = 0 } in
+            let values = map (λ (h : Hit ℕ). h.value) found in
+            let value : get_or values at.0 0 ≡ row =
+            get_or-map (λ (g : Hit ℕ). g.value) found at.0 no_hit 0 at.1 ∙ (hit_is word (get_or found at.0 no_hit) (each at.0 no_hit at.1)).2
+            ∙ ap start_at (at.2 no_hit) ∙ ap (λ (e : ℕ × ℕ). e.1) same in
+            subst (Contains values) value (Contains-get_or values at.0 0 (omega (arith, at.1, length-map found (λ (g : Hit ℕ). g.value))))
+
+    -- the record at one of the rows is read, unless the device fails or memory is refused
+    pub hits_are_read : (new : Source) (e : CoreError) (row : ℕ) → Contains (map (λ h. h.value) found) row → InfoRefusal K offset row old new e
+        → DeviceFailure old new e ⊎ (e ≡ OutOfMemory)
+    hits_are_read new e row contains refusal =
+        All-contains (λ v. InfoRefusal K offset v old new e → DeviceFailure old new e ⊎ (e ≡ OutOfMemory)) (map (λ h. h.value) found) row
+        (All-map (λ v. InfoRefusal K offset v old new e → DeviceFailure old new e ⊎ (e ≡ OutOfMemory)) (λ (h : Hit ℕ). h.value) found
+        (All-weaker (IsHit table word IsNumber) (λ h. InfoRefusal K offset h.value old new e → DeviceFailure old new e ⊎ (e ≡ OutOfMemory))
+        (λ h hit refused. let known = hit_is word h hit in record_is_read h.row new e known.0 (subst (λ v. InfoRefusal K offset v old new e) known.2 refused)) found each))
+        contains refusal
+
+    -- the texts of the records that were read are those of records that share the word
+    pub texts_share : (n : ℕ) (taken : List ℕ) → AllZip (λ row k. MayTake K (drop (row_at offset row) old.bytes) k) (take n (map (λ h. h.value) found)) taken
+        → sum taken ≤ length (flat_map K.text (sharing K word records))
+    texts_share n taken zip =
+        let weight : R → ℕ = λ r. length (K.text r) in
+        let f : ℕ → ℕ = λ i. if (hash_in K (record_at i)).word0 == word then weight (record_at i) else 0 in
+        let most : All (λ h. (k : ℕ) → MayTake K (drop (row_at offset h.value) old.bytes) k → k ≤ f h.row) found =
+        All-weaker (IsHit table word IsNumber) (λ h. (k : ℕ) → MayTake K (drop (row_at offset h.value) old.bytes) k → k ≤ f h.row)
+        (λ h hit k takes. let known = hit_is word h hit in omega (
+          arith,
+          cond-true {A = ℕ} _ (weight (record_at h.row)) 0 (eq-eqb _ _ known.1),
+          text_is_enough h.row k known.0 (subst (λ v. MayTake K (drop (row_at offset v) old.bytes) k) known.2 takes),
+        )) found each in
+        omega (
+          arith,
+          sum-taken (λ row k. MayTake K (drop (row_at offset row) old.bytes) k) (λ h. f h.row) found n taken most zip,
+          sum_distinct f (length records) found distinct rows_below,
+          sum_marked (λ r. (hash_in K r).word0 == word) weight records d (length records) (omega arith),
+          ap (λ rs. sum_by weight (sharing K word rs)) (take_all (length records) records (omega arith)),
+          sum-lengths K.text (sharing K word records),
+        )
+
+  -- the search is refused only where the device fails
+  pub search_answers : (new : Source) (e : CoreError) → SearchRefused table old new e → DeviceFailure old new e
+  search_answers new e (inl (bare, inl past, untouched)) = absurd (omega (arith, past, table_fits.countable))
+  search_answers new e (inl (bare, inr past, untouched)) = absurd (omega (arith, past, table_fits.placed))
+  search_answers new e (inr (fits, inl failed)) = failed
+  search_answers new e (inr (fits, inr (none, ended, short))) = absurd (omega (arith, short, table_there))
+
+  -- what the search costs, and what the lookup does
+  pub search_costs : (word : ℕ) (new : Source) → Bounded table word old new → SearchWithinBounds K records word old new
+  search_costs word new bounded = record {
+    made = bounded.made;
+    few = omega (arith, bounded.few, rows_is, table_hits word);
+    seeks = bounded.seeks;
+    read = omega (arith, bounded.read, table_hits word);
+  }
+
+  -- a lookup reads at most the records of the records that share the first word
+  pub lookup_costs : (word : ℕ) (new : Source) (Answer : List ℕ → Type 0) → LooksUp K table offset word old new Answer → WithinBounds K records word old new
+  lookup_costs word new Answer looks =
+      let bounded = looks.bounded table_sorted in
+      let visits = looks.visits.1 in
+      let n = looks.visits.0 in
+      let rows = map (λ (h : Hit ℕ). h.value) looks.found in
+      let shared = hits_share word looks.found looks.are_hits.each looks.are_hits.distinct in
+      record {
+        made = bounded.made;
+        more = new.seeks - looks.searched.seeks;
+        few = omega (arith, bounded.few, rows_is, table_hits word);
+        few_more = omega (arith, visits.seeks, shared, length-take n rows, length-map looks.found (λ (h : Hit ℕ). h.value));
+        seeks = omega (arith, visits.no_fewer, bounded.seeks);
+        read = omega (
+          arith,
+          visits.read,
+          bounded.read,
+          table_hits word,
+          texts_share word looks.found looks.are_hits.each looks.are_hits.distinct n visits.taken
+              (subst (λ bytes. AllZip (λ row k. MayTake K (drop (row_at offset row) bytes) k) (take n rows) visits.taken) looks.serves.bytes visits.may_take),
+        );
+      }
+
+  -- a lookup that answers
+  pub answered : (hash : DataHash) (new : Source) (answer : Option R) → Finding K table offset hash old new answer
+      → (length (sharing K hash.word0 records) < 8) × IsAnswer K d records hash answer
+  answered hash new answer looks =
+      let all = looks.are_hits.all table_sorted in
+      (omega (arith, looks.few, all, table_hits hash.word0), answer_is answer looks.answer)
+    where
+      answer_is : (o : Option R) → LookupAnswer K old.bytes offset hash o (map (λ h. h.value) looks.found) → IsAnswer K d records hash o
+      answer_is None others = found_none hash.word0 looks.found looks.are_hits.each looks.are_hits.distinct hash refl (looks.are_hits.all table_sorted) others
+      answer_is (Some r) (same, row, contains, stands) = found_is hash.word0 looks.found looks.are_hits.each looks.are_hits.distinct hash r row same contains stands
+
+  -- a lookup that is refused
+  pub not_answered : (hash : DataHash) (new : Source) (e : CoreError) → FindingFails K table offset hash old new e
+      → DeviceFailure old new e ⊎ ((e ≡ OutOfMemory) × (1 ≤ length (sharing K hash.word0 records)) × (length (sharing K hash.word0 records) < 8))
+      ⊎ ((e ≡ TruncatedHashCollision hash.word0) × (8 ≤ length (sharing K hash.word0 records)))
+  not_answered hash new e (inl (inl (none, collision, collides), bounded)) =
+      inr (inr (collision, omega (arith, collides.eight, hits_share hash.word0 collides.found collides.each collides.distinct)))
+  not_answered hash new e (inl (inr refused, bounded)) = inl (search_answers new e refused)
+  not_answered hash new e (inr looks) =
+      elim (hits_are_read hash.word0 looks.found looks.are_hits.each looks.are_hits.distinct new e looks.answer.0 looks.answer.1 looks.answer.2) [
+        | inl failed ↦ inl failed
+        | inr no_memory ↦ inr (inl (no_memory, omega (arith, one, all), omega (arith, looks.few, all)))
+      ]
+    where
+      all : length looks.found ≡ length (sharing K hash.word0 records)
+      all = looks.are_hits.all table_sorted ∙ table_hits hash.word0
+
+      one : 0 < length looks.found
+      one = omega (arith, looks.answer.1.1, length-map looks.found (λ (h : Hit ℕ). h.value))
+
+  pub costs_refused : (hash : DataHash) (new : Source) (e : CoreError) → FindingFails K table offset hash old new e → WithinBounds K records hash.word0 old new
+  costs_refused hash new e (inl (refused, bounded)) =
+      let costs = search_costs hash.word0 new (bounded table_sorted) in
+      record { made = costs.made; more = 0; few = costs.few; few_more = omega arith; seeks = omega (arith, costs.seeks); read = omega (arith, costs.read) }
+  costs_refused hash new e (inr looks) = lookup_costs hash.word0 new (LookupRefused K offset old new e) looks
+
+  -- a collision is answered after the search alone
+  pub costs_collision : (hash : DataHash) (new : Source) (e : CoreError) → FindingFails K table offset hash old new e → e ≡ TruncatedHashCollision hash.word0
+      → SearchWithinBounds K records hash.word0 old new
+  costs_collision hash new e (inl (refused, bounded)) collision = search_costs hash.word0 new (bounded table_sorted)
+  costs_collision hash new e (inr looks) collision =
+      elim (hits_are_read hash.word0 looks.found looks.are_hits.each looks.are_hits.distinct new e looks.answer.0 looks.answer.1 looks.answer.2) [
+        | inl failed ↦ absurd (subst (FromDevice failed.1) collision failed.3)
+        | inr no_memory ↦ absurd (omega (arith, ap variant_number (sym no_memory ∙ collision)))
+      ]
+
+  -- an index lookup
+  pub index_answered : (word count : ℕ) (places_old places_new : List ℕ) → IndexFinds table word places_old places_new count
+      → (length (sharing K word records) < 8) × (count ≡ length (sharing K word records)) × AreStarts K records word (take count places_new)
+  index_answered word count places_old places_new finds =
+      let all = finds.are_hits.all table_sorted in (
+        omega (arith, finds.few, finds.number, all, table_hits word),
+        omega (arith, finds.number, all, table_hits word),
+        subst (AreStarts K records word) (sym (rows_in_front table word count places_old places_new finds))
+            (starts_of_hits word finds.found finds.are_hits.each finds.are_hits.distinct all),
+      )
+
+  pub index_not_answered : (word : ℕ) (new : Source) (e : CoreError) → IndexRefused table word old new e
+      → DeviceFailure old new e ⊎ ((e ≡ TruncatedHashCollision word) × (8 ≤ length (sharing K word records)))
+  index_not_answered word new e (inl (none, collision, collides)) =
+      inr (collision, omega (arith, collides.eight, hits_share word collides.found collides.each collides.distinct))
+  index_not_answered word new e (inr refused) = inl (search_answers new e refused)
