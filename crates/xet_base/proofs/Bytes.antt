@@ -1,4 +1,4 @@
--- The bytes of numbers and hashes: how many they are, and that they tell the number.
+-- The bytes of numbers and hashes: how many they are, and that they determine the number.
 use Rattle.std.proofs.Common.{◌≡◌, ℕ, ◌*◌, ◌<◌, ◌^◌, List, [], ◌∷◌, ◌++◌, length, flat_map, refl, sym, ap, ◌∙◌, arith}
 use Rattle.std.specs.Int.{from_le_bytes, w32, w64}
 use Rattle.std.proofs.lemmas.List.{length-append}
@@ -48,7 +48,7 @@ length-numbers bytes size len [] = omega arith
 length-numbers bytes size len (n ∷ ns) =
     length-append (bytes n) (flat_map bytes ns) ∙ omega (arith, len n, length-numbers bytes size len ns, mul-suc size (length ns))
 
--- the bytes tell the hash
+-- the bytes determine the hash
 pub hash_bytes-injective : (a b : DataHash) → IsHash a → IsHash b → hash_bytes a ≡ hash_bytes b → a ≡ b
 unfolding hash_bytes
 hash_bytes-injective a b a_fits b_fits same =

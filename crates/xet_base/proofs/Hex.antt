@@ -112,7 +112,7 @@ pub lowered-hash_hex : (hash : DataHash) → str_to_ascii_lowercase (hash_hex ha
 unfolding hash_hex
 lowered-hash_hex hash = simp (map-append {A = ℕ} {B = ℕ}, digits_are_low)
 
--- and the text tells the hash
+-- and the text determines the hash
 pub hash_hex-injective : (a b : DataHash) → IsHash a → IsHash b → hash_hex a ≡ hash_hex b → a ≡ b
 unfolding hash_hex
 hash_hex-injective a b a_fits b_fits same =

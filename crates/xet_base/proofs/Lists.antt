@@ -28,7 +28,7 @@ take-put_mid_part at k n xs ys at_in n_in =
     ap (λ m. take (m + n) (put_mid at k xs ys)) (sym len) ∙ take-append-add (take at xs) (ys ++ post_of at k xs) n
     ∙ ap (λ zs. take at xs ++ zs) (take-append-le n ys (post_of at k xs) n_in)
 
--- elements whose bytes have one length and tell them: so many of them at the front of a list are told by it
+-- elements whose bytes have one length and determine them: the first elements of a list are determined by its bytes
 module _ {T : Type 0} (size : ℕ) (bytes : T → List ℕ) (Fits : T → Type 0) (len : (t : T) → Fits t → length (bytes t) ≡ size)
     (tells : (s t : T) → Fits s → Fits t → bytes s ≡ bytes t → s ≡ t) where
   pub parts_front : (ss ts : List T) (x y : List ℕ) → length ss ≡ length ts → All Fits ss → All Fits ts

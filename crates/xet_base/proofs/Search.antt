@@ -55,7 +55,7 @@ key_read t i old mid new (Err e) same within sought fails = record {
       (omega (arith, ap (λ s. s.at) sought, row_within t i within)) fails.cause;
 }
 
--- a range of these numbers is the table that they tell
+-- a range of these numbers is the table that they determine
 abbrev pub IsRange : TableRange → ℕ → ℕ → ℕ → Type 0
 IsRange range start rows width = (range.start ≡ start) × (range.rows ≡ rows) × (range.width ≡ width)
 

@@ -1,4 +1,4 @@
--- The places of a table's rows, and how many of the first rows hold a key.
+-- The offsets of a table's rows, and how many of the first rows hold a key.
 use Rattle.std.proofs.Common.{◌≡◌, ◌≢◌, inl, inr, ◌&&◌, ◌==◌, if◌then◌else◌, nat_le, ℕ, zero, suc, ◌+◌, ◌-◌, ◌*◌, ◌<◌, ◌≤◌, length, refl, ap, ◌∙◌, add-one, add-zero, arith}
 use Rattle.std.proofs.lemmas.Bool.{le-leb, lt-leb, eq-eqb, ne_eqb, and_from, and_left, and_right, cond-true, cond-false, cases_lt}
 use Rattle.std.proofs.Math.Nat.{add-mul, mul-le-mul_right, eq-or-lt_of_le}

@@ -10,12 +10,12 @@ u32_bytes n = to_le_bytes w32 n
 unfoldable pub u64_bytes : ℕ → List ℕ
 u64_bytes n = to_le_bytes w64 n
 
--- a reader has at least n bytes, where its bytes are known
+-- a reader has at least n bytes, if its bytes are known
 abbrev pub HasBytes : Option (List ℕ) → ℕ → Type 0
 HasBytes None n = ⊤
 HasBytes (Some bytes) n = n ≤ length bytes
 
--- a reader has fewer than n bytes, where its bytes are known
+-- a reader has fewer than n bytes, if its bytes are known
 abbrev pub LacksBytes : Option (List ℕ) → ℕ → Type 0
 LacksBytes None n = ⊤
 LacksBytes (Some bytes) n = length bytes < n

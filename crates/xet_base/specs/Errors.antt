@@ -28,7 +28,7 @@ variant_number (HashParsing _) = 16
 variant_number ChunkHeaderParse = 17
 variant_number OutOfMemory = 18
 
--- what a device's error becomes: `OutOfMemory` where that is its kind, else `Io` of it
+-- what a device's error becomes: `OutOfMemory` if that is its kind, else `Io` of it
 abbrev pub FromDevice : Error → CoreError → Type 0
 FromDevice e OutOfMemory = error_kind e ≡ no_memory
 FromDevice e (Io f) = (f ≡ e) × (error_kind e ≢ no_memory)
@@ -45,28 +45,28 @@ abbrev pub IsEndOfInput : CoreError → Type 0
 IsEndOfInput (Io e) = error_kind e ≡ UnexpectedEof
 IsEndOfInput _ = ⊥
 
--- the bytes are no shard
+-- the bytes are not a valid shard
 abbrev pub IsInvalidShard : CoreError → Type 0
 IsInvalidShard (InvalidShard _) = ⊤
 IsInvalidShard _ = ⊥
 
--- a foreign tag or version
+-- an unsupported tag or version
 abbrev pub IsShardVersion : CoreError → Type 0
 IsShardVersion (ShardVersion _) = ⊤
 IsShardVersion _ = ⊥
 
--- the same without a text
+-- the same without a message
 abbrev pub IsBareShardVersion : CoreError → Type 0
 IsBareShardVersion (ShardVersion text) = string_bytes text ≡ []
 IsBareShardVersion _ = ⊥
 
--- `Other` of this text, or no memory for it
+-- `Other` of this text, or out of memory
 abbrev pub IsOtherText : List ℕ → CoreError → Type 0
 IsOtherText text (Other s) = string_bytes s ≡ text
 IsOtherText text OutOfMemory = ⊤
 IsOtherText text _ = ⊥
 
--- `InvalidShard` of this text, or no memory for it
+-- `InvalidShard` of this text, or out of memory
 abbrev pub IsInvalidShardText : List ℕ → CoreError → Type 0
 IsInvalidShardText text (InvalidShard s) = string_bytes s ≡ text
 IsInvalidShardText text OutOfMemory = ⊤

@@ -38,7 +38,7 @@ pub record FindsFrom {V : Type 0} (t : Table) (key : ℕ) (Gives : List ℕ → 
   pub finds : Finds t key Gives old new count
   pub rows : All (λ hit. from ≤ hit.row) finds.found
 
--- of `had` results and the rows with the key from `from` to before `to`, as many are kept as there are places
+-- of `had` results and the rows with the key from `from` to before `to`, as many are kept as fit
 abbrev pub Counts : Table → ℕ → ℕ → ℕ → ℕ → ℕ → ℕ → Type 0
 Counts t key from to places had count = count + hits_below t key from ≡ min (had + hits_below t key to) (places + hits_below t key from)
 

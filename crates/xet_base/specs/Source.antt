@@ -7,7 +7,7 @@ use Rattle.xet_base.specs.declared.error.CoreError.{CoreError}
 use Rattle.xet_base.specs.declared.error.CoreError.TheVariants.{OutOfMemory}
 use Rattle.xet_base.specs.Errors.{FromDevice, IsEndOfInput}
 
--- the bytes, the place of the next read, the seeks made, the bytes read and the failures so far, and the latest failure
+-- the bytes, the position of the next read, the seeks made, the bytes read and the failures so far, and the latest failure
 pub record Source : Type 0 where
   pub bytes : List ℕ
   pub at : ℕ
@@ -36,7 +36,7 @@ pub record ReadsSome (old new : Source) (slice : List ℕ) (n : ℕ) : Type 0 wh
   pub end : n ≡ 0 → 0 < length slice → length old.bytes ≤ old.at
   pub after : new ≡ advanced old n
 
--- the device failed; the place is open
+-- the device failed; the position afterwards is unspecified
 pub record Fails (old new : Source) (made : ℕ) (e : Error) : Type 0 where
   pub bytes : new.bytes ≡ old.bytes
   pub seeks : new.seeks ≡ old.seeks + made
@@ -44,11 +44,11 @@ pub record Fails (old new : Source) (made : ℕ) (e : Error) : Type 0 where
   pub failures : new.failures ≡ old.failures + 1
   pub last_failure : new.last_failure ≡ Some e
 
--- the bytes from the source's place on
+-- the bytes from the source's position on
 abbrev pub bytes_left : Source → List ℕ
 bytes_left s = drop s.at s.bytes
 
--- these bytes were read, from the source's place on
+-- these bytes were read, from the source's position on
 pub record Takes (old new : Source) (taken : List ℕ) : Type 0 where
   pub within : 0 < length taken → old.at + length taken ≤ length old.bytes
   pub there : taken ≡ next_bytes old (length taken)
@@ -60,7 +60,7 @@ FillFailure old new n e =
     ((new.failures ≡ old.failures + 1) × (new.last_failure ≡ Some e))
     ⊎ ((new.failures ≡ old.failures) × (error_kind e ≡ UnexpectedEof) × (length old.bytes < old.at + n))
 
--- a slice of n bytes, which is not empty, was not filled; the place is open
+-- a slice of n bytes, which is not empty, was not filled; the position afterwards is unspecified
 pub record FillFails (old new : Source) (n : ℕ) (e : Error) : Type 0 where
   pub some : 0 < n
   pub bytes : new.bytes ≡ old.bytes
@@ -73,14 +73,14 @@ abbrev pub DeviceFailure : Source → Source → CoreError → Type 0
 DeviceFailure old new e =
     (new.failures ≡ old.failures + 1) × (failure : Error) × (new.last_failure ≡ Some failure) × FromDevice failure e
 
--- a read of n bytes was refused: by the device, whose own error it is, or by the end of the bytes
+-- a read of n bytes failed: the device failed, with its own error, or the bytes ended
 abbrev pub ReadFailure : Source → Source → ℕ → CoreError → Type 0
 ReadFailure old new n e =
     DeviceFailure old new e
     ⊎ ((new.failures ≡ old.failures) × IsEndOfInput e × (length old.bytes < old.at + n))
 
--- reading up to n bytes, at least one, was refused, by the device, by the end of the bytes or for want of memory; the
--- place is open
+-- reading up to n bytes, at least one, failed: the device failed, the bytes ended, or memory ran out; the position
+-- afterwards is unspecified
 pub record ReadFails (old new : Source) (n : ℕ) (e : CoreError) : Type 0 where
   pub some : 0 < n
   pub bytes : new.bytes ≡ old.bytes

@@ -11,7 +11,7 @@ use Rattle.xet_base.specs.declared.error.CoreError.TheVariants.{InvalidShard}
 use Rattle.xet_base.specs.Errors.{IsEndOfInput}
 use Rattle.xet_base.specs.Source.{Source, advanced, next_bytes, FillFails, DeviceFailure}
 
--- the bytes of the source, the place of the first row, the number of rows and the bytes of a value
+-- the bytes of the source, the offset of the first row, the number of rows and the bytes of a value
 pub record Table : Type 0 where
   pub bytes : List ℕ
   pub start : ℕ
@@ -21,7 +21,7 @@ pub record Table : Type 0 where
 abbrev pub table_at : Source → ℕ → ℕ → ℕ → Table
 table_at source start rows width = record { bytes = source.bytes; start = start; rows = rows; width = width }
 
--- the place of row i, counted from 0
+-- the offset of row i, counted from 0
 unfoldable pub offset_of_row : ℕ → ℕ → ℕ → ℕ
 offset_of_row start width i = start + i * (8 + width)
 
@@ -87,7 +87,7 @@ pub record Finds {V : Type 0} (t : Table) (key : ℕ) (Gives : List ℕ → V �
   pub distinct : AllPairs OtherRow found
   pub written : new ≡ map (λ hit. hit.value) found ++ drop count old
 
--- places and row numbers of the table fit 64 bits
+-- offsets and row numbers of the table fit `u64`
 pub record FitsTable (t : Table) : Type 0 where
   pub countable : t.rows + 1 < 2 ^ 64
   pub placed : row_offset t t.rows < 2 ^ 64
@@ -107,7 +107,7 @@ TableFailure t old new e =
     ((new.failures ≡ old.failures + 1) × (new.last_failure ≡ Some e))
     ⊎ ((new.failures ≡ old.failures) × (error_kind e ≡ UnexpectedEof) × (length old.bytes < row_offset t t.rows))
 
--- an error without a text that says that the bytes are no shard
+-- `InvalidShard` without a message
 abbrev pub IsBareInvalidShard : CoreError → Type 0
 IsBareInvalidShard (InvalidShard text) = string_bytes text ≡ []
 IsBareInvalidShard _ = ⊥

@@ -15,7 +15,7 @@ use thiserror::Error;
 #[derive(Clone, Copy)]
 pub enum Infallible {}
 
-/// Why a call was refused. Two errors are equal exactly if their variants are.
+/// Why a call failed. Two errors are equal exactly if their variants are.
 #[derive(Drop, Error)]
 pub enum CoreError {
     /// The input ended too early (`UnexpectedEof`), or a device failed.
@@ -40,7 +40,7 @@ pub enum CoreError {
     QueryFailed(String),
     #[error("Smudge query policy error: {0}")]
     SmudgeQueryPolicy(String),
-    /// The bytes are no shard.
+    /// The bytes are not a valid shard.
     #[error("Invalid shard: {0}")]
     InvalidShard(String),
     #[error("Invalid range")]
@@ -56,16 +56,16 @@ pub enum CoreError {
     HashParsing(Infallible),
     #[error("Chunk header parse error")]
     ChunkHeaderParse,
-    /// A growth was refused, here or by a device.
+    /// Out of memory, here or in a device.
     #[error("Out of memory")]
     OutOfMemory,
 }
 
-/// The result of a call that [`CoreError`] can refuse.
+/// The result of a call that may fail with [`CoreError`].
 pub type Result<T> = std::result::Result<T, CoreError>;
 
 impl CoreError {
-    /// `Other` of `text`, or `OutOfMemory` where the text finds no memory.
+    /// `Other` of `text`, or `OutOfMemory` if the text fails to allocate.
     pub fn other(alloc: Global, text: &str) -> CoreError
         ensures { IsOtherText text.now result }
     {
@@ -75,7 +75,7 @@ impl CoreError {
         }
     }
 
-    /// `InvalidShard` of `text`, or `OutOfMemory` where the text finds no memory.
+    /// `InvalidShard` of `text`, or `OutOfMemory` if the text fails to allocate.
     pub fn invalid_shard(alloc: Global, text: &str) -> CoreError
         ensures { IsInvalidShardText text.now result }
     {
@@ -85,14 +85,14 @@ impl CoreError {
         }
     }
 
-    /// `Other` with the text of the parse error, or `OutOfMemory` where that finds no memory.
+    /// `Other` with the message of the parse error, or `OutOfMemory` if that fails to allocate.
     pub fn of_bytes_error(alloc: Global, _error: DataHashBytesParseError) -> CoreError
         ensures { IsOtherText (codes "a hash has 32 bytes") result }
     {
         CoreError::other(alloc, "a hash has 32 bytes")
     }
 
-    /// `Other` with the text of the parse error, or `OutOfMemory` where that finds no memory.
+    /// `Other` with the message of the parse error, or `OutOfMemory` if that fails to allocate.
     pub fn of_hex_error(alloc: Global, _error: DataHashHexParseError) -> CoreError
         ensures { IsOtherText (codes "the text of a hash has 64 hexadecimal digits") result }
     {
@@ -199,7 +199,7 @@ impl<T: Drop> From<AllocFailed<T>> for CoreError {
     }
 }
 
-/// What a result becomes where malformed data is no error but no value.
+/// Turns malformed data from an error into the absence of a value.
 pub trait Validate<T> {
     ghost validates: { Self → CoreResult (Option T) → Type 0 };
 

@@ -15,17 +15,17 @@ use std::io;
 use table_range::TableRange;
 use window::Window;
 
-/// Looks in a sorted table for the rows with this key, and puts their values at the front of `results`, as
-/// many as find room. Returns how many these are.
+/// Looks in a sorted table for the rows with this key, and writes their values to the front of `results`, as
+/// many as fit. Returns how many it wrote.
 ///
 /// The table has `num_entries` rows from byte `read_start` of the source on: a key of eight bytes, lowest byte
-/// first, and a value of `value_width` bytes, which `read_value` reads. Takes no memory. Each result is the
-/// value of a row of its own that has the key, also where the table is not sorted. On an even table of fewer
+/// first, and a value of `value_width` bytes, which `read_value` reads. Does not allocate. Each result is the
+/// value of a different row with the key, even if the table is not sorted. On an even table of fewer
 /// than `u32::MAX` rows, where row i, counted from 1, has the key `i * (u64::MAX / (num_entries + 1))`, it makes
 /// at most three seeks.
 ///
-/// `InvalidShard` where `num_entries + 1` or the table's end is past 64 bits, `UnexpectedEof` where the source
-/// ends before the table does. With no place for a result it reads nothing and returns 0.
+/// `InvalidShard` if `num_entries + 1` or the table's end does not fit `u64`, `UnexpectedEof` if the source
+/// ends before the table does. If `results` is empty it reads nothing and returns 0.
 pub fn search_on_sorted_u64s<S: ShardSource, V: Default + Copy, F: Fn(&mut S) -> io::Result<V>>(
     alloc: Global,
     source: &mut S,
@@ -65,7 +65,7 @@ pub fn search_on_sorted_u64s<S: ShardSource, V: Default + Copy, F: Fn(&mut S) ->
     Ok(search_rows(source, range, key, &read_value, results)?)
 }
 
-// Searches a table whose places fit 64 bits. The window counts rows from 1, all else from 0.
+// Searches a table whose offsets fit `u64`. The window counts rows from 1, all else from 0.
 fn search_rows<S: ShardSource, V: Copy, F: Fn(&mut S) -> io::Result<V>>(
     source: &mut S,
     range: TableRange,
@@ -232,7 +232,7 @@ fn read_key_of<S: ShardSource>(source: &mut S, range: TableRange, row: u64) -> i
     read_key(source)
 }
 
-// Reads a key from the source's place on.
+// Reads a key at the source's position.
 #[tactic(auto, unfolding(crate::specs::Table::spelled_u64))]
 fn read_key<S: ShardSource>(source: &mut S) -> io::Result<u64>
     ensures { MatchResult result

@@ -1,4 +1,4 @@
-//! Hashes, errors, little-endian codecs and sources: what every layer of the shard format stands on.
+//! Hashes, errors, little-endian codecs and sources: the base of every layer of the shard format.
 #![tactic(auto)]
 
 pub mod count;

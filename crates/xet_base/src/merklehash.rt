@@ -44,7 +44,7 @@ pub struct DataHashBytesParseError;
 #[error("the text of a hash has 64 hexadecimal digits")]
 pub struct DataHashHexParseError;
 
-/// One chunk hash in so many is kept by the global index.
+/// The global index keeps one chunk hash in this many.
 pub const MDB_SHARD_GLOBAL_DEDUP_CHUNK_MODULUS: u64 = 1024;
 
 /// Whether the global index keeps a chunk with this hash.
@@ -155,7 +155,7 @@ impl DataHash {
     }
 
     /// Each word as 16 lower-case hexadecimal digits, most significant first, words in order.
-    /// `OutOfMemory` where the text finds none.
+    /// May fail with `OutOfMemory`.
     #[tactic(auto, unfolding(crate::specs::Hex::hash_hex))]
     pub fn hex(&self, alloc: Global) -> Result<String>
         ensures text { IfOk result (λ text. string_bytes text ≡ hash_hex self.now) }

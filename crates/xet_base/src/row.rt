@@ -6,7 +6,7 @@ ghost use Rattle.xet_base.specs.Hash.{hash_bytes};
 
 use crate::merklehash::MerkleHash;
 
-/// Writes `bytes` into `row` at `at`, and returns the place after them.
+/// Writes `bytes` into `row` at `at`, and returns the offset after them.
 pub fn put(row: &mut [u8], at: usize, bytes: &[u8]) -> usize
     requires { at + length bytes.now ≤ length row.old }
     ensures end { result ≡ at + length bytes.now }
@@ -17,7 +17,7 @@ pub fn put(row: &mut [u8], at: usize, bytes: &[u8]) -> usize
     end
 }
 
-/// Writes the 32 bytes of `hash` into `row` at `at`, and returns the place after them.
+/// Writes the 32 bytes of `hash` into `row` at `at`, and returns the offset after them.
 pub fn put_hash(row: &mut [u8], at: usize, hash: &MerkleHash) -> usize
     requires { at + 32 ≤ length row.old }
     ensures end { result ≡ at + 32 }
@@ -26,7 +26,7 @@ pub fn put_hash(row: &mut [u8], at: usize, hash: &MerkleHash) -> usize
     put(row, at, &hash.as_bytes())
 }
 
-/// Writes four bytes of `value` into `row` at `at`, lowest first, and returns the place after them.
+/// Writes four bytes of `value` into `row` at `at`, lowest first, and returns the offset after them.
 #[tactic(auto, unfolding(crate::specs::Bytes::u32_bytes))]
 pub fn put_u32(row: &mut [u8], at: usize, value: u32) -> usize
     requires { at + 4 ≤ length row.old }
@@ -36,7 +36,7 @@ pub fn put_u32(row: &mut [u8], at: usize, value: u32) -> usize
     put(row, at, &value.to_le_bytes())
 }
 
-/// Writes eight bytes of `value` into `row` at `at`, lowest first, and returns the place after them.
+/// Writes eight bytes of `value` into `row` at `at`, lowest first, and returns the offset after them.
 #[tactic(auto, unfolding(crate::specs::Bytes::u64_bytes))]
 pub fn put_u64(row: &mut [u8], at: usize, value: u64) -> usize
     requires { at + 8 ≤ length row.old }

@@ -1,6 +1,6 @@
 //! Little-endian codecs of numbers and hashes over readers and writers.
 //!
-//! A reader that knows its bytes gives `UnexpectedEof` only where fewer bytes were left than the call
+//! A reader that knows its bytes gives `UnexpectedEof` only if fewer bytes were left than the call
 //! reads, and no value there. A read that is interrupted is tried again.
 
 ghost use Rattle.std.specs.Prelude.{◌≡◌, ◌*◌, ◌∷◌, [], length, take, flat_map, OnOk, IfOk, IfErr, ◌≢◌};
@@ -147,7 +147,7 @@ pub fn read_bytes<R: Read>(reader: &mut R, slice: &mut [u8]) -> io::Result<()>
     Err(io::Error::from(ErrorKind::TimedOut))
 }
 
-/// Reads four bytes for each place of `values`, lowest byte first.
+/// Reads four bytes for each element of `values`, lowest byte first.
 pub fn read_u32s<R: Read>(reader: &mut R, values: &mut [u32]) -> io::Result<()>
     ensures value { OnOk result
         (Consumes (R.remaining reader.old) (R.remaining reader.new) (flat_map u32_bytes values.new)) }
@@ -161,7 +161,7 @@ pub fn read_u32s<R: Read>(reader: &mut R, values: &mut [u32]) -> io::Result<()>
     Ok(())
 }
 
-/// Reads eight bytes for each place of `values`, lowest byte first.
+/// Reads eight bytes for each element of `values`, lowest byte first.
 pub fn read_u64s<R: Read>(reader: &mut R, values: &mut [u64]) -> io::Result<()>
     ensures value { OnOk result
         (Consumes (R.remaining reader.old) (R.remaining reader.new) (flat_map u64_bytes values.new)) }

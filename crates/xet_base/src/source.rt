@@ -1,4 +1,4 @@
-//! Sources of bytes that are read at any place, and that contracts count the cost of.
+//! Sources of bytes that are read at any offset. Contracts count their seeks and the bytes read.
 
 ghost use Rattle.std.specs.Prelude.{◌≡◌, ℕ, length, MatchResult, None};
 ghost use Rattle.xet_base.specs.Source.{Source, ReadsSome, Fails, Takes, FillFails, moved};
@@ -7,7 +7,7 @@ use crate::count::Count;
 use std::io;
 use std::io::ErrorKind;
 
-/// Bytes with a place to read from. Contracts see the bytes, the place, the seeks made, the bytes read,
+/// Bytes with a read position. Contracts see the bytes, the position, the seeks made, the bytes read,
 /// the failures so far and the latest failure.
 pub trait ShardSource {
     ghost meaning: { Self → Source };
@@ -23,20 +23,20 @@ pub trait ShardSource {
             (λ n. (n ≡ length (meaning self.old).bytes) × (meaning self.new ≡ meaning self.old))
             (Fails (meaning self.old) (meaning self.new) 0) };
 
-    /// The place of the next read, in bytes from the start.
+    /// The position of the next read, in bytes from the start.
     fn position(&mut self) -> io::Result<u64>
         ensures { MatchResult result
             (λ n. (n ≡ (meaning self.old).at) × (meaning self.new ≡ meaning self.old))
             (Fails (meaning self.old) (meaning self.new) 0) };
 
-    /// Moves the place of the next read. A place past the end is allowed; reads there find the end.
+    /// Sets the position of the next read. It may be past the end; reads there return 0 bytes.
     fn seek_to(&mut self, to: u64) -> io::Result<()>
         ensures { MatchResult result (λ _. meaning self.new ≡ moved (meaning self.old) to)
             (Fails (meaning self.old) (meaning self.new) 1) };
 }
 
-/// Fills `slice` from the source's place on. `UnexpectedEof` where fewer bytes are left; the device's
-/// own error at its first failure, also where that is `Interrupted`. Makes no seek.
+/// Fills `slice` from the source's position on. `UnexpectedEof` if fewer bytes are left; the device's
+/// own error at its first failure, even if that is `Interrupted`. Makes no seek.
 pub fn read_full<S: ShardSource>(source: &mut S, slice: &mut [u8]) -> io::Result<()>
     ensures { MatchResult result (λ _. Takes (S.meaning source.old) (S.meaning source.new) slice.new)
         (FillFails (S.meaning source.old) (S.meaning source.new) (length slice.old)) }

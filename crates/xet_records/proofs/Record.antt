@@ -1,4 +1,4 @@
--- The text of a record: its length, and what its header tells of the bytes that begin with it.
+-- The bytes of a record: their number, and what its header says of bytes that begin with it.
 use Rattle.std.proofs.Common.{◌≡◌, ℕ, ◌+◌, ◌*◌, List, ◌++◌, length, Bool, true, false, Option, None, Some, refl, sym, ap, ◌∙◌, arith, if◌then◌else◌}
 use Rattle.std.specs.Prelude.{option_to_list, is_some}
 use Rattle.std.proofs.lemmas.List.{length-append}
@@ -19,7 +19,7 @@ pub row_or_none : (b : Bool) → (if b then 48 else 0) ≡ 48 * (if b then 1 els
 row_or_none true = refl
 row_or_none false = refl
 
--- the bytes tell the header
+-- the bytes determine the header
 pub header_row-injective : (g h : FileDataSequenceHeader) → FitsHeader g → FitsHeader h → header_row g ≡ header_row h → g ≡ h
 unfolding header_row
 header_row-injective g h g_fits h_fits same =

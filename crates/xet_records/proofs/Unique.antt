@@ -1,4 +1,4 @@
--- Bytes begin with the text of one record at most.
+-- Bytes begin with the bytes of one record at most.
 use Rattle.std.proofs.Common.{◌≡◌, ℕ, ◌^◌, ◌<◌, List, [], ◌∷◌, ◌++◌, flat_map, Bool, Option, None, Some, refl, sym, ap, ◌∙◌, if◌then◌else◌}
 use Rattle.std.specs.Prelude.{All, IfSome, is_some, option_to_list}
 use Rattle.std.proofs.lemmas.List.{length-append, append_assoc}
@@ -18,7 +18,7 @@ use Rattle.xet_records.specs.FileRecord.{file_record_bytes, file_rows_bytes, has
 use Rattle.xet_records.proofs.Lengths.{length-segment_row, length-verification_row, length-metadata_row}
 use Rattle.xet_records.proofs.Record.{header_row-front, optional_rows}
 
--- the bytes of a hash and of four numbers of 32 bits tell them
+-- the bytes of a hash and of four 32-bit numbers determine them
 pub hash_and_numbers : (g h : DataHash) (a b c d k l m n : ℕ) → IsHash g → IsHash h → a < 2 ^ 32 → b < 2 ^ 32 → c < 2 ^ 32 → d < 2 ^ 32 → k < 2 ^ 32 → l < 2 ^ 32 → m < 2 ^ 32 → n < 2 ^ 32
     → (((hash_bytes g ++ u32_bytes a) ++ u32_bytes c) ++ u32_bytes k) ++ u32_bytes m ≡ (((hash_bytes h ++ u32_bytes b) ++ u32_bytes d) ++ u32_bytes l) ++ u32_bytes n
     → (g ≡ h) × ((a ≡ b) × ((c ≡ d) × ((k ≡ l) × (m ≡ n))))
@@ -35,7 +35,7 @@ hash_and_numbers g h a b c d k l m n g_fits h_fits a_fits b_fits c_fits d_fits k
       ),
     )
 
--- the bytes tell the row
+-- the bytes determine the row
 pub segment_row-injective : (s t : FileDataSequenceEntry) → FitsSegment s → FitsSegment t → segment_row s ≡ segment_row t → s ≡ t
 unfolding segment_row
 segment_row-injective s t s_fits t_fits same =

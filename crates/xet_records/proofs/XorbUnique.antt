@@ -1,4 +1,4 @@
--- Bytes begin with the text of one xorb record at most.
+-- Bytes begin with the bytes of one xorb record at most.
 use Rattle.std.proofs.Common.{◌≡◌, ℕ, List, ◌++◌, flat_map, sym, ap, ◌∙◌}
 use Rattle.std.proofs.lemmas.List.{append_assoc}
 use Rattle.xet_base.proofs.Lists.{same_parts, parts_front}
@@ -10,7 +10,7 @@ use Rattle.xet_records.specs.XorbRecord.{xorb_record_bytes, IsStoredXorb}
 use Rattle.xet_records.proofs.Lengths.{length-xorb_header_row, length-chunk_row}
 use Rattle.xet_records.proofs.Unique.{hash_and_numbers}
 
--- the bytes tell the row
+-- the bytes determine the row
 pub xorb_header_row-injective : (g h : XorbChunkSequenceHeader) → FitsXorbHeader g → FitsXorbHeader h → xorb_header_row g ≡ xorb_header_row h → g ≡ h
 unfolding xorb_header_row
 xorb_header_row-injective g h g_fits h_fits same =

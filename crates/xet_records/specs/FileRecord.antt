@@ -57,7 +57,7 @@ pub record FitsRecord (r : MDBFileInfo) : Type 0 where
   pub verification : All FitsVerification r.verification
   pub metadata_ext : IfSome r.metadata_ext FitsMetadata
 
--- a record that may stand in a section: not a bookend, whole, and its numbers within their widths
+-- a record that may be in a section: not a bookend, whole, and its numbers within their widths
 pub record IsStored (r : MDBFileInfo) : Type 0 where
   pub is_file : r.metadata.file_hash ≢ all_ones
   pub whole : FitsItsHeader r

@@ -1,5 +1,5 @@
 -- What the bytes at the front of an input are to a reader of records: a bookend, a whole record, a record that
--- is cut short, or a header that announces more rows than 32 bits count.
+-- is cut short, or a header that announces more than 4294967295 rows.
 use Rattle.std.specs.Prelude.{◌≡◌, ◌≢◌, ◌⊎◌, ℕ, ◌*◌, ◌<◌, ◌≤◌, List, ◌++◌, length}
 use Rattle.xet_base.specs.Hash.{all_ones}
 use Rattle.xet_records.specs.RecordKind.{RecordKind}
@@ -11,8 +11,8 @@ pub record ReadsBookend {H R : Type 0} (K : RecordKind H R) (Took : List ℕ →
   pub is_bookend : K.hash_of header ≡ all_ones
   pub taken : Took (K.header_bytes header)
 
--- the rows after a header were read: those of a record that is stored where the header is no bookend, and that is
--- handed out as `found`
+-- the rows after a header were read: those of a stored record unless the header is a bookend; `found` is returned
+-- for it
 pub record ReadsRowsAfter {H R : Type 0} (K : RecordKind H R) (header : H) (Took : List ℕ → Type 0) (found : R) : Type 0 where
   pub stored : R
   pub same_header : K.header_of stored ≡ header
@@ -21,7 +21,7 @@ pub record ReadsRowsAfter {H R : Type 0} (K : RecordKind H R) (header : H) (Took
   pub taken : Took (K.bytes_after stored)
   pub handed : K.handed_out stored ≡ found
 
--- a stored record was read, and handed out as `found`
+-- a stored record was read, and `found` returned for it
 pub record ReadsRecord {H R : Type 0} (K : RecordKind H R) (Took : List ℕ → Type 0) (found : R) : Type 0 where
   pub stored : R
   pub is_stored : K.IsStored stored
@@ -36,14 +36,14 @@ pub record BeginsWithHeader {H R : Type 0} (K : RecordKind H R) (bytes : List �
   pub bytes_are : bytes ≡ K.header_bytes header ++ rest
 
 module _ {H R : Type 0} (K : RecordKind H R) where
-  -- the bytes end before a header is complete, or before the rows that it announces are, no more than 32 bits count
+  -- the bytes end before a header is complete, or before its rows, at most 4294967295, are
   abbrev pub IsCutShort : List ℕ → Type 0
   IsCutShort bytes =
       (length bytes < 48)
       ⊎ ((header : H) × (rest : List ℕ) × BeginsWithHeader K bytes header rest
       × (K.rows_after header ≤ 4294967295) × (length rest < 48 * K.rows_after header))
 
-  -- the bytes begin with a header that announces more rows than 32 bits count
+  -- the bytes begin with a header that announces more than 4294967295 rows
   abbrev pub HasTooManyRows : List ℕ → Type 0
   HasTooManyRows bytes =
       (header : H) × (rest : List ℕ) × BeginsWithHeader K bytes header rest × (4294967295 < K.rows_after header)

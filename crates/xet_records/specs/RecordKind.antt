@@ -19,7 +19,7 @@ pub record RecordKind (Header Record : Type 0) : Type 1 where
   pub text : Record → List ℕ
   -- the rows of a record, its header included
   pub row_count : Record → ℕ
-  -- it may stand in a section
+  -- it may be in a section
   pub IsStored : Record → Type 0
-  -- what a reader of the record is given
+  -- what reading the record returns
   pub handed_out : Record → Record

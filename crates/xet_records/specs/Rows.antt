@@ -2,7 +2,7 @@
 -- numbers, and the row that reading hands out for a stored one; an input says of some bytes that it took them.
 use Rattle.std.specs.Prelude.{◌≡◌, ℕ, ◌*◌, Bool, List, length, map, flat_map, All, Option, is_some, IfSome, option_map, option_to_list, if◌then◌else◌}
 
--- one stored row was read and handed out as `row`
+-- a stored row was read, and `row` returned for it
 pub record ReadsRow {T : Type 0} (row_bytes : T → List ℕ) (Fits : T → Type 0) (handed_out : T → T) (Took : List ℕ → Type 0) (row : T) : Type 0 where
   pub stored : T
   pub widths : Fits stored
@@ -10,7 +10,7 @@ pub record ReadsRow {T : Type 0} (row_bytes : T → List ℕ) (Fits : T → Type
   pub taken : Took (row_bytes stored)
   pub handed : handed_out stored ≡ row
 
--- so many stored rows were read and handed out as `rows`
+-- `count` stored rows were read, and `rows` returned for them
 pub record ReadsRows {T : Type 0} (row_bytes : T → List ℕ) (Fits : T → Type 0) (handed_out : T → T) (Took : List ℕ → Type 0) (count : ℕ) (rows : List T) : Type 0 where
   pub stored : List T
   pub len : length stored ≡ count
@@ -19,7 +19,7 @@ pub record ReadsRows {T : Type 0} (row_bytes : T → List ℕ) (Fits : T → Typ
   pub taken : Took (flat_map row_bytes stored)
   pub handed : map handed_out stored ≡ rows
 
--- a stored row was read if it was wanted, and handed out as `row`
+-- a stored row was read if it was wanted, and `row` returned for it
 pub record ReadsOptional {T : Type 0} (row_bytes : T → List ℕ) (Fits : T → Type 0) (handed_out : T → T) (Took : List ℕ → Type 0) (wanted : Bool) (row : Option T) : Type 0 where
   pub stored : Option T
   pub present : is_some stored ≡ wanted

@@ -28,11 +28,11 @@ total_bytes cs = sum_by (λ c. c.unpacked_segment_bytes) cs
 abbrev pub size_of_chunks : MDBXorbInfo → ℕ
 size_of_chunks r = total_bytes r.chunks
 
--- the place after a chunk's last byte in the xorb's bytes
+-- the offset of a chunk's end in the xorb's bytes
 abbrev pub end_of_chunk : XorbChunkSequenceEntry → ℕ
 end_of_chunk c = c.chunk_byte_range_start + c.unpacked_segment_bytes
 
--- each chunk's hash with the place after its last byte
+-- each chunk's hash with the offset of its end
 abbrev pub boundaries : List XorbChunkSequenceEntry → List (DataHash × ℕ)
 boundaries cs = map (λ c. (c.chunk_hash, end_of_chunk c)) cs
 
@@ -41,7 +41,7 @@ abbrev pub default_segment : FileDataSequenceEntry
 default_segment =
     record { xorb_hash = record { word0 = 0; word1 = 0; word2 = 0; word3 = 0 }; xorb_flags = 0; unpacked_segment_bytes = 0; chunk_index_start = 0; chunk_index_end = 0 }
 
--- the segment of a file that has these chunks of a xorb, which stand from one place up to another
+-- the segment of a file that has these chunks of a xorb, at the indices from one up to another
 abbrev pub segment_of : XorbChunkSequenceHeader → List XorbChunkSequenceEntry → ℕ → ℕ → FileDataSequenceEntry
 segment_of h [] from to = default_segment
 segment_of h (c ∷ cs) from to =
@@ -56,7 +56,7 @@ pub record FitsXorb (r : MDBXorbInfo) : Type 0 where
 abbrev pub HasItsChunks : MDBXorbInfo → Type 0
 HasItsChunks r = length r.chunks ≡ r.metadata.num_entries
 
--- a record that may stand in a section: not a bookend, whole, and its numbers within their widths
+-- a record that may be in a section: not a bookend, whole, and its numbers within their widths
 pub record IsStoredXorb (r : MDBXorbInfo) : Type 0 where
   pub is_xorb : r.metadata.xorb_hash ≢ all_ones
   pub count : HasItsChunks r
@@ -70,7 +70,7 @@ pub record IsXorb (r : MDBXorbInfo) : Type 0 where
   pub bytes : size_of_chunks r ≤ 4294967295
   pub widths : FitsXorb r
 
--- the records of the xorb section, which are handed out as they stand
+-- the records of the xorb section, which reading returns as they are stored
 abbrev pub xorb_records : RecordKind XorbChunkSequenceHeader MDBXorbInfo
 xorb_records = record {
   header_of = λ r. r.metadata;

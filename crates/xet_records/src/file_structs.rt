@@ -3,9 +3,6 @@
 mod header;
 mod rows;
 
-pub use header::{FileDataSequenceHeader, SupersetResult};
-pub use rows::{FileDataSequenceEntry, FileMetadataExt, FileVerificationEntry};
-
 ghost use Rattle.std.specs.Prelude.{◌≡◌, ℕ, List, Some, ◌++◌, ◌*◌, ◌≤◌, ◌⊎◌, length, MatchResult, MatchOption, IfSome, OnOk, OnErr, IfOk, IfErr};
 ghost use Rattle.std.specs.Io.KnownBytes.{Appends, Consumes};
 ghost use Rattle.xet_records.specs.FileRecord.{has_verification, has_metadata_ext, rows_after, row_count, file_record_bytes, size_of_file, FitsItsHeader, IsStored, handed_out, file_records};
@@ -17,27 +14,29 @@ ghost use Rattle.xet_base.specs.Errors.{IsEndOfInput, IsDeviceError, IsInvalidSh
 
 use crate::input_rows;
 use crate::rows::{Rows, write_optional, write_row, write_rows};
+pub use header::{FileDataSequenceHeader, SupersetResult};
+pub use rows::{FileDataSequenceEntry, FileMetadataExt, FileVerificationEntry};
 use std::alloc::Global;
 use std::io::{Read, Write};
 use xet_base::error::{CoreError, Result};
 use xet_base::input::{ByteInput, OfReader, OfSource};
 use xet_base::source::ShardSource;
 
-/// The flags of a file that announce no optional part.
+/// The flags of a file without optional parts.
 pub const MDB_DEFAULT_FILE_FLAG: u32 = 0;
 /// The flag of a file with one verification row a segment.
 pub const MDB_FILE_FLAG_WITH_VERIFICATION: u32 = 1 << 31;
-/// The bit that tells whether a file has verification rows.
+/// The bit that says whether a file has verification rows.
 pub const MDB_FILE_FLAG_VERIFICATION_MASK: u32 = 1 << 31;
 /// The flag of a file with a metadata row.
 pub const MDB_FILE_FLAG_WITH_METADATA_EXT: u32 = 1 << 30;
-/// The bit that tells whether a file has a metadata row.
+/// The bit that says whether a file has a metadata row.
 pub const MDB_FILE_FLAG_METADATA_EXT_MASK: u32 = 1 << 30;
 /// The bytes of each row of the file section.
 pub const MDB_FILE_INFO_ENTRY_SIZE: usize = 48;
 
-/// All that a shard knows of a file. Its lists and optional parts have to fit its header before it is
-/// measured or written.
+/// The record of a file. Its lists and optional parts have to fit its header before it is measured or
+/// written.
 #[derive(Debug, PartialEq, Drop)]
 pub struct MDBFileInfo {
     pub metadata: FileDataSequenceHeader,
@@ -47,7 +46,7 @@ pub struct MDBFileInfo {
 }
 
 impl MDBFileInfo {
-    /// The bytes of the record. Asks that its parts fit its header.
+    /// The size of the record in bytes. Requires that its parts fit its header.
     pub fn num_bytes(&self) -> u64
         requires { FitsItsHeader self.now }
         ensures { result ≡ 48 * row_count self.now }
@@ -55,7 +54,7 @@ impl MDBFileInfo {
         (1 + self.metadata.rows_after()) * MDB_FILE_INFO_ENTRY_SIZE as u64
     }
 
-    /// The bytes of the file: those of its segments. Asks that the record's parts fit its header.
+    /// The size of the file in bytes, summed over its segments. Requires that the record's parts fit its header.
     pub fn file_size(&self) -> u64
         requires { FitsItsHeader self.now }
         ensures size { result ≡ size_of_file self.now }
@@ -83,8 +82,8 @@ impl MDBFileInfo {
         self.metadata.contains_metadata_ext()
     }
 
-    /// Appends the rows of the record and returns their bytes. The error is the writer's. Asks that the
-    /// record's parts fit its header.
+    /// Appends the rows of the record and returns their size in bytes. The error is the writer's. Requires that
+    /// the record's parts fit its header.
     #[tactic(auto, unfolding(crate::specs::FileRecord::file_record_bytes, crate::specs::FileRecord::file_rows_bytes))]
     pub fn serialize<W: Write>(&self, writer: &mut W) -> Result<usize>
         requires { FitsItsHeader self.now }
@@ -103,8 +102,8 @@ impl MDBFileInfo {
     /// Reads a record, or `None` at the header that ends a section, which has the all-ones hash, whatever
     /// its other fields. Verification and metadata rows get zero reserved words.
     ///
-    /// `UnexpectedEof` where the bytes end before the header or the rows that it announces,
-    /// `InvalidShard` where these rows pass 32 bits, `OutOfMemory` where the rows find none.
+    /// `UnexpectedEof` if the bytes end before the header or the rows that it announces, `InvalidShard` if
+    /// these rows pass 4294967295. May fail with `OutOfMemory`.
     pub fn deserialize<R: Read>(alloc: Global, reader: &mut R) -> Result<Option<Self>>
         ensures found { IfOk result (λ found. MatchOption found
             (ReadsBookend file_records (Consumes (R.remaining reader.old) (R.remaining reader.new)))
@@ -128,8 +127,8 @@ impl MDBFileInfo {
         Ok(Some(read_rows_after::<OfReader, R>(alloc, reader, metadata)?))
     }
 
-    /// Takes over each optional part that only `other` has, and nothing else. Asks that both records are of
-    /// one file. Where it is refused, for want of memory, nothing changes.
+    /// Takes over each optional part that only `other` has, and nothing else. Requires that both records are of
+    /// one file. On `OutOfMemory`, the only error, nothing changes.
     #[tactic(auto, using(crate::proofs::Flags::verification_added, crate::proofs::Flags::metadata_ext_added))]
     pub fn merge_from(&mut self, alloc: Global, other: &Self) -> Result<()>
         requires { IsSameFile self.old.metadata other.now.metadata }
@@ -194,7 +193,7 @@ fn skip_rows_after<M, I: ByteInput<M>>(
 ) -> Result<Option<FileMetadataExt>>
     ensures { MatchResult result
         (λ kept. (skipped : MDBFileInfo) × (skipped.metadata_ext ≡ kept)
-            × ReadsRowsAfter file_records metadata (I.reads input.old input.new) skipped)
+        × ReadsRowsAfter file_records metadata (I.reads input.old input.new) skipped)
         (I.fails input.old input.new (48 * rows_after metadata)) }
 {
     input_rows::skip_rows::<FileDataSequenceEntry, M, I>(input, metadata.num_entries)?;
@@ -202,7 +201,7 @@ fn skip_rows_after<M, I: ByteInput<M>>(
     Ok(input_rows::read_optional(input, metadata.contains_metadata_ext())?)
 }
 
-/// Reads the rows that a header announces, at the source's offset. `UnexpectedEof` if fewer are left. May
+/// Reads the rows that a header announces, at the source's position. `UnexpectedEof` if fewer are left. May
 /// fail with `OutOfMemory`.
 pub fn read_source_rows_after<S: ShardSource>(
     alloc: Global,
@@ -217,7 +216,7 @@ pub fn read_source_rows_after<S: ShardSource>(
     read_rows_after::<OfSource, S>(alloc, source, metadata)
 }
 
-/// Reads past the rows that a header announces, at the source's offset, and keeps the metadata row alone.
+/// Reads past the rows that a header announces, at the source's position, and keeps the metadata row alone.
 /// Does not allocate. `UnexpectedEof` if fewer rows are left.
 pub fn skip_source_rows_after<S: ShardSource>(
     source: &mut S,

@@ -18,11 +18,10 @@ use xet_base::input::{OfReader, OfSource};
 use xet_base::serialization_utils::write_bytes;
 use xet_base::source::ShardSource;
 
-/// The bytes of a row.
+/// The size of a row in bytes.
 pub const ROW_SIZE: usize = 48;
 
-/// A list of rows, which contracts see as a list. It is made from a `Vec` and gives it back without
-/// taking memory.
+/// A list of rows, which contracts see as a list. Converting from and into a `Vec` does not allocate.
 #[derive(Debug, Drop)]
 pub struct Rows<T> {
     items: Vec<T>,
@@ -90,7 +89,7 @@ impl<T> Rows<T> {
 }
 
 impl<T: Copy> Rows<T> {
-    /// A copy of the list, or `AllocError` where it finds no memory.
+    /// A copy of the list, or `AllocError` if it fails to allocate.
     pub fn try_clone(&self, alloc: Global) -> std::result::Result<Rows<T>, AllocError>
         ensures { IfOk result (λ copy. copy ≡ self.now) }
     {
@@ -207,7 +206,7 @@ pub fn read_optional<T: Row, R: Read>(reader: &mut R, wanted: bool) -> io::Resul
     input_rows::read_optional::<T, OfReader, R>(reader, wanted)
 }
 
-/// Reads a row at the source's offset. `UnexpectedEof` if fewer than 48 bytes are left.
+/// Reads a row at the source's position. `UnexpectedEof` if fewer than 48 bytes are left.
 pub fn read_source_row<T: Row, S: ShardSource>(source: &mut S) -> Result<T>
     ensures value { IfOk result
         (ReadsRow T.row_bytes T.Fits T.handed_out (Takes (S.meaning source.old) (S.meaning source.new))) }
@@ -216,7 +215,7 @@ pub fn read_source_row<T: Row, S: ShardSource>(source: &mut S) -> Result<T>
     Ok(input_rows::read_row::<T, OfSource, S>(source)?)
 }
 
-/// Reads `count` rows at the source's offset. `UnexpectedEof` if fewer are left. May fail with
+/// Reads `count` rows at the source's position. `UnexpectedEof` if fewer are left. May fail with
 /// `OutOfMemory`.
 pub fn read_source_rows<T: Row + Drop, S: ShardSource>(
     alloc: Global,
@@ -230,7 +229,7 @@ pub fn read_source_rows<T: Row + Drop, S: ShardSource>(
     input_rows::read_rows::<T, OfSource, S>(alloc, source, count)
 }
 
-/// Reads past `count` rows at the source's offset. Does not allocate. `UnexpectedEof` if fewer are left.
+/// Reads past `count` rows at the source's position. Does not allocate. `UnexpectedEof` if fewer are left.
 pub fn skip_source_rows<T: Row, S: ShardSource>(source: &mut S, count: u32) -> Result<()>
     ensures value { IfOk result
         (λ _. (rows : List T) × ReadsRows T.row_bytes T.Fits T.handed_out (Takes (S.meaning source.old) (S.meaning source.new)) count rows) }
@@ -239,7 +238,7 @@ pub fn skip_source_rows<T: Row, S: ShardSource>(source: &mut S, count: u32) -> R
     input_rows::skip_rows::<T, OfSource, S>(source, count)
 }
 
-/// Reads a row at the source's offset if it is `wanted`. `UnexpectedEof` if it is and fewer than 48 bytes
+/// Reads a row at the source's position if it is `wanted`. `UnexpectedEof` if it is and fewer than 48 bytes
 /// are left.
 pub fn read_source_optional<T: Row, S: ShardSource>(
     source: &mut S,

@@ -35,7 +35,7 @@ pub struct XorbChunkSequenceHeader {
 }
 
 impl XorbChunkSequenceHeader {
-    /// The header of a xorb with so many chunks of so many bytes, with no flags and no bytes on disk.
+    /// The header of a xorb with `num_entries` chunks and `num_bytes_in_xorb` bytes, no flags and no bytes on disk.
     pub fn new(xorb_hash: MerkleHash, num_entries: u32, num_bytes_in_xorb: u32) -> Self
         ensures { result ≡ record { xorb_hash = xorb_hash; xorb_flags = 0; num_entries = num_entries; num_bytes_in_xorb = num_bytes_in_xorb; num_bytes_on_disk = 0 } }
     {
@@ -72,7 +72,7 @@ impl XorbChunkSequenceHeader {
         Ok(MDB_FILE_INFO_ENTRY_SIZE)
     }
 
-    /// Reads the row. `UnexpectedEof` where fewer than 48 bytes are left.
+    /// Reads the row. `UnexpectedEof` if fewer than 48 bytes are left.
     pub fn deserialize<R: Read>(reader: &mut R) -> io::Result<Self>
         ensures value { IfOk result
             (λ row. Consumes (R.remaining reader.old) (R.remaining reader.new) (xorb_header_row row)) }
@@ -126,7 +126,7 @@ impl Row for XorbChunkSequenceHeader {
 #[derive(Clone, Copy, Default, Debug, PartialEq, Eq)]
 pub struct XorbChunkSequenceEntry {
     pub chunk_hash: MerkleHash,
-    /// Where the chunk starts in the xorb's bytes, unpacked.
+    /// The offset of the chunk in the xorb's unpacked bytes.
     pub chunk_byte_range_start: u32,
     /// The bytes of the chunk, unpacked.
     pub unpacked_segment_bytes: u32,
@@ -135,7 +135,7 @@ pub struct XorbChunkSequenceEntry {
 }
 
 impl XorbChunkSequenceEntry {
-    /// A chunk of so many bytes from such a place on, with no flags.
+    /// A chunk of `unpacked_segment_bytes` bytes at offset `chunk_byte_range_start`, with no flags.
     pub fn new(
         chunk_hash: MerkleHash,
         unpacked_segment_bytes: u32,
@@ -185,7 +185,7 @@ impl XorbChunkSequenceEntry {
         Ok(MDB_FILE_INFO_ENTRY_SIZE)
     }
 
-    /// Reads the row. `UnexpectedEof` where fewer than 48 bytes are left.
+    /// Reads the row. `UnexpectedEof` if fewer than 48 bytes are left.
     pub fn deserialize<R: Read>(reader: &mut R) -> io::Result<Self>
         ensures value { IfOk result
             (λ row. Consumes (R.remaining reader.old) (R.remaining reader.new) (chunk_row row)) }
@@ -235,7 +235,7 @@ impl Row for XorbChunkSequenceEntry {
     fn widths(self) {}
 }
 
-/// All that a shard knows of a xorb. It has to have as many chunks as its header announces before it is
+/// The record of a xorb. It has to have as many chunks as its header announces before it is
 /// measured or written.
 #[derive(Debug, PartialEq, Drop)]
 pub struct MDBXorbInfo {
@@ -244,7 +244,7 @@ pub struct MDBXorbInfo {
 }
 
 impl MDBXorbInfo {
-    /// The bytes of the record. Asks that it has as many chunks as its header announces.
+    /// The size of the record in bytes. Requires that it has as many chunks as its header announces.
     pub fn num_bytes(&self) -> u64
         requires { HasItsChunks self.now }
         ensures { result ≡ 48 * xorb_row_count self.now }
@@ -252,8 +252,8 @@ impl MDBXorbInfo {
         (1 + u64::from(self.metadata.num_entries)) * MDB_FILE_INFO_ENTRY_SIZE as u64
     }
 
-    /// Appends the rows of the record and returns their bytes. The error is the writer's. Asks that the
-    /// record has as many chunks as its header announces.
+    /// Appends the rows of the record and returns their size in bytes. The error is the writer's. Requires that
+    /// the record has as many chunks as its header announces.
     #[tactic(auto, unfolding(crate::specs::XorbRecord::xorb_record_bytes))]
     pub fn serialize<W: Write>(&self, writer: &mut W) -> Result<usize>
         requires { HasItsChunks self.now }
@@ -270,8 +270,8 @@ impl MDBXorbInfo {
     /// Reads a record, or `None` at the header that ends a section, which has the all-ones hash, whatever
     /// its other fields.
     ///
-    /// `UnexpectedEof` where the bytes end before the header or the chunks that it announces,
-    /// `OutOfMemory` where these find none.
+    /// `UnexpectedEof` if the bytes end before the header or the chunks that it announces. May fail with
+    /// `OutOfMemory`.
     pub fn deserialize<R: Read>(alloc: Global, reader: &mut R) -> Result<Option<Self>>
         ensures found { IfOk result (λ found. MatchOption found
             (ReadsBookend xorb_records (Consumes (R.remaining reader.old) (R.remaining reader.new)))
@@ -291,8 +291,8 @@ impl MDBXorbInfo {
         Ok(Some(MDBXorbInfo { metadata, chunks }))
     }
 
-    /// Each chunk's hash with the place after its last byte in the xorb's bytes, unpacked. Asks that these
-    /// places fit 32 bits. `OutOfMemory` where the list finds none.
+    /// Each chunk's hash with the offset of its end in the xorb's unpacked bytes. Requires that these offsets
+    /// fit `u32`. May fail with `OutOfMemory`.
     pub fn chunks_and_boundaries(&self, alloc: Global) -> Result<Vec<(MerkleHash, u32)>>
         requires { All (λ c. end_of_chunk c < 2 ^ 32) self.now.chunks }
         ensures ok { IfOk result (λ list. list.items ≡ boundaries self.now.chunks) }

@@ -1,10 +1,10 @@
-//! Where a table stands in a source.
+//! The offset and size of a table in a source.
 
 ghost use Rattle.std.specs.Prelude.{◌≡◌, ◌⊎◌, ◌+◌, ◌^◌, ◌<◌, ◌≤◌, IfSome, IfNone};
 ghost use Rattle.xet_base.specs.Table.{offset_of_row};
 
 /// The rows of a table: a key of eight bytes and a value of `width` bytes each, from `start` on.
-/// Their places and numbers fit 64 bits.
+/// Offsets and row numbers fit `u64`.
 #[derive(Clone, Copy)]
 pub struct TableRange {
     pub start: u64,
@@ -15,7 +15,7 @@ pub struct TableRange {
 }
 
 impl TableRange {
-    /// The range of these numbers, or `None` where `rows + 1` or the table's end is past 64 bits.
+    /// The range of these numbers, or `None` if `rows + 1` or the table's end does not fit `u64`.
     #[tactic(auto, unfolding(crate::specs::Table::offset_of_row))]
     pub fn new(start: u64, rows: u64, width: u64) -> Option<TableRange>
         ensures some { IfSome result (λ r. (r.start ≡ start) × (r.rows ≡ rows) × (r.width ≡ width)) }
@@ -30,7 +30,7 @@ impl TableRange {
         Some(TableRange { start, rows, width })
     }
 
-    /// The place of a row, counted from 0, or the table's end.
+    /// The offset of a row, counted from 0, or of the table's end.
     #[tactic(auto, unfolding(crate::specs::Table::offset_of_row))]
     pub fn row_offset(&self, row: u64) -> u64
         requires { row ≤ self.now.rows }

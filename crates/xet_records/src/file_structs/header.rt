@@ -29,7 +29,7 @@ pub struct FileDataSequenceHeader {
 }
 
 impl FileDataSequenceHeader {
-    /// The header of a file with so many segments and these optional parts.
+    /// The header of a file with `num_entries` segments and these optional parts.
     pub fn new(
         file_hash: MerkleHash,
         num_entries: u32,
@@ -85,7 +85,7 @@ impl FileDataSequenceHeader {
         Ok(MDB_FILE_INFO_ENTRY_SIZE)
     }
 
-    /// Reads the row with all its fields. `UnexpectedEof` where fewer than 48 bytes are left.
+    /// Reads the row with all its fields. `UnexpectedEof` if fewer than 48 bytes are left.
     pub fn deserialize<R: Read>(reader: &mut R) -> io::Result<Self>
         ensures value { IfOk result
             (λ row. Consumes (R.remaining reader.old) (R.remaining reader.new) (header_row row)) }
@@ -113,7 +113,7 @@ impl FileDataSequenceHeader {
         self.file_flags & MDB_FILE_FLAG_METADATA_EXT_MASK != 0
     }
 
-    /// The rows of the record after its header. Asks that their number fits.
+    /// The number of rows after the header. Requires that it fits `u32`.
     pub fn num_info_entry_following(&self) -> u32
         requires { rows_after self.now < 2 ^ 32 }
         ensures { result ≡ rows_after self.now }
@@ -122,7 +122,7 @@ impl FileDataSequenceHeader {
         self.num_entries + self.verification_rows() + metadata_ext
     }
 
-    /// The rows of the record after its header, which may be more than a `u32` counts.
+    /// The number of rows after the header, which may not fit `u32`.
     pub fn rows_after(&self) -> u64
         ensures rows { result ≡ rows_after self.now }
         ensures bound { result < 2 ^ 33 }
@@ -131,7 +131,7 @@ impl FileDataSequenceHeader {
         u64::from(self.num_entries) + u64::from(self.verification_rows()) + metadata_ext
     }
 
-    /// The verification rows that the header announces.
+    /// The number of verification rows that the header announces.
     pub fn verification_rows(&self) -> u32
         ensures { result ≡ (if has_verification self.now.file_flags then self.now.num_entries else 0) }
     {

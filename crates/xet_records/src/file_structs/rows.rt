@@ -21,11 +21,11 @@ use xet_base::row::{put_hash, put_u32, put_u64, split_hash, split_u32, split_u64
 pub struct FileDataSequenceEntry {
     pub xorb_hash: MerkleHash,
     pub xorb_flags: u32,
-    /// The bytes of the segment, unpacked.
+    /// The size of the segment in bytes, unpacked.
     pub unpacked_segment_bytes: u32,
-    /// The place of the first chunk in the xorb.
+    /// The index of the first chunk in the xorb.
     pub chunk_index_start: u32,
-    /// The place after the last chunk in the xorb.
+    /// The index after the last chunk in the xorb.
     pub chunk_index_end: u32,
 }
 
@@ -48,8 +48,8 @@ impl FileDataSequenceEntry {
         }
     }
 
-    /// The segment of these chunks of the xorb with this header, which stand from `chunk_index_start` up to
-    /// `chunk_index_end`; of no chunks it is the default. Asks that their bytes fit 32 bits.
+    /// The segment of these chunks of the xorb with this header, at the indices from `chunk_index_start` up to
+    /// `chunk_index_end`; the default if there are no chunks. Requires that their total size fits `u32`.
     pub fn from_xorb_entries(
         metadata: &XorbChunkSequenceHeader,
         chunks: &[XorbChunkSequenceEntry],
@@ -85,7 +85,7 @@ impl FileDataSequenceEntry {
         Ok(MDB_FILE_INFO_ENTRY_SIZE)
     }
 
-    /// Reads the row with all its fields. `UnexpectedEof` where fewer than 48 bytes are left.
+    /// Reads the row with all its fields. `UnexpectedEof` if fewer than 48 bytes are left.
     pub fn deserialize<R: Read>(reader: &mut R) -> io::Result<Self>
         ensures value { IfOk result
             (λ row. Consumes (R.remaining reader.old) (R.remaining reader.new) (segment_row row)) }
@@ -135,7 +135,7 @@ impl Row for FileDataSequenceEntry {
     fn widths(self) {}
 }
 
-/// What a segment's chunks hash to, for checking them.
+/// The hash over a segment's chunks, for verifying them.
 #[derive(Clone, Copy, Default, Debug, PartialEq, Eq)]
 pub struct FileVerificationEntry {
     pub range_hash: MerkleHash,
@@ -163,8 +163,7 @@ impl FileVerificationEntry {
         Ok(MDB_FILE_INFO_ENTRY_SIZE)
     }
 
-    /// Reads the row, with zero reserved words whatever stands there. `UnexpectedEof` where fewer than
-    /// 48 bytes are left.
+    /// Reads the row, and sets its reserved words to zero. `UnexpectedEof` if fewer than 48 bytes are left.
     pub fn deserialize<R: Read>(reader: &mut R) -> io::Result<Self>
         ensures value { IfOk result
             (ReadsRow verification_row FitsVerification clear_verification (Consumes (R.remaining reader.old) (R.remaining reader.new))) }
@@ -241,8 +240,7 @@ impl FileMetadataExt {
         Ok(MDB_FILE_INFO_ENTRY_SIZE)
     }
 
-    /// Reads the row, with zero reserved words whatever stands there. `UnexpectedEof` where fewer than
-    /// 48 bytes are left.
+    /// Reads the row, and sets its reserved words to zero. `UnexpectedEof` if fewer than 48 bytes are left.
     pub fn deserialize<R: Read>(reader: &mut R) -> io::Result<Self>
         ensures value { IfOk result
             (ReadsRow metadata_row FitsMetadata clear_metadata (Consumes (R.remaining reader.old) (R.remaining reader.new))) }
