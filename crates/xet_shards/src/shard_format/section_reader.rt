@@ -40,7 +40,7 @@ pub(super) trait SectionRecord {
 }
 
 impl SectionRecord for MDBFileInfo {
-    ghost use Rattle.xet_records.specs.declared.file_structs.FileDataSequenceHeader.{FileDataSequenceHeader};
+    ghost use Rattle.xet_records.specs.declared.file_structs.header.FileDataSequenceHeader.{FileDataSequenceHeader};
 
     ghost Header = { FileDataSequenceHeader };
 
