@@ -60,7 +60,7 @@ pub fn write_file_section<W: Write>(
 ) -> Result<WrittenFiles>
     requires files { AreFiles files.now.entries }
     requires rows { total_rows file_records (values files.now) ≤ 4294967295 }
-    ensures text { OnOk result
+    ensures bytes { OnOk result
         (Appends (W.contents writer.old) (W.contents writer.new) (section_bytes file_records (values files.now))) }
     ensures written { IfOk result (λ written. HasWritten written (values files.now)) }
     ensures causes { IfErr result IsDeviceError }
@@ -82,7 +82,7 @@ pub fn write_xorb_section<W: Write>(
 ) -> Result<WrittenXorbs>
     requires xorbs { AreXorbs (shown_xorbs xorbs.now.entries) }
     requires rows { total_rows xorb_records (values_of (shown_xorbs xorbs.now.entries)) ≤ 4294967295 }
-    ensures text { OnOk result
+    ensures bytes { OnOk result
         (Appends (W.contents writer.old) (W.contents writer.new) (section_bytes xorb_records (values_of (shown_xorbs xorbs.now.entries)))) }
     ensures written { IfOk result (λ written. HasWrittenXorbs written (values_of (shown_xorbs xorbs.now.entries))) }
     ensures causes { IfErr result IsDeviceError }

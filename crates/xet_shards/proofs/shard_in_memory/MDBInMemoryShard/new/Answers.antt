@@ -7,7 +7,7 @@ use Rattle.xet_records.specs.FileRecord.{file_records}
 use Rattle.xet_records.specs.XorbRecord.{xorb_records}
 use Rattle.xet_shards.specs.Section.{total_rows}
 use Rattle.xet_shards.specs.Shard.{FileMap}
-use Rattle.xet_shards.specs.ChunkLookup.{Table}
+use Rattle.xet_shards.specs.ChunkLookup.{XorbsWithLookup}
 use Rattle.xet_shards.proofs.Maps.{values-empty}
 use Rattle.xet_shards.proofs.shard_in_memory.MDBInMemoryShard.new.Goals as goal
 
@@ -15,6 +15,6 @@ pub invariant_of-result : goal.invariant_of-result
 invariant_of-result c = record {
   file_rows = sym (ap (λ (m : FileMap). total_rows file_records (values m)) c.new.ensures ∙ ap (total_rows file_records) (values-empty MDBFileInfo hash_cmp));
   few_file_rows = lit≤ tt;
-  xorb_rows = sym (ap (λ (t : Table). total_rows xorb_records (values t.xorbs)) c.new-2.ensures ∙ ap (total_rows xorb_records) (values-empty MDBXorbInfo hash_cmp));
+  xorb_rows = sym (ap (λ (t : XorbsWithLookup). total_rows xorb_records (values t.xorbs)) c.new-2.ensures ∙ ap (total_rows xorb_records) (values-empty MDBXorbInfo hash_cmp));
   few_xorb_rows = lit≤ tt;
 }
