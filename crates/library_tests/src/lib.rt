@@ -6,6 +6,7 @@
 mod allocations;
 #[cfg(test)]
 mod conversions;
+pub mod example;
 #[cfg(test)]
 mod fixtures;
 #[cfg(test)]

@@ -46,9 +46,9 @@ loop-file_info-preserved g c =
           (Appends-trans _ (g.W.Write.contents c.loop-file_info.writer) _ (flat_map file_record_bytes before) (file_record_bytes file) c.loop-file_info.invariant.bytes wrote.appended));
     }
 
-pub returns-clause-text : goal.returns-clause-text
+pub returns-clause-bytes : goal.returns-clause-bytes
 unfolding section_bytes
-returns-clause-text g c =
+returns-clause-bytes g c =
     let all = value_end _ c.loop-file_info.yielded _ _ _ c.loop-file_info.invariant.all c.in-None.is c.next.ensures.steps in
     let files = subst (λ files. Appends (g.W.Write.contents c.args.writer.now) (g.W.Write.contents c.loop-file_info.writer) (flat_map file_record_bytes files)) all c.loop-file_info.invariant.bytes in
     let bookend = subst (λ h. Appends (g.W.Write.contents c.loop-file_info.writer) (g.W.Write.contents c.serialize.new.writer) (header_row h)) c.bookend.ensures c.in_ok-serialize.ensures.text in

@@ -62,9 +62,9 @@ loop-xorb-preserved g c =
           (Appends-trans _ (contents c.loop-xorb.writer) _ (flat_map xorb_record_bytes before) (xorb_record_bytes xorb) c.loop-xorb.invariant.bytes wrote.appended));
     }
 
-pub returns-clause-text : goal.returns-clause-text
+pub returns-clause-bytes : goal.returns-clause-bytes
 unfolding section_bytes
-returns-clause-text g c =
+returns-clause-bytes g c =
     let contents = g.W.Write.contents in
     let all = seen_end _ c.loop-xorb.yielded _ _ _ c.loop-xorb.invariant.all c.in-None.is c.next.ensures.steps in
     let xorbs = subst (λ xorbs. Appends (contents c.args.writer.now) (contents c.loop-xorb.writer) (flat_map xorb_record_bytes xorbs)) all c.loop-xorb.invariant.bytes in
