@@ -24,10 +24,11 @@ use xet_records::file_structs::MDBFileInfo;
 
 impl MDBShardInfo {
     /// Looks in the file table for the first word of `hash`, and puts the row numbers of the records that
-    /// share it at the front of `dest`. Returns how many these are. Takes no memory.
+    /// share it at the front of `dest`. Returns how many these are; entries of `dest` past them are unchanged.
+    /// Does not allocate.
     ///
-    /// `TruncatedHashCollision` of the word where eight or more share it, `InvalidShard` where the table's
-    /// place is past 64 bits, `UnexpectedEof` where the source ends before the table does.
+    /// `TruncatedHashCollision` of the word if eight or more share it, `InvalidShard` if the table's offset or
+    /// end does not fit `u64`, `UnexpectedEof` if the source ends where the search reads on.
     pub fn get_file_info_index_by_hash<S: ShardSource>(
         &self,
         alloc: Global,
@@ -55,9 +56,9 @@ impl MDBShardInfo {
 
     /// Reads the record at a row of the file section.
     ///
-    /// `InvalidShard` where the row's place is past 64 bits or the record has more rows after its header
-    /// than a `u32` counts, `InternalError` where a bookend stands there, `UnexpectedEof` where the source
-    /// ends before the record does, `OutOfMemory` where its lists find none.
+    /// `InvalidShard` if the row's offset does not fit `u64`, or the rows after the record's header do not fit
+    /// `u32`; `InternalError` if there is a bookend at the row, `UnexpectedEof` if the source ends before the
+    /// record does, `OutOfMemory` if an allocation fails.
     pub fn read_file_info<S: ShardSource>(
         &self,
         alloc: Global,
@@ -73,8 +74,8 @@ impl MDBShardInfo {
 
     /// Looks for the file with this hash: the record, or `None`.
     ///
-    /// `TruncatedHashCollision` where eight or more files share the first word of the hash. Where the
-    /// tables or records are false, the refusals of [`MDBShardInfo::get_file_info_index_by_hash`] and
+    /// `TruncatedHashCollision` if eight or more files share the first word of the hash. If tables or records
+    /// are corrupt, the errors of [`MDBShardInfo::get_file_info_index_by_hash`] and
     /// [`MDBShardInfo::read_file_info`].
     pub fn get_file_reconstruction_info<S: ShardSource>(
         &self,
@@ -165,7 +166,7 @@ fn find_rows<S: ShardSource>(
     }
 }
 
-// The row numbers of as many rows with this word as there are places.
+// The row numbers of as many rows with this word as `results` has room for.
 fn search_row_numbers<S: ShardSource>(
     alloc: Global,
     source: &mut S,
@@ -198,7 +199,7 @@ fn search_row_numbers<S: ShardSource>(
     )
 }
 
-// Reads a row number from the source's place on.
+// Reads a row number from the source's position on.
 fn read_row_number<S: ShardSource>(source: &mut S) -> io::Result<u32>
     ensures { MatchResult result
         (λ row. ReadsOn (S.meaning source.old) (S.meaning source.new) 4 × (row < 2 ^ 32) × (next_bytes (S.meaning source.old) 4 ≡ u32_bytes row))

@@ -1,4 +1,4 @@
-//! Where the rows of each file stand.
+//! Where the rows of each file are.
 
 ghost use Rattle.std.specs.Prelude.{◌≡◌, ◌⊎◌, ℕ, Option, ◌+◌, ◌*◌, ◌^◌, ◌<◌, ◌≤◌, MatchResult, IfOk, IfErr};
 ghost use Rattle.std.specs.FinMap as finite;
@@ -17,7 +17,7 @@ use xet_base::merklehash::MerkleHash;
 use xet_base::source::ShardSource;
 use xet_records::file_structs::{FileDataSequenceHeader, FileMetadataExt, skip_source_rows_after};
 
-/// A file's hash, the places of its segments and of its verification rows, each as the first byte and the one
+/// A file's hash, the byte ranges of its segments and of its verification rows, each as the first byte and the one
 /// after the last, and the SHA-256 of its metadata row.
 type FileRanges = (
     MerkleHash,
@@ -27,11 +27,11 @@ type FileRanges = (
 );
 
 impl MDBShardInfo {
-    /// Reads a shard's header and its file section from the source's place on, without a seek, and tells for
-    /// each file its hash, where its segments and its verification rows stand in the source, and its SHA-256.
+    /// Reads a shard's header and its file section from the source's position on, without a seek. Returns for
+    /// each file its hash, where in the source its segments and its verification rows are, and its SHA-256.
     ///
-    /// `ShardVersion` where tag or version of the header are foreign, `UnexpectedEof` where the source ends
-    /// before the bookend, `InvalidShard` where the rows pass 32 bits, `OutOfMemory` where the list finds none.
+    /// `ShardVersion` if the header's tag or version is unsupported, `UnexpectedEof` if the source ends before
+    /// the bookend, `InvalidShard` if the rows pass 4294967295, `OutOfMemory` if an allocation fails.
     pub fn read_file_info_ranges<S: ShardSource>(
         alloc: Global,
         source: &mut S,
@@ -46,7 +46,7 @@ impl MDBShardInfo {
     }
 }
 
-// Reads a shard's header and through its file section, from the source's place on.
+// Reads a shard's header and through its file section, from the source's position on.
 fn read_header_and_ranges<S: ShardSource>(alloc: Global, source: &mut S) -> Result<Vec<FileRanges>>
     ensures { MatchResult result (λ found. ReadsFileRanges (S.meaning source.old) (S.meaning source.new) found.items)
         (FileRangesFail (S.meaning source.old) (S.meaning source.new)) }
@@ -55,7 +55,7 @@ fn read_header_and_ranges<S: ShardSource>(alloc: Global, source: &mut S) -> Resu
     read_ranges(alloc, source)
 }
 
-// Reads through a file section from the source's place on.
+// Reads through a file section from the source's position on.
 fn read_ranges<S: ShardSource>(alloc: Global, source: &mut S) -> Result<Vec<FileRanges>>
     ensures { MatchResult result (λ found. TakesRanges (S.meaning source.old) (S.meaning source.new) found.items)
         (TakesNoSection file_records (S.meaning source.old) (S.meaning source.new)) }
@@ -85,12 +85,12 @@ fn skip_file<S: ShardSource>(
     };
     let start = source.position()?;
     let metadata_ext = skip_source_rows_after(source, header)?;
-    // The source has a place after all these rows, so no place among them passes 64 bits.
+    // The source has a position after all these rows, so each offset among them fits `u64`.
     source.position()?;
     Ok(Some(ranges_after(start, &header, metadata_ext)))
 }
 
-// The ranges of a record whose rows after the header start at a place.
+// The ranges of a record whose rows after the header start at this offset.
 fn ranges_after(
     start: u64,
     header: &FileDataSequenceHeader,

@@ -134,7 +134,7 @@ pub(super) fn read_file_record<S: ShardSource>(
     Ok(Some(read_source_rows_after(alloc, source, header)?))
 }
 
-/// Reads the headers of the xorb section at an offset, each with its place, and reads over the chunks.
+/// Reads the headers of the xorb section at an offset, each with its own offset, and reads over the chunks.
 pub(super) fn read_xorb_headers<S: ShardSource>(
     alloc: Global,
     source: &mut S,
@@ -194,7 +194,7 @@ pub(super) fn read_file_header<S: ShardSource>(
     Ok(Some(header))
 }
 
-// Reads through the next record of a xorb section, or `None` at its bookend, and keeps its header and place.
+// Reads through the next record of a xorb section, or `None` at its bookend, and keeps its header and offset.
 fn skip_xorb<S: ShardSource>(
     alloc: Global,
     source: &mut S,

@@ -17,11 +17,11 @@ use xet_base::row::{split_u32, split_u64};
 use xet_base::source::{ShardSource, read_full};
 
 impl MDBShardInfo {
-    /// Reads the rows of the xorb table as they stand: the first word of each xorb's hash, and the row at
-    /// which its record starts.
+    /// Reads the rows of the xorb table in order: the first word of each xorb's hash, and the row at which its
+    /// record starts.
     ///
-    /// `InvalidShard` past 4294967295 rows, `UnexpectedEof` where the source ends before the table does,
-    /// `OutOfMemory` where the rows find none.
+    /// `InvalidShard` past 4294967295 rows, `UnexpectedEof` if the source ends before the table does,
+    /// `OutOfMemory` if an allocation fails.
     pub fn read_full_xorb_lookup<S: ShardSource>(
         &self,
         alloc: Global,
@@ -41,7 +41,7 @@ impl MDBShardInfo {
 }
 
 // Reads the rows of a chunk table: the first word of each chunk's hash, the row at which its xorb starts, and
-// its place in the xorb.
+// its index in the xorb.
 pub(super) fn read_chunk_table<S: ShardSource>(
     alloc: Global,
     source: &mut S,
@@ -63,7 +63,7 @@ trait TableRow: Copy {
 
     ghost row_size: { ℕ };
 
-    // Reads a row from the source's place on. `UnexpectedEof` where too few bytes are left.
+    // Reads a row from the source's position on. `UnexpectedEof` if too few bytes are left.
     fn read<S: ShardSource>(source: &mut S) -> Result<Self>
         ensures value { IfOk result (ReadsNextRow row_bytes Fits row_size (S.meaning source.old) (S.meaning source.new)) }
         ensures refused { IfErr result (ReadFails (S.meaning source.old) (S.meaning source.new) row_size) };

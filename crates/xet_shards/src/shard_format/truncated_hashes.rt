@@ -1,4 +1,4 @@
-//! The first words of the hashes of a shard's chunks, and where the chunks stand.
+//! The first words of the hashes of a shard's chunks, and where the chunks are.
 
 ghost use Rattle.std.specs.Prelude.{◌≡◌, ◌≢◌, ◌⊎◌, ℕ, Option, ◌≤◌, ◌++◌, length, map, MatchResult, OnOk, IfOk, IfErr};
 ghost use Rattle.std.specs.FinMap as finite;
@@ -19,12 +19,12 @@ use xet_base::source::ShardSource;
 use xet_records::xorb_structs::{MDBXorbInfo, XorbChunkSequenceEntry};
 
 impl MDBShardInfo {
-    /// Reads, for each chunk, the first word of its hash, the row at which its xorb starts, and its place in
-    /// the xorb: the rows of the chunk table, or, where there is none, the chunks of the xorb section in the
-    /// order in which they stand, up to the bookend or to the place of the file table.
+    /// Reads, for each chunk, the first word of its hash, the row at which its xorb starts, and its index in
+    /// the xorb: the rows of the chunk table, or, if there is none, the chunks of the xorb section in order, up
+    /// to the bookend or to the offset of the file table.
     ///
-    /// `InvalidShard` past 4294967295 rows, `UnexpectedEof` where the source ends before the table or the
-    /// section does, `OutOfMemory` where the rows find none.
+    /// `InvalidShard` past 4294967295 rows, `UnexpectedEof` if the source ends before the table or the section
+    /// does, `OutOfMemory` if an allocation fails.
     pub fn read_all_truncated_hashes<S: ShardSource>(
         &self,
         alloc: Global,
