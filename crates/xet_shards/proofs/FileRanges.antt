@@ -81,7 +81,7 @@ module _ (old new : Source) (files : List MDBFileInfo) (xorbs : List MDBXorbInfo
       since (inl failed) = inl (failed.0 ∙ ap (λ (s : Source). s.failures + 1) taken.after, failed.1, failed.2, failed.3)
       since (inr no_memory) = inr no_memory
 
-  -- is read so, unless the device fails or memory is refused
+  -- is read so, unless the device fails or an allocation does
   pub ranges_in_layout : {Z : Type 0} (r : Result (Vec FileRanges Z) CoreError) → map file_records.handed_out files ≡ files → MatchResult r (λ found. ReadsFileRanges old new found.items) (FileRangesFail old new)
       → MatchResult r (λ found. found.items ≡ file_ranges (old.at + 48) files) (λ e. DeviceFailure old new e ⊎ (e ≡ OutOfMemory))
   ranges_in_layout (Ok found) same read =

@@ -93,7 +93,7 @@ pub xorb_section_of_shard : (s : Shard) (expiry : Option ℕ) → IsShard s
     → IsSection xorb_records (drop (48 + length (section_bytes file_records (values s.files))) (layout s expiry)) (values s.xorbs)
 xorb_section_of_shard s expiry shard = xorb_section_in (values s.files) (values s.xorbs) (plain_form expiry) (xorbs_fit s shard)
 
--- bytes that are a section of records are read as these, unless the device fails or memory is refused
+-- bytes that are a section of records are read as these, unless the device fails or an allocation does
 module _ {H R : Type 0} (K : RecordKind H R) (laws : KindLaws K) (old new : Source) (rs : List R) (section : IsSection K (bytes_left old) rs) where
   pub why_not : (e : CoreError) → SectionFailure (PassesRows K) (IsCutSection K) (bytes_left old) old new e → DeviceFailure old new e ⊎ (e ≡ OutOfMemory)
   why_not e (inl failed) = inl failed

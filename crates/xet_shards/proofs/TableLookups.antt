@@ -226,7 +226,7 @@ module _ {H R : Type 0} (K : RecordKind H R) (laws : KindLaws K) (d : R) (record
   text_is_enough i n within (inr (h, rest, begins, most)) =
       omega (arith, most, length-stored K laws (record_at i) (stored_at i within), ap (λ (k : H). K.rows_after k) (header_is i h rest within begins.widths begins.bytes_are).0)
 
-  -- it is read, unless the device fails or memory is refused
+  -- it is read, unless the device fails or an allocation does
   pub record_is_read : (i : ℕ) (new : Source) (e : CoreError) → i < length records → InfoRefusal K offset (start_at i) old new e → DeviceFailure old new e ⊎ (e ≡ OutOfMemory)
   record_is_read i new e within (inl (none, bare, past)) = absurd (omega (arith, past, is.offset_fits, start_bound i within))
   record_is_read i new e within (inr (fits, inl (none, bare, bookend))) =
@@ -328,7 +328,7 @@ module _ {H R : Type 0} (K : RecordKind H R) (laws : KindLaws K) (d : R) (record
             ∙ ap start_at (at.2 no_hit) ∙ ap (λ (e : ℕ × ℕ). e.1) same in
             subst (Contains values) value (Contains-get_or values at.0 0 (omega (arith, at.1, length-map found (λ (g : Hit ℕ). g.value))))
 
-    -- the record at one of the rows is read, unless the device fails or memory is refused
+    -- the record at one of the rows is read, unless the device fails or an allocation does
     pub hits_are_read : (new : Source) (e : CoreError) (row : ℕ) → Contains (map (λ h. h.value) found) row → InfoRefusal K offset row old new e
         → DeviceFailure old new e ⊎ (e ≡ OutOfMemory)
     hits_are_read new e row contains refusal =

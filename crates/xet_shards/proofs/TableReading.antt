@@ -38,7 +38,7 @@ module _ {T : Type 0} (row_bytes : T → List ℕ) (Fits : T → Type 0) (size :
         taken = subst (Takes start new) joined (Takes-trans start now new (flat_map row_bytes found) (row_bytes row) before.taken next.taken);
       }
 
-  -- what stands at a place, as far as its rows were read
+  -- what is at an offset, as far as its rows were read
   module _ (old now : Source) (at count : ℕ) (found : List T) (read : HasReadRows row_bytes Fits size (moved old at) now count found) where
     stands_then : drop at old.bytes ≡ flat_map row_bytes found ++ bytes_left now
     stands_then = Takes-consumes (moved old at) now (flat_map row_bytes found) read.taken
@@ -67,7 +67,7 @@ module _ {T : Type 0} (row_bytes : T → List ℕ) (Fits : T → Type 0) (size :
       failures = failures_then;
     }
 
-    -- memory was refused
+    -- an allocation failed
     pub no_memory_for_row : (rows : ℕ) (e : CoreError) → count ≤ rows → rows ≤ 4294967295 → e ≡ OutOfMemory → TableFails size old now at rows e
     no_memory_for_row rows e within few is = record {
       bytes = bytes_then;
@@ -102,7 +102,7 @@ ReadsOrFails row_bytes Fits size old new at count r =
 abbrev pub IsReadAs : {T Z : Type 0} → Source → Source → List T → Result (Vec T Z) CoreError → Type 0
 IsReadAs old new rows r = MatchResult r (λ found. found.items ≡ rows) (λ e. DeviceFailure old new e ⊎ (e ≡ OutOfMemory))
 
--- rows whose bytes tell them are read as they stand, unless the device fails or memory is refused
+-- rows that their bytes determine are read as they are, unless the device fails or an allocation does
 module _ {T : Type 0} (row_bytes : T → List ℕ) (Fits : T → Type 0) (size : ℕ) (len : (t : T) → Fits t → length (row_bytes t) ≡ size)
     (tells : (s t : T) → Fits s → Fits t → row_bytes s ≡ row_bytes t → s ≡ t) where
   length-rows : (rows : List T) → All Fits rows → length (flat_map row_bytes rows) ≡ size * length rows

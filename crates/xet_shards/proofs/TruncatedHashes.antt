@@ -74,7 +74,7 @@ module _ (stop : ℕ) (old now : Source) (at : ℕ) (found : List (ℕ × (ℕ �
   same_xorbs : before.read.stored ≡ before.xorbs
   same_xorbs = sym (map-id before.read.stored) ∙ before.read.handed
 
-  -- these xorbs stand there
+  -- these xorbs are there
   holds : HoldsRecords xorb_records (bytes_left (moved old at)) before.xorbs (bytes_left now)
   holds = subst (λ xorbs. HoldsRecords xorb_records (bytes_left (moved old at)) xorbs (bytes_left now)) same_xorbs
       (record { are_stored = before.read.are_stored; rows = omega (arith, before.read.rows); bytes_are = Takes-consumes (moved old at) now (flat_map xorb_record_bytes before.read.stored) before.read.taken })
@@ -135,7 +135,7 @@ module _ (stop : ℕ) (old now : Source) (at : ℕ) (found : List (ℕ × (ℕ �
 no_chunks_no_hashes : (xorbs : List MDBXorbInfo) → total_chunks xorbs ≡ 0 → hashes_of xorbs ≡ []
 no_chunks_no_hashes xorbs none = nil_from_length (hashes_of xorbs) (length-map (chunk_places xorbs) triple_of ∙ length-chunk_places xorbs ∙ none)
 
--- and so the walk through their section finds none, wherever it stops, unless the device fails or memory is refused
+-- and so the walk through their section finds none, wherever it stops, unless the device fails or an allocation does
 module _ (old new : Source) (at stop : ℕ) (xorbs : List MDBXorbInfo) (section : IsSection xorb_records (drop at old.bytes) xorbs) where
   anywhere : (e : CoreError) → SectionFailure (PassesBefore at stop) (CutBefore at stop) (drop at old.bytes) old new e
       → SectionFailure (PassesRows xorb_records) (IsCutSection xorb_records) (drop at old.bytes) old new e

@@ -46,7 +46,7 @@ pub headers_end : (old now new : Source) (at : ℕ) (found : List (XorbChunkSequ
 headers_end old now new at found left before last =
     (before.xorbs, section_ends xorb_records xorb_laws (moved old at) now before.xorbs left before.read new last, before.headers)
 
--- bytes that are a section of xorbs have their headers, unless the device fails or memory is refused
+-- bytes that are a section of xorbs have their headers, unless the device fails or an allocation does
 pub headers_read : {Z : Type 0} (old new : Source) (at : ℕ) (xorbs : List MDBXorbInfo) (r : Result (Vec (XorbChunkSequenceHeader × ℕ) Z) CoreError)
     → IsSection xorb_records (drop at old.bytes) xorbs → MatchResult r (λ found. ReadsXorbHeaders old new at found.items) (SectionFails xorb_records old new at)
     → MatchResult r (λ found. found.items ≡ xorb_headers at xorbs) (λ e. DeviceFailure old new e ⊎ (e ≡ OutOfMemory))

@@ -28,11 +28,11 @@ ranges_after start h metadata_ext =
       option_map (λ m. m.sha256) metadata_ext,
     )
 
--- those of a record that stands at a place
+-- those of a record at an offset
 abbrev pub ranges_at : ℕ → MDBFileInfo → FileRanges
 ranges_at place r = ranges_after (place + 48) r.metadata r.metadata_ext
 
--- those of records whose section stands at a place
+-- those of records whose section is at an offset
 abbrev pub file_ranges : ℕ → List MDBFileInfo → List FileRanges
 file_ranges at files = map (λ e. ranges_at (at + 48 * total_rows file_records e.0) e.1) (with_fronts [] files)
 

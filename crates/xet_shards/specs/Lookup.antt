@@ -189,8 +189,8 @@ StartsInShard s word places count =
 abbrev pub NoStartsInShard : Shard → ℕ → Source → Source → CoreError → Type 0
 NoStartsInShard s word old new e = DeviceFailure old new e ⊎ ((e ≡ TruncatedHashCollision word) × (8 ≤ length (sharing file_records word (values s.files))))
 
--- a file lookup on the bytes of a shard: where fewer than eight files share the first word, the map's answer, or
--- memory was refused, but only where one does, so that a record is read; where eight do, the collision; else the
+-- a file lookup on the bytes of a shard: if fewer than eight files share the first word, the map's answer, or
+-- an allocation failed, but only if one does, so that a record is read; if eight do, the collision; else the
 -- device failed
 abbrev pub FoundInShard : Shard → DataHash → Option MDBFileInfo → Type 0
 FoundInShard s hash answer = (length (sharing file_records hash.word0 (values s.files)) < 8) × (answer ≡ get s.files hash)

@@ -10,7 +10,7 @@ use Rattle.xet_base.specs.Table.{IsBareInvalidShard}
 use Rattle.xet_records.specs.RecordKind.{RecordKind}
 use Rattle.xet_records.specs.Reading.{ReadsBookend, ReadsRecord, BeginsWithHeader}
 
--- the bytes begin with the texts of records, no more rows than 32 bits count, and then come others
+-- the bytes begin with those of records, of at most 4294967295 rows, and then come others
 pub record HoldsRecords {H R : Type 0} (K : RecordKind H R) (bytes : List ℕ) (stored : List R) (rest : List ℕ) : Type 0 where
   pub are_stored : All K.IsStored stored
   pub rows : sum_by K.row_count stored ≤ 4294967295
@@ -43,7 +43,7 @@ module _ {H R : Type 0} (K : RecordKind H R) where
       ⊎ ((header : H) × (rest : List ℕ) × BeginsWithHeader K bytes header rest
       × (1 + K.rows_after header ≤ left) × (length rest < 48 * K.rows_after header))
 
-  -- the rows that 32 bits count beside those of some records
+  -- the rows that are left of 4294967295 beside those of some records
   abbrev pub rows_left : List R → ℕ
   rows_left stored = 4294967295 - sum_by K.row_count stored
 
@@ -71,7 +71,7 @@ pub record TakesSection {H R : Type 0} (K : RecordKind H R) (old new : Source) (
 abbrev pub ReadsSection : {H R : Type 0} → RecordKind H R → Source → Source → ℕ → List R → Type 0
 ReadsSection K old new at found = TakesSection K (moved old at) new found
 
--- why records were not read: the device failed, memory was refused, a record was too many, or the bytes too few
+-- why records were not read: the device failed, an allocation failed, a record was too many, or the bytes too few
 abbrev pub SectionFailure : (List ℕ → Type 0) → (List ℕ → Type 0) → List ℕ → Source → Source → CoreError → Type 0
 SectionFailure Passes Ends bytes old new e =
     DeviceFailure old new e

@@ -43,7 +43,7 @@ pub record ReadsTable {T : Type 0} (row_bytes : T → List ℕ) (Fits : T → Ty
   pub read : new.read ≡ old.read + size * count
   pub failures : new.failures ≡ old.failures
 
--- why a table of so many bytes was not read from a place on: the device failed, memory was refused, or the bytes
+-- why a table of so many bytes was not read from an offset on: the device failed, an allocation failed, or the bytes
 -- end before the table does
 abbrev pub RowsFailure : Source → Source → ℕ → ℕ → CoreError → Type 0
 RowsFailure old new at size e =
@@ -51,7 +51,7 @@ RowsFailure old new at size e =
     ⊎ ((new.failures ≡ old.failures) × (e ≡ OutOfMemory))
     ⊎ ((new.failures ≡ old.failures) × IsEndOfInput e × (length (drop at old.bytes) < size))
 
--- the rows were not read: they are more than 32 bits count, which is found before the seek, or a seek and reads did
+-- the rows were not read: they are more than 4294967295, which is found before the seek, or a seek and reads did
 -- not give them; the place is open
 pub record TableFails (size : ℕ) (old new : Source) (at count : ℕ) (e : CoreError) : Type 0 where
   pub bytes : new.bytes ≡ old.bytes

@@ -15,7 +15,7 @@ use Rattle.xet_shards.specs.SectionReading.{HoldsRecords, BeginsWithBookend, Pas
 abbrev pub hashes_of : List MDBXorbInfo → List (ℕ × (ℕ × ℕ))
 hashes_of xorbs = map triple_of (chunk_places xorbs)
 
--- each of the xorbs, the first of which stands at a place, starts before the stop
+-- each of the xorbs, the first of which is at an offset, starts before the stop
 abbrev pub StartBefore : ℕ → ℕ → List MDBXorbInfo → Type 0
 StartBefore at stop xorbs = All (λ e. at + 48 * total_rows xorb_records e.0 < stop) (with_fronts [] xorbs)
 

@@ -8,7 +8,7 @@ use Rattle.xet_records.specs.XorbRecord.{xorb_records}
 use Rattle.xet_shards.specs.Section.{total_rows, with_fronts}
 use Rattle.xet_shards.specs.SectionReading.{ReadsSection, HasRead, ReadsNext}
 
--- the headers of xorbs whose section stands at a place, and where each stands
+-- the headers of xorbs whose section is at an offset, and where each is
 abbrev pub xorb_headers : ℕ → List MDBXorbInfo → List (XorbChunkSequenceHeader × ℕ)
 xorb_headers at xorbs = map (λ e. (e.1.metadata, at + 48 * total_rows xorb_records e.0)) (with_fronts [] xorbs)
 
