@@ -1,12 +1,19 @@
 //! The effects of failed allocations. Each test also passes in a run in which one allocation fails,
 //! whichever it is.
 
+ghost use Rattle.xet_core_structures.specs.FileRecord.{FitsItsHeader};
+
 use crate::fixtures::{file, full_file, shard, small, xorb};
 use std::alloc::Global;
 use xet_core_structures::error::{CoreError, Result};
-use xet_core_structures::shard_format::MDBShardInfo;
+use xet_core_structures::file_structs::{
+    FileDataSequenceEntry, FileDataSequenceHeader, MDBFileInfo,
+};
+use xet_core_structures::merklehash::MerkleHash;
+use xet_core_structures::shard_format::{MDBShardFileHeader, MDBShardInfo};
 use xet_core_structures::shard_in_memory::MDBInMemoryShard;
 use xet_core_structures::source::MemorySource;
+use xet_core_structures::utils::parse_shard_filename;
 
 /// Whether a call returns the expected value or `OutOfMemory`. True if its arguments could not be
 /// allocated.
@@ -188,6 +195,119 @@ fn whole_reads_answer_or_are_out_of_memory(rt: HostRuntime) {
     if let Ok(shard) = larger_shard(alloc) {
         if let Ok(bytes) = shard.to_bytes(alloc) {
             assert!(rt; is_answer(counts_read(alloc, bytes.as_slice()), Ok([1, 2, 2, 2, 2, 1])));
+        }
+    }
+}
+
+// The tests below are of calls that do not allocate. They require the answers whichever allocation
+// fails, once the arguments are made.
+
+/// Whether a call returns this value.
+fn is_value<T: PartialEq + Drop>(answer: Result<T>, wanted: T) -> bool {
+    match answer {
+        Ok(answer) => answer == wanted,
+        Err(_) => false,
+    }
+}
+
+/// The version, the segments of file 100 and their bytes, read one after another.
+fn rows_read(alloc: Global, bytes: &[u8]) -> Result<(u64, u32, u32)> {
+    let mut reader = bytes;
+    let header = MDBShardFileHeader::deserialize(alloc, &mut reader)?;
+    let file = FileDataSequenceHeader::deserialize(&mut reader)?;
+    let segment = FileDataSequenceEntry::deserialize(&mut reader)?;
+    Ok((
+        header.version,
+        file.num_entries,
+        segment.unpacked_segment_bytes,
+    ))
+}
+
+/// The size of the shard, and what the tables have for file 100 and for xorb 11.
+fn rows_found(alloc: Global, bytes: &[u8]) -> Result<(u64, usize, u32, usize, u32)> {
+    let mut source = MemorySource::new(bytes);
+    let info = MDBShardInfo::load_from_reader(alloc, &mut source)?;
+    let size = info.num_bytes(alloc)?;
+    let mut files = [9u32; 8];
+    let mut xorbs = [9u32; 8];
+    let found = info.get_file_info_index_by_hash(alloc, &mut source, &small(100), &mut files)?;
+    let others = info.get_xorb_info_index_by_hash(alloc, &mut source, &small(11), &mut xorbs)?;
+    Ok((size, found, files[0], others, xorbs[0]))
+}
+
+/// What the chunk table has for chunk 22, and the length of its run.
+fn run_found(alloc: Global, bytes: &[u8]) -> Result<(usize, (u32, u32), Option<usize>)> {
+    let mut source = MemorySource::new(bytes);
+    let info = MDBShardInfo::load_from_reader(alloc, &mut source)?;
+    let chunk = small(22);
+    let mut places = [(9u32, 9u32); 8];
+    let found = info.get_xorb_info_index_by_chunk(alloc, &mut source, &chunk, &mut places)?;
+    let (row, index) = places[0];
+    let run = info.chunk_hash_dedup_query_direct(alloc, &mut source, &[chunk], row, index)?;
+    Ok((found, places[0], run.map(|(chunks, _)| chunks)))
+}
+
+#[test]
+fn lookups_do_not_allocate(rt: HostRuntime) {
+    let alloc = rt.alloc();
+    if let Ok(shard) = larger_shard(alloc) {
+        if let Ok(bytes) = shard.to_bytes(alloc) {
+            let bytes = bytes.as_slice();
+            assert!(rt; is_value(rows_read(alloc, bytes), (2, 1, 5)));
+            assert!(rt; is_value(rows_found(alloc, bytes), (700, 1, 0, 1, 2)));
+            assert!(rt; is_value(run_found(alloc, bytes), (1, (2, 0), Some(1))));
+            let header = bytes.get(..48).unwrap_or(&[]);
+            assert!(rt;
+                run_found(alloc, header).is_err_and(|error| error != CoreError::OutOfMemory)
+            );
+        }
+    }
+}
+
+/// Whether the shard of 700 bytes has its counts and sums, file 100, and chunk 22 in xorb 11.
+fn is_larger_shard(shard: &MDBInMemoryShard) -> bool {
+    let Some((chunks, segment)) = shard.chunk_hash_dedup_query(&[small(22)]) else {
+        return false;
+    };
+    chunks == 1
+        && segment.xorb_hash == small(11)
+        && shard.file_content().contains_key(&small(100))
+        && (shard.num_file_entries(), shard.num_xorb_entries()) == (1, 2)
+        && (shard.materialized_bytes(), shard.stored_bytes()) == (5, 10)
+        && shard.shard_file_size() == 700
+}
+
+/// Whether two records of file 100 are equal, and have its size.
+fn is_full_file(file: &MDBFileInfo, twin: &MDBFileInfo) -> bool
+    requires { FitsItsHeader file.now }
+{
+    file == twin
+        && FileDataSequenceHeader::verify_same_file(&file.metadata, &twin.metadata)
+        && file.num_bytes() == 192
+        && file.file_size() == 5
+}
+
+/// Whether hash 100 is read from its bytes and from the name of a shard, and another under a key.
+fn is_hash_read() -> bool {
+    let hash = small(100);
+    let name = "0000000000000064000000000000000100000000000000000000000000000000.mdb";
+    MerkleHash::from_slice(&hash.as_bytes()) == Ok(hash)
+        && parse_shard_filename(name) == Some(hash)
+        && hash.hmac(small(7)) != hash
+        && hash < small(101)
+}
+
+#[test]
+fn calls_in_memory_do_not_allocate(rt: HostRuntime) {
+    let alloc = rt.alloc();
+    assert!(rt; MDBInMemoryShard::new(alloc).is_empty());
+    assert!(rt; is_hash_read());
+    if let Ok(shard) = larger_shard(alloc) {
+        assert!(rt; is_larger_shard(&shard));
+    }
+    if let Ok(file) = full_file(alloc) {
+        if let Ok(twin) = full_file(alloc) {
+            assert!(rt; is_full_file(&file, &twin));
         }
     }
 }

@@ -1,4 +1,4 @@
-//! The rows of records that the words of a line spell.
+//! The hashes and the rows of records that the words of a line spell.
 
 ghost use Rattle.std.specs.Prelude.{◌≡◌, length, IfOk, IfErr};
 
@@ -6,6 +6,17 @@ use crate::words::{ParseError, parse_hash, parse_u32, split_at_colon};
 use std::alloc::Global;
 use xet_core_structures::file_structs::{FileDataSequenceEntry, FileVerificationEntry};
 use xet_core_structures::merklehash::MerkleHash;
+
+/// The hashes of words, in order. `Unreadable` if a word is not a hash.
+pub fn parse_hashes(alloc: Global, words: &[&str]) -> Result<Vec<MerkleHash>, ParseError>
+    ensures count { IfOk result (λ hashes. length hashes.items ≡ length words.now) }
+{
+    let mut hashes = Vec::new(alloc);
+    for word in words {
+        hashes.push(parse_hash(word)?)?;
+    }
+    Ok(hashes)
+}
 
 /// A chunk's hash, and its size in bytes.
 #[derive(Clone, Copy)]

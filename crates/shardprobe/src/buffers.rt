@@ -1,5 +1,6 @@
 //! Commands on buffers.
 
+use crate::fields::print_info;
 use crate::parse::parse_bytes;
 use crate::show::print_bytes;
 use crate::stop::Stop;
@@ -40,6 +41,25 @@ pub fn run_on_buffers(
         _ => return Ok(false),
     }
     Ok(true)
+}
+
+// Prints what `serialize_from` returns: the named fields, or all.
+fn print_written(
+    workspace: &Workspace,
+    alloc: Global,
+    shard: &str,
+    expiry: &str,
+    fields: &[&str],
+    out: &mut Vec<u8>,
+) -> Result<(), Stop> {
+    let expiry = match expiry {
+        "none" => None,
+        number => Some(parse_u64(number)?),
+    };
+    let mut bytes = Vec::new(alloc);
+    let shard = workspace.shard(shard)?;
+    let info = MDBShardInfo::serialize_from(alloc, &mut bytes, shard, expiry)?;
+    print_info(&info, fields, out)
 }
 
 fn write_shard(
@@ -94,6 +114,9 @@ pub fn ask_buffers(
     out: &mut Vec<u8>,
 ) -> Result<bool, Stop> {
     match words {
+        ["written", shard, expiry, fields @ ..] => {
+            print_written(workspace, alloc, shard, expiry, fields, out)?;
+        }
         ["same", first, second] => {
             let is_same = workspace.buffer(first)? == workspace.buffer(second)?;
             writeln!(out, "{is_same}")?;

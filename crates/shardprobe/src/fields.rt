@@ -28,9 +28,19 @@ pub fn print_footer(footer: &MDBShardFileFooter, out: &mut Vec<u8>) -> io::Resul
     writeln!(out)
 }
 
+/// Prints `FIELD=VALUE` for each field that is named, on one line, or for all fields if none is.
+pub fn print_info(info: &MDBShardInfo, names: &[&str], out: &mut Vec<u8>) -> Result<(), Stop> {
+    if names.is_empty() {
+        print_header(&info.header, out)?;
+        print_footer(&info.metadata, out)?;
+        return Ok(());
+    }
+    print_fields(info, names, out)
+}
+
 /// Prints `FIELD=VALUE` for each field that is named, on one line. `Unreadable` if one has another
 /// name.
-pub fn print_fields(info: &MDBShardInfo, names: &[&str], out: &mut Vec<u8>) -> Result<(), Stop> {
+fn print_fields(info: &MDBShardInfo, names: &[&str], out: &mut Vec<u8>) -> Result<(), Stop> {
     let mut separator = "";
     for name in names {
         write!(out, "{separator}{name}=")?;

@@ -6,6 +6,7 @@ mod buffers;
 mod codecs;
 mod device;
 mod fields;
+mod lookup;
 mod memory;
 mod parse;
 mod reading;

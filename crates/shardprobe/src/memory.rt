@@ -1,9 +1,10 @@
 //! Commands on shards in memory.
 
-use crate::parse::{parse_file, parse_hashes, parse_xorb};
-use crate::show::{Segment, Short, print_file, print_found, print_if_empty, print_xorb};
+use crate::parse::{parse_file, parse_xorb};
+use crate::show::{Short, print_file, print_found, print_if_empty, print_run, print_xorb};
 use crate::stop::Stop;
 use crate::workspace::Workspace;
+use script_lines::records::parse_hashes;
 use script_lines::words::parse_hash;
 use std::alloc::Global;
 use std::io;
@@ -97,7 +98,10 @@ pub fn ask_shards(
         }
         ["query", name, hashes @ ..] => {
             let hashes = parse_hashes(alloc, hashes)?;
-            print_run(workspace.shard(name)?, hashes.as_slice(), out)?;
+            let run = workspace
+                .shard(name)?
+                .chunk_hash_dedup_query(hashes.as_slice());
+            print_run(&run, out)?;
         }
         ["place", name, hash] => print_place(workspace.shard(name)?, parse_hash(hash)?, out)?,
         ["counts", name] => print_counts(workspace.shard(name)?, out)?,
@@ -107,16 +111,6 @@ pub fn ask_shards(
         _ => return Ok(false),
     }
     Ok(true)
-}
-
-fn print_run(shard: &MDBInMemoryShard, hashes: &[MerkleHash], out: &mut Vec<u8>) -> io::Result<()> {
-    match shard.chunk_hash_dedup_query(hashes) {
-        Some((count, segment)) => {
-            let segment = Segment(segment);
-            writeln!(out, "run {count} {segment}")
-        }
-        None => writeln!(out, "none"),
-    }
 }
 
 fn print_place(shard: &MDBInMemoryShard, hash: MerkleHash, out: &mut Vec<u8>) -> io::Result<()> {

@@ -200,15 +200,6 @@ pub fn parse_chunk(alloc: Global, word: &str, next: u32) -> Result<XorbChunkSequ
     })
 }
 
-/// The hashes of some words.
-pub fn parse_hashes(alloc: Global, words: &[&str]) -> Result<Vec<MerkleHash>, Stop> {
-    let mut hashes = Vec::new(alloc);
-    for word in words {
-        hashes.push(parse_hash(word)?)?;
-    }
-    Ok(hashes)
-}
-
 /// A key: a hash, or `0` for the key that is all zero.
 pub fn parse_key(word: &str) -> Result<HMACKey, Stop> {
     if word == "0" {

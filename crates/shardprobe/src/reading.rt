@@ -1,7 +1,10 @@
 //! Commands that read a buffer through the device.
 
 use crate::device::{Device, Fault, Operation, Plan};
-use crate::fields::{print_fields, print_footer, print_header};
+use crate::fields::print_info;
+use crate::lookup::{
+    print_chunk_index, print_file_index, print_xorb_index, query_at, query_chunks,
+};
 use crate::search::search;
 use crate::show::{
     Short, print_file, print_found, print_hash, print_if_empty, print_xorb, print_xorb_header,
@@ -12,7 +15,6 @@ use script_lines::words::{parse_hash, parse_u32, parse_u64};
 use std::alloc::Global;
 use std::io;
 use std::io::{ErrorKind, Write};
-use xet_core_structures::merklehash::MerkleHash;
 use xet_core_structures::shard_format::MDBShardInfo;
 use xet_core_structures::source::{MemorySource, ShardSource};
 
@@ -62,6 +64,8 @@ fn call(
         "load" => return load(alloc, source, rest, out),
         "read_file_ranges" => return read_file_ranges(alloc, source, rest, out),
         "search" => return search(alloc, source, rest, out),
+        "run" => return query_chunks(alloc, &info_of(alloc, bytes)?, source, rest, out),
+        "run_at" => return query_at(alloc, &info_of(alloc, bytes)?, source, rest, out),
         _ => {}
     }
     match rest {
@@ -83,12 +87,7 @@ fn load(
     out: &mut Vec<u8>,
 ) -> Result<(), Stop> {
     let info = MDBShardInfo::load_from_reader(alloc, source)?;
-    if fields.is_empty() {
-        print_header(&info.header, out)?;
-        print_footer(&info.metadata, out)?;
-        return Ok(());
-    }
-    print_fields(&info, fields, out)
+    print_info(&info, fields, out)
 }
 
 fn read_file_ranges(
@@ -266,6 +265,14 @@ fn look_up(
             let hash = parse_hash(word)?;
             print_file_index(alloc, &info_of(alloc, bytes)?, source, hash, out)?;
         }
+        "xorb_index" => {
+            let hash = parse_hash(word)?;
+            print_xorb_index(alloc, &info_of(alloc, bytes)?, source, hash, out)?;
+        }
+        "chunk_index" => {
+            let hash = parse_hash(word)?;
+            print_chunk_index(alloc, &info_of(alloc, bytes)?, source, hash, out)?;
+        }
         "file_at" => {
             let row = parse_u32(word)?;
             let file = info_of(alloc, bytes)?.read_file_info(alloc, source, row)?;
@@ -286,34 +293,45 @@ fn look_up(
     Ok(())
 }
 
-fn print_file_index(
+// Runs a command on the buffer that its second word names, and once more on the same device if a
+// call of it failed. The results are those of the last run.
+fn run_again(
+    workspace: &Workspace,
     alloc: Global,
-    info: &MDBShardInfo,
-    source: &mut Device<'_>,
-    hash: MerkleHash,
+    plan: Plan,
+    words: &[&str],
     out: &mut Vec<u8>,
-) -> Result<(), Stop> {
-    let mut rows = [0u32; 8];
-    let count = info.get_file_info_index_by_hash(alloc, source, &hash, &mut rows)?;
-    let found = &mut rows[..count];
-    found.sort_unstable();
-    write!(out, "{count}")?;
-    let mut separator = ": ";
-    for row in found.iter() {
-        write!(out, "{separator}{row}")?;
-        separator = " ";
+) -> Result<Report, Stop> {
+    let [command, name, rest @ ..] = words else {
+        return Err(Stop::Unreadable);
+    };
+    let bytes = workspace.buffer(name)?;
+    let mut source = Device::new(bytes, plan);
+    let mut printed = Vec::new(alloc);
+    let mut answer = call(alloc, command, bytes, &mut source, rest, &mut printed);
+    let has_failed = source.has_failed();
+    if has_failed {
+        printed.clear();
+        answer = call(alloc, command, bytes, &mut source, rest, &mut printed);
     }
-    writeln!(out)?;
-    Ok(())
+    out.extend_from_slice(printed.as_slice())?;
+    Ok(Report {
+        answer,
+        seeks_made: source.seeks_made(),
+        bytes_read: source.bytes_read(),
+        has_failed,
+    })
 }
 
-/// Runs a command with each call of the device failing in turn, until a run meets no failure.
-/// Prints how many failed and the errors, one if they are all the same, and then the output of the
-/// run without failure.
+/// Runs a command with each call of the device failing in turn, until a run meets no failure, and
+/// with `again` a second time on the same device after a failure. Prints how many failed and the
+/// last results of these runs, one if they are all the same, `as below` if they are that of the run
+/// without failure, and then the output of that run.
 pub fn run_each_failure(
     workspace: &Workspace,
     alloc: Global,
     plan: Plan,
+    again: bool,
     words: &[&str],
     out: &mut Vec<u8>,
 ) -> Result<(), Stop> {
@@ -330,14 +348,19 @@ pub fn run_each_failure(
             fault: Some(fault),
             ..plan
         };
-        let report = run_reading(workspace, alloc, plan, words, &mut printed)?;
+        let report = if again {
+            run_again(workspace, alloc, plan, words, &mut printed)?
+        } else {
+            run_reading(workspace, alloc, plan, words, &mut printed)?
+        };
         if !report.has_failed {
-            if matches!(&report.answer, Err(Stop::Unreadable)) {
-                return Err(Stop::Unreadable);
-            }
-            print_failures(turn - 1, answers.as_slice(), out)?;
-            out.extend_from_slice(printed.as_slice())?;
-            return report.answer;
+            return finish(
+                turn - 1,
+                answers.as_slice(),
+                report,
+                printed.as_slice(),
+                out,
+            );
         }
         if let Err(stop) = report.answer {
             write!(printed, "{stop}")?;
@@ -348,6 +371,23 @@ pub fn run_each_failure(
         }
     }
     Ok(())
+}
+
+// Prints the results of the runs with a failure, and then the output of the run without one.
+fn finish(
+    count: u64,
+    answers: &[u8],
+    last: Report,
+    printed: &[u8],
+    out: &mut Vec<u8>,
+) -> Result<(), Stop> {
+    if matches!(&last.answer, Err(Stop::Unreadable)) {
+        return Err(Stop::Unreadable);
+    }
+    let is_same = last.answer.is_ok() && answers == printed;
+    print_failures(count, if is_same { b"as below" } else { answers }, out)?;
+    out.extend_from_slice(printed)?;
+    last.answer
 }
 
 fn write_separated(answers: &mut Vec<u8>, answer: &[u8]) -> io::Result<()> {

@@ -91,7 +91,10 @@ impl Probe {
                 make_table(&mut self.workspace, alloc, name, width, rows)
             }
             ["each_failure", command @ ..] => {
-                run_each_failure(&self.workspace, alloc, self.plan, command, out)
+                run_each_failure(&self.workspace, alloc, self.plan, false, command, out)
+            }
+            ["each_failure_again", command @ ..] => {
+                run_each_failure(&self.workspace, alloc, self.plan, true, command, out)
             }
             _ => self.read(alloc, words, out),
         }

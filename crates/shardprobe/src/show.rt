@@ -195,6 +195,20 @@ pub fn print_found(file: &Option<MDBFileInfo>, out: &mut Vec<u8>) -> io::Result<
     }
 }
 
+/// Prints a run of chunks: their number, and their segment; or `none`.
+pub fn print_run(
+    run: &Option<(usize, FileDataSequenceEntry)>,
+    out: &mut Vec<u8>,
+) -> io::Result<()> {
+    match run {
+        Some((count, segment)) => {
+            let segment = Segment(*segment);
+            writeln!(out, "run {count} {segment}")
+        }
+        None => writeln!(out, "none"),
+    }
+}
+
 /// Prints a hash, or `none`.
 pub fn print_hash(hash: Option<MerkleHash>, out: &mut Vec<u8>) -> io::Result<()> {
     match hash {

@@ -27,6 +27,7 @@ pub fn run_on_values(alloc: Global, words: &[&str], out: &mut Vec<u8>) -> Result
             let digits = parse_hash(hash)?.hex(alloc)?;
             writeln!(out, "{digits}")?;
         }
+        ["from_hex"] => print_words(hash_of_text(alloc, "")?, out)?,
         ["from_hex", text] => print_words(hash_of_text(alloc, text)?, out)?,
         ["from_bytes", digits @ ..] => print_words(hash_of_bytes(alloc, digits)?, out)?,
         ["as_bytes", hash] => print_bytes(alloc, &parse_hash(hash)?.as_bytes(), out)?,
@@ -72,6 +73,7 @@ fn run_on_names(alloc: Global, words: &[&str], out: &mut Vec<u8>) -> Result<bool
             let name = shard_file_name(alloc, &parse_hash(hash)?)?;
             writeln!(out, "{name}")?;
         }
+        ["parse_name"] => print_hash(parse_shard_filename(""), out)?,
         ["parse_name", text] => print_hash(parse_shard_filename(text), out)?,
         ["expiry", now, valid_seconds] => {
             let expiry = shard_expiry_time(parse_u64(now)?, parse_u64(valid_seconds)?)?;

@@ -5,7 +5,9 @@ ghost use Rattle.script_lines.specs.Words.{IsSkipped};
 
 use script_lines::lines::{is_skipped, split_words};
 use script_lines::ranges::ByteRange;
-use script_lines::records::{SizedChunk, parse_chunks, parse_segments, parse_verification};
+use script_lines::records::{
+    SizedChunk, parse_chunks, parse_hashes, parse_segments, parse_verification,
+};
 use script_lines::words::{ParseError, parse_hash, parse_name, parse_u64, split_option};
 use std::alloc::Global;
 use xet_core_structures::file_structs::{
@@ -40,6 +42,12 @@ pub enum Command<'a> {
     Find {
         buffer: &'a str,
         hash: MerkleHash,
+    },
+    /// `query B HASH ..`: looks for a run of these chunks in a buffer's bytes and prints it, or
+    /// `none`.
+    Query {
+        buffer: &'a str,
+        hashes: Vec<MerkleHash>,
     },
     /// `size B`: prints a buffer's length.
     Size {
@@ -99,6 +107,7 @@ fn parse_words<'a>(alloc: Global, words: &[&'a str]) -> Result<Command<'a>, Pars
         "file" => parse_file(alloc, arguments),
         "write" => parse_write(arguments),
         "find" => parse_find(arguments),
+        "query" => parse_query(alloc, arguments),
         "size" => parse_size(arguments),
         "hex" => parse_hex(arguments),
         _ => Err(ParseError::Unreadable),
@@ -170,6 +179,15 @@ fn parse_find<'a>(arguments: &[&'a str]) -> Result<Command<'a>, ParseError> {
     let buffer = parse_name(buffer)?;
     let hash = parse_hash(hash)?;
     Ok(Command::Find { buffer, hash })
+}
+
+fn parse_query<'a>(alloc: Global, arguments: &[&'a str]) -> Result<Command<'a>, ParseError> {
+    let [buffer, rest @ ..] = arguments else {
+        return Err(ParseError::Unreadable);
+    };
+    let buffer = parse_name(buffer)?;
+    let hashes = parse_hashes(alloc, rest)?;
+    Ok(Command::Query { buffer, hashes })
 }
 
 fn parse_size<'a>(arguments: &[&'a str]) -> Result<Command<'a>, ParseError> {

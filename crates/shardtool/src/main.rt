@@ -4,6 +4,7 @@
 
 mod command;
 mod find;
+mod query;
 mod run;
 #[cfg(test)]
 mod tests;

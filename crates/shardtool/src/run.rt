@@ -7,6 +7,7 @@ ghost use Rattle.shardtool.specs.Ends.{IsRefused, EndsAt};
 
 use crate::command::{Command, FileLine, XorbLine, parse_line};
 use crate::find::find_file;
+use crate::query::{print_run, query_chunks};
 use script_lines::lines::without_end;
 use script_lines::print::print_file;
 use script_lines::ranges::{ByteRange, bytes_in, hex_digits};
@@ -225,6 +226,9 @@ impl Workspace {
                 expiry,
             } => self.write_shard(alloc, shard, buffer, expiry),
             Command::Find { buffer, hash } => self.print_found(alloc, buffer, hash, output),
+            Command::Query { buffer, hashes } => {
+                self.print_query(alloc, buffer, hashes.as_slice(), output)
+            }
             Command::Size { buffer } => self.print_size(buffer, output),
             Command::Hex { buffer, range } => self.print_hex(alloc, buffer, range, output),
         }
@@ -303,6 +307,23 @@ impl Workspace {
     {
         match find_file(alloc, self.bytes_of(buffer)?, &hash)? {
             Some(file) => print_file(&file, output)?,
+            None => writeln!(output, "none")?,
+        }
+        Ok(())
+    }
+
+    fn print_query<W: Write>(
+        &self,
+        alloc: Global,
+        buffer: &str,
+        hashes: &[MerkleHash],
+        output: &mut W,
+    ) -> Result<(), Stop>
+        ensures { IsErrOf result Stop.Unreadable
+            ↔ IsNone (get_by_text self.now.buffers buffer.now) }
+    {
+        match query_chunks(alloc, self.bytes_of(buffer)?, hashes)? {
+            Some((count, segment)) => print_run(count, &segment, output)?,
             None => writeln!(output, "none")?,
         }
         Ok(())

@@ -1,4 +1,5 @@
-//! Tests that no script can make: the printed name of each error, and inputs and outputs that fail.
+//! Tests that no script can make: the printed name of each error, inputs and outputs that fail, and
+//! allocations that fail.
 
 use crate::run::run_script;
 use script_lines::refusal::Refusal;
@@ -221,4 +222,55 @@ fn output_out_of_memory_or_interrupted(rt: HostRuntime) -> Result<(), Fail> {
         expect_output(&rt, sizes, left, io::ErrorKind::Interrupted, true, 0)?;
     }
     Ok(())
+}
+
+// An output of up to 512 bytes, which does not allocate.
+#[derive(Drop)]
+struct Page {
+    bytes: [u8; 512],
+    len: usize,
+}
+
+impl Write for Page {
+    fn write(&mut self, buf: &[u8]) -> io::Result<usize> {
+        if buf.is_empty() || self.len >= 512 {
+            return Ok(0);
+        }
+        self.bytes[self.len] = buf[0];
+        self.len += 1;
+        Ok(1)
+    }
+
+    fn flush(&mut self) -> io::Result<()> {
+        Ok(())
+    }
+}
+
+const SCRIPT: &str =
+    "shard s\nxorb s 10 21:5\nfile s 100 v=7 s=3 200:0:5:70\nwrite s b\nfind b 100\nsize b\nhex b 0 2\n";
+
+const PRINTED: &str =
+    "file 0000000000000064000000000000000100000000000000000000000000000000 flags 3221225472 segments 1 bytes 70
+seg 00000000000000c8000000000000000100000000000000000000000000000000 0 5 70
+ver 0000000000000007000000000000000100000000000000000000000000000000
+sha 0000000000000003000000000000000100000000000000000000000000000000
+672
+4846
+";
+
+// Also passes in a run in which an allocation fails, whichever it is: the script is then refused,
+// after the lines that it printed before.
+#[test]
+fn failing_allocations(rt: HostRuntime) {
+    let mut input = SCRIPT.as_bytes();
+    let mut output = Page {
+        bytes: [0; 512],
+        len: 0,
+    };
+    let status = run_script(rt.alloc(), &mut input, &mut output);
+    let printed = output.bytes.get(..output.len).unwrap_or(&[]);
+    match printed.strip_suffix(b"refused: OutOfMemory\n") {
+        Some(lines) => assert!(rt; status == 1 && PRINTED.as_bytes().starts_with(lines)),
+        None => assert!(rt; status == 0 && printed == PRINTED.as_bytes()),
+    }
 }

@@ -7,7 +7,8 @@ use Rattle.std.proofs.Math.Seq.{take-suc-set, drop-append-add}
 use Rattle.std.proofs.Math.Nat.{eq-zero-or-pos}
 use Rattle.std.proofs.lemmas.Bool.{cases_lt}
 use Rattle.xet_base.specs.Source.{Source, next_bytes}
-use Rattle.xet_base.specs.Table.{Table, row_offset, spelled_u64, key_at, value_at, HasKey, hits_below, Hit, IsHit, OtherRow, Finds, ReadsOn}
+use Rattle.xet_base.specs.Bytes.{spelled_u64}
+use Rattle.xet_base.specs.Table.{Table, row_offset, key_at, value_at, HasKey, hits_below, Hit, IsHit, OtherRow, Finds, ReadsOn}
 use Rattle.xet_base.specs.Search.{IsRow, Kept, FindsFrom, Counts, Passes, Runs}
 use Rattle.xet_base.proofs.Progress.{FindsAround, Collected, Keeps}
 use Rattle.xet_base.proofs.Lists.{front_is}

@@ -2,10 +2,9 @@
 use Rattle.std.proofs.Common.{◌≡◌, [], ◌++◌, drop, refl, sym, ap, ◌∙◌, append-nil}
 use Rattle.std.proofs.lemmas.List.{append_assoc, length-append}
 use Rattle.xet_base.specs.declared.merklehash.DataHash.{DataHash}
-use Rattle.xet_base.specs.Bytes.{u64_bytes}
+use Rattle.xet_base.specs.Bytes.{u64_bytes, spelled_u64}
 use Rattle.xet_base.specs.Hash.{hash_bytes, IsHash}
 use Rattle.xet_base.specs.KeyedHash.{hash_of}
-use Rattle.xet_base.specs.Table.{spelled_u64}
 use Rattle.xet_base.proofs.Bytes.{length-u64_bytes}
 use Rattle.xet_base.proofs.KnownTable.{spelled_u64-bytes}
 use Rattle.xet_base.proofs.Lists.{front_is, rest_is}

@@ -4,8 +4,8 @@ use Rattle.std.proofs.lemmas.List.{drop-drop, length-append, length-drop}
 use Rattle.std.proofs.Math.Nat.{add-mul}
 use Rattle.std.proofs.lemmas.Bool.{cases_eq, eq-eqb, ne_eqb, cond-true, cond-false}
 use Rattle.std.proofs.lemmas.Nat.{from_le_bytes-to_le_bytes_8}
-use Rattle.xet_base.specs.Bytes.{u64_bytes}
-use Rattle.xet_base.specs.Table.{Table, offset_of_row, row_offset, spelled_u64, key_at, value_at, HasKey, hits_below}
+use Rattle.xet_base.specs.Bytes.{u64_bytes, spelled_u64}
+use Rattle.xet_base.specs.Table.{Table, offset_of_row, row_offset, key_at, value_at, HasKey, hits_below}
 use Rattle.xet_base.proofs.Bytes.{length-u64_bytes}
 use Rattle.xet_base.proofs.Lists.{front_is, rest_is}
 use Rattle.xet_base.proofs.Tables.{hits_below-hit, hits_below-miss, offset_of_row-next}

@@ -1,12 +1,15 @@
 -- The turns of the loops that fill a slice.
-use Rattle.std.proofs.Common.{◌≡◌, ℕ, ◌+◌, ◌<◌, ◌≤◌, List, ◌++◌, length, take, Option, None, Some, sym, ap, ◌∙◌, subst, arith, take-append-drop}
-use Rattle.std.proofs.lemmas.List.{drop-drop, length-append, length-drop}
+use Rattle.std.proofs.Common.{◌≡◌, ℕ, ◌+◌, ◌*◌, ◌<◌, ◌≤◌, List, ◌++◌, length, take, flat_map, Option, None, Some, sym, ap, ◌∙◌, subst, arith, mul-le-mul_left, take-append-drop}
+use Rattle.std.proofs.Math.Nat.{mul-suc}
+use Rattle.std.proofs.lemmas.List.{drop-drop, length-append, length-drop, length-take}
 use Rattle.std.proofs.KnownBytes.{Consumes-trans, Consumes-kept}
 use Rattle.std.proofs.lemmas.Slice.{take-put_mid_below}
 use Rattle.std.specs.Io.KnownBytes.{Consumes, Keeps}
 use borrow.Rule.Slice.PartMut.{put_mid}
-use Rattle.xet_base.specs.Bytes.{HasBytes}
+use Rattle.xet_base.specs.Bytes.{HasBytes, LacksBytes}
+use Rattle.xet_base.specs.InputLaws.{LacksBytes-consumed}
 use Rattle.xet_base.specs.Source.{Source, bytes_left, Takes}
+use Rattle.xet_base.proofs.Bytes.{length-numbers}
 use Rattle.xet_base.proofs.Lists.{take-put_mid_part}
 
 -- one more read of n bytes into a slice that is filled up to `filled`
@@ -26,6 +29,21 @@ pub taken_still : (a b c : Option (List ℕ)) (filled k : ℕ) (slice part : Lis
     → Consumes a b (take filled slice) → Keeps b c → Consumes a c (take filled (put_mid filled k slice part))
 taken_still a b c filled k slice part within taken kept =
     subst (Consumes a c) (sym (take-put_mid_below filled k slice part filled (omega arith) within)) (Consumes-kept a b c (take filled slice) taken kept)
+
+-- numbers of `size` bytes each, read one after another: the first i of them were read
+module _ (number_bytes : ℕ → List ℕ) (size : ℕ) (len : (n : ℕ) → length (number_bytes n) ≡ size) where
+  pub numbers_end : (a b : Option (List ℕ)) (ns : List ℕ) (i all : ℕ) → i < all → Consumes a b (flat_map number_bytes (take i ns))
+      → LacksBytes b size → LacksBytes a (size * all)
+  numbers_end a b ns i all more taken lacks =
+      let some : length (take i ns) < all = omega (arith, more, length-take i ns) in
+      LacksBytes-consumed a b (flat_map number_bytes (take i ns)) size _
+      (omega (arith, length-numbers number_bytes size len (take i ns), mul-suc size (length (take i ns)), mul-le-mul_left size some)) taken lacks
+
+  pub numbers_enough : (a b : Option (List ℕ)) (ns : List ℕ) (i all : ℕ) → i ≡ all → all ≤ length ns → Consumes a b (flat_map number_bytes (take i ns))
+      → HasBytes a (size * all)
+  numbers_enough a b ns i all end within taken =
+      let count : length (take i ns) ≡ all = omega (arith, end, within, length-take i ns) in
+      HasBytes-consumed a b (flat_map number_bytes (take i ns)) _ (length-numbers number_bytes size len (take i ns) ∙ ap (λ n. size * n) count) taken
 
 -- what was read from a source was consumed from the bytes that it had left
 pub Takes-consumes : (a b : Source) (xs : List ℕ) → Takes a b xs → Consumes (Some (bytes_left a)) (Some (bytes_left b)) xs

@@ -5,7 +5,8 @@ use Rattle.xet_base.specs.declared.interpolation_search.table_range.TableRange.{
 use Rattle.std.specs.declared.result.Result.{Result}
 use Rattle.std.specs.declared.io.Error.{Error}
 use Rattle.xet_base.specs.Source.{Source, advanced, moved, next_bytes, FillFailure, FillFails}
-use Rattle.xet_base.specs.Table.{Table, table_at, Answers, Finds, row_offset, spelled_u64, key_at, Serves, TableFailure, ReadsOn}
+use Rattle.xet_base.specs.Bytes.{spelled_u64}
+use Rattle.xet_base.specs.Table.{Table, table_at, Answers, Finds, row_offset, key_at, Serves, TableFailure, ReadsOn}
 use Rattle.xet_base.specs.Search.{table_in, ReadsKey, Stops}
 use Rattle.xet_base.proofs.Tables.{offset_of_row-next, offset_of_row-le}
 

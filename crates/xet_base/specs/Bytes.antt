@@ -1,6 +1,6 @@
 -- Numbers as bytes, lowest byte first, and how many bytes a reader is known to have.
 use Rattle.std.specs.Prelude.{ℕ, ◌<◌, ◌≤◌, List, length, Option, Some, None, ⊤}
-use Rattle.std.specs.Int.{to_le_bytes, w32, w64}
+use Rattle.std.specs.Int.{to_le_bytes, from_le_bytes, w32, w64}
 
 -- the four bytes of a number below 2 ^ 32
 unfoldable pub u32_bytes : ℕ → List ℕ
@@ -9,6 +9,10 @@ u32_bytes n = to_le_bytes w32 n
 -- the eight bytes of a number below 2 ^ 64
 unfoldable pub u64_bytes : ℕ → List ℕ
 u64_bytes n = to_le_bytes w64 n
+
+-- the number that eight bytes spell, lowest byte first
+unfoldable pub spelled_u64 : List ℕ → ℕ
+spelled_u64 bytes = from_le_bytes w64 bytes
 
 -- a reader has at least n bytes, if its bytes are known
 abbrev pub HasBytes : Option (List ℕ) → ℕ → Type 0

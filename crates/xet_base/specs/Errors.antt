@@ -1,5 +1,5 @@
 -- What clauses say of errors.
-use Rattle.std.specs.Prelude.{◌≡◌, ◌≢◌, ℕ, List, [], string_bytes, Option, None, Some, Ok, Err, ⊤}
+use Rattle.std.specs.Prelude.{◌≡◌, ◌≢◌, ◌⊎◌, ℕ, List, [], string_bytes, Option, None, Some, Ok, Err, ⊤, MatchResult}
 use Rattle.std.specs.declared.result.Result.{Result}
 use Rattle.std.specs.IoError.{error_kind}
 use Rattle.std.specs.declared.io.Error.{Error}
@@ -81,3 +81,8 @@ abbrev pub WithoutFormatError : {T : Type 0} → CoreResult T → CoreResult (Op
 WithoutFormatError (Ok v) r = r ≡ Ok (Some v)
 WithoutFormatError (Err (MalformedData _)) r = r ≡ Ok None
 WithoutFormatError (Err e) r = r ≡ Err e
+
+-- the result of a call that checks its arguments first: `InvalidArguments` exactly if they cannot be admitted, and no error
+-- but this and `OutOfMemory`
+abbrev pub Admits : {T : Type 0} → Type 0 → CoreResult T → Type 0
+Admits Can result = MatchResult result (λ _. Can) (λ e. ((e ≡ InvalidArguments) × (¬ Can)) ⊎ ((e ≡ OutOfMemory) × Can))

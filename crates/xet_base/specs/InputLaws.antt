@@ -12,7 +12,8 @@ use Rattle.xet_base.specs.declared.error.CoreError.TheVariants.{Io, OutOfMemory}
 use Rattle.xet_base.specs.Bytes.{LacksBytes}
 use Rattle.xet_base.specs.Errors.{FromDevice}
 use Rattle.xet_base.specs.Input.{ReaderLacks, ReaderFails}
-use Rattle.xet_base.specs.Source.{Source, advanced, next_bytes, Takes, FillFailure, FillFails, ReadFailure, ReadFails}
+use Rattle.xet_base.specs.Source.{Source, advanced, next_bytes, Takes, DeviceFailure, FailedBy, ReadCase, FillFailure, FillFails, ReadFails}
+use Rattle.xet_base.specs.Source.ReadCase.{out_of_memory, out_of_bytes}
 
 pub advanced-advanced : (s : Source) (m n : ℕ) → advanced (advanced s m) n ≡ advanced s (m + n)
 advanced-advanced s m n i = record s { at = add_assoc s.at m n i; read = add_assoc s.read m n i }
@@ -61,10 +62,25 @@ reader_fails_later a b xs n most f taken fails within =
 pub reader_lacks_memory : (remaining : Option (List ℕ)) (most : ℕ) (f : CoreError) → f ≡ OutOfMemory → ReaderFails remaining most f
 reader_lacks_memory remaining most f memory = rw memory (record { cause = tt; end = λ ended. absurd ended })
 
+-- a failure after calls that did not fail is one over all of them
+pub failed_after : (Case Later : CoreError → Type 0) (old mid new : Source) (e : CoreError) → mid.failures ≡ old.failures → (Case e → Later e)
+    → FailedBy Case mid new e → FailedBy Later old new e
+failed_after Case Later old mid new e same later (inl failed) = inl (failed.0 ∙ ap (λ n. n + 1) same, failed.1, failed.2, failed.3)
+failed_after Case Later old mid new e same later (inr (none, holds)) = inr (none ∙ same, later holds)
+
+-- what the cases leave beside the device
+pub unless_device : (Case : CoreError → Type 0) (Left : Type 0) (old new : Source) (e : CoreError) → (Case e → Left) → FailedBy Case old new e → DeviceFailure old new e ⊎ Left
+unless_device Case Left old new e leaves (inl failed) = inl failed
+unless_device Case Left old new e leaves (inr (none, holds)) = inr (leaves holds)
+
+pub read_case : (Short Later : Type 0) (e : CoreError) → (Short → Later) → ReadCase Short e → ReadCase Later e
+read_case Short Later e later (out_of_memory is) = out_of_memory is
+read_case Short Later e later (out_of_bytes is short) = out_of_bytes is (later short)
+
 -- a read of a source that failed
-read_failure : (old new : Source) (n : ℕ) (e : Error) (f : CoreError) → FillFailure old new n e → FromDevice e f → ReadFailure old new n f
+read_failure : (old new : Source) (n : ℕ) (e : Error) (f : CoreError) → FillFailure old new n e → FromDevice e f → FailedBy (ReadCase (length old.bytes < old.at + n)) old new f
 read_failure old new n e f (inl (failed, last)) made = inl (failed, e, last, made)
-read_failure old new n e (Io g) (inr (same, ended, short)) made = inr (same, ap error_kind made.0 ∙ ended, short)
+read_failure old new n e (Io g) (inr (same, ended, short)) made = inr (same, out_of_bytes (ap error_kind made.0 ∙ ended) short)
 read_failure old new n e OutOfMemory (inr (same, ended, short)) made = absurd (cc)
 read_failure old new n e _ (inr (same, ended, short)) made = absurd made
 
@@ -74,15 +90,8 @@ source_fails old new n e f fails made = record {
   bytes = fails.bytes;
   seeks = fails.seeks;
   read = fails.read;
-  cause = inl (read_failure old new n e f fails.cause made);
+  cause = read_failure old new n e f fails.cause made;
 }
-
-later_failure : (old new : Source) (k n most : ℕ) (f : CoreError) → k + n ≤ most
-    → ReadFailure (advanced old k) new n f ⊎ ((new.failures ≡ old.failures) × (f ≡ OutOfMemory))
-    → ReadFailure old new most f ⊎ ((new.failures ≡ old.failures) × (f ≡ OutOfMemory))
-later_failure old new k n most f within (inl (inl device)) = inl (inl device)
-later_failure old new k n most f within (inl (inr (same, ended, short))) = inl (inr (same, ended, omega (arith, short, within)))
-later_failure old new k n most f within (inr memory) = inr memory
 
 later : (old new : Source) (k n most : ℕ) (f : CoreError) → k + n ≤ most → ReadFails (advanced old k) new n f → ReadFails old new most f
 later old new k n most f within fails = record {
@@ -90,7 +99,8 @@ later old new k n most f within fails = record {
   bytes = fails.bytes;
   seeks = fails.seeks;
   read = omega (arith, fails.read, within);
-  cause = later_failure old new k n most f within fails.cause;
+  cause = failed_after (ReadCase (length old.bytes < old.at + k + n)) (ReadCase (length old.bytes < old.at + most)) old (advanced old k) new f refl
+      (read_case (length old.bytes < old.at + k + n) (length old.bytes < old.at + most) f (λ short. omega (arith, short, within))) fails.cause;
 }
 
 pub source_fails_later : (a b c : Source) (xs : List ℕ) (n most : ℕ) (f : CoreError) → Takes a b xs → ReadFails b c n f
@@ -104,5 +114,5 @@ source_lacks_memory a b xs most f taken within some memory = record {
   bytes = ap (λ s. s.bytes) taken.after;
   seeks = ap (λ s. s.seeks) taken.after;
   read = omega (arith, ap (λ s. s.read) taken.after, within);
-  cause = inr (ap (λ s. s.failures) taken.after, memory);
+  cause = inr (ap (λ s. s.failures) taken.after, out_of_memory memory);
 }

@@ -1,9 +1,10 @@
 -- The steps of a search: one key, and rows that are read on.
-use Rattle.std.specs.Prelude.{◌≡◌, ℕ, ◌+◌, ◌<◌, ◌≤◌, List, length, set, min, All}
+use Rattle.std.specs.Prelude.{◌≡◌, ℕ, ◌+◌, ◌<◌, ◌≤◌, List, length, set, min, All, IfOk}
 use Rattle.std.specs.declared.io.Error.{Error}
+use Rattle.std.specs.declared.result.Result.{Result}
 use Rattle.xet_base.specs.declared.interpolation_search.table_range.TableRange.{TableRange}
 use Rattle.xet_base.specs.Source.{Source, advanced, moved}
-use Rattle.xet_base.specs.Table.{Table, row_offset, key_at, HasKey, hits_below, Finds, TableFailure}
+use Rattle.xet_base.specs.Table.{Table, row_offset, key_at, HasKey, hits_below, Finds, TableFailure, ActsAsReadFull}
 
 -- the table of a range of these bytes
 abbrev pub table_in : TableRange → List ℕ → Table
@@ -14,6 +15,10 @@ pub record ReadsKey (t : Table) (i : ℕ) (old new : Source) (found : ℕ) : Typ
   pub there : HasKey t i
   pub is_key : found ≡ key_at t i
   pub after : new ≡ advanced (moved old (row_offset t i)) 8
+
+-- each value is read from `width` bytes, by a function with this result
+abbrev pub ReadsValues : {R V : Type 0} → ℕ → (R → Source) → (R → Result V Error → R → Type 0) → Type 0
+ReadsValues {R} {V} width meaning post = (s : R) (r : Result V Error) (t : R) → post s r t → ActsAsReadFull width (meaning s) r (meaning t)
 
 -- reading was cut off after so many seeks and at most so many bytes
 pub record Stops (t : Table) (made most : ℕ) (old new : Source) (e : Error) : Type 0 where
@@ -37,6 +42,11 @@ pub record Kept {V : Type 0} (old new : List V) (count : ℕ) (value : V) (count
 pub record FindsFrom {V : Type 0} (t : Table) (key : ℕ) (Gives : List ℕ → V → Type 0) (from : ℕ) (old new : List V) (count : ℕ) : Type 0 where
   pub finds : Finds t key Gives old new count
   pub rows : All (λ hit. from ≤ hit.row) finds.found
+
+-- the results are extended by the values of rows from `from` to before `to`, if they were those of rows from `to` on
+abbrev pub Extends : {V : Type 0} → Table → ℕ → (List ℕ → V → Type 0) → ℕ → ℕ → ℕ → List V → List V → Result ℕ Error → Type 0
+Extends {V} t key Gives from to had old new result =
+    (before : List V) → FindsFrom t key Gives to before old had → IfOk result (FindsFrom t key Gives from before new)
 
 -- of `had` results and the rows with the key from `from` to before `to`, as many are kept as fit
 abbrev pub Counts : Table → ℕ → ℕ → ℕ → ℕ → ℕ → ℕ → Type 0

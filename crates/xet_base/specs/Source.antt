@@ -73,11 +73,14 @@ abbrev pub DeviceFailure : Source → Source → CoreError → Type 0
 DeviceFailure old new e =
     (new.failures ≡ old.failures + 1) × (failure : Error) × (new.last_failure ≡ Some failure) × FromDevice failure e
 
--- a read of n bytes failed: the device failed, with its own error, or the bytes ended
-abbrev pub ReadFailure : Source → Source → ℕ → CoreError → Type 0
-ReadFailure old new n e =
-    DeviceFailure old new e
-    ⊎ ((new.failures ≡ old.failures) × IsEndOfInput e × (length old.bytes < old.at + n))
+-- why a call failed: the device did, or it did not and one of some cases holds
+abbrev pub FailedBy : (CoreError → Type 0) → Source → Source → CoreError → Type 0
+FailedBy Case old new e = DeviceFailure old new e ⊎ ((new.failures ≡ old.failures) × Case e)
+
+-- the cases of a read: an allocation failed, or the bytes ended too early
+pub data ReadCase (Short : Type 0) (e : CoreError) : Type 0 where
+  out_of_memory : e ≡ OutOfMemory → ReadCase Short e
+  out_of_bytes : IsEndOfInput e → Short → ReadCase Short e
 
 -- reading up to n bytes, at least one, failed: the device failed, the bytes ended, or memory ran out; the position
 -- afterwards is unspecified
@@ -86,4 +89,4 @@ pub record ReadFails (old new : Source) (n : ℕ) (e : CoreError) : Type 0 where
   pub bytes : new.bytes ≡ old.bytes
   pub seeks : new.seeks ≡ old.seeks
   pub read : new.read ≤ old.read + n
-  pub cause : ReadFailure old new n e ⊎ ((new.failures ≡ old.failures) × (e ≡ OutOfMemory))
+  pub cause : FailedBy (ReadCase (length old.bytes < old.at + n)) old new e

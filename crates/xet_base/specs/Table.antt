@@ -2,10 +2,10 @@
 -- a key, what a search may answer, and what it may cost.
 use Rattle.std.specs.Prelude.{◌≡◌, ◌≢◌, ◌⊎◌, ◌&&◌, ◌==◌, ℕ, zero, suc, ◌+◌, ◌-◌, ◌*◌, ◌/◌, ◌^◌, ◌<◌, ◌≤◌, ◌++◌, List, length, take, drop, map, All, AllPairs, nat_le, string_bytes, [], Some, Ok, Err, if◌then◌else◌}
 use Rattle.std.specs.declared.result.Result.{Result}
-use Rattle.std.specs.Int.{from_le_bytes, w64}
 use Rattle.std.specs.IoError.{error_kind}
 use Rattle.std.specs.declared.io.Error.{Error}
 use Rattle.std.specs.declared.io.ErrorKind.TheVariants.{UnexpectedEof}
+use Rattle.xet_base.specs.Bytes.{spelled_u64}
 use Rattle.xet_base.specs.declared.error.CoreError.{CoreError}
 use Rattle.xet_base.specs.declared.error.CoreError.TheVariants.{InvalidShard}
 use Rattle.xet_base.specs.Errors.{IsEndOfInput}
@@ -27,10 +27,6 @@ offset_of_row start width i = start + i * (8 + width)
 
 abbrev pub row_offset : Table → ℕ → ℕ
 row_offset t i = offset_of_row t.start t.width i
-
--- the number that eight bytes spell, lowest byte first
-unfoldable pub spelled_u64 : List ℕ → ℕ
-spelled_u64 bytes = from_le_bytes w64 bytes
 
 -- the key of row i, where its bytes are there
 unfoldable pub key_at : Table → ℕ → ℕ

@@ -2,8 +2,9 @@
 
 ghost use Rattle.std.specs.Prelude.{◌≡◌, ◌+◌, ◌<◌, ◌≤◌, List, length, min, MatchResult, IfOk, OnOk, IfErr};
 ghost use Rattle.xet_base.specs.Source.{FillFails, next_bytes};
-ghost use Rattle.xet_base.specs.Table.{table_at, row_offset, hits_below, hits, spelled_u64, IsSorted, Finds, FitsTable, Serves, TableFailure, SearchRefused, Bounded, ReadsOn, ActsAsReadFull, Answers, IsEven};
-ghost use Rattle.xet_base.specs.Search.{table_in, ReadsKey, Stops, IsRow, Kept, FindsFrom, Counts, Passes, Runs};
+ghost use Rattle.xet_base.specs.Bytes.{spelled_u64};
+ghost use Rattle.xet_base.specs.Table.{table_at, row_offset, hits_below, hits, IsSorted, Finds, FitsTable, Serves, TableFailure, SearchRefused, Bounded, ReadsOn, ActsAsReadFull, Answers, IsEven};
+ghost use Rattle.xet_base.specs.Search.{table_in, ReadsKey, ReadsValues, Stops, IsRow, Kept, Extends, Counts, Passes, Runs};
 
 mod table_range;
 mod window;
@@ -12,6 +13,7 @@ use crate::error::{CoreError, Result};
 use crate::source::{ShardSource, read_full};
 use std::alloc::Global;
 use std::io;
+use std::ops::Range;
 use table_range::TableRange;
 use window::Window;
 
@@ -74,7 +76,7 @@ fn search_rows<S: ShardSource, V: Copy, F: Fn(&mut S) -> io::Result<V>>(
     results: &mut [V],
 ) -> io::Result<usize>
     requires callable { F.IsAlwaysCallable read_value.now }
-    requires reads { (s : _) (r : _) (t : _) → F.post read_value.now s r t → ActsAsReadFull range.width (S.meaning s.now) r (S.meaning t.now) }
+    requires reads { ReadsValues range.width (λ s. S.meaning s.now) (F.post read_value.now) }
     ensures found { IfOk result (Finds (table_in range (S.meaning source.old).bytes) key
         (Answers (λ s. S.meaning s.now) (F.post read_value.now) range.width) results.old results.new) }
     ensures count { IsSorted (table_in range (S.meaning source.old).bytes)
@@ -92,68 +94,49 @@ fn search_rows<S: ShardSource, V: Copy, F: Fn(&mut S) -> io::Result<V>>(
     while window.high - window.low > 256 {
         let found = read_key_of(source, range, window.probe - 1)?;
         if found == key {
-            count = keep_equal(
-                source,
-                range,
-                window.probe - 1,
-                window.high - 1,
-                key,
-                read_value,
-                results,
-                count,
-            )?;
+            let rows = window.probe - 1..window.high - 1;
+            count = keep_equal(source, range, rows, key, read_value, results, count)?;
         }
         window = window.after(found, key);
     }
     source.seek_to(range.row_offset(window.low))?;
-    collect(
-        source,
-        range,
-        window.low,
-        window.high - 1,
-        key,
-        read_value,
-        results,
-        count,
-    )
+    let rows = window.low..window.high - 1;
+    collect(source, range, rows, key, read_value, results, count)
 }
 
-// Keeps the value of row `from`, whose key was just read and is the key, and those of the rows after it and
-// before `to` until a key differs. Returns how many values are kept then, `had` of them before.
+// Keeps the value of the first of these rows, whose key was just read and is the key, and those of the rows
+// after it until a key differs. Returns how many values are kept then, `had` of them before.
 fn keep_equal<S: ShardSource, V: Copy, F: Fn(&mut S) -> io::Result<V>>(
     source: &mut S,
     range: TableRange,
-    from: u64,
-    to: u64,
+    rows: Range<u64>,
     key: u64,
     read_value: &F,
     results: &mut [V],
     had: usize,
 ) -> io::Result<usize>
+    requires before { rows.start < rows.end }
     requires callable { F.IsAlwaysCallable read_value.now }
-    requires reads { (s : _) (r : _) (t : _) → F.post read_value.now s r t
-        → ActsAsReadFull range.width (S.meaning s.now) r (S.meaning t.now) }
-    requires before { from < to }
-    requires within { to ≤ range.rows }
+    requires reads { ReadsValues range.width (λ s. S.meaning s.now) (F.post read_value.now) }
+    requires within { rows.end ≤ range.rows }
     requires room { had ≤ length results.old }
-    requires equal { IsRow (table_in range (S.meaning source.old).bytes) key from }
+    requires equal { IsRow (table_in range (S.meaning source.old).bytes) key rows.start }
     requires key_read { let t = table_in range (S.meaning source.old).bytes in
-        (S.meaning source.old).at ≡ row_offset t from + 8 }
-    ensures found { let t = table_in range (S.meaning source.old).bytes in
-        let Gives = Answers (λ s. S.meaning s.now) (F.post read_value.now) range.width in
-        (before : List V) → FindsFrom t key Gives to before results.old had
-        → IfOk result (FindsFrom t key Gives from before results.new) }
+        (S.meaning source.old).at ≡ row_offset t rows.start + 8 }
+    ensures found { Extends (table_in range (S.meaning source.old).bytes) key
+        (Answers (λ s. S.meaning s.now) (F.post read_value.now) range.width)
+        rows.start rows.end had results.old results.new result }
     ensures count { let t = table_in range (S.meaning source.old).bytes in
-        IsSorted t → IfOk result (Counts t key from to (length results.old) had) }
+        IsSorted t → IfOk result (Counts t key rows.start rows.end (length results.old) had) }
     ensures serves { OnOk result (Serves (S.meaning source.old) (S.meaning source.new)) }
     ensures refused { let t = table_in range (S.meaning source.old).bytes in
         IfErr result (TableFailure t (S.meaning source.old) (S.meaning source.new)) }
     ensures runs { let t = table_in range (S.meaning source.old).bytes in
-        Runs t key from to (S.meaning source.old) (S.meaning source.new) }
+        Runs t key rows.start rows.end (S.meaning source.old) (S.meaning source.new) }
 {
     let value = read_value(source)?;
     let mut count = keep(results, had, value);
-    for row in from + 1..to {
+    for row in rows.start + 1..rows.end {
         if read_key(source)? != key {
             return Ok(count);
         }
@@ -163,41 +146,38 @@ fn keep_equal<S: ShardSource, V: Copy, F: Fn(&mut S) -> io::Result<V>>(
     Ok(count)
 }
 
-// Keeps the values of the rows with the key from row `from`, where the source is, to before `to`, or to the
-// first row with a greater key, whose value is read too. Returns how many values are kept then, `had` of them
+// Keeps the values of those of these rows that have the key, up to the first row with a greater key, whose
+// value is read too. The source is at the first of the rows. Returns how many values are kept then, `had` of them
 // before.
 fn collect<S: ShardSource, V: Copy, F: Fn(&mut S) -> io::Result<V>>(
     source: &mut S,
     range: TableRange,
-    from: u64,
-    to: u64,
+    rows: Range<u64>,
     key: u64,
     read_value: &F,
     results: &mut [V],
     had: usize,
 ) -> io::Result<usize>
+    requires before { rows.start ≤ rows.end }
     requires callable { F.IsAlwaysCallable read_value.now }
-    requires reads { (s : _) (r : _) (t : _) → F.post read_value.now s r t
-        → ActsAsReadFull range.width (S.meaning s.now) r (S.meaning t.now) }
-    requires before { from ≤ to }
-    requires within { to ≤ range.rows }
+    requires reads { ReadsValues range.width (λ s. S.meaning s.now) (F.post read_value.now) }
+    requires within { rows.end ≤ range.rows }
     requires room { had ≤ length results.old }
     requires at_row { let t = table_in range (S.meaning source.old).bytes in
-        (S.meaning source.old).at ≡ row_offset t from }
-    ensures found { let t = table_in range (S.meaning source.old).bytes in
-        let Gives = Answers (λ s. S.meaning s.now) (F.post read_value.now) range.width in
-        (before : List V) → FindsFrom t key Gives to before results.old had
-        → IfOk result (FindsFrom t key Gives from before results.new) }
+        (S.meaning source.old).at ≡ row_offset t rows.start }
+    ensures found { Extends (table_in range (S.meaning source.old).bytes) key
+        (Answers (λ s. S.meaning s.now) (F.post read_value.now) range.width)
+        rows.start rows.end had results.old results.new result }
     ensures count { let t = table_in range (S.meaning source.old).bytes in
-        IsSorted t → IfOk result (Counts t key from to (length results.old) had) }
+        IsSorted t → IfOk result (Counts t key rows.start rows.end (length results.old) had) }
     ensures serves { OnOk result (Serves (S.meaning source.old) (S.meaning source.new)) }
     ensures refused { let t = table_in range (S.meaning source.old).bytes in
         IfErr result (TableFailure t (S.meaning source.old) (S.meaning source.new)) }
     ensures passes { let t = table_in range (S.meaning source.old).bytes in
-        Passes t from to (S.meaning source.old) (S.meaning source.new) }
+        Passes t rows.start rows.end (S.meaning source.old) (S.meaning source.new) }
 {
     let mut count = had;
-    for row in from..to {
+    for row in rows.start..rows.end {
         let found = read_key(source)?;
         let value = read_value(source)?;
         if found > key {
@@ -233,7 +213,7 @@ fn read_key_of<S: ShardSource>(source: &mut S, range: TableRange, row: u64) -> i
 }
 
 // Reads a key at the source's position.
-#[tactic(auto, unfolding(crate::specs::Table::spelled_u64))]
+#[tactic(auto, unfolding(crate::specs::Bytes::spelled_u64))]
 fn read_key<S: ShardSource>(source: &mut S) -> io::Result<u64>
     ensures { MatchResult result
         (λ key. ReadsOn (S.meaning source.old) (S.meaning source.new) 8 × (key ≡ spelled_u64 (next_bytes (S.meaning source.old) 8)))

@@ -1,7 +1,7 @@
 //! The keyed hash: BLAKE3's keyed mode for one block of 32 bytes.
 
-ghost use Rattle.std.specs.Prelude.{◌≡◌, ℕ, ◌+◌, ◌*◌, ◌<◌, ◌≤◌, length};
-ghost use Rattle.xet_base.specs.KeyedHash.{mix, mix_columns, mix_diagonals, permuted, state_after, message_after, word_at, start_of, message_of, digest, keyed_bytes};
+ghost use Rattle.std.specs.Prelude.{◌≡◌, ℕ, ◌+◌, ◌*◌, ◌<◌, ◌≤◌, [], length};
+ghost use Rattle.xet_base.specs.KeyedHash.{mix, mix_at, mix_columns, mix_diagonals, permuted, state_after, message_after, word_at, words_before, start_of, message_of, digest, keyed_bytes};
 
 use crate::row::put_u32;
 
@@ -20,23 +20,10 @@ pub(crate) fn keyed_bytes(key: &[u8; 32], message: &[u8; 32]) -> [u8; 32]
 fn start_of(key: &[u8; 32]) -> Words
     ensures { result ≡ start_of key.now }
 {
+    let k = words_of(key);
     [
-        word_at(key, 0),
-        word_at(key, 1),
-        word_at(key, 2),
-        word_at(key, 3),
-        word_at(key, 4),
-        word_at(key, 5),
-        word_at(key, 6),
-        word_at(key, 7),
-        0x6A09E667,
-        0xBB67AE85,
-        0x3C6EF372,
-        0xA54FF53A,
-        0,
-        0,
-        32,
-        27,
+        k[0], k[1], k[2], k[3], k[4], k[5], k[6], k[7], 0x6A09E667, 0xBB67AE85, 0x3C6EF372,
+        0xA54FF53A, 0, 0, 32, 27,
     ]
 }
 
@@ -44,23 +31,24 @@ fn start_of(key: &[u8; 32]) -> Words
 fn message_of(message: &[u8; 32]) -> Words
     ensures { result ≡ message_of message.now }
 {
+    let m = words_of(message);
     [
-        word_at(message, 0),
-        word_at(message, 1),
-        word_at(message, 2),
-        word_at(message, 3),
-        word_at(message, 4),
-        word_at(message, 5),
-        word_at(message, 6),
-        word_at(message, 7),
-        0,
-        0,
-        0,
-        0,
-        0,
-        0,
-        0,
-        0,
+        m[0], m[1], m[2], m[3], m[4], m[5], m[6], m[7], 0, 0, 0, 0, 0, 0, 0, 0,
+    ]
+}
+
+fn words_of(bytes: &[u8; 32]) -> [u32; 8]
+    ensures { result ≡ words_before bytes.now [] }
+{
+    [
+        word_at(bytes, 0),
+        word_at(bytes, 1),
+        word_at(bytes, 2),
+        word_at(bytes, 3),
+        word_at(bytes, 4),
+        word_at(bytes, 5),
+        word_at(bytes, 6),
+        word_at(bytes, 7),
     ]
 }
 
@@ -72,36 +60,46 @@ fn compress(start: Words, message: Words) -> Words
     let mut state = start;
     let mut words = message;
     for _round in 0..7usize {
-        state = mix_diagonals(&mix_columns(&state, &words), &words);
+        mix_columns(&mut state, &words);
+        mix_diagonals(&mut state, &words);
         words = permuted(&words);
     }
     state
 }
 
 #[tactic(auto, unfolding(crate::specs::KeyedHash::mix_columns))]
-fn mix_columns(v: &Words, m: &Words) -> Words
-    ensures { result ≡ mix_columns v.now m.now }
+fn mix_columns(v: &mut Words, m: &Words)
+    ensures { v.new ≡ mix_columns v.old m.now }
 {
-    let (v0, v4, v8, v12) = mix(v[0], v[4], v[8], v[12], m[0], m[1]);
-    let (v1, v5, v9, v13) = mix(v[1], v[5], v[9], v[13], m[2], m[3]);
-    let (v2, v6, v10, v14) = mix(v[2], v[6], v[10], v[14], m[4], m[5]);
-    let (v3, v7, v11, v15) = mix(v[3], v[7], v[11], v[15], m[6], m[7]);
-    [
-        v0, v1, v2, v3, v4, v5, v6, v7, v8, v9, v10, v11, v12, v13, v14, v15,
-    ]
+    mix_at(v, 0, 4, 8, 12, m[0], m[1]);
+    mix_at(v, 1, 5, 9, 13, m[2], m[3]);
+    mix_at(v, 2, 6, 10, 14, m[4], m[5]);
+    mix_at(v, 3, 7, 11, 15, m[6], m[7]);
 }
 
 #[tactic(auto, unfolding(crate::specs::KeyedHash::mix_diagonals))]
-fn mix_diagonals(v: &Words, m: &Words) -> Words
-    ensures { result ≡ mix_diagonals v.now m.now }
+fn mix_diagonals(v: &mut Words, m: &Words)
+    ensures { v.new ≡ mix_diagonals v.old m.now }
 {
-    let (v0, v5, v10, v15) = mix(v[0], v[5], v[10], v[15], m[8], m[9]);
-    let (v1, v6, v11, v12) = mix(v[1], v[6], v[11], v[12], m[10], m[11]);
-    let (v2, v7, v8, v13) = mix(v[2], v[7], v[8], v[13], m[12], m[13]);
-    let (v3, v4, v9, v14) = mix(v[3], v[4], v[9], v[14], m[14], m[15]);
-    [
-        v0, v1, v2, v3, v4, v5, v6, v7, v8, v9, v10, v11, v12, v13, v14, v15,
-    ]
+    mix_at(v, 0, 5, 10, 15, m[8], m[9]);
+    mix_at(v, 1, 6, 11, 12, m[10], m[11]);
+    mix_at(v, 2, 7, 8, 13, m[12], m[13]);
+    mix_at(v, 3, 4, 9, 14, m[14], m[15]);
+}
+
+// Four places of the state mixed with two words of the message.
+fn mix_at(v: &mut Words, a: usize, b: usize, c: usize, d: usize, x: u32, y: u32)
+    requires a { a < 16 }
+    requires b { b < 16 }
+    requires c { c < 16 }
+    requires d { d < 16 }
+    ensures { v.new ≡ mix_at v.old a b c d x y }
+{
+    let mixed = mix(v[a], v[b], v[c], v[d], x, y);
+    v[a] = mixed.0;
+    v[b] = mixed.1;
+    v[c] = mixed.2;
+    v[d] = mixed.3;
 }
 
 // Two words of the message mixed into four of the state.

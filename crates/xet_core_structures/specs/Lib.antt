@@ -1,4 +1,9 @@
+pub mod ByteResults
+pub mod ByteUnion
+pub mod Combining
 pub mod Equality
+pub mod Held
+pub mod MergeTrees
 pub use Rattle.xet_base.specs.Hash
 pub use Rattle.xet_base.specs.Hex
 pub use Rattle.xet_base.specs.Source
@@ -7,9 +12,11 @@ pub use Rattle.xet_records.specs.FileRecord
 pub use Rattle.xet_records.specs.XorbRecord
 pub use Rattle.xet_shards.specs.ChunkQuery
 pub use Rattle.xet_shards.specs.ChunkLookup
+pub use Rattle.xet_shards.specs.Ends
 pub use Rattle.xet_shards.specs.Joins
 pub use Rattle.xet_shards.specs.Layout
 pub use Rattle.xet_shards.specs.Lookup
 pub use Rattle.xet_shards.specs.Names
+pub use Rattle.xet_shards.specs.RunReading
 pub use Rattle.xet_shards.specs.SetOperations
 pub use Rattle.xet_shards.specs.Shard

@@ -3,7 +3,7 @@
 
 ghost use Rattle.xet_records.specs.XorbRecord.{xorb_records};
 ghost use Rattle.xet_records.specs.FileRecord.{file_records};
-ghost use Rattle.std.specs.Prelude.{◌≡◌, ◌↔◌, ◌<◌, ◌^◌, ℕ, List, [], ◌∷◌, flat_map, map, Contains, Option, None, Some, IfSome, IsTrue, unwrap_or};
+ghost use Rattle.std.specs.Prelude.{◌≡◌, ◌↔◌, ◌<◌, ◌^◌, ℕ, List, [], ◌∷◌, ◌++◌, flat_map, map, Contains, Option, None, Some, IfSome, IsTrue, unwrap_or};
 ghost use Rattle.std.specs.Cmp.{IsTotalOrder};
 ghost use Rattle.std.specs.declared.cmp.Ordering.TheVariants.{Equal};
 ghost use Rattle.std.specs.FinMap.{values};
@@ -18,12 +18,12 @@ ghost use Rattle.xet_core_structures.specs.Equality.{error_eq, derived_eq, deriv
 ghost use Rattle.xet_shards.specs.Layout.{layout};
 ghost use Rattle.xet_shards.specs.Names.{shard_name, NamesShard};
 ghost use Rattle.xet_records.specs.declared.xorb_structs.MDBXorbInfo.{MDBXorbInfo};
-ghost use Rattle.xet_shards.specs.declared.shard_format.xorb_writer.ChunkPlace.{ChunkPlace};
+ghost use Rattle.xet_shards.specs.declared.shard_format.xorb_writer.ChunkTableRow.{ChunkTableRow};
 ghost use Rattle.xet_shards.specs.Section.{total_rows};
 ghost use Rattle.xet_shards.specs.Shard.{Shard, IsShard, empty_shard, file_hash_of, xorb_hash_of};
-ghost use Rattle.xet_shards.specs.Tables.{place_cmp, chunk_places, chunk_table, starts, records_below};
+ghost use Rattle.xet_shards.specs.Tables.{chunk_table_row_cmp, chunk_table_rows, chunk_table, starts, records_below};
 ghost use Rattle.xet_shards.specs.SetOperations.{IsUnion, ShardsAgree, HasFewRows, CanUnite};
-ghost use Rattle.xet_shards.specs.Joins.{IsJoinOf};
+ghost use Rattle.xet_shards.specs.Joins.{IsJoinOf, AgreePairwise};
 
 /// Each two shards have exactly one union.
 pub fn unions_exist()
@@ -39,10 +39,18 @@ pub fn union_commutes()
         → IsUnion a b c → IsUnion b a d → c ≡ d }
 {}
 
-/// A set of shards has at most one join.
-pub fn joins_are_unique()
-    ensures { (shards : List Shard) → (c d : Shard)
+/// Shards that agree pairwise have exactly one join, and that of two groups of them is the union of
+/// the joins of each. The join is of a set, so order, grouping and repetition don't matter.
+pub fn joins_exist()
+    ensures exists { (shards : List Shard) → AgreePairwise (Contains shards)
+        → (c : Shard) × IsJoinOf (Contains shards) c }
+    ensures one { (shards : List Shard) → (c d : Shard)
         → IsJoinOf (Contains shards) c → IsJoinOf (Contains shards) d → c ≡ d }
+    ensures union { (xs ys : List Shard) → (a b c : Shard) → AgreePairwise (Contains (xs ++ ys))
+        → IsJoinOf (Contains xs) a → IsJoinOf (Contains ys) b → IsUnion a b c
+        → IsJoinOf (Contains (xs ++ ys)) c }
+    ensures few { (xs ys : List Shard) → (a c : Shard) → IsJoinOf (Contains xs) a
+        → IsJoinOf (Contains (xs ++ ys)) c → HasFewRows c → HasFewRows a }
 {}
 
 /// The union of three shards is the same in either grouping.
@@ -85,9 +93,9 @@ pub fn records_start_after_smaller_hashes()
 /// The chunk table has exactly one row for each chunk of the xorbs, in strictly ascending order: by
 /// first word, then by the row at which the xorb starts, then by the index in the xorb.
 pub fn chunk_table_is_sorted()
-    ensures sorted { (xorbs : List MDBXorbInfo) → IsStrictlySortedBy place_cmp (chunk_table xorbs) }
-    ensures places { (xorbs : List MDBXorbInfo) → (p : ChunkPlace)
-        → Contains (chunk_table xorbs) p ↔ Contains (chunk_places xorbs) p }
+    ensures sorted { (xorbs : List MDBXorbInfo) → IsStrictlySortedBy chunk_table_row_cmp (chunk_table xorbs) }
+    ensures rows { (xorbs : List MDBXorbInfo) → (p : ChunkTableRow)
+        → Contains (chunk_table xorbs) p ↔ Contains (chunk_table_rows xorbs) p }
 {}
 
 /// The name of the shard file of a hash spells that hash, and no other: so `parse_shard_filename`

@@ -1,8 +1,15 @@
+pub mod Decoding
 pub mod Flags
 pub mod Lengths
+pub mod Processing
 pub mod Reading
 pub mod Record
 pub mod Unique
 pub mod RecordKinds
+pub mod RowsWithin
+pub mod ViewReading
+pub mod Views
+pub mod SectionRecords
+pub mod XorbViews
 pub mod XorbUnique
 pub mod Merging

@@ -55,7 +55,7 @@ flag_added true false n = omega arith
 flag_added false true n = omega arith
 flag_added false false n = refl
 
-flags_added : (v m w l : Bool) → flags_of v m + flags_of (w && not v) (l && not m) ≡ flags_of (v || w) (m || l)
+pub flags_added : (v m w l : Bool) → flags_of v m + flags_of (w && not v) (l && not m) ≡ flags_of (v || w) (m || l)
 flags_added v m w l = omega (arith, flag_added v w 2147483648, flag_added m l 1073741824)
 
 -- a part that is not announced is not there
@@ -71,7 +71,7 @@ pub verification_absent : (r : MDBFileInfo) → FitsItsHeader r → verified r �
 verification_absent r whole absent =
     no_rows r.verification (whole.verification ∙ ap (λ (b : Bool). if b then r.metadata.num_entries else 0) absent)
 
-metadata_ext_absent : (r : MDBFileInfo) → FitsItsHeader r → described r ≡ false → r.metadata_ext ≡ None
+pub metadata_ext_absent : (r : MDBFileInfo) → FitsItsHeader r → described r ≡ false → r.metadata_ext ≡ None
 metadata_ext_absent r whole absent = no_row r.metadata_ext (whole.metadata_ext ∙ absent)
 
 -- one of two parts

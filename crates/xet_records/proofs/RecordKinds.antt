@@ -1,8 +1,7 @@
 -- What the two kinds of records have in common, and what follows of reading them.
-use Rattle.std.proofs.Common.{◌≡◌, ◌≢◌, inl, inr, ℕ, ◌+◌, ◌*◌, ◌≤◌, Bool, if◌then◌else◌, flat_map, List, ◌++◌, length, Option, None, Some, IfSome, refl, sym, ap, ◌∙◌, subst, arith}
-use Rattle.std.specs.Prelude.{MatchOption, option_map, option_to_list}
+use Rattle.std.proofs.Common.{◌≡◌, ◌≢◌, inl, inr, ℕ, ◌+◌, ◌*◌, ◌≤◌, Bool, if◌then◌else◌, flat_map, List, ◌++◌, length, Option, None, Some, refl, sym, ap, ◌∙◌, subst, arith}
+use Rattle.std.specs.Prelude.{◌⊎◌, option_map, option_to_list}
 use Rattle.std.proofs.lemmas.List.{length-append, length-map, append_assoc, map-id}
-use Rattle.std.specs.Io.KnownBytes.{Consumes}
 use Rattle.xet_base.specs.Hash.{all_ones}
 use Rattle.xet_records.specs.declared.file_structs.header.FileDataSequenceHeader.{FileDataSequenceHeader}
 use Rattle.xet_records.specs.declared.file_structs.rows.FileDataSequenceEntry.{FileDataSequenceEntry}
@@ -11,30 +10,17 @@ use Rattle.xet_records.specs.declared.file_structs.rows.FileMetadataExt.{FileMet
 use Rattle.xet_records.specs.declared.xorb_structs.XorbChunkSequenceHeader.{XorbChunkSequenceHeader}
 use Rattle.xet_records.specs.declared.xorb_structs.XorbChunkSequenceEntry.{XorbChunkSequenceEntry}
 use Rattle.xet_records.specs.RecordKind.{RecordKind}
+pub use Rattle.xet_records.specs.RecordKind.{KindLaws}
 use Rattle.xet_records.specs.FileRow.{header_row, segment_row, verification_row, metadata_row, FitsSegment, FitsVerification, FitsMetadata, clear_verification, clear_metadata}
 use Rattle.xet_records.specs.Rows.{ReadsRows, ReadsOptional}
 use Rattle.xet_records.specs.XorbRow.{chunk_row, FitsChunk}
 use Rattle.xet_records.specs.FileRecord.{file_record_bytes, file_rows_bytes, has_verification, has_metadata_ext, rows_after, file_records}
 use Rattle.xet_records.specs.XorbRecord.{xorb_record_bytes, xorb_records}
-use Rattle.xet_records.specs.Reading.{ReadsBookend, ReadsRowsAfter, ReadsRecord, BeginsWithHeader, IsCutShort, HasTooManyRows}
+use Rattle.xet_records.specs.Reading.{ReadsRowsAfter, ReadsRecord, BeginsWithHeader, BeginsWithBookend, PassesLimit, EndsEarly}
 use Rattle.xet_records.proofs.Lengths.{length-header_row, length-file_record_bytes, length-xorb_header_row, length-chunk_rows}
 use Rattle.xet_records.proofs.Record.{length-three, row_or_none, header_row-front, row_count-whole}
 use Rattle.xet_records.proofs.Unique.{record_front}
 use Rattle.xet_records.proofs.XorbUnique.{xorb_header_row-front, xorb_front}
-
-pub record KindLaws {H R : Type 0} (K : RecordKind H R) : Type 0 where
-  pub header_size : (h : H) → length (K.header_bytes h) ≡ 48
-  pub header_front : (g h : H) (x y : List ℕ) → K.Fits g → K.Fits h → K.header_bytes g ++ x ≡ K.header_bytes h ++ y → (g ≡ h) × (x ≡ y)
-  pub bookend_fits : K.Fits K.bookend
-  pub bookend_hash : K.hash_of K.bookend ≡ all_ones
-  pub text_is : (r : R) → K.text r ≡ K.header_bytes (K.header_of r) ++ K.bytes_after r
-  pub size_after : (r : R) → K.IsStored r → length (K.bytes_after r) ≡ 48 * K.rows_after (K.header_of r)
-  pub rows : (r : R) → K.IsStored r → K.row_count r ≡ 1 + K.rows_after (K.header_of r)
-  pub header_fits : (r : R) → K.IsStored r → K.Fits (K.header_of r)
-  pub is_record : (r : R) → K.IsStored r → K.hash_of (K.header_of r) ≢ all_ones
-  pub same_header : (r : R) → K.header_of (K.handed_out r) ≡ K.header_of r
-  pub same_rows : (r : R) → K.row_count (K.handed_out r) ≡ K.row_count r
-  pub front : (r s : R) (x y : List ℕ) → K.IsStored r → K.IsStored s → K.text r ++ x ≡ K.text s ++ y → (r ≡ s) × (x ≡ y)
 
 -- a part stays present
 present : (o : Option FileMetadataExt) → length (option_to_list (option_map clear_metadata o)) ≡ length (option_to_list o)
@@ -82,6 +68,10 @@ xorb_laws = record {
   front = xorb_front;
 }
 
+-- what stands after the records of a section that are read
+abbrev pub StopsAt : {H R : Type 0} → RecordKind H R → ℕ → List ℕ → Type 0
+StopsAt K left bytes = BeginsWithBookend K bytes ⊎ PassesLimit K left bytes ⊎ EndsEarly K left bytes
+
 module _ {H R : Type 0} (K : RecordKind H R) (laws : KindLaws K) where
   -- a record has 48 bytes a row
   pub length-text : (r : R) → K.IsStored r → length (K.text r) ≡ 48 * K.row_count r
@@ -108,44 +98,39 @@ module _ {H R : Type 0} (K : RecordKind H R) (laws : KindLaws K) where
   pub header_within : (bytes : List ℕ) (g : H) (rest : List ℕ) → bytes ≡ K.header_bytes g ++ rest → length bytes ≡ 48 + length rest
   header_within bytes g rest are = omega (arith, ap length are, length-append (K.header_bytes g) rest, laws.header_size g)
 
-  -- bytes that begin with a bookend are no record
-  bookend_is_whole : (bytes : List ℕ) (g : H) (rest : List ℕ) → K.Fits g → K.hash_of g ≡ all_ones → bytes ≡ K.header_bytes g ++ rest → ¬ IsCutShort K bytes
-  bookend_is_whole bytes g rest fits ones are (inl short) = omega (arith, header_within bytes g rest are, short)
-  bookend_is_whole bytes g rest fits ones are (inr (h, after, begins, rows, short)) = not_bookend bytes g h rest after fits ones are begins
+  -- a bookend is the header of no record
+  pub bookend_or_header : (bytes : List ℕ) (h : H) (rest : List ℕ) → BeginsWithBookend K bytes → ¬ BeginsWithHeader K bytes h rest
+  bookend_or_header bytes h rest bookend = not_bookend bytes bookend.header h bookend.rest rest bookend.widths bookend.is_bookend bookend.bytes_are
 
-  bookend_has_few_rows : (bytes : List ℕ) (g : H) (rest : List ℕ) → K.Fits g → K.hash_of g ≡ all_ones → bytes ≡ K.header_bytes g ++ rest → ¬ HasTooManyRows K bytes
-  bookend_has_few_rows bytes g rest fits ones are (h, after, begins, rows) = not_bookend bytes g h rest after fits ones are begins
+  -- a bookend, a record too many and an early end exclude each other
+  pub bookend_or_passes : (left : ℕ) (bytes : List ℕ) → BeginsWithBookend K bytes → ¬ PassesLimit K left bytes
+  bookend_or_passes left bytes bookend (h, rest, begins, past) = bookend_or_header bytes h rest bookend begins
 
-  -- bytes that begin with a header and the rows that it announces are neither cut short nor too many
-  rows_are_whole : (bytes : List ℕ) (g : H) (rest : List ℕ) → K.Fits g → bytes ≡ K.header_bytes g ++ rest → 48 * K.rows_after g ≤ length rest → ¬ IsCutShort K bytes
-  rows_are_whole bytes g rest fits are enough (inl short) = omega (arith, header_within bytes g rest are, short)
-  rows_are_whole bytes g rest fits are enough (inr (h, after, begins, rows, short)) =
-      let same = same_front bytes g h rest after fits are begins in
-      let count : K.rows_after h ≡ K.rows_after g = ap (λ (k : H). K.rows_after k) same.0 in
-      let left : length after ≡ length rest = ap length same.1 in
-      omega (arith, count, left, short, enough)
+  pub bookend_or_ends : (left : ℕ) (bytes : List ℕ) → BeginsWithBookend K bytes → ¬ EndsEarly K left bytes
+  bookend_or_ends left bytes bookend (inl short) = omega (arith, short, header_within bytes bookend.header bookend.rest bookend.bytes_are)
+  bookend_or_ends left bytes bookend (inr (h, rest, begins, few, short)) = bookend_or_header bytes h rest bookend begins
 
-  rows_are_few : (bytes : List ℕ) (g : H) (rest : List ℕ) → K.Fits g → bytes ≡ K.header_bytes g ++ rest → K.rows_after g ≤ 4294967295 → ¬ HasTooManyRows K bytes
-  rows_are_few bytes g rest fits are few (h, after, begins, rows) =
-      let count : K.rows_after h ≡ K.rows_after g = ap (λ (k : H). K.rows_after k) (same_front bytes g h rest after fits are begins).0 in
-      omega (arith, count, rows, few)
+  pub passes_or_ends : (left : ℕ) (bytes : List ℕ) → PassesLimit K left bytes → ¬ EndsEarly K left bytes
+  passes_or_ends left bytes (h, rest, begins, past) (inl short) = omega (arith, short, header_within bytes h rest begins.bytes_are)
+  passes_or_ends left bytes (h, rest, begins, past) (inr (k, more, starts, few, short)) =
+      let rows : K.rows_after k ≡ K.rows_after h = ap (λ (j : H). K.rows_after j) (same_front bytes h k rest more begins.widths begins.bytes_are starts).0 in
+      omega (arith, past, few, rows)
 
-  -- the same, where a reader's bytes may be unknown
-  pub after_bookend : (old new : Option (List ℕ)) (g : H) → K.Fits g → Consumes old new (K.header_bytes g) → K.hash_of g ≡ all_ones
-      → IfSome old (λ bytes. ¬ IsCutShort K bytes) × IfSome old (λ bytes. ¬ HasTooManyRows K bytes)
-  after_bookend None new g fits taken ones = (tt, tt)
-  after_bookend (Some bytes) None g fits taken ones = absurd taken
-  after_bookend (Some bytes) (Some rest) g fits taken ones = (bookend_is_whole bytes g rest fits ones taken, bookend_has_few_rows bytes g rest fits ones taken)
-
-  pub after_record : (old mid new : Option (List ℕ)) (g : H) (found : R) → K.Fits g → Consumes old mid (K.header_bytes g)
-      → ReadsRowsAfter K g (Consumes mid new) found → K.rows_after g ≤ 4294967295
-      → IfSome old (λ bytes. ¬ IsCutShort K bytes) × IfSome old (λ bytes. ¬ HasTooManyRows K bytes)
-  after_record None mid new g found fits taken read few = (tt, tt)
-  after_record (Some bytes) None new g found fits taken read few = absurd taken
-  after_record (Some bytes) (Some rest) None g found fits taken read few = absurd read.taken
-  after_record (Some bytes) (Some rest) (Some left) g found fits taken read few =
-      let enough : 48 * K.rows_after g ≤ length rest = omega (arith, read.size, ap length read.taken ∙ length-append (K.bytes_after read.stored) left) in
-      (rows_are_whole bytes g rest fits taken enough, rows_are_few bytes g rest fits taken few)
+  -- nor does any of them go with a record within the rows that are left
+  pub no_record : (left : ℕ) (bytes : List ℕ) (r : R) (rest : List ℕ) → K.IsStored r → K.row_count r ≤ left → bytes ≡ K.text r ++ rest → ¬ StopsAt K left bytes
+  no_record left bytes r rest stored within are (inl bookend) =
+      bookend_or_header bytes (K.header_of r) (K.bytes_after r ++ rest) bookend (stored_begins bytes r rest stored are)
+  no_record left bytes r rest stored within are (inr (inl (h, after, begins, past))) =
+      let begins_r = stored_begins bytes r rest stored are in
+      let same = same_front bytes (K.header_of r) h (K.bytes_after r ++ rest) after begins_r.widths begins_r.bytes_are begins in
+      omega (arith, past, within, laws.rows r stored, ap (λ (k : H). K.rows_after k) same.0)
+  no_record left bytes r rest stored within are (inr (inr (inl short))) =
+      let begins_r = stored_begins bytes r rest stored are in
+      omega (arith, short, header_within bytes (K.header_of r) (K.bytes_after r ++ rest) begins_r.bytes_are)
+  no_record left bytes r rest stored within are (inr (inr (inr (h, after, begins, few, short)))) =
+      let begins_r = stored_begins bytes r rest stored are in
+      let same = same_front bytes (K.header_of r) h (K.bytes_after r ++ rest) after begins_r.widths begins_r.bytes_are begins in
+      omega (arith, short, ap length same.1, length-append (K.bytes_after r) rest, laws.size_after r stored, ap (λ (k : H). K.rows_after k) same.0)
 
   -- a header and the rows after it are a record
   pub whole_record : (First Next Both : List ℕ → Type 0) (g : H) (found : R)
@@ -159,26 +144,6 @@ module _ {H R : Type 0} (K : RecordKind H R) (laws : KindLaws K) where
         (joins (K.header_bytes g) (K.bytes_after read.stored) taken read.taken);
     handed = read.handed;
   }
-
-  -- what was written is read again, whatever follows
-  read_front : (new : Option (List ℕ)) (r : R) (rest : List ℕ) (found : Option R) → K.IsStored r
-      → MatchOption found (ReadsBookend K (Consumes (Some (K.text r ++ rest)) new)) (ReadsRecord K (Consumes (Some (K.text r ++ rest)) new))
-      → (found ≡ Some (K.handed_out r)) × (new ≡ Some rest)
-  read_front None r rest None stored read = absurd read.taken
-  read_front None r rest (Some found) stored read = absurd read.taken
-  read_front (Some left) r rest None stored read =
-      absurd (laws.is_record r stored (ap (λ (h : H). K.hash_of h)
-      (laws.header_front (K.header_of r) read.header (K.bytes_after r ++ rest) left (laws.header_fits r stored) read.widths
-      (sym (append_assoc (K.header_bytes (K.header_of r)) (K.bytes_after r) rest) ∙ ap (λ bs. bs ++ rest) (sym (laws.text_is r)) ∙ read.taken)).0
-      ∙ read.is_bookend))
-  read_front (Some left) r rest (Some found) stored read =
-      let same = laws.front r read.stored rest left stored read.is_stored read.taken in
-      (ap Some (sym read.handed ∙ ap K.handed_out (sym same.0)), ap Some (sym same.1))
-
-  pub read_again : (old new : Option (List ℕ)) (r : R) (rest : List ℕ) (found : Option R) → K.IsStored r → old ≡ Some (K.text r ++ rest)
-      → MatchOption found (ReadsBookend K (Consumes old new)) (ReadsRecord K (Consumes old new)) → (found ≡ Some (K.handed_out r)) × (new ≡ Some rest)
-  read_again old new r rest found stored are read =
-      read_front new r rest found stored (subst (λ bs. MatchOption found (ReadsBookend K (Consumes bs new)) (ReadsRecord K (Consumes bs new))) are read)
 
 -- the three parts after a file's header, one after another
 module _ (First Second Third Both Whole : List ℕ → Type 0) (two : (xs ys : List ℕ) → First xs → Second ys → Both (xs ++ ys)) (three : (xs ys : List ℕ) → Both xs → Third ys → Whole (xs ++ ys)) where

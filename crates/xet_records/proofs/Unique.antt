@@ -66,7 +66,7 @@ metadata_row-injective m n m_fits n_fits same =
     let e1 = reserved-injective m._unused n._unused m_fits.unused n_fits.unused parts.1 in
     λ i. record { sha256 = e0 i; _unused = e1 i }
 
-optional_fits : (o : Option FileMetadataExt) → IfSome o FitsMetadata → All FitsMetadata (option_to_list o)
+pub optional_fits : (o : Option FileMetadataExt) → IfSome o FitsMetadata → All FitsMetadata (option_to_list o)
 optional_fits None fits = All-nil FitsMetadata
 optional_fits (Some m) fits = All-cons FitsMetadata m [] fits (All-nil FitsMetadata)
 

@@ -1,8 +1,12 @@
+pub mod Decoding
 pub mod FileRecord
 pub mod FileRow
 pub mod Merging
+pub mod Processing
 pub mod Reading
 pub mod RecordKind
 pub mod Rows
+pub mod View
+pub mod ViewReading
 pub mod XorbRecord
 pub mod XorbRow

@@ -2,25 +2,26 @@
 
 mod header;
 mod rows;
+mod view;
 
 ghost use Rattle.std.specs.Prelude.{◌≡◌, ℕ, List, Some, ◌++◌, ◌*◌, ◌≤◌, ◌⊎◌, length, MatchResult, MatchOption, IfSome, OnOk, OnErr, IfOk, IfErr};
 ghost use Rattle.std.specs.Io.KnownBytes.{Appends, Consumes};
 ghost use Rattle.xet_records.specs.FileRecord.{has_verification, has_metadata_ext, rows_after, row_count, file_record_bytes, size_of_file, FitsItsHeader, IsStored, handed_out, file_records};
 ghost use Rattle.xet_records.specs.Merging.{IsSameFile, merged};
 ghost use Rattle.xet_records.specs.Reading.{ReadsRecord, ReadsRowsAfter, ReadsBookend, IsCutShort, HasTooManyRows};
-ghost use Rattle.xet_base.specs.Source.{Takes, ReadFails};
 ghost use Rattle.xet_base.specs.Table.{IsBareInvalidShard};
 ghost use Rattle.xet_base.specs.Errors.{IsEndOfInput, IsDeviceError, IsInvalidShard};
 
 use crate::input_rows;
+use crate::record_reader::{MOST_ROWS_OF_RECORD, SectionRecord, read_record};
 use crate::rows::{Rows, write_optional, write_row, write_rows};
 pub use header::{FileDataSequenceHeader, SupersetResult};
 pub use rows::{FileDataSequenceEntry, FileMetadataExt, FileVerificationEntry};
 use std::alloc::Global;
 use std::io::{Read, Write};
+pub use view::MDBFileInfoView;
 use xet_base::error::{CoreError, Result};
-use xet_base::input::{ByteInput, OfReader, OfSource};
-use xet_base::source::ShardSource;
+use xet_base::input::{ByteInput, OfReader};
 
 /// The flags of a file without optional parts.
 pub const MDB_DEFAULT_FILE_FLAG: u32 = 0;
@@ -117,14 +118,8 @@ impl MDBFileInfo {
         ensures again { (r : MDBFileInfo) → (rest : List ℕ) → IsStored r → R.remaining reader.old ≡ Some (file_record_bytes r ++ rest)
             → IfOk result (λ found. (found ≡ Some (handed_out r)) × (R.remaining reader.new ≡ Some rest)) }
     {
-        let metadata = FileDataSequenceHeader::deserialize(reader)?;
-        if metadata.is_bookend() {
-            return Ok(None);
-        }
-        if metadata.rows_after() > u64::from(u32::MAX) {
-            return Err(CoreError::InvalidShard(String::new(alloc)));
-        }
-        Ok(Some(read_rows_after::<OfReader, R>(alloc, reader, metadata)?))
+        let mut rows_left = MOST_ROWS_OF_RECORD;
+        read_record::<MDBFileInfo, OfReader, R>(alloc, reader, &mut rows_left)
     }
 
     /// Takes over each optional part that only `other` has, and nothing else. Requires that both records are of
@@ -163,69 +158,53 @@ impl MDBFileInfo {
     }
 }
 
-// Reads the rows that a header announces.
-#[tactic(auto, unfolding(crate::specs::FileRecord::file_rows_bytes))]
-fn read_rows_after<M, I: ByteInput<M>>(
-    alloc: Global,
-    input: &mut I,
-    metadata: FileDataSequenceHeader,
-) -> Result<MDBFileInfo>
-    ensures { MatchResult result
-        (ReadsRowsAfter file_records metadata (I.reads input.old input.new))
-        (I.fails input.old input.new (48 * rows_after metadata)) }
-{
-    let segments = input_rows::read_rows(alloc, input, metadata.num_entries)?;
-    let verification = input_rows::read_rows(alloc, input, metadata.verification_rows())?;
-    let metadata_ext = input_rows::read_optional(input, metadata.contains_metadata_ext())?;
-    Ok(MDBFileInfo {
-        metadata,
-        segments,
-        verification,
-        metadata_ext,
-    })
-}
+impl SectionRecord for MDBFileInfo {
+    ghost use Rattle.std.specs.Prelude.{refl};
 
-// Reads past the rows that a header announces, and keeps the metadata row.
-#[tactic(auto, unfolding(crate::specs::FileRecord::file_rows_bytes))]
-fn skip_rows_after<M, I: ByteInput<M>>(
-    input: &mut I,
-    metadata: FileDataSequenceHeader,
-) -> Result<Option<FileMetadataExt>>
-    ensures { MatchResult result
-        (λ kept. (skipped : MDBFileInfo) × (skipped.metadata_ext ≡ kept)
-        × ReadsRowsAfter file_records metadata (I.reads input.old input.new) skipped)
-        (I.fails input.old input.new (48 * rows_after metadata)) }
-{
-    input_rows::skip_rows::<FileDataSequenceEntry, M, I>(input, metadata.num_entries)?;
-    input_rows::skip_rows::<FileVerificationEntry, M, I>(input, metadata.verification_rows())?;
-    Ok(input_rows::read_optional(input, metadata.contains_metadata_ext())?)
-}
+    type Header = FileDataSequenceHeader;
 
-/// Reads the rows that a header announces, at the source's position. `UnexpectedEof` if fewer are left. May
-/// fail with `OutOfMemory`.
-pub fn read_source_rows_after<S: ShardSource>(
-    alloc: Global,
-    source: &mut S,
-    metadata: FileDataSequenceHeader,
-) -> Result<MDBFileInfo>
-    ensures found { IfOk result
-        (ReadsRowsAfter file_records metadata (Takes (S.meaning source.old) (S.meaning source.new))) }
-    ensures refused { IfErr result
-        (ReadFails (S.meaning source.old) (S.meaning source.new) (48 * rows_after metadata)) }
-{
-    read_rows_after::<OfSource, S>(alloc, source, metadata)
-}
+    type Kept = Option<FileMetadataExt>;
 
-/// Reads past the rows that a header announces, at the source's position, and keeps the metadata row alone.
-/// Does not allocate. `UnexpectedEof` if fewer rows are left.
-pub fn skip_source_rows_after<S: ShardSource>(
-    source: &mut S,
-    metadata: FileDataSequenceHeader,
-) -> Result<Option<FileMetadataExt>>
-    ensures found { IfOk result (λ kept. (skipped : MDBFileInfo) × (skipped.metadata_ext ≡ kept)
-        × ReadsRowsAfter file_records metadata (Takes (S.meaning source.old) (S.meaning source.new)) skipped) }
-    ensures refused { IfErr result
-        (ReadFails (S.meaning source.old) (S.meaning source.new) (48 * rows_after metadata)) }
-{
-    skip_rows_after::<OfSource, S>(source, metadata)
+    ghost kind = { file_records };
+
+    ghost kept = { λ r. r.metadata_ext };
+
+    ghost header_row = { record { bytes = λ h. refl; widths = λ h fits. fits; same = λ h. refl } };
+
+    fn is_bookend(header: &FileDataSequenceHeader) -> bool {
+        header.is_bookend()
+    }
+
+    fn rows_after(header: &FileDataSequenceHeader) -> u64 {
+        header.rows_after()
+    }
+
+    #[tactic(auto, unfolding(crate::specs::FileRecord::file_rows_bytes))]
+    fn read_rows_after<M, I: ByteInput<M>>(
+        alloc: Global,
+        input: &mut I,
+        header: FileDataSequenceHeader,
+    ) -> Result<MDBFileInfo> {
+        let segments = input_rows::read_rows(alloc, input, header.num_entries)?;
+        let verification = input_rows::read_rows(alloc, input, header.verification_rows())?;
+        let metadata_ext = input_rows::read_optional(input, header.contains_metadata_ext())?;
+        Ok(MDBFileInfo {
+            metadata: header,
+            segments,
+            verification,
+            metadata_ext,
+        })
+    }
+
+    #[tactic(auto, unfolding(crate::specs::FileRecord::file_rows_bytes))]
+    fn skip_rows_after<M, I: ByteInput<M>>(
+        input: &mut I,
+        header: FileDataSequenceHeader,
+    ) -> Result<Option<FileMetadataExt>> {
+        input_rows::skip_rows::<FileDataSequenceEntry, M, I>(input, header.num_entries)?;
+        input_rows::skip_rows::<FileVerificationEntry, M, I>(input, header.verification_rows())?;
+        Ok(input_rows::read_optional(input, header.contains_metadata_ext())?)
+    }
+
+    fn laws() {}
 }

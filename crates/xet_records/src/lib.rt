@@ -3,5 +3,8 @@
 
 pub mod file_structs;
 pub mod input_rows;
+pub mod record_bytes;
+pub mod record_reader;
 pub mod rows;
+pub mod view_reader;
 pub mod xorb_structs;

@@ -206,15 +206,6 @@ pub fn read_optional<T: Row, R: Read>(reader: &mut R, wanted: bool) -> io::Resul
     input_rows::read_optional::<T, OfReader, R>(reader, wanted)
 }
 
-/// Reads a row at the source's position. `UnexpectedEof` if fewer than 48 bytes are left.
-pub fn read_source_row<T: Row, S: ShardSource>(source: &mut S) -> Result<T>
-    ensures value { IfOk result
-        (ReadsRow T.row_bytes T.Fits T.handed_out (Takes (S.meaning source.old) (S.meaning source.new))) }
-    ensures refused { IfErr result (ReadFails (S.meaning source.old) (S.meaning source.new) 48) }
-{
-    Ok(input_rows::read_row::<T, OfSource, S>(source)?)
-}
-
 /// Reads `count` rows at the source's position. `UnexpectedEof` if fewer are left. May fail with
 /// `OutOfMemory`.
 pub fn read_source_rows<T: Row + Drop, S: ShardSource>(
@@ -227,15 +218,6 @@ pub fn read_source_rows<T: Row + Drop, S: ShardSource>(
     ensures refused { IfErr result (ReadFails (S.meaning source.old) (S.meaning source.new) (48 * count)) }
 {
     input_rows::read_rows::<T, OfSource, S>(alloc, source, count)
-}
-
-/// Reads past `count` rows at the source's position. Does not allocate. `UnexpectedEof` if fewer are left.
-pub fn skip_source_rows<T: Row, S: ShardSource>(source: &mut S, count: u32) -> Result<()>
-    ensures value { IfOk result
-        (λ _. (rows : List T) × ReadsRows T.row_bytes T.Fits T.handed_out (Takes (S.meaning source.old) (S.meaning source.new)) count rows) }
-    ensures refused { IfErr result (ReadFails (S.meaning source.old) (S.meaning source.new) (48 * count)) }
-{
-    input_rows::skip_rows::<T, OfSource, S>(source, count)
 }
 
 /// Reads a row at the source's position if it is `wanted`. `UnexpectedEof` if it is and fewer than 48 bytes

@@ -1,21 +1,26 @@
 //! The rows and records of the xorb section.
 
-ghost use Rattle.std.specs.Prelude.{◌≡◌, ◌+◌, ◌*◌, ◌^◌, ◌<◌, ℕ, List, Some, ◌++◌, All, MatchOption, IfSome, OnOk, IfOk, IfErr, IsTrue, ◌↔◌};
+mod view;
+
+ghost use Rattle.std.specs.Prelude.{◌≡◌, ◌+◌, ◌*◌, ◌^◌, ◌<◌, ℕ, List, Some, ◌++◌, All, MatchResult, MatchOption, IfSome, OnOk, IfOk, IfErr, IsTrue, ◌↔◌};
 ghost use Rattle.std.specs.Io.KnownBytes.{Appends, Consumes};
-ghost use Rattle.std.specs.IoError.{error_kind};
-ghost use Rattle.xet_base.specs.Bytes.{HasBytes, LacksBytes};
 ghost use Rattle.xet_base.specs.Hash.{all_ones};
 ghost use Rattle.xet_base.specs.Errors.{IsEndOfInput, IsDeviceError};
 ghost use Rattle.xet_records.specs.XorbRow.{xorb_header_row, chunk_row, FitsXorbHeader, FitsChunk, with_mark, IsEligibleChunk};
 ghost use Rattle.xet_records.specs.XorbRecord.{xorb_bookend, xorb_row_count, xorb_record_bytes, end_of_chunk, boundaries, HasItsChunks, IsStoredXorb, xorb_records};
+ghost use Rattle.xet_records.specs.Rows.{WritesRow, ReadsWhole, LacksRow};
 ghost use Rattle.xet_records.specs.Reading.{ReadsBookend, ReadsRecord, IsCutShort};
 
 use crate::file_structs::MDB_FILE_INFO_ENTRY_SIZE;
-use crate::rows::{Row, Rows, read_row, read_rows, write_row, write_rows};
+use crate::input_rows;
+use crate::record_reader::{MOST_ROWS_OF_RECORD, SectionRecord, read_record};
+use crate::rows::{Row, Rows, read_row, write_row, write_rows};
 use std::alloc::Global;
 use std::io;
-use std::io::{ErrorKind, Read, Write};
+use std::io::{Read, Write};
+pub use view::MDBXorbInfoView;
 use xet_base::error::{CoreError, Result};
+use xet_base::input::{ByteInput, OfReader};
 use xet_base::merklehash::{MerkleHash, hash_is_global_dedup_eligible};
 use xet_base::row::{put_hash, put_u32, split_hash, split_u32};
 
@@ -64,9 +69,8 @@ impl XorbChunkSequenceHeader {
 
     /// Appends the row and returns its 48 bytes. The error is the writer's.
     pub fn serialize<W: Write>(&self, writer: &mut W) -> io::Result<usize>
-        ensures text { OnOk result
-            (Appends (W.contents writer.old) (W.contents writer.new) (xorb_header_row self.now)) }
-        ensures count { IfOk result (λ n. n ≡ 48) }
+        ensures { IfOk result
+            (WritesRow (W.contents writer.old) (W.contents writer.new) (xorb_header_row self.now)) }
     {
         write_row(self, writer)?;
         Ok(MDB_FILE_INFO_ENTRY_SIZE)
@@ -74,12 +78,9 @@ impl XorbChunkSequenceHeader {
 
     /// Reads the row. `UnexpectedEof` if fewer than 48 bytes are left.
     pub fn deserialize<R: Read>(reader: &mut R) -> io::Result<Self>
-        ensures value { IfOk result
-            (λ row. Consumes (R.remaining reader.old) (R.remaining reader.new) (xorb_header_row row)) }
-        ensures widths { IfOk result FitsXorbHeader }
-        ensures enough { OnOk result (HasBytes (R.remaining reader.old) 48) }
-        ensures end { IfErr result
-            (λ e. error_kind e ≡ ErrorKind.UnexpectedEof → LacksBytes (R.remaining reader.old) 48) }
+        ensures { MatchResult result
+            (ReadsWhole xorb_header_row FitsXorbHeader (R.remaining reader.old) (R.remaining reader.new))
+            (LacksRow (R.remaining reader.old)) }
     {
         read_row(reader)
     }
@@ -177,9 +178,8 @@ impl XorbChunkSequenceEntry {
 
     /// Appends the row and returns its 48 bytes. The error is the writer's.
     pub fn serialize<W: Write>(&self, writer: &mut W) -> io::Result<usize>
-        ensures text { OnOk result
-            (Appends (W.contents writer.old) (W.contents writer.new) (chunk_row self.now)) }
-        ensures count { IfOk result (λ n. n ≡ 48) }
+        ensures { IfOk result
+            (WritesRow (W.contents writer.old) (W.contents writer.new) (chunk_row self.now)) }
     {
         write_row(self, writer)?;
         Ok(MDB_FILE_INFO_ENTRY_SIZE)
@@ -187,12 +187,9 @@ impl XorbChunkSequenceEntry {
 
     /// Reads the row. `UnexpectedEof` if fewer than 48 bytes are left.
     pub fn deserialize<R: Read>(reader: &mut R) -> io::Result<Self>
-        ensures value { IfOk result
-            (λ row. Consumes (R.remaining reader.old) (R.remaining reader.new) (chunk_row row)) }
-        ensures widths { IfOk result FitsChunk }
-        ensures enough { OnOk result (HasBytes (R.remaining reader.old) 48) }
-        ensures end { IfErr result
-            (λ e. error_kind e ≡ ErrorKind.UnexpectedEof → LacksBytes (R.remaining reader.old) 48) }
+        ensures { MatchResult result
+            (ReadsWhole chunk_row FitsChunk (R.remaining reader.old) (R.remaining reader.new))
+            (LacksRow (R.remaining reader.old)) }
     {
         read_row(reader)
     }
@@ -283,12 +280,8 @@ impl MDBXorbInfo {
         ensures again { (r : MDBXorbInfo) → (rest : List ℕ) → IsStoredXorb r → R.remaining reader.old ≡ Some (xorb_record_bytes r ++ rest)
             → IfOk result (λ found. (found ≡ Some r) × (R.remaining reader.new ≡ Some rest)) }
     {
-        let metadata = XorbChunkSequenceHeader::deserialize(reader)?;
-        if metadata.is_bookend() {
-            return Ok(None);
-        }
-        let chunks = read_rows(alloc, reader, metadata.num_entries)?;
-        Ok(Some(MDBXorbInfo { metadata, chunks }))
+        let mut rows_left = MOST_ROWS_OF_RECORD;
+        read_record::<MDBXorbInfo, OfReader, R>(alloc, reader, &mut rows_left)
     }
 
     /// Each chunk's hash with the offset of its end in the xorb's unpacked bytes. Requires that these offsets
@@ -316,4 +309,47 @@ impl MDBXorbInfo {
             chunks: self.chunks.try_clone(alloc)?,
         })
     }
+}
+
+impl SectionRecord for MDBXorbInfo {
+    ghost use Rattle.std.specs.Prelude.{refl};
+
+    type Header = XorbChunkSequenceHeader;
+
+    type Kept = ();
+
+    ghost kind = { xorb_records };
+
+    ghost kept = { λ r. tt };
+
+    ghost header_row = { record { bytes = λ h. refl; widths = λ h fits. fits; same = λ h. refl } };
+
+    fn is_bookend(header: &XorbChunkSequenceHeader) -> bool {
+        header.is_bookend()
+    }
+
+    fn rows_after(header: &XorbChunkSequenceHeader) -> u64 {
+        u64::from(header.num_entries)
+    }
+
+    fn read_rows_after<M, I: ByteInput<M>>(
+        alloc: Global,
+        input: &mut I,
+        header: XorbChunkSequenceHeader,
+    ) -> Result<MDBXorbInfo> {
+        let chunks = input_rows::read_rows(alloc, input, header.num_entries)?;
+        Ok(MDBXorbInfo {
+            metadata: header,
+            chunks,
+        })
+    }
+
+    fn skip_rows_after<M, I: ByteInput<M>>(
+        input: &mut I,
+        header: XorbChunkSequenceHeader,
+    ) -> Result<()> {
+        input_rows::skip_rows::<XorbChunkSequenceEntry, M, I>(input, header.num_entries)
+    }
+
+    fn laws() {}
 }

@@ -9,6 +9,7 @@ use Rattle.std.proofs.lemmas.Option.{none-some, same_Some}
 use Rattle.std.proofs.lemmas.List.Sums.{sum_by-take-le, sum_by-take-drop}
 use Rattle.xet_base.specs.declared.merklehash.DataHash.{DataHash}
 use Rattle.xet_base.specs.Hash.{hash_eq}
+use Rattle.xet_base.specs.KeyedHash.{no_key}
 use Rattle.xet_records.specs.declared.xorb_structs.XorbChunkSequenceEntry.{XorbChunkSequenceEntry}
 use Rattle.xet_records.specs.declared.xorb_structs.MDBXorbInfo.{MDBXorbInfo}
 use Rattle.xet_records.specs.XorbRecord.{total_bytes}
@@ -22,7 +23,7 @@ use Rattle.xet_shards.proofs.ChunkLookups.{chunk_within}
 abbrev pub is_hit : DataHash × XorbChunkSequenceEntry → Bool
 is_hit p = hash_eq p.0 p.1.chunk_hash
 
-pub prefix_is_run : (qs : List DataHash) (cs : List XorbChunkSequenceEntry) → prefix_len is_hit (zip qs cs) ≡ run_length qs cs
+pub prefix_is_run : (qs : List DataHash) (cs : List XorbChunkSequenceEntry) → prefix_len is_hit (zip qs cs) ≡ run_length no_key qs cs
 prefix_is_run [] cs = refl
 prefix_is_run (q ∷ qs) [] = refl
 prefix_is_run (q ∷ qs) (c ∷ cs) = ap (λ n. cond (hash_eq q c.chunk_hash) (1 + n) 0) (prefix_is_run qs cs)
@@ -43,9 +44,9 @@ pub location_within : (xorbs : XorbMap) (locations : LocationMap) (q : DataHash)
 location_within xorbs locations q p lookup kept = omega (arith, chunk_within p.0.chunks p.1 q (lookup.present q p kept).chunk)
 
 -- the run at the location of the first hash is the answer
-pub answer_kept : (locations : LocationMap) (qs : List DataHash) (q : DataHash) (p : ChunkLocation) → Some q ≡ slice_get qs 0 → get locations q ≡ Some p → Some (run_at p qs) ≡ query_answer locations qs
+pub answer_kept : (locations : LocationMap) (qs : List DataHash) (q : DataHash) (p : ChunkLocation) → Some q ≡ slice_get qs 0 → get locations q ≡ Some p → Some (run_at no_key p qs) ≡ query_answer locations qs
 answer_kept locations [] q p first kept = absurd (none-some q (sym first))
-answer_kept locations (r ∷ qs) q p first kept = ap (option_map (λ s. run_at s (r ∷ qs))) (sym kept ∙ ap (get locations) (same_Some q r first))
+answer_kept locations (r ∷ qs) q p first kept = ap (option_map (λ s. run_at no_key s (r ∷ qs))) (sym kept ∙ ap (get locations) (same_Some q r first))
 
 pub nothing_kept : {S Z : Type 0} (m : hash_map.HashMap DataHash (Rc MDBXorbInfo Z × ℕ) S) (locations : LocationMap) (q : DataHash)
     → ((k : DataHash) → location_in m k ≡ get locations k) → None ≡ hash_map.get hash_eq m q → get locations q ≡ None

@@ -1,8 +1,8 @@
 -- Distinct rows of a table: their sum, and that if they are as many as the rows with a property, they are all of these.
 use Rattle.std.proofs.Common.{◌≡◌, ◌≢◌, ◌⊎◌, inl, inr, ◌==◌, if◌then◌else◌, Bool, true, false, ℕ, zero, suc, ◌+◌, ◌<◌, ◌≤◌, List, [], ◌∷◌, ◌++◌, length, take, get_or, All, AllPairs, refl, sym, ap, ◌∙◌, arith}
 use Rattle.std.specs.Prelude.{sum_by, filter}
-use Rattle.std.proofs.lemmas.List.{take_more}
-use Rattle.std.proofs.lemmas.List.Elements.{All-drop, filter-append}
+use Rattle.std.proofs.lemmas.List.{take_all, take_more}
+use Rattle.std.proofs.lemmas.List.Elements.{All-drop, All-weaker, filter-append}
 use Rattle.std.proofs.lemmas.List.Sums.{sum_by-append, sum_by-cons}
 use Rattle.std.proofs.lemmas.Bool.{cases_eq, eq-eqb, ne_eqb, cond-true, cond-false}
 use Rattle.xet_base.specs.Table.{Hit, OtherRow}
@@ -103,3 +103,25 @@ sum_marked p weight xs d (suc n) within =
       sum_by-append weight (filter p (take n xs)) (filter p (x ∷ [])),
       one,
     )
+
+-- a list of ones
+pub sum-of_ones : {X : Type 0} (f : X → ℕ) (xs : List X) → All (λ x. f x ≡ 1) xs → sum_by f xs ≡ length xs
+sum-of_ones f [] ones = refl
+sum-of_ones f (x ∷ xs) ones = sum_by-cons f x xs ∙ omega (arith, ones 0 x (omega arith), sum-of_ones f xs (All-drop (λ y. f y ≡ 1) 1 (x ∷ xs) ones))
+
+-- how many elements of a list have a property
+pub count_marked : {X : Type 0} (p : X → Bool) (xs : List X) (d : X) → sum_below (λ i. if p (get_or xs i d) then 1 else 0) (length xs) ≡ length (filter p xs)
+count_marked {X = X} p xs d =
+    sum_marked p (λ x. 1) xs d (length xs) (omega arith)
+    ∙ ap (λ ys. sum_by (λ (x : X). 1) (filter p ys)) (take_all (length xs) xs (omega arith)) ∙ sum-of_ones (λ (x : X). 1) (filter p xs) (λ k e below. refl)
+
+module _ {X V : Type 0} (p : X → Bool) (xs : List X) (d : X) (found : List (Hit V)) where
+  pub sum-marked_hits : All (λ h. p (get_or xs h.row d) ≡ true) found → sum_by (λ h. if p (get_or xs h.row d) then 1 else 0) found ≡ length found
+  sum-marked_hits marked =
+      sum-of_ones (λ (h : Hit V). if p (get_or xs h.row d) then 1 else 0) found
+      (All-weaker (λ h. p (get_or xs h.row d) ≡ true) (λ h. (if p (get_or xs h.row d) then 1 else 0) ≡ 1) (λ h is. cond-true {A = ℕ} _ 1 0 is) found marked)
+
+  -- distinct rows with the property are no more
+  pub few_marked : AllPairs OtherRow found → All (λ h. h.row < length xs) found → All (λ h. p (get_or xs h.row d) ≡ true) found → length found ≤ length (filter p xs)
+  few_marked distinct below marked =
+      omega (arith, sum-marked_hits marked, sum_distinct (λ i. if p (get_or xs i d) then 1 else 0) (length xs) found distinct below, count_marked p xs d)

@@ -20,8 +20,9 @@ use Rattle.xet_shards.specs.declared.shard_format.info.MDBShardInfo.{MDBShardInf
 use Rattle.xet_shards.specs.Shard.{Shard}
 use Rattle.xet_shards.specs.Section.{section_bytes}
 use Rattle.xet_shards.specs.Tables.{table_bytes, chunk_table_bytes}
-use Rattle.xet_shards.specs.Layout.{Form, if_in, header_tag, shard_header_bytes, header_value, offsets_of, timestamps_of, sums_of, shard_footer_bytes, footer_value, layout_of, layout, plain_form, info_value}
+use Rattle.xet_shards.specs.Layout.{Form, if_in, header_tag, shard_header_bytes, header_value, offsets_of, timestamps_of, sums_of, shard_footer_bytes, footer_value, layout_of, layout, plain_form, info_of, info_value}
 use Rattle.xet_shards.specs.Ends.{HasHeader, FitsFooter, HasEnds, IsUnsupported, IsTooShort, last_bytes, Loads, LoadFails, Refusal}
+use Rattle.xet_shards.specs.Ends.FormatCase.{unsupported_format, too_few_bytes}
 use Rattle.xet_shards.proofs.Layouts.{length-shard_header_bytes, length-shard_footer_bytes}
 use Rattle.xet_shards.proofs.Loading.{header_of}
 use Rattle.xet_shards.proofs.Readback.{layout_from_48}
@@ -147,12 +148,8 @@ module _ (files : List MDBFileInfo) (xorbs : List MDBXorbInfo) (form : Form) whe
 
 why_not_loaded : (bytes : List ℕ) (info : MDBShardInfo) (old new : Source) (e : CoreError) → HasEnds bytes info → Refusal IsUnsupported IsTooShort bytes old new e → DeviceFailure old new e
 why_not_loaded bytes info old new e ends (inl failed) = failed
-why_not_loaded bytes info old new e ends (inr (inl (none, is, unsupported))) = absurd (not_unsupported bytes info ends unsupported)
-why_not_loaded bytes info old new e ends (inr (inr (none, is, short))) = absurd (not_too_short bytes info ends short)
-
--- what a reader of these bytes finds in header and footer
-abbrev pub info_of : List MDBFileInfo → List MDBXorbInfo → Form → MDBShardInfo
-info_of files xorbs form = record { header = header_value; metadata = footer_value files xorbs form }
+why_not_loaded bytes info old new e ends (inr (none, unsupported_format is unsupported)) = absurd (not_unsupported bytes info ends unsupported)
+why_not_loaded bytes info old new e ends (inr (none, too_few_bytes is short)) = absurd (not_too_short bytes info ends short)
 
 -- from these bytes header and footer are read, unless the device fails
 pub loads_layout : (old new : Source) (files : List MDBFileInfo) (xorbs : List MDBXorbInfo) (form : Form) (r : Result MDBShardInfo CoreError)

@@ -1,6 +1,5 @@
--- The turns of the loop that reads through the file section.
-use Rattle.std.proofs.Common.{◌≡◌, ◌⊎◌, inl, inr, Ok, Err, drop, Option, subst, arith, ℕ, ◌+◌, ◌*◌, List, [], ◌∷◌, ◌++◌, map, Some, refl, sym, ap, ◌∙◌}
-use Rattle.std.proofs.lemmas.List.{map-append}
+-- The ranges of the files of a shard, read from its layout.
+use Rattle.std.proofs.Common.{◌≡◌, ◌⊎◌, inl, inr, Ok, Err, drop, Option, subst, arith, ℕ, ◌+◌, List, map, refl, sym, ap, ◌∙◌}
 use Rattle.std.specs.Prelude.{MatchResult}
 use Rattle.std.specs.FinMap.{entries, values}
 use Rattle.std.specs.declared.result.Result.{Result}
@@ -12,47 +11,21 @@ use Rattle.xet_base.proofs.Lists.{rest_is}
 use Rattle.xet_base.proofs.Reading.{Takes-consumes}
 use Rattle.xet_records.specs.declared.file_structs.MDBFileInfo.{MDBFileInfo}
 use Rattle.xet_records.specs.declared.xorb_structs.MDBXorbInfo.{MDBXorbInfo}
-use Rattle.xet_records.specs.Reading.{ReadsBookend}
 use Rattle.xet_records.specs.FileRecord.{file_records}
 use Rattle.xet_records.proofs.RecordKinds.{file_laws}
 use Rattle.xet_shards.specs.declared.shard_format.header.MDBShardFileHeader.{MDBShardFileHeader}
 use Rattle.xet_shards.specs.Shard.{Shard, IsShard}
 use Rattle.xet_shards.specs.Layout.{layout_of, Form, shard_header_bytes, header_value, plain_form, layout}
 use Rattle.xet_shards.specs.Ends.{HasHeader, HasUnsupportedHeader, EndsInHeader, Refusal}
+use Rattle.xet_shards.specs.Ends.FormatCase.{unsupported_format, too_few_bytes}
 use Rattle.xet_shards.specs.SectionReading.{IsSection}
-use Rattle.xet_shards.specs.Section.{total_rows, with_fronts}
-use Rattle.xet_shards.specs.FileRanges.{FileRanges, ranges_at, file_ranges, TakesRanges, ReadsFileRanges, FileRangesFail, HasReadRanges, ReadsRanges}
+use Rattle.xet_shards.specs.FileRanges.{FileRanges, ranges_at, file_ranges, ReadsFileRanges, FileRangesFail}
 use Rattle.xet_shards.proofs.Files.{well_formed_values}
 use Rattle.xet_shards.proofs.Layouts.{length-shard_header_bytes}
 use Rattle.xet_shards.proofs.Loading.{header_of}
-use Rattle.xet_shards.proofs.Readback.{layout_from_48, file_section_in, handed_same, why_not, only_these}
+use Rattle.xet_shards.proofs.Readback.{layout_from_48, file_section_in, handed_same, why_not}
 use Rattle.xet_shards.proofs.Sections.{FitsSection, files_fit}
-use Rattle.xet_shards.proofs.SectionReading.{nothing_read, more_read, section_ends, place_after}
-use Rattle.xet_shards.proofs.Tables.{with_fronts-push}
-
-file_ranges-push : (at : ℕ) (files : List MDBFileInfo) (r : MDBFileInfo) → file_ranges at (files ++ r ∷ []) ≡ file_ranges at files ++ ranges_at (at + 48 * total_rows file_records files) r ∷ []
-file_ranges-push at files r =
-    let ranges : List MDBFileInfo × MDBFileInfo → FileRanges = λ e. ranges_at (at + 48 * total_rows file_records e.0) e.1 in
-    ap (map ranges) (with_fronts-push [] files r) ∙ map-append ranges (with_fronts [] files) ((files, r) ∷ [])
-
--- before the first record
-pub no_ranges : (start : Source) → HasReadRanges start start [] 4294967295
-no_ranges start = record { files = []; read = nothing_read file_records file_laws start; ranges = refl }
-
--- one record more
-pub more_ranges : (start now new : Source) (found : List FileRanges) (left after : ℕ) (ranges : FileRanges) → HasReadRanges start now found left
-    → ReadsRanges now new left after (Some ranges) → HasReadRanges start new (found ++ ranges ∷ []) after
-more_ranges start now new found left after ranges before (r, is, next) = record {
-  files = before.files ++ r ∷ [];
-  read = more_read file_records file_laws start now new before.files left after r before.read next;
-  ranges = (λ i. before.ranges i ++ is i ∷ []) ∙ ap (λ n. file_ranges start.at before.files ++ ranges_at n r ∷ []) (place_after file_records file_laws start now before.files left before.read)
-      ∙ sym (file_ranges-push start.at before.files r);
-}
-
--- the bookend after them
-pub ranges_end : (start now new : Source) (found : List FileRanges) (left : ℕ) → HasReadRanges start now found left → ReadsBookend file_records (Takes now new)
-    → TakesRanges start new found
-ranges_end start now new found left before last = (before.files, section_ends file_records file_laws start now before.files left before.read new last, before.ranges)
+use Rattle.xet_shards.proofs.SectionWalks.{keeps_known}
 
 -- such a layout from the source's offset on
 module _ (old new : Source) (files : List MDBFileInfo) (xorbs : List MDBXorbInfo) (form : Form) (fits : FitsSection file_records files) (are : bytes_left old ≡ layout_of files xorbs form) where
@@ -70,10 +43,10 @@ module _ (old new : Source) (files : List MDBFileInfo) (xorbs : List MDBXorbInfo
     where
       why_no_header : Refusal HasUnsupportedHeader EndsInHeader (bytes_left old) old new e → DeviceFailure old new e ⊎ (e ≡ OutOfMemory)
       why_no_header (inl failed) = inl failed
-      why_no_header (inr (inl (none, is, inl (size, differs)))) = absurd (differs has_header.tag)
-      why_no_header (inr (inl (none, is, inr (size, differs)))) = absurd (differs has_header.version)
-      why_no_header (inr (inr (none, is, inl short))) = absurd (omega (arith, short, has_header.size))
-      why_no_header (inr (inr (none, is, inr (short, tag)))) = absurd (omega (arith, short, has_header.size))
+      why_no_header (inr (none, unsupported_format is (inl (size, differs)))) = absurd (differs has_header.tag)
+      why_no_header (inr (none, unsupported_format is (inr (size, differs)))) = absurd (differs has_header.version)
+      why_no_header (inr (none, too_few_bytes is (inl short))) = absurd (omega (arith, short, has_header.size))
+      why_no_header (inr (none, too_few_bytes is (inr (short, tag)))) = absurd (omega (arith, short, has_header.size))
   why_no_ranges e (inr (header, mid, known, taken, fails)) =
       since (why_not file_records file_laws mid new files (section header mid taken) e fails.cause)
     where
@@ -87,8 +60,7 @@ module _ (old new : Source) (files : List MDBFileInfo) (xorbs : List MDBXorbInfo
   ranges_in_layout (Ok found) same read =
       let mid = read.after_header in
       let at : mid.at ≡ old.at + 48 = ap (λ (s : Source). s.at) read.header_taken.after ∙ ap (λ n. old.at + n) (length-shard_header_bytes read.header) in
-      let same_files = only_these file_records file_laws mid new files (section read.header mid read.header_taken) read.ranges.0 same read.ranges.1 in
-      read.ranges.2 ∙ (λ i. file_ranges (at i) (same_files i))
+      keeps_known file_records file_laws ranges_at mid new files (Ok found) (section read.header mid read.header_taken) same read.ranges ∙ ap (λ n. file_ranges n files) at
   ranges_in_layout (Err e) same fails = why_no_ranges e fails
 
 pub ranges_written : (old new : Source) (s : Shard) (expiry : Option ℕ) → IsShard s → bytes_left old ≡ layout s expiry → {Z : Type 0} (r : Result (Vec FileRanges Z) CoreError)

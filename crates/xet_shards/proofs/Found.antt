@@ -22,15 +22,19 @@ tied Less is = absurd (true≢false (sym is))
 tied Equal is = refl
 tied Greater is = absurd (true≢false (sym is))
 
--- a smaller hash has no greater first word
-pub first_words_ascend : (a b : DataHash) → hash_cmp a b ≡ Less → a.word0 ≤ b.word0
-first_words_ascend a b less = elim (cases_lt b.word0 a.word0) [
-  | inl greater ↦ absurd (true≢false (ap is_gt (after (nat_cmp a.word0 b.word0) _ (nat_cmp_is a.word0 b.word0 Greater greater) less)))
+-- a comparison by two numbers and then by others
+pub first_ascends : (m n : ℕ) (rest : Ordering) → ordering_then (nat_cmp m n) rest ≡ Less → m ≤ n
+first_ascends m n rest less = elim (cases_lt n m) [
+  | inl greater ↦ absurd (true≢false (ap is_gt (after (nat_cmp m n) rest (nat_cmp_is m n Greater greater) less)))
   | inr not_greater ↦ not_greater
 ]
   where
     after : (o p : Ordering) → Greater ≡ o → ordering_then o p ≡ Less → Greater ≡ Less
     after o p is then = ap (λ q. ordering_then q p) is ∙ then
+
+-- so a smaller hash has no greater first word
+pub first_words_ascend : (a b : DataHash) → hash_cmp a b ≡ Less → a.word0 ≤ b.word0
+first_words_ascend a b less = first_ascends a.word0 b.word0 _ less
 
 module _ {K X : Type 0} (R : K → K → Ordering) where
   -- what is found is among the entries, with its key

@@ -1,21 +1,23 @@
--- Joins of shards: a set has at most one, and the union of shards that agree is their join.
-use Rattle.std.proofs.Common.{◌≡◌, ◌⊎◌, inl, inr, ℕ, zero, suc, ◌<◌, true≢false, slice_index_or, Bool, true, false, not, ◌&&◌, ◌||◌, List, [], ◌∷◌, length, Option, None, Some, is_some, refl, sym, ap, ◌∙◌, subst, if◌then◌else◌, arith}
+-- Joins of sets of shards: a set has at most one, and the join of two sets of shards that agree is the union of theirs.
+use Rattle.std.proofs.Common.{◌≡◌, ◌⊎◌, inl, inr, true≢false, Bool, true, false, not, ◌&&◌, ◌||◌, List, [], ◌∷◌, ◌++◌, ◌+◌, length, Option, None, Some, is_some, refl, sym, ap, ◌∙◌, subst, if◌then◌else◌, arith}
 use Rattle.std.specs.Prelude.{◌↔◌, Contains, IsTrue, option_map, option_and_then, unwrap_or}
 use Rattle.std.specs.Option.{option_or}
-use Rattle.std.specs.FinMap.{get}
+use Rattle.std.specs.FinMap.{get, get-empty}
+use Rattle.std.proofs.lemmas.List.Elements.{Contains-push, Contains-push_cases, Contains-append_left, Contains-append_right, Contains-append_cases}
 use Rattle.std.proofs.lemmas.Option.{same_Some, none-some}
 use Rattle.xet_base.specs.declared.merklehash.DataHash.{DataHash}
+use Rattle.xet_base.specs.Hash.{hash_cmp}
 use Rattle.xet_records.specs.declared.file_structs.rows.FileDataSequenceEntry.{FileDataSequenceEntry}
 use Rattle.xet_records.specs.declared.file_structs.rows.FileVerificationEntry.{FileVerificationEntry}
 use Rattle.xet_records.specs.declared.file_structs.rows.FileMetadataExt.{FileMetadataExt}
 use Rattle.xet_records.specs.declared.file_structs.MDBFileInfo.{MDBFileInfo}
-use Rattle.xet_records.specs.FileRecord.{flags_of, FitsItsHeader}
-use Rattle.xet_records.specs.Merging.{Agree, verified, described, merged, joined}
-use Rattle.xet_records.proofs.Merging.{flags_are_parts, verification_absent, verified-merged, verified-joined, described-joined, joined_whole, merged_is_joined, same_file_if_agree}
-use Rattle.xet_shards.specs.Shard.{Shard, IsShard, file_hash_of}
+use Rattle.xet_records.specs.FileRecord.{flags_of}
+use Rattle.xet_records.specs.Merging.{Agree, verified, described, merged}
+use Rattle.xet_records.proofs.Merging.{flags_are_parts, flags_added, metadata_ext_told, verification_absent, verified-merged, described-merged}
+use Rattle.xet_shards.specs.Shard.{Shard, IsShard, empty_shard, file_hash_of}
 use Rattle.xet_shards.specs.Joining.{either_file}
 use Rattle.xet_shards.specs.SetOperations.{IsUnion, ShardsAgree}
-use Rattle.xet_shards.specs.Joins.{verification_of, segments_under, verification_under, metadata_under, file_with, HasWhatAnyHas, IsJoinOf}
+use Rattle.xet_shards.specs.Joins.{verification_of, segments_under, verification_under, metadata_under, file_with, HasWhatAnyHas, FollowsParts, IsJoinOf}
 use Rattle.xet_shards.proofs.Joining.{or_none}
 use Rattle.xet_shards.proofs.Unions.{IsKnown, known, same_shard, same_either}
 
@@ -58,11 +60,89 @@ metadata_either false true None p there other = refl
 metadata_either false false None None there other = refl
 metadata_either false false None (Some y) there other = absurd (true≢false other)
 
-metadata-merged : (a b : MDBFileInfo) → FitsItsHeader a → FitsItsHeader b → (merged a b).metadata_ext ≡ option_or a.metadata_ext b.metadata_ext
-metadata-merged a b first second = metadata_either (described a) (described b) a.metadata_ext b.metadata_ext first.metadata_ext second.metadata_ext
-
--- the parts of the file of a union
+-- a file that its parts determine
 module _ (q : DataHash) where
+  abbrev pub IsPlain : MDBFileInfo → Type 0
+  IsPlain r = r ≡ file_with q r.segments (verification_of r) r.metadata_ext
+
+  pub record HasPlainHeader (r : MDBFileInfo) : Type 0 where
+    pub keyed : q ≡ file_hash_of r
+    pub reserved : r.metadata._unused ≡ 0
+    pub flags : r.metadata.file_flags ≡ flags_of (verified r) (described r)
+    pub segments : length r.segments ≡ r.metadata.num_entries
+    pub absent : verified r ≡ false → r.verification ≡ []
+    pub present : is_some r.metadata_ext ≡ described r
+
+  announced : (v : Bool) (xs : List FileVerificationEntry) → v ≡ is_some (if v then Some xs else None)
+  announced true xs = refl
+  announced false xs = refl
+
+  rows_there : (v : Bool) (xs : List FileVerificationEntry) → (v ≡ false → xs ≡ []) → xs ≡ unwrap_or (if v then Some xs else None) []
+  rows_there true xs absent = refl
+  rows_there false xs absent = absent refl
+
+  pub plain : (r : MDBFileInfo) → HasPlainHeader r → IsPlain r
+  plain r has =
+      let flags : r.metadata.file_flags ≡ flags_of (is_some (verification_of r)) (is_some r.metadata_ext) =
+      has.flags ∙ (λ i. flags_of (announced (verified r) r.verification i) (sym has.present i)) in
+      let rows = rows_there (verified r) r.verification has.absent in
+      λ i. record {
+        metadata = record { file_hash = sym has.keyed i; file_flags = flags i; num_entries = sym has.segments i; _unused = has.reserved i };
+        segments = r.segments;
+        verification = rows i;
+        metadata_ext = r.metadata_ext;
+      }
+
+  pub plain_header : (r : MDBFileInfo) → IsPlain r → HasPlainHeader r
+  plain_header r is =
+      let present : is_some r.metadata_ext ≡ described r = sym (ap described is ∙ metadata_ext_told (is_some (verification_of r)) (is_some r.metadata_ext)) in
+      record {
+        keyed = sym (ap file_hash_of is);
+        reserved = ap (λ (s : MDBFileInfo). s.metadata._unused) is;
+        flags = ap (λ (s : MDBFileInfo). s.metadata.file_flags) is ∙ (λ i. flags_of (sym (announced (verified r) r.verification) i) (present i));
+        segments = sym (ap (λ (s : MDBFileInfo). s.metadata.num_entries) is);
+        absent = λ none. ap (λ (s : MDBFileInfo). s.verification) is ∙ ap (λ (v : Bool). unwrap_or (if v then Some r.verification else None) []) none;
+        present = present;
+      }
+
+  pub known_header : (r : MDBFileInfo) → IsKnown q r → HasPlainHeader r
+  known_header r known =
+      let formed = known.well_formed in
+      record {
+        keyed = known.keyed;
+        reserved = formed.reserved;
+        flags = flags_are_parts r.metadata.file_flags formed.widths.metadata.file_flags formed.known_flags;
+        segments = formed.whole.segments;
+        absent = verification_absent r formed.whole;
+        present = formed.whole.metadata_ext;
+      }
+
+  rows_absent : (v w : Bool) (xs ys : List FileVerificationEntry) → (v ≡ false → xs ≡ []) → (v || w) ≡ false → (if w && not v then ys else xs) ≡ []
+  rows_absent true w xs ys none is = absurd (true≢false is)
+  rows_absent false true xs ys none is = absurd (true≢false is)
+  rows_absent false false xs ys none is = none refl
+
+  row_present : (m l : Bool) (o p : Option FileMetadataExt) → is_some o ≡ m → is_some p ≡ l → is_some (if l && not m then p else o) ≡ (m || l)
+  row_present true true o p one other = one
+  row_present true false o p one other = one
+  row_present false true o p one other = other
+  row_present false false o p one other = one
+
+  merged_header : (r s : MDBFileInfo) → HasPlainHeader r → HasPlainHeader s → HasPlainHeader (merged r s)
+  merged_header r s one other = record {
+    keyed = one.keyed;
+    reserved = one.reserved;
+    flags = ap (λ n. n + flags_of (verified s && not (verified r)) (described s && not (described r))) one.flags ∙ flags_added (verified r) (described r) (verified s) (described s)
+        ∙ (λ i. flags_of (sym (verified-merged r s) i) (sym (described-merged r s) i));
+    segments = one.segments;
+    absent = λ none. rows_absent (verified r) (verified s) r.verification s.verification one.absent (sym (verified-merged r s) ∙ none);
+    present = row_present (described r) (described s) r.metadata_ext s.metadata_ext one.present other.present ∙ sym (described-merged r s);
+  }
+
+  metadata-merged : (r s : MDBFileInfo) → HasPlainHeader r → HasPlainHeader s → (merged r s).metadata_ext ≡ option_or r.metadata_ext s.metadata_ext
+  metadata-merged r s one other = metadata_either (described r) (described s) r.metadata_ext s.metadata_ext one.present other.present
+
+  -- the parts of the file of a union
   segments_either : (o p : Option MDBFileInfo) → option_map (λ (r : MDBFileInfo). r.segments) (either_file o p) ≡ option_or (option_map (λ r. r.segments) o) (option_map (λ r. r.segments) p)
   segments_either None p = refl
   segments_either (Some r) None = refl
@@ -73,14 +153,22 @@ module _ (q : DataHash) where
   verification_of_either (Some r) None = sym (or_none (verification_of r))
   verification_of_either (Some r) (Some s) = verification-merged r s
 
-  metadata_of_either : (o p : Option MDBFileInfo) → ((r : MDBFileInfo) → o ≡ Some r → IsKnown q r) → ((s : MDBFileInfo) → p ≡ Some s → IsKnown q s)
+  abbrev pub IsPlainFile : Option MDBFileInfo → Type 0
+  IsPlainFile o = (r : MDBFileInfo) → o ≡ Some r → HasPlainHeader r
+
+  metadata_of_either : (o p : Option MDBFileInfo) → IsPlainFile o → IsPlainFile p
       → option_and_then (λ (r : MDBFileInfo). r.metadata_ext) (either_file o p) ≡ option_or (option_and_then (λ r. r.metadata_ext) o) (option_and_then (λ r. r.metadata_ext) p)
   metadata_of_either None p first second = refl
   metadata_of_either (Some r) None first second = sym (or_none r.metadata_ext)
-  metadata_of_either (Some r) (Some s) first second = metadata-merged r s (first r refl).well_formed.whole (second s refl).well_formed.whole
+  metadata_of_either (Some r) (Some s) first second = metadata-merged r s (first r refl) (second s refl)
+
+  plain_either : (o p : Option MDBFileInfo) → IsPlainFile o → IsPlainFile p → IsPlainFile (either_file o p)
+  plain_either None p first second t is = second t is
+  plain_either (Some r) None first second t is = first t is
+  plain_either (Some r) (Some s) first second t is = subst HasPlainHeader (same_Some (merged r s) t is) (merged_header r s (first r refl) (second s refl))
 
   -- parts of files that agree
-  same_segments : (o p : Option MDBFileInfo) → ((r s : MDBFileInfo) → o ≡ Some r → p ≡ Some s → Agree r s) → (x y : List FileDataSequenceEntry)
+  pub same_segments : (o p : Option MDBFileInfo) → ((r s : MDBFileInfo) → o ≡ Some r → p ≡ Some s → Agree r s) → (x y : List FileDataSequenceEntry)
       → option_map (λ (r : MDBFileInfo). r.segments) o ≡ Some x → option_map (λ (r : MDBFileInfo). r.segments) p ≡ Some y → x ≡ y
   same_segments None p agree x y one other = absurd (none-some x one)
   same_segments (Some r) None agree x y one other = absurd (none-some y other)
@@ -91,100 +179,62 @@ module _ (q : DataHash) where
   same_rows true false x y a b agree one other = absurd (none-some y other)
   same_rows false w x y a b agree one other = absurd (none-some x one)
 
-  same_verification : (o p : Option MDBFileInfo) → ((r s : MDBFileInfo) → o ≡ Some r → p ≡ Some s → Agree r s) → (x y : List FileVerificationEntry)
+  pub same_verification : (o p : Option MDBFileInfo) → ((r s : MDBFileInfo) → o ≡ Some r → p ≡ Some s → Agree r s) → (x y : List FileVerificationEntry)
       → option_and_then verification_of o ≡ Some x → option_and_then verification_of p ≡ Some y → x ≡ y
   same_verification None p agree x y one other = absurd (none-some x one)
   same_verification (Some r) None agree x y one other = absurd (none-some y other)
   same_verification (Some r) (Some s) agree x y one other = same_rows (verified r) (verified s) x y r.verification s.verification (agree r s refl refl).verification one other
 
-  same_metadata : (o p : Option MDBFileInfo) → ((r : MDBFileInfo) → o ≡ Some r → IsKnown q r) → ((s : MDBFileInfo) → p ≡ Some s → IsKnown q s)
+  pub same_metadata : (o p : Option MDBFileInfo) → IsPlainFile o → IsPlainFile p
       → ((r s : MDBFileInfo) → o ≡ Some r → p ≡ Some s → Agree r s) → (x y : FileMetadataExt)
       → option_and_then (λ (r : MDBFileInfo). r.metadata_ext) o ≡ Some x → option_and_then (λ (r : MDBFileInfo). r.metadata_ext) p ≡ Some y → x ≡ y
   same_metadata None p first second agree x y one other = absurd (none-some x one)
   same_metadata (Some r) None first second agree x y one other = absurd (none-some y other)
   same_metadata (Some r) (Some s) first second agree x y one other =
       same_Some x y (sym one ∙ (agree r s refl refl).metadata_ext
-      (sym (first r refl).well_formed.whole.metadata_ext ∙ ap is_some one) (sym (second s refl).well_formed.whole.metadata_ext ∙ ap is_some other) ∙ other)
+      (sym (first r refl).present ∙ ap is_some one) (sym (second s refl).present ∙ ap is_some other) ∙ other)
 
-  -- a record with the parts that its header announces, and no other flag, is determined by its parts
-  abbrev IsPlain : MDBFileInfo → Type 0
-  IsPlain r = r ≡ file_with q r.segments (verification_of r) r.metadata_ext
+-- each file of a shard is determined by its parts
+pub follows_parts : (s : Shard) → IsShard s → FollowsParts s
+follows_parts s shard q r at = plain q r (known_header q r (known s q r shard at))
 
-  announced : (v : Bool) (xs : List FileVerificationEntry) → v ≡ is_some (if v then Some xs else None)
-  announced true xs = refl
-  announced false xs = refl
+pub plain_file : (s : Shard) → FollowsParts s → (q : DataHash) → IsPlainFile q (get s.files q)
+plain_file s follows q r at = plain_header q r (follows q r at)
 
-  rows_there : (v : Bool) (xs : List FileVerificationEntry) → (v ≡ false → xs ≡ []) → xs ≡ unwrap_or (if v then Some xs else None) []
-  rows_there true xs absent = refl
-  rows_there false xs absent = absent refl
+-- the union of the joins of two sets is the join of both
+module _ (A B : Shard → Type 0) (a b c : Shard) (first : IsJoinOf A a) (second : IsJoinOf B b) (agree : ShardsAgree a b) (union : IsUnion a b c) where
+  of_either : {X : Type 0} (part : Shard → Option X) → part c ≡ option_or (part a) (part b) → ((x y : X) → part a ≡ Some x → part b ≡ Some y → x ≡ y)
+      → HasWhatAnyHas A a part → HasWhatAnyHas B b part → HasWhatAnyHas (λ s. A s ⊎ B s) c part
+  of_either part is same one other = λ x. (
+    λ at. elim ((either_part (part a) (part b) same x).0 (sym is ∙ at)) [
+      | inl own ↦ let found = (one x).0 own in (found.0, inl found.1, found.2)
+      | inr others ↦ let found = (other x).0 others in (found.0, inr found.1, found.2)
+    ],
+    λ (found : (s : Shard) × (A s ⊎ B s) × (part s ≡ Some x)). is ∙ (either_part (part a) (part b) same x).1 (which x found.0 found.1 found.2),
+  )
+    where
+      which : (x : _) (s : Shard) → A s ⊎ B s → part s ≡ Some x → (part a ≡ Some x) ⊎ (part b ≡ Some x)
+      which x s (inl mine) at = inl ((one x).1 (s, mine, at))
+      which x s (inr others) at = inr ((other x).1 (s, others, at))
 
-  plain : (r : MDBFileInfo) → q ≡ file_hash_of r → r.metadata._unused ≡ 0 → r.metadata.file_flags ≡ flags_of (verified r) (described r) → FitsItsHeader r → IsPlain r
-  plain r keyed reserved flags whole =
-      let both : r.metadata.file_flags ≡ flags_of (is_some (verification_of r)) (is_some r.metadata_ext) =
-      flags ∙ (λ i. flags_of (announced (verified r) r.verification i) (sym whole.metadata_ext i)) in
-      let rows = rows_there (verified r) r.verification (verification_absent r whole) in
-      λ i. record {
-        metadata = record { file_hash = sym keyed i; file_flags = both i; num_entries = sym whole.segments i; _unused = reserved i };
-        segments = r.segments;
-        verification = rows i;
-        metadata_ext = r.metadata_ext;
-      }
+  pub join-union : IsJoinOf (λ s. A s ⊎ B s) c
+  join-union = record {
+    xorbs = λ q. of_either (λ s. get s.xorbs q) (union.xorbs q ∙ same_either (get a.xorbs q) (get b.xorbs q) (agree.xorbs q)) (agree.xorbs q) (first.xorbs q) (second.xorbs q);
+    segments = λ q. of_either (segments_under q) (ap (option_map (λ r. r.segments)) (union.files q) ∙ segments_either q (get a.files q) (get b.files q))
+        (same_segments q (get a.files q) (get b.files q) (agree.files q)) (first.segments q) (second.segments q);
+    verification = λ q. of_either (verification_under q) (ap (option_and_then verification_of) (union.files q) ∙ verification_of_either q (get a.files q) (get b.files q))
+        (same_verification q (get a.files q) (get b.files q) (agree.files q)) (first.verification q) (second.verification q);
+    metadata_ext = λ q. of_either (metadata_under q)
+        (ap (option_and_then (λ r. r.metadata_ext)) (union.files q) ∙ metadata_of_either q (get a.files q) (get b.files q) (plain_file a first.follows q) (plain_file b second.follows q))
+        (same_metadata q (get a.files q) (get b.files q) (plain_file a first.follows q) (plain_file b second.follows q) (agree.files q)) (first.metadata_ext q) (second.metadata_ext q);
+    follows = λ q t at. plain q t (plain_either q (get a.files q) (get b.files q) (plain_file a first.follows q) (plain_file b second.follows q) t (sym (union.files q) ∙ at));
+  }
 
-  plain_known : (r : MDBFileInfo) → IsKnown q r → IsPlain r
-  plain_known r known =
-      let formed = known.well_formed in
-      plain r known.keyed formed.reserved (flags_are_parts r.metadata.file_flags formed.widths.metadata.file_flags formed.known_flags) formed.whole
-
-  plain_merged : (r s : MDBFileInfo) → IsKnown q r → IsKnown q s → Agree r s → IsPlain (merged r s)
-  plain_merged r s own others agree =
-      let same = same_file_if_agree r s own.well_formed.whole others.well_formed.whole (sym own.keyed ∙ others.keyed) agree in
-      subst IsPlain (sym (merged_is_joined r s own.well_formed others.well_formed))
-      (plain (joined r s) own.keyed own.well_formed.reserved (λ i. flags_of (sym (verified-joined r s) i) (sym (described-joined r s) i)) (joined_whole r s own.well_formed.whole others.well_formed.whole same))
-
-  plain_either : (o p : Option MDBFileInfo) (t : MDBFileInfo) → ((r : MDBFileInfo) → o ≡ Some r → IsKnown q r) → ((s : MDBFileInfo) → p ≡ Some s → IsKnown q s)
-      → ((r s : MDBFileInfo) → o ≡ Some r → p ≡ Some s → Agree r s) → either_file o p ≡ Some t → IsPlain t
-  plain_either None p t first second agree is = plain_known t (second t is)
-  plain_either (Some r) None t first second agree is = plain_known t (first t is)
-  plain_either (Some r) (Some s) t first second agree is = subst IsPlain (same_Some (merged r s) t is) (plain_merged r s (first r refl) (second s refl) (agree r s refl refl))
-
--- what one of two shards has
-of_pair : {X : Type 0} (part : Shard → Option X) (a b c : Shard) → part c ≡ option_or (part a) (part b) → ((x y : X) → part a ≡ Some x → part b ≡ Some y → x ≡ y)
-    → HasWhatAnyHas (Contains (a ∷ b ∷ [])) c part
-of_pair part a b c is same = λ x. (
-  λ at. elim ((either_part (part a) (part b) same x).0 (sym is ∙ at)) [
-    | inl own ↦ (a, (0, omega arith, refl), own)
-    | inr other ↦ (b, (1, omega arith, refl), other)
-  ],
-  λ (found : (s : Shard) × Contains (a ∷ b ∷ []) s × (part s ≡ Some x)). is ∙ (either_part (part a) (part b) same x).1 (which x found.0 found.1.0 found.1.1 found.1.2 found.2),
-)
-  where
-    which : (x : _) (s : Shard) (k : ℕ) → k < length (a ∷ b ∷ []) → slice_index_or (a ∷ b ∷ []) k s ≡ s → part s ≡ Some x → (part a ≡ Some x) ⊎ (part b ≡ Some x)
-    which x s zero below here at = inl (ap part here ∙ at)
-    which x s (suc zero) below here at = inr (ap part here ∙ at)
-    which x s (suc (suc k)) below here at = absurd (omega (arith, below))
-
--- the union of two shards that agree is their join
-pub union_is_join : (a b c : Shard) → IsShard a → IsShard b → ShardsAgree a b → IsUnion a b c → IsJoinOf (Contains (a ∷ b ∷ [])) c
-union_is_join a b c first second agree union = record {
-  xorbs = λ q. of_pair (λ s. get s.xorbs q) a b c (union.xorbs q ∙ same_either (get a.xorbs q) (get b.xorbs q) (agree.xorbs q)) (agree.xorbs q);
-  segments = λ q. of_pair (segments_under q) a b c (ap (option_map (λ r. r.segments)) (union.files q) ∙ segments_either q (get a.files q) (get b.files q))
-      (same_segments q (get a.files q) (get b.files q) (agree.files q));
-  verification = λ q. of_pair (verification_under q) a b c (ap (option_and_then verification_of) (union.files q) ∙ verification_of_either q (get a.files q) (get b.files q))
-      (same_verification q (get a.files q) (get b.files q) (agree.files q));
-  metadata_ext = λ q. of_pair (metadata_under q) a b c
-      (ap (option_and_then (λ r. r.metadata_ext)) (union.files q) ∙ metadata_of_either q (get a.files q) (get b.files q) (λ r. known a q r first) (λ s. known b q s second))
-      (same_metadata q (get a.files q) (get b.files q) (λ r. known a q r first) (λ s. known b q s second) (agree.files q));
-  follows = λ q t at. plain_either q (get a.files q) (get b.files q) t (λ r. known a q r first) (λ s. known b q s second) (agree.files q) (sym (union.files q) ∙ at);
-}
-
--- a set of shards has at most one join
+-- sets with the same members have the same join, if any
 same_part : {X : Type 0} (o p : Option X) → ((x : X) → o ≡ Some x → p ≡ Some x) → ((x : X) → p ≡ Some x → o ≡ Some x) → o ≡ p
 same_part None None to from = refl
 same_part None (Some y) to from = absurd (none-some y (from y refl))
 same_part (Some x) p to from = sym (to x refl)
-
-part_unique : {X : Type 0} (IsOne : Shard → Type 0) (c d : Shard) (part : Shard → Option X) → HasWhatAnyHas IsOne c part → HasWhatAnyHas IsOne d part → part c ≡ part d
-part_unique IsOne c d part one other = same_part (part c) (part d) (λ x at. (other x).1 ((one x).0 at)) (λ x at. (one x).1 ((other x).0 at))
 
 file_unique : (q : DataHash) (o p : Option MDBFileInfo) → ((r : MDBFileInfo) → o ≡ Some r → IsPlain q r) → ((s : MDBFileInfo) → p ≡ Some s → IsPlain q s)
     → option_map (λ (r : MDBFileInfo). r.segments) o ≡ option_map (λ r. r.segments) p → option_and_then verification_of o ≡ option_and_then verification_of p
@@ -195,9 +245,78 @@ file_unique q (Some r) None first second segments verification metadata_ext = ab
 file_unique q (Some r) (Some s) first second segments verification metadata_ext =
     ap Some (first r refl ∙ (λ i. file_with q (same_Some r.segments s.segments segments i) (verification i) (metadata_ext i)) ∙ sym (second s refl))
 
-pub join-unique : (IsOne : Shard → Type 0) (c d : Shard) → IsJoinOf IsOne c → IsJoinOf IsOne d → c ≡ d
-join-unique IsOne c d one other = same_shard c d (λ q. file_unique q (get c.files q) (get d.files q) (one.follows q) (other.follows q)
-    (part_unique IsOne c d (segments_under q) (one.segments q) (other.segments q))
-    (part_unique IsOne c d (verification_under q) (one.verification q) (other.verification q))
-    (part_unique IsOne c d (metadata_under q) (one.metadata_ext q) (other.metadata_ext q)))
-    (λ q. part_unique IsOne c d (λ s. get s.xorbs q) (one.xorbs q) (other.xorbs q))
+module _ (A B : Shard → Type 0) (into : (s : Shard) → A s → B s) (back : (s : Shard) → B s → A s) where
+  has_of_same : {X : Type 0} (c : Shard) (part : Shard → Option X) → HasWhatAnyHas A c part → HasWhatAnyHas B c part
+  has_of_same c part has = λ x. (
+    λ at. let found = (has x).0 at in (found.0, into found.0 found.1, found.2),
+    λ (found : (s : Shard) × B s × (part s ≡ Some x)). (has x).1 (found.0, back found.0 found.1, found.2),
+  )
+
+  pub join-same : (c : Shard) → IsJoinOf A c → IsJoinOf B c
+  join-same c join = record {
+    xorbs = λ q. has_of_same c (λ s. get s.xorbs q) (join.xorbs q);
+    segments = λ q. has_of_same c (segments_under q) (join.segments q);
+    verification = λ q. has_of_same c (verification_under q) (join.verification q);
+    metadata_ext = λ q. has_of_same c (metadata_under q) (join.metadata_ext q);
+    follows = join.follows;
+  }
+
+-- a set of shards has at most one join
+module _ (IsOne : Shard → Type 0) (c d : Shard) where
+  part_unique : {X : Type 0} (part : Shard → Option X) → HasWhatAnyHas IsOne c part → HasWhatAnyHas IsOne d part → part c ≡ part d
+  part_unique part one other = same_part (part c) (part d) (λ x at. (other x).1 ((one x).0 at)) (λ x at. (one x).1 ((other x).0 at))
+
+  pub join-unique : IsJoinOf IsOne c → IsJoinOf IsOne d → c ≡ d
+  join-unique one other = same_shard c d (λ q. file_unique q (get c.files q) (get d.files q) (one.follows q) (other.follows q)
+      (part_unique (segments_under q) (one.segments q) (other.segments q))
+      (part_unique (verification_under q) (one.verification q) (other.verification q))
+      (part_unique (metadata_under q) (one.metadata_ext q) (other.metadata_ext q)))
+      (λ q. part_unique (λ s. get s.xorbs q) (one.xorbs q) (other.xorbs q))
+
+-- the join of one shard is this shard
+module _ (A : Shard → Type 0) (c : Shard) (member : A c) (alone : (s : Shard) → A s → c ≡ s) where
+  has_of_one : {X : Type 0} (part : Shard → Option X) → HasWhatAnyHas A c part
+  has_of_one part = λ x. (λ at. (c, member, at), λ (found : (s : Shard) × A s × (part s ≡ Some x)). ap part (alone found.0 found.1) ∙ found.2)
+
+  pub join-single : FollowsParts c → IsJoinOf A c
+  join-single follows = record {
+    xorbs = λ q. has_of_one (λ s. get s.xorbs q);
+    segments = λ q. has_of_one (segments_under q);
+    verification = λ q. has_of_one (verification_under q);
+    metadata_ext = λ q. has_of_one (metadata_under q);
+    follows = follows;
+  }
+
+pub join-one : (s : Shard) → FollowsParts s → IsJoinOf (Contains (s ∷ [])) s
+join-one s follows = join-single (Contains (s ∷ [])) s (Contains-push [] s) (λ t member. elim (Contains-push_cases [] s t member) [ inl none ↦ absurd (no_member t none) | inr same ↦ same ]) follows
+  where
+    no_member : (t : Shard) → ¬ Contains {X = Shard} [] t
+    no_member t (k, below, is) = absurd (omega (arith, below))
+
+-- that of none is the empty shard
+module _ (A : Shard → Type 0) (none : (s : Shard) → ¬ A s) where
+  has_of_none : {X : Type 0} (part : Shard → Option X) → part empty_shard ≡ None → HasWhatAnyHas A empty_shard part
+  has_of_none part is = λ x. (
+    λ at. absurd (none-some x (sym is ∙ at)),
+    λ (found : (s : Shard) × A s × (part s ≡ Some x)). absurd (none found.0 found.1),
+  )
+
+  pub join-none : IsJoinOf A empty_shard
+  join-none = record {
+    xorbs = λ q. has_of_none (λ s. get s.xorbs q) (get-empty hash_cmp q);
+    segments = λ q. has_of_none (segments_under q) (ap (option_map (λ r. r.segments)) (get-empty hash_cmp q));
+    verification = λ q. has_of_none (verification_under q) (ap (option_and_then verification_of) (get-empty hash_cmp q));
+    metadata_ext = λ q. has_of_none (metadata_under q) (ap (option_and_then (λ r. r.metadata_ext)) (get-empty hash_cmp q));
+    follows = λ q r at. absurd (none-some r (sym (get-empty hash_cmp q) ∙ at));
+  }
+
+-- lists of shards
+pub join-append : (xs ys : List Shard) (a b c : Shard) → IsJoinOf (Contains xs) a → IsJoinOf (Contains ys) b → ShardsAgree a b → IsUnion a b c → IsJoinOf (Contains (xs ++ ys)) c
+join-append xs ys a b c first second agree union =
+    join-same (λ s. Contains xs s ⊎ Contains ys s) (Contains (xs ++ ys))
+    (λ s either. elim either [ inl left ↦ Contains-append_left xs ys s left | inr right ↦ Contains-append_right xs ys s right ])
+    (λ s. Contains-append_cases xs ys s) c (join-union (Contains xs) (Contains ys) a b c first second agree union)
+
+-- the union of two shards that agree is their join
+pub union_is_join : (a b c : Shard) → IsShard a → IsShard b → ShardsAgree a b → IsUnion a b c → IsJoinOf (Contains (a ∷ b ∷ [])) c
+union_is_join a b c first second agree union = join-append (a ∷ []) (b ∷ []) a b c (join-one a (follows_parts a first)) (join-one b (follows_parts b second)) agree union

@@ -10,12 +10,13 @@ use Rattle.xet_base.specs.Errors.{IsEndOfInput, IsBareShardVersion, FromDevice}
 use Rattle.xet_base.specs.Source.{Source, Takes, Fails, moved, bytes_left}
 use Rattle.xet_base.proofs.Bytes.{length-u64_bytes}
 use Rattle.xet_base.proofs.Lists.{front_is}
-use Rattle.xet_base.specs.InputLaws.{Takes-trans}
+use Rattle.xet_base.specs.InputLaws.{Takes-trans, failed_after}
 use Rattle.xet_base.proofs.Reading.{Takes-consumes}
 use Rattle.xet_shards.specs.declared.shard_format.header.MDBShardFileHeader.{MDBShardFileHeader}
 use Rattle.xet_shards.specs.declared.shard_format.footer.MDBShardFileFooter.{MDBShardFileFooter}
 use Rattle.xet_shards.specs.Layout.{header_tag, shard_header_bytes, shard_footer_bytes}
-use Rattle.xet_shards.specs.Ends.{HasHeader, FitsFooter, HasUnsupportedHeader, EndsInHeader, HasUnsupportedFooter, EndsInFooter, last_bytes, IsUnsupported, IsTooShort, Loads, LoadFails, PartFails, Refusal}
+use Rattle.xet_shards.specs.Ends.{HasHeader, FitsFooter, HasUnsupportedHeader, EndsInHeader, HasUnsupportedFooter, EndsInFooter, last_bytes, IsUnsupported, IsTooShort, Loads, LoadFails, PartFails, FormatCase, Refusal}
+use Rattle.xet_shards.specs.Ends.FormatCase.{unsupported_format, too_few_bytes}
 use Rattle.xet_shards.proofs.Ends.{unsupported_version}
 use Rattle.xet_shards.proofs.Layouts.{length-shard_header_bytes, length-shard_footer_bytes}
 
@@ -23,9 +24,12 @@ use Rattle.xet_shards.proofs.Layouts.{length-shard_header_bytes, length-shard_fo
 pub refusal_of : (Unsupported Short Unsupported' Short' : List ℕ → Type 0) (bytes bytes' : List ℕ) (old mid new : Source) (e : CoreError)
     → mid.failures ≡ old.failures → (Unsupported bytes → Unsupported' bytes') → (Short bytes → Short' bytes')
     → Refusal Unsupported Short bytes mid new e → Refusal Unsupported' Short' bytes' old new e
-refusal_of Unsupported Short Unsupported' Short' bytes bytes' old mid new e same unsupported short (inl failed) = inl (failed.0 ∙ ap (λ n. n + 1) same, failed.1, failed.2, failed.3)
-refusal_of Unsupported Short Unsupported' Short' bytes bytes' old mid new e same unsupported short (inr (inl (none, is, has))) = inr (inl (none ∙ same, is, unsupported has))
-refusal_of Unsupported Short Unsupported' Short' bytes bytes' old mid new e same unsupported short (inr (inr (none, is, has))) = inr (inr (none ∙ same, is, short has))
+refusal_of Unsupported Short Unsupported' Short' bytes bytes' old mid new e same unsupported short cause =
+    failed_after (FormatCase Unsupported Short bytes) (FormatCase Unsupported' Short' bytes') old mid new e same later cause
+  where
+    later : FormatCase Unsupported Short bytes e → FormatCase Unsupported' Short' bytes' e
+    later (unsupported_format is has) = unsupported_format is (unsupported has)
+    later (too_few_bytes is has) = too_few_bytes is (short has)
 
 -- what follows from the value or from the error of a result
 pub ok_gives : {T E : Type 0} (r : Result T E) (P Q : T → Type 0) → ((v : T) → P v → Q v) → IfOk r P → IfOk r Q
@@ -49,11 +53,11 @@ other_version_read a b c tag rest e tag_len len first last is differs = record {
   bytes = ap (λ (s : Source). s.bytes) last.after ∙ ap (λ (s : Source). s.bytes) first.after;
   seeks = ap (λ (s : Source). s.seeks) last.after ∙ ap (λ (s : Source). s.seeks) first.after;
   read = omega (arith, ap (λ (s : Source). s.read) last.after, ap (λ (s : Source). s.read) first.after, tag_len, len);
-  cause = inr (inl (
+  cause = inr (
     ap (λ (s : Source). s.failures) last.after ∙ ap (λ (s : Source). s.failures) first.after,
-    is,
-    unsupported_version (Some (bytes_left a)) (Some (bytes_left b)) (Some (bytes_left c)) tag rest tag_len len (Takes-consumes a b tag first) (Takes-consumes b c rest last) differs,
-  ));
+    unsupported_format is
+        (unsupported_version (Some (bytes_left a)) (Some (bytes_left b)) (Some (bytes_left c)) tag rest tag_len len (Takes-consumes a b tag first) (Takes-consumes b c rest last) differs),
+  );
 }
 
 -- 200 bytes are enough for a footer
@@ -101,7 +105,7 @@ module _ (old mid : Source) (h : MDBShardFileHeader) (taken : Takes (moved old 0
     bytes = bytes_same;
     seeks = omega (arith, seeks_one);
     read = omega (arith, read_48);
-    cause = inr (inr (failures_same, ended, inr (header_there two, short)));
+    cause = inr (failures_same, too_few_bytes ended (inr (header_there two, short)));
   }
 
   pub device_failed : (new : Source) (made : ℕ) (f : Error) (e : CoreError) → made ≤ 1 → Fails mid new made f → FromDevice f e → LoadFails old new e

@@ -1,5 +1,5 @@
 -- Reading the records that a lookup leads to.
-use Rattle.std.proofs.Common.{◌≡◌, ◌≢◌, inl, inr, ℕ, ◌+◌, ◌*◌, ◌^◌, ◌<◌, ◌≤◌, List, [], ◌∷◌, ◌++◌, length, map, take, drop, Option, refl, sym, ap, ◌∙◌, subst, arith}
+use Rattle.std.proofs.Common.{◌≡◌, ◌≢◌, inl, inr, ℕ, ◌+◌, ◌*◌, ◌^◌, ◌<◌, ◌≤◌, List, [], ◌∷◌, ◌++◌, length, map, take, drop, Option, refl, sym, ap, ◌∙◌, subst, arith, mul-add, mul-one}
 use Rattle.std.specs.Prelude.{IfOk}
 use Rattle.std.specs.declared.result.Result.{Result}
 use Rattle.std.proofs.lemmas.Result.{IfOk-weaker}
@@ -19,8 +19,9 @@ use Rattle.xet_base.proofs.Search.{serves_still, serves_moved, serves_advanced}
 use Rattle.xet_records.specs.RecordKind.{RecordKind}
 use Rattle.xet_records.specs.Reading.{ReadsBookend}
 use Rattle.xet_records.proofs.RecordKinds.{KindLaws, length-text, stored_begins}
-use Rattle.xet_shards.specs.SectionReading.{MayTake, PassesLimit, EndsEarly, SectionFailure, ReadsNext, RecordFails}
-use Rattle.xet_shards.specs.Lookup.{IsNumber, Collides, IndexFinds, VisitsSome, LooksUp, LookupAnswer, LookupRefused, Finding, FindingFails, row_at, RecordAt, IsBareInternalError, RecordRefusal, InfoRefusal, ReadsInfo, ReadInfoFails, Visits, Missed}
+use Rattle.xet_shards.specs.SectionReading.{MayTake, PassesLimit, EndsEarly, SectionCase, ReadsNext, RecordFails}
+use Rattle.xet_base.specs.InputLaws.{failed_after}
+use Rattle.xet_shards.specs.Lookup.{IsNumber, Collides, IndexFinds, VisitsSome, LooksUp, LookupAnswer, LookupRefused, Finding, FindingFails, row_at, RecordAt, IsBareInternalError, RecordRefusal, InfoRefusal, ReadsInfo, ReadInfoFails, Visit, Visits, Missed}
 
 -- calls that did not fail, after others
 pub serves_after : (old now new : Source) → Serves old now → Serves now new → Serves old new
@@ -30,7 +31,7 @@ serves_after old now new first last = record {
   last_failure = last.last_failure ∙ first.last_failure;
 }
 
--- places for eight results that are all taken are eight hits
+-- room for eight results that are all taken are eight hits
 pub collides : (t : Table) (key count : ℕ) (old new : List ℕ) → Finds t key IsNumber old new count → FitsTable t → length old ≡ 8 → length new ≡ 8 → 8 ≤ count → Collides t key
 collides t key count old new finds fits old_len new_len full = record {
   fits = fits;
@@ -144,42 +145,55 @@ module _ {H R : Type 0} (K : RecordKind H R) (laws : KindLaws K) where
       taken = fails.taken;
       read = omega (arith, fails.read, ap (λ (s : Source). s.read) sought);
       may_take = subst (λ bytes. MayTake K bytes fails.taken) left_is fails.may_take;
-      cause = inr (fits, inr (failure_after (PassesLimit K 4294967296) (EndsEarly K 4294967296) (drop (row_at offset row) old.bytes) (ap (λ (s : Source). s.failures) sought) (subst (λ bytes. SectionFailure (PassesLimit K 4294967296) (EndsEarly K 4294967296) bytes mid new e) left_is fails.cause)));
+      cause = inr (
+        fits,
+        inr (failed_after (SectionCase (PassesLimit K 4294967296) (EndsEarly K 4294967296) (bytes_left mid)) (SectionCase (PassesLimit K 4294967296) (EndsEarly K 4294967296) (drop (row_at offset row) old.bytes)) old mid new e
+            (ap (λ (s : Source). s.failures) sought) (subst (λ bytes. SectionCase (PassesLimit K 4294967296) (EndsEarly K 4294967296) bytes e) left_is) fails.cause),
+      );
     }
-      where
-        failure_after : (Passes Ends : List ℕ → Type 0) (bytes : List ℕ) → mid.failures ≡ old.failures → SectionFailure Passes Ends bytes mid new e → SectionFailure Passes Ends bytes old new e
-        failure_after Passes Ends bytes same (inl failed) = inl (failed.0 ∙ ap (λ k. k + 1) same, failed.1, failed.2, failed.3)
-        failure_after Passes Ends bytes same (inr (inl (none, no_memory))) = inr (inl (none ∙ same, no_memory))
-        failure_after Passes Ends bytes same (inr (inr (inl (none, is, passes)))) = inr (inr (inl (none ∙ same, is, passes)))
-        failure_after Passes Ends bytes same (inr (inr (inr (none, is, ends)))) = inr (inr (inr (none ∙ same, is, ends)))
 
-  -- one record more
-  pub visits_more : (offset row n : ℕ) (rows : List ℕ) (old now new : Source) → Visits K offset rows old now → new.bytes ≡ now.bytes → new.seeks ≤ now.seeks + 1
-      → now.seeks ≤ new.seeks → new.read ≤ now.read + n → MayTake K (drop (row_at offset row) now.bytes) n → Visits K offset (rows ++ row ∷ []) old new
-  visits_more offset row n rows old now new before bytes seeks no_fewer read may_take = record {
-    bytes = bytes ∙ before.bytes;
-    seeks = omega (arith, seeks, before.seeks, length-append rows (row ∷ []));
-    no_fewer = omega (arith, no_fewer, before.no_fewer);
-    taken = before.taken ++ n ∷ [];
-    may_take = AllZip-push (λ r k. MayTake K (drop (row_at offset r) old.bytes) k) rows before.taken row n before.may_take
-        (subst (λ bs. MayTake K (drop (row_at offset row) bs) n) before.bytes may_take);
-    read = omega (arith, read, before.read, sum_by-append (λ k. k) before.taken (n ∷ []));
+  -- one row more
+  pub visits_more : (most offset row : ℕ) (rows : List ℕ) (old now new : Source) → Visits K most offset rows old now → Visit K most offset row now new
+      → Visits K most offset (rows ++ row ∷ []) old new
+  visits_more most offset row rows old now new before visit = record {
+    bytes = visit.bytes ∙ before.bytes;
+    seeks = omega (arith, visit.seeks, before.seeks, ap (λ n. most * n) (length-append rows (row ∷ [])), mul-add most (length rows) 1, mul-one most);
+    no_fewer = omega (arith, visit.no_fewer, before.no_fewer);
+    taken = before.taken ++ visit.taken ∷ [];
+    may_take = AllZip-push (λ r k. MayTake K (drop (row_at offset r) old.bytes) k) rows before.taken row visit.taken before.may_take
+        (subst (λ bs. MayTake K (drop (row_at offset row) bs) visit.taken) before.bytes visit.may_take);
+    read = omega (arith, visit.read, before.read, sum_by-append (λ k. k) before.taken (visit.taken ∷ []));
   }
 
-  pub visits_read : (offset row : ℕ) (rows : List ℕ) (old now new : Source) (found : R) → Visits K offset rows old now → ReadsInfo K offset row now new found
-      → Visits K offset (rows ++ row ∷ []) old new
-  visits_read offset row rows old now new found before read =
-      visits_more offset row read.taken rows old now new before read.serves.bytes (omega (arith, read.seeks)) (omega (arith, read.seeks)) (omega (arith, read.read)) read.may_take
+  pub visits_none : (most offset : ℕ) (s : Source) → Visits K most offset [] s s
+  visits_none most offset s = record { bytes = refl; seeks = omega arith; no_fewer = omega arith; taken = []; may_take = tt; read = omega arith }
 
-  pub visits_read_not : (offset row : ℕ) (rows : List ℕ) (old now new : Source) (e : CoreError) → Visits K offset rows old now → ReadInfoFails K offset row now new e
-      → Visits K offset (rows ++ row ∷ []) old new
-  visits_read_not offset row rows old now new e before read =
-      visits_more offset row read.taken rows old now new before read.bytes read.seeks read.no_fewer read.read read.may_take
+  pub visits_read : (offset row : ℕ) (rows : List ℕ) (old now new : Source) (found : R) → Visits K 1 offset rows old now → ReadsInfo K offset row now new found
+      → Visits K 1 offset (rows ++ row ∷ []) old new
+  visits_read offset row rows old now new found before read = visits_more 1 offset row rows old now new before (record {
+    bytes = read.serves.bytes;
+    seeks = omega (arith, read.seeks);
+    no_fewer = omega (arith, read.seeks);
+    taken = read.taken;
+    read = omega (arith, read.read);
+    may_take = read.may_take;
+  })
+
+  pub visits_read_not : (offset row : ℕ) (rows : List ℕ) (old now new : Source) (e : CoreError) → Visits K 1 offset rows old now → ReadInfoFails K offset row now new e
+      → Visits K 1 offset (rows ++ row ∷ []) old new
+  visits_read_not offset row rows old now new e before read = visits_more 1 offset row rows old now new before (record {
+    bytes = read.bytes;
+    seeks = read.seeks;
+    no_fewer = read.no_fewer;
+    taken = read.taken;
+    read = read.read;
+    may_take = read.may_take;
+  })
 
   -- before the first record
   pub missed_none : (offset : ℕ) (hash : DataHash) (s : Source) → Missed K offset hash [] s s
   missed_none offset hash s = record {
-    visits = record { bytes = refl; seeks = omega arith; no_fewer = omega arith; taken = []; may_take = tt; read = omega arith };
+    visits = visits_none 1 offset s;
     serves = serves_still s;
     others = All-nil (λ row. (found : R) × RecordAt K s.bytes (row_at offset row) found × (hash_in K found ≢ hash));
   }
@@ -203,16 +217,14 @@ module _ {H R : Type 0} (K : RecordKind H R) (laws : KindLaws K) where
     where
       later : RecordRefusal K (drop (row_at offset row) old.bytes) now new e → RecordRefusal K (drop (row_at offset row) old.bytes) old new e
       later (inl (none, bare, bookend)) = inl (none ∙ same, bare, bookend)
-      later (inr (inl failed)) = inr (inl (failed.0 ∙ ap (λ k. k + 1) same, failed.1, failed.2, failed.3))
-      later (inr (inr (inl (none, no_memory)))) = inr (inr (inl (none ∙ same, no_memory)))
-      later (inr (inr (inr (inl (none, is, passes))))) = inr (inr (inr (inl (none ∙ same, is, passes))))
-      later (inr (inr (inr (inr (none, is, ends))))) = inr (inr (inr (inr (none ∙ same, is, ends))))
+      later (inr cause) = inr (failed_after (SectionCase (PassesLimit K 4294967296) (EndsEarly K 4294967296) (drop (row_at offset row) old.bytes))
+          (SectionCase (PassesLimit K 4294967296) (EndsEarly K 4294967296) (drop (row_at offset row) old.bytes)) old now new e same (λ holds. holds) cause)
 
   -- the search answered, and the records at its rows were read
-  module _ (t : Table) (offset count : ℕ) (hash : DataHash) (old mid new : Source) (places_old places_new : List ℕ)
-      (finds : IndexFinds t hash.word0 places_old places_new count) (serves : Serves old mid) (bounded : IsSorted t → Bounded t hash.word0 old mid)
-      (visits : VisitsSome K offset (take count places_new) mid new) where
-    looked_up : (Answer : List ℕ → Type 0) → Answer (take count places_new) → LooksUp K t offset hash.word0 old new Answer
+  module _ (t : Table) (offset count : ℕ) (hash : DataHash) (old mid new : Source) (dest_old dest_new : List ℕ)
+      (finds : IndexFinds t hash.word0 dest_old dest_new count) (serves : Serves old mid) (bounded : IsSorted t → Bounded t hash.word0 old mid)
+      (visits : VisitsSome K 1 offset (take count dest_new) mid new) where
+    looked_up : (Answer : List ℕ → Type 0) → Answer (take count dest_new) → LooksUp K t offset hash.word0 old new Answer
     looked_up Answer answer = record {
       fits = finds.fits;
       found = finds.found;
@@ -221,14 +233,14 @@ module _ {H R : Type 0} (K : RecordKind H R) (laws : KindLaws K) where
       searched = mid;
       serves = serves;
       bounded = bounded;
-      visits = subst (λ rows. VisitsSome K offset rows mid new) (rows_in_front t hash.word0 count places_old places_new finds) visits;
-      answer = subst Answer (rows_in_front t hash.word0 count places_old places_new finds) answer;
+      visits = subst (λ rows. VisitsSome K 1 offset rows mid new) (rows_in_front t hash.word0 count dest_old dest_new finds) visits;
+      answer = subst Answer (rows_in_front t hash.word0 count dest_old dest_new finds) answer;
     }
 
-    pub finding : (answer : Option R) → LookupAnswer K mid.bytes offset hash answer (take count places_new) → Finding K t offset hash old new answer
+    pub finding : (answer : Option R) → LookupAnswer K mid.bytes offset hash answer (take count dest_new) → Finding K t offset hash old new answer
     finding answer read =
-        looked_up (LookupAnswer K old.bytes offset hash answer) (subst (λ bytes. LookupAnswer K bytes offset hash answer (take count places_new)) serves.bytes read)
+        looked_up (LookupAnswer K old.bytes offset hash answer) (subst (λ bytes. LookupAnswer K bytes offset hash answer (take count dest_new)) serves.bytes read)
 
-    pub finding_not : (e : CoreError) → LookupRefused K offset mid new e (take count places_new) → FindingFails K t offset hash old new e
+    pub finding_not : (e : CoreError) → LookupRefused K offset mid new e (take count dest_new) → FindingFails K t offset hash old new e
     finding_not e (row, contains, refusal) =
         inr (looked_up (LookupRefused K offset old new e) (row, contains, refusal_after offset row old mid new e serves.bytes serves.failures refusal))

@@ -1,53 +1,29 @@
 -- Bytes are a section in one way at most: the three cases of its reading exclude each other, and at most one
 -- list of records fits.
-use Rattle.std.proofs.Common.{◌≡◌, ◌⊎◌, inl, inr, ℕ, ◌-◌, ◌≤◌, List, [], ◌∷◌, ◌++◌, length, flat_map, refl, sym, ap, ◌∙◌, subst, arith}
+use Rattle.std.proofs.Common.{◌≡◌, inl, inr, ℕ, ◌-◌, ◌≤◌, List, [], ◌∷◌, ◌++◌, flat_map, refl, sym, ap, ◌∙◌, subst, arith}
 use Rattle.std.specs.Prelude.{All, sum_by}
-use Rattle.std.proofs.lemmas.List.{length-append, append_assoc}
+use Rattle.std.proofs.lemmas.List.{append_assoc}
 use Rattle.std.proofs.lemmas.List.Elements.{All-drop}
 use Rattle.std.proofs.lemmas.List.Sums.{sum_by-cons}
 use Rattle.xet_records.specs.RecordKind.{RecordKind}
-use Rattle.xet_records.specs.Reading.{BeginsWithHeader}
-use Rattle.xet_records.proofs.RecordKinds.{KindLaws, same_front, not_bookend, header_within, stored_begins}
-use Rattle.xet_shards.specs.SectionReading.{HoldsRecords, BeginsWithBookend, PassesLimit, EndsEarly, IsSection, PassesRows, IsCutSection, rows_left}
+use Rattle.xet_records.specs.Reading.{BeginsWithBookend, PassesLimit}
+use Rattle.xet_records.proofs.RecordKinds.{KindLaws, StopsAt, stored_begins, bookend_or_header, bookend_or_passes, bookend_or_ends, passes_or_ends, no_record}
+use Rattle.xet_shards.specs.SectionReading.{HoldsRecords, IsSection, PassesRows, IsCutSection, rows_left}
 
 module _ {H R : Type 0} (K : RecordKind H R) (laws : KindLaws K) where
-  -- what stands after the records of a section that is read
-  abbrev StopsAt : ℕ → List ℕ → Type 0
-  StopsAt left bytes = BeginsWithBookend K bytes ⊎ PassesLimit K left bytes ⊎ EndsEarly K left bytes
-
-  -- a bookend is the header of no record
-  bookend_or_header : (bytes : List ℕ) (h : H) (rest : List ℕ) → BeginsWithBookend K bytes → ¬ BeginsWithHeader K bytes h rest
-  bookend_or_header bytes h rest bookend = not_bookend K laws bytes bookend.header h bookend.rest rest bookend.widths bookend.is_bookend bookend.bytes_are
-
-  -- no record within the rows that are left stands there
-  no_record : (left : ℕ) (bytes : List ℕ) (r : R) (rest : List ℕ) → K.IsStored r → K.row_count r ≤ left → bytes ≡ K.text r ++ rest → ¬ StopsAt left bytes
-  no_record left bytes r rest stored within are (inl bookend) =
-      bookend_or_header bytes (K.header_of r) (K.bytes_after r ++ rest) bookend (stored_begins K laws bytes r rest stored are)
-  no_record left bytes r rest stored within are (inr (inl (h, after, begins, past))) =
-      let begins_r = stored_begins K laws bytes r rest stored are in
-      let same = same_front K laws bytes (K.header_of r) h (K.bytes_after r ++ rest) after begins_r.widths begins_r.bytes_are begins in
-      omega (arith, past, within, laws.rows r stored, ap (λ (k : H). K.rows_after k) same.0)
-  no_record left bytes r rest stored within are (inr (inr (inl short))) =
-      let begins_r = stored_begins K laws bytes r rest stored are in
-      omega (arith, short, header_within K laws bytes (K.header_of r) (K.bytes_after r ++ rest) begins_r.bytes_are)
-  no_record left bytes r rest stored within are (inr (inr (inr (h, after, begins, few, short)))) =
-      let begins_r = stored_begins K laws bytes r rest stored are in
-      let same = same_front K laws bytes (K.header_of r) h (K.bytes_after r ++ rest) after begins_r.widths begins_r.bytes_are begins in
-      omega (arith, short, ap length same.1, length-append (K.bytes_after r) rest, laws.size_after r stored, ap (λ (k : H). K.rows_after k) same.0)
-
   none : (left : ℕ) → left - sum_by K.row_count [] ≡ left
   none left = omega arith
 
   -- two readings of the same bytes have the same records
   same_records : (left : ℕ) (xs ys : List R) (a b : List ℕ) → All K.IsStored xs → All K.IsStored ys → sum_by K.row_count xs ≤ left → sum_by K.row_count ys ≤ left
-      → StopsAt (left - sum_by K.row_count xs) a → StopsAt (left - sum_by K.row_count ys) b → flat_map K.text xs ++ a ≡ flat_map K.text ys ++ b → (xs ≡ ys) × (a ≡ b)
+      → StopsAt K (left - sum_by K.row_count xs) a → StopsAt K (left - sum_by K.row_count ys) b → flat_map K.text xs ++ a ≡ flat_map K.text ys ++ b → (xs ≡ ys) × (a ≡ b)
   same_records left [] [] a b x_stored y_stored x_few y_few x_stop y_stop same = (refl, same)
   same_records left [] (y ∷ ys) a b x_stored y_stored x_few y_few x_stop y_stop same =
-      absurd (no_record left a y (flat_map K.text ys ++ b) (y_stored 0 y (omega arith)) (omega (arith, sum_by-cons K.row_count y ys, y_few))
-      (same ∙ append_assoc (K.text y) (flat_map K.text ys) b) (subst (λ n. StopsAt n a) (none left) x_stop))
+      absurd (no_record K laws left a y (flat_map K.text ys ++ b) (y_stored 0 y (omega arith)) (omega (arith, sum_by-cons K.row_count y ys, y_few))
+      (same ∙ append_assoc (K.text y) (flat_map K.text ys) b) (subst (λ n. StopsAt K n a) (none left) x_stop))
   same_records left (x ∷ xs) [] a b x_stored y_stored x_few y_few x_stop y_stop same =
-      absurd (no_record left b x (flat_map K.text xs ++ a) (x_stored 0 x (omega arith)) (omega (arith, sum_by-cons K.row_count x xs, x_few))
-      (sym same ∙ append_assoc (K.text x) (flat_map K.text xs) a) (subst (λ n. StopsAt n b) (none left) y_stop))
+      absurd (no_record K laws left b x (flat_map K.text xs ++ a) (x_stored 0 x (omega arith)) (omega (arith, sum_by-cons K.row_count x xs, x_few))
+      (sym same ∙ append_assoc (K.text x) (flat_map K.text xs) a) (subst (λ n. StopsAt K n b) (none left) y_stop))
   same_records left (x ∷ xs) (y ∷ ys) a b x_stored y_stored x_few y_few x_stop y_stop same =
       let first = laws.front x y (flat_map K.text xs ++ a) (flat_map K.text ys ++ b) (x_stored 0 x (omega arith)) (y_stored 0 y (omega arith))
       (sym (append_assoc (K.text x) (flat_map K.text xs) a) ∙ same ∙ append_assoc (K.text y) (flat_map K.text ys) b) in
@@ -56,10 +32,10 @@ module _ {H R : Type 0} (K : RecordKind H R) (laws : KindLaws K) where
       let y_rest : left - sum_by K.row_count (y ∷ ys) ≡ (left - K.row_count x) - sum_by K.row_count ys = omega (arith, sum_by-cons K.row_count y ys, y_few, rows) in
       let rest = same_records (left - K.row_count x) xs ys a b (All-drop K.IsStored 1 (x ∷ xs) x_stored) (All-drop K.IsStored 1 (y ∷ ys) y_stored)
       (omega (arith, sum_by-cons K.row_count x xs, x_few)) (omega (arith, sum_by-cons K.row_count y ys, y_few, rows))
-      (subst (λ n. StopsAt n a) x_rest x_stop) (subst (λ n. StopsAt n b) y_rest y_stop) first.1 in
+      (subst (λ n. StopsAt K n a) x_rest x_stop) (subst (λ n. StopsAt K n b) y_rest y_stop) first.1 in
       ((λ i. first.0 i ∷ rest.0 i), rest.1)
 
-  same_reading : (bytes : List ℕ) (xs ys : List R) (a b : List ℕ) → HoldsRecords K bytes xs a → HoldsRecords K bytes ys b → StopsAt (rows_left K xs) a → StopsAt (rows_left K ys) b
+  same_reading : (bytes : List ℕ) (xs ys : List R) (a b : List ℕ) → HoldsRecords K bytes xs a → HoldsRecords K bytes ys b → StopsAt K (rows_left K xs) a → StopsAt K (rows_left K ys) b
       → (xs ≡ ys) × (a ≡ b)
   same_reading bytes xs ys a b x y x_stop y_stop =
       same_records 4294967295 xs ys a b x.are_stored y.are_stored x.rows y.rows x_stop y_stop (sym x.bytes_are ∙ y.bytes_are)
@@ -74,7 +50,7 @@ module _ {H R : Type 0} (K : RecordKind H R) (laws : KindLaws K) where
   first_records [] ys a b x_stored y_stored bookend same = (ys, refl)
   first_records (x ∷ xs) [] a b x_stored y_stored bookend same =
       let rest = flat_map K.text xs ++ a in
-      absurd (bookend_or_header b (K.header_of x) (K.bytes_after x ++ rest) bookend
+      absurd (bookend_or_header K laws b (K.header_of x) (K.bytes_after x ++ rest) bookend
       (stored_begins K laws b x rest (x_stored 0 x (omega arith)) (sym same ∙ append_assoc (K.text x) (flat_map K.text xs) a)))
   first_records (x ∷ xs) (y ∷ ys) a b x_stored y_stored bookend same =
       let first = laws.front x y (flat_map K.text xs ++ a) (flat_map K.text ys ++ b) (x_stored 0 x (omega arith)) (y_stored 0 y (omega arith))
@@ -86,29 +62,15 @@ module _ {H R : Type 0} (K : RecordKind H R) (laws : KindLaws K) where
   first_of_section bytes xs ys rest x y =
       first_records xs ys rest y.rest x.are_stored y.records.are_stored y.bookend (sym x.bytes_are ∙ y.records.bytes_are)
 
-  -- a bookend, a record too many and an early end exclude each other
-  bookend_or_passes : (left : ℕ) (bytes : List ℕ) → BeginsWithBookend K bytes → ¬ PassesLimit K left bytes
-  bookend_or_passes left bytes bookend (h, rest, begins, past) = bookend_or_header bytes h rest bookend begins
-
-  bookend_or_ends : (left : ℕ) (bytes : List ℕ) → BeginsWithBookend K bytes → ¬ EndsEarly K left bytes
-  bookend_or_ends left bytes bookend (inl short) = omega (arith, short, header_within K laws bytes bookend.header bookend.rest bookend.bytes_are)
-  bookend_or_ends left bytes bookend (inr (h, rest, begins, few, short)) = bookend_or_header bytes h rest bookend begins
-
-  passes_or_ends : (left : ℕ) (bytes : List ℕ) → PassesLimit K left bytes → ¬ EndsEarly K left bytes
-  passes_or_ends left bytes (h, rest, begins, past) (inl short) = omega (arith, short, header_within K laws bytes h rest begins.bytes_are)
-  passes_or_ends left bytes (h, rest, begins, past) (inr (k, more, starts, few, short)) =
-      let rows : K.rows_after k ≡ K.rows_after h = ap (λ (j : H). K.rows_after j) (same_front K laws bytes h k rest more begins.widths begins.bytes_are starts).0 in
-      omega (arith, past, few, rows)
-
   pub section_or_passes : (bytes : List ℕ) (xs : List R) → IsSection K bytes xs → ¬ PassesRows K bytes
   section_or_passes bytes xs x (ys, b, y, passes) =
-      bookend_or_passes (rows_left K ys) b (subst (BeginsWithBookend K) (same_reading bytes xs ys x.rest b x.records y (inl x.bookend) (inr (inl passes))).1 x.bookend) passes
+      bookend_or_passes K laws (rows_left K ys) b (subst (BeginsWithBookend K) (same_reading bytes xs ys x.rest b x.records y (inl x.bookend) (inr (inl passes))).1 x.bookend) passes
 
   pub section_or_cut : (bytes : List ℕ) (xs : List R) → IsSection K bytes xs → ¬ IsCutSection K bytes
   section_or_cut bytes xs x (ys, b, y, ends) =
-      bookend_or_ends (rows_left K ys) b (subst (BeginsWithBookend K) (same_reading bytes xs ys x.rest b x.records y (inl x.bookend) (inr (inr ends))).1 x.bookend) ends
+      bookend_or_ends K laws (rows_left K ys) b (subst (BeginsWithBookend K) (same_reading bytes xs ys x.rest b x.records y (inl x.bookend) (inr (inr ends))).1 x.bookend) ends
 
   pub passes_or_cut : (bytes : List ℕ) → PassesRows K bytes → ¬ IsCutSection K bytes
   passes_or_cut bytes (xs, a, x, passes) (ys, b, y, ends) =
       let same = same_reading bytes xs ys a b x y (inr (inl passes)) (inr (inr ends)) in
-      passes_or_ends (rows_left K ys) b (subst (λ p. p) (λ i. PassesLimit K (rows_left K (same.0 i)) (same.1 i)) passes) ends
+      passes_or_ends K laws (rows_left K ys) b (subst (λ p. p) (λ i. PassesLimit K (rows_left K (same.0 i)) (same.1 i)) passes) ends

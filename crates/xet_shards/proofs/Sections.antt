@@ -1,21 +1,15 @@
 -- Records that a section may hold, the section that their bytes are, and those of a shard.
-use Rattle.std.proofs.Common.{◌≡◌, ℕ, ◌≤◌, List, ◌++◌, flat_map, refl}
-use Rattle.std.specs.Prelude.{All}
+use Rattle.std.proofs.Common.{◌≡◌, ℕ, List, ◌++◌, flat_map, refl}
 use Rattle.std.specs.FinMap.{entries, values}
 use Rattle.xet_records.specs.RecordKind.{RecordKind}
 use Rattle.xet_records.specs.FileRecord.{file_records}
 use Rattle.xet_records.specs.XorbRecord.{xorb_records}
 use Rattle.xet_records.proofs.RecordKinds.{KindLaws}
 use Rattle.xet_shards.specs.Shard.{Shard, IsShard}
-use Rattle.xet_shards.specs.Section.{total_rows}
+pub use Rattle.xet_shards.specs.InForm.{FitsSection}
 use Rattle.xet_shards.specs.SectionReading.{IsSection}
 use Rattle.xet_shards.proofs.Files.{well_formed_values}
 use Rattle.xet_shards.proofs.Xorbs.{xorb_values}
-
--- stored records, whose rows fit `u32`
-pub record FitsSection {H R : Type 0} (K : RecordKind H R) (records : List R) : Type 0 where
-  pub stored : All K.IsStored records
-  pub rows : total_rows K records ≤ 4294967295
 
 -- their bytes and a bookend are a section, whatever follows
 pub section_there : {H R : Type 0} (K : RecordKind H R) → KindLaws K → (records : List R) → FitsSection K records → (bytes rest : List ℕ)

@@ -1,6 +1,6 @@
 -- Sums over a map, and over a map with some of its entries.
 use Rattle.std.proofs.Common.{◌≡◌, ℕ, ◌+◌, ◌≤◌, Bool, true, false, List, [], ◌∷◌, Some, None, T, refl, sym, ap, ◌∙◌, arith, cond, true≢false, is_some}
-use Rattle.std.specs.Prelude.{option_map, unwrap_or, sum_by}
+use Rattle.std.specs.Prelude.{All, option_map, unwrap_or, sum_by}
 use Rattle.std.specs.Ordering.{eq_by_cmp}
 use Rattle.std.specs.declared.cmp.Ordering.{Ordering}
 use Rattle.std.specs.Cmp.{IsTotalOrder, Equal-is}
@@ -8,6 +8,7 @@ use Rattle.std.proofs.lemmas.Cmp.{eq_by_cmp_equiv}
 use Rattle.std.specs.Map.{values_of}
 use Rattle.std.specs.FinMap.{FinMap, IsAntisymmetric, is_sorted, find, get, insert, remove, entries, values, same_map, entries_sorted, get-entries, get-insert, get-remove}
 use Rattle.std.specs.FinMap.Entries.{below_all}
+use Rattle.std.proofs.lemmas.List.Elements.{All-cons, All-nil}
 use Rattle.std.proofs.lemmas.List.Sums.{sum_by-cons}
 use Rattle.xet_shards.proofs.Maps.{sum-insert, both_left, both_right, below_none}
 
@@ -19,6 +20,23 @@ module _ {K X : Type 0} {R : K → K → Ordering} (total : IsTotalOrder R) (exa
         at : (q : K) (b : Bool) → eq_by_cmp R q k ≡ b → cond b (Some v) (cond b None (get m q)) ≡ get m q
         at q true is = sym here ∙ ap (get m) (sym (exact q k ((Equal-is (R q k)).0 is)))
         at q false is = refl
+
+  -- a key that is found after an entry is not that entry's
+  other_key : (e : K × X) (es : List (K × X)) (q : K) (v : X) → T (below_all R e.0 es) → find R q es ≡ Some v → eq_by_cmp R q e.0 ≡ false
+  other_key e es q v below is = at (eq_by_cmp R q e.0) refl where
+    at : (b : Bool) → eq_by_cmp R q e.0 ≡ b → b ≡ false
+    at true same = absurd (true≢false (sym (ap is_some is) ∙ ap is_some (ap (λ k. find R k es) (exact q e.0 ((Equal-is (R q e.0)).0 same)) ∙ below_none R e.0 es below)))
+    at false same = refl
+
+  all_found : (P : K × X → Type 0) (es : List (K × X)) → T (is_sorted R es) → ((q : K) (v : X) → find R q es ≡ Some v → P (q, v)) → All P es
+  all_found P [] sorted each = All-nil P
+  all_found P (e ∷ es) sorted each =
+      All-cons P e es (each e.0 e.1 (ap (λ b. cond b (Some e.1) (find R e.0 es)) ((eq_by_cmp_equiv total).refl e.0)))
+      (all_found P es (both_right _ _ sorted) (λ q v is. each q v (ap (λ b. cond b (Some e.1) (find R q es)) (other_key e es q v (both_left _ _ sorted) is) ∙ is)))
+
+  -- what holds of each value under its key holds of all entries
+  pub all_of_map : (P : K × X → Type 0) (m : FinMap R X) → ((q : K) (v : X) → get m q ≡ Some v → P (q, v)) → All P (entries m)
+  all_of_map P m each = all_found P (entries m) (entries_sorted m) (λ q v is. each q v (get-entries m q ∙ is))
 
   removed : (m : FinMap R X) (k : K) → get (remove m k) k ≡ None
   removed m k = get-remove total m k k ∙ ap (λ b. cond b None (get m k)) ((eq_by_cmp_equiv total).refl k)
@@ -32,27 +50,37 @@ module _ {K X : Type 0} {R : K → K → Ordering} (total : IsTotalOrder R) (exa
     ap (λ o. unwrap_or (option_map f o) 0) (removed m k),
   )
 
-  -- the entries of a sorted list are in its map
-  abbrev AreIn : List (K × X) → FinMap R X → Type 0
-  AreIn es m = (q : K) (v : X) → find R q es ≡ Some v → get m q ≡ Some v
+  -- no value is more than the sum
+  pub part-le-sum : (f : X → ℕ) (m : FinMap R X) (k : K) (v : X) → get m k ≡ Some v → f v ≤ sum_by f (values m)
+  part-le-sum f m k v here = omega (arith, sum-remove f m k v here)
 
-  in_rest : (e : K × X) (es : List (K × X)) (m : FinMap R X) → T (below_all R e.0 es) → AreIn (e ∷ es) m → AreIn es (remove m e.0)
-  in_rest e es m below all q v is = get-remove total m e.0 q ∙ at (eq_by_cmp R q e.0) refl where
-    at : (b : Bool) → eq_by_cmp R q e.0 ≡ b → cond b None (get m q) ≡ Some v
-    at true same = absurd (true≢false (sym (ap is_some is) ∙ ap is_some (ap (λ k. find R k es) (exact q e.0 ((Equal-is (R q e.0)).0 same)) ∙ below_none R e.0 es below)))
-    at false same = all q v (ap (λ b. cond b (Some e.1) (find R q es)) same ∙ is)
+  -- each entry of a sorted list has its key in the map, with a value that counts no less
+  abbrev AreBelow : (X → ℕ) → List (K × X) → FinMap R X → Type 0
+  AreBelow f es m = (q : K) (v : X) → find R q es ≡ Some v → (w : X) × (get m q ≡ Some w) × (f v ≤ f w)
 
-  sum_in : (f : X → ℕ) (es : List (K × X)) (m : FinMap R X) → T (is_sorted R es) → AreIn es m → sum_by f (values_of es) ≤ sum_by f (values m)
+  in_rest : (f : X → ℕ) (e : K × X) (es : List (K × X)) (m : FinMap R X) → T (below_all R e.0 es) → AreBelow f (e ∷ es) m → AreBelow f es (remove m e.0)
+  in_rest f e es m below all q v is =
+      let out = other_key e es q v below is in
+      let found = all q v (ap (λ b. cond b (Some e.1) (find R q es)) out ∙ is) in
+      (found.0, get-remove total m e.0 q ∙ ap (λ b. cond b None (get m q)) out ∙ found.1, found.2)
+
+  sum_in : (f : X → ℕ) (es : List (K × X)) (m : FinMap R X) → T (is_sorted R es) → AreBelow f es m → sum_by f (values_of es) ≤ sum_by f (values m)
   sum_in f [] m sorted all = omega arith
   sum_in f (e ∷ es) m sorted all =
-      let here : get m e.0 ≡ Some e.1 = all e.0 e.1 (ap (λ b. cond b (Some e.1) (find R e.0 es)) ((eq_by_cmp_equiv total).refl e.0)) in
+      let here = all e.0 e.1 (ap (λ b. cond b (Some e.1) (find R e.0 es)) ((eq_by_cmp_equiv total).refl e.0)) in
       omega (
         arith,
         sum_by-cons f e.1 (values_of es),
-        sum-remove f m e.0 e.1 here,
-        sum_in f es (remove m e.0) (both_right _ _ sorted) (in_rest e es m (both_left _ _ sorted) all),
+        sum-remove f m e.0 here.0 here.1,
+        here.2,
+        sum_in f es (remove m e.0) (both_right _ _ sorted) (in_rest f e es m (both_left _ _ sorted) all),
       )
 
-  -- the sum over a map is at most that over a map with all its entries
+  -- the sum over a map is at most that over a map that has all its keys, with values that count no less
+  pub sum-below : (f : X → ℕ) (a b : FinMap R X) → ((q : K) (v : X) → get a q ≡ Some v → (w : X) × (get b q ≡ Some w) × (f v ≤ f w))
+      → sum_by f (values a) ≤ sum_by f (values b)
+  sum-below f a b all = sum_in f (entries a) b (entries_sorted a) (λ q v is. all q v (get-entries a q ∙ is))
+
+  -- or with all its entries
   pub sub-sum : (f : X → ℕ) (a b : FinMap R X) → ((q : K) (v : X) → get a q ≡ Some v → get b q ≡ Some v) → sum_by f (values a) ≤ sum_by f (values b)
-  sub-sum f a b all = sum_in f (entries a) b (entries_sorted a) (λ q v is. all q v (get-entries a q ∙ is))
+  sub-sum f a b all = sum-below f a b (λ q v at. (v, all q v at, omega arith))

@@ -1,6 +1,7 @@
 -- Lookups in a source that holds a section of records and a table of their starts.
-use Rattle.std.proofs.Common.{◌≡◌, ◌≢◌, ◌⊎◌, inl, inr, ◌==◌, if◌then◌else◌, ℕ, zero, suc, ◌+◌, ◌-◌, ◌*◌, ◌^◌, ◌<◌, ◌≤◌, List, [], ◌∷◌, ◌++◌, length, take, drop, map, flat_map, get_or, Option, None, Some, refl, sym, ap, ◌∙◌, subst, append_assoc, append-nil, arith}
-use Rattle.std.specs.Prelude.{All, AllPairs, sum_by, sum, Contains}
+use Rattle.std.proofs.Common.{◌≡◌, ◌≢◌, ◌⊎◌, inl, inr, ◌==◌, if◌then◌else◌, ℕ, zero, suc, ◌+◌, ◌-◌, ◌*◌, ◌^◌, ◌<◌, ◌≤◌, List, [], ◌∷◌, ◌++◌, length, take, drop, map, flat_map, get_or, true, false, Bool, Ok, Err, Option, None, Some, refl, sym, ap, ◌∙◌, subst, append_assoc, append-nil, arith}
+use Rattle.std.specs.Prelude.{All, AllPairs, sum_by, sum, Contains, filter, cond, MatchResult, IfOk, IfErr}
+use Rattle.std.specs.declared.result.Result.{Result}
 use Rattle.std.specs.List.{AllZip}
 use Rattle.std.proofs.lemmas.List.{drop-drop, take_all, length-append, length-map, length-take, take-append-drop, get_or-map, get_or_default}
 use Rattle.std.proofs.lemmas.List.Elements.{All-take, All-map, All-contains, All-drop, All-weaker, Contains-get_or}
@@ -8,28 +9,29 @@ use Rattle.std.proofs.lemmas.List.Sums.{sum_by-cons, sum_by-take-drop}
 use Rattle.std.proofs.lemmas.Grind.{flat_map-append}
 use Rattle.std.proofs.lemmas.Bool.{eq-eqb, cond-true}
 use Rattle.std.proofs.Math.Seq.{drop-cons}
-use Rattle.std.proofs.Math.Nat.{eq-zero-or-pos}
 use Rattle.xet_base.specs.declared.error.CoreError.{CoreError}
 use Rattle.xet_base.specs.declared.error.CoreError.TheVariants.{OutOfMemory, TruncatedHashCollision}
 use Rattle.xet_base.specs.declared.merklehash.DataHash.{DataHash}
 use Rattle.xet_base.specs.Bytes.{u32_bytes}
 use Rattle.xet_base.specs.Errors.{FromDevice, variant_number}
 use Rattle.xet_base.specs.Source.{Source, DeviceFailure}
-use Rattle.xet_base.specs.Table.{offset_of_row, table_at, hits_below, Table, row_offset, key_at, HasKey, IsSorted, hits, Hit, IsHit, OtherRow, FitsTable, SearchRefused, Bounded}
+use Rattle.xet_base.specs.Table.{table_at, Table, IsSorted, hits, Hit, IsHit, OtherRow, SearchRefused, Bounded}
 use Rattle.xet_base.proofs.Bytes.{length-u32_bytes, u32_bytes-injective}
 use Rattle.xet_base.proofs.Lists.{rest_is}
-use Rattle.xet_base.proofs.Tables.{offset_of_row-zero}
-use Rattle.xet_base.proofs.KnownTable.{sum_below, key_is, value_is, key_is_there, row_is_there, hits_below-sum}
 use Rattle.xet_records.specs.RecordKind.{RecordKind}
 use Rattle.xet_records.proofs.Lengths.{length-texts}
 use Rattle.xet_records.proofs.RecordKinds.{KindLaws, length-text, stored_begins}
-use Rattle.xet_shards.specs.Section.{total_rows, with_fronts}
+use Rattle.xet_shards.specs.Section.{total_rows, with_fronts, StartsAt}
 use Rattle.xet_shards.specs.Tables.{hash_in, start_of, starts, start_row}
+use Rattle.xet_base.specs.Source.ReadCase.{out_of_memory, out_of_bytes}
+use Rattle.xet_shards.specs.SectionReading.SectionCase.{not_read, passes_limit}
 use Rattle.xet_shards.specs.SectionReading.{MayTake}
-use Rattle.xet_shards.specs.Lookup.{sharing, IsNumber, row_at, RecordAt, InfoRefusal, LooksUp, LookupAnswer, LookupRefused, Finding, FindingFails, WithinBounds, SearchWithinBounds, IndexFinds, IndexRefused, AreStarts}
+use Rattle.xet_shards.specs.Lookup.{sharing, IsNumber, row_at, RecordAt, InfoRefusal, LooksUp, LookupAnswer, LookupRefused, Finding, FindingFails, WithinBounds, SearchWithinBounds, IndexFinds, IndexRefused, AreStarts, StartsAmong, NoStartsAmong, NotFoundAmong}
 use Rattle.xet_shards.proofs.Tables.{length-starts}
-use Rattle.xet_shards.proofs.Distinct.{sum_distinct, all_marked, sum_marked}
-use Rattle.xet_shards.proofs.Lookups.{length-stored, rows_in_front}
+use Rattle.xet_shards.proofs.Distinct.{sum_distinct, sum_marked}
+use Rattle.xet_shards.proofs.KnownRows.{IsKnown, rows_sorted, rows_hit, search_served, row_hit, hits_few, hits_all}
+use Rattle.xet_shards.proofs.Lookups.{rows_in_front}
+use Rattle.xet_shards.proofs.StoredRecords.{AreStoredAt, starts_at_index, end_bound, record_is, record_is_read, text_is_enough}
 
 -- the i-th row of a table of starts
 starts_at : {H R : Type 0} (K : RecordKind H R) (front records : List R) (i : ℕ) (d : R) (e : ℕ × ℕ) → i < length records
@@ -63,22 +65,24 @@ sum-lengths : {X : Type 0} (f : X → List ℕ) (xs : List X) → sum_by (λ x. 
 sum-lengths f [] = refl
 sum-lengths f (x ∷ xs) = sum_by-cons (λ y. length (f y)) x xs ∙ omega (arith, sum-lengths f xs, length-append (f x) (flat_map f xs))
 
--- a list of ones
-sum-of_ones : {X : Type 0} (f : X → ℕ) (xs : List X) → All (λ x. f x ≡ 1) xs → sum_by f xs ≡ length xs
-sum-of_ones f [] ones = refl
-sum-of_ones f (x ∷ xs) ones = sum_by-cons f x xs ∙ omega (arith, ones 0 x (omega arith), sum-of_ones f xs (All-drop (λ y. f y ≡ 1) 1 (x ∷ xs) ones))
+-- rows of the table with a word are as many as records that share it
+length-sharing : {H R : Type 0} (K : RecordKind H R) (word : ℕ) (front records : List R)
+    → length (filter (λ (row : ℕ × ℕ). row.0 == word) (map (start_of K) (with_fronts front records))) ≡ length (sharing K word records)
+length-sharing K word front [] = refl
+length-sharing K word front (r ∷ records) = go ((hash_in K r).word0 == word) (length-sharing K word (front ++ r ∷ []) records)
+  where
+    go : (b : Bool) → let rows = filter (λ (row : ℕ × ℕ). row.0 == word) (map (start_of K) (with_fronts (front ++ r ∷ []) records)) in
+        length rows ≡ length (sharing K word records) → length (cond b (start_of K (front, r) ∷ rows) rows) ≡ length (cond b (r ∷ sharing K word records) (sharing K word records))
+    go true rest = ap (λ n. suc n) rest
+    go false rest = rest
 
 -- stored records, in ascending order of the first words of their hashes, with their section at an offset of a source, and
 -- a table of their starts at another; `d` is a record for where a list has none
 pub record IsLookedUp {H R : Type 0} (K : RecordKind H R) (d : R) (records : List R) (offset start count : ℕ) (old : Source) : Type 0 where
-  pub stored : All K.IsStored records
-  pub rows : total_rows K records ≤ 4294967295
+  pub section : AreStoredAt K records offset old.bytes
   pub few : length records ≤ total_rows K records
   pub words : All (λ r. (hash_in K r).word0 < 2 ^ 64) records
   pub ascend : (i j : ℕ) → i < j → j < length records → (hash_in K (get_or records i d)).word0 ≤ (hash_in K (get_or records j d)).word0
-  pub offset_fits : offset ≤ 2 ^ 48
-  pub rest : List ℕ
-  pub records_are : drop offset old.bytes ≡ flat_map K.text records ++ rest
   pub count_is : count ≡ length records
   pub start_fits : start ≤ 2 ^ 48
   pub start_there : start ≤ length old.bytes
@@ -103,9 +107,8 @@ module _ {H R : Type 0} (K : RecordKind H R) (laws : KindLaws K) (d : R) (record
   pub rows_is : table.rows ≡ length records
   rows_is = is.count_is
 
-  length-text_rows : (r : R) → length (K.text r) ≡ 48 + length (K.bytes_after r)
-  length-text_rows r =
-      ap length (laws.text_is r) ∙ length-append (K.header_bytes (K.header_of r)) (K.bytes_after r) ∙ ap (λ n. n + length (K.bytes_after r)) (laws.header_size (K.header_of r))
+  at_row : (i : ℕ) → i < length records → StartsAt K records (start_at i) (record_at i)
+  at_row i within = starts_at_index K records i d within
 
   row_is : (i : ℕ) → i < length records → get_or (starts K records) i (0, 0) ≡ ((hash_in K (record_at i)).word0, start_at i)
   row_is i within = starts_at K [] records i d (0, 0) within
@@ -119,166 +122,65 @@ module _ {H R : Type 0} (K : RecordKind H R) (laws : KindLaws K) (d : R) (record
   in_table : (i : ℕ) → i < length records → i < length (starts K records)
   in_table i within = omega (arith, within, length-starts K records)
 
-  word_fits : (i : ℕ) → i < length records → (hash_in K (record_at i)).word0 < 2 ^ 64
-  word_fits i within = is.words i d within
+  -- the rows of the table are known
+  word_at : (i : ℕ) → i < length records → word_of (get_or (starts K records) i (0, 0)) ≡ (hash_in K (record_at i)).word0
+  word_at i within = ap word_of (row_is i within)
 
-  pub table_key : (i : ℕ) → i < length records → key_at table i ≡ (hash_in K (record_at i)).word0
-  table_key i within =
-      let fits : word_of (get_or (starts K records) i (0, 0)) < 2 ^ 64 = omega (arith, ap word_of (row_is i within), word_fits i within) in
-      key_is word_of start_bytes 4 (λ row. length-u32_bytes row.1) table (starts K records) is.after is.table_is refl i (0, 0) (in_table i within) fits
-      ∙ ap word_of (row_is i within)
-
-  pub table_value : (i : ℕ) → i < length records → take 4 (drop (row_offset table i + 8) table.bytes) ≡ u32_bytes (start_at i)
-  table_value i within =
-      value_is word_of start_bytes 4 (λ row. length-u32_bytes row.1) table (starts K records) is.after is.table_is refl i (0, 0) (in_table i within)
-      ∙ ap start_bytes (row_is i within)
-
-  table_has_key : (i : ℕ) → i < length records → HasKey table i
-  table_has_key i within =
-      key_is_there word_of start_bytes 4 (λ row. length-u32_bytes row.1) table (starts K records) is.after is.table_is refl i (0, 0) (in_table i within)
-
-  pub table_sorted : IsSorted table
-  table_sorted i j less within there =
-      let j_in : j < length records = omega (arith, within, rows_is) in
-      let i_in : i < length records = omega (arith, less, j_in) in
-      omega (arith, table_key i i_in, table_key j j_in, is.ascend i j less j_in)
-
-  -- so many records as share the word are hits
-  abbrev mark : ℕ → ℕ → ℕ
-  mark word i = if (hash_in K (record_at i)).word0 == word then 1 else 0
-
-  sum-marks : (word : ℕ) → sum_below (mark word) (length records) ≡ length (sharing K word records)
-  sum-marks word =
-      sum_marked (λ r. (hash_in K r).word0 == word) (λ r. 1) records d (length records) (omega arith)
-      ∙ ap (λ rs. sum_by (λ (r : R). 1) (sharing K word rs)) (take_all (length records) records (omega arith)) ∙ sum-of_ones (λ (r : R). 1) (sharing K word records) (λ k d below. refl)
-
-  pub table_hits : (word : ℕ) → hits table word ≡ length (sharing K word records)
-  table_hits word =
-      ap (hits_below table word) rows_is
-      ∙ hits_below-sum table word (length records) (mark word) table_has_key (λ i within. ap (λ k. if k == word then 1 else 0) (sym (table_key i within)))
-      ∙ sum-marks word
-
-  -- the table fits 64 bits
-  pub table_fits : FitsTable table
-  unfolding offset_of_row
-  table_fits = record {
-    countable = omega (arith, rows_is, is.few, is.rows);
-    placed = omega (arith, rows_is, is.start_fits, is.few, is.rows);
+  known_rows : IsKnown word_of start_bytes 4 (0, 0) (starts K records) start count old
+  known_rows = record {
+    sizes = λ row. length-u32_bytes row.1;
+    width_fits = omega arith;
+    few = omega (arith, length-starts K records, is.few, is.section.fits.rows);
+    keys_fit = λ i e below.
+        let within : i < length records = omega (arith, below, length-starts K records) in
+        omega (arith, ap word_of (get_or_default (starts K records) i e (0, 0) below), word_at i within, is.words i d within);
+    ascend = λ i j less below.
+        let j_in : j < length records = omega (arith, below, length-starts K records) in
+        let i_in : i < length records = omega (arith, less, j_in) in
+        omega (arith, word_at i i_in, word_at j j_in, is.ascend i j less j_in);
+    count_is = is.count_is ∙ sym (length-starts K records);
+    start_fits = is.start_fits;
+    start_there = is.start_there;
+    after = is.after;
+    table_is = is.table_is;
   }
 
-  pub table_there : row_offset table table.rows ≤ length table.bytes
-  table_there = elim (eq-zero-or-pos (length records)) [
-    | inl none ↦ omega (arith, ap (row_offset table) (rows_is ∙ none), offset_of_row-zero table.start 4, is.start_there)
-    | inr some ↦ omega (arith, ap (row_offset table) (rows_is ∙ last some), there (length records - 1) (omega (arith, some)))
-  ]
-    where
-      last : 0 < length records → length records ≡ length records - 1 + 1
-      last some = omega (arith, some)
+  pub table_sorted : IsSorted table
+  table_sorted = rows_sorted word_of start_bytes 4 (0, 0) (starts K records) start count old known_rows
 
-      there : (i : ℕ) → i < length records → row_offset table (i + 1) ≤ length table.bytes
-      there i within =
-          row_is_there word_of start_bytes 4 (λ row. length-u32_bytes row.1) table (starts K records) is.after is.table_is refl i (0, 0) (in_table i within)
+  pub table_hits : (word : ℕ) → hits table word ≡ length (sharing K word records)
+  table_hits word = rows_hit word_of start_bytes 4 (0, 0) (starts K records) start count old known_rows word ∙ length-sharing K word [] records
 
-  -- the records stand where the table says
-  pub record_stands : (i : ℕ) → i < length records → (rest : List ℕ) × (drop (row_at offset (start_at i)) old.bytes ≡ K.text (record_at i) ++ rest)
-  record_stands i within =
-      let before = take i records in
-      let after = drop (suc i) records in
-      let whole : records ≡ before ++ record_at i ∷ after = sym (take-append-drop i records) ∙ ap (λ xs. before ++ xs) (drop-cons records i d within) in
-      let texts : flat_map K.text records ≡ flat_map K.text before ++ (K.text (record_at i) ++ flat_map K.text after) = ap (flat_map K.text) whole ∙ flat_map-append K.text before (record_at i ∷ after) in (
-        flat_map K.text after ++ is.rest,
-        sym (drop-drop (48 * start_at i) offset old.bytes)
-            ∙ ap (drop (48 * start_at i)) is.records_are
-            ∙ rest_is (48 * start_at i) (flat_map K.text records ++ is.rest) (flat_map K.text before) ((K.text (record_at i) ++ flat_map K.text after) ++ is.rest)
-            (length-texts K.text K.row_count K.IsStored (length-text K laws) before (All-take K.IsStored i records is.stored))
-            (ap (λ xs. xs ++ is.rest) texts ∙ append_assoc (flat_map K.text before) (K.text (record_at i) ++ flat_map K.text after) is.rest)
-            ∙ append_assoc (K.text (record_at i)) (flat_map K.text after) is.rest,
-      )
-
-  stored_at : (i : ℕ) → i < length records → K.IsStored (record_at i)
-  stored_at i within = is.stored i d within
-
-  -- a record that is read there is this one
-  pub record_is : (i : ℕ) (found : R) → i < length records → RecordAt K old.bytes (row_at offset (start_at i)) found → found ≡ K.handed_out (record_at i)
-  record_is i found within reads =
-      let here = record_stands i within in
-      sym reads.handed ∙ ap K.handed_out (laws.front reads.stored (record_at i) reads.taken.0 here.0 reads.is_stored (stored_at i within) (sym reads.taken.1 ∙ here.1)).0
-
-  -- a header that begins there is this record's
-  header_is : (i : ℕ) (h : H) (rest : List ℕ) (within : i < length records) → K.Fits h → drop (row_at offset (start_at i)) old.bytes ≡ K.header_bytes h ++ rest
-      → (h ≡ (K.header_of (record_at i))) × (rest ≡ K.bytes_after (record_at i) ++ (record_stands i within).0)
-  header_is i h rest within fits begins =
-      let here = record_stands i within in
-      let whole = stored_begins K laws (drop (row_at offset (start_at i)) old.bytes) (record_at i) here.0 (stored_at i within) here.1 in
-      laws.header_front h (K.header_of (record_at i)) rest (K.bytes_after (record_at i) ++ here.0) fits whole.widths (sym begins ∙ whole.bytes_are)
-
-  -- the rows of a record and of those before it
-  start_bound : (i : ℕ) → i < length records → start_at i + K.row_count (record_at i) ≤ 4294967295
-  start_bound i within =
-      omega (arith, is.rows, sum_by-take-drop K.row_count records i, ap (total_rows K) (drop-cons records i d within), sum_by-cons K.row_count (record_at i) (drop (suc i) records))
-
-  row_count_is : (i : ℕ) → i < length records → K.row_count (record_at i) ≡ 1 + K.rows_after (K.header_of (record_at i))
-  row_count_is i within = laws.rows (record_at i) (stored_at i within)
-
-  -- reading it takes no more than its text
-  pub text_is_enough : (i n : ℕ) → i < length records → MayTake K (drop (row_at offset (start_at i)) old.bytes) n → n ≤ length (K.text (record_at i))
-  text_is_enough i n within (inl few) = omega (arith, few, length-stored K laws (record_at i) (stored_at i within))
-  text_is_enough i n within (inr (h, rest, begins, most)) =
-      omega (arith, most, length-stored K laws (record_at i) (stored_at i within), ap (λ (k : H). K.rows_after k) (header_is i h rest within begins.widths begins.bytes_are).0)
-
-  -- it is read, unless the device fails or an allocation does
-  pub record_is_read : (i : ℕ) (new : Source) (e : CoreError) → i < length records → InfoRefusal K offset (start_at i) old new e → DeviceFailure old new e ⊎ (e ≡ OutOfMemory)
-  record_is_read i new e within (inl (none, bare, past)) = absurd (omega (arith, past, is.offset_fits, start_bound i within))
-  record_is_read i new e within (inr (fits, inl (none, bare, bookend))) =
-      absurd (laws.is_record (record_at i) (stored_at i within) (ap (λ (h : H). K.hash_of h) (sym (header_is i bookend.header bookend.rest within bookend.widths bookend.bytes_are).0) ∙ bookend.is_bookend))
-  record_is_read i new e within (inr (fits, inr (inl failed))) = inl failed
-  record_is_read i new e within (inr (fits, inr (inr (inl (none, no_memory))))) = inr no_memory
-  record_is_read i new e within (inr (fits, inr (inr (inr (inl (none, invalid, (h, rest, begins, past))))))) =
-      absurd (omega (arith, past, ap (λ (k : H). K.rows_after k) (header_is i h rest within begins.widths begins.bytes_are).0, start_bound i within, row_count_is i within))
-  record_is_read i new e within (inr (fits, inr (inr (inr (inr (none, ended, inl short)))))) = absurd (omega (
-    arith,
-    short,
-    ap length (record_stands i within).1,
-    length-append (K.text (record_at i)) (record_stands i within).0,
-    length-stored K laws (record_at i) (stored_at i within),
-  ))
-  record_is_read i new e within (inr (fits, inr (inr (inr (inr (none, ended, inr (h, rest, begins, few, short))))))) =
-      let same = header_is i h rest within begins.widths begins.bytes_are in
-      absurd (omega (
-        arith,
-        short,
-        ap (λ (k : H). K.rows_after k) same.0,
-        ap length same.1,
-        length-append (K.bytes_after (record_at i)) (record_stands i within).0,
-        length-stored K laws (record_at i) (stored_at i within),
-        length-text_rows (record_at i),
-      ))
-
-  -- a hit of the table: a file that shares the word, and its start
+  -- a hit of the table: a record that shares the word, and its start
   pub hit_is : (word : ℕ) (h : Hit ℕ) → IsHit table word IsNumber h
       → (h.row < length records) × ((hash_in K (record_at h.row)).word0 ≡ word) × (h.value ≡ start_at h.row)
   hit_is word h hit =
-      let within : h.row < length records = omega (arith, hit.within, rows_is) in (
+      let row = row_hit word_of start_bytes 4 (0, 0) (starts K records) start count old known_rows IsNumber word h hit in
+      let within : h.row < length records = omega (arith, row.0, length-starts K records) in (
         within,
-        sym (table_key h.row within) ∙ hit.same_key,
-        u32_bytes-injective h.value (start_at h.row) hit.gives.0 (omega (arith, start_bound h.row within)) (sym hit.gives.1 ∙ table_value h.row within),
+        sym (word_at h.row within) ∙ row.1,
+        u32_bytes-injective h.value (start_at h.row) row.2.0 (omega (arith, end_bound K laws records offset old is.section (start_at h.row) (record_at h.row) (at_row h.row within))) (sym row.2.1 ∙ ap start_bytes (row_is h.row within)),
       )
 
   module _ (word : ℕ) (found : List (Hit ℕ)) (each : All (IsHit table word IsNumber) found) (distinct : AllPairs OtherRow found) where
     rows_below : All (λ h. h.row < length records) found
     rows_below = All-weaker (IsHit table word IsNumber) (λ h. h.row < length records) (λ h hit. (hit_is word h hit).0) found each
 
-    marked : All (λ h. mark word h.row ≡ 1) found
-    marked = All-weaker (IsHit table word IsNumber) (λ h. mark word h.row ≡ 1) (λ h hit. cond-true {A = ℕ} _ 1 0 (eq-eqb _ _ (hit_is word h hit).1)) found each
-
     pub hits_share : length found ≤ length (sharing K word records)
-    hits_share = omega (arith, sum-of_ones (λ (h : Hit ℕ). mark word h.row) found marked, sum_distinct (mark word) (length records) found distinct rows_below, sum-marks word)
+    hits_share =
+        omega (arith, hits_few word_of start_bytes 4 (0, 0) (starts K records) start count old known_rows IsNumber word found each distinct, length-sharing K word [] records)
+
+    -- where they are all hits, each record that shares the word is at one of them
+    all_share : length found ≡ hits table word → (i : ℕ) → i < length records → (hash_in K (record_at i)).word0 ≡ word
+        → (k : ℕ) × (k < length found) × ((h : Hit ℕ) → (get_or found k h).row ≡ i)
+    all_share all i within same =
+        hits_all word_of start_bytes 4 (0, 0) (starts K records) start count old known_rows IsNumber word found each distinct all i (in_table i within) (word_at i within ∙ same)
 
     -- a record that is at the start of a hit is the one of that row
     hit_reads : (h : Hit ℕ) (r : R) → IsHit table word IsNumber h → RecordAt K old.bytes (row_at offset h.value) r → r ≡ K.handed_out (record_at h.row)
     hit_reads h r hit stands =
         let known = hit_is word h hit in
-        record_is h.row r known.0 (subst (λ v. RecordAt K old.bytes (row_at offset v) r) known.2 stands)
+        record_is K laws records offset old is.section (start_at h.row) (record_at h.row) (at_row h.row known.0) r (subst (λ v. RecordAt K old.bytes (row_at offset v) r) known.2 stands)
 
     pub found_is : (hash : DataHash) (r : R) (row : ℕ) → hash_in K r ≡ hash → Contains (map (λ h. h.value) found) row → RecordAt K old.bytes (row_at offset row) r
         → IsAnswer K d records hash (Some r)
@@ -291,9 +193,7 @@ module _ {H R : Type 0} (K : RecordKind H R) (laws : KindLaws K) (d : R) (record
 
     pub found_none : (hash : DataHash) → hash.word0 ≡ word → length found ≡ hits table word → LookupAnswer K old.bytes offset hash None (map (λ h. h.value) found) → IsAnswer K d records hash None
     found_none hash same_word all others i within same =
-        let one : mark word i ≡ 1 = cond-true {A = ℕ} _ 1 0 (eq-eqb _ _ (ap (λ (h : DataHash). h.word0) same ∙ same_word)) in
-        let at = all_marked (mark word) (length records) found i distinct rows_below
-        (omega (arith, sum-of_ones (λ (h : Hit ℕ). mark word h.row) found marked, sum-marks word, all, table_hits word)) within (omega (arith, one)) in
+        let at = all_share all i within (ap (λ (h : DataHash). h.word0) same ∙ same_word) in
         let no_hit : Hit ℕ = record { row = 0; value = 0 } in
         let h = get_or found at.0 no_hit in
         let other = subst (λ v. (r : R) × RecordAt K old.bytes (row_at offset v) r × (hash_in K r ≢ hash)) (get_or-map (λ (g : Hit ℕ). g.value) found at.0 no_hit 0 at.1)
@@ -318,9 +218,7 @@ module _ {H R : Type 0} (K : RecordKind H R) (laws : KindLaws K) (d : R) (record
         of_starts row (i, below, is_row) =
             let within : i < length records = omega (arith, below, length-starts K records) in
             let same : ((hash_in K (record_at i)).word0, start_at i) ≡ (word, row) = sym (row_is i within) ∙ get_or_default (starts K records) i (0, 0) (word, row) below ∙ is_row in
-            let one : mark word i ≡ 1 = cond-true {A = ℕ} _ 1 0 (eq-eqb _ _ (ap (λ (e : ℕ × ℕ). e.0) same)) in
-            let at = all_marked (mark word) (length records) found i distinct rows_below
-            (omega (arith, sum-of_ones (λ (h : Hit ℕ). mark word h.row) found marked, sum-marks word, all, table_hits word)) within (omega (arith, one)) in
+            let at = all_share all i within (ap (λ (e : ℕ × ℕ). e.0) same) in
             let no_hit : Hit ℕ = record { row = 0; value = 0 } in
             let values = map (λ (h : Hit ℕ). h.value) found in
             let value : get_or values at.0 0 ≡ row =
@@ -335,7 +233,7 @@ module _ {H R : Type 0} (K : RecordKind H R) (laws : KindLaws K) (d : R) (record
         All-contains (λ v. InfoRefusal K offset v old new e → DeviceFailure old new e ⊎ (e ≡ OutOfMemory)) (map (λ h. h.value) found) row
         (All-map (λ v. InfoRefusal K offset v old new e → DeviceFailure old new e ⊎ (e ≡ OutOfMemory)) (λ (h : Hit ℕ). h.value) found
         (All-weaker (IsHit table word IsNumber) (λ h. InfoRefusal K offset h.value old new e → DeviceFailure old new e ⊎ (e ≡ OutOfMemory))
-        (λ h hit refused. let known = hit_is word h hit in record_is_read h.row new e known.0 (subst (λ v. InfoRefusal K offset v old new e) known.2 refused)) found each))
+        (λ h hit refused. let known = hit_is word h hit in record_is_read K laws records offset old is.section (start_at h.row) (record_at h.row) (at_row h.row known.0) new e (subst (λ v. InfoRefusal K offset v old new e) known.2 refused)) found each))
         contains refusal
 
     -- the texts of the records that were read are those of records that share the word
@@ -349,7 +247,7 @@ module _ {H R : Type 0} (K : RecordKind H R) (laws : KindLaws K) (d : R) (record
         (λ h hit k takes. let known = hit_is word h hit in omega (
           arith,
           cond-true {A = ℕ} _ (weight (record_at h.row)) 0 (eq-eqb _ _ known.1),
-          text_is_enough h.row k known.0 (subst (λ v. MayTake K (drop (row_at offset v) old.bytes) k) known.2 takes),
+          text_is_enough K laws records offset old is.section (start_at h.row) (record_at h.row) (at_row h.row known.0) k (subst (λ v. MayTake K (drop (row_at offset v) old.bytes) k) known.2 takes),
         )) found each in
         omega (
           arith,
@@ -360,12 +258,9 @@ module _ {H R : Type 0} (K : RecordKind H R) (laws : KindLaws K) (d : R) (record
           sum-lengths K.text (sharing K word records),
         )
 
-  -- the search is refused only where the device fails
-  pub search_answers : (new : Source) (e : CoreError) → SearchRefused table old new e → DeviceFailure old new e
-  search_answers new e (inl (bare, inl past, untouched)) = absurd (omega (arith, past, table_fits.countable))
-  search_answers new e (inl (bare, inr past, untouched)) = absurd (omega (arith, past, table_fits.placed))
-  search_answers new e (inr (fits, inl failed)) = failed
-  search_answers new e (inr (fits, inr (none, ended, short))) = absurd (omega (arith, short, table_there))
+  -- the search is refused only if the device fails
+  search_answers : (new : Source) (e : CoreError) → SearchRefused table old new e → DeviceFailure old new e
+  search_answers = search_served word_of start_bytes 4 (0, 0) (starts K records) start count old known_rows
 
   -- what the search costs, and what the lookup does
   pub search_costs : (word : ℕ) (new : Source) → Bounded table word old new → SearchWithinBounds K records word old new
@@ -413,8 +308,7 @@ module _ {H R : Type 0} (K : RecordKind H R) (laws : KindLaws K) (d : R) (record
 
   -- a lookup that is refused
   pub not_answered : (hash : DataHash) (new : Source) (e : CoreError) → FindingFails K table offset hash old new e
-      → DeviceFailure old new e ⊎ ((e ≡ OutOfMemory) × (1 ≤ length (sharing K hash.word0 records)) × (length (sharing K hash.word0 records) < 8))
-      ⊎ ((e ≡ TruncatedHashCollision hash.word0) × (8 ≤ length (sharing K hash.word0 records)))
+      → NotFoundAmong K records hash old new e
   not_answered hash new e (inl (inl (none, collision, collides), bounded)) =
       inr (inr (collision, omega (arith, collides.eight, hits_share hash.word0 collides.found collides.each collides.distinct)))
   not_answered hash new e (inl (inr refused, bounded)) = inl (search_answers new e refused)
@@ -447,18 +341,36 @@ module _ {H R : Type 0} (K : RecordKind H R) (laws : KindLaws K) (d : R) (record
       ]
 
   -- an index lookup
-  pub index_answered : (word count : ℕ) (places_old places_new : List ℕ) → IndexFinds table word places_old places_new count
-      → (length (sharing K word records) < 8) × (count ≡ length (sharing K word records)) × AreStarts K records word (take count places_new)
-  index_answered word count places_old places_new finds =
+  index_answered : (word count : ℕ) (dest_old dest_new : List ℕ) → IndexFinds table word dest_old dest_new count → StartsAmong K records word dest_new count
+  index_answered word count dest_old dest_new finds =
       let all = finds.are_hits.all table_sorted in (
         omega (arith, finds.few, finds.number, all, table_hits word),
         omega (arith, finds.number, all, table_hits word),
-        subst (AreStarts K records word) (sym (rows_in_front table word count places_old places_new finds))
+        subst (AreStarts K records word) (sym (rows_in_front table word count dest_old dest_new finds))
             (starts_of_hits word finds.found finds.are_hits.each finds.are_hits.distinct all),
       )
 
-  pub index_not_answered : (word : ℕ) (new : Source) (e : CoreError) → IndexRefused table word old new e
-      → DeviceFailure old new e ⊎ ((e ≡ TruncatedHashCollision word) × (8 ≤ length (sharing K word records)))
+  index_not_answered : (word : ℕ) (new : Source) (e : CoreError) → IndexRefused table word old new e → NoStartsAmong K records word old new e
   index_not_answered word new e (inl (none, collision, collides)) =
       inr (collision, omega (arith, collides.eight, hits_share word collides.found collides.each collides.distinct))
   index_not_answered word new e (inr refused) = inl (search_answers new e refused)
+
+  pub index_written : (new : Source) (word : ℕ) (dest_old dest_new : List ℕ) (r : Result ℕ CoreError) → IfOk r (IndexFinds table word dest_old dest_new)
+      → IfErr r (IndexRefused table word old new) → MatchResult r (StartsAmong K records word dest_new) (NoStartsAmong K records word old new)
+  index_written new word dest_old dest_new (Ok found) finds refused = index_answered word found dest_old dest_new finds
+  index_written new word dest_old dest_new (Err e) finds refused = index_not_answered word new e refused
+
+  pub index_bounded : (new : Source) (word : ℕ) → (IsSorted table → Bounded table word old new) → SearchWithinBounds K records word old new
+  index_bounded new word bounded = search_costs word new (bounded table_sorted)
+
+  -- a lookup of a record
+  pub lookup_bounded : (new : Source) (hash : DataHash) (r : Result (Option R) CoreError)
+      → MatchResult r (Finding K table offset hash old new) (FindingFails K table offset hash old new) → WithinBounds K records hash.word0 old new
+  lookup_bounded new hash (Ok answer) finding = lookup_costs hash.word0 new (LookupAnswer K old.bytes offset hash answer) finding
+  lookup_bounded new hash (Err e) refused = costs_refused hash new e refused
+
+  pub collision_bounded : (new : Source) (hash : DataHash) (r : Result (Option R) CoreError)
+      → MatchResult r (Finding K table offset hash old new) (FindingFails K table offset hash old new)
+      → IfErr r (λ e. e ≡ TruncatedHashCollision hash.word0 → SearchWithinBounds K records hash.word0 old new)
+  collision_bounded new hash (Ok answer) finding = tt
+  collision_bounded new hash (Err e) refused = costs_collision hash new e refused

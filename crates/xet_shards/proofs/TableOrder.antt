@@ -1,4 +1,4 @@
--- What the tables of a shard hold: places of chunks in strictly ascending order, and for each record the rows of those
+-- What the tables of a shard hold: rows for chunks in strictly ascending order, and for each record the rows of those
 -- with smaller hashes.
 use Rattle.std.proofs.Common.{◌≡◌, ℕ, zero, suc, ◌<◌, Bool, true, false, List, [], ◌∷◌, ◌++◌, length, map, get_or, cond, Some, refl, sym, ap, ◌∙◌, subst, append_assoc, arith}
 use Rattle.std.specs.Prelude.{All, Contains, filter}
@@ -19,49 +19,49 @@ use Rattle.xet_base.proofs.HashOrder.{hash_cmp-IsTotalOrder}
 use Rattle.xet_records.specs.declared.xorb_structs.MDBXorbInfo.{MDBXorbInfo}
 use Rattle.xet_records.specs.RecordKind.{RecordKind}
 use Rattle.xet_shards.specs.Section.{total_rows, with_fronts}
-use Rattle.xet_shards.specs.Tables.{ChunkPlace, place_cmp, chunk_places, chunk_table, hash_in, starts, records_below}
+use Rattle.xet_shards.specs.Tables.{ChunkTableRow, chunk_table_row_cmp, chunk_table_rows, chunk_table, hash_in, starts, records_below}
 use Rattle.xet_shards.proofs.Maps.{rising_keys}
 use Rattle.xet_shards.proofs.Found.{found_entry, entry_found}
-use Rattle.xet_shards.proofs.Tables.{place_total, place_exact}
-use Rattle.xet_shards.proofs.ChunkPlaces.{alone}
+use Rattle.xet_shards.proofs.Tables.{chunk_table_row_total, chunk_table_row_exact}
+use Rattle.xet_shards.proofs.ChunkTableRows.{alone}
 
--- a place that is in a list is found among its entries
-place_found : (p d : ChunkPlace) (ps : List ChunkPlace) (i : ℕ) → i < length ps → get_or ps i d ≡ p → find place_cmp p (map alone ps) ≡ Some (tt {0})
-place_found p d [] i within here = absurd (omega (arith, within))
-place_found p d (x ∷ ps) zero within here =
-    cond-true (is_at (place_cmp p) x) (Some (tt {0})) (find place_cmp p (map alone ps)) (ap (λ q. is_eq (place_cmp p q)) here ∙ ap is_eq (tied_itself place_total p))
-place_found p d (x ∷ ps) (suc i) within here = go (is_at (place_cmp p) x) (place_found p d ps i (omega (arith, within)) here)
+-- a row that is in a list is found among its entries
+row_found : (p d : ChunkTableRow) (ps : List ChunkTableRow) (i : ℕ) → i < length ps → get_or ps i d ≡ p → find chunk_table_row_cmp p (map alone ps) ≡ Some (tt {0})
+row_found p d [] i within here = absurd (omega (arith, within))
+row_found p d (x ∷ ps) zero within here =
+    cond-true (is_at (chunk_table_row_cmp p) x) (Some (tt {0})) (find chunk_table_row_cmp p (map alone ps)) (ap (λ q. is_eq (chunk_table_row_cmp p q)) here ∙ ap is_eq (tied_itself chunk_table_row_total p))
+row_found p d (x ∷ ps) (suc i) within here = go (is_at (chunk_table_row_cmp p) x) (row_found p d ps i (omega (arith, within)) here)
   where
-    go : (b : Bool) → find place_cmp p (map alone ps) ≡ Some (tt {0}) → cond b (Some (tt {0})) (find place_cmp p (map alone ps)) ≡ Some (tt {0})
+    go : (b : Bool) → find chunk_table_row_cmp p (map alone ps) ≡ Some (tt {0}) → cond b (Some (tt {0})) (find chunk_table_row_cmp p (map alone ps)) ≡ Some (tt {0})
     go true later = refl
     go false later = later
 
 module _ (xorbs : List MDBXorbInfo) where
-  abbrev table_map : FinMap place_cmp (Unit {0})
-  table_map = from_entries (map alone (chunk_places xorbs))
+  abbrev table_map : FinMap chunk_table_row_cmp (Unit {0})
+  table_map = from_entries (map alone (chunk_table_rows xorbs))
 
-  pub chunk_table-sorted : IsStrictlySortedBy place_cmp (chunk_table xorbs)
-  chunk_table-sorted = rising_keys place_cmp (entries table_map) (entries_sorted table_map)
+  pub chunk_table-sorted : IsStrictlySortedBy chunk_table_row_cmp (chunk_table xorbs)
+  chunk_table-sorted = rising_keys chunk_table_row_cmp (entries table_map) (entries_sorted table_map)
 
-  pub in_places : (p : ChunkPlace) → Contains (chunk_table xorbs) p → Contains (chunk_places xorbs) p
-  in_places p (i, below, here) =
+  pub in_table_rows : (p : ChunkTableRow) → Contains (chunk_table xorbs) p → Contains (chunk_table_rows xorbs) p
+  in_table_rows p (i, below, here) =
       let d = alone p in
-      let i_in : i < length (entries table_map) = omega (arith, below, length-map (entries table_map) (λ (e : ChunkPlace × Unit {0}). e.0)) in
-      let key : (get_or (entries table_map) i d).0 ≡ p = sym (get_or-map (λ (e : ChunkPlace × Unit {0}). e.0) (entries table_map) i d p i_in) ∙ here in
-      let found = entry_found place_cmp place_total (entries table_map) i p tt d (entries_sorted table_map) i_in (λ k. (key k, tt)) in
-      let at = found_entry place_cmp place_exact (map alone (chunk_places xorbs)) p tt d
-      (sym (get-from_entries place_total (map alone (chunk_places xorbs)) p) ∙ get-entries table_map p ∙ found) in
-      let at_in : at.0 < length (chunk_places xorbs) = omega (arith, at.1, length-map (chunk_places xorbs) alone) in
-      (at.0, at_in, ap (λ (e : ChunkPlace × Unit {0}). e.0) (sym (get_or-map alone (chunk_places xorbs) at.0 p d at_in) ∙ at.2))
+      let i_in : i < length (entries table_map) = omega (arith, below, length-map (entries table_map) (λ (e : ChunkTableRow × Unit {0}). e.0)) in
+      let key : (get_or (entries table_map) i d).0 ≡ p = sym (get_or-map (λ (e : ChunkTableRow × Unit {0}). e.0) (entries table_map) i d p i_in) ∙ here in
+      let found = entry_found chunk_table_row_cmp chunk_table_row_total (entries table_map) i p tt d (entries_sorted table_map) i_in (λ k. (key k, tt)) in
+      let at = found_entry chunk_table_row_cmp chunk_table_row_exact (map alone (chunk_table_rows xorbs)) p tt d
+      (sym (get-from_entries chunk_table_row_total (map alone (chunk_table_rows xorbs)) p) ∙ get-entries table_map p ∙ found) in
+      let at_in : at.0 < length (chunk_table_rows xorbs) = omega (arith, at.1, length-map (chunk_table_rows xorbs) alone) in
+      (at.0, at_in, ap (λ (e : ChunkTableRow × Unit {0}). e.0) (sym (get_or-map alone (chunk_table_rows xorbs) at.0 p d at_in) ∙ at.2))
 
-  pub in_table : (p : ChunkPlace) → Contains (chunk_places xorbs) p → Contains (chunk_table xorbs) p
+  pub in_table : (p : ChunkTableRow) → Contains (chunk_table_rows xorbs) p → Contains (chunk_table xorbs) p
   in_table p (i, below, here) =
       let d = alone p in
-      let found = sym (get-entries table_map p) ∙ get-from_entries place_total (map alone (chunk_places xorbs)) p ∙ place_found p p (chunk_places xorbs) i below here in
-      let at = found_entry place_cmp place_exact (entries table_map) p tt d found in (
+      let found = sym (get-entries table_map p) ∙ get-from_entries chunk_table_row_total (map alone (chunk_table_rows xorbs)) p ∙ row_found p p (chunk_table_rows xorbs) i below here in
+      let at = found_entry chunk_table_row_cmp chunk_table_row_exact (entries table_map) p tt d found in (
         at.0,
-        omega (arith, at.1, length-map (entries table_map) (λ (e : ChunkPlace × Unit {0}). e.0)),
-        get_or-map (λ (e : ChunkPlace × Unit {0}). e.0) (entries table_map) at.0 d p at.1 ∙ ap (λ (e : ChunkPlace × Unit {0}). e.0) at.2,
+        omega (arith, at.1, length-map (entries table_map) (λ (e : ChunkTableRow × Unit {0}). e.0)),
+        get_or-map (λ (e : ChunkTableRow × Unit {0}). e.0) (entries table_map) at.0 d p at.1 ∙ ap (λ (e : ChunkTableRow × Unit {0}). e.0) at.2,
       )
 
 -- of records in strictly ascending order of hashes, those before one are those with smaller hashes
@@ -110,7 +110,7 @@ module _ {X : Type 0} (hash_of : X → DataHash) where
   hashes_are_keys [] keyed = refl
   hashes_are_keys (e ∷ es) keyed = λ i. sym (keyed 0 e (omega arith)) i ∷ hashes_are_keys es (All-drop (λ (d : DataHash × X). d.0 ≡ hash_of d.1) 1 (e ∷ es) keyed) i
 
-  hashes_ascend : (m : FinMap hash_cmp X) → All (λ e. e.0 ≡ hash_of e.1) (entries m) → IsStrictlySortedBy hash_cmp (map hash_of (values m))
+  pub hashes_ascend : (m : FinMap hash_cmp X) → All (λ e. e.0 ≡ hash_of e.1) (entries m) → IsStrictlySortedBy hash_cmp (map hash_of (values m))
   hashes_ascend m keyed = subst (IsStrictlySortedBy hash_cmp) (sym (hashes_are_keys (entries m) keyed)) (rising_keys hash_cmp (entries m) (entries_sorted m))
 
 -- the records of a map under their hashes start after the rows of those with smaller hashes

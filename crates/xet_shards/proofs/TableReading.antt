@@ -9,9 +9,10 @@ use Rattle.std.proofs.lemmas.Grind.{flat_map-append}
 use Rattle.std.proofs.Math.Nat.{mul-suc, mul-le-mul_left}
 use Rattle.xet_base.specs.declared.error.CoreError.{CoreError}
 use Rattle.xet_base.specs.declared.error.CoreError.TheVariants.{OutOfMemory}
-use Rattle.xet_base.specs.Source.{Source, Takes, DeviceFailure, ReadFailure, ReadFails, moved, bytes_left}
+use Rattle.xet_base.specs.Source.{Source, Takes, DeviceFailure, FailedBy, ReadCase, ReadFails, moved, bytes_left}
+use Rattle.xet_base.specs.Source.ReadCase.{out_of_memory, out_of_bytes}
 use Rattle.xet_base.proofs.Lists.{parts_front}
-use Rattle.xet_base.specs.InputLaws.{Takes-nil, Takes-trans}
+use Rattle.xet_base.specs.InputLaws.{Takes-nil, Takes-trans, failed_after, read_case}
 use Rattle.xet_base.proofs.Reading.{Takes-consumes, lacks_left}
 use Rattle.xet_shards.specs.TableReading.{ReadsNextRow, ReadsTable, RowsFailure, TableFails}
 
@@ -73,16 +74,16 @@ module _ {T : Type 0} (row_bytes : T → List ℕ) (Fits : T → Type 0) (size :
       bytes = bytes_then;
       seeks = omega (arith, seeks_then);
       read = omega (arith, read_then, mul-le-mul_left size within);
-      cause = inr (few, inr (inl (failures_then, is)));
+      cause = inr (few, inr (failures_then, out_of_memory is));
     }
 
     -- the next row was not read
     next_refused : (rows : ℕ) (new : Source) (e : CoreError) → 0 < size → size * count + size ≤ size * rows
-        → ReadFailure now new size e ⊎ ((new.failures ≡ now.failures) × (e ≡ OutOfMemory)) → RowsFailure old new at (size * rows) e
-    next_refused rows new e some within (inl (inl failed)) = inl (failed.0 ∙ ap (λ k. k + 1) failures_then, failed.1, failed.2, failed.3)
-    next_refused rows new e some within (inl (inr (none, ended, short))) =
-        inr (inr (none ∙ failures_then, ended, omega (arith, ap length stands_then, length-append (flat_map row_bytes found) (bytes_left now), read.bytes, within, lacks_left now size some short)))
-    next_refused rows new e some within (inr (none, no_memory)) = inr (inl (none ∙ failures_then, no_memory))
+        → FailedBy (ReadCase (length now.bytes < now.at + size)) now new e → RowsFailure old new at (size * rows) e
+    next_refused rows new e some within cause =
+        failed_after (ReadCase (length now.bytes < now.at + size)) (ReadCase (length (drop at old.bytes) < size * rows)) old now new e failures_then
+        (read_case (length now.bytes < now.at + size) (length (drop at old.bytes) < size * rows) e
+        (λ short. omega (arith, ap length stands_then, length-append (flat_map row_bytes found) (bytes_left now), read.bytes, within, lacks_left now size some short))) cause
 
     pub row_fails : (rows : ℕ) (new : Source) (e : CoreError) → 0 < size → count < rows → rows ≤ 4294967295 → ReadFails now new size e → TableFails size old new at rows e
     row_fails rows new e some below few fails =
@@ -115,8 +116,8 @@ module _ {T : Type 0} (row_bytes : T → List ℕ) (Fits : T → Type 0) (size :
       (stands : drop at old.bytes ≡ flat_map row_bytes rows ++ rest) where
     why_not : (e : CoreError) → RowsFailure old new at (size * length rows) e → DeviceFailure old new e ⊎ (e ≡ OutOfMemory)
     why_not e (inl failed) = inl failed
-    why_not e (inr (inl (none, no_memory))) = inr no_memory
-    why_not e (inr (inr (none, is, short))) =
+    why_not e (inr (none, out_of_memory is)) = inr is
+    why_not e (inr (none, out_of_bytes is short)) =
         absurd (omega (arith, short, ap length stands, length-append (flat_map row_bytes rows) rest, length-rows rows fit))
 
     refused_because : (e : CoreError) → TableFails size old new at (length rows) e → DeviceFailure old new e ⊎ (e ≡ OutOfMemory)

@@ -11,7 +11,7 @@ use Rattle.std.specs.Ordering.{nat_cmp}
 use Rattle.std.specs.FinMap.{IsAntisymmetric}
 use Rattle.std.proofs.lemmas.Map.Lookups.{exact_pairs, exact_unsigned}
 use Rattle.std.proofs.lemmas.Cmp.{then_total, on_total, nat_cmp_total}
-use Rattle.xet_shards.specs.Tables.{ChunkPlace, place_cmp, hash_in, start_of, starts, start_row, place_row, table_bytes}
+use Rattle.xet_shards.specs.Tables.{ChunkTableRow, chunk_table_row_cmp, hash_in, start_of, starts, start_row, chunk_table_row_bytes, table_bytes}
 
 module _ {X : Type 0} where
   pub with_fronts-push : (front xs : List X) (x : X) → with_fronts front (xs ++ x ∷ []) ≡ with_fronts front xs ++ (front ++ xs, x) ∷ []
@@ -53,28 +53,28 @@ module _ {H R : Type 0} (K : RecordKind H R) where
   length-table_bytes rs = length-start_rows (starts K rs) ∙ ap (λ n. 12 * n) (length-starts rs)
 
 -- a row of the chunk table has sixteen
-pub length-place_rows : (rows : List ChunkPlace) → length (flat_map place_row rows) ≡ 16 * length rows
-length-place_rows [] = refl
-length-place_rows (row ∷ rows) =
-    length-append (place_row row) (flat_map place_row rows)
+pub length-chunk_table_row_bytes : (rows : List ChunkTableRow) → length (flat_map chunk_table_row_bytes rows) ≡ 16 * length rows
+length-chunk_table_row_bytes [] = refl
+length-chunk_table_row_bytes (row ∷ rows) =
+    length-append (chunk_table_row_bytes row) (flat_map chunk_table_row_bytes rows)
     ∙ omega (
       arith,
-      length-append (u64_bytes row.word ++ u32_bytes row.start) (u32_bytes row.place),
-      length-append (u64_bytes row.word) (u32_bytes row.start),
+      length-append (u64_bytes row.word ++ u32_bytes row.row) (u32_bytes row.index),
+      length-append (u64_bytes row.word) (u32_bytes row.row),
       length-u64_bytes row.word,
-      length-u32_bytes row.start,
-      length-u32_bytes row.place,
-      length-place_rows rows,
+      length-u32_bytes row.row,
+      length-u32_bytes row.index,
+      length-chunk_table_row_bytes rows,
     )
 
 -- the order of the chunk table is total
-pub place_total : IsTotalOrder place_cmp
-place_total =
-    then_total (on_total (λ (p : ChunkPlace). p.word) nat_cmp_total)
-    (then_total (on_total (λ (p : ChunkPlace). p.start) nat_cmp_total) (on_total (λ (p : ChunkPlace). p.place) nat_cmp_total))
+pub chunk_table_row_total : IsTotalOrder chunk_table_row_cmp
+chunk_table_row_total =
+    then_total (on_total (λ (p : ChunkTableRow). p.word) nat_cmp_total)
+    (then_total (on_total (λ (p : ChunkTableRow). p.row) nat_cmp_total) (on_total (λ (p : ChunkTableRow). p.index) nat_cmp_total))
 
--- and only equal places tie
-pub place_exact : IsAntisymmetric place_cmp
-place_exact a b tied =
-    ap (λ (p : ℕ × (ℕ × ℕ)). record { word = p.0; start = p.1.0; place = p.1.1 })
-    (exact_pairs nat_cmp _ exact_unsigned (exact_pairs nat_cmp nat_cmp exact_unsigned exact_unsigned) (a.word, (a.start, a.place)) (b.word, (b.start, b.place)) tied)
+-- and only equal rows tie
+pub chunk_table_row_exact : IsAntisymmetric chunk_table_row_cmp
+chunk_table_row_exact a b tied =
+    ap (λ (p : ℕ × (ℕ × ℕ)). record { word = p.0; row = p.1.0; index = p.1.1 })
+    (exact_pairs nat_cmp _ exact_unsigned (exact_pairs nat_cmp nat_cmp exact_unsigned exact_unsigned) (a.word, (a.row, a.index)) (b.word, (b.row, b.index)) tied)

@@ -16,53 +16,65 @@ use Rattle.xet_records.specs.XorbRecord.{xorb_record_bytes, xorb_row_count, IsSt
 use Rattle.xet_records.proofs.RecordKinds.{xorb_laws, length-text}
 use Rattle.xet_records.proofs.Lengths.{length-texts}
 use Rattle.xet_shards.specs.Section.{total_rows, with_fronts}
-use Rattle.xet_shards.specs.Tables.{places_from, chunk_places, chunk_table}
+use Rattle.xet_shards.specs.Tables.{chunk_table_rows_from, chunk_table_rows, chunk_table}
 use Rattle.xet_shards.specs.TableReading.{triple_of}
-use Rattle.xet_shards.specs.SectionReading.{HoldsRecords, PassesLimit, EndsEarly, SectionFailure, IsSection, PassesRows, IsCutSection, rows_left}
+use Rattle.xet_shards.specs.SectionReading.{HoldsRecords, PassesLimit, EndsEarly, SectionFailure, RecordFails, IsSection, PassesRows, IsCutSection, rows_left}
 use Rattle.xet_shards.specs.TruncatedHashes.{hashes_of, StartBefore, ReadsHashes, PassesBefore, CutBefore, HashesFail, HasReadHashes, ReadsXorbBefore, XorbBeforeFails}
-use Rattle.xet_shards.proofs.ChunkPlaces.{chunk_places-push, places_from-more, place_of, no_chunk}
-use Rattle.xet_shards.proofs.SectionReading.{nothing_read, more_read, place_after, section_ends}
+use Rattle.xet_shards.proofs.ChunkTableRows.{chunk_table_rows-push, chunk_table_rows_from-more, chunk_table_row, no_chunk}
+use Rattle.xet_records.proofs.SectionRecords.{nothing_read, more_read}
+use Rattle.xet_base.specs.InputLaws.{Takes-nil, Takes-trans}
+use Rattle.xet_shards.proofs.SectionReading.{place_after, section_ends, section_failure}
 use Rattle.xet_shards.proofs.Readback.{why_not}
 use Rattle.xet_shards.proofs.SectionUnique.{first_of_section}
 use Rattle.xet_shards.proofs.TableReading.{IsReadAs}
 use Rattle.xet_shards.proofs.Tables.{with_fronts-push}
-use Rattle.xet_shards.proofs.XorbLayouts.{total_chunks, length-chunk_places, length-chunk_table}
+use Rattle.xet_shards.proofs.XorbLayouts.{total_chunks, length-chunk_table_rows, length-chunk_table}
 
 -- one more chunk of a xorb
 pub hashes_more : (before : List (ℕ × (ℕ × ℕ))) (start i : ℕ) (chunks : List XorbChunkSequenceEntry) → i < length chunks
-    → (before ++ map triple_of (places_from start (take i chunks))) ++ triple_of (place_of start i (get_or chunks i no_chunk)) ∷ []
-    ≡ before ++ map triple_of (places_from start (take (i + 1) chunks))
+    → (before ++ map triple_of (chunk_table_rows_from start (take i chunks))) ++ triple_of (chunk_table_row start i (get_or chunks i no_chunk)) ∷ []
+    ≡ before ++ map triple_of (chunk_table_rows_from start (take (i + 1) chunks))
 hashes_more before start i chunks below =
-    let done = places_from start (take i chunks) in
-    let place = place_of start i (get_or chunks i no_chunk) in
+    let done = chunk_table_rows_from start (take i chunks) in
+    let place = chunk_table_row start i (get_or chunks i no_chunk) in
     append_assoc before (map triple_of done) (triple_of place ∷ [])
-    ∙ ap (λ rows. before ++ rows) (sym (map-append triple_of done (place ∷ [])) ∙ ap (map triple_of) (sym (places_from-more start i chunks no_chunk below)))
+    ∙ ap (λ rows. before ++ rows) (sym (map-append triple_of done (place ∷ [])) ∙ ap (map triple_of) (sym (chunk_table_rows_from-more start i chunks no_chunk below)))
 
 -- one more xorb
-hashes_of-push : (xorbs : List MDBXorbInfo) (x : MDBXorbInfo) → hashes_of (xorbs ++ x ∷ []) ≡ hashes_of xorbs ++ map triple_of (places_from (total_rows xorb_records xorbs) x.chunks)
-hashes_of-push xorbs x = ap (map triple_of) (chunk_places-push xorbs x) ∙ map-append triple_of _ (places_from (total_rows xorb_records xorbs) x.chunks)
+hashes_of-push : (xorbs : List MDBXorbInfo) (x : MDBXorbInfo) → hashes_of (xorbs ++ x ∷ []) ≡ hashes_of xorbs ++ map triple_of (chunk_table_rows_from (total_rows xorb_records xorbs) x.chunks)
+hashes_of-push xorbs x = ap (map triple_of) (chunk_table_rows-push xorbs x) ∙ map-append triple_of _ (chunk_table_rows_from (total_rows xorb_records xorbs) x.chunks)
 
 StartBefore-push : (at stop : ℕ) (xorbs : List MDBXorbInfo) (x : MDBXorbInfo) → StartBefore at stop xorbs → at + 48 * total_rows xorb_records xorbs < stop → StartBefore at stop (xorbs ++ x ∷ [])
 StartBefore-push at stop xorbs x before here =
     let Starts : List MDBXorbInfo × MDBXorbInfo → Type 0 = λ e. at + 48 * total_rows xorb_records e.0 < stop in
     subst (All Starts) (sym (with_fronts-push [] xorbs x)) (All-append Starts (with_fronts [] xorbs) ((xorbs, x) ∷ []) before (All-cons Starts (xorbs, x) [] here (All-nil Starts)))
 
+-- the next xorb, which starts before the stop, was not read
+pub before_fails : (stop left : ℕ) (old new : Source) (e : CoreError) → old.at < stop → RecordFails xorb_records left old new e → XorbBeforeFails stop left old new e
+before_fails stop left old new e below fails = record {
+  bytes = fails.bytes;
+  seeks = fails.seeks;
+  cause = section_failure (PassesLimit xorb_records left) (EndsEarly xorb_records left)
+      (λ bytes. (old.at < stop) × PassesLimit xorb_records left bytes) (λ bytes. (old.at < stop) × EndsEarly xorb_records left bytes)
+      (bytes_left old) (bytes_left old) old old new e refl (λ passes. (below, passes)) (λ ends. (below, ends)) fails.cause;
+}
+
 -- before the first xorb
 pub no_hashes : (stop : ℕ) (start : Source) → HasReadHashes stop start start [] 4294967295
-no_hashes stop start = record { xorbs = []; read = nothing_read xorb_records xorb_laws start; before = All-nil _; hashes = refl }
+no_hashes stop start = record { xorbs = []; read = nothing_read xorb_records xorb_laws (Takes start start) (Takes-nil start); before = All-nil _; hashes = refl }
 
 -- one xorb more
 pub more_hashes : (stop : ℕ) (start now new : Source) (found : List (ℕ × (ℕ × ℕ))) (left after : ℕ) (next : ℕ × MDBXorbInfo)
     → HasReadHashes stop start now found left → ReadsXorbBefore stop now new left after next
-    → HasReadHashes stop start new (found ++ map triple_of (places_from next.0 next.1.chunks)) after
+    → HasReadHashes stop start new (found ++ map triple_of (chunk_table_rows_from next.0 next.1.chunks)) after
 more_hashes stop start now new found left after next before read =
     let place : now.at ≡ start.at + 48 * total_rows xorb_records before.xorbs = place_after xorb_records xorb_laws start now before.xorbs left before.read in
     let row : next.0 ≡ total_rows xorb_records before.xorbs = omega (arith, read.start, rows_of before) in
     record {
       xorbs = before.xorbs ++ next.1 ∷ [];
-      read = more_read xorb_records xorb_laws start now new before.xorbs left after next.1 before.read read.next;
+      read = more_read xorb_records xorb_laws _ _ _ before.xorbs left after next.1 (Takes-trans start now new) before.read read.next;
       before = StartBefore-push start.at stop before.xorbs next.1 before.before (omega (arith, read.before, place));
-      hashes = (λ i. before.hashes i ++ map triple_of (places_from (row i) next.1.chunks)) ∙ sym (hashes_of-push before.xorbs next.1);
+      hashes = (λ i. before.hashes i ++ map triple_of (chunk_table_rows_from (row i) next.1.chunks)) ∙ sym (hashes_of-push before.xorbs next.1);
     }
   where
     rows_of : (b : HasReadHashes stop start now found left) → total_rows xorb_records b.xorbs + left ≡ 4294967295
@@ -121,28 +133,26 @@ module _ (stop : ℕ) (old now : Source) (at : ℕ) (found : List (ℕ × (ℕ �
   whole_cause : (new : Source) (e : CoreError)
       → SectionFailure (λ bytes. (now.at < stop) × PassesLimit xorb_records left bytes) (λ bytes. (now.at < stop) × EndsEarly xorb_records left bytes) (bytes_left now) now new e
       → SectionFailure (PassesBefore at stop) (CutBefore at stop) (drop at old.bytes) old new e
-  whole_cause new e (inl failed) = inl (failed.0 ∙ ap (λ k. k + 1) failures_then, failed.1, failed.2, failed.3)
-  whole_cause new e (inr (inl (none, no_memory))) = inr (inl (none ∙ failures_then, no_memory))
-  whole_cause new e (inr (inr (inl (none, is, (below, passes))))) =
-      inr (inr (inl (none ∙ failures_then, is, (before.xorbs, bytes_left now, holds, omega (arith, below, place), subst (λ n. PassesLimit xorb_records n (bytes_left now)) left_is passes))))
-  whole_cause new e (inr (inr (inr (none, is, (below, ends))))) =
-      inr (inr (inr (none ∙ failures_then, is, (before.xorbs, bytes_left now, holds, omega (arith, below, place), subst (λ n. EndsEarly xorb_records n (bytes_left now)) left_is ends))))
+  whole_cause new e cause =
+      section_failure (λ bytes. (now.at < stop) × PassesLimit xorb_records left bytes) (λ bytes. (now.at < stop) × EndsEarly xorb_records left bytes)
+      (PassesBefore at stop) (CutBefore at stop) (bytes_left now) (drop at old.bytes) old now new e failures_then
+      (λ passes. (before.xorbs, bytes_left now, holds, omega (arith, passes.0, place), subst (λ n. PassesLimit xorb_records n (bytes_left now)) left_is passes.1))
+      (λ ends. (before.xorbs, bytes_left now, holds, omega (arith, ends.0, place), subst (λ n. EndsEarly xorb_records n (bytes_left now)) left_is ends.1)) cause
 
   pub hashes_fail : (new : Source) (e : CoreError) → XorbBeforeFails stop left now new e → HashesFail old new at stop e
   hashes_fail new e fails = record { bytes = fails.bytes ∙ bytes_then; seeks = fails.seeks ∙ seeks_then; cause = whole_cause new e fails.cause }
 
 -- xorbs without chunks have no hashes
 no_chunks_no_hashes : (xorbs : List MDBXorbInfo) → total_chunks xorbs ≡ 0 → hashes_of xorbs ≡ []
-no_chunks_no_hashes xorbs none = nil_from_length (hashes_of xorbs) (length-map (chunk_places xorbs) triple_of ∙ length-chunk_places xorbs ∙ none)
+no_chunks_no_hashes xorbs none = nil_from_length (hashes_of xorbs) (length-map (chunk_table_rows xorbs) triple_of ∙ length-chunk_table_rows xorbs ∙ none)
 
 -- and so the walk through their section finds none, wherever it stops, unless the device fails or an allocation does
 module _ (old new : Source) (at stop : ℕ) (xorbs : List MDBXorbInfo) (section : IsSection xorb_records (drop at old.bytes) xorbs) where
   anywhere : (e : CoreError) → SectionFailure (PassesBefore at stop) (CutBefore at stop) (drop at old.bytes) old new e
       → SectionFailure (PassesRows xorb_records) (IsCutSection xorb_records) (drop at old.bytes) old new e
-  anywhere e (inl failed) = inl failed
-  anywhere e (inr (inl refused)) = inr (inl refused)
-  anywhere e (inr (inr (inl (none, is, (before, rest, records, below, passes))))) = inr (inr (inl (none, is, (before, rest, records, passes))))
-  anywhere e (inr (inr (inr (none, is, (before, rest, records, below, ends))))) = inr (inr (inr (none, is, (before, rest, records, ends))))
+  anywhere e cause =
+      section_failure (PassesBefore at stop) (CutBefore at stop) (PassesRows xorb_records) (IsCutSection xorb_records) (drop at old.bytes) (drop at old.bytes) old old new e refl
+      (λ passes. (passes.0, passes.1, passes.2, passes.4)) (λ ends. (ends.0, ends.1, ends.2, ends.4)) cause
 
   pub no_hashes_read : {Z : Type 0} (r : Result (Vec (ℕ × (ℕ × ℕ)) Z) CoreError) → total_chunks xorbs ≡ 0
       → MatchResult r (λ found. ReadsHashes old new at stop found.items) (HashesFail old new at stop) → IsReadAs old new (map triple_of (chunk_table xorbs)) r

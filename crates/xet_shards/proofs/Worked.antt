@@ -14,11 +14,12 @@ use Rattle.xet_records.specs.XorbRow.{xorb_header_row, chunk_row}
 use Rattle.xet_records.specs.XorbRecord.{xorb_record_bytes}
 use Rattle.xet_shards.specs.declared.shard_format.footer.MDBShardFileFooter.{MDBShardFileFooter}
 use Rattle.xet_shards.specs.Section.{section_bytes}
+use Rattle.xet_base.specs.KeyedHash.{no_key}
 use Rattle.xet_shards.specs.ChunkQuery.{run_at}
-use Rattle.xet_shards.proofs.Tables.{place_total}
-use Rattle.xet_shards.specs.Tables.{ChunkPlace, place_cmp, chunk_places, ascending, chunk_table, place_row, table_bytes, chunk_table_bytes}
+use Rattle.xet_shards.proofs.Tables.{chunk_table_row_total}
+use Rattle.xet_shards.specs.Tables.{ChunkTableRow, chunk_table_row_cmp, chunk_table_rows, ascending, chunk_table, chunk_table_row_bytes, table_bytes, chunk_table_bytes}
 use Rattle.xet_shards.specs.Layout.{footer_value, layout_of, plain_form}
-use Rattle.xet_shards.proofs.ChunkPlaces.{ascending-nil}
+use Rattle.xet_shards.proofs.ChunkTableRows.{ascending-nil}
 use Rattle.xet_shards.proofs.Maps.{puts, entries-from_entries}
 use Rattle.xet_shards.proofs.XorbLayouts.{length-layout_of}
 
@@ -43,43 +44,43 @@ xorb hash chunk = record {
 }
 
 -- the offsets of file section, xorb section, the three tables and the footer
-abbrev places : MDBShardFileFooter → List ℕ
-places f = f.file_info_offset ∷ f.xorb_info_offset ∷ f.file_lookup_offset ∷ f.xorb_lookup_offset ∷ f.chunk_lookup_offset ∷ f.footer_offset ∷ []
+abbrev offsets : MDBShardFileFooter → List ℕ
+offsets f = f.file_info_offset ∷ f.xorb_info_offset ∷ f.file_lookup_offset ∷ f.xorb_lookup_offset ∷ f.chunk_lookup_offset ∷ f.footer_offset ∷ []
 
 -- the sums in a footer: stored bytes, bytes of files, and bytes on disk
 abbrev sums : MDBShardFileFooter → List ℕ
 sums f = f.stored_bytes ∷ f.materialized_bytes ∷ f.stored_bytes_on_disk ∷ []
 
-ascending_is : (ps : List ChunkPlace) → ascending ps ≡ map (λ e. e.0) (puts place_cmp (map (λ p. (p, tt {0})) ps))
-ascending_is ps = ap (map (λ e. e.0)) (entries-from_entries place_total (map (λ p. (p, tt {0})) ps))
+ascending_is : (ps : List ChunkTableRow) → ascending ps ≡ map (λ e. e.0) (puts chunk_table_row_cmp (map (λ p. (p, tt {0})) ps))
+ascending_is ps = ap (map (λ e. e.0)) (entries-from_entries chunk_table_row_total (map (λ p. (p, tt {0})) ps))
 
 -- a chunk that is in two xorbs
-pub chunks_of_two : chunk_table (xorb 10 21 ∷ xorb 11 21 ∷ []) ≡ record { word = 21; start = 0; place = 0 } ∷ record { word = 21; start = 2; place = 0 } ∷ []
-chunks_of_two = ascending_is (chunk_places (xorb 10 21 ∷ xorb 11 21 ∷ []))
+pub chunks_of_two : chunk_table (xorb 10 21 ∷ xorb 11 21 ∷ []) ≡ record { word = 21; row = 0; index = 0 } ∷ record { word = 21; row = 2; index = 0 } ∷ []
+chunks_of_two = ascending_is (chunk_table_rows (xorb 10 21 ∷ xorb 11 21 ∷ []))
 
-chunks_of_p : chunk_table (xorb 10 21 ∷ []) ≡ record { word = 21; start = 0; place = 0 } ∷ []
-chunks_of_p = ascending_is (chunk_places (xorb 10 21 ∷ []))
+chunks_of_p : chunk_table (xorb 10 21 ∷ []) ≡ record { word = 21; row = 0; index = 0 } ∷ []
+chunks_of_p = ascending_is (chunk_table_rows (xorb 10 21 ∷ []))
 
-chunks_of_q : chunk_table (xorb 10 21 ∷ xorb 11 22 ∷ []) ≡ record { word = 21; start = 0; place = 0 } ∷ record { word = 22; start = 2; place = 0 } ∷ []
-chunks_of_q = ascending_is (chunk_places (xorb 10 21 ∷ xorb 11 22 ∷ []))
+chunks_of_q : chunk_table (xorb 10 21 ∷ xorb 11 22 ∷ []) ≡ record { word = 21; row = 0; index = 0 } ∷ record { word = 22; row = 2; index = 0 } ∷ []
+chunks_of_q = ascending_is (chunk_table_rows (xorb 10 21 ∷ xorb 11 22 ∷ []))
 
 -- the empty shard
-pub places_of_empty : places (footer_value [] [] (plain_form None)) ≡ 48 ∷ 96 ∷ 144 ∷ 144 ∷ 144 ∷ 144 ∷ []
+pub offsets_of_empty : offsets (footer_value [] [] (plain_form None)) ≡ 48 ∷ 96 ∷ 144 ∷ 144 ∷ 144 ∷ 144 ∷ []
 unfolding section_bytes table_bytes chunk_table_bytes file_record_bytes file_rows_bytes header_row segment_row hash_bytes u64_bytes u32_bytes xorb_record_bytes xorb_header_row chunk_row
-places_of_empty = λ i. 48 ∷ 96 ∷ 144 ∷ 144 ∷ 144 ∷ (144 + length (flat_map place_row (ascending-nil i))) ∷ []
+offsets_of_empty = λ i. 48 ∷ 96 ∷ 144 ∷ 144 ∷ 144 ∷ (144 + length (flat_map chunk_table_row_bytes (ascending-nil i))) ∷ []
 
 -- a xorb with one chunk, and a file
-pub places_of_p : places (footer_value (file 100 200 ∷ []) (xorb 10 21 ∷ []) (plain_form None)) ≡ 48 ∷ 192 ∷ 336 ∷ 348 ∷ 360 ∷ 376 ∷ []
+pub offsets_of_p : offsets (footer_value (file 100 200 ∷ []) (xorb 10 21 ∷ []) (plain_form None)) ≡ 48 ∷ 192 ∷ 336 ∷ 348 ∷ 360 ∷ 376 ∷ []
 unfolding section_bytes table_bytes chunk_table_bytes file_record_bytes file_rows_bytes header_row segment_row hash_bytes u64_bytes u32_bytes xorb_record_bytes xorb_header_row chunk_row
-places_of_p = λ i. 48 ∷ 192 ∷ 336 ∷ 348 ∷ 360 ∷ (360 + length (flat_map place_row (chunks_of_p i))) ∷ []
+offsets_of_p = λ i. 48 ∷ 192 ∷ 336 ∷ 348 ∷ 360 ∷ (360 + length (flat_map chunk_table_row_bytes (chunks_of_p i))) ∷ []
 
 pub sums_of_p : sums (footer_value (file 100 200 ∷ []) (xorb 10 21 ∷ []) (plain_form None)) ≡ 5 ∷ 5 ∷ 0 ∷ []
 sums_of_p = refl
 
 -- a second of each
-pub places_of_q : places (footer_value (file 100 200 ∷ file 101 201 ∷ []) (xorb 10 21 ∷ xorb 11 22 ∷ []) (plain_form None)) ≡ 48 ∷ 288 ∷ 528 ∷ 552 ∷ 576 ∷ 608 ∷ []
+pub offsets_of_q : offsets (footer_value (file 100 200 ∷ file 101 201 ∷ []) (xorb 10 21 ∷ xorb 11 22 ∷ []) (plain_form None)) ≡ 48 ∷ 288 ∷ 528 ∷ 552 ∷ 576 ∷ 608 ∷ []
 unfolding section_bytes table_bytes chunk_table_bytes file_record_bytes file_rows_bytes header_row segment_row hash_bytes u64_bytes u32_bytes xorb_record_bytes xorb_header_row chunk_row
-places_of_q = λ i. 48 ∷ 288 ∷ 528 ∷ 552 ∷ 576 ∷ (576 + length (flat_map place_row (chunks_of_q i))) ∷ []
+offsets_of_q = λ i. 48 ∷ 288 ∷ 528 ∷ 552 ∷ 576 ∷ (576 + length (flat_map chunk_table_row_bytes (chunks_of_q i))) ∷ []
 
 -- the sizes of two xorbs with the same chunk
 pub size_of_two : length (layout_of [] (xorb 10 21 ∷ xorb 11 21 ∷ []) (plain_form None)) ≡ 592
@@ -100,9 +101,9 @@ abbrev segment : ℕ → ℕ → ℕ → FileDataSequenceEntry
 segment bytes start end = record { xorb_hash = small 10; xorb_flags = 0; unpacked_segment_bytes = bytes; chunk_index_start = start; chunk_index_end = end }
 
 -- the first two hashes match, the third does not
-pub run_to_other_hash : run_at (three, 1) (small 22 ∷ small 23 ∷ small 99 ∷ []) ≡ (2, segment 13 1 3)
+pub run_to_other_hash : run_at no_key (three, 1) (small 22 ∷ small 23 ∷ small 99 ∷ []) ≡ (2, segment 13 1 3)
 run_to_other_hash = refl
 
 -- the xorb ends before the hashes
-pub run_to_end_of_xorb : run_at (three, 2) (small 23 ∷ small 24 ∷ []) ≡ (1, segment 7 2 3)
+pub run_to_end_of_xorb : run_at no_key (three, 2) (small 23 ∷ small 24 ∷ []) ≡ (1, segment 7 2 3)
 run_to_end_of_xorb = refl

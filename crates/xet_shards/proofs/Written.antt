@@ -1,50 +1,79 @@
--- What is gathered while a section is written.
-use Rattle.std.proofs.Common.{◌≡◌, ◌+◌, List, [], ◌∷◌, ◌++◌, sym, ap, ◌∙◌}
+-- What is gathered while a section is written, and what is written after the sections.
+use Rattle.std.proofs.Common.{◌≡◌, Bool, true, false, ℕ, ◌+◌, ◌*◌, List, [], ◌∷◌, ◌++◌, length, Option, refl, sym, ap, ◌∙◌, subst, append_assoc, arith}
+use Rattle.std.specs.Prelude.{if◌then◌else◌}
+use Rattle.std.specs.Io.KnownBytes.{Appends}
+use Rattle.std.proofs.KnownBytes.{Appends-trans}
+use Rattle.std.proofs.lemmas.List.{length-append}
 use Rattle.std.proofs.lemmas.List.Sums.{sum_by_push}
 use Rattle.xet_records.specs.declared.file_structs.MDBFileInfo.{MDBFileInfo}
 use Rattle.xet_records.specs.declared.xorb_structs.MDBXorbInfo.{MDBXorbInfo}
+use Rattle.xet_records.specs.RecordKind.{RecordKind}
 use Rattle.xet_records.specs.FileRecord.{file_records, row_count, size_of_file}
 use Rattle.xet_records.specs.XorbRecord.{xorb_records, xorb_row_count}
-use Rattle.xet_shards.specs.declared.shard_format.file_writer.WrittenFiles.{WrittenFiles}
-use Rattle.xet_shards.specs.declared.shard_format.xorb_writer.WrittenXorbs.{WrittenXorbs}
-use Rattle.xet_shards.specs.Shard.{file_hash_of, xorb_hash_of}
-use Rattle.xet_shards.specs.Tables.{ChunkPlace, start_row, places_from, chunk_places, ascending}
-use Rattle.xet_shards.specs.Written.{HasWritten, HasWrittenXorbs}
-use Rattle.xet_shards.proofs.ChunkPlaces.{ascending-nil, chunk_places-push}
-use Rattle.xet_shards.proofs.Tables.{table_bytes-push, table_bytes-nil}
+use Rattle.xet_shards.specs.declared.shard_format.written.RecordTable.{RecordTable}
+use Rattle.xet_shards.specs.declared.shard_format.written.WrittenFiles.{WrittenFiles}
+use Rattle.xet_shards.specs.declared.shard_format.written.WrittenXorbs.{WrittenXorbs}
+use Rattle.xet_shards.specs.Shard.{xorb_hash_of}
+use Rattle.xet_shards.specs.Section.{section_bytes}
+use Rattle.xet_shards.specs.Tables.{ChunkTableRow, hash_in, start_row, starts, table_bytes, chunk_table_rows_from, chunk_table_rows, ascending}
+use Rattle.xet_shards.specs.Layout.{Form, if_in, shard_header_bytes, header_value, layout_of}
+use Rattle.xet_shards.specs.Written.{AddsRecord, IsTableOf, IsFileOf, HasWritten, HasWrittenXorbs, end_of_layout}
+use Rattle.xet_shards.proofs.ChunkTableRows.{chunk_table_rows-push}
+use Rattle.xet_shards.proofs.Tables.{table_bytes-push, table_bytes-nil, length-starts, length-table_bytes}
 
-pub written_nothing : (w : WrittenFiles) → w.rows ≡ 0 → w.table.items ≡ [] → w.materialized_bytes ≡ 0 → HasWritten w []
-written_nothing w rows table bytes = record { rows = rows; table = table ∙ sym (table_bytes-nil file_records); bytes = bytes }
+module _ {H R : Type 0} (K : RecordKind H R) where
+  pub table_of_none : (table : RecordTable) → table.records ≡ 0 → table.rows ≡ 0 → table.bytes.items ≡ [] → IsTableOf K table []
+  table_of_none table records rows bytes = record { records = records; rows = rows; bytes = bytes ∙ sym (table_bytes-nil K) }
 
-pub written_more : (v w : WrittenFiles) (files : List MDBFileInfo) (r : MDBFileInfo) → HasWritten v files
-    → w.rows ≡ v.rows + row_count r → w.table.items ≡ v.table.items ++ start_row ((file_hash_of r).word0, v.rows)
-    → w.materialized_bytes ≡ v.materialized_bytes + size_of_file r → HasWritten w (files ++ r ∷ [])
-written_more v w files r before rows table bytes = record {
-  rows = rows ∙ ap (λ n. n + row_count r) before.rows ∙ sym (sum_by_push row_count files r);
-  table = table ∙ (λ i. before.table i ++ start_row ((file_hash_of r).word0, before.rows i)) ∙ sym (table_bytes-push file_records files r);
-  bytes = bytes ∙ ap (λ n. n + size_of_file r) before.bytes ∙ sym (sum_by_push size_of_file files r);
+  pub table_of_more : (v w : RecordTable) (records : List R) (r : R) → IsTableOf K v records → AddsRecord v w (hash_in K r).word0 (K.row_count r) → IsTableOf K w (records ++ r ∷ [])
+  table_of_more v w records r before added = record {
+    records = omega (arith, added.records, before.records, length-append records (r ∷ []));
+    rows = added.rows ∙ ap (λ n. n + K.row_count r) before.rows ∙ sym (sum_by_push K.row_count records r);
+    bytes = added.bytes ∙ (λ i. before.bytes i ++ start_row ((hash_in K r).word0, before.rows i)) ∙ sym (table_bytes-push K records r);
+  }
+
+pub file_written : (v w : WrittenFiles) (word rows bytes : ℕ) → AddsRecord v.table w.table word rows → w.materialized_bytes ≡ v.materialized_bytes + bytes
+    → (files : List MDBFileInfo) (r : MDBFileInfo) → HasWritten v files → IsFileOf word rows bytes r → HasWritten w (files ++ r ∷ [])
+file_written v w word rows bytes added more files r before is = record {
+  table = table_of_more file_records v.table w.table files r before.table
+      (subst (λ n. AddsRecord v.table w.table n (row_count r)) (sym is.word) (subst (AddsRecord v.table w.table word) (sym is.rows) added));
+  bytes = more ∙ ap (λ n. v.materialized_bytes + n) (sym is.bytes) ∙ ap (λ n. n + size_of_file r) before.bytes ∙ sym (sum_by_push size_of_file files r);
 }
 
-pub written_no_xorbs : (w : WrittenXorbs) → w.rows ≡ 0 → w.table.items ≡ [] → w.places.keys ≡ [] → w.stored_bytes ≡ 0 → w.stored_bytes_on_disk ≡ 0 → HasWrittenXorbs w []
-written_no_xorbs w rows table places bytes bytes_on_disk = record {
-  rows = rows;
-  table = table ∙ sym (table_bytes-nil xorb_records);
-  places = places ∙ sym ascending-nil;
-  bytes = bytes;
-  bytes_on_disk = bytes_on_disk;
-}
-
-pub written_xorb : (v w : WrittenXorbs) (xorbs : List MDBXorbInfo) (r : MDBXorbInfo) → HasWrittenXorbs v xorbs
-    → w.rows ≡ v.rows + xorb_row_count r → w.table.items ≡ v.table.items ++ start_row ((xorb_hash_of r).word0, v.rows)
-    → ((before : List ChunkPlace) → v.places.keys ≡ ascending before → w.places.keys ≡ ascending (before ++ places_from v.rows r.chunks))
+pub xorb_written : (v w : WrittenXorbs) (xorbs : List MDBXorbInfo) (r : MDBXorbInfo) → HasWrittenXorbs v xorbs
+    → AddsRecord v.table w.table (xorb_hash_of r).word0 (xorb_row_count r)
+    → ((before : List ChunkTableRow) → v.chunk_rows.keys ≡ ascending before → w.chunk_rows.keys ≡ ascending (before ++ chunk_table_rows_from v.table.rows r.chunks))
     → w.stored_bytes ≡ v.stored_bytes + r.metadata.num_bytes_in_xorb → w.stored_bytes_on_disk ≡ v.stored_bytes_on_disk + r.metadata.num_bytes_on_disk
     → HasWrittenXorbs w (xorbs ++ r ∷ [])
-written_xorb v w xorbs r before rows table places bytes bytes_on_disk = record {
-  rows = rows ∙ ap (λ n. n + xorb_row_count r) before.rows ∙ sym (sum_by_push xorb_row_count xorbs r);
-  table = table ∙ (λ i. before.table i ++ start_row ((xorb_hash_of r).word0, before.rows i)) ∙ sym (table_bytes-push xorb_records xorbs r);
-  places = places (chunk_places xorbs) before.places
-      ∙ ap (λ n. ascending (chunk_places xorbs ++ places_from n r.chunks)) before.rows ∙ ap ascending (sym (chunk_places-push xorbs r));
+xorb_written v w xorbs r before added chunk_rows bytes bytes_on_disk = record {
+  table = table_of_more xorb_records v.table w.table xorbs r before.table added;
+  chunk_rows = chunk_rows (chunk_table_rows xorbs) before.chunk_rows
+      ∙ ap (λ n. ascending (chunk_table_rows xorbs ++ chunk_table_rows_from n r.chunks)) before.table.rows ∙ ap ascending (sym (chunk_table_rows-push xorbs r));
   bytes = bytes ∙ ap (λ n. n + r.metadata.num_bytes_in_xorb) before.bytes ∙ sym (sum_by_push (λ (x : MDBXorbInfo). x.metadata.num_bytes_in_xorb) xorbs r);
   bytes_on_disk = bytes_on_disk ∙ ap (λ n. n + r.metadata.num_bytes_on_disk) before.bytes_on_disk
       ∙ sym (sum_by_push (λ (x : MDBXorbInfo). x.metadata.num_bytes_on_disk) xorbs r);
 }
+
+-- the rows of a table that is in, or none, and their bytes
+pub rows_of_table : {X : Type 0} (b : Bool) (rows : List X) (n : ℕ) → n ≡ length rows → (if b then n else 0) ≡ length (if_in b rows)
+rows_of_table true rows n is = is
+rows_of_table false rows n is = refl
+
+pub bytes_of_table : {H R : Type 0} (K : RecordKind H R) (b : Bool) (records : List R) → length (if_in b (table_bytes K records)) ≡ 12 * length (if_in b (starts K records))
+bytes_of_table K true records = length-table_bytes K records ∙ ap (λ n. 12 * n) (sym (length-starts K records))
+bytes_of_table K false records = refl
+
+-- header, sections and end are the layout
+pub layout-parts : (files : List MDBFileInfo) (xorbs : List MDBXorbInfo) (form : Form)
+    → ((shard_header_bytes header_value ++ section_bytes file_records files) ++ section_bytes xorb_records xorbs) ++ end_of_layout files xorbs form ≡ layout_of files xorbs form
+unfolding layout_of
+layout-parts files xorbs form = simp (append_assoc)
+
+-- so are they where they were written one after another
+pub whole_layout : (start after_header after_files after_xorbs end : Option (List ℕ)) (files : List MDBFileInfo) (xorbs : List MDBXorbInfo) (form : Form)
+    → Appends start after_header (shard_header_bytes header_value) → Appends after_header after_files (section_bytes file_records files)
+    → Appends after_files after_xorbs (section_bytes xorb_records xorbs) → Appends after_xorbs end (end_of_layout files xorbs form)
+    → Appends start end (layout_of files xorbs form)
+whole_layout start after_header after_files after_xorbs end files xorbs form header file_section xorb_section rest =
+    subst (Appends start end) (layout-parts files xorbs form)
+    (Appends-trans _ after_xorbs _ _ _ (Appends-trans _ after_files _ _ _ (Appends-trans _ after_header _ _ _ header file_section) xorb_section) rest)

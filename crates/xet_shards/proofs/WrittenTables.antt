@@ -26,15 +26,15 @@ use Rattle.xet_shards.specs.declared.shard_format.footer.MDBShardFileFooter.{MDB
 use Rattle.xet_shards.specs.declared.shard_format.info.MDBShardInfo.{MDBShardInfo}
 use Rattle.xet_shards.specs.Shard.{Shard, IsShard}
 use Rattle.xet_shards.specs.Section.{total_rows, with_fronts, section_bytes}
-use Rattle.xet_shards.specs.Tables.{ChunkPlace, hash_in, places_from, chunk_places, chunk_table, start_of, starts, start_row, place_row, table_bytes, chunk_table_bytes}
+use Rattle.xet_shards.specs.Tables.{ChunkTableRow, hash_in, chunk_table_rows_from, chunk_table_rows, chunk_table, start_of, starts, start_row, chunk_table_row_bytes, table_bytes, chunk_table_bytes}
 use Rattle.xet_shards.specs.Layout.{Form, if_in, shard_header_bytes, header_value, shard_footer_bytes, footer_value, layout_of, layout, info_value, plain_form}
 use Rattle.xet_shards.specs.TableReading.{FitsStart, triple_of, triple_row, FitsTriple}
-use Rattle.xet_shards.proofs.ChunkPlaces.{alone, place_of}
+use Rattle.xet_shards.proofs.ChunkTableRows.{alone, chunk_table_row}
 use Rattle.xet_shards.proofs.Layouts.{length-shard_header_bytes}
 use Rattle.xet_shards.proofs.Maps.{All-keys-from_entries}
 use Rattle.xet_shards.proofs.Sections.{FitsSection, xorbs_fit}
 use Rattle.xet_shards.proofs.TableReading.{ReadsOrFails, IsReadAs, whole_table}
-use Rattle.xet_shards.proofs.Tables.{length-starts, place_total}
+use Rattle.xet_shards.proofs.Tables.{length-starts, chunk_table_row_total}
 use Rattle.xet_shards.proofs.XorbLayouts.{keys-alone, length-chunk_table, xorb_rows-chunks}
 
 -- the bytes of a row determine it
@@ -44,8 +44,8 @@ length-start row fits = length-append (u64_bytes row.0) (u32_bytes row.1) ∙ om
 start_told : (a b : ℕ × ℕ) → FitsStart a → FitsStart b → start_row a ≡ start_row b → a ≡ b
 start_told a b a_fits b_fits same =
     let parts = u64_bytes-front a.0 b.0 (u32_bytes a.1) (u32_bytes b.1) a_fits.word b_fits.word same in
-    let start = u32_bytes-injective a.1 b.1 a_fits.start b_fits.start parts.1 in
-    λ i. (parts.0 i, start i)
+    let row = u32_bytes-injective a.1 b.1 a_fits.row_number b_fits.row_number parts.1 in
+    λ i. (parts.0 i, row i)
 
 length-triple : (row : ℕ × (ℕ × ℕ)) → FitsTriple row → length (triple_row row) ≡ 16
 length-triple row fits =
@@ -56,9 +56,9 @@ triple_told : (a b : ℕ × (ℕ × ℕ)) → FitsTriple a → FitsTriple b → 
 triple_told a b a_fits b_fits same =
     let word = u64_bytes-front a.0 b.0 (u32_bytes a.1.0 ++ u32_bytes a.1.1) (u32_bytes b.1.0 ++ u32_bytes b.1.1) a_fits.word b_fits.word
     (sym (append_assoc (u64_bytes a.0) (u32_bytes a.1.0) (u32_bytes a.1.1)) ∙ same ∙ append_assoc (u64_bytes b.0) (u32_bytes b.1.0) (u32_bytes b.1.1)) in
-    let start = u32_bytes-front a.1.0 b.1.0 (u32_bytes a.1.1) (u32_bytes b.1.1) a_fits.start b_fits.start word.1 in
-    let place = u32_bytes-injective a.1.1 b.1.1 a_fits.place b_fits.place start.1 in
-    λ i. (word.0 i, (start.0 i, place i))
+    let row = u32_bytes-front a.1.0 b.1.0 (u32_bytes a.1.1) (u32_bytes b.1.1) a_fits.row_number b_fits.row_number word.1 in
+    let index = u32_bytes-injective a.1.1 b.1.1 a_fits.index b_fits.index row.1 in
+    λ i. (word.0 i, (row.0 i, index i))
 
 -- the rows of a table, if it is in
 rows_in : {X : Type 0} (b : Bool) (row : X → List ℕ) (rows : List X) → if_in b (flat_map row rows) ≡ flat_map row (if_in b rows)
@@ -73,7 +73,7 @@ module _ (files : List MDBFileInfo) (xorbs : List MDBXorbInfo) (form : Form) whe
   abbrev before_tables : List ℕ
   before_tables = before_file_table ++ if_in form.file_table (table_bytes file_records files)
 
-  abbrev after_tables : List ℕ
+  abbrev pub after_tables : List ℕ
   after_tables = shard_footer_bytes (footer_value files xorbs form)
 
   abbrev pub after_file_table : List ℕ
@@ -108,8 +108,33 @@ module _ (files : List MDBFileInfo) (xorbs : List MDBXorbInfo) (form : Form) whe
       rest_is _ (layout_of files xorbs form) before_file_table (if_in form.file_table (table_bytes file_records files) ++ after_file_table) length-before_file_table split_at_file_table
       ∙ ap (λ bs. bs ++ after_file_table) (rows_in form.file_table start_row (starts file_records files))
 
+  abbrev pub after_xorb_table : List ℕ
+  after_xorb_table = if_in form.chunk_table (chunk_table_bytes xorbs) ++ after_tables
+
+  split_at_xorb_table : layout_of files xorbs form ≡ before_tables ++ (if_in form.xorb_table (table_bytes xorb_records xorbs) ++ after_xorb_table)
+  unfolding layout_of
+  split_at_xorb_table = simp (append_assoc)
+
+  pub xorb_table_there : (footer_value files xorbs form).xorb_lookup_offset ≤ length (layout_of files xorbs form)
+  xorb_table_there =
+      omega (arith, ap length split_at_xorb_table, length-append before_tables (if_in form.xorb_table (table_bytes xorb_records xorbs) ++ after_xorb_table), length-before)
+
+  split_at_chunk_table : layout_of files xorbs form
+      ≡ (before_tables ++ if_in form.xorb_table (table_bytes xorb_records xorbs)) ++ (if_in form.chunk_table (chunk_table_bytes xorbs) ++ after_tables)
+  unfolding layout_of
+  split_at_chunk_table = simp (append_assoc)
+
+  pub chunk_table_there : (footer_value files xorbs form).chunk_lookup_offset ≤ length (layout_of files xorbs form)
+  chunk_table_there = omega (
+    arith,
+    ap length split_at_chunk_table,
+    length-append (before_tables ++ if_in form.xorb_table (table_bytes xorb_records xorbs)) (if_in form.chunk_table (chunk_table_bytes xorbs) ++ after_tables),
+    length-append before_tables (if_in form.xorb_table (table_bytes xorb_records xorbs)),
+    length-before,
+  )
+
   pub xorb_table_stands : drop (footer_value files xorbs form).xorb_lookup_offset (layout_of files xorbs form)
-      ≡ flat_map start_row (if_in form.xorb_table (starts xorb_records xorbs)) ++ (if_in form.chunk_table (chunk_table_bytes xorbs) ++ after_tables)
+      ≡ flat_map start_row (if_in form.xorb_table (starts xorb_records xorbs)) ++ after_xorb_table
   unfolding layout_of table_bytes
   xorb_table_stands =
       rest_is _ (layout_of files xorbs form) before_tables _ length-before
@@ -124,11 +149,11 @@ module _ (files : List MDBFileInfo) (xorbs : List MDBXorbInfo) (form : Form) whe
       rest_is _ (layout_of files xorbs form) (before_tables ++ if_in form.xorb_table (table_bytes xorb_records xorbs)) _
       (length-append before_tables (if_in form.xorb_table (table_bytes xorb_records xorbs)) ∙ ap (λ n. n + length (if_in form.xorb_table (table_bytes xorb_records xorbs))) length-before)
       (append_assoc (before_tables ++ if_in form.xorb_table (table_bytes xorb_records xorbs)) (if_in form.chunk_table (chunk_table_bytes xorbs)) after_tables)
-      ∙ ap (λ bs. bs ++ after_tables) (rows_in form.chunk_table place_row (chunk_table xorbs) ∙ sym (flat_map-map triple_row triple_of (if_in form.chunk_table (chunk_table xorbs))))
+      ∙ ap (λ bs. bs ++ after_tables) (rows_in form.chunk_table chunk_table_row_bytes (chunk_table xorbs) ∙ sym (flat_map-map triple_row triple_of (if_in form.chunk_table (chunk_table xorbs))))
 
 -- the numbers of the rows are within their widths
-abbrev FitsPlace : ChunkPlace → Type 0
-FitsPlace p = FitsTriple (triple_of p)
+abbrev FitsTableRow : ChunkTableRow → Type 0
+FitsTableRow p = FitsTriple (triple_of p)
 
 starts_fit : {H R : Type 0} (K : RecordKind H R) (front records : List R) → All (λ r. (hash_in K r).word0 < 2 ^ 64) records → ((r : R) → 0 < K.row_count r)
     → total_rows K front + total_rows K records ≤ 4294967295 → All FitsStart (map (start_of K) (with_fronts front records))
@@ -136,27 +161,27 @@ starts_fit K front [] fit some few = All-nil FitsStart
 starts_fit K front (x ∷ records) fit some few =
     let rest : total_rows K (front ++ x ∷ []) + total_rows K records ≤ 4294967295 = omega (arith, few, sum_by_push K.row_count front x, sum_by-cons K.row_count x records) in
     All-cons FitsStart (start_of K (front, x)) (map (start_of K) (with_fronts (front ++ x ∷ []) records))
-    (record { word = fit 0 x (omega arith); start = omega (arith, few) })
+    (record { word = fit 0 x (omega arith); row_number = omega (arith, few) })
     (starts_fit K (front ++ x ∷ []) records (All-drop (λ r. (hash_in K r).word0 < 2 ^ 64) 1 (x ∷ records) fit) some rest)
 
-chunks_fit : (start n : ℕ) (cs : List XorbChunkSequenceEntry) → All FitsChunk cs → start < 2 ^ 32 → n + length cs ≤ 2 ^ 32
-    → All FitsPlace (map (λ c. place_of start c.0 c.1) (enumerate_from n cs))
-chunks_fit start n [] fit start_fits few = All-nil FitsPlace
-chunks_fit start n (c ∷ cs) fit start_fits few =
+chunks_fit : (row n : ℕ) (cs : List XorbChunkSequenceEntry) → All FitsChunk cs → row < 2 ^ 32 → n + length cs ≤ 2 ^ 32
+    → All FitsTableRow (map (λ c. chunk_table_row row c.0 c.1) (enumerate_from n cs))
+chunks_fit row n [] fit row_fits few = All-nil FitsTableRow
+chunks_fit row n (c ∷ cs) fit row_fits few =
     let here : FitsChunk c = fit 0 c (omega arith) in
-    All-cons FitsPlace (place_of start n c) (map (λ d. place_of start d.0 d.1) (enumerate_from (n + 1) cs))
-    (record { word = here.chunk_hash.word0; start = start_fits; place = omega (arith, few) })
-    (chunks_fit start (n + 1) cs (All-drop FitsChunk 1 (c ∷ cs) fit) start_fits (omega (arith, few)))
+    All-cons FitsTableRow (chunk_table_row row n c) (map (λ d. chunk_table_row row d.0 d.1) (enumerate_from (n + 1) cs))
+    (record { word = here.chunk_hash.word0; row_number = row_fits; index = omega (arith, few) })
+    (chunks_fit row (n + 1) cs (All-drop FitsChunk 1 (c ∷ cs) fit) row_fits (omega (arith, few)))
 
-places_fit : (front xorbs : List MDBXorbInfo) → All FitsXorb xorbs → total_rows xorb_records front + total_rows xorb_records xorbs ≤ 4294967295
-    → All FitsPlace (flat_map (λ e. places_from (total_rows xorb_records e.0) e.1.chunks) (with_fronts front xorbs))
-places_fit front [] fit few = All-nil FitsPlace
-places_fit front (x ∷ xorbs) fit few =
+table_rows_fit : (front xorbs : List MDBXorbInfo) → All FitsXorb xorbs → total_rows xorb_records front + total_rows xorb_records xorbs ≤ 4294967295
+    → All FitsTableRow (flat_map (λ e. chunk_table_rows_from (total_rows xorb_records e.0) e.1.chunks) (with_fronts front xorbs))
+table_rows_fit front [] fit few = All-nil FitsTableRow
+table_rows_fit front (x ∷ xorbs) fit few =
     let here : FitsXorb x = fit 0 x (omega arith) in
     let rest : total_rows xorb_records (front ++ x ∷ []) + total_rows xorb_records xorbs ≤ 4294967295 = omega (arith, few, sum_by_push xorb_row_count front x, sum_by-cons xorb_row_count x xorbs) in
-    All-append FitsPlace (places_from (total_rows xorb_records front) x.chunks) (flat_map (λ e. places_from (total_rows xorb_records e.0) e.1.chunks) (with_fronts (front ++ x ∷ []) xorbs))
+    All-append FitsTableRow (chunk_table_rows_from (total_rows xorb_records front) x.chunks) (flat_map (λ e. chunk_table_rows_from (total_rows xorb_records e.0) e.1.chunks) (with_fronts (front ++ x ∷ []) xorbs))
     (chunks_fit (total_rows xorb_records front) 0 x.chunks here.chunks (omega (arith, few)) (omega (arith, few, sum_by-cons xorb_row_count x xorbs)))
-    (places_fit (front ++ x ∷ []) xorbs (All-drop FitsXorb 1 (x ∷ xorbs) fit) rest)
+    (table_rows_fit (front ++ x ∷ []) xorbs (All-drop FitsXorb 1 (x ∷ xorbs) fit) rest)
 
 -- the tables of a list of xorbs that may be in a section
 module _ (xorbs : List MDBXorbInfo) (fit : All FitsXorb xorbs) (few : total_rows xorb_records xorbs ≤ 4294967295) where
@@ -166,13 +191,13 @@ module _ (xorbs : List MDBXorbInfo) (fit : All FitsXorb xorbs) (few : total_rows
   pub chunk_table_fits : All FitsTriple (map triple_of (chunk_table xorbs))
   chunk_table_fits =
       All-map FitsTriple triple_of (chunk_table xorbs)
-      (All-keys-from_entries place_total FitsPlace (map alone (chunk_places xorbs)) (subst (All FitsPlace) (sym (keys-alone (chunk_places xorbs))) (places_fit [] xorbs fit (omega (arith, few)))))
+      (All-keys-from_entries chunk_table_row_total FitsTableRow (map alone (chunk_table_rows xorbs)) (subst (All FitsTableRow) (sym (keys-alone (chunk_table_rows xorbs))) (table_rows_fit [] xorbs fit (omega (arith, few)))))
 
   few_starts : length (starts xorb_records xorbs) ≤ 4294967295
   few_starts = omega (arith, few, length-starts xorb_records xorbs, xorb_rows-chunks xorbs)
 
-  few_places : length (map triple_of (chunk_table xorbs)) ≤ 4294967295
-  few_places = omega (arith, few, length-map (chunk_table xorbs) triple_of, length-chunk_table xorbs, xorb_rows-chunks xorbs)
+  few_table_rows : length (map triple_of (chunk_table xorbs)) ≤ 4294967295
+  few_table_rows = omega (arith, few, length-map (chunk_table xorbs) triple_of, length-chunk_table xorbs, xorb_rows-chunks xorbs)
 
 -- rows of a table that is in, or none
 in_fits : {X : Type 0} (Fits : X → Type 0) (b : Bool) (rows : List X) → All Fits rows → All Fits (if_in b rows)
@@ -209,7 +234,7 @@ module _ (files : List MDBFileInfo) (xorbs : List MDBXorbInfo) (form : Form) (fi
       let rows = map triple_of (if_in form.chunk_table (chunk_table xorbs)) in
       let same : rows ≡ if_in form.chunk_table (map triple_of (chunk_table xorbs)) = map_in triple_of form.chunk_table (chunk_table xorbs) in
       whole_table triple_row FitsTriple 16 length-triple triple_told old new written.chunk_lookup_offset rows _
-      (subst (λ rs. length rs ≤ 4294967295) (sym same) (in_few form.chunk_table (map triple_of (chunk_table xorbs)) (few_places xorbs widths fits.rows)))
+      (subst (λ rs. length rs ≤ 4294967295) (sym same) (in_few form.chunk_table (map triple_of (chunk_table xorbs)) (few_table_rows xorbs widths fits.rows)))
       (subst (All FitsTriple) (sym same) (in_fits FitsTriple form.chunk_table (map triple_of (chunk_table xorbs)) (chunk_table_fits xorbs widths fits.rows)))
       (ap (drop written.chunk_lookup_offset) are ∙ chunk_table_stands files xorbs form) r
       (subst (λ n. ReadsOrFails triple_row FitsTriple 16 old new written.chunk_lookup_offset n r) (sym (length-map (if_in form.chunk_table (chunk_table xorbs)) triple_of)) read)

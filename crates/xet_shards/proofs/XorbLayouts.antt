@@ -13,11 +13,11 @@ use Rattle.xet_records.specs.declared.xorb_structs.XorbChunkSequenceEntry.{XorbC
 use Rattle.xet_records.specs.FileRecord.{file_records, FitsRecord}
 use Rattle.xet_records.specs.XorbRecord.{xorb_records, xorb_row_count}
 use Rattle.xet_shards.specs.Section.{total_rows, with_fronts, section_bytes}
-use Rattle.xet_shards.specs.Tables.{ChunkPlace, place_cmp, places_from, chunk_places, chunk_table, table_bytes, chunk_table_bytes}
+use Rattle.xet_shards.specs.Tables.{ChunkTableRow, chunk_table_row_cmp, chunk_table_rows_from, chunk_table_rows, chunk_table, table_bytes, chunk_table_bytes}
 use Rattle.xet_shards.specs.Layout.{Form, if_in, shard_header_bytes, shard_footer_bytes, header_value, footer_value, layout_of, plain_form}
-use Rattle.xet_shards.proofs.ChunkPlaces.{alone, place_of}
+use Rattle.xet_shards.proofs.ChunkTableRows.{alone, chunk_table_row}
 use Rattle.xet_shards.proofs.Maps.{IsRising, rising_lower, length-from_entries}
-use Rattle.xet_shards.proofs.Tables.{length-table_bytes, length-place_rows, place_total, place_exact}
+use Rattle.xet_shards.proofs.Tables.{length-table_bytes, length-chunk_table_row_bytes, chunk_table_row_total, chunk_table_row_exact}
 use Rattle.xet_shards.proofs.Layouts.{length-shard_header_bytes, length-file_section, length-xorb_section, length-shard_footer_bytes}
 
 abbrev pub total_chunks : List MDBXorbInfo → ℕ
@@ -29,67 +29,67 @@ xorb_rows-chunks [] = refl
 xorb_rows-chunks (x ∷ xorbs) =
     omega (arith, sum_by-cons xorb_row_count x xorbs, sum_by-cons (λ (r : MDBXorbInfo). length r.chunks) x xorbs, xorb_rows-chunks xorbs)
 
--- the places of the chunks of xorbs that stand after others
-abbrev place_after : List MDBXorbInfo → ℕ × XorbChunkSequenceEntry → ChunkPlace
-place_after front c = place_of (total_rows xorb_records front) c.0 c.1
+-- the rows of the chunk table for the chunks of xorbs that come after others
+abbrev row_after : List MDBXorbInfo → ℕ × XorbChunkSequenceEntry → ChunkTableRow
+row_after front c = chunk_table_row (total_rows xorb_records front) c.0 c.1
 
-abbrev places_of : List MDBXorbInfo × MDBXorbInfo → List ChunkPlace
-places_of e = places_from (total_rows xorb_records e.0) e.1.chunks
+abbrev pub rows_of : List MDBXorbInfo × MDBXorbInfo → List ChunkTableRow
+rows_of e = chunk_table_rows_from (total_rows xorb_records e.0) e.1.chunks
 
-abbrev places_after : List MDBXorbInfo → List MDBXorbInfo → List ChunkPlace
-places_after front xorbs = flat_map places_of (with_fronts front xorbs)
+abbrev pub table_rows_after : List MDBXorbInfo → List MDBXorbInfo → List ChunkTableRow
+table_rows_after front xorbs = flat_map rows_of (with_fronts front xorbs)
 
-length-places : (front xorbs : List MDBXorbInfo) → length (places_after front xorbs) ≡ total_chunks xorbs
-length-places front [] = refl
-length-places front (x ∷ xorbs) =
-    length-append (places_of (front, x)) (places_after (front ++ x ∷ []) xorbs)
+pub length-table_rows_after : (front xorbs : List MDBXorbInfo) → length (table_rows_after front xorbs) ≡ total_chunks xorbs
+length-table_rows_after front [] = refl
+length-table_rows_after front (x ∷ xorbs) =
+    length-append (rows_of (front, x)) (table_rows_after (front ++ x ∷ []) xorbs)
     ∙ omega (
       arith,
-      length-map (enumerate_from 0 x.chunks) (place_after front),
+      length-map (enumerate_from 0 x.chunks) (row_after front),
       length-enumerate_from 0 x.chunks,
-      length-places (front ++ x ∷ []) xorbs,
+      length-table_rows_after (front ++ x ∷ []) xorbs,
       sum_by-cons (λ (r : MDBXorbInfo). length r.chunks) x xorbs,
     )
 
--- from chunk to chunk a place's start and its place in the xorb add up to more, so no two are the same
-abbrev sum_of : ChunkPlace → ℕ
-sum_of p = p.start + p.place
+-- from chunk to chunk the row of the xorb and the index in it add up to more, so no two rows are the same
+abbrev sum_of : ChunkTableRow → ℕ
+sum_of p = p.row + p.index
 
-rising_chunks : (front : List MDBXorbInfo) (n : ℕ) (cs : List XorbChunkSequenceEntry) (rest : List ChunkPlace) → IsRising sum_of (total_rows xorb_records front + n + length cs) rest
-    → IsRising sum_of (total_rows xorb_records front + n) (map (place_after front) (enumerate_from n cs) ++ rest)
+rising_chunks : (front : List MDBXorbInfo) (n : ℕ) (cs : List XorbChunkSequenceEntry) (rest : List ChunkTableRow) → IsRising sum_of (total_rows xorb_records front + n + length cs) rest
+    → IsRising sum_of (total_rows xorb_records front + n) (map (row_after front) (enumerate_from n cs) ++ rest)
 rising_chunks front n [] rest rising = rising_lower sum_of _ _ rest (omega arith) rising
 rising_chunks front n (c ∷ cs) rest rising =
     (omega arith, rising_lower sum_of _ _ _ (omega arith) (rising_chunks front (n + 1) cs rest (rising_lower sum_of _ _ rest (omega arith) rising)))
 
-rising_places : (front xorbs : List MDBXorbInfo) → IsRising sum_of (total_rows xorb_records front) (places_after front xorbs)
-rising_places front [] = tt
-rising_places front (x ∷ xorbs) =
-    let later = places_after (front ++ x ∷ []) xorbs in
-    rising_lower sum_of _ _ (places_of (front, x) ++ later) (omega arith)
-    (rising_chunks front 0 x.chunks later (rising_lower sum_of _ _ later (omega (arith, sum_by_push xorb_row_count front x)) (rising_places (front ++ x ∷ []) xorbs)))
+rising_rows : (front xorbs : List MDBXorbInfo) → IsRising sum_of (total_rows xorb_records front) (table_rows_after front xorbs)
+rising_rows front [] = tt
+rising_rows front (x ∷ xorbs) =
+    let later = table_rows_after (front ++ x ∷ []) xorbs in
+    rising_lower sum_of _ _ (rows_of (front, x) ++ later) (omega arith)
+    (rising_chunks front 0 x.chunks later (rising_lower sum_of _ _ later (omega (arith, sum_by_push xorb_row_count front x)) (rising_rows (front ++ x ∷ []) xorbs)))
 
--- each chunk has one place
-pub length-chunk_places : (xorbs : List MDBXorbInfo) → length (chunk_places xorbs) ≡ total_chunks xorbs
-length-chunk_places xorbs = length-places [] xorbs
+-- each chunk has one row
+pub length-chunk_table_rows : (xorbs : List MDBXorbInfo) → length (chunk_table_rows xorbs) ≡ total_chunks xorbs
+length-chunk_table_rows xorbs = length-table_rows_after [] xorbs
 
-pub keys-alone : (ps : List ChunkPlace) → keys_of (map alone ps) ≡ ps
+pub keys-alone : (ps : List ChunkTableRow) → keys_of (map alone ps) ≡ ps
 keys-alone [] = refl
 keys-alone (p ∷ ps) = ap (λ ks. p ∷ ks) (keys-alone ps)
 
 -- the chunk table has a row for each chunk
 pub length-chunk_table : (xorbs : List MDBXorbInfo) → length (chunk_table xorbs) ≡ total_chunks xorbs
 length-chunk_table xorbs =
-    let rows : List (ChunkPlace × Unit {0}) = map alone (chunk_places xorbs) in
-    let table : FinMap place_cmp (Unit {0}) = from_entries rows in
-    length-map (entries table) (λ (e : ChunkPlace × Unit {0}). e.0)
-    ∙ length-from_entries place_total sum_of (λ p q same. ap sum_of (place_exact p q same)) 0 rows
-    (subst (IsRising sum_of 0) (sym (keys-alone (chunk_places xorbs))) (rising_places [] xorbs))
-    ∙ length-map (chunk_places xorbs) alone
-    ∙ length-chunk_places xorbs
+    let rows : List (ChunkTableRow × Unit {0}) = map alone (chunk_table_rows xorbs) in
+    let table : FinMap chunk_table_row_cmp (Unit {0}) = from_entries rows in
+    length-map (entries table) (λ (e : ChunkTableRow × Unit {0}). e.0)
+    ∙ length-from_entries chunk_table_row_total sum_of (λ p q same. ap sum_of (chunk_table_row_exact p q same)) 0 rows
+    (subst (IsRising sum_of 0) (sym (keys-alone (chunk_table_rows xorbs))) (rising_rows [] xorbs))
+    ∙ length-map (chunk_table_rows xorbs) alone
+    ∙ length-chunk_table_rows xorbs
 
 length-chunk_rows : (xorbs : List MDBXorbInfo) → length (chunk_table_bytes xorbs) ≡ 16 * length (chunk_table xorbs)
 unfolding chunk_table_bytes
-length-chunk_rows xorbs = length-place_rows (chunk_table xorbs)
+length-chunk_rows xorbs = length-chunk_table_row_bytes (chunk_table xorbs)
 
 pub length-chunk_table_bytes : (xorbs : List MDBXorbInfo) → length (chunk_table_bytes xorbs) ≡ 16 * total_chunks xorbs
 length-chunk_table_bytes xorbs = length-chunk_rows xorbs ∙ ap (λ n. 16 * n) (length-chunk_table xorbs)
@@ -98,6 +98,10 @@ length-chunk_table_bytes xorbs = length-chunk_rows xorbs ∙ ap (λ n. 16 * n) (
 length-in : {X : Type 0} (b : Bool) (bytes : List ℕ) (rows : List X) (size : ℕ) → length bytes ≡ size * length rows → length (if_in b bytes) ≡ size * length (if_in b rows)
 length-in true bytes rows size len = len
 length-in false bytes rows size len = omega arith
+
+-- the bytes of the chunk table, if it is in
+pub length-chunks_in : (b : Bool) (xorbs : List MDBXorbInfo) → length (if_in b (chunk_table_bytes xorbs)) ≡ 16 * length (if_in b (chunk_table xorbs))
+length-chunks_in b xorbs = length-in b (chunk_table_bytes xorbs) (chunk_table xorbs) 16 (length-chunk_rows xorbs)
 
 -- header, footer and two bookends have 344 bytes; there are 48 for each row of the records, and in the tables that are
 -- in, 12 for each record and 16 for each chunk
@@ -126,7 +130,7 @@ length-in_form files xorbs form fit =
       length-xorb_section xorbs,
       length-in form.file_table (table_bytes file_records files) files 12 (length-table_bytes file_records files),
       length-in form.xorb_table (table_bytes xorb_records xorbs) xorbs 12 (length-table_bytes xorb_records xorbs),
-      length-in form.chunk_table (chunk_table_bytes xorbs) (chunk_table xorbs) 16 (length-chunk_rows xorbs),
+      length-chunks_in form.chunk_table xorbs,
       length-shard_footer_bytes footer refl,
     )
 

@@ -1,5 +1,5 @@
 -- Loops over `Rc`s of xorbs, and sums over xorbs.
-use Rattle.std.proofs.Common.{◌≡◌, ℕ, ◌*◌, ◌≤◌, List, [], ◌∷◌, ◌++◌, map, Option, Some, None, refl, sym, ap, ◌∙◌, arith}
+use Rattle.std.proofs.Common.{◌≡◌, ℕ, ◌+◌, ◌*◌, ◌^◌, ◌<◌, ◌≤◌, List, [], ◌∷◌, ◌++◌, map, Option, Some, None, refl, sym, ap, ◌∙◌, arith}
 use Rattle.std.specs.Prelude.{All, sum_by}
 use Rattle.std.specs.Borrow.{Bor}
 use Rattle.std.specs.Map.{values_of}
@@ -14,7 +14,7 @@ use Rattle.xet_records.specs.XorbRecord.{xorb_records, xorb_row_count, IsXorb}
 use Rattle.xet_shards.specs.Section.{total_rows}
 use Rattle.xet_shards.specs.Shard.{AreXorbs}
 use Rattle.xet_shards.specs.XorbStore.{shown_xorbs}
-use Rattle.xet_shards.proofs.Walks.{value_turn, value_end, values_push}
+use Rattle.xet_shards.proofs.Walks.{value_turn, value_end, values_push, sum-middle}
 
 module _ {Z : Type 0} where
   abbrev pub owned : List (Rc MDBXorbInfo Z) → List MDBXorbInfo
@@ -51,3 +51,16 @@ pub xorbs_bound : (P : MDBXorbInfo → Type 0) (f : MDBXorbInfo → ℕ) → ((r
 xorbs_bound P f small [] xorbs = omega arith
 xorbs_bound P f small (r ∷ rs) xorbs =
     omega (arith, sum_by-cons f r rs, sum_by-cons xorb_row_count r rs, small r (xorbs 0 r (omega arith)), xorbs_bound P f small rs (All-drop P 1 (r ∷ rs) xorbs))
+
+-- in a loop over their `Rc`s, the sum of such numbers with that of this iteration fits `u64`
+pub sum_fits : {Z : Type 0} (f : MDBXorbInfo → ℕ) → ((r : MDBXorbInfo) → IsXorb r → f r ≤ 4294967295)
+    → (es : List (DataHash × Rc MDBXorbInfo Z)) (before : List (Bor (Rc MDBXorbInfo Z))) (s t : List (Rc MDBXorbInfo Z)) (r : Option (Bor (Rc MDBXorbInfo Z))) (x : Bor (Rc MDBXorbInfo Z))
+    → AreXorbs (shown_xorbs es) → total_rows xorb_records (values_of (shown_xorbs es)) ≤ 4294967295
+    → map deref before ++ s ≡ values_of es → r ≡ Some x → TakesFirst deref s r t → sum_by f (seen before) + f x.now.value < 2 ^ 64
+sum_fits f small es before s t r x xorbs rows whole is step = omega (
+  arith,
+  rows,
+  ap (sum_by f) (seen_turn es before s t r x whole is step),
+  sum-middle f (seen before) (owned t) x.now.value,
+  xorbs_bound IsXorb f small _ (xorb_values _ xorbs),
+)

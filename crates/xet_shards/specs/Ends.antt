@@ -1,10 +1,10 @@
 -- The header and the footer at the ends of a shard's bytes: valid, unsupported, or cut short.
-use Rattle.std.specs.Prelude.{◌≡◌, ◌≢◌, ◌⊎◌, ℕ, ◌+◌, ◌-◌, ◌^◌, ◌<◌, ◌≤◌, List, length, take, drop, All}
+use Rattle.std.specs.Prelude.{◌≡◌, ◌≢◌, ◌⊎◌, ℕ, ◌+◌, ◌-◌, ◌^◌, ◌<◌, ◌≤◌, List, length, take, drop, All, Option, IfSome}
 use Rattle.xet_base.specs.declared.error.CoreError.{CoreError}
 use Rattle.xet_base.specs.Bytes.{u64_bytes}
 use Rattle.xet_base.specs.Hash.{IsHash}
-use Rattle.xet_base.specs.Errors.{IsBareShardVersion, IsEndOfInput}
-use Rattle.xet_base.specs.Source.{Source, DeviceFailure, bytes_left}
+use Rattle.xet_base.specs.Errors.{IsShardVersion, IsBareShardVersion, IsEndOfInput}
+use Rattle.xet_base.specs.Source.{Source, FailedBy, bytes_left}
 use Rattle.xet_shards.specs.declared.shard_format.footer.MDBShardFileFooter.{MDBShardFileFooter}
 use Rattle.xet_shards.specs.declared.shard_format.info.MDBShardInfo.{MDBShardInfo}
 use Rattle.xet_shards.specs.Layout.{header_tag, shard_header_bytes, offsets_of, timestamps_of, sums_of, shard_footer_bytes}
@@ -74,12 +74,13 @@ pub record Loads (old new : Source) (found : MDBShardInfo) : Type 0 where
   pub failures : new.failures ≡ old.failures
   pub ends : HasEnds old.bytes found
 
--- why a read failed: the device failed, the format is unsupported, or the bytes are too few
+-- why a read failed, if the device did not: the format is unsupported, or the bytes are too few
+pub data FormatCase (Unsupported Short : List ℕ → Type 0) (bytes : List ℕ) (e : CoreError) : Type 0 where
+  unsupported_format : IsBareShardVersion e → Unsupported bytes → FormatCase Unsupported Short bytes e
+  too_few_bytes : IsEndOfInput e → Short bytes → FormatCase Unsupported Short bytes e
+
 abbrev pub Refusal : (List ℕ → Type 0) → (List ℕ → Type 0) → List ℕ → Source → Source → CoreError → Type 0
-Refusal Unsupported Short bytes old new e =
-    DeviceFailure old new e
-    ⊎ ((new.failures ≡ old.failures) × IsBareShardVersion e × Unsupported bytes)
-    ⊎ ((new.failures ≡ old.failures) × IsEndOfInput e × Short bytes)
+Refusal Unsupported Short bytes old new e = FailedBy (FormatCase Unsupported Short bytes) old new e
 
 -- the read failed, with at most two seeks and 248 bytes; the offset is unspecified
 pub record LoadFails (old new : Source) (e : CoreError) : Type 0 where
@@ -87,6 +88,13 @@ pub record LoadFails (old new : Source) (e : CoreError) : Type 0 where
   pub seeks : new.seeks ≤ old.seeks + 2
   pub read : new.read ≤ old.read + 248
   pub cause : Refusal IsUnsupported IsTooShort old.bytes old new e
+
+-- an error says that the format is unsupported, or that the input ended, only of such bytes, where they are known
+abbrev pub SaysUnsupported : (List ℕ → Type 0) → Option (List ℕ) → CoreError → Type 0
+SaysUnsupported Unsupported remaining e = IsShardVersion e → IfSome remaining Unsupported
+
+abbrev pub SaysEnd : (List ℕ → Type 0) → Option (List ℕ) → CoreError → Type 0
+SaysEnd Short remaining e = IsEndOfInput e → IfSome remaining Short
 
 -- reading a header or a footer from the current offset on failed, after at most so many bytes; the offset is unspecified
 pub record PartFails (Unsupported Short : List ℕ → Type 0) (most : ℕ) (old new : Source) (e : CoreError) : Type 0 where

@@ -1,18 +1,17 @@
 -- Where the rows of each file stand in a source.
-use Rattle.std.specs.Prelude.{◌≡◌, ◌⊎◌, ℕ, ◌+◌, ◌*◌, ◌^◌, ◌<◌, List, [], map, Option, None, Some, option_map, MatchOption, if◌then◌else◌}
+use Rattle.std.specs.Prelude.{◌≡◌, ◌⊎◌, ℕ, ◌+◌, ◌*◌, ◌^◌, ◌<◌, List, Option, None, Some, option_map, if◌then◌else◌}
 use Rattle.xet_base.specs.declared.error.CoreError.{CoreError}
 use Rattle.xet_base.specs.declared.merklehash.DataHash.{DataHash}
 use Rattle.xet_base.specs.Source.{Source, Takes}
 use Rattle.xet_records.specs.declared.file_structs.header.FileDataSequenceHeader.{FileDataSequenceHeader}
 use Rattle.xet_records.specs.declared.file_structs.rows.FileMetadataExt.{FileMetadataExt}
 use Rattle.xet_records.specs.declared.file_structs.MDBFileInfo.{MDBFileInfo}
-use Rattle.xet_records.specs.Reading.{ReadsBookend}
 use Rattle.xet_records.specs.FileRecord.{has_verification, file_records}
 use Rattle.xet_shards.specs.declared.shard_format.header.MDBShardFileHeader.{MDBShardFileHeader}
-use Rattle.xet_shards.specs.Section.{total_rows, with_fronts}
 use Rattle.xet_shards.specs.Layout.{header_tag, shard_header_bytes}
 use Rattle.xet_shards.specs.Ends.{HasUnsupportedHeader, EndsInHeader, PartFails}
-use Rattle.xet_shards.specs.SectionReading.{TakesSection, TakesNoSection, HasRead, ReadsNext}
+use Rattle.xet_shards.specs.SectionReading.{TakesNoSection}
+use Rattle.xet_shards.specs.SectionWalk.{kept_of, KeepsSection}
 
 -- a file's hash, the place of its first segment and the one after its last, those of its verification rows, and its SHA-256
 abbrev pub FileRanges : Type 0
@@ -34,11 +33,11 @@ ranges_at place r = ranges_after (place + 48) r.metadata r.metadata_ext
 
 -- those of records whose section is at an offset
 abbrev pub file_ranges : ℕ → List MDBFileInfo → List FileRanges
-file_ranges at files = map (λ e. ranges_at (at + 48 * total_rows file_records e.0) e.1) (with_fronts [] files)
+file_ranges at files = kept_of file_records ranges_at at files
 
--- the file section was read through from the source's place on, and these are the ranges of its files
+-- the file section was read through from the source's offset on, and these are the ranges of its files
 abbrev pub TakesRanges : Source → Source → List FileRanges → Type 0
-TakesRanges old new found = (files : List MDBFileInfo) × TakesSection file_records old new files × (found ≡ file_ranges old.at files)
+TakesRanges old new found = KeepsSection file_records ranges_at old new found
 
 -- a shard's header, and after it the file section, were read from the source's place on
 pub record ReadsFileRanges (old new : Source) (found : List FileRanges) : Type 0 where
@@ -56,15 +55,3 @@ FileRangesFail old new e =
     PartFails HasUnsupportedHeader EndsInHeader 48 old new e
     ⊎ ((header : MDBShardFileHeader) × (after_header : Source) × (header.version ≡ 2) × Takes old after_header (shard_header_bytes header)
     × TakesNoSection file_records after_header new e)
-
--- the ranges of the files that were read so far
-pub record HasReadRanges (start now : Source) (found : List FileRanges) (left : ℕ) : Type 0 where
-  pub files : List MDBFileInfo
-  pub read : HasRead file_records start now files left
-  pub ranges : found ≡ file_ranges start.at files
-
--- the bookend was read, or the next record was read through, of which the ranges are kept
-abbrev pub ReadsRanges : Source → Source → ℕ → ℕ → Option FileRanges → Type 0
-ReadsRanges old new left after found =
-    MatchOption found (ReadsBookend file_records (Takes old new))
-    (λ ranges. (file_info : MDBFileInfo) × (ranges ≡ ranges_at old.at file_info) × ReadsNext file_records old new left after file_info)

@@ -8,7 +8,8 @@ use Rattle.xet_records.specs.declared.file_structs.rows.FileMetadataExt.{FileMet
 use Rattle.xet_records.specs.declared.file_structs.MDBFileInfo.{MDBFileInfo}
 use Rattle.xet_records.specs.FileRecord.{flags_of}
 use Rattle.xet_records.specs.Merging.{verified}
-use Rattle.xet_shards.specs.Shard.{Shard}
+use Rattle.xet_shards.specs.Shard.{Shard, IsShard}
+use Rattle.xet_shards.specs.SetOperations.{ShardsAgree}
 
 -- the verification rows of a file, if it has them
 abbrev pub verification_of : MDBFileInfo → Option (List FileVerificationEntry)
@@ -48,3 +49,8 @@ pub record IsJoinOf (IsOne : Shard → Type 0) (c : Shard) : Type 0 where
   pub verification : (q : DataHash) → HasWhatAnyHas IsOne c (verification_under q)
   pub metadata_ext : (q : DataHash) → HasWhatAnyHas IsOne c (metadata_under q)
   pub follows : FollowsParts c
+
+-- a set of shards, each two of which agree
+pub record AgreePairwise (IsOne : Shard → Type 0) : Type 0 where
+  pub shards : (s : Shard) → IsOne s → IsShard s
+  pub pairs : (s t : Shard) → IsOne s → IsOne t → ShardsAgree s t

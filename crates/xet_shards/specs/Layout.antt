@@ -1,7 +1,6 @@
 -- The bytes of a shard: header, sections, tables and footer.
 use Rattle.std.specs.Prelude.{ℕ, ◌+◌, Bool, true, List, [], ◌∷◌, ◌++◌, length, flat_map, sum_by, Option, unwrap_or, if◌then◌else◌}
 use Rattle.std.specs.FinMap.{values}
-use Rattle.xet_base.specs.declared.merklehash.DataHash.{DataHash}
 use Rattle.xet_base.specs.Bytes.{u64_bytes}
 use Rattle.xet_base.specs.Hash.{hash_bytes}
 use Rattle.xet_records.specs.declared.file_structs.MDBFileInfo.{MDBFileInfo}
@@ -11,6 +10,8 @@ use Rattle.xet_records.specs.XorbRecord.{xorb_records}
 use Rattle.xet_shards.specs.declared.shard_format.header.MDBShardFileHeader.{MDBShardFileHeader}
 use Rattle.xet_shards.specs.declared.shard_format.footer.MDBShardFileFooter.{MDBShardFileFooter}
 use Rattle.xet_shards.specs.declared.shard_format.info.MDBShardInfo.{MDBShardInfo}
+-- what a writer chooses beside the records: which tables are in, the key of the chunk hashes and two timestamps
+pub use Rattle.xet_shards.specs.declared.shard_format.form.Form.{Form}
 use Rattle.xet_shards.specs.Shard.{Shard}
 use Rattle.xet_shards.specs.Section.{section_bytes}
 use Rattle.xet_shards.specs.Tables.{starts, chunk_table, table_bytes, chunk_table_bytes}
@@ -64,15 +65,6 @@ default_footer = record {
   footer_offset = 0;
 }
 
--- what a writer chooses beside the records: which tables are in, the key of the chunk hashes and two timestamps
-pub record Form : Type 0 where
-  pub file_table : Bool
-  pub xorb_table : Bool
-  pub chunk_table : Bool
-  pub key : DataHash
-  pub creation : ℕ
-  pub expiry : ℕ
-
 -- something that is in, or nothing
 abbrev pub if_in : {X : Type 0} → Bool → List X → List X
 if_in is_in xs = if is_in then xs else []
@@ -113,6 +105,10 @@ layout_of files xorbs form =
     (((((shard_header_bytes header_value ++ section_bytes file_records files) ++ section_bytes xorb_records xorbs) ++ if_in form.file_table (table_bytes file_records files))
     ++ if_in form.xorb_table (table_bytes xorb_records xorbs)) ++ if_in form.chunk_table (chunk_table_bytes xorbs)) ++ shard_footer_bytes (footer_value files xorbs form)
 
+-- what a reader of these bytes finds in header and footer
+abbrev pub info_of : List MDBFileInfo → List MDBXorbInfo → Form → MDBShardInfo
+info_of files xorbs form = record { header = header_value; metadata = footer_value files xorbs form }
+
 -- all tables, no key, no creation, and an expiry or none
 abbrev pub plain_form : Option ℕ → Form
 plain_form expiry = record {
@@ -128,6 +124,6 @@ plain_form expiry = record {
 abbrev pub layout : Shard → Option ℕ → List ℕ
 layout s expiry = layout_of (values s.files) (values s.xorbs) (plain_form expiry)
 
--- what a reader of these bytes finds in header and footer
+-- what a reader of the bytes of a shard finds in header and footer
 abbrev pub info_value : Shard → Option ℕ → MDBShardInfo
-info_value s expiry = record { header = header_value; metadata = footer_value (values s.files) (values s.xorbs) (plain_form expiry) }
+info_value s expiry = info_of (values s.files) (values s.xorbs) (plain_form expiry)

@@ -25,9 +25,19 @@ sharing K word records = filter (λ r. (hash_in K r).word0 == word) records
 abbrev pub file_table : MDBShardFileFooter → Source → Table
 file_table footer source = table_at source footer.file_lookup_offset footer.file_lookup_num_entry 4
 
--- four bytes spell a number
+-- the xorb table, likewise, and the chunk table, whose rows have two numbers after the word
+abbrev pub xorb_table : MDBShardFileFooter → Source → Table
+xorb_table footer source = table_at source footer.xorb_lookup_offset footer.xorb_lookup_num_entry 4
+
+abbrev pub chunk_lookup_table : MDBShardFileFooter → Source → Table
+chunk_lookup_table footer source = table_at source footer.chunk_lookup_offset footer.chunk_lookup_num_entry 8
+
+-- four bytes spell a number, eight two
 abbrev pub IsNumber : List ℕ → ℕ → Type 0
 IsNumber bytes n = (n < 2 ^ 32) × (bytes ≡ u32_bytes n)
+
+abbrev pub IsPair : List ℕ → ℕ × ℕ → Type 0
+IsPair bytes p = (p.0 < 2 ^ 32) × (p.1 < 2 ^ 32) × (bytes ≡ u32_bytes p.0 ++ u32_bytes p.1)
 
 -- the offset of a row of a section
 abbrev pub row_at : ℕ → ℕ → ℕ
@@ -35,11 +45,11 @@ row_at offset row = offset + 48 * row
 
 -- bytes are at an offset
 abbrev pub StandsAt : List ℕ → ℕ → List ℕ → Type 0
-StandsAt bytes place text = (rest : List ℕ) × (drop place bytes ≡ text ++ rest)
+StandsAt bytes offset text = (rest : List ℕ) × (drop offset bytes ≡ text ++ rest)
 
 -- a record that is at an offset is handed out as `found`
 abbrev pub RecordAt : {H R : Type 0} → RecordKind H R → List ℕ → ℕ → R → Type 0
-RecordAt K bytes place found = ReadsRecord K (StandsAt bytes place) found
+RecordAt K bytes offset found = ReadsRecord K (StandsAt bytes offset) found
 
 -- an error without a text: there is no record where one should be
 abbrev pub IsBareInternalError : CoreError → Type 0
@@ -107,18 +117,27 @@ pub record IndexFinds (t : Table) (key : ℕ) (old new : List ℕ) (count : ℕ)
   pub are_hits : AreHits t key found
   pub written : new ≡ map (λ hit. hit.value) found ++ drop count old
 
--- the records at these rows were read, by at most a seek each
-pub record Visits {H R : Type 0} (K : RecordKind H R) (offset : ℕ) (rows : List ℕ) (old new : Source) : Type 0 where
+-- a call went to a row, by at most so many seeks, and read at most the record there
+pub record Visit {H R : Type 0} (K : RecordKind H R) (most offset row : ℕ) (old new : Source) : Type 0 where
   pub bytes : new.bytes ≡ old.bytes
-  pub seeks : new.seeks ≤ old.seeks + length rows
+  pub seeks : new.seeks ≤ old.seeks + most
+  pub no_fewer : old.seeks ≤ new.seeks
+  pub taken : ℕ
+  pub read : new.read ≤ old.read + taken
+  pub may_take : MayTake K (drop (row_at offset row) old.bytes) taken
+
+-- the records at these rows were read, by at most so many seeks each
+pub record Visits {H R : Type 0} (K : RecordKind H R) (most offset : ℕ) (rows : List ℕ) (old new : Source) : Type 0 where
+  pub bytes : new.bytes ≡ old.bytes
+  pub seeks : new.seeks ≤ old.seeks + most * length rows
   pub no_fewer : old.seeks ≤ new.seeks
   pub taken : List ℕ
   pub may_take : AllZip (λ row n. MayTake K (drop (row_at offset row) old.bytes) n) rows taken
   pub read : new.read ≤ old.read + sum taken
 
 -- the first few of them were
-abbrev pub VisitsSome : {H R : Type 0} → RecordKind H R → ℕ → List ℕ → Source → Source → Type 0
-VisitsSome K offset rows old new = (n : ℕ) × Visits K offset (take n rows) old new
+abbrev pub VisitsSome : {H R : Type 0} → RecordKind H R → ℕ → ℕ → List ℕ → Source → Source → Type 0
+VisitsSome K most offset rows old new = (n : ℕ) × Visits K most offset (take n rows) old new
 
 -- a lookup: the table fits 64 bits, the rows with the first word are found, and records at them read
 pub record LooksUp {H R : Type 0} (K : RecordKind H R) (t : Table) (offset key : ℕ) (old new : Source) (Answer : List ℕ → Type 0) : Type 0 where
@@ -129,7 +148,7 @@ pub record LooksUp {H R : Type 0} (K : RecordKind H R) (t : Table) (offset key :
   pub searched : Source
   pub serves : Serves old searched
   pub bounded : IsSorted t → Bounded t key old searched
-  pub visits : VisitsSome K offset (map (λ hit. hit.value) found) searched new
+  pub visits : VisitsSome K 1 offset (map (λ hit. hit.value) found) searched new
   pub answer : Answer (map (λ hit. hit.value) found)
 
 -- the first record with the hash at one of the rows, or none where each has another
@@ -141,7 +160,7 @@ LookupAnswer {R = R} K bytes offset hash None rows =
 
 -- the records at these rows were read, and none of them has the hash
 pub record Missed {H R : Type 0} (K : RecordKind H R) (offset : ℕ) (hash : DataHash) (rows : List ℕ) (old new : Source) : Type 0 where
-  pub visits : Visits K offset rows old new
+  pub visits : Visits K 1 offset rows old new
   pub serves : Serves old new
   pub others : LookupAnswer K old.bytes offset hash None rows
 
@@ -159,12 +178,16 @@ pub record WithinBounds {H R : Type 0} (K : RecordKind H R) (records : List R) (
   pub seeks : new.seeks ≡ old.seeks + made + more
   pub read : new.read ≤ old.read + (257 + length (sharing K word records) + made) * 12 + length (flat_map K.text (sharing K word records))
 
--- what the search in it costs
-pub record SearchWithinBounds {H R : Type 0} (K : RecordKind H R) (records : List R) (word : ℕ) (old new : Source) : Type 0 where
+-- what a search in a sorted table costs at most, by its rows, how many of them have the key, and the bytes of a row
+pub record SearchCosts (rows hits size : ℕ) (old new : Source) : Type 0 where
   pub made : ℕ
-  pub few : made ≤ (length records + 1) / 128 + length (sharing K word records) / 4 + 8
+  pub few : made ≤ (rows + 1) / 128 + hits / 4 + 8
   pub seeks : new.seeks ≡ old.seeks + made
-  pub read : new.read ≤ old.read + (257 + length (sharing K word records) + made) * 12
+  pub read : new.read ≤ old.read + (257 + hits + made) * size
+
+-- what the search in a table of these records costs
+abbrev pub SearchWithinBounds : {H R : Type 0} → RecordKind H R → List R → ℕ → Source → Source → Type 0
+SearchWithinBounds K records word old new = SearchCosts (length records) (length (sharing K word records)) 12 old new
 
 -- a lookup that gives an answer, and one that gives none: the search was refused, or the record at a row that it found
 abbrev pub Finding : {H R : Type 0} → RecordKind H R → Table → ℕ → DataHash → Source → Source → Option R → Type 0
@@ -180,22 +203,22 @@ abbrev pub AreStarts : {H R : Type 0} → RecordKind H R → List R → ℕ → 
 AreStarts K records word rows =
     ((row : ℕ) → Contains rows row → Contains (starts K records) (word, row)) × ((row : ℕ) → Contains (starts K records) (word, row) → Contains rows row)
 
--- an index lookup on the bytes of a shard: the starts where fewer than eight files share the first word, the
--- collision where eight do; else the device failed
-abbrev pub StartsInShard : Shard → ℕ → List ℕ → ℕ → Type 0
-StartsInShard s word places count =
-    (length (sharing file_records word (values s.files)) < 8) × (count ≡ length (sharing file_records word (values s.files))) × AreStarts file_records (values s.files) word (take count places)
+-- an index lookup in written bytes that have these records and their table: the starts if fewer than eight records share
+-- the first word, the collision if eight do; else the device failed
+abbrev pub StartsAmong : {H R : Type 0} → RecordKind H R → List R → ℕ → List ℕ → ℕ → Type 0
+StartsAmong K records word rows count =
+    (length (sharing K word records) < 8) × (count ≡ length (sharing K word records)) × AreStarts K records word (take count rows)
 
-abbrev pub NoStartsInShard : Shard → ℕ → Source → Source → CoreError → Type 0
-NoStartsInShard s word old new e = DeviceFailure old new e ⊎ ((e ≡ TruncatedHashCollision word) × (8 ≤ length (sharing file_records word (values s.files))))
+abbrev pub NoStartsAmong : {H R : Type 0} → RecordKind H R → List R → ℕ → Source → Source → CoreError → Type 0
+NoStartsAmong K records word old new e = DeviceFailure old new e ⊎ ((e ≡ TruncatedHashCollision word) × (8 ≤ length (sharing K word records)))
 
--- a file lookup on the bytes of a shard: if fewer than eight files share the first word, the map's answer, or
--- an allocation failed, but only if one does, so that a record is read; if eight do, the collision; else the
--- device failed
+-- a record lookup in such bytes gave none: if fewer than eight records share the first word, an allocation failed, but
+-- only if one does, so that a record is read; if eight do, the collision; else the device failed
+abbrev pub NotFoundAmong : {H R : Type 0} → RecordKind H R → List R → DataHash → Source → Source → CoreError → Type 0
+NotFoundAmong K records hash old new e =
+    DeviceFailure old new e ⊎ ((e ≡ OutOfMemory) × (1 ≤ length (sharing K hash.word0 records)) × (length (sharing K hash.word0 records) < 8))
+    ⊎ ((e ≡ TruncatedHashCollision hash.word0) × (8 ≤ length (sharing K hash.word0 records)))
+
+-- a file lookup on the bytes of a shard that gave an answer: fewer than eight files share the first word, and it is the map's
 abbrev pub FoundInShard : Shard → DataHash → Option MDBFileInfo → Type 0
 FoundInShard s hash answer = (length (sharing file_records hash.word0 (values s.files)) < 8) × (answer ≡ get s.files hash)
-
-abbrev pub NotFoundInShard : Shard → DataHash → Source → Source → CoreError → Type 0
-NotFoundInShard s hash old new e =
-    DeviceFailure old new e ⊎ ((e ≡ OutOfMemory) × (1 ≤ length (sharing file_records hash.word0 (values s.files))) × (length (sharing file_records hash.word0 (values s.files)) < 8))
-    ⊎ ((e ≡ TruncatedHashCollision hash.word0) × (8 ≤ length (sharing file_records hash.word0 (values s.files))))

@@ -1,21 +1,19 @@
 -- Reading a lookup table whole: so many rows of one width, in the bytes from a place on.
 use Rattle.std.specs.Prelude.{◌≡◌, ◌⊎◌, ℕ, ◌+◌, ◌*◌, ◌^◌, ◌<◌, ◌≤◌, List, ◌++◌, length, flat_map, drop, All}
 use Rattle.xet_base.specs.declared.error.CoreError.{CoreError}
-use Rattle.xet_base.specs.declared.error.CoreError.TheVariants.{OutOfMemory}
 use Rattle.xet_base.specs.Bytes.{u32_bytes, u64_bytes}
-use Rattle.xet_base.specs.Errors.{IsEndOfInput}
-use Rattle.xet_base.specs.Source.{Source, Takes, DeviceFailure}
+use Rattle.xet_base.specs.Source.{Source, Takes, FailedBy, ReadCase}
 use Rattle.xet_base.specs.Table.{IsBareInvalidShard}
-use Rattle.xet_shards.specs.Tables.{ChunkPlace}
+use Rattle.xet_shards.specs.Tables.{ChunkTableRow}
 
 -- the widths of the numbers of a row of the file table or the xorb table: a word and a row number
 pub record FitsStart (row : ℕ × ℕ) : Type 0 where
   pub word : row.0 < 2 ^ 64
-  pub start : row.1 < 2 ^ 32
+  pub row_number : row.1 < 2 ^ 32
 
--- a row of the chunk table as a tuple of its numbers: the word, the xorb's start and the place in the xorb
-abbrev pub triple_of : ChunkPlace → ℕ × (ℕ × ℕ)
-triple_of row = (row.word, (row.start, row.place))
+-- a row of the chunk table as a tuple of its numbers: the word, the row at which the xorb starts and the index in the xorb
+abbrev pub triple_of : ChunkTableRow → ℕ × (ℕ × ℕ)
+triple_of row = (row.word, (row.row, row.index))
 
 -- its bytes, and the widths of its numbers
 abbrev pub triple_row : ℕ × (ℕ × ℕ) → List ℕ
@@ -23,8 +21,8 @@ triple_row row = (u64_bytes row.0 ++ u32_bytes row.1.0) ++ u32_bytes row.1.1
 
 pub record FitsTriple (row : ℕ × (ℕ × ℕ)) : Type 0 where
   pub word : row.0 < 2 ^ 64
-  pub start : row.1.0 < 2 ^ 32
-  pub place : row.1.1 < 2 ^ 32
+  pub row_number : row.1.0 < 2 ^ 32
+  pub index : row.1.1 < 2 ^ 32
 
 -- the next row was read
 pub record ReadsNextRow {T : Type 0} (row_bytes : T → List ℕ) (Fits : T → Type 0) (size : ℕ) (old new : Source) (row : T) : Type 0 where
@@ -46,10 +44,7 @@ pub record ReadsTable {T : Type 0} (row_bytes : T → List ℕ) (Fits : T → Ty
 -- why a table of so many bytes was not read from an offset on: the device failed, an allocation failed, or the bytes
 -- end before the table does
 abbrev pub RowsFailure : Source → Source → ℕ → ℕ → CoreError → Type 0
-RowsFailure old new at size e =
-    DeviceFailure old new e
-    ⊎ ((new.failures ≡ old.failures) × (e ≡ OutOfMemory))
-    ⊎ ((new.failures ≡ old.failures) × IsEndOfInput e × (length (drop at old.bytes) < size))
+RowsFailure old new at size e = FailedBy (ReadCase (length (drop at old.bytes) < size)) old new e
 
 -- the rows were not read: they are more than 4294967295, which is found before the seek, or a seek and reads did
 -- not give them; the place is open

@@ -1,4 +1,4 @@
--- The lookup tables: where the records with a hash's first word start, and where the chunks with one stand.
+-- The lookup tables: the rows at which the records with a hash's first word start, and the chunks with one.
 use Rattle.std.specs.Prelude.{ℕ, List, [], ◌++◌, map, filter, flat_map}
 use Rattle.std.specs.List.{enumerate_from}
 use Rattle.std.specs.Ordering.{is_lt, nat_cmp, ordering_then}
@@ -11,7 +11,7 @@ use Rattle.xet_records.specs.XorbRecord.{xorb_records}
 use Rattle.xet_records.specs.RecordKind.{RecordKind}
 use Rattle.xet_records.specs.declared.xorb_structs.MDBXorbInfo.{MDBXorbInfo}
 use Rattle.xet_records.specs.declared.xorb_structs.XorbChunkSequenceEntry.{XorbChunkSequenceEntry}
-pub use Rattle.xet_shards.specs.declared.shard_format.xorb_writer.ChunkPlace.{ChunkPlace}
+pub use Rattle.xet_shards.specs.declared.shard_format.xorb_writer.ChunkTableRow.{ChunkTableRow}
 use Rattle.xet_shards.specs.Section.{with_fronts, total_rows}
 
 -- the hash of a record
@@ -30,35 +30,36 @@ starts K records = map (start_of K) (with_fronts [] records)
 abbrev pub records_below : {H R : Type 0} → RecordKind H R → DataHash → List R → List R
 records_below K q records = filter (λ r. is_lt (hash_cmp (hash_in K r) q)) records
 
--- where chunks stand: by the first word of the hash, then by where the xorb starts, then by the place in the xorb
-abbrev pub place_cmp : ChunkPlace → ChunkPlace → Ordering
-place_cmp a b = ordering_then (nat_cmp a.word b.word) (ordering_then (nat_cmp a.start b.start) (nat_cmp a.place b.place))
+-- the order of the chunk table: by the first word of the hash, then by the row at which the xorb starts, then by the index
+-- in the xorb
+abbrev pub chunk_table_row_cmp : ChunkTableRow → ChunkTableRow → Ordering
+chunk_table_row_cmp a b = ordering_then (nat_cmp a.word b.word) (ordering_then (nat_cmp a.row b.row) (nat_cmp a.index b.index))
 
--- the places of the chunks of a xorb that starts at a row
-abbrev pub places_from : ℕ → List XorbChunkSequenceEntry → List ChunkPlace
-places_from start chunks = map (λ c. record { word = c.1.chunk_hash.word0; start = start; place = c.0 }) (enumerate_from 0 chunks)
+-- the rows of the chunk table for the chunks of a xorb that starts at a row
+abbrev pub chunk_table_rows_from : ℕ → List XorbChunkSequenceEntry → List ChunkTableRow
+chunk_table_rows_from row chunks = map (λ c. record { word = c.1.chunk_hash.word0; row = row; index = c.0 }) (enumerate_from 0 chunks)
 
--- the places of a list of xorbs, in section order
-abbrev pub chunk_places : List MDBXorbInfo → List ChunkPlace
-chunk_places xorbs = flat_map (λ e. places_from (total_rows xorb_records e.0) e.1.chunks) (with_fronts [] xorbs)
+-- those for all chunks of a list of xorbs, in section order
+abbrev pub chunk_table_rows : List MDBXorbInfo → List ChunkTableRow
+chunk_table_rows xorbs = flat_map (λ e. chunk_table_rows_from (total_rows xorb_records e.0) e.1.chunks) (with_fronts [] xorbs)
 
--- places in ascending order: the keys of the finite map that has each of them
-abbrev pub ascending : List ChunkPlace → List ChunkPlace
-ascending places = finite.keys (finite.from_entries {R = place_cmp} (map (λ p. (p, tt {0})) places))
+-- rows in ascending order: the keys of the finite map that has each of them
+abbrev pub ascending : List ChunkTableRow → List ChunkTableRow
+ascending rows = finite.keys (finite.from_entries {R = chunk_table_row_cmp} (map (λ row. (row, tt {0})) rows))
 
-abbrev pub chunk_table : List MDBXorbInfo → List ChunkPlace
-chunk_table xorbs = ascending (chunk_places xorbs)
+abbrev pub chunk_table : List MDBXorbInfo → List ChunkTableRow
+chunk_table xorbs = ascending (chunk_table_rows xorbs)
 
 -- the bytes of a row
 abbrev pub start_row : ℕ × ℕ → List ℕ
 start_row row = u64_bytes row.0 ++ u32_bytes row.1
 
-abbrev pub place_row : ChunkPlace → List ℕ
-place_row row = (u64_bytes row.word ++ u32_bytes row.start) ++ u32_bytes row.place
+abbrev pub chunk_table_row_bytes : ChunkTableRow → List ℕ
+chunk_table_row_bytes row = (u64_bytes row.word ++ u32_bytes row.row) ++ u32_bytes row.index
 
 -- the bytes of the tables
 unfoldable pub table_bytes : {H R : Type 0} → RecordKind H R → List R → List ℕ
 table_bytes K records = flat_map start_row (starts K records)
 
 unfoldable pub chunk_table_bytes : List MDBXorbInfo → List ℕ
-chunk_table_bytes xorbs = flat_map place_row (chunk_table xorbs)
+chunk_table_bytes xorbs = flat_map chunk_table_row_bytes (chunk_table xorbs)

@@ -4,16 +4,16 @@ use Rattle.std.specs.Prelude.{◌≡◌, ◌⊎◌, ℕ, ◌+◌, ◌*◌, ◌<�
 use Rattle.xet_base.specs.declared.error.CoreError.{CoreError}
 use Rattle.xet_base.specs.Source.{Source, Takes, advanced, moved, bytes_left}
 use Rattle.xet_records.specs.declared.xorb_structs.MDBXorbInfo.{MDBXorbInfo}
-use Rattle.xet_records.specs.Reading.{ReadsBookend}
+use Rattle.xet_records.specs.Reading.{ReadsBookend, HasRead}
 use Rattle.xet_records.specs.XorbRecord.{xorb_records}
 use Rattle.xet_shards.specs.Section.{total_rows, with_fronts}
-use Rattle.xet_shards.specs.Tables.{chunk_places}
+use Rattle.xet_shards.specs.Tables.{chunk_table_rows}
 use Rattle.xet_shards.specs.TableReading.{triple_of}
-use Rattle.xet_shards.specs.SectionReading.{HoldsRecords, BeginsWithBookend, PassesLimit, EndsEarly, SectionFailure, HasRead, ReadsNext, rows_left}
+use Rattle.xet_shards.specs.SectionReading.{HoldsRecords, BeginsWithBookend, PassesLimit, EndsEarly, SectionFailure, ReadsNext, rows_left}
 
 -- the rows that a chunk table would have for these xorbs, in section order
 abbrev pub hashes_of : List MDBXorbInfo → List (ℕ × (ℕ × ℕ))
-hashes_of xorbs = map triple_of (chunk_places xorbs)
+hashes_of xorbs = map triple_of (chunk_table_rows xorbs)
 
 -- each of the xorbs, the first of which is at an offset, starts before the stop
 abbrev pub StartBefore : ℕ → ℕ → List MDBXorbInfo → Type 0
@@ -56,7 +56,7 @@ pub record HashesFail (old new : Source) (at stop : ℕ) (e : CoreError) : Type 
 -- the hashes that were read so far
 pub record HasReadHashes (stop : ℕ) (start now : Source) (found : List (ℕ × (ℕ × ℕ))) (left : ℕ) : Type 0 where
   pub xorbs : List MDBXorbInfo
-  pub read : HasRead xorb_records start now xorbs left
+  pub read : HasRead xorb_records (Takes start now) xorbs left
   pub before : StartBefore start.at stop xorbs
   pub hashes : found ≡ hashes_of xorbs
 

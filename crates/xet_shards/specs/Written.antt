@@ -1,24 +1,50 @@
--- What is gathered while a section is written.
-use Rattle.std.specs.Prelude.{◌≡◌, List, sum_by}
+-- What is gathered while a section is written, and what is written after the sections.
+use Rattle.std.specs.Prelude.{◌≡◌, ℕ, ◌+◌, List, ◌++◌, length, sum_by}
 use Rattle.xet_records.specs.declared.file_structs.MDBFileInfo.{MDBFileInfo}
 use Rattle.xet_records.specs.declared.xorb_structs.MDBXorbInfo.{MDBXorbInfo}
-use Rattle.xet_records.specs.FileRecord.{file_records, size_of_file}
+use Rattle.xet_records.specs.RecordKind.{RecordKind}
+use Rattle.xet_records.specs.FileRecord.{file_records, row_count, size_of_file}
 use Rattle.xet_records.specs.XorbRecord.{xorb_records}
-use Rattle.xet_shards.specs.declared.shard_format.file_writer.WrittenFiles.{WrittenFiles}
-use Rattle.xet_shards.specs.declared.shard_format.xorb_writer.WrittenXorbs.{WrittenXorbs}
+use Rattle.xet_shards.specs.declared.shard_format.written.RecordTable.{RecordTable}
+use Rattle.xet_shards.specs.declared.shard_format.written.WrittenFiles.{WrittenFiles}
+use Rattle.xet_shards.specs.declared.shard_format.written.WrittenXorbs.{WrittenXorbs}
+use Rattle.xet_shards.specs.Shard.{file_hash_of}
 use Rattle.xet_shards.specs.Section.{total_rows}
-use Rattle.xet_shards.specs.Tables.{table_bytes, chunk_table}
+use Rattle.xet_shards.specs.Tables.{start_row, table_bytes, chunk_table, chunk_table_bytes}
+use Rattle.xet_shards.specs.Layout.{Form, if_in, footer_value, shard_footer_bytes}
 
--- the rows, the table and the bytes of these files
+-- the second table is the first with the row of one more record, which has this word and so many rows
+pub record AddsRecord (before after : RecordTable) (word more : ℕ) : Type 0 where
+  pub records : after.records ≡ before.records + 1
+  pub rows : after.rows ≡ before.rows + more
+  pub bytes : after.bytes.items ≡ before.bytes.items ++ start_row (word, before.rows)
+
+-- the number, the rows and the table of these records
+pub record IsTableOf {H R : Type 0} (K : RecordKind H R) (table : RecordTable) (stored : List R) : Type 0 where
+  pub records : table.records ≡ length stored
+  pub rows : table.rows ≡ total_rows K stored
+  pub bytes : table.bytes.items ≡ table_bytes K stored
+
+-- a file with this first word of its hash, so many rows and so many bytes
+pub record IsFileOf (first total size : ℕ) (file : MDBFileInfo) : Type 0 where
+  pub word : (file_hash_of file).word0 ≡ first
+  pub rows : row_count file ≡ total
+  pub bytes : size_of_file file ≡ size
+
+-- the table and the bytes of these files
 pub record HasWritten (w : WrittenFiles) (files : List MDBFileInfo) : Type 0 where
-  pub rows : w.rows ≡ total_rows file_records files
-  pub table : w.table.items ≡ table_bytes file_records files
+  pub table : IsTableOf file_records w.table files
   pub bytes : w.materialized_bytes ≡ sum_by size_of_file files
 
--- the rows, the table, the places of the chunks and the bytes of these xorbs
+-- the table, the rows of the chunk table and the bytes of these xorbs
 pub record HasWrittenXorbs (w : WrittenXorbs) (xorbs : List MDBXorbInfo) : Type 0 where
-  pub rows : w.rows ≡ total_rows xorb_records xorbs
-  pub table : w.table.items ≡ table_bytes xorb_records xorbs
-  pub places : w.places.keys ≡ chunk_table xorbs
+  pub table : IsTableOf xorb_records w.table xorbs
+  pub chunk_rows : w.chunk_rows.keys ≡ chunk_table xorbs
   pub bytes : w.stored_bytes ≡ sum_by (λ x. x.metadata.num_bytes_in_xorb) xorbs
   pub bytes_on_disk : w.stored_bytes_on_disk ≡ sum_by (λ x. x.metadata.num_bytes_on_disk) xorbs
+
+-- the bytes of a layout after its sections: the tables that are in, and the footer
+abbrev pub end_of_layout : List MDBFileInfo → List MDBXorbInfo → Form → List ℕ
+end_of_layout files xorbs form =
+    ((if_in form.file_table (table_bytes file_records files) ++ if_in form.xorb_table (table_bytes xorb_records xorbs))
+    ++ if_in form.chunk_table (chunk_table_bytes xorbs)) ++ shard_footer_bytes (footer_value files xorbs form)

@@ -3,4 +3,6 @@
 
 pub mod shard_format;
 pub mod shard_in_memory;
+pub mod shard_writer;
+pub mod streaming_shard;
 pub mod utils;

@@ -1,17 +1,25 @@
 //! Shards as bytes: header, footer, writing and reading.
 
+mod chunk_query;
 mod file_lookup;
 mod file_ranges;
 mod file_writer;
 mod footer;
 mod footer_facts;
+pub(crate) mod form;
 mod header;
 mod info;
+mod record_table;
+mod run_reader;
 mod section_reader;
+mod section_walk;
 mod table_reader;
+mod table_search;
 mod truncated_hashes;
-mod writer;
-mod xorb_writer;
+pub(crate) mod writer;
+pub(crate) mod written;
+mod xorb_lookup;
+pub(crate) mod xorb_writer;
 
 pub use footer::MDBShardFileFooter;
 pub use header::MDBShardFileHeader;

@@ -1,8 +1,9 @@
 //! Shards in memory.
 
-ghost use Rattle.std.specs.Prelude.{◌≡◌, ◌≤◌, ◌↔◌, ◌⊎◌, [], ◌∷◌, Contains, length, sum_by, OnOk, OnErr, IfOk, IfErr, IsErrOf, IsTrue, None};
+ghost use Rattle.std.specs.Prelude.{◌≡◌, ◌<◌, ◌≤◌, ◌↔◌, [], ◌∷◌, Contains, length, sum_by, OnOk, OnErr, IfOk, IfErr, IsTrue, MatchResult, None};
 ghost use Rattle.std.specs.FinMap as finite;
 ghost use Rattle.xet_base.specs.declared.merklehash.DataHash.{DataHash};
+ghost use Rattle.xet_base.specs.Errors.{Admits};
 ghost use Rattle.xet_records.specs.FileRecord.{file_records, size_of_file, IsWellFormed};
 ghost use Rattle.xet_records.specs.XorbRecord.{xorb_records, IsXorb};
 ghost use Rattle.xet_shards.specs.Section.{total_rows};
@@ -80,21 +81,12 @@ impl MDBInMemoryShard {
     pub fn add_xorb_block(&mut self, alloc: Global, xorb_block: MDBXorbInfo) -> Result<()>
         ensures ok { OnOk result (self.new.content ≡ add_xorb self.old.content xorb_block) }
         ensures err { OnErr result (self.new ≡ self.old) }
-        ensures admitted { OnOk result (CanAddXorb self.old.content xorb_block) }
-        ensures refused { IsErrOf result CoreError.InvalidArguments
-            → ¬ CanAddXorb self.old.content xorb_block }
-        ensures invalid { ¬ CanAddXorb self.old.content xorb_block
-            → IsErrOf result CoreError.InvalidArguments }
-        ensures causes { IfErr result
-            (λ e. (e ≡ CoreError.InvalidArguments) ⊎ (e ≡ CoreError.OutOfMemory)) }
+        ensures admitted { Admits (CanAddXorb self.old.content xorb_block) result }
     {
         if !xorb_store::is_well_formed(&xorb_block) {
             return Err(CoreError::InvalidArguments);
         }
-        let rows = self.rows_with_xorb(&xorb_block);
-        if rows > u64::from(u32::MAX) {
-            return Err(CoreError::InvalidArguments);
-        }
+        let rows = within_limit(self.rows_with_xorb(&xorb_block))?;
         self.xorbs.put(alloc, Rc::new(alloc, xorb_block)?)?;
         self.xorb_rows = rows;
         Ok(())
@@ -121,21 +113,12 @@ impl MDBInMemoryShard {
         ensures ok { OnOk result (self.new.content ≡ add_file self.old.content file_info) }
         ensures locations { self.new.locations ≡ self.old.locations }
         ensures err { OnErr result (self.new ≡ self.old) }
-        ensures admitted { OnOk result (CanAddFile self.old.content file_info) }
-        ensures refused { IsErrOf result CoreError.InvalidArguments
-            → ¬ CanAddFile self.old.content file_info }
-        ensures invalid { ¬ CanAddFile self.old.content file_info
-            → IsErrOf result CoreError.InvalidArguments }
-        ensures causes { IfErr result
-            (λ e. (e ≡ CoreError.InvalidArguments) ⊎ (e ≡ CoreError.OutOfMemory)) }
+        ensures admitted { Admits (CanAddFile self.old.content file_info) result }
     {
         if !file_store::is_well_formed(&file_info) {
             return Err(CoreError::InvalidArguments);
         }
-        let rows = self.rows_with_file(&file_info);
-        if rows > u64::from(u32::MAX) {
-            return Err(CoreError::InvalidArguments);
-        }
+        let rows = within_limit(self.rows_with_file(&file_info))?;
         self.files.put(file_info)?;
         self.file_rows = rows;
         Ok(())
@@ -199,13 +182,7 @@ impl MDBInMemoryShard {
         ensures join { ShardsAgree self.now.content other.now.content
             → IfOk result
             (λ s. IsJoinOf (Contains (self.now.content ∷ other.now.content ∷ [])) s.content) }
-        ensures admitted { OnOk result (CanUnite self.now.content other.now.content) }
-        ensures refused { IsErrOf result CoreError.InvalidArguments
-            → ¬ CanUnite self.now.content other.now.content }
-        ensures invalid { ¬ CanUnite self.now.content other.now.content
-            → IsErrOf result CoreError.InvalidArguments }
-        ensures causes { IfErr result
-            (λ e. (e ≡ CoreError.InvalidArguments) ⊎ (e ≡ CoreError.OutOfMemory)) }
+        ensures admitted { Admits (CanUnite self.now.content other.now.content) result }
     {
         if !self.can_unite(other) {
             return Err(CoreError::InvalidArguments);
@@ -356,4 +333,16 @@ impl MDBInMemoryShard {
         let chunks = self.xorb_rows - xorbs;
         344 + 48 * (self.file_rows + self.xorb_rows) + 12 * (files + xorbs) + 16 * chunks
     }
+}
+
+// This number of rows, which fits `u32`, or `InvalidArguments`.
+fn within_limit(rows: u64) -> Result<u64>
+    ensures { MatchResult result
+        (λ n. (n ≡ rows) × (rows ≤ 4294967295))
+        (λ e. (e ≡ CoreError.InvalidArguments) × (4294967295 < rows)) }
+{
+    if rows > u64::from(u32::MAX) {
+        return Err(CoreError::InvalidArguments);
+    }
+    Ok(rows)
 }

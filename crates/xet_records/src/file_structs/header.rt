@@ -1,12 +1,10 @@
 //! The header row of a file record.
 
-ghost use Rattle.std.specs.Prelude.{◌≡◌, ◌^◌, ◌<◌, ◌↔◌, if◌then◌else◌, IsTrue, OnOk, IfOk, IfErr};
-ghost use Rattle.std.specs.Io.KnownBytes.{Appends, Consumes};
-ghost use Rattle.std.specs.IoError.{error_kind};
-ghost use Rattle.xet_base.specs.Bytes.{HasBytes, LacksBytes};
+ghost use Rattle.std.specs.Prelude.{◌≡◌, ◌^◌, ◌<◌, ◌↔◌, if◌then◌else◌, IsTrue, IfOk, MatchResult};
 ghost use Rattle.xet_base.specs.Hash.{all_ones};
 ghost use Rattle.xet_records.specs.FileRow.{header_row, FitsHeader};
 ghost use Rattle.xet_records.specs.FileRecord.{has_verification, has_metadata_ext, flags_of, file_bookend, rows_after};
+ghost use Rattle.xet_records.specs.Rows.{WritesRow, ReadsWhole, LacksRow};
 ghost use Rattle.xet_records.specs.Merging.{Compares, IsSameFile};
 
 use super::{
@@ -15,7 +13,7 @@ use super::{
 };
 use crate::rows::{Row, read_row, write_row};
 use std::io;
-use std::io::{ErrorKind, Read, Write};
+use std::io::{Read, Write};
 use xet_base::merklehash::MerkleHash;
 use xet_base::row::{put_hash, put_u32, put_u64, split_hash, split_u32, split_u64};
 
@@ -75,28 +73,6 @@ impl FileDataSequenceHeader {
         self.file_hash == MerkleHash::from([u64::MAX; 4])
     }
 
-    /// Appends the row and returns its 48 bytes. The error is the writer's.
-    pub fn serialize<W: Write>(&self, writer: &mut W) -> io::Result<usize>
-        ensures text { OnOk result
-            (Appends (W.contents writer.old) (W.contents writer.new) (header_row self.now)) }
-        ensures count { IfOk result (λ n. n ≡ 48) }
-    {
-        write_row(self, writer)?;
-        Ok(MDB_FILE_INFO_ENTRY_SIZE)
-    }
-
-    /// Reads the row with all its fields. `UnexpectedEof` if fewer than 48 bytes are left.
-    pub fn deserialize<R: Read>(reader: &mut R) -> io::Result<Self>
-        ensures value { IfOk result
-            (λ row. Consumes (R.remaining reader.old) (R.remaining reader.new) (header_row row)) }
-        ensures widths { IfOk result FitsHeader }
-        ensures enough { OnOk result (HasBytes (R.remaining reader.old) 48) }
-        ensures end { IfErr result
-            (λ e. error_kind e ≡ ErrorKind.UnexpectedEof → LacksBytes (R.remaining reader.old) 48) }
-    {
-        read_row(reader)
-    }
-
     /// Whether each segment has a verification row.
     #[tactic(auto, using(crate::proofs::Flags::verification_masked))]
     pub fn contains_verification(&self) -> bool
@@ -111,6 +87,24 @@ impl FileDataSequenceHeader {
         ensures { result ≡ has_metadata_ext self.now.file_flags }
     {
         self.file_flags & MDB_FILE_FLAG_METADATA_EXT_MASK != 0
+    }
+
+    /// Appends the row and returns its 48 bytes. The error is the writer's.
+    pub fn serialize<W: Write>(&self, writer: &mut W) -> io::Result<usize>
+        ensures { IfOk result
+            (WritesRow (W.contents writer.old) (W.contents writer.new) (header_row self.now)) }
+    {
+        write_row(self, writer)?;
+        Ok(MDB_FILE_INFO_ENTRY_SIZE)
+    }
+
+    /// Reads the row with all its fields. `UnexpectedEof` if fewer than 48 bytes are left.
+    pub fn deserialize<R: Read>(reader: &mut R) -> io::Result<Self>
+        ensures { MatchResult result
+            (ReadsWhole header_row FitsHeader (R.remaining reader.old) (R.remaining reader.new))
+            (LacksRow (R.remaining reader.old)) }
+    {
+        read_row(reader)
     }
 
     /// The number of rows after the header. Requires that it fits `u32`.

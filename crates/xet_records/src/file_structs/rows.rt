@@ -1,18 +1,15 @@
 //! The rows of a file record after its header.
 
-ghost use Rattle.std.specs.Prelude.{◌≡◌, ◌^◌, ◌<◌, [], ◌∷◌, length, OnOk, IfOk, IfErr};
-ghost use Rattle.std.specs.Io.KnownBytes.{Appends, Consumes};
-ghost use Rattle.std.specs.IoError.{error_kind};
-ghost use Rattle.xet_base.specs.Bytes.{HasBytes, LacksBytes};
+ghost use Rattle.std.specs.Prelude.{◌≡◌, ◌^◌, ◌<◌, [], ◌∷◌, length, IfOk, MatchResult};
 ghost use Rattle.xet_records.specs.FileRow.{segment_row, verification_row, metadata_row, FitsSegment, FitsVerification, FitsMetadata, clear_verification, clear_metadata};
 ghost use Rattle.xet_records.specs.XorbRecord.{total_bytes, segment_of};
-ghost use Rattle.xet_records.specs.Rows.{ReadsRow};
+ghost use Rattle.xet_records.specs.Rows.{WritesRow, ReadsWhole, ReadsCleared, LacksRow};
 
 use super::{MDB_DEFAULT_FILE_FLAG, MDB_FILE_INFO_ENTRY_SIZE};
 use crate::rows::{Row, read_row, write_row};
 use crate::xorb_structs::{XorbChunkSequenceEntry, XorbChunkSequenceHeader};
 use std::io;
-use std::io::{ErrorKind, Read, Write};
+use std::io::{Read, Write};
 use xet_base::merklehash::{MerkleHash, Sha256};
 use xet_base::row::{put_hash, put_u32, put_u64, split_hash, split_u32, split_u64};
 
@@ -77,9 +74,8 @@ impl FileDataSequenceEntry {
 
     /// Appends the row and returns its 48 bytes. The error is the writer's.
     pub fn serialize<W: Write>(&self, writer: &mut W) -> io::Result<usize>
-        ensures text { OnOk result
-            (Appends (W.contents writer.old) (W.contents writer.new) (segment_row self.now)) }
-        ensures count { IfOk result (λ n. n ≡ 48) }
+        ensures { IfOk result
+            (WritesRow (W.contents writer.old) (W.contents writer.new) (segment_row self.now)) }
     {
         write_row(self, writer)?;
         Ok(MDB_FILE_INFO_ENTRY_SIZE)
@@ -87,12 +83,9 @@ impl FileDataSequenceEntry {
 
     /// Reads the row with all its fields. `UnexpectedEof` if fewer than 48 bytes are left.
     pub fn deserialize<R: Read>(reader: &mut R) -> io::Result<Self>
-        ensures value { IfOk result
-            (λ row. Consumes (R.remaining reader.old) (R.remaining reader.new) (segment_row row)) }
-        ensures widths { IfOk result FitsSegment }
-        ensures enough { OnOk result (HasBytes (R.remaining reader.old) 48) }
-        ensures end { IfErr result
-            (λ e. error_kind e ≡ ErrorKind.UnexpectedEof → LacksBytes (R.remaining reader.old) 48) }
+        ensures { MatchResult result
+            (ReadsWhole segment_row FitsSegment (R.remaining reader.old) (R.remaining reader.new))
+            (LacksRow (R.remaining reader.old)) }
     {
         read_row(reader)
     }
@@ -155,9 +148,8 @@ impl FileVerificationEntry {
 
     /// Appends the row and returns its 48 bytes. The error is the writer's.
     pub fn serialize<W: Write>(&self, writer: &mut W) -> io::Result<usize>
-        ensures text { OnOk result
-            (Appends (W.contents writer.old) (W.contents writer.new) (verification_row self.now)) }
-        ensures count { IfOk result (λ n. n ≡ 48) }
+        ensures { IfOk result
+            (WritesRow (W.contents writer.old) (W.contents writer.new) (verification_row self.now)) }
     {
         write_row(self, writer)?;
         Ok(MDB_FILE_INFO_ENTRY_SIZE)
@@ -165,11 +157,9 @@ impl FileVerificationEntry {
 
     /// Reads the row, and sets its reserved words to zero. `UnexpectedEof` if fewer than 48 bytes are left.
     pub fn deserialize<R: Read>(reader: &mut R) -> io::Result<Self>
-        ensures value { IfOk result
-            (ReadsRow verification_row FitsVerification clear_verification (Consumes (R.remaining reader.old) (R.remaining reader.new))) }
-        ensures enough { OnOk result (HasBytes (R.remaining reader.old) 48) }
-        ensures end { IfErr result
-            (λ e. error_kind e ≡ ErrorKind.UnexpectedEof → LacksBytes (R.remaining reader.old) 48) }
+        ensures { MatchResult result
+            (ReadsCleared verification_row FitsVerification clear_verification (R.remaining reader.old) (R.remaining reader.new))
+            (LacksRow (R.remaining reader.old)) }
     {
         read_row(reader)
     }
@@ -232,9 +222,8 @@ impl FileMetadataExt {
 
     /// Appends the row and returns its 48 bytes. The error is the writer's.
     pub fn serialize<W: Write>(&self, writer: &mut W) -> io::Result<usize>
-        ensures text { OnOk result
-            (Appends (W.contents writer.old) (W.contents writer.new) (metadata_row self.now)) }
-        ensures count { IfOk result (λ n. n ≡ 48) }
+        ensures { IfOk result
+            (WritesRow (W.contents writer.old) (W.contents writer.new) (metadata_row self.now)) }
     {
         write_row(self, writer)?;
         Ok(MDB_FILE_INFO_ENTRY_SIZE)
@@ -242,11 +231,9 @@ impl FileMetadataExt {
 
     /// Reads the row, and sets its reserved words to zero. `UnexpectedEof` if fewer than 48 bytes are left.
     pub fn deserialize<R: Read>(reader: &mut R) -> io::Result<Self>
-        ensures value { IfOk result
-            (ReadsRow metadata_row FitsMetadata clear_metadata (Consumes (R.remaining reader.old) (R.remaining reader.new))) }
-        ensures enough { OnOk result (HasBytes (R.remaining reader.old) 48) }
-        ensures end { IfErr result
-            (λ e. error_kind e ≡ ErrorKind.UnexpectedEof → LacksBytes (R.remaining reader.old) 48) }
+        ensures { MatchResult result
+            (ReadsCleared metadata_row FitsMetadata clear_metadata (R.remaining reader.old) (R.remaining reader.new))
+            (LacksRow (R.remaining reader.old)) }
     {
         read_row(reader)
     }

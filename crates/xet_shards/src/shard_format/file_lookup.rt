@@ -1,25 +1,21 @@
 //! Lookup of one file on the bytes of a shard.
 
-ghost use Rattle.std.specs.Prelude.{◌≡◌, ◌⊎◌, ℕ, Option, ◌+◌, ◌<◌, ◌≤◌, ◌^◌, length, min, MatchResult, OnOk, IfOk, IfErr};
+ghost use Rattle.std.specs.Prelude.{◌≡◌, ℕ, Option, ◌+◌, ◌≤◌, MatchResult, OnOk, IfOk, IfErr};
 ghost use Rattle.std.specs.FinMap as finite;
-ghost use Rattle.xet_base.specs.Bytes.{u32_bytes};
-ghost use Rattle.xet_base.specs.Source.{FillFails, next_bytes};
-ghost use Rattle.xet_base.specs.Table.{table_at, Finds, FitsTable, SearchRefused, hits, IsSorted, Serves, Bounded, IsEven, ReadsOn};
+ghost use Rattle.xet_base.specs.Table.{IsSorted, Serves, Bounded, IsEven};
 ghost use Rattle.xet_records.specs.FileRecord.{file_records};
 ghost use Rattle.xet_shards.specs.Shard.{Shard, IsShard};
 ghost use Rattle.xet_shards.specs.Layout.{layout, info_value};
-ghost use Rattle.xet_shards.specs.Lookup.{StartsInShard, NoStartsInShard, FoundInShard, NotFoundInShard, WithinBounds, SearchWithinBounds, file_table, IsNumber, IndexFinds, IndexRefused, ReadsInfo, ReadInfoFails, VisitsSome, Finding, FindingFails, LookupAnswer, LookupRefused};
+ghost use Rattle.xet_shards.specs.Lookup.{StartsAmong, NoStartsAmong, FoundInShard, NotFoundAmong, WithinBounds, SearchWithinBounds, file_table, IndexFinds, IndexRefused, ReadsInfo, ReadInfoFails, VisitsSome, Finding, FindingFails, LookupAnswer, LookupRefused};
 
 use super::info::MDBShardInfo;
 use super::section_reader::read_record_at;
+use super::table_search::find_rows;
 use crate::utils::truncate_hash;
 use std::alloc::Global;
-use std::io;
 use xet_base::error::{CoreError, Result};
-use xet_base::interpolation_search::search_on_sorted_u64s;
 use xet_base::merklehash::MerkleHash;
-use xet_base::row::split_u32;
-use xet_base::source::{ShardSource, read_full};
+use xet_base::source::ShardSource;
 use xet_records::file_structs::MDBFileInfo;
 
 impl MDBShardInfo {
@@ -45,7 +41,8 @@ impl MDBShardInfo {
         ensures even { IsEven (file_table self.now.metadata (S.meaning source.old))
             → (S.meaning source.new).seeks ≤ (S.meaning source.old).seeks + 3 }
         ensures written { (s : Shard) → (expiry : Option ℕ) → IsShard s → (S.meaning source.old).bytes ≡ layout s expiry → self.now ≡ info_value s expiry
-            → MatchResult result (StartsInShard s hash.now.word0 dest.new) (NoStartsInShard s hash.now.word0 (S.meaning source.old) (S.meaning source.new)) }
+            → MatchResult result (StartsAmong file_records (finite.values s.files) hash.now.word0 dest.new)
+            (NoStartsAmong file_records (finite.values s.files) hash.now.word0 (S.meaning source.old) (S.meaning source.new)) }
         ensures costs { (s : Shard) → (expiry : Option ℕ) → IsShard s → (S.meaning source.old).bytes ≡ layout s expiry → self.now ≡ info_value s expiry
             → SearchWithinBounds file_records (finite.values s.files) hash.now.word0 (S.meaning source.old) (S.meaning source.new) }
     {
@@ -89,7 +86,7 @@ impl MDBShardInfo {
         ensures serves { OnOk result (Serves (S.meaning source.old) (S.meaning source.new)) }
         ensures kept { (S.meaning source.new).bytes ≡ (S.meaning source.old).bytes }
         ensures written { (s : Shard) → (expiry : Option ℕ) → IsShard s → (S.meaning source.old).bytes ≡ layout s expiry → self.now ≡ info_value s expiry
-            → MatchResult result (FoundInShard s hash.now) (NotFoundInShard s hash.now (S.meaning source.old) (S.meaning source.new)) }
+            → MatchResult result (FoundInShard s hash.now) (NotFoundAmong file_records (finite.values s.files) hash.now (S.meaning source.old) (S.meaning source.new)) }
         ensures costs { (s : Shard) → (expiry : Option ℕ) → IsShard s → (S.meaning source.old).bytes ≡ layout s expiry → self.now ≡ info_value s expiry
             → WithinBounds file_records (finite.values s.files) hash.now.word0 (S.meaning source.old) (S.meaning source.new) }
         ensures collision { (s : Shard) → (expiry : Option ℕ) → IsShard s → (S.meaning source.old).bytes ≡ layout s expiry → self.now ≡ info_value s expiry
@@ -128,7 +125,7 @@ impl MDBShardInfo {
         ensures answer { IfOk result (λ answer. LookupAnswer file_records (S.meaning source.old).bytes self.now.metadata.file_info_offset hash.now answer rows.now) }
         ensures refused { IfErr result (λ e. LookupRefused file_records self.now.metadata.file_info_offset (S.meaning source.old) (S.meaning source.new) e rows.now) }
         ensures serves { OnOk result (Serves (S.meaning source.old) (S.meaning source.new)) }
-        ensures visits { VisitsSome file_records self.now.metadata.file_info_offset rows.now (S.meaning source.old) (S.meaning source.new) }
+        ensures visits { VisitsSome file_records 1 self.now.metadata.file_info_offset rows.now (S.meaning source.old) (S.meaning source.new) }
     {
         for row in rows {
             let file_info = self.read_file_info(alloc, source, *row)?;
@@ -138,75 +135,4 @@ impl MDBShardInfo {
         }
         Ok(None)
     }
-}
-
-// The row numbers of the rows with this word in a table of words and row numbers: fewer than eight.
-fn find_rows<S: ShardSource>(
-    alloc: Global,
-    source: &mut S,
-    start: u64,
-    rows: u64,
-    word: u64,
-    dest: &mut [u32; 8],
-) -> Result<usize>
-    ensures found { IfOk result (IndexFinds (table_at (S.meaning source.old) start rows 4) word dest.old dest.new) }
-    ensures serves { OnOk result (Serves (S.meaning source.old) (S.meaning source.new)) }
-    ensures refused { IfErr result (IndexRefused (table_at (S.meaning source.old) start rows 4) word (S.meaning source.old) (S.meaning source.new)) }
-    ensures kept { (S.meaning source.new).bytes ≡ (S.meaning source.old).bytes }
-    ensures bounds { IsSorted (table_at (S.meaning source.old) start rows 4)
-        → Bounded (table_at (S.meaning source.old) start rows 4) word (S.meaning source.old) (S.meaning source.new) }
-    ensures even { IsEven (table_at (S.meaning source.old) start rows 4)
-        → (S.meaning source.new).seeks ≤ (S.meaning source.old).seeks + 3 }
-{
-    let found = search_row_numbers(alloc, source, start, rows, word, dest)?;
-    if found < dest.len() {
-        Ok(found)
-    } else {
-        Err(CoreError::TruncatedHashCollision(word))
-    }
-}
-
-// The row numbers of as many rows with this word as `results` has room for.
-fn search_row_numbers<S: ShardSource>(
-    alloc: Global,
-    source: &mut S,
-    start: u64,
-    rows: u64,
-    word: u64,
-    dest: &mut [u32],
-) -> Result<usize>
-    ensures found { IfOk result (Finds (table_at (S.meaning source.old) start rows 4) word IsNumber dest.old dest.new) }
-    ensures count { IsSorted (table_at (S.meaning source.old) start rows 4) → IfOk result (λ n. n ≡ min
-        (hits (table_at (S.meaning source.old) start rows 4) word) (length dest.old)) }
-    ensures serves { OnOk result (Serves (S.meaning source.old) (S.meaning source.new)) }
-    ensures fits { OnOk result (0 < length dest.old → FitsTable (table_at (S.meaning source.old) start rows 4)) }
-    ensures refused { IfErr result (SearchRefused (table_at (S.meaning source.old) start rows 4) (S.meaning source.old) (S.meaning source.new)) }
-    ensures kept { (S.meaning source.new).bytes ≡ (S.meaning source.old).bytes }
-    ensures bounds { IsSorted (table_at (S.meaning source.old) start rows 4)
-        → Bounded (table_at (S.meaning source.old) start rows 4) word (S.meaning source.old) (S.meaning source.new) }
-    ensures even { IsEven (table_at (S.meaning source.old) start rows 4)
-        → (S.meaning source.new).seeks ≤ (S.meaning source.old).seeks + 3 }
-{
-    search_on_sorted_u64s(
-        alloc,
-        source,
-        start,
-        rows,
-        word,
-        4,
-        |s: &mut S| read_row_number(s),
-        dest,
-    )
-}
-
-// Reads a row number from the source's position on.
-fn read_row_number<S: ShardSource>(source: &mut S) -> io::Result<u32>
-    ensures { MatchResult result
-        (λ row. ReadsOn (S.meaning source.old) (S.meaning source.new) 4 × (row < 2 ^ 32) × (next_bytes (S.meaning source.old) 4 ≡ u32_bytes row))
-        (FillFails (S.meaning source.old) (S.meaning source.new) 4) }
-{
-    let mut bytes = [0u8; 4];
-    read_full(source, &mut bytes)?;
-    let (row, _) = split_u32(&bytes);
-    Ok(row)
 }

@@ -3,19 +3,18 @@
 ghost use Rattle.std.specs.Prelude.{◌≡◌, ◌⊎◌, ℕ, Option, ◌+◌, ◌*◌, ◌^◌, ◌<◌, ◌≤◌, MatchResult, IfOk, IfErr};
 ghost use Rattle.std.specs.FinMap as finite;
 ghost use Rattle.xet_base.specs.Source.{DeviceFailure, bytes_left};
-ghost use Rattle.xet_records.specs.FileRecord.{rows_after, file_records};
+ghost use Rattle.xet_records.specs.FileRecord.{rows_after};
 ghost use Rattle.xet_shards.specs.Shard.{Shard, IsShard};
 ghost use Rattle.xet_shards.specs.Layout.{layout};
-ghost use Rattle.xet_shards.specs.SectionReading.{RecordFails, TakesNoSection};
-ghost use Rattle.xet_shards.specs.FileRanges.{file_ranges, ranges_after, ReadsRanges, TakesRanges, ReadsFileRanges, FileRangesFail};
+ghost use Rattle.xet_shards.specs.FileRanges.{file_ranges, ranges_after, ranges_at, ReadsFileRanges, FileRangesFail};
 
 use super::info::{MDBShardInfo, read_header};
-use super::section_reader::read_file_header;
+use super::section_walk::{Kept, walk_section};
 use std::alloc::Global;
 use xet_base::error::{CoreError, Result};
 use xet_base::merklehash::MerkleHash;
 use xet_base::source::ShardSource;
-use xet_records::file_structs::{FileDataSequenceHeader, FileMetadataExt, skip_source_rows_after};
+use xet_records::file_structs::{FileDataSequenceHeader, FileMetadataExt, MDBFileInfo};
 
 /// A file's hash, the byte ranges of its segments and of its verification rows, each as the first byte and the one
 /// after the last, and the SHA-256 of its metadata row.
@@ -52,42 +51,19 @@ fn read_header_and_ranges<S: ShardSource>(alloc: Global, source: &mut S) -> Resu
         (FileRangesFail (S.meaning source.old) (S.meaning source.new)) }
 {
     read_header(alloc, source)?;
-    read_ranges(alloc, source)
+    walk_section::<MDBFileInfo, FileRanges, S>(alloc, source)
 }
 
-// Reads through a file section from the source's position on.
-fn read_ranges<S: ShardSource>(alloc: Global, source: &mut S) -> Result<Vec<FileRanges>>
-    ensures { MatchResult result (λ found. TakesRanges (S.meaning source.old) (S.meaning source.new) found.items)
-        (TakesNoSection file_records (S.meaning source.old) (S.meaning source.new)) }
-{
-    let mut found = Vec::new(alloc);
-    let mut rows_left = u64::from(u32::MAX);
-    while let Some(ranges) = skip_file(alloc, source, &mut rows_left)? {
-        found.push(ranges)?;
+impl Kept<MDBFileInfo> for FileRanges {
+    ghost keep = { ranges_at };
+
+    fn of_record(
+        offset: u64,
+        header: &FileDataSequenceHeader,
+        metadata_ext: Option<FileMetadataExt>,
+    ) -> FileRanges {
+        ranges_after(offset + 48, header, metadata_ext)
     }
-    Ok(found)
-}
-
-// Reads through the next record of a file section, or `None` at its bookend, and keeps its ranges.
-fn skip_file<S: ShardSource>(
-    alloc: Global,
-    source: &mut S,
-    rows_left: &mut u64,
-) -> Result<Option<FileRanges>>
-    requires { rows_left.old ≤ 4294967296 }
-    ensures read { IfOk result
-        (ReadsRanges (S.meaning source.old) (S.meaning source.new) rows_left.old rows_left.new) }
-    ensures refused { IfErr result
-        (RecordFails file_records rows_left.old (S.meaning source.old) (S.meaning source.new)) }
-{
-    let Some(header) = read_file_header(alloc, source, rows_left)? else {
-        return Ok(None);
-    };
-    let start = source.position()?;
-    let metadata_ext = skip_source_rows_after(source, header)?;
-    // The source has a position after all these rows, so each offset among them fits `u64`.
-    source.position()?;
-    Ok(Some(ranges_after(start, &header, metadata_ext)))
 }
 
 // The ranges of a record whose rows after the header start at this offset.

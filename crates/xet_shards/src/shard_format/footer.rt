@@ -1,10 +1,10 @@
 //! The last 200 bytes of a shard.
 
-ghost use Rattle.std.specs.Prelude.{◌≡◌, ◌≢◌, ◌⊎◌, [], ◌∷◌, ◌++◌, IfSome, OnOk, IfOk, IfErr};
+ghost use Rattle.std.specs.Prelude.{◌≡◌, ◌≢◌, ◌⊎◌, [], ◌∷◌, ◌++◌, OnOk, IfOk, IfErr};
 ghost use Rattle.std.specs.Io.KnownBytes.{Appends, Consumes};
 ghost use Rattle.xet_base.specs.Bytes.{u64_bytes};
-ghost use Rattle.xet_base.specs.Errors.{IsShardVersion, IsBareShardVersion, IsDeviceError, IsEndOfInput};
-ghost use Rattle.xet_shards.specs.Ends.{HasUnsupportedFooter, EndsInFooter, FitsFooter};
+ghost use Rattle.xet_base.specs.Errors.{IsBareShardVersion, IsDeviceError};
+ghost use Rattle.xet_shards.specs.Ends.{HasUnsupportedFooter, EndsInFooter, FitsFooter, SaysUnsupported, SaysEnd};
 ghost use Rattle.xet_shards.specs.Layout.{shard_footer_bytes, default_footer};
 
 use std::alloc::Global;
@@ -113,14 +113,12 @@ impl MDBShardFileFooter {
     /// `ShardVersion` if the version is not 1, which is checked after 8 bytes; `UnexpectedEof` if
     /// the bytes end before that.
     pub fn deserialize<R: Read>(alloc: Global, reader: &mut R) -> Result<Self>
-        ensures version { IfOk result (λ f. f.version ≡ 1) }
         ensures bytes { IfOk result
             (λ f. Consumes (R.remaining reader.old) (R.remaining reader.new)
             (shard_footer_bytes f)) }
-        ensures unsupported { IfErr result
-            (λ e. IsShardVersion e → IfSome (R.remaining reader.old) HasUnsupportedFooter) }
-        ensures end { IfErr result
-            (λ e. IsEndOfInput e → IfSome (R.remaining reader.old) EndsInFooter) }
+        ensures version { IfOk result (λ f. f.version ≡ 1) }
+        ensures unsupported { IfErr result (SaysUnsupported HasUnsupportedFooter (R.remaining reader.old)) }
+        ensures end { IfErr result (SaysEnd EndsInFooter (R.remaining reader.old)) }
         ensures causes { IfErr result (λ e. IsDeviceError e ⊎ IsBareShardVersion e) }
     {
         let mut version = [0u8; 8];

@@ -1,10 +1,10 @@
 //! The first 48 bytes of a shard.
 
-ghost use Rattle.std.specs.Prelude.{◌≡◌, ◌≢◌, ◌⊎◌, ◌^◌, ◌<◌, ◌++◌, take, IfSome, OnOk, IfOk, IfErr};
+ghost use Rattle.std.specs.Prelude.{◌≡◌, ◌≢◌, ◌⊎◌, ◌^◌, ◌<◌, ◌++◌, take, OnOk, IfOk, IfErr};
 ghost use Rattle.std.specs.Io.KnownBytes.{Appends, Consumes};
 ghost use Rattle.xet_base.specs.Bytes.{u64_bytes};
-ghost use Rattle.xet_base.specs.Errors.{IsShardVersion, IsBareShardVersion, IsDeviceError, IsEndOfInput};
-ghost use Rattle.xet_shards.specs.Ends.{HasUnsupportedHeader, EndsInHeader};
+ghost use Rattle.xet_base.specs.Errors.{IsBareShardVersion, IsDeviceError};
+ghost use Rattle.xet_shards.specs.Ends.{HasUnsupportedHeader, EndsInHeader, SaysUnsupported, SaysEnd};
 ghost use Rattle.xet_shards.specs.Layout.{header_tag, shard_header_bytes, header_value};
 
 use super::footer::FOOTER_SIZE;
@@ -69,14 +69,12 @@ impl MDBShardFileHeader {
     /// `UnexpectedEof` if the bytes end before that.
     #[tactic(auto, unfolding(crate::specs::Layout::shard_header_bytes))]
     pub fn deserialize<R: Read>(alloc: Global, reader: &mut R) -> Result<Self>
-        ensures tag { IfOk result (λ h. (h.tag ≡ header_tag) × (h.version ≡ 2)) }
         ensures bytes { IfOk result
             (λ h. Consumes (R.remaining reader.old) (R.remaining reader.new)
             (shard_header_bytes h)) }
-        ensures unsupported { IfErr result
-            (λ e. IsShardVersion e → IfSome (R.remaining reader.old) HasUnsupportedHeader) }
-        ensures end { IfErr result
-            (λ e. IsEndOfInput e → IfSome (R.remaining reader.old) EndsInHeader) }
+        ensures tag { IfOk result (λ h. (h.tag ≡ header_tag) × (h.version ≡ 2)) }
+        ensures unsupported { IfErr result (SaysUnsupported HasUnsupportedHeader (R.remaining reader.old)) }
+        ensures end { IfErr result (SaysEnd EndsInHeader (R.remaining reader.old)) }
         ensures causes { IfErr result (λ e. IsDeviceError e ⊎ IsBareShardVersion e) }
     {
         let mut tag = [0u8; 32];

@@ -7,23 +7,24 @@ ghost use Rattle.xet_base.specs.Errors.{IsDeviceError};
 ghost use Rattle.xet_base.specs.Table.{IsBareInvalidShard};
 ghost use Rattle.xet_shards.specs.Shard.{Shard, IsShard};
 ghost use Rattle.xet_shards.specs.Layout.{layout, info_value, header_tag, shard_header_bytes, shard_footer_bytes};
+ghost use Rattle.xet_shards.specs.WrittenShard.{IsWritten, ReadsBack};
 ghost use Rattle.xet_base.specs.Source.{Takes, DeviceFailure};
 ghost use Rattle.xet_records.specs.FileRecord.{file_records};
 ghost use Rattle.xet_records.specs.XorbRecord.{xorb_records};
-ghost use Rattle.xet_shards.specs.SectionReading.{ReadsSection, SectionFails};
+ghost use Rattle.xet_shards.specs.SectionReading.{ReadsAll, SectionFails};
 ghost use Rattle.xet_shards.specs.XorbHeaders.{xorb_headers, ReadsXorbHeaders};
 ghost use Rattle.xet_shards.specs.Ends.{HasUnsupportedHeader, EndsInHeader, HasUnsupportedFooter, EndsInFooter, FitsFooter, PartFails, Loads, LoadFails};
 
 use super::footer::{FOOTER_SIZE, MDBShardFileFooter, check_version};
+use super::form::Form;
 use super::header::{MDBShardFileHeader, check_tag};
-use super::section_reader::{read_section, read_xorb_headers};
-use super::writer::{footer_of, write_chunk_table, write_file_section, write_xorb_section};
+use super::section_reader::{read_section_at, read_xorb_headers};
+use super::writer::{write_end, write_file_section, write_xorb_section};
 use crate::shard_in_memory::MDBInMemoryShard;
 use std::alloc::Global;
 use std::io;
 use std::io::{ErrorKind, Write};
 use xet_base::error::{CoreError, Result};
-use xet_base::serialization_utils::write_bytes;
 use xet_base::source::{ShardSource, read_full};
 use xet_records::file_structs::MDBFileInfo;
 use xet_records::xorb_structs::{MDBXorbInfo, XorbChunkSequenceHeader};
@@ -73,11 +74,7 @@ impl MDBShardInfo {
         header.serialize(writer)?;
         let files = write_file_section(alloc, writer, shard.file_content())?;
         let xorbs = write_xorb_section(alloc, writer, shard.xorb_content())?;
-        write_bytes(writer, files.table.as_slice())?;
-        write_bytes(writer, xorbs.table.as_slice())?;
-        write_chunk_table(writer, &xorbs.places)?;
-        let metadata = footer_of(&files, &xorbs, expiry);
-        metadata.serialize(writer)?;
+        let metadata = write_end(writer, &files, &xorbs, &Form::plain(expiry))?;
         Ok(MDBShardInfo { header, metadata })
     }
 
@@ -109,31 +106,11 @@ impl MDBShardInfo {
         alloc: Global,
         source: &mut S,
     ) -> Result<Vec<MDBFileInfo>>
-        ensures read { MatchResult result (λ found. ReadsSection file_records (S.meaning source.old) (S.meaning source.new) self.now.metadata.file_info_offset found.items)
-            (SectionFails file_records (S.meaning source.old) (S.meaning source.new) self.now.metadata.file_info_offset) }
-        ensures written { (s : Shard) → (expiry : Option ℕ) → IsShard s → (S.meaning source.old).bytes ≡ layout s expiry → self.now ≡ info_value s expiry
-            → MatchResult result (λ found. found.items ≡ finite.values s.files)
-            (λ e. DeviceFailure (S.meaning source.old) (S.meaning source.new) e ⊎ (e ≡ CoreError.OutOfMemory)) }
+        ensures read { ReadsAll file_records (S.meaning source.old) (S.meaning source.new) self.now.metadata.file_info_offset result }
+        ensures written { (s : Shard) → (expiry : Option ℕ) → IsWritten s expiry (S.meaning source.old).bytes self.now
+            → ReadsBack (finite.values s.files) (S.meaning source.old) (S.meaning source.new) result }
     {
-        read_section(alloc, source, self.metadata.file_info_offset)
-    }
-
-    /// Reads all records of the xorb section, in order.
-    ///
-    /// `UnexpectedEof` if the source ends before the bookend, `InvalidShard` if the rows pass
-    /// 4294967295, `OutOfMemory` if an allocation fails.
-    pub fn read_all_xorb_blocks_full<S: ShardSource>(
-        &self,
-        alloc: Global,
-        source: &mut S,
-    ) -> Result<Vec<MDBXorbInfo>>
-        ensures read { MatchResult result (λ found. ReadsSection xorb_records (S.meaning source.old) (S.meaning source.new) self.now.metadata.xorb_info_offset found.items)
-            (SectionFails xorb_records (S.meaning source.old) (S.meaning source.new) self.now.metadata.xorb_info_offset) }
-        ensures written { (s : Shard) → (expiry : Option ℕ) → IsShard s → (S.meaning source.old).bytes ≡ layout s expiry → self.now ≡ info_value s expiry
-            → MatchResult result (λ found. found.items ≡ finite.values s.xorbs)
-            (λ e. DeviceFailure (S.meaning source.old) (S.meaning source.new) e ⊎ (e ≡ CoreError.OutOfMemory)) }
-    {
-        read_section(alloc, source, self.metadata.xorb_info_offset)
+        read_section_at(alloc, source, self.metadata.file_info_offset)
     }
 
     /// Reads all headers of the xorb section, in order, each with its offset in the source, and no
@@ -148,11 +125,26 @@ impl MDBShardInfo {
     ) -> Result<Vec<(XorbChunkSequenceHeader, u64)>>
         ensures read { MatchResult result (λ found. ReadsXorbHeaders (S.meaning source.old) (S.meaning source.new) self.now.metadata.xorb_info_offset found.items)
             (SectionFails xorb_records (S.meaning source.old) (S.meaning source.new) self.now.metadata.xorb_info_offset) }
-        ensures written { (s : Shard) → (expiry : Option ℕ) → IsShard s → (S.meaning source.old).bytes ≡ layout s expiry → self.now ≡ info_value s expiry
-            → MatchResult result (λ found. found.items ≡ xorb_headers (info_value s expiry).metadata.xorb_info_offset (finite.values s.xorbs))
-            (λ e. DeviceFailure (S.meaning source.old) (S.meaning source.new) e ⊎ (e ≡ CoreError.OutOfMemory)) }
+        ensures written { (s : Shard) → (expiry : Option ℕ) → IsWritten s expiry (S.meaning source.old).bytes self.now
+            → ReadsBack (xorb_headers (info_value s expiry).metadata.xorb_info_offset (finite.values s.xorbs)) (S.meaning source.old) (S.meaning source.new) result }
     {
         read_xorb_headers(alloc, source, self.metadata.xorb_info_offset)
+    }
+
+    /// Reads all records of the xorb section, in order.
+    ///
+    /// `UnexpectedEof` if the source ends before the bookend, `InvalidShard` if the rows pass
+    /// 4294967295, `OutOfMemory` if an allocation fails.
+    pub fn read_all_xorb_blocks_full<S: ShardSource>(
+        &self,
+        alloc: Global,
+        source: &mut S,
+    ) -> Result<Vec<MDBXorbInfo>>
+        ensures read { ReadsAll xorb_records (S.meaning source.old) (S.meaning source.new) self.now.metadata.xorb_info_offset result }
+        ensures written { (s : Shard) → (expiry : Option ℕ) → IsWritten s expiry (S.meaning source.old).bytes self.now
+            → ReadsBack (finite.values s.xorbs) (S.meaning source.old) (S.meaning source.new) result }
+    {
+        read_section_at(alloc, source, self.metadata.xorb_info_offset)
     }
 }
 

@@ -84,8 +84,8 @@ impl TableRow for (u64, u32) {
         let mut bytes = [0u8; 12];
         read_full(source, &mut bytes)?;
         let (word, rest) = split_u64(&bytes);
-        let (start, _) = split_u32(rest);
-        Ok((word, start))
+        let (row, _) = split_u32(rest);
+        Ok((word, row))
     }
 }
 
@@ -102,9 +102,9 @@ impl TableRow for (u64, (u32, u32)) {
         let mut bytes = [0u8; 16];
         read_full(source, &mut bytes)?;
         let (word, rest) = split_u64(&bytes);
-        let (start, rest) = split_u32(rest);
-        let (place, _) = split_u32(rest);
-        Ok((word, (start, place)))
+        let (row, rest) = split_u32(rest);
+        let (index, _) = split_u32(rest);
+        Ok((word, (row, index)))
     }
 }
 

@@ -3,19 +3,20 @@
 ghost use Rattle.std.specs.Prelude.{◌≡◌, ◌≢◌, ◌⊎◌, ℕ, Option, ◌≤◌, ◌++◌, length, map, MatchResult, OnOk, IfOk, IfErr};
 ghost use Rattle.std.specs.FinMap as finite;
 ghost use Rattle.xet_base.specs.Source.{DeviceFailure};
-ghost use Rattle.xet_shards.specs.Shard.{Shard, IsShard};
-ghost use Rattle.xet_shards.specs.Tables.{places_from, chunk_table};
-ghost use Rattle.xet_shards.specs.Layout.{layout, info_value};
+ghost use Rattle.xet_shards.specs.Shard.{Shard};
+ghost use Rattle.xet_shards.specs.Tables.{chunk_table_rows_from, chunk_table};
+ghost use Rattle.xet_shards.specs.WrittenShard.{IsWritten, ReadsBack};
 ghost use Rattle.xet_shards.specs.TableReading.{triple_of, triple_row, FitsTriple, ReadsTable, TableFails};
 ghost use Rattle.xet_shards.specs.TruncatedHashes.{ReadsHashes, HashesFail, ReadsBefore, XorbBeforeFails};
 
 use super::info::MDBShardInfo;
-use super::section_reader::read_xorb;
 use super::table_reader::read_chunk_table;
 use crate::utils::truncate_hash;
 use std::alloc::Global;
 use xet_base::error::{CoreError, Result};
+use xet_base::input::OfSource;
 use xet_base::source::ShardSource;
+use xet_records::record_reader::read_record;
 use xet_records::xorb_structs::{MDBXorbInfo, XorbChunkSequenceEntry};
 
 impl MDBShardInfo {
@@ -36,9 +37,8 @@ impl MDBShardInfo {
         ensures section { self.now.metadata.chunk_lookup_num_entry ≡ 0 → MatchResult result
             (λ found. ReadsHashes (S.meaning source.old) (S.meaning source.new) self.now.metadata.xorb_info_offset self.now.metadata.file_lookup_offset found.items)
             (HashesFail (S.meaning source.old) (S.meaning source.new) self.now.metadata.xorb_info_offset self.now.metadata.file_lookup_offset) }
-        ensures written { (s : Shard) → (expiry : Option ℕ) → IsShard s → (S.meaning source.old).bytes ≡ layout s expiry → self.now ≡ info_value s expiry
-            → MatchResult result (λ found. found.items ≡ map triple_of (chunk_table (finite.values s.xorbs)))
-            (λ e. DeviceFailure (S.meaning source.old) (S.meaning source.new) e ⊎ (e ≡ CoreError.OutOfMemory)) }
+        ensures written { (s : Shard) → (expiry : Option ℕ) → IsWritten s expiry (S.meaning source.old).bytes self.now
+            → ReadsBack (map triple_of (chunk_table (finite.values s.xorbs))) (S.meaning source.old) (S.meaning source.new) result }
     {
         let rows = self.metadata.chunk_lookup_num_entry;
         if rows == 0 {
@@ -83,12 +83,12 @@ fn read_xorb_before<S: ShardSource>(
     ensures refused { IfErr result
         (XorbBeforeFails stop rows_left.old (S.meaning source.old) (S.meaning source.new)) }
 {
-    let place = source.position()?;
-    if place >= stop {
+    let offset = source.position()?;
+    if offset >= stop {
         return Ok(None);
     }
     let start = (u64::from(u32::MAX) - *rows_left) as u32;
-    let Some(xorb) = read_xorb(alloc, source, rows_left)? else {
+    let Some(xorb) = read_record::<MDBXorbInfo, OfSource, S>(alloc, source, rows_left)? else {
         return Ok(None);
     };
     Ok(Some((start, xorb)))
@@ -102,13 +102,13 @@ fn push_hashes(
 ) -> Result<()>
     requires { length chunks.now ≤ 4294967295 }
     ensures pushed { OnOk result
-        (hashes.new.items ≡ hashes.old.items ++ map triple_of (places_from start chunks.now)) }
+        (hashes.new.items ≡ hashes.old.items ++ map triple_of (chunk_table_rows_from start chunks.now)) }
     ensures causes { IfErr result (λ e. e ≡ CoreError.OutOfMemory) }
 {
-    let mut place = 0;
+    let mut index = 0;
     for chunk in chunks {
-        hashes.push((truncate_hash(&chunk.chunk_hash), (start, place)))?;
-        place += 1;
+        hashes.push((truncate_hash(&chunk.chunk_hash), (start, index)))?;
+        index += 1;
     }
     Ok(())
 }

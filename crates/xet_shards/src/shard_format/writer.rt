@@ -1,27 +1,28 @@
-//! Writing the parts of a shard: sections, chunk table and footer.
+//! Writing a shard in any form: sections, lookup tables and footer.
 
-ghost use Rattle.std.specs.Prelude.{◌≡◌, ◌≤◌, None, List, All, OnOk, IfOk, IfErr, flat_map};
+ghost use Rattle.std.specs.Prelude.{◌≡◌, ◌≤◌, None, List, All, OnOk, IfOk, IfErr, flat_map, if◌then◌else◌};
 ghost use Rattle.std.specs.Io.KnownBytes.{Appends};
 ghost use Rattle.std.specs.BTreeMap.{values};
 ghost use Rattle.std.specs.Map.{values_of};
 ghost use Rattle.xet_base.specs.Errors.{IsDeviceError};
 ghost use Rattle.xet_records.specs.declared.file_structs.MDBFileInfo.{MDBFileInfo};
 ghost use Rattle.xet_records.specs.declared.xorb_structs.MDBXorbInfo.{MDBXorbInfo};
-ghost use Rattle.xet_records.specs.FileRecord.{file_records, FitsRecord};
-ghost use Rattle.xet_records.specs.XorbRecord.{xorb_records};
+ghost use Rattle.xet_records.specs.FileRecord.{file_records, FitsRecord, IsStored};
+ghost use Rattle.xet_records.specs.XorbRecord.{xorb_records, IsStoredXorb};
 ghost use Rattle.xet_shards.specs.Shard.{IsShard, AreFiles, AreXorbs};
 ghost use Rattle.xet_shards.specs.Section.{total_rows, section_bytes};
-ghost use Rattle.xet_shards.specs.Tables.{place_row};
-ghost use Rattle.xet_shards.specs.Written.{HasWritten, HasWrittenXorbs};
+ghost use Rattle.xet_shards.specs.Tables.{chunk_table_row_bytes};
+ghost use Rattle.xet_shards.specs.Written.{HasWritten, HasWrittenXorbs, end_of_layout};
 ghost use Rattle.xet_shards.specs.XorbStore.{shown_xorbs};
-ghost use Rattle.xet_shards.specs.Layout.{layout, footer_value, plain_form};
+ghost use Rattle.xet_shards.specs.Layout.{if_in, layout, layout_of, footer_value, info_of};
 ghost use Rattle.xet_shards.specs.Ends.{FitsFooter};
 
-use super::file_writer::WrittenFiles;
 use super::footer::MDBShardFileFooter;
-use super::header::HEADER_SIZE;
+use super::form::Form;
+use super::header::{HEADER_SIZE, MDBShardFileHeader};
 use super::info::MDBShardInfo;
-use super::xorb_writer::{ChunkPlace, WrittenXorbs};
+use super::written::{RecordTable, WrittenFiles, WrittenXorbs};
+use super::xorb_writer::ChunkTableRow;
 use crate::shard_in_memory::MDBInMemoryShard;
 use std::alloc::Global;
 use std::collections::{BTreeMap, BTreeSet};
@@ -51,7 +52,87 @@ impl MDBInMemoryShard {
     }
 }
 
-/// Writes the file section and gathers its table.
+/// Writes a shard in any form: header, sections, the tables that are in, and footer. Returns the
+/// header and the footer, as `load_from_reader` reads them from these bytes. The error is the
+/// writer's, or `OutOfMemory` if an allocation fails.
+///
+/// Requires records that a section may hold, and at most 4294967295 rows in each section. The tables
+/// are of use only if the records are in ascending order of their hashes.
+pub fn write_layout<W: Write>(
+    alloc: Global,
+    writer: &mut W,
+    files: &[MDBFileInfo],
+    xorbs: &[MDBXorbInfo],
+    form: &Form,
+) -> Result<MDBShardInfo>
+    requires files { All IsStored files.now }
+    requires file_rows { total_rows file_records files.now ≤ 4294967295 }
+    requires xorbs { All IsStoredXorb xorbs.now }
+    requires xorb_rows { total_rows xorb_records xorbs.now ≤ 4294967295 }
+    ensures bytes { OnOk result
+        (Appends (W.contents writer.old) (W.contents writer.new)
+        (layout_of files.now xorbs.now form.now)) }
+    ensures info { IfOk result (λ info. info ≡ info_of files.now xorbs.now form.now) }
+    ensures widths { IfOk result (λ info. FitsFooter info.metadata) }
+    ensures causes { IfErr result IsDeviceError }
+{
+    let header = MDBShardFileHeader::default();
+    header.serialize(writer)?;
+    let files = write_files(alloc, writer, files)?;
+    let xorbs = write_xorbs(alloc, writer, xorbs)?;
+    let metadata = write_end(writer, &files, &xorbs, form)?;
+    Ok(MDBShardInfo { header, metadata })
+}
+
+// Writes the file section of a list of files and collects its table.
+#[tactic(auto, unfolding(crate::specs::Section::section_bytes))]
+fn write_files<W: Write>(
+    alloc: Global,
+    writer: &mut W,
+    files: &[MDBFileInfo],
+) -> Result<WrittenFiles>
+    requires files { All IsStored files.now }
+    requires rows { total_rows file_records files.now ≤ 4294967295 }
+    ensures bytes { OnOk result
+        (Appends (W.contents writer.old) (W.contents writer.new)
+        (section_bytes file_records files.now)) }
+    ensures written { IfOk result (λ written. HasWritten written files.now) }
+    ensures causes { IfErr result IsDeviceError }
+{
+    let mut written = WrittenFiles::new(alloc);
+    for file_info in files {
+        written.write(writer, file_info)?;
+    }
+    let bookend = FileDataSequenceHeader::bookend();
+    bookend.serialize(writer)?;
+    Ok(written)
+}
+
+// Writes the xorb section of a list of xorbs and collects its tables.
+#[tactic(auto, unfolding(crate::specs::Section::section_bytes))]
+fn write_xorbs<W: Write>(
+    alloc: Global,
+    writer: &mut W,
+    xorbs: &[MDBXorbInfo],
+) -> Result<WrittenXorbs>
+    requires xorbs { All IsStoredXorb xorbs.now }
+    requires rows { total_rows xorb_records xorbs.now ≤ 4294967295 }
+    ensures bytes { OnOk result
+        (Appends (W.contents writer.old) (W.contents writer.new)
+        (section_bytes xorb_records xorbs.now)) }
+    ensures written { IfOk result (λ written. HasWrittenXorbs written xorbs.now) }
+    ensures causes { IfErr result IsDeviceError }
+{
+    let mut written = WrittenXorbs::new(alloc);
+    for xorb in xorbs {
+        written.write(writer, xorb)?;
+    }
+    let bookend = XorbChunkSequenceHeader::bookend();
+    bookend.serialize(writer)?;
+    Ok(written)
+}
+
+/// Writes the file section and collects its table.
 #[tactic(auto, unfolding(crate::specs::Section::section_bytes))]
 pub fn write_file_section<W: Write>(
     alloc: Global,
@@ -73,7 +154,7 @@ pub fn write_file_section<W: Write>(
     Ok(written)
 }
 
-/// Writes the xorb section and gathers its tables.
+/// Writes the xorb section and collects its tables.
 #[tactic(auto, unfolding(crate::specs::Section::section_bytes))]
 pub fn write_xorb_section<W: Write>(
     alloc: Global,
@@ -95,48 +176,101 @@ pub fn write_xorb_section<W: Write>(
     Ok(written)
 }
 
-/// Writes the rows of the chunk table, in ascending order.
-pub fn write_chunk_table<W: Write>(writer: &mut W, places: &BTreeSet<ChunkPlace>) -> Result<()>
-    ensures bytes { OnOk result
-        (Appends (W.contents writer.old) (W.contents writer.new)
-        (flat_map place_row places.now.keys)) }
+/// Writes the end of a shard, after its sections: the tables that are in, and the footer, which it
+/// returns. The error is the writer's.
+pub fn write_end<W: Write>(
+    writer: &mut W,
+    files: &WrittenFiles,
+    xorbs: &WrittenXorbs,
+    form: &Form,
+) -> Result<MDBShardFileFooter>
+    ensures bytes { OnOk result ((rs : List MDBFileInfo) → (xs : List MDBXorbInfo)
+        → All FitsRecord rs → HasWritten files.now rs → HasWrittenXorbs xorbs.now xs
+        → Appends (W.contents writer.old) (W.contents writer.new) (end_of_layout rs xs form.now)) }
+    ensures footer { IfOk result (λ footer. (rs : List MDBFileInfo) → (xs : List MDBXorbInfo)
+        → All FitsRecord rs → HasWritten files.now rs → HasWrittenXorbs xorbs.now xs
+        → footer ≡ footer_value rs xs form.now) }
+    ensures widths { IfOk result FitsFooter }
     ensures causes { IfErr result IsDeviceError }
 {
-    for chunk_place in places {
-        write_bytes(writer, &chunk_place.to_bytes())?;
+    write_table(writer, form.file_table, &files.table)?;
+    write_table(writer, form.xorb_table, &xorbs.table)?;
+    write_chunk_table(writer, form.chunk_table, &xorbs.chunk_rows)?;
+    let footer = footer_of(files, xorbs, form);
+    footer.serialize(writer)?;
+    Ok(footer)
+}
+
+// Writes the table of a section, if it is in.
+fn write_table<W: Write>(writer: &mut W, is_in: bool, table: &RecordTable) -> Result<()>
+    ensures bytes { OnOk result
+        (Appends (W.contents writer.old) (W.contents writer.new) (if_in is_in table.now.bytes.items)) }
+    ensures causes { IfErr result IsDeviceError }
+{
+    if is_in {
+        write_bytes(writer, table.bytes.as_slice())?;
     }
     Ok(())
 }
 
-/// The footer of a shard with these files and xorbs.
-pub fn footer_of(
-    files: &WrittenFiles,
-    xorbs: &WrittenXorbs,
-    expiry: Option<u64>,
-) -> MDBShardFileFooter
+// Writes the chunk table, if it is in.
+fn write_chunk_table<W: Write>(
+    writer: &mut W,
+    is_in: bool,
+    rows: &BTreeSet<ChunkTableRow>,
+) -> Result<()>
+    ensures bytes { OnOk result
+        (Appends (W.contents writer.old) (W.contents writer.new)
+        (if_in is_in (flat_map chunk_table_row_bytes rows.now.keys))) }
+    ensures causes { IfErr result IsDeviceError }
+{
+    if is_in {
+        write_chunk_rows(writer, rows)?;
+    }
+    Ok(())
+}
+
+// Writes the rows of the chunk table, in ascending order.
+fn write_chunk_rows<W: Write>(writer: &mut W, rows: &BTreeSet<ChunkTableRow>) -> Result<()>
+    ensures bytes { OnOk result
+        (Appends (W.contents writer.old) (W.contents writer.new)
+        (flat_map chunk_table_row_bytes rows.now.keys)) }
+    ensures causes { IfErr result IsDeviceError }
+{
+    for row in rows {
+        write_bytes(writer, &row.to_bytes())?;
+    }
+    Ok(())
+}
+
+// The footer of a shard with these files and xorbs, in this form.
+fn footer_of(files: &WrittenFiles, xorbs: &WrittenXorbs, form: &Form) -> MDBShardFileFooter
     ensures widths { FitsFooter result }
     ensures value { (rs : List MDBFileInfo) → (xs : List MDBXorbInfo) → All FitsRecord rs
         → HasWritten files.now rs → HasWrittenXorbs xorbs.now xs
-        → result ≡ footer_value rs xs (plain_form expiry) }
+        → result ≡ footer_value rs xs form.now }
 {
-    let file_table = files.table.len() as u64;
-    let xorb_table = xorbs.table.len() as u64;
-    let chunks = xorbs.rows - xorb_table / 12;
     let row_size = ROW_SIZE as u64;
-    let xorb_info_offset = HEADER_SIZE + row_size * files.rows + row_size;
-    let file_lookup_offset = xorb_info_offset + row_size * xorbs.rows + row_size;
-    let xorb_lookup_offset = file_lookup_offset + file_table;
-    let chunk_lookup_offset = xorb_lookup_offset + xorb_table;
+    let xorb_info_offset = HEADER_SIZE + row_size * files.table.rows + row_size;
+    let file_lookup_offset = xorb_info_offset + row_size * xorbs.table.rows + row_size;
+    let file_starts = rows_in(form.file_table, files.table.records);
+    let xorb_lookup_offset = file_lookup_offset + 12 * file_starts;
+    let xorb_starts = rows_in(form.xorb_table, xorbs.table.records);
+    let chunk_lookup_offset = xorb_lookup_offset + 12 * xorb_starts;
+    // Each row of the xorb section that is no header is a chunk.
+    let chunks = rows_in(form.chunk_table, xorbs.table.rows - xorbs.table.records);
     let footer = MDBShardFileFooter {
         file_info_offset: HEADER_SIZE,
         xorb_info_offset,
         file_lookup_offset,
-        file_lookup_num_entry: file_table / 12,
+        file_lookup_num_entry: file_starts,
         xorb_lookup_offset,
-        xorb_lookup_num_entry: xorb_table / 12,
+        xorb_lookup_num_entry: xorb_starts,
         chunk_lookup_offset,
         chunk_lookup_num_entry: chunks,
-        shard_key_expiry: expiry.unwrap_or(u64::MAX),
+        chunk_hash_hmac_key: form.key,
+        shard_creation_timestamp: form.creation,
+        shard_key_expiry: form.expiry,
         stored_bytes_on_disk: xorbs.stored_bytes_on_disk,
         materialized_bytes: files.materialized_bytes,
         stored_bytes: xorbs.stored_bytes,
@@ -145,4 +279,11 @@ pub fn footer_of(
     };
     footer.widths();
     footer
+}
+
+// The rows of a table that is in, or 0.
+fn rows_in(is_in: bool, rows: u64) -> u64
+    ensures { result ≡ (if is_in then rows else 0) }
+{
+    if is_in { rows } else { 0 }
 }

@@ -1,6 +1,7 @@
 //! The search for a run of hashes among the chunks of a shard in memory.
 
 ghost use Rattle.std.specs.Prelude.{◌≡◌, ◌≤◌, ◌↔◌, None, length};
+ghost use Rattle.xet_base.specs.KeyedHash.{no_key};
 ghost use Rattle.xet_records.specs.XorbRecord.{IsXorb};
 ghost use Rattle.xet_shards.specs.ChunkQuery.{run_length, run_at, query_answer, IsUnknown};
 
@@ -31,7 +32,7 @@ fn run_at(
 ) -> (usize, FileDataSequenceEntry)
     requires well_formed { IsXorb xorb.now }
     requires within { index ≤ length xorb.now.chunks }
-    ensures { result ≡ run_at (xorb.now, index) query_hashes.now }
+    ensures { result ≡ run_at no_key (xorb.now, index) query_hashes.now }
 {
     let start = index as usize;
     let chunks = &xorb.chunks.as_slice()[start..];
@@ -48,7 +49,7 @@ fn run_at(
 
 // How many of these hashes, from the first on, equal the hashes of these chunks, one by one.
 fn run_length(query_hashes: &[MerkleHash], chunks: &[XorbChunkSequenceEntry]) -> usize
-    ensures count { result ≡ run_length query_hashes.now chunks.now }
+    ensures count { result ≡ run_length no_key query_hashes.now chunks.now }
     ensures within { result ≤ length chunks.now }
 {
     query_hashes

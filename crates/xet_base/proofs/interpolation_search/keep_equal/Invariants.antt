@@ -8,4 +8,4 @@ invariant-loop-row g l =
     let meaning = g.S.ShardSource.meaning in
     let old = meaning l.fn.source in
     Keeps (table_in l.fn.range old.bytes) l.key (Answers (λ s. meaning s.now) (goal.F-post g l.read_value) l.fn.range.width)
-    l.from l.row l.to old (meaning l.source) l.fn.results l.results l.had l.count
+    l.fn.rows.start l.row l.fn.rows.end old (meaning l.source) l.fn.results l.results l.had l.count

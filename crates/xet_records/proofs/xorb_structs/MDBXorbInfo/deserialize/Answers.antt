@@ -1,37 +1,10 @@
-use Rattle.std.proofs.Common.{None, ◌≤◌, ◌≢◌, arith}
-use Rattle.std.proofs.KnownBytes.{Consumes-trans}
-use Rattle.xet_base.specs.Hash.{all_ones}
 use Rattle.xet_records.specs.XorbRecord.{xorb_records}
-use Rattle.xet_records.proofs.RecordKinds.{xorb_laws, chunks_after, after_bookend, after_record, whole_record, read_again}
+use Rattle.xet_records.proofs.RecordKinds.{xorb_laws}
+use Rattle.xet_records.proofs.SectionRecords.{not_cut_short, read_again}
 use Rattle.xet_records.proofs.xorb_structs.MDBXorbInfo.deserialize.Goals as goal
 
-pub returns-then-is_bookend-clause-whole : goal.returns-then-is_bookend-clause-whole
-returns-then-is_bookend-clause-whole g c =
-    let read = c.in_ok-metadata.ensures in
-    (after_bookend xorb_records xorb_laws _ (g.R.Read.remaining c.deserialize.new.reader) c.in_ok-metadata.metadata read.widths read.value (c.is_bookend.ensures.0 c.if-is_bookend.true)).0
-
-pub returns-then-is_bookend-clause-again : goal.returns-then-is_bookend-clause-again
-returns-then-is_bookend-clause-again g c =
-    let read = c.in_ok-metadata.ensures in
-    λ r rest stored are.
-    read_again xorb_records xorb_laws (g.R.Read.remaining c.args.reader.now) (g.R.Read.remaining c.deserialize.new.reader) r rest None stored are
-    (record { header = c.in_ok-metadata.metadata; widths = read.widths; is_bookend = c.is_bookend.ensures.0 c.if-is_bookend.true; taken = read.value })
-
-pub returns-clause-found : goal.returns-clause-found
-returns-clause-found g c =
-    let h = c.in_ok-metadata.metadata in
-    let read = c.in_ok-metadata.ensures in
-    let is_xorb : h.xorb_hash ≢ all_ones = λ ones. let bookend = c.is_bookend.ensures.1 ones in cc in
-    let few : h.num_entries ≤ 4294967295 = omega (arith, read.widths.num_entries) in
-    whole_record xorb_records xorb_laws _ _ _ h _ (Consumes-trans _ (g.R.Read.remaining c.deserialize.new.reader) _) read.widths is_xorb read.value
-    (chunks_after _ h _ c.in_ok-chunks.ensures.value) few
-
 pub returns-clause-whole : goal.returns-clause-whole
-returns-clause-whole g c =
-    let h = c.in_ok-metadata.metadata in
-    let read = c.in_ok-metadata.ensures in
-    let few : h.num_entries ≤ 4294967295 = omega (arith, read.widths.num_entries) in
-    (after_record xorb_records xorb_laws _ (g.R.Read.remaining c.deserialize.new.reader) _ h _ read.widths read.value (chunks_after _ h _ c.in_ok-chunks.ensures.value) few).0
+returns-clause-whole g c = not_cut_short xorb_records xorb_laws _ (g.R.Read.remaining c.read_record.new.input) _ _ _ c.read_record.result c.read_record.ensures
 
 pub returns-clause-again : goal.returns-clause-again
-returns-clause-again g c = λ r rest stored are. read_again xorb_records xorb_laws _ _ r rest _ stored are (returns-clause-found g c)
+returns-clause-again g c = read_again xorb_records xorb_laws _ (g.R.Read.remaining c.read_record.new.input) _ _ _ c.read_record.result c.read_record.ensures

@@ -9,7 +9,6 @@ use Rattle.xet_shards.specs.Section.{section_bytes}
 use Rattle.xet_shards.specs.Written.{HasWritten}
 use Rattle.xet_shards.proofs.Files.{well_formed_values}
 use Rattle.xet_shards.proofs.Walks.{value_turn, value_turned, value_end, values_push, flat_map-push, All-middle}
-use Rattle.xet_shards.proofs.Written.{written_nothing, written_more}
 use Rattle.xet_shards.proofs.shard_format.writer.write_file_section.Goals as goal
 
 pub loop-file_info-init : goal.loop-file_info-init
@@ -17,7 +16,7 @@ loop-file_info-init g c = record {
   can = tt;
   finite = tt;
   all = c.into_iter-file_info-iterator.ensures.into_iter_gives ∙ c.values-file_info-items.ensures.rest;
-  written = written_nothing c.new-written.result c.new-written.ensures.rows c.new-written.ensures.table c.new-written.ensures.bytes;
+  written = c.new-written.ensures;
   bytes = Appends-nil _;
 }
 
@@ -40,7 +39,7 @@ loop-file_info-preserved g c =
       finite = tt;
       all = value_turned _ c.loop-file_info.yielded _ c.in-Some.file_info whole;
       written = subst (HasWritten c.write.new.self) next
-          (written_more c.loop-file_info.written c.write.new.self before file c.loop-file_info.invariant.written wrote.rows wrote.table wrote.bytes);
+          (wrote.written before c.loop-file_info.invariant.written);
       bytes = subst (λ files. Appends (g.W.Write.contents c.args.writer.now) (g.W.Write.contents c.write.new.writer) (flat_map file_record_bytes files)) next
           (subst (Appends (g.W.Write.contents c.args.writer.now) (g.W.Write.contents c.write.new.writer)) (sym (flat_map-push file_record_bytes before file))
           (Appends-trans _ (g.W.Write.contents c.loop-file_info.writer) _ (flat_map file_record_bytes before) (file_record_bytes file) c.loop-file_info.invariant.bytes wrote.appended));

@@ -4,12 +4,11 @@ use Rattle.std.specs.Map.{values_of}
 use Rattle.std.specs.Io.KnownBytes.{Appends}
 use Rattle.std.proofs.KnownBytes.{Appends-nil, Appends-trans}
 use Rattle.xet_records.specs.XorbRow.{xorb_header_row}
-use Rattle.xet_records.specs.XorbRecord.{IsXorb, xorb_record_bytes, xorb_row_count}
+use Rattle.xet_records.specs.XorbRecord.{IsXorb, HasItsChunks, xorb_record_bytes, xorb_row_count}
 use Rattle.xet_shards.specs.Section.{section_bytes}
 use Rattle.xet_shards.specs.Written.{HasWrittenXorbs}
 use Rattle.xet_shards.specs.XorbStore.{shown_xorbs}
 use Rattle.xet_shards.proofs.Walks.{value_turn, value_turned, flat_map-push, sum-middle, All-middle}
-use Rattle.xet_shards.proofs.Written.{written_no_xorbs, written_xorb}
 use Rattle.xet_shards.proofs.Xorbs.{owned, seen, seen_turn, seen_end, seen_push, xorb_values}
 use Rattle.xet_shards.proofs.shard_format.writer.write_xorb_section.Goals as goal
 
@@ -18,15 +17,16 @@ loop-xorb-init g c = record {
   can = tt;
   finite = tt;
   all = c.into_iter-xorb-iterator.ensures.into_iter_gives ∙ c.values-xorb-items.ensures.rest;
-  written = written_no_xorbs c.new-written.result c.new-written.ensures.rows c.new-written.ensures.table c.new-written.ensures.places c.new-written.ensures.bytes c.new-written.ensures.bytes_on_disk;
+  written = c.new-written.ensures;
   bytes = Appends-nil _;
 }
 
-pub write-requires-clause-well_formed : goal.write-requires-clause-well_formed
-write-requires-clause-well_formed g c =
+pub write-requires-clause-whole : goal.write-requires-clause-whole
+write-requires-clause-whole g c =
     let whole = seen_turn _ c.loop-xorb.yielded _ _ _ c.in-Some.xorb c.loop-xorb.invariant.all c.in-Some.is c.next.ensures.steps in
-    subst IsXorb (sym c.deref.ensures) (All-middle IsXorb (seen c.loop-xorb.yielded) (owned c.next.new.self) c.in-Some.xorb.now.value
-    (subst (All IsXorb) (sym whole) (xorb_values _ c.requires.xorbs)))
+    let xorb = All-middle IsXorb (seen c.loop-xorb.yielded) (owned c.next.new.self) c.in-Some.xorb.now.value
+    (subst (All IsXorb) (sym whole) (xorb_values _ c.requires.xorbs)) in
+    subst HasItsChunks (sym c.deref.ensures) xorb.count
 
 pub write-requires-clause-rows : goal.write-requires-clause-rows
 write-requires-clause-rows g c =
@@ -39,7 +39,7 @@ write-requires-clause-rows g c =
       sum,
       sum-middle xorb_row_count (seen c.loop-xorb.yielded) (owned c.next.new.self) xorb,
       c.requires.rows,
-      c.loop-xorb.invariant.written.rows,
+      c.loop-xorb.invariant.written.table.rows,
       ap xorb_row_count c.deref.ensures,
     )
 
@@ -56,7 +56,7 @@ loop-xorb-preserved g c =
       finite = tt;
       all = value_turned _ c.loop-xorb.yielded _ c.in-Some.xorb whole;
       written = subst (HasWrittenXorbs c.write.new.self) next
-          (written_xorb c.loop-xorb.written c.write.new.self before xorb c.loop-xorb.invariant.written wrote.rows wrote.table wrote.places wrote.bytes wrote.bytes_on_disk);
+          (wrote.written before c.loop-xorb.invariant.written);
       bytes = subst (λ xorbs. Appends (contents c.args.writer.now) (contents c.write.new.writer) (flat_map xorb_record_bytes xorbs)) next
           (subst (Appends (contents c.args.writer.now) (contents c.write.new.writer)) (sym (flat_map-push xorb_record_bytes before xorb))
           (Appends-trans _ (contents c.loop-xorb.writer) _ (flat_map xorb_record_bytes before) (xorb_record_bytes xorb) c.loop-xorb.invariant.bytes wrote.appended));

@@ -1,6 +1,7 @@
 use Rattle.std.proofs.Common.{◌≤◌, length, Some, sym, ap, ◌∙◌, subst}
 use Rattle.xet_records.specs.declared.xorb_structs.MDBXorbInfo.{MDBXorbInfo}
 use Rattle.xet_records.specs.XorbRecord.{IsXorb}
+use Rattle.xet_base.specs.KeyedHash.{no_key}
 use Rattle.xet_shards.specs.XorbStore.{shown_location}
 use Rattle.xet_shards.specs.ChunkQuery.{run_at}
 use Rattle.xet_shards.proofs.ChunkQueries.{location_kept, location_within, answer_kept, nothing_kept, unknown}
@@ -27,7 +28,7 @@ returns-clause-answer c =
     let qs = c.args.query_hashes.now in
     let found = c.in_ok-xorb.field-0.now in
     let kept = location_kept c.lookup.result.now locations c.in_ok-first.field-0.now found c.lookup.ensures.locations c.in_ok-xorb.ensures.value in
-    ap Some (c.run_at.ensures ∙ ap (λ (r : MDBXorbInfo). run_at (r, found.1) qs) c.as_ref.ensures)
+    ap Some (c.run_at.ensures ∙ ap (λ (r : MDBXorbInfo). run_at no_key (r, found.1) qs) c.as_ref.ensures)
     ∙ answer_kept locations qs c.in_ok-first.field-0.now (shown_location found) c.in_ok-first.ensures.value kept
 
 pub returns-in_err-xorb-clause-none : goal.returns-in_err-xorb-clause-none

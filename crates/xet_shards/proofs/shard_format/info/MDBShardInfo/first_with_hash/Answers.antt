@@ -28,7 +28,7 @@ returns-in_err-file_info-clause-visits g c =
     let i = c.loop-row.row-index in
     let offset = c.args.self.now.metadata.file_info_offset in (
       i + 1,
-      subst (λ rs. Visits file_records offset rs (g.S.ShardSource.meaning c.args.source.now) (g.S.ShardSource.meaning c.read_file_info.new.source)) (sym (take_more rows i 0 c.loop-row-test.true))
+      subst (λ rs. Visits file_records 1 offset rs (g.S.ShardSource.meaning c.args.source.now) (g.S.ShardSource.meaning c.read_file_info.new.source)) (sym (take_more rows i 0 c.loop-row-test.true))
           (visits_read_not file_records file_laws offset (get_or rows i 0) (take i rows) _ (g.S.ShardSource.meaning c.loop-row.source) _ _ c.loop-row.invariant.visits c.in_err-file_info.ensures),
     )
 
@@ -38,7 +38,7 @@ returns-then-eq-clause-visits g c =
     let i = c.loop-row.row-index in
     let offset = c.args.self.now.metadata.file_info_offset in (
       i + 1,
-      subst (λ rs. Visits file_records offset rs (g.S.ShardSource.meaning c.args.source.now) (g.S.ShardSource.meaning c.read_file_info.new.source)) (sym (take_more rows i 0 c.loop-row-test.true))
+      subst (λ rs. Visits file_records 1 offset rs (g.S.ShardSource.meaning c.args.source.now) (g.S.ShardSource.meaning c.read_file_info.new.source)) (sym (take_more rows i 0 c.loop-row-test.true))
           (visits_read file_records file_laws offset (get_or rows i 0) (take i rows) _ (g.S.ShardSource.meaning c.loop-row.source) _ _ c.loop-row.invariant.visits c.in_ok-file_info.ensures),
     )
 

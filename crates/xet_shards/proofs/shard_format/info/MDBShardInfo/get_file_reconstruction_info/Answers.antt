@@ -1,35 +1,30 @@
-use Rattle.std.proofs.Common.{◌≡◌, subst}
-use Rattle.std.specs.Prelude.{MatchResult}
+use Rattle.std.proofs.Common.{◌≡◌, refl, Option, ℕ}
+use Rattle.std.specs.FinMap.{values}
 use Rattle.xet_records.specs.FileRecord.{file_records}
-use Rattle.xet_shards.specs.declared.shard_format.info.MDBShardInfo.{MDBShardInfo}
-use Rattle.xet_shards.specs.Layout.{info_value}
-use Rattle.xet_shards.specs.Lookup.{file_table, Finding, FindingFails}
-use Rattle.xet_shards.proofs.ShardLookups.{lookup_written, lookup_bounded, collision_bounded}
+use Rattle.xet_records.proofs.RecordKinds.{file_laws}
+use Rattle.xet_shards.specs.Shard.{Shard, IsShard}
+use Rattle.xet_shards.specs.Layout.{layout, info_value, plain_form}
+use Rattle.xet_shards.proofs.InForm.{no_file, files_in, shard_in_form, files_ascend}
+use Rattle.xet_shards.proofs.ShardLookups.{lookup_written}
+use Rattle.xet_shards.proofs.TableLookups.{IsLookedUp, lookup_bounded, collision_bounded}
 use Rattle.xet_shards.proofs.shard_format.info.MDBShardInfo.get_file_reconstruction_info.Goals as goal
 
--- the lookup, under the info that a shard's bytes have
-says : (g : _) (c : goal.After-look_up g) (info : MDBShardInfo) → c.args.self.now ≡ info →
+-- the files of a shard are looked up in its bytes
+looked : (g : _) (c : goal.After-look_up g) (s : Shard) (expiry : Option ℕ) → IsShard s → (g.S.ShardSource.meaning c.args.source.now).bytes ≡ layout s expiry → c.args.self.now ≡ info_value s expiry
+    → let footer = c.args.self.now.metadata in
+    IsLookedUp file_records no_file (values s.files) footer.file_info_offset footer.file_lookup_offset footer.file_lookup_num_entry (g.S.ShardSource.meaning c.args.source.now)
+looked g c s expiry shard are is =
     let old = g.S.ShardSource.meaning c.args.source.now in
-    let new = g.S.ShardSource.meaning c.look_up.new.source in
-    MatchResult c.look_up.result (Finding file_records (file_table info.metadata old) info.metadata.file_info_offset c.args.hash.now old new)
-    (FindingFails file_records (file_table info.metadata old) info.metadata.file_info_offset c.args.hash.now old new)
-says g c info is =
-    let old = g.S.ShardSource.meaning c.args.source.now in
-    let new = g.S.ShardSource.meaning c.look_up.new.source in
-    subst (λ (i : MDBShardInfo). MatchResult c.look_up.result (Finding file_records (file_table i.metadata old) i.metadata.file_info_offset c.args.hash.now old new)
-    (FindingFails file_records (file_table i.metadata old) i.metadata.file_info_offset c.args.hash.now old new)) is c.look_up.ensures.read
+    files_in (values s.files) (values s.xorbs) (plain_form expiry) old c.args.self.now.metadata (shard_in_form s shard expiry old.bytes c.args.self.now are is) (files_ascend s shard) refl
 
 pub returns-clause-written : goal.returns-clause-written
 returns-clause-written g c s expiry shard are is =
-    lookup_written s shard expiry (g.S.ShardSource.meaning c.args.source.now) are (g.S.ShardSource.meaning c.look_up.new.source) c.args.hash.now c.look_up.result
-    (says g c (info_value s expiry) is)
+    lookup_written s shard _ _ _ (g.S.ShardSource.meaning c.args.source.now) (looked g c s expiry shard are is) (g.S.ShardSource.meaning c.look_up.new.source) c.args.hash.now c.look_up.result c.look_up.ensures.read
 
 pub returns-clause-costs : goal.returns-clause-costs
 returns-clause-costs g c s expiry shard are is =
-    lookup_bounded s shard expiry (g.S.ShardSource.meaning c.args.source.now) are (g.S.ShardSource.meaning c.look_up.new.source) c.args.hash.now c.look_up.result
-    (says g c (info_value s expiry) is)
+    lookup_bounded file_records file_laws no_file (values s.files) _ _ _ (g.S.ShardSource.meaning c.args.source.now) (looked g c s expiry shard are is) (g.S.ShardSource.meaning c.look_up.new.source) c.args.hash.now c.look_up.result c.look_up.ensures.read
 
 pub returns-clause-collision : goal.returns-clause-collision
 returns-clause-collision g c s expiry shard are is =
-    collision_bounded s shard expiry (g.S.ShardSource.meaning c.args.source.now) are (g.S.ShardSource.meaning c.look_up.new.source) c.args.hash.now c.look_up.result
-    (says g c (info_value s expiry) is)
+    collision_bounded file_records file_laws no_file (values s.files) _ _ _ (g.S.ShardSource.meaning c.args.source.now) (looked g c s expiry shard are is) (g.S.ShardSource.meaning c.look_up.new.source) c.args.hash.now c.look_up.result c.look_up.ensures.read

@@ -13,10 +13,10 @@ use Rattle.xet_shards.proofs.shard_format.info.MDBShardInfo.read_all_file_info_s
 pub returns-clause-written : goal.returns-clause-written
 returns-clause-written g c =
     let old = g.S.ShardSource.meaning c.args.source.now in
-    let new = g.S.ShardSource.meaning c.read_section.new.source in
-    λ s expiry shard are is.
+    let new = g.S.ShardSource.meaning c.read_section_at.new.source in
+    λ s expiry written.
     whole_read file_records file_laws (moved old 48) new (values s.files)
-    (subst (λ bytes. IsSection file_records (drop 48 bytes) (values s.files)) (sym are) (section_of_shard s expiry shard))
-    c.read_section.result (handed_same (values s.files) (well_formed_values (entries s.files) shard.files))
-    (subst (λ at. MatchResult c.read_section.result (λ found. ReadsSection file_records old new at found.items) (SectionFails file_records old new at))
-    (ap (λ (info : MDBShardInfo). info.metadata.file_info_offset) is) c.read_section.ensures)
+    (subst (λ bytes. IsSection file_records (drop 48 bytes) (values s.files)) (sym written.same_bytes) (section_of_shard s expiry written.shard))
+    c.read_section_at.result (handed_same (values s.files) (well_formed_values (entries s.files) written.shard.files))
+    (subst (λ at. MatchResult c.read_section_at.result (λ found. ReadsSection file_records old new at found.items) (SectionFails file_records old new at))
+    (ap (λ (info : MDBShardInfo). info.metadata.file_info_offset) written.same_info) c.read_section_at.ensures)

@@ -17,15 +17,15 @@ pub returns-then-rows-eq0-clause-written : goal.returns-then-rows-eq0-clause-wri
 returns-then-rows-eq0-clause-written g c =
     let old = g.S.ShardSource.meaning c.args.source.now in
     let new = g.S.ShardSource.meaning c.read_section_hashes.new.source in
-    λ s expiry shard are is.
+    λ s expiry written.
     let at = 48 + length (section_bytes file_records (values s.files)) in
     let stop = c.args.self.now.metadata.file_lookup_offset in
-    let none = sym (length-chunk_table (values s.xorbs)) ∙ sym (ap (λ (info : MDBShardInfo). info.metadata.chunk_lookup_num_entry) is) ∙ c.if-rows-eq0.true in
+    let none = sym (length-chunk_table (values s.xorbs)) ∙ sym (ap (λ (info : MDBShardInfo). info.metadata.chunk_lookup_num_entry) written.same_info) ∙ c.if-rows-eq0.true in
     no_hashes_read old new at stop (values s.xorbs)
-    (subst (λ bytes. IsSection xorb_records (drop at bytes) (values s.xorbs)) (sym are) (xorb_section_of_shard s expiry shard))
+    (subst (λ bytes. IsSection xorb_records (drop at bytes) (values s.xorbs)) (sym written.same_bytes) (xorb_section_of_shard s expiry written.shard))
     c.read_section_hashes.result none
     (subst (λ n. MatchResult c.read_section_hashes.result (λ found. ReadsHashes old new n stop found.items) (HashesFail old new n stop))
-    (ap (λ (info : MDBShardInfo). info.metadata.xorb_info_offset) is) c.read_section_hashes.ensures)
+    (ap (λ (info : MDBShardInfo). info.metadata.xorb_info_offset) written.same_info) c.read_section_hashes.ensures)
 
 pub returns-clause-written : goal.returns-clause-written
-returns-clause-written g c = λ s expiry shard are is. chunk_table_read s shard expiry _ _ are c.args.self.now is c.read_chunk_table.result c.read_chunk_table.ensures
+returns-clause-written g c = λ s expiry written. chunk_table_read s written.shard expiry _ _ written.same_bytes c.args.self.now written.same_info c.read_chunk_table.result c.read_chunk_table.ensures

@@ -15,11 +15,11 @@ use Rattle.xet_shards.proofs.shard_format.info.MDBShardInfo.read_all_xorb_blocks
 pub returns-clause-written : goal.returns-clause-written
 returns-clause-written g c =
     let old = g.S.ShardSource.meaning c.args.source.now in
-    let new = g.S.ShardSource.meaning c.read_section.new.source in
-    λ s expiry shard are is.
+    let new = g.S.ShardSource.meaning c.read_section_at.new.source in
+    λ s expiry written.
     let at = 48 + length (section_bytes file_records (values s.files)) in
     whole_read xorb_records xorb_laws (moved old at) new (values s.xorbs)
-    (subst (λ bytes. IsSection xorb_records (drop at bytes) (values s.xorbs)) (sym are) (xorb_section_of_shard s expiry shard))
-    c.read_section.result (map-id (values s.xorbs))
-    (subst (λ at. MatchResult c.read_section.result (λ found. ReadsSection xorb_records old new at found.items) (SectionFails xorb_records old new at))
-    (ap (λ (info : MDBShardInfo). info.metadata.xorb_info_offset) is) c.read_section.ensures)
+    (subst (λ bytes. IsSection xorb_records (drop at bytes) (values s.xorbs)) (sym written.same_bytes) (xorb_section_of_shard s expiry written.shard))
+    c.read_section_at.result (map-id (values s.xorbs))
+    (subst (λ at. MatchResult c.read_section_at.result (λ found. ReadsSection xorb_records old new at found.items) (SectionFails xorb_records old new at))
+    (ap (λ (info : MDBShardInfo). info.metadata.xorb_info_offset) written.same_info) c.read_section_at.ensures)

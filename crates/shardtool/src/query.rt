@@ -1,0 +1,44 @@
+//! Looking for a run of chunks in the bytes of a shard.
+
+ghost use Rattle.std.specs.Prelude.{MatchResult};
+ghost use Rattle.shardtool.specs.Query.{AnswersQuery, RefusesQuery};
+
+use std::alloc::Global;
+use std::io;
+use std::io::Write;
+use xet_core_structures::error::Result;
+use xet_core_structures::file_structs::FileDataSequenceEntry;
+use xet_core_structures::merklehash::MerkleHash;
+use xet_core_structures::shard_format::MDBShardInfo;
+use xet_core_structures::source::MemorySource;
+
+/// Looks for a run of these chunks in the bytes of a shard: its number of chunks, and their
+/// segment, or `None`.
+///
+/// The errors are those of [`MDBShardInfo::load_from_reader`] and
+/// [`MDBShardInfo::chunk_hash_dedup_query`].
+pub fn query_chunks(
+    alloc: Global,
+    bytes: &[u8],
+    hashes: &[MerkleHash],
+) -> Result<Option<(usize, FileDataSequenceEntry)>>
+    ensures { MatchResult result (AnswersQuery bytes.now hashes.now)
+        (RefusesQuery bytes.now hashes.now) }
+{
+    let mut source = MemorySource::new(bytes);
+    let info = MDBShardInfo::load_from_reader(alloc, &mut source)?;
+    info.chunk_hash_dedup_query(alloc, &mut source, hashes)
+}
+
+/// Prints a run on a line: its number of chunks, and their segment.
+pub fn print_run<W: Write>(
+    count: usize,
+    segment: &FileDataSequenceEntry,
+    output: &mut W,
+) -> io::Result<()> {
+    let xorb = segment.xorb_hash;
+    let start = segment.chunk_index_start;
+    let end = segment.chunk_index_end;
+    let bytes = segment.unpacked_segment_bytes;
+    writeln!(output, "run {count} {xorb} {start} {end} {bytes}")
+}

@@ -1,0 +1,203 @@
+-- On shards that agree the byte union is their union, and the union of their bytes the layout of it.
+use Rattle.std.proofs.Common.{◌≡◌, ◌⊎◌, inl, inr, ℕ, zero, suc, ◌^◌, ◌<◌, ◌≤◌, Bool, true, false, ◌||◌, List, Option, None, Some, IfSome, refl, sym, ap, ◌∙◌, subst, if◌then◌else◌, ◌==◌, true≢false, arith}
+use Rattle.std.specs.Int.{bit_at}
+use Rattle.std.specs.FinMap.{get, values}
+use Rattle.std.proofs.lemmas.Bool.Decides.{nat_tests}
+use Rattle.std.proofs.lemmas.Nat.Bits.{bit_at-lt}
+use Rattle.xet_base.specs.declared.error.CoreError.{CoreError}
+use Rattle.xet_base.specs.declared.error.CoreError.TheVariants.{OutOfMemory}
+use Rattle.xet_base.specs.Errors.{IsInvalidShard}
+use Rattle.xet_base.specs.declared.merklehash.DataHash.{DataHash}
+use Rattle.xet_records.specs.declared.file_structs.MDBFileInfo.{MDBFileInfo}
+use Rattle.xet_records.specs.FileRecord.{flags_of}
+use Rattle.xet_records.specs.Merging.{Includes, verified, described, Agree, joined}
+use Rattle.xet_records.proofs.Merging.{flags_are_parts, verification_absent, metadata_ext_absent, joined-comm, same_file_if_agree, merged_is_joined}
+use Rattle.xet_shards.specs.declared.shard_format.info.MDBShardInfo.{MDBShardInfo}
+use Rattle.xet_shards.specs.Ends.{HasEnds}
+use Rattle.xet_shards.specs.Joining.{either_file}
+use Rattle.xet_shards.specs.Layout.{layout, plain_form, info_value}
+use Rattle.xet_shards.specs.SetOperations.{IsUnion, ShardsAgree, HasFewRows}
+use Rattle.xet_shards.specs.Shard.{Shard, IsShard}
+use Rattle.xet_shards.proofs.EndsUnique.{only_info, ends_of_layout, not_unsupported, not_too_short}
+use Rattle.xet_shards.proofs.Overlays.{union_unique}
+use Rattle.xet_shards.proofs.Unions.{IsKnown, known, same_either}
+use Rattle.xet_shards.proofs.Widths.{fits_written}
+use Rattle.xet_core_structures.specs.ByteUnion.{mixed, IsUnitedFile, IsEitherFile, IsByteUnion}
+use Rattle.xet_core_structures.specs.ByteResults.{keyed_layout, key_of, HaveNoUnion, UnionRefusal, UnitesBytes, LoadRefusal, BytesRefusal}
+use Rattle.xet_core_structures.specs.Held.{Holds}
+use Rattle.xet_core_structures.proofs.Held.{held_once, held_whole, held_well, holds_itself}
+
+-- whether one set of bits includes another is decided
+bit_is : (x : ℕ) → x < 2 → (x ≡ 0) ⊎ (x ≡ 1)
+bit_is zero small = inl refl
+bit_is (suc zero) small = inr refl
+bit_is (suc (suc x)) small = absurd (omega (arith, small))
+
+module _ (a b : ℕ) where
+  abbrev IncludesBelow : ℕ → Type 0
+  IncludesBelow n = (i : ℕ) → i < n → bit_at b i ≡ 1 → bit_at a i ≡ 1
+
+  one_more : (n : ℕ) → IncludesBelow n → (bit_at b n ≡ 1 → bit_at a n ≡ 1) → IncludesBelow (suc n)
+  one_more n below here i low set = elim (lower i low) [
+    | inl less ↦ below i less set
+    | inr is ↦ subst (λ k. bit_at a k ≡ 1) (sym is) (here (subst (λ k. bit_at b k ≡ 1) is set))
+  ] where
+    lower : (i : ℕ) → i < suc n → (i < n) ⊎ (i ≡ n)
+    lower i low = apart i n low where
+      apart : (i n : ℕ) → i < suc n → (i < n) ⊎ (i ≡ n)
+      apart zero zero low = inr refl
+      apart zero (suc n) low = inl (omega arith)
+      apart (suc i) zero low = absurd (omega (arith, low))
+      apart (suc i) (suc n) low = elim (apart i n (omega (arith, low))) [ inl less ↦ inl (omega (arith, less)) | inr is ↦ inr (ap suc is) ]
+
+  included_below : (n : ℕ) → n ≤ 32 → IncludesBelow n ⊎ (¬ Includes a b)
+  included_below zero low = inl (λ i none set. absurd (omega (arith, none)))
+  included_below (suc n) low = elim (included_below n (omega (arith, low))) [
+    | inr lacks ↦ inr lacks
+    | inl below ↦ elim (bit_is (bit_at b n) (bit_at-lt b n)) [
+      | inl unset ↦ inl (one_more n below (λ set. absurd (omega (arith, unset, set))))
+      | inr set ↦ elim (bit_is (bit_at a n) (bit_at-lt a n)) [
+        | inr has ↦ inl (one_more n below (λ _. has))
+        | inl lacks ↦ inr (λ all. omega (arith, lacks, all n (omega (arith, low)) set))
+      ]
+    ]
+  ]
+
+  pub included : Includes a b ⊎ (¬ Includes a b)
+  included = included_below 32 (omega arith)
+
+-- a record whose flags include the other's is the join of both
+bit_kept : (a b : ℕ) (k : ℕ) → k < 32 → Includes a b → ((bit_at b k == 1) ≡ true → (bit_at a k == 1) ≡ true)
+bit_kept a b k low all set = ap (λ n. n == 1) (all k low (told (bit_at b k) set)) where
+  told : (n : ℕ) → (n == 1) ≡ true → n ≡ 1
+  told n is = grind (arith, nat_tests, is)
+
+or_more : (v w : Bool) → (w ≡ true → v ≡ true) → (v || w) ≡ v
+or_more true w more = refl
+or_more false true more = absurd (true≢false (sym (more refl)))
+or_more false false more = refl
+
+part_more : {X : Type 0} (v w : Bool) (x y : X) → (w ≡ true → v ≡ true) → (v ≡ false → w ≡ false → x ≡ y) → (if v then x else y) ≡ x
+part_more true w x y more none = refl
+part_more false true x y more none = absurd (true≢false (sym (more refl)))
+part_more false false x y more none = sym (none refl refl)
+
+module _ (q : DataHash) (a b : MDBFileInfo) (one : IsKnown q a) (other : IsKnown q b) where
+  joined-more : Includes a.metadata.file_flags b.metadata.file_flags → joined a b ≡ a
+  joined-more all =
+      let v = bit_kept a.metadata.file_flags b.metadata.file_flags 31 (omega arith) all in
+      let m = bit_kept a.metadata.file_flags b.metadata.file_flags 30 (omega arith) all in
+      let flags = (λ i. flags_of (or_more (verified a) (verified b) v i) (or_more (described a) (described b) m i))
+      ∙ sym (flags_are_parts a.metadata.file_flags one.well_formed.widths.metadata.file_flags one.well_formed.known_flags) in
+      let verification = part_more (verified a) (verified b) a.verification b.verification v
+      (λ x y. verification_absent a one.well_formed.whole x ∙ sym (verification_absent b other.well_formed.whole y)) in
+      let metadata_ext = part_more (described a) (described b) a.metadata_ext b.metadata_ext m
+      (λ x y. metadata_ext_absent a one.well_formed.whole x ∙ sym (metadata_ext_absent b other.well_formed.whole y)) in
+      λ i. record { metadata = record a.metadata { file_flags = flags i }; segments = a.segments; verification = verification i; metadata_ext = metadata_ext i }
+
+  pub mixed_is_joined : mixed a b ≡ joined a b
+  mixed_is_joined = λ i. record (joined a b) { metadata = record (joined a b).metadata { _unused = sym one.well_formed.reserved i } }
+
+module _ (q : DataHash) (a b : MDBFileInfo) (one : IsKnown q a) (other : IsKnown q b) (agree : Agree a b) where
+  joined-less : Includes b.metadata.file_flags a.metadata.file_flags → joined a b ≡ b
+  joined-less all = joined-comm a b one.well_formed other.well_formed (sym one.keyed ∙ other.keyed) agree ∙ joined-more q b a other one all
+
+  united_is_joined : (c : MDBFileInfo) → IsUnitedFile a b c → c ≡ joined a b
+  united_is_joined c (inl (all, is)) = is ∙ sym (joined-more q a b one other all)
+  united_is_joined c (inr (inl (lacks, all, is))) = is ∙ sym (joined-less all)
+  united_is_joined c (inr (inr (lacks, wants, counts, is))) = is ∙ mixed_is_joined q a b one other
+
+  joined_is_united : IsUnitedFile a b (joined a b)
+  joined_is_united = elim (included a.metadata.file_flags b.metadata.file_flags) [
+    | inl all ↦ inl (all, joined-more q a b one other all)
+    | inr lacks ↦ elim (included b.metadata.file_flags a.metadata.file_flags) [
+      | inl all ↦ inr (inl (lacks, all, joined-less all))
+      | inr wants ↦ inr (inr (
+        lacks,
+        wants,
+        (same_file_if_agree a b one.well_formed.whole other.well_formed.whole (sym one.keyed ∙ other.keyed) agree).num_entries,
+        sym (mixed_is_joined q a b one other),
+      ))
+    ]
+  ]
+
+-- the byte union of shards that agree is their union
+module _ (q : DataHash) where
+  either_is : (o p r : Option MDBFileInfo) → ((x : MDBFileInfo) → o ≡ Some x → IsKnown q x) → ((y : MDBFileInfo) → p ≡ Some y → IsKnown q y)
+      → ((x y : MDBFileInfo) → o ≡ Some x → p ≡ Some y → Agree x y) → IsEitherFile o p r → r ≡ either_file o p
+  either_is None p r first second agree is = is
+  either_is (Some x) None r first second agree is = is
+  either_is (Some x) (Some y) r first second agree (z, is, united) =
+      let own = first x refl in
+      let others = second y refl in
+      is ∙ ap Some (united_is_joined q x y own others (agree x y refl refl) z united ∙ sym (merged_is_joined x y own.well_formed others.well_formed))
+
+  is_either : (o p : Option MDBFileInfo) → ((x : MDBFileInfo) → o ≡ Some x → IsKnown q x) → ((y : MDBFileInfo) → p ≡ Some y → IsKnown q y)
+      → ((x y : MDBFileInfo) → o ≡ Some x → p ≡ Some y → Agree x y) → IsEitherFile o p (either_file o p)
+  is_either None p first second agree = refl
+  is_either (Some x) None first second agree = refl
+  is_either (Some x) (Some y) first second agree =
+      let own = first x refl in
+      let others = second y refl in
+      (joined x y, ap Some (merged_is_joined x y own.well_formed others.well_formed), joined_is_united q x y own others (agree x y refl refl))
+
+module _ (a b c : Shard) (first : IsShard a) (second : IsShard b) (agree : ShardsAgree a b) where
+  pub byte_union_is_union : IsByteUnion a b c → IsUnion a b c
+  byte_union_is_union union = record {
+    files = λ q. either_is q (get a.files q) (get b.files q) (get c.files q) (λ r. known a q r first) (λ r. known b q r second) (agree.files q) (union.files q);
+    xorbs = λ q. union.xorbs q ∙ sym (same_either (get a.xorbs q) (get b.xorbs q) (agree.xorbs q));
+  }
+
+  pub union_is_byte_union : IsUnion a b c → IsByteUnion a b c
+  union_is_byte_union union = record {
+    files = λ q. subst (IsEitherFile (get a.files q) (get b.files q)) (sym (union.files q))
+        (is_either q (get a.files q) (get b.files q) (λ r. known a q r first) (λ r. known b q r second) (agree.files q));
+    xorbs = λ q. union.xorbs q ∙ same_either (get a.xorbs q) (get b.xorbs q) (agree.xorbs q);
+  }
+
+-- header and footer of the bytes of a shard
+pub info_found : (s : Shard) (expiry : Option ℕ) (i : MDBShardInfo) → IsShard s → IfSome expiry (λ n. n < 2 ^ 64) → HasEnds (layout s expiry) i → i ≡ info_value s expiry
+info_found s expiry i shard fits ends =
+    only_info (layout s expiry) i (info_value s expiry) ends (ends_of_layout (values s.files) (values s.xorbs) (plain_form expiry) (fits_written s expiry shard fits))
+
+pub loads_well : (s : Shard) (expiry : Option ℕ) (e : CoreError) → IsShard s → IfSome expiry (λ n. n < 2 ^ 64) → ¬ LoadRefusal (layout s expiry) e
+loads_well s expiry e shard fits refusal = why refusal where
+  ends : HasEnds (layout s expiry) (info_value s expiry)
+  ends = ends_of_layout (values s.files) (values s.xorbs) (plain_form expiry) (fits_written s expiry shard fits)
+
+  why : ¬ LoadRefusal (layout s expiry) e
+  why (inl (is, unsupported)) = not_unsupported (layout s expiry) (info_value s expiry) ends unsupported
+  why (inr (is, short)) = not_too_short (layout s expiry) (info_value s expiry) ends short
+
+-- the union of the bytes of two shards that agree
+module _ (a b c : Shard) (e f : Option ℕ) (first : IsShard a) (second : IsShard b) (e_fits : IfSome e (λ n. n < 2 ^ 64)) (f_fits : IfSome f (λ n. n < 2 ^ 64))
+    (agree : ShardsAgree a b) (union : IsUnion a b c) where
+  pub written_union : (out : List ℕ) → UnitesBytes (layout a e) (layout b f) out → (out ≡ layout c None) × HasFewRows c
+  written_union out (i, j, d, i_ends, j_ends, have, is) =
+      let i_is = info_found a e i first e_fits i_ends in
+      let j_is = info_found b f j second f_fits j_ends in
+      let a_is = held_once (layout a e) (info_value a e) a (holds_itself a e first) have.first (subst (λ k. Holds (layout a e) k have.first) i_is have.holds_first) in
+      let b_is = held_once (layout b f) (info_value b f) b (holds_itself b f second) have.second (subst (λ k. Holds (layout b f) k have.second) j_is have.holds_second) in
+      let bytes : IsByteUnion a b d = subst (λ p. p) (λ k. IsByteUnion (a_is k) (b_is k) d) have.result in
+      let d_is = union_unique a b d c (byte_union_is_union a b d first second agree bytes) union in
+      (is ∙ (λ k. keyed_layout (d_is k) (key_of (i_is k))), subst HasFewRows d_is have.rows)
+
+  no_union : HasFewRows c → ¬ HaveNoUnion (layout a e) (info_value a e) (layout b f) (info_value b f)
+  no_union few (inl files) = files.none a.files b.files c.files (holds_itself a e first).files (holds_itself b f second).files (union_is_byte_union a b c first second agree union).files few.files
+  no_union few (inr xorbs) = xorbs.none a.xorbs b.xorbs c.xorbs (holds_itself a e first).xorbs (holds_itself b f second).xorbs (union_is_byte_union a b c first second agree union).xorbs few.xorbs
+
+  refused : (err : CoreError) → UnionRefusal (layout a e) (info_value a e) (layout b f) (info_value b f) err → (err ≡ OutOfMemory) ⊎ (IsInvalidShard err × (¬ HasFewRows c))
+  refused err (inl (is, differ)) = absurd (differ refl)
+  refused err (inr (same, inl (inl no_memory))) = inl no_memory
+  refused err (inr (same, inl (inr (inl (is, inl cut))))) = absurd (held_whole (layout a e) (info_value a e) a (holds_itself a e first) cut)
+  refused err (inr (same, inl (inr (inl (is, inr cut))))) = absurd (held_whole (layout b f) (info_value b f) b (holds_itself b f second) cut)
+  refused err (inr (same, inl (inr (inr (is, inl bad))))) = absurd (held_well (layout a e) (info_value a e) a (holds_itself a e first) bad)
+  refused err (inr (same, inl (inr (inr (is, inr bad))))) = absurd (held_well (layout b f) (info_value b f) b (holds_itself b f second) bad)
+  refused err (inr (same, inr (is, none))) = inr (is, λ few. no_union few none)
+
+  pub refused_union : (err : CoreError) → BytesRefusal (layout a e) (layout b f) err → (err ≡ OutOfMemory) ⊎ (IsInvalidShard err × (¬ HasFewRows c))
+  refused_union err (inl load) = absurd (loads_well a e err first e_fits load)
+  refused_union err (inr (inl load)) = absurd (loads_well b f err second f_fits load)
+  refused_union err (inr (inr (inl no_memory))) = inl no_memory
+  refused_union err (inr (inr (inr (i, j, i_ends, j_ends, why)))) =
+      refused err (subst (λ p. p) (λ k. UnionRefusal (layout a e) (info_found a e i first e_fits i_ends k) (layout b f) (info_found b f j second f_fits j_ends k) err) why)

@@ -1,0 +1,12 @@
+pub mod Ascending
+pub mod ByteUnions
+pub mod Combining
+pub mod Handed
+pub mod Held
+pub mod ListMaps
+pub mod Lists
+pub mod MergeTrees
+pub mod Mixing
+pub mod Results
+pub mod Stepping
+pub mod Uniting

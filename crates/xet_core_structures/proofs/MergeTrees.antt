@@ -1,0 +1,140 @@
+-- A tree of unions over the bytes of shards that agree pairwise writes the layout of their join.
+use Rattle.std.proofs.Common.{◌≡◌, ◌⊎◌, inl, inr, ℕ, ◌^◌, ◌<◌, List, [], ◌∷◌, ◌++◌, map, Option, None, Some, IfSome, Ok, Err, refl, sym, ap, ◌∙◌, subst}
+use Rattle.std.specs.Prelude.{Contains, MatchResult, slice_get}
+use Rattle.std.specs.declared.result.Result.{Result}
+use Rattle.std.specs.declared.vec.Vec.{Vec}
+use Rattle.std.proofs.lemmas.List.{map-append}
+use Rattle.std.proofs.lemmas.List.Elements.{Contains-push, Contains-append_left, Contains-append_right}
+use Rattle.std.proofs.lemmas.Option.{same_Some, none-some, slice_get_past}
+use Rattle.xet_base.specs.declared.error.CoreError.{CoreError}
+use Rattle.xet_base.specs.declared.error.CoreError.TheVariants.{OutOfMemory}
+use Rattle.xet_base.specs.Errors.{IsInvalidShard}
+use Rattle.xet_shards.specs.Layout.{layout}
+use Rattle.xet_shards.specs.Joins.{IsJoinOf, AgreePairwise}
+use Rattle.xet_shards.specs.SetOperations.{HasFewRows}
+use Rattle.xet_shards.specs.Shard.{Shard, IsShard}
+use Rattle.xet_shards.proofs.Joins.{join-unique, join-one, follows_parts}
+use Rattle.xet_shards.proofs.AgreeingJoins.{joins_exist, lists_agree, union-of_joins, agree_left, agree_right, union_is_shard, fewer_if_more}
+use Rattle.xet_core_structures.specs.declared.set_operations.MergePlan.{MergePlan}
+use Rattle.xet_core_structures.specs.declared.set_operations.MergePlan.TheVariants.{Leaf, Both'}
+use Rattle.xet_core_structures.specs.ByteResults.{UnitesBytes, BytesRefusal}
+use Rattle.xet_core_structures.specs.MergeTrees.{leaves, HasUnion, TreeWrites, TreeRefusal, AtLeaves, AreWritten}
+use Rattle.xet_core_structures.proofs.ByteUnions.{written_union, refused_union}
+
+-- the bytes of a shard, with an expiry or none
+record IsLayout (out : List ℕ) (c : Shard) (expiry : Option ℕ) : Type 0 where
+  pub shard : IsShard c
+  pub fits : IfSome expiry (λ n. n < 2 ^ 64)
+  pub bytes : out ≡ layout c expiry
+
+module _ (inputs : List (List ℕ)) (shard_at : ℕ → Shard) (expiry_at : ℕ → Option ℕ) where
+  abbrev shards : MergePlan → List Shard
+  shards plan = map shard_at (leaves plan)
+
+  written_left : (left right : MergePlan) (xs ys : List ℕ) → leaves left ≡ xs → leaves right ≡ ys
+      → ((i : ℕ) → Contains (xs ++ ys) i → IfSome (expiry_at i) (λ e. e < 2 ^ 64) × (slice_get inputs i ≡ Some (layout (shard_at i) (expiry_at i))))
+      → AreWritten inputs left shard_at expiry_at
+  written_left left right xs ys is _ all i member = all i (Contains-append_left xs ys i (subst (λ zs. Contains zs i) is member))
+
+  written_right : (left right : MergePlan) (xs ys : List ℕ) → leaves left ≡ xs → leaves right ≡ ys
+      → ((i : ℕ) → Contains (xs ++ ys) i → IfSome (expiry_at i) (λ e. e < 2 ^ 64) × (slice_get inputs i ≡ Some (layout (shard_at i) (expiry_at i))))
+      → AreWritten inputs right shard_at expiry_at
+  written_right left right xs ys _ is all i member = all i (Contains-append_right xs ys i (subst (λ zs. Contains zs i) is member))
+
+  -- what holds at both sides of a union
+  module _ (left right : MergePlan) (c : Shard)
+      (agree : AgreePairwise (Contains (map shard_at (leaves left ++ leaves right)))) (join : IsJoinOf (Contains (map shard_at (leaves left ++ leaves right))) c) where
+    parted : map shard_at (leaves left ++ leaves right) ≡ shards left ++ shards right
+    parted = map-append shard_at (leaves left) (leaves right)
+
+    abbrev agree_parted : AgreePairwise (Contains (shards left ++ shards right))
+    agree_parted = subst (λ ss. AgreePairwise (Contains ss)) parted agree
+
+    abbrev join_parted : IsJoinOf (Contains (shards left ++ shards right)) c
+    join_parted = subst (λ ss. IsJoinOf (Contains ss) c) parted join
+
+    agree_l : AgreePairwise (AtLeaves left shard_at)
+    agree_l = agree_left (shards left) (shards right) agree_parted
+
+    agree_r : AgreePairwise (AtLeaves right shard_at)
+    agree_r = agree_right (shards left) (shards right) agree_parted
+
+    few_left : (a : Shard) → IsJoinOf (AtLeaves left shard_at) a → HasFewRows c → HasFewRows a
+    few_left a one = fewer_if_more (Contains (shards left)) (Contains (shards left ++ shards right)) a c one join_parted (λ s. Contains-append_left (shards left) (shards right) s)
+
+    few_right : (a : Shard) → IsJoinOf (AtLeaves right shard_at) a → HasFewRows c → HasFewRows a
+    few_right a one = fewer_if_more (Contains (shards right)) (Contains (shards left ++ shards right)) a c one join_parted (λ s. Contains-append_right (shards left) (shards right) s)
+
+    -- the union of what both sides write
+    both_written : (a b : Shard) (e f : Option ℕ) (x y out : List ℕ) → IsJoinOf (AtLeaves left shard_at) a → IsJoinOf (AtLeaves right shard_at) b
+        → IsLayout x a e → IsLayout y b f → UnitesBytes x y out → IsLayout out c None
+    both_written a b e f x y out one other first second unites =
+        let union = union-of_joins (shards left) (shards right) a b one other agree_parted c join_parted in
+        let pair = lists_agree (shards left) (shards right) a b one other agree_parted in
+        let written = written_union a b c e f first.shard second.shard first.fits second.fits pair union out
+        (subst (λ p. p) (λ k. UnitesBytes (first.bytes k) (second.bytes k) out) unites) in
+        record { shard = union_is_shard a b c first.shard second.shard pair union written.1; fits = tt; bytes = written.0 }
+
+    both_refused : (a b : Shard) (e f : Option ℕ) (x y : List ℕ) (err : CoreError) → IsJoinOf (AtLeaves left shard_at) a → IsJoinOf (AtLeaves right shard_at) b
+        → IsLayout x a e → IsLayout y b f → BytesRefusal x y err → (err ≡ OutOfMemory) ⊎ (IsInvalidShard err × (¬ HasFewRows c))
+    both_refused a b e f x y err one other first second refusal =
+        refused_union a b c e f first.shard second.shard first.fits second.fits (lists_agree (shards left) (shards right) a b one other agree_parted)
+        (union-of_joins (shards left) (shards right) a b one other agree_parted c join_parted) err
+        (subst (λ p. p) (λ k. BytesRefusal (first.bytes k) (second.bytes k) err) refusal)
+
+  -- what a tree writes is the layout of the join of its leaves, without expiry unless it is a leaf
+  tree_written : (plan : MergePlan) (c : Shard) (out : List ℕ) → AreWritten inputs plan shard_at expiry_at → AgreePairwise (AtLeaves plan shard_at) → IsJoinOf (AtLeaves plan shard_at) c
+      → TreeWrites inputs plan out → (expiry : Option ℕ) × IsLayout out c expiry × (HasUnion plan → expiry ≡ None)
+  tree_written (Leaf i) c out written agree join is =
+      let here = written i (Contains-push [] i) in
+      let shard = agree.shards (shard_at i) (Contains-push [] (shard_at i)) in
+      let same = join-unique (Contains (shard_at i ∷ [])) (shard_at i) c (join-one (shard_at i) (follows_parts (shard_at i) shard)) join in (
+        expiry_at i,
+        record {
+          shard = subst IsShard same shard;
+          fits = here.0;
+          bytes = same_Some out (layout (shard_at i) (expiry_at i)) (sym is ∙ here.1) ∙ ap (λ s. layout s (expiry_at i)) same;
+        },
+        λ none. absurd none,
+      )
+  tree_written (Both' p left q right) c out written agree join (x, y, x_written, y_written, unites) =
+      let l = joins_exist (shards left) (agree_l left right c agree join) in
+      let r = joins_exist (shards right) (agree_r left right c agree join) in
+      let first = tree_written left l.0 x (written_left left right (leaves left) (leaves right) refl refl written) (agree_l left right c agree join) l.1 x_written in
+      let second = tree_written right r.0 y (written_right left right (leaves left) (leaves right) refl refl written) (agree_r left right c agree join) r.1 y_written in
+      (None, both_written left right c agree join l.0 r.0 first.0 second.0 x y out l.1 r.1 first.1 second.1 unites, λ _. refl)
+
+  -- it refuses only if an allocation fails or the join has too many rows
+  tree_refused : (plan : MergePlan) (c : Shard) (err : CoreError) → AreWritten inputs plan shard_at expiry_at → AgreePairwise (AtLeaves plan shard_at) → IsJoinOf (AtLeaves plan shard_at) c
+      → TreeRefusal inputs plan err → (err ≡ OutOfMemory) ⊎ (IsInvalidShard err × (¬ HasFewRows c))
+  tree_refused (Leaf i) c err written agree join (inl (is, past)) =
+      absurd (none-some (layout (shard_at i) (expiry_at i)) (sym (slice_get_past inputs i past) ∙ (written i (Contains-push [] i)).1))
+  tree_refused (Leaf i) c err written agree join (inr no_memory) = inl no_memory
+  tree_refused (Both' p left q right) c err written agree join (inl refusal) =
+      let l = joins_exist (shards left) (agree_l left right c agree join) in
+      elim (tree_refused left l.0 err (written_left left right (leaves left) (leaves right) refl refl written) (agree_l left right c agree join) l.1 refusal) [
+        | inl no_memory ↦ inl no_memory
+        | inr many ↦ inr (many.0, λ few. many.1 (few_left left right c agree join l.0 l.1 few))
+      ]
+  tree_refused (Both' p left q right) c err written agree join (inr (inl refusal)) =
+      let r = joins_exist (shards right) (agree_r left right c agree join) in
+      elim (tree_refused right r.0 err (written_right left right (leaves left) (leaves right) refl refl written) (agree_r left right c agree join) r.1 refusal) [
+        | inl no_memory ↦ inl no_memory
+        | inr many ↦ inr (many.0, λ few. many.1 (few_right left right c agree join r.0 r.1 few))
+      ]
+  tree_refused (Both' p left q right) c err written agree join (inr (inr (x, y, x_written, y_written, refusal))) =
+      let l = joins_exist (shards left) (agree_l left right c agree join) in
+      let r = joins_exist (shards right) (agree_r left right c agree join) in
+      let first = tree_written left l.0 x (written_left left right (leaves left) (leaves right) refl refl written) (agree_l left right c agree join) l.1 x_written in
+      let second = tree_written right r.0 y (written_right left right (leaves left) (leaves right) refl refl written) (agree_r left right c agree join) r.1 y_written in
+      both_refused left right c agree join l.0 r.0 first.0 second.0 x y err l.1 r.1 first.1 second.1 refusal
+
+  -- the one byte string
+  pub one_string : {Z : Type 0} (plan : MergePlan) (c : Shard) (result : Result (Vec ℕ Z) CoreError) → HasUnion plan → AreWritten inputs plan shard_at expiry_at
+      → AgreePairwise (AtLeaves plan shard_at) → IsJoinOf (AtLeaves plan shard_at) c
+      → MatchResult result (λ bytes. TreeWrites inputs plan bytes.items) (TreeRefusal inputs plan)
+      → MatchResult result (λ bytes. (bytes.items ≡ layout c None) × IsShard c) (λ e. (e ≡ OutOfMemory) ⊎ (IsInvalidShard e × (¬ HasFewRows c)))
+  one_string plan c (Ok bytes) union written agree join writes =
+      let found = tree_written plan c bytes.items written agree join writes in
+      (found.1.bytes ∙ ap (layout c) (found.2 union), found.1.shard)
+  one_string plan c (Err e) union written agree join refusal = tree_refused plan c e written agree join refusal

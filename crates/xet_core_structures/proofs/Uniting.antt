@@ -1,0 +1,49 @@
+-- The union of two byte strings, and a tree whose two sides are written.
+use Rattle.std.proofs.Common.{◌≡◌, ◌⊎◌, inl, inr, ℕ, List, [], ◌++◌, None, Some, Ok, Err, ap, ◌∙◌, subst, arith}
+use Rattle.std.specs.Prelude.{MatchResult}
+use Rattle.std.specs.declared.result.Result.{Result}
+use Rattle.std.specs.declared.vec.Vec.{Vec}
+use Rattle.xet_base.specs.declared.error.CoreError.{CoreError}
+use Rattle.xet_base.specs.declared.source.MemorySource.{MemorySource}
+use Rattle.xet_base.specs.Source.{Source}
+use Rattle.xet_shards.specs.declared.shard_format.info.MDBShardInfo.{MDBShardInfo}
+use Rattle.xet_shards.specs.Ends.{HasEnds}
+use Rattle.xet_core_structures.specs.declared.set_operations.MergePlan.{MergePlan}
+use Rattle.xet_core_structures.specs.ByteUnion.{IsByteUnion}
+use Rattle.xet_core_structures.specs.ByteResults.{keyed_layout, key_of, HaveResult, WritesResult, InputsFail, UnionRefusal, UnitesBytes, BytesRefusal}
+use Rattle.xet_core_structures.specs.MergeTrees.{TreeWrites, TreeRefusal}
+
+-- what a source in memory is
+abbrev in_memory : MemorySource → Source
+in_memory m = record { bytes = m.bytes.now; at = m.at; seeks = m.seeks.value; read = m.read.value; failures = 0; last_failure = None }
+
+-- what is read of two byte strings is what they are, and their ends are these
+module _ (x y x_read y_read : List ℕ) (i j : MDBShardInfo) (x_is : x_read ≡ x) (y_is : y_read ≡ y) (i_ends : HasEnds x i) (j_ends : HasEnds y j) where
+  pub bytes_united : (start out : List ℕ) (info : MDBShardInfo) → start ≡ [] → WritesResult IsByteUnion x_read i y_read j (Some start) (Some out) info → UnitesBytes x y out
+  bytes_united start out info empty (c, have, is, appends) = (
+    i,
+    j,
+    c,
+    i_ends,
+    j_ends,
+    subst (λ p. p) (λ k. HaveResult IsByteUnion (x_is k) i (y_is k) j c) have,
+    appends ∙ ap (λ zs. zs ++ keyed_layout c (key_of i)) empty,
+  )
+
+  -- sources in memory do not fail
+  pub bytes_refused : (old_1 new_1 old_2 new_2 : MemorySource) (e : CoreError)
+      → InputsFail (in_memory old_1) (in_memory new_1) (in_memory old_2) (in_memory new_2) (UnionRefusal x_read i y_read j) e → BytesRefusal x y e
+  bytes_refused old_1 new_1 old_2 new_2 e (inl failed) = absurd (omega (arith, failed.0))
+  bytes_refused old_1 new_1 old_2 new_2 e (inr (inl failed)) = absurd (omega (arith, failed.0))
+  bytes_refused old_1 new_1 old_2 new_2 e (inr (inr refusal)) = inr (inr (inr (i, j, i_ends, j_ends, subst (λ p. p) (λ k. UnionRefusal (x_is k) i (y_is k) j e) refusal)))
+
+-- both sides of a tree are written, and their union is, or is refused
+pub both_sides : {Z : Type 0} (inputs : List (List ℕ)) (left right : MergePlan) (x y x_read y_read : List ℕ) (r : Result (Vec ℕ Z) CoreError)
+    → TreeWrites inputs left x → TreeWrites inputs right y → x_read ≡ x → y_read ≡ y
+    → MatchResult r (λ bytes. UnitesBytes x_read y_read bytes.items) (BytesRefusal x_read y_read)
+    → MatchResult r (λ bytes. (x y : List ℕ) × TreeWrites inputs left x × TreeWrites inputs right y × UnitesBytes x y bytes.items)
+    (λ e. TreeRefusal inputs left e ⊎ TreeRefusal inputs right e ⊎ ((x y : List ℕ) × TreeWrites inputs left x × TreeWrites inputs right y × BytesRefusal x y e))
+both_sides inputs left right x y x_read y_read (Ok bytes) x_written y_written x_is y_is unites =
+    (x, y, x_written, y_written, subst (λ p. p) (λ k. UnitesBytes (x_is k) (y_is k) bytes.items) unites)
+both_sides inputs left right x y x_read y_read (Err e) x_written y_written x_is y_is refusal =
+    inr (inr (x, y, x_written, y_written, subst (λ p. p) (λ k. BytesRefusal (x_is k) (y_is k) e) refusal))

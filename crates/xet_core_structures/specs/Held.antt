@@ -1,0 +1,100 @@
+-- What bytes hold, to an operation that reads both sections of a shard at the offsets of a footer.
+use Rattle.std.specs.Prelude.{◌≡◌, ◌⊎◌, ℕ, ◌≤◌, List, map, drop, All}
+use Rattle.std.specs.List.Sorted.{IsStrictlySortedBy}
+use Rattle.std.specs.FinMap.{FinMap, entries, values}
+use Rattle.xet_base.specs.declared.error.CoreError.{CoreError}
+use Rattle.xet_base.specs.declared.error.CoreError.TheVariants.{OutOfMemory}
+use Rattle.xet_base.specs.Errors.{IsEndOfInput, IsInvalidShard}
+use Rattle.xet_base.specs.Hash.{hash_cmp}
+use Rattle.xet_base.specs.Source.{Source, DeviceFailure}
+use Rattle.xet_records.specs.declared.file_structs.MDBFileInfo.{MDBFileInfo}
+use Rattle.xet_records.specs.declared.xorb_structs.MDBXorbInfo.{MDBXorbInfo}
+use Rattle.xet_records.specs.RecordKind.{RecordKind}
+use Rattle.xet_records.specs.FileRecord.{file_records}
+use Rattle.xet_records.specs.XorbRecord.{xorb_records}
+use Rattle.xet_shards.specs.declared.shard_format.info.MDBShardInfo.{MDBShardInfo}
+use Rattle.xet_shards.specs.Section.{total_rows}
+use Rattle.xet_shards.specs.Shard.{Shard}
+use Rattle.xet_shards.specs.SectionReading.{HoldsRecords, IsSection, PassesRows, IsCutSection}
+
+module _ {H R : Type 0} (K : RecordKind H R) where
+  -- the hashes of the records strictly ascend
+  abbrev pub Ascends : List R → Type 0
+  Ascends rs = IsStrictlySortedBy hash_cmp (map (λ r. K.hash_of (K.header_of r)) rs)
+
+  -- the records may be written as a section whose hashes strictly ascend
+  pub record AreWritable (rs : List R) : Type 0 where
+    pub stored : All K.IsStored rs
+    pub ascends : Ascends rs
+    pub rows : total_rows K rs ≤ 4294967295
+
+  -- the bytes begin with records whose hashes do not strictly ascend
+  abbrev pub FrontFalls : List ℕ → Type 0
+  FrontFalls bytes = (stored : List R) × (rest : List ℕ) × HoldsRecords K bytes stored rest × (¬ Ascends stored)
+
+-- the bytes are a section whose hashes strictly ascend: this is the map of its records, as reading returns them
+pub record IsSectionOf {H R : Type 0} (K : RecordKind H R) (bytes : List ℕ) (m : FinMap hash_cmp R) : Type 0 where
+  pub stored : List R
+  pub section : IsSection K bytes stored
+  pub handed : map K.handed_out stored ≡ values m
+  pub keyed : All (λ e. e.0 ≡ K.hash_of (K.header_of e.1)) (entries m)
+
+-- the same as a list of the records
+pub record IsListOf {H R : Type 0} (K : RecordKind H R) (bytes : List ℕ) (found : List R) : Type 0 where
+  pub stored : List R
+  pub section : IsSection K bytes stored
+  pub handed : map K.handed_out stored ≡ found
+  pub writable : AreWritable K found
+
+-- the bytes from each section on
+abbrev pub files_at : List ℕ → MDBShardInfo → List ℕ
+files_at bytes info = drop info.metadata.file_info_offset bytes
+
+abbrev pub xorbs_at : List ℕ → MDBShardInfo → List ℕ
+xorbs_at bytes info = drop info.metadata.xorb_info_offset bytes
+
+-- the bytes have both sections of this shard
+pub record Holds (bytes : List ℕ) (info : MDBShardInfo) (s : Shard) : Type 0 where
+  pub files : IsSectionOf file_records (files_at bytes info) s.files
+  pub xorbs : IsSectionOf xorb_records (xorbs_at bytes info) s.xorbs
+
+-- the bytes end before the bookend of a section
+abbrev pub IsCut : List ℕ → MDBShardInfo → Type 0
+IsCut bytes info = IsCutSection file_records (files_at bytes info) ⊎ IsCutSection xorb_records (xorbs_at bytes info)
+
+-- a section has too many rows, or hashes that do not strictly ascend
+abbrev pub IsBad : List ℕ → MDBShardInfo → Type 0
+IsBad bytes info =
+    PassesRows file_records (files_at bytes info) ⊎ PassesRows xorb_records (xorbs_at bytes info)
+    ⊎ FrontFalls file_records (files_at bytes info) ⊎ FrontFalls xorb_records (xorbs_at bytes info)
+
+-- why a section is not read as such a list: an allocation failed, the bytes end early, or it is no valid section
+abbrev pub SectionRefusal : {H R : Type 0} → RecordKind H R → List ℕ → CoreError → Type 0
+SectionRefusal K bytes e =
+    (e ≡ OutOfMemory)
+    ⊎ (IsEndOfInput e × IsCutSection K bytes)
+    ⊎ (IsInvalidShard e × (PassesRows K bytes ⊎ FrontFalls K bytes))
+
+-- the records of the section at an offset were read, and their hashes strictly ascend
+pub record ReadsList {H R : Type 0} (K : RecordKind H R) (old new : Source) (at : ℕ) (found : List R) : Type 0 where
+  pub bytes : new.bytes ≡ old.bytes
+  pub failures : new.failures ≡ old.failures
+  pub list : IsListOf K (drop at old.bytes) found
+
+-- they were not: the device failed, or there is a cause in the bytes
+pub record ReadsNoList {H R : Type 0} (K : RecordKind H R) (old new : Source) (at : ℕ) (e : CoreError) : Type 0 where
+  pub bytes : new.bytes ≡ old.bytes
+  pub cause : DeviceFailure old new e ⊎ ((new.failures ≡ old.failures) × SectionRefusal K (drop at old.bytes) e)
+
+-- the bytes have both sections, with the records of these lists
+pub record HoldsLists (bytes : List ℕ) (info : MDBShardInfo) (fs : List MDBFileInfo) (xs : List MDBXorbInfo) : Type 0 where
+  pub files : IsListOf file_records (files_at bytes info) fs
+  pub xorbs : IsListOf xorb_records (xorbs_at bytes info) xs
+
+-- why both sections are not read as such lists
+abbrev pub BothRefusal : List ℕ → MDBShardInfo → CoreError → Type 0
+BothRefusal bytes info e = (e ≡ OutOfMemory) ⊎ (IsEndOfInput e × IsCut bytes info) ⊎ (IsInvalidShard e × IsBad bytes info)
+
+-- the device failed, or there is such a cause
+abbrev pub ReadsNoInput : Source → Source → MDBShardInfo → CoreError → Type 0
+ReadsNoInput old new info e = DeviceFailure old new e ⊎ BothRefusal old.bytes info e

@@ -1,0 +1,40 @@
+-- Trees of unions of bytes: what they write on any inputs, and what their leaves are.
+use Rattle.std.specs.Prelude.{◌≡◌, ◌⊎◌, ⊤, ℕ, ◌^◌, ◌<◌, ◌≤◌, List, [], ◌∷◌, ◌++◌, length, map, Contains, Option, Some, IfSome, slice_get}
+use Rattle.xet_base.specs.declared.error.CoreError.{CoreError}
+use Rattle.xet_base.specs.declared.error.CoreError.TheVariants.{InvalidArguments, OutOfMemory}
+use Rattle.xet_shards.specs.Layout.{layout}
+use Rattle.xet_shards.specs.Shard.{Shard}
+use Rattle.xet_core_structures.specs.declared.set_operations.MergePlan.{MergePlan}
+use Rattle.xet_core_structures.specs.declared.set_operations.MergePlan.TheVariants.{Leaf, Both'}
+use Rattle.xet_core_structures.specs.ByteResults.{UnitesBytes, BytesRefusal}
+
+-- the inputs at the leaves, from left to right
+abbrev pub leaves : MergePlan → List ℕ
+leaves (Leaf i) = i ∷ []
+leaves (Both' p left q right) = leaves left ++ leaves right
+
+-- the tree is more than a leaf
+abbrev pub HasUnion : MergePlan → Type 0
+HasUnion (Leaf i) = ⊥
+HasUnion (Both' p left q right) = ⊤
+
+-- what a tree writes: at a leaf the input's bytes, else the union of what both sides write
+abbrev pub TreeWrites : List (List ℕ) → MergePlan → List ℕ → Type 0
+TreeWrites inputs (Leaf i) out = slice_get inputs i ≡ Some out
+TreeWrites inputs (Both' p left q right) out = (x y : List ℕ) × TreeWrites inputs left x × TreeWrites inputs right y × UnitesBytes x y out
+
+-- why it writes nothing: a leaf has no input, an allocation failed, or there is no such union
+abbrev pub TreeRefusal : List (List ℕ) → MergePlan → CoreError → Type 0
+TreeRefusal inputs (Leaf i) e = ((e ≡ InvalidArguments) × (length inputs ≤ i)) ⊎ (e ≡ OutOfMemory)
+TreeRefusal inputs (Both' p left q right) e =
+    TreeRefusal inputs left e ⊎ TreeRefusal inputs right e
+    ⊎ ((x y : List ℕ) × TreeWrites inputs left x × TreeWrites inputs right y × BytesRefusal x y e)
+
+-- the shards at the leaves
+abbrev pub AtLeaves : MergePlan → (ℕ → Shard) → Shard → Type 0
+AtLeaves plan shard_at = Contains (map shard_at (leaves plan))
+
+-- the input at each leaf is the bytes of a shard, with an expiry or none
+abbrev pub AreWritten : List (List ℕ) → MergePlan → (ℕ → Shard) → (ℕ → Option ℕ) → Type 0
+AreWritten inputs plan shard_at expiry_at =
+    (i : ℕ) → Contains (leaves plan) i → IfSome (expiry_at i) (λ e. e < 2 ^ 64) × (slice_get inputs i ≡ Some (layout (shard_at i) (expiry_at i)))

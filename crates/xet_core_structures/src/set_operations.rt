@@ -1,0 +1,160 @@
+//! Union and difference of shards as bytes, and trees of unions.
+
+ghost use Rattle.std.specs.Prelude.{◌≡◌, ◌≢◌, ◌⊎◌, ℕ, ◌≤◌, Option, None, Some, length, map, slice_get, IfOk, MatchResult};
+ghost use Rattle.xet_base.specs.Errors.{IsDeviceError, IsInvalidShard};
+ghost use Rattle.xet_shards.specs.Ends.{FitsFooter};
+ghost use Rattle.xet_shards.specs.Joins.{IsJoinOf, AgreePairwise};
+ghost use Rattle.xet_shards.specs.Layout.{layout};
+ghost use Rattle.xet_shards.specs.SetOperations.{IsDifference, HasFewRows};
+ghost use Rattle.xet_shards.specs.Shard.{Shard, IsShard};
+ghost use Rattle.xet_core_structures.specs.ByteUnion.{IsByteUnion};
+ghost use Rattle.xet_core_structures.specs.ByteResults.{key_of, WritesResult, InputsFail, UnionRefusal, DifferenceRefusal, UnitesBytes, BytesRefusal};
+ghost use Rattle.xet_core_structures.specs.MergeTrees.{HasUnion, TreeWrites, TreeRefusal, AtLeaves, AreWritten};
+
+mod combine;
+mod inputs;
+mod results;
+mod set_record;
+
+use results::{SetFailure, subtract, unite};
+use std::alloc::Global;
+use std::io::Write;
+use xet_base::error::{CoreError, Result};
+use xet_base::source::{MemorySource, ShardSource};
+use xet_shards::shard_format::MDBShardInfo;
+
+/// Writes the union of two shards: header, sections, lookup tables and footer, with the key of both,
+/// creation 0 and no expiry. Returns the header and the footer, as `load_from_reader` reads them from
+/// these bytes. Of the inputs' footers it uses the key and the offsets of the sections.
+///
+/// Of two files with one hash it takes the record whose flags have all bits of the other's, the
+/// first's if both have the same; else the first's segments with each optional part from the first
+/// where it has it, else from the second. Of two xorbs with one hash it takes the first's.
+///
+/// `InvalidArguments` if the keys differ, before anything is read or written. `UnexpectedEof` if a
+/// section ends before its bookend, `InvalidShard` if its rows pass 4294967295 or its hashes do not
+/// strictly ascend. `InvalidShard` too if files that have to be combined differ in their count of
+/// segments, or the rows of a section of the union pass 4294967295. Else the error is a device's, or
+/// `OutOfMemory` if an allocation fails.
+pub fn shard_set_union<S: ShardSource, T: ShardSource, W: Write>(
+    alloc: Global,
+    s1: &MDBShardInfo,
+    r1: &mut S,
+    s2: &MDBShardInfo,
+    r2: &mut T,
+    out: &mut W,
+) -> Result<MDBShardInfo>
+    ensures written { MatchResult result
+        (WritesResult IsByteUnion (S.meaning r1.old).bytes s1.now (T.meaning r2.old).bytes s2.now (W.contents out.old) (W.contents out.new))
+        (λ e. IsDeviceError e ⊎ InputsFail (S.meaning r1.old) (S.meaning r1.new) (T.meaning r2.old) (T.meaning r2.new)
+        (UnionRefusal (S.meaning r1.old).bytes s1.now (T.meaning r2.old).bytes s2.now) e) }
+    ensures untouched { key_of s1.now ≢ key_of s2.now
+        → (S.meaning r1.new ≡ S.meaning r1.old) × (T.meaning r2.new ≡ T.meaning r2.old) × (W.contents out.new ≡ W.contents out.old) }
+    ensures widths { IfOk result (λ info. FitsFooter info.metadata) }
+{
+    match unite(alloc, s1, r1, s2, r2, out) {
+        Ok(info) => Ok(info),
+        Err(SetFailure::Input(error)) => Err(error),
+        Err(SetFailure::Output(error)) => Err(error),
+    }
+}
+
+/// Writes the difference of two shards, the second's records whose hashes the first does not have,
+/// in the same form.
+///
+/// `InvalidArguments` if the keys differ, before anything is read or written. `UnexpectedEof` if a
+/// section ends before its bookend, `InvalidShard` if its rows pass 4294967295 or its hashes do not
+/// strictly ascend. Else the error is a device's, or `OutOfMemory` if an allocation fails.
+pub fn shard_set_difference<S: ShardSource, T: ShardSource, W: Write>(
+    alloc: Global,
+    s1: &MDBShardInfo,
+    r1: &mut S,
+    s2: &MDBShardInfo,
+    r2: &mut T,
+    out: &mut W,
+) -> Result<MDBShardInfo>
+    ensures written { MatchResult result
+        (WritesResult IsDifference (S.meaning r1.old).bytes s1.now (T.meaning r2.old).bytes s2.now (W.contents out.old) (W.contents out.new))
+        (λ e. IsDeviceError e ⊎ InputsFail (S.meaning r1.old) (S.meaning r1.new) (T.meaning r2.old) (T.meaning r2.new)
+        (DifferenceRefusal (S.meaning r1.old).bytes s1.now (T.meaning r2.old).bytes s2.now) e) }
+    ensures untouched { key_of s1.now ≢ key_of s2.now
+        → (S.meaning r1.new ≡ S.meaning r1.old) × (T.meaning r2.new ≡ T.meaning r2.old) × (W.contents out.new ≡ W.contents out.old) }
+    ensures widths { IfOk result (λ info. FitsFooter info.metadata) }
+{
+    match subtract(alloc, s1, r1, s2, r2, out) {
+        Ok(info) => Ok(info),
+        Err(SetFailure::Input(error)) => Err(error),
+        Err(SetFailure::Output(error)) => Err(error),
+    }
+}
+
+/// A tree of unions. A leaf is the index of an input.
+#[derive(Drop)]
+pub enum MergePlan {
+    Leaf(usize),
+    Both(Box<MergePlan>, Box<MergePlan>),
+}
+
+/// Unites the inputs at the leaves of a tree: a leaf is a copy of its input, and each inner node the
+/// union of what its left and its right side give. So inputs that agree give one string of bytes,
+/// whatever the shape of the tree, and the order and the repetition of its leaves.
+///
+/// `InvalidArguments` if a leaf has no input, and else the error of the first union that fails:
+/// `ShardVersion` or `UnexpectedEof` if a header or a footer is unsupported or cut short, or one of
+/// `shard_set_union`. `OutOfMemory` if an allocation fails.
+pub fn shard_union_tree(alloc: Global, plan: &MergePlan, inputs: &[&[u8]]) -> Result<Vec<u8>>
+    ensures any_bytes { MatchResult result
+        (λ bytes. TreeWrites (map (λ x. x.now) inputs.now) plan.now bytes.items)
+        (TreeRefusal (map (λ x. x.now) inputs.now) plan.now) }
+    ensures one_byte_string { (shard_at : ℕ → Shard) → (expiry_at : ℕ → Option ℕ) → (join : Shard)
+        → HasUnion plan.now → AreWritten (map (λ x. x.now) inputs.now) plan.now shard_at expiry_at
+        → AgreePairwise (AtLeaves plan.now shard_at) → IsJoinOf (AtLeaves plan.now shard_at) join
+        → MatchResult result (λ bytes. (bytes.items ≡ layout join None) × IsShard join)
+        (λ e. (e ≡ CoreError.OutOfMemory) ⊎ (IsInvalidShard e × (¬ HasFewRows join))) }
+{
+    merge(alloc, plan, inputs)
+}
+
+// The same, without the clause on inputs that agree.
+fn merge(alloc: Global, plan: &MergePlan, inputs: &[&[u8]]) -> Result<Vec<u8>>
+    ensures { MatchResult result
+        (λ bytes. TreeWrites (map (λ x. x.now) inputs.now) plan.now bytes.items)
+        (TreeRefusal (map (λ x. x.now) inputs.now) plan.now) }
+{
+    match plan {
+        MergePlan::Leaf(index) => copy_input(alloc, inputs, *index),
+        MergePlan::Both(left, right) => {
+            let left = merge(alloc, left, inputs)?;
+            let right = merge(alloc, right, inputs)?;
+            unite_bytes(alloc, &left, &right)
+        }
+    }
+}
+
+// A copy of the input at an index.
+fn copy_input(alloc: Global, inputs: &[&[u8]], index: usize) -> Result<Vec<u8>>
+    ensures { MatchResult result (λ bytes. slice_get (map (λ x. x.now) inputs.now) index ≡ Some bytes.items)
+        (λ e. ((e ≡ CoreError.InvalidArguments) × (length (map (λ x. x.now) inputs.now) ≤ index)) ⊎ (e ≡ CoreError.OutOfMemory)) }
+{
+    if index >= inputs.len() {
+        return Err(CoreError::InvalidArguments);
+    }
+    Ok(Vec::from_slice(alloc, inputs[index])?)
+}
+
+// The bytes of the union of two shards.
+fn unite_bytes(alloc: Global, first: &[u8], second: &[u8]) -> Result<Vec<u8>>
+    ensures { MatchResult result (λ bytes. UnitesBytes first.now second.now bytes.items) (BytesRefusal first.now second.now) }
+{
+    let mut r1 = MemorySource::new(first);
+    let mut r2 = MemorySource::new(second);
+    let s1 = MDBShardInfo::load_from_reader(alloc, &mut r1)?;
+    let s2 = MDBShardInfo::load_from_reader(alloc, &mut r2)?;
+    let mut bytes = Vec::new(alloc);
+    match unite(alloc, &s1, &mut r1, &s2, &mut r2, &mut bytes) {
+        Ok(_) => Ok(bytes),
+        Err(SetFailure::Input(error)) => Err(error),
+        // Writing to a vector fails only if it is out of memory.
+        Err(SetFailure::Output(_)) => Err(CoreError::OutOfMemory),
+    }
+}

@@ -1,0 +1,100 @@
+//! Reading the sections of a shard whole, as lists whose hashes strictly ascend.
+
+ghost use Rattle.std.specs.Prelude.{◌≡◌, ◌≢◌, MatchResult};
+ghost use Rattle.xet_records.specs.FileRecord.{file_records};
+ghost use Rattle.xet_records.specs.XorbRecord.{xorb_records};
+ghost use Rattle.xet_core_structures.specs.Held.{ReadsList, ReadsNoList, HoldsLists, ReadsNoInput};
+ghost use Rattle.xet_core_structures.specs.ByteResults.{key_of, HaveInputs, InputsFail, DifferenceRefusal};
+
+use super::combine::ascends;
+use super::set_record::OfUnion;
+use std::alloc::Global;
+use xet_base::error::{CoreError, Result};
+use xet_base::source::ShardSource;
+use xet_records::file_structs::MDBFileInfo;
+use xet_records::xorb_structs::MDBXorbInfo;
+use xet_shards::shard_format::MDBShardInfo;
+
+/// The records of a shard, in ascending order of their hashes.
+#[derive(Drop)]
+pub struct Records {
+    pub files: Vec<MDBFileInfo>,
+    pub xorbs: Vec<MDBXorbInfo>,
+}
+
+/// The records of two inputs.
+#[derive(Drop)]
+pub struct Inputs {
+    pub first: Records,
+    pub second: Records,
+}
+
+/// Reads both inputs. `InvalidArguments` if their keys differ, before anything is read; else
+/// `UnexpectedEof` if a source ends before a bookend, `InvalidShard` if the rows of a section pass
+/// 4294967295 or its hashes do not strictly ascend, `OutOfMemory` if an allocation fails.
+pub fn read_inputs<S: ShardSource, T: ShardSource>(
+    alloc: Global,
+    s1: &MDBShardInfo,
+    r1: &mut S,
+    s2: &MDBShardInfo,
+    r2: &mut T,
+) -> Result<Inputs>
+    ensures read { MatchResult result (HaveInputs (S.meaning r1.old).bytes s1.now (T.meaning r2.old).bytes s2.now)
+        (InputsFail (S.meaning r1.old) (S.meaning r1.new) (T.meaning r2.old) (T.meaning r2.new)
+        (DifferenceRefusal (S.meaning r1.old).bytes s1.now (T.meaning r2.old).bytes s2.now)) }
+    ensures untouched { key_of s1.now ≢ key_of s2.now → (S.meaning r1.new ≡ S.meaning r1.old) × (T.meaning r2.new ≡ T.meaning r2.old) }
+{
+    if s1.metadata.chunk_hash_hmac_key != s2.metadata.chunk_hash_hmac_key {
+        return Err(CoreError::InvalidArguments);
+    }
+    let first = read_input(alloc, s1, r1)?;
+    let second = read_input(alloc, s2, r2)?;
+    Ok(Inputs { first, second })
+}
+
+// Reads both sections, with the same errors.
+fn read_input<S: ShardSource>(alloc: Global, info: &MDBShardInfo, source: &mut S) -> Result<Records>
+    ensures { MatchResult result
+        (λ found. HoldsLists (S.meaning source.old).bytes info.now found.files.items found.xorbs.items)
+        (ReadsNoInput (S.meaning source.old) (S.meaning source.new) info.now) }
+{
+    let files = read_files(alloc, info, source)?;
+    let xorbs = read_xorbs(alloc, info, source)?;
+    Ok(Records { files, xorbs })
+}
+
+// Reads the file section. `UnexpectedEof` if the source ends before its bookend, `InvalidShard` if
+// its rows pass 4294967295 or its hashes do not strictly ascend, `OutOfMemory` if an allocation
+// fails.
+fn read_files<S: ShardSource>(
+    alloc: Global,
+    info: &MDBShardInfo,
+    source: &mut S,
+) -> Result<Vec<MDBFileInfo>>
+    ensures { MatchResult result
+        (λ found. ReadsList file_records (S.meaning source.old) (S.meaning source.new) info.now.metadata.file_info_offset found.items)
+        (ReadsNoList file_records (S.meaning source.old) (S.meaning source.new) info.now.metadata.file_info_offset) }
+{
+    let files = info.read_all_file_info_sections(alloc, source)?;
+    if !ascends::<OfUnion, MDBFileInfo>(&files) {
+        return Err(CoreError::InvalidShard(String::new(alloc)));
+    }
+    Ok(files)
+}
+
+// Reads the xorb section, with the same errors.
+fn read_xorbs<S: ShardSource>(
+    alloc: Global,
+    info: &MDBShardInfo,
+    source: &mut S,
+) -> Result<Vec<MDBXorbInfo>>
+    ensures { MatchResult result
+        (λ found. ReadsList xorb_records (S.meaning source.old) (S.meaning source.new) info.now.metadata.xorb_info_offset found.items)
+        (ReadsNoList xorb_records (S.meaning source.old) (S.meaning source.new) info.now.metadata.xorb_info_offset) }
+{
+    let xorbs = info.read_all_xorb_blocks_full(alloc, source)?;
+    if !ascends::<OfUnion, MDBXorbInfo>(&xorbs) {
+        return Err(CoreError::InvalidShard(String::new(alloc)));
+    }
+    Ok(xorbs)
+}

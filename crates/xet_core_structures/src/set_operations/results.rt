@@ -1,0 +1,130 @@
+//! The union and the difference of two inputs, written to an output.
+
+ghost use Rattle.std.specs.Prelude.{◌≡◌, ◌≢◌, ◌⊎◌, IfOk, IfErr, MatchResult};
+ghost use Rattle.xet_base.specs.Errors.{IsInvalidShard};
+ghost use Rattle.xet_shards.specs.Ends.{FitsFooter};
+ghost use Rattle.xet_shards.specs.SetOperations.{IsDifference};
+ghost use Rattle.xet_core_structures.specs.ByteUnion.{IsByteUnion, IsEitherFile, IsEitherXorb};
+ghost use Rattle.xet_core_structures.specs.Combining.{IsRest};
+ghost use Rattle.xet_core_structures.specs.ByteResults.{key_of, AreRecords, AreCombined, NoneCombined, WritesRecords, WritesResult, InputsFail, FailsBy, UnionRefusal, DifferenceRefusal};
+
+use super::combine::{combine, combine_within_rows};
+use super::inputs::{Records, read_inputs};
+use super::set_record::{OfDifference, OfUnion};
+use std::alloc::Global;
+use std::io::Write;
+use xet_base::error::{CoreError, Result};
+use xet_base::merklehash::HMACKey;
+use xet_base::source::ShardSource;
+use xet_records::file_structs::MDBFileInfo;
+use xet_records::xorb_structs::MDBXorbInfo;
+use xet_shards::shard_format::MDBShardInfo;
+use xet_shards::shard_writer::{Form, write_layout};
+
+/// Why an operation failed: by an input, or by the output.
+#[derive(Drop)]
+pub enum SetFailure {
+    Input(CoreError),
+    Output(CoreError),
+}
+
+impl From<CoreError> for SetFailure {
+    ghost use Rattle.std.specs.Prelude.{◌≡◌};
+    ghost use Rattle.xet_core_structures.specs.declared.set_operations.results.SetFailure.TheVariants.{Input};
+
+    ghost from_gives = { λ error failure. failure ≡ Input error };
+
+    fn from(error: CoreError) -> SetFailure {
+        SetFailure::Input(error)
+    }
+}
+
+/// Writes the union of two inputs, of equal keys, under their key.
+pub fn unite<S: ShardSource, T: ShardSource, W: Write>(
+    alloc: Global,
+    s1: &MDBShardInfo,
+    r1: &mut S,
+    s2: &MDBShardInfo,
+    r2: &mut T,
+    out: &mut W,
+) -> std::result::Result<MDBShardInfo, SetFailure>
+    ensures written { MatchResult result
+        (WritesResult IsByteUnion (S.meaning r1.old).bytes s1.now (T.meaning r2.old).bytes s2.now (W.contents out.old) (W.contents out.new))
+        (FailsBy (InputsFail (S.meaning r1.old) (S.meaning r1.new) (T.meaning r2.old) (T.meaning r2.new)
+        (UnionRefusal (S.meaning r1.old).bytes s1.now (T.meaning r2.old).bytes s2.now))) }
+    ensures untouched { key_of s1.now ≢ key_of s2.now
+        → (S.meaning r1.new ≡ S.meaning r1.old) × (T.meaning r2.new ≡ T.meaning r2.old) × (W.contents out.new ≡ W.contents out.old) }
+    ensures widths { IfOk result (λ info. FitsFooter info.metadata) }
+{
+    let inputs = read_inputs(alloc, s1, r1, s2, r2)?;
+    let records = unite_records(alloc, &inputs.first, &inputs.second)?;
+    write_records(alloc, out, &records, s1.metadata.chunk_hash_hmac_key)
+}
+
+/// Writes the difference of two inputs, of equal keys, under their key: the second's records whose
+/// hashes the first does not have.
+pub fn subtract<S: ShardSource, T: ShardSource, W: Write>(
+    alloc: Global,
+    s1: &MDBShardInfo,
+    r1: &mut S,
+    s2: &MDBShardInfo,
+    r2: &mut T,
+    out: &mut W,
+) -> std::result::Result<MDBShardInfo, SetFailure>
+    ensures written { MatchResult result
+        (WritesResult IsDifference (S.meaning r1.old).bytes s1.now (T.meaning r2.old).bytes s2.now (W.contents out.old) (W.contents out.new))
+        (FailsBy (InputsFail (S.meaning r1.old) (S.meaning r1.new) (T.meaning r2.old) (T.meaning r2.new)
+        (DifferenceRefusal (S.meaning r1.old).bytes s1.now (T.meaning r2.old).bytes s2.now))) }
+    ensures untouched { key_of s1.now ≢ key_of s2.now
+        → (S.meaning r1.new ≡ S.meaning r1.old) × (T.meaning r2.new ≡ T.meaning r2.old) × (W.contents out.new ≡ W.contents out.old) }
+    ensures widths { IfOk result (λ info. FitsFooter info.metadata) }
+{
+    let inputs = read_inputs(alloc, s1, r1, s2, r2)?;
+    let records = subtract_records(alloc, &inputs.first, &inputs.second)?;
+    write_records(alloc, out, &records, s1.metadata.chunk_hash_hmac_key)
+}
+
+// The union of lists of records. `InvalidShard` if files with one hash can't be united or the rows
+// of a list pass 4294967295, `OutOfMemory` if an allocation fails.
+fn unite_records(alloc: Global, first: &Records, second: &Records) -> Result<Records>
+    requires first { AreRecords first.now }
+    requires second { AreRecords second.now }
+    ensures { MatchResult result (AreCombined IsEitherFile IsEitherXorb first.now second.now)
+        (λ e. (e ≡ CoreError.OutOfMemory) ⊎ (IsInvalidShard e × NoneCombined IsEitherFile IsEitherXorb first.now second.now)) }
+{
+    let files = combine_within_rows::<OfUnion, MDBFileInfo>(alloc, &first.files, &second.files)?;
+    let xorbs = combine_within_rows::<OfUnion, MDBXorbInfo>(alloc, &first.xorbs, &second.xorbs)?;
+    Ok(Records { files, xorbs })
+}
+
+// The second's records whose hashes the first does not have. `OutOfMemory` if an allocation fails.
+fn subtract_records(alloc: Global, first: &Records, second: &Records) -> Result<Records>
+    requires first { AreRecords first.now }
+    requires second { AreRecords second.now }
+    ensures { MatchResult result (AreCombined IsRest IsRest first.now second.now) (λ e. e ≡ CoreError.OutOfMemory) }
+{
+    let files = combine::<OfDifference, MDBFileInfo>(alloc, &first.files, &second.files)?;
+    let xorbs = combine::<OfDifference, MDBXorbInfo>(alloc, &first.xorbs, &second.xorbs)?;
+    Ok(Records { files, xorbs })
+}
+
+// Writes records under a key, with all tables and no expiry.
+fn write_records<W: Write>(
+    alloc: Global,
+    out: &mut W,
+    records: &Records,
+    key: HMACKey,
+) -> std::result::Result<MDBShardInfo, SetFailure>
+    requires { AreRecords records.now }
+    ensures written { MatchResult result (WritesRecords records.now key (W.contents out.old) (W.contents out.new)) (FailsBy (λ _. ⊥)) }
+    ensures widths { IfOk result (λ info. FitsFooter info.metadata) }
+{
+    let form = Form {
+        key,
+        ..Form::plain(None)
+    };
+    match write_layout(alloc, out, &records.files, &records.xorbs, &form) {
+        Ok(info) => Ok(info),
+        Err(error) => Err(SetFailure::Output(error)),
+    }
+}

@@ -1,0 +1,254 @@
+-- The record that a view shows, and its rows in the view's bytes.
+use Rattle.std.proofs.Common.{◌≡◌, ℕ, ◌+◌, ◌*◌, ◌≤◌, List, [], ◌∷◌, ◌++◌, length, take, drop, flat_map, Bool, true, false, Option, None, Some, refl, sym, ap, ◌∙◌, arith, subst, append-nil, if◌then◌else◌}
+use Rattle.std.specs.Prelude.{IfSome, is_some, option_map, option_to_list}
+use Rattle.std.specs.List.{slice_get}
+use Rattle.std.proofs.lemmas.List.{length-append, length-take-le, length-drop, append_assoc, take-append-drop, take-append-le, take_all}
+use mir.Val.{bool_byte}
+use Rattle.xet_base.proofs.Lists.{front_is}
+use Rattle.xet_records.specs.declared.file_structs.header.FileDataSequenceHeader.{FileDataSequenceHeader}
+use Rattle.xet_records.specs.declared.file_structs.rows.FileMetadataExt.{FileMetadataExt}
+use Rattle.xet_records.specs.declared.file_structs.MDBFileInfo.{MDBFileInfo}
+use Rattle.xet_records.specs.declared.xorb_structs.XorbChunkSequenceHeader.{XorbChunkSequenceHeader}
+use Rattle.xet_records.specs.declared.xorb_structs.MDBXorbInfo.{MDBXorbInfo}
+use Rattle.xet_records.specs.FileRow.{header_row, segment_row, verification_row, metadata_row, FitsHeader, FitsSegment, FitsVerification, FitsMetadata, clear_metadata}
+use Rattle.xet_records.specs.FileRecord.{has_verification, has_metadata_ext, rows_after, file_record_bytes, file_rows_bytes, file_records}
+use Rattle.xet_records.specs.XorbRow.{xorb_header_row, chunk_row, FitsXorbHeader, FitsChunk}
+use Rattle.xet_records.specs.XorbRecord.{xorb_record_bytes, xorb_records}
+use Rattle.xet_records.specs.Decoding.{segment_at, verification_at, metadata_at, chunk_at, rows_at, file_at, xorb_at}
+use Rattle.xet_records.specs.RecordKind.{RecordKind}
+use Rattle.xet_records.specs.View.{IsWholeFile, IsWholeXorb, BeginsWithHeaderRow, BeginsWithRecord, Shows, ShowsRecord, without_verification}
+use Rattle.xet_records.proofs.Lengths.{length-header_row, length-segment_rows, length-verification_rows, length-xorb_header_row}
+use Rattle.xet_records.proofs.Record.{optional_rows}
+use Rattle.xet_records.proofs.Unique.{optional_fits}
+use Rattle.xet_records.proofs.Decoding.{AreBytes, take-bytes, drop-bytes, rows_spelled, segment_spelled, verification_spelled, metadata_spelled, chunk_spelled}
+use Rattle.xet_records.proofs.RowsWithin.{HasRows}
+
+-- the metadata row, if there is one, has the bytes that are left
+record LastRow (wanted : Bool) (bytes : List ℕ) (row : Option FileMetadataExt) : Type 0 where
+  present : is_some row ≡ wanted
+  fits : IfSome row FitsMetadata
+  row_is : flat_map metadata_row (option_to_list row) ≡ bytes
+
+last_row : (wanted : Bool) (bytes : List ℕ) → AreBytes bytes → length bytes ≡ 48 * (if wanted then 1 else 0)
+    → LastRow wanted bytes (if wanted then Some (metadata_at bytes) else None)
+last_row true bytes are size =
+    let spelled = metadata_spelled bytes are (omega (arith, size)) in
+    record { present = refl; fits = spelled.fits; row_is = append-nil (metadata_row (metadata_at bytes)) ∙ spelled.row_is ∙ take_all 48 bytes (omega (arith, size)) }
+last_row false [] are size = record { present = refl; fits = tt; row_is = refl }
+last_row false (b ∷ bytes) are size = absurd (omega (arith, size))
+
+-- bytes that are as long as a header says, and begin with it, are the bytes of the record that they spell
+file_shown : (header : FileDataSequenceHeader) (bytes : List ℕ) → FitsHeader header → AreBytes bytes → rows_after header ≤ 4294967295
+    → length bytes ≡ 48 + 48 * rows_after header → take 48 bytes ≡ header_row header → Shows file_records IsWholeFile header bytes (file_at header bytes)
+unfolding file_at file_record_bytes file_rows_bytes
+file_shown header bytes fits are few size begins =
+    let segments = header.num_entries in
+    let verification : ℕ = if has_verification header.file_flags then header.num_entries else 0 in
+    let first = drop 48 bytes in
+    let second = drop (48 * segments) first in
+    let third = drop (48 * verification) second in
+    let first_are = drop-bytes 48 bytes are in
+    let second_are = drop-bytes (48 * segments) first first_are in
+    let third_are = drop-bytes (48 * verification) second second_are in
+    let first_size : length first ≡ 48 * rows_after header = omega (arith, size, length-drop 48 bytes) in
+    let second_size : length second ≡ 48 * verification + 48 * (if has_metadata_ext header.file_flags then 1 else 0) =
+    omega (arith, first_size, length-drop (48 * segments) first) in
+    let third_size : length third ≡ 48 * (if has_metadata_ext header.file_flags then 1 else 0) =
+    omega (arith, second_size, length-drop (48 * verification) second) in
+    let s = rows_spelled segment_row FitsSegment segment_at segment_spelled segments first first_are (omega (arith, first_size)) in
+    let v = rows_spelled verification_row FitsVerification verification_at verification_spelled verification second second_are (omega (arith, second_size)) in
+    let m = last_row (has_metadata_ext header.file_flags) third third_are third_size in
+    let after_segments = sym (take-append-drop (48 * verification) second) ∙ (λ i. sym v.rows_are i ++ sym m.row_is i) in
+    let after_header = sym (take-append-drop (48 * segments) first) ∙ (λ i. sym s.rows_are i ++ after_segments i)
+    ∙ sym (append_assoc (flat_map segment_row (rows_at segment_at segments first)) (flat_map verification_row (rows_at verification_at verification second)) _) in
+    record {
+      same_header = refl;
+      whole = record {
+        parts = record { segments = s.len; verification = v.len; metadata_ext = m.present };
+        widths = record { metadata = fits; segments = s.fit; verification = v.fit; metadata_ext = m.fits };
+      };
+      rows = few;
+      bytes_are = sym (take-append-drop 48 bytes) ∙ (λ i. begins i ++ after_header i);
+    }
+
+xorb_shown : (header : XorbChunkSequenceHeader) (bytes : List ℕ) → FitsXorbHeader header → AreBytes bytes → header.num_entries ≤ 4294967295
+    → length bytes ≡ 48 + 48 * header.num_entries → take 48 bytes ≡ xorb_header_row header → Shows xorb_records IsWholeXorb header bytes (xorb_at header bytes)
+unfolding xorb_at xorb_record_bytes
+xorb_shown header bytes fits are few size begins =
+    let after = drop 48 bytes in
+    let after_size : length after ≡ 48 * header.num_entries = omega (arith, size, length-drop 48 bytes) in
+    let c = rows_spelled chunk_row FitsChunk chunk_at chunk_spelled header.num_entries after (drop-bytes 48 bytes are) (omega (arith, after_size)) in
+    let after_header = sym (c.rows_are ∙ take_all (48 * header.num_entries) after (omega (arith, after_size))) in
+    record {
+      same_header = refl;
+      whole = record { count = c.len; widths = record { metadata = fits; chunks = c.fit } };
+      rows = few;
+      bytes_are = sym (take-append-drop 48 bytes) ∙ (λ i. begins i ++ after_header i);
+    }
+
+-- what decoding gives is shown by bytes that are long enough and begin with the header
+pub record DecodingLaws {H R : Type 0} (K : RecordKind H R) (IsWhole : R → Type 0) (record_at : H → List ℕ → R) : Type 0 where
+  pub header_size : (header : H) → length (K.header_bytes header) ≡ 48
+  pub shown : (header : H) (bytes : List ℕ) → K.Fits header → AreBytes bytes → K.rows_after header ≤ 4294967295
+      → length bytes ≡ 48 + 48 * K.rows_after header → take 48 bytes ≡ K.header_bytes header → Shows K IsWhole header bytes (record_at header bytes)
+
+pub file_decoding : DecodingLaws file_records IsWholeFile file_at
+file_decoding = record { header_size = length-header_row; shown = file_shown }
+
+pub xorb_decoding : DecodingLaws xorb_records IsWholeXorb xorb_at
+xorb_decoding = record { header_size = length-xorb_header_row; shown = xorb_shown }
+
+module _ {H R : Type 0} (K : RecordKind H R) (IsWhole : R → Type 0) where
+  pub header_begins : (header : H) (bytes : List ℕ) → K.Fits header → take 48 bytes ≡ K.header_bytes header → BeginsWithHeaderRow K bytes header
+  header_begins header bytes fits front = record {
+    rest = drop 48 bytes;
+    widths = fits;
+    bytes_are = sym (take-append-drop 48 bytes) ∙ ap (λ bs. bs ++ drop 48 bytes) front;
+  }
+
+  -- bytes that are cut to a record show it
+  pub cut_shown : (record_at : H → List ℕ → R) → DecodingLaws K IsWhole record_at → (header : H) (bytes cut : List ℕ) (count : ℕ) → BeginsWithHeaderRow K bytes header
+      → AreBytes bytes → count ≡ K.rows_after header → count ≤ 4294967295 → 48 + 48 * count ≤ length bytes → cut ≡ take (48 + 48 * count) bytes
+      → Shows K IsWhole header cut (record_at header cut)
+  cut_shown record_at laws header bytes cut count begins are count_is few enough cut_is =
+      let size = 48 + 48 * count in
+      let cut_size : length cut ≡ size = ap length cut_is ∙ length-take-le size bytes enough in
+      let front : take 48 cut ≡ K.header_bytes header =
+      ap (take 48) cut_is ∙ sym (take-append-le 48 (take size bytes) (drop size bytes) (omega (arith, length-take-le size bytes enough)))
+      ∙ ap (take 48) (take-append-drop size bytes) ∙ front_is 48 bytes (K.header_bytes header) begins.rest (laws.header_size header) begins.bytes_are in
+      laws.shown header cut begins.widths (subst AreBytes (sym cut_is) (take-bytes size bytes are)) (omega (arith, count_is)) (cut_size ∙ omega (arith, count_is)) front
+
+  -- what the cut bytes show is what the bytes begin with
+  pub shown_begins : (header : H) (bytes cut : List ℕ) (n : ℕ) (r : R) → cut ≡ take n bytes → Shows K IsWhole header cut r
+      → BeginsWithRecord K IsWhole bytes r × (K.header_of r ≡ header)
+  shown_begins header bytes cut n r cut_is shown = (
+    record {
+      rest = drop n bytes;
+      whole = shown.whole;
+      rows = subst (λ (h : H). K.rows_after h ≤ 4294967295) (sym shown.same_header) shown.rows;
+      bytes_are = sym (take-append-drop n bytes) ∙ ap (λ bs. bs ++ drop n bytes) (sym cut_is ∙ shown.bytes_are);
+    },
+    shown.same_header,
+  )
+
+  -- the bytes and the record under other names
+  pub shown_as : (header : H) (bytes cs : List ℕ) (r s : R) → bytes ≡ cs → r ≡ s → Shows K IsWhole header bytes r → Shows K IsWhole header cs s
+  shown_as header bytes cs r s bytes_are r_is shown = subst (Shows K IsWhole header cs) r_is (subst (λ bs. Shows K IsWhole header bs r) bytes_are shown)
+
+-- the rows of a record in the bytes that show it
+module _ (header : FileDataSequenceHeader) (bytes : List ℕ) (r : MDBFileInfo) (shown : Shows file_records IsWholeFile header bytes r) where
+  pub segment_count : length r.segments ≡ header.num_entries
+  segment_count = shown.whole.parts.segments ∙ ap (λ (h : FileDataSequenceHeader). h.num_entries) shown.same_header
+
+  pub verification_count : length r.verification ≡ (if has_verification header.file_flags then header.num_entries else 0)
+  verification_count =
+      shown.whole.parts.verification ∙ ap (λ (h : FileDataSequenceHeader). if has_verification h.file_flags then h.num_entries else 0) shown.same_header
+
+  pub metadata_count : length (option_to_list r.metadata_ext) ≡ (if has_metadata_ext header.file_flags then 1 else 0)
+  metadata_count =
+      optional_rows r.metadata_ext ∙ ap (λ (b : Bool). if b then 1 else 0) (shown.whole.parts.metadata_ext
+      ∙ ap (λ (h : FileDataSequenceHeader). has_metadata_ext h.file_flags) shown.same_header)
+
+  -- the record without its verification rows has the bytes of the other parts
+  pub parts_without_verification : (header_bytes segment_bytes metadata_bytes : List ℕ) → header_bytes ≡ header_row (without_verification r).metadata
+      → segment_bytes ≡ flat_map segment_row r.segments → metadata_bytes ≡ flat_map metadata_row (option_to_list r.metadata_ext)
+      → (header_bytes ++ segment_bytes) ++ metadata_bytes ≡ file_record_bytes (without_verification r)
+  unfolding file_record_bytes file_rows_bytes
+  parts_without_verification header_bytes segment_bytes metadata_bytes header_is segments_are metadata_is =
+      (λ i. (header_is i ++ segments_are i) ++ metadata_is i)
+      ∙ append_assoc (header_row (without_verification r).metadata) (flat_map segment_row r.segments) (flat_map metadata_row (option_to_list r.metadata_ext))
+      ∙ ap (λ bs. header_row (without_verification r).metadata ++ (bs ++ flat_map metadata_row (option_to_list r.metadata_ext))) (sym (append-nil (flat_map segment_row r.segments)))
+
+  pub has_segments : HasRows segment_row FitsSegment bytes 1 r.segments
+  unfolding file_record_bytes file_rows_bytes
+  has_segments =
+      let s = flat_map segment_row r.segments in
+      let v = flat_map verification_row r.verification in
+      let m = flat_map metadata_row (option_to_list r.metadata_ext) in
+      record {
+        before = header_row r.metadata;
+        after = v ++ m;
+        start_is = length-header_row r.metadata;
+        fit = shown.whole.widths.segments;
+        bytes_are = shown.bytes_are ∙ ap (λ bs. header_row r.metadata ++ bs) (append_assoc s v m);
+      }
+
+  pub has_verification_rows : HasRows verification_row FitsVerification bytes (1 + length r.segments) r.verification
+  unfolding file_record_bytes file_rows_bytes
+  has_verification_rows =
+      let h = header_row r.metadata in
+      let s = flat_map segment_row r.segments in
+      let v = flat_map verification_row r.verification in
+      let m = flat_map metadata_row (option_to_list r.metadata_ext) in
+      record {
+        before = h ++ s;
+        after = m;
+        start_is = length-append h s ∙ omega (arith, length-header_row r.metadata, length-segment_rows r.segments);
+        fit = shown.whole.widths.verification;
+        bytes_are = shown.bytes_are ∙ ap (λ bs. h ++ bs) (append_assoc s v m) ∙ sym (append_assoc h s (v ++ m));
+      }
+
+  pub has_metadata_rows : HasRows metadata_row FitsMetadata bytes (1 + length r.segments + length r.verification) (option_to_list r.metadata_ext)
+  unfolding file_record_bytes file_rows_bytes
+  has_metadata_rows =
+      let h = header_row r.metadata in
+      let s = flat_map segment_row r.segments in
+      let v = flat_map verification_row r.verification in
+      let m = flat_map metadata_row (option_to_list r.metadata_ext) in
+      record {
+        before = h ++ (s ++ v);
+        after = [];
+        start_is = length-append h (s ++ v) ∙ omega (
+          arith,
+          length-append s v,
+          length-header_row r.metadata,
+          length-segment_rows r.segments,
+          length-verification_rows r.verification shown.whole.widths.verification,
+        );
+        fit = optional_fits r.metadata_ext shown.whole.widths.metadata_ext;
+        bytes_are = shown.bytes_are ∙ sym (append_assoc h (s ++ v) m) ∙ ap (λ bs. (h ++ (s ++ v)) ++ bs) (sym (append-nil m));
+      }
+
+-- 1 for a row that is wanted
+pub one_if : (b : Bool) → bool_byte b ≡ (if b then 1 else 0)
+one_if true = refl
+one_if false = refl
+
+pub the_metadata : (row : Option FileMetadataExt) (stored found : FileMetadataExt) → slice_get (option_to_list row) 0 ≡ Some stored
+    → clear_metadata stored ≡ found → Some found ≡ option_map clear_metadata row
+the_metadata None stored found there handed = cc
+the_metadata (Some row) stored found there handed = ap Some (sym handed) ∙ ap (option_map clear_metadata) (sym there)
+
+pub has_chunks : (header : XorbChunkSequenceHeader) (bytes : List ℕ) (r : MDBXorbInfo) → Shows xorb_records IsWholeXorb header bytes r
+    → HasRows chunk_row FitsChunk bytes 1 r.chunks
+unfolding xorb_record_bytes
+has_chunks header bytes r shown = record {
+  before = xorb_header_row r.metadata;
+  after = [];
+  start_is = length-xorb_header_row r.metadata;
+  fit = shown.whole.widths.chunks;
+  bytes_are = shown.bytes_are ∙ ap (λ bs. xorb_header_row r.metadata ++ bs) (sym (append-nil (flat_map chunk_row r.chunks)));
+}
+
+-- what a view shows may be in a section unless it is a bookend
+pub file_stored : (header : FileDataSequenceHeader) (bytes : List ℕ) (r : MDBFileInfo) → Shows file_records IsWholeFile header bytes r → ShowsRecord file_records header bytes r
+file_stored header bytes r shown = record {
+  same_header = shown.same_header;
+  is_stored = λ is_file. record {
+    is_file = λ ones. is_file (ap (λ (h : FileDataSequenceHeader). h.file_hash) (sym shown.same_header) ∙ ones);
+    whole = shown.whole.parts;
+    widths = shown.whole.widths;
+  };
+  bytes_are = shown.bytes_are;
+}
+
+pub xorb_stored : (header : XorbChunkSequenceHeader) (bytes : List ℕ) (r : MDBXorbInfo) → Shows xorb_records IsWholeXorb header bytes r → ShowsRecord xorb_records header bytes r
+xorb_stored header bytes r shown = record {
+  same_header = shown.same_header;
+  is_stored = λ is_xorb. record {
+    is_xorb = λ ones. is_xorb (ap (λ (h : XorbChunkSequenceHeader). h.xorb_hash) (sym shown.same_header) ∙ ones);
+    count = shown.whole.count;
+    widths = shown.whole.widths;
+  };
+  bytes_are = shown.bytes_are;
+}

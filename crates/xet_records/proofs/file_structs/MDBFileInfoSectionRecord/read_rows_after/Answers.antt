@@ -1,0 +1,25 @@
+use Rattle.std.proofs.Common.{[], arith}
+use Rattle.std.proofs.lemmas.Result.{err_from_is_err_and}
+use Rattle.xet_records.proofs.RecordKinds.{parts_after, rows_within}
+use Rattle.xet_records.proofs.file_structs.MDBFileInfoSectionRecord.read_rows_after.Goals as goal
+
+pub returns-in_err-segments : goal.returns-in_err-segments
+returns-in_err-segments g c =
+    let p = err_from_is_err_and c.from_residual.result c.from_residual.ensures.1 in
+    rw (p.1, p.2) (g.met.I.ByteInput.fails_later _ c.args.input.now _ [] _ _ _ (g.met.I.ByteInput.reads_nothing _) c.in_err-segments.ensures (omega arith))
+
+pub returns-in_err-metadata_ext : goal.returns-in_err-metadata_ext
+returns-in_err-metadata_ext g c =
+    let s = c.in_ok-segments.ensures in
+    let v = c.in_ok-verification.ensures in
+    let p = err_from_is_err_and c.from_residual-in_err-metadata_ext.result c.from_residual-in_err-metadata_ext.ensures.1 in
+    let within = rows_within c.args.header _ _ _ _ c.verification_rows.ensures c.contains_metadata_ext.ensures s.size v.size in
+    rw (p.1) (g.met.I.ByteInput.fails_later _ c.read_rows-2.new.input _ _ _ _ _ (g.met.I.ByteInput.joins _ c.read_rows.new.input _ _ _ s.taken v.taken)
+    (g.met.I.ByteInput.fails_once _ _ _ _ _ c.in_err-metadata_ext.ensures.fails p.2) within)
+
+pub returns : goal.returns
+returns g c =
+    let joins = g.met.I.ByteInput.joins c.args.input.now in
+    parts_after _ _ _ _ _ (joins c.read_rows.new.input _) (joins c.read_rows-2.new.input _)
+    c.args.header _ _ _ _ _ c.verification_rows.ensures c.contains_metadata_ext.ensures
+    c.in_ok-segments.ensures c.in_ok-verification.ensures c.in_ok-metadata_ext.ensures.value

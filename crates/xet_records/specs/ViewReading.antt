@@ -1,0 +1,30 @@
+-- What reading views from an input takes from it.
+use Rattle.std.specs.Prelude.{◌≡◌, ℕ, ◌+◌, ◌*◌, ◌≤◌, List, ◌++◌, length, Option, MatchOption}
+use Rattle.xet_base.specs.declared.error.CoreError.{CoreError}
+use Rattle.xet_base.specs.declared.error.CoreError.TheVariants.{OutOfMemory}
+use Rattle.xet_records.specs.RecordKind.{RecordKind}
+use Rattle.xet_records.specs.Reading.{ReadsBookend}
+
+-- a stored record was read, and its rows counted down from those that were left
+pub record CountsStored {H R : Type 0} (K : RecordKind H R) (Took : List ℕ → Type 0) (left after : ℕ) (r : R) : Type 0 where
+  pub is_stored : K.IsStored r
+  pub taken : Took (K.text r)
+  pub rows : after + (1 + K.rows_after (K.header_of r)) ≡ left
+
+-- a view of the next record was read, or a bookend
+abbrev pub ReadsNextView : {H R V : Type 0} → RecordKind H R → (V → R) → (List ℕ → Type 0) → ℕ → ℕ → Option V → Type 0
+ReadsNextView K record_of Took left after found = MatchOption found (ReadsBookend K Took) (λ view. CountsStored K Took left after (record_of view))
+
+-- so many rows were read, and are the bytes after these
+pub record AddsRows (Took : List ℕ → Type 0) (count : ℕ) (first bytes : List ℕ) : Type 0 where
+  pub added : List ℕ
+  pub size : length added ≡ 48 * count
+  pub taken : Took added
+  pub bytes_are : bytes ≡ first ++ added
+
+-- memory ran out when so many rows or fewer were read
+pub record LacksMemory (Took : List ℕ → Type 0) (count : ℕ) (e : CoreError) : Type 0 where
+  pub added : List ℕ
+  pub size : length added ≤ 48 * count
+  pub taken : Took added
+  pub memory : e ≡ OutOfMemory

@@ -1,0 +1,279 @@
+//! A file record as a view of its bytes.
+
+ghost use Rattle.std.specs.Prelude.{◌≡◌, ◌≢◌, ◌⊎◌, ◌+◌, ◌*◌, ◌<◌, ◌≤◌, nat_eq, slice_get, option_map, Some, length, take, MatchResult, OnOk, IfOk, IfErr, IsErrAnd};
+ghost use Rattle.std.specs.Cmp.{partial_equiv_from_equiv};
+ghost use Rattle.std.specs.Cmp.Lexicographic.{pointwise, on_texts_equal};
+ghost use Rattle.std.specs.Ordering.{on};
+ghost use Rattle.std.specs.Io.KnownBytes.{Appends};
+ghost use Rattle.xet_base.specs.Errors.{IsDeviceError};
+ghost use Rattle.xet_records.specs.FileRow.{header_row, clear_verification, clear_metadata};
+ghost use Rattle.xet_records.specs.FileRecord.{has_verification, has_metadata_ext, row_count, file_record_bytes, handed_out, file_records};
+ghost use Rattle.xet_records.specs.View.{BeginsWithHeaderRow, BeginsWithFile, NoView, without_verification, as_wanted, LacksVerification, IsOtherDeviceError};
+
+use super::{
+    FileDataSequenceEntry, FileDataSequenceHeader, FileMetadataExt, FileVerificationEntry,
+    MDB_FILE_INFO_ENTRY_SIZE, MDBFileInfo,
+};
+use crate::record_bytes;
+use crate::rows::{Row, write_row};
+use crate::view_reader::RecordView;
+use bytes::Bytes;
+use std::alloc::Global;
+use std::io;
+use std::io::{ErrorKind, Write};
+use std::marker::Model;
+use xet_base::error::{CoreError, Result};
+use xet_base::merklehash::MerkleHash;
+use xet_base::serialization_utils::write_bytes;
+
+/// A file record as its bytes. Contracts see the record that the bytes are, its reserved words as they are
+/// stored.
+#[derive(Debug, Drop)]
+pub struct MDBFileInfoView {
+    header: FileDataSequenceHeader,
+    bytes: Bytes,
+}
+
+impl Model for MDBFileInfoView {
+    ghost use Rattle.xet_records.specs.declared.file_structs.MDBFileInfo.{MDBFileInfo};
+    ghost use Rattle.xet_records.specs.FileRecord.{file_records};
+    ghost use Rattle.xet_records.specs.Decoding.{file_at};
+    ghost use Rattle.xet_records.specs.View.{IsWholeFile, Shows};
+
+    ghost Value = { MDBFileInfo };
+
+    ghost view = { λ v. file_at v.header v.bytes };
+
+    ghost invariant = { λ v. Shows file_records IsWholeFile v.header v.bytes (file_at v.header v.bytes) };
+}
+
+impl MDBFileInfoView {
+    /// The view of the record that the bytes begin with; the bytes after the record are cut off. The record may
+    /// have the all-ones hash.
+    ///
+    /// `UnexpectedEof` if the bytes end before the header or the rows that it announces, `InvalidShard` if these
+    /// rows pass 4294967295.
+    pub fn new(alloc: Global, bytes: Bytes) -> Result<Self>
+        ensures { MatchResult result (BeginsWithFile bytes) (NoView file_records bytes) }
+    {
+        let header = record_bytes::first_row(bytes.as_slice())?;
+        MDBFileInfoView::cut(alloc, header, bytes)
+    }
+
+    /// The same as `new` if the bytes begin with this header, else `InvalidArguments`.
+    pub fn from_data_and_header(
+        alloc: Global,
+        header: FileDataSequenceHeader,
+        bytes: Bytes,
+    ) -> Result<Self>
+        ensures { MatchResult result
+            (λ view. BeginsWithFile bytes view × (view.metadata ≡ header))
+            (λ e. NoView file_records bytes e
+            ⊎ ((e ≡ CoreError.InvalidArguments) × (48 ≤ length bytes) × (take 48 bytes ≢ header_row header))) }
+    {
+        header.widths();
+        if !record_bytes::begins_with(bytes.as_slice(), &header)? {
+            return Err(CoreError::InvalidArguments);
+        }
+        MDBFileInfoView::cut(alloc, header, bytes)
+    }
+
+    // Cuts bytes that begin with this header to the record.
+    fn cut(alloc: Global, header: FileDataSequenceHeader, bytes: Bytes) -> Result<Self>
+        requires { BeginsWithHeaderRow file_records bytes header }
+        ensures { MatchResult result
+            (λ view. BeginsWithFile bytes view × (view.metadata ≡ header))
+            (NoView file_records bytes) }
+    {
+        record_bytes::all_bytes(bytes.as_slice());
+        if header.rows_after() > u64::from(u32::MAX) {
+            return Err(CoreError::InvalidShard(String::new(alloc)));
+        }
+        let bytes = record_bytes::cut(bytes, header.num_info_entry_following())?;
+        Ok(MDBFileInfoView { header, bytes })
+    }
+
+    pub fn header(&self) -> &FileDataSequenceHeader
+        ensures { result.now ≡ self.now.metadata }
+    {
+        &self.header
+    }
+
+    /// The number of segments.
+    pub fn num_entries(&self) -> usize
+        ensures { result ≡ length self.now.segments }
+    {
+        self.header.num_entries as usize
+    }
+
+    pub fn file_hash(&self) -> MerkleHash
+        ensures { result ≡ self.now.metadata.file_hash }
+    {
+        self.header.file_hash
+    }
+
+    pub fn file_flags(&self) -> u32
+        ensures { result ≡ self.now.metadata.file_flags }
+    {
+        self.header.file_flags
+    }
+
+    /// Whether each segment has a verification row.
+    pub fn contains_verification(&self) -> bool
+        ensures { result ≡ has_verification self.now.metadata.file_flags }
+    {
+        self.header.contains_verification()
+    }
+
+    /// Whether the record ends in a metadata row.
+    pub fn contains_metadata_ext(&self) -> bool
+        ensures { result ≡ has_metadata_ext self.now.metadata.file_flags }
+    {
+        self.header.contains_metadata_ext()
+    }
+
+    /// The segment at an index. Requires that there is one.
+    pub fn entry(&self, index: usize) -> FileDataSequenceEntry
+        requires { index < length self.now.segments }
+        ensures { slice_get self.now.segments index ≡ Some result }
+    {
+        record_bytes::row(self.bytes.as_slice(), 1 + index)
+    }
+
+    /// The verification row of the segment at an index, with zero reserved words. Requires that there is one.
+    pub fn verification(&self, index: usize) -> FileVerificationEntry
+        requires { index < length self.now.verification }
+        ensures { option_map clear_verification (slice_get self.now.verification index) ≡ Some result }
+    {
+        record_bytes::row(self.bytes.as_slice(), 1 + self.num_entries() + index)
+    }
+
+    /// The metadata row, if there is one, with zero reserved words.
+    pub fn metadata_ext(&self) -> Option<FileMetadataExt>
+        ensures { result ≡ option_map clear_metadata self.now.metadata_ext }
+    {
+        let bytes = self.bytes.as_slice();
+        if !self.header.contains_metadata_ext() {
+            return None;
+        }
+        let index = 1 + self.num_entries() + self.header.verification_rows() as usize;
+        Some(record_bytes::row(bytes, index))
+    }
+
+    /// The size in bytes of the record as `serialize` writes it.
+    pub fn byte_size(&self, with_verification: bool) -> usize
+        ensures { result ≡ 48 * row_count (as_wanted with_verification self.now) }
+    {
+        let verification = if with_verification {
+            self.header.verification_rows() as usize
+        } else {
+            0
+        };
+        let metadata_ext = usize::from(self.contains_metadata_ext());
+        (1 + self.num_entries() + verification + metadata_ext) * MDB_FILE_INFO_ENTRY_SIZE
+    }
+
+    /// Appends the record and returns its size in bytes. If verification rows are not wanted, a record that has
+    /// them is written without them, under a header with the flag of a metadata row alone.
+    ///
+    /// `Io` of kind `Other` if they are wanted and missing, and then nothing is written. Any other error is the
+    /// writer's.
+    pub fn serialize<W: Write>(&self, writer: &mut W, with_verification: bool) -> Result<usize>
+        ensures text { OnOk result
+            (Appends (W.contents writer.old) (W.contents writer.new) (file_record_bytes (as_wanted with_verification self.now))) }
+        ensures count { IfOk result (λ n. n ≡ 48 * row_count (as_wanted with_verification self.now)) }
+        ensures missing { LacksVerification with_verification self.now
+            → IsErrAnd result IsOtherDeviceError × (writer.new ≡ writer.old) }
+        ensures causes { IfErr result IsDeviceError }
+    {
+        let contains_verification = self.contains_verification();
+        if with_verification && !contains_verification {
+            return Err(CoreError::Io(io::Error::from(ErrorKind::Other)));
+        }
+        if with_verification == contains_verification {
+            write_bytes(writer, self.bytes.as_slice())?;
+        } else {
+            self.write_without_verification(writer)?;
+        }
+        Ok(self.byte_size(with_verification))
+    }
+
+    // Appends the record without its verification rows.
+    fn write_without_verification<W: Write>(&self, writer: &mut W) -> io::Result<()>
+        ensures { OnOk result
+            (Appends (W.contents writer.old) (W.contents writer.new) (file_record_bytes (without_verification self.now))) }
+    {
+        let metadata_ext = self.header.contains_metadata_ext();
+        let header = FileDataSequenceHeader::new(
+            self.header.file_hash,
+            self.header.num_entries,
+            false,
+            metadata_ext,
+        );
+        write_row(&header, writer)?;
+        let bytes = self.bytes.as_slice();
+        let segments = self.num_entries();
+        write_bytes(writer, record_bytes::part(bytes, 1, segments))?;
+        let after = 1 + segments + self.header.verification_rows() as usize;
+        write_bytes(
+            writer,
+            record_bytes::part(bytes, after, usize::from(metadata_ext)),
+        )?;
+        Ok(())
+    }
+
+    /// The bytes of the record. `OutOfMemory` is the only error.
+    pub fn bytes(&self) -> Result<Bytes>
+        ensures ok { IfOk result (λ bytes. bytes ≡ file_record_bytes self.now) }
+        ensures causes { IfErr result (λ e. e ≡ CoreError.OutOfMemory) }
+    {
+        Ok(self.bytes.clone()?)
+    }
+
+    /// The record, with zero reserved words in verification and metadata rows. `OutOfMemory` is the only error.
+    pub fn to_info(&self, alloc: Global) -> Result<MDBFileInfo>
+        ensures ok { IfOk result (λ info. info ≡ handed_out self.now) }
+        ensures causes { IfErr result (λ e. e ≡ CoreError.OutOfMemory) }
+    {
+        let bytes = self.bytes.as_slice();
+        let segments = self.num_entries();
+        let verification = self.header.verification_rows() as usize;
+        Ok(MDBFileInfo {
+            metadata: self.header,
+            segments: record_bytes::rows(alloc, bytes, 1, segments)?,
+            verification: record_bytes::rows(alloc, bytes, 1 + segments, verification)?,
+            metadata_ext: self.metadata_ext(),
+        })
+    }
+
+    /// A copy of the view, or `OutOfMemory`.
+    pub fn try_clone(&self) -> Result<Self>
+        ensures ok { IfOk result (λ copy. copy ≡ self.now) }
+        ensures causes { IfErr result (λ e. e ≡ CoreError.OutOfMemory) }
+    {
+        Ok(MDBFileInfoView {
+            header: self.header,
+            bytes: self.bytes.clone()?,
+        })
+    }
+}
+
+impl RecordView<MDBFileInfo> for MDBFileInfoView {
+    ghost shown = { λ view. view };
+
+    fn of_bytes(header: FileDataSequenceHeader, bytes: Bytes) -> MDBFileInfoView {
+        record_bytes::all_bytes(bytes.as_slice());
+        MDBFileInfoView { header, bytes }
+    }
+}
+
+// Two views are equal if their bytes are, which determine the header.
+impl PartialEq for MDBFileInfoView {
+    ghost eq = { on file_record_bytes (pointwise nat_eq) };
+
+    ghost laws = { partial_equiv_from_equiv (on_texts_equal file_record_bytes) };
+
+    fn eq(&self, other: &Self) -> bool {
+        self.bytes == other.bytes
+    }
+}

@@ -1,0 +1,96 @@
+//! What views of files and xorbs share: the bytes of one record, and the rows in them.
+
+ghost use Rattle.std.specs.Prelude.{◌≡◌, ℕ, ◌+◌, ◌*◌, ◌<◌, ◌≤◌, List, length, take, drop, slice_index, MatchResult, IfOk, IfErr, IsTrue, ◌↔◌};
+ghost use Rattle.std.specs.IoError.{error_kind};
+ghost use Rattle.xet_records.specs.Rows.{ReadsRow, ReadsRows};
+
+use crate::rows::{ROW_SIZE, Row, Rows};
+use bytes::Bytes;
+use std::alloc::Global;
+use std::io;
+use std::io::ErrorKind;
+use xet_base::error::{CoreError, Result};
+
+/// Cuts bytes to a header and so many rows after it. `UnexpectedEof` if there are fewer bytes.
+pub fn cut(mut bytes: Bytes, rows_after: u32) -> io::Result<Bytes>
+    ensures { MatchResult result
+        (λ cut. (48 + 48 * rows_after ≤ length bytes) × (cut ≡ take (48 + 48 * rows_after) bytes))
+        (λ e. (error_kind e ≡ ErrorKind.UnexpectedEof) × (length bytes < 48 + 48 * rows_after)) }
+{
+    let size = ROW_SIZE + ROW_SIZE * rows_after as usize;
+    if bytes.len() < size {
+        return Err(io::Error::from(ErrorKind::UnexpectedEof));
+    }
+    bytes.truncate(size);
+    Ok(bytes)
+}
+
+/// The row that bytes begin with. `UnexpectedEof` if there are fewer than 48.
+pub fn first_row<T: Row>(bytes: &[u8]) -> io::Result<T>
+    ensures { MatchResult result
+        (ReadsRow T.row_bytes T.Fits T.handed_out (λ row. (48 ≤ length bytes.now) × (row ≡ take 48 bytes.now)))
+        (λ e. (error_kind e ≡ ErrorKind.UnexpectedEof) × (length bytes.now < 48)) }
+{
+    if bytes.len() < ROW_SIZE {
+        return Err(io::Error::from(ErrorKind::UnexpectedEof));
+    }
+    Ok(row(bytes, 0))
+}
+
+/// Whether bytes begin with this row. `UnexpectedEof` if there are fewer than 48.
+pub fn begins_with<T: Row>(bytes: &[u8], row: &T) -> io::Result<bool>
+    ensures { MatchResult result
+        (λ begins. (48 ≤ length bytes.now) × (IsTrue begins ↔ (take 48 bytes.now ≡ T.row_bytes row.now)))
+        (λ e. (error_kind e ≡ ErrorKind.UnexpectedEof) × (length bytes.now < 48)) }
+{
+    if bytes.len() < ROW_SIZE {
+        return Err(io::Error::from(ErrorKind::UnexpectedEof));
+    }
+    let row = row.to_bytes();
+    Ok(part(bytes, 0, 1) == row.as_slice())
+}
+
+/// The row at an index, counted from the header on.
+pub fn row<T: Row>(bytes: &[u8], index: usize) -> T
+    requires { 48 * index + 48 ≤ length bytes.now }
+    ensures { ReadsRow T.row_bytes T.Fits T.handed_out (λ row. row ≡ take 48 (drop (48 * index) bytes.now)) result }
+{
+    let mut row = [0u8; ROW_SIZE];
+    row.copy_from_slice(part(bytes, index, 1));
+    T::from_bytes(&row)
+}
+
+/// The bytes of so many rows from an index on.
+pub fn part(bytes: &[u8], start: usize, count: usize) -> &[u8]
+    requires { 48 * start + 48 * count ≤ length bytes.now }
+    ensures bytes { result.now ≡ take (48 * count) (drop (48 * start) bytes.now) }
+    ensures len { length result.now ≡ 48 * count }
+{
+    let start = ROW_SIZE * start;
+    let end = start + ROW_SIZE * count;
+    &bytes[start..end]
+}
+
+/// So many rows from an index on. `OutOfMemory` is the only error.
+pub fn rows<T: Row + Drop>(
+    alloc: Global,
+    bytes: &[u8],
+    start: usize,
+    count: usize,
+) -> Result<Rows<T>>
+    requires { 48 * start + 48 * count ≤ length bytes.now }
+    ensures ok { IfOk result
+        (ReadsRows T.row_bytes T.Fits T.handed_out (λ rows. rows ≡ take (48 * count) (drop (48 * start) bytes.now)) count) }
+    ensures causes { IfErr result (λ e. e ≡ CoreError.OutOfMemory) }
+{
+    let mut rows = Rows::new(alloc);
+    for i in 0..count {
+        rows.push(row(bytes, start + i))?;
+    }
+    Ok(rows)
+}
+
+/// Does nothing. It says that each element of a slice of bytes is below 256.
+pub fn all_bytes(bytes: &[u8])
+    ensures { (i : ℕ) → slice_index bytes.now i < 256 }
+{}

@@ -1,0 +1,129 @@
+//! Reading headers, records and sections from any input, reader or source.
+
+ghost use Rattle.std.specs.Prelude.{◌≡◌, ◌≤◌, ◌<◌, ◌*◌, ◌^◌, ◌↔◌, IsTrue, MatchResult};
+ghost use Rattle.xet_base.specs.Hash.{all_ones};
+ghost use Rattle.xet_records.specs.RecordKind.{RecordKind, KindLaws, IsHeaderRow};
+ghost use Rattle.xet_records.specs.Reading.{ReadsRowsAfter, ReadsNextHeader, ReadsNextRecord, Stops, ReadsRecords, StopsAfter};
+
+use crate::input_rows;
+use crate::rows::Row;
+use std::alloc::Global;
+use xet_base::error::{CoreError, Result};
+use xet_base::input::ByteInput;
+
+/// The most rows that a record read by itself may have, its header included: the rows after it fit `u32`.
+pub const MOST_ROWS_OF_RECORD: u64 = 1 << 32;
+
+/// A record of a section, of files or of xorbs: a header row, and the rows that it announces.
+pub trait SectionRecord {
+    type Header: Row;
+
+    /// What reading past a record keeps of the rows after its header.
+    type Kept: Copy;
+
+    ghost kind: { RecordKind Self.Header Self };
+
+    ghost kept: { Self → Self.Kept };
+
+    /// Whether the header ends a section.
+    fn is_bookend(header: &Self::Header) -> bool
+        ensures { IsTrue result ↔ (kind.hash_of header.now ≡ all_ones) };
+
+    /// The number of rows after the header.
+    fn rows_after(header: &Self::Header) -> u64
+        ensures rows { result ≡ kind.rows_after header.now }
+        ensures bound { result < 2 ^ 33 };
+
+    /// Reads the rows that the header announces. `UnexpectedEof` if fewer are left. May fail with
+    /// `OutOfMemory`.
+    fn read_rows_after<M, I: ByteInput<M>>(
+        alloc: Global,
+        input: &mut I,
+        header: Self::Header,
+    ) -> Result<Self>
+        ensures { MatchResult result (ReadsRowsAfter kind header (I.reads input.old input.new))
+            (I.fails input.old input.new (48 * kind.rows_after header)) };
+
+    /// Reads past the rows that the header announces. Does not allocate. `UnexpectedEof` if fewer are left.
+    fn skip_rows_after<M, I: ByteInput<M>>(
+        input: &mut I,
+        header: Self::Header,
+    ) -> Result<Self::Kept>
+        ensures { MatchResult result
+            (λ value. (skipped : Self) × (kept skipped ≡ value) × ReadsRowsAfter kind header (I.reads input.old input.new) skipped)
+            (I.fails input.old input.new (48 * kind.rows_after header)) };
+
+    /// Does nothing. It says what holds of every kind of records.
+    fn laws()
+        ensures { KindLaws kind };
+
+    ghost header_row: { IsHeaderRow kind Self.Header.row_bytes Self.Header.Fits Self.Header.handed_out };
+}
+
+/// Reads the header of the next record of a section, or `None` at its bookend, and counts the record's rows down
+/// from `rows_left`.
+///
+/// `UnexpectedEof` if fewer than 48 bytes are left, `InvalidShard` if the record has more rows than are left.
+pub fn read_header<R: SectionRecord, M, I: ByteInput<M>>(
+    alloc: Global,
+    input: &mut I,
+    rows_left: &mut u64,
+) -> Result<Option<R::Header>>
+    ensures { MatchResult result
+        (ReadsNextHeader R.kind (I.reads input.old input.new) rows_left.old rows_left.new)
+        (Stops R.kind I.reads I.fails rows_left.old input.old input.new) }
+{
+    let header: R::Header = input_rows::read_row(input)?;
+    if R::is_bookend(&header) {
+        return Ok(None);
+    }
+    let rows = 1 + R::rows_after(&header);
+    if rows > *rows_left {
+        return Err(CoreError::InvalidShard(String::new(alloc)));
+    }
+    *rows_left -= rows;
+    Ok(Some(header))
+}
+
+/// Reads the next record of a section, or `None` at its bookend, and counts the record's rows down from
+/// `rows_left`.
+///
+/// `UnexpectedEof` if too few bytes are left, `InvalidShard` if the record has more rows than are left. May fail
+/// with `OutOfMemory`.
+pub fn read_record<R: SectionRecord, M, I: ByteInput<M>>(
+    alloc: Global,
+    input: &mut I,
+    rows_left: &mut u64,
+) -> Result<Option<R>>
+    requires { rows_left.old ≤ 4294967296 }
+    ensures { MatchResult result
+        (ReadsNextRecord R.kind (I.reads input.old input.new) rows_left.old rows_left.new)
+        (Stops R.kind I.reads I.fails rows_left.old input.old input.new) }
+{
+    R::laws();
+    let Some(header) = read_header::<R, M, I>(alloc, input, rows_left)? else {
+        return Ok(None);
+    };
+    Ok(Some(R::read_rows_after(alloc, input, header)?))
+}
+
+/// Reads the records of a section up to its bookend.
+///
+/// `UnexpectedEof` if the input ends before the bookend, `InvalidShard` if the rows pass 4294967295. May fail
+/// with `OutOfMemory`.
+pub fn read_section<R: SectionRecord + Drop, M, I: ByteInput<M>>(
+    alloc: Global,
+    input: &mut I,
+) -> Result<Vec<R>>
+    ensures { MatchResult result
+        (λ found. ReadsRecords R.kind I.reads input.old input.new found.items)
+        (StopsAfter R.kind I.reads I.fails input.old input.new) }
+{
+    R::laws();
+    let mut records = Vec::new(alloc);
+    let mut rows_left = u64::from(u32::MAX);
+    while let Some(next) = read_record(alloc, input, &mut rows_left)? {
+        records.push(next)?;
+    }
+    Ok(records)
+}

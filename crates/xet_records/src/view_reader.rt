@@ -1,0 +1,95 @@
+//! Reading views of the records of a section from any input, reader or source.
+
+ghost use Rattle.std.specs.Prelude.{◌≡◌, ◌⊎◌, ℕ, ◌+◌, ◌*◌, ◌≤◌, List, ◌++◌, length, MatchResult};
+ghost use Rattle.xet_base.specs.declared.error.CoreError.TheVariants.{OutOfMemory};
+ghost use Rattle.xet_records.specs.Processing.{ProcessesSection, RefusesRecord, StopsReading};
+ghost use Rattle.xet_records.specs.Reading.{Stops};
+ghost use Rattle.xet_records.specs.View.{BeginsWithHeaderRow, ShowsRecord};
+ghost use Rattle.xet_records.specs.ViewReading.{ReadsNextView, AddsRows, LacksMemory};
+
+use crate::record_reader::{SectionRecord, read_header};
+use crate::rows::{ROW_SIZE, Row};
+use bytes::Bytes;
+use std::alloc::Global;
+use xet_base::error::Result;
+use xet_base::input::ByteInput;
+
+/// A view of a record of a section.
+pub trait RecordView<R: SectionRecord> {
+    ghost shown: { Self → R };
+
+    /// The view of the record with this header that the bytes are, no more and no fewer.
+    fn of_bytes(header: R::Header, bytes: Bytes) -> Self
+        requires begins { BeginsWithHeaderRow R.kind bytes header }
+        requires few { R.kind.rows_after header ≤ 4294967295 }
+        requires size { length bytes ≡ 48 + 48 * R.kind.rows_after header }
+        ensures { ShowsRecord R.kind header bytes (shown result) };
+}
+
+/// Reads a view of the next record of a section, or `None` at its bookend, and counts the record's rows down from
+/// `rows_left`.
+///
+/// `UnexpectedEof` if too few bytes are left, `InvalidShard` if the record has more rows than are left. May fail
+/// with `OutOfMemory`.
+pub fn read_view<R: SectionRecord, V: RecordView<R>, M, I: ByteInput<M>>(
+    alloc: Global,
+    input: &mut I,
+    rows_left: &mut u64,
+) -> Result<Option<V>>
+    requires { rows_left.old ≤ 4294967296 }
+    ensures { MatchResult result
+        (ReadsNextView R.kind V.shown (I.reads input.old input.new) rows_left.old rows_left.new)
+        (Stops R.kind I.reads I.fails rows_left.old input.old input.new) }
+{
+    R::laws();
+    let Some(header) = read_header::<R, M, I>(alloc, input, rows_left)? else {
+        return Ok(None);
+    };
+    let bytes = read_row_bytes(alloc, input, &header.to_bytes(), R::rows_after(&header))?;
+    Ok(Some(V::of_bytes(header, Bytes::from_vec(bytes)?)))
+}
+
+// These 48 bytes, and those of so many rows that are read after them.
+fn read_row_bytes<M, I: ByteInput<M>>(
+    alloc: Global,
+    input: &mut I,
+    first: &[u8],
+    count: u64,
+) -> Result<Vec<u8>>
+    ensures { MatchResult result
+        (λ bytes. AddsRows (I.reads input.old input.new) count first.now bytes.items)
+        (λ e. I.fails input.old input.new (48 * count) e ⊎ LacksMemory (I.reads input.old input.new) count e) }
+{
+    let mut bytes = Vec::from_slice(alloc, first)?;
+    for _row in 0..count {
+        let mut row = [0u8; ROW_SIZE];
+        input.fill(&mut row)?;
+        bytes.extend_from_slice(&row)?;
+    }
+    Ok(bytes)
+}
+
+/// Calls `callback` with a view of each record of a section, in order, until a call fails or the bookend is read.
+/// The error is that of the call, or of reading: `UnexpectedEof` if the input ends before the bookend,
+/// `InvalidShard` if the rows pass 4294967295, `OutOfMemory`.
+pub fn process_section<
+    R: SectionRecord,
+    V: RecordView<R>,
+    M,
+    I: ByteInput<M>,
+    F: FnMut(V) -> Result<()>,
+>(alloc: Global, input: &mut I, callback: &mut F) -> Result<()>
+    requires { F.IsAlwaysCallable callback.old }
+    ensures calls { MatchResult result
+        (λ _. ProcessesSection R.kind V.shown I.reads I.fails F.step input.old input.new callback.old callback.new)
+        (λ e. RefusesRecord R.kind V.shown I.reads I.fails F.step input.old input.new callback.old callback.new e
+        ⊎ StopsReading R.kind V.shown I.reads I.fails F.step input.old input.new callback.old callback.new e) }
+    ensures callable { F.IsAlwaysCallable callback.new }
+{
+    R::laws();
+    let mut rows_left = u64::from(u32::MAX);
+    while let Some(view) = read_view::<R, V, M, I>(alloc, input, &mut rows_left)? {
+        callback(view)?;
+    }
+    Ok(())
+}

@@ -1,0 +1,202 @@
+-- Joins of shards that agree pairwise: they agree with each other, exist, and are shards if their rows are few; with more
+-- shards a join has no fewer rows.
+use Rattle.std.proofs.Common.{◌≡◌, ◌≤◌, Bool, true, false, List, [], ◌∷◌, ◌++◌, length, Option, None, Some, is_some, refl, sym, ap, ◌∙◌, subst, if◌then◌else◌, true≢false, arith}
+use Rattle.std.specs.Prelude.{Contains, IsTrue, option_map, option_and_then, option_to_list}
+use Rattle.std.specs.Option.{option_or}
+use Rattle.std.specs.FinMap.{get, entries, get-entries}
+use Rattle.std.proofs.lemmas.List.Elements.{Contains-push, Contains-append_left, Contains-append_right}
+use Rattle.std.proofs.lemmas.Option.{same_Some, none-some}
+use Rattle.xet_base.specs.declared.merklehash.DataHash.{DataHash}
+use Rattle.xet_base.proofs.HashOrder.{hash_cmp-IsTotalOrder, hash_cmp-IsAntisymmetric}
+use Rattle.xet_records.specs.declared.file_structs.rows.FileVerificationEntry.{FileVerificationEntry}
+use Rattle.xet_records.specs.declared.file_structs.rows.FileMetadataExt.{FileMetadataExt}
+use Rattle.xet_records.specs.declared.file_structs.MDBFileInfo.{MDBFileInfo}
+use Rattle.xet_records.specs.declared.xorb_structs.MDBXorbInfo.{MDBXorbInfo}
+use Rattle.xet_records.specs.FileRecord.{row_count, IsWellFormed}
+use Rattle.xet_records.specs.XorbRecord.{xorb_row_count, IsXorb}
+use Rattle.xet_records.specs.Merging.{Agree, verified, merged}
+use Rattle.xet_records.proofs.Merging.{same_file_if_agree, merged_well_formed}
+use Rattle.xet_shards.specs.Shard.{Shard, IsShard, file_hash_of, xorb_hash_of}
+use Rattle.xet_shards.specs.Joining.{either_file}
+use Rattle.xet_shards.specs.SetOperations.{IsUnion, ShardsAgree, HasFewRows}
+use Rattle.xet_shards.specs.Joins.{verification_of, segments_under, verification_under, metadata_under, HasWhatAnyHas, FollowsParts, IsJoinOf, AgreePairwise}
+use Rattle.xet_shards.proofs.FileUnions.{entry-holds}
+use Rattle.xet_shards.proofs.Sums.{all_of_map, part-le-sum, sum-below}
+use Rattle.xet_shards.proofs.Unions.{IsKnown, known}
+use Rattle.xet_shards.proofs.Overlays.{united_shard, union_exists}
+use Rattle.xet_shards.proofs.Joins.{same_segments, same_verification, same_metadata, follows_parts, plain_file, join-unique, join-none, join-one, join-append}
+
+-- the parts of a file that is present
+verification_is : (r : MDBFileInfo) → IsTrue (verified r) → verification_of r ≡ Some r.verification
+verification_is r has = ap (λ (v : Bool). if v then Some r.verification else None) has
+
+row_is : (o : Option FileMetadataExt) → IsTrue (is_some o) → (x : FileMetadataExt) × (o ≡ Some x)
+row_is None has = absurd (true≢false (sym has))
+row_is (Some x) has = (x, refl)
+
+-- agreement of each shard of a set with each of another passes to their joins
+module _ (A B : Shard → Type 0) (a b : Shard) (first : IsJoinOf A a) (second : IsJoinOf B b)
+    (follows_A : (s : Shard) → A s → FollowsParts s) (follows_B : (s : Shard) → B s → FollowsParts s) (agree : (s t : Shard) → A s → B t → ShardsAgree s t) where
+  -- what any of the one set has is what any of the other has
+  from_members : {X : Type 0} (part : Shard → Option X) → HasWhatAnyHas A a part → HasWhatAnyHas B b part
+      → ((s t : Shard) → A s → B t → (x y : X) → part s ≡ Some x → part t ≡ Some y → x ≡ y) → (x y : X) → part a ≡ Some x → part b ≡ Some y → x ≡ y
+  from_members part one other same x y at there =
+      let own = (one x).0 at in
+      let others = (other y).0 there in
+      same own.0 others.0 own.1 others.1 x y own.2 others.2
+
+  agreeing_files : (q : DataHash) (r s : MDBFileInfo) → get a.files q ≡ Some r → get b.files q ≡ Some s → Agree r s
+  agreeing_files q r s own other = record {
+    segments = from_members (segments_under q) (first.segments q) (second.segments q)
+        (λ u v m n x y. same_segments q (get u.files q) (get v.files q) ((agree u v m n).files q) x y)
+        r.segments s.segments (ap (option_map (λ t. t.segments)) own) (ap (option_map (λ t. t.segments)) other);
+    verification = λ v w. from_members (verification_under q) (first.verification q) (second.verification q)
+        (λ u k m n x y. same_verification q (get u.files q) (get k.files q) ((agree u k m n).files q) x y)
+        r.verification s.verification (ap (option_and_then verification_of) own ∙ verification_is r v) (ap (option_and_then verification_of) other ∙ verification_is s w);
+    metadata_ext = λ m l.
+        let mine = row_is r.metadata_ext ((plain_file a first.follows q r own).present ∙ m) in
+        let others = row_is s.metadata_ext ((plain_file b second.follows q s other).present ∙ l) in
+        mine.1 ∙ ap Some (from_members (metadata_under q) (first.metadata_ext q) (second.metadata_ext q)
+        (λ u k i j x y. same_metadata q (get u.files q) (get k.files q) (plain_file u (follows_A u i) q) (plain_file k (follows_B k j) q) ((agree u k i j).files q) x y)
+        mine.0 others.0 (ap (option_and_then (λ t. t.metadata_ext)) own ∙ mine.1) (ap (option_and_then (λ t. t.metadata_ext)) other ∙ others.1))
+        ∙ sym others.1;
+  }
+
+  pub joins_agree : ShardsAgree a b
+  joins_agree = record {
+    files = agreeing_files;
+    xorbs = λ q r s own other. from_members (λ t. get t.xorbs q) (first.xorbs q) (second.xorbs q) (λ u v m n x y at there. (agree u v m n).xorbs q x y at there) r s own other;
+  }
+
+-- with more shards a join has no fewer rows
+module _ (A C : Shard → Type 0) (a c : Shard) (few : IsJoinOf A a) (more : IsJoinOf C c) (into : (s : Shard) → A s → C s) where
+  has_more : {X : Type 0} (part : Shard → Option X) → HasWhatAnyHas A a part → HasWhatAnyHas C c part → (x : X) → part a ≡ Some x → part c ≡ Some x
+  has_more part one other x at = let found = (one x).0 at in (other x).1 (found.0, into found.0 found.1, found.2)
+
+  file_there : (o : Option MDBFileInfo) (xs : _) → option_map (λ (r : MDBFileInfo). r.segments) o ≡ Some xs → (t : MDBFileInfo) × (o ≡ Some t) × (t.segments ≡ xs)
+  file_there None xs is = absurd (none-some xs is)
+  file_there (Some t) xs is = (t, refl, same_Some t.segments xs is)
+
+  verification_there : (v : Bool) (xs ys : List FileVerificationEntry) → (if v then Some xs else None) ≡ Some ys → xs ≡ ys
+  verification_there true xs ys is = same_Some xs ys is
+  verification_there false xs ys is = absurd (none-some ys is)
+
+  few_verification : (v : Bool) (xs ys : List FileVerificationEntry) → (v ≡ false → xs ≡ []) → (IsTrue v → ys ≡ xs) → length xs ≤ length ys
+  few_verification true xs ys absent same = omega (arith, ap length (same refl))
+  few_verification false xs ys absent same = omega (arith, ap length (absent refl))
+
+  few_metadata : (o p : Option FileMetadataExt) → ((x : FileMetadataExt) → o ≡ Some x → p ≡ Some x) → length (option_to_list o) ≤ length (option_to_list p)
+  few_metadata None p same = omega arith
+  few_metadata (Some x) p same = omega (arith, ap (λ r. length (option_to_list r)) (same x refl))
+
+  file_more : (q : DataHash) (r : MDBFileInfo) → get a.files q ≡ Some r → (t : MDBFileInfo) × (get c.files q ≡ Some t) × (row_count r ≤ row_count t)
+  file_more q r at =
+      let there = file_there (get c.files q) r.segments (has_more (segments_under q) (few.segments q) (more.segments q) r.segments (ap (option_map (λ t. t.segments)) at)) in
+      let t = there.0 in
+      let header = plain_file a few.follows q r at in
+      let verification = few_verification (verified r) r.verification t.verification header.absent (λ has. verification_there (verified t) t.verification r.verification
+      (sym (ap (option_and_then verification_of) there.1) ∙ has_more (verification_under q) (few.verification q) (more.verification q) r.verification (ap (option_and_then verification_of) at ∙ verification_is r has))) in
+      let metadata_ext = few_metadata r.metadata_ext t.metadata_ext (λ x is.
+      sym (ap (option_and_then (λ s. s.metadata_ext)) there.1) ∙ has_more (metadata_under q) (few.metadata_ext q) (more.metadata_ext q) x (ap (option_and_then (λ s. s.metadata_ext)) at ∙ is)) in
+      (t, there.1, omega (arith, ap length there.2, verification, metadata_ext))
+
+  pub fewer_if_more : HasFewRows c → HasFewRows a
+  fewer_if_more all = record {
+    files = omega (arith, all.files, sum-below hash_cmp-IsTotalOrder hash_cmp-IsAntisymmetric row_count a.files c.files file_more);
+    xorbs = omega (
+      arith,
+      all.xorbs,
+      sum-below hash_cmp-IsTotalOrder hash_cmp-IsAntisymmetric xorb_row_count a.xorbs c.xorbs
+          (λ q r at. (r, has_more (λ s. get s.xorbs q) (few.xorbs q) (more.xorbs q) r at, omega arith)),
+    );
+  }
+
+-- the union of two shards that agree is a shard if its rows fit `u32`
+record IsKnownXorb (q : DataHash) (r : MDBXorbInfo) : Type 0 where
+  pub keyed : q ≡ xorb_hash_of r
+  pub well_formed : IsXorb r
+
+known_xorb : (s : Shard) (q : DataHash) (r : MDBXorbInfo) → IsShard s → get s.xorbs q ≡ Some r → IsKnownXorb q r
+known_xorb s q r shard at =
+    let found = sym (get-entries s.xorbs q) ∙ at in
+    record {
+      keyed = entry-holds (λ e. e.0 ≡ xorb_hash_of e.1) (entries s.xorbs) q r shard.xorbs.keyed found;
+      well_formed = entry-holds (λ e. IsXorb e.1) (entries s.xorbs) q r shard.xorbs.well_formed found;
+    }
+
+either_known : (P : MDBXorbInfo → Type 0) (o p : Option MDBXorbInfo) → ((r : MDBXorbInfo) → o ≡ Some r → P r) → ((r : MDBXorbInfo) → p ≡ Some r → P r) → (r : MDBXorbInfo) → option_or p o ≡ Some r → P r
+either_known P o None first second r is = first r is
+either_known P o (Some x) first second r is = second r is
+
+known_either : (q : DataHash) (o p : Option MDBFileInfo) (t : MDBFileInfo) → ((r : MDBFileInfo) → o ≡ Some r → IsKnown q r) → ((r : MDBFileInfo) → p ≡ Some r → IsKnown q r)
+    → ((r s : MDBFileInfo) → o ≡ Some r → p ≡ Some s → Agree r s) → row_count t ≤ 4294967295 → either_file o p ≡ Some t → IsKnown q t
+known_either q None p t first second agree few is = second t is
+known_either q (Some r) None t first second agree few is = first t is
+known_either q (Some r) (Some s) t first second agree few is =
+    let own = first r refl in
+    let other = second s refl in
+    let same = same_Some (merged r s) t is in
+    record {
+      keyed = own.keyed ∙ ap file_hash_of same;
+      well_formed = subst IsWellFormed same (merged_well_formed r s own.well_formed other.well_formed
+          (same_file_if_agree r s own.well_formed.whole other.well_formed.whole (sym own.keyed ∙ other.keyed) (agree r s refl refl))
+          (subst (λ n. row_count n ≤ 4294967295) (sym same) few));
+    }
+
+module _ (a b c : Shard) (first : IsShard a) (second : IsShard b) (agree : ShardsAgree a b) (union : IsUnion a b c) (few : HasFewRows c) where
+  file_known : (q : DataHash) (t : MDBFileInfo) → get c.files q ≡ Some t → IsKnown q t
+  file_known q t at = known_either q (get a.files q) (get b.files q) t (λ r. known a q r first) (λ r. known b q r second) (agree.files q)
+      (omega (arith, few.files, part-le-sum hash_cmp-IsTotalOrder hash_cmp-IsAntisymmetric row_count c.files q t at)) (sym (union.files q) ∙ at)
+
+  xorb_known : (q : DataHash) (t : MDBXorbInfo) → get c.xorbs q ≡ Some t → IsKnownXorb q t
+  xorb_known q t at = either_known (IsKnownXorb q) (get a.xorbs q) (get b.xorbs q) (λ r. known_xorb a q r first) (λ r. known_xorb b q r second) t (sym (union.xorbs q) ∙ at)
+
+  pub union_is_shard : IsShard c
+  union_is_shard = record {
+    files = record {
+      keyed = all_of_map hash_cmp-IsTotalOrder hash_cmp-IsAntisymmetric (λ e. e.0 ≡ file_hash_of e.1) c.files (λ q t at. (file_known q t at).keyed);
+      well_formed = all_of_map hash_cmp-IsTotalOrder hash_cmp-IsAntisymmetric (λ e. IsWellFormed e.1) c.files (λ q t at. (file_known q t at).well_formed);
+    };
+    file_rows = few.files;
+    xorbs = record {
+      keyed = all_of_map hash_cmp-IsTotalOrder hash_cmp-IsAntisymmetric (λ e. e.0 ≡ xorb_hash_of e.1) c.xorbs (λ q t at. (xorb_known q t at).keyed);
+      well_formed = all_of_map hash_cmp-IsTotalOrder hash_cmp-IsAntisymmetric (λ e. IsXorb e.1) c.xorbs (λ q t at. (xorb_known q t at).well_formed);
+    };
+    xorb_rows = few.xorbs;
+  }
+
+-- two lists of shards that agree pairwise: their joins agree, and the union of these is the join of both lists
+module _ (xs ys : List Shard) (a b : Shard) (first : IsJoinOf (Contains xs) a) (second : IsJoinOf (Contains ys) b) (agree : AgreePairwise (Contains (xs ++ ys))) where
+  pub lists_agree : ShardsAgree a b
+  lists_agree = joins_agree (Contains xs) (Contains ys) a b first second
+      (λ s member. follows_parts s (agree.shards s (Contains-append_left xs ys s member)))
+      (λ s member. follows_parts s (agree.shards s (Contains-append_right xs ys s member)))
+      (λ s t one other. agree.pairs s t (Contains-append_left xs ys s one) (Contains-append_right xs ys t other))
+
+  pub union-of_joins : (c : Shard) → IsJoinOf (Contains (xs ++ ys)) c → IsUnion a b c
+  union-of_joins c join =
+      let d = united_shard a b in
+      subst (IsUnion a b) (join-unique (Contains (xs ++ ys)) d c (join-append xs ys a b d first second lists_agree (union_exists a b)) join) (union_exists a b)
+
+pub agree_left : (xs ys : List Shard) → AgreePairwise (Contains (xs ++ ys)) → AgreePairwise (Contains xs)
+agree_left xs ys agree = record {
+  shards = λ s member. agree.shards s (Contains-append_left xs ys s member);
+  pairs = λ s t one other. agree.pairs s t (Contains-append_left xs ys s one) (Contains-append_left xs ys t other);
+}
+
+pub agree_right : (xs ys : List Shard) → AgreePairwise (Contains (xs ++ ys)) → AgreePairwise (Contains ys)
+agree_right xs ys agree = record {
+  shards = λ s member. agree.shards s (Contains-append_right xs ys s member);
+  pairs = λ s t one other. agree.pairs s t (Contains-append_right xs ys s one) (Contains-append_right xs ys t other);
+}
+
+-- shards that agree pairwise have a join
+pub joins_exist : (ss : List Shard) → AgreePairwise (Contains ss) → (c : Shard) × IsJoinOf (Contains ss) c
+joins_exist [] agree = (_, join-none (Contains []) no_member) where
+  no_member : (t : Shard) → ¬ Contains {X = Shard} [] t
+  no_member t (k, below, is) = absurd (omega (arith, below))
+joins_exist (s ∷ ss) agree =
+    let rest = joins_exist ss (agree_right (s ∷ []) ss agree) in
+    let one = join-one s (follows_parts s (agree.shards s (Contains-append_left (s ∷ []) ss s (Contains-push [] s)))) in
+    let d = united_shard s rest.0 in
+    (d, join-append (s ∷ []) ss s rest.0 d one rest.1 (lists_agree (s ∷ []) ss s rest.0 one rest.1 agree) (union_exists s rest.0))

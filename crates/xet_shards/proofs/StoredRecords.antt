@@ -1,0 +1,111 @@
+-- Stored records in the bytes of a source: each is read at the row at which it starts.
+use Rattle.std.proofs.Common.{◌≡◌, ◌⊎◌, inl, inr, ℕ, suc, ◌+◌, ◌*◌, ◌^◌, ◌<◌, ◌≤◌, List, ◌∷◌, ◌++◌, length, take, drop, drop-cons, flat_map, get_or, sym, ap, refl, ◌∙◌, subst, append_assoc, arith}
+use Rattle.std.specs.Prelude.{All, Contains}
+use Rattle.std.proofs.lemmas.List.{drop-drop, take-append-drop}
+use Rattle.std.proofs.lemmas.List.Elements.{All-contains, Contains-append_left, Contains-append_right, Contains-get_or}
+use Rattle.std.proofs.lemmas.List.Sums.{sum_by-append, sum_by-cons}
+use Rattle.std.proofs.lemmas.Grind.{flat_map-append}
+use Rattle.xet_base.specs.declared.error.CoreError.{CoreError}
+use Rattle.xet_base.specs.declared.error.CoreError.TheVariants.{OutOfMemory}
+use Rattle.xet_base.specs.Source.{Source, DeviceFailure}
+use Rattle.xet_base.specs.Source.ReadCase.{out_of_memory, out_of_bytes}
+use Rattle.xet_base.proofs.Lists.{rest_is}
+use Rattle.xet_records.specs.RecordKind.{RecordKind}
+use Rattle.xet_records.specs.Reading.{BeginsWithHeader}
+use Rattle.xet_records.proofs.Lengths.{length-texts}
+use Rattle.xet_records.proofs.RecordKinds.{KindLaws, StopsAt, length-text, stored_begins, same_front, no_record}
+use Rattle.xet_shards.specs.InForm.{FitsSection}
+use Rattle.xet_shards.specs.Section.{total_rows, StartsAt}
+use Rattle.xet_shards.specs.SectionReading.SectionCase.{not_read, passes_limit}
+use Rattle.xet_shards.specs.SectionReading.{MayTake}
+use Rattle.xet_shards.specs.Lookup.{row_at, RecordAt, InfoRefusal}
+use Rattle.xet_shards.proofs.Lookups.{length-stored}
+
+-- the bytes of stored records, and of the bookend, are at an offset
+pub record AreStoredAt {H R : Type 0} (K : RecordKind H R) (records : List R) (offset : ℕ) (bytes : List ℕ) : Type 0 where
+  pub fits : FitsSection K records
+  pub offset_fits : offset ≤ 2 ^ 48
+  pub rest : List ℕ
+  pub records_are : drop offset bytes ≡ flat_map K.text records ++ (K.header_bytes K.bookend ++ rest)
+
+-- the i-th starts after the rows of those before it
+pub starts_at_index : {H R : Type 0} (K : RecordKind H R) (records : List R) (i : ℕ) (d : R) → i < length records → StartsAt K records (total_rows K (take i records)) (get_or records i d)
+starts_at_index K records i d within = record {
+  before = take i records;
+  after = drop (suc i) records;
+  records_are = sym (take-append-drop i records) ∙ ap (λ rs. take i records ++ rs) (drop-cons records i d within);
+  row_is = refl;
+}
+
+module _ {H R : Type 0} (K : RecordKind H R) (laws : KindLaws K) (records : List R) (offset : ℕ) (old : Source) (is : AreStoredAt K records offset old.bytes)
+    (row : ℕ) (r : R) (at : StartsAt K records row r) where
+  pub in_records : Contains records r
+  in_records = subst (λ rs. Contains rs r) (sym at.records_are) (Contains-append_right at.before (r ∷ at.after) r (0, omega arith, refl))
+
+  pub is_stored : K.IsStored r
+  is_stored = All-contains K.IsStored records r is.fits.stored in_records
+
+  before_stored : All K.IsStored at.before
+  before_stored i d below =
+      let x = get_or at.before i d in
+      All-contains K.IsStored records x is.fits.stored
+      (subst (λ rs. Contains rs x) (sym at.records_are) (Contains-append_left at.before (r ∷ at.after) x (Contains-get_or at.before i d below)))
+
+  pub record_there : (rest : List ℕ) × (drop (row_at offset row) old.bytes ≡ K.text r ++ rest)
+  record_there =
+      let end = K.header_bytes K.bookend ++ is.rest in
+      let texts : flat_map K.text records ≡ flat_map K.text at.before ++ (K.text r ++ flat_map K.text at.after) =
+      ap (flat_map K.text) at.records_are ∙ flat_map-append K.text at.before (r ∷ at.after) in (
+        flat_map K.text at.after ++ end,
+        sym (drop-drop (48 * row) offset old.bytes)
+            ∙ ap (drop (48 * row)) is.records_are
+            ∙ rest_is (48 * row) (flat_map K.text records ++ end) (flat_map K.text at.before) ((K.text r ++ flat_map K.text at.after) ++ end)
+            (length-texts K.text K.row_count K.IsStored (length-text K laws) at.before before_stored ∙ ap (λ n. 48 * n) (sym at.row_is))
+            (ap (λ xs. xs ++ end) texts ∙ append_assoc (flat_map K.text at.before) (K.text r ++ flat_map K.text at.after) end)
+            ∙ append_assoc (K.text r) (flat_map K.text at.after) end,
+      )
+
+  -- a record that is read there is this one
+  pub record_is : (found : R) → RecordAt K old.bytes (row_at offset row) found → found ≡ K.handed_out r
+  record_is found reads =
+      sym reads.handed ∙ ap K.handed_out (laws.front reads.stored r reads.taken.0 record_there.0 reads.is_stored is_stored (sym reads.taken.1 ∙ record_there.1)).0
+
+  -- a header that begins there is this record's
+  header_is : (h : H) (rest : List ℕ) → BeginsWithHeader K (drop (row_at offset row) old.bytes) h rest → h ≡ K.header_of r
+  header_is h rest begins =
+      let whole = stored_begins K laws (drop (row_at offset row) old.bytes) r record_there.0 is_stored record_there.1 in
+      (same_front K laws (drop (row_at offset row) old.bytes) (K.header_of r) h (K.bytes_after r ++ record_there.0) rest whole.widths whole.bytes_are begins).0
+
+  -- the rows of a record and of those before it
+  pub end_bound : row + K.row_count r ≤ 4294967295
+  end_bound =
+      omega (arith, is.fits.rows, ap (total_rows K) at.records_are, sum_by-append K.row_count at.before (r ∷ at.after), sum_by-cons K.row_count r at.after, at.row_is)
+
+  -- reading it takes no more than its text
+  pub text_is_enough : (n : ℕ) → MayTake K (drop (row_at offset row) old.bytes) n → n ≤ length (K.text r)
+  text_is_enough n (inl few) = omega (arith, few, length-stored K laws r is_stored)
+  text_is_enough n (inr (h, rest, begins, most)) = omega (arith, most, length-stored K laws r is_stored, ap (λ (k : H). K.rows_after k) (header_is h rest begins))
+
+  -- it is read, unless the device fails or an allocation does
+  pub record_is_read : (new : Source) (e : CoreError) → InfoRefusal K offset row old new e → DeviceFailure old new e ⊎ (e ≡ OutOfMemory)
+  record_is_read new e refusal = why refusal
+    where
+      nothing_stops : ¬ StopsAt K 4294967296 (drop (row_at offset row) old.bytes)
+      nothing_stops = no_record K laws 4294967296 (drop (row_at offset row) old.bytes) r record_there.0 is_stored (omega (arith, end_bound)) record_there.1
+
+      why : InfoRefusal K offset row old new e → DeviceFailure old new e ⊎ (e ≡ OutOfMemory)
+      why (inl (none, bare, past)) = absurd (omega (arith, past, is.offset_fits, end_bound))
+      why (inr (fits, inl (none, bare, bookend))) = absurd (nothing_stops (inl bookend))
+      why (inr (fits, inr (inl failed))) = inl failed
+      why (inr (fits, inr (inr (none, not_read (out_of_memory no_memory))))) = inr no_memory
+      why (inr (fits, inr (inr (none, passes_limit invalid passes)))) = absurd (nothing_stops (inr (inl passes)))
+      why (inr (fits, inr (inr (none, not_read (out_of_bytes ended ends))))) = absurd (nothing_stops (inr (inr ends)))
+
+-- the bookend is after the last record
+pub bookend_there : {H R : Type 0} (K : RecordKind H R) → KindLaws K → (records : List R) (offset : ℕ) (bytes : List ℕ) → (is : AreStoredAt K records offset bytes)
+    → drop (row_at offset (total_rows K records)) bytes ≡ K.header_bytes K.bookend ++ is.rest
+bookend_there K laws records offset bytes is =
+    let rows = total_rows K records in
+    sym (drop-drop (48 * rows) offset bytes) ∙ ap (drop (48 * rows)) is.records_are
+    ∙ rest_is (48 * rows) (flat_map K.text records ++ (K.header_bytes K.bookend ++ is.rest)) (flat_map K.text records) (K.header_bytes K.bookend ++ is.rest)
+    (length-texts K.text K.row_count K.IsStored (length-text K laws) records is.fits.stored) refl

@@ -1,0 +1,29 @@
+use Rattle.std.proofs.Common.{refl}
+use Rattle.std.specs.FinMap.{entries, values}
+use Rattle.xet_shards.specs.Layout.{plain_form}
+use Rattle.xet_shards.proofs.InForm.{shard_in_form}
+use Rattle.xet_shards.proofs.WrittenQueries.{query_in_form, query_costs_in_form}
+use Rattle.xet_shards.proofs.Xorbs.{xorb_values}
+use Rattle.xet_shards.proofs.shard_format.info.MDBShardInfo.chunk_hash_dedup_query.Goals as goal
+
+pub returns-clause-in_form : goal.returns-clause-in_form
+returns-clause-in_form g c files xorbs form is with_table good =
+    let old = g.S.ShardSource.meaning c.args.source.now in
+    let new = g.S.ShardSource.meaning c.query_by_table.new.source in
+    query_in_form files xorbs form old c.args.self.now.metadata is with_table good c.args.unkeyed_query_hashes.now new c.query_by_table.result c.query_by_table.ensures.read
+
+pub returns-clause-in_form_costs : goal.returns-clause-in_form_costs
+returns-clause-in_form_costs g c files xorbs form is with_table =
+    let old = g.S.ShardSource.meaning c.args.source.now in
+    let new = g.S.ShardSource.meaning c.query_by_table.new.source in
+    query_costs_in_form files xorbs form old c.args.self.now.metadata is with_table c.args.unkeyed_query_hashes.now new c.query_by_table.result c.query_by_table.ensures.read
+
+pub returns-clause-written : goal.returns-clause-written
+returns-clause-written g c s expiry shard are is =
+    returns-clause-in_form g c (values s.files) (values s.xorbs) (plain_form expiry)
+    (shard_in_form s shard expiry (g.S.ShardSource.meaning c.args.source.now).bytes c.args.self.now are is) refl (xorb_values (entries s.xorbs) shard.xorbs)
+
+pub returns-clause-costs : goal.returns-clause-costs
+returns-clause-costs g c s expiry shard are is =
+    returns-clause-in_form_costs g c (values s.files) (values s.xorbs) (plain_form expiry)
+    (shard_in_form s shard expiry (g.S.ShardSource.meaning c.args.source.now).bytes c.args.self.now are is) refl

@@ -1,0 +1,24 @@
+use Rattle.std.specs.FinMap.{values}
+use Rattle.xet_shards.specs.Layout.{plain_form}
+use Rattle.xet_shards.proofs.InForm.{shard_in_form}
+use Rattle.xet_shards.proofs.WrittenRuns.{direct_in_form, direct_at_bookend, xorb_of_shard}
+use Rattle.xet_shards.proofs.shard_format.info.MDBShardInfo.chunk_hash_dedup_query_direct.Goals as goal
+
+pub returns-clause-in_form : goal.returns-clause-in_form
+returns-clause-in_form g c files xorbs form xorb is at good =
+    let old = g.S.ShardSource.meaning c.args.source.now in
+    let new = g.S.ShardSource.meaning c.run_at_location.new.source in
+    direct_in_form files xorbs form old c.args.self.now.metadata is c.args.xorb_row xorb at good.bytes c.args.unkeyed_query_hashes.now c.args.chunk_index new c.run_at_location.result
+    c.run_at_location.ensures.answer c.run_at_location.ensures.refused
+
+pub returns-clause-bookend : goal.returns-clause-bookend
+returns-clause-bookend g c files xorbs form is at =
+    let old = g.S.ShardSource.meaning c.args.source.now in
+    let new = g.S.ShardSource.meaning c.run_at_location.new.source in
+    direct_at_bookend files xorbs form old c.args.self.now.metadata is c.args.xorb_row at c.args.unkeyed_query_hashes.now c.args.chunk_index new c.run_at_location.result
+    c.run_at_location.ensures.answer c.run_at_location.ensures.refused
+
+pub returns-clause-written : goal.returns-clause-written
+returns-clause-written g c s expiry xorb shard are is at =
+    returns-clause-in_form g c (values s.files) (values s.xorbs) (plain_form expiry) xorb
+    (shard_in_form s shard expiry (g.S.ShardSource.meaning c.args.source.now).bytes c.args.self.now are is) at (xorb_of_shard s shard c.args.xorb_row xorb at)

@@ -1,0 +1,27 @@
+use Rattle.std.proofs.Common.{subst, rules}
+use Rattle.std.proofs.lemmas.Result.{err_from_is_err_and}
+use Rattle.xet_shards.specs.SectionWalk.{KeepsNext}
+use Rattle.xet_shards.proofs.SectionReading.{section_fails}
+use Rattle.xet_shards.proofs.SectionWalks.{nothing_kept, more_kept, all_kept}
+use Rattle.xet_shards.proofs.shard_format.section_walk.walk_section.Goals as goal
+
+pub loop-found-init : goal.loop-found-init
+loop-found-init g c = rw (c.new-found.ensures.items, c.from-rows_left.ensures) (nothing_kept g.R.SectionRecord.kind c.laws.ensures g.T.Kept.keep _)
+
+pub loop-found-preserved : goal.loop-found-preserved
+loop-found-preserved g c =
+    let now = g.S.ShardSource.meaning c.loop-found.source in
+    let new = g.S.ShardSource.meaning c.keep_next.new.source in
+    rw c.in_ok-push.ensures.items (more_kept g.R.SectionRecord.kind c.laws.ensures g.T.Kept.keep _ now new _ _ _ c.in-Some.kept c.loop-found.invariant
+    (subst (KeepsNext g.R.SectionRecord.kind g.T.Kept.keep now new c.loop-found.rows_left c.keep_next.new.rows_left) c.in-Some.is c.in_ok-kept.ensures))
+
+pub returns-in_err-kept : goal.returns-in_err-kept
+returns-in_err-kept g c =
+    let now = g.S.ShardSource.meaning c.loop-found.source in
+    let p = err_from_is_err_and c.from_residual.result c.from_residual.ensures.1 in
+    rw (p.1, p.2) (section_fails g.R.SectionRecord.kind c.laws.ensures _ now _ _ c.loop-found.invariant.read _ _ c.in_err-kept.ensures)
+
+pub returns : goal.returns
+returns g c =
+    let now = g.S.ShardSource.meaning c.loop-found.source in
+    all_kept g.R.SectionRecord.kind c.laws.ensures g.T.Kept.keep _ now _ _ _ c.loop-found.invariant (search rules)

@@ -1,0 +1,29 @@
+-- Files and xorbs that are written in a form.
+use Rattle.std.specs.Prelude.{◌≡◌, ℕ, ◌≤◌, List, map, All}
+use Rattle.std.specs.List.Sorted.{IsStrictlySortedBy}
+use Rattle.xet_base.specs.Hash.{hash_cmp}
+use Rattle.xet_records.specs.declared.file_structs.MDBFileInfo.{MDBFileInfo}
+use Rattle.xet_records.specs.declared.xorb_structs.MDBXorbInfo.{MDBXorbInfo}
+use Rattle.xet_records.specs.RecordKind.{RecordKind}
+use Rattle.xet_records.specs.FileRecord.{file_records}
+use Rattle.xet_records.specs.XorbRecord.{xorb_records}
+use Rattle.xet_shards.specs.declared.shard_format.footer.MDBShardFileFooter.{MDBShardFileFooter}
+use Rattle.xet_shards.specs.Section.{total_rows}
+use Rattle.xet_shards.specs.Tables.{hash_in}
+use Rattle.xet_shards.specs.Layout.{Form, footer_value, layout_of}
+
+-- stored records, whose rows fit `u32`
+pub record FitsSection {H R : Type 0} (K : RecordKind H R) (records : List R) : Type 0 where
+  pub stored : All K.IsStored records
+  pub rows : total_rows K records ≤ 4294967295
+
+-- their hashes strictly ascend
+abbrev pub Ascends : {H R : Type 0} → RecordKind H R → List R → Type 0
+Ascends K records = IsStrictlySortedBy hash_cmp (map (hash_in K) records)
+
+-- the bytes are those of such files and xorbs in a form, and the footer is theirs
+pub record IsInForm (files : List MDBFileInfo) (xorbs : List MDBXorbInfo) (form : Form) (bytes : List ℕ) (footer : MDBShardFileFooter) : Type 0 where
+  pub files_fit : FitsSection file_records files
+  pub xorbs_fit : FitsSection xorb_records xorbs
+  pub bytes_are : bytes ≡ layout_of files xorbs form
+  pub footer_is : footer ≡ footer_value files xorbs form

@@ -1,0 +1,89 @@
+-- The steps of reading a run.
+use Rattle.std.specs.Prelude.{◌≡◌, ◌⊎◌, ℕ, ◌+◌, ◌*◌, ◌^◌, ◌<◌, ◌≤◌, List, length, take, drop, flat_map, All}
+use Rattle.xet_base.specs.declared.error.CoreError.{CoreError}
+use Rattle.xet_base.specs.declared.merklehash.DataHash.{DataHash}
+use Rattle.xet_base.specs.Errors.{IsEndOfInput}
+use Rattle.xet_base.specs.Source.{Source, DeviceFailure, Takes, bytes_left, moved}
+use Rattle.xet_base.specs.Table.{IsBareInvalidShard}
+use Rattle.xet_records.specs.declared.xorb_structs.XorbChunkSequenceEntry.{XorbChunkSequenceEntry}
+use Rattle.xet_records.specs.XorbRow.{chunk_row, FitsChunk}
+use Rattle.xet_records.specs.XorbRecord.{total_bytes}
+use Rattle.xet_shards.specs.ChunkQuery.{run_length}
+use Rattle.xet_shards.specs.Lookup.{row_at}
+use Rattle.xet_shards.specs.RunReading.{Decide, RunPasses, RunIsCut}
+
+-- the source went to a row of a section
+pub record MovesToRow (offset row : ℕ) (old new : Source) : Type 0 where
+  pub within : row_at offset row < 2 ^ 64
+  pub after : new ≡ moved old (row_at offset row)
+
+-- it did not: the row's offset passes 64 bits, or the device failed
+pub record NotMoved (offset row : ℕ) (old new : Source) (e : CoreError) : Type 0 where
+  pub bytes : new.bytes ≡ old.bytes
+  pub seeks : new.seeks ≤ old.seeks + 1
+  pub no_fewer : old.seeks ≤ new.seeks
+  pub read : new.read ≡ old.read
+  pub cause : DeviceFailure old new e ⊎ ((new.failures ≡ old.failures) × IsBareInvalidShard e × (2 ^ 64 ≤ row_at offset row))
+
+-- why the row at the source's position was not read: the device failed, or the bytes ended
+abbrev pub RowFailure : Source → Source → CoreError → Type 0
+RowFailure old new e = DeviceFailure old new e ⊎ ((new.failures ≡ old.failures) × IsEndOfInput e × (length old.bytes < old.at + 48))
+
+-- the row at the source's position was not read
+pub record RowNotRead (old new : Source) (e : CoreError) : Type 0 where
+  pub bytes : new.bytes ≡ old.bytes
+  pub seeks : new.seeks ≡ old.seeks
+  pub read : new.read ≤ old.read + 48
+  pub cause : RowFailure old new e
+
+-- a row of a section was not read
+pub record RowFails (offset row : ℕ) (old new : Source) (e : CoreError) : Type 0 where
+  pub bytes : new.bytes ≡ old.bytes
+  pub seeks : new.seeks ≤ old.seeks + 1
+  pub no_fewer : old.seeks ≤ new.seeks
+  pub read : new.read ≤ old.read + 48
+  pub cause : DeviceFailure old new e
+      ⊎ ((new.failures ≡ old.failures) × IsBareInvalidShard e × (2 ^ 64 ≤ row_at offset row))
+      ⊎ ((new.failures ≡ old.failures) × IsEndOfInput e × (length (drop (row_at offset row) old.bytes) < 48))
+
+-- a run was read: how many chunks it has, and how many bytes these
+pub record ReadsRun (key : DataHash) (qs : List DataHash) (left : ℕ) (old new : Source) (run : ℕ × ℕ) : Type 0 where
+  pub chunks : List XorbChunkSequenceEntry
+  pub fit : All FitsChunk chunks
+  pub few : length chunks ≤ left
+  pub taken : Takes old new (flat_map chunk_row chunks)
+  pub decide : Decide key qs left chunks
+  pub count : run.0 ≡ run_length key qs chunks
+  pub bytes : run.1 ≡ total_bytes (take run.0 chunks)
+
+-- why a run was not read: the device failed, its bytes pass 32 bits, or the source's end
+abbrev pub RunFailure : DataHash → List DataHash → ℕ → List ℕ → Source → Source → CoreError → Type 0
+RunFailure key qs left bytes old new e =
+    DeviceFailure old new e
+    ⊎ ((new.failures ≡ old.failures) × IsBareInvalidShard e × RunPasses key qs left bytes)
+    ⊎ ((new.failures ≡ old.failures) × IsEndOfInput e × RunIsCut key qs left bytes)
+
+pub record ReadRunFails (key : DataHash) (qs : List DataHash) (left : ℕ) (old new : Source) (e : CoreError) : Type 0 where
+  pub bytes : new.bytes ≡ old.bytes
+  pub seeks : new.seeks ≡ old.seeks
+  pub read : new.read ≤ old.read + 48 * left
+  pub cause : RunFailure key qs left (bytes_left old) old new e
+
+-- the run at a row was not read
+pub record RunFails (key : DataHash) (qs : List DataHash) (left offset row : ℕ) (old new : Source) (e : CoreError) : Type 0 where
+  pub bytes : new.bytes ≡ old.bytes
+  pub seeks : new.seeks ≤ old.seeks + 1
+  pub no_fewer : old.seeks ≤ new.seeks
+  pub read : new.read ≤ old.read + 48 * left
+  pub cause : RunFailure key qs left (drop (row_at offset row) old.bytes) old new e
+      ⊎ ((new.failures ≡ old.failures) × IsBareInvalidShard e × (2 ^ 64 ≤ row_at offset row))
+
+-- so many chunks were read, which have the first hashes, and their bytes were summed
+pub record HasReadRun (key : DataHash) (qs : List DataHash) (left : ℕ) (start now : Source) (length_now bytes : ℕ) : Type 0 where
+  pub chunks : List XorbChunkSequenceEntry
+  pub fit : All FitsChunk chunks
+  pub many : length chunks ≡ length_now
+  pub few : length_now ≤ left
+  pub taken : Takes start now (flat_map chunk_row chunks)
+  pub same : run_length key qs chunks ≡ length chunks
+  pub sum : bytes ≡ total_bytes chunks

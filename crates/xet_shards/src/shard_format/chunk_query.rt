@@ -1,0 +1,174 @@
+//! Queries for runs of chunks on the bytes of a shard.
+
+ghost use Rattle.std.specs.Prelude.{◌≡◌, ◌⊎◌, true, ℕ, List, [], All, Option, None, map, MatchResult, OnOk, IfOk, IfErr};
+ghost use Rattle.std.specs.FinMap as finite;
+ghost use Rattle.xet_base.specs.KeyedHash.{no_key};
+ghost use Rattle.xet_base.specs.Source.{DeviceFailure};
+ghost use Rattle.xet_base.specs.Table.{Serves, IsBareInvalidShard};
+ghost use Rattle.xet_records.specs.declared.file_structs.MDBFileInfo.{MDBFileInfo as File};
+ghost use Rattle.xet_records.specs.declared.xorb_structs.MDBXorbInfo.{MDBXorbInfo as Xorb};
+ghost use Rattle.xet_records.specs.XorbRecord.{xorb_records, IsXorb};
+ghost use Rattle.xet_shards.specs.Shard.{Shard, IsShard};
+ghost use Rattle.xet_shards.specs.Section.{total_rows, StartsAt};
+ghost use Rattle.xet_shards.specs.Layout.{Form, layout, info_value};
+ghost use Rattle.xet_shards.specs.InForm.{IsInForm};
+ghost use Rattle.xet_shards.specs.Lookup.{Visit, VisitsSome};
+ghost use Rattle.xet_shards.specs.WrittenQueries.{RunInXorb, NoRunInXorb, RunAmong, QueryCosts};
+ghost use Rattle.xet_shards.specs.RunReading.{AnswerAt, RefusedAt, TriedAnswer, TriedRefused, QueryAnswer, QueryRefused};
+
+use super::info::MDBShardInfo;
+use super::run_reader::read_header_at;
+use std::alloc::Global;
+use xet_base::error::{CoreError, Result};
+use xet_base::merklehash::MerkleHash;
+use xet_base::source::ShardSource;
+use xet_records::file_structs::FileDataSequenceEntry;
+
+impl MDBShardInfo {
+    /// The run of these hashes in the xorb that starts at a row of the xorb section, from the chunk at an index
+    /// on: its number of chunks, and their segment. The hashes are not keyed; if the shard has a key, they are
+    /// compared under it. `None` if no hash is given or the chunk has another hash than the first. Does not
+    /// allocate.
+    ///
+    /// `InvalidArguments` if there is a bookend at the row, or the xorb has no chunk at the index;
+    /// `InvalidShard` if an offset does not fit `u64`, or the bytes of the run do not fit `u32`;
+    /// `UnexpectedEof` if the source ends before a row that has to be read.
+    pub fn chunk_hash_dedup_query_direct<S: ShardSource>(
+        &self,
+        alloc: Global,
+        source: &mut S,
+        unkeyed_query_hashes: &[MerkleHash],
+        xorb_row: u32,
+        chunk_index: u32,
+    ) -> Result<Option<(usize, FileDataSequenceEntry)>>
+        ensures answer { IfOk result (AnswerAt self.now.metadata.chunk_hash_hmac_key unkeyed_query_hashes.now (S.meaning source.old).bytes self.now.metadata.xorb_info_offset xorb_row chunk_index) }
+        ensures refused { IfErr result (RefusedAt (λ e. e ≡ CoreError.InvalidArguments) self.now.metadata.chunk_hash_hmac_key unkeyed_query_hashes.now self.now.metadata.xorb_info_offset xorb_row chunk_index (S.meaning source.old) (S.meaning source.new)) }
+        ensures serves { OnOk result (Serves (S.meaning source.old) (S.meaning source.new)) }
+        ensures visit { Visit xorb_records 2 self.now.metadata.xorb_info_offset xorb_row (S.meaning source.old) (S.meaning source.new) }
+        ensures in_form { (files : List File) → (xorbs : List Xorb) → (form : Form) → (xorb : Xorb) → IsInForm files xorbs form (S.meaning source.old).bytes self.now.metadata
+            → StartsAt xorb_records xorbs xorb_row xorb → IsXorb xorb
+            → MatchResult result (RunInXorb form.key unkeyed_query_hashes.now xorb chunk_index) (NoRunInXorb xorb chunk_index (S.meaning source.old) (S.meaning source.new)) }
+        ensures bookend { (files : List File) → (xorbs : List Xorb) → (form : Form) → IsInForm files xorbs form (S.meaning source.old).bytes self.now.metadata → xorb_row ≡ total_rows xorb_records xorbs
+            → MatchResult result (λ answer. (unkeyed_query_hashes.now ≡ []) × (answer ≡ None))
+            (λ e. DeviceFailure (S.meaning source.old) (S.meaning source.new) e ⊎ (e ≡ CoreError.InvalidArguments)) }
+        ensures written { (s : Shard) → (expiry : Option ℕ) → (xorb : Xorb) → IsShard s → (S.meaning source.old).bytes ≡ layout s expiry → self.now ≡ info_value s expiry
+            → StartsAt xorb_records (finite.values s.xorbs) xorb_row xorb
+            → MatchResult result (RunInXorb no_key unkeyed_query_hashes.now xorb chunk_index) (NoRunInXorb xorb chunk_index (S.meaning source.old) (S.meaning source.new)) }
+    {
+        let absent = CoreError::InvalidArguments;
+        self.run_at_location(
+            alloc,
+            source,
+            unkeyed_query_hashes,
+            xorb_row,
+            chunk_index,
+            absent,
+        )
+    }
+
+    /// A run of these hashes in a xorb: its number of chunks, and their segment. It starts at the first of at
+    /// most eight locations, of those that the chunk table has for the first word of the first hash, whose chunk
+    /// has that hash. The hashes are not keyed; if the shard has a key, they are compared under it. `None` if no
+    /// hash is given, there is no chunk table, or none of the locations has the hash. Does not allocate.
+    ///
+    /// `InvalidShard` if the table's offset or end does not fit `u64`, a location is not in the xorb section, or
+    /// the bytes of the run do not fit `u32`; `UnexpectedEof` if the source ends before a row that has to be read.
+    pub fn chunk_hash_dedup_query<S: ShardSource>(
+        &self,
+        alloc: Global,
+        source: &mut S,
+        unkeyed_query_hashes: &[MerkleHash],
+    ) -> Result<Option<(usize, FileDataSequenceEntry)>>
+        ensures read { MatchResult result (QueryAnswer self.now.metadata unkeyed_query_hashes.now (S.meaning source.old) (S.meaning source.new))
+            (QueryRefused self.now.metadata unkeyed_query_hashes.now (S.meaning source.old) (S.meaning source.new)) }
+        ensures serves { OnOk result (Serves (S.meaning source.old) (S.meaning source.new)) }
+        ensures in_form { (files : List File) → (xorbs : List Xorb) → (form : Form) → IsInForm files xorbs form (S.meaning source.old).bytes self.now.metadata → form.chunk_table ≡ true
+            → All IsXorb xorbs → MatchResult result (RunAmong form.key unkeyed_query_hashes.now xorbs) (DeviceFailure (S.meaning source.old) (S.meaning source.new)) }
+        ensures in_form_costs { (files : List File) → (xorbs : List Xorb) → (form : Form) → IsInForm files xorbs form (S.meaning source.old).bytes self.now.metadata → form.chunk_table ≡ true
+            → QueryCosts form.key unkeyed_query_hashes.now xorbs (S.meaning source.old) (S.meaning source.new) }
+        ensures written { (s : Shard) → (expiry : Option ℕ) → IsShard s → (S.meaning source.old).bytes ≡ layout s expiry → self.now ≡ info_value s expiry
+            → MatchResult result (RunAmong no_key unkeyed_query_hashes.now (finite.values s.xorbs)) (DeviceFailure (S.meaning source.old) (S.meaning source.new)) }
+        ensures costs { (s : Shard) → (expiry : Option ℕ) → IsShard s → (S.meaning source.old).bytes ≡ layout s expiry → self.now ≡ info_value s expiry
+            → QueryCosts no_key unkeyed_query_hashes.now (finite.values s.xorbs) (S.meaning source.old) (S.meaning source.new) }
+    {
+        self.query_by_table(alloc, source, unkeyed_query_hashes)
+    }
+
+    // The run at the first of the locations that the chunk table has for the first hash.
+    fn query_by_table<S: ShardSource>(
+        &self,
+        alloc: Global,
+        source: &mut S,
+        unkeyed_query_hashes: &[MerkleHash],
+    ) -> Result<Option<(usize, FileDataSequenceEntry)>>
+        ensures read { MatchResult result (QueryAnswer self.now.metadata unkeyed_query_hashes.now (S.meaning source.old) (S.meaning source.new))
+            (QueryRefused self.now.metadata unkeyed_query_hashes.now (S.meaning source.old) (S.meaning source.new)) }
+        ensures serves { OnOk result (Serves (S.meaning source.old) (S.meaning source.new)) }
+    {
+        let Some(first) = unkeyed_query_hashes.first() else {
+            return Ok(None);
+        };
+        if self.metadata.chunk_lookup_num_entry == 0 {
+            return Ok(None);
+        }
+        let mut locations = [(0, 0); 8];
+        let found = self.get_xorb_info_index_by_chunk(alloc, source, first, &mut locations)?;
+        self.first_run(alloc, source, unkeyed_query_hashes, &locations[..found])
+    }
+
+    // The run at the first of these locations that has one.
+    fn first_run<S: ShardSource>(
+        &self,
+        alloc: Global,
+        source: &mut S,
+        query_hashes: &[MerkleHash],
+        locations: &[(u32, u32)],
+    ) -> Result<Option<(usize, FileDataSequenceEntry)>>
+        ensures answer { IfOk result (λ answer. TriedAnswer self.now.metadata.chunk_hash_hmac_key query_hashes.now (S.meaning source.old).bytes self.now.metadata.xorb_info_offset answer locations.now) }
+        ensures refused { IfErr result (λ e. TriedRefused self.now.metadata.chunk_hash_hmac_key query_hashes.now self.now.metadata.xorb_info_offset (S.meaning source.old) (S.meaning source.new) e locations.now) }
+        ensures serves { OnOk result (Serves (S.meaning source.old) (S.meaning source.new)) }
+        ensures visits { VisitsSome xorb_records 2 self.now.metadata.xorb_info_offset (map (λ location. location.0) locations.now) (S.meaning source.old) (S.meaning source.new) }
+    {
+        for location in locations {
+            let corrupt = CoreError::InvalidShard(String::new(alloc));
+            let run = self.run_at_location(
+                alloc,
+                source,
+                query_hashes,
+                location.0,
+                location.1,
+                corrupt,
+            )?;
+            if run.is_some() {
+                return Ok(run);
+            }
+        }
+        Ok(None)
+    }
+
+    // The run from the chunk at an index on of the xorb at a row. The error is `absent` if there is no such
+    // chunk.
+    fn run_at_location<S: ShardSource>(
+        &self,
+        alloc: Global,
+        source: &mut S,
+        query_hashes: &[MerkleHash],
+        xorb_row: u32,
+        chunk_index: u32,
+        absent: CoreError,
+    ) -> Result<Option<(usize, FileDataSequenceEntry)>>
+        ensures answer { IfOk result (AnswerAt self.now.metadata.chunk_hash_hmac_key query_hashes.now (S.meaning source.old).bytes self.now.metadata.xorb_info_offset xorb_row chunk_index) }
+        ensures refused { IfErr result (RefusedAt (λ e. e ≡ absent) self.now.metadata.chunk_hash_hmac_key query_hashes.now self.now.metadata.xorb_info_offset xorb_row chunk_index (S.meaning source.old) (S.meaning source.new)) }
+        ensures serves { OnOk result (Serves (S.meaning source.old) (S.meaning source.new)) }
+        ensures visit { Visit xorb_records 2 self.now.metadata.xorb_info_offset xorb_row (S.meaning source.old) (S.meaning source.new) }
+    {
+        if query_hashes.is_empty() {
+            return Ok(None);
+        }
+        let header = read_header_at(alloc, source, self.metadata.xorb_info_offset, xorb_row)?;
+        if header.is_bookend() || chunk_index >= header.num_entries {
+            return Err(absent);
+        }
+        self.read_run_at(alloc, source, query_hashes, &header, xorb_row, chunk_index)
+    }
+}

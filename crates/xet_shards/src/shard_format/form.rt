@@ -1,0 +1,34 @@
+//! What is written of a shard beside its records.
+
+ghost use Rattle.std.specs.Prelude.{◌≡◌};
+ghost use Rattle.xet_shards.specs.Layout.{plain_form};
+
+use xet_base::merklehash::HMACKey;
+
+/// The lookup tables that are written, the key of the chunk hashes, and two timestamps in seconds.
+#[derive(Clone, Copy, Debug, PartialEq, Eq)]
+pub struct Form {
+    pub file_table: bool,
+    pub xorb_table: bool,
+    pub chunk_table: bool,
+    /// The key of the chunk hashes; if all zero, they are not keyed.
+    pub key: HMACKey,
+    pub creation: u64,
+    pub expiry: u64,
+}
+
+impl Form {
+    /// All tables, no key, creation 0, and an expiry, or `u64::MAX` if there is none.
+    pub fn plain(expiry: Option<u64>) -> Form
+        ensures { result ≡ plain_form expiry }
+    {
+        Form {
+            file_table: true,
+            xorb_table: true,
+            chunk_table: true,
+            key: HMACKey::default(),
+            creation: 0,
+            expiry: expiry.unwrap_or(u64::MAX),
+        }
+    }
+}

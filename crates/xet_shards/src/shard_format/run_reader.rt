@@ -1,0 +1,128 @@
+//! Reading the chunks of a xorb as long as they have the hashes that are queried.
+
+ghost use Rattle.std.specs.Prelude.{◌≡◌, ◌≢◌, ◌⊎◌, ℕ, ◌+◌, ◌*◌, ◌-◌, ◌^◌, ◌<◌, ◌≤◌, MatchResult, OnOk, IfOk, IfErr, drop, length};
+ghost use Rattle.xet_base.specs.KeyedHash.{under_key};
+ghost use Rattle.xet_base.specs.Source.{Takes, moved};
+ghost use Rattle.xet_base.specs.Table.{Serves};
+ghost use Rattle.xet_records.specs.Rows.{ReadsRow};
+ghost use Rattle.xet_records.specs.XorbRow.{xorb_header_row, chunk_row, FitsChunk, FitsXorbHeader};
+ghost use Rattle.xet_shards.specs.Lookup.{row_at};
+ghost use Rattle.xet_shards.specs.RunReading.{FoundRun, chunks_at};
+ghost use Rattle.xet_shards.specs.RunSteps.{RowNotRead, RowFails, ReadsRun, ReadRunFails, RunFails, MovesToRow, NotMoved};
+
+use super::info::MDBShardInfo;
+use std::alloc::Global;
+use xet_base::error::{CoreError, Result};
+use xet_base::merklehash::MerkleHash;
+use xet_base::source::{ShardSource, read_full};
+use xet_records::file_structs::FileDataSequenceEntry;
+use xet_records::rows::Row;
+use xet_records::xorb_structs::{XorbChunkSequenceEntry, XorbChunkSequenceHeader};
+
+/// Reads the xorb header at a row of the section at an offset.
+pub(super) fn read_header_at<S: ShardSource>(
+    alloc: Global,
+    source: &mut S,
+    offset: u64,
+    row: u32,
+) -> Result<XorbChunkSequenceHeader>
+    ensures { MatchResult result
+        (λ header. FitsXorbHeader header × Takes (moved (S.meaning source.old) (row_at offset row)) (S.meaning source.new) (xorb_header_row header))
+        (RowFails offset row (S.meaning source.old) (S.meaning source.new)) }
+{
+    seek_to_row(alloc, source, offset, u64::from(row))?;
+    read_row(source)
+}
+
+impl MDBShardInfo {
+    /// Reads the run of hashes from the chunk at an index on of the xorb with this header, which is at a row.
+    pub(super) fn read_run_at<S: ShardSource>(
+        &self,
+        alloc: Global,
+        source: &mut S,
+        query_hashes: &[MerkleHash],
+        header: &XorbChunkSequenceHeader,
+        row: u32,
+        index: u32,
+    ) -> Result<Option<(usize, FileDataSequenceEntry)>>
+        requires { index < header.now.num_entries }
+        ensures found { IfOk result (FoundRun self.now.metadata.chunk_hash_hmac_key query_hashes.now header.now index (chunks_at (S.meaning source.old).bytes self.now.metadata.xorb_info_offset row index)) }
+        ensures serves { OnOk result (Serves (S.meaning source.old) (S.meaning source.new)) }
+        ensures seeks { OnOk result ((S.meaning source.new).seeks ≡ (S.meaning source.old).seeks + 1) }
+        ensures read { OnOk result ((S.meaning source.new).read ≤ (S.meaning source.old).read + 48 * (header.now.num_entries - index)) }
+        ensures refused { IfErr result (RunFails self.now.metadata.chunk_hash_hmac_key query_hashes.now (header.now.num_entries - index) self.now.metadata.xorb_info_offset (row + 1 + index) (S.meaning source.old) (S.meaning source.new)) }
+    {
+        let first = u64::from(row) + 1 + u64::from(index);
+        seek_to_row(alloc, source, self.metadata.xorb_info_offset, first)?;
+        let left = header.num_entries - index;
+        let (length, bytes) = self.read_run(alloc, source, query_hashes, left)?;
+        if length == 0 {
+            return Ok(None);
+        }
+        let segment = FileDataSequenceEntry {
+            xorb_hash: header.xorb_hash,
+            xorb_flags: header.xorb_flags,
+            unpacked_segment_bytes: bytes,
+            chunk_index_start: index,
+            chunk_index_end: index + length,
+        };
+        Ok(Some((length as usize, segment)))
+    }
+
+    // Reads chunks, at most `left`, as long as they have these hashes, one by one: how many have, and their
+    // bytes.
+    fn read_run<S: ShardSource>(
+        &self,
+        alloc: Global,
+        source: &mut S,
+        query_hashes: &[MerkleHash],
+        left: u32,
+    ) -> Result<(u32, u32)>
+        ensures { MatchResult result
+            (ReadsRun self.now.metadata.chunk_hash_hmac_key query_hashes.now left (S.meaning source.old) (S.meaning source.new))
+            (ReadRunFails self.now.metadata.chunk_hash_hmac_key query_hashes.now left (S.meaning source.old) (S.meaning source.new)) }
+    {
+        let mut length = 0;
+        let mut bytes = 0u32;
+        for query_hash in query_hashes {
+            if length == left {
+                return Ok((length, bytes));
+            }
+            let chunk: XorbChunkSequenceEntry = read_row(source)?;
+            if self.keyed_chunk_hash(query_hash) != chunk.chunk_hash {
+                return Ok((length, bytes));
+            }
+            let Some(sum) = bytes.checked_add(chunk.unpacked_segment_bytes) else {
+                return Err(CoreError::InvalidShard(String::new(alloc)));
+            };
+            bytes = sum;
+            length += 1;
+        }
+        Ok((length, bytes))
+    }
+}
+
+// Seeks to a row of the section at an offset. `InvalidShard` if the row's offset does not fit `u64`.
+fn seek_to_row<S: ShardSource>(alloc: Global, source: &mut S, offset: u64, row: u64) -> Result<()>
+    requires { row ≤ 2 ^ 34 }
+    ensures { MatchResult result
+        (λ _. MovesToRow offset row (S.meaning source.old) (S.meaning source.new))
+        (NotMoved offset row (S.meaning source.old) (S.meaning source.new)) }
+{
+    let Some(start) = offset.checked_add(48 * row) else {
+        return Err(CoreError::InvalidShard(String::new(alloc)));
+    };
+    source.seek_to(start)?;
+    Ok(())
+}
+
+// Reads a row at the source's position. Does not allocate. `UnexpectedEof` if fewer than 48 bytes are left.
+fn read_row<T: Row, S: ShardSource>(source: &mut S) -> Result<T>
+    ensures { MatchResult result
+        (ReadsRow T.row_bytes T.Fits T.handed_out (Takes (S.meaning source.old) (S.meaning source.new)))
+        (RowNotRead (S.meaning source.old) (S.meaning source.new)) }
+{
+    let mut bytes = [0u8; 48];
+    read_full(source, &mut bytes)?;
+    Ok(T::from_bytes(&bytes))
+}

@@ -1,0 +1,120 @@
+//! Searching a lookup table for a first word.
+
+ghost use Rattle.std.specs.Prelude.{◌≡◌, ◌⊎◌, ℕ, List, ◌+◌, ◌<◌, ◌≤◌, length, min, MatchResult, OnOk, IfOk, IfErr};
+ghost use Rattle.xet_base.specs.Source.{FillFails, next_bytes};
+ghost use Rattle.xet_base.specs.Table.{table_at, Finds, FitsTable, SearchRefused, hits, IsSorted, Serves, Bounded, IsEven, ReadsOn};
+ghost use Rattle.xet_shards.specs.Lookup.{IsNumber, IsPair, IndexFinds, IndexRefused};
+
+use std::alloc::Global;
+use std::io;
+use xet_base::error::{CoreError, Result};
+use xet_base::interpolation_search::search_on_sorted_u64s;
+use xet_base::row::split_u32;
+use xet_base::source::{ShardSource, read_full};
+
+/// What a row of a lookup table has behind its first word.
+pub(super) trait TableValue: Default + Copy {
+    ghost WIDTH: { ℕ };
+
+    ghost Spells: { List ℕ → Self → Type 0 };
+
+    const WIDTH: u64;
+
+    /// Reads a value from the source's position on. `UnexpectedEof` if too few bytes are left.
+    fn read<S: ShardSource>(source: &mut S) -> io::Result<Self>
+        ensures { MatchResult result
+            (λ value. ReadsOn (S.meaning source.old) (S.meaning source.new) WIDTH × Spells (next_bytes (S.meaning source.old) WIDTH) value)
+            (FillFails (S.meaning source.old) (S.meaning source.new) WIDTH) };
+}
+
+/// The row at which a record starts.
+impl TableValue for u32 {
+    ghost WIDTH = { 4 };
+
+    ghost Spells = { IsNumber };
+
+    const WIDTH: u64 = 4;
+
+    fn read<S: ShardSource>(source: &mut S) -> io::Result<u32> {
+        let mut bytes = [0u8; 4];
+        read_full(source, &mut bytes)?;
+        let (row, _) = split_u32(&bytes);
+        Ok(row)
+    }
+}
+
+/// The row at which a chunk's xorb starts, and the chunk's index in it.
+impl TableValue for (u32, u32) {
+    ghost WIDTH = { 8 };
+
+    ghost Spells = { IsPair };
+
+    const WIDTH: u64 = 8;
+
+    fn read<S: ShardSource>(source: &mut S) -> io::Result<(u32, u32)> {
+        let mut bytes = [0u8; 8];
+        read_full(source, &mut bytes)?;
+        let (row, rest) = split_u32(&bytes);
+        let (index, _) = split_u32(rest);
+        Ok((row, index))
+    }
+}
+
+/// The row numbers of the rows with this word in a table of words and row numbers: fewer than eight.
+pub(super) fn find_rows<S: ShardSource>(
+    alloc: Global,
+    source: &mut S,
+    start: u64,
+    rows: u64,
+    word: u64,
+    dest: &mut [u32; 8],
+) -> Result<usize>
+    ensures found { IfOk result (IndexFinds (table_at (S.meaning source.old) start rows 4) word dest.old dest.new) }
+    ensures serves { OnOk result (Serves (S.meaning source.old) (S.meaning source.new)) }
+    ensures refused { IfErr result (IndexRefused (table_at (S.meaning source.old) start rows 4) word (S.meaning source.old) (S.meaning source.new)) }
+    ensures kept { (S.meaning source.new).bytes ≡ (S.meaning source.old).bytes }
+    ensures bounds { IsSorted (table_at (S.meaning source.old) start rows 4)
+        → Bounded (table_at (S.meaning source.old) start rows 4) word (S.meaning source.old) (S.meaning source.new) }
+    ensures even { IsEven (table_at (S.meaning source.old) start rows 4)
+        → (S.meaning source.new).seeks ≤ (S.meaning source.old).seeks + 3 }
+{
+    let found = search_table::<u32, S>(alloc, source, start, rows, word, dest)?;
+    if found < dest.len() {
+        Ok(found)
+    } else {
+        Err(CoreError::TruncatedHashCollision(word))
+    }
+}
+
+/// The values of as many rows with this word as `dest` has room for.
+pub(super) fn search_table<V: TableValue, S: ShardSource>(
+    alloc: Global,
+    source: &mut S,
+    start: u64,
+    rows: u64,
+    word: u64,
+    dest: &mut [V],
+) -> Result<usize>
+    ensures found { IfOk result (Finds (table_at (S.meaning source.old) start rows V.WIDTH) word V.Spells dest.old dest.new) }
+    ensures count { IsSorted (table_at (S.meaning source.old) start rows V.WIDTH) → IfOk result (λ n. n ≡ min
+        (hits (table_at (S.meaning source.old) start rows V.WIDTH) word) (length dest.old)) }
+    ensures serves { OnOk result (Serves (S.meaning source.old) (S.meaning source.new)) }
+    ensures fits { OnOk result (0 < length dest.old → FitsTable (table_at (S.meaning source.old) start rows V.WIDTH)) }
+    ensures refused { IfErr result (SearchRefused (table_at (S.meaning source.old) start rows V.WIDTH) (S.meaning source.old) (S.meaning source.new)) }
+    ensures kept { (S.meaning source.new).bytes ≡ (S.meaning source.old).bytes }
+    ensures bounds { IsSorted (table_at (S.meaning source.old) start rows V.WIDTH)
+        → Bounded (table_at (S.meaning source.old) start rows V.WIDTH) word (S.meaning source.old) (S.meaning source.new) }
+    ensures even { IsEven (table_at (S.meaning source.old) start rows V.WIDTH)
+        → (S.meaning source.new).seeks ≤ (S.meaning source.old).seeks + 3 }
+{
+    search_on_sorted_u64s(
+        alloc,
+        source,
+        start,
+        rows,
+        word,
+        V::WIDTH,
+        |s: &mut S| V::read(s),
+        dest,
+    )
+}

@@ -1,0 +1,103 @@
+//! Lookups of xorbs and chunks in the tables of a shard: the rows at which their xorbs start.
+
+ghost use Rattle.std.specs.Prelude.{◌≡◌, ℕ, List, Option, true, ◌+◌, ◌≤◌, min, MatchResult, OnOk, IfOk, IfErr};
+ghost use Rattle.std.specs.FinMap as finite;
+ghost use Rattle.xet_base.specs.KeyedHash.{under_key};
+ghost use Rattle.xet_base.specs.Source.{DeviceFailure};
+ghost use Rattle.xet_base.specs.Table.{hits, Finds, FitsTable, SearchRefused, IsSorted, Serves, Bounded, IsEven};
+ghost use Rattle.xet_records.specs.declared.file_structs.MDBFileInfo.{MDBFileInfo as File};
+ghost use Rattle.xet_records.specs.declared.xorb_structs.MDBXorbInfo.{MDBXorbInfo as Xorb};
+ghost use Rattle.xet_records.specs.XorbRecord.{xorb_records};
+ghost use Rattle.xet_shards.specs.Shard.{Shard, IsShard};
+ghost use Rattle.xet_shards.specs.Layout.{Form, layout, info_value};
+ghost use Rattle.xet_shards.specs.InForm.{Ascends, IsInForm};
+ghost use Rattle.xet_shards.specs.Lookup.{StartsAmong, NoStartsAmong, SearchWithinBounds, xorb_table, chunk_lookup_table, IsPair, IndexFinds, IndexRefused};
+ghost use Rattle.xet_shards.specs.WrittenChunks.{RowsAmong, ChunkSearchCosts};
+
+use super::info::MDBShardInfo;
+use super::table_search::{find_rows, search_table};
+use crate::utils::truncate_hash;
+use std::alloc::Global;
+use xet_base::error::Result;
+use xet_base::merklehash::MerkleHash;
+use xet_base::source::ShardSource;
+
+impl MDBShardInfo {
+    /// Looks in the xorb table for the first word of `hash`, and puts the row numbers of the xorbs that share
+    /// it at the front of `dest`. Returns how many these are; entries of `dest` past them are unchanged. Does
+    /// not allocate.
+    ///
+    /// `TruncatedHashCollision` of the word if eight or more share it, `InvalidShard` if the table's offset or
+    /// end does not fit `u64`, `UnexpectedEof` if the source ends where the search reads on.
+    pub fn get_xorb_info_index_by_hash<S: ShardSource>(
+        &self,
+        alloc: Global,
+        source: &mut S,
+        hash: &MerkleHash,
+        dest: &mut [u32; 8],
+    ) -> Result<usize>
+        ensures found { IfOk result (IndexFinds (xorb_table self.now.metadata (S.meaning source.old)) hash.now.word0 dest.old dest.new) }
+        ensures serves { OnOk result (Serves (S.meaning source.old) (S.meaning source.new)) }
+        ensures refused { IfErr result (IndexRefused (xorb_table self.now.metadata (S.meaning source.old)) hash.now.word0 (S.meaning source.old) (S.meaning source.new)) }
+        ensures kept { (S.meaning source.new).bytes ≡ (S.meaning source.old).bytes }
+        ensures bounds { IsSorted (xorb_table self.now.metadata (S.meaning source.old))
+            → Bounded (xorb_table self.now.metadata (S.meaning source.old)) hash.now.word0 (S.meaning source.old) (S.meaning source.new) }
+        ensures even { IsEven (xorb_table self.now.metadata (S.meaning source.old))
+            → (S.meaning source.new).seeks ≤ (S.meaning source.old).seeks + 3 }
+        ensures in_form { (files : List File) → (xorbs : List Xorb) → (form : Form) → IsInForm files xorbs form (S.meaning source.old).bytes self.now.metadata
+            → Ascends xorb_records xorbs → form.xorb_table ≡ true
+            → MatchResult result (StartsAmong xorb_records xorbs hash.now.word0 dest.new) (NoStartsAmong xorb_records xorbs hash.now.word0 (S.meaning source.old) (S.meaning source.new)) }
+        ensures in_form_costs { (files : List File) → (xorbs : List Xorb) → (form : Form) → IsInForm files xorbs form (S.meaning source.old).bytes self.now.metadata
+            → Ascends xorb_records xorbs → form.xorb_table ≡ true
+            → SearchWithinBounds xorb_records xorbs hash.now.word0 (S.meaning source.old) (S.meaning source.new) }
+        ensures written { (s : Shard) → (expiry : Option ℕ) → IsShard s → (S.meaning source.old).bytes ≡ layout s expiry → self.now ≡ info_value s expiry
+            → MatchResult result (StartsAmong xorb_records (finite.values s.xorbs) hash.now.word0 dest.new)
+            (NoStartsAmong xorb_records (finite.values s.xorbs) hash.now.word0 (S.meaning source.old) (S.meaning source.new)) }
+        ensures costs { (s : Shard) → (expiry : Option ℕ) → IsShard s → (S.meaning source.old).bytes ≡ layout s expiry → self.now ≡ info_value s expiry
+            → SearchWithinBounds xorb_records (finite.values s.xorbs) hash.now.word0 (S.meaning source.old) (S.meaning source.new) }
+    {
+        let start = self.metadata.xorb_lookup_offset;
+        let rows = self.metadata.xorb_lookup_num_entry;
+        find_rows(alloc, source, start, rows, truncate_hash(hash), dest)
+    }
+
+    /// Looks in the chunk table for the first word of a chunk's hash, under the shard's key if it has one, and
+    /// puts up to eight locations at the front of `dest`: the row at which a xorb starts, and an index among its
+    /// chunks. Returns how many these are; entries of `dest` past them are unchanged. Eight are no error. Does
+    /// not allocate.
+    ///
+    /// `InvalidShard` if the table's offset or end does not fit `u64`, `UnexpectedEof` if the source ends where
+    /// the search reads on.
+    pub fn get_xorb_info_index_by_chunk<S: ShardSource>(
+        &self,
+        alloc: Global,
+        source: &mut S,
+        unkeyed_hash: &MerkleHash,
+        dest: &mut [(u32, u32); 8],
+    ) -> Result<usize>
+        ensures found { IfOk result (Finds (chunk_lookup_table self.now.metadata (S.meaning source.old)) (under_key self.now.metadata.chunk_hash_hmac_key unkeyed_hash.now).word0 IsPair dest.old dest.new) }
+        ensures count { IsSorted (chunk_lookup_table self.now.metadata (S.meaning source.old))
+            → IfOk result (λ n. n ≡ min (hits (chunk_lookup_table self.now.metadata (S.meaning source.old)) (under_key self.now.metadata.chunk_hash_hmac_key unkeyed_hash.now).word0) 8) }
+        ensures serves { OnOk result (Serves (S.meaning source.old) (S.meaning source.new)) }
+        ensures fits { OnOk result (FitsTable (chunk_lookup_table self.now.metadata (S.meaning source.old))) }
+        ensures refused { IfErr result (SearchRefused (chunk_lookup_table self.now.metadata (S.meaning source.old)) (S.meaning source.old) (S.meaning source.new)) }
+        ensures kept { (S.meaning source.new).bytes ≡ (S.meaning source.old).bytes }
+        ensures bounds { IsSorted (chunk_lookup_table self.now.metadata (S.meaning source.old))
+            → Bounded (chunk_lookup_table self.now.metadata (S.meaning source.old)) (under_key self.now.metadata.chunk_hash_hmac_key unkeyed_hash.now).word0 (S.meaning source.old) (S.meaning source.new) }
+        ensures even { IsEven (chunk_lookup_table self.now.metadata (S.meaning source.old))
+            → (S.meaning source.new).seeks ≤ (S.meaning source.old).seeks + 3 }
+        ensures in_form { (files : List File) → (xorbs : List Xorb) → (form : Form) → IsInForm files xorbs form (S.meaning source.old).bytes self.now.metadata → form.chunk_table ≡ true
+            → MatchResult result (RowsAmong xorbs (under_key form.key unkeyed_hash.now).word0 dest.old dest.new) (DeviceFailure (S.meaning source.old) (S.meaning source.new)) }
+        ensures in_form_costs { (files : List File) → (xorbs : List Xorb) → (form : Form) → IsInForm files xorbs form (S.meaning source.old).bytes self.now.metadata → form.chunk_table ≡ true
+            → ChunkSearchCosts xorbs (under_key form.key unkeyed_hash.now).word0 (S.meaning source.old) (S.meaning source.new) }
+        ensures written { (s : Shard) → (expiry : Option ℕ) → IsShard s → (S.meaning source.old).bytes ≡ layout s expiry → self.now ≡ info_value s expiry
+            → MatchResult result (RowsAmong (finite.values s.xorbs) unkeyed_hash.now.word0 dest.old dest.new) (DeviceFailure (S.meaning source.old) (S.meaning source.new)) }
+        ensures costs { (s : Shard) → (expiry : Option ℕ) → IsShard s → (S.meaning source.old).bytes ≡ layout s expiry → self.now ≡ info_value s expiry
+            → ChunkSearchCosts (finite.values s.xorbs) unkeyed_hash.now.word0 (S.meaning source.old) (S.meaning source.new) }
+    {
+        let start = self.metadata.chunk_lookup_offset;
+        let rows = self.metadata.chunk_lookup_num_entry;
+        let word = truncate_hash(&self.keyed_chunk_hash(unkeyed_hash));
+        search_table::<(u32, u32), S>(alloc, source, start, rows, word, dest)
+    }
+}
