@@ -18,7 +18,7 @@ use Rattle.xet_base.proofs.Reading.{Takes-consumes}
 use Rattle.xet_base.proofs.Search.{serves_still, serves_moved, serves_advanced}
 use Rattle.xet_records.specs.RecordKind.{RecordKind}
 use Rattle.xet_records.specs.Reading.{ReadsBookend}
-use Rattle.xet_records.proofs.RecordKinds.{KindLaws, length-text, stored_begins}
+use Rattle.xet_records.proofs.RecordKinds.{KindLaws, length-record_bytes, stored_begins}
 use Rattle.xet_shards.specs.SectionReading.{MayTake, PassesLimit, EndsEarly, SectionCase, ReadsNext, RecordFails}
 use Rattle.xet_base.specs.InputLaws.{failed_after}
 use Rattle.xet_shards.specs.Lookup.{IsNumber, Collides, IndexFinds, VisitsSome, LooksUp, LookupAnswer, LookupRefused, Finding, FindingFails, row_at, RecordAt, IsBareInternalError, RecordRefusal, InfoRefusal, ReadsInfo, ReadInfoFails, Visit, Visits, Missed}
@@ -73,8 +73,8 @@ rows_in_front t key count old new finds =
 
 module _ {H R : Type 0} (K : RecordKind H R) (laws : KindLaws K) where
   -- a stored record has the rows that its header announces, and the header
-  pub length-stored : (r : R) → K.IsStored r → length (K.text r) ≡ 48 * (1 + K.rows_after (K.header_of r))
-  length-stored r stored = length-text K laws r stored ∙ ap (λ n. 48 * n) (laws.rows r stored)
+  pub length-stored : (r : R) → K.IsStored r → length (K.record_bytes r) ≡ 48 * (1 + K.rows_after (K.header_of r))
+  length-stored r stored = length-record_bytes K laws r stored ∙ ap (λ n. 48 * n) (laws.rows r stored)
 
   -- the seek to a row failed
   pub info_no_seek : (offset row : ℕ) (old new : Source) (failure : Error) (e : CoreError) → row_at offset row < 2 ^ 64 → Fails old new 1 failure → FromDevice failure e
@@ -97,14 +97,14 @@ module _ {H R : Type 0} (K : RecordKind H R) (laws : KindLaws K) where
     pub info_read : (left after : ℕ) (found : R) → ReadsNext K mid new left after found → ReadsInfo K offset row old new found
     info_read left after found next =
         let read = next.reads in
-        let are : drop (row_at offset row) old.bytes ≡ K.text read.stored ++ bytes_left new = sym left_is ∙ Takes-consumes mid new (K.text read.stored) read.taken in
+        let are : drop (row_at offset row) old.bytes ≡ K.record_bytes read.stored ++ bytes_left new = sym left_is ∙ Takes-consumes mid new (K.record_bytes read.stored) read.taken in
         record {
           within = fits;
           stands = record { stored = read.stored; is_stored = read.is_stored; rows = read.rows; taken = (bytes_left new, are); handed = read.handed };
-          serves = serves_advanced old mid new (length (K.text read.stored)) (serves_moved old old mid (row_at offset row) (serves_still old) sought) read.taken.after;
+          serves = serves_advanced old mid new (length (K.record_bytes read.stored)) (serves_moved old old mid (row_at offset row) (serves_still old) sought) read.taken.after;
           seeks = ap (λ (s : Source). s.seeks) read.taken.after ∙ ap (λ (s : Source). s.seeks) sought;
-          taken = length (K.text read.stored);
-          read = ap (λ (s : Source). s.read) read.taken.after ∙ ap (λ (s : Source). s.read + length (K.text read.stored)) sought;
+          taken = length (K.record_bytes read.stored);
+          read = ap (λ (s : Source). s.read) read.taken.after ∙ ap (λ (s : Source). s.read + length (K.record_bytes read.stored)) sought;
           may_take = inr (
             K.header_of read.stored,
             K.bytes_after read.stored ++ bytes_left new,

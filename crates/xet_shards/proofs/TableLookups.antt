@@ -19,8 +19,8 @@ use Rattle.xet_base.specs.Table.{table_at, Table, IsSorted, hits, Hit, IsHit, Ot
 use Rattle.xet_base.proofs.Bytes.{length-u32_bytes, u32_bytes-injective}
 use Rattle.xet_base.proofs.Lists.{rest_is}
 use Rattle.xet_records.specs.RecordKind.{RecordKind}
-use Rattle.xet_records.proofs.Lengths.{length-texts}
-use Rattle.xet_records.proofs.RecordKinds.{KindLaws, length-text, stored_begins}
+use Rattle.xet_records.proofs.Lengths.{length-all_record_bytes}
+use Rattle.xet_records.proofs.RecordKinds.{KindLaws, length-record_bytes, stored_begins}
 use Rattle.xet_shards.specs.Section.{total_rows, with_fronts, StartsAt}
 use Rattle.xet_shards.specs.Tables.{hash_in, start_of, starts, start_row}
 use Rattle.xet_base.specs.Source.ReadCase.{out_of_memory, out_of_bytes}
@@ -31,7 +31,7 @@ use Rattle.xet_shards.proofs.Tables.{length-starts}
 use Rattle.xet_shards.proofs.Distinct.{sum_distinct, sum_marked}
 use Rattle.xet_shards.proofs.KnownRows.{IsKnown, rows_sorted, rows_hit, search_served, row_hit, hits_few, hits_all}
 use Rattle.xet_shards.proofs.Lookups.{rows_in_front}
-use Rattle.xet_shards.proofs.StoredRecords.{AreStoredAt, starts_at_index, end_bound, record_is, record_is_read, text_is_enough}
+use Rattle.xet_shards.proofs.StoredRecords.{AreStoredAt, starts_at_index, end_bound, record_is, record_is_read, record_is_enough}
 
 -- the i-th row of a table of starts
 starts_at : {H R : Type 0} (K : RecordKind H R) (front records : List R) (i : ℕ) (d : R) (e : ℕ × ℕ) → i < length records
@@ -236,18 +236,18 @@ module _ {H R : Type 0} (K : RecordKind H R) (laws : KindLaws K) (d : R) (record
         (λ h hit refused. let known = hit_is word h hit in record_is_read K laws records offset old is.section (start_at h.row) (record_at h.row) (at_row h.row known.0) new e (subst (λ v. InfoRefusal K offset v old new e) known.2 refused)) found each))
         contains refusal
 
-    -- the texts of the records that were read are those of records that share the word
-    pub texts_share : (n : ℕ) (taken : List ℕ) → AllZip (λ row k. MayTake K (drop (row_at offset row) old.bytes) k) (take n (map (λ h. h.value) found)) taken
-        → sum taken ≤ length (flat_map K.text (sharing K word records))
-    texts_share n taken zip =
-        let weight : R → ℕ = λ r. length (K.text r) in
+    -- the bytes of the records that were read are those of records that share the word
+    pub records_share : (n : ℕ) (taken : List ℕ) → AllZip (λ row k. MayTake K (drop (row_at offset row) old.bytes) k) (take n (map (λ h. h.value) found)) taken
+        → sum taken ≤ length (flat_map K.record_bytes (sharing K word records))
+    records_share n taken zip =
+        let weight : R → ℕ = λ r. length (K.record_bytes r) in
         let f : ℕ → ℕ = λ i. if (hash_in K (record_at i)).word0 == word then weight (record_at i) else 0 in
         let most : All (λ h. (k : ℕ) → MayTake K (drop (row_at offset h.value) old.bytes) k → k ≤ f h.row) found =
         All-weaker (IsHit table word IsNumber) (λ h. (k : ℕ) → MayTake K (drop (row_at offset h.value) old.bytes) k → k ≤ f h.row)
         (λ h hit k takes. let known = hit_is word h hit in omega (
           arith,
           cond-true {A = ℕ} _ (weight (record_at h.row)) 0 (eq-eqb _ _ known.1),
-          text_is_enough K laws records offset old is.section (start_at h.row) (record_at h.row) (at_row h.row known.0) k (subst (λ v. MayTake K (drop (row_at offset v) old.bytes) k) known.2 takes),
+          record_is_enough K laws records offset old is.section (start_at h.row) (record_at h.row) (at_row h.row known.0) k (subst (λ v. MayTake K (drop (row_at offset v) old.bytes) k) known.2 takes),
         )) found each in
         omega (
           arith,
@@ -255,7 +255,7 @@ module _ {H R : Type 0} (K : RecordKind H R) (laws : KindLaws K) (d : R) (record
           sum_distinct f (length records) found distinct rows_below,
           sum_marked (λ r. (hash_in K r).word0 == word) weight records d (length records) (omega arith),
           ap (λ rs. sum_by weight (sharing K word rs)) (take_all (length records) records (omega arith)),
-          sum-lengths K.text (sharing K word records),
+          sum-lengths K.record_bytes (sharing K word records),
         )
 
   -- the search is refused only if the device fails
@@ -290,7 +290,7 @@ module _ {H R : Type 0} (K : RecordKind H R) (laws : KindLaws K) (d : R) (record
           visits.read,
           bounded.read,
           table_hits word,
-          texts_share word looks.found looks.are_hits.each looks.are_hits.distinct n visits.taken
+          records_share word looks.found looks.are_hits.each looks.are_hits.distinct n visits.taken
               (subst (λ bytes. AllZip (λ row k. MayTake K (drop (row_at offset row) bytes) k) (take n rows) visits.taken) looks.serves.bytes visits.may_take),
         );
       }

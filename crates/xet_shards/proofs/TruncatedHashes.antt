@@ -13,8 +13,8 @@ use Rattle.xet_records.specs.declared.xorb_structs.MDBXorbInfo.{MDBXorbInfo}
 use Rattle.xet_records.specs.declared.xorb_structs.XorbChunkSequenceEntry.{XorbChunkSequenceEntry}
 use Rattle.xet_records.specs.Reading.{ReadsBookend}
 use Rattle.xet_records.specs.XorbRecord.{xorb_record_bytes, xorb_row_count, IsStoredXorb, xorb_records}
-use Rattle.xet_records.proofs.RecordKinds.{xorb_laws, length-text}
-use Rattle.xet_records.proofs.Lengths.{length-texts}
+use Rattle.xet_records.proofs.RecordKinds.{xorb_laws, length-record_bytes}
+use Rattle.xet_records.proofs.Lengths.{length-all_record_bytes}
 use Rattle.xet_shards.specs.Section.{total_rows, with_fronts}
 use Rattle.xet_shards.specs.Tables.{chunk_table_rows_from, chunk_table_rows, chunk_table}
 use Rattle.xet_shards.specs.TableReading.{triple_of}
@@ -120,7 +120,7 @@ module _ (stop : ℕ) (old now : Source) (at : ℕ) (found : List (ℕ × (ℕ �
         hashes = before.hashes;
       }
   hashes_end new (inr (past, same)) =
-      let size = length-texts xorb_record_bytes xorb_row_count IsStoredXorb (length-text xorb_records xorb_laws) before.read.stored before.read.are_stored in
+      let size = length-all_record_bytes xorb_record_bytes xorb_row_count IsStoredXorb (length-record_bytes xorb_records xorb_laws) before.read.stored before.read.are_stored in
       record {
         xorbs = before.xorbs;
         rest = bytes_left now;

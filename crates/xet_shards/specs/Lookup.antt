@@ -45,7 +45,7 @@ row_at offset row = offset + 48 * row
 
 -- bytes are at an offset
 abbrev pub StandsAt : List ℕ → ℕ → List ℕ → Type 0
-StandsAt bytes offset text = (rest : List ℕ) × (drop offset bytes ≡ text ++ rest)
+StandsAt bytes offset part = (rest : List ℕ) × (drop offset bytes ≡ part ++ rest)
 
 -- a record that is at an offset is handed out as `found`
 abbrev pub RecordAt : {H R : Type 0} → RecordKind H R → List ℕ → ℕ → R → Type 0
@@ -169,14 +169,14 @@ abbrev pub LookupRefused : {H R : Type 0} → RecordKind H R → ℕ → Source 
 LookupRefused K offset old new e rows = (row : ℕ) × Contains rows row × InfoRefusal K offset row old new e
 
 -- what a lookup on the bytes of a shard costs at most: the seeks that the search made, and one more for each file
--- that shares the first word; the bytes of the search and the texts of these files
+-- that shares the first word; the bytes of the search and the bytes of these files
 pub record WithinBounds {H R : Type 0} (K : RecordKind H R) (records : List R) (word : ℕ) (old new : Source) : Type 0 where
   pub made : ℕ
   pub more : ℕ
   pub few : made ≤ (length records + 1) / 128 + length (sharing K word records) / 4 + 8
   pub few_more : more ≤ length (sharing K word records)
   pub seeks : new.seeks ≡ old.seeks + made + more
-  pub read : new.read ≤ old.read + (257 + length (sharing K word records) + made) * 12 + length (flat_map K.text (sharing K word records))
+  pub read : new.read ≤ old.read + (257 + length (sharing K word records) + made) * 12 + length (flat_map K.record_bytes (sharing K word records))
 
 -- what a search in a sorted table costs at most, by its rows, how many of them have the key, and the bytes of a row
 pub record SearchCosts (rows hits size : ℕ) (old new : Source) : Type 0 where

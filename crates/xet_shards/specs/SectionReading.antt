@@ -1,5 +1,5 @@
--- What bytes are to a reader of a section, of files or of xorbs: the texts of a list of records and a bookend, or
--- such texts and then a record too many, or such texts and then too few bytes.
+-- What bytes are to a reader of a section, of files or of xorbs: the bytes of a list of records and a bookend, or
+-- such bytes and then a record too many, or such bytes and then too few bytes.
 use Rattle.std.specs.Prelude.{◌≡◌, ◌⊎◌, ℕ, ◌+◌, ◌-◌, ◌*◌, ◌≤◌, List, ◌++◌, map, flat_map, sum_by, All, Option, MatchResult}
 use Rattle.std.specs.declared.vec.Vec.{Vec}
 use Rattle.xet_base.specs.declared.error.CoreError.{CoreError}
@@ -14,9 +14,9 @@ pub use Rattle.xet_records.specs.Reading.{BeginsWithBookend, PassesLimit, EndsEa
 pub record HoldsRecords {H R : Type 0} (K : RecordKind H R) (bytes : List ℕ) (stored : List R) (rest : List ℕ) : Type 0 where
   pub are_stored : All K.IsStored stored
   pub rows : sum_by K.row_count stored ≤ 4294967295
-  pub bytes_are : bytes ≡ flat_map K.text stored ++ rest
+  pub bytes_are : bytes ≡ flat_map K.record_bytes stored ++ rest
 
--- the texts of these records, and then a bookend
+-- the bytes of these records, and then a bookend
 pub record IsSection {H R : Type 0} (K : RecordKind H R) (bytes : List ℕ) (stored : List R) : Type 0 where
   pub rest : List ℕ
   pub records : HoldsRecords K bytes stored rest
@@ -27,11 +27,11 @@ module _ {H R : Type 0} (K : RecordKind H R) where
   abbrev pub rows_left : List R → ℕ
   rows_left stored = 4294967295 - sum_by K.row_count stored
 
-  -- the texts of some records, and then one that is too many
+  -- the bytes of some records, and then one that is too many
   abbrev pub PassesRows : List ℕ → Type 0
   PassesRows bytes = (stored : List R) × (rest : List ℕ) × HoldsRecords K bytes stored rest × PassesLimit K (rows_left stored) rest
 
-  -- the texts of some records, and then too few bytes
+  -- the bytes of some records, and then too few bytes
   abbrev pub IsCutSection : List ℕ → Type 0
   IsCutSection bytes = (stored : List R) × (rest : List ℕ) × HoldsRecords K bytes stored rest × EndsEarly K (rows_left stored) rest
 
