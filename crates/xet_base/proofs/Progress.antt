@@ -69,11 +69,11 @@ abbrev pub AllSmaller : Table → ℕ → ℕ → Type 0
 AllSmaller t key low = (i : ℕ) → i < low → HasKey t i → key_at t i < key
 
 -- what holds of the window on a sorted table
-pub record OnSorted (t : Table) (key : ℕ) (w : Window) (made : ℕ) (old now : Source) (places count : ℕ) : Type 0 where
+pub record OnSorted (t : Table) (key : ℕ) (w : Window) (made : ℕ) (old now : Source) (room count : ℕ) : Type 0 where
   pub smaller : AllSmaller t key w.low
   pub from_low : (i : ℕ) → w.low ≤ i → i < t.rows → HasKey t i → w.low_key ≤ key_at t i
   pub to_high : (w.high_key ≡ 2 ^ 64 - 1) ⊎ ((i : ℕ) → i + 1 < w.high → HasKey t i → key_at t i ≤ w.high_key)
-  pub counted : count + hits_below t key (w.high - 1) ≡ min (hits t key) (places + hits_below t key (w.high - 1))
+  pub counted : count + hits_below t key (w.high - 1) ≡ min (hits t key) (room + hits_below t key (w.high - 1))
   pub later : ℕ
   pub left : later + hits_below t key (w.high - 1) ≡ hits t key
   pub course : Course (IsRow t key (w.high - 1)) (t.rows + 1) later w.low w.low_key w.high w.high_key key w.probe made

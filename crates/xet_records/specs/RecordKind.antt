@@ -1,4 +1,4 @@
--- Files and xorbs have records of one shape, of which more is said in one place: a header row, and the rows that
+-- Files and xorbs have records of one shape: a header row, and the rows that
 -- it announces. A kind of records says what these are.
 use Rattle.std.specs.Prelude.{◌≡◌, ◌≢◌, ℕ, ◌+◌, ◌*◌, List, ◌++◌, length}
 use Rattle.xet_base.specs.declared.merklehash.DataHash.{DataHash}

@@ -116,9 +116,9 @@ module _ {H R : Type 0} (K : RecordKind H R) (laws : KindLaws K) where
         cause = inl (fails.failures ∙ ap (λ (s : Source). s.failures + 1) taken.after, failure, fails.last_failure, is);
       }
 
-  -- the place after the records that were read
-  pub place_after : (start now : Source) (found : List R) (left : ℕ) → HasRead K (Takes start now) found left → now.at ≡ start.at + 48 * sum_by K.row_count found
-  place_after start now found left read = omega (
+  -- the offset after the records that were read
+  pub offset_after : (start now : Source) (found : List R) (left : ℕ) → HasRead K (Takes start now) found left → now.at ≡ start.at + 48 * sum_by K.row_count found
+  offset_after start now found left read = omega (
     arith,
     ap (λ (s : Source). s.at) read.taken.after,
     length-all_record_bytes K.record_bytes K.row_count K.IsStored (length-record_bytes K laws) read.stored read.are_stored,

@@ -40,14 +40,14 @@ module _ {H R : Type 0} (K : RecordKind H R) where
   MayTake bytes n =
       (n ≤ 48) ⊎ ((header : H) × (rest : List ℕ) × BeginsWithHeader K bytes header rest × (n ≤ 48 * (1 + K.rows_after header)))
 
--- the records of a section were read from the source's place on, without a seek and without a byte past the bookend
+-- the records of a section were read from the source's offset on, without a seek and without a byte past the bookend
 pub record TakesSection {H R : Type 0} (K : RecordKind H R) (old new : Source) (found : List R) : Type 0 where
   pub stored : List R
   pub section : IsSection K (bytes_left old) stored
   pub handed : map K.handed_out stored ≡ found
   pub after : new ≡ advanced old (48 * (sum_by K.row_count stored + 1))
 
--- those of the section at a place were, by one seek
+-- those of the section at an offset were, by one seek
 abbrev pub ReadsSection : {H R : Type 0} → RecordKind H R → Source → Source → ℕ → List R → Type 0
 ReadsSection K old new at found = TakesSection K (moved old at) new found
 
@@ -60,13 +60,13 @@ pub data SectionCase (Passes Ends : List ℕ → Type 0) (bytes : List ℕ) (e :
 abbrev pub SectionFailure : (List ℕ → Type 0) → (List ℕ → Type 0) → List ℕ → Source → Source → CoreError → Type 0
 SectionFailure Passes Ends bytes old new e = FailedBy (SectionCase Passes Ends bytes) old new e
 
--- the records were not read; the place is open
+-- the records were not read; the source may be at any offset
 pub record TakesNoSection {H R : Type 0} (K : RecordKind H R) (old new : Source) (e : CoreError) : Type 0 where
   pub bytes : new.bytes ≡ old.bytes
   pub seeks : new.seeks ≡ old.seeks
   pub cause : SectionFailure (PassesRows K) (IsCutSection K) (bytes_left old) old new e
 
--- those of the section at a place were not, by one seek
+-- those of the section at an offset were not, by one seek
 abbrev pub SectionFails : {H R : Type 0} → RecordKind H R → Source → Source → ℕ → CoreError → Type 0
 SectionFails K old new at e = TakesNoSection K (moved old at) new e
 
@@ -78,7 +78,7 @@ ReadsNext K old new left after found = CountsRecord K (Takes old new) left after
 abbrev pub ReadsOne : {H R : Type 0} → RecordKind H R → Source → Source → ℕ → ℕ → Option R → Type 0
 ReadsOne K old new left after found = ReadsNextRecord K (Takes old new) left after found
 
--- neither was read; the place is open
+-- neither was read; the source may be at any offset
 pub record RecordFails {H R : Type 0} (K : RecordKind H R) (left : ℕ) (old new : Source) (e : CoreError) : Type 0 where
   pub bytes : new.bytes ≡ old.bytes
   pub seeks : new.seeks ≡ old.seeks
