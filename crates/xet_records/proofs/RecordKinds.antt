@@ -110,12 +110,6 @@ module _ {H R : Type 0} (K : RecordKind H R) (laws : KindLaws K) where
   bookend_or_ends left bytes bookend (inl short) = omega (arith, short, header_within bytes bookend.header bookend.rest bookend.bytes_are)
   bookend_or_ends left bytes bookend (inr (h, rest, begins, few, short)) = bookend_or_header bytes h rest bookend begins
 
-  pub passes_or_ends : (left : ℕ) (bytes : List ℕ) → PassesLimit K left bytes → ¬ EndsEarly K left bytes
-  passes_or_ends left bytes (h, rest, begins, past) (inl short) = omega (arith, short, header_within bytes h rest begins.bytes_are)
-  passes_or_ends left bytes (h, rest, begins, past) (inr (k, more, starts, few, short)) =
-      let rows : K.rows_after k ≡ K.rows_after h = ap (λ (j : H). K.rows_after j) (same_front bytes h k rest more begins.widths begins.bytes_are starts).0 in
-      omega (arith, past, few, rows)
-
   -- nor does any of them go with a record within the rows that are left
   pub no_record : (left : ℕ) (bytes : List ℕ) (r : R) (rest : List ℕ) → K.IsStored r → K.row_count r ≤ left → bytes ≡ K.record_bytes r ++ rest → ¬ StopsAt K left bytes
   no_record left bytes r rest stored within are (inl bookend) =
