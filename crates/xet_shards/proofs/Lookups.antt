@@ -1,11 +1,11 @@
 -- Reading the records that a lookup leads to.
-use Rattle.std.proofs.Common.{◌≡◌, ◌≢◌, inl, inr, ℕ, ◌+◌, ◌*◌, ◌^◌, ◌<◌, ◌≤◌, List, [], ◌∷◌, ◌++◌, length, map, take, drop, Option, refl, sym, ap, ◌∙◌, subst, arith, mul-add, mul-one}
+use Rattle.std.proofs.Common.{◌≡◌, ◌≢◌, inl, inr, ℕ, ◌+◌, ◌*◌, ◌^◌, ◌<◌, ◌≤◌, List, [], ◌∷◌, ◌++◌, length, map, take, drop, Option, sym, ap, ◌∙◌, subst, arith, mul-add, mul-one}
 use Rattle.std.specs.Prelude.{IfOk}
 use Rattle.std.specs.declared.result.Result.{Result}
 use Rattle.std.proofs.lemmas.Result.{IfOk-weaker}
 use Rattle.std.proofs.lemmas.List.{length-append, length-map}
 use Rattle.xet_base.specs.Table.{Table, FitsTable, Serves, IsSorted, Bounded, Hit, IsHit, Finds, value_at}
-use Rattle.std.proofs.lemmas.List.Elements.{AllZip-push, All-nil, All-push, All-weaker}
+use Rattle.std.proofs.lemmas.List.Elements.{AllZip-push, All-push, All-weaker}
 use Rattle.std.proofs.lemmas.List.Sums.{sum_by-append}
 use Rattle.xet_base.specs.declared.error.CoreError.{CoreError}
 use Rattle.xet_base.specs.declared.merklehash.DataHash.{DataHash}
@@ -165,9 +165,6 @@ module _ {H R : Type 0} (K : RecordKind H R) (laws : KindLaws K) where
     read = omega (arith, visit.read, before.read, sum_by-append (λ k. k) before.taken (visit.taken ∷ []));
   }
 
-  pub visits_none : (most offset : ℕ) (s : Source) → Visits K most offset [] s s
-  visits_none most offset s = record { bytes = refl; seeks = omega arith; no_fewer = omega arith; taken = []; may_take = tt; read = omega arith }
-
   pub visits_read : (offset row : ℕ) (rows : List ℕ) (old now new : Source) (found : R) → Visits K 1 offset rows old now → ReadsInfo K offset row now new found
       → Visits K 1 offset (rows ++ row ∷ []) old new
   visits_read offset row rows old now new found before read = visits_more 1 offset row rows old now new before (record {
@@ -189,14 +186,6 @@ module _ {H R : Type 0} (K : RecordKind H R) (laws : KindLaws K) where
     read = read.read;
     may_take = read.may_take;
   })
-
-  -- before the first record
-  pub missed_none : (offset : ℕ) (hash : DataHash) (s : Source) → Missed K offset hash [] s s
-  missed_none offset hash s = record {
-    visits = visits_none 1 offset s;
-    serves = serves_still s;
-    others = All-nil (λ row. (found : R) × RecordAt K s.bytes (row_at offset row) found × (hash_in K found ≢ hash));
-  }
 
   -- one record more
   pub missed_more : (offset row : ℕ) (hash : DataHash) (rows : List ℕ) (old now new : Source) (found : R) → Missed K offset hash rows old now

@@ -88,17 +88,6 @@ module _ {H R : Type 0} (K : RecordKind H R) (laws : KindLaws K) where
               (λ short. inr (h, bytes_left mid, begins, within, lacks_left mid (48 * K.rows_after h) (omega (arith, short, inside)) short)) fails.cause;
         }
 
-  -- the device failed to say its offset, before the header or after the whole record
-  pub no_offset : (left : ℕ) (old new : Source) (failure : Error) (e : CoreError) → Fails old new 0 failure → FromDevice failure e → RecordFails K left old new e
-  no_offset left old new failure e fails is = record {
-    bytes = fails.bytes;
-    seeks = omega (arith, fails.seeks);
-    taken = 0;
-    read = omega (arith, fails.read);
-    may_take = inl (omega arith);
-    cause = inl (fails.failures, failure, fails.last_failure, is);
-  }
-
   pub no_offset_after : (left after : ℕ) (old now new : Source) (found : R) (failure : Error) (e : CoreError) → ReadsNext K old now left after found
       → Fails now new 0 failure → FromDevice failure e → RecordFails K left old new e
   no_offset_after left after old now new found failure e next fails is =

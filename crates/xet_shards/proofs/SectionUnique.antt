@@ -6,8 +6,8 @@ use Rattle.std.proofs.lemmas.List.{append_assoc}
 use Rattle.std.proofs.lemmas.List.Elements.{All-drop}
 use Rattle.std.proofs.lemmas.List.Sums.{sum_by-cons}
 use Rattle.xet_records.specs.RecordKind.{RecordKind}
-use Rattle.xet_records.specs.Reading.{BeginsWithBookend, PassesLimit}
-use Rattle.xet_records.proofs.RecordKinds.{KindLaws, StopsAt, stored_begins, bookend_or_header, bookend_or_passes, bookend_or_ends, passes_or_ends, no_record}
+use Rattle.xet_records.specs.Reading.{BeginsWithBookend}
+use Rattle.xet_records.proofs.RecordKinds.{KindLaws, StopsAt, stored_begins, bookend_or_header, bookend_or_passes, bookend_or_ends, no_record}
 use Rattle.xet_shards.specs.SectionReading.{HoldsRecords, IsSection, PassesRows, IsCutSection, rows_left}
 
 module _ {H R : Type 0} (K : RecordKind H R) (laws : KindLaws K) where
@@ -69,8 +69,3 @@ module _ {H R : Type 0} (K : RecordKind H R) (laws : KindLaws K) where
   pub section_or_cut : (bytes : List ℕ) (xs : List R) → IsSection K bytes xs → ¬ IsCutSection K bytes
   section_or_cut bytes xs x (ys, b, y, ends) =
       bookend_or_ends K laws (rows_left K ys) b (subst (BeginsWithBookend K) (same_reading bytes xs ys x.rest b x.records y (inl x.bookend) (inr (inr ends))).1 x.bookend) ends
-
-  pub passes_or_cut : (bytes : List ℕ) → PassesRows K bytes → ¬ IsCutSection K bytes
-  passes_or_cut bytes (xs, a, x, passes) (ys, b, y, ends) =
-      let same = same_reading bytes xs ys a b x y (inr (inl passes)) (inr (inr ends)) in
-      passes_or_ends K laws (rows_left K ys) b (subst (λ p. p) (λ i. PassesLimit K (rows_left K (same.0 i)) (same.1 i)) passes) ends

@@ -1,14 +1,12 @@
 -- Lookups in a source that holds a section of records and a table of their starts.
 use Rattle.std.proofs.Common.{◌≡◌, ◌≢◌, ◌⊎◌, inl, inr, ◌==◌, if◌then◌else◌, ℕ, zero, suc, ◌+◌, ◌-◌, ◌*◌, ◌^◌, ◌<◌, ◌≤◌, List, [], ◌∷◌, ◌++◌, length, take, drop, map, flat_map, get_or, true, false, Bool, Ok, Err, Option, None, Some, refl, sym, ap, ◌∙◌, subst, append_assoc, append-nil, arith}
-use Rattle.std.specs.Prelude.{All, AllPairs, sum_by, sum, Contains, filter, cond, MatchResult, IfOk, IfErr}
+use Rattle.std.specs.Prelude.{All, AllPairs, sum_by, sum, Contains, filter, cond, MatchResult, IfErr}
 use Rattle.std.specs.declared.result.Result.{Result}
 use Rattle.std.specs.List.{AllZip}
-use Rattle.std.proofs.lemmas.List.{drop-drop, take_all, length-append, length-map, length-take, take-append-drop, get_or-map, get_or_default}
-use Rattle.std.proofs.lemmas.List.Elements.{All-take, All-map, All-contains, All-drop, All-weaker, Contains-get_or}
-use Rattle.std.proofs.lemmas.List.Sums.{sum_by-cons, sum_by-take-drop}
-use Rattle.std.proofs.lemmas.Grind.{flat_map-append}
+use Rattle.std.proofs.lemmas.List.{take_all, length-append, length-map, length-take, get_or-map, get_or_default}
+use Rattle.std.proofs.lemmas.List.Elements.{All-map, All-contains, All-drop, All-weaker, Contains-get_or}
+use Rattle.std.proofs.lemmas.List.Sums.{sum_by-cons}
 use Rattle.std.proofs.lemmas.Bool.{eq-eqb, cond-true}
-use Rattle.std.proofs.Math.Seq.{drop-cons}
 use Rattle.xet_base.specs.declared.error.CoreError.{CoreError}
 use Rattle.xet_base.specs.declared.error.CoreError.TheVariants.{OutOfMemory, TruncatedHashCollision}
 use Rattle.xet_base.specs.declared.merklehash.DataHash.{DataHash}
@@ -17,16 +15,12 @@ use Rattle.xet_base.specs.Errors.{FromDevice, variant_number}
 use Rattle.xet_base.specs.Source.{Source, DeviceFailure}
 use Rattle.xet_base.specs.Table.{table_at, Table, IsSorted, hits, Hit, IsHit, OtherRow, SearchRefused, Bounded}
 use Rattle.xet_base.proofs.Bytes.{length-u32_bytes, u32_bytes-injective}
-use Rattle.xet_base.proofs.Lists.{rest_is}
 use Rattle.xet_records.specs.RecordKind.{RecordKind}
-use Rattle.xet_records.proofs.Lengths.{length-all_record_bytes}
-use Rattle.xet_records.proofs.RecordKinds.{KindLaws, length-record_bytes, stored_begins}
+use Rattle.xet_records.proofs.RecordKinds.{KindLaws}
 use Rattle.xet_shards.specs.Section.{total_rows, with_fronts, StartsAt}
 use Rattle.xet_shards.specs.Tables.{hash_in, start_of, starts, start_row}
-use Rattle.xet_base.specs.Source.ReadCase.{out_of_memory, out_of_bytes}
-use Rattle.xet_shards.specs.SectionReading.SectionCase.{not_read, passes_limit}
 use Rattle.xet_shards.specs.SectionReading.{MayTake}
-use Rattle.xet_shards.specs.Lookup.{sharing, IsNumber, row_at, RecordAt, InfoRefusal, LooksUp, LookupAnswer, LookupRefused, Finding, FindingFails, WithinBounds, SearchWithinBounds, IndexFinds, IndexRefused, AreStarts, StartsAmong, NoStartsAmong, NotFoundAmong}
+use Rattle.xet_shards.specs.Lookup.{sharing, IsNumber, row_at, RecordAt, InfoRefusal, LooksUp, LooksUpIndex, LooksUpRecord, LookupAnswer, LookupRefused, Finding, FindingFails, WithinBounds, SearchWithinBounds, IndexFinds, IndexRefused, AreStarts, StartsAmong, NoStartsAmong, NotFoundAmong}
 use Rattle.xet_shards.proofs.Tables.{length-starts}
 use Rattle.xet_shards.proofs.Distinct.{sum_distinct, sum_marked}
 use Rattle.xet_shards.proofs.KnownRows.{IsKnown, rows_sorted, rows_hit, search_served, row_hit, hits_few, hits_all}
@@ -355,22 +349,23 @@ module _ {H R : Type 0} (K : RecordKind H R) (laws : KindLaws K) (d : R) (record
       inr (collision, omega (arith, collides.eight, hits_share word collides.found collides.each collides.distinct))
   index_not_answered word new e (inr refused) = inl (search_answers new e refused)
 
-  pub index_written : (new : Source) (word : ℕ) (dest_old dest_new : List ℕ) (r : Result ℕ CoreError) → IfOk r (IndexFinds table word dest_old dest_new)
-      → IfErr r (IndexRefused table word old new) → MatchResult r (StartsAmong K records word dest_new) (NoStartsAmong K records word old new)
-  index_written new word dest_old dest_new (Ok found) finds refused = index_answered word found dest_old dest_new finds
-  index_written new word dest_old dest_new (Err e) finds refused = index_not_answered word new e refused
+  pub index_written : (new : Source) (word : ℕ) (dest_old dest_new : List ℕ) (r : Result ℕ CoreError) → LooksUpIndex table word dest_old dest_new old new r
+      → MatchResult r (StartsAmong K records word dest_new) (NoStartsAmong K records word old new)
+  index_written new word dest_old dest_new (Ok count) looks = index_answered word count dest_old dest_new looks.found
+  index_written new word dest_old dest_new (Err e) looks = index_not_answered word new e looks.refused
 
-  pub index_bounded : (new : Source) (word : ℕ) → (IsSorted table → Bounded table word old new) → SearchWithinBounds K records word old new
-  index_bounded new word bounded = search_costs word new (bounded table_sorted)
+  pub index_bounded : (new : Source) (word : ℕ) (dest_old dest_new : List ℕ) (r : Result ℕ CoreError) → LooksUpIndex table word dest_old dest_new old new r
+      → SearchWithinBounds K records word old new
+  index_bounded new word dest_old dest_new r looks = search_costs word new (looks.bounds table_sorted)
 
   -- a lookup of a record
   pub lookup_bounded : (new : Source) (hash : DataHash) (r : Result (Option R) CoreError)
-      → MatchResult r (Finding K table offset hash old new) (FindingFails K table offset hash old new) → WithinBounds K records hash.word0 old new
-  lookup_bounded new hash (Ok answer) finding = lookup_costs hash.word0 new (LookupAnswer K old.bytes offset hash answer) finding
-  lookup_bounded new hash (Err e) refused = costs_refused hash new e refused
+      → LooksUpRecord K table offset hash old new r → WithinBounds K records hash.word0 old new
+  lookup_bounded new hash (Ok answer) looks = lookup_costs hash.word0 new (LookupAnswer K old.bytes offset hash answer) looks.read
+  lookup_bounded new hash (Err e) looks = costs_refused hash new e looks.read
 
   pub collision_bounded : (new : Source) (hash : DataHash) (r : Result (Option R) CoreError)
-      → MatchResult r (Finding K table offset hash old new) (FindingFails K table offset hash old new)
+      → LooksUpRecord K table offset hash old new r
       → IfErr r (λ e. e ≡ TruncatedHashCollision hash.word0 → SearchWithinBounds K records hash.word0 old new)
-  collision_bounded new hash (Ok answer) finding = tt
-  collision_bounded new hash (Err e) refused = costs_collision hash new e refused
+  collision_bounded new hash (Ok answer) looks = tt
+  collision_bounded new hash (Err e) looks = costs_collision hash new e looks.read

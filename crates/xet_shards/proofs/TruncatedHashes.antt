@@ -21,8 +21,8 @@ use Rattle.xet_shards.specs.TableReading.{triple_of}
 use Rattle.xet_shards.specs.SectionReading.{HoldsRecords, PassesLimit, EndsEarly, SectionFailure, RecordFails, IsSection, PassesRows, IsCutSection, rows_left}
 use Rattle.xet_shards.specs.TruncatedHashes.{hashes_of, StartBefore, ReadsHashes, PassesBefore, CutBefore, HashesFail, HasReadHashes, ReadsXorbBefore, XorbBeforeFails}
 use Rattle.xet_shards.proofs.ChunkTableRows.{chunk_table_rows-push, chunk_table_rows_from-more, chunk_table_row, no_chunk}
-use Rattle.xet_records.proofs.SectionRecords.{nothing_read, more_read}
-use Rattle.xet_base.specs.InputLaws.{Takes-nil, Takes-trans}
+use Rattle.xet_records.proofs.SectionRecords.{more_read}
+use Rattle.xet_base.specs.InputLaws.{Takes-trans}
 use Rattle.xet_shards.proofs.SectionReading.{offset_after, section_ends, section_failure}
 use Rattle.xet_shards.proofs.Readback.{why_not}
 use Rattle.xet_shards.proofs.SectionUnique.{first_of_section}
@@ -58,10 +58,6 @@ before_fails stop left old new e below fails = record {
       (λ bytes. (old.at < stop) × PassesLimit xorb_records left bytes) (λ bytes. (old.at < stop) × EndsEarly xorb_records left bytes)
       (bytes_left old) (bytes_left old) old old new e refl (λ passes. (below, passes)) (λ ends. (below, ends)) fails.cause;
 }
-
--- before the first xorb
-pub no_hashes : (stop : ℕ) (start : Source) → HasReadHashes stop start start [] 4294967295
-no_hashes stop start = record { xorbs = []; read = nothing_read xorb_records xorb_laws (Takes start start) (Takes-nil start); before = All-nil _; hashes = refl }
 
 -- one xorb more
 pub more_hashes : (stop : ℕ) (start now new : Source) (found : List (ℕ × (ℕ × ℕ))) (left after : ℕ) (next : ℕ × MDBXorbInfo)
