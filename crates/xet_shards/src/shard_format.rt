@@ -16,6 +16,7 @@ mod section_walk;
 mod table_reader;
 mod table_search;
 mod truncated_hashes;
+pub(crate) mod view_writer;
 pub(crate) mod writer;
 pub(crate) mod written;
 mod xorb_lookup;
