@@ -13,6 +13,7 @@ pub use Rattle.xet_records.specs.XorbRecord
 pub use Rattle.xet_shards.specs.ChunkQuery
 pub use Rattle.xet_shards.specs.ChunkLookup
 pub use Rattle.xet_shards.specs.Ends
+pub use Rattle.xet_shards.specs.InForm
 pub use Rattle.xet_shards.specs.Joins
 pub use Rattle.xet_shards.specs.Layout
 pub use Rattle.xet_shards.specs.Lookup

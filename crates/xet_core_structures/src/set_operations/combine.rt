@@ -5,7 +5,8 @@ ghost use Rattle.std.specs.declared.cmp.Ordering.TheVariants.{Less};
 ghost use Rattle.xet_base.specs.Hash.{hash_cmp};
 ghost use Rattle.xet_base.specs.Errors.{IsInvalidShard};
 ghost use Rattle.xet_shards.specs.Section.{total_rows};
-ghost use Rattle.xet_core_structures.specs.Held.{Ascends, AreWritable};
+ghost use Rattle.xet_shards.specs.InForm.{Ascends};
+ghost use Rattle.xet_core_structures.specs.Held.{AreWritable};
 ghost use Rattle.xet_core_structures.specs.Combining.{key_of_record, count, IsNextPair, Combines, Clash, NoneCombines};
 
 use super::set_record::SetRecord;
