@@ -4,6 +4,7 @@ pub mod Combining
 pub mod Equality
 pub mod Held
 pub mod MergeTrees
+pub mod Readable
 pub use Rattle.xet_base.specs.Hash
 pub use Rattle.xet_base.specs.Hex
 pub use Rattle.xet_base.specs.Source
