@@ -198,4 +198,4 @@ bytes_with_difference a b d e f g h x y first second agree parts is e_fits f_fit
     let c = united_shard a b in
     (one_union a b c e f x first second agree e_fits f_fits (union_exists a b) one).0
     ∙ sym (one_union a d c g h y first (difference_is_shard a b d is second) (difference_agrees a b d is) g_fits h_fits
-        (union_of_difference a b c d first second agree parts is (union_exists a b)) other).0
+    (union_of_difference a b c d first second agree parts is (union_exists a b)) other).0

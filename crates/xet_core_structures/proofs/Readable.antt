@@ -148,13 +148,13 @@ module _ (x : List ℕ) (i : MDBShardInfo) (y : List ℕ) (j : MDBShardInfo) (c 
   pub united_xorbs : (have : HaveResult IsByteUnion x i y j c) → All IsXorb (values have.first.xorbs) → All IsXorb (values have.second.xorbs) → All IsXorb (values c.xorbs)
   united_xorbs have first second = all_values xorb_records IsXorb c.xorbs (λ q t at. either (get have.first.xorbs q) (get have.second.xorbs q) (get c.xorbs q) t
       (each_value xorb_records IsXorb have.first.xorbs first q) (each_value xorb_records IsXorb have.second.xorbs second q) (have.result.xorbs q) at) where
-    either : (o p r : Option MDBXorbInfo) (t : MDBXorbInfo) → ((s : MDBXorbInfo) → o ≡ Some s → IsXorb s) → ((s : MDBXorbInfo) → p ≡ Some s → IsXorb s) → IsEitherXorb o p r → r ≡ Some t → IsXorb t
-    either None p r t first second is at = second t (sym is ∙ at)
-    either (Some s) p r t first second is at = first t (sym is ∙ at)
+        either : (o p r : Option MDBXorbInfo) (t : MDBXorbInfo) → ((s : MDBXorbInfo) → o ≡ Some s → IsXorb s) → ((s : MDBXorbInfo) → p ≡ Some s → IsXorb s) → IsEitherXorb o p r → r ≡ Some t → IsXorb t
+        either None p r t first second is at = second t (sym is ∙ at)
+        either (Some s) p r t first second is at = first t (sym is ∙ at)
 
   pub left_xorbs : (have : HaveResult IsDifference x i y j c) → All IsXorb (values have.second.xorbs) → All IsXorb (values c.xorbs)
   left_xorbs have second = all_values xorb_records IsXorb c.xorbs (λ q t at. rest (get have.first.xorbs q) (get have.second.xorbs q) (get c.xorbs q) t
       (each_value xorb_records IsXorb have.second.xorbs second q) (have.result.xorbs q) at) where
-    rest : (o p r : Option MDBXorbInfo) (t : MDBXorbInfo) → ((s : MDBXorbInfo) → p ≡ Some s → IsXorb s) → IsRest o p r → r ≡ Some t → IsXorb t
-    rest None p r t second is at = second t (sym is ∙ at)
-    rest (Some s) p r t second is at = absurd (none-some t (sym is ∙ at))
+        rest : (o p r : Option MDBXorbInfo) (t : MDBXorbInfo) → ((s : MDBXorbInfo) → p ≡ Some s → IsXorb s) → IsRest o p r → r ≡ Some t → IsXorb t
+        rest None p r t second is at = second t (sym is ∙ at)
+        rest (Some s) p r t second is at = absurd (none-some t (sym is ∙ at))
