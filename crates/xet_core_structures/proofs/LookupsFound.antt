@@ -71,10 +71,10 @@ module _ (key : DataHash) (s : Shard) (info : MDBShardInfo) (old : Source) (is :
 
   found_answer : (hash : DataHash) (new : Source) (found : Result (Option MDBFileInfo) CoreError) → LooksUpFile info hash old new found
       → MatchResult found (FoundInShard s hash) (NotFoundAmong file_records (values s.files) hash old new)
-  found_answer hash new (Ok answer) finding =
-      let among = answered file_records file_laws no_file (values s.files) _ _ _ old looked hash new answer finding in
+  found_answer hash new (Ok answer) looks =
+      let among = answered file_records file_laws no_file (values s.files) _ _ _ old looked hash new answer looks.read in
       (among.0, map_answers s.files is.files hash answer among.1)
-  found_answer hash new (Err e) refused = not_answered file_records file_laws no_file (values s.files) _ _ _ old looked hash new e refused
+  found_answer hash new (Err e) looks = not_answered file_records file_laws no_file (values s.files) _ _ _ old looked hash new e looks.read
 
   pub found_under : (hash : DataHash) (new : Source) (found : Result (Option MDBFileInfo) CoreError) → LooksUpFile info hash old new found → FindsInShard s hash old new found
   found_under hash new found looks = record {

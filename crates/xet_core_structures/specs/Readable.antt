@@ -15,7 +15,7 @@ use Rattle.xet_records.specs.XorbRecord.{xorb_records}
 use Rattle.xet_shards.specs.declared.shard_format.info.MDBShardInfo.{MDBShardInfo}
 use Rattle.xet_shards.specs.Ends.{HasEnds}
 use Rattle.xet_shards.specs.InForm.{FitsSection, Ascends, IsInForm}
-use Rattle.xet_shards.specs.Lookup.{file_table, Finding, FindingFails, FoundInShard, NotFoundAmong, WithinBounds, SearchWithinBounds}
+use Rattle.xet_shards.specs.Lookup.{file_table, LooksUpRecord, FoundInShard, NotFoundAmong, WithinBounds, SearchWithinBounds}
 use Rattle.xet_shards.specs.Shard.{Shard}
 use Rattle.xet_shards.specs.Tables.{hash_in}
 use Rattle.xet_core_structures.specs.ByteResults.{keyed_form, key_of, HaveResult}
@@ -42,9 +42,7 @@ WritesInForm IsResult x i y j old new info =
 
 -- a file lookup by this header and footer on any bytes: what `get_file_reconstruction_info` returns is one
 abbrev pub LooksUpFile : MDBShardInfo → DataHash → Source → Source → Result (Option MDBFileInfo) CoreError → Type 0
-LooksUpFile info hash old new found =
-    MatchResult found (Finding file_records (file_table info.metadata old) info.metadata.file_info_offset hash old new)
-    (FindingFails file_records (file_table info.metadata old) info.metadata.file_info_offset hash old new)
+LooksUpFile info hash old new found = LooksUpRecord file_records (file_table info.metadata old) info.metadata.file_info_offset hash old new found
 
 -- it found what the shard has, or had a reason not to, within bounds
 pub record FindsInShard (s : Shard) (hash : DataHash) (old new : Source) (found : Result (Option MDBFileInfo) CoreError) : Type 0 where
