@@ -7,6 +7,7 @@ pub mod InForm
 pub mod InMemoryShard
 pub mod Joining
 pub mod Joins
+pub mod KeyedExport
 pub mod Layout
 pub mod Lookup
 pub mod MinimalReading

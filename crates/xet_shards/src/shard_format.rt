@@ -9,6 +9,7 @@ mod footer_facts;
 pub(crate) mod form;
 mod header;
 pub(crate) mod info;
+mod keyed_export;
 mod record_table;
 mod run_reader;
 mod section_reader;
