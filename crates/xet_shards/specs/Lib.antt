@@ -10,8 +10,6 @@ pub mod Joins
 pub mod KeyedExport
 pub mod Layout
 pub mod Lookup
-pub mod MinimalReading
-pub mod MinimalShard
 pub mod Names
 pub mod RunReading
 pub mod RunSteps
