@@ -4,8 +4,10 @@ pub mod Combining
 pub mod Equality
 pub mod Held
 pub mod MergeTrees
+pub use Rattle.xet_base.specs.Errors
 pub use Rattle.xet_base.specs.Hash
 pub use Rattle.xet_base.specs.Hex
+pub use Rattle.xet_base.specs.KeyedHash
 pub use Rattle.xet_base.specs.Source
 pub use Rattle.xet_base.specs.Table
 pub use Rattle.xet_records.specs.FileRecord
@@ -13,6 +15,7 @@ pub use Rattle.xet_records.specs.XorbRecord
 pub use Rattle.xet_shards.specs.ChunkQuery
 pub use Rattle.xet_shards.specs.ChunkLookup
 pub use Rattle.xet_shards.specs.Ends
+pub use Rattle.xet_shards.specs.InForm
 pub use Rattle.xet_shards.specs.Joins
 pub use Rattle.xet_shards.specs.Layout
 pub use Rattle.xet_shards.specs.Lookup
@@ -20,3 +23,4 @@ pub use Rattle.xet_shards.specs.Names
 pub use Rattle.xet_shards.specs.RunReading
 pub use Rattle.xet_shards.specs.SetOperations
 pub use Rattle.xet_shards.specs.Shard
+pub use Rattle.xet_shards.specs.WrittenQueries
