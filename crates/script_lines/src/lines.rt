@@ -25,9 +25,29 @@ pub fn is_skipped(line: &[u8]) -> bool
     line.is_empty() || line[0] == b'#'
 }
 
-/// The words of a line, separated by one or more spaces.
+/// The words of a line, separated by one or more spaces. A parenthesis is a word by itself, with or
+/// without spaces beside it.
 pub fn split_words(alloc: Global, text: &str) -> Result<Vec<&str>, AllocError> {
-    text.split(' ')
-        .filter(|word| !word.is_empty())
-        .collect(alloc)
+    let mut words = Vec::new(alloc);
+    for part in text.split_inclusive([' ', '(', ')']) {
+        let (word, parenthesis) = split_parenthesis(part);
+        if !word.is_empty() {
+            words.push(word)?;
+        }
+        if let Some(parenthesis) = parenthesis {
+            words.push(parenthesis)?;
+        }
+    }
+    Ok(words)
+}
+
+// The word before the end of a part of a line, and its end, if that is a parenthesis.
+fn split_parenthesis(part: &str) -> (&str, Option<&'static str>) {
+    if let Some(word) = part.strip_suffix('(') {
+        (word, Some("("))
+    } else if let Some(word) = part.strip_suffix(')') {
+        (word, Some(")"))
+    } else {
+        (part.strip_suffix(' ').unwrap_or(part), None)
+    }
 }

@@ -7,8 +7,8 @@ use Rattle.script_lines.specs.declared.words.ParseError.{ParseError}
 use Rattle.script_lines.specs.declared.words.ParseError.TheVariants.{Unreadable as unreadable_line, OutOfMemory as line_out_of_memory}
 use Rattle.shardtool.specs.declared.run.Ending.{Ending}
 use Rattle.shardtool.specs.declared.run.Ending.TheVariants.{Done as done_ending, Refused as refused_ending, Unreadable as unreadable_ending, Failed as failed_ending}
-use Rattle.shardtool.specs.declared.run.Stop.{Stop}
-use Rattle.shardtool.specs.declared.run.Stop.TheVariants.{Refused, Unreadable, Failed}
+use Rattle.shardtool.specs.declared.stop.Stop.{Stop}
+use Rattle.shardtool.specs.declared.stop.Stop.TheVariants.{Refused, Unreadable, Failed}
 
 -- the exit status of an ending
 abbrev pub status_of : Ending → ℕ

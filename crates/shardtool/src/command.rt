@@ -3,6 +3,7 @@
 ghost use Rattle.std.specs.Prelude.{IfOk, IsOkAnd, IsNone, IsErrOf, IsUtf8};
 ghost use Rattle.script_lines.specs.Words.{IsSkipped};
 
+use crate::tree::{NameTree, parse_tree};
 use script_lines::lines::{is_skipped, split_words};
 use script_lines::ranges::ByteRange;
 use script_lines::records::{
@@ -37,6 +38,23 @@ pub enum Command<'a> {
         shard: &'a str,
         buffer: &'a str,
         expiry: Option<u64>,
+    },
+    /// `union B1 B2 B3`: the union of the shards in two buffers, into the third.
+    Union {
+        first: &'a str,
+        second: &'a str,
+        buffer: &'a str,
+    },
+    /// `diff B1 B2 B3`: the difference of the shards in two buffers, into the third.
+    Diff {
+        first: &'a str,
+        second: &'a str,
+        buffer: &'a str,
+    },
+    /// `merge B TREE`: what a tree of unions over buffers gives, into a buffer.
+    Merge {
+        buffer: &'a str,
+        tree: NameTree<'a>,
     },
     /// `find B HASH`: looks up a file in a buffer's bytes and prints its record, or `none`.
     Find {
@@ -106,6 +124,9 @@ fn parse_words<'a>(alloc: Global, words: &[&'a str]) -> Result<Command<'a>, Pars
         "xorb" => parse_xorb(alloc, arguments),
         "file" => parse_file(alloc, arguments),
         "write" => parse_write(arguments),
+        "union" => parse_union(arguments),
+        "diff" => parse_diff(arguments),
+        "merge" => parse_merge(alloc, arguments),
         "find" => parse_find(arguments),
         "query" => parse_query(alloc, arguments),
         "size" => parse_size(arguments),
@@ -170,6 +191,37 @@ fn parse_write<'a>(arguments: &[&'a str]) -> Result<Command<'a>, ParseError> {
         buffer: parse_name(buffer)?,
         expiry,
     })
+}
+
+fn parse_union<'a>(arguments: &[&'a str]) -> Result<Command<'a>, ParseError> {
+    let [first, second, buffer] = arguments else {
+        return Err(ParseError::Unreadable);
+    };
+    Ok(Command::Union {
+        first: parse_name(first)?,
+        second: parse_name(second)?,
+        buffer: parse_name(buffer)?,
+    })
+}
+
+fn parse_diff<'a>(arguments: &[&'a str]) -> Result<Command<'a>, ParseError> {
+    let [first, second, buffer] = arguments else {
+        return Err(ParseError::Unreadable);
+    };
+    Ok(Command::Diff {
+        first: parse_name(first)?,
+        second: parse_name(second)?,
+        buffer: parse_name(buffer)?,
+    })
+}
+
+fn parse_merge<'a>(alloc: Global, arguments: &[&'a str]) -> Result<Command<'a>, ParseError> {
+    let [buffer, rest @ ..] = arguments else {
+        return Err(ParseError::Unreadable);
+    };
+    let buffer = parse_name(buffer)?;
+    let tree = parse_tree(alloc, rest)?;
+    Ok(Command::Merge { buffer, tree })
 }
 
 fn parse_find<'a>(arguments: &[&'a str]) -> Result<Command<'a>, ParseError> {

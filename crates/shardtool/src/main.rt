@@ -2,12 +2,17 @@
 //! standard output, and returns an exit status that says how the script ended.
 #![tactic(auto)]
 
+mod combine;
 mod command;
 mod find;
+mod merge;
 mod query;
 mod run;
+mod stop;
 #[cfg(test)]
 mod tests;
+mod tree;
+mod workspace;
 
 use std::io;
 use std::process::ExitCode;

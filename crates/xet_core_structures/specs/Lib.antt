@@ -5,8 +5,10 @@ pub mod Equality
 pub mod Held
 pub mod MergeTrees
 pub mod Readable
+pub use Rattle.xet_base.specs.Errors
 pub use Rattle.xet_base.specs.Hash
 pub use Rattle.xet_base.specs.Hex
+pub use Rattle.xet_base.specs.KeyedHash
 pub use Rattle.xet_base.specs.Source
 pub use Rattle.xet_base.specs.Table
 pub use Rattle.xet_records.specs.FileRecord
@@ -22,3 +24,4 @@ pub use Rattle.xet_shards.specs.Names
 pub use Rattle.xet_shards.specs.RunReading
 pub use Rattle.xet_shards.specs.SetOperations
 pub use Rattle.xet_shards.specs.Shard
+pub use Rattle.xet_shards.specs.WrittenQueries

@@ -1,0 +1,87 @@
+//! The named shards and buffers of a script, and its commands on them.
+
+ghost use Rattle.std.specs.Prelude.{OnErr};
+ghost use Rattle.std.specs.BTreeMap.{IsUnchanged};
+
+mod buffers;
+mod printing;
+mod shards;
+
+use crate::command::{Command, parse_line};
+use crate::stop::Stop;
+use script_lines::lines::without_end;
+use std::alloc::Global;
+use std::collections::BTreeMap;
+use std::io::{BufRead, Write};
+use xet_core_structures::shard_in_memory::MDBInMemoryShard;
+
+/// The shards and buffers that the commands of a script have made so far, by name.
+#[derive(Drop)]
+pub struct Workspace {
+    shards: BTreeMap<String, MDBInMemoryShard>,
+    buffers: BTreeMap<String, Vec<u8>>,
+}
+
+impl Workspace {
+    pub fn new(alloc: Global) -> Workspace {
+        Workspace {
+            shards: BTreeMap::new(alloc),
+            buffers: BTreeMap::new(alloc),
+        }
+    }
+
+    /// Runs the next line. `false` at the end of the input.
+    pub fn run_next_line<R: BufRead, W: Write>(
+        &mut self,
+        alloc: Global,
+        input: &mut R,
+        output: &mut W,
+    ) -> Result<bool, Stop> {
+        let mut line = Vec::new(alloc);
+        if input.read_until(b'\n', &mut line)? == 0 {
+            return Ok(false);
+        }
+        // A line ends with LF or at the end of the input; one CR before that is part of its end.
+        if let Some(command) = parse_line(alloc, without_end(line.as_slice()))? {
+            self.run(alloc, command, output)?;
+        }
+        Ok(true)
+    }
+
+    fn run<W: Write>(
+        &mut self,
+        alloc: Global,
+        command: Command<'_>,
+        output: &mut W,
+    ) -> Result<(), Stop>
+        ensures { OnErr result (IsUnchanged self.old.buffers self.new.buffers) }
+    {
+        match command {
+            Command::Shard { shard } => self.make_shard(alloc, shard),
+            Command::Xorb { shard, xorb } => self.add_xorb(alloc, shard, xorb),
+            Command::File { shard, file } => self.add_file(alloc, shard, file),
+            Command::Write {
+                shard,
+                buffer,
+                expiry,
+            } => self.write_shard(alloc, shard, buffer, expiry),
+            Command::Union {
+                first,
+                second,
+                buffer,
+            } => self.unite_buffers(alloc, first, second, buffer),
+            Command::Diff {
+                first,
+                second,
+                buffer,
+            } => self.subtract_buffers(alloc, first, second, buffer),
+            Command::Merge { buffer, tree } => self.merge(alloc, buffer, &tree),
+            Command::Find { buffer, hash } => self.print_found(alloc, buffer, hash, output),
+            Command::Query { buffer, hashes } => {
+                self.print_query(alloc, buffer, hashes.as_slice(), output)
+            }
+            Command::Size { buffer } => self.print_size(buffer, output),
+            Command::Hex { buffer, range } => self.print_hex(alloc, buffer, range, output),
+        }
+    }
+}

@@ -1,0 +1,112 @@
+//! Making buffers, from shards and from other buffers.
+
+ghost use Rattle.std.specs.Prelude.{◌≡◌, ◌⊎◌, ◌↔◌, IfOk, OnOk, OnErr, IfErr, IsErrOf, IsSome, IsNone, Some};
+ghost use Rattle.std.specs.BTreeMap.{get_by_text, IsUnchanged};
+ghost use Rattle.std.specs.Option.{option_map};
+ghost use Rattle.shardtool.specs.Ends.{IsRefused};
+
+use super::Workspace;
+use crate::combine::{subtract_bytes, unite_bytes};
+use crate::merge::merge_buffers;
+use crate::stop::Stop;
+use crate::tree::NameTree;
+use std::alloc::Global;
+use xet_core_structures::shard_format::MDBShardInfo;
+
+impl Workspace {
+    // The buffer is replaced only after the shard is written, so an error leaves it unchanged.
+    pub(super) fn write_shard(
+        &mut self,
+        alloc: Global,
+        shard: &str,
+        buffer: &str,
+        expiry: Option<u64>,
+    ) -> Result<(), Stop>
+        ensures unknown { IsErrOf result Stop.Unreadable
+            ↔ IsNone (get_by_text self.old.shards shard.now) }
+        ensures made { OnOk result (IsSome (get_by_text self.new.buffers buffer.now)) }
+        ensures err { OnErr result (IsUnchanged self.old.buffers self.new.buffers) }
+        ensures shards { self.new.shards ≡ self.old.shards }
+    {
+        let Some(shard) = self.shards.get(shard) else {
+            return Err(Stop::Unreadable);
+        };
+        let mut bytes = Vec::new(alloc);
+        MDBShardInfo::serialize_from(alloc, &mut bytes, shard, expiry)?;
+        self.keep(alloc, buffer, bytes)
+    }
+
+    pub(super) fn unite_buffers(
+        &mut self,
+        alloc: Global,
+        first: &str,
+        second: &str,
+        buffer: &str,
+    ) -> Result<(), Stop>
+        ensures unknown { IsErrOf result Stop.Unreadable ↔ (IsNone (get_by_text self.old.buffers first.now)
+            ⊎ IsNone (get_by_text self.old.buffers second.now)) }
+        ensures made { OnOk result (IsSome (get_by_text self.new.buffers buffer.now)) }
+        ensures err { OnErr result (IsUnchanged self.old.buffers self.new.buffers) }
+        ensures shards { self.new.shards ≡ self.old.shards }
+    {
+        let bytes = unite_bytes(alloc, self.bytes_of(first)?, self.bytes_of(second)?)?;
+        self.keep(alloc, buffer, bytes)
+    }
+
+    pub(super) fn subtract_buffers(
+        &mut self,
+        alloc: Global,
+        first: &str,
+        second: &str,
+        buffer: &str,
+    ) -> Result<(), Stop>
+        ensures unknown { IsErrOf result Stop.Unreadable ↔ (IsNone (get_by_text self.old.buffers first.now)
+            ⊎ IsNone (get_by_text self.old.buffers second.now)) }
+        ensures made { OnOk result (IsSome (get_by_text self.new.buffers buffer.now)) }
+        ensures err { OnErr result (IsUnchanged self.old.buffers self.new.buffers) }
+        ensures shards { self.new.shards ≡ self.old.shards }
+    {
+        let bytes = subtract_bytes(alloc, self.bytes_of(first)?, self.bytes_of(second)?)?;
+        self.keep(alloc, buffer, bytes)
+    }
+
+    pub(super) fn merge(
+        &mut self,
+        alloc: Global,
+        buffer: &str,
+        tree: &NameTree<'_>,
+    ) -> Result<(), Stop>
+        ensures made { OnOk result (IsSome (get_by_text self.new.buffers buffer.now)) }
+        ensures err { OnErr result (IsUnchanged self.old.buffers self.new.buffers) }
+        ensures shards { self.new.shards ≡ self.old.shards }
+    {
+        let bytes = merge_buffers(alloc, tree, &self.buffers)?;
+        self.keep(alloc, buffer, bytes)
+    }
+
+    // Keeps bytes as a buffer, in place of the one that has the name.
+    pub(super) fn keep(&mut self, alloc: Global, buffer: &str, bytes: Vec<u8>) -> Result<(), Stop>
+        ensures made { OnOk result (option_map (λ b. b.items) (get_by_text self.new.buffers buffer.now) ≡ Some bytes.items) }
+        ensures err { OnErr result (IsUnchanged self.old.buffers self.new.buffers) }
+        ensures causes { IfErr result IsRefused }
+        ensures shards { self.new.shards ≡ self.old.shards }
+    {
+        let name = String::from_str(alloc, buffer)?;
+        self.buffers.insert(name, bytes)?;
+        Ok(())
+    }
+
+    pub(super) fn bytes_of(&self, buffer: &str) -> Result<&[u8], Stop>
+        ensures unknown { IsErrOf result Stop.Unreadable ↔ IsNone
+            (get_by_text self.now.buffers buffer.now) }
+        ensures causes { IfErr result (λ e. e ≡ Stop.Unreadable) }
+        ensures found { IfOk result
+            (λ bytes. option_map (λ b. b.items) (get_by_text self.now.buffers buffer.now)
+            ≡ Some bytes.now) }
+    {
+        match self.buffers.get(buffer) {
+            Some(bytes) => Ok(bytes.as_slice()),
+            None => Err(Stop::Unreadable),
+        }
+    }
+}

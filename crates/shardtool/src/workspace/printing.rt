@@ -1,0 +1,76 @@
+//! The commands that print.
+
+ghost use Rattle.std.specs.Prelude.{◌↔◌, IsErrOf, IsNone};
+ghost use Rattle.std.specs.BTreeMap.{get_by_text};
+
+use super::Workspace;
+use crate::find::find_file;
+use crate::query::{print_run, query_chunks};
+use crate::stop::Stop;
+use script_lines::print::print_file;
+use script_lines::ranges::{ByteRange, bytes_in, hex_digits};
+use std::alloc::Global;
+use std::io::Write;
+use xet_core_structures::merklehash::MerkleHash;
+
+impl Workspace {
+    pub(super) fn print_found<W: Write>(
+        &self,
+        alloc: Global,
+        buffer: &str,
+        hash: MerkleHash,
+        output: &mut W,
+    ) -> Result<(), Stop>
+        ensures { IsErrOf result Stop.Unreadable
+            ↔ IsNone (get_by_text self.now.buffers buffer.now) }
+    {
+        match find_file(alloc, self.bytes_of(buffer)?, &hash)? {
+            Some(file) => print_file(&file, output)?,
+            None => writeln!(output, "none")?,
+        }
+        Ok(())
+    }
+
+    pub(super) fn print_query<W: Write>(
+        &self,
+        alloc: Global,
+        buffer: &str,
+        hashes: &[MerkleHash],
+        output: &mut W,
+    ) -> Result<(), Stop>
+        ensures { IsErrOf result Stop.Unreadable
+            ↔ IsNone (get_by_text self.now.buffers buffer.now) }
+    {
+        match query_chunks(alloc, self.bytes_of(buffer)?, hashes)? {
+            Some((count, segment)) => print_run(count, &segment, output)?,
+            None => writeln!(output, "none")?,
+        }
+        Ok(())
+    }
+
+    pub(super) fn print_size<W: Write>(&self, buffer: &str, output: &mut W) -> Result<(), Stop>
+        ensures { IsErrOf result Stop.Unreadable
+            ↔ IsNone (get_by_text self.now.buffers buffer.now) }
+    {
+        let size = self.bytes_of(buffer)?.len();
+        writeln!(output, "{size}")?;
+        Ok(())
+    }
+
+    pub(super) fn print_hex<W: Write>(
+        &self,
+        alloc: Global,
+        buffer: &str,
+        range: Option<ByteRange>,
+        output: &mut W,
+    ) -> Result<(), Stop> {
+        let bytes = self.bytes_of(buffer)?;
+        let bytes = match range {
+            Some(range) => bytes_in(bytes, range)?,
+            None => bytes,
+        };
+        let digits = hex_digits(alloc, bytes)?;
+        writeln!(output, "{digits}")?;
+        Ok(())
+    }
+}
