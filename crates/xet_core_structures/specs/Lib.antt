@@ -4,6 +4,7 @@ pub mod Combining
 pub mod Equality
 pub mod Held
 pub mod MergeTrees
+pub mod Readable
 pub use Rattle.xet_base.specs.Hash
 pub use Rattle.xet_base.specs.Hex
 pub use Rattle.xet_base.specs.Source
@@ -13,6 +14,7 @@ pub use Rattle.xet_records.specs.XorbRecord
 pub use Rattle.xet_shards.specs.ChunkQuery
 pub use Rattle.xet_shards.specs.ChunkLookup
 pub use Rattle.xet_shards.specs.Ends
+pub use Rattle.xet_shards.specs.InForm
 pub use Rattle.xet_shards.specs.Joins
 pub use Rattle.xet_shards.specs.Layout
 pub use Rattle.xet_shards.specs.Lookup

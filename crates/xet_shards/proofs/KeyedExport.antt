@@ -146,8 +146,8 @@ module _ {H R : Type 0} (K : RecordKind H R) (laws : KindLaws K) where
   one_exported First Next Both Made After left after r joins before next made = record {
     stored = before.stored ++ r ∷ [];
     are_stored = All-append K.IsStored before.stored (r ∷ []) before.are_stored (All-cons K.IsStored r [] next.is_stored (All-nil K.IsStored));
-    taken = subst Both (ap (λ bs. flat_map K.text before.stored ++ bs) (sym (append-nil (K.text r))) ∙ sym (flat_map-append K.text before.stored (r ∷ [])))
-        (joins (flat_map K.text before.stored) (K.text r) before.taken next.taken);
+    taken = subst Both (ap (λ bs. flat_map K.record_bytes before.stored ++ bs) (sym (append-nil (K.record_bytes r))) ∙ sym (flat_map-append K.record_bytes before.stored (r ∷ [])))
+        (joins (flat_map K.record_bytes before.stored) (K.record_bytes r) before.taken next.taken);
     rows = omega (arith, sum_by_push K.row_count before.stored r, before.rows, next.rows, laws.rows r next.is_stored);
     made = made;
   }
@@ -172,7 +172,7 @@ module _ {H R : Type 0} (K : RecordKind H R) (laws : KindLaws K) where
     -- the writer failed after a record, or a bookend, that was read
     pub writing_failed : (new : Source) (taken : List ℕ) (e : CoreError) → Takes now new taken → IsDeviceError e → WritingFails start new e
     writing_failed new taken e takes is =
-        let all = Takes-trans start now new (flat_map K.text before.stored) taken before.taken takes in
+        let all = Takes-trans start now new (flat_map K.record_bytes before.stored) taken before.taken takes in
         record {
           bytes = ap (λ (s : Source). s.bytes) all.after;
           seeks = ap (λ (s : Source). s.seeks) all.after;

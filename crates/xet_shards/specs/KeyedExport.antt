@@ -107,6 +107,6 @@ pub record WritingFails (old new : Source) (e : CoreError) : Type 0 where
 pub record HasExported {H R : Type 0} (K : RecordKind H R) (Took : List ℕ → Type 0) (Made : List R → Type 0) (left : ℕ) : Type 0 where
   pub stored : List R
   pub are_stored : All K.IsStored stored
-  pub taken : Took (flat_map K.text stored)
+  pub taken : Took (flat_map K.record_bytes stored)
   pub rows : sum_by K.row_count stored + left ≡ 4294967295
   pub made : Made stored

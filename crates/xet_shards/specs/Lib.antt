@@ -11,6 +11,8 @@ pub mod KeyedExport
 pub mod KeyedShards
 pub mod Layout
 pub mod Lookup
+pub mod MinimalReading
+pub mod MinimalShard
 pub mod Names
 pub mod RunReading
 pub mod RunSteps

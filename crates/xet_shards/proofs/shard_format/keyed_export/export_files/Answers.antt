@@ -77,7 +77,7 @@ returns g c =
     let contents = g.W.Write.contents in
     let before = c.loop-written.invariant in
     let last : ReadsBookend file_records (Takes now new) = search rules in
-    let bookend = subst (λ h. Appends (contents c.loop-written.writer) (contents c.serialize.new.writer) (header_row h)) c.bookend.ensures c.in_ok-serialize.ensures.text in (
+    let bookend = subst (λ h. Appends (contents c.loop-written.writer) (contents c.serialize.new.writer) (header_row h)) c.bookend.ensures c.in_ok-serialize.ensures.bytes in (
       before.stored,
       all_passed file_records file_laws _ now _ _ before new last,
       before.made.added,

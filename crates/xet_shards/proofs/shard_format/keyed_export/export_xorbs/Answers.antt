@@ -81,7 +81,7 @@ returns g c =
     let contents = g.W.Write.contents in
     let before = c.loop-written.invariant in
     let last : ReadsBookend xorb_records (Takes now new) = search rules in
-    let bookend = subst (λ h. Appends (contents c.loop-written.writer) (contents c.serialize.new.writer) (xorb_header_row h)) c.bookend.ensures c.in_ok-serialize.ensures.text in (
+    let bookend = subst (λ h. Appends (contents c.loop-written.writer) (contents c.serialize.new.writer) (xorb_header_row h)) c.bookend.ensures c.in_ok-serialize.ensures.bytes in (
       before.stored,
       all_passed xorb_records xorb_laws _ now _ _ before new last,
       before.made.added,
