@@ -11,8 +11,6 @@ pub mod KeyedExport
 pub mod KeyedShards
 pub mod Layout
 pub mod Lookup
-pub mod MinimalReading
-pub mod MinimalShard
 pub mod Names
 pub mod RunReading
 pub mod RunSteps
