@@ -3,6 +3,7 @@
 //! `view_reader` and `shard_writer`.
 #![tactic(auto)]
 
+pub mod export_laws;
 pub mod laws;
 pub mod set_operations;
 

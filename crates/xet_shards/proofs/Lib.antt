@@ -15,6 +15,7 @@ pub mod Joining
 pub mod Joins
 pub mod KeyedExport
 pub mod KeyedHashes
+pub mod KeyedShards
 pub mod KnownRows
 pub mod Layouts
 pub mod Loading

@@ -8,6 +8,7 @@ pub mod InMemoryShard
 pub mod Joining
 pub mod Joins
 pub mod KeyedExport
+pub mod KeyedShards
 pub mod Layout
 pub mod Lookup
 pub mod Names
