@@ -7,7 +7,8 @@ use Rattle.std.specs.declared.cmp.Ordering.TheVariants.{Less, Equal, Greater}
 use Rattle.std.specs.Map.{keys_of}
 use Rattle.std.specs.BTreeMap.{insert_entry}
 use Rattle.std.specs.BTreeSet.{insert_key}
-use Rattle.std.specs.FinMap.{FinMap, from_entries, find, insert, entries, keys, same_map, entries-insert, get-insert, get-from_entries}
+use Rattle.std.specs.Cmp.{IsTotalOrder}
+use Rattle.std.specs.FinMap.{FinMap, IsAntisymmetric, from_entries, find, insert, entries, keys, same_map, entries-insert, get-insert, get-from_entries}
 use Rattle.std.proofs.lemmas.List.{map-append, length-take}
 use Rattle.std.proofs.Math.Seq.{take-suc}
 use Rattle.xet_records.specs.declared.xorb_structs.XorbChunkSequenceEntry.{XorbChunkSequenceEntry}
@@ -30,32 +31,40 @@ keys-insert_entry : {K X : Type 0} (R : K → K → Ordering) (k : K) (v : X) (e
 keys-insert_entry R k v [] = refl
 keys-insert_entry R k v (e ∷ es) = key_cases (R k e.0) k e.0 v e.1 es _ _ (keys-insert_entry R k v es)
 
-abbrev pub alone : ChunkTableRow → ChunkTableRow × Unit {0}
-alone p = (p, tt)
-
 either_first : {X : Type 0} (a b : Bool) (x : X) (o : Option X) → cond a (Some x) (cond b (Some x) o) ≡ cond b (Some x) (cond a (Some x) o)
 either_first true true x o = refl
 either_first true false x o = refl
 either_first false true x o = refl
 either_first false false x o = refl
 
-find-push : (q p : ChunkTableRow) (ps : List ChunkTableRow) → find chunk_table_row_cmp q (map alone (ps ++ p ∷ [])) ≡ cond (eq_by_cmp chunk_table_row_cmp q p) (Some (tt {0})) (find chunk_table_row_cmp q (map alone ps))
-find-push q p [] = refl
-find-push q p (x ∷ ps) =
-    ap (cond (eq_by_cmp chunk_table_row_cmp q x) (Some (tt {0}))) (find-push q p ps) ∙ either_first (eq_by_cmp chunk_table_row_cmp q x) (eq_by_cmp chunk_table_row_cmp q p) tt (find chunk_table_row_cmp q (map alone ps))
+abbrev pub alone : ChunkTableRow → ChunkTableRow × Unit {0}
+alone p = (p, tt)
 
--- one more row is inserted in order
+-- the keys of a finite map that has each of a list, in any order
+module _ {K : Type 0} (R : K → K → Ordering) (total : IsTotalOrder R) (exact : IsAntisymmetric R) where
+  abbrev keyed : K → K × Unit {0}
+  keyed k = (k, tt)
+
+  find-push : (q p : K) (ps : List K) → find R q (map keyed (ps ++ p ∷ [])) ≡ cond (eq_by_cmp R q p) (Some (tt {0})) (find R q (map keyed ps))
+  find-push q p [] = refl
+  find-push q p (x ∷ ps) =
+      ap (cond (eq_by_cmp R q x) (Some (tt {0}))) (find-push q p ps) ∙ either_first (eq_by_cmp R q x) (eq_by_cmp R q p) tt (find R q (map keyed ps))
+
+  -- one more key is inserted in order
+  pub keys-push : (ps : List K) (p : K) → insert_key R (keys (from_entries {R = R} (map keyed ps))) p ≡ keys (from_entries {R = R} (map keyed (ps ++ p ∷ [])))
+  keys-push ps p =
+      let m : FinMap R (Unit {0}) = from_entries (map keyed ps) in
+      let more : FinMap R (Unit {0}) = from_entries (map keyed (ps ++ p ∷ [])) in
+      let same : more ≡ insert m p tt = same_map total exact more (insert m p tt) (λ q.
+      get-from_entries total (map keyed (ps ++ p ∷ [])) q ∙ find-push q p ps
+      ∙ sym (get-insert total m p tt q ∙ ap (cond (eq_by_cmp R q p) (Some (tt {0}))) (get-from_entries total (map keyed ps) q))) in
+      sym (ap keys same ∙ ap keys_of (entries-insert total m p tt ∙ sym (put_is R p tt (entries m))) ∙ keys-insert_entry R p tt (entries m))
+
 pub ascending-push : (ps : List ChunkTableRow) (p : ChunkTableRow) → insert_key chunk_table_row_cmp (ascending ps) p ≡ ascending (ps ++ p ∷ [])
-ascending-push ps p =
-    let m : FinMap chunk_table_row_cmp (Unit {0}) = from_entries (map alone ps) in
-    let more : FinMap chunk_table_row_cmp (Unit {0}) = from_entries (map alone (ps ++ p ∷ [])) in
-    let same : more ≡ insert m p tt = same_map chunk_table_row_total chunk_table_row_exact more (insert m p tt) (λ q.
-    get-from_entries chunk_table_row_total (map alone (ps ++ p ∷ [])) q ∙ find-push q p ps
-    ∙ sym (get-insert chunk_table_row_total m p tt q ∙ ap (cond (eq_by_cmp chunk_table_row_cmp q p) (Some (tt {0}))) (get-from_entries chunk_table_row_total (map alone ps) q))) in
-    sym (ap keys same ∙ ap keys_of (entries-insert chunk_table_row_total m p tt ∙ sym (put_is chunk_table_row_cmp p tt (entries m))) ∙ keys-insert_entry chunk_table_row_cmp p tt (entries m))
+ascending-push = keys-push chunk_table_row_cmp chunk_table_row_total chunk_table_row_exact
 
 -- the row of one more chunk
-enumerate_from-push : {X : Type 0} (n : ℕ) (xs : List X) (x : X) → enumerate_from n (xs ++ x ∷ []) ≡ enumerate_from n xs ++ (n + length xs, x) ∷ []
+pub enumerate_from-push : {X : Type 0} (n : ℕ) (xs : List X) (x : X) → enumerate_from n (xs ++ x ∷ []) ≡ enumerate_from n xs ++ (n + length xs, x) ∷ []
 enumerate_from-push n [] x = let same : n ≡ n + 0 = omega arith in ap (λ k. (k, x) ∷ []) same
 enumerate_from-push n (y ∷ xs) x =
     let same : n + 1 + length xs ≡ n + length (y ∷ xs) = omega arith in

@@ -21,6 +21,9 @@ pub mod Layouts
 pub mod Loading
 pub mod Lookups
 pub mod Maps
+pub mod MinimalReading
+pub mod MinimalShard
+pub mod MinimalWriting
 pub mod Names
 pub mod Overlays
 pub mod QueriesAt

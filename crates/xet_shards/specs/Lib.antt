@@ -11,6 +11,9 @@ pub mod KeyedExport
 pub mod KeyedShards
 pub mod Layout
 pub mod Lookup
+pub mod MinimalReading
+pub mod MinimalShard
+pub mod MinimalWriting
 pub mod Names
 pub mod RunReading
 pub mod RunSteps

@@ -8,7 +8,7 @@ mod footer;
 mod footer_facts;
 pub(crate) mod form;
 mod header;
-mod info;
+pub(crate) mod info;
 mod keyed_export;
 mod record_table;
 mod run_reader;

@@ -1,0 +1,116 @@
+-- Starts, marks and eligible chunks, collected one after another.
+use Rattle.std.proofs.Common.{◌≡◌, inl, inr, true≢false, ℕ, ◌+◌, ◌<◌, Bool, true, false, List, [], ◌∷◌, ◌++◌, length, map, flat_map, take, get_or, cond, Some, refl, sym, ap, ◌∙◌, append-nil, arith}
+use Rattle.std.specs.Prelude.{◌⊎◌, ◌||◌, ◌==◌, ◌%◌, ◌↔◌, IsTrue, filter, slice_get, if◌then◌else◌}
+use Rattle.std.specs.Cmp.{both_ways}
+use Rattle.std.proofs.lemmas.Bool.{eqb-true, eq-eqb}
+use Rattle.std.specs.List.{enumerate_from, list_any}
+use Rattle.std.specs.Ordering.{eq_by_cmp, is_eq}
+use Rattle.std.specs.Cmp.{IsTotalOrder, on_total, then_total, nat_cmp_total}
+use Rattle.std.proofs.lemmas.Cmp.{eq_by_cmp_equiv}
+use Rattle.std.specs.BTreeSet.{insert_key}
+use Rattle.std.proofs.lemmas.Grind.{flat_map-append}
+use Rattle.std.proofs.lemmas.List.{map-append, length-take, take_more}
+use Rattle.std.proofs.lemmas.List.Elements.{filter-append}
+use Rattle.std.proofs.lemmas.List.Folds.{list_any-append}
+use Rattle.std.proofs.lemmas.Option.{get_or_from_slice_get, slice_get_within}
+use Rattle.xet_base.specs.declared.merklehash.DataHash.{DataHash}
+use Rattle.xet_base.specs.Hash.{hash_cmp}
+use Rattle.xet_base.proofs.HashOrder.{hash_cmp-IsTotalOrder, hash_cmp-IsAntisymmetric}
+use Rattle.xet_records.specs.declared.file_structs.MDBFileInfo.{MDBFileInfo}
+use Rattle.xet_records.specs.declared.xorb_structs.XorbChunkSequenceEntry.{XorbChunkSequenceEntry}
+use Rattle.xet_records.specs.declared.xorb_structs.MDBXorbInfo.{MDBXorbInfo}
+use Rattle.xet_records.specs.XorbRow.{is_marked, IsEligibleChunk}
+use Rattle.xet_shards.specs.declared.streaming_shard.file_start.FileStart.{FileStart}
+use Rattle.xet_shards.specs.MinimalShard.{start_cmp, start_of_file, is_start, chunk_of, marked_if, is_eligible, ascending_hashes}
+use Rattle.xet_shards.proofs.ChunkTableRows.{keys-push, enumerate_from-push}
+use Rattle.xet_shards.proofs.Maps.{entries-empty}
+
+-- the first elements, and one more
+pub one_more : {X : Type 0} (xs : List X) (i : ℕ) (x : X) → slice_get xs i ≡ Some x → take (i + 1) xs ≡ take i xs ++ x ∷ []
+one_more xs i x there = take_more xs i x (slice_get_within xs i x there) ∙ ap (λ y. take i xs ++ y ∷ []) (get_or_from_slice_get xs i x x there)
+
+pub one_more_item : {X : Type 0} (xs : List X) (i : ℕ) (x : X) → i < length xs → x ≡ get_or xs i x → take (i + 1) xs ≡ take i xs ++ x ∷ []
+one_more_item xs i x below is = take_more xs i x below ∙ ap (λ y. take i xs ++ y ∷ []) (sym is)
+
+-- the order of starts is total
+pub start_total : IsTotalOrder start_cmp
+start_total = then_total (on_total (λ (s : FileStart). s.xorb_hash) hash_cmp-IsTotalOrder) (on_total (λ (s : FileStart). s.chunk_index) nat_cmp_total)
+
+-- one more start in a set
+pub start_inserted : (b c old : Bool) (s at : FileStart) → b ≡ is_eq (start_cmp s at) → c ≡ cond b true old → c ≡ (old || (eq_by_cmp start_cmp at s || false))
+start_inserted b c old s at is set = set ∙ ap (λ t. cond t true old) (is ∙ (eq_by_cmp_equiv start_total).symm s at) ∙ both (eq_by_cmp start_cmp at s) old
+  where
+    both : (t o : Bool) → cond t true o ≡ (o || (t || false))
+    both true true = refl
+    both true false = refl
+    both false true = refl
+    both false false = refl
+
+-- one more file
+pub is_start-push : (files : List MDBFileInfo) (r : MDBFileInfo) (at : FileStart)
+    → is_start (files ++ r ∷ []) at ≡ (is_start files at || list_any (eq_by_cmp start_cmp at) (start_of_file r))
+is_start-push files r at =
+    ap (list_any (eq_by_cmp start_cmp at)) (flat_map-append start_of_file files (r ∷ []))
+    ∙ list_any-append (eq_by_cmp start_cmp at) (flat_map start_of_file files) (flat_map start_of_file (r ∷ []))
+    ∙ ap (λ xs. is_start files at || list_any (eq_by_cmp start_cmp at) xs) (append-nil (start_of_file r))
+
+-- one more chunk, with its index
+pub enumerated-more : (cs : List XorbChunkSequenceEntry) (i : ℕ) (c : XorbChunkSequenceEntry) → slice_get cs i ≡ Some c
+    → enumerate_from 0 (take (i + 1) cs) ≡ enumerate_from 0 (take i cs) ++ (i, c) ∷ []
+enumerated-more cs i c there =
+    let count : 0 + length (take i cs) ≡ i = omega (arith, length-take i cs, slice_get_within cs i c there) in
+    ap (enumerate_from 0) (one_more cs i c there) ∙ enumerate_from-push 0 (take i cs) c ∙ ap (λ n. enumerate_from 0 (take i cs) ++ (n, c) ∷ []) count
+
+module _ (starts : FileStart → Bool) (x : MDBXorbInfo) where
+  abbrev pub marks_to : ℕ → List XorbChunkSequenceEntry
+  marks_to i = map (λ (e : ℕ × XorbChunkSequenceEntry). marked_if (starts (chunk_of x e.0)) e.1) (enumerate_from 0 (take i x.chunks))
+
+  pub one_marked : (i : ℕ) (c : XorbChunkSequenceEntry) → slice_get x.chunks i ≡ Some c → marks_to (i + 1) ≡ marks_to i ++ marked_if (starts (chunk_of x i)) c ∷ []
+  one_marked i c there =
+      let mark : ℕ × XorbChunkSequenceEntry → XorbChunkSequenceEntry = λ e. marked_if (starts (chunk_of x e.0)) e.1 in
+      ap (map mark) (enumerated-more x.chunks i c there) ∙ map-append mark (enumerate_from 0 (take i x.chunks)) ((i, c) ∷ [])
+
+  -- the hashes of the eligible chunks among the first ones
+  abbrev pub eligible_to : ℕ → List DataHash
+  eligible_to i = map (λ (e : ℕ × XorbChunkSequenceEntry). e.1.chunk_hash) (filter (is_eligible starts x) (enumerate_from 0 (take i x.chunks)))
+
+  pub one_eligible : (i : ℕ) (c : XorbChunkSequenceEntry) → slice_get x.chunks i ≡ Some c
+      → eligible_to (i + 1) ≡ eligible_to i ++ (if is_eligible starts x (i, c) then c.chunk_hash ∷ [] else [])
+  one_eligible i c there =
+      let hash : ℕ × XorbChunkSequenceEntry → DataHash = λ e. e.1.chunk_hash in
+      let first = enumerate_from 0 (take i x.chunks) in
+      ap (λ es. map hash (filter (is_eligible starts x) es)) (enumerated-more x.chunks i c there)
+      ∙ ap (map hash) (filter-append (is_eligible starts x) first ((i, c) ∷ []))
+      ∙ map-append hash (filter (is_eligible starts x) first) (filter (is_eligible starts x) ((i, c) ∷ []))
+      ∙ ap (λ es. eligible_to i ++ es) (last (is_eligible starts x (i, c)))
+    where
+      last : (b : Bool) → map (λ (e : ℕ × XorbChunkSequenceEntry). e.1.chunk_hash) (if b then (i, c) ∷ [] else []) ≡ (if b then c.chunk_hash ∷ [] else [])
+      last true = refl
+      last false = refl
+
+-- one more hash
+pub ascending_hashes-push : (hashes : List DataHash) (h : DataHash) → insert_key hash_cmp (ascending_hashes hashes) h ≡ ascending_hashes (hashes ++ h ∷ [])
+ascending_hashes-push = keys-push hash_cmp hash_cmp-IsTotalOrder hash_cmp-IsAntisymmetric
+
+pub ascending_hashes-nil : ascending_hashes [] ≡ []
+ascending_hashes-nil = ap (map (λ e. e.0)) (entries-empty (Unit {0}) hash_cmp)
+
+-- the test of a chunk that its row can make
+pub row_is_eligible : (b : Bool) (c : XorbChunkSequenceEntry) → (IsTrue b ↔ IsEligibleChunk c) → b ≡ (is_marked c.flags || (c.chunk_hash.word3 % 1024 == 0))
+row_is_eligible b c is = both_ways b (is_marked c.flags || (c.chunk_hash.word3 % 1024 == 0)) (λ here. either_true (is_marked c.flags) (c.chunk_hash.word3 % 1024) (is.0 here))
+    (λ here. is.1 (one_of (is_marked c.flags) (c.chunk_hash.word3 % 1024) here))
+  where
+    either_true : (m : Bool) (n : ℕ) → IsTrue m ⊎ (n ≡ 0) → (m || (n == 0)) ≡ true
+    either_true true n _ = refl
+    either_true false n (inl never) = absurd (true≢false (sym never))
+    either_true false n (inr zero_is) = eq-eqb n 0 zero_is
+
+    one_of : (m : Bool) (n : ℕ) → (m || (n == 0)) ≡ true → IsTrue m ⊎ (n ≡ 0)
+    one_of true n _ = inl refl
+    one_of false n zero_is = inr (eqb-true n 0 zero_is)
+
+-- one more hash, if it is wanted
+pub ascending_hashes-if : (b : Bool) (hashes : List DataHash) (h : DataHash) (before after : List DataHash) → before ≡ ascending_hashes hashes
+    → after ≡ (if b then insert_key hash_cmp before h else before) → after ≡ ascending_hashes (hashes ++ (if b then h ∷ [] else []))
+ascending_hashes-if true hashes h before after is more = more ∙ ap (λ hs. insert_key hash_cmp hs h) is ∙ ascending_hashes-push hashes h
+ascending_hashes-if false hashes h before after is more = more ∙ is ∙ ap ascending_hashes (sym (append-nil hashes))

@@ -1,0 +1,186 @@
+-- The xorbs and files that a minimal shard writes.
+use Rattle.std.proofs.Common.{◌≡◌, true≢false, Ok, Err, None, ℕ, ◌+◌, ◌*◌, ◌^◌, ◌<◌, ◌≤◌, Bool, true, false, List, [], ◌∷◌, ◌++◌, length, map, Option, refl, sym, ap, ◌∙◌, subst, arith}
+use Rattle.std.specs.Prelude.{All, IfOk, sum_by, not, ◌&&◌, if◌then◌else◌}
+use Rattle.std.specs.Borrow.{Bor}
+use Rattle.std.specs.Fn.{Shared, FnReturnsAt}
+use Rattle.std.specs.List.{enumerate_from, list_all, Any}
+use Rattle.std.proofs.lemmas.List.{length-append, length-map}
+use Rattle.std.proofs.lemmas.List.Elements.{All-nil, All-map, All-weaker}
+use Rattle.std.proofs.lemmas.List.FromFn.{length-enumerate_from}
+use Rattle.std.proofs.lemmas.List.Sums.{sum_by-cons}
+use Rattle.std.proofs.lemmas.List.Folds.{list_all_at}
+use Rattle.xet_base.specs.Errors.{CoreResult}
+use Rattle.xet_records.specs.declared.file_structs.MDBFileInfo.{MDBFileInfo}
+use Rattle.xet_records.specs.declared.xorb_structs.MDBXorbInfo.{MDBXorbInfo}
+use Rattle.xet_records.specs.declared.xorb_structs.XorbChunkSequenceEntry.{XorbChunkSequenceEntry}
+use Rattle.xet_records.specs.FileRecord.{file_records, row_count, has_verification, has_metadata_ext, flags_of, FitsRecord, IsStored}
+use Rattle.xet_records.specs.XorbRecord.{xorb_records, xorb_row_count, HasItsChunks}
+use Rattle.xet_records.specs.View.{as_wanted, without_verification, LacksVerification}
+use Rattle.xet_shards.specs.declared.streaming_shard.file_start.FileStart.{FileStart}
+use Rattle.std.specs.Io.KnownBytes.{Appends}
+use Rattle.xet_shards.specs.declared.shard_format.written.WrittenFiles.{WrittenFiles}
+use Rattle.xet_shards.specs.declared.shard_format.written.WrittenXorbs.{WrittenXorbs}
+use Rattle.xet_shards.specs.Section.{total_rows, section_bytes}
+use Rattle.xet_shards.specs.Tables.{table_bytes, chunk_table_bytes}
+use Rattle.xet_shards.specs.Written.{HasWritten, HasWrittenXorbs, end_of_layout}
+use Rattle.xet_shards.specs.MinimalWriting.{WritesMarked}
+use Rattle.xet_shards.proofs.Written.{whole_layout}
+use Rattle.xet_shards.specs.Layout.{Form, if_in, layout_of, header_value, footer_value, shard_header_bytes}
+use Rattle.xet_shards.specs.MinimalShard.{MinimalShard, is_start, chunk_of, marked_if, mark_starts, minimal_form, HasNoTables, IsKept, WritesBytes, WritesKept, WritesMinimal}
+use Rattle.xet_shards.proofs.Layouts.{length-file_section, length-xorb_section, length-shard_header_bytes, length-shard_footer_bytes}
+
+-- marks change no number of rows
+pub rows_marked : (starts : FileStart → Bool) (x : MDBXorbInfo) → xorb_row_count (mark_starts starts x) ≡ xorb_row_count x
+rows_marked starts x =
+    ap (λ n. 1 + n) (length-map (enumerate_from 0 x.chunks) (λ (e : ℕ × XorbChunkSequenceEntry). marked_if (starts (chunk_of x e.0)) e.1) ∙ length-enumerate_from 0 x.chunks)
+
+pub marked_whole : (starts : FileStart → Bool) (x : MDBXorbInfo) → HasItsChunks x → HasItsChunks (mark_starts starts x)
+marked_whole starts x whole = omega (arith, rows_marked starts x, whole)
+
+module _ {X : Type 0} (answers : X → Bool → Type 0) where
+  -- one element more is accepted, or it is not
+  pub one_kept : (xs kept : List X) (x : X) → IsKept answers xs kept → answers x true → IsKept answers (xs ++ x ∷ []) (kept ++ x ∷ [])
+  one_kept [] kept x before accepted = (true, accepted, [], refl, ap (λ ys. ys ++ x ∷ []) before)
+  one_kept (y ∷ xs) kept x (b, answer, rest, before, is) accepted =
+      (b, answer, rest ++ x ∷ [], one_kept xs rest x before accepted, ap (λ ys. ys ++ x ∷ []) is ∙ also b)
+    where
+      also : (b : Bool) → (if b then y ∷ rest else rest) ++ x ∷ [] ≡ (if b then y ∷ (rest ++ x ∷ []) else rest ++ x ∷ [])
+      also true = refl
+      also false = refl
+
+  pub none_kept : (xs kept : List X) (x : X) → IsKept answers xs kept → answers x false → IsKept answers (xs ++ x ∷ []) kept
+  none_kept [] kept x before refused = (false, refused, [], refl, before)
+  none_kept (y ∷ xs) kept x (b, answer, rest, before, is) refused = (b, answer, rest, none_kept xs rest x before refused, is)
+
+  -- a filter that accepts each keeps all
+  pub all_kept : ((x : X) (b : Bool) → answers x b → b ≡ true) → (xs kept : List X) → IsKept answers xs kept → kept ≡ xs
+  all_kept each [] kept is = is
+  all_kept each (x ∷ xs) kept (b, answer, rest, before, is) =
+      is ∙ (λ i. if each x b answer i then x ∷ all_kept each xs rest before i else all_kept each xs rest before i)
+
+-- what a call of a function with a lent value returned, of the value
+pub says_at : {F T : Type 0} (g : Shared F (Bor T × Unit {0}) Bool) (f : F) (shown : Bor T) (b c : Bool) → g.post f (shown, tt) b → b ≡ c → FnReturnsAt g f shown.now c
+says_at g f shown b c post is = record { shown = shown; shows = refl; says = record { met = subst (λ r. g.post f (shown, tt) r) is post } }
+
+-- those that are kept have no more rows than all
+pub rows_kept : (answers : MDBXorbInfo → Bool → Type 0) (starts : FileStart → Bool) (xs kept : List MDBXorbInfo) → IsKept answers xs kept
+    → total_rows xorb_records (map (mark_starts starts) kept) ≤ total_rows xorb_records xs
+rows_kept answers starts [] kept is = omega (arith, ap (λ ks. total_rows xorb_records (map (mark_starts starts) ks)) is)
+rows_kept answers starts (x ∷ xs) kept (true, answer, rest, before, is) =
+    omega (
+      arith,
+      ap (λ ks. total_rows xorb_records (map (mark_starts starts) ks)) is,
+      sum_by-cons xorb_row_count (mark_starts starts x) (map (mark_starts starts) rest),
+      sum_by-cons xorb_row_count x xs,
+      rows_marked starts x,
+      rows_kept answers starts xs rest before,
+    )
+rows_kept answers starts (x ∷ xs) kept (false, answer, rest, before, is) =
+    omega (arith, ap (λ ks. total_rows xorb_records (map (mark_starts starts) ks)) is, sum_by-cons xorb_row_count x xs, rows_kept answers starts xs rest before)
+
+-- without verification rows a record has no more rows, and its numbers fit
+small_flags : (b : Bool) → flags_of false b < 2 ^ 32
+small_flags true = omega arith
+small_flags false = omega arith
+
+pub as_wanted-fits : (wanted : Bool) (r : MDBFileInfo) → FitsRecord r → FitsRecord (as_wanted wanted r)
+as_wanted-fits wanted r fits = either (has_verification r.metadata.file_flags && not wanted)
+  where
+    either : (b : Bool) → FitsRecord (if b then without_verification r else r)
+    either true = record {
+      metadata = record {
+        file_hash = fits.metadata.file_hash;
+        file_flags = small_flags (has_metadata_ext r.metadata.file_flags);
+        num_entries = fits.metadata.num_entries;
+        unused = omega arith;
+      };
+      segments = fits.segments;
+      verification = All-nil _;
+      metadata_ext = fits.metadata_ext;
+    }
+    either false = fits
+
+pub as_wanted-rows : (wanted : Bool) (r : MDBFileInfo) → row_count (as_wanted wanted r) ≤ row_count r
+as_wanted-rows wanted r = either (has_verification r.metadata.file_flags && not wanted)
+  where
+    either : (b : Bool) → row_count (if b then without_verification r else r) ≤ row_count r
+    either true = omega arith
+    either false = omega arith
+
+pub rows_as_wanted : (wanted : Bool) (files : List MDBFileInfo) → total_rows file_records (map (as_wanted wanted) files) ≤ total_rows file_records files
+rows_as_wanted wanted [] = omega arith
+rows_as_wanted wanted (r ∷ files) =
+    omega (arith, sum_by-cons row_count (as_wanted wanted r) (map (as_wanted wanted) files), sum_by-cons row_count r files, as_wanted-rows wanted r, rows_as_wanted wanted files)
+
+pub sum_as_wanted : (wanted : Bool) (files : List MDBFileInfo) → total_rows file_records (map (as_wanted wanted) files) ≡ sum_by (λ r. row_count (as_wanted wanted r)) files
+sum_as_wanted wanted [] = refl
+sum_as_wanted wanted (r ∷ files) =
+    sum_by-cons row_count (as_wanted wanted r) (map (as_wanted wanted) files) ∙ ap (λ n. row_count (as_wanted wanted r) + n) (sum_as_wanted wanted files)
+    ∙ sym (sum_by-cons (λ (s : MDBFileInfo). row_count (as_wanted wanted s)) r files)
+
+pub fit_as_wanted : (wanted : Bool) (files : List MDBFileInfo) → All IsStored files → All FitsRecord (map (as_wanted wanted) files)
+fit_as_wanted wanted files stored =
+    All-map FitsRecord (as_wanted wanted) files (All-weaker IsStored (λ r. FitsRecord (as_wanted wanted r)) (λ r s. as_wanted-fits wanted r s.widths) files stored)
+
+-- the length of a layout without tables
+none_in : {X : Type 0} (is_in : Bool) (xs : List X) → is_in ≡ false → length (if_in is_in xs) ≡ 0
+none_in is_in xs out = ap (λ b. length (if_in b xs)) out
+
+pub length-without_tables : (files : List MDBFileInfo) (xorbs : List MDBXorbInfo) (form : Form) → HasNoTables form → All FitsRecord files
+    → length (layout_of files xorbs form) ≡ 344 + 48 * total_rows file_records files + 48 * total_rows xorb_records xorbs
+unfolding layout_of
+length-without_tables files xorbs form tables fit =
+    simp (length-append)
+    (omega (
+      arith,
+      length-shard_header_bytes header_value,
+      length-file_section files fit,
+      length-xorb_section xorbs,
+      none_in form.file_table (table_bytes file_records files) tables.0,
+      none_in form.xorb_table (table_bytes xorb_records xorbs) tables.1,
+      none_in form.chunk_table (chunk_table_bytes xorbs) tables.2,
+      length-shard_footer_bytes (footer_value files xorbs form) refl,
+    ))
+
+-- header, sections and end of a shard with the xorbs that a filter accepts
+pub shard_written : (answers : MDBXorbInfo → Bool → Type 0) (m : MinimalShard) (files : List MDBFileInfo) (form : Form) (start after_header after_files after_xorbs end : Option (List ℕ))
+    (wf : WrittenFiles) (wx : WrittenXorbs) (starts : FileStart → Bool) (xorbs : List MDBXorbInfo) (n : ℕ)
+    → HasNoTables form → All FitsRecord files → starts ≡ is_start m.files → xorbs ≡ m.xorbs
+    → Appends start after_header (shard_header_bytes header_value) → Appends after_header after_files (section_bytes file_records files) → HasWritten wf files
+    → WritesMarked answers starts after_files after_xorbs xorbs wx
+    → ((rs : List MDBFileInfo) (xs : List MDBXorbInfo) → All FitsRecord rs → HasWritten wf rs → HasWrittenXorbs wx xs → Appends after_xorbs end (end_of_layout rs xs form))
+    → n ≡ 344 + 48 * wf.table.rows + 48 * wx.table.rows → WritesKept answers start end files m form n
+shard_written answers m files form start after_header after_files after_xorbs end wf wx starts xorbs n tables fit same_starts same_xorbs header section written marked rest count =
+    let xs = map (mark_starts (is_start m.files)) marked.kept in
+    let collected : HasWrittenXorbs wx xs = subst (λ s. HasWrittenXorbs wx (map (mark_starts s) marked.kept)) same_starts marked.collected in
+    let bytes : Appends after_files after_xorbs (section_bytes xorb_records xs) =
+    subst (λ s. Appends after_files after_xorbs (section_bytes xorb_records (map (mark_starts s) marked.kept))) same_starts marked.bytes in
+    record {
+      kept = marked.kept;
+      is_kept = subst (λ ys. IsKept answers ys marked.kept) same_xorbs marked.is_kept;
+      written = record {
+        text = whole_layout start after_header after_files after_xorbs end files xs form header section bytes (rest files xs fit written collected);
+        count = omega (arith, count, written.table.rows, collected.table.rows, length-without_tables files xs form tables fit);
+      };
+    }
+
+-- a filter that accepts each xorb writes the whole shard
+pub all_written : (answers : MDBXorbInfo → Bool → Type 0) → ((x : MDBXorbInfo) (b : Bool) → answers x b → b ≡ true) → (old new : Option (List ℕ)) (wanted : Bool) (now : ℕ) (m : MinimalShard)
+    (r : CoreResult ℕ) → IfOk r (WritesKept answers old new (map (as_wanted wanted) m.files) m (minimal_form now None)) → IfOk r (WritesMinimal old new wanted now m)
+all_written answers each old new wanted now m (Ok n) kept =
+    subst (λ xs. WritesBytes old new (layout_of (map (as_wanted wanted) m.files) (map (mark_starts (is_start m.files)) xs) (minimal_form now None)) n)
+    (all_kept answers each m.xorbs kept.kept kept.is_kept) kept.written
+all_written answers each old new wanted now m (Err e) kept = tt
+
+-- if some file lacks verification rows that are wanted, they are wanted and not each file has them
+pub lacks_some : (wanted : Bool) (files : List MDBFileInfo) → Any (LacksVerification wanted) files → (wanted ≡ true) × (list_all (λ r. has_verification r.metadata.file_flags) files ≡ false)
+lacks_some true files (k, r, below, there, lacks) = (
+  refl,
+  list_all_at (λ (r : MDBFileInfo). has_verification r.metadata.file_flags) files k r below
+      (ap (λ (f : MDBFileInfo). has_verification f.metadata.file_flags) there ∙ not_true (has_verification r.metadata.file_flags) lacks),
+)
+  where
+    not_true : (b : Bool) → not b ≡ true → b ≡ false
+    not_true true never = absurd (true≢false (sym never))
+    not_true false is = refl
+lacks_some false files (k, r, below, there, lacks) = absurd (true≢false (sym lacks))

@@ -1,0 +1,20 @@
+use Rattle.std.proofs.Common.{inl}
+use Rattle.std.specs.Io.KnownBytes.{Consumes}
+use Rattle.std.proofs.lemmas.Result.{err_from_is_err_and}
+use Rattle.xet_base.specs.Input.{ReaderFails}
+use Rattle.xet_shards.specs.MinimalReading.{ReaderHeaderFails}
+use Rattle.xet_shards.proofs.MinimalReading.{after_header}
+use Rattle.xet_shards.proofs.streaming_shard.minimal_shard.MDBMinimalShard.from_reader.Goals as goal
+
+pub returns-in_err-deserialize : goal.returns-in_err-deserialize
+returns-in_err-deserialize g c =
+    let p = err_from_is_err_and c.from_residual.result c.from_residual.ensures.1 in
+    let why = c.in_err-deserialize.ensures in
+    rw (p.1, p.2) (inl (record { causes = why.causes; unsupported = why.unsupported; end = why.end }))
+
+pub returns : goal.returns
+returns g c =
+    let header = c.in_ok-deserialize.ensures in
+    after_header g.R.Read.remaining Consumes (λ before after n e. ReaderFails before n e) (λ before after e. ReaderHeaderFails before e) c.args.include_files c.args.include_xorb
+    c.args.reader.now c.deserialize.new.reader c.read_sections.new.input c.read_sections.result
+    (record { header = c.in_ok-deserialize.field-0; tag = header.tag.0; version = header.tag.1; taken = header.bytes }) c.read_sections.ensures

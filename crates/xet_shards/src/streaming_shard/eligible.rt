@@ -1,0 +1,90 @@
+//! The chunks that the global index keeps.
+
+ghost use Rattle.std.specs.Prelude.{◌≡◌, List, ◌++◌, MatchResult, OnOk, IfOk, IfErr, if◌then◌else◌};
+ghost use Rattle.std.specs.BTreeSet.{contains, insert_key};
+ghost use Rattle.xet_base.specs.Hash.{hash_cmp};
+ghost use Rattle.xet_base.specs.declared.merklehash.DataHash.{DataHash};
+ghost use Rattle.xet_records.specs.XorbRecord.{IsStoredXorb};
+ghost use Rattle.xet_shards.specs.MinimalShard.{start_cmp, ascending_hashes, eligible_hashes, eligible_in};
+ghost use Rattle.xet_shards.specs.MinimalReading.{ReadsEligible, EligibleFails};
+
+use super::file_start::{FileStart, starts_of};
+use super::minimal_reader::read_sections;
+use super::minimal_shard::MDBMinimalShard;
+use crate::shard_format::MDBShardInfo;
+use crate::shard_format::info::read_header;
+use std::alloc::Global;
+use std::collections::BTreeSet;
+use xet_base::error::{CoreError, Result};
+use xet_base::input::OfSource;
+use xet_base::merklehash::MerkleHash;
+use xet_base::source::ShardSource;
+use xet_records::xorb_structs::MDBXorbInfoView;
+
+impl MDBMinimalShard {
+    /// The hashes of the chunks that the global index keeps, each once and in ascending order: those of chunks
+    /// that are marked, whose hash is eligible, or at which a file starts. `OutOfMemory` is the only error.
+    pub fn global_dedup_eligible_chunks(&self, alloc: Global) -> Result<Vec<MerkleHash>>
+        ensures ok { IfOk result (λ hashes. hashes.items ≡ eligible_hashes self.now.files self.now.xorbs) }
+        ensures causes { IfErr result (λ e. e ≡ CoreError.OutOfMemory) }
+    {
+        let starts = starts_of(alloc, self.files())?;
+        let mut hashes = BTreeSet::new(alloc);
+        let xorbs = self.xorbs();
+        for xorb in xorbs {
+            insert_eligible(&mut hashes, xorb, &starts)?;
+        }
+        Ok(hashes.into_iter().collect(alloc)?)
+    }
+}
+
+impl MDBShardInfo {
+    /// Reads a shard's header and both sections from the source's position on, without a seek, and returns the
+    /// hashes of the chunks that the global index keeps, as `MDBMinimalShard::global_dedup_eligible_chunks` does.
+    ///
+    /// `ShardVersion` if the header's tag or version is unsupported, `UnexpectedEof` if the source ends before a
+    /// bookend, `InvalidShard` if the rows of a section pass 4294967295, `OutOfMemory` if an allocation fails.
+    pub fn filter_cas_chunks_for_global_dedup<S: ShardSource>(
+        alloc: Global,
+        source: &mut S,
+    ) -> Result<Vec<MerkleHash>>
+        ensures { MatchResult result
+            (λ hashes. ReadsEligible (S.meaning source.old) (S.meaning source.new) hashes.items)
+            (EligibleFails (S.meaning source.old) (S.meaning source.new)) }
+    {
+        read_header(alloc, source)?;
+        let shard = read_sections::<OfSource, S>(alloc, source, true, true)?;
+        shard.global_dedup_eligible_chunks(alloc)
+    }
+}
+
+// Inserts the hashes of the eligible chunks of a xorb.
+fn insert_eligible(
+    hashes: &mut BTreeSet<MerkleHash>,
+    xorb: &MDBXorbInfoView,
+    starts: &BTreeSet<FileStart>,
+) -> Result<()>
+    requires { IsStoredXorb xorb.now }
+    ensures ok { OnOk result ((before : List DataHash) → hashes.old.keys ≡ ascending_hashes before
+        → hashes.new.keys ≡ ascending_hashes (before ++ eligible_in (contains start_cmp starts.now) xorb.now)) }
+    ensures causes { IfErr result (λ e. e ≡ CoreError.OutOfMemory) }
+{
+    for index in 0..xorb.num_entries() {
+        let chunk = xorb.chunk(index);
+        let start = FileStart::of_chunk(xorb, index);
+        let is_eligible = chunk.is_global_dedup_eligible() | starts.contains(&start);
+        insert_if(is_eligible, hashes, chunk.chunk_hash)?;
+    }
+    Ok(())
+}
+
+// Inserts a hash, or does not.
+fn insert_if(wanted: bool, hashes: &mut BTreeSet<MerkleHash>, hash: MerkleHash) -> Result<()>
+    ensures ok { OnOk result (hashes.new.keys ≡ (if wanted then insert_key hash_cmp hashes.old.keys hash else hashes.old.keys)) }
+    ensures causes { IfErr result (λ e. e ≡ CoreError.OutOfMemory) }
+{
+    if wanted {
+        hashes.insert(hash)?;
+    }
+    Ok(())
+}

@@ -1,0 +1,207 @@
+//! Writing a minimal shard: all of it, or some of its xorbs.
+
+ghost use Rattle.std.specs.Prelude.{◌≡◌, ◌+◌, ◌*◌, [], map, None, IsTrue, IsErrAnd, OnOk, IfOk, IfErr};
+ghost use Rattle.std.specs.BTreeSet.{contains};
+ghost use Rattle.std.specs.Fn.{FnReturnsAt};
+ghost use Rattle.std.specs.Io.KnownBytes.{Appends};
+ghost use Rattle.std.specs.List.{Any, list_all};
+ghost use Rattle.xet_base.specs.Errors.{IsDeviceError};
+ghost use Rattle.xet_records.specs.FileRecord.{file_records, has_verification};
+ghost use Rattle.xet_records.specs.XorbRecord.{xorb_records};
+ghost use Rattle.xet_records.specs.View.{as_wanted, LacksVerification, IsOtherDeviceError};
+ghost use Rattle.xet_shards.specs.InForm.{FitsSection};
+ghost use Rattle.xet_shards.specs.Section.{section_bytes};
+ghost use Rattle.xet_shards.specs.Written.{HasWritten};
+ghost use Rattle.xet_shards.specs.MinimalShard.{start_cmp, minimal_form, HasNoTables, WritesMinimal, WritesKept};
+ghost use Rattle.xet_shards.specs.MinimalWriting.{WritesMarked};
+
+use super::file_start::{FileStart, mark_starts, starts_of};
+use super::minimal_shard::MDBMinimalShard;
+use crate::shard_format::MDBShardFileHeader;
+use crate::shard_format::form::Form;
+use crate::shard_format::view_writer::write_file_view;
+use crate::shard_format::writer::write_end;
+use crate::shard_format::written::{WrittenFiles, WrittenXorbs};
+use std::alloc::Global;
+use std::collections::BTreeSet;
+use std::io;
+use std::io::{ErrorKind, Write};
+use xet_base::error::{CoreError, Result};
+use xet_base::merklehash::HMACKey;
+use xet_records::file_structs::{FileDataSequenceHeader, MDBFileInfoView};
+use xet_records::rows::ROW_SIZE;
+use xet_records::xorb_structs::{MDBXorbInfoView, XorbChunkSequenceHeader};
+
+impl MDBMinimalShard {
+    /// Writes the shard without tables, with its creation at a timestamp in seconds and expiry 0, and returns the
+    /// number of bytes. Each chunk at which a file starts is marked. Verification rows are left out if they are
+    /// not wanted.
+    ///
+    /// `Io` of kind `Other` if they are wanted and a file has none, and then nothing is written. Any other error
+    /// is the writer's, or `OutOfMemory` if an allocation fails.
+    pub fn serialize<W: Write>(
+        &self,
+        alloc: Global,
+        writer: &mut W,
+        now: u64,
+        with_verification: bool,
+    ) -> Result<usize>
+        ensures written { IfOk result
+            (WritesMinimal (W.contents writer.old) (W.contents writer.new) with_verification now self.now) }
+        ensures missing { Any (LacksVerification with_verification) self.now.files
+            → IsErrAnd result IsOtherDeviceError × (writer.new ≡ writer.old) }
+        ensures causes { IfErr result IsDeviceError }
+    {
+        let files = self.files();
+        if with_verification && !all_have_verification(files) {
+            return Err(CoreError::Io(io::Error::from(ErrorKind::Other)));
+        }
+        let form = minimal_form(now, None);
+        let all = |_xorb: &MDBXorbInfoView| -> bool
+            ensures { IsTrue result }
+        { true };
+        self.write(alloc, writer, files, with_verification, &form, all)
+    }
+
+    /// Writes the xorbs that `filter`, called once with each in order, accepts, and no files, with creation at a
+    /// timestamp in seconds and expiry 0, and returns the number of bytes. Each chunk at which a file of this
+    /// shard starts is marked. The error is the writer's, or `OutOfMemory` if an allocation fails.
+    pub fn serialize_xorb_subset_only<W: Write, F: Fn(&MDBXorbInfoView) -> bool>(
+        &self,
+        alloc: Global,
+        writer: &mut W,
+        now: u64,
+        filter: F,
+    ) -> Result<usize>
+        requires { F.IsAlwaysCallable filter }
+        ensures written { IfOk result
+            (WritesKept (FnReturnsAt F.Fn filter) (W.contents writer.old) (W.contents writer.new) [] self.now (minimal_form now None)) }
+        ensures causes { IfErr result IsDeviceError }
+    {
+        self.serialize_xorb_subset_with_expiry(alloc, writer, now, None, filter)
+    }
+
+    /// The same with an expiry, a timestamp in seconds, or 0 if there is none.
+    pub fn serialize_xorb_subset_with_expiry<W: Write, F: Fn(&MDBXorbInfoView) -> bool>(
+        &self,
+        alloc: Global,
+        writer: &mut W,
+        now: u64,
+        expiry: Option<u64>,
+        filter: F,
+    ) -> Result<usize>
+        requires { F.IsAlwaysCallable filter }
+        ensures written { IfOk result
+            (WritesKept (FnReturnsAt F.Fn filter) (W.contents writer.old) (W.contents writer.new) [] self.now (minimal_form now expiry)) }
+        ensures causes { IfErr result IsDeviceError }
+    {
+        let form = minimal_form(now, expiry);
+        self.write(alloc, writer, &[], false, &form, filter)
+    }
+
+    // Writes these files, and the xorbs that a filter accepts, with marks at the starts of all files.
+    fn write<W: Write, F: Fn(&MDBXorbInfoView) -> bool>(
+        &self,
+        alloc: Global,
+        writer: &mut W,
+        files: &[MDBFileInfoView],
+        with_verification: bool,
+        form: &Form,
+        filter: F,
+    ) -> Result<usize>
+        requires callable { F.IsAlwaysCallable filter }
+        requires files { FitsSection file_records files.now }
+        requires form { HasNoTables form.now }
+        ensures written { IfOk result
+            (WritesKept (FnReturnsAt F.Fn filter) (W.contents writer.old) (W.contents writer.new) (map (as_wanted with_verification) files.now) self.now form.now) }
+        ensures causes { IfErr result IsDeviceError }
+    {
+        let starts = starts_of(alloc, self.files())?;
+        MDBShardFileHeader::default().serialize(writer)?;
+        let files = write_files(alloc, writer, files, with_verification)?;
+        let xorbs = write_xorbs(alloc, writer, self.xorbs(), &starts, filter)?;
+        write_end(writer, &files, &xorbs, form)?;
+        Ok(size_of(&files, &xorbs))
+    }
+}
+
+// Whether each file has verification rows.
+fn all_have_verification(files: &[MDBFileInfoView]) -> bool
+    ensures { result ≡ list_all (λ r. has_verification r.metadata.file_flags) files.now }
+{
+    for file in files {
+        if !file.contains_verification() {
+            return false;
+        }
+    }
+    true
+}
+
+// No tables, no key, the creation, and an expiry or 0.
+fn minimal_form(now: u64, expiry: Option<u64>) -> Form
+    ensures { result ≡ minimal_form now expiry }
+{
+    Form {
+        file_table: false,
+        xorb_table: false,
+        chunk_table: false,
+        key: HMACKey::default(),
+        creation: now,
+        expiry: expiry.unwrap_or(0),
+    }
+}
+
+// Writes the file section, with verification rows only if they are wanted.
+#[tactic(auto, unfolding(crate::specs::Section::section_bytes))]
+fn write_files<W: Write>(
+    alloc: Global,
+    writer: &mut W,
+    files: &[MDBFileInfoView],
+    with_verification: bool,
+) -> Result<WrittenFiles>
+    requires { FitsSection file_records files.now }
+    ensures bytes { OnOk result
+        (Appends (W.contents writer.old) (W.contents writer.new)
+        (section_bytes file_records (map (as_wanted with_verification) files.now))) }
+    ensures written { IfOk result (λ written. HasWritten written (map (as_wanted with_verification) files.now)) }
+    ensures causes { IfErr result IsDeviceError }
+{
+    let mut written = WrittenFiles::new(alloc);
+    for file in files {
+        write_file_view(writer, &mut written, file, with_verification)?;
+    }
+    FileDataSequenceHeader::bookend().serialize(writer)?;
+    Ok(written)
+}
+
+// Writes the section of the xorbs that a filter accepts, with a mark on each start.
+fn write_xorbs<W: Write, F: Fn(&MDBXorbInfoView) -> bool>(
+    alloc: Global,
+    writer: &mut W,
+    xorbs: &[MDBXorbInfoView],
+    starts: &BTreeSet<FileStart>,
+    filter: F,
+) -> Result<WrittenXorbs>
+    requires callable { F.IsAlwaysCallable filter }
+    requires fit { FitsSection xorb_records xorbs.now }
+    ensures written { IfOk result
+        (WritesMarked (FnReturnsAt F.Fn filter) (contains start_cmp starts.now) (W.contents writer.old) (W.contents writer.new) xorbs.now) }
+    ensures causes { IfErr result IsDeviceError }
+{
+    let mut written = WrittenXorbs::new(alloc);
+    for xorb in xorbs {
+        if filter(xorb) {
+            let marked = mark_starts(alloc, xorb, starts)?;
+            written.write(writer, &marked)?;
+        }
+    }
+    XorbChunkSequenceHeader::bookend().serialize(writer)?;
+    Ok(written)
+}
+
+// The bytes of a shard without tables that has these files and xorbs.
+fn size_of(files: &WrittenFiles, xorbs: &WrittenXorbs) -> usize
+    ensures { result ≡ 344 + 48 * files.now.table.rows + 48 * xorbs.now.table.rows }
+{
+    344 + ROW_SIZE * files.table.rows as usize + ROW_SIZE * xorbs.table.rows as usize
+}
