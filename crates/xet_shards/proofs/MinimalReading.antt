@@ -29,7 +29,7 @@ module _ {H R V : Type 0} (K : RecordKind H R) (laws : KindLaws K) (record_of : 
   pub more_views : (First Next Both : List ℕ → Type 0) (views : List V) (left after : ℕ) (view : V) → ((xs ys : List ℕ) → First xs → Next ys → Both (xs ++ ys))
       → HasReadViews K record_of First views left → CountsStored K Next left after (record_of view) → HasReadViews K record_of Both (views ++ view ∷ []) after
   more_views First Next Both views left after view joins before next =
-      let text : V → List ℕ = λ v. K.text (record_of v) in
+      let text : V → List ℕ = λ v. K.record_bytes (record_of v) in
       let rows : V → ℕ = λ v. K.row_count (record_of v) in
       record {
         are_stored = All-append (λ v. K.IsStored (record_of v)) views (view ∷ []) before.are_stored

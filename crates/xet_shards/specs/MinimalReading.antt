@@ -19,7 +19,7 @@ use Rattle.xet_shards.specs.MinimalShard.{MinimalShard, eligible_hashes}
 -- views of stored records were read, and their rows counted down from 4294967295
 pub record HasReadViews {H R V : Type 0} (K : RecordKind H R) (record_of : V → R) (Took : List ℕ → Type 0) (views : List V) (left : ℕ) : Type 0 where
   pub are_stored : All (λ view. K.IsStored (record_of view)) views
-  pub taken : Took (flat_map (λ view. K.text (record_of view)) views)
+  pub taken : Took (flat_map (λ view. K.record_bytes (record_of view)) views)
   pub rows : sum_by (λ view. K.row_count (record_of view)) views + left ≡ 4294967295
 
 -- an input says of some bytes that they were read between two of its states, and that reading failed

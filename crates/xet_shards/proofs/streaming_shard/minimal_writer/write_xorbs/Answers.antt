@@ -84,6 +84,6 @@ returns-clause-written g c =
       kept = inv.0;
       is_kept = subst (λ ys. IsKept (FnReturnsAt g.F.Fn c.args.filter) ys inv.0) (take_all _ _ c.loop-xorb-test.false) inv.1;
       bytes = Appends-trans _ (contents c.loop-xorb.writer) _ _ _ inv.3
-          (subst (λ h. Appends (contents c.loop-xorb.writer) (contents c.serialize.new.writer) (xorb_header_row h)) c.bookend.ensures c.in_ok-serialize.ensures.text);
+          (subst (λ h. Appends (contents c.loop-xorb.writer) (contents c.serialize.new.writer) (xorb_header_row h)) c.bookend.ensures c.in_ok-serialize.ensures.bytes);
       collected = inv.2;
     }
