@@ -10,9 +10,7 @@ use Rattle.xet_base.specs.Source.{Source}
 use Rattle.xet_records.specs.declared.file_structs.MDBFileInfo.{MDBFileInfo}
 use Rattle.xet_records.specs.declared.xorb_structs.MDBXorbInfo.{MDBXorbInfo}
 use Rattle.xet_records.specs.RecordKind.{RecordKind}
-use Rattle.xet_records.specs.FileRow.{header_row}
 use Rattle.xet_records.specs.FileRecord.{file_records, file_bookend, FitsRecord}
-use Rattle.xet_records.specs.XorbRow.{xorb_header_row}
 use Rattle.xet_records.specs.XorbRecord.{xorb_records, xorb_bookend}
 use Rattle.xet_shards.specs.declared.shard_format.footer.MDBShardFileFooter.{MDBShardFileFooter}
 use Rattle.xet_shards.specs.declared.shard_format.info.MDBShardInfo.{MDBShardInfo}

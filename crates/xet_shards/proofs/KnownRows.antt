@@ -1,9 +1,7 @@
 -- A lookup table whose rows are known, in the bytes of a source: what a search in it finds.
-use Rattle.std.proofs.Common.{◌≡◌, true, inl, inr, ◌==◌, if◌then◌else◌, ℕ, ◌+◌, ◌-◌, ◌*◌, ◌^◌, ◌<◌, ◌≤◌, List, [], ◌∷◌, ◌++◌, length, drop, flat_map, get_or, refl, sym, ap, ◌∙◌, subst, arith, mul-le-mul_left}
-use Rattle.std.specs.Prelude.{All, AllPairs, sum_by, filter}
-use Rattle.std.proofs.lemmas.List.{take_all}
-use Rattle.std.proofs.lemmas.List.Elements.{All-weaker, All-drop}
-use Rattle.std.proofs.lemmas.List.Sums.{sum_by-cons}
+use Rattle.std.proofs.Common.{◌≡◌, true, inl, inr, ◌==◌, if◌then◌else◌, ℕ, ◌+◌, ◌-◌, ◌*◌, ◌^◌, ◌<◌, ◌≤◌, List, ◌++◌, length, drop, flat_map, get_or, refl, sym, ap, ◌∙◌, subst, arith, mul-le-mul_left}
+use Rattle.std.specs.Prelude.{All, AllPairs, filter}
+use Rattle.std.proofs.lemmas.List.Elements.{All-weaker}
 use Rattle.std.proofs.lemmas.Bool.{eq-eqb, cond-true}
 use Rattle.std.proofs.Math.Nat.{eq-zero-or-pos}
 use Rattle.xet_base.specs.declared.error.CoreError.{CoreError}

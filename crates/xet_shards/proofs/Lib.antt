@@ -13,6 +13,8 @@ pub mod ChunkLookups
 pub mod InForm
 pub mod Joining
 pub mod Joins
+pub mod KeyedExport
+pub mod KeyedHashes
 pub mod KnownRows
 pub mod Layouts
 pub mod Loading

@@ -14,7 +14,7 @@ use Rattle.xet_records.specs.Reading.Stops.{no_header, too_many_rows, no_rows}
 use Rattle.xet_records.proofs.Lengths.{length-all_record_bytes}
 use Rattle.xet_records.proofs.RecordKinds.{KindLaws, length-record_bytes, stored_begins}
 use Rattle.xet_shards.specs.SectionReading.SectionCase.{not_read, passes_limit}
-use Rattle.xet_shards.specs.SectionReading.{HoldsRecords, PassesRows, IsCutSection, TakesSection, TakesNoSection, SectionCase, SectionFailure, ReadsNext, RecordFails, rows_left}
+use Rattle.xet_shards.specs.SectionReading.{HoldsRecords, IsSection, PassesRows, IsCutSection, TakesSection, TakesNoSection, SectionCase, SectionFailure, ReadsNext, RecordFails, rows_left}
 
 -- a read of n bytes was refused, after calls that did not fail
 refused_as : (Passes Ends : List ℕ → Type 0) (bytes : List ℕ) (old mid new : Source) (n : ℕ) (e : CoreError) → mid.failures ≡ old.failures
@@ -141,8 +141,10 @@ module _ {H R : Type 0} (K : RecordKind H R) (laws : KindLaws K) where
     failures_then : now.failures ≡ start.failures
     failures_then = ap (λ (s : Source). s.failures) read.taken.after
 
-    pub section_ends : (new : Source) → ReadsBookend K (Takes now new) → TakesSection K start new found
-    section_ends new last =
+    -- the section of the records that were read, whose bookend was read after them
+    pub section_passed : (new : Source) → ReadsBookend K (Takes now new)
+        → IsSection K (bytes_left start) read.stored × (new ≡ advanced start (48 * (sum_by K.row_count read.stored + 1)))
+    section_passed new last =
         let records_bytes = flat_map K.record_bytes read.stored in
         let bookend = K.header_bytes last.header in
         let size : length (records_bytes ++ bookend) ≡ 48 * (sum_by K.row_count read.stored + 1) =
@@ -151,10 +153,8 @@ module _ {H R : Type 0} (K : RecordKind H R) (laws : KindLaws K) where
           length-append records_bytes bookend,
           laws.header_size last.header,
           length-all_record_bytes K.record_bytes K.row_count K.IsStored (length-record_bytes K laws) read.stored read.are_stored,
-        ) in
-        record {
-          stored = read.stored;
-          section = record {
+        ) in (
+          record {
             rest = bytes_left now;
             records = holds;
             bookend = record {
@@ -164,10 +164,14 @@ module _ {H R : Type 0} (K : RecordKind H R) (laws : KindLaws K) where
               is_bookend = last.is_bookend;
               bytes_are = Takes-consumes now new bookend last.taken;
             };
-          };
-          handed = read.handed;
-          after = (Takes-trans start now new records_bytes bookend read.taken last.taken).after ∙ ap (advanced start) size;
-        }
+          },
+          (Takes-trans start now new records_bytes bookend read.taken last.taken).after ∙ ap (advanced start) size,
+        )
+
+    pub section_ends : (new : Source) → ReadsBookend K (Takes now new) → TakesSection K start new found
+    section_ends new last =
+        let passed = section_passed new last in
+        record { stored = read.stored; section = passed.0; handed = read.handed; after = passed.1 }
 
     whole_cause : (new : Source) (e : CoreError) → SectionFailure (PassesLimit K left) (EndsEarly K left) (bytes_left now) now new e
         → SectionFailure (PassesRows K) (IsCutSection K) (bytes_left start) start new e

@@ -1,6 +1,5 @@
 -- Runs in the bytes of a xorb: what a query reads of them is in the xorb.
-use Rattle.std.proofs.Common.{◌≡◌, ◌≢◌, ◌⊎◌, inl, inr, ◌==◌, ℕ, ◌+◌, ◌-◌, ◌*◌, ◌^◌, ◌<◌, ◌≤◌, Bool, List, [], ◌∷◌, ◌++◌, length, take, drop, flat_map, Option, None, Some, refl, sym, ap, ◌∙◌, subst, append_assoc, arith}
-use Rattle.std.specs.Prelude.{All}
+use Rattle.std.proofs.Common.{◌≡◌, ◌⊎◌, inl, inr, ◌==◌, ℕ, ◌+◌, ◌-◌, ◌*◌, ◌^◌, ◌<◌, ◌≤◌, List, [], ◌∷◌, ◌++◌, length, take, drop, flat_map, Option, None, Some, refl, sym, ap, ◌∙◌, subst, append_assoc, arith}
 use Rattle.std.proofs.lemmas.Bool.{eq-eqb, ne_eqb, cond-true, cond-false}
 use Rattle.std.proofs.lemmas.Grind.{flat_map-append}
 use Rattle.std.proofs.lemmas.List.{drop-drop, length-append, length-drop, length-take, take-append-drop, take-append-le}
@@ -22,7 +21,7 @@ use Rattle.xet_records.proofs.RecordKinds.{xorb_laws, stored_begins, same_front,
 use Rattle.xet_records.proofs.XorbUnique.{chunk_row-injective}
 use Rattle.xet_shards.specs.ChunkQuery.{run_length, run_at, some_run_at}
 use Rattle.xet_shards.specs.Lookup.{row_at}
-use Rattle.xet_shards.specs.RunReading.{HasChunks, IsRun, FoundRun, RunPasses, RunIsCut, AnnouncesChunk, AnnouncesNoChunk, PassesAt, IsCutAt, AnswerAt, RefusedAt, chunks_at}
+use Rattle.xet_shards.specs.RunReading.{HasChunks, IsRun, FoundRun, RunPasses, RunIsCut, AnnouncesNoChunk, PassesAt, IsCutAt, AnswerAt, RefusedAt, chunks_at}
 use Rattle.xet_shards.specs.WrittenQueries.{RunInXorb}
 use Rattle.xet_shards.proofs.Runs.{run_within, run_decided}
 

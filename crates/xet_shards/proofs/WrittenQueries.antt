@@ -1,19 +1,19 @@
 -- Queries by the chunk table in written bytes.
-use Rattle.std.proofs.Common.{◌≡◌, ◌≢◌, ◌⊎◌, inl, inr, ◌==◌, ◌&&◌, if◌then◌else◌, Ok, Err, Bool, true, false, not, cond, true≢false, ℕ, suc, ◌+◌, ◌*◌, ◌<◌, ◌≤◌, List, [], ◌∷◌, ◌++◌, length, take, drop, map, flat_map, get_or, min, Option, None, Some, refl, sym, ap, ◌∙◌, subst, drop-cons, arith}
-use Rattle.std.specs.Prelude.{All, AllPairs, Contains, MatchResult, option_map, slice_get, sum, filter}
+use Rattle.std.proofs.Common.{◌≡◌, ◌⊎◌, inl, inr, ◌==◌, ◌&&◌, Ok, Err, Bool, true, false, not, cond, true≢false, ℕ, suc, ◌+◌, ◌<◌, ◌≤◌, List, [], ◌∷◌, length, take, drop, map, flat_map, get_or, min, Option, None, Some, refl, sym, ap, ◌∙◌, subst, drop-cons, arith}
+use Rattle.std.specs.Prelude.{All, AllPairs, Contains, MatchResult, option_map, sum}
 use Rattle.std.specs.List.{AllZip}
 use Rattle.std.specs.declared.result.Result.{Result}
-use Rattle.std.proofs.lemmas.Bool.{cases_lt, eq-eqb, ne_eqb, cond-true, cond-false, both_ways}
+use Rattle.std.proofs.lemmas.Bool.{cases_lt, eq-eqb, ne_eqb, cond-true, cond-false}
 use Rattle.std.proofs.lemmas.Option.{none-some, same_Some, slice_get-get_or}
-use Rattle.std.proofs.lemmas.List.{get_or-map, get_or_default, length-append, length-map, length-take, take-append-drop}
-use Rattle.std.proofs.lemmas.List.Elements.{All-cons, All-contains, All-drop, All-map, All-nil, All-take, All-weaker, Contains-append_right, Contains-get_or}
+use Rattle.std.proofs.lemmas.List.{get_or-map, get_or_default, length-append, length-map, length-take}
+use Rattle.std.proofs.lemmas.List.Elements.{All-cons, All-contains, All-drop, All-map, All-nil, All-take, All-weaker, Contains-get_or}
 use Rattle.std.proofs.lemmas.List.Sums.{sum_by-cons}
 use Rattle.xet_base.specs.declared.error.CoreError.{CoreError}
 use Rattle.xet_base.specs.declared.merklehash.DataHash.{DataHash}
 use Rattle.xet_base.specs.Hash.{hash_eq}
 use Rattle.xet_base.specs.KeyedHash.{under_key}
 use Rattle.xet_base.specs.Source.{Source, DeviceFailure}
-use Rattle.xet_base.specs.Table.{Table, table_at, Hit, IsHit, OtherRow, hits, IsBareInvalidShard}
+use Rattle.xet_base.specs.Table.{Table, Hit, IsHit, OtherRow, hits, IsBareInvalidShard}
 use Rattle.xet_base.proofs.HashOrder.{same_hash}
 use Rattle.xet_records.specs.declared.file_structs.MDBFileInfo.{MDBFileInfo}
 use Rattle.xet_records.specs.declared.file_structs.rows.FileDataSequenceEntry.{FileDataSequenceEntry}
@@ -29,14 +29,14 @@ use Rattle.xet_shards.specs.SectionReading.{MayTake}
 use Rattle.xet_shards.specs.Tables.{ChunkTableRow, chunk_table_rows, chunk_table}
 use Rattle.xet_shards.specs.Layout.{Form}
 use Rattle.xet_shards.specs.InForm.{IsInForm}
-use Rattle.xet_shards.specs.Lookup.{row_at, chunk_lookup_table, IsPair, Visits, VisitsSome}
+use Rattle.xet_shards.specs.Lookup.{row_at, chunk_lookup_table, IsPair}
 use Rattle.xet_shards.specs.RunReading.{AnswerAt, RefusedAt, Queries, TriedAnswer, TriedRefused, QueryAnswer, QueryRefused}
 use Rattle.xet_shards.specs.WrittenChunks.{ChunkSearchCosts}
-use Rattle.xet_shards.specs.WrittenQueries.{RunInXorb, HasChunkAt, all_chunks, is_other, others_sharing, RunAmong, TriesCost, QueryCosts}
+use Rattle.xet_shards.specs.WrittenQueries.{HasChunkAt, all_chunks, is_other, others_sharing, RunAmong, TriesCost, QueryCosts}
 use Rattle.xet_shards.proofs.ChunkLocations.{IsLocated, located, has_row}
 use Rattle.xet_shards.proofs.ChunkLookups.{chunk_within}
 use Rattle.xet_shards.proofs.ChunkTableRows.{chunk_table_row, no_chunk}
-use Rattle.xet_shards.proofs.ChunkTables.{no_table_row, word_of, numbers_of, rows_differ, rows_known, hit_row, table_sorted, table_hits, chunk_search_costs}
+use Rattle.xet_shards.proofs.ChunkTables.{no_table_row, word_of, numbers_of, rows_differ, rows_known, hit_row, table_sorted, chunk_search_costs}
 use Rattle.xet_shards.proofs.Distinct.{few_marked}
 use Rattle.xet_shards.proofs.InForm.{xorbs_stored}
 use Rattle.xet_shards.proofs.KnownRows.{search_served, hits_all}

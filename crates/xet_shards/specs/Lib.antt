@@ -7,10 +7,9 @@ pub mod InForm
 pub mod InMemoryShard
 pub mod Joining
 pub mod Joins
+pub mod KeyedExport
 pub mod Layout
 pub mod Lookup
-pub mod MinimalReading
-pub mod MinimalShard
 pub mod Names
 pub mod RunReading
 pub mod RunSteps

@@ -1,0 +1,335 @@
+-- The turns of the loops that read and write the sections of an export, and its parts together.
+use Rattle.std.proofs.Common.{◌≡◌, Bool, true, false, inl, inr, Ok, Err, ℕ, ◌+◌, ◌*◌, ◌^◌, ◌≤◌, List, [], ◌∷◌, ◌++◌, length, map, flat_map, drop, Option, refl, sym, ap, ◌∙◌, subst, arith, append-nil}
+use Rattle.std.specs.Prelude.{◌⊎◌, All, MatchResult, not, ◌&&◌, if◌then◌else◌}
+use Rattle.std.specs.declared.io.Error.{Error}
+use Rattle.std.specs.declared.result.Result.{Result}
+use Rattle.std.specs.Io.KnownBytes.{Appends}
+use Rattle.std.proofs.KnownBytes.{Appends-nil, Appends-trans}
+use Rattle.std.proofs.lemmas.List.{drop-drop, map-append, length-append}
+use Rattle.std.proofs.lemmas.List.Elements.{All-append, All-cons, All-nil}
+use Rattle.std.proofs.lemmas.List.Sums.{sum_by_push}
+use Rattle.std.proofs.lemmas.Grind.{flat_map-append}
+use Rattle.xet_base.specs.declared.error.CoreError.{CoreError}
+use Rattle.xet_base.specs.declared.merklehash.DataHash.{DataHash}
+use Rattle.xet_base.specs.declared.error.CoreError.TheVariants.{Io, OutOfMemory, InvalidArguments}
+use Rattle.xet_base.specs.Errors.{FromDevice, IsDeviceError}
+use Rattle.xet_base.specs.Source.{Source, Takes, advanced, bytes_left}
+use Rattle.xet_base.specs.InputLaws.{Takes-trans, failed_after, advanced-advanced}
+use Rattle.xet_base.proofs.Reading.{Takes-consumes}
+use Rattle.xet_records.specs.declared.file_structs.MDBFileInfo.{MDBFileInfo}
+use Rattle.xet_records.specs.declared.xorb_structs.MDBXorbInfo.{MDBXorbInfo}
+use Rattle.xet_records.specs.RecordKind.{RecordKind, KindLaws}
+use Rattle.xet_records.specs.Reading.{ReadsBookend, CountsRecord, HasRead}
+use Rattle.xet_records.specs.ViewReading.{CountsStored}
+use Rattle.xet_records.specs.View.{as_wanted, without_verification}
+use Rattle.xet_records.specs.FileRecord.{file_records, file_record_bytes, has_verification, FitsRecord}
+use Rattle.xet_records.specs.XorbRecord.{xorb_records, xorb_record_bytes, IsStoredXorb}
+use Rattle.xet_shards.specs.declared.shard_format.footer.MDBShardFileFooter.{MDBShardFileFooter}
+use Rattle.xet_shards.specs.declared.shard_format.header.MDBShardFileHeader.{MDBShardFileHeader}
+use Rattle.xet_shards.specs.declared.shard_format.info.MDBShardInfo.{MDBShardInfo}
+use Rattle.xet_shards.specs.declared.shard_format.written.WrittenFiles.{WrittenFiles}
+use Rattle.xet_shards.specs.declared.shard_format.written.WrittenXorbs.{WrittenXorbs}
+use Rattle.xet_shards.specs.Section.{total_rows, section_bytes}
+use Rattle.xet_shards.specs.Tables.{chunk_table, table_bytes, chunk_table_bytes}
+use Rattle.xet_shards.specs.Layout.{Form, if_in, shard_header_bytes, header_value, shard_footer_bytes, footer_value, layout_of, info_of}
+use Rattle.xet_shards.specs.Written.{HasWritten, HasWrittenXorbs, end_of_layout}
+use Rattle.xet_shards.specs.InForm.{FitsSection}
+use Rattle.xet_shards.specs.Ends.{HasHeader, HasUnsupportedHeader, EndsInHeader, FitsFooter, FormatCase, PartFails}
+use Rattle.xet_shards.specs.SectionReading.{IsSection, TakesNoSection, RecordFails}
+use Rattle.xet_shards.specs.KeyedExport.{Exports, ExportFails, ExportCase, CannotExport, ExpiresTooLate, BadSection, PassesSection, WritingFails, HasExported, exported, xorbs_after, keyed_xorb, keyed_xorbs}
+use Rattle.xet_shards.specs.KeyedExport.ExportCase.{bad_header, bad_files, bad_xorbs, not_written}
+use Rattle.xet_shards.proofs.EndsUnique.{only_info, ends_of_layout}
+use Rattle.xet_shards.proofs.Files.{length-le-rows}
+use Rattle.xet_shards.proofs.KeyedHashes.{keyed_section}
+use Rattle.xet_shards.proofs.Layouts.{length-shard_header_bytes, length-shard_footer_bytes}
+use Rattle.xet_shards.proofs.Loading.{header_of}
+use Rattle.xet_shards.proofs.SectionReading.{section_passed, section_fails}
+use Rattle.xet_shards.proofs.Walks.{flat_map-push}
+use Rattle.xet_shards.proofs.Written.{whole_layout}
+use Rattle.xet_shards.proofs.XorbLayouts.{length-in_form, xorb_rows-chunks, length-chunk_table}
+
+-- the records of these files were written one after another, and added to their table; and the same of xorbs
+pub record FilesWritten (before after : Option (List ℕ)) (w : WrittenFiles) (files : List MDBFileInfo) : Type 0 where
+  pub added : HasWritten w files
+  pub bytes : Appends before after (flat_map file_record_bytes files)
+
+pub record XorbsWritten (before after : Option (List ℕ)) (w : WrittenXorbs) (xorbs : List MDBXorbInfo) : Type 0 where
+  pub added : HasWrittenXorbs w xorbs
+  pub bytes : Appends before after (flat_map xorb_record_bytes xorbs)
+
+-- a failure among others
+pub or_fails : {T E : Type 0} (r : Result T E) (P : T → Type 0) (Q Other : E → Type 0) → MatchResult r P Q → MatchResult r P (λ e. Other e ⊎ Q e)
+or_fails (Ok v) P Q Other holds = holds
+or_fails (Err e) P Q Other holds = inr holds
+
+-- what a device's error becomes is one
+pub device_error : (failure : Error) (e : CoreError) → FromDevice failure e → IsDeviceError e
+device_error failure OutOfMemory from = tt
+device_error failure (Io f) from = tt
+device_error failure _ from = absurd from
+
+pub refused_too : {T : Type 0} (r : Result T CoreError) (P : T → Type 0) (Fails : CoreError → Type 0) (info : MDBShardInfo) (now valid : ℕ)
+    → MatchResult r P (λ e. ((e ≡ InvalidArguments) × ExpiresTooLate now valid) ⊎ Fails e)
+    → MatchResult r P (λ e. ((e ≡ InvalidArguments) × CannotExport info now valid) ⊎ Fails e)
+refused_too (Ok v) P Fails info now valid holds = holds
+refused_too (Err e) P Fails info now valid (inl (is, late)) = inl (is, inr late)
+refused_too (Err e) P Fails info now valid (inr fails) = inr fails
+
+-- a file that is copied with its verification rows is as it is stored
+pub as_stored : (r : MDBFileInfo) → as_wanted true r ≡ r
+as_stored r = by_flag (has_verification r.metadata.file_flags)
+  where
+    by_flag : (b : Bool) → (if b && not true then without_verification r else r) ≡ r
+    by_flag true = refl
+    by_flag false = refl
+
+-- what is in of two lists, one after another
+if_in-append : {X : Type 0} (b : Bool) (xs ys : List X) → if_in b (xs ++ ys) ≡ if_in b xs ++ if_in b ys
+if_in-append true xs ys = refl
+if_in-append false xs ys = refl
+
+pub if_in-nil : {X : Type 0} (b : Bool) → if_in {X = X} b [] ≡ []
+if_in-nil true = refl
+if_in-nil false = refl
+
+if_in-size : {X : Type 0} (b : Bool) (xs : List X) → length (if_in b xs) ≤ length xs
+if_in-size true xs = omega arith
+if_in-size false xs = omega arith
+
+pub if_in-rows : (b : Bool) (files : List MDBFileInfo) → total_rows file_records (if_in b files) ≤ total_rows file_records files
+if_in-rows true files = omega arith
+if_in-rows false files = omega arith
+
+if_in-section : (b : Bool) (files : List MDBFileInfo) → FitsSection file_records files → FitsSection file_records (if_in b files)
+if_in-section true files fits = fits
+if_in-section false files fits = record { stored = All-nil file_records.IsStored; rows = omega arith }
+
+-- before the first record, and one record more
+pub no_files : (start : Option (List ℕ)) (w : WrittenFiles) (b : Bool) → HasWritten w [] → FilesWritten start start w (if_in b [])
+no_files start w b none = subst (FilesWritten start start w) (sym (if_in-nil b)) (record { added = none; bytes = Appends-nil start })
+
+pub more_files : (start now new : Option (List ℕ)) (v w : WrittenFiles) (b : Bool) (files : List MDBFileInfo) (r : MDBFileInfo) → FilesWritten start now v (if_in b files)
+    → ((before : List MDBFileInfo) → HasWritten v before → HasWritten w (before ++ if_in b (r ∷ []))) → Appends now new (flat_map file_record_bytes (if_in b (r ∷ [])))
+    → FilesWritten start new w (if_in b (files ++ r ∷ []))
+more_files start now new v w b files r before adds appends = subst (FilesWritten start new w) (sym (if_in-append b files (r ∷ []))) (record {
+  added = adds (if_in b files) before.added;
+  bytes = subst (Appends start new) (sym (flat_map-append file_record_bytes (if_in b files) (if_in b (r ∷ [])))) (Appends-trans start now new _ _ before.bytes appends);
+})
+
+pub no_xorbs : (start : Option (List ℕ)) (w : WrittenXorbs) → HasWrittenXorbs w [] → XorbsWritten start start w []
+no_xorbs start w none = record { added = none; bytes = Appends-nil start }
+
+pub more_xorbs : (start now new : Option (List ℕ)) (v w : WrittenXorbs) (key : DataHash) (xorbs : List MDBXorbInfo) (r x : MDBXorbInfo) → x ≡ keyed_xorb key r → XorbsWritten start now v (keyed_xorbs key xorbs)
+    → ((before : List MDBXorbInfo) → HasWrittenXorbs v before → HasWrittenXorbs w (before ++ x ∷ [])) → Appends now new (xorb_record_bytes x)
+    → XorbsWritten start new w (keyed_xorbs key (xorbs ++ r ∷ []))
+more_xorbs start now new v w key xorbs r x is before adds appends =
+    let front = keyed_xorbs key xorbs in
+    subst (XorbsWritten start new w) (ap (λ y. front ++ y ∷ []) is ∙ sym (map-append (keyed_xorb key) xorbs (r ∷ []))) (record {
+      added = adds front before.added;
+      bytes = subst (Appends start new) (sym (flat_map-push xorb_record_bytes front x)) (Appends-trans start now new _ _ before.bytes appends);
+    })
+
+-- a xorb that was read is as it is stored
+pub xorb_as_stored : (Took : List ℕ → Type 0) (left after : ℕ) (r : MDBXorbInfo) → CountsRecord xorb_records Took left after r → CountsStored xorb_records Took left after r
+xorb_as_stored Took left after r next = record {
+  is_stored = subst IsStoredXorb next.reads.handed next.reads.is_stored;
+  taken = subst (λ (x : MDBXorbInfo). Took (xorb_record_bytes x)) next.reads.handed next.reads.taken;
+  rows = next.rows;
+}
+
+module _ {H R : Type 0} (K : RecordKind H R) (laws : KindLaws K) where
+  pub none_exported : (Took : List ℕ → Type 0) (Made : List R → Type 0) → Took [] → Made [] → HasExported K Took Made 4294967295
+  none_exported Took Made nothing made = record { stored = []; are_stored = All-nil K.IsStored; taken = nothing; rows = refl; made = made }
+
+  pub one_exported : (First Next Both : List ℕ → Type 0) (Made After : List R → Type 0) (left after : ℕ) (r : R) → ((xs ys : List ℕ) → First xs → Next ys → Both (xs ++ ys))
+      → (before : HasExported K First Made left) → CountsStored K Next left after r → After (before.stored ++ r ∷ []) → HasExported K Both After after
+  one_exported First Next Both Made After left after r joins before next made = record {
+    stored = before.stored ++ r ∷ [];
+    are_stored = All-append K.IsStored before.stored (r ∷ []) before.are_stored (All-cons K.IsStored r [] next.is_stored (All-nil K.IsStored));
+    taken = subst Both (ap (λ bs. flat_map K.record_bytes before.stored ++ bs) (sym (append-nil (K.record_bytes r))) ∙ sym (flat_map-append K.record_bytes before.stored (r ∷ [])))
+        (joins (flat_map K.record_bytes before.stored) (K.record_bytes r) before.taken next.taken);
+    rows = omega (arith, sum_by_push K.row_count before.stored r, before.rows, next.rows, laws.rows r next.is_stored);
+    made = made;
+  }
+
+  -- its rows fit beside those of the records before it
+  pub next_fits : (First Next : List ℕ → Type 0) (Made : List R → Type 0) (left after : ℕ) (r : R) (before : HasExported K First Made left) → CountsStored K Next left after r
+      → total_rows K before.stored + K.row_count r ≤ 4294967295
+  next_fits First Next Made left after r before next = omega (arith, before.rows, next.rows, laws.rows r next.is_stored)
+
+  abbrev read_of : (Took : List ℕ → Type 0) (Made : List R → Type 0) (left : ℕ) (before : HasExported K Took Made left) → HasRead K Took (map K.handed_out before.stored) left
+  read_of Took Made left before = record { stored = before.stored; are_stored = before.are_stored; taken = before.taken; rows = before.rows; handed = refl }
+
+  module _ (start now : Source) (Made : List R → Type 0) (left : ℕ) (before : HasExported K (Takes start now) Made left) where
+    pub all_passed : (new : Source) → ReadsBookend K (Takes now new) → PassesSection K start new before.stored
+    all_passed new last =
+        let passed = section_passed K laws start now (map K.handed_out before.stored) left (read_of (Takes start now) Made left before) new last in
+        record { section = passed.0; after = passed.1 }
+
+    pub not_passed : (new : Source) (e : CoreError) → RecordFails K left now new e → TakesNoSection K start new e
+    not_passed new e fails = section_fails K laws start now (map K.handed_out before.stored) left (read_of (Takes start now) Made left before) new e fails
+
+    -- the writer failed after a record, or a bookend, that was read
+    pub writing_failed : (new : Source) (taken : List ℕ) (e : CoreError) → Takes now new taken → IsDeviceError e → WritingFails start new e
+    writing_failed new taken e takes is =
+        let all = Takes-trans start now new (flat_map K.record_bytes before.stored) taken before.taken takes in
+        record {
+          bytes = ap (λ (s : Source). s.bytes) all.after;
+          seeks = ap (λ (s : Source). s.seeks) all.after;
+          failures = ap (λ (s : Source). s.failures) all.after;
+          cause = is;
+        }
+
+-- what is left after some bytes
+left_after : (s : Source) (n : ℕ) → bytes_left (advanced s n) ≡ drop n (bytes_left s)
+left_after s n = sym (drop-drop n s.at s.bytes)
+
+-- the header was not read
+pub header_fails : (old new : Source) (e : CoreError) → PartFails HasUnsupportedHeader EndsInHeader 48 old new e → ExportFails old new e
+header_fails old new e fails = record {
+  bytes = fails.bytes;
+  seeks = fails.seeks;
+  cause = failed_after (FormatCase HasUnsupportedHeader EndsInHeader (bytes_left old)) (ExportCase (bytes_left old)) old old new e refl (λ c. bad_header c) fails.cause;
+}
+
+-- the writer failed after bytes that were read
+pub output_fails : (old new : Source) (n : ℕ) (e : CoreError) → new ≡ advanced old n → IsDeviceError e → ExportFails old new e
+output_fails old new n e at is = record {
+  bytes = ap (λ (s : Source). s.bytes) at;
+  seeks = ap (λ (s : Source). s.seeks) at;
+  cause = inr (ap (λ (s : Source). s.failures) at, not_written is);
+}
+
+-- a section was not read or not written
+section_not_exported : {H R : Type 0} (K : RecordKind H R) (old mid new : Source) (n : ℕ) (e : CoreError) → mid ≡ advanced old n
+    → (BadSection K (bytes_left mid) e → ExportCase (bytes_left old) e) → TakesNoSection K mid new e ⊎ WritingFails mid new e → ExportFails old new e
+section_not_exported K old mid new n e at bad (inl fails) = record {
+  bytes = fails.bytes ∙ ap (λ (s : Source). s.bytes) at;
+  seeks = fails.seeks ∙ ap (λ (s : Source). s.seeks) at;
+  cause = failed_after (BadSection K (bytes_left mid)) (ExportCase (bytes_left old)) old mid new e (ap (λ (s : Source). s.failures) at) bad fails.cause;
+}
+section_not_exported K old mid new n e at bad (inr fails) = record {
+  bytes = fails.bytes ∙ ap (λ (s : Source). s.bytes) at;
+  seeks = fails.seeks ∙ ap (λ (s : Source). s.seeks) at;
+  cause = inr (fails.failures ∙ ap (λ (s : Source). s.failures) at, not_written fails.cause);
+}
+
+-- the layout ends after the footer
+footer_last : (files : List MDBFileInfo) (xorbs : List MDBXorbInfo) (form : Form) → length (layout_of files xorbs form) ≡ (footer_value files xorbs form).footer_offset + 200
+unfolding layout_of
+footer_last files xorbs form =
+    let header = shard_header_bytes header_value in
+    let footer = footer_value files xorbs form in
+    let sections = (header ++ section_bytes file_records files) ++ section_bytes xorb_records xorbs in
+    let file_table = if_in form.file_table (table_bytes file_records files) in
+    let xorb_table = if_in form.xorb_table (table_bytes xorb_records xorbs) in
+    let chunks = if_in form.chunk_table (chunk_table_bytes xorbs) in
+    omega (
+      arith,
+      length-append (((sections ++ file_table) ++ xorb_table) ++ chunks) (shard_footer_bytes footer),
+      length-append ((sections ++ file_table) ++ xorb_table) chunks,
+      length-append (sections ++ file_table) xorb_table,
+      length-append sections file_table,
+      length-append (header ++ section_bytes file_records files) (section_bytes xorb_records xorbs),
+      length-append header (section_bytes file_records files),
+      length-shard_header_bytes header_value,
+      length-shard_footer_bytes footer refl,
+    )
+
+layout_small : (files : List MDBFileInfo) (xorbs : List MDBXorbInfo) (form : Form) → FitsSection file_records files → FitsSection xorb_records xorbs
+    → length (layout_of files xorbs form) ≤ 2 ^ 50
+layout_small files xorbs form files_fit xorbs_fit = omega (
+  arith,
+  length-in_form files xorbs form (λ k r below. (files_fit.stored k r below).widths),
+  if_in-size form.file_table files,
+  if_in-size form.xorb_table xorbs,
+  if_in-size form.chunk_table (chunk_table xorbs),
+  length-le-rows files,
+  xorb_rows-chunks xorbs,
+  length-chunk_table xorbs,
+  files_fit.rows,
+  xorbs_fit.rows,
+)
+
+-- after the header
+module _ (old s1 : Source) (h : MDBShardFileHeader) (taken : Takes old s1 (shard_header_bytes h)) (two : h.version ≡ 2) where
+  header_there : HasHeader (bytes_left old)
+  header_there = header_of (bytes_left old) (bytes_left s1) h (Takes-consumes old s1 (shard_header_bytes h) taken) two
+
+  pub at_files : s1 ≡ advanced old 48
+  at_files = taken.after ∙ ap (advanced old) (length-shard_header_bytes h)
+
+  files_left : bytes_left s1 ≡ drop 48 (bytes_left old)
+  files_left = ap bytes_left at_files ∙ left_after old 48
+
+  pub files_not_exported : (new : Source) (e : CoreError) → TakesNoSection file_records s1 new e ⊎ WritingFails s1 new e → ExportFails old new e
+  files_not_exported new e why =
+      section_not_exported file_records old s1 new 48 e at_files (λ bad. bad_files header_there (subst (λ bs. BadSection file_records bs e) files_left bad)) why
+
+  -- after the files
+  module _ (s2 : Source) (files : List MDBFileInfo) (passed : PassesSection file_records s1 s2 files) where
+    file_section : IsSection file_records (drop 48 (bytes_left old)) files
+    file_section = subst (λ bs. IsSection file_records bs files) files_left passed.section
+
+    pub at_xorbs : s2 ≡ advanced old (xorbs_after files)
+    at_xorbs =
+        let n = 48 * (total_rows file_records files + 1) in
+        let sum : 48 + 48 * (total_rows file_records files + 1) ≡ xorbs_after files = omega arith in
+        passed.after ∙ ap (λ s. advanced s n) at_files ∙ advanced-advanced old 48 n ∙ ap (advanced old) sum
+
+    xorbs_left : bytes_left s2 ≡ drop (xorbs_after files) (bytes_left old)
+    xorbs_left = ap bytes_left at_xorbs ∙ left_after old (xorbs_after files)
+
+    pub xorbs_not_exported : (new : Source) (e : CoreError) → TakesNoSection xorb_records s2 new e ⊎ WritingFails s2 new e → ExportFails old new e
+    xorbs_not_exported new e why =
+        section_not_exported xorb_records old s2 new (xorbs_after files) e at_xorbs
+        (λ bad. bad_xorbs header_there files file_section (subst (λ bs. BadSection xorb_records bs e) xorbs_left bad)) why
+
+    -- after the xorbs
+    module _ (s3 : Source) (xorbs : List MDBXorbInfo) (rest : PassesSection xorb_records s2 s3 xorbs) (form : Form) where
+      abbrev pub files_out : List MDBFileInfo
+      files_out = if_in form.file_table files
+
+      abbrev pub xorbs_out : List MDBXorbInfo
+      xorbs_out = keyed_xorbs form.key xorbs
+
+      pub at_end : s3 ≡ advanced old (xorbs_after files + 48 * (total_rows xorb_records xorbs + 1))
+      at_end =
+          let n = 48 * (total_rows xorb_records xorbs + 1) in
+          rest.after ∙ ap (λ s. advanced s n) at_xorbs ∙ advanced-advanced old (xorbs_after files) n
+
+      files_fit : FitsSection file_records files_out
+      files_fit = if_in-section form.file_table files (record { stored = file_section.records.are_stored; rows = file_section.records.rows })
+
+      xorbs_fit : FitsSection xorb_records xorbs_out
+      xorbs_fit = keyed_section form.key xorbs (record { stored = rest.section.records.are_stored; rows = rest.section.records.rows })
+
+      pub widths_out : All FitsRecord files_out
+      widths_out = λ k r below. (files_fit.stored k r below).widths
+
+      pub export_small : (footer : MDBShardFileFooter) → footer ≡ footer_value files_out xorbs_out form → footer.footer_offset + 200 ≤ 2 ^ 50
+      export_small footer is =
+          omega (arith, footer_last files_out xorbs_out form, layout_small files_out xorbs_out form files_fit xorbs_fit, ap (λ (f : MDBShardFileFooter). f.footer_offset) is)
+
+      pub all_exported : (footer : MDBShardFileFooter) (start after_header after_files after_xorbs end : Option (List ℕ)) (n : ℕ)
+          → footer ≡ footer_value files_out xorbs_out form → FitsFooter footer → n ≡ footer.footer_offset + 200
+          → Appends start after_header (shard_header_bytes header_value) → Appends after_header after_files (section_bytes file_records files_out)
+          → Appends after_files after_xorbs (section_bytes xorb_records xorbs_out) → Appends after_xorbs end (end_of_layout files_out xorbs_out form)
+          → Exports form old s3 start end n
+      all_exported footer start after_header after_files after_xorbs end n is fits count header_out files_bytes xorbs_bytes end_bytes = record {
+        files = files;
+        xorbs = xorbs;
+        header = header_there;
+        file_section = file_section;
+        xorb_section = subst (λ bs. IsSection xorb_records bs xorbs) xorbs_left rest.section;
+        read = at_end;
+        written = whole_layout start after_header after_files after_xorbs end files_out xorbs_out form header_out files_bytes xorbs_bytes end_bytes;
+        count = count ∙ ap (λ (f : MDBShardFileFooter). f.footer_offset + 200) is ∙ sym (footer_last files_out xorbs_out form);
+        in_form = λ info ends. record {
+          files_fit = files_fit;
+          xorbs_fit = xorbs_fit;
+          bytes_are = refl;
+          footer_is = ap (λ (i : MDBShardInfo). i.metadata) (only_info (exported files xorbs form) info (info_of files_out xorbs_out form) ends
+              (ends_of_layout files_out xorbs_out form (subst FitsFooter is fits)));
+        };
+      }
