@@ -5,6 +5,7 @@
 mod buffers;
 mod codecs;
 mod device;
+mod exports;
 mod fields;
 mod lookup;
 mod memory;

@@ -208,6 +208,17 @@ pub fn parse_key(word: &str) -> Result<HMACKey, Stop> {
     Ok(parse_hash(word)?)
 }
 
+/// Whether a part is named by its letter, or left out by `-`.
+pub fn parse_part(sign: u8, letter: u8) -> Result<bool, Stop> {
+    if sign == letter {
+        return Ok(true);
+    }
+    if sign == b'-' {
+        return Ok(false);
+    }
+    Err(Stop::Unreadable)
+}
+
 /// The words before and after the word `with`. `Unreadable` if the word is missing.
 pub fn split_at_with<'w, 'a>(words: &'w [&'a str]) -> Result<(&'w [&'a str], &'w [&'a str]), Stop> {
     for (i, word) in words.iter().enumerate() {

@@ -1,6 +1,7 @@
 //! Commands that read a buffer through the device.
 
 use crate::device::{Device, Fault, Operation, Plan};
+use crate::exports::export;
 use crate::fields::print_info;
 use crate::lookup::{
     print_chunk_index, print_file_index, print_xorb_index, query_at, query_chunks,
@@ -28,6 +29,27 @@ pub struct Report {
     pub has_failed: bool,
 }
 
+/// The result of a command that writes, and the bytes that it wrote, also if it failed.
+#[derive(Drop)]
+pub struct Written {
+    pub report: Report,
+    pub bytes: Vec<u8>,
+}
+
+/// Runs a command that writes the bytes of a buffer, through devices. Stores nothing.
+pub fn run_writing(
+    workspace: &Workspace,
+    alloc: Global,
+    plan: Plan,
+    words: &[&str],
+    out: &mut Vec<u8>,
+) -> Result<Written, Stop> {
+    match words {
+        ["export", ..] | ["export_streaming", ..] => export(workspace, alloc, plan, words, out),
+        _ => combine(workspace, alloc, plan, words, out),
+    }
+}
+
 /// Runs a command on the buffer that its second word names, or a union or a difference on two,
 /// through devices. `Unreadable` if there is none.
 pub fn run_reading(
@@ -40,8 +62,8 @@ pub fn run_reading(
     let [command, name, rest @ ..] = words else {
         return Err(Stop::Unreadable);
     };
-    if let "set_union" | "set_difference" = *command {
-        return Ok(combine(workspace, alloc, plan, words, out)?.report);
+    if let "set_union" | "set_difference" | "export" | "export_streaming" = *command {
+        return Ok(run_writing(workspace, alloc, plan, words, out)?.report);
     }
     let bytes = workspace.buffer(name)?;
     let mut source = Device::new(bytes, plan);

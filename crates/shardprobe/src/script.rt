@@ -4,10 +4,10 @@ use crate::buffers::{ask_buffers, run_on_buffers};
 use crate::codecs::run_codecs;
 use crate::device::{Fault, Operation, Plan};
 use crate::memory::{ask_shards, run_on_shards};
-use crate::reading::{Report, run_each_failure, run_reading};
+use crate::reading::{Report, run_each_failure, run_reading, run_writing};
 use crate::search::make_table;
 use crate::sections::ask_sections;
-use crate::sets::{combine, unite_tree};
+use crate::sets::unite_tree;
 use crate::stop::Stop;
 use crate::values::{run_on_records, run_on_values};
 use crate::views::ask_views;
@@ -96,7 +96,10 @@ impl Probe {
                 unite_tree(&mut self.workspace, alloc, name, words)
             }
             ["set_union", _, _, name, ..] | ["set_difference", _, _, name, ..] => {
-                self.combine(alloc, name, words, out)
+                self.write(alloc, name, words, out)
+            }
+            ["export", _, name, ..] | ["export_streaming", _, name, ..] => {
+                self.write(alloc, name, words, out)
             }
             ["each_failure", command @ ..] => {
                 run_each_failure(&self.workspace, alloc, self.plan, false, command, out)
@@ -114,17 +117,17 @@ impl Probe {
         self.show(&report, out)
     }
 
-    // Makes a union or a difference, and stores what it wrote, also if it failed.
-    fn combine(
+    // Runs a command that writes, and stores what it wrote, also if it failed.
+    fn write(
         &mut self,
         alloc: Global,
         name: &str,
         words: &[&str],
         out: &mut Vec<u8>,
     ) -> Result<(), Stop> {
-        let combination = combine(&self.workspace, alloc, self.plan, words, out)?;
-        self.show(&combination.report, out)?;
-        self.workspace.put_buffer(alloc, name, combination.bytes)
+        let written = run_writing(&self.workspace, alloc, self.plan, words, out)?;
+        self.show(&written.report, out)?;
+        self.workspace.put_buffer(alloc, name, written.bytes)
     }
 
     // Prints why a command failed, and its costs if they are switched on.

@@ -3,7 +3,7 @@
 use crate::device::{Device, Plan};
 use crate::fields::print_info;
 use crate::parse::split_at_with;
-use crate::reading::{Report, info_of};
+use crate::reading::{Report, Written, info_of};
 use crate::stop::Stop;
 use crate::workspace::Workspace;
 use script_lines::words::parse_u64;
@@ -14,13 +14,6 @@ use xet_core_structures::set_operations::{
 };
 use xet_core_structures::shard_format::MDBShardInfo;
 
-/// The result of a union or a difference, and the bytes that it wrote, also if it failed.
-#[derive(Drop)]
-pub struct Combination {
-    pub report: Report,
-    pub bytes: Vec<u8>,
-}
-
 /// Runs `set_union B1 B2 B [FIELD ..]` or `set_difference ..` on the buffers B1 and B2, each through a
 /// device, and prints the named fields of the header and the footer that the call returns. Stores
 /// nothing.
@@ -30,7 +23,7 @@ pub fn combine(
     plan: Plan,
     words: &[&str],
     out: &mut Vec<u8>,
-) -> Result<Combination, Stop> {
+) -> Result<Written, Stop> {
     let [command, first, second, _name, fields @ ..] = words else {
         return Err(Stop::Unreadable);
     };
@@ -46,7 +39,7 @@ pub fn combine(
         }
         _ => return Err(Stop::Unreadable),
     };
-    Ok(Combination {
+    Ok(Written {
         report: Report {
             answer: print_returned(answer, fields, out),
             seeks_made: r1.seeks_made().saturating_add(r2.seeks_made()),
