@@ -11,7 +11,8 @@ ghost use Rattle.xet_shards.specs.ChunkQuery.{run_length};
 ghost use Rattle.xet_shards.specs.Joins.{IsJoinOf};
 ghost use Rattle.xet_shards.specs.KeyedExport.{keyed_chunk, exported};
 ghost use Rattle.xet_shards.specs.KeyedShards.{keyed_shard};
-ghost use Rattle.xet_shards.specs.Layout.{Form, layout_of};
+ghost use Rattle.xet_shards.specs.declared.shard_format.form.Form.{Form};
+ghost use Rattle.xet_shards.specs.Layout.{layout_of};
 ghost use Rattle.xet_shards.specs.SetOperations.{IsUnion, ShardsAgree};
 ghost use Rattle.xet_shards.specs.Shard.{Shard, IsShard};
 

@@ -1,6 +1,6 @@
 -- The turns of the loops that read and write the sections of an export, and its parts together.
 use Rattle.std.proofs.Common.{◌≡◌, Bool, true, false, inl, inr, Ok, Err, ℕ, ◌+◌, ◌*◌, ◌^◌, ◌≤◌, List, [], ◌∷◌, ◌++◌, length, map, flat_map, drop, Option, refl, sym, ap, ◌∙◌, subst, arith, append-nil}
-use Rattle.std.specs.Prelude.{◌⊎◌, All, MatchResult, not, ◌&&◌, if◌then◌else◌}
+use Rattle.std.specs.Prelude.{◌⊎◌, All, MatchResult}
 use Rattle.std.specs.declared.io.Error.{Error}
 use Rattle.std.specs.declared.result.Result.{Result}
 use Rattle.std.specs.Io.KnownBytes.{Appends}
@@ -21,8 +21,7 @@ use Rattle.xet_records.specs.declared.xorb_structs.MDBXorbInfo.{MDBXorbInfo}
 use Rattle.xet_records.specs.RecordKind.{RecordKind, KindLaws}
 use Rattle.xet_records.specs.Reading.{ReadsBookend, CountsRecord, HasRead}
 use Rattle.xet_records.specs.ViewReading.{CountsStored}
-use Rattle.xet_records.specs.View.{as_wanted, without_verification}
-use Rattle.xet_records.specs.FileRecord.{file_records, file_record_bytes, has_verification, FitsRecord}
+use Rattle.xet_records.specs.FileRecord.{file_records, file_record_bytes, FitsRecord}
 use Rattle.xet_records.specs.XorbRecord.{xorb_records, xorb_record_bytes, IsStoredXorb}
 use Rattle.xet_shards.specs.declared.shard_format.footer.MDBShardFileFooter.{MDBShardFileFooter}
 use Rattle.xet_shards.specs.declared.shard_format.header.MDBShardFileHeader.{MDBShardFileHeader}
@@ -74,14 +73,6 @@ pub refused_too : {T : Type 0} (r : Result T CoreError) (P : T → Type 0) (Fail
 refused_too (Ok v) P Fails info now valid holds = holds
 refused_too (Err e) P Fails info now valid (inl (is, late)) = inl (is, inr late)
 refused_too (Err e) P Fails info now valid (inr fails) = inr fails
-
--- a file that is copied with its verification rows is as it is stored
-pub as_stored : (r : MDBFileInfo) → as_wanted true r ≡ r
-as_stored r = by_flag (has_verification r.metadata.file_flags)
-  where
-    by_flag : (b : Bool) → (if b && not true then without_verification r else r) ≡ r
-    by_flag true = refl
-    by_flag false = refl
 
 -- what is in of two lists, one after another
 if_in-append : {X : Type 0} (b : Bool) (xs ys : List X) → if_in b (xs ++ ys) ≡ if_in b xs ++ if_in b ys
