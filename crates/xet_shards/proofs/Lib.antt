@@ -21,6 +21,7 @@ pub mod Layouts
 pub mod Loading
 pub mod Lookups
 pub mod Maps
+pub mod MinimalLaws
 pub mod MinimalReading
 pub mod MinimalShard
 pub mod MinimalWriting
