@@ -36,20 +36,6 @@ pub fn file(alloc: Global) -> Result<MDBFileInfo>
     })
 }
 
-/// A file with one segment of 5 bytes: 96 bytes.
-pub fn file_of(alloc: Global, file_number: u64, xorb_number: u64) -> Result<MDBFileInfo>
-    ensures { IfOk result FitsItsHeader }
-{
-    let mut segments = Rows::new(alloc);
-    segments.push(FileDataSequenceEntry::new(small(xorb_number), 5, 0, 5))?;
-    Ok(MDBFileInfo {
-        metadata: FileDataSequenceHeader::new(small(file_number), 1, false, false),
-        segments,
-        verification: Rows::new(alloc),
-        metadata_ext: None,
-    })
-}
-
 /// File 100 with verification 365 and SHA-256 9364 besides: 192 bytes.
 pub fn full_file(alloc: Global) -> Result<MDBFileInfo>
     ensures { IfOk result FitsItsHeader }

@@ -14,10 +14,6 @@ mod numbers;
 #[cfg(test)]
 mod records;
 #[cfg(test)]
-mod sections;
-#[cfg(test)]
 mod shards;
 #[cfg(test)]
 mod stream;
-#[cfg(test)]
-mod unions;

@@ -46,8 +46,8 @@ pub fn run_codecs(
     Ok(true)
 }
 
-// The bytes from an offset on.
-fn bytes_from(bytes: &[u8], from: u64) -> Result<&[u8], Stop> {
+/// The bytes from an offset on. `Unreadable` if it is past their end.
+pub fn bytes_from(bytes: &[u8], from: u64) -> Result<&[u8], Stop> {
     if from > bytes.len() as u64 {
         return Err(Stop::Unreadable);
     }

@@ -14,6 +14,35 @@ pub struct Plan {
     pub fault: Option<Fault>,
     /// Whether each read returns one byte.
     pub is_slow: bool,
+    /// Whether the call of the second device fails, where a command has two.
+    pub is_second: bool,
+}
+
+impl Plan {
+    /// A plan of devices that work.
+    pub fn new() -> Plan {
+        Plan {
+            fault: None,
+            is_slow: false,
+            is_second: false,
+        }
+    }
+
+    /// The plan of the first of two devices.
+    pub fn of_first(self) -> Plan {
+        self.unless(self.is_second)
+    }
+
+    /// The plan of the second of two devices.
+    pub fn of_second(self) -> Plan {
+        self.unless(!self.is_second)
+    }
+
+    // The plan without its failure if it is another device's.
+    fn unless(self, is_other: bool) -> Plan {
+        let fault = if is_other { None } else { self.fault };
+        Plan { fault, ..self }
+    }
 }
 
 /// One call of a device that fails.

@@ -12,9 +12,12 @@ mod parse;
 mod reading;
 mod script;
 mod search;
+mod sections;
+mod sets;
 mod show;
 mod stop;
 mod values;
+mod views;
 mod workspace;
 
 use std::io;

@@ -6,6 +6,7 @@ use crate::lookup::{
     print_chunk_index, print_file_index, print_xorb_index, query_at, query_chunks,
 };
 use crate::search::search;
+use crate::sets::combine;
 use crate::show::{
     Short, print_file, print_found, print_hash, print_if_empty, print_xorb, print_xorb_header,
 };
@@ -27,8 +28,8 @@ pub struct Report {
     pub has_failed: bool,
 }
 
-/// Runs a command on the buffer that its second word names, through a device. `Unreadable` if there
-/// is none.
+/// Runs a command on the buffer that its second word names, or a union or a difference on two,
+/// through devices. `Unreadable` if there is none.
 pub fn run_reading(
     workspace: &Workspace,
     alloc: Global,
@@ -39,6 +40,9 @@ pub fn run_reading(
     let [command, name, rest @ ..] = words else {
         return Err(Stop::Unreadable);
     };
+    if let "set_union" | "set_difference" = *command {
+        return Ok(combine(workspace, alloc, plan, words, out)?.report);
+    }
     let bytes = workspace.buffer(name)?;
     let mut source = Device::new(bytes, plan);
     let answer = call(alloc, command, bytes, &mut source, rest, out);
@@ -75,8 +79,8 @@ fn call(
     }
 }
 
-// Header and footer of a shard's bytes.
-fn info_of(alloc: Global, bytes: &[u8]) -> Result<MDBShardInfo, Stop> {
+/// Header and footer of a shard's bytes, read by a source that does not fail.
+pub fn info_of(alloc: Global, bytes: &[u8]) -> Result<MDBShardInfo, Stop> {
     Ok(MDBShardInfo::load_from_reader(alloc, &mut MemorySource::new(bytes))?)
 }
 

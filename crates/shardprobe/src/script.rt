@@ -4,10 +4,13 @@ use crate::buffers::{ask_buffers, run_on_buffers};
 use crate::codecs::run_codecs;
 use crate::device::{Fault, Operation, Plan};
 use crate::memory::{ask_shards, run_on_shards};
-use crate::reading::{run_each_failure, run_reading};
+use crate::reading::{Report, run_each_failure, run_reading};
 use crate::search::make_table;
+use crate::sections::ask_sections;
+use crate::sets::{combine, unite_tree};
 use crate::stop::Stop;
 use crate::values::{run_on_records, run_on_values};
+use crate::views::ask_views;
 use crate::workspace::Workspace;
 use script_lines::lines::{is_skipped, split_words, without_end};
 use script_lines::words::parse_u64;
@@ -48,10 +51,7 @@ impl Probe {
     fn new(alloc: Global) -> Probe {
         Probe {
             workspace: Workspace::new(alloc),
-            plan: Plan {
-                fault: None,
-                is_slow: false,
-            },
+            plan: Plan::new(),
             shows_costs: false,
         }
     }
@@ -81,6 +81,8 @@ impl Probe {
             || run_on_buffers(&mut self.workspace, alloc, words)?
             || ask_buffers(&self.workspace, alloc, words, out)?
             || run_codecs(&mut self.workspace, alloc, words, out)?
+            || ask_views(&self.workspace, alloc, words, out)?
+            || ask_sections(&self.workspace, alloc, words, out)?
             || run_on_values(alloc, words, out)?
             || run_on_records(alloc, words, out)?;
         if is_run {
@@ -89,6 +91,12 @@ impl Probe {
         match words {
             ["table", name, width, rows @ ..] => {
                 make_table(&mut self.workspace, alloc, name, width, rows)
+            }
+            ["set_tree", name, words @ ..] => {
+                unite_tree(&mut self.workspace, alloc, name, words)
+            }
+            ["set_union", _, _, name, ..] | ["set_difference", _, _, name, ..] => {
+                self.combine(alloc, name, words, out)
             }
             ["each_failure", command @ ..] => {
                 run_each_failure(&self.workspace, alloc, self.plan, false, command, out)
@@ -100,9 +108,27 @@ impl Probe {
         }
     }
 
-    // Runs a command through the device, and prints its costs if they are switched on.
+    // Runs a command through the device.
     fn read(&self, alloc: Global, words: &[&str], out: &mut Vec<u8>) -> Result<(), Stop> {
         let report = run_reading(&self.workspace, alloc, self.plan, words, out)?;
+        self.show(&report, out)
+    }
+
+    // Makes a union or a difference, and stores what it wrote, also if it failed.
+    fn combine(
+        &mut self,
+        alloc: Global,
+        name: &str,
+        words: &[&str],
+        out: &mut Vec<u8>,
+    ) -> Result<(), Stop> {
+        let combination = combine(&self.workspace, alloc, self.plan, words, out)?;
+        self.show(&combination.report, out)?;
+        self.workspace.put_buffer(alloc, name, combination.bytes)
+    }
+
+    // Prints why a command failed, and its costs if they are switched on.
+    fn show(&self, report: &Report, out: &mut Vec<u8>) -> Result<(), Stop> {
         match &report.answer {
             Ok(()) => {}
             Err(Stop::Unreadable) => return Err(Stop::Unreadable),
@@ -126,6 +152,8 @@ impl Probe {
             ["fail", operation, turn, kind] => {
                 self.plan.fault = Some(parse_fault(operation, turn, kind)?);
             }
+            ["fail_in", "first"] => self.plan.is_second = false,
+            ["fail_in", "second"] => self.plan.is_second = true,
             ["slow", "on"] => self.plan.is_slow = true,
             ["slow", "off"] => self.plan.is_slow = false,
             ["costs", "on"] => self.shows_costs = true,

@@ -110,7 +110,7 @@ module _ {V : Type 0} (t : Table) (key : ℕ) (Gives : List ℕ → V → Type 0
     | inr full ↦ rw ((kept.full full).0, (kept.full full).1) (around_skip found)
   ]
 
--- the key that is read at a row's place
+-- the key that is read at a row's offset
 module _ (t : Table) (i : ℕ) (now mid : Source) (same : now.bytes ≡ t.bytes) (at : now.at ≡ row_offset t i) (reads : ReadsOn now mid 8) where
   pub key_is : (found : ℕ) → found ≡ spelled_u64 (next_bytes now 8) → found ≡ key_at t i
   unfolding key_at
@@ -155,9 +155,9 @@ collected_start t key Gives from to old results had at room = record {
 }
 
 -- one more row has the key: the numbers of kept results
-counts_keep : {V : Type 0} (t : Table) (key from i had : ℕ) (value : V) (results new : List V) (places count count_new : ℕ) → Counts t key from i places had count
-    → HasKey t i → key_at t i ≡ key → length results ≡ places → Kept results new count value count_new → Counts t key from (i + 1) places had count_new
-counts_keep t key from i had value results new places count count_new counted there same_key len kept = elim (cases_lt count (length results)) [
+counts_keep : {V : Type 0} (t : Table) (key from i had : ℕ) (value : V) (results new : List V) (room count count_new : ℕ) → Counts t key from i room had count
+    → HasKey t i → key_at t i ≡ key → length results ≡ room → Kept results new count value count_new → Counts t key from (i + 1) room had count_new
+counts_keep t key from i had value results new room count count_new counted there same_key len kept = elim (cases_lt count (length results)) [
   | inl room ↦ omega (arith, (kept.room room).1, room, len, counted, hits_below-hit t key i there same_key)
   | inr full ↦ omega (arith, (kept.full full).1, full, len, counted, hits_below-hit t key i there same_key)
 ]
@@ -269,6 +269,6 @@ runs_first t key from to old new is_row lt bytes seeks read = record {
 }
 
 -- past a greater key nothing more counts
-pub counts_rest : (t : Table) (key from i to places had count : ℕ) → Counts t key from i places had count → hits_below t key to ≡ hits_below t key i
-    → Counts t key from to places had count
-counts_rest t key from i to places had count counted none = omega (arith, counted, none)
+pub counts_rest : (t : Table) (key from i to room had count : ℕ) → Counts t key from i room had count → hits_below t key to ≡ hits_below t key i
+    → Counts t key from to room had count
+counts_rest t key from i to room had count counted none = omega (arith, counted, none)

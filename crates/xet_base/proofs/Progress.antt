@@ -2,9 +2,9 @@
 use Rattle.std.specs.Prelude.{◌≡◌, ◌⊎◌, ℕ, ◌+◌, ◌-◌, ◌*◌, ◌^◌, ◌<◌, ◌≤◌, List, length, min, All}
 use Rattle.xet_base.specs.declared.interpolation_search.window.Window.{Window}
 use Rattle.xet_base.specs.Source.{Source}
-use Rattle.xet_base.specs.Table.{Table, row_offset, key_at, HasKey, IsSorted, hits_below, hits, Finds, Serves, even_step, IsEven}
+use Rattle.xet_base.specs.Table.{Table, row_offset, key_at, HasKey, IsSorted, hits_below, hits, Finds, Serves, IsEven}
 use Rattle.xet_base.specs.Search.{IsRow, FindsFrom, Counts}
-use Rattle.xet_base.specs.Probes.{guess_of, AroundKey, IsWhole}
+use Rattle.xet_base.specs.Probes.{guess_of, AroundKey, OnEven}
 
 -- the results are the values of rows from `from` to before `i`, and of rows from `to` on
 pub record FindsAround {V : Type 0} (t : Table) (key : ℕ) (Gives : List ℕ → V → Type 0) (from i to : ℕ) (old new : List V) (count : ℕ) : Type 0 where
@@ -69,24 +69,15 @@ abbrev pub AllSmaller : Table → ℕ → ℕ → Type 0
 AllSmaller t key low = (i : ℕ) → i < low → HasKey t i → key_at t i < key
 
 -- what holds of the window on a sorted table
-pub record OnSorted (t : Table) (key : ℕ) (w : Window) (made : ℕ) (old now : Source) (places count : ℕ) : Type 0 where
+pub record OnSorted (t : Table) (key : ℕ) (w : Window) (made : ℕ) (old now : Source) (room count : ℕ) : Type 0 where
   pub smaller : AllSmaller t key w.low
   pub from_low : (i : ℕ) → w.low ≤ i → i < t.rows → HasKey t i → w.low_key ≤ key_at t i
   pub to_high : (w.high_key ≡ 2 ^ 64 - 1) ⊎ ((i : ℕ) → i + 1 < w.high → HasKey t i → key_at t i ≤ w.high_key)
-  pub counted : count + hits_below t key (w.high - 1) ≡ min (hits t key) (places + hits_below t key (w.high - 1))
+  pub counted : count + hits_below t key (w.high - 1) ≡ min (hits t key) (room + hits_below t key (w.high - 1))
   pub later : ℕ
   pub left : later + hits_below t key (w.high - 1) ≡ hits t key
   pub course : Course (IsRow t key (w.high - 1)) (t.rows + 1) later w.low w.low_key w.high w.high_key key w.probe made
   pub read : now.read ≤ old.read + (made + later) * (8 + t.width)
-
--- on an even table the first guess is at most one row off: nothing was probed; the key was found, or a row a little
--- below it; or few rows are left
-abbrev pub OnEven : Table → ℕ → Window → ℕ → Type 0
-OnEven t key w made =
-    ((made ≡ 0) × IsWhole t.rows key w)
-    ⊎ (((made ≡ 1) × (key ≡ w.high * even_step t.rows) × (w.probe + 4 ≡ w.high))
-    ⊎ (((made ≡ 1) × (w.probe ≡ w.low + 256) × (key < (w.low + 2) * even_step t.rows))
-    ⊎ ((made ≤ 2) × (w.high ≤ w.low + 256))))
 
 -- the rows of the window are left; it counts rows from 1, so these are rows `low` to `high - 2` of the table
 pub record Searches {V : Type 0} (t : Table) (key : ℕ) (Gives : List ℕ → V → Type 0) (w : Window) (old now : Source)

@@ -52,6 +52,6 @@ Takes-consumes a b xs taken =
     ∙ (λ i. sym taken.there i ++ drop-drop (length xs) a.at a.bytes i)
     ∙ ap (λ (s : Source). xs ++ bytes_left s) (sym taken.after)
 
--- bytes that end within the next n are fewer than n from the source's place on
+-- bytes that end within the next n are fewer than n from the source's offset on
 pub lacks_left : (s : Source) (n : ℕ) → 0 < n → length s.bytes < s.at + n → length (bytes_left s) < n
 lacks_left s n some ends = omega (arith, length-drop s.at s.bytes)

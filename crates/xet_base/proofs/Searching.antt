@@ -4,13 +4,12 @@ use Rattle.xet_base.specs.declared.interpolation_search.window.Window.{Window}
 use Rattle.xet_base.specs.Source.{Source}
 use Rattle.xet_base.specs.Table.{Table, row_offset, key_at, HasKey, IsSorted, hits_below, hits, Serves, even_step, IsEven}
 use Rattle.xet_base.specs.Search.{ReadsKey, IsRow, FindsFrom, Counts, Runs}
-use Rattle.xet_base.specs.Probes.{guess_of, IsWhole, TurnsBelow, TurnsAbove, TurnsEqual}
-use Rattle.xet_base.proofs.Progress.{Matching, OnSorted, OnEven, Searches}
+use Rattle.xet_base.specs.Probes.{guess_of, IsWhole, TurnsBelow, TurnsAbove, TurnsEqual, OnEven, KeepsEven}
+use Rattle.xet_base.proofs.Progress.{Matching, OnSorted, Searches}
 use Rattle.xet_base.proofs.Tables.{offset_of_row-add, offset_of_row-le, hits_below-hit, hits_below-le, keys_ascend, none_after}
 use Rattle.xet_base.proofs.Search.{serves_still, serves_moved, serves_advanced}
 use Rattle.xet_base.proofs.Probing.{guess_within, below_within, above_within, window, is_below, is_above, is_equal}
 use Rattle.xet_base.proofs.Course.{course_start, course_below, course_above, course_equal}
-use Rattle.xet_base.proofs.Even.{even_below, even_above, even_equal}
 use Rattle.xet_base.proofs.Collecting.{from_weaker, from_none}
 
 -- rows between two rows with the key have it too
@@ -119,8 +118,8 @@ module _ {V : Type 0} (t : Table) (key : ℕ) (Gives : List ℕ → V → Type 0
   mid_read : mid.read ≡ now.read + 8
   mid_read = omega (arith, ap (λ s. s.read) reads.after)
 
-  pub searches_below : (new : Window) → key < found → TurnsBelow w key found new → Searches t key Gives new old mid results_old results count
-  searches_below new past turns = subst (λ v. Searches t key Gives v old mid results_old results count) (sym (is_below w key found new turns)) (record {
+  pub searches_below : (new : Window) → key < found → TurnsBelow w key found new → KeepsEven w key found new → Searches t key Gives new old mid results_old results count
+  searches_below new past turns steps = subst (λ v. Searches t key Gives v old mid results_old results count) (sym (is_below w key found new turns)) (record {
     around = record { rows = above; below = so_far.around.below; above = omega (arith, past); apart = omega (arith, past, so_far.around.below) };
     within = omega (arith, below, so_far.within);
     inside = λ wide. below_within w.low w.low_key w.probe found key new.probe turns.probe (omega (arith, wide));
@@ -130,7 +129,7 @@ module _ {V : Type 0} (t : Table) (key : ℕ) (Gives : List ℕ → V → Type 0
     finds = from_weaker t key Gives (w.probe - 1) (w.high - 1) results_old results count (omega (arith, below)) so_far.finds;
     sorted = on_sorted;
     even = λ even. subst (λ v. OnEven t key v (so_far.made + 1)) (is_below w key found new turns)
-        (even_below t key w found even so_far.around running above below (found_even even) so_far.made new (so_far.even even) past turns);
+        (steps t so_far.made even running (found_even even) (so_far.even even));
   })
     where
       on_sorted : IsSorted t → OnSorted t key (window w.low w.low_key w.probe found new.probe) (so_far.made + 1) old mid (length results_old) count
@@ -165,8 +164,8 @@ module _ {V : Type 0} (t : Table) (key : ℕ) (Gives : List ℕ → V → Type 0
             read = costs so_far.made before.later before.later 0 now.read mid.read mid.read t.width mid_read (omega arith) (omega arith) old.read before.read;
           }
 
-  pub searches_above : (new : Window) → found < key → TurnsAbove w key found new → Searches t key Gives new old mid results_old results count
-  searches_above new past turns = subst (λ v. Searches t key Gives v old mid results_old results count) (sym (is_above w key found new turns)) (record {
+  pub searches_above : (new : Window) → found < key → TurnsAbove w key found new → KeepsEven w key found new → Searches t key Gives new old mid results_old results count
+  searches_above new past turns steps = subst (λ v. Searches t key Gives v old mid results_old results count) (sym (is_above w key found new turns)) (record {
     around = record { rows = below; below = omega (arith, past); above = so_far.around.above; apart = omega (arith, past, so_far.around.above) };
     within = so_far.within;
     inside = λ wide. above_within w.probe found w.high w.high_key key new.probe turns.probe (omega (arith, wide));
@@ -176,7 +175,7 @@ module _ {V : Type 0} (t : Table) (key : ℕ) (Gives : List ℕ → V → Type 0
     finds = so_far.finds;
     sorted = on_sorted;
     even = λ even. subst (λ v. OnEven t key v (so_far.made + 1)) (is_above w key found new turns)
-        (even_above t key w found even so_far.around running above below (found_even even) so_far.made new (so_far.even even) past turns);
+        (steps t so_far.made even running (found_even even) (so_far.even even));
   })
     where
       on_sorted : IsSorted t → OnSorted t key (window w.probe found w.high w.high_key new.probe) (so_far.made + 1) old mid (length results_old) count
@@ -204,12 +203,12 @@ module _ {V : Type 0} (t : Table) (key : ℕ) (Gives : List ℕ → V → Type 0
             read = costs so_far.made before.later before.later 0 now.read mid.read mid.read t.width mid_read (omega arith) (omega arith) old.read before.read;
           }
 
-  pub searches_equal : (new : Window) (after : Source) (results_new : List V) (count_new : ℕ) → found ≡ key → TurnsEqual w new → Serves mid after
+  pub searches_equal : (new : Window) (after : Source) (results_new : List V) (count_new : ℕ) → found ≡ key → TurnsEqual w new → KeepsEven w key found new → Serves mid after
       → Runs t key (w.probe - 1) (w.high - 1) mid after → FindsFrom t key Gives (w.probe - 1) results_old results_new count_new
       → length results ≡ length results_old
       → (IsSorted t → Counts t key (w.probe - 1) (w.high - 1) (length results) count count_new)
       → Searches t key Gives new old after results_old results_new count_new
-  searches_equal new after results_new count_new same turns serves runs finds len counts =
+  searches_equal new after results_new count_new same turns steps serves runs finds len counts =
       subst (λ v. Searches t key Gives v old after results_old results_new count_new) (sym (is_equal w new turns)) (record {
         around = record { rows = above; below = so_far.around.below; above = so_far.around.above; apart = so_far.around.apart };
         within = omega (arith, below, so_far.within);
@@ -224,7 +223,7 @@ module _ {V : Type 0} (t : Table) (key : ℕ) (Gives : List ℕ → V → Type 0
         finds = finds;
         sorted = on_sorted;
         even = λ even. subst (λ v. OnEven t key v (so_far.made + 1)) (is_equal w new turns)
-            (even_equal t key w found even so_far.around running above below (found_even even) so_far.made new (so_far.even even) same turns);
+            (steps t so_far.made even running (found_even even) (so_far.even even));
       })
     where
       on_sorted : IsSorted t → OnSorted t key (window w.low w.low_key w.probe w.high_key new.probe) (so_far.made + 1) old after (length results_old) count_new

@@ -38,10 +38,10 @@ Takes-nil s = record {
 
 pub Takes-trans : (a b c : Source) (xs ys : List ℕ) → Takes a b xs → Takes b c ys → Takes a c (xs ++ ys)
 Takes-trans a b c xs ys first last =
-    let place : b.at ≡ a.at + length xs = ap (λ s. s.at) first.after in
+    let at_is : b.at ≡ a.at + length xs = ap (λ s. s.at) first.after in
     let bytes : length b.bytes ≡ length a.bytes = ap (λ s. length s.bytes) first.after in
     record {
-      within = λ some. grind (arith, length-append xs ys, first.within, last.within, place, bytes);
+      within = λ some. grind (arith, length-append xs ys, first.within, last.within, at_is, bytes);
       there = (λ i. first.there i ++ (last.there ∙ ap (λ s. next_bytes s (length ys)) first.after) i)
           ∙ sym (next_bytes-add a (length xs) (length ys)) ∙ ap (λ n. next_bytes a n) (sym (length-append xs ys));
       after = last.after ∙ ap (λ s. advanced s (length ys)) first.after ∙ advanced-advanced a (length xs) (length ys)

@@ -1,7 +1,8 @@
 -- The rows that a search probes. Rows are counted from 1; `low` and `high` are the rows around those that may
 -- still have the key.
-use Rattle.std.specs.Prelude.{◌≡◌, ℕ, ◌+◌, ◌-◌, ◌*◌, ◌/◌, ◌^◌, ◌<◌, ◌≤◌, min, max}
+use Rattle.std.specs.Prelude.{◌≡◌, ◌⊎◌, ℕ, ◌+◌, ◌-◌, ◌*◌, ◌/◌, ◌^◌, ◌<◌, ◌≤◌, min, max}
 use Rattle.xet_base.specs.declared.interpolation_search.window.Window.{Window}
+use Rattle.xet_base.specs.Table.{Table, even_step, IsEven}
 
 -- where the key is if keys rise evenly from row `low` to row `high`; neither of the two
 unfoldable pub guess_of : ℕ → ℕ → ℕ → ℕ → ℕ → ℕ
@@ -66,3 +67,17 @@ pub record Turns (w : Window) (key found : ℕ) (new : Window) : Type 0 where
   pub below : key < found → TurnsBelow w key found new
   pub above : found < key → TurnsAbove w key found new
   pub equal : found ≡ key → TurnsEqual w new
+
+-- on an even table the first guess is at most one row off: nothing was probed; the key was found, or a row a little
+-- below it; or few rows are left
+abbrev pub OnEven : Table → ℕ → Window → ℕ → Type 0
+OnEven t key w made =
+    ((made ≡ 0) × IsWhole t.rows key w)
+    ⊎ (((made ≡ 1) × (key ≡ w.high * even_step t.rows) × (w.probe + 4 ≡ w.high))
+    ⊎ (((made ≡ 1) × (w.probe ≡ w.low + 256) × (key < (w.low + 2) * even_step t.rows))
+    ⊎ ((made ≤ 2) × (w.high ≤ w.low + 256))))
+
+-- and so it is after one more probe, which found the key of its row
+abbrev pub KeepsEven : Window → ℕ → ℕ → Window → Type 0
+KeepsEven w key found new =
+    (t : Table) → (made : ℕ) → IsEven t → w.low + 256 < w.high → found ≡ w.probe * even_step t.rows → OnEven t key w made → OnEven t key new (made + 1)

@@ -50,7 +50,7 @@ Extends {V} t key Gives from to had old new result =
 
 -- of `had` results and the rows with the key from `from` to before `to`, as many are kept as fit
 abbrev pub Counts : Table → ℕ → ℕ → ℕ → ℕ → ℕ → ℕ → Type 0
-Counts t key from to places had count = count + hits_below t key from ≡ min (had + hits_below t key to) (places + hits_below t key from)
+Counts t key from to room had count = count + hits_below t key from ≡ min (had + hits_below t key to) (room + hits_below t key from)
 
 -- rows from `from` to before `to` were read, or some of the first of them
 pub record Passes (t : Table) (from to : ℕ) (old new : Source) : Type 0 where

@@ -87,7 +87,7 @@ fn mix_diagonals(v: &mut Words, m: &Words)
     mix_at(v, 3, 4, 9, 14, m[14], m[15]);
 }
 
-// Four places of the state mixed with two words of the message.
+// Four words of the state mixed with two words of the message.
 fn mix_at(v: &mut Words, a: usize, b: usize, c: usize, d: usize, x: u32, y: u32)
     requires a { a < 16 }
     requires b { b < 16 }

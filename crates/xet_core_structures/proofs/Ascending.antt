@@ -8,7 +8,7 @@ use Rattle.std.proofs.lemmas.Option.{same_Some, none-some}
 use Rattle.xet_base.specs.Hash.{hash_cmp}
 use Rattle.xet_base.proofs.HashOrder.{hash_cmp-IsTotalOrder}
 use Rattle.xet_records.specs.RecordKind.{RecordKind}
-use Rattle.xet_core_structures.specs.Held.{Ascends}
+use Rattle.xet_shards.specs.InForm.{Ascends}
 use Rattle.xet_core_structures.specs.Combining.{key_of_record}
 
 module _ {H R : Type 0} (K : RecordKind H R) where

@@ -15,7 +15,7 @@ use Rattle.xet_base.proofs.HashOrder.{hash_cmp-IsTotalOrder, same_key}
 use Rattle.xet_records.specs.RecordKind.{RecordKind}
 use Rattle.xet_shards.specs.Joining.{entry}
 use Rattle.xet_shards.proofs.Joining.{entry-append, or_none}
-use Rattle.xet_core_structures.specs.Held.{Ascends}
+use Rattle.xet_shards.specs.InForm.{Ascends}
 use Rattle.xet_core_structures.specs.Combining.{key_of_record, by_hash, with_hash, Combines}
 
 -- what holds of each element of two lists

@@ -15,6 +15,7 @@ use Rattle.xet_records.specs.FileRecord.{file_records}
 use Rattle.xet_records.specs.XorbRecord.{xorb_records}
 use Rattle.xet_records.proofs.RecordKinds.{KindLaws, file_laws, xorb_laws}
 use Rattle.xet_shards.specs.declared.shard_format.info.MDBShardInfo.{MDBShardInfo}
+use Rattle.xet_shards.specs.InForm.{Ascends}
 use Rattle.xet_shards.specs.Layout.{layout, info_value}
 use Rattle.xet_shards.specs.Section.{total_rows}
 use Rattle.xet_shards.specs.SectionReading.{PassesRows, IsCutSection}
@@ -24,7 +25,7 @@ use Rattle.xet_shards.proofs.Maps.{rising_keys}
 use Rattle.xet_shards.proofs.Readback.{handed_same, section_of_shard, xorb_section_of_shard}
 use Rattle.xet_shards.proofs.SameBytes.{same_values}
 use Rattle.xet_shards.proofs.SectionUnique.{only_list, first_of_section, section_or_passes, section_or_cut}
-use Rattle.xet_core_structures.specs.Held.{Ascends, FrontFalls, IsSectionOf, files_at, xorbs_at, Holds, IsCut, IsBad}
+use Rattle.xet_core_structures.specs.Held.{FrontFalls, IsSectionOf, files_at, xorbs_at, Holds, IsCut, IsBad}
 
 -- the first of strictly ascending keys strictly ascend
 all_front : {X : Type 0} (P : X → Type 0) (xs ys : List X) → AllByRecursion P (xs ++ ys) → AllByRecursion P xs

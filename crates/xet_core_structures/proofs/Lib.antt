@@ -1,12 +1,15 @@
 pub mod Ascending
+pub mod ByteLaws
 pub mod ByteUnions
 pub mod Combining
 pub mod Handed
 pub mod Held
 pub mod ListMaps
 pub mod Lists
+pub mod LookupsFound
 pub mod MergeTrees
 pub mod Mixing
+pub mod Readable
 pub mod Results
 pub mod Stepping
 pub mod Uniting

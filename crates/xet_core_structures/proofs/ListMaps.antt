@@ -12,9 +12,10 @@ use Rattle.xet_base.specs.declared.merklehash.DataHash.{DataHash}
 use Rattle.xet_base.specs.Hash.{hash_cmp}
 use Rattle.xet_base.proofs.HashOrder.{same_key}
 use Rattle.xet_records.specs.RecordKind.{RecordKind}
+use Rattle.xet_shards.specs.InForm.{Ascends}
 use Rattle.xet_shards.specs.SectionReading.{IsSection}
 use Rattle.xet_core_structures.specs.Combining.{key_of_record, by_hash, with_hash, Combines}
-use Rattle.xet_core_structures.specs.Held.{Ascends, IsSectionOf}
+use Rattle.xet_core_structures.specs.Held.{IsSectionOf}
 use Rattle.xet_core_structures.proofs.Combining.{apart}
 
 both : (a b : Bool) → T a → T b → T (a && b)

@@ -7,9 +7,10 @@ use Rattle.xet_base.specs.Hash.{hash_cmp}
 use Rattle.xet_base.specs.Source.{Source}
 use Rattle.xet_records.specs.RecordKind.{RecordKind}
 use Rattle.xet_records.proofs.RecordKinds.{KindLaws}
+use Rattle.xet_shards.specs.InForm.{Ascends}
 use Rattle.xet_shards.specs.SectionReading.{ReadsSection}
 use Rattle.xet_shards.specs.Section.{total_rows}
-use Rattle.xet_core_structures.specs.Held.{Ascends, ReadsList, ReadsNoList}
+use Rattle.xet_core_structures.specs.Held.{ReadsList, ReadsNoList}
 use Rattle.xet_core_structures.proofs.Held.{hashes_handed, rows_handed}
 use Rattle.xet_core_structures.proofs.Handed.{all_handed}
 

@@ -130,11 +130,15 @@ module _ (inputs : List (List ℕ)) (shard_at : ℕ → Shard) (expiry_at : ℕ 
       both_refused left right c agree join l.0 r.0 first.0 second.0 x y err l.1 r.1 first.1 second.1 refusal
 
   -- the one byte string
+  pub one_layout : (plan : MergePlan) (c : Shard) (out : List ℕ) → HasUnion plan → AreWritten inputs plan shard_at expiry_at
+      → AgreePairwise (AtLeaves plan shard_at) → IsJoinOf (AtLeaves plan shard_at) c → TreeWrites inputs plan out → (out ≡ layout c None) × IsShard c
+  one_layout plan c out union written agree join writes =
+      let found = tree_written plan c out written agree join writes in
+      (found.1.bytes ∙ ap (layout c) (found.2 union), found.1.shard)
+
   pub one_string : {Z : Type 0} (plan : MergePlan) (c : Shard) (result : Result (Vec ℕ Z) CoreError) → HasUnion plan → AreWritten inputs plan shard_at expiry_at
       → AgreePairwise (AtLeaves plan shard_at) → IsJoinOf (AtLeaves plan shard_at) c
       → MatchResult result (λ bytes. TreeWrites inputs plan bytes.items) (TreeRefusal inputs plan)
       → MatchResult result (λ bytes. (bytes.items ≡ layout c None) × IsShard c) (λ e. (e ≡ OutOfMemory) ⊎ (IsInvalidShard e × (¬ HasFewRows c)))
-  one_string plan c (Ok bytes) union written agree join writes =
-      let found = tree_written plan c bytes.items written agree join writes in
-      (found.1.bytes ∙ ap (layout c) (found.2 union), found.1.shard)
+  one_string plan c (Ok bytes) union written agree join writes = one_layout plan c bytes.items union written agree join writes
   one_string plan c (Err e) union written agree join refusal = tree_refused plan c e written agree join refusal

@@ -18,7 +18,7 @@ flags_fit true false = omega arith
 flags_fit false true = omega arith
 flags_fit false false = omega arith
 
-either_part : {X : Type 0} (P : X → Type 0) (v : Bool) (x y : X) → P x → P y → P (if v then x else y)
+pub either_part : {X : Type 0} (P : X → Type 0) (v : Bool) (x y : X) → P x → P y → P (if v then x else y)
 either_part P true x y first second = first
 either_part P false x y first second = second
 

@@ -11,8 +11,8 @@ use Rattle.std.proofs.lemmas.List.Elements.{All-drop}
 use Rattle.std.proofs.lemmas.List.Sums.{sum_by-append, sum_by-cons}
 use Rattle.std.proofs.lemmas.Option.{same_Some, none-some}
 use Rattle.xet_records.specs.RecordKind.{RecordKind}
+use Rattle.xet_shards.specs.InForm.{Ascends}
 use Rattle.xet_shards.specs.Section.{total_rows}
-use Rattle.xet_core_structures.specs.Held.{Ascends}
 use Rattle.xet_core_structures.specs.Combining.{key_of_record, count, rows_in, AreOfOneHash, Clash, IsNextPair, IsMadeOf}
 use Rattle.xet_core_structures.proofs.Combining.{IsUnder, IsCombining, none_combined, more_first, more_second, more_both, after_all, after_other}
 

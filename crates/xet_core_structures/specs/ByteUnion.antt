@@ -1,11 +1,11 @@
 -- The union of the records of two shards, whether they agree or not.
-use Rattle.std.specs.Prelude.{◌≡◌, ◌⊎◌, Option, None, Some}
+use Rattle.std.specs.Prelude.{◌≡◌, ◌⊎◌, IsTrue, Option, None, Some}
 use Rattle.std.specs.Option.{option_or}
 use Rattle.std.specs.FinMap.{get}
 use Rattle.xet_base.specs.declared.merklehash.DataHash.{DataHash}
 use Rattle.xet_records.specs.declared.file_structs.MDBFileInfo.{MDBFileInfo}
 use Rattle.xet_records.specs.declared.xorb_structs.MDBXorbInfo.{MDBXorbInfo}
-use Rattle.xet_records.specs.Merging.{Includes, joined}
+use Rattle.xet_records.specs.Merging.{Includes, verified, described, joined}
 use Rattle.xet_shards.specs.Shard.{Shard}
 
 -- a header with the two known flags where either record has them, the first's segments, and each optional part from the
@@ -36,3 +36,8 @@ IsEitherXorb a b c = c ≡ option_or a b
 pub record IsByteUnion (a b c : Shard) : Type 0 where
   pub files : (q : DataHash) → IsEitherFile (get a.files q) (get b.files q) (get c.files q)
   pub xorbs : (q : DataHash) → IsEitherXorb (get a.xorbs q) (get b.xorbs q) (get c.xorbs q)
+
+-- each file of both shards has in the first every optional part that it has in the second
+pub record HasPartsOf (a b : Shard) : Type 0 where
+  pub verification : (q : DataHash) (r s : MDBFileInfo) → get a.files q ≡ Some r → get b.files q ≡ Some s → IsTrue (verified s) → IsTrue (verified r)
+  pub metadata_ext : (q : DataHash) (r s : MDBFileInfo) → get a.files q ≡ Some r → get b.files q ≡ Some s → IsTrue (described s) → IsTrue (described r)

@@ -6,7 +6,7 @@ use Rattle.xet_base.specs.declared.merklehash.DataHash.{DataHash}
 use Rattle.xet_records.specs.RecordKind.{RecordKind}
 use Rattle.xet_shards.specs.Joining.{entry}
 use Rattle.xet_shards.specs.Section.{total_rows}
-use Rattle.xet_core_structures.specs.Held.{Ascends}
+use Rattle.xet_shards.specs.InForm.{Ascends}
 
 -- 1 for a record, 0 for none
 abbrev pub count : {X : Type 0} → Option X → ℕ

@@ -1,6 +1,5 @@
 -- What bytes hold, to an operation that reads both sections of a shard at the offsets of a footer.
 use Rattle.std.specs.Prelude.{◌≡◌, ◌⊎◌, ℕ, ◌≤◌, List, map, drop, All}
-use Rattle.std.specs.List.Sorted.{IsStrictlySortedBy}
 use Rattle.std.specs.FinMap.{FinMap, entries, values}
 use Rattle.xet_base.specs.declared.error.CoreError.{CoreError}
 use Rattle.xet_base.specs.declared.error.CoreError.TheVariants.{OutOfMemory}
@@ -13,24 +12,21 @@ use Rattle.xet_records.specs.RecordKind.{RecordKind}
 use Rattle.xet_records.specs.FileRecord.{file_records}
 use Rattle.xet_records.specs.XorbRecord.{xorb_records}
 use Rattle.xet_shards.specs.declared.shard_format.info.MDBShardInfo.{MDBShardInfo}
+use Rattle.xet_shards.specs.InForm.{Ascends}
 use Rattle.xet_shards.specs.Section.{total_rows}
 use Rattle.xet_shards.specs.Shard.{Shard}
 use Rattle.xet_shards.specs.SectionReading.{HoldsRecords, IsSection, PassesRows, IsCutSection}
 
 module _ {H R : Type 0} (K : RecordKind H R) where
-  -- the hashes of the records strictly ascend
-  abbrev pub Ascends : List R → Type 0
-  Ascends rs = IsStrictlySortedBy hash_cmp (map (λ r. K.hash_of (K.header_of r)) rs)
-
   -- the records may be written as a section whose hashes strictly ascend
   pub record AreWritable (rs : List R) : Type 0 where
     pub stored : All K.IsStored rs
-    pub ascends : Ascends rs
+    pub ascends : Ascends K rs
     pub rows : total_rows K rs ≤ 4294967295
 
   -- the bytes begin with records whose hashes do not strictly ascend
   abbrev pub FrontFalls : List ℕ → Type 0
-  FrontFalls bytes = (stored : List R) × (rest : List ℕ) × HoldsRecords K bytes stored rest × (¬ Ascends stored)
+  FrontFalls bytes = (stored : List R) × (rest : List ℕ) × HoldsRecords K bytes stored rest × (¬ Ascends K stored)
 
 -- the bytes are a section whose hashes strictly ascend: this is the map of its records, as reading returns them
 pub record IsSectionOf {H R : Type 0} (K : RecordKind H R) (bytes : List ℕ) (m : FinMap hash_cmp R) : Type 0 where

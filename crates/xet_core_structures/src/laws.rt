@@ -1,11 +1,12 @@
 //! Laws of shards, their names, hashes and errors that no contract of a single call states. Each is
 //! a function that does nothing; its contract is the law.
 
-ghost use Rattle.xet_records.specs.XorbRecord.{xorb_records};
+ghost use Rattle.xet_records.specs.XorbRecord.{xorb_records, IsXorb};
 ghost use Rattle.xet_records.specs.FileRecord.{file_records};
-ghost use Rattle.std.specs.Prelude.{◌≡◌, ◌↔◌, ◌<◌, ◌^◌, ℕ, List, [], ◌∷◌, ◌++◌, flat_map, map, Contains, Option, None, Some, IfSome, IsTrue, unwrap_or};
+ghost use Rattle.std.specs.Prelude.{◌≡◌, ◌↔◌, ◌<◌, ◌^◌, ℕ, List, [], ◌∷◌, ◌++◌, flat_map, map, All, Contains, Option, None, Some, IfSome, IsTrue, unwrap_or};
 ghost use Rattle.std.specs.Cmp.{IsTotalOrder};
 ghost use Rattle.std.specs.declared.cmp.Ordering.TheVariants.{Equal};
+ghost use Rattle.std.specs.declared.result.Result.{Result};
 ghost use Rattle.std.specs.FinMap.{values};
 ghost use Rattle.std.specs.Hash as fed;
 ghost use Rattle.std.specs.List.Sorted.{IsStrictlySortedBy};
@@ -14,15 +15,24 @@ ghost use Rattle.xet_base.specs.declared.error.CoreError.{CoreError};
 ghost use Rattle.xet_base.specs.Errors.{variant_number};
 ghost use Rattle.xet_base.specs.Hash.{IsHash, hash_cmp, words_of};
 ghost use Rattle.xet_base.specs.Hex.{hash_hex, IsHexText, Spells};
+ghost use Rattle.xet_base.specs.Source.{Source};
+ghost use Rattle.xet_core_structures.specs.declared.set_operations.MergePlan.{MergePlan};
+ghost use Rattle.xet_core_structures.specs.ByteResults.{keyed_info, HaveResult, UnitesBytes};
+ghost use Rattle.xet_core_structures.specs.ByteUnion.{IsByteUnion, HasPartsOf};
 ghost use Rattle.xet_core_structures.specs.Equality.{error_eq, derived_eq, derived_partial_cmp, derived_cmp, derived_input};
-ghost use Rattle.xet_shards.specs.Layout.{layout};
+ghost use Rattle.xet_core_structures.specs.MergeTrees.{HasUnion, TreeWrites, AtLeaves, AreWritten};
+ghost use Rattle.xet_core_structures.specs.Readable.{IsWrittenUnder, LooksUpFile, FindsInShard};
+ghost use Rattle.xet_records.specs.declared.file_structs.MDBFileInfo.{MDBFileInfo};
+ghost use Rattle.xet_shards.specs.declared.shard_format.info.MDBShardInfo.{MDBShardInfo};
+ghost use Rattle.xet_shards.specs.Ends.{Loads};
+ghost use Rattle.xet_shards.specs.Layout.{layout, info_value};
 ghost use Rattle.xet_shards.specs.Names.{shard_name, NamesShard};
 ghost use Rattle.xet_records.specs.declared.xorb_structs.MDBXorbInfo.{MDBXorbInfo};
 ghost use Rattle.xet_shards.specs.declared.shard_format.xorb_writer.ChunkTableRow.{ChunkTableRow};
 ghost use Rattle.xet_shards.specs.Section.{total_rows};
 ghost use Rattle.xet_shards.specs.Shard.{Shard, IsShard, empty_shard, file_hash_of, xorb_hash_of};
 ghost use Rattle.xet_shards.specs.Tables.{chunk_table_row_cmp, chunk_table_rows, chunk_table, starts, records_below};
-ghost use Rattle.xet_shards.specs.SetOperations.{IsUnion, ShardsAgree, HasFewRows, CanUnite};
+ghost use Rattle.xet_shards.specs.SetOperations.{IsUnion, IsDifference, ShardsAgree, HasFewRows, CanUnite};
 ghost use Rattle.xet_shards.specs.Joins.{IsJoinOf, AgreePairwise};
 
 /// Each two shards have exactly one union.
@@ -153,4 +163,76 @@ pub fn errors_are_equal_by_variant()
     ensures symmetric { (e f : CoreError) → IsTrue (error_eq e f) → IsTrue (error_eq f e) }
     ensures transitive { (e f g : CoreError)
         → IsTrue (error_eq e f) → IsTrue (error_eq f g) → IsTrue (error_eq e g) }
+{}
+
+/// A union, a difference and a tree of unions write bytes of a shard under a key, whether their
+/// inputs agree or not. From such bytes `load_from_reader` reads the header and the footer that
+/// were returned, and a file lookup finds what the shard has, within bounds. The xorbs of a union are
+/// well-formed, as queries for chunks require, if those of both inputs are; those of a difference, if
+/// the second's are.
+pub fn lookups_on_results()
+    ensures trees { (inputs : List (List ℕ)) → (plan : MergePlan) → (bytes : List ℕ) → HasUnion plan
+        → TreeWrites inputs plan bytes
+        → (key : DataHash) × (c : Shard) × IsWrittenUnder key c bytes (keyed_info c key) }
+    ensures loaded { (key : DataHash) → (c : Shard) → (info found : MDBShardInfo) → (old new : Source)
+        → IsWrittenUnder key c old.bytes info → Loads old new found → found ≡ info }
+    ensures files { (key : DataHash) → (c : Shard) → (info : MDBShardInfo) → (hash : DataHash) → (old new : Source)
+        → (found : Result (Option MDBFileInfo) CoreError)
+        → IsWrittenUnder key c old.bytes info → LooksUpFile info hash old new found
+        → FindsInShard c hash old new found }
+    ensures union_xorbs { (x y : List ℕ) → (i j : MDBShardInfo) → (c : Shard) → (have : HaveResult IsByteUnion x i y j c)
+        → All IsXorb (values have.first.xorbs) → All IsXorb (values have.second.xorbs) → All IsXorb (values c.xorbs) }
+    ensures difference_xorbs { (x y : List ℕ) → (i j : MDBShardInfo) → (c : Shard) → (have : HaveResult IsDifference x i y j c)
+        → All IsXorb (values have.second.xorbs) → All IsXorb (values c.xorbs) }
+{}
+
+/// The inputs at the leaves of a tree with a union are the bytes of shards that agree pairwise. What
+/// the tree writes is the bytes of their join without expiry; `load_from_reader` reads the header
+/// and the footer of these, and a file lookup finds what the join has, within bounds.
+pub fn lookups_on_trees()
+    ensures premises { (inputs : List (List ℕ)) → (plan : MergePlan) → (shard_at : ℕ → Shard) → (expiry_at : ℕ → Option ℕ)
+        → (join : Shard) → (old new : Source) → (info : MDBShardInfo)
+        → HasUnion plan → AreWritten inputs plan shard_at expiry_at → AgreePairwise (AtLeaves plan shard_at)
+        → IsJoinOf (AtLeaves plan shard_at) join → TreeWrites inputs plan old.bytes → Loads old new info
+        → IsShard join × (new.bytes ≡ layout join None) × (info ≡ info_value join None) }
+    ensures files { (inputs : List (List ℕ)) → (plan : MergePlan) → (shard_at : ℕ → Shard) → (expiry_at : ℕ → Option ℕ)
+        → (join : Shard) → (old loaded new : Source) → (info : MDBShardInfo) → (hash : DataHash)
+        → (found : Result (Option MDBFileInfo) CoreError)
+        → HasUnion plan → AreWritten inputs plan shard_at expiry_at → AgreePairwise (AtLeaves plan shard_at)
+        → IsJoinOf (AtLeaves plan shard_at) join → TreeWrites inputs plan old.bytes → Loads old loaded info
+        → LooksUpFile info hash loaded new found → FindsInShard join hash loaded new found }
+{}
+
+/// Of the bytes of shards that agree, each with any expiry or none, one union is the same byte string
+/// in either order and in either grouping. With the same shard, and with the empty one on either
+/// side, it is the shard's bytes without expiry.
+pub fn unions_of_bytes()
+    ensures order { (a b : Shard) → (e f g h : Option ℕ) → (x y : List ℕ) → IsShard a → IsShard b → ShardsAgree a b
+        → IfSome e (λ n. n < 2 ^ 64) → IfSome f (λ n. n < 2 ^ 64) → IfSome g (λ n. n < 2 ^ 64) → IfSome h (λ n. n < 2 ^ 64)
+        → UnitesBytes (layout a e) (layout b f) x → UnitesBytes (layout b g) (layout a h) y → x ≡ y }
+    ensures grouping { (a b c : Shard) → (e f g h i j : Option ℕ) → (ab bc left right : List ℕ)
+        → IsShard a → IsShard b → IsShard c → ShardsAgree a b → ShardsAgree a c → ShardsAgree b c
+        → IfSome e (λ n. n < 2 ^ 64) → IfSome f (λ n. n < 2 ^ 64) → IfSome g (λ n. n < 2 ^ 64)
+        → IfSome h (λ n. n < 2 ^ 64) → IfSome i (λ n. n < 2 ^ 64) → IfSome j (λ n. n < 2 ^ 64)
+        → UnitesBytes (layout a e) (layout b f) ab → UnitesBytes ab (layout c g) left
+        → UnitesBytes (layout b h) (layout c i) bc → UnitesBytes (layout a j) bc right → left ≡ right }
+    ensures repetition { (a : Shard) → (e f : Option ℕ) → (x : List ℕ) → IsShard a
+        → IfSome e (λ n. n < 2 ^ 64) → IfSome f (λ n. n < 2 ^ 64)
+        → UnitesBytes (layout a e) (layout a f) x → x ≡ layout a None }
+    ensures right { (a : Shard) → (e f : Option ℕ) → (x : List ℕ) → IsShard a
+        → IfSome e (λ n. n < 2 ^ 64) → IfSome f (λ n. n < 2 ^ 64)
+        → UnitesBytes (layout a e) (layout empty_shard f) x → x ≡ layout a None }
+    ensures left { (a : Shard) → (e f : Option ℕ) → (x : List ℕ) → IsShard a
+        → IfSome e (λ n. n < 2 ^ 64) → IfSome f (λ n. n < 2 ^ 64)
+        → UnitesBytes (layout empty_shard e) (layout a f) x → x ≡ layout a None }
+{}
+
+/// If two shards agree, and each file of both has in the first every optional part that it has in the
+/// second, then the union of the first's bytes with those of their difference is the union of the
+/// bytes of both.
+pub fn unions_with_differences()
+    ensures { (a b d : Shard) → (e f g h : Option ℕ) → (x y : List ℕ) → IsShard a → IsShard b → ShardsAgree a b
+        → HasPartsOf a b → IsDifference a b d
+        → IfSome e (λ n. n < 2 ^ 64) → IfSome f (λ n. n < 2 ^ 64) → IfSome g (λ n. n < 2 ^ 64) → IfSome h (λ n. n < 2 ^ 64)
+        → UnitesBytes (layout a e) (layout b f) x → UnitesBytes (layout a g) (layout d h) y → x ≡ y }
 {}

@@ -9,6 +9,7 @@ ghost use Rattle.xet_shards.specs.SetOperations.{IsDifference, HasFewRows};
 ghost use Rattle.xet_shards.specs.Shard.{Shard, IsShard};
 ghost use Rattle.xet_core_structures.specs.ByteUnion.{IsByteUnion};
 ghost use Rattle.xet_core_structures.specs.ByteResults.{key_of, WritesResult, InputsFail, UnionRefusal, DifferenceRefusal, UnitesBytes, BytesRefusal};
+ghost use Rattle.xet_core_structures.specs.Readable.{WritesInForm};
 ghost use Rattle.xet_core_structures.specs.MergeTrees.{HasUnion, TreeWrites, TreeRefusal, AtLeaves, AreWritten};
 
 mod combine;
@@ -50,6 +51,9 @@ pub fn shard_set_union<S: ShardSource, T: ShardSource, W: Write>(
         (UnionRefusal (S.meaning r1.old).bytes s1.now (T.meaning r2.old).bytes s2.now) e) }
     ensures untouched { key_of s1.now ≢ key_of s2.now
         → (S.meaning r1.new ≡ S.meaning r1.old) × (T.meaning r2.new ≡ T.meaning r2.old) × (W.contents out.new ≡ W.contents out.old) }
+    ensures in_form { IfOk result
+        (WritesInForm IsByteUnion (S.meaning r1.old).bytes s1.now (T.meaning r2.old).bytes s2.now (W.contents out.old) (W.contents out.new)) }
+    ensures sources { ((S.meaning r1.new).bytes ≡ (S.meaning r1.old).bytes) × ((T.meaning r2.new).bytes ≡ (T.meaning r2.old).bytes) }
     ensures widths { IfOk result (λ info. FitsFooter info.metadata) }
 {
     match unite(alloc, s1, r1, s2, r2, out) {
@@ -79,6 +83,9 @@ pub fn shard_set_difference<S: ShardSource, T: ShardSource, W: Write>(
         (DifferenceRefusal (S.meaning r1.old).bytes s1.now (T.meaning r2.old).bytes s2.now) e) }
     ensures untouched { key_of s1.now ≢ key_of s2.now
         → (S.meaning r1.new ≡ S.meaning r1.old) × (T.meaning r2.new ≡ T.meaning r2.old) × (W.contents out.new ≡ W.contents out.old) }
+    ensures in_form { IfOk result
+        (WritesInForm IsDifference (S.meaning r1.old).bytes s1.now (T.meaning r2.old).bytes s2.now (W.contents out.old) (W.contents out.new)) }
+    ensures sources { ((S.meaning r1.new).bytes ≡ (S.meaning r1.old).bytes) × ((T.meaning r2.new).bytes ≡ (T.meaning r2.old).bytes) }
     ensures widths { IfOk result (λ info. FitsFooter info.metadata) }
 {
     match subtract(alloc, s1, r1, s2, r2, out) {

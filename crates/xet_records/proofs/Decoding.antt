@@ -8,7 +8,7 @@ use Rattle.std.proofs.lemmas.List.Elements.{All-cons, All-nil}
 use Rattle.std.proofs.lemmas.Nat.{le_bytes_4, le_bytes_8}
 use Rattle.xet_base.specs.Bytes.{u32_bytes, u64_bytes}
 use Rattle.xet_base.specs.Hash.{hash_bytes, IsHash}
-use Rattle.xet_records.specs.FileRow.{segment_row, verification_row, metadata_row, FitsSegment, FitsVerification, FitsMetadata}
+use Rattle.xet_records.specs.FileRow.{segment_row, verification_row, metadata_row, IsReserved, FitsSegment, FitsVerification, FitsMetadata}
 use Rattle.xet_records.specs.XorbRow.{chunk_row, FitsChunk}
 use Rattle.xet_records.specs.Decoding.{u32_at, u64_at, hash_at, segment_at, verification_at, metadata_at, chunk_at, rows_at}
 
@@ -71,61 +71,49 @@ pub record Spells {T : Type 0} (row_bytes : T → List ℕ) (Fits : T → Type 0
   pub row_is : row_bytes row ≡ take 48 bytes
   pub fits : Fits row
 
+-- a hash and four numbers
+hash_and_numbers : {T : Type 0} (row_bytes : T → List ℕ) (Fits : T → Type 0) (row : T) (bytes : List ℕ) → AreBytes bytes → 48 ≤ length bytes
+    → row_bytes row ≡ (((hash_bytes (hash_at bytes) ++ u32_bytes (u32_at bytes 32)) ++ u32_bytes (u32_at bytes 36)) ++ u32_bytes (u32_at bytes 40)) ++ u32_bytes (u32_at bytes 44)
+    → (IsHash (hash_at bytes) → u32_at bytes 32 < 2 ^ 32 → u32_at bytes 36 < 2 ^ 32 → u32_at bytes 40 < 2 ^ 32 → u32_at bytes 44 < 2 ^ 32 → Fits row)
+    → Spells row_bytes Fits bytes row
+hash_and_numbers row_bytes Fits row bytes are within row_is fits = record {
+  row_is = row_is ∙ more_32 bytes _ 44 are (omega arith) (more_32 bytes _ 40 are (omega arith) (more_32 bytes _ 36 are (omega arith)
+      (more_32 bytes _ 32 are (omega arith) (hash_spelled bytes are (omega arith)))));
+  fits = fits (hash_fits bytes are) (u32_fits bytes 32 are) (u32_fits bytes 36 are) (u32_fits bytes 40 are) (u32_fits bytes 44 are);
+}
+
 pub segment_spelled : (bytes : List ℕ) → AreBytes bytes → 48 ≤ length bytes → Spells segment_row FitsSegment bytes (segment_at bytes)
 unfolding segment_row segment_at
-segment_spelled bytes are within = record {
-  row_is = more_32 bytes _ 44 are (omega arith) (more_32 bytes _ 40 are (omega arith) (more_32 bytes _ 36 are (omega arith)
-      (more_32 bytes _ 32 are (omega arith) (hash_spelled bytes are (omega arith)))));
-  fits = record {
-    xorb_hash = hash_fits bytes are;
-    xorb_flags = u32_fits bytes 32 are;
-    unpacked_segment_bytes = u32_fits bytes 36 are;
-    chunk_index_start = u32_fits bytes 40 are;
-    chunk_index_end = u32_fits bytes 44 are;
-  };
-}
+segment_spelled bytes are within = hash_and_numbers segment_row FitsSegment (segment_at bytes) bytes are within refl
+    (λ h a b c d. record { xorb_hash = h; xorb_flags = a; unpacked_segment_bytes = b; chunk_index_start = c; chunk_index_end = d })
 
 pub chunk_spelled : (bytes : List ℕ) → AreBytes bytes → 48 ≤ length bytes → Spells chunk_row FitsChunk bytes (chunk_at bytes)
 unfolding chunk_row chunk_at
-chunk_spelled bytes are within = record {
-  row_is = more_32 bytes _ 44 are (omega arith) (more_32 bytes _ 40 are (omega arith) (more_32 bytes _ 36 are (omega arith)
-      (more_32 bytes _ 32 are (omega arith) (hash_spelled bytes are (omega arith)))));
-  fits = record {
-    chunk_hash = hash_fits bytes are;
-    chunk_byte_range_start = u32_fits bytes 32 are;
-    unpacked_segment_bytes = u32_fits bytes 36 are;
-    flags = u32_fits bytes 40 are;
-    unused = u32_fits bytes 44 are;
-  };
-}
+chunk_spelled bytes are within = hash_and_numbers chunk_row FitsChunk (chunk_at bytes) bytes are within refl
+    (λ h a b c d. record { chunk_hash = h; chunk_byte_range_start = a; unpacked_segment_bytes = b; flags = c; unused = d })
 
 -- a hash and two reserved words
-hash_and_words : (bytes : List ℕ) → AreBytes bytes → 48 ≤ length bytes
-    → hash_bytes (hash_at bytes) ++ flat_map u64_bytes (u64_at bytes 32 ∷ u64_at bytes 40 ∷ []) ≡ take 48 bytes
-hash_and_words bytes are within =
-    ap (λ end. hash_bytes (hash_at bytes) ++ (u64_bytes (u64_at bytes 32) ++ end)) (append-nil (u64_bytes (u64_at bytes 40)))
-    ∙ sym (append_assoc (hash_bytes (hash_at bytes)) (u64_bytes (u64_at bytes 32)) (u64_bytes (u64_at bytes 40)))
-    ∙ more_64 bytes _ 40 are (omega arith) (more_64 bytes _ 32 are (omega arith) (hash_spelled bytes are (omega arith)))
+hash_and_words : {T : Type 0} (row_bytes : T → List ℕ) (Fits : T → Type 0) (row : T) (bytes : List ℕ) → AreBytes bytes → 48 ≤ length bytes
+    → row_bytes row ≡ hash_bytes (hash_at bytes) ++ flat_map u64_bytes (u64_at bytes 32 ∷ u64_at bytes 40 ∷ [])
+    → (IsHash (hash_at bytes) → IsReserved (u64_at bytes 32 ∷ u64_at bytes 40 ∷ []) → Fits row) → Spells row_bytes Fits bytes row
+hash_and_words row_bytes Fits row bytes are within row_is fits = record {
+  row_is = row_is
+      ∙ ap (λ end. hash_bytes (hash_at bytes) ++ (u64_bytes (u64_at bytes 32) ++ end)) (append-nil (u64_bytes (u64_at bytes 40)))
+      ∙ sym (append_assoc (hash_bytes (hash_at bytes)) (u64_bytes (u64_at bytes 32)) (u64_bytes (u64_at bytes 40)))
+      ∙ more_64 bytes _ 40 are (omega arith) (more_64 bytes _ 32 are (omega arith) (hash_spelled bytes are (omega arith)));
+  fits = fits (hash_fits bytes are)
+      (record { first = u64_at bytes 32; second = u64_at bytes 40; words_are = refl; first_fits = u64_fits bytes 32 are; second_fits = u64_fits bytes 40 are });
+}
 
 pub verification_spelled : (bytes : List ℕ) → AreBytes bytes → 48 ≤ length bytes → Spells verification_row FitsVerification bytes (verification_at bytes)
 unfolding verification_row verification_at
-verification_spelled bytes are within = record {
-  row_is = hash_and_words bytes are within;
-  fits = record {
-    range_hash = hash_fits bytes are;
-    unused = record { first = u64_at bytes 32; second = u64_at bytes 40; words_are = refl; first_fits = u64_fits bytes 32 are; second_fits = u64_fits bytes 40 are };
-  };
-}
+verification_spelled bytes are within =
+    hash_and_words verification_row FitsVerification (verification_at bytes) bytes are within refl (λ h words. record { range_hash = h; unused = words })
 
 pub metadata_spelled : (bytes : List ℕ) → AreBytes bytes → 48 ≤ length bytes → Spells metadata_row FitsMetadata bytes (metadata_at bytes)
 unfolding metadata_row metadata_at
-metadata_spelled bytes are within = record {
-  row_is = hash_and_words bytes are within;
-  fits = record {
-    sha256 = hash_fits bytes are;
-    unused = record { first = u64_at bytes 32; second = u64_at bytes 40; words_are = refl; first_fits = u64_fits bytes 32 are; second_fits = u64_fits bytes 40 are };
-  };
-}
+metadata_spelled bytes are within =
+    hash_and_words metadata_row FitsMetadata (metadata_at bytes) bytes are within refl (λ h words. record { sha256 = h; unused = words })
 
 -- so many rows have the bytes that spell them
 pub record SpellsRows {T : Type 0} (row_bytes : T → List ℕ) (Fits : T → Type 0) (bytes : List ℕ) (count : ℕ) (rows : List T) : Type 0 where

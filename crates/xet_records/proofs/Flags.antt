@@ -1,5 +1,5 @@
 -- The flag bits, tested by a mask.
-use Rattle.std.proofs.Common.{◌≡◌, ℕ, zero, suc, refl, false, min, ◌+◌, ◌*◌, ◌%◌, ◌^◌, ◌<◌, not, nat_eq, ap, ◌∙◌, sym, arith}
+use Rattle.std.proofs.Common.{◌≡◌, ℕ, zero, suc, refl, false, min, ◌+◌, ◌*◌, ◌%◌, ◌^◌, ◌<◌, not, nat_eq, ap, ◌∙◌, arith}
 use Rattle.std.specs.Prelude.{bit_and, bit_or}
 use Rattle.std.specs.Int.{bit_at}
 use Rattle.std.proofs.lemmas.Nat.{and_mask, and_le_r, and_comm, or_disjoint}
@@ -58,7 +58,3 @@ included_if_common_l a b common = included_if_common b a (and_comm b a ∙ commo
 
 pub common_if_included_l : (a b : ℕ) → a < 2 ^ 32 → Includes b a → bit_and a b ≡ a
 common_if_included_l a b a_fits included = and_comm a b ∙ common_if_included b a a_fits included
-
--- two sets of bits that include each other are equal
-pub same_if_included : (a b : ℕ) → a < 2 ^ 32 → b < 2 ^ 32 → Includes a b → Includes b a → a ≡ b
-same_if_included a b a_fits b_fits first second = sym (common_if_included_l a b a_fits second) ∙ common_if_included a b b_fits first

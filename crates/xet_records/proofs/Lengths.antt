@@ -86,10 +86,10 @@ unfolding xorb_record_bytes
 length-xorb_record_bytes r =
     length-append (xorb_header_row r.metadata) (flat_map chunk_row r.chunks) ∙ omega (arith, length-xorb_header_row r.metadata, length-chunk_rows r.chunks)
 
--- the texts of records that have 48 bytes a row
-pub length-texts : {R : Type 0} (text : R → List ℕ) (rows : R → ℕ) (Fits : R → Type 0) → ((r : R) → Fits r → length (text r) ≡ 48 * rows r)
-    → (rs : List R) → All Fits rs → length (flat_map text rs) ≡ 48 * sum_by rows rs
-length-texts text rows Fits len [] fit = refl
-length-texts text rows Fits len (r ∷ rs) fit =
-    length-append (text r) (flat_map text rs)
-    ∙ omega (arith, len r (fit 0 r (omega arith)), length-texts text rows Fits len rs (All-drop Fits 1 (r ∷ rs) fit), sum_by-cons rows r rs)
+-- the bytes of records that have 48 bytes a row
+pub length-all_record_bytes : {R : Type 0} (record_bytes : R → List ℕ) (rows : R → ℕ) (Fits : R → Type 0) → ((r : R) → Fits r → length (record_bytes r) ≡ 48 * rows r)
+    → (rs : List R) → All Fits rs → length (flat_map record_bytes rs) ≡ 48 * sum_by rows rs
+length-all_record_bytes record_bytes rows Fits len [] fit = refl
+length-all_record_bytes record_bytes rows Fits len (r ∷ rs) fit =
+    length-append (record_bytes r) (flat_map record_bytes rs)
+    ∙ omega (arith, len r (fit 0 r (omega arith)), length-all_record_bytes record_bytes rows Fits len rs (All-drop Fits 1 (r ∷ rs) fit), sum_by-cons rows r rs)

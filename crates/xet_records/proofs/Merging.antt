@@ -1,6 +1,6 @@
 -- Records of one file and their parts: what merging gives, in which order, and what agreement passes on.
 use Rattle.std.proofs.Common.{◌≡◌, ℕ, zero, suc, ◌+◌, ◌*◌, ◌/◌, ◌%◌, ◌^◌, ◌<◌, ◌≤◌, List, [], ◌∷◌, length, Bool, true, false, not, ◌&&◌, ◌||◌, ◌==◌, Option, None, Some, IfSome, IsTrue, refl, sym, ap, ◌∙◌, subst, arith, true≢false, if◌then◌else◌}
-use Rattle.std.specs.Prelude.{All, is_some, option_to_list}
+use Rattle.std.specs.Prelude.{All, is_some}
 use Rattle.std.specs.Int.{bit_at}
 use Rattle.std.proofs.lemmas.Nat.Bits.{bit_at-lt}
 use Rattle.std.proofs.lemmas.Bool.Decides.{nat_tests}
@@ -88,27 +88,15 @@ module _ {X : Type 0} where
   turned false true x y both none = refl
   turned false false x y both none = sym (none refl refl)
 
-  grouped : (u v : Bool) (x y z : X) → (if u || v then (if u then x else y) else z) ≡ (if u then x else (if v then y else z))
-  grouped true v x y z = refl
-  grouped false v x y z = refl
-
   itself : (v : Bool) (x : X) → (if v then x else x) ≡ x
   itself true x = refl
   itself false x = refl
-
-  agreed : (u v w : Bool) (x y z : X) → (IsTrue u → IsTrue w → x ≡ z) → (IsTrue v → IsTrue w → y ≡ z) → IsTrue (u || v) → IsTrue w → (if u then x else y) ≡ z
-  agreed true v w x y z first second either third = first refl third
-  agreed false v w x y z first second either third = second either third
 
 or_turned : (v w : Bool) → (v || w) ≡ (w || v)
 or_turned true true = refl
 or_turned true false = refl
 or_turned false true = refl
 or_turned false false = refl
-
-or_grouped : (u v w : Bool) → ((u || v) || w) ≡ (u || (v || w))
-or_grouped true v w = refl
-or_grouped false v w = refl
 
 or_itself : (v : Bool) → (v || v) ≡ v
 or_itself true = refl
@@ -261,31 +249,6 @@ verified-joined a b = verification_told (verified a || verified b) (described a 
 pub described-joined : (a b : MDBFileInfo) → described (joined a b) ≡ (described a || described b)
 described-joined a b = metadata_ext_told (verified a || verified b) (described a || described b)
 
-pub joined-assoc : (a b c : MDBFileInfo) → joined (joined a b) c ≡ joined a (joined b c)
-joined-assoc a b c =
-    let v = ap (λ u. u || verified c) (verified-joined a b) ∙ or_grouped (verified a) (verified b) (verified c) ∙ ap (λ u. verified a || u) (sym (verified-joined b c)) in
-    let m = ap (λ u. u || described c) (described-joined a b) ∙ or_grouped (described a) (described b) (described c) ∙ ap (λ u. described a || u) (sym (described-joined b c)) in
-    let verification = ap (λ (u : Bool). if u then (if verified a then a.verification else b.verification) else c.verification) (verified-joined a b)
-    ∙ grouped (verified a) (verified b) a.verification b.verification c.verification in
-    let metadata_ext = ap (λ (u : Bool). if u then (if described a then a.metadata_ext else b.metadata_ext) else c.metadata_ext) (described-joined a b)
-    ∙ grouped (described a) (described b) a.metadata_ext b.metadata_ext c.metadata_ext in
-    λ i. record { metadata = record a.metadata { file_flags = flags_of (v i) (m i) }; segments = a.segments; verification = verification i; metadata_ext = metadata_ext i }
-
--- agreement of two records with a third passes to their join
-pub agree-sym : (a b : MDBFileInfo) → Agree a b → Agree b a
-agree-sym a b agree = record {
-  segments = sym agree.segments;
-  verification = λ v w. sym (agree.verification w v);
-  metadata_ext = λ m l. sym (agree.metadata_ext l m);
-}
-
-pub agree-joined : (a b c : MDBFileInfo) → Agree a c → Agree b c → Agree (joined a b) c
-agree-joined a b c first second = record {
-  segments = first.segments;
-  verification = λ v w. agreed (verified a) (verified b) (verified c) a.verification b.verification c.verification first.verification second.verification (sym (verified-joined a b) ∙ v) w;
-  metadata_ext = λ m l. agreed (described a) (described b) (described c) a.metadata_ext b.metadata_ext c.metadata_ext first.metadata_ext second.metadata_ext (sym (described-joined a b) ∙ m) l;
-}
-
 -- the record with the parts of two well-formed records of one file is well-formed, but for the limit on rows
 pub joined_whole : (a b : MDBFileInfo) → FitsItsHeader a → FitsItsHeader b → IsSameFile a.metadata b.metadata → FitsItsHeader (joined a b)
 joined_whole a b a_whole b_whole same = record {
@@ -333,17 +296,3 @@ pub merged_well_formed : (a b : MDBFileInfo) → IsWellFormed a → IsWellFormed
 merged_well_formed a b a_formed b_formed same few =
     let is = merged_is_joined a b a_formed b_formed in
     subst IsWellFormed (sym is) (joined_well_formed a b a_formed b_formed same (subst (λ r. row_count r ≤ 4294967295) is few))
-
--- a record has no more rows than the join with another
-pub row_count-joined : (a b : MDBFileInfo) → FitsItsHeader a → row_count a ≤ row_count (joined a b)
-row_count-joined a b whole =
-    let verification = more (verified a) a.verification b.verification (λ absent. ap length (verification_absent a whole absent)) in
-    let metadata_ext = more_options (described a) a.metadata_ext b.metadata_ext (λ absent. ap (λ o. length (option_to_list o)) (metadata_ext_absent a whole absent)) in
-    omega (arith, verification, metadata_ext) where
-      more : {X : Type 0} (v : Bool) (xs ys : List X) → (v ≡ false → length xs ≡ 0) → length xs ≤ length (if v then xs else ys)
-      more true xs ys none = omega arith
-      more false xs ys none = omega (arith, none refl)
-
-      more_options : {X : Type 0} (v : Bool) (o p : Option X) → (v ≡ false → length (option_to_list o) ≡ 0) → length (option_to_list o) ≤ length (option_to_list (if v then o else p))
-      more_options true o p none = omega arith
-      more_options false o p none = omega (arith, none refl)

@@ -24,14 +24,14 @@ module _ {H R V F : Type 0} (K : RecordKind H R) (laws : KindLaws K) (record_of 
   pub more_processed : (First Next Both : List ℕ → Type 0) (f g h : F) (left after : ℕ) (view : V) → ((xs ys : List ℕ) → First xs → Next ys → Both (xs ++ ys))
       → HasProcessed K record_of First step f g left → CountsStored K Next left after (record_of view) → step g view (Ok tt) h → HasProcessed K record_of Both step f h after
   more_processed First Next Both f g h left after view joins before next call =
-      let text : V → List ℕ = λ v. K.text (record_of v) in
+      let bytes_of : V → List ℕ = λ v. K.record_bytes (record_of v) in
       let rows : V → ℕ = λ v. K.row_count (record_of v) in
       record {
         given = before.given ++ view ∷ [];
         are_stored = All-append (λ v. K.IsStored (record_of v)) before.given (view ∷ []) before.are_stored
             (All-cons (λ v. K.IsStored (record_of v)) view [] next.is_stored (All-nil (λ v. K.IsStored (record_of v))));
-        taken = subst Both (ap (λ bs. flat_map text before.given ++ bs) (sym (append-nil (text view))) ∙ sym (flat_map-append text before.given (view ∷ [])))
-            (joins (flat_map text before.given) (text view) before.taken next.taken);
+        taken = subst Both (ap (λ bs. flat_map bytes_of before.given ++ bs) (sym (append-nil (bytes_of view))) ∙ sym (flat_map-append bytes_of before.given (view ∷ [])))
+            (joins (flat_map bytes_of before.given) (bytes_of view) before.taken next.taken);
         rows = omega (arith, sum_by_push rows before.given view, before.rows, next.rows, laws.rows (record_of view) next.is_stored);
         calls = FoldsTo-push _ f before.given g view h before.calls call;
       }

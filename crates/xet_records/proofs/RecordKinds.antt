@@ -34,7 +34,7 @@ file_laws = record {
   header_front = header_row-front;
   bookend_fits = record { file_hash = record { word0 = omega arith; word1 = omega arith; word2 = omega arith; word3 = omega arith }; file_flags = omega arith; num_entries = omega arith; unused = omega arith };
   bookend_hash = refl;
-  text_is = λ r. refl;
+  record_bytes_are = λ r. refl;
   size_after = λ r stored.
       omega (arith, length-append (header_row r.metadata) (file_rows_bytes r), length-header_row r.metadata, length-file_record_bytes r stored.widths, row_count-whole r stored.whole);
   rows = λ r stored. row_count-whole r stored.whole;
@@ -58,7 +58,7 @@ xorb_laws = record {
     num_bytes_on_disk = omega arith;
   };
   bookend_hash = refl;
-  text_is = λ r. refl;
+  record_bytes_are = λ r. refl;
   size_after = λ r stored. length-chunk_rows r.chunks ∙ ap (λ n. 48 * n) stored.count;
   rows = λ r stored. ap (λ n. 1 + n) stored.count;
   header_fits = λ r stored. stored.widths.metadata;
@@ -74,17 +74,17 @@ StopsAt K left bytes = BeginsWithBookend K bytes ⊎ PassesLimit K left bytes �
 
 module _ {H R : Type 0} (K : RecordKind H R) (laws : KindLaws K) where
   -- a record has 48 bytes a row
-  pub length-text : (r : R) → K.IsStored r → length (K.text r) ≡ 48 * K.row_count r
-  length-text r stored =
-      ap length (laws.text_is r) ∙ length-append (K.header_bytes (K.header_of r)) (K.bytes_after r)
+  pub length-record_bytes : (r : R) → K.IsStored r → length (K.record_bytes r) ≡ 48 * K.row_count r
+  length-record_bytes r stored =
+      ap length (laws.record_bytes_are r) ∙ length-append (K.header_bytes (K.header_of r)) (K.bytes_after r)
       ∙ omega (arith, laws.header_size (K.header_of r), laws.size_after r stored, laws.rows r stored)
 
   -- bytes that begin with a stored record begin with its header
-  pub stored_begins : (bytes : List ℕ) (r : R) (rest : List ℕ) → K.IsStored r → bytes ≡ K.text r ++ rest → BeginsWithHeader K bytes (K.header_of r) (K.bytes_after r ++ rest)
+  pub stored_begins : (bytes : List ℕ) (r : R) (rest : List ℕ) → K.IsStored r → bytes ≡ K.record_bytes r ++ rest → BeginsWithHeader K bytes (K.header_of r) (K.bytes_after r ++ rest)
   stored_begins bytes r rest stored are = record {
     widths = laws.header_fits r stored;
     is_record = laws.is_record r stored;
-    bytes_are = are ∙ ap (λ bs. bs ++ rest) (laws.text_is r) ∙ append_assoc (K.header_bytes (K.header_of r)) (K.bytes_after r) rest;
+    bytes_are = are ∙ ap (λ bs. bs ++ rest) (laws.record_bytes_are r) ∙ append_assoc (K.header_bytes (K.header_of r)) (K.bytes_after r) rest;
   }
 
   -- two headers at the front of the same bytes are one
@@ -110,14 +110,8 @@ module _ {H R : Type 0} (K : RecordKind H R) (laws : KindLaws K) where
   bookend_or_ends left bytes bookend (inl short) = omega (arith, short, header_within bytes bookend.header bookend.rest bookend.bytes_are)
   bookend_or_ends left bytes bookend (inr (h, rest, begins, few, short)) = bookend_or_header bytes h rest bookend begins
 
-  pub passes_or_ends : (left : ℕ) (bytes : List ℕ) → PassesLimit K left bytes → ¬ EndsEarly K left bytes
-  passes_or_ends left bytes (h, rest, begins, past) (inl short) = omega (arith, short, header_within bytes h rest begins.bytes_are)
-  passes_or_ends left bytes (h, rest, begins, past) (inr (k, more, starts, few, short)) =
-      let rows : K.rows_after k ≡ K.rows_after h = ap (λ (j : H). K.rows_after j) (same_front bytes h k rest more begins.widths begins.bytes_are starts).0 in
-      omega (arith, past, few, rows)
-
   -- nor does any of them go with a record within the rows that are left
-  pub no_record : (left : ℕ) (bytes : List ℕ) (r : R) (rest : List ℕ) → K.IsStored r → K.row_count r ≤ left → bytes ≡ K.text r ++ rest → ¬ StopsAt K left bytes
+  pub no_record : (left : ℕ) (bytes : List ℕ) (r : R) (rest : List ℕ) → K.IsStored r → K.row_count r ≤ left → bytes ≡ K.record_bytes r ++ rest → ¬ StopsAt K left bytes
   no_record left bytes r rest stored within are (inl bookend) =
       bookend_or_header bytes (K.header_of r) (K.bytes_after r ++ rest) bookend (stored_begins bytes r rest stored are)
   no_record left bytes r rest stored within are (inr (inl (h, after, begins, past))) =
@@ -140,7 +134,7 @@ module _ {H R : Type 0} (K : RecordKind H R) (laws : KindLaws K) where
     stored = read.stored;
     is_stored = read.is_stored is_record fits;
     rows = subst (λ (h : H). K.rows_after h ≤ 4294967295) (sym read.same_header) few;
-    taken = subst Both (ap (λ (h : H). K.header_bytes h ++ K.bytes_after read.stored) (sym read.same_header) ∙ sym (laws.text_is read.stored))
+    taken = subst Both (ap (λ (h : H). K.header_bytes h ++ K.bytes_after read.stored) (sym read.same_header) ∙ sym (laws.record_bytes_are read.stored))
         (joins (K.header_bytes g) (K.bytes_after read.stored) taken read.taken);
     handed = read.handed;
   }

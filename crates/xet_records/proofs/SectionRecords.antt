@@ -55,8 +55,8 @@ module _ {H R : Type 0} (K : RecordKind H R) (laws : KindLaws K) where
       record {
         stored = before.stored ++ x ∷ [];
         are_stored = All-append K.IsStored before.stored (x ∷ []) before.are_stored (All-cons K.IsStored x [] next.reads.is_stored (All-nil K.IsStored));
-        taken = subst Both (ap (λ bs. flat_map K.text before.stored ++ bs) (sym (append-nil (K.text x))) ∙ sym (flat_map-append K.text before.stored (x ∷ [])))
-            (joins (flat_map K.text before.stored) (K.text x) before.taken next.reads.taken);
+        taken = subst Both (ap (λ bs. flat_map K.record_bytes before.stored ++ bs) (sym (append-nil (K.record_bytes x))) ∙ sym (flat_map-append K.record_bytes before.stored (x ∷ [])))
+            (joins (flat_map K.record_bytes before.stored) (K.record_bytes x) before.taken next.reads.taken);
         rows = omega (arith, sum_by_push K.row_count before.stored x, before.rows, next.rows, rows);
         handed = map-append K.handed_out before.stored (x ∷ []) ∙ (λ i. before.handed i ++ next.reads.handed i ∷ []);
       }
@@ -87,11 +87,11 @@ module _ {H R : Type 0} (K : RecordKind H R) (laws : KindLaws K) where
 
   -- what was written is read again, whatever follows
   read_front : (new : Option (List ℕ)) (r : R) (rest : List ℕ) (left after : ℕ) (found : Option R) → K.IsStored r
-      → ReadsNextRecord K (Consumes (Some (K.text r ++ rest)) new) left after found → (found ≡ Some (K.handed_out r)) × (new ≡ Some rest)
+      → ReadsNextRecord K (Consumes (Some (K.record_bytes r ++ rest)) new) left after found → (found ≡ Some (K.handed_out r)) × (new ≡ Some rest)
   read_front None r rest left after None stored read = absurd read.taken
   read_front None r rest left after (Some found) stored next = absurd next.reads.taken
   read_front (Some more) r rest left after None stored read =
-      let bytes = K.text r ++ rest in
+      let bytes = K.record_bytes r ++ rest in
       absurd (bookend_or_header K laws bytes (K.header_of r) (K.bytes_after r ++ rest)
       (record { header = read.header; rest = more; widths = read.widths; is_bookend = read.is_bookend; bytes_are = read.taken }) (stored_begins K laws bytes r rest stored refl))
   read_front (Some more) r rest left after (Some found) stored next =
@@ -106,6 +106,6 @@ module _ {H R : Type 0} (K : RecordKind H R) (laws : KindLaws K) where
     pub few_rows : OnOk r (IfSome old (λ bytes. ¬ PassesLimit K left bytes))
     few_rows = on_value _ _ Fails r (λ found next. (reads_whole old new left after found next).1) read
 
-    pub read_again : (x : R) (rest : List ℕ) → K.IsStored x → old ≡ Some (K.text x ++ rest) → IfOk r (λ found. (found ≡ Some (K.handed_out x)) × (new ≡ Some rest))
+    pub read_again : (x : R) (rest : List ℕ) → K.IsStored x → old ≡ Some (K.record_bytes x ++ rest) → IfOk r (λ found. (found ≡ Some (K.handed_out x)) × (new ≡ Some rest))
     read_again x rest stored are =
         on_value _ _ Fails r (λ found next. read_front new x rest left after found stored (subst (λ bs. ReadsNextRecord K (Consumes bs new) left after found) are next)) read

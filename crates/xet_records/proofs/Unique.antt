@@ -78,7 +78,7 @@ first-of : {X : Type 0} (o : Option X) → first (option_to_list o) ≡ o
 first-of None = refl
 first-of (Some x) = refl
 
--- bytes that begin with the texts of two records begin with those of one
+-- bytes that begin with the bytes of two records begin with those of one
 pub record_front : (r s : MDBFileInfo) (x y : List ℕ) → IsStored r → IsStored s → file_record_bytes r ++ x ≡ file_record_bytes s ++ y → (r ≡ s) × (x ≡ y)
 unfolding file_record_bytes file_rows_bytes
 record_front r s x y r_stored s_stored same =

@@ -1,5 +1,5 @@
 -- Views of records that are read from an input.
-use Rattle.std.proofs.Common.{◌≡◌, inl, inr, ℕ, ◌+◌, ◌*◌, ◌<◌, ◌≤◌, List, ◌++◌, length, zero, suc, refl, sym, ap, ◌∙◌, subst, arith}
+use Rattle.std.proofs.Common.{◌≡◌, inl, inr, ℕ, ◌+◌, ◌*◌, ◌<◌, ◌≤◌, List, ◌++◌, length, zero, suc, refl, ◌∙◌, subst, arith}
 use Rattle.std.specs.Prelude.{◌⊎◌}
 use Rattle.std.proofs.lemmas.List.{length-append}
 use Rattle.xet_base.specs.declared.error.CoreError.{CoreError}
@@ -7,8 +7,7 @@ use Rattle.xet_base.specs.declared.error.CoreError.TheVariants.{OutOfMemory}
 use Rattle.xet_records.specs.RecordKind.{RecordKind, KindLaws}
 use Rattle.xet_records.specs.Reading.{CountsHeader, Stops}
 use Rattle.xet_records.specs.Reading.Stops.{no_header, no_rows}
-use Rattle.xet_records.specs.View.{BeginsWithHeaderRow, ShowsRecord}
-use Rattle.xet_records.specs.ViewReading.{CountsStored, AddsRows, LacksMemory}
+use Rattle.xet_records.specs.ViewReading.{LacksMemory}
 
 module _ {H R : Type 0} (K : RecordKind H R) (laws : KindLaws K) where
   -- memory that runs out after a header: that of the rows after it, or of the header if it announces none
@@ -34,18 +33,3 @@ module _ {H R : Type 0} (K : RecordKind H R) (laws : KindLaws K) where
       no_rows h mid after begun (subst (λ n. fails mid new (48 * n) e) count_is failed)
   rows_not_read reads fails joins lacks left after count old mid new h e count_is begun (inr lacking) =
       lacks_memory_after reads fails joins lacks left after old mid new h e begun (subst (λ n. LacksMemory (reads mid new) n e) count_is lacking)
-
-  -- a header and the rows after it are a record
-  pub begins_after : (Next : List ℕ → Type 0) (h : H) (bytes : List ℕ) → K.Fits h → AddsRows Next (K.rows_after h) (K.header_bytes h) bytes → BeginsWithHeaderRow K bytes h
-  begins_after Next h bytes fits rows = record { rest = rows.added; widths = fits; bytes_are = rows.bytes_are }
-
-  pub whole_size : (Next : List ℕ → Type 0) (h : H) (bytes : List ℕ) → AddsRows Next (K.rows_after h) (K.header_bytes h) bytes → length bytes ≡ 48 + 48 * K.rows_after h
-  whole_size Next h bytes rows = ap length rows.bytes_are ∙ omega (arith, length-append (K.header_bytes h) rows.added, laws.header_size h, rows.size)
-
-  pub counts_stored : (First Next Both : List ℕ → Type 0) (left after : ℕ) (h : H) (bytes : List ℕ) (r : R) → ((xs ys : List ℕ) → First xs → Next ys → Both (xs ++ ys))
-      → CountsHeader K First left after h → AddsRows Next (K.rows_after h) (K.header_bytes h) bytes → ShowsRecord K h bytes r → CountsStored K Both left after r
-  counts_stored First Next Both left after h bytes r joins begun rows shown = record {
-    is_stored = shown.is_stored begun.read.is_record;
-    taken = subst Both (sym rows.bytes_are ∙ shown.bytes_are) (joins (K.header_bytes h) rows.added begun.read.taken rows.taken);
-    rows = ap (λ (k : H). after + (1 + K.rows_after k)) shown.same_header ∙ begun.rows;
-  }

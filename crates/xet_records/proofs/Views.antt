@@ -137,9 +137,6 @@ module _ {H R : Type 0} (K : RecordKind H R) (IsWhole : R → Type 0) where
 
 -- the rows of a record in the bytes that show it
 module _ (header : FileDataSequenceHeader) (bytes : List ℕ) (r : MDBFileInfo) (shown : Shows file_records IsWholeFile header bytes r) where
-  pub segment_count : length r.segments ≡ header.num_entries
-  segment_count = shown.whole.parts.segments ∙ ap (λ (h : FileDataSequenceHeader). h.num_entries) shown.same_header
-
   pub verification_count : length r.verification ≡ (if has_verification header.file_flags then header.num_entries else 0)
   verification_count =
       shown.whole.parts.verification ∙ ap (λ (h : FileDataSequenceHeader). if has_verification h.file_flags then h.num_entries else 0) shown.same_header

@@ -32,7 +32,7 @@ xorb_header_row-front g h x y g_fits h_fits same =
     let parts = same_parts (xorb_header_row g) (xorb_header_row h) x y (length-xorb_header_row g ∙ sym (length-xorb_header_row h)) same in
     (xorb_header_row-injective g h g_fits h_fits parts.0, parts.1)
 
--- bytes that begin with the texts of two records begin with those of one
+-- bytes that begin with the bytes of two records begin with those of one
 pub xorb_front : (r s : MDBXorbInfo) (x y : List ℕ) → IsStoredXorb r → IsStoredXorb s → xorb_record_bytes r ++ x ≡ xorb_record_bytes s ++ y → (r ≡ s) × (x ≡ y)
 unfolding xorb_record_bytes
 xorb_front r s x y r_stored s_stored same =

@@ -14,7 +14,7 @@ use Rattle.xet_records.specs.ViewReading.{CountsStored}
 pub record HasProcessed {H R V F : Type 0} (K : RecordKind H R) (record_of : V → R) (Took : List ℕ → Type 0) (step : F → V → CoreResult (Unit {0}) → F → Type 0) (old new : F) (left : ℕ) : Type 0 where
   pub given : List V
   pub are_stored : All (λ view. K.IsStored (record_of view)) given
-  pub taken : Took (flat_map (λ view. K.text (record_of view)) given)
+  pub taken : Took (flat_map (λ view. K.record_bytes (record_of view)) given)
   pub rows : sum_by (λ view. K.row_count (record_of view)) given + left ≡ 4294967295
   pub calls : FoldsTo (λ before view after. step before view (Ok tt) after) old given new
 

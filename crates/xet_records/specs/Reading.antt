@@ -39,7 +39,7 @@ pub record ReadsRecord {H R : Type 0} (K : RecordKind H R) (Took : List ℕ → 
   pub stored : R
   pub is_stored : K.IsStored stored
   pub rows : K.rows_after (K.header_of stored) ≤ 4294967295
-  pub taken : Took (K.text stored)
+  pub taken : Took (K.record_bytes stored)
   pub handed : K.handed_out stored ≡ found
 
 -- the same, and its rows counted down from those that were left
@@ -58,7 +58,7 @@ ReadsNextRecord K Took left after found = MatchOption found (ReadsBookend K Took
 pub record HasRead {H R : Type 0} (K : RecordKind H R) (Took : List ℕ → Type 0) (found : List R) (left : ℕ) : Type 0 where
   pub stored : List R
   pub are_stored : All K.IsStored stored
-  pub taken : Took (flat_map K.text stored)
+  pub taken : Took (flat_map K.record_bytes stored)
   pub rows : sum_by K.row_count stored + left ≡ 4294967295
   pub handed : map K.handed_out stored ≡ found
 

@@ -1,4 +1,4 @@
--- Files and xorbs have records of one shape, of which more is said in one place: a header row, and the rows that
+-- Files and xorbs have records of one shape: a header row, and the rows that
 -- it announces. A kind of records says what these are.
 use Rattle.std.specs.Prelude.{◌≡◌, ◌≢◌, ℕ, ◌+◌, ◌*◌, List, ◌++◌, length}
 use Rattle.xet_base.specs.declared.merklehash.DataHash.{DataHash}
@@ -17,7 +17,7 @@ pub record RecordKind (Header Record : Type 0) : Type 1 where
   pub rows_after : Header → ℕ
   -- the bytes of these rows, and of the whole record
   pub bytes_after : Record → List ℕ
-  pub text : Record → List ℕ
+  pub record_bytes : Record → List ℕ
   -- the rows of a record, its header included
   pub row_count : Record → ℕ
   -- it may be in a section
@@ -31,14 +31,14 @@ pub record KindLaws {H R : Type 0} (K : RecordKind H R) : Type 0 where
   pub header_front : (g h : H) (x y : List ℕ) → K.Fits g → K.Fits h → K.header_bytes g ++ x ≡ K.header_bytes h ++ y → (g ≡ h) × (x ≡ y)
   pub bookend_fits : K.Fits K.bookend
   pub bookend_hash : K.hash_of K.bookend ≡ all_ones
-  pub text_is : (r : R) → K.text r ≡ K.header_bytes (K.header_of r) ++ K.bytes_after r
+  pub record_bytes_are : (r : R) → K.record_bytes r ≡ K.header_bytes (K.header_of r) ++ K.bytes_after r
   pub size_after : (r : R) → K.IsStored r → length (K.bytes_after r) ≡ 48 * K.rows_after (K.header_of r)
   pub rows : (r : R) → K.IsStored r → K.row_count r ≡ 1 + K.rows_after (K.header_of r)
   pub header_fits : (r : R) → K.IsStored r → K.Fits (K.header_of r)
   pub is_record : (r : R) → K.IsStored r → K.hash_of (K.header_of r) ≢ all_ones
   pub same_header : (r : R) → K.header_of (K.handed_out r) ≡ K.header_of r
   pub same_rows : (r : R) → K.row_count (K.handed_out r) ≡ K.row_count r
-  pub front : (r s : R) (x y : List ℕ) → K.IsStored r → K.IsStored s → K.text r ++ x ≡ K.text s ++ y → (r ≡ s) × (x ≡ y)
+  pub front : (r s : R) (x y : List ℕ) → K.IsStored r → K.IsStored s → K.record_bytes r ++ x ≡ K.record_bytes s ++ y → (r ≡ s) × (x ≡ y)
 
 -- a type of rows is that of the headers of a kind, which reading returns as they are stored
 pub record IsHeaderRow {H R : Type 0} (K : RecordKind H R) (row_bytes : H → List ℕ) (Fits : H → Type 0) (handed_out : H → H) : Type 0 where

@@ -35,7 +35,7 @@ pub record ReadsOptional {T : Type 0} (row_bytes : T → List ℕ) (Fits : T →
 
 -- a row was written: its bytes were appended, and their number returned
 pub record WritesRow (old new : Option (List ℕ)) (row_bytes : List ℕ) (n : ℕ) : Type 0 where
-  pub text : Appends old new row_bytes
+  pub bytes : Appends old new row_bytes
   pub count : n ≡ 48
 
 -- a row was read with all its fields from a reader that had so many bytes

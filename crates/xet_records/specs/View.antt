@@ -34,7 +34,7 @@ pub record BeginsWithRecord {H R : Type 0} (K : RecordKind H R) (IsWhole : R →
   pub rest : List ℕ
   pub whole : IsWhole r
   pub rows : K.rows_after (K.header_of r) ≤ 4294967295
-  pub bytes_are : bytes ≡ K.text r ++ rest
+  pub bytes_are : bytes ≡ K.record_bytes r ++ rest
 
 abbrev pub BeginsWithFile : List ℕ → MDBFileInfo → Type 0
 BeginsWithFile bytes r = BeginsWithRecord file_records IsWholeFile bytes r
@@ -47,13 +47,13 @@ pub record Shows {H R : Type 0} (K : RecordKind H R) (IsWhole : R → Type 0) (h
   pub same_header : K.header_of r ≡ header
   pub whole : IsWhole r
   pub rows : K.rows_after header ≤ 4294967295
-  pub bytes_are : bytes ≡ K.text r
+  pub bytes_are : bytes ≡ K.record_bytes r
 
 -- the same of a record that may be in a section unless the header is a bookend
 pub record ShowsRecord {H R : Type 0} (K : RecordKind H R) (header : H) (bytes : List ℕ) (r : R) : Type 0 where
   pub same_header : K.header_of r ≡ header
   pub is_stored : K.hash_of header ≢ all_ones → K.IsStored r
-  pub bytes_are : bytes ≡ K.text r
+  pub bytes_are : bytes ≡ K.record_bytes r
 
 module _ {H R : Type 0} (K : RecordKind H R) where
   -- the bytes end before a header is complete, or before the rows that it announces, at most 4294967295, are

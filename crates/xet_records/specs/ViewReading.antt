@@ -8,7 +8,7 @@ use Rattle.xet_records.specs.Reading.{ReadsBookend}
 -- a stored record was read, and its rows counted down from those that were left
 pub record CountsStored {H R : Type 0} (K : RecordKind H R) (Took : List ℕ → Type 0) (left after : ℕ) (r : R) : Type 0 where
   pub is_stored : K.IsStored r
-  pub taken : Took (K.text r)
+  pub taken : Took (K.record_bytes r)
   pub rows : after + (1 + K.rows_after (K.header_of r)) ≡ left
 
 -- a view of the next record was read, or a bookend

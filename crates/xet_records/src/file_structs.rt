@@ -88,7 +88,7 @@ impl MDBFileInfo {
     #[tactic(auto, unfolding(crate::specs::FileRecord::file_record_bytes, crate::specs::FileRecord::file_rows_bytes))]
     pub fn serialize<W: Write>(&self, writer: &mut W) -> Result<usize>
         requires { FitsItsHeader self.now }
-        ensures text { OnOk result
+        ensures bytes { OnOk result
             (Appends (W.contents writer.old) (W.contents writer.new) (file_record_bytes self.now)) }
         ensures count { IfOk result (λ n. n ≡ 48 * row_count self.now) }
         ensures causes { IfErr result IsDeviceError }

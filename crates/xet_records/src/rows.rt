@@ -160,7 +160,7 @@ pub fn write_rows<T: Row, W: Write>(rows: &Rows<T>, writer: &mut W) -> io::Resul
 
 /// Appends the row, if there is one. The error is the writer's.
 pub fn write_optional<T: Row, W: Write>(row: &Option<T>, writer: &mut W) -> io::Result<()>
-    ensures text { OnOk result
+    ensures bytes { OnOk result
         (Appends (W.contents writer.old) (W.contents writer.new) (flat_map T.row_bytes (option_to_list row.now))) }
     ensures touched { IfErr result (λ _. IsTrue (is_some row.now)) }
 {

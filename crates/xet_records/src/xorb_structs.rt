@@ -254,7 +254,7 @@ impl MDBXorbInfo {
     #[tactic(auto, unfolding(crate::specs::XorbRecord::xorb_record_bytes))]
     pub fn serialize<W: Write>(&self, writer: &mut W) -> Result<usize>
         requires { HasItsChunks self.now }
-        ensures text { OnOk result
+        ensures bytes { OnOk result
             (Appends (W.contents writer.old) (W.contents writer.new) (xorb_record_bytes self.now)) }
         ensures count { IfOk result (λ n. n ≡ 48 * xorb_row_count self.now) }
         ensures causes { IfErr result IsDeviceError }

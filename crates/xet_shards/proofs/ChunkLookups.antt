@@ -27,14 +27,6 @@ last_or_before zero (suc n) below = inl (omega arith)
 last_or_before (suc i) zero below = absurd (omega (arith, below))
 last_or_before (suc i) (suc n) below = elim (last_or_before i n (omega (arith, below))) [ inl less ↦ inl (omega (arith, less)) | inr same ↦ inr (ap suc same) ]
 
--- before any chunk is entered, in any order of the entries
-pub entered-none : (f g : DataHash → Option ChunkLocation) (r : MDBXorbInfo) → ((q : DataHash) → g q ≡ f q) → IsEntered f g r 0
-entered-none f g r same = record {
-  present = λ q p at. inl (sym (same q) ∙ at);
-  kept = λ q some. subst IsSome (sym (same q)) some;
-  complete = λ q i below at. absurd (omega (arith, below));
-}
-
 -- one more chunk
 pub entered-more : (f g h : DataHash → Option ChunkLocation) (r : MDBXorbInfo) (n : ℕ) (k : DataHash) → chunk_at (r, n) ≡ Some k
     → ((q : DataHash) → h q ≡ cond (hash_eq k q) (Some (r, n)) (g q)) → IsEntered f g r n → IsEntered f h r (n + 1)

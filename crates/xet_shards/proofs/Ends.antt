@@ -8,7 +8,7 @@ use Rattle.xet_base.specs.Bytes.{u64_bytes, LacksBytes}
 use Rattle.xet_base.proofs.Bytes.{length-u64_bytes}
 use Rattle.xet_base.proofs.Lists.{front_is, rest_is}
 use Rattle.xet_shards.specs.Layout.{header_tag}
-use Rattle.xet_shards.specs.Ends.{HasUnsupportedHeader, EndsInHeader, HasUnsupportedFooter, EndsInFooter}
+use Rattle.xet_shards.specs.Ends.{HasUnsupportedHeader, HasUnsupportedFooter, EndsInFooter}
 
 length_is : (bytes part rest : List ℕ) → bytes ≡ part ++ rest → length bytes ≡ length part + length rest
 length_is bytes part rest are = ap length are ∙ length-append part rest
@@ -30,26 +30,12 @@ unsupported_version (Some bytes) (Some more) (Some after) tag rest tag_len len f
       λ same. differs (sym (take-append-le 8 rest after (omega (arith, len))) ∙ ap (take 8) (sym last ∙ sym (rest_is 32 bytes tag more tag_len first)) ∙ same),
     )
 
-pub cut_tag : (old : Option (List ℕ)) → LacksBytes old 32 → IfSome old EndsInHeader
-cut_tag None lacks = tt
-cut_tag (Some bytes) lacks = inl lacks
-
-pub cut_header : (old mid : Option (List ℕ)) (tag : List ℕ) → tag ≡ header_tag → Consumes old mid tag → LacksBytes mid 16 → IfSome old EndsInHeader
-cut_header None mid tag is_tag taken lacks = tt
-cut_header (Some bytes) None tag is_tag taken lacks = absurd taken
-cut_header (Some bytes) (Some rest) tag is_tag taken lacks =
-    inr (omega (arith, length_is bytes tag rest taken, ap length is_tag), front_is 32 bytes tag rest (ap length is_tag) taken ∙ is_tag)
-
 pub unsupported_footer : (old mid : Option (List ℕ)) (version : List ℕ) → length version ≡ 8 → Consumes old mid version → version ≢ u64_bytes 1
     → IfSome old HasUnsupportedFooter
 unsupported_footer None mid version len taken differs = tt
 unsupported_footer (Some bytes) None version len taken differs = absurd taken
 unsupported_footer (Some bytes) (Some rest) version len taken differs =
     (omega (arith, length_is bytes version rest taken, len), λ same. differs (sym (front_is 8 bytes version rest len taken) ∙ same))
-
-pub cut_version : (old : Option (List ℕ)) → LacksBytes old 8 → IfSome old EndsInFooter
-cut_version None lacks = tt
-cut_version (Some bytes) lacks = inl lacks
 
 pub cut_footer : (old mid : Option (List ℕ)) (version : List ℕ) → version ≡ u64_bytes 1 → Consumes old mid version → LacksBytes mid 192
     → IfSome old EndsInFooter

@@ -65,13 +65,6 @@ module _ {X : Type 0} where
         (λ tied. sym (ap is_some (before q)) ∙ at_key m false free q tied) (at_key except false in_reach q)
         ∙ sym (ap (λ o. option_or (f q) (cond (is_some (get except q)) None o)) (entry-append es k v q))
 
-  pub filled-none : (except m : FinMap hash_cmp X) → IsFilled (get m) except m []
-  filled-none except m = λ q. sym (nothing (get m q) (is_some (get except q))) where
-    nothing : (o : Option X) (b : Bool) → option_or o (cond b None None) ≡ o
-    nothing (Some x) b = refl
-    nothing None true = refl
-    nothing None false = refl
-
   -- a loop over all entries of a map
   module _ (except m n from : FinMap hash_cmp X) (es : List (DataHash × X)) (same : es ≡ entries from) (filled : IsFilled (get m) except n es) where
     entry_is : (q : DataHash) → entry es q ≡ get from q

@@ -9,18 +9,18 @@ use Rattle.xet_records.specs.declared.xorb_structs.MDBXorbInfo.{MDBXorbInfo}
 use Rattle.xet_records.specs.RecordKind.{RecordKind}
 use Rattle.xet_records.specs.FileRecord.{file_records, file_bookend, FitsRecord}
 use Rattle.xet_records.specs.XorbRecord.{xorb_records, xorb_bookend}
-use Rattle.xet_records.proofs.Lengths.{length-header_row, length-file_record_bytes, length-xorb_header_row, length-xorb_record_bytes, length-texts}
+use Rattle.xet_records.proofs.Lengths.{length-header_row, length-file_record_bytes, length-xorb_header_row, length-xorb_record_bytes, length-all_record_bytes}
 use Rattle.xet_shards.specs.declared.shard_format.header.MDBShardFileHeader.{MDBShardFileHeader}
 use Rattle.xet_shards.specs.declared.shard_format.footer.MDBShardFileFooter.{MDBShardFileFooter}
 use Rattle.xet_shards.specs.Section.{total_rows, section_bytes}
 use Rattle.xet_shards.specs.Layout.{shard_header_bytes, shard_footer_bytes}
 
 -- a row has 48 bytes, the bookend too
-pub length-section : {H R : Type 0} (K : RecordKind H R) (Fits : R → Type 0) → length (K.header_bytes K.bookend) ≡ 48 → ((r : R) → Fits r → length (K.text r) ≡ 48 * K.row_count r)
+pub length-section : {H R : Type 0} (K : RecordKind H R) (Fits : R → Type 0) → length (K.header_bytes K.bookend) ≡ 48 → ((r : R) → Fits r → length (K.record_bytes r) ≡ 48 * K.row_count r)
     → (records : List R) → All Fits records → length (section_bytes K records) ≡ 48 * total_rows K records + 48
 unfolding section_bytes
 length-section K Fits bookend each records fit =
-    length-append (flat_map K.text records) (K.header_bytes K.bookend) ∙ omega (arith, length-texts K.text K.row_count Fits each records fit, bookend)
+    length-append (flat_map K.record_bytes records) (K.header_bytes K.bookend) ∙ omega (arith, length-all_record_bytes K.record_bytes K.row_count Fits each records fit, bookend)
 
 pub length-file_section : (files : List MDBFileInfo) → All FitsRecord files → length (section_bytes file_records files) ≡ 48 * total_rows file_records files + 48
 length-file_section files fit = length-section file_records FitsRecord (length-header_row file_bookend) length-file_record_bytes files fit

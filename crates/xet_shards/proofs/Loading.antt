@@ -1,5 +1,5 @@
 -- Header and footer of a source.
-use Rattle.std.proofs.Common.{◌≡◌, ◌≢◌, inl, inr, Ok, Err, Some, ℕ, ◌+◌, ◌-◌, ◌^◌, ◌<◌, ◌≤◌, List, [], ◌++◌, length, take, drop, append-nil, sym, ap, ◌∙◌, subst, refl, arith}
+use Rattle.std.proofs.Common.{◌≡◌, ◌≢◌, inl, inr, Ok, Err, Some, ℕ, ◌+◌, ◌-◌, ◌^◌, ◌<◌, ◌≤◌, List, [], ◌++◌, length, take, drop, append-nil, sym, ap, ◌∙◌, subst, arith}
 use Rattle.std.proofs.lemmas.List.{length-append, length-drop, append_assoc, nil_from_length}
 use Rattle.std.specs.Prelude.{IfOk, IfErr}
 use Rattle.std.specs.declared.result.Result.{Result}
@@ -157,11 +157,3 @@ module _ (old mid : Source) (h : MDBShardFileHeader) (taken : Takes (moved old 0
             footer = sym last_is ∙ left ∙ ap (λ bs. shard_footer_bytes f ++ bs) nothing ∙ append-nil (shard_footer_bytes f);
           };
         }
-
-pub not_header : (old new : Source) (e : CoreError) → PartFails HasUnsupportedHeader EndsInHeader 48 (moved old 0) new e → LoadFails old new e
-not_header old new e fails = record {
-  bytes = fails.bytes;
-  seeks = omega (arith, fails.seeks);
-  read = omega (arith, fails.read);
-  cause = refusal_of HasUnsupportedHeader EndsInHeader IsUnsupported IsTooShort old.bytes old.bytes old (moved old 0) new e refl (λ has. inl has) (λ ends. inl ends) fails.cause;
-}

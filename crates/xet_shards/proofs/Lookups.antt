@@ -1,11 +1,11 @@
 -- Reading the records that a lookup leads to.
-use Rattle.std.proofs.Common.{◌≡◌, ◌≢◌, inl, inr, ℕ, ◌+◌, ◌*◌, ◌^◌, ◌<◌, ◌≤◌, List, [], ◌∷◌, ◌++◌, length, map, take, drop, Option, refl, sym, ap, ◌∙◌, subst, arith, mul-add, mul-one}
+use Rattle.std.proofs.Common.{◌≡◌, ◌≢◌, inl, inr, ℕ, ◌+◌, ◌*◌, ◌^◌, ◌<◌, ◌≤◌, List, [], ◌∷◌, ◌++◌, length, map, take, drop, Option, sym, ap, ◌∙◌, subst, arith, mul-add, mul-one}
 use Rattle.std.specs.Prelude.{IfOk}
 use Rattle.std.specs.declared.result.Result.{Result}
 use Rattle.std.proofs.lemmas.Result.{IfOk-weaker}
 use Rattle.std.proofs.lemmas.List.{length-append, length-map}
 use Rattle.xet_base.specs.Table.{Table, FitsTable, Serves, IsSorted, Bounded, Hit, IsHit, Finds, value_at}
-use Rattle.std.proofs.lemmas.List.Elements.{AllZip-push, All-nil, All-push, All-weaker}
+use Rattle.std.proofs.lemmas.List.Elements.{AllZip-push, All-push, All-weaker}
 use Rattle.std.proofs.lemmas.List.Sums.{sum_by-append}
 use Rattle.xet_base.specs.declared.error.CoreError.{CoreError}
 use Rattle.xet_base.specs.declared.merklehash.DataHash.{DataHash}
@@ -18,7 +18,7 @@ use Rattle.xet_base.proofs.Reading.{Takes-consumes}
 use Rattle.xet_base.proofs.Search.{serves_still, serves_moved, serves_advanced}
 use Rattle.xet_records.specs.RecordKind.{RecordKind}
 use Rattle.xet_records.specs.Reading.{ReadsBookend}
-use Rattle.xet_records.proofs.RecordKinds.{KindLaws, length-text, stored_begins}
+use Rattle.xet_records.proofs.RecordKinds.{KindLaws, length-record_bytes, stored_begins}
 use Rattle.xet_shards.specs.SectionReading.{MayTake, PassesLimit, EndsEarly, SectionCase, ReadsNext, RecordFails}
 use Rattle.xet_base.specs.InputLaws.{failed_after}
 use Rattle.xet_shards.specs.Lookup.{IsNumber, Collides, IndexFinds, VisitsSome, LooksUp, LookupAnswer, LookupRefused, Finding, FindingFails, row_at, RecordAt, IsBareInternalError, RecordRefusal, InfoRefusal, ReadsInfo, ReadInfoFails, Visit, Visits, Missed}
@@ -73,8 +73,8 @@ rows_in_front t key count old new finds =
 
 module _ {H R : Type 0} (K : RecordKind H R) (laws : KindLaws K) where
   -- a stored record has the rows that its header announces, and the header
-  pub length-stored : (r : R) → K.IsStored r → length (K.text r) ≡ 48 * (1 + K.rows_after (K.header_of r))
-  length-stored r stored = length-text K laws r stored ∙ ap (λ n. 48 * n) (laws.rows r stored)
+  pub length-stored : (r : R) → K.IsStored r → length (K.record_bytes r) ≡ 48 * (1 + K.rows_after (K.header_of r))
+  length-stored r stored = length-record_bytes K laws r stored ∙ ap (λ n. 48 * n) (laws.rows r stored)
 
   -- the seek to a row failed
   pub info_no_seek : (offset row : ℕ) (old new : Source) (failure : Error) (e : CoreError) → row_at offset row < 2 ^ 64 → Fails old new 1 failure → FromDevice failure e
@@ -97,14 +97,14 @@ module _ {H R : Type 0} (K : RecordKind H R) (laws : KindLaws K) where
     pub info_read : (left after : ℕ) (found : R) → ReadsNext K mid new left after found → ReadsInfo K offset row old new found
     info_read left after found next =
         let read = next.reads in
-        let are : drop (row_at offset row) old.bytes ≡ K.text read.stored ++ bytes_left new = sym left_is ∙ Takes-consumes mid new (K.text read.stored) read.taken in
+        let are : drop (row_at offset row) old.bytes ≡ K.record_bytes read.stored ++ bytes_left new = sym left_is ∙ Takes-consumes mid new (K.record_bytes read.stored) read.taken in
         record {
           within = fits;
           stands = record { stored = read.stored; is_stored = read.is_stored; rows = read.rows; taken = (bytes_left new, are); handed = read.handed };
-          serves = serves_advanced old mid new (length (K.text read.stored)) (serves_moved old old mid (row_at offset row) (serves_still old) sought) read.taken.after;
+          serves = serves_advanced old mid new (length (K.record_bytes read.stored)) (serves_moved old old mid (row_at offset row) (serves_still old) sought) read.taken.after;
           seeks = ap (λ (s : Source). s.seeks) read.taken.after ∙ ap (λ (s : Source). s.seeks) sought;
-          taken = length (K.text read.stored);
-          read = ap (λ (s : Source). s.read) read.taken.after ∙ ap (λ (s : Source). s.read + length (K.text read.stored)) sought;
+          taken = length (K.record_bytes read.stored);
+          read = ap (λ (s : Source). s.read) read.taken.after ∙ ap (λ (s : Source). s.read + length (K.record_bytes read.stored)) sought;
           may_take = inr (
             K.header_of read.stored,
             K.bytes_after read.stored ++ bytes_left new,
@@ -165,9 +165,6 @@ module _ {H R : Type 0} (K : RecordKind H R) (laws : KindLaws K) where
     read = omega (arith, visit.read, before.read, sum_by-append (λ k. k) before.taken (visit.taken ∷ []));
   }
 
-  pub visits_none : (most offset : ℕ) (s : Source) → Visits K most offset [] s s
-  visits_none most offset s = record { bytes = refl; seeks = omega arith; no_fewer = omega arith; taken = []; may_take = tt; read = omega arith }
-
   pub visits_read : (offset row : ℕ) (rows : List ℕ) (old now new : Source) (found : R) → Visits K 1 offset rows old now → ReadsInfo K offset row now new found
       → Visits K 1 offset (rows ++ row ∷ []) old new
   visits_read offset row rows old now new found before read = visits_more 1 offset row rows old now new before (record {
@@ -189,14 +186,6 @@ module _ {H R : Type 0} (K : RecordKind H R) (laws : KindLaws K) where
     read = read.read;
     may_take = read.may_take;
   })
-
-  -- before the first record
-  pub missed_none : (offset : ℕ) (hash : DataHash) (s : Source) → Missed K offset hash [] s s
-  missed_none offset hash s = record {
-    visits = visits_none 1 offset s;
-    serves = serves_still s;
-    others = All-nil (λ row. (found : R) × RecordAt K s.bytes (row_at offset row) found × (hash_in K found ≢ hash));
-  }
 
   -- one record more
   pub missed_more : (offset row : ℕ) (hash : DataHash) (rows : List ℕ) (old now new : Source) (found : R) → Missed K offset hash rows old now

@@ -1,5 +1,5 @@
 -- Queries at one location: what the header that is read there and the run after it tell.
-use Rattle.std.proofs.Common.{◌≡◌, ◌≢◌, inl, inr, Ok, Err, ℕ, ◌+◌, ◌-◌, ◌*◌, ◌<◌, ◌≤◌, List, [], ◌∷◌, ◌++◌, length, drop, Option, None, refl, ap, ◌∙◌, subst, arith}
+use Rattle.std.proofs.Common.{◌≡◌, ◌≢◌, inl, inr, Ok, Err, ℕ, ◌+◌, ◌-◌, ◌*◌, ◌<◌, ◌≤◌, List, [], ◌∷◌, ◌++◌, length, drop, Option, refl, ap, ◌∙◌, subst, arith}
 use Rattle.std.specs.Prelude.{OnOk, IfErr}
 use Rattle.std.specs.declared.result.Result.{Result}
 use Rattle.xet_base.specs.declared.error.CoreError.{CoreError}
@@ -18,29 +18,12 @@ use Rattle.xet_shards.specs.Lookup.{row_at, Visit}
 use Rattle.xet_shards.specs.RunReading.{FoundRun, AnnouncesChunk, AnnouncesNoChunk, AnswerAt, RefusedAt, chunks_at}
 use Rattle.xet_shards.specs.RunSteps.{RowFails, RunFailure, RunFails}
 
-pub no_hashes : (key : DataHash) (qs : List DataHash) (bytes : List ℕ) (offset row index : ℕ) → length qs ≡ 0 → AnswerAt key qs bytes offset row index None
-no_hashes key [] bytes offset row index none = refl
-no_hashes key (q ∷ qs) bytes offset row index none = absurd (omega (arith, none))
-
 answer_at : (key : DataHash) (qs : List DataHash) (bytes : List ℕ) (offset row index : ℕ) (header : XorbChunkSequenceHeader) (answer : Option (ℕ × FileDataSequenceEntry)) → length qs ≢ 0
     → AnnouncesChunk bytes offset row index header → FoundRun key qs header index (chunks_at bytes offset row index) answer → AnswerAt key qs bytes offset row index answer
 answer_at key [] bytes offset row index header answer some location found = absurd (some refl)
 answer_at key (q ∷ qs) bytes offset row index header answer some location found = (header, location, found)
 
-pub visit_nothing : (offset row : ℕ) (old : Source) → Visit xorb_records 2 offset row old old
-visit_nothing offset row old = record { bytes = refl; seeks = omega arith; no_fewer = omega arith; taken = 0; read = omega arith; may_take = inl (omega arith) }
-
 module _ (Absent : CoreError → Type 0) (key : DataHash) (qs : List DataHash) (offset row index : ℕ) (old : Source) where
-  -- the header was not read
-  pub header_refused : (new : Source) (e : CoreError) → RowFails offset row old new e → RefusedAt Absent key qs offset row index old new e
-  header_refused new e fails = elim fails.cause [
-    | inl device ↦ inl device
-    | inr cause ↦ elim cause [
-      | inl past ↦ inr (inl (past.0, past.1, inl past.2))
-      | inr ended ↦ inr (inr (inr (ended.0, ended.1, inl ended.2)))
-    ]
-  ]
-
   pub visit_failed : (new : Source) (e : CoreError) → RowFails offset row old new e → Visit xorb_records 2 offset row old new
   visit_failed new e fails =
       record { bytes = fails.bytes; seeks = omega (arith, fails.seeks); no_fewer = fails.no_fewer; taken = 48; read = fails.read; may_take = inl (omega arith) }

@@ -101,13 +101,13 @@ module _ (key : DataHash) where
         many : length (before.chunks ++ c ∷ []) ≡ n + 1
         many = length-append before.chunks (c ∷ []) ∙ ap (λ k. k + 1) before.many
 
-        texts : flat_map chunk_row before.chunks ++ chunk_row read.stored ≡ flat_map chunk_row (before.chunks ++ c ∷ [])
-        texts =
+        both_bytes : flat_map chunk_row before.chunks ++ chunk_row read.stored ≡ flat_map chunk_row (before.chunks ++ c ∷ [])
+        both_bytes =
             ap (λ x. flat_map chunk_row before.chunks ++ chunk_row x) read.handed ∙ ap (λ bs. flat_map chunk_row before.chunks ++ bs) (sym (append-nil (chunk_row c)))
             ∙ sym (flat_map-append chunk_row before.chunks (c ∷ []))
 
         taken : Takes start new (flat_map chunk_row (before.chunks ++ c ∷ []))
-        taken = subst (Takes start new) texts (Takes-trans start now new (flat_map chunk_row before.chunks) (chunk_row read.stored) before.taken read.taken)
+        taken = subst (Takes start new) both_bytes (Takes-trans start now new (flat_map chunk_row before.chunks) (chunk_row read.stored) before.taken read.taken)
 
         length_is : run_length key qs (before.chunks ++ c ∷ []) ≡ n + cond (hash_eq (under_key key (get_or qs n d)) c.chunk_hash) 1 0
         length_is =

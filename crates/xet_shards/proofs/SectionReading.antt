@@ -11,8 +11,8 @@ use Rattle.xet_base.proofs.Reading.{Takes-consumes, lacks_left}
 use Rattle.xet_records.specs.RecordKind.{RecordKind}
 use Rattle.xet_records.specs.Reading.{ReadsBookend, ReadsHeader, BeginsWithHeader, PassesLimit, EndsEarly, HasRead, Stops, ReadsRecords, StopsAfter}
 use Rattle.xet_records.specs.Reading.Stops.{no_header, too_many_rows, no_rows}
-use Rattle.xet_records.proofs.Lengths.{length-texts}
-use Rattle.xet_records.proofs.RecordKinds.{KindLaws, length-text, stored_begins}
+use Rattle.xet_records.proofs.Lengths.{length-all_record_bytes}
+use Rattle.xet_records.proofs.RecordKinds.{KindLaws, length-record_bytes, stored_begins}
 use Rattle.xet_shards.specs.SectionReading.SectionCase.{not_read, passes_limit}
 use Rattle.xet_shards.specs.SectionReading.{HoldsRecords, PassesRows, IsCutSection, TakesSection, TakesNoSection, SectionCase, SectionFailure, ReadsNext, RecordFails, rows_left}
 
@@ -88,40 +88,29 @@ module _ {H R : Type 0} (K : RecordKind H R) (laws : KindLaws K) where
               (λ short. inr (h, bytes_left mid, begins, within, lacks_left mid (48 * K.rows_after h) (omega (arith, short, inside)) short)) fails.cause;
         }
 
-  -- the device failed to say its offset, before the header or after the whole record
-  pub no_offset : (left : ℕ) (old new : Source) (failure : Error) (e : CoreError) → Fails old new 0 failure → FromDevice failure e → RecordFails K left old new e
-  no_offset left old new failure e fails is = record {
-    bytes = fails.bytes;
-    seeks = omega (arith, fails.seeks);
-    taken = 0;
-    read = omega (arith, fails.read);
-    may_take = inl (omega arith);
-    cause = inl (fails.failures, failure, fails.last_failure, is);
-  }
-
   pub no_offset_after : (left after : ℕ) (old now new : Source) (found : R) (failure : Error) (e : CoreError) → ReadsNext K old now left after found
       → Fails now new 0 failure → FromDevice failure e → RecordFails K left old new e
   no_offset_after left after old now new found failure e next fails is =
       let x = next.reads.stored in
       let taken = next.reads.taken in
       let stored = next.reads.is_stored in
-      let are : bytes_left old ≡ K.text x ++ bytes_left now = Takes-consumes old now (K.text x) taken in
-      let size : length (K.text x) ≡ 48 * (1 + K.rows_after (K.header_of x)) = length-text K laws x stored ∙ ap (λ n. 48 * n) (laws.rows x stored) in
+      let are : bytes_left old ≡ K.record_bytes x ++ bytes_left now = Takes-consumes old now (K.record_bytes x) taken in
+      let size : length (K.record_bytes x) ≡ 48 * (1 + K.rows_after (K.header_of x)) = length-record_bytes K laws x stored ∙ ap (λ n. 48 * n) (laws.rows x stored) in
       record {
         bytes = fails.bytes ∙ ap (λ (s : Source). s.bytes) taken.after;
         seeks = omega (arith, fails.seeks, ap (λ (s : Source). s.seeks) taken.after);
-        taken = length (K.text x);
+        taken = length (K.record_bytes x);
         read = omega (arith, fails.read, ap (λ (s : Source). s.read) taken.after);
         may_take = inr (K.header_of x, K.bytes_after x ++ bytes_left now, stored_begins K laws (bytes_left old) x (bytes_left now) stored are, omega (arith, size));
         cause = inl (fails.failures ∙ ap (λ (s : Source). s.failures + 1) taken.after, failure, fails.last_failure, is);
       }
 
-  -- the place after the records that were read
-  pub place_after : (start now : Source) (found : List R) (left : ℕ) → HasRead K (Takes start now) found left → now.at ≡ start.at + 48 * sum_by K.row_count found
-  place_after start now found left read = omega (
+  -- the offset after the records that were read
+  pub offset_after : (start now : Source) (found : List R) (left : ℕ) → HasRead K (Takes start now) found left → now.at ≡ start.at + 48 * sum_by K.row_count found
+  offset_after start now found left read = omega (
     arith,
     ap (λ (s : Source). s.at) read.taken.after,
-    length-texts K.text K.row_count K.IsStored (length-text K laws) read.stored read.are_stored,
+    length-all_record_bytes K.record_bytes K.row_count K.IsStored (length-record_bytes K laws) read.stored read.are_stored,
     same_total read.stored,
     ap (λ rs. sum_by K.row_count rs) read.handed,
   )
@@ -137,7 +126,7 @@ module _ {H R : Type 0} (K : RecordKind H R) (laws : KindLaws K) where
     holds = record {
       are_stored = read.are_stored;
       rows = omega (arith, read.rows);
-      bytes_are = Takes-consumes start now (flat_map K.text read.stored) read.taken;
+      bytes_are = Takes-consumes start now (flat_map K.record_bytes read.stored) read.taken;
     }
 
     left_is : left ≡ rows_left K read.stored
@@ -154,14 +143,14 @@ module _ {H R : Type 0} (K : RecordKind H R) (laws : KindLaws K) where
 
     pub section_ends : (new : Source) → ReadsBookend K (Takes now new) → TakesSection K start new found
     section_ends new last =
-        let texts = flat_map K.text read.stored in
+        let records_bytes = flat_map K.record_bytes read.stored in
         let bookend = K.header_bytes last.header in
-        let size : length (texts ++ bookend) ≡ 48 * (sum_by K.row_count read.stored + 1) =
+        let size : length (records_bytes ++ bookend) ≡ 48 * (sum_by K.row_count read.stored + 1) =
         omega (
           arith,
-          length-append texts bookend,
+          length-append records_bytes bookend,
           laws.header_size last.header,
-          length-texts K.text K.row_count K.IsStored (length-text K laws) read.stored read.are_stored,
+          length-all_record_bytes K.record_bytes K.row_count K.IsStored (length-record_bytes K laws) read.stored read.are_stored,
         ) in
         record {
           stored = read.stored;
@@ -177,7 +166,7 @@ module _ {H R : Type 0} (K : RecordKind H R) (laws : KindLaws K) where
             };
           };
           handed = read.handed;
-          after = (Takes-trans start now new texts bookend read.taken last.taken).after ∙ ap (advanced start) size;
+          after = (Takes-trans start now new records_bytes bookend read.taken last.taken).after ∙ ap (advanced start) size;
         }
 
     whole_cause : (new : Source) (e : CoreError) → SectionFailure (PassesLimit K left) (EndsEarly K left) (bytes_left now) now new e

@@ -14,7 +14,7 @@ use Rattle.xet_records.proofs.SectionRecords.{nothing_read, more_read}
 use Rattle.xet_shards.specs.Section.{total_rows, with_fronts}
 use Rattle.xet_shards.specs.SectionReading.{IsSection, TakesNoSection}
 use Rattle.xet_shards.specs.SectionWalk.{kept_of, KeepsSection, HasKept, KeepsNext}
-use Rattle.xet_shards.proofs.SectionReading.{section_ends, place_after}
+use Rattle.xet_shards.proofs.SectionReading.{section_ends, offset_after}
 use Rattle.xet_shards.proofs.Readback.{why_not, only_these}
 use Rattle.xet_shards.proofs.Tables.{with_fronts-push}
 
@@ -34,7 +34,7 @@ module _ {H R T : Type 0} (K : RecordKind H R) (laws : KindLaws K) (keep : ℕ �
   more_kept start now new found left after value before (r, is, next) = record {
     records = before.records ++ r ∷ [];
     read = more_read K laws _ _ _ before.records left after r (Takes-trans start now new) before.read next;
-    kept = (λ i. before.kept i ++ is i ∷ []) ∙ ap (λ n. kept_of K keep start.at before.records ++ keep n r ∷ []) (place_after K laws start now before.records left before.read)
+    kept = (λ i. before.kept i ++ is i ∷ []) ∙ ap (λ n. kept_of K keep start.at before.records ++ keep n r ∷ []) (offset_after K laws start now before.records left before.read)
         ∙ sym (kept_of-push start.at before.records r);
   }
 

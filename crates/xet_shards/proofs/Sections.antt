@@ -13,7 +13,7 @@ use Rattle.xet_shards.proofs.Xorbs.{xorb_values}
 
 -- their bytes and a bookend are a section, whatever follows
 pub section_there : {H R : Type 0} (K : RecordKind H R) → KindLaws K → (records : List R) → FitsSection K records → (bytes rest : List ℕ)
-    → bytes ≡ flat_map K.text records ++ (K.header_bytes K.bookend ++ rest) → IsSection K bytes records
+    → bytes ≡ flat_map K.record_bytes records ++ (K.header_bytes K.bookend ++ rest) → IsSection K bytes records
 section_there K laws records fits bytes rest are = record {
   rest = K.header_bytes K.bookend ++ rest;
   records = record { are_stored = fits.stored; rows = fits.rows; bytes_are = are };

@@ -14,7 +14,7 @@ use Rattle.xet_records.specs.declared.file_structs.MDBFileInfo.{MDBFileInfo}
 use Rattle.xet_records.specs.FileRecord.{file_records, IsWellFormed}
 use Rattle.xet_records.proofs.RecordKinds.{file_laws}
 use Rattle.xet_shards.specs.Shard.{Shard, IsShard, file_hash_of}
-use Rattle.xet_shards.specs.Lookup.{Finding, FindingFails, FoundInShard, NotFoundAmong}
+use Rattle.xet_shards.specs.Lookup.{LooksUpRecord, FoundInShard, NotFoundAmong}
 use Rattle.xet_shards.proofs.Files.{well_formed_values}
 use Rattle.xet_shards.proofs.Found.{found_entry, entry_found}
 use Rattle.xet_shards.proofs.InForm.{no_file}
@@ -56,9 +56,9 @@ module _ (s : Shard) (shard : IsShard s) where
 
   pub lookup_written : (offset start count : ℕ) (old : Source) → IsLookedUp file_records no_file (values s.files) offset start count old
       → (new : Source) (hash : DataHash) (r : Result (Option MDBFileInfo) CoreError)
-      → MatchResult r (Finding file_records (table_at old start count 4) offset hash old new) (FindingFails file_records (table_at old start count 4) offset hash old new)
+      → LooksUpRecord file_records (table_at old start count 4) offset hash old new r
       → MatchResult r (FoundInShard s hash) (NotFoundAmong file_records (values s.files) hash old new)
-  lookup_written offset start count old is new hash (Ok answer) finding =
-      let found = answered file_records file_laws no_file (values s.files) offset start count old is hash new answer finding in
+  lookup_written offset start count old is new hash (Ok answer) looks =
+      let found = answered file_records file_laws no_file (values s.files) offset start count old is hash new answer looks.read in
       (found.0, map_answers hash answer found.1)
-  lookup_written offset start count old is new hash (Err e) refused = not_answered file_records file_laws no_file (values s.files) offset start count old is hash new e refused
+  lookup_written offset start count old is new hash (Err e) looks = not_answered file_records file_laws no_file (values s.files) offset start count old is hash new e looks.read

@@ -12,8 +12,8 @@ use Rattle.xet_base.specs.Source.ReadCase.{out_of_memory, out_of_bytes}
 use Rattle.xet_base.proofs.Lists.{rest_is}
 use Rattle.xet_records.specs.RecordKind.{RecordKind}
 use Rattle.xet_records.specs.Reading.{BeginsWithHeader}
-use Rattle.xet_records.proofs.Lengths.{length-texts}
-use Rattle.xet_records.proofs.RecordKinds.{KindLaws, StopsAt, length-text, stored_begins, same_front, no_record}
+use Rattle.xet_records.proofs.Lengths.{length-all_record_bytes}
+use Rattle.xet_records.proofs.RecordKinds.{KindLaws, StopsAt, length-record_bytes, stored_begins, same_front, no_record}
 use Rattle.xet_shards.specs.InForm.{FitsSection}
 use Rattle.xet_shards.specs.Section.{total_rows, StartsAt}
 use Rattle.xet_shards.specs.SectionReading.SectionCase.{not_read, passes_limit}
@@ -26,7 +26,7 @@ pub record AreStoredAt {H R : Type 0} (K : RecordKind H R) (records : List R) (o
   pub fits : FitsSection K records
   pub offset_fits : offset ≤ 2 ^ 48
   pub rest : List ℕ
-  pub records_are : drop offset bytes ≡ flat_map K.text records ++ (K.header_bytes K.bookend ++ rest)
+  pub records_are : drop offset bytes ≡ flat_map K.record_bytes records ++ (K.header_bytes K.bookend ++ rest)
 
 -- the i-th starts after the rows of those before it
 pub starts_at_index : {H R : Type 0} (K : RecordKind H R) (records : List R) (i : ℕ) (d : R) → i < length records → StartsAt K records (total_rows K (take i records)) (get_or records i d)
@@ -51,18 +51,18 @@ module _ {H R : Type 0} (K : RecordKind H R) (laws : KindLaws K) (records : List
       All-contains K.IsStored records x is.fits.stored
       (subst (λ rs. Contains rs x) (sym at.records_are) (Contains-append_left at.before (r ∷ at.after) x (Contains-get_or at.before i d below)))
 
-  pub record_there : (rest : List ℕ) × (drop (row_at offset row) old.bytes ≡ K.text r ++ rest)
+  pub record_there : (rest : List ℕ) × (drop (row_at offset row) old.bytes ≡ K.record_bytes r ++ rest)
   record_there =
       let end = K.header_bytes K.bookend ++ is.rest in
-      let texts : flat_map K.text records ≡ flat_map K.text at.before ++ (K.text r ++ flat_map K.text at.after) =
-      ap (flat_map K.text) at.records_are ∙ flat_map-append K.text at.before (r ∷ at.after) in (
-        flat_map K.text at.after ++ end,
+      let both_bytes : flat_map K.record_bytes records ≡ flat_map K.record_bytes at.before ++ (K.record_bytes r ++ flat_map K.record_bytes at.after) =
+      ap (flat_map K.record_bytes) at.records_are ∙ flat_map-append K.record_bytes at.before (r ∷ at.after) in (
+        flat_map K.record_bytes at.after ++ end,
         sym (drop-drop (48 * row) offset old.bytes)
             ∙ ap (drop (48 * row)) is.records_are
-            ∙ rest_is (48 * row) (flat_map K.text records ++ end) (flat_map K.text at.before) ((K.text r ++ flat_map K.text at.after) ++ end)
-            (length-texts K.text K.row_count K.IsStored (length-text K laws) at.before before_stored ∙ ap (λ n. 48 * n) (sym at.row_is))
-            (ap (λ xs. xs ++ end) texts ∙ append_assoc (flat_map K.text at.before) (K.text r ++ flat_map K.text at.after) end)
-            ∙ append_assoc (K.text r) (flat_map K.text at.after) end,
+            ∙ rest_is (48 * row) (flat_map K.record_bytes records ++ end) (flat_map K.record_bytes at.before) ((K.record_bytes r ++ flat_map K.record_bytes at.after) ++ end)
+            (length-all_record_bytes K.record_bytes K.row_count K.IsStored (length-record_bytes K laws) at.before before_stored ∙ ap (λ n. 48 * n) (sym at.row_is))
+            (ap (λ xs. xs ++ end) both_bytes ∙ append_assoc (flat_map K.record_bytes at.before) (K.record_bytes r ++ flat_map K.record_bytes at.after) end)
+            ∙ append_assoc (K.record_bytes r) (flat_map K.record_bytes at.after) end,
       )
 
   -- a record that is read there is this one
@@ -81,10 +81,10 @@ module _ {H R : Type 0} (K : RecordKind H R) (laws : KindLaws K) (records : List
   end_bound =
       omega (arith, is.fits.rows, ap (total_rows K) at.records_are, sum_by-append K.row_count at.before (r ∷ at.after), sum_by-cons K.row_count r at.after, at.row_is)
 
-  -- reading it takes no more than its text
-  pub text_is_enough : (n : ℕ) → MayTake K (drop (row_at offset row) old.bytes) n → n ≤ length (K.text r)
-  text_is_enough n (inl few) = omega (arith, few, length-stored K laws r is_stored)
-  text_is_enough n (inr (h, rest, begins, most)) = omega (arith, most, length-stored K laws r is_stored, ap (λ (k : H). K.rows_after k) (header_is h rest begins))
+  -- reading it takes no more than its bytes
+  pub record_is_enough : (n : ℕ) → MayTake K (drop (row_at offset row) old.bytes) n → n ≤ length (K.record_bytes r)
+  record_is_enough n (inl few) = omega (arith, few, length-stored K laws r is_stored)
+  record_is_enough n (inr (h, rest, begins, most)) = omega (arith, most, length-stored K laws r is_stored, ap (λ (k : H). K.rows_after k) (header_is h rest begins))
 
   -- it is read, unless the device fails or an allocation does
   pub record_is_read : (new : Source) (e : CoreError) → InfoRefusal K offset row old new e → DeviceFailure old new e ⊎ (e ≡ OutOfMemory)
@@ -107,5 +107,5 @@ pub bookend_there : {H R : Type 0} (K : RecordKind H R) → KindLaws K → (reco
 bookend_there K laws records offset bytes is =
     let rows = total_rows K records in
     sym (drop-drop (48 * rows) offset bytes) ∙ ap (drop (48 * rows)) is.records_are
-    ∙ rest_is (48 * rows) (flat_map K.text records ++ (K.header_bytes K.bookend ++ is.rest)) (flat_map K.text records) (K.header_bytes K.bookend ++ is.rest)
-    (length-texts K.text K.row_count K.IsStored (length-text K laws) records is.fits.stored) refl
+    ∙ rest_is (48 * rows) (flat_map K.record_bytes records ++ (K.header_bytes K.bookend ++ is.rest)) (flat_map K.record_bytes records) (K.header_bytes K.bookend ++ is.rest)
+    (length-all_record_bytes K.record_bytes K.row_count K.IsStored (length-record_bytes K laws) records is.fits.stored) refl

@@ -1,14 +1,12 @@
 -- Lookups in a source that holds a section of records and a table of their starts.
 use Rattle.std.proofs.Common.{◌≡◌, ◌≢◌, ◌⊎◌, inl, inr, ◌==◌, if◌then◌else◌, ℕ, zero, suc, ◌+◌, ◌-◌, ◌*◌, ◌^◌, ◌<◌, ◌≤◌, List, [], ◌∷◌, ◌++◌, length, take, drop, map, flat_map, get_or, true, false, Bool, Ok, Err, Option, None, Some, refl, sym, ap, ◌∙◌, subst, append_assoc, append-nil, arith}
-use Rattle.std.specs.Prelude.{All, AllPairs, sum_by, sum, Contains, filter, cond, MatchResult, IfOk, IfErr}
+use Rattle.std.specs.Prelude.{All, AllPairs, sum_by, sum, Contains, filter, cond, MatchResult, IfErr}
 use Rattle.std.specs.declared.result.Result.{Result}
 use Rattle.std.specs.List.{AllZip}
-use Rattle.std.proofs.lemmas.List.{drop-drop, take_all, length-append, length-map, length-take, take-append-drop, get_or-map, get_or_default}
-use Rattle.std.proofs.lemmas.List.Elements.{All-take, All-map, All-contains, All-drop, All-weaker, Contains-get_or}
-use Rattle.std.proofs.lemmas.List.Sums.{sum_by-cons, sum_by-take-drop}
-use Rattle.std.proofs.lemmas.Grind.{flat_map-append}
+use Rattle.std.proofs.lemmas.List.{take_all, length-append, length-map, length-take, get_or-map, get_or_default}
+use Rattle.std.proofs.lemmas.List.Elements.{All-map, All-contains, All-drop, All-weaker, Contains-get_or}
+use Rattle.std.proofs.lemmas.List.Sums.{sum_by-cons}
 use Rattle.std.proofs.lemmas.Bool.{eq-eqb, cond-true}
-use Rattle.std.proofs.Math.Seq.{drop-cons}
 use Rattle.xet_base.specs.declared.error.CoreError.{CoreError}
 use Rattle.xet_base.specs.declared.error.CoreError.TheVariants.{OutOfMemory, TruncatedHashCollision}
 use Rattle.xet_base.specs.declared.merklehash.DataHash.{DataHash}
@@ -17,21 +15,17 @@ use Rattle.xet_base.specs.Errors.{FromDevice, variant_number}
 use Rattle.xet_base.specs.Source.{Source, DeviceFailure}
 use Rattle.xet_base.specs.Table.{table_at, Table, IsSorted, hits, Hit, IsHit, OtherRow, SearchRefused, Bounded}
 use Rattle.xet_base.proofs.Bytes.{length-u32_bytes, u32_bytes-injective}
-use Rattle.xet_base.proofs.Lists.{rest_is}
 use Rattle.xet_records.specs.RecordKind.{RecordKind}
-use Rattle.xet_records.proofs.Lengths.{length-texts}
-use Rattle.xet_records.proofs.RecordKinds.{KindLaws, length-text, stored_begins}
+use Rattle.xet_records.proofs.RecordKinds.{KindLaws}
 use Rattle.xet_shards.specs.Section.{total_rows, with_fronts, StartsAt}
 use Rattle.xet_shards.specs.Tables.{hash_in, start_of, starts, start_row}
-use Rattle.xet_base.specs.Source.ReadCase.{out_of_memory, out_of_bytes}
-use Rattle.xet_shards.specs.SectionReading.SectionCase.{not_read, passes_limit}
 use Rattle.xet_shards.specs.SectionReading.{MayTake}
-use Rattle.xet_shards.specs.Lookup.{sharing, IsNumber, row_at, RecordAt, InfoRefusal, LooksUp, LookupAnswer, LookupRefused, Finding, FindingFails, WithinBounds, SearchWithinBounds, IndexFinds, IndexRefused, AreStarts, StartsAmong, NoStartsAmong, NotFoundAmong}
+use Rattle.xet_shards.specs.Lookup.{sharing, IsNumber, row_at, RecordAt, InfoRefusal, LooksUp, LooksUpIndex, LooksUpRecord, LookupAnswer, LookupRefused, Finding, FindingFails, WithinBounds, SearchWithinBounds, IndexFinds, IndexRefused, AreStarts, StartsAmong, NoStartsAmong, NotFoundAmong}
 use Rattle.xet_shards.proofs.Tables.{length-starts}
 use Rattle.xet_shards.proofs.Distinct.{sum_distinct, sum_marked}
 use Rattle.xet_shards.proofs.KnownRows.{IsKnown, rows_sorted, rows_hit, search_served, row_hit, hits_few, hits_all}
 use Rattle.xet_shards.proofs.Lookups.{rows_in_front}
-use Rattle.xet_shards.proofs.StoredRecords.{AreStoredAt, starts_at_index, end_bound, record_is, record_is_read, text_is_enough}
+use Rattle.xet_shards.proofs.StoredRecords.{AreStoredAt, starts_at_index, end_bound, record_is, record_is_read, record_is_enough}
 
 -- the i-th row of a table of starts
 starts_at : {H R : Type 0} (K : RecordKind H R) (front records : List R) (i : ℕ) (d : R) (e : ℕ × ℕ) → i < length records
@@ -236,18 +230,18 @@ module _ {H R : Type 0} (K : RecordKind H R) (laws : KindLaws K) (d : R) (record
         (λ h hit refused. let known = hit_is word h hit in record_is_read K laws records offset old is.section (start_at h.row) (record_at h.row) (at_row h.row known.0) new e (subst (λ v. InfoRefusal K offset v old new e) known.2 refused)) found each))
         contains refusal
 
-    -- the texts of the records that were read are those of records that share the word
-    pub texts_share : (n : ℕ) (taken : List ℕ) → AllZip (λ row k. MayTake K (drop (row_at offset row) old.bytes) k) (take n (map (λ h. h.value) found)) taken
-        → sum taken ≤ length (flat_map K.text (sharing K word records))
-    texts_share n taken zip =
-        let weight : R → ℕ = λ r. length (K.text r) in
+    -- the bytes of the records that were read are those of records that share the word
+    pub records_share : (n : ℕ) (taken : List ℕ) → AllZip (λ row k. MayTake K (drop (row_at offset row) old.bytes) k) (take n (map (λ h. h.value) found)) taken
+        → sum taken ≤ length (flat_map K.record_bytes (sharing K word records))
+    records_share n taken zip =
+        let weight : R → ℕ = λ r. length (K.record_bytes r) in
         let f : ℕ → ℕ = λ i. if (hash_in K (record_at i)).word0 == word then weight (record_at i) else 0 in
         let most : All (λ h. (k : ℕ) → MayTake K (drop (row_at offset h.value) old.bytes) k → k ≤ f h.row) found =
         All-weaker (IsHit table word IsNumber) (λ h. (k : ℕ) → MayTake K (drop (row_at offset h.value) old.bytes) k → k ≤ f h.row)
         (λ h hit k takes. let known = hit_is word h hit in omega (
           arith,
           cond-true {A = ℕ} _ (weight (record_at h.row)) 0 (eq-eqb _ _ known.1),
-          text_is_enough K laws records offset old is.section (start_at h.row) (record_at h.row) (at_row h.row known.0) k (subst (λ v. MayTake K (drop (row_at offset v) old.bytes) k) known.2 takes),
+          record_is_enough K laws records offset old is.section (start_at h.row) (record_at h.row) (at_row h.row known.0) k (subst (λ v. MayTake K (drop (row_at offset v) old.bytes) k) known.2 takes),
         )) found each in
         omega (
           arith,
@@ -255,7 +249,7 @@ module _ {H R : Type 0} (K : RecordKind H R) (laws : KindLaws K) (d : R) (record
           sum_distinct f (length records) found distinct rows_below,
           sum_marked (λ r. (hash_in K r).word0 == word) weight records d (length records) (omega arith),
           ap (λ rs. sum_by weight (sharing K word rs)) (take_all (length records) records (omega arith)),
-          sum-lengths K.text (sharing K word records),
+          sum-lengths K.record_bytes (sharing K word records),
         )
 
   -- the search is refused only if the device fails
@@ -290,7 +284,7 @@ module _ {H R : Type 0} (K : RecordKind H R) (laws : KindLaws K) (d : R) (record
           visits.read,
           bounded.read,
           table_hits word,
-          texts_share word looks.found looks.are_hits.each looks.are_hits.distinct n visits.taken
+          records_share word looks.found looks.are_hits.each looks.are_hits.distinct n visits.taken
               (subst (λ bytes. AllZip (λ row k. MayTake K (drop (row_at offset row) bytes) k) (take n rows) visits.taken) looks.serves.bytes visits.may_take),
         );
       }
@@ -355,22 +349,23 @@ module _ {H R : Type 0} (K : RecordKind H R) (laws : KindLaws K) (d : R) (record
       inr (collision, omega (arith, collides.eight, hits_share word collides.found collides.each collides.distinct))
   index_not_answered word new e (inr refused) = inl (search_answers new e refused)
 
-  pub index_written : (new : Source) (word : ℕ) (dest_old dest_new : List ℕ) (r : Result ℕ CoreError) → IfOk r (IndexFinds table word dest_old dest_new)
-      → IfErr r (IndexRefused table word old new) → MatchResult r (StartsAmong K records word dest_new) (NoStartsAmong K records word old new)
-  index_written new word dest_old dest_new (Ok found) finds refused = index_answered word found dest_old dest_new finds
-  index_written new word dest_old dest_new (Err e) finds refused = index_not_answered word new e refused
+  pub index_written : (new : Source) (word : ℕ) (dest_old dest_new : List ℕ) (r : Result ℕ CoreError) → LooksUpIndex table word dest_old dest_new old new r
+      → MatchResult r (StartsAmong K records word dest_new) (NoStartsAmong K records word old new)
+  index_written new word dest_old dest_new (Ok count) looks = index_answered word count dest_old dest_new looks.found
+  index_written new word dest_old dest_new (Err e) looks = index_not_answered word new e looks.refused
 
-  pub index_bounded : (new : Source) (word : ℕ) → (IsSorted table → Bounded table word old new) → SearchWithinBounds K records word old new
-  index_bounded new word bounded = search_costs word new (bounded table_sorted)
+  pub index_bounded : (new : Source) (word : ℕ) (dest_old dest_new : List ℕ) (r : Result ℕ CoreError) → LooksUpIndex table word dest_old dest_new old new r
+      → SearchWithinBounds K records word old new
+  index_bounded new word dest_old dest_new r looks = search_costs word new (looks.bounds table_sorted)
 
   -- a lookup of a record
   pub lookup_bounded : (new : Source) (hash : DataHash) (r : Result (Option R) CoreError)
-      → MatchResult r (Finding K table offset hash old new) (FindingFails K table offset hash old new) → WithinBounds K records hash.word0 old new
-  lookup_bounded new hash (Ok answer) finding = lookup_costs hash.word0 new (LookupAnswer K old.bytes offset hash answer) finding
-  lookup_bounded new hash (Err e) refused = costs_refused hash new e refused
+      → LooksUpRecord K table offset hash old new r → WithinBounds K records hash.word0 old new
+  lookup_bounded new hash (Ok answer) looks = lookup_costs hash.word0 new (LookupAnswer K old.bytes offset hash answer) looks.read
+  lookup_bounded new hash (Err e) looks = costs_refused hash new e looks.read
 
   pub collision_bounded : (new : Source) (hash : DataHash) (r : Result (Option R) CoreError)
-      → MatchResult r (Finding K table offset hash old new) (FindingFails K table offset hash old new)
+      → LooksUpRecord K table offset hash old new r
       → IfErr r (λ e. e ≡ TruncatedHashCollision hash.word0 → SearchWithinBounds K records hash.word0 old new)
-  collision_bounded new hash (Ok answer) finding = tt
-  collision_bounded new hash (Err e) refused = costs_collision hash new e refused
+  collision_bounded new hash (Ok answer) looks = tt
+  collision_bounded new hash (Err e) looks = costs_collision hash new e looks.read

@@ -4,7 +4,7 @@ use Rattle.std.specs.Prelude.{string_bytes, slice_get, MatchResult, IfOk, IfErr}
 use Rattle.std.specs.declared.result.Result.{Result}
 use Rattle.std.proofs.lemmas.Option.{none-some, same_Some}
 use Rattle.std.proofs.lemmas.List.{map-append, length-append, length-map, take_more, take_all, take-map}
-use Rattle.std.proofs.lemmas.List.Elements.{All-nil, All-push, Contains-get_or}
+use Rattle.std.proofs.lemmas.List.Elements.{All-push, Contains-get_or}
 use Rattle.xet_base.specs.declared.error.CoreError.{CoreError}
 use Rattle.xet_base.specs.declared.error.CoreError.TheVariants.{InvalidShard}
 use Rattle.xet_base.specs.declared.merklehash.DataHash.{DataHash}
@@ -12,14 +12,13 @@ use Rattle.xet_base.specs.KeyedHash.{under_key}
 use Rattle.xet_base.specs.Source.{Source}
 use Rattle.xet_base.specs.Table.{Table, Hit, Finds, FitsTable, Serves, IsSorted, Bounded, hits, IsBareInvalidShard}
 use Rattle.xet_base.proofs.Lists.{front_is}
-use Rattle.xet_base.proofs.Search.{serves_still}
 use Rattle.xet_records.specs.declared.file_structs.rows.FileDataSequenceEntry.{FileDataSequenceEntry}
 use Rattle.xet_records.specs.XorbRecord.{xorb_records}
 use Rattle.xet_records.proofs.RecordKinds.{xorb_laws}
 use Rattle.xet_shards.specs.declared.shard_format.footer.MDBShardFileFooter.{MDBShardFileFooter}
 use Rattle.xet_shards.specs.Lookup.{chunk_lookup_table, IsPair, Visit, Visits, VisitsSome}
 use Rattle.xet_shards.specs.RunReading.{AnswerAt, RefusedAt, PassesAt, IsCutAt, AnnouncesNoChunk, Queries, TriedAnswer, TriedRefused, QueryAnswer, QueryRefused, NoneTried}
-use Rattle.xet_shards.proofs.Lookups.{serves_after, visits_more, visits_none}
+use Rattle.xet_shards.proofs.Lookups.{serves_after, visits_more}
 
 -- an error for a location that is not there, if it is a bare `InvalidShard`
 pub if_corrupt : (key : DataHash) (qs : List DataHash) (offset row index : ℕ) (old new : Source) (e : CoreError) (text : String Global) → string_bytes text ≡ []
@@ -52,9 +51,6 @@ rows_of_values (h ∷ found) = ap (λ rows. h.value.0 ∷ rows) (rows_of_values 
 module _ (key : DataHash) (qs : List DataHash) (offset : ℕ) where
   abbrev row_of : ℕ × ℕ → ℕ
   row_of location = location.0
-
-  pub tried_none : (s : Source) → NoneTried key qs offset [] s s
-  tried_none s = record { visits = visits_none xorb_records xorb_laws 2 offset s; serves = serves_still s; none = All-nil (λ location. AnswerAt key qs s.bytes offset location.0 location.1 None) }
 
   -- one location more was tried
   module _ (locations : List (ℕ × ℕ)) (location : ℕ × ℕ) (old now new : Source) (before : NoneTried key qs offset locations old now) (visit : Visit xorb_records 2 offset location.0 now new) where

@@ -13,17 +13,17 @@ use Rattle.xet_records.specs.declared.xorb_structs.MDBXorbInfo.{MDBXorbInfo}
 use Rattle.xet_records.specs.declared.xorb_structs.XorbChunkSequenceEntry.{XorbChunkSequenceEntry}
 use Rattle.xet_records.specs.Reading.{ReadsBookend}
 use Rattle.xet_records.specs.XorbRecord.{xorb_record_bytes, xorb_row_count, IsStoredXorb, xorb_records}
-use Rattle.xet_records.proofs.RecordKinds.{xorb_laws, length-text}
-use Rattle.xet_records.proofs.Lengths.{length-texts}
+use Rattle.xet_records.proofs.RecordKinds.{xorb_laws, length-record_bytes}
+use Rattle.xet_records.proofs.Lengths.{length-all_record_bytes}
 use Rattle.xet_shards.specs.Section.{total_rows, with_fronts}
 use Rattle.xet_shards.specs.Tables.{chunk_table_rows_from, chunk_table_rows, chunk_table}
 use Rattle.xet_shards.specs.TableReading.{triple_of}
 use Rattle.xet_shards.specs.SectionReading.{HoldsRecords, PassesLimit, EndsEarly, SectionFailure, RecordFails, IsSection, PassesRows, IsCutSection, rows_left}
 use Rattle.xet_shards.specs.TruncatedHashes.{hashes_of, StartBefore, ReadsHashes, PassesBefore, CutBefore, HashesFail, HasReadHashes, ReadsXorbBefore, XorbBeforeFails}
 use Rattle.xet_shards.proofs.ChunkTableRows.{chunk_table_rows-push, chunk_table_rows_from-more, chunk_table_row, no_chunk}
-use Rattle.xet_records.proofs.SectionRecords.{nothing_read, more_read}
-use Rattle.xet_base.specs.InputLaws.{Takes-nil, Takes-trans}
-use Rattle.xet_shards.proofs.SectionReading.{place_after, section_ends, section_failure}
+use Rattle.xet_records.proofs.SectionRecords.{more_read}
+use Rattle.xet_base.specs.InputLaws.{Takes-trans}
+use Rattle.xet_shards.proofs.SectionReading.{offset_after, section_ends, section_failure}
 use Rattle.xet_shards.proofs.Readback.{why_not}
 use Rattle.xet_shards.proofs.SectionUnique.{first_of_section}
 use Rattle.xet_shards.proofs.TableReading.{IsReadAs}
@@ -36,9 +36,9 @@ pub hashes_more : (before : List (ℕ × (ℕ × ℕ))) (start i : ℕ) (chunks 
     ≡ before ++ map triple_of (chunk_table_rows_from start (take (i + 1) chunks))
 hashes_more before start i chunks below =
     let done = chunk_table_rows_from start (take i chunks) in
-    let place = chunk_table_row start i (get_or chunks i no_chunk) in
-    append_assoc before (map triple_of done) (triple_of place ∷ [])
-    ∙ ap (λ rows. before ++ rows) (sym (map-append triple_of done (place ∷ [])) ∙ ap (map triple_of) (sym (chunk_table_rows_from-more start i chunks no_chunk below)))
+    let row = chunk_table_row start i (get_or chunks i no_chunk) in
+    append_assoc before (map triple_of done) (triple_of row ∷ [])
+    ∙ ap (λ rows. before ++ rows) (sym (map-append triple_of done (row ∷ [])) ∙ ap (map triple_of) (sym (chunk_table_rows_from-more start i chunks no_chunk below)))
 
 -- one more xorb
 hashes_of-push : (xorbs : List MDBXorbInfo) (x : MDBXorbInfo) → hashes_of (xorbs ++ x ∷ []) ≡ hashes_of xorbs ++ map triple_of (chunk_table_rows_from (total_rows xorb_records xorbs) x.chunks)
@@ -59,21 +59,17 @@ before_fails stop left old new e below fails = record {
       (bytes_left old) (bytes_left old) old old new e refl (λ passes. (below, passes)) (λ ends. (below, ends)) fails.cause;
 }
 
--- before the first xorb
-pub no_hashes : (stop : ℕ) (start : Source) → HasReadHashes stop start start [] 4294967295
-no_hashes stop start = record { xorbs = []; read = nothing_read xorb_records xorb_laws (Takes start start) (Takes-nil start); before = All-nil _; hashes = refl }
-
 -- one xorb more
 pub more_hashes : (stop : ℕ) (start now new : Source) (found : List (ℕ × (ℕ × ℕ))) (left after : ℕ) (next : ℕ × MDBXorbInfo)
     → HasReadHashes stop start now found left → ReadsXorbBefore stop now new left after next
     → HasReadHashes stop start new (found ++ map triple_of (chunk_table_rows_from next.0 next.1.chunks)) after
 more_hashes stop start now new found left after next before read =
-    let place : now.at ≡ start.at + 48 * total_rows xorb_records before.xorbs = place_after xorb_records xorb_laws start now before.xorbs left before.read in
+    let at_is : now.at ≡ start.at + 48 * total_rows xorb_records before.xorbs = offset_after xorb_records xorb_laws start now before.xorbs left before.read in
     let row : next.0 ≡ total_rows xorb_records before.xorbs = omega (arith, read.start, rows_of before) in
     record {
       xorbs = before.xorbs ++ next.1 ∷ [];
       read = more_read xorb_records xorb_laws _ _ _ before.xorbs left after next.1 (Takes-trans start now new) before.read read.next;
-      before = StartBefore-push start.at stop before.xorbs next.1 before.before (omega (arith, read.before, place));
+      before = StartBefore-push start.at stop before.xorbs next.1 before.before (omega (arith, read.before, at_is));
       hashes = (λ i. before.hashes i ++ map triple_of (chunk_table_rows_from (row i) next.1.chunks)) ∙ sym (hashes_of-push before.xorbs next.1);
     }
   where
@@ -91,8 +87,8 @@ module _ (stop : ℕ) (old now : Source) (at : ℕ) (found : List (ℕ × (ℕ �
   holds = subst (λ xorbs. HoldsRecords xorb_records (bytes_left (moved old at)) xorbs (bytes_left now)) same_xorbs
       (record { are_stored = before.read.are_stored; rows = omega (arith, before.read.rows); bytes_are = Takes-consumes (moved old at) now (flat_map xorb_record_bytes before.read.stored) before.read.taken })
 
-  place : now.at ≡ at + 48 * total_rows xorb_records before.xorbs
-  place = place_after xorb_records xorb_laws (moved old at) now before.xorbs left before.read
+  at_is : now.at ≡ at + 48 * total_rows xorb_records before.xorbs
+  at_is = offset_after xorb_records xorb_laws (moved old at) now before.xorbs left before.read
 
   left_is : left ≡ rows_left xorb_records before.xorbs
   left_is = omega (arith, before.read.rows, ap (total_rows xorb_records) same_xorbs)
@@ -116,17 +112,17 @@ module _ (stop : ℕ) (old now : Source) (at : ℕ) (found : List (ℕ × (ℕ �
         rest = ended.section.rest;
         records = subst (λ xorbs. HoldsRecords xorb_records (bytes_left (moved old at)) xorbs ended.section.rest) same ended.section.records;
         before = before.before;
-        end = inl (omega (arith, below, place), ended.section.bookend, ended.after ∙ ap (λ xorbs. advanced (moved old at) (48 * (total_rows xorb_records xorbs + 1))) same);
+        end = inl (omega (arith, below, at_is), ended.section.bookend, ended.after ∙ ap (λ xorbs. advanced (moved old at) (48 * (total_rows xorb_records xorbs + 1))) same);
         hashes = before.hashes;
       }
   hashes_end new (inr (past, same)) =
-      let size = length-texts xorb_record_bytes xorb_row_count IsStoredXorb (length-text xorb_records xorb_laws) before.read.stored before.read.are_stored in
+      let size = length-all_record_bytes xorb_record_bytes xorb_row_count IsStoredXorb (length-record_bytes xorb_records xorb_laws) before.read.stored before.read.are_stored in
       record {
         xorbs = before.xorbs;
         rest = bytes_left now;
         records = holds;
         before = before.before;
-        end = inr (omega (arith, past, place), same ∙ before.read.taken.after ∙ ap (advanced (moved old at)) (size ∙ ap (λ xorbs. 48 * total_rows xorb_records xorbs) same_xorbs));
+        end = inr (omega (arith, past, at_is), same ∙ before.read.taken.after ∙ ap (advanced (moved old at)) (size ∙ ap (λ xorbs. 48 * total_rows xorb_records xorbs) same_xorbs));
         hashes = before.hashes;
       }
 
@@ -136,8 +132,8 @@ module _ (stop : ℕ) (old now : Source) (at : ℕ) (found : List (ℕ × (ℕ �
   whole_cause new e cause =
       section_failure (λ bytes. (now.at < stop) × PassesLimit xorb_records left bytes) (λ bytes. (now.at < stop) × EndsEarly xorb_records left bytes)
       (PassesBefore at stop) (CutBefore at stop) (bytes_left now) (drop at old.bytes) old now new e failures_then
-      (λ passes. (before.xorbs, bytes_left now, holds, omega (arith, passes.0, place), subst (λ n. PassesLimit xorb_records n (bytes_left now)) left_is passes.1))
-      (λ ends. (before.xorbs, bytes_left now, holds, omega (arith, ends.0, place), subst (λ n. EndsEarly xorb_records n (bytes_left now)) left_is ends.1)) cause
+      (λ passes. (before.xorbs, bytes_left now, holds, omega (arith, passes.0, at_is), subst (λ n. PassesLimit xorb_records n (bytes_left now)) left_is passes.1))
+      (λ ends. (before.xorbs, bytes_left now, holds, omega (arith, ends.0, at_is), subst (λ n. EndsEarly xorb_records n (bytes_left now)) left_is ends.1)) cause
 
   pub hashes_fail : (new : Source) (e : CoreError) → XorbBeforeFails stop left now new e → HashesFail old new at stop e
   hashes_fail new e fails = record { bytes = fails.bytes ∙ bytes_then; seeks = fails.seeks ∙ seeks_then; cause = whole_cause new e fails.cause }

@@ -40,7 +40,7 @@ use Rattle.xet_shards.proofs.ChunkTables.{no_table_row, word_of, numbers_of, row
 use Rattle.xet_shards.proofs.Distinct.{few_marked}
 use Rattle.xet_shards.proofs.InForm.{xorbs_stored}
 use Rattle.xet_shards.proofs.KnownRows.{search_served, hits_all}
-use Rattle.xet_shards.proofs.StoredRecords.{starts_at_index, in_records, text_is_enough}
+use Rattle.xet_shards.proofs.StoredRecords.{starts_at_index, in_records, record_is_enough}
 use Rattle.xet_shards.proofs.TableOrder.{in_table_rows, in_table}
 use Rattle.xet_shards.proofs.WrittenRuns.{run_there, no_run_there}
 use Rattle.xet_shards.proofs.XorbLayouts.{table_rows_after, total_chunks, length-chunk_table_rows}
@@ -321,7 +321,7 @@ module _ (files : List MDBFileInfo) (xorbs : List MDBXorbInfo) (form : Form) (ol
             sum_by-cons (λ (k : ℕ). k) n taken,
             rest.most,
             length-append (xorb_record_bytes here.0) (flat_map xorb_record_bytes rest.tried),
-            text_is_enough xorb_records xorb_laws xorbs footer.xorb_info_offset old section row here.0 here.1 n zip.0,
+            record_is_enough xorb_records xorb_laws xorbs footer.xorb_info_offset old section row here.0 here.1 n zip.0,
           );
         }
 

@@ -13,11 +13,11 @@ use Rattle.xet_shards.specs.Ends.{HasUnsupportedHeader, EndsInHeader, PartFails}
 use Rattle.xet_shards.specs.SectionReading.{TakesNoSection}
 use Rattle.xet_shards.specs.SectionWalk.{kept_of, KeepsSection}
 
--- a file's hash, the place of its first segment and the one after its last, those of its verification rows, and its SHA-256
+-- a file's hash, the offset of its first segment and the one after its last, those of its verification rows, and its SHA-256
 abbrev pub FileRanges : Type 0
 FileRanges = DataHash × (ℕ × ℕ) × Option (ℕ × ℕ) × Option DataHash
 
--- those of a record whose rows after the header start at a place
+-- those of a record whose rows after the header start at an offset
 abbrev pub ranges_after : ℕ → FileDataSequenceHeader → Option FileMetadataExt → FileRanges
 ranges_after start h metadata_ext =
     let end = start + 48 * h.num_entries in (
@@ -29,7 +29,7 @@ ranges_after start h metadata_ext =
 
 -- those of a record at an offset
 abbrev pub ranges_at : ℕ → MDBFileInfo → FileRanges
-ranges_at place r = ranges_after (place + 48) r.metadata r.metadata_ext
+ranges_at offset r = ranges_after (offset + 48) r.metadata r.metadata_ext
 
 -- those of records whose section is at an offset
 abbrev pub file_ranges : ℕ → List MDBFileInfo → List FileRanges
@@ -39,7 +39,7 @@ file_ranges at files = kept_of file_records ranges_at at files
 abbrev pub TakesRanges : Source → Source → List FileRanges → Type 0
 TakesRanges old new found = KeepsSection file_records ranges_at old new found
 
--- a shard's header, and after it the file section, were read from the source's place on
+-- a shard's header, and after it the file section, were read from the source's offset on
 pub record ReadsFileRanges (old new : Source) (found : List FileRanges) : Type 0 where
   pub header : MDBShardFileHeader
   pub tag : header.tag ≡ header_tag

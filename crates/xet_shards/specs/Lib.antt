@@ -9,6 +9,8 @@ pub mod Joining
 pub mod Joins
 pub mod Layout
 pub mod Lookup
+pub mod MinimalReading
+pub mod MinimalShard
 pub mod Names
 pub mod RunReading
 pub mod RunSteps

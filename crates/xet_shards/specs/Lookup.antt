@@ -1,13 +1,14 @@
 -- Looking up a record by its hash: the table of starts, the records that its rows lead to, and what this costs.
-use Rattle.std.specs.Prelude.{◌≡◌, ◌≢◌, ◌⊎◌, ◌==◌, ℕ, ◌+◌, ◌*◌, ◌/◌, ◌^◌, ◌<◌, ◌≤◌, List, ◌++◌, length, take, map, filter, flat_map, sum, drop, All, AllPairs, Contains, Option, Some, None, string_bytes, []}
+use Rattle.std.specs.Prelude.{◌≡◌, ◌≢◌, ◌⊎◌, ◌==◌, ℕ, ◌+◌, ◌*◌, ◌/◌, ◌^◌, ◌<◌, ◌≤◌, List, ◌++◌, length, take, map, filter, flat_map, sum, drop, All, AllPairs, Contains, Option, Some, None, IfOk, IfErr, OnOk, MatchResult, string_bytes, []}
 use Rattle.std.specs.List.{AllZip}
 use Rattle.std.specs.FinMap.{get, values}
 use Rattle.xet_base.specs.declared.error.CoreError.{CoreError}
 use Rattle.xet_base.specs.declared.error.CoreError.TheVariants.{InternalError, OutOfMemory, TruncatedHashCollision}
 use Rattle.xet_base.specs.declared.merklehash.DataHash.{DataHash}
 use Rattle.xet_base.specs.Bytes.{u32_bytes}
+use Rattle.xet_base.specs.Errors.{CoreResult}
 use Rattle.xet_base.specs.Source.{Source, DeviceFailure}
-use Rattle.xet_base.specs.Table.{Table, table_at, Hit, IsHit, OtherRow, IsSorted, hits, FitsTable, Serves, Bounded, SearchRefused, IsBareInvalidShard}
+use Rattle.xet_base.specs.Table.{Table, table_at, Hit, IsHit, OtherRow, IsSorted, hits, FitsTable, Serves, Bounded, IsEven, SearchRefused, IsBareInvalidShard}
 use Rattle.xet_records.specs.declared.file_structs.MDBFileInfo.{MDBFileInfo}
 use Rattle.xet_records.specs.RecordKind.{RecordKind}
 use Rattle.xet_records.specs.FileRecord.{file_records}
@@ -45,7 +46,7 @@ row_at offset row = offset + 48 * row
 
 -- bytes are at an offset
 abbrev pub StandsAt : List ℕ → ℕ → List ℕ → Type 0
-StandsAt bytes offset text = (rest : List ℕ) × (drop offset bytes ≡ text ++ rest)
+StandsAt bytes offset part = (rest : List ℕ) × (drop offset bytes ≡ part ++ rest)
 
 -- a record that is at an offset is handed out as `found`
 abbrev pub RecordAt : {H R : Type 0} → RecordKind H R → List ℕ → ℕ → R → Type 0
@@ -117,6 +118,16 @@ pub record IndexFinds (t : Table) (key : ℕ) (old new : List ℕ) (count : ℕ)
   pub are_hits : AreHits t key found
   pub written : new ≡ map (λ hit. hit.value) found ++ drop count old
 
+-- an index lookup: the row numbers behind a key of a table, or why they are not handed out; the bytes of the source stay,
+-- and the seeks are bounded where the table is sorted, and where it is even
+pub record LooksUpIndex (t : Table) (key : ℕ) (dest_old dest_new : List ℕ) (old new : Source) (result : CoreResult ℕ) : Type 0 where
+  pub found : IfOk result (IndexFinds t key dest_old dest_new)
+  pub serves : OnOk result (Serves old new)
+  pub refused : IfErr result (IndexRefused t key old new)
+  pub kept : new.bytes ≡ old.bytes
+  pub bounds : IsSorted t → Bounded t key old new
+  pub even : IsEven t → new.seeks ≤ old.seeks + 3
+
 -- a call went to a row, by at most so many seeks, and read at most the record there
 pub record Visit {H R : Type 0} (K : RecordKind H R) (most offset row : ℕ) (old new : Source) : Type 0 where
   pub bytes : new.bytes ≡ old.bytes
@@ -169,14 +180,14 @@ abbrev pub LookupRefused : {H R : Type 0} → RecordKind H R → ℕ → Source 
 LookupRefused K offset old new e rows = (row : ℕ) × Contains rows row × InfoRefusal K offset row old new e
 
 -- what a lookup on the bytes of a shard costs at most: the seeks that the search made, and one more for each file
--- that shares the first word; the bytes of the search and the texts of these files
+-- that shares the first word; the bytes of the search and the bytes of these files
 pub record WithinBounds {H R : Type 0} (K : RecordKind H R) (records : List R) (word : ℕ) (old new : Source) : Type 0 where
   pub made : ℕ
   pub more : ℕ
   pub few : made ≤ (length records + 1) / 128 + length (sharing K word records) / 4 + 8
   pub few_more : more ≤ length (sharing K word records)
   pub seeks : new.seeks ≡ old.seeks + made + more
-  pub read : new.read ≤ old.read + (257 + length (sharing K word records) + made) * 12 + length (flat_map K.text (sharing K word records))
+  pub read : new.read ≤ old.read + (257 + length (sharing K word records) + made) * 12 + length (flat_map K.record_bytes (sharing K word records))
 
 -- what a search in a sorted table costs at most, by its rows, how many of them have the key, and the bytes of a row
 pub record SearchCosts (rows hits size : ℕ) (old new : Source) : Type 0 where
@@ -197,6 +208,12 @@ abbrev pub FindingFails : {H R : Type 0} → RecordKind H R → Table → ℕ �
 FindingFails K t offset hash old new e =
     (IndexRefused t hash.word0 old new e × (IsSorted t → Bounded t hash.word0 old new))
     ⊎ LooksUp K t offset hash.word0 old new (LookupRefused K offset old new e)
+
+-- a lookup of a record by its hash: the answer or the error, and the bytes of the source stay
+pub record LooksUpRecord {H R : Type 0} (K : RecordKind H R) (t : Table) (offset : ℕ) (hash : DataHash) (old new : Source) (result : CoreResult (Option R)) : Type 0 where
+  pub read : MatchResult result (Finding K t offset hash old new) (FindingFails K t offset hash old new)
+  pub serves : OnOk result (Serves old new)
+  pub kept : new.bytes ≡ old.bytes
 
 -- these rows are the starts of the records that share the first word, in some order
 abbrev pub AreStarts : {H R : Type 0} → RecordKind H R → List R → ℕ → List ℕ → Type 0

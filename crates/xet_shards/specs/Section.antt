@@ -20,4 +20,4 @@ pub record StartsAt {H R : Type 0} (K : RecordKind H R) (records : List R) (row 
 
 -- the bytes of the records in order, and then of the bookend
 unfoldable pub section_bytes : {H R : Type 0} → RecordKind H R → List R → List ℕ
-section_bytes K records = flat_map K.text records ++ K.header_bytes K.bookend
+section_bytes K records = flat_map K.record_bytes records ++ K.header_bytes K.bookend

@@ -1,5 +1,5 @@
--- What bytes are to a reader of a section, of files or of xorbs: the texts of a list of records and a bookend, or
--- such texts and then a record too many, or such texts and then too few bytes.
+-- What bytes are to a reader of a section, of files or of xorbs: the bytes of a list of records and a bookend, or
+-- such bytes and then a record too many, or such bytes and then too few bytes.
 use Rattle.std.specs.Prelude.{◌≡◌, ◌⊎◌, ℕ, ◌+◌, ◌-◌, ◌*◌, ◌≤◌, List, ◌++◌, map, flat_map, sum_by, All, Option, MatchResult}
 use Rattle.std.specs.declared.vec.Vec.{Vec}
 use Rattle.xet_base.specs.declared.error.CoreError.{CoreError}
@@ -14,9 +14,9 @@ pub use Rattle.xet_records.specs.Reading.{BeginsWithBookend, PassesLimit, EndsEa
 pub record HoldsRecords {H R : Type 0} (K : RecordKind H R) (bytes : List ℕ) (stored : List R) (rest : List ℕ) : Type 0 where
   pub are_stored : All K.IsStored stored
   pub rows : sum_by K.row_count stored ≤ 4294967295
-  pub bytes_are : bytes ≡ flat_map K.text stored ++ rest
+  pub bytes_are : bytes ≡ flat_map K.record_bytes stored ++ rest
 
--- the texts of these records, and then a bookend
+-- the bytes of these records, and then a bookend
 pub record IsSection {H R : Type 0} (K : RecordKind H R) (bytes : List ℕ) (stored : List R) : Type 0 where
   pub rest : List ℕ
   pub records : HoldsRecords K bytes stored rest
@@ -27,11 +27,11 @@ module _ {H R : Type 0} (K : RecordKind H R) where
   abbrev pub rows_left : List R → ℕ
   rows_left stored = 4294967295 - sum_by K.row_count stored
 
-  -- the texts of some records, and then one that is too many
+  -- the bytes of some records, and then one that is too many
   abbrev pub PassesRows : List ℕ → Type 0
   PassesRows bytes = (stored : List R) × (rest : List ℕ) × HoldsRecords K bytes stored rest × PassesLimit K (rows_left stored) rest
 
-  -- the texts of some records, and then too few bytes
+  -- the bytes of some records, and then too few bytes
   abbrev pub IsCutSection : List ℕ → Type 0
   IsCutSection bytes = (stored : List R) × (rest : List ℕ) × HoldsRecords K bytes stored rest × EndsEarly K (rows_left stored) rest
 
@@ -40,14 +40,14 @@ module _ {H R : Type 0} (K : RecordKind H R) where
   MayTake bytes n =
       (n ≤ 48) ⊎ ((header : H) × (rest : List ℕ) × BeginsWithHeader K bytes header rest × (n ≤ 48 * (1 + K.rows_after header)))
 
--- the records of a section were read from the source's place on, without a seek and without a byte past the bookend
+-- the records of a section were read from the source's offset on, without a seek and without a byte past the bookend
 pub record TakesSection {H R : Type 0} (K : RecordKind H R) (old new : Source) (found : List R) : Type 0 where
   pub stored : List R
   pub section : IsSection K (bytes_left old) stored
   pub handed : map K.handed_out stored ≡ found
   pub after : new ≡ advanced old (48 * (sum_by K.row_count stored + 1))
 
--- those of the section at a place were, by one seek
+-- those of the section at an offset were, by one seek
 abbrev pub ReadsSection : {H R : Type 0} → RecordKind H R → Source → Source → ℕ → List R → Type 0
 ReadsSection K old new at found = TakesSection K (moved old at) new found
 
@@ -60,13 +60,13 @@ pub data SectionCase (Passes Ends : List ℕ → Type 0) (bytes : List ℕ) (e :
 abbrev pub SectionFailure : (List ℕ → Type 0) → (List ℕ → Type 0) → List ℕ → Source → Source → CoreError → Type 0
 SectionFailure Passes Ends bytes old new e = FailedBy (SectionCase Passes Ends bytes) old new e
 
--- the records were not read; the place is open
+-- the records were not read; the source may be at any offset
 pub record TakesNoSection {H R : Type 0} (K : RecordKind H R) (old new : Source) (e : CoreError) : Type 0 where
   pub bytes : new.bytes ≡ old.bytes
   pub seeks : new.seeks ≡ old.seeks
   pub cause : SectionFailure (PassesRows K) (IsCutSection K) (bytes_left old) old new e
 
--- those of the section at a place were not, by one seek
+-- those of the section at an offset were not, by one seek
 abbrev pub SectionFails : {H R : Type 0} → RecordKind H R → Source → Source → ℕ → CoreError → Type 0
 SectionFails K old new at e = TakesNoSection K (moved old at) new e
 
@@ -78,7 +78,7 @@ ReadsNext K old new left after found = CountsRecord K (Takes old new) left after
 abbrev pub ReadsOne : {H R : Type 0} → RecordKind H R → Source → Source → ℕ → ℕ → Option R → Type 0
 ReadsOne K old new left after found = ReadsNextRecord K (Takes old new) left after found
 
--- neither was read; the place is open
+-- neither was read; the source may be at any offset
 pub record RecordFails {H R : Type 0} (K : RecordKind H R) (left : ℕ) (old new : Source) (e : CoreError) : Type 0 where
   pub bytes : new.bytes ≡ old.bytes
   pub seeks : new.seeks ≡ old.seeks

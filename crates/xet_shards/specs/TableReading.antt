@@ -1,4 +1,4 @@
--- Reading a lookup table whole: so many rows of one width, in the bytes from a place on.
+-- Reading a lookup table whole: so many rows of one width, in the bytes from an offset on.
 use Rattle.std.specs.Prelude.{◌≡◌, ◌⊎◌, ℕ, ◌+◌, ◌*◌, ◌^◌, ◌<◌, ◌≤◌, List, ◌++◌, length, flat_map, drop, All}
 use Rattle.xet_base.specs.declared.error.CoreError.{CoreError}
 use Rattle.xet_base.specs.Bytes.{u32_bytes, u64_bytes}
@@ -30,7 +30,7 @@ pub record ReadsNextRow {T : Type 0} (row_bytes : T → List ℕ) (Fits : T → 
   pub bytes : length (row_bytes row) ≡ size
   pub taken : Takes old new (row_bytes row)
 
--- the rows of a table at a place were read, by one seek and no byte past the table
+-- the rows of a table at an offset were read, by one seek and no byte past the table
 pub record ReadsTable {T : Type 0} (row_bytes : T → List ℕ) (Fits : T → Type 0) (size : ℕ) (old new : Source) (at count : ℕ) (found : List T) : Type 0 where
   pub few : count ≤ 4294967295
   pub number : length found ≡ count
@@ -47,7 +47,7 @@ abbrev pub RowsFailure : Source → Source → ℕ → ℕ → CoreError → Typ
 RowsFailure old new at size e = FailedBy (ReadCase (length (drop at old.bytes) < size)) old new e
 
 -- the rows were not read: they are more than 4294967295, which is found before the seek, or a seek and reads did
--- not give them; the place is open
+-- not give them; the source may be at any offset
 pub record TableFails (size : ℕ) (old new : Source) (at count : ℕ) (e : CoreError) : Type 0 where
   pub bytes : new.bytes ≡ old.bytes
   pub seeks : new.seeks ≤ old.seeks + 1

@@ -1,4 +1,4 @@
--- The first words of the chunks' hashes, read from the xorb section where there is no chunk table: a walk from a place
+-- The first words of the chunks' hashes, read from the xorb section where there is no chunk table: a walk from an offset
 -- up to the bookend, or to the first header that does not start before a stop.
 use Rattle.std.specs.Prelude.{◌≡◌, ◌⊎◌, ℕ, ◌+◌, ◌*◌, ◌<◌, ◌≤◌, List, [], map, drop, All, Option, MatchOption}
 use Rattle.xet_base.specs.declared.error.CoreError.{CoreError}
@@ -47,7 +47,7 @@ CutBefore at stop bytes =
     (xorbs : List MDBXorbInfo) × (rest : List ℕ) × HoldsRecords xorb_records bytes xorbs rest
     × (at + 48 * total_rows xorb_records xorbs < stop) × EndsEarly xorb_records (rows_left xorb_records xorbs) rest
 
--- the hashes were not read, by one seek; the place is open
+-- the hashes were not read, by one seek; the source may be at any offset
 pub record HashesFail (old new : Source) (at stop : ℕ) (e : CoreError) : Type 0 where
   pub bytes : new.bytes ≡ old.bytes
   pub seeks : new.seeks ≡ old.seeks + 1
@@ -72,7 +72,7 @@ ReadsBefore stop old new left after found =
     MatchOption found (((old.at < stop) × ReadsBookend xorb_records (Takes old new)) ⊎ ((stop ≤ old.at) × (new ≡ old)))
     (ReadsXorbBefore stop old new left after)
 
--- neither was read; the place is open
+-- neither was read; the source may be at any offset
 pub record XorbBeforeFails (stop left : ℕ) (old new : Source) (e : CoreError) : Type 0 where
   pub bytes : new.bytes ≡ old.bytes
   pub seeks : new.seeks ≡ old.seeks

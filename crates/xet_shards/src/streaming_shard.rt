@@ -4,6 +4,12 @@ ghost use Rattle.xet_records.specs.FileRecord.{file_records};
 ghost use Rattle.xet_records.specs.Processing.{Processes};
 ghost use Rattle.xet_records.specs.XorbRecord.{xorb_records};
 
+mod eligible;
+mod file_start;
+mod minimal_reader;
+mod minimal_shard;
+
+pub use minimal_shard::MDBMinimalShard;
 use std::alloc::Global;
 use std::io::Read;
 use xet_base::error::Result;

@@ -1,7 +1,7 @@
 //! The rows that a search has still to look at, and which of them it probes next.
 
 ghost use Rattle.std.specs.Prelude.{◌≡◌, ◌+◌, ◌^◌, ◌<◌};
-ghost use Rattle.xet_base.specs.Probes.{guess_of, Around, AroundKey, AfterBelow, AfterAbove, IsWhole, Turns};
+ghost use Rattle.xet_base.specs.Probes.{guess_of, Around, AroundKey, AfterBelow, AfterAbove, IsWhole, Turns, KeepsEven};
 
 /// The rows after `low` and before `high`, counted from 1, with the keys at both ends. Row 0, before the
 /// table, has the key 0, and the row after the table the key `u64::MAX`. Row `probe` is looked at next.
@@ -33,6 +33,17 @@ impl Window {
     /// The rows that are left once the probed row was found to have the key `found`. Where that is the key
     /// that is looked for, the key at the upper end stays, so that the keys at the ends always differ.
     pub fn after(self, found: u64, key: u64) -> Window
+        requires around { AroundKey self key }
+        requires above_low { self.low < self.probe }
+        requires below_high { self.probe < self.high }
+        ensures turns { Turns self key found result }
+        ensures even { KeepsEven self key found result }
+    {
+        self.turn(found, key)
+    }
+
+    // The rows that are left, and the next probe: a guess, or a step from the probed row.
+    fn turn(self, found: u64, key: u64) -> Window
         requires around { AroundKey self key }
         requires above_low { self.low < self.probe }
         requires below_high { self.probe < self.high }

@@ -5,16 +5,17 @@ ghost use Rattle.std.specs.declared.cmp.Ordering.TheVariants.{Less};
 ghost use Rattle.xet_base.specs.Hash.{hash_cmp};
 ghost use Rattle.xet_base.specs.Errors.{IsInvalidShard};
 ghost use Rattle.xet_shards.specs.Section.{total_rows};
-ghost use Rattle.xet_core_structures.specs.Held.{Ascends, AreWritable};
+ghost use Rattle.xet_shards.specs.InForm.{Ascends};
+ghost use Rattle.xet_core_structures.specs.Held.{AreWritable};
 ghost use Rattle.xet_core_structures.specs.Combining.{key_of_record, count, IsNextPair, Combines, Clash, NoneCombines};
 
-use super::set_record::SetRecord;
+use super::set_record::{Operation, SetRecord};
 use std::alloc::Global;
 use std::cmp::Ordering;
 use xet_base::error::{CoreError, Result};
 
 /// Whether the hashes of these records strictly ascend.
-pub fn ascends<Op, R: SetRecord<Op>>(records: &[R]) -> bool
+pub fn ascends<R: SetRecord>(records: &[R]) -> bool
     ensures { IsTrue result ↔ Ascends R.kind records.now }
 {
     let mut i = 1;
@@ -28,14 +29,14 @@ pub fn ascends<Op, R: SetRecord<Op>>(records: &[R]) -> bool
 }
 
 // Whether the first record's hash is less.
-fn comes_before<Op, R: SetRecord<Op>>(x: &R, y: &R) -> bool
+fn comes_before<R: SetRecord>(x: &R, y: &R) -> bool
     ensures { IsTrue result ↔ (hash_cmp (key_of_record R.kind x.now) (key_of_record R.kind y.now) ≡ Less) }
 {
     x.hash().cmp(&y.hash()) == Ordering::Less
 }
 
 /// The same as `combine`; also `InvalidShard` if the rows of the result pass 4294967295.
-pub fn combine_within_rows<Op, R: SetRecord<Op> + Drop>(
+pub fn combine_within_rows<Op: Operation<R>, R: SetRecord + Drop>(
     alloc: Global,
     first: &[R],
     second: &[R],
@@ -43,10 +44,10 @@ pub fn combine_within_rows<Op, R: SetRecord<Op> + Drop>(
     requires first { AreWritable R.kind first.now }
     requires second { AreWritable R.kind second.now }
     ensures { MatchResult result
-        (λ list. Combines R.kind R.makes first.now second.now list.items × AreWritable R.kind list.items)
-        (λ e. (e ≡ CoreError.OutOfMemory) ⊎ (IsInvalidShard e × NoneCombines R.kind R.makes first.now second.now)) }
+        (λ list. Combines R.kind Op.makes first.now second.now list.items × AreWritable R.kind list.items)
+        (λ e. (e ≡ CoreError.OutOfMemory) ⊎ (IsInvalidShard e × NoneCombines R.kind Op.makes first.now second.now)) }
 {
-    let records = combine(alloc, first, second)?;
+    let records = combine::<Op, R>(alloc, first, second)?;
     if rows_of(&records) > u64::from(u32::MAX) {
         return Err(CoreError::InvalidShard(String::new(alloc)));
     }
@@ -55,7 +56,7 @@ pub fn combine_within_rows<Op, R: SetRecord<Op> + Drop>(
 
 /// Combines two lists hash by hash. `InvalidShard` if of two records with one hash none can be made,
 /// `OutOfMemory` if an allocation fails.
-pub fn combine<Op, R: SetRecord<Op> + Drop>(
+pub fn combine<Op: Operation<R>, R: SetRecord + Drop>(
     alloc: Global,
     first: &[R],
     second: &[R],
@@ -64,8 +65,8 @@ pub fn combine<Op, R: SetRecord<Op> + Drop>(
     requires second { All R.kind.IsStored second.now }
     requires first_ascends { Ascends R.kind first.now }
     requires second_ascends { Ascends R.kind second.now }
-    ensures combined { MatchResult result (λ list. Combines R.kind R.makes first.now second.now list.items)
-        (λ e. (e ≡ CoreError.OutOfMemory) ⊎ (IsInvalidShard e × Clash R.kind R.makes first.now second.now)) }
+    ensures combined { MatchResult result (λ list. Combines R.kind Op.makes first.now second.now list.items)
+        (λ e. (e ≡ CoreError.OutOfMemory) ⊎ (IsInvalidShard e × Clash R.kind Op.makes first.now second.now)) }
     ensures rows { IfOk result (λ list. total_rows R.kind list.items ≤ total_rows R.kind first.now + total_rows R.kind second.now) }
 {
     let mut combined = Vec::new(alloc);
@@ -73,7 +74,7 @@ pub fn combine<Op, R: SetRecord<Op> + Drop>(
     let mut j = 0;
     while goes_on(first, i, second, j) {
         let (x, y) = next_pair(item(first, i), item(second, j));
-        push_made(&mut combined, R::combine(alloc, x, y)?)?;
+        push_made(&mut combined, Op::combine(alloc, x, y)?)?;
         i = index_after(first, i, x);
         j = index_after(second, j, y);
     }
@@ -121,7 +122,7 @@ fn item<R>(records: &[R], i: usize) -> Option<&R>
 }
 
 // Of the next records of two lists, if any, those with the lesser hash, or both.
-fn next_pair<'a, Op, R: SetRecord<Op>>(
+fn next_pair<'a, R: SetRecord>(
     first: Option<&'a R>,
     second: Option<&'a R>,
 ) -> (Option<&'a R>, Option<&'a R>)
@@ -139,7 +140,7 @@ fn next_pair<'a, Op, R: SetRecord<Op>>(
 }
 
 /// The rows of these records.
-pub fn rows_of<Op, R: SetRecord<Op>>(records: &[R]) -> u64
+pub fn rows_of<R: SetRecord>(records: &[R]) -> u64
     requires stored { All R.kind.IsStored records.now }
     requires few { total_rows R.kind records.now ≤ 18446744073709551615 }
     ensures { result ≡ total_rows R.kind records.now }

@@ -7,7 +7,6 @@ ghost use Rattle.xet_core_structures.specs.Held.{ReadsList, ReadsNoList, HoldsLi
 ghost use Rattle.xet_core_structures.specs.ByteResults.{key_of, HaveInputs, InputsFail, DifferenceRefusal};
 
 use super::combine::ascends;
-use super::set_record::OfUnion;
 use std::alloc::Global;
 use xet_base::error::{CoreError, Result};
 use xet_base::source::ShardSource;
@@ -43,6 +42,7 @@ pub fn read_inputs<S: ShardSource, T: ShardSource>(
         (InputsFail (S.meaning r1.old) (S.meaning r1.new) (T.meaning r2.old) (T.meaning r2.new)
         (DifferenceRefusal (S.meaning r1.old).bytes s1.now (T.meaning r2.old).bytes s2.now)) }
     ensures untouched { key_of s1.now ≢ key_of s2.now → (S.meaning r1.new ≡ S.meaning r1.old) × (T.meaning r2.new ≡ T.meaning r2.old) }
+    ensures sources { ((S.meaning r1.new).bytes ≡ (S.meaning r1.old).bytes) × ((T.meaning r2.new).bytes ≡ (T.meaning r2.old).bytes) }
 {
     if s1.metadata.chunk_hash_hmac_key != s2.metadata.chunk_hash_hmac_key {
         return Err(CoreError::InvalidArguments);
@@ -54,9 +54,10 @@ pub fn read_inputs<S: ShardSource, T: ShardSource>(
 
 // Reads both sections, with the same errors.
 fn read_input<S: ShardSource>(alloc: Global, info: &MDBShardInfo, source: &mut S) -> Result<Records>
-    ensures { MatchResult result
+    ensures read { MatchResult result
         (λ found. HoldsLists (S.meaning source.old).bytes info.now found.files.items found.xorbs.items)
         (ReadsNoInput (S.meaning source.old) (S.meaning source.new) info.now) }
+    ensures kept { (S.meaning source.new).bytes ≡ (S.meaning source.old).bytes }
 {
     let files = read_files(alloc, info, source)?;
     let xorbs = read_xorbs(alloc, info, source)?;
@@ -76,7 +77,7 @@ fn read_files<S: ShardSource>(
         (ReadsNoList file_records (S.meaning source.old) (S.meaning source.new) info.now.metadata.file_info_offset) }
 {
     let files = info.read_all_file_info_sections(alloc, source)?;
-    if !ascends::<OfUnion, MDBFileInfo>(&files) {
+    if !ascends::<MDBFileInfo>(&files) {
         return Err(CoreError::InvalidShard(String::new(alloc)));
     }
     Ok(files)
@@ -93,7 +94,7 @@ fn read_xorbs<S: ShardSource>(
         (ReadsNoList xorb_records (S.meaning source.old) (S.meaning source.new) info.now.metadata.xorb_info_offset) }
 {
     let xorbs = info.read_all_xorb_blocks_full(alloc, source)?;
-    if !ascends::<OfUnion, MDBXorbInfo>(&xorbs) {
+    if !ascends::<MDBXorbInfo>(&xorbs) {
         return Err(CoreError::InvalidShard(String::new(alloc)));
     }
     Ok(xorbs)

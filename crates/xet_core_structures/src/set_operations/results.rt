@@ -54,6 +54,7 @@ pub fn unite<S: ShardSource, T: ShardSource, W: Write>(
         (UnionRefusal (S.meaning r1.old).bytes s1.now (T.meaning r2.old).bytes s2.now))) }
     ensures untouched { key_of s1.now ≢ key_of s2.now
         → (S.meaning r1.new ≡ S.meaning r1.old) × (T.meaning r2.new ≡ T.meaning r2.old) × (W.contents out.new ≡ W.contents out.old) }
+    ensures sources { ((S.meaning r1.new).bytes ≡ (S.meaning r1.old).bytes) × ((T.meaning r2.new).bytes ≡ (T.meaning r2.old).bytes) }
     ensures widths { IfOk result (λ info. FitsFooter info.metadata) }
 {
     let inputs = read_inputs(alloc, s1, r1, s2, r2)?;
@@ -77,6 +78,7 @@ pub fn subtract<S: ShardSource, T: ShardSource, W: Write>(
         (DifferenceRefusal (S.meaning r1.old).bytes s1.now (T.meaning r2.old).bytes s2.now))) }
     ensures untouched { key_of s1.now ≢ key_of s2.now
         → (S.meaning r1.new ≡ S.meaning r1.old) × (T.meaning r2.new ≡ T.meaning r2.old) × (W.contents out.new ≡ W.contents out.old) }
+    ensures sources { ((S.meaning r1.new).bytes ≡ (S.meaning r1.old).bytes) × ((T.meaning r2.new).bytes ≡ (T.meaning r2.old).bytes) }
     ensures widths { IfOk result (λ info. FitsFooter info.metadata) }
 {
     let inputs = read_inputs(alloc, s1, r1, s2, r2)?;

@@ -22,23 +22,13 @@ pub struct OfUnion {}
 /// Marks the difference, which has the second's records.
 pub struct OfDifference {}
 
-/// A record of a file or a xorb, under an operation on two lists: `Op` is `OfUnion` or
-/// `OfDifference`.
-pub trait SetRecord<Op> {
+/// A record of a file or a xorb.
+pub trait SetRecord {
     ghost Header: { Type 0 };
 
     ghost kind: { RecordKind Header Self };
 
     ghost laws: { KindLaws kind };
-
-    // what is made of the records with one hash, where each list may have one
-    ghost makes: { Option Self → Option Self → Option Self → Type 0 };
-
-    ghost makes_nothing: { makes None None None };
-
-    ghost makes_of_first: { (x : Self) → (made : Option Self) × makes (Some x) None made };
-
-    ghost makes_of_second: { (y : Self) → (made : Option Self) × makes None (Some y) made };
 
     /// The hash of the file or xorb.
     fn hash(&self) -> MerkleHash
@@ -48,37 +38,16 @@ pub trait SetRecord<Op> {
     fn rows(&self) -> u64
         requires { kind.IsStored self.now }
         ensures { result ≡ kind.row_count self.now };
-
-    /// Makes a record, or none, of those with one hash. `InvalidShard` if there is none to be made,
-    /// `OutOfMemory` if an allocation fails.
-    fn combine(alloc: Global, first: Option<&Self>, second: Option<&Self>) -> Result<Option<Self>>
-        requires first { IfSome first (λ x. kind.IsStored x.now) }
-        requires second { IfSome second (λ y. kind.IsStored y.now) }
-        requires hash { AreOfOneHash kind (option_map (λ x. x.now) first) (option_map (λ y. y.now) second) }
-        ensures made { IfOk result (makes (option_map (λ x. x.now) first.entry) (option_map (λ y. y.now) second.entry)) }
-        ensures stored { IfOk result (λ made. IfSome made
-            (IsMadeOf kind (option_map (λ x. x.now) first.entry) (option_map (λ y. y.now) second.entry))) }
-        ensures causes { IfErr result (λ e. (e ≡ CoreError.OutOfMemory) ⊎ (IsInvalidShard e
-            × ((made : Option Self) → ¬ makes (option_map (λ x. x.now) first.entry) (option_map (λ y. y.now) second.entry) made))) };
 }
 
-impl SetRecord<OfUnion> for MDBFileInfo {
+impl SetRecord for MDBFileInfo {
     ghost use Rattle.xet_records.specs.declared.file_structs.header.FileDataSequenceHeader.{FileDataSequenceHeader};
-    ghost use Rattle.std.specs.Prelude.{refl};
 
     ghost Header = { FileDataSequenceHeader };
 
     ghost kind = { file_records };
 
     ghost laws = { file_laws };
-
-    ghost makes = { IsEitherFile };
-
-    ghost makes_nothing = { refl };
-
-    ghost makes_of_first = { λ x. (Some x, refl) };
-
-    ghost makes_of_second = { λ y. (Some y, refl) };
 
     fn hash(&self) -> MerkleHash {
         self.metadata.file_hash
@@ -87,6 +56,60 @@ impl SetRecord<OfUnion> for MDBFileInfo {
     fn rows(&self) -> u64 {
         1 + self.metadata.rows_after()
     }
+}
+
+impl SetRecord for MDBXorbInfo {
+    ghost use Rattle.xet_records.specs.declared.xorb_structs.XorbChunkSequenceHeader.{XorbChunkSequenceHeader};
+
+    ghost Header = { XorbChunkSequenceHeader };
+
+    ghost kind = { xorb_records };
+
+    ghost laws = { xorb_laws };
+
+    fn hash(&self) -> MerkleHash {
+        self.metadata.xorb_hash
+    }
+
+    fn rows(&self) -> u64 {
+        1 + u64::from(self.metadata.num_entries)
+    }
+}
+
+/// An operation on two lists of such records: `OfUnion` or `OfDifference`.
+pub trait Operation<R: SetRecord> {
+    // what is made of the records with one hash, where each list may have one
+    ghost makes: { Option R → Option R → Option R → Type 0 };
+
+    ghost makes_nothing: { makes None None None };
+
+    ghost makes_of_first: { (x : R) → (made : Option R) × makes (Some x) None made };
+
+    ghost makes_of_second: { (y : R) → (made : Option R) × makes None (Some y) made };
+
+    /// Makes a record, or none, of those with one hash. `InvalidShard` if there is none to be made,
+    /// `OutOfMemory` if an allocation fails.
+    fn combine(alloc: Global, first: Option<&R>, second: Option<&R>) -> Result<Option<R>>
+        requires first { IfSome first (λ x. R.kind.IsStored x.now) }
+        requires second { IfSome second (λ y. R.kind.IsStored y.now) }
+        requires hash { AreOfOneHash R.kind (option_map (λ x. x.now) first) (option_map (λ y. y.now) second) }
+        ensures made { IfOk result (makes (option_map (λ x. x.now) first.entry) (option_map (λ y. y.now) second.entry)) }
+        ensures stored { IfOk result (λ made. IfSome made
+            (IsMadeOf R.kind (option_map (λ x. x.now) first.entry) (option_map (λ y. y.now) second.entry))) }
+        ensures causes { IfErr result (λ e. (e ≡ CoreError.OutOfMemory) ⊎ (IsInvalidShard e
+            × ((made : Option R) → ¬ makes (option_map (λ x. x.now) first.entry) (option_map (λ y. y.now) second.entry) made))) };
+}
+
+impl Operation<MDBFileInfo> for OfUnion {
+    ghost use Rattle.std.specs.Prelude.{refl};
+
+    ghost makes = { IsEitherFile };
+
+    ghost makes_nothing = { refl };
+
+    ghost makes_of_first = { λ x. (Some x, refl) };
+
+    ghost makes_of_second = { λ y. (Some y, refl) };
 
     fn combine(
         alloc: Global,
@@ -102,15 +125,8 @@ impl SetRecord<OfUnion> for MDBFileInfo {
     }
 }
 
-impl SetRecord<OfUnion> for MDBXorbInfo {
-    ghost use Rattle.xet_records.specs.declared.xorb_structs.XorbChunkSequenceHeader.{XorbChunkSequenceHeader};
+impl Operation<MDBXorbInfo> for OfUnion {
     ghost use Rattle.std.specs.Prelude.{refl};
-
-    ghost Header = { XorbChunkSequenceHeader };
-
-    ghost kind = { xorb_records };
-
-    ghost laws = { xorb_laws };
 
     ghost makes = { IsEitherXorb };
 
@@ -119,14 +135,6 @@ impl SetRecord<OfUnion> for MDBXorbInfo {
     ghost makes_of_first = { λ x. (Some x, refl) };
 
     ghost makes_of_second = { λ y. (Some y, refl) };
-
-    fn hash(&self) -> MerkleHash {
-        self.metadata.xorb_hash
-    }
-
-    fn rows(&self) -> u64 {
-        1 + u64::from(self.metadata.num_entries)
-    }
 
     fn combine(
         alloc: Global,
@@ -141,15 +149,8 @@ impl SetRecord<OfUnion> for MDBXorbInfo {
     }
 }
 
-impl SetRecord<OfDifference> for MDBFileInfo {
-    ghost use Rattle.xet_records.specs.declared.file_structs.header.FileDataSequenceHeader.{FileDataSequenceHeader};
+impl Operation<MDBFileInfo> for OfDifference {
     ghost use Rattle.std.specs.Prelude.{refl};
-
-    ghost Header = { FileDataSequenceHeader };
-
-    ghost kind = { file_records };
-
-    ghost laws = { file_laws };
 
     ghost makes = { IsRest };
 
@@ -158,14 +159,6 @@ impl SetRecord<OfDifference> for MDBFileInfo {
     ghost makes_of_first = { λ x. (None, refl) };
 
     ghost makes_of_second = { λ y. (Some y, refl) };
-
-    fn hash(&self) -> MerkleHash {
-        self.metadata.file_hash
-    }
-
-    fn rows(&self) -> u64 {
-        1 + self.metadata.rows_after()
-    }
 
     fn combine(
         alloc: Global,
@@ -179,15 +172,8 @@ impl SetRecord<OfDifference> for MDBFileInfo {
     }
 }
 
-impl SetRecord<OfDifference> for MDBXorbInfo {
-    ghost use Rattle.xet_records.specs.declared.xorb_structs.XorbChunkSequenceHeader.{XorbChunkSequenceHeader};
+impl Operation<MDBXorbInfo> for OfDifference {
     ghost use Rattle.std.specs.Prelude.{refl};
-
-    ghost Header = { XorbChunkSequenceHeader };
-
-    ghost kind = { xorb_records };
-
-    ghost laws = { xorb_laws };
 
     ghost makes = { IsRest };
 
@@ -196,14 +182,6 @@ impl SetRecord<OfDifference> for MDBXorbInfo {
     ghost makes_of_first = { λ x. (None, refl) };
 
     ghost makes_of_second = { λ y. (Some y, refl) };
-
-    fn hash(&self) -> MerkleHash {
-        self.metadata.xorb_hash
-    }
-
-    fn rows(&self) -> u64 {
-        1 + u64::from(self.metadata.num_entries)
-    }
 
     fn combine(
         alloc: Global,

@@ -179,7 +179,7 @@ impl MDBFileInfoView {
     /// `Io` of kind `Other` if they are wanted and missing, and then nothing is written. Any other error is the
     /// writer's.
     pub fn serialize<W: Write>(&self, writer: &mut W, with_verification: bool) -> Result<usize>
-        ensures text { OnOk result
+        ensures bytes { OnOk result
             (Appends (W.contents writer.old) (W.contents writer.new) (file_record_bytes (as_wanted with_verification self.now))) }
         ensures count { IfOk result (λ n. n ≡ 48 * row_count (as_wanted with_verification self.now)) }
         ensures missing { LacksVerification with_verification self.now

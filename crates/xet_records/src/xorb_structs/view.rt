@@ -118,7 +118,7 @@ impl MDBXorbInfoView {
 
     /// Appends the record and returns its size in bytes. The error is the writer's.
     pub fn serialize<W: Write>(&self, writer: &mut W) -> Result<usize>
-        ensures text { OnOk result
+        ensures bytes { OnOk result
             (Appends (W.contents writer.old) (W.contents writer.new) (xorb_record_bytes self.now)) }
         ensures count { IfOk result (λ n. n ≡ 48 * xorb_row_count self.now) }
         ensures causes { IfErr result IsDeviceError }
@@ -135,7 +135,7 @@ impl MDBXorbInfoView {
         F: Fn(usize, XorbChunkSequenceEntry) -> XorbChunkSequenceEntry,
     >(&self, writer: &mut W, rewrite: F) -> Result<usize>
         requires { F.IsAlwaysCallable rewrite }
-        ensures text { OnOk result ((rewritten : List chunk_type) × Rewrites (F.post rewrite) self.now.chunks rewritten
+        ensures bytes { OnOk result ((rewritten : List chunk_type) × Rewrites (F.post rewrite) self.now.chunks rewritten
             × Appends (W.contents writer.old) (W.contents writer.new) (xorb_header_row self.now.metadata ++ flat_map chunk_row rewritten)) }
         ensures count { IfOk result (λ n. n ≡ 48 * xorb_row_count self.now) }
         ensures causes { IfErr result IsDeviceError }

@@ -1,12 +1,12 @@
 //! Lookup of one file on the bytes of a shard.
 
-ghost use Rattle.std.specs.Prelude.{◌≡◌, ℕ, Option, ◌+◌, ◌≤◌, MatchResult, OnOk, IfOk, IfErr};
+ghost use Rattle.std.specs.Prelude.{◌≡◌, ℕ, Option, MatchResult, OnOk, IfOk, IfErr};
 ghost use Rattle.std.specs.FinMap as finite;
-ghost use Rattle.xet_base.specs.Table.{IsSorted, Serves, Bounded, IsEven};
+ghost use Rattle.xet_base.specs.Table.{Serves};
 ghost use Rattle.xet_records.specs.FileRecord.{file_records};
 ghost use Rattle.xet_shards.specs.Shard.{Shard, IsShard};
 ghost use Rattle.xet_shards.specs.Layout.{layout, info_value};
-ghost use Rattle.xet_shards.specs.Lookup.{StartsAmong, NoStartsAmong, FoundInShard, NotFoundAmong, WithinBounds, SearchWithinBounds, file_table, IndexFinds, IndexRefused, ReadsInfo, ReadInfoFails, VisitsSome, Finding, FindingFails, LookupAnswer, LookupRefused};
+ghost use Rattle.xet_shards.specs.Lookup.{StartsAmong, NoStartsAmong, FoundInShard, NotFoundAmong, WithinBounds, SearchWithinBounds, file_table, LooksUpIndex, LooksUpRecord, ReadsInfo, ReadInfoFails, VisitsSome, Finding, FindingFails, LookupAnswer, LookupRefused};
 
 use super::info::MDBShardInfo;
 use super::section_reader::read_record_at;
@@ -32,14 +32,7 @@ impl MDBShardInfo {
         hash: &MerkleHash,
         dest: &mut [u32; 8],
     ) -> Result<usize>
-        ensures found { IfOk result (IndexFinds (file_table self.now.metadata (S.meaning source.old)) hash.now.word0 dest.old dest.new) }
-        ensures serves { OnOk result (Serves (S.meaning source.old) (S.meaning source.new)) }
-        ensures refused { IfErr result (IndexRefused (file_table self.now.metadata (S.meaning source.old)) hash.now.word0 (S.meaning source.old) (S.meaning source.new)) }
-        ensures kept { (S.meaning source.new).bytes ≡ (S.meaning source.old).bytes }
-        ensures bounds { IsSorted (file_table self.now.metadata (S.meaning source.old))
-            → Bounded (file_table self.now.metadata (S.meaning source.old)) hash.now.word0 (S.meaning source.old) (S.meaning source.new) }
-        ensures even { IsEven (file_table self.now.metadata (S.meaning source.old))
-            → (S.meaning source.new).seeks ≤ (S.meaning source.old).seeks + 3 }
+        ensures looks { LooksUpIndex (file_table self.now.metadata (S.meaning source.old)) hash.now.word0 dest.old dest.new (S.meaning source.old) (S.meaning source.new) result }
         ensures written { (s : Shard) → (expiry : Option ℕ) → IsShard s → (S.meaning source.old).bytes ≡ layout s expiry → self.now ≡ info_value s expiry
             → MatchResult result (StartsAmong file_records (finite.values s.files) hash.now.word0 dest.new)
             (NoStartsAmong file_records (finite.values s.files) hash.now.word0 (S.meaning source.old) (S.meaning source.new)) }
@@ -80,11 +73,7 @@ impl MDBShardInfo {
         source: &mut S,
         hash: &MerkleHash,
     ) -> Result<Option<MDBFileInfo>>
-        ensures read { MatchResult result
-            (Finding file_records (file_table self.now.metadata (S.meaning source.old)) self.now.metadata.file_info_offset hash.now (S.meaning source.old) (S.meaning source.new))
-            (FindingFails file_records (file_table self.now.metadata (S.meaning source.old)) self.now.metadata.file_info_offset hash.now (S.meaning source.old) (S.meaning source.new)) }
-        ensures serves { OnOk result (Serves (S.meaning source.old) (S.meaning source.new)) }
-        ensures kept { (S.meaning source.new).bytes ≡ (S.meaning source.old).bytes }
+        ensures looks { LooksUpRecord file_records (file_table self.now.metadata (S.meaning source.old)) self.now.metadata.file_info_offset hash.now (S.meaning source.old) (S.meaning source.new) result }
         ensures written { (s : Shard) → (expiry : Option ℕ) → IsShard s → (S.meaning source.old).bytes ≡ layout s expiry → self.now ≡ info_value s expiry
             → MatchResult result (FoundInShard s hash.now) (NotFoundAmong file_records (finite.values s.files) hash.now (S.meaning source.old) (S.meaning source.new)) }
         ensures costs { (s : Shard) → (expiry : Option ℕ) → IsShard s → (S.meaning source.old).bytes ≡ layout s expiry → self.now ≡ info_value s expiry

@@ -166,7 +166,7 @@ fn read_ends<S: ShardSource>(alloc: Global, source: &mut S) -> Result<MDBShardIn
 
 /// Reads a header from the source's current offset on.
 #[tactic(auto, unfolding(crate::specs::Layout::shard_header_bytes))]
-pub(super) fn read_header<S: ShardSource>(
+pub(crate) fn read_header<S: ShardSource>(
     alloc: Global,
     source: &mut S,
 ) -> Result<MDBShardFileHeader>

@@ -40,11 +40,11 @@ pub(super) fn read_record_at<R: SectionRecord + Drop, S: ShardSource>(
         (ReadInfoFails R.kind offset row (S.meaning source.old) (S.meaning source.new)) }
 {
     R::laws();
-    let place = 48 * u64::from(row);
-    let Some(place) = offset.checked_add(place) else {
+    let distance = 48 * u64::from(row);
+    let Some(row_offset) = offset.checked_add(distance) else {
         return Err(CoreError::InvalidShard(String::new(alloc)));
     };
-    source.seek_to(place)?;
+    source.seek_to(row_offset)?;
     let mut rows_left = MOST_ROWS_OF_RECORD;
     match read_record::<R, OfSource, S>(alloc, source, &mut rows_left)? {
         Some(found) => Ok(found),

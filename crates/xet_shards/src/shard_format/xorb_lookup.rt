@@ -11,7 +11,7 @@ ghost use Rattle.xet_records.specs.XorbRecord.{xorb_records};
 ghost use Rattle.xet_shards.specs.Shard.{Shard, IsShard};
 ghost use Rattle.xet_shards.specs.Layout.{Form, layout, info_value};
 ghost use Rattle.xet_shards.specs.InForm.{Ascends, IsInForm};
-ghost use Rattle.xet_shards.specs.Lookup.{StartsAmong, NoStartsAmong, SearchWithinBounds, xorb_table, chunk_lookup_table, IsPair, IndexFinds, IndexRefused};
+ghost use Rattle.xet_shards.specs.Lookup.{StartsAmong, NoStartsAmong, SearchWithinBounds, xorb_table, chunk_lookup_table, IsPair, LooksUpIndex};
 ghost use Rattle.xet_shards.specs.WrittenChunks.{RowsAmong, ChunkSearchCosts};
 
 use super::info::MDBShardInfo;
@@ -23,44 +23,6 @@ use xet_base::merklehash::MerkleHash;
 use xet_base::source::ShardSource;
 
 impl MDBShardInfo {
-    /// Looks in the xorb table for the first word of `hash`, and puts the row numbers of the xorbs that share
-    /// it at the front of `dest`. Returns how many these are; entries of `dest` past them are unchanged. Does
-    /// not allocate.
-    ///
-    /// `TruncatedHashCollision` of the word if eight or more share it, `InvalidShard` if the table's offset or
-    /// end does not fit `u64`, `UnexpectedEof` if the source ends where the search reads on.
-    pub fn get_xorb_info_index_by_hash<S: ShardSource>(
-        &self,
-        alloc: Global,
-        source: &mut S,
-        hash: &MerkleHash,
-        dest: &mut [u32; 8],
-    ) -> Result<usize>
-        ensures found { IfOk result (IndexFinds (xorb_table self.now.metadata (S.meaning source.old)) hash.now.word0 dest.old dest.new) }
-        ensures serves { OnOk result (Serves (S.meaning source.old) (S.meaning source.new)) }
-        ensures refused { IfErr result (IndexRefused (xorb_table self.now.metadata (S.meaning source.old)) hash.now.word0 (S.meaning source.old) (S.meaning source.new)) }
-        ensures kept { (S.meaning source.new).bytes ≡ (S.meaning source.old).bytes }
-        ensures bounds { IsSorted (xorb_table self.now.metadata (S.meaning source.old))
-            → Bounded (xorb_table self.now.metadata (S.meaning source.old)) hash.now.word0 (S.meaning source.old) (S.meaning source.new) }
-        ensures even { IsEven (xorb_table self.now.metadata (S.meaning source.old))
-            → (S.meaning source.new).seeks ≤ (S.meaning source.old).seeks + 3 }
-        ensures in_form { (files : List File) → (xorbs : List Xorb) → (form : Form) → IsInForm files xorbs form (S.meaning source.old).bytes self.now.metadata
-            → Ascends xorb_records xorbs → form.xorb_table ≡ true
-            → MatchResult result (StartsAmong xorb_records xorbs hash.now.word0 dest.new) (NoStartsAmong xorb_records xorbs hash.now.word0 (S.meaning source.old) (S.meaning source.new)) }
-        ensures in_form_costs { (files : List File) → (xorbs : List Xorb) → (form : Form) → IsInForm files xorbs form (S.meaning source.old).bytes self.now.metadata
-            → Ascends xorb_records xorbs → form.xorb_table ≡ true
-            → SearchWithinBounds xorb_records xorbs hash.now.word0 (S.meaning source.old) (S.meaning source.new) }
-        ensures written { (s : Shard) → (expiry : Option ℕ) → IsShard s → (S.meaning source.old).bytes ≡ layout s expiry → self.now ≡ info_value s expiry
-            → MatchResult result (StartsAmong xorb_records (finite.values s.xorbs) hash.now.word0 dest.new)
-            (NoStartsAmong xorb_records (finite.values s.xorbs) hash.now.word0 (S.meaning source.old) (S.meaning source.new)) }
-        ensures costs { (s : Shard) → (expiry : Option ℕ) → IsShard s → (S.meaning source.old).bytes ≡ layout s expiry → self.now ≡ info_value s expiry
-            → SearchWithinBounds xorb_records (finite.values s.xorbs) hash.now.word0 (S.meaning source.old) (S.meaning source.new) }
-    {
-        let start = self.metadata.xorb_lookup_offset;
-        let rows = self.metadata.xorb_lookup_num_entry;
-        find_rows(alloc, source, start, rows, truncate_hash(hash), dest)
-    }
-
     /// Looks in the chunk table for the first word of a chunk's hash, under the shard's key if it has one, and
     /// puts up to eight locations at the front of `dest`: the row at which a xorb starts, and an index among its
     /// chunks. Returns how many these are; entries of `dest` past them are unchanged. Eight are no error. Does
@@ -99,5 +61,36 @@ impl MDBShardInfo {
         let rows = self.metadata.chunk_lookup_num_entry;
         let word = truncate_hash(&self.keyed_chunk_hash(unkeyed_hash));
         search_table::<(u32, u32), S>(alloc, source, start, rows, word, dest)
+    }
+
+    /// Looks in the xorb table for the first word of `hash`, and puts the row numbers of the xorbs that share
+    /// it at the front of `dest`. Returns how many these are; entries of `dest` past them are unchanged. Does
+    /// not allocate.
+    ///
+    /// `TruncatedHashCollision` of the word if eight or more share it, `InvalidShard` if the table's offset or
+    /// end does not fit `u64`, `UnexpectedEof` if the source ends where the search reads on.
+    pub fn get_xorb_info_index_by_hash<S: ShardSource>(
+        &self,
+        alloc: Global,
+        source: &mut S,
+        hash: &MerkleHash,
+        dest: &mut [u32; 8],
+    ) -> Result<usize>
+        ensures looks { LooksUpIndex (xorb_table self.now.metadata (S.meaning source.old)) hash.now.word0 dest.old dest.new (S.meaning source.old) (S.meaning source.new) result }
+        ensures in_form { (files : List File) → (xorbs : List Xorb) → (form : Form) → IsInForm files xorbs form (S.meaning source.old).bytes self.now.metadata
+            → Ascends xorb_records xorbs → form.xorb_table ≡ true
+            → MatchResult result (StartsAmong xorb_records xorbs hash.now.word0 dest.new) (NoStartsAmong xorb_records xorbs hash.now.word0 (S.meaning source.old) (S.meaning source.new)) }
+        ensures in_form_costs { (files : List File) → (xorbs : List Xorb) → (form : Form) → IsInForm files xorbs form (S.meaning source.old).bytes self.now.metadata
+            → Ascends xorb_records xorbs → form.xorb_table ≡ true
+            → SearchWithinBounds xorb_records xorbs hash.now.word0 (S.meaning source.old) (S.meaning source.new) }
+        ensures written { (s : Shard) → (expiry : Option ℕ) → IsShard s → (S.meaning source.old).bytes ≡ layout s expiry → self.now ≡ info_value s expiry
+            → MatchResult result (StartsAmong xorb_records (finite.values s.xorbs) hash.now.word0 dest.new)
+            (NoStartsAmong xorb_records (finite.values s.xorbs) hash.now.word0 (S.meaning source.old) (S.meaning source.new)) }
+        ensures costs { (s : Shard) → (expiry : Option ℕ) → IsShard s → (S.meaning source.old).bytes ≡ layout s expiry → self.now ≡ info_value s expiry
+            → SearchWithinBounds xorb_records (finite.values s.xorbs) hash.now.word0 (S.meaning source.old) (S.meaning source.new) }
+    {
+        let start = self.metadata.xorb_lookup_offset;
+        let rows = self.metadata.xorb_lookup_num_entry;
+        find_rows(alloc, source, start, rows, truncate_hash(hash), dest)
     }
 }

@@ -50,7 +50,8 @@ loop-window-preserved g c =
     let found = c.in_ok-found.found in
     let running : w.low + 256 < w.high = omega (arith, c.loop-window-test.true) in
     let reads = subst (λ bytes. ReadsKey (table_in c.args.range bytes) (w.probe - 1) now mid found) so_far.serves.bytes c.in_ok-found.ensures in
-    let turns = c.after-window.ensures in
+    let turns = c.after-window.ensures.turns in
+    let steps = c.after-window.ensures.even in
     let next = c.after-window.result in
     elim c.if-found-key.branch [
       | then-found-key+in_ok-count v ↦
@@ -58,7 +59,7 @@ loop-window-preserved g c =
           let new = meaning v.keep_equal.new.source in
           rw (v.source-is, v.results-is, v.count-is)
           (searches_equal t c.args.key Gives w old now mid c.args.results.now c.loop-window.results c.loop-window.count found so_far running reads
-          next new v.keep_equal.new.results v.in_ok-count.count v.if-found-key.true (turns.equal v.if-found-key.true) v.in_ok-count.ensures.serves
+          next new v.keep_equal.new.results v.in_ok-count.count v.if-found-key.true (turns.equal v.if-found-key.true) steps v.in_ok-count.ensures.serves
           (subst (λ bytes. Runs (table_in c.args.range bytes) c.args.key (w.probe - 1) (w.high - 1) mid new) same v.keep_equal.ensures.runs)
           (subst (λ bytes. (before : List g.row.V.Denot) → FindsFrom (table_in c.args.range bytes) c.args.key Gives (w.high - 1) before c.loop-window.results c.loop-window.count
           → FindsFrom (table_in c.args.range bytes) c.args.key Gives (w.probe - 1) before v.keep_equal.new.results v.in_ok-count.count) same v.in_ok-count.ensures.found
@@ -67,9 +68,9 @@ loop-window-preserved g c =
           (subst (λ bytes. IsSorted (table_in c.args.range bytes) → Counts (table_in c.args.range bytes) c.args.key (w.probe - 1) (w.high - 1) (length c.loop-window.results)
           c.loop-window.count v.in_ok-count.count) same v.in_ok-count.ensures.count))
       | else-found-key v ↦ rw (v.source-is, v.results-is, v.count-is) (elim (cases_lt c.args.key found) [
-        | inl past ↦ searches_below t c.args.key Gives w old now mid c.args.results.now c.loop-window.results c.loop-window.count found so_far running reads next past (turns.below past)
+        | inl past ↦ searches_below t c.args.key Gives w old now mid c.args.results.now c.loop-window.results c.loop-window.count found so_far running reads next past (turns.below past) steps
         | inr not_past ↦ let past : found < c.args.key = omega (arith, not_past, v.if-found-key.false) in
-            searches_above t c.args.key Gives w old now mid c.args.results.now c.loop-window.results c.loop-window.count found so_far running reads next past (turns.above past)
+            searches_above t c.args.key Gives w old now mid c.args.results.now c.loop-window.results c.loop-window.count found so_far running reads next past (turns.above past) steps
       ])
     ]
 

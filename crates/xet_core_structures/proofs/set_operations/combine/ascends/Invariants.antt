@@ -1,5 +1,5 @@
 use Rattle.std.proofs.Common.{length, take, ◌-◌, ◌≤◌}
-use Rattle.xet_core_structures.specs.Held.{Ascends}
+use Rattle.xet_shards.specs.InForm.{Ascends}
 use Rattle.xet_core_structures.proofs.set_operations.combine.ascends.Given as goal
 
 abbrev pub invariant-loop-i : goal.invariant-loop-i

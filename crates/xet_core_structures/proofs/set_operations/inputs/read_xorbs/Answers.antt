@@ -1,7 +1,7 @@
 use Rattle.std.proofs.Common.{sym, ◌∙◌, subst, true≢false}
 use Rattle.xet_records.specs.XorbRecord.{xorb_records}
 use Rattle.xet_records.proofs.RecordKinds.{xorb_laws}
-use Rattle.xet_core_structures.specs.Held.{Ascends}
+use Rattle.xet_shards.specs.InForm.{Ascends}
 use Rattle.xet_core_structures.proofs.Lists.{list_falls, list_read}
 use Rattle.xet_core_structures.proofs.set_operations.inputs.read_xorbs.Goals as goal
 

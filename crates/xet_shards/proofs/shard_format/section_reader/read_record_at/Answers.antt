@@ -10,23 +10,23 @@ use Rattle.xet_shards.proofs.shard_format.section_reader.read_record_at.Goals as
 pub returns-in_err-seek_to : goal.returns-in_err-seek_to
 returns-in_err-seek_to g c =
     let p = err_from_is_err_and c.from_residual.result c.from_residual.ensures.1 in
-    rw p.1 (info_no_seek g.R.SectionRecord.kind c.laws.ensures c.args.offset c.args.row _ _ _ _ (omega (arith, c.in-Some.ensures, c.from-place.ensures)) c.in_err-seek_to.ensures p.2)
+    rw p.1 (info_no_seek g.R.SectionRecord.kind c.laws.ensures c.args.offset c.args.row _ _ _ _ (omega (arith, c.in-Some.ensures, c.from-distance.ensures)) c.in_err-seek_to.ensures p.2)
 
 pub returns-in_err-found : goal.returns-in_err-found
 returns-in_err-found g c =
     let offset = c.args.offset in
     let mid = g.S.ShardSource.meaning c.seek_to.new.self in
-    let place : c.in-Some.place ≡ row_at offset c.args.row = omega (arith, c.in-Some.ensures, c.from-place.ensures) in
+    let row_offset_is : c.in-Some.row_offset ≡ row_at offset c.args.row = omega (arith, c.in-Some.ensures, c.from-distance.ensures) in
     let p = err_from_is_err_and c.from_residual-in_err-found.result c.from_residual-in_err-found.ensures.1 in
-    rw (p.1, p.2) (info_fails g.R.SectionRecord.kind c.laws.ensures offset c.args.row _ mid _ (omega (arith, place)) (c.in_ok-seek_to.ensures ∙ ap (moved (g.S.ShardSource.meaning c.args.source.now)) place) _
+    rw (p.1, p.2) (info_fails g.R.SectionRecord.kind c.laws.ensures offset c.args.row _ mid _ (omega (arith, row_offset_is)) (c.in_ok-seek_to.ensures ∙ ap (moved (g.S.ShardSource.meaning c.args.source.now)) row_offset_is) _
     (record_fails g.R.SectionRecord.kind c.laws.ensures g.S.ShardSource.meaning 4294967296 c.seek_to.new.self _ _ c.in_err-found.ensures))
 
 pub returns-in-Some-2 : goal.returns-in-Some-2
 returns-in-Some-2 g c =
     let offset = c.args.offset in
     let mid = g.S.ShardSource.meaning c.seek_to.new.self in
-    let place : c.in-Some.place ≡ row_at offset c.args.row = omega (arith, c.in-Some.ensures, c.from-place.ensures) in
-    info_read g.R.SectionRecord.kind c.laws.ensures offset c.args.row _ mid _ (omega (arith, place)) (c.in_ok-seek_to.ensures ∙ ap (moved (g.S.ShardSource.meaning c.args.source.now)) place)
+    let row_offset_is : c.in-Some.row_offset ≡ row_at offset c.args.row = omega (arith, c.in-Some.ensures, c.from-distance.ensures) in
+    info_read g.R.SectionRecord.kind c.laws.ensures offset c.args.row _ mid _ (omega (arith, row_offset_is)) (c.in_ok-seek_to.ensures ∙ ap (moved (g.S.ShardSource.meaning c.args.source.now)) row_offset_is)
     4294967296 c.read_record.new.rows_left c.in-Some-2.found
     (subst (ReadsOne g.R.SectionRecord.kind mid (g.S.ShardSource.meaning c.read_record.new.input) 4294967296 c.read_record.new.rows_left) c.in-Some-2.is c.in_ok-found.ensures)
 
@@ -34,6 +34,6 @@ pub returns-in-None : goal.returns-in-None
 returns-in-None g c =
     let offset = c.args.offset in
     let mid = g.S.ShardSource.meaning c.seek_to.new.self in
-    let place : c.in-Some.place ≡ row_at offset c.args.row = omega (arith, c.in-Some.ensures, c.from-place.ensures) in
-    info_bookend g.R.SectionRecord.kind c.laws.ensures offset c.args.row _ mid _ (omega (arith, place)) (c.in_ok-seek_to.ensures ∙ ap (moved (g.S.ShardSource.meaning c.args.source.now)) place) _ c.new-in-None.ensures.bytes
+    let row_offset_is : c.in-Some.row_offset ≡ row_at offset c.args.row = omega (arith, c.in-Some.ensures, c.from-distance.ensures) in
+    info_bookend g.R.SectionRecord.kind c.laws.ensures offset c.args.row _ mid _ (omega (arith, row_offset_is)) (c.in_ok-seek_to.ensures ∙ ap (moved (g.S.ShardSource.meaning c.args.source.now)) row_offset_is) _ c.new-in-None.ensures.bytes
     (subst (ReadsOne g.R.SectionRecord.kind mid (g.S.ShardSource.meaning c.read_record.new.input) 4294967296 c.read_record.new.rows_left) c.in-None.is c.in_ok-found.ensures)

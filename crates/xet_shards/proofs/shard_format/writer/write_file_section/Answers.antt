@@ -50,5 +50,5 @@ unfolding section_bytes
 returns-clause-bytes g c =
     let all = value_end _ c.loop-file_info.yielded _ _ _ c.loop-file_info.invariant.all c.in-None.is c.next.ensures.steps in
     let files = subst (λ files. Appends (g.W.Write.contents c.args.writer.now) (g.W.Write.contents c.loop-file_info.writer) (flat_map file_record_bytes files)) all c.loop-file_info.invariant.bytes in
-    let bookend = subst (λ h. Appends (g.W.Write.contents c.loop-file_info.writer) (g.W.Write.contents c.serialize.new.writer) (header_row h)) c.bookend.ensures c.in_ok-serialize.ensures.text in
+    let bookend = subst (λ h. Appends (g.W.Write.contents c.loop-file_info.writer) (g.W.Write.contents c.serialize.new.writer) (header_row h)) c.bookend.ensures c.in_ok-serialize.ensures.bytes in
     Appends-trans _ (g.W.Write.contents c.loop-file_info.writer) _ _ _ files bookend

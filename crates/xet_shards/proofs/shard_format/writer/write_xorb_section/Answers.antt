@@ -68,7 +68,7 @@ returns-clause-bytes g c =
     let contents = g.W.Write.contents in
     let all = seen_end _ c.loop-xorb.yielded _ _ _ c.loop-xorb.invariant.all c.in-None.is c.next.ensures.steps in
     let xorbs = subst (λ xorbs. Appends (contents c.args.writer.now) (contents c.loop-xorb.writer) (flat_map xorb_record_bytes xorbs)) all c.loop-xorb.invariant.bytes in
-    let bookend = subst (λ h. Appends (contents c.loop-xorb.writer) (contents c.serialize.new.writer) (xorb_header_row h)) c.bookend.ensures c.in_ok-serialize.ensures.text in
+    let bookend = subst (λ h. Appends (contents c.loop-xorb.writer) (contents c.serialize.new.writer) (xorb_header_row h)) c.bookend.ensures c.in_ok-serialize.ensures.bytes in
     Appends-trans _ (contents c.loop-xorb.writer) _ _ _ xorbs bookend
 
 pub returns-clause-written : goal.returns-clause-written

@@ -31,7 +31,7 @@ loop-index-preserved g c =
           (Appends-trans _ (g.W.Write.contents c.loop-index.writer) _ _ _ before.2 c.in_ok-write_row-2.ensures),
     )
 
-pub returns-clause-text : goal.returns-clause-text
-returns-clause-text g c =
+pub returns-clause-bytes : goal.returns-clause-bytes
+returns-clause-bytes g c =
     let after = c.loop-index.invariant in
     (after.0, subst (λ zs. Rewrites (goal.F-post g c.args.rewrite) zs after.0) (take_all c.loop-index.index c.args.self.now.chunks (omega arith)) after.1, after.2)

@@ -1,33 +1,31 @@
 use Rattle.std.proofs.Common.{refl, subst}
-use Rattle.std.specs.Prelude.{IfOk, IfErr}
 use Rattle.std.specs.FinMap.{values}
-use Rattle.xet_base.specs.Table.{IsSorted, Bounded}
 use Rattle.xet_records.specs.FileRecord.{file_records}
 use Rattle.xet_records.proofs.RecordKinds.{file_laws}
 use Rattle.xet_shards.specs.Layout.{plain_form}
-use Rattle.xet_shards.specs.Lookup.{file_table, IndexFinds, IndexRefused}
+use Rattle.xet_shards.specs.Lookup.{file_table, LooksUpIndex}
 use Rattle.xet_shards.proofs.InForm.{no_file, files_in, shard_in_form, files_ascend}
 use Rattle.xet_shards.proofs.TableLookups.{index_written, index_bounded}
 use Rattle.xet_shards.proofs.shard_format.info.MDBShardInfo.get_file_info_index_by_hash.Goals as goal
 
+pub returns-clause-looks : goal.returns-clause-looks
+returns-clause-looks g c =
+    let old = g.S.ShardSource.meaning c.args.source.now in
+    let new = g.S.ShardSource.meaning c.find_rows.new.source in
+    let found = c.find_rows.ensures in
+    subst (λ w. LooksUpIndex (file_table c.args.self.now.metadata old) w c.args.dest.now c.find_rows.new.dest old new c.find_rows.result) c.truncate_hash.ensures
+    (record { found = found.found; serves = found.serves; refused = found.refused; kept = found.kept; bounds = found.bounds; even = found.even })
+
 pub returns-clause-written : goal.returns-clause-written
 returns-clause-written g c s expiry shard are is =
     let old = g.S.ShardSource.meaning c.args.source.now in
-    let new = g.S.ShardSource.meaning c.find_rows.new.source in
-    let word = c.args.hash.now.word0 in
     let footer = c.args.self.now.metadata in
-    let t = file_table footer old in
     let looked = files_in (values s.files) (values s.xorbs) (plain_form expiry) old footer (shard_in_form s shard expiry old.bytes c.args.self.now are is) (files_ascend s shard) refl in
-    index_written file_records file_laws no_file (values s.files) footer.file_info_offset footer.file_lookup_offset footer.file_lookup_num_entry old looked new word c.args.dest.now c.find_rows.new.dest c.find_rows.result
-    (subst (λ w. IfOk c.find_rows.result (IndexFinds t w c.args.dest.now c.find_rows.new.dest)) c.truncate_hash.ensures c.find_rows.ensures.found)
-    (subst (λ w. IfErr c.find_rows.result (IndexRefused t w old new)) c.truncate_hash.ensures c.find_rows.ensures.refused)
+    index_written file_records file_laws no_file (values s.files) footer.file_info_offset footer.file_lookup_offset footer.file_lookup_num_entry old looked _ _ _ _ c.find_rows.result (returns-clause-looks g c)
 
 pub returns-clause-costs : goal.returns-clause-costs
 returns-clause-costs g c s expiry shard are is =
     let old = g.S.ShardSource.meaning c.args.source.now in
-    let new = g.S.ShardSource.meaning c.find_rows.new.source in
     let footer = c.args.self.now.metadata in
-    let t = file_table footer old in
     let looked = files_in (values s.files) (values s.xorbs) (plain_form expiry) old footer (shard_in_form s shard expiry old.bytes c.args.self.now are is) (files_ascend s shard) refl in
-    index_bounded file_records file_laws no_file (values s.files) footer.file_info_offset footer.file_lookup_offset footer.file_lookup_num_entry old looked new c.args.hash.now.word0
-    (subst (λ w. IsSorted t → Bounded t w old new) c.truncate_hash.ensures c.find_rows.ensures.bounds)
+    index_bounded file_records file_laws no_file (values s.files) footer.file_info_offset footer.file_lookup_offset footer.file_lookup_num_entry old looked _ _ _ _ c.find_rows.result (returns-clause-looks g c)

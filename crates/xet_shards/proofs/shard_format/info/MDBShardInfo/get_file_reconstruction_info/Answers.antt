@@ -17,14 +17,17 @@ looked g c s expiry shard are is =
     let old = g.S.ShardSource.meaning c.args.source.now in
     files_in (values s.files) (values s.xorbs) (plain_form expiry) old c.args.self.now.metadata (shard_in_form s shard expiry old.bytes c.args.self.now are is) (files_ascend s shard) refl
 
+pub returns-clause-looks : goal.returns-clause-looks
+returns-clause-looks g c = record { read = c.look_up.ensures.read; serves = c.look_up.ensures.serves; kept = c.look_up.ensures.kept }
+
 pub returns-clause-written : goal.returns-clause-written
 returns-clause-written g c s expiry shard are is =
-    lookup_written s shard _ _ _ (g.S.ShardSource.meaning c.args.source.now) (looked g c s expiry shard are is) (g.S.ShardSource.meaning c.look_up.new.source) c.args.hash.now c.look_up.result c.look_up.ensures.read
+    lookup_written s shard _ _ _ (g.S.ShardSource.meaning c.args.source.now) (looked g c s expiry shard are is) (g.S.ShardSource.meaning c.look_up.new.source) c.args.hash.now c.look_up.result (returns-clause-looks g c)
 
 pub returns-clause-costs : goal.returns-clause-costs
 returns-clause-costs g c s expiry shard are is =
-    lookup_bounded file_records file_laws no_file (values s.files) _ _ _ (g.S.ShardSource.meaning c.args.source.now) (looked g c s expiry shard are is) (g.S.ShardSource.meaning c.look_up.new.source) c.args.hash.now c.look_up.result c.look_up.ensures.read
+    lookup_bounded file_records file_laws no_file (values s.files) _ _ _ (g.S.ShardSource.meaning c.args.source.now) (looked g c s expiry shard are is) (g.S.ShardSource.meaning c.look_up.new.source) c.args.hash.now c.look_up.result (returns-clause-looks g c)
 
 pub returns-clause-collision : goal.returns-clause-collision
 returns-clause-collision g c s expiry shard are is =
-    collision_bounded file_records file_laws no_file (values s.files) _ _ _ (g.S.ShardSource.meaning c.args.source.now) (looked g c s expiry shard are is) (g.S.ShardSource.meaning c.look_up.new.source) c.args.hash.now c.look_up.result c.look_up.ensures.read
+    collision_bounded file_records file_laws no_file (values s.files) _ _ _ (g.S.ShardSource.meaning c.args.source.now) (looked g c s expiry shard are is) (g.S.ShardSource.meaning c.look_up.new.source) c.args.hash.now c.look_up.result (returns-clause-looks g c)

@@ -13,7 +13,7 @@ returns-clause-read g c =
     let t = file_table c.args.self.now.metadata old in
     let offset = c.args.self.now.metadata.file_info_offset in
     let hash = c.args.hash.now in
-    let found = c.in_ok-found.ensures in
+    let found = c.in_ok-found.ensures.looks in
     let visits = c.first_with_hash.ensures.visits in
     MatchResult-from_both c.first_with_hash.result _ _
     (IfOk-weaker c.first_with_hash.result _ _ (finding file_records file_laws t offset c.in_ok-found.found hash old mid new _ _ found.found found.serves found.bounds visits) c.first_with_hash.ensures.answer)

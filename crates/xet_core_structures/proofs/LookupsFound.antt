@@ -1,0 +1,145 @@
+-- File lookups on the bytes of a shard under a key find its files, and so do those on the bytes of a tree of unions.
+use Rattle.std.proofs.Common.{◌≡◌, ℕ, ◌^◌, ◌<◌, List, length, get_or, Option, None, Some, Ok, Err, IfSome, refl, sym, ap, ◌∙◌, subst, arith}
+use Rattle.std.specs.Prelude.{MatchResult}
+use Rattle.std.specs.FinMap.{FinMap, entries, values, get, get-entries, entries_sorted, find}
+use Rattle.std.specs.declared.result.Result.{Result}
+use Rattle.std.proofs.lemmas.List.{get_or-map, length-map}
+use Rattle.xet_base.specs.declared.error.CoreError.{CoreError}
+use Rattle.xet_base.specs.declared.merklehash.DataHash.{DataHash}
+use Rattle.xet_base.specs.Hash.{hash_cmp}
+use Rattle.xet_base.specs.Source.{Source}
+use Rattle.xet_base.proofs.HashOrder.{hash_cmp-IsTotalOrder, hash_cmp-IsAntisymmetric}
+use Rattle.xet_records.specs.declared.file_structs.MDBFileInfo.{MDBFileInfo}
+use Rattle.xet_records.specs.FileRecord.{file_records}
+use Rattle.xet_records.specs.XorbRecord.{xorb_records}
+use Rattle.xet_records.proofs.RecordKinds.{file_laws}
+use Rattle.xet_shards.specs.declared.shard_format.info.MDBShardInfo.{MDBShardInfo}
+use Rattle.xet_shards.specs.Ends.{FitsFooter, HasEnds, Loads}
+use Rattle.xet_shards.specs.Layout.{layout, plain_form, info_value}
+use Rattle.xet_shards.specs.Lookup.{FoundInShard, NotFoundAmong}
+use Rattle.xet_shards.specs.SetOperations.{IsDifference}
+use Rattle.xet_shards.specs.Shard.{Shard, IsShard}
+use Rattle.xet_shards.specs.Tables.{hash_in}
+use Rattle.xet_shards.proofs.EndsUnique.{only_info, ends_of_layout}
+use Rattle.xet_shards.proofs.Found.{found_entry, entry_found}
+use Rattle.xet_shards.proofs.InForm.{no_file, files_in, shard_in_form, files_ascend}
+use Rattle.xet_shards.proofs.ShardLookups.{lookup_written}
+use Rattle.xet_shards.proofs.TableLookups.{IsLookedUp, IsAnswer, answered, not_answered, lookup_bounded, collision_bounded}
+use Rattle.xet_shards.proofs.TableOrder.{hashes_ascend}
+use Rattle.xet_shards.proofs.Widths.{fits_written, fits_in_form}
+use Rattle.xet_core_structures.specs.declared.set_operations.MergePlan.{MergePlan}
+use Rattle.xet_core_structures.specs.declared.set_operations.MergePlan.TheVariants.{Leaf, Both'}
+use Rattle.xet_core_structures.specs.ByteUnion.{IsByteUnion}
+use Rattle.xet_core_structures.specs.ByteResults.{keyed_form, keyed_layout, keyed_info, key_of, HaveResult, WritesResult}
+use Rattle.xet_core_structures.specs.MergeTrees.{HasUnion, TreeWrites}
+use Rattle.xet_core_structures.specs.Readable.{AreReadable, IsWrittenUnder, WritesInForm, LooksUpFile, FindsInShard}
+use Rattle.xet_core_structures.proofs.Readable.{IsReadable, union_readable, difference_readable}
+
+abbrev no_entry : DataHash × MDBFileInfo
+no_entry = (no_file.metadata.file_hash, no_file)
+
+-- the answer among the files of a map is that of the map
+module _ (m : FinMap hash_cmp MDBFileInfo) (is : AreReadable file_records m) where
+  entry_in : (i : ℕ) → i < length (values m) → i < length (entries m)
+  entry_in i within = omega (arith, within, length-map (entries m) (λ (e : DataHash × MDBFileInfo). e.1))
+
+  value_of : (i : ℕ) → i < length (values m) → get_or (values m) i no_file ≡ (get_or (entries m) i no_entry).1
+  value_of i within = get_or-map (λ (e : DataHash × MDBFileInfo). e.1) (entries m) i no_entry no_file (entry_in i within)
+
+  hash_of : (i : ℕ) → i < length (values m) → (get_or (entries m) i no_entry).0 ≡ hash_in file_records (get_or (values m) i no_file)
+  hash_of i within = is.keyed i no_entry (entry_in i within) ∙ ap (hash_in file_records) (sym (value_of i within))
+
+  map_answers : (hash : DataHash) (answer : Option MDBFileInfo) → IsAnswer file_records no_file (values m) hash answer → answer ≡ get m hash
+  map_answers hash (Some found) (i, within, handed, same) =
+      let value : found ≡ get_or (values m) i no_file = handed ∙ is.unchanged i no_file within in
+      sym (get-entries m hash
+      ∙ entry_found hash_cmp hash_cmp-IsTotalOrder (entries m) i hash found no_entry (entries_sorted m) (entry_in i within)
+      (λ k. ((hash_of i within ∙ ap (hash_in file_records) (sym value) ∙ same) k, (sym (value_of i within) ∙ sym value) k)))
+  map_answers hash None others = go (find hash_cmp hash (entries m)) refl
+    where
+      go : (o : Option MDBFileInfo) → find hash_cmp hash (entries m) ≡ o → None ≡ get m hash
+      go None none = sym (get-entries m hash ∙ none)
+      go (Some r) found =
+          let at = found_entry hash_cmp hash_cmp-IsAntisymmetric (entries m) hash r no_entry found in
+          let within : at.0 < length (values m) = omega (arith, at.1, length-map (entries m) (λ (e : DataHash × MDBFileInfo). e.1)) in
+          absurd (others at.0 within (sym (hash_of at.0 within) ∙ ap (λ (e : DataHash × MDBFileInfo). e.0) at.2))
+
+-- lookups on the bytes of a shard under a key
+module _ (key : DataHash) (s : Shard) (info : MDBShardInfo) (old : Source) (is : IsWrittenUnder key s old.bytes info) where
+  looked : let footer = info.metadata in IsLookedUp file_records no_file (values s.files) footer.file_info_offset footer.file_lookup_offset footer.file_lookup_num_entry old
+  looked = files_in (values s.files) (values s.xorbs) (keyed_form key) old info.metadata is.in_form is.files_ascend refl
+
+  found_answer : (hash : DataHash) (new : Source) (found : Result (Option MDBFileInfo) CoreError) → LooksUpFile info hash old new found
+      → MatchResult found (FoundInShard s hash) (NotFoundAmong file_records (values s.files) hash old new)
+  found_answer hash new (Ok answer) finding =
+      let among = answered file_records file_laws no_file (values s.files) _ _ _ old looked hash new answer finding in
+      (among.0, map_answers s.files is.files hash answer among.1)
+  found_answer hash new (Err e) refused = not_answered file_records file_laws no_file (values s.files) _ _ _ old looked hash new e refused
+
+  pub found_under : (hash : DataHash) (new : Source) (found : Result (Option MDBFileInfo) CoreError) → LooksUpFile info hash old new found → FindsInShard s hash old new found
+  found_under hash new found looks = record {
+    answer = found_answer hash new found looks;
+    costs = lookup_bounded file_records file_laws no_file (values s.files) _ _ _ old looked new hash found looks;
+    collision = collision_bounded file_records file_laws no_file (values s.files) _ _ _ old looked new hash found looks;
+  }
+
+  -- header and footer are read as they were returned
+  pub loaded_under : (new : Source) (found : MDBShardInfo) → Loads old new found → found ≡ info
+  loaded_under new found loads = only_info old.bytes found info loads.ends is.ends
+
+-- a readable shard is written so
+pub written_under : (key : DataHash) (s : Shard) → IsReadable s → FitsFooter (keyed_info s key).metadata → IsWrittenUnder key s (keyed_layout s key) (keyed_info s key)
+written_under key s is fits = record {
+  files = is.files;
+  xorbs = is.xorbs;
+  files_ascend = hashes_ascend (hash_in file_records) s.files is.files.keyed;
+  xorbs_ascend = hashes_ascend (hash_in xorb_records) s.xorbs is.xorbs.keyed;
+  in_form = record { files_fit = is.files.fits; xorbs_fit = is.xorbs.fits; bytes_are = refl; footer_is = refl };
+  ends = ends_of_layout (values s.files) (values s.xorbs) (keyed_form key) fits;
+}
+
+-- what a union or a difference writes
+module _ (x : List ℕ) (i : MDBShardInfo) (y : List ℕ) (j : MDBShardInfo) (old new : Option (List ℕ)) (info : MDBShardInfo) (fits : FitsFooter info.metadata) where
+  in_form : (IsResult : Shard → Shard → Shard → Type 0) → ((c : Shard) → HaveResult IsResult x i y j c → IsReadable c) → WritesResult IsResult x i y j old new info
+      → WritesInForm IsResult x i y j old new info
+  in_form IsResult readable (c, have, is, appends) = (
+    c,
+    keyed_layout c (key_of i),
+    have,
+    subst (IsWrittenUnder (key_of i) c (keyed_layout c (key_of i))) (sym is)
+        (written_under (key_of i) c (readable c have) (subst (λ (k : MDBShardInfo). FitsFooter k.metadata) is fits)),
+    appends,
+  )
+
+  pub union_in_form : WritesResult IsByteUnion x i y j old new info → WritesInForm IsByteUnion x i y j old new info
+  union_in_form = in_form IsByteUnion (union_readable x i y j)
+
+  pub difference_in_form : WritesResult IsDifference x i y j old new info → WritesInForm IsDifference x i y j old new info
+  difference_in_form = in_form IsDifference (difference_readable x i y j)
+
+-- what a tree with a union writes, whatever its inputs
+pub tree_under : (inputs : List (List ℕ)) (plan : MergePlan) (out : List ℕ) → HasUnion plan → TreeWrites inputs plan out
+    → (key : DataHash) × (c : Shard) × IsWrittenUnder key c out (keyed_info c key)
+tree_under inputs (Leaf i) out none writes = absurd none
+tree_under inputs (Both' p left q right) out union (x, y, x_written, y_written, (i, j, c, x_ends, y_ends, have, is)) =
+    let readable = union_readable x i y j c have in
+    let fits = fits_in_form (values c.files) (values c.xorbs) (keyed_form (key_of i)) readable.files.fits readable.xorbs.fits x_ends.footer_widths.key (omega arith) (omega arith) in
+    (key_of i, c, subst (λ bytes. IsWrittenUnder (key_of i) c bytes (keyed_info c (key_of i))) (sym is) (written_under (key_of i) c readable fits))
+
+-- the bytes of a shard without a key
+module _ (s : Shard) (shard : IsShard s) (expiry : Option ℕ) (old : Source) (info : MDBShardInfo) (are : old.bytes ≡ layout s expiry) (is : info ≡ info_value s expiry) where
+  plain : let footer = info.metadata in IsLookedUp file_records no_file (values s.files) footer.file_info_offset footer.file_lookup_offset footer.file_lookup_num_entry old
+  plain = files_in (values s.files) (values s.xorbs) (plain_form expiry) old info.metadata (shard_in_form s shard expiry old.bytes info are is) (files_ascend s shard) refl
+
+  pub found_in_layout : (hash : DataHash) (new : Source) (found : Result (Option MDBFileInfo) CoreError) → LooksUpFile info hash old new found → FindsInShard s hash old new found
+  found_in_layout hash new found looks = record {
+    answer = lookup_written s shard _ _ _ old plain new hash found looks;
+    costs = lookup_bounded file_records file_laws no_file (values s.files) _ _ _ old plain new hash found looks;
+    collision = collision_bounded file_records file_laws no_file (values s.files) _ _ _ old plain new hash found looks;
+  }
+
+pub loaded_layout : (s : Shard) (expiry : Option ℕ) (old new : Source) (found : MDBShardInfo) → IsShard s → IfSome expiry (λ n. n < 2 ^ 64) → old.bytes ≡ layout s expiry → Loads old new found
+    → found ≡ info_value s expiry
+loaded_layout s expiry old new found shard fits are loads =
+    only_info old.bytes found (info_value s expiry) loads.ends
+    (subst (λ bytes. HasEnds bytes (info_value s expiry)) (sym are) (ends_of_layout (values s.files) (values s.xorbs) (plain_form expiry) (fits_written s expiry shard fits)))

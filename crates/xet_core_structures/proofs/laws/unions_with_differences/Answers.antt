@@ -1,0 +1,5 @@
+use Rattle.xet_core_structures.proofs.ByteLaws.{bytes_with_difference}
+use Rattle.xet_core_structures.proofs.laws.unions_with_differences.Goals as goal
+
+pub returns : goal.returns
+returns c = bytes_with_difference

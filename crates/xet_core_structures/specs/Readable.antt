@@ -1,0 +1,53 @@
+-- Bytes of a shard in which lookups find its records as they are.
+use Rattle.std.specs.Prelude.{◌≡◌, ℕ, List, All, Option, MatchResult, IfErr}
+use Rattle.std.specs.FinMap.{FinMap, entries, values}
+use Rattle.std.specs.Io.KnownBytes.{Appends}
+use Rattle.std.specs.declared.result.Result.{Result}
+use Rattle.xet_base.specs.declared.error.CoreError.{CoreError}
+use Rattle.xet_base.specs.declared.error.CoreError.TheVariants.{TruncatedHashCollision}
+use Rattle.xet_base.specs.declared.merklehash.DataHash.{DataHash}
+use Rattle.xet_base.specs.Hash.{hash_cmp}
+use Rattle.xet_base.specs.Source.{Source}
+use Rattle.xet_records.specs.declared.file_structs.MDBFileInfo.{MDBFileInfo}
+use Rattle.xet_records.specs.RecordKind.{RecordKind}
+use Rattle.xet_records.specs.FileRecord.{file_records}
+use Rattle.xet_records.specs.XorbRecord.{xorb_records}
+use Rattle.xet_shards.specs.declared.shard_format.info.MDBShardInfo.{MDBShardInfo}
+use Rattle.xet_shards.specs.Ends.{HasEnds}
+use Rattle.xet_shards.specs.InForm.{FitsSection, Ascends, IsInForm}
+use Rattle.xet_shards.specs.Lookup.{file_table, Finding, FindingFails, FoundInShard, NotFoundAmong, WithinBounds, SearchWithinBounds}
+use Rattle.xet_shards.specs.Shard.{Shard}
+use Rattle.xet_shards.specs.Tables.{hash_in}
+use Rattle.xet_core_structures.specs.ByteResults.{keyed_form, key_of, HaveResult}
+
+-- the records of a map, each under its hash, may be written as a section, and reading it returns them as they are
+pub record AreReadable {H R : Type 0} (K : RecordKind H R) (m : FinMap hash_cmp R) : Type 0 where
+  pub keyed : All (λ e. e.0 ≡ hash_in K e.1) (entries m)
+  pub fits : FitsSection K (values m)
+  pub unchanged : All (λ r. K.handed_out r ≡ r) (values m)
+
+-- the bytes of a shard under a key, with all tables, and the header and the footer in them
+pub record IsWrittenUnder (key : DataHash) (s : Shard) (bytes : List ℕ) (info : MDBShardInfo) : Type 0 where
+  pub files : AreReadable file_records s.files
+  pub xorbs : AreReadable xorb_records s.xorbs
+  pub files_ascend : Ascends file_records (values s.files)
+  pub xorbs_ascend : Ascends xorb_records (values s.xorbs)
+  pub in_form : IsInForm (values s.files) (values s.xorbs) (keyed_form key) bytes info.metadata
+  pub ends : HasEnds bytes info
+
+-- such bytes of the result for two inputs were written
+abbrev pub WritesInForm : (Shard → Shard → Shard → Type 0) → List ℕ → MDBShardInfo → List ℕ → MDBShardInfo → Option (List ℕ) → Option (List ℕ) → MDBShardInfo → Type 0
+WritesInForm IsResult x i y j old new info =
+    (c : Shard) × (bytes : List ℕ) × HaveResult IsResult x i y j c × IsWrittenUnder (key_of i) c bytes info × Appends old new bytes
+
+-- a file lookup by this header and footer on any bytes: what `get_file_reconstruction_info` returns is one
+abbrev pub LooksUpFile : MDBShardInfo → DataHash → Source → Source → Result (Option MDBFileInfo) CoreError → Type 0
+LooksUpFile info hash old new found =
+    MatchResult found (Finding file_records (file_table info.metadata old) info.metadata.file_info_offset hash old new)
+    (FindingFails file_records (file_table info.metadata old) info.metadata.file_info_offset hash old new)
+
+-- it found what the shard has, or had a reason not to, within bounds
+pub record FindsInShard (s : Shard) (hash : DataHash) (old new : Source) (found : Result (Option MDBFileInfo) CoreError) : Type 0 where
+  pub answer : MatchResult found (FoundInShard s hash) (NotFoundAmong file_records (values s.files) hash old new)
+  pub costs : WithinBounds file_records (values s.files) hash.word0 old new
+  pub collision : IfErr found (λ e. e ≡ TruncatedHashCollision hash.word0 → SearchWithinBounds file_records (values s.files) hash.word0 old new)

@@ -1,0 +1,97 @@
+-- A minimal shard: the records of its two sections, the chunks at which its files start, and the chunks that the global
+-- index keeps.
+use Rattle.std.specs.Prelude.{◌≡◌, ℕ, ◌+◌, ◌*◌, ◌%◌, ◌==◌, Bool, true, false, not, ◌&&◌, ◌||◌, List, [], ◌∷◌, take, map, filter, flat_map, Option, unwrap_or, refl, if◌then◌else◌}
+use Rattle.std.specs.List.{enumerate_from}
+use Rattle.std.specs.Ordering.{nat_cmp, ordering_then}
+use Rattle.std.specs.declared.cmp.Ordering.{Ordering}
+use Rattle.std.specs.Coded.{Coded, code_by, coded×, coded_list}
+use Rattle.std.specs.FinSet.{FinSet, contains, from_list, items}
+use Rattle.xet_base.specs.declared.merklehash.DataHash.{DataHash}
+use Rattle.xet_base.specs.Hash.{hash_cmp}
+use Rattle.xet_records.specs.declared.file_structs.MDBFileInfo.{MDBFileInfo}
+use Rattle.xet_records.specs.contracts.file_structs.MDBFileInfo as file
+use Rattle.xet_records.specs.declared.xorb_structs.XorbChunkSequenceEntry.{XorbChunkSequenceEntry}
+use Rattle.xet_records.specs.declared.xorb_structs.MDBXorbInfo.{MDBXorbInfo}
+use Rattle.xet_records.specs.contracts.xorb_structs.MDBXorbInfo as xorb
+use Rattle.xet_records.specs.FileRecord.{file_records, has_verification}
+use Rattle.xet_records.specs.XorbRow.{is_marked, with_mark}
+use Rattle.xet_records.specs.XorbRecord.{xorb_records}
+use Rattle.xet_records.specs.View.{as_wanted}
+use Rattle.xet_shards.specs.declared.streaming_shard.file_start.FileStart.{FileStart}
+use Rattle.xet_shards.specs.InForm.{FitsSection}
+use Rattle.xet_shards.specs.Layout.{Form}
+use Rattle.xet_shards.specs.Section.{total_rows}
+use Rattle.xet_shards.specs.Shard.{xorb_hash_of}
+
+-- the records of a file section and of a xorb section
+pub record MinimalShard : Type 0 where
+  pub files : List MDBFileInfo
+  pub xorbs : List MDBXorbInfo
+
+-- the encoding by which proofs distinguish such values
+abbrev pub coded_minimal : Coded MinimalShard
+coded_minimal =
+    code_by (List MDBFileInfo × List MDBXorbInfo) (coded× (coded_list file.the_row.coded) (coded_list xorb.the_row.coded)) (λ m. (m.files, m.xorbs))
+    (λ p. record { files = p.0; xorbs = p.1 }) (λ _. refl)
+
+-- sections may hold the records
+pub record FitsSections (m : MinimalShard) : Type 0 where
+  pub files : FitsSection file_records m.files
+  pub xorbs : FitsSection xorb_records m.xorbs
+
+-- the order of a set of starts: by the xorb's hash, then by the chunk's index
+abbrev pub start_cmp : FileStart → FileStart → Ordering
+start_cmp a b = ordering_then (hash_cmp a.xorb_hash b.xorb_hash) (nat_cmp a.chunk_index b.chunk_index)
+
+-- where a file starts: the xorb and the first chunk of its first segment, if it has one
+abbrev pub start_of_file : MDBFileInfo → List FileStart
+start_of_file r = map (λ s. record { xorb_hash = s.xorb_hash; chunk_index = s.chunk_index_start }) (take 1 r.segments)
+
+-- where files start
+abbrev pub starts_of : List MDBFileInfo → FinSet start_cmp
+starts_of files = from_list (flat_map start_of_file files)
+
+abbrev pub is_start : FinSet start_cmp → MDBXorbInfo → ℕ → Bool
+is_start starts x index = contains starts (record { xorb_hash = xorb_hash_of x; chunk_index = index })
+
+-- a chunk with its mark set, or as it is
+abbrev pub marked_if : Bool → XorbChunkSequenceEntry → XorbChunkSequenceEntry
+marked_if wanted c = if wanted then record c { flags = with_mark true c.flags } else c
+
+-- a xorb with a mark on each chunk that is a start, and its other marks as they are
+abbrev pub mark_starts : FinSet start_cmp → MDBXorbInfo → MDBXorbInfo
+mark_starts starts x = record x { chunks = map (λ e. marked_if (is_start starts x e.0) e.1) (enumerate_from 0 x.chunks) }
+
+-- a chunk of a xorb, with its index: its mark is set, its hash is eligible, or it is a start
+abbrev pub is_eligible : FinSet start_cmp → MDBXorbInfo → ℕ × XorbChunkSequenceEntry → Bool
+is_eligible starts x e = (is_marked e.1.flags || (e.1.chunk_hash.word3 % 1024 == 0)) || is_start starts x e.0
+
+-- the hashes of the eligible chunks of a xorb
+abbrev pub eligible_in : FinSet start_cmp → MDBXorbInfo → List DataHash
+eligible_in starts x = map (λ e. e.1.chunk_hash) (filter (is_eligible starts x) (enumerate_from 0 x.chunks))
+
+-- the set of the hashes of all eligible chunks, in ascending order
+abbrev pub eligible_hashes : List MDBFileInfo → List MDBXorbInfo → List DataHash
+eligible_hashes files xorbs = items (from_list {R = hash_cmp} (flat_map (eligible_in (starts_of files)) xorbs))
+
+-- the first file has verification rows
+abbrev pub has_file_verification : List MDBFileInfo → Bool
+has_file_verification [] = false
+has_file_verification (r ∷ _) = has_verification r.metadata.file_flags
+
+-- header, sections and footer in bytes; nothing if verification rows are wanted and the first file has none
+abbrev pub serialized_size : Bool → MinimalShard → ℕ
+serialized_size wanted m =
+    if wanted && not (has_file_verification m.files) then 0
+    else 344 + 48 * total_rows file_records (map (as_wanted wanted) m.files) + 48 * total_rows xorb_records m.xorbs
+
+-- no tables, no key, the creation, and an expiry or 0
+abbrev pub minimal_form : ℕ → Option ℕ → Form
+minimal_form now expiry = record {
+  file_table = false;
+  xorb_table = false;
+  chunk_table = false;
+  key = record { word0 = 0; word1 = 0; word2 = 0; word3 = 0 };
+  creation = now;
+  expiry = unwrap_or expiry 0;
+}

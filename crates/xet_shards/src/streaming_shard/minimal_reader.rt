@@ -1,0 +1,54 @@
+//! Reading the sections of a minimal shard from any input, reader or source.
+
+ghost use Rattle.std.specs.Prelude.{◌≡◌, MatchResult};
+ghost use Rattle.xet_shards.specs.Layout.{if_in};
+ghost use Rattle.xet_shards.specs.MinimalReading.{ReadsViews, StopsAfterViews, ReadsSections, SectionsFail};
+
+use super::minimal_shard::MDBMinimalShard;
+use std::alloc::Global;
+use xet_base::error::Result;
+use xet_base::input::ByteInput;
+use xet_records::file_structs::{MDBFileInfo, MDBFileInfoView};
+use xet_records::record_reader::SectionRecord;
+use xet_records::view_reader::{RecordView, read_view};
+use xet_records::xorb_structs::{MDBXorbInfo, MDBXorbInfoView};
+
+/// Reads the file section and, if it is wanted, the xorb section after it. Files are kept if they are wanted.
+pub(super) fn read_sections<M, I: ByteInput<M>>(
+    alloc: Global,
+    input: &mut I,
+    with_files: bool,
+    with_xorbs: bool,
+) -> Result<MDBMinimalShard>
+    ensures { MatchResult result
+        (ReadsSections I.reads with_files with_xorbs input.old input.new)
+        (SectionsFail I.reads I.fails with_xorbs input.old input.new) }
+{
+    let files = read_views::<MDBFileInfo, MDBFileInfoView, M, I>(alloc, input, with_files)?;
+    if !with_xorbs {
+        return Ok(MDBMinimalShard::of_views(files, Vec::new(alloc)));
+    }
+    let xorbs = read_views::<MDBXorbInfo, MDBXorbInfoView, M, I>(alloc, input, true)?;
+    Ok(MDBMinimalShard::of_views(files, xorbs))
+}
+
+// Reads views of the records of a section up to its bookend, and keeps them if they are wanted.
+fn read_views<R: SectionRecord, V: RecordView<R> + Drop, M, I: ByteInput<M>>(
+    alloc: Global,
+    input: &mut I,
+    is_kept: bool,
+) -> Result<Vec<V>>
+    ensures { MatchResult result
+        (λ kept. (views : List V) × ReadsViews R.kind V.shown I.reads input.old input.new views × (kept.items ≡ if_in is_kept views))
+        (StopsAfterViews R.kind V.shown I.reads I.fails input.old input.new) }
+{
+    R::laws();
+    let mut views = Vec::new(alloc);
+    let mut rows_left = u64::from(u32::MAX);
+    while let Some(view) = read_view::<R, V, M, I>(alloc, input, &mut rows_left)? {
+        if is_kept {
+            views.push(view)?;
+        }
+    }
+    Ok(views)
+}

@@ -1,0 +1,206 @@
+//! A shard without its tables, kept as views of its records.
+
+ghost use Rattle.std.proofs.Common.{rules};
+ghost use Rattle.std.specs.Prelude.{◌≡◌, ◌*◌, length, map, nat_eq, slice_get, MatchResult, IfOk, IfErr};
+ghost use Rattle.std.specs.Cmp.Lexicographic.{pointwise};
+ghost use Rattle.std.specs.Cmp.Rules.{comparing};
+ghost use Rattle.std.specs.Ordering.{on, eq_of_both};
+ghost use Rattle.xet_records.specs.View.{as_wanted};
+ghost use Rattle.xet_shards.specs.Section.{total_rows};
+ghost use Rattle.std.specs.Option.{option_copied};
+ghost use Rattle.xet_base.specs.Input.{ReaderFails};
+ghost use Rattle.std.specs.Io.KnownBytes.{Consumes};
+ghost use Rattle.xet_shards.specs.InForm.{FitsSection};
+ghost use Rattle.xet_shards.specs.MinimalShard.{FitsSections, has_file_verification, serialized_size};
+ghost use Rattle.xet_shards.specs.MinimalReading.{ReadsMinimal, MinimalFails, ReaderHeaderFails};
+ghost use Rattle.xet_records.specs.FileRecord.{file_records, file_record_bytes};
+ghost use Rattle.xet_records.specs.XorbRecord.{xorb_records, xorb_record_bytes};
+
+use super::minimal_reader::read_sections;
+use crate::shard_format::MDBShardFileHeader;
+use std::alloc::Global;
+use std::io::Read;
+use std::marker::Model;
+use xet_base::error::{CoreError, Result};
+use xet_base::input::OfReader;
+use xet_records::file_structs::MDBFileInfoView;
+use xet_records::xorb_structs::MDBXorbInfoView;
+
+/// The records of a shard's sections, as views. Contracts see both lists of records, as they are stored.
+#[derive(Debug, Drop)]
+pub struct MDBMinimalShard {
+    files: Vec<MDBFileInfoView>,
+    xorbs: Vec<MDBXorbInfoView>,
+}
+
+impl Model for MDBMinimalShard {
+    ghost use Rattle.xet_shards.specs.MinimalShard.{MinimalShard, coded_minimal, FitsSections};
+
+    ghost Value = { MinimalShard };
+
+    ghost coded = { coded_minimal };
+
+    ghost view = { λ m. record { files = m.files.items; xorbs = m.xorbs.items } };
+
+    ghost invariant = { λ m. FitsSections (record { files = m.files.items; xorbs = m.xorbs.items }) };
+}
+
+impl MDBMinimalShard {
+    /// Reads a shard's header, then its file section, whose records are kept if `include_files`, and then, if
+    /// `include_xorb`, its xorb section. What comes after is not read.
+    ///
+    /// `ShardVersion` if the header's tag or version is unsupported, `UnexpectedEof` if the reader ends before a
+    /// bookend, `InvalidShard` if the rows of a section pass 4294967295, `OutOfMemory` if an allocation fails.
+    /// Any other error is the reader's.
+    pub fn from_reader<R: Read>(
+        alloc: Global,
+        reader: &mut R,
+        include_files: bool,
+        include_xorb: bool,
+    ) -> Result<Self>
+        ensures { MatchResult result
+            (ReadsMinimal Consumes include_files include_xorb (R.remaining reader.old) (R.remaining reader.new))
+            (MinimalFails Consumes (λ before after n e. ReaderFails before n e) (λ before after e. ReaderHeaderFails before e) include_xorb (R.remaining reader.old) (R.remaining reader.new)) }
+    {
+        MDBShardFileHeader::deserialize(alloc, reader)?;
+        read_sections::<OfReader, R>(alloc, reader, include_files, include_xorb)
+    }
+
+    pub(super) fn of_views(files: Vec<MDBFileInfoView>, xorbs: Vec<MDBXorbInfoView>) -> Self
+        requires files { FitsSection file_records files.items }
+        requires xorbs { FitsSection xorb_records xorbs.items }
+        ensures { result ≡ record { files = files.items; xorbs = xorbs.items } }
+    {
+        MDBMinimalShard { files, xorbs }
+    }
+
+    pub(super) fn files(&self) -> &[MDBFileInfoView]
+        ensures files { result.now ≡ self.now.files }
+        ensures fit { FitsSection file_records result.now }
+    {
+        self.files.as_slice()
+    }
+
+    pub(super) fn xorbs(&self) -> &[MDBXorbInfoView]
+        ensures xorbs { result.now ≡ self.now.xorbs }
+        ensures fit { FitsSection xorb_records result.now }
+    {
+        self.xorbs.as_slice()
+    }
+
+    /// Whether the first file has verification rows.
+    pub fn has_file_verification(&self) -> bool
+        ensures { result ≡ has_file_verification self.now.files }
+    {
+        match self.files.first() {
+            Some(file) => file.contains_verification(),
+            None => false,
+        }
+    }
+
+    /// The number of files.
+    pub fn num_files(&self) -> usize
+        ensures { result ≡ length self.now.files }
+    {
+        self.files.len()
+    }
+
+    /// The file at an index, or `None` if there are not so many.
+    pub fn file(&self, index: usize) -> Option<&MDBFileInfoView>
+        ensures { option_copied result ≡ slice_get self.now.files index }
+    {
+        self.files.get(index)
+    }
+
+    /// The number of xorbs.
+    pub fn num_xorb(&self) -> usize
+        ensures { result ≡ length self.now.xorbs }
+    {
+        self.xorbs.len()
+    }
+
+    /// The xorb at an index, or `None` if there are not so many.
+    pub fn xorb(&self, index: usize) -> Option<&MDBXorbInfoView>
+        ensures { option_copied result ≡ slice_get self.now.xorbs index }
+    {
+        self.xorbs.get(index)
+    }
+
+    /// The size in bytes that `serialize` writes. It is 0 if verification rows are wanted and there is no file or
+    /// the first one has none.
+    pub fn serialized_size(&self, with_verification: bool) -> u64
+        ensures { result ≡ serialized_size with_verification self.now }
+    {
+        if with_verification && !self.has_file_verification() {
+            return 0;
+        }
+        344 + file_bytes(self.files(), with_verification) + xorb_bytes(self.xorbs())
+    }
+
+    /// A copy of the shard, or `OutOfMemory`.
+    pub fn try_clone(&self, alloc: Global) -> Result<Self>
+        ensures ok { IfOk result (λ copy. copy ≡ self.now) }
+        ensures causes { IfErr result (λ e. e ≡ CoreError.OutOfMemory) }
+    {
+        let files = clone_files(alloc, self.files())?;
+        let xorbs = clone_xorbs(alloc, self.xorbs())?;
+        Ok(MDBMinimalShard::of_views(files, xorbs))
+    }
+}
+
+// Two shards are equal if their records are, bit by bit and in order.
+impl PartialEq for MDBMinimalShard {
+    ghost eq = { eq_of_both (on (λ m. m.files) (pointwise (on file_record_bytes (pointwise nat_eq)))) (on (λ m. m.xorbs) (pointwise (on xorb_record_bytes (pointwise nat_eq)))) };
+
+    ghost laws = { Prim.search (comparing, rules) };
+
+    fn eq(&self, other: &Self) -> bool {
+        self.files == other.files && self.xorbs == other.xorbs
+    }
+}
+
+fn clone_files(alloc: Global, files: &[MDBFileInfoView]) -> Result<Vec<MDBFileInfoView>>
+    ensures ok { IfOk result (λ copies. copies.items ≡ files.now) }
+    ensures causes { IfErr result (λ e. e ≡ CoreError.OutOfMemory) }
+{
+    let mut copies = Vec::new(alloc);
+    for file in files {
+        copies.push(file.try_clone()?)?;
+    }
+    Ok(copies)
+}
+
+fn clone_xorbs(alloc: Global, xorbs: &[MDBXorbInfoView]) -> Result<Vec<MDBXorbInfoView>>
+    ensures ok { IfOk result (λ copies. copies.items ≡ xorbs.now) }
+    ensures causes { IfErr result (λ e. e ≡ CoreError.OutOfMemory) }
+{
+    let mut copies = Vec::new(alloc);
+    for xorb in xorbs {
+        copies.push(xorb.try_clone()?)?;
+    }
+    Ok(copies)
+}
+
+// The bytes of the records of files, with or without their verification rows.
+fn file_bytes(files: &[MDBFileInfoView], with_verification: bool) -> u64
+    requires { FitsSection file_records files.now }
+    ensures { result ≡ 48 * total_rows file_records (map (as_wanted with_verification) files.now) }
+{
+    let mut bytes = 0;
+    for file in files {
+        bytes += file.byte_size(with_verification) as u64;
+    }
+    bytes
+}
+
+// The bytes of the records of xorbs.
+fn xorb_bytes(xorbs: &[MDBXorbInfoView]) -> u64
+    requires { FitsSection xorb_records xorbs.now }
+    ensures { result ≡ 48 * total_rows xorb_records xorbs.now }
+{
+    let mut bytes = 0;
+    for xorb in xorbs {
+        bytes += xorb.byte_size() as u64;
+    }
+    bytes
+}
