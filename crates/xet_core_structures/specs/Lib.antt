@@ -4,8 +4,8 @@ pub mod Combining
 pub mod Equality
 pub mod Held
 pub mod MergeTrees
-pub use Rattle.xet_base.specs.Errors
 pub mod Readable
+pub use Rattle.xet_base.specs.Errors
 pub use Rattle.xet_base.specs.Hash
 pub use Rattle.xet_base.specs.Hex
 pub use Rattle.xet_base.specs.KeyedHash
