@@ -8,7 +8,7 @@ ghost use Rattle.xet_core_structures.specs.Hex.{IsHexText, Spells};
 ghost use Rattle.script_lines.specs.Words.{IsName, IsNameByte, IsNumber, small_words};
 
 use std::alloc::{AllocError, AllocFailed};
-use xet_core_structures::merklehash::{DataHash, MerkleHash};
+use xet_core_structures::merklehash::{DataHash, HMACKey, MerkleHash};
 
 /// Why a line can't be read.
 #[derive(Clone, Copy, Debug, PartialEq, Eq)]
@@ -101,6 +101,31 @@ pub fn parse_hash(word: &str) -> Result<MerkleHash, ParseError>
     match DataHash::from_hex(word) {
         Ok(hash) => Ok(hash),
         Err(_) => Ok(small_hash(parse_u64(word)?)),
+    }
+}
+
+/// The key that a word spells: `0` is the key of zeros, which is no key, and any other word is the
+/// hash that it spells. `Unreadable` if it spells none.
+pub fn parse_key(word: &str) -> Result<HMACKey, ParseError>
+    ensures { IfErr result (λ e. e ≡ ParseError.Unreadable) }
+{
+    if word == "0" {
+        return Ok(DataHash::default());
+    }
+    parse_hash(word)
+}
+
+/// Whether a character of a word of options is set: it is this letter, or else it is `-`.
+/// `Unreadable` if it is neither.
+pub fn parse_flag(character: u8, letter: u8) -> Result<bool, ParseError>
+    ensures { IfErr result (λ e. e ≡ ParseError.Unreadable) }
+{
+    if character == letter {
+        Ok(true)
+    } else if character == b'-' {
+        Ok(false)
+    } else {
+        Err(ParseError::Unreadable)
     }
 }
 

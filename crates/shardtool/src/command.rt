@@ -3,13 +3,17 @@
 ghost use Rattle.std.specs.Prelude.{IfOk, IsOkAnd, IsNone, IsErrOf, IsUtf8};
 ghost use Rattle.script_lines.specs.Words.{IsSkipped};
 
+use crate::export::{Export, ExportParts};
+use crate::minimal::{KeptXorbs, Subset};
 use crate::tree::{NameTree, parse_tree};
 use script_lines::lines::{is_skipped, split_words};
 use script_lines::ranges::ByteRange;
 use script_lines::records::{
     SizedChunk, parse_chunks, parse_hashes, parse_segments, parse_verification,
 };
-use script_lines::words::{ParseError, parse_hash, parse_name, parse_u64, split_option};
+use script_lines::words::{
+    ParseError, parse_flag, parse_hash, parse_key, parse_name, parse_u64, split_option,
+};
 use std::alloc::Global;
 use xet_core_structures::file_structs::{
     FileDataSequenceEntry, FileMetadataExt, FileVerificationEntry,
@@ -55,6 +59,29 @@ pub enum Command<'a> {
     Merge {
         buffer: &'a str,
         tree: NameTree<'a>,
+    },
+    /// `export B1 B2 KEY NOW VALID OPT`: a keyed export of the shard in a buffer, into another.
+    Export {
+        from: &'a str,
+        buffer: &'a str,
+        export: Export,
+    },
+    /// `minimal B1 B2 NOW OPT`: the minimal shard of the shard in a buffer, into another.
+    Minimal {
+        from: &'a str,
+        buffer: &'a str,
+        now: u64,
+        with_verification: bool,
+    },
+    /// `subset B1 B2 NOW EXPIRY LIST`: some xorbs of the shard in a buffer, into another.
+    Subset {
+        from: &'a str,
+        buffer: &'a str,
+        subset: Subset,
+    },
+    /// `eligible B`: prints the chunks of a buffer's shard that the global index keeps.
+    Eligible {
+        buffer: &'a str,
     },
     /// `find B HASH`: looks up a file in a buffer's bytes and prints its record, or `none`.
     Find {
@@ -127,6 +154,10 @@ fn parse_words<'a>(alloc: Global, words: &[&'a str]) -> Result<Command<'a>, Pars
         "union" => parse_union(arguments),
         "diff" => parse_diff(arguments),
         "merge" => parse_merge(alloc, arguments),
+        "export" => parse_export(arguments),
+        "minimal" => parse_minimal(arguments),
+        "subset" => parse_subset(alloc, arguments),
+        "eligible" => parse_eligible(arguments),
         "find" => parse_find(arguments),
         "query" => parse_query(alloc, arguments),
         "size" => parse_size(arguments),
@@ -222,6 +253,88 @@ fn parse_merge<'a>(alloc: Global, arguments: &[&'a str]) -> Result<Command<'a>, 
     let buffer = parse_name(buffer)?;
     let tree = parse_tree(alloc, rest)?;
     Ok(Command::Merge { buffer, tree })
+}
+
+fn parse_export<'a>(arguments: &[&'a str]) -> Result<Command<'a>, ParseError> {
+    let [from, buffer, key, now, valid, parts] = arguments else {
+        return Err(ParseError::Unreadable);
+    };
+    let from = parse_name(from)?;
+    let buffer = parse_name(buffer)?;
+    let export = Export {
+        key: parse_key(key)?,
+        now: parse_u64(now)?,
+        valid_seconds: parse_u64(valid)?,
+        parts: parse_parts(parts)?,
+    };
+    Ok(Command::Export {
+        from,
+        buffer,
+        export,
+    })
+}
+
+fn parse_parts(word: &str) -> Result<ExportParts, ParseError> {
+    let [files, xorb_table, chunk_table] = word.as_bytes() else {
+        return Err(ParseError::Unreadable);
+    };
+    Ok(ExportParts {
+        files: parse_flag(*files, b'f')?,
+        xorb_table: parse_flag(*xorb_table, b'x')?,
+        chunk_table: parse_flag(*chunk_table, b'c')?,
+    })
+}
+
+fn parse_minimal<'a>(arguments: &[&'a str]) -> Result<Command<'a>, ParseError> {
+    let [from, buffer, now, option] = arguments else {
+        return Err(ParseError::Unreadable);
+    };
+    let [verification] = option.as_bytes() else {
+        return Err(ParseError::Unreadable);
+    };
+    Ok(Command::Minimal {
+        from: parse_name(from)?,
+        buffer: parse_name(buffer)?,
+        now: parse_u64(now)?,
+        with_verification: parse_flag(*verification, b'v')?,
+    })
+}
+
+fn parse_subset<'a>(alloc: Global, arguments: &[&'a str]) -> Result<Command<'a>, ParseError> {
+    let [from, buffer, now, expiry, list @ ..] = arguments else {
+        return Err(ParseError::Unreadable);
+    };
+    let from = parse_name(from)?;
+    let buffer = parse_name(buffer)?;
+    let now = parse_u64(now)?;
+    let expiry = match *expiry {
+        "-" => None,
+        expiry => Some(parse_u64(expiry)?),
+    };
+    let kept = parse_kept(alloc, list)?;
+    let subset = Subset { now, expiry, kept };
+    Ok(Command::Subset {
+        from,
+        buffer,
+        subset,
+    })
+}
+
+// The xorbs of a list: `*` alone is all of them.
+fn parse_kept(alloc: Global, list: &[&str]) -> Result<KeptXorbs, ParseError> {
+    match list {
+        [] => Err(ParseError::Unreadable),
+        ["*"] => Ok(KeptXorbs::All),
+        list => Ok(KeptXorbs::Listed(parse_hashes(alloc, list)?)),
+    }
+}
+
+fn parse_eligible<'a>(arguments: &[&'a str]) -> Result<Command<'a>, ParseError> {
+    let [buffer] = arguments else {
+        return Err(ParseError::Unreadable);
+    };
+    let buffer = parse_name(buffer)?;
+    Ok(Command::Eligible { buffer })
 }
 
 fn parse_find<'a>(arguments: &[&'a str]) -> Result<Command<'a>, ParseError> {

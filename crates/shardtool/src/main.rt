@@ -4,8 +4,10 @@
 
 mod combine;
 mod command;
+mod export;
 mod find;
 mod merge;
+mod minimal;
 mod query;
 mod run;
 mod stop;

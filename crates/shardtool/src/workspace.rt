@@ -76,6 +76,23 @@ impl Workspace {
                 buffer,
             } => self.subtract_buffers(alloc, first, second, buffer),
             Command::Merge { buffer, tree } => self.merge(alloc, buffer, &tree),
+            Command::Export {
+                from,
+                buffer,
+                export,
+            } => self.export(alloc, from, buffer, &export),
+            Command::Minimal {
+                from,
+                buffer,
+                now,
+                with_verification,
+            } => self.write_minimal(alloc, from, buffer, now, with_verification),
+            Command::Subset {
+                from,
+                buffer,
+                subset,
+            } => self.write_subset(alloc, from, buffer, &subset),
+            Command::Eligible { buffer } => self.print_eligible(alloc, buffer, output),
             Command::Find { buffer, hash } => self.print_found(alloc, buffer, hash, output),
             Command::Query { buffer, hashes } => {
                 self.print_query(alloc, buffer, hashes.as_slice(), output)

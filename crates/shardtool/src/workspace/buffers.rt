@@ -7,7 +7,9 @@ ghost use Rattle.shardtool.specs.Ends.{IsRefused};
 
 use super::Workspace;
 use crate::combine::{subtract_bytes, unite_bytes};
+use crate::export::{Export, export_bytes};
 use crate::merge::merge_buffers;
+use crate::minimal::{Subset, minimal_bytes, subset_bytes};
 use crate::stop::Stop;
 use crate::tree::NameTree;
 use std::alloc::Global;
@@ -81,6 +83,55 @@ impl Workspace {
         ensures shards { self.new.shards ≡ self.old.shards }
     {
         let bytes = merge_buffers(alloc, tree, &self.buffers)?;
+        self.keep(alloc, buffer, bytes)
+    }
+
+    pub(super) fn export(
+        &mut self,
+        alloc: Global,
+        from: &str,
+        buffer: &str,
+        export: &Export,
+    ) -> Result<(), Stop>
+        ensures unknown { IsErrOf result Stop.Unreadable ↔ IsNone (get_by_text self.old.buffers from.now) }
+        ensures made { OnOk result (IsSome (get_by_text self.new.buffers buffer.now)) }
+        ensures err { OnErr result (IsUnchanged self.old.buffers self.new.buffers) }
+        ensures shards { self.new.shards ≡ self.old.shards }
+    {
+        let bytes = export_bytes(alloc, self.bytes_of(from)?, export)?;
+        self.keep(alloc, buffer, bytes)
+    }
+
+    pub(super) fn write_minimal(
+        &mut self,
+        alloc: Global,
+        from: &str,
+        buffer: &str,
+        now: u64,
+        with_verification: bool,
+    ) -> Result<(), Stop>
+        ensures unknown { IsErrOf result Stop.Unreadable ↔ IsNone (get_by_text self.old.buffers from.now) }
+        ensures made { OnOk result (IsSome (get_by_text self.new.buffers buffer.now)) }
+        ensures err { OnErr result (IsUnchanged self.old.buffers self.new.buffers) }
+        ensures shards { self.new.shards ≡ self.old.shards }
+    {
+        let bytes = minimal_bytes(alloc, self.bytes_of(from)?, now, with_verification)?;
+        self.keep(alloc, buffer, bytes)
+    }
+
+    pub(super) fn write_subset(
+        &mut self,
+        alloc: Global,
+        from: &str,
+        buffer: &str,
+        subset: &Subset,
+    ) -> Result<(), Stop>
+        ensures unknown { IsErrOf result Stop.Unreadable ↔ IsNone (get_by_text self.old.buffers from.now) }
+        ensures made { OnOk result (IsSome (get_by_text self.new.buffers buffer.now)) }
+        ensures err { OnErr result (IsUnchanged self.old.buffers self.new.buffers) }
+        ensures shards { self.new.shards ≡ self.old.shards }
+    {
+        let bytes = subset_bytes(alloc, self.bytes_of(from)?, subset)?;
         self.keep(alloc, buffer, bytes)
     }
 

@@ -5,6 +5,7 @@ ghost use Rattle.std.specs.BTreeMap.{get_by_text};
 
 use super::Workspace;
 use crate::find::find_file;
+use crate::minimal::eligible_chunks;
 use crate::query::{print_run, query_chunks};
 use crate::stop::Stop;
 use script_lines::print::print_file;
@@ -44,6 +45,22 @@ impl Workspace {
         match query_chunks(alloc, self.bytes_of(buffer)?, hashes)? {
             Some((count, segment)) => print_run(count, &segment, output)?,
             None => writeln!(output, "none")?,
+        }
+        Ok(())
+    }
+
+    pub(super) fn print_eligible<W: Write>(
+        &self,
+        alloc: Global,
+        buffer: &str,
+        output: &mut W,
+    ) -> Result<(), Stop>
+        ensures { IsErrOf result Stop.Unreadable
+            ↔ IsNone (get_by_text self.now.buffers buffer.now) }
+    {
+        let hashes = eligible_chunks(alloc, self.bytes_of(buffer)?)?;
+        for hash in hashes.as_slice() {
+            writeln!(output, "{hash}")?;
         }
         Ok(())
     }

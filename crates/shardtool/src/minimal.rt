@@ -1,0 +1,78 @@
+//! Minimal shards, and the chunks that the global index keeps.
+
+use std::alloc::Global;
+use xet_core_structures::error::Result;
+use xet_core_structures::merklehash::MerkleHash;
+use xet_core_structures::streaming_shard::MDBMinimalShard;
+use xet_core_structures::xorb_structs::MDBXorbInfoView;
+
+/// The xorbs that a subset keeps.
+#[derive(Drop)]
+pub enum KeptXorbs {
+    All,
+    Listed(Vec<MerkleHash>),
+}
+
+impl KeptXorbs {
+    fn has(&self, hash: &MerkleHash) -> bool {
+        match self {
+            KeptXorbs::All => true,
+            KeptXorbs::Listed(hashes) => hashes.as_slice().contains(hash),
+        }
+    }
+}
+
+/// The times of a subset in seconds, and the xorbs that it keeps.
+#[derive(Drop)]
+pub struct Subset {
+    pub now: u64,
+    pub expiry: Option<u64>,
+    pub kept: KeptXorbs,
+}
+
+/// The bytes of the minimal shard of a shard, from its bytes.
+///
+/// The errors are those of [`MDBMinimalShard::from_reader`] and [`MDBMinimalShard::serialize`].
+pub fn minimal_bytes(
+    alloc: Global,
+    bytes: &[u8],
+    now: u64,
+    with_verification: bool,
+) -> Result<Vec<u8>> {
+    let shard = read_minimal(alloc, bytes)?;
+    let mut minimal = Vec::new(alloc);
+    shard.serialize(alloc, &mut minimal, now, with_verification)?;
+    Ok(minimal)
+}
+
+/// The bytes of a shard with some of the xorbs and none of the files of a shard, from its bytes.
+///
+/// The errors are those of [`MDBMinimalShard::from_reader`] and
+/// [`MDBMinimalShard::serialize_xorb_subset_with_expiry`].
+pub fn subset_bytes(alloc: Global, bytes: &[u8], subset: &Subset) -> Result<Vec<u8>> {
+    let shard = read_minimal(alloc, bytes)?;
+    let mut written = Vec::new(alloc);
+    let is_kept = |xorb: &MDBXorbInfoView| subset.kept.has(&xorb.xorb_hash());
+    shard.serialize_xorb_subset_with_expiry(
+        alloc,
+        &mut written,
+        subset.now,
+        subset.expiry,
+        is_kept,
+    )?;
+    Ok(written)
+}
+
+/// The hashes of the chunks of a shard that the global index keeps, from its bytes, in ascending
+/// order.
+///
+/// The errors are those of [`MDBMinimalShard::from_reader`] and
+/// [`MDBMinimalShard::global_dedup_eligible_chunks`].
+pub fn eligible_chunks(alloc: Global, bytes: &[u8]) -> Result<Vec<MerkleHash>> {
+    read_minimal(alloc, bytes)?.global_dedup_eligible_chunks(alloc)
+}
+
+fn read_minimal(alloc: Global, bytes: &[u8]) -> Result<MDBMinimalShard> {
+    let mut reader = bytes;
+    MDBMinimalShard::from_reader(alloc, &mut reader, true, true)
+}
