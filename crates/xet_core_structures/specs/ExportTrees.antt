@@ -6,10 +6,11 @@ use Rattle.xet_base.specs.Hash.{IsHash}
 use Rattle.xet_records.specs.declared.file_structs.rows.FileDataSequenceEntry.{FileDataSequenceEntry}
 use Rattle.xet_shards.specs.declared.shard_format.form.Form.{Form}
 use Rattle.xet_shards.specs.ChunkQuery.{run_at}
+use Rattle.xet_shards.specs.Joins.{IsJoinOf, AgreePairwise}
 use Rattle.xet_shards.specs.KeyedExport.{exported}
 use Rattle.xet_shards.specs.Shard.{Shard}
 use Rattle.xet_core_structures.specs.declared.set_operations.MergePlan.{MergePlan}
-use Rattle.xet_core_structures.specs.MergeTrees.{leaves}
+use Rattle.xet_core_structures.specs.MergeTrees.{leaves, HasUnion, AtLeaves}
 
 -- the numbers of a form are within their widths
 pub record FitsForm (form : Form) : Type 0 where
@@ -31,3 +32,9 @@ AreExported inputs plan key shard_at form_at = (i : ℕ) → Contains (leaves pl
 -- the run at an index of the xorb that a shard has under a hash, if it has one
 abbrev pub run_under : DataHash → Shard → DataHash → ℕ → List DataHash → Option (ℕ × FileDataSequenceEntry)
 run_under key s q index qs = option_map (λ xorb. run_at key (xorb, index) qs) (get s.xorbs q)
+
+-- a tree with a union, over shards that agree pairwise, and their join
+pub record JoinsLeaves (plan : MergePlan) (shard_at : ℕ → Shard) (join : Shard) : Type 0 where
+  pub union : HasUnion plan
+  pub agree : AgreePairwise (AtLeaves plan shard_at)
+  pub is_join : IsJoinOf (AtLeaves plan shard_at) join
