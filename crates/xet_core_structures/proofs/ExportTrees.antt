@@ -1,31 +1,37 @@
 -- Trees of unions over exports of shards write the export of their join, and keep runs of chunks.
-use Rattle.std.proofs.Common.{◌≡◌, ◌⊎◌, inl, inr, ℕ, zero, suc, ◌<◌, ◌≤◌, true, List, [], ◌∷◌, map, get_or, drop, Option, None, Some, refl, sym, ap, ◌∙◌, subst, arith}
-use Rattle.std.specs.Prelude.{◌↔◌, Contains, All, option_map, length}
+use Rattle.std.proofs.Common.{◌≡◌, ◌⊎◌, inl, inr, ℕ, zero, suc, ◌<◌, ◌≤◌, true, List, [], ◌∷◌, ◌++◌, ◌+◌, length, map, flat_map, get_or, drop, Option, None, Some, refl, sym, ap, ◌∙◌, subst, arith, append-nil}
+use Rattle.std.specs.Prelude.{◌↔◌, Contains, option_map}
 use Rattle.std.specs.FinMap.{FinMap, get, entries, values, get-entries}
 use Rattle.std.specs.List.{drop-map}
-use Rattle.std.proofs.lemmas.List.{length-map, get_or-map}
+use Rattle.std.proofs.lemmas.List.{length-append, append_assoc, length-map, get_or-map}
 use Rattle.std.proofs.lemmas.List.Elements.{Contains-push, Contains-append_left}
 use Rattle.std.proofs.lemmas.Option.{same_Some, none-some}
 use Rattle.std.proofs.lemmas.Simd.{map-map}
 use Rattle.xet_base.specs.declared.error.CoreError.{CoreError}
 use Rattle.xet_base.specs.declared.error.CoreError.TheVariants.{OutOfMemory}
 use Rattle.xet_base.specs.declared.merklehash.DataHash.{DataHash}
+use Rattle.xet_base.specs.Bytes.{u64_bytes}
 use Rattle.xet_base.specs.Errors.{IsInvalidShard}
-use Rattle.xet_base.specs.Hash.{IsHash, hash_cmp}
+use Rattle.xet_base.specs.Hash.{IsHash, hash_bytes, hash_cmp}
 use Rattle.xet_base.specs.KeyedHash.{no_key}
+use Rattle.xet_base.proofs.Bytes.{length-u64_bytes}
 use Rattle.xet_base.proofs.HashOrder.{hash_cmp-IsTotalOrder, hash_cmp-IsAntisymmetric}
 use Rattle.xet_records.specs.declared.file_structs.rows.FileDataSequenceEntry.{FileDataSequenceEntry}
 use Rattle.xet_records.specs.declared.xorb_structs.MDBXorbInfo.{MDBXorbInfo}
+use Rattle.xet_records.specs.FileRecord.{file_records}
 use Rattle.xet_records.specs.XorbRecord.{xorb_records}
+use Rattle.xet_shards.specs.declared.shard_format.footer.MDBShardFileFooter.{MDBShardFileFooter}
 use Rattle.xet_shards.specs.declared.shard_format.form.Form.{Form}
 use Rattle.xet_shards.specs.ChunkLookup.{ChunkLocation}
 use Rattle.xet_shards.specs.ChunkQuery.{run_at, run_length}
+use Rattle.xet_shards.specs.Layout.{layout_of, header_value, shard_header_bytes, shard_footer_bytes, offsets_of, sums_of, footer_value}
 use Rattle.xet_shards.specs.Joins.{IsJoinOf, AgreePairwise}
-use Rattle.xet_shards.specs.KeyedExport.{exported, export_form, keyed_chunk, keyed_xorb}
+use Rattle.xet_shards.specs.KeyedExport.{exported, export_form, keyed_chunk, keyed_xorb, keyed_xorbs}
 use Rattle.xet_shards.specs.KeyedShards.{keyed_shard}
-use Rattle.xet_shards.specs.Section.{total_rows}
+use Rattle.xet_shards.specs.Section.{section_bytes, total_rows}
 use Rattle.xet_shards.specs.SetOperations.{ShardsAgree, HasFewRows}
 use Rattle.xet_shards.specs.Shard.{Shard, IsShard}
+use Rattle.xet_shards.specs.Tables.{table_bytes, chunk_table_bytes}
 use Rattle.xet_shards.specs.WrittenQueries.{HasChunkAt, RunAmong}
 use Rattle.xet_shards.proofs.FileUnions.{entry-holds}
 use Rattle.xet_shards.proofs.KeyedHashes.{keyed_total}
@@ -199,3 +205,43 @@ module _ (plan : MergePlan) (shard_at : ℕ → Shard) (join : Shard) (joins : J
         ap (option_map (λ (x : MDBXorbInfo). run_at key (x, index) qs)) kept,
         omega (arith, run_no_shorter key qs (drop index xorb.chunks), ap (run_length key qs) chunks, ap (λ (r : ℕ × FileDataSequenceEntry). r.0) mine.2),
       )
+
+-- two exports of one shard differ in the two timestamps of the footer alone
+module _ (s : Shard) (key : DataHash) where
+  abbrev full_form : ℕ → ℕ → Form
+  full_form now valid = export_form key now valid true true true
+
+  abbrev front_of : MDBShardFileFooter → List ℕ
+  front_of f = flat_map u64_bytes (offsets_of f) ++ hash_bytes f.chunk_hash_hmac_key
+
+  abbrev rest_of : MDBShardFileFooter → List ℕ
+  rest_of f = flat_map u64_bytes f._buffer ++ flat_map u64_bytes (sums_of f)
+
+  regrouped : (b o t u m n : List ℕ) → b ++ (((o ++ (t ++ (u ++ []))) ++ m) ++ n) ≡ (((b ++ o) ++ t) ++ u) ++ (m ++ n)
+  regrouped b o t u m n = simp (append_assoc, append-nil)
+
+  abbrev export_footer : ℕ → ℕ → MDBShardFileFooter
+  export_footer now valid = footer_value (values s.files) (keyed_xorbs key (values s.xorbs)) (full_form now valid)
+
+  abbrev before_footer : List ℕ
+  before_footer =
+      let xorbs = keyed_xorbs key (values s.xorbs) in
+      ((((shard_header_bytes header_value ++ section_bytes file_records (values s.files)) ++ section_bytes xorb_records xorbs) ++ table_bytes file_records (values s.files))
+      ++ table_bytes xorb_records xorbs)
+      ++ chunk_table_bytes xorbs
+
+  abbrev pub before_timestamps : List ℕ
+  before_timestamps = before_footer ++ front_of (export_footer 0 0)
+
+  abbrev pub after_timestamps : List ℕ
+  after_timestamps = rest_of (export_footer 0 0)
+
+  pub split_at_timestamps : (now valid : ℕ)
+      → exported (values s.files) (values s.xorbs) (full_form now valid) ≡ before_timestamps ++ u64_bytes now ++ u64_bytes (now + valid) ++ after_timestamps
+  unfolding layout_of shard_footer_bytes
+  split_at_timestamps now valid =
+      let f = export_footer now valid in
+      regrouped before_footer (front_of f) (u64_bytes now) (u64_bytes (now + valid)) (flat_map u64_bytes f._buffer) (flat_map u64_bytes (sums_of f))
+
+  pub after_timestamps_size : length after_timestamps ≡ 80
+  after_timestamps_size = simp (length-append, length-u64_bytes)

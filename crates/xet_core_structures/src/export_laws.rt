@@ -1,11 +1,12 @@
 //! Laws of shards whose chunk hashes are under a key. Each is a function that does nothing; its
 //! contract is the law.
 
-ghost use Rattle.std.specs.Prelude.{◌≡◌, ◌↔◌, ◌⊎◌, ◌≤◌, ℕ, List, map, Contains, Option, None, Some, true};
+ghost use Rattle.std.specs.Prelude.{◌≡◌, ◌↔◌, ◌⊎◌, ◌+◌, ◌++◌, ◌≤◌, ℕ, List, length, map, Contains, Option, None, Some, true};
 ghost use Rattle.std.specs.FinMap.{get, values};
 ghost use Rattle.xet_base.specs.declared.error.CoreError.{CoreError};
 ghost use Rattle.xet_base.specs.declared.error.CoreError.TheVariants.{OutOfMemory};
 ghost use Rattle.xet_base.specs.declared.merklehash.DataHash.{DataHash};
+ghost use Rattle.xet_base.specs.Bytes.{u64_bytes};
 ghost use Rattle.xet_base.specs.Errors.{IsInvalidShard};
 ghost use Rattle.xet_base.specs.KeyedHash.{no_key};
 ghost use Rattle.xet_records.specs.declared.file_structs.rows.FileDataSequenceEntry.{FileDataSequenceEntry};
@@ -55,12 +56,14 @@ pub fn joins_keep_runs()
 {}
 
 /// Exports of shards that agree, under one key and with their files, merge to the export of their join under this key with
-/// all tables, created at 0 and without expiry: so merging and exporting can be exchanged, but for the two timestamps of
-/// the footer. Nothing is written only if an allocation fails or the join has too many rows.
+/// all tables, created at 0 and without expiry. Exports of one shard with all tables under one key differ in the two
+/// timestamps of the footer alone, so merging and exporting can be exchanged but for these. Nothing is written only if an allocation fails or the join has too many rows.
 pub fn exports_merge_to_the_export_of_the_join()
     ensures bytes { (inputs : List (List ℕ)) → (plan : MergePlan) → (key : DataHash) → (shard_at : ℕ → Shard) → (form_at : ℕ → Form) → (join : Shard) → (out : List ℕ)
         → JoinsLeaves plan shard_at join → AreExported inputs plan key shard_at form_at → TreeWrites inputs plan out
         → out ≡ exported (values join.files) (values join.xorbs) (export_form key 0 18446744073709551615 true true true) }
+    ensures timestamps { (s : Shard) → (key : DataHash) → (before after : List ℕ) × (length after ≡ 80) × ((now valid : ℕ)
+        → exported (values s.files) (values s.xorbs) (export_form key now valid true true true) ≡ before ++ u64_bytes now ++ u64_bytes (now + valid) ++ after) }
     ensures refusals { (inputs : List (List ℕ)) → (plan : MergePlan) → (key : DataHash) → (shard_at : ℕ → Shard) → (form_at : ℕ → Form) → (join : Shard) → (e : CoreError)
         → JoinsLeaves plan shard_at join → AreExported inputs plan key shard_at form_at → TreeRefusal inputs plan e
         → (e ≡ OutOfMemory) ⊎ (IsInvalidShard e × (¬ HasFewRows join)) }
