@@ -13,7 +13,7 @@ use Rattle.xet_base.specs.declared.merklehash.DataHash.{DataHash}
 use Rattle.xet_base.specs.Bytes.{u64_bytes}
 use Rattle.xet_base.specs.Errors.{IsInvalidShard}
 use Rattle.xet_base.specs.Hash.{IsHash, hash_bytes, hash_cmp}
-use Rattle.xet_base.specs.KeyedHash.{no_key}
+use Rattle.xet_base.specs.KeyedHash.{no_key, under_key}
 use Rattle.xet_base.proofs.Bytes.{length-u64_bytes}
 use Rattle.xet_base.proofs.HashOrder.{hash_cmp-IsTotalOrder, hash_cmp-IsAntisymmetric}
 use Rattle.xet_records.specs.declared.file_structs.rows.FileDataSequenceEntry.{FileDataSequenceEntry}
@@ -107,6 +107,9 @@ module _ (plan : MergePlan) (key : DataHash) (shard_at : ℕ → Shard) (join : 
       subst (λ ss. IsJoinOf (Contains ss) (keyed_shard key join)) (map-map (keyed_shard key) shard_at (leaves plan))
       (keyed_join key (map shard_at (leaves plan)) join joins.is_join)
 
+  pub keyed_leaves : JoinsLeaves plan keyed_at (keyed_shard key join)
+  keyed_leaves = record { union = joins.union; agree = agree_keyed; is_join = join_keyed }
+
   few_keyed : HasFewRows join → HasFewRows (keyed_shard key join)
   few_keyed few = record {
     files = few.files;
@@ -185,11 +188,11 @@ module _ (plan : MergePlan) (shard_at : ℕ → Shard) (join : Shard) (joins : J
   )
 
   -- an answer to a query on the join is one on a leaf
-  pub answer_from : (qs : List DataHash) (run : ℕ × FileDataSequenceEntry) → RunAmong no_key qs (values join.xorbs) (Some run)
-      → (i : ℕ) × Contains (leaves plan) i × RunAmong no_key qs (values (shard_at i).xorbs) (Some run)
-  answer_from [] run is = absurd (none-some run (sym is))
-  answer_from (q ∷ qs) run (p, has, is) =
-      let from = chunk_from q p has in
+  pub answer_from : (key : DataHash) (qs : List DataHash) (run : ℕ × FileDataSequenceEntry) → RunAmong key qs (values join.xorbs) (Some run)
+      → (i : ℕ) × Contains (leaves plan) i × RunAmong key qs (values (shard_at i).xorbs) (Some run)
+  answer_from key [] run is = absurd (none-some run (sym is))
+  answer_from key (q ∷ qs) run (p, has, is) =
+      let from = chunk_from (under_key key q) p has in
       (from.0, from.1, (p, from.2, is))
 
   -- under a key a run is at least as long

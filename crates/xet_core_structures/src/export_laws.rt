@@ -70,20 +70,20 @@ pub fn exports_merge_to_the_export_of_the_join()
 {}
 
 /// The bytes that a tree writes for shards that agree have the runs of chunks of these shards, and no others. In those of
-/// their exports under a key a run is at least as long.
+/// their exports under a key a run is at least as long, and the shards under the key have such a join again.
 pub fn merges_keep_runs()
     ensures kept { (inputs : List (List ℕ)) → (plan : MergePlan) → (shard_at : ℕ → Shard) → (expiry_at : ℕ → Option ℕ) → (join : Shard) → (out : List ℕ)
         → (i : ℕ) → (q : DataHash) → (index : ℕ) → (hashes : List DataHash) → (run : ℕ × FileDataSequenceEntry)
         → JoinsLeaves plan shard_at join → AreWritten inputs plan shard_at expiry_at → TreeWrites inputs plan out
         → Contains (leaves plan) i → run_under no_key (shard_at i) q index hashes ≡ Some run
         → (out ≡ layout join None) × (run_under no_key join q index hashes ≡ Some run) }
-    ensures only { (plan : MergePlan) → (shard_at : ℕ → Shard) → (join : Shard)
+    ensures only { (plan : MergePlan) → (key : DataHash) → (shard_at : ℕ → Shard) → (join : Shard)
         → (q : DataHash) → (index : ℕ) → (hashes : List DataHash) → (run : ℕ × FileDataSequenceEntry)
-        → JoinsLeaves plan shard_at join → run_under no_key join q index hashes ≡ Some run
-        → (i : ℕ) × Contains (leaves plan) i × (run_under no_key (shard_at i) q index hashes ≡ Some run) }
-    ensures answers { (plan : MergePlan) → (shard_at : ℕ → Shard) → (join : Shard) → (hashes : List DataHash) → (run : ℕ × FileDataSequenceEntry)
-        → JoinsLeaves plan shard_at join → RunAmong no_key hashes (values join.xorbs) (Some run)
-        → (i : ℕ) × Contains (leaves plan) i × RunAmong no_key hashes (values (shard_at i).xorbs) (Some run) }
+        → JoinsLeaves plan shard_at join → run_under key join q index hashes ≡ Some run
+        → (i : ℕ) × Contains (leaves plan) i × (run_under key (shard_at i) q index hashes ≡ Some run) }
+    ensures answers { (plan : MergePlan) → (key : DataHash) → (shard_at : ℕ → Shard) → (join : Shard) → (hashes : List DataHash) → (run : ℕ × FileDataSequenceEntry)
+        → JoinsLeaves plan shard_at join → RunAmong key hashes (values join.xorbs) (Some run)
+        → (i : ℕ) × Contains (leaves plan) i × RunAmong key hashes (values (shard_at i).xorbs) (Some run) }
     ensures chunks { (plan : MergePlan) → (shard_at : ℕ → Shard) → (join : Shard) → (q : DataHash) → (p : ChunkLocation)
         → JoinsLeaves plan shard_at join
         → HasChunkAt (values join.xorbs) q p ↔ ((i : ℕ) × Contains (leaves plan) i × HasChunkAt (values (shard_at i).xorbs) q p) }
@@ -93,4 +93,6 @@ pub fn merges_keep_runs()
         → Contains (leaves plan) i → run_under no_key (shard_at i) q index hashes ≡ Some run
         → (out ≡ keyed_layout (keyed_shard key join) key)
         × ((longer : ℕ × FileDataSequenceEntry) × (run_under key (keyed_shard key join) q index hashes ≡ Some longer) × (run.0 ≤ longer.0)) }
+    ensures keyed_leaves { (plan : MergePlan) → (key : DataHash) → (shard_at : ℕ → Shard) → (join : Shard) → JoinsLeaves plan shard_at join
+        → JoinsLeaves plan (λ i. keyed_shard key (shard_at i)) (keyed_shard key join) }
 {}
