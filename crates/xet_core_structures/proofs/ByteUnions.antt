@@ -15,17 +15,20 @@ use Rattle.xet_records.proofs.Merging.{flags_are_parts, verification_absent, met
 use Rattle.xet_shards.specs.declared.shard_format.info.MDBShardInfo.{MDBShardInfo}
 use Rattle.xet_shards.specs.Ends.{HasEnds}
 use Rattle.xet_shards.specs.Joining.{either_file}
-use Rattle.xet_shards.specs.Layout.{layout, plain_form, info_value}
+use Rattle.xet_shards.specs.declared.shard_format.form.Form.{Form}
+use Rattle.xet_shards.specs.Layout.{layout_of, layout, plain_form, info_of}
 use Rattle.xet_shards.specs.SetOperations.{IsUnion, ShardsAgree, HasFewRows}
 use Rattle.xet_shards.specs.Shard.{Shard, IsShard}
 use Rattle.xet_shards.proofs.EndsUnique.{only_info, ends_of_layout, not_unsupported, not_too_short}
 use Rattle.xet_shards.proofs.Overlays.{union_unique}
+use Rattle.xet_shards.proofs.Sections.{files_fit, xorbs_fit}
 use Rattle.xet_shards.proofs.Unions.{IsKnown, known, same_either}
-use Rattle.xet_shards.proofs.Widths.{fits_written}
+use Rattle.xet_shards.proofs.Widths.{fits_in_form}
 use Rattle.xet_core_structures.specs.ByteUnion.{mixed, IsUnitedFile, IsEitherFile, IsByteUnion}
 use Rattle.xet_core_structures.specs.ByteResults.{keyed_layout, key_of, HaveNoUnion, UnionRefusal, UnitesBytes, LoadRefusal, BytesRefusal}
+use Rattle.xet_core_structures.specs.ExportTrees.{FitsForm}
 use Rattle.xet_core_structures.specs.Held.{Holds}
-use Rattle.xet_core_structures.proofs.Held.{held_once, held_whole, held_well, holds_itself}
+use Rattle.xet_core_structures.proofs.Held.{held_once, held_whole, held_well, holds_in_form}
 
 -- whether one set of bits includes another is decided
 bit_is : (x : ℕ) → x < 2 → (x ≡ 0) ⊎ (x ≡ 1)
@@ -155,49 +158,73 @@ module _ (a b c : Shard) (first : IsShard a) (second : IsShard b) (agree : Shard
     xorbs = λ q. union.xorbs q ∙ same_either (get a.xorbs q) (get b.xorbs q) (agree.xorbs q);
   }
 
--- header and footer of the bytes of a shard
-pub info_found : (s : Shard) (expiry : Option ℕ) (i : MDBShardInfo) → IsShard s → IfSome expiry (λ n. n < 2 ^ 64) → HasEnds (layout s expiry) i → i ≡ info_value s expiry
-info_found s expiry i shard fits ends =
-    only_info (layout s expiry) i (info_value s expiry) ends (ends_of_layout (values s.files) (values s.xorbs) (plain_form expiry) (fits_written s expiry shard fits))
+-- the bytes of a shard in a form
+abbrev pub layout_in : Shard → Form → List ℕ
+layout_in s form = layout_of (values s.files) (values s.xorbs) form
 
-pub loads_well : (s : Shard) (expiry : Option ℕ) (e : CoreError) → IsShard s → IfSome expiry (λ n. n < 2 ^ 64) → ¬ LoadRefusal (layout s expiry) e
-loads_well s expiry e shard fits refusal = why refusal where
-  ends : HasEnds (layout s expiry) (info_value s expiry)
-  ends = ends_of_layout (values s.files) (values s.xorbs) (plain_form expiry) (fits_written s expiry shard fits)
+abbrev info_in : Shard → Form → MDBShardInfo
+info_in s form = info_of (values s.files) (values s.xorbs) form
 
-  why : ¬ LoadRefusal (layout s expiry) e
-  why (inl (is, unsupported)) = not_unsupported (layout s expiry) (info_value s expiry) ends unsupported
-  why (inr (is, short)) = not_too_short (layout s expiry) (info_value s expiry) ends short
+module _ (s : Shard) (form : Form) (shard : IsShard s) (fits : FitsForm form) where
+  ends_in_form : HasEnds (layout_in s form) (info_in s form)
+  ends_in_form =
+      ends_of_layout (values s.files) (values s.xorbs) form
+      (fits_in_form (values s.files) (values s.xorbs) form (files_fit s shard) (xorbs_fit s shard) fits.key fits.creation fits.expiry)
 
--- the union of the bytes of two shards that agree
-module _ (a b c : Shard) (e f : Option ℕ) (first : IsShard a) (second : IsShard b) (e_fits : IfSome e (λ n. n < 2 ^ 64)) (f_fits : IfSome f (λ n. n < 2 ^ 64))
+  -- they have no other header and footer
+  info_found : (i : MDBShardInfo) → HasEnds (layout_in s form) i → i ≡ info_in s form
+  info_found i ends = only_info (layout_in s form) i (info_in s form) ends ends_in_form
+
+  loads_well : (e : CoreError) → ¬ LoadRefusal (layout_in s form) e
+  loads_well e (inl (is, unsupported)) = not_unsupported (layout_in s form) (info_in s form) ends_in_form unsupported
+  loads_well e (inr (is, short)) = not_too_short (layout_in s form) (info_in s form) ends_in_form short
+
+-- the union of the bytes of two shards that agree, under one key
+module _ (a b c : Shard) (f g : Form) (first : IsShard a) (second : IsShard b) (f_fits : FitsForm f) (g_fits : FitsForm g) (same_key : f.key ≡ g.key)
     (agree : ShardsAgree a b) (union : IsUnion a b c) where
-  pub written_union : (out : List ℕ) → UnitesBytes (layout a e) (layout b f) out → (out ≡ layout c None) × HasFewRows c
-  written_union out (i, j, d, i_ends, j_ends, have, is) =
-      let i_is = info_found a e i first e_fits i_ends in
-      let j_is = info_found b f j second f_fits j_ends in
-      let a_is = held_once (layout a e) (info_value a e) a (holds_itself a e first) have.first (subst (λ k. Holds (layout a e) k have.first) i_is have.holds_first) in
-      let b_is = held_once (layout b f) (info_value b f) b (holds_itself b f second) have.second (subst (λ k. Holds (layout b f) k have.second) j_is have.holds_second) in
+  pub form_union : (out : List ℕ) → UnitesBytes (layout_in a f) (layout_in b g) out → (out ≡ keyed_layout c f.key) × HasFewRows c
+  form_union out (i, j, d, i_ends, j_ends, have, is) =
+      let i_is = info_found a f first f_fits i i_ends in
+      let j_is = info_found b g second g_fits j j_ends in
+      let a_is = held_once (layout_in a f) (info_in a f) a (holds_in_form a f first) have.first (subst (λ k. Holds (layout_in a f) k have.first) i_is have.holds_first) in
+      let b_is = held_once (layout_in b g) (info_in b g) b (holds_in_form b g second) have.second (subst (λ k. Holds (layout_in b g) k have.second) j_is have.holds_second) in
       let bytes : IsByteUnion a b d = subst (λ p. p) (λ k. IsByteUnion (a_is k) (b_is k) d) have.result in
       let d_is = union_unique a b d c (byte_union_is_union a b d first second agree bytes) union in
       (is ∙ (λ k. keyed_layout (d_is k) (key_of (i_is k))), subst HasFewRows d_is have.rows)
 
-  no_union : HasFewRows c → ¬ HaveNoUnion (layout a e) (info_value a e) (layout b f) (info_value b f)
-  no_union few (inl files) = files.none a.files b.files c.files (holds_itself a e first).files (holds_itself b f second).files (union_is_byte_union a b c first second agree union).files few.files
-  no_union few (inr xorbs) = xorbs.none a.xorbs b.xorbs c.xorbs (holds_itself a e first).xorbs (holds_itself b f second).xorbs (union_is_byte_union a b c first second agree union).xorbs few.xorbs
+  no_union : HasFewRows c → ¬ HaveNoUnion (layout_in a f) (info_in a f) (layout_in b g) (info_in b g)
+  no_union few (inl files) = files.none a.files b.files c.files (holds_in_form a f first).files (holds_in_form b g second).files (union_is_byte_union a b c first second agree union).files few.files
+  no_union few (inr xorbs) = xorbs.none a.xorbs b.xorbs c.xorbs (holds_in_form a f first).xorbs (holds_in_form b g second).xorbs (union_is_byte_union a b c first second agree union).xorbs few.xorbs
 
-  refused : (err : CoreError) → UnionRefusal (layout a e) (info_value a e) (layout b f) (info_value b f) err → (err ≡ OutOfMemory) ⊎ (IsInvalidShard err × (¬ HasFewRows c))
-  refused err (inl (is, differ)) = absurd (differ refl)
+  refused : (err : CoreError) → UnionRefusal (layout_in a f) (info_in a f) (layout_in b g) (info_in b g) err → (err ≡ OutOfMemory) ⊎ (IsInvalidShard err × (¬ HasFewRows c))
+  refused err (inl (is, differ)) = absurd (differ same_key)
   refused err (inr (same, inl (inl no_memory))) = inl no_memory
-  refused err (inr (same, inl (inr (inl (is, inl cut))))) = absurd (held_whole (layout a e) (info_value a e) a (holds_itself a e first) cut)
-  refused err (inr (same, inl (inr (inl (is, inr cut))))) = absurd (held_whole (layout b f) (info_value b f) b (holds_itself b f second) cut)
-  refused err (inr (same, inl (inr (inr (is, inl bad))))) = absurd (held_well (layout a e) (info_value a e) a (holds_itself a e first) bad)
-  refused err (inr (same, inl (inr (inr (is, inr bad))))) = absurd (held_well (layout b f) (info_value b f) b (holds_itself b f second) bad)
+  refused err (inr (same, inl (inr (inl (is, inl cut))))) = absurd (held_whole (layout_in a f) (info_in a f) a (holds_in_form a f first) cut)
+  refused err (inr (same, inl (inr (inl (is, inr cut))))) = absurd (held_whole (layout_in b g) (info_in b g) b (holds_in_form b g second) cut)
+  refused err (inr (same, inl (inr (inr (is, inl bad))))) = absurd (held_well (layout_in a f) (info_in a f) a (holds_in_form a f first) bad)
+  refused err (inr (same, inl (inr (inr (is, inr bad))))) = absurd (held_well (layout_in b g) (info_in b g) b (holds_in_form b g second) bad)
   refused err (inr (same, inr (is, none))) = inr (is, λ few. no_union few none)
 
-  pub refused_union : (err : CoreError) → BytesRefusal (layout a e) (layout b f) err → (err ≡ OutOfMemory) ⊎ (IsInvalidShard err × (¬ HasFewRows c))
-  refused_union err (inl load) = absurd (loads_well a e err first e_fits load)
-  refused_union err (inr (inl load)) = absurd (loads_well b f err second f_fits load)
+  pub refused_union : (err : CoreError) → BytesRefusal (layout_in a f) (layout_in b g) err → (err ≡ OutOfMemory) ⊎ (IsInvalidShard err × (¬ HasFewRows c))
+  refused_union err (inl load) = absurd (loads_well a f first f_fits err load)
+  refused_union err (inr (inl load)) = absurd (loads_well b g second g_fits err load)
   refused_union err (inr (inr (inl no_memory))) = inl no_memory
   refused_union err (inr (inr (inr (i, j, i_ends, j_ends, why)))) =
-      refused err (subst (λ p. p) (λ k. UnionRefusal (layout a e) (info_found a e i first e_fits i_ends k) (layout b f) (info_found b f j second f_fits j_ends k) err) why)
+      refused err (subst (λ p. p) (λ k. UnionRefusal (layout_in a f) (info_found a f first f_fits i i_ends k) (layout_in b g) (info_found b g second g_fits j j_ends k) err) why)
+
+-- the same without a key
+expiry_fits : (expiry : Option ℕ) → IfSome expiry (λ e. e < 2 ^ 64) → (plain_form expiry).expiry < 2 ^ 64
+expiry_fits None fits = omega arith
+expiry_fits (Some e) fits = fits
+
+pub plain_fits : (expiry : Option ℕ) → IfSome expiry (λ e. e < 2 ^ 64) → FitsForm (plain_form expiry)
+plain_fits expiry fits = record {
+  key = record { word0 = omega arith; word1 = omega arith; word2 = omega arith; word3 = omega arith };
+  creation = omega arith;
+  expiry = expiry_fits expiry fits;
+}
+
+pub written_union : (a b c : Shard) (e f : Option ℕ) → IsShard a → IsShard b → IfSome e (λ n. n < 2 ^ 64) → IfSome f (λ n. n < 2 ^ 64) → ShardsAgree a b → IsUnion a b c
+    → (out : List ℕ) → UnitesBytes (layout a e) (layout b f) out → (out ≡ layout c None) × HasFewRows c
+written_union a b c e f first second e_fits f_fits agree union =
+    form_union a b c (plain_form e) (plain_form f) first second (plain_fits e e_fits) (plain_fits f f_fits) refl agree union

@@ -1,5 +1,5 @@
 -- Bytes hold at most one shard, and those of a written shard hold it.
-use Rattle.std.proofs.Common.{◌≡◌, inl, inr, ℕ, List, [], ◌∷◌, ◌++◌, map, Option, refl, sym, ap, ◌∙◌, subst, arith}
+use Rattle.std.proofs.Common.{◌≡◌, inl, inr, ℕ, List, [], ◌∷◌, ◌++◌, map, refl, sym, ap, ◌∙◌, subst, arith}
 use Rattle.std.specs.Prelude.{All}
 use Rattle.std.specs.List.{AllByRecursion}
 use Rattle.std.specs.List.Sorted.{IsStrictlySortedBy}
@@ -16,14 +16,16 @@ use Rattle.xet_records.specs.XorbRecord.{xorb_records}
 use Rattle.xet_records.proofs.RecordKinds.{KindLaws, file_laws, xorb_laws}
 use Rattle.xet_shards.specs.declared.shard_format.info.MDBShardInfo.{MDBShardInfo}
 use Rattle.xet_shards.specs.InForm.{Ascends}
-use Rattle.xet_shards.specs.Layout.{layout, info_value}
+use Rattle.xet_shards.specs.declared.shard_format.form.Form.{Form}
+use Rattle.xet_shards.specs.Layout.{layout_of, info_of}
 use Rattle.xet_shards.specs.Section.{total_rows}
 use Rattle.xet_shards.specs.SectionReading.{PassesRows, IsCutSection}
 use Rattle.xet_shards.specs.Shard.{Shard, IsShard}
 use Rattle.xet_shards.proofs.Files.{well_formed_values}
 use Rattle.xet_shards.proofs.Maps.{rising_keys}
-use Rattle.xet_shards.proofs.Readback.{handed_same, section_of_shard, xorb_section_of_shard}
+use Rattle.xet_shards.proofs.Readback.{handed_same, file_section_in, xorb_section_in}
 use Rattle.xet_shards.proofs.SameBytes.{same_values}
+use Rattle.xet_shards.proofs.Sections.{files_fit, xorbs_fit}
 use Rattle.xet_shards.proofs.SectionUnique.{only_list, first_of_section, section_or_passes, section_or_cut}
 use Rattle.xet_core_structures.specs.Held.{FrontFalls, IsSectionOf, files_at, xorbs_at, Holds, IsCut, IsBad}
 
@@ -108,18 +110,19 @@ same_xorbs : {X : Type 0} (xs : List X) → map (λ x. x) xs ≡ xs
 same_xorbs [] = refl
 same_xorbs (x ∷ xs) = ap (λ ys. x ∷ ys) (same_xorbs xs)
 
-pub holds_itself : (s : Shard) (expiry : Option ℕ) → IsShard s → Holds (layout s expiry) (info_value s expiry) s
-holds_itself s expiry shard = record {
-  files = record {
-    stored = values s.files;
-    section = section_of_shard s expiry shard;
-    handed = handed_same (values s.files) (well_formed_values (entries s.files) shard.files);
-    keyed = shard.files.keyed;
-  };
-  xorbs = record {
-    stored = values s.xorbs;
-    section = xorb_section_of_shard s expiry shard;
-    handed = same_xorbs (values s.xorbs);
-    keyed = shard.xorbs.keyed;
-  };
-}
+module _ (s : Shard) (form : Form) (shard : IsShard s) where
+  pub holds_in_form : Holds (layout_of (values s.files) (values s.xorbs) form) (info_of (values s.files) (values s.xorbs) form) s
+  holds_in_form = record {
+    files = record {
+      stored = values s.files;
+      section = file_section_in (values s.files) (values s.xorbs) form (files_fit s shard);
+      handed = handed_same (values s.files) (well_formed_values (entries s.files) shard.files);
+      keyed = shard.files.keyed;
+    };
+    xorbs = record {
+      stored = values s.xorbs;
+      section = xorb_section_in (values s.files) (values s.xorbs) form (xorbs_fit s shard);
+      handed = same_xorbs (values s.xorbs);
+      keyed = shard.xorbs.keyed;
+    };
+  }

@@ -2,6 +2,7 @@ pub mod Ascending
 pub mod ByteLaws
 pub mod ByteUnions
 pub mod Combining
+pub mod ExportTrees
 pub mod Handed
 pub mod Held
 pub mod ListMaps

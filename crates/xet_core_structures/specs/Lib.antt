@@ -2,6 +2,7 @@ pub mod ByteResults
 pub mod ByteUnion
 pub mod Combining
 pub mod Equality
+pub mod ExportTrees
 pub mod Held
 pub mod MergeTrees
 pub mod Readable

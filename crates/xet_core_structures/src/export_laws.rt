@@ -1,20 +1,31 @@
 //! Laws of shards whose chunk hashes are under a key. Each is a function that does nothing; its
 //! contract is the law.
 
-ghost use Rattle.std.specs.Prelude.{◌≡◌, ◌≤◌, List, map, Contains, Some, true};
+ghost use Rattle.std.specs.Prelude.{◌≡◌, ◌↔◌, ◌⊎◌, ◌+◌, ◌++◌, ◌≤◌, ℕ, List, length, map, Contains, Option, None, Some, true};
 ghost use Rattle.std.specs.FinMap.{get, values};
+ghost use Rattle.xet_base.specs.declared.error.CoreError.{CoreError};
+ghost use Rattle.xet_base.specs.declared.error.CoreError.TheVariants.{OutOfMemory};
 ghost use Rattle.xet_base.specs.declared.merklehash.DataHash.{DataHash};
+ghost use Rattle.xet_base.specs.Bytes.{u64_bytes};
+ghost use Rattle.xet_base.specs.Errors.{IsInvalidShard};
 ghost use Rattle.xet_base.specs.KeyedHash.{no_key};
+ghost use Rattle.xet_records.specs.declared.file_structs.rows.FileDataSequenceEntry.{FileDataSequenceEntry};
 ghost use Rattle.xet_records.specs.declared.xorb_structs.MDBXorbInfo.{MDBXorbInfo};
 ghost use Rattle.xet_records.specs.declared.xorb_structs.XorbChunkSequenceEntry.{XorbChunkSequenceEntry};
+ghost use Rattle.xet_shards.specs.ChunkLookup.{ChunkLocation};
 ghost use Rattle.xet_shards.specs.ChunkQuery.{run_length};
 ghost use Rattle.xet_shards.specs.Joins.{IsJoinOf};
-ghost use Rattle.xet_shards.specs.KeyedExport.{keyed_chunk, exported};
+ghost use Rattle.xet_shards.specs.KeyedExport.{keyed_chunk, exported, export_form};
 ghost use Rattle.xet_shards.specs.KeyedShards.{keyed_shard};
 ghost use Rattle.xet_shards.specs.declared.shard_format.form.Form.{Form};
-ghost use Rattle.xet_shards.specs.Layout.{layout_of};
-ghost use Rattle.xet_shards.specs.SetOperations.{IsUnion, ShardsAgree};
+ghost use Rattle.xet_shards.specs.Layout.{layout, layout_of};
+ghost use Rattle.xet_shards.specs.SetOperations.{IsUnion, ShardsAgree, HasFewRows};
 ghost use Rattle.xet_shards.specs.Shard.{Shard, IsShard};
+ghost use Rattle.xet_shards.specs.WrittenQueries.{HasChunkAt, RunAmong};
+ghost use Rattle.xet_core_structures.specs.declared.set_operations.MergePlan.{MergePlan};
+ghost use Rattle.xet_core_structures.specs.ByteResults.{keyed_layout};
+ghost use Rattle.xet_core_structures.specs.ExportTrees.{AreExported, JoinsLeaves, run_under};
+ghost use Rattle.xet_core_structures.specs.MergeTrees.{leaves, TreeWrites, TreeRefusal, AreWritten};
 
 /// A shard with its chunk hashes under a key is a shard, and an export with files is its layout.
 pub fn keyed_shards_are_exported()
@@ -42,4 +53,46 @@ pub fn joins_keep_runs()
         → Contains shards s → get s.xorbs q ≡ Some xorb → get c.xorbs q ≡ Some xorb }
     ensures runs { (key : DataHash) → (hashes : List DataHash) → (chunks : List XorbChunkSequenceEntry)
         → run_length no_key hashes chunks ≤ run_length key hashes (map (keyed_chunk key) chunks) }
+{}
+
+/// Exports of shards that agree, under one key and with their files, merge to the export of their join under this key with
+/// all tables, created at 0 and without expiry. Exports of one shard with all tables under one key differ in the two
+/// timestamps of the footer alone, so merging and exporting can be exchanged but for these. Nothing is written only if an allocation fails or the join has too many rows.
+pub fn exports_merge_to_the_export_of_the_join()
+    ensures bytes { (inputs : List (List ℕ)) → (plan : MergePlan) → (key : DataHash) → (shard_at : ℕ → Shard) → (form_at : ℕ → Form) → (join : Shard) → (out : List ℕ)
+        → JoinsLeaves plan shard_at join → AreExported inputs plan key shard_at form_at → TreeWrites inputs plan out
+        → out ≡ exported (values join.files) (values join.xorbs) (export_form key 0 18446744073709551615 true true true) }
+    ensures timestamps { (s : Shard) → (key : DataHash) → (before after : List ℕ) × (length after ≡ 80) × ((now valid : ℕ)
+        → exported (values s.files) (values s.xorbs) (export_form key now valid true true true) ≡ before ++ u64_bytes now ++ u64_bytes (now + valid) ++ after) }
+    ensures refusals { (inputs : List (List ℕ)) → (plan : MergePlan) → (key : DataHash) → (shard_at : ℕ → Shard) → (form_at : ℕ → Form) → (join : Shard) → (e : CoreError)
+        → JoinsLeaves plan shard_at join → AreExported inputs plan key shard_at form_at → TreeRefusal inputs plan e
+        → (e ≡ OutOfMemory) ⊎ (IsInvalidShard e × (¬ HasFewRows join)) }
+{}
+
+/// The bytes that a tree writes for shards that agree have the runs of chunks of these shards, and no others. In those of
+/// their exports under a key a run is at least as long, and the shards under the key have such a join again.
+pub fn merges_keep_runs()
+    ensures kept { (inputs : List (List ℕ)) → (plan : MergePlan) → (shard_at : ℕ → Shard) → (expiry_at : ℕ → Option ℕ) → (join : Shard) → (out : List ℕ)
+        → (i : ℕ) → (q : DataHash) → (index : ℕ) → (hashes : List DataHash) → (run : ℕ × FileDataSequenceEntry)
+        → JoinsLeaves plan shard_at join → AreWritten inputs plan shard_at expiry_at → TreeWrites inputs plan out
+        → Contains (leaves plan) i → run_under no_key (shard_at i) q index hashes ≡ Some run
+        → (out ≡ layout join None) × (run_under no_key join q index hashes ≡ Some run) }
+    ensures only { (plan : MergePlan) → (key : DataHash) → (shard_at : ℕ → Shard) → (join : Shard)
+        → (q : DataHash) → (index : ℕ) → (hashes : List DataHash) → (run : ℕ × FileDataSequenceEntry)
+        → JoinsLeaves plan shard_at join → run_under key join q index hashes ≡ Some run
+        → (i : ℕ) × Contains (leaves plan) i × (run_under key (shard_at i) q index hashes ≡ Some run) }
+    ensures answers { (plan : MergePlan) → (key : DataHash) → (shard_at : ℕ → Shard) → (join : Shard) → (hashes : List DataHash) → (run : ℕ × FileDataSequenceEntry)
+        → JoinsLeaves plan shard_at join → RunAmong key hashes (values join.xorbs) (Some run)
+        → (i : ℕ) × Contains (leaves plan) i × RunAmong key hashes (values (shard_at i).xorbs) (Some run) }
+    ensures chunks { (plan : MergePlan) → (shard_at : ℕ → Shard) → (join : Shard) → (q : DataHash) → (p : ChunkLocation)
+        → JoinsLeaves plan shard_at join
+        → HasChunkAt (values join.xorbs) q p ↔ ((i : ℕ) × Contains (leaves plan) i × HasChunkAt (values (shard_at i).xorbs) q p) }
+    ensures keyed { (inputs : List (List ℕ)) → (plan : MergePlan) → (key : DataHash) → (shard_at : ℕ → Shard) → (form_at : ℕ → Form) → (join : Shard) → (out : List ℕ)
+        → (i : ℕ) → (q : DataHash) → (index : ℕ) → (hashes : List DataHash) → (run : ℕ × FileDataSequenceEntry)
+        → JoinsLeaves plan shard_at join → AreExported inputs plan key shard_at form_at → TreeWrites inputs plan out
+        → Contains (leaves plan) i → run_under no_key (shard_at i) q index hashes ≡ Some run
+        → (out ≡ keyed_layout (keyed_shard key join) key)
+        × ((longer : ℕ × FileDataSequenceEntry) × (run_under key (keyed_shard key join) q index hashes ≡ Some longer) × (run.0 ≤ longer.0)) }
+    ensures keyed_leaves { (plan : MergePlan) → (key : DataHash) → (shard_at : ℕ → Shard) → (join : Shard) → JoinsLeaves plan shard_at join
+        → JoinsLeaves plan (λ i. keyed_shard key (shard_at i)) (keyed_shard key join) }
 {}

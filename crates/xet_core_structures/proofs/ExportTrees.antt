@@ -1,0 +1,250 @@
+-- Trees of unions over exports of shards write the export of their join, and keep runs of chunks.
+use Rattle.std.proofs.Common.{◌≡◌, ◌⊎◌, inl, inr, ℕ, zero, suc, ◌<◌, ◌≤◌, true, List, [], ◌∷◌, ◌++◌, ◌+◌, length, map, flat_map, get_or, drop, Option, None, Some, refl, sym, ap, ◌∙◌, subst, arith, append-nil}
+use Rattle.std.specs.Prelude.{◌↔◌, Contains, option_map}
+use Rattle.std.specs.FinMap.{FinMap, get, entries, values, get-entries}
+use Rattle.std.specs.List.{drop-map}
+use Rattle.std.proofs.lemmas.List.{length-append, append_assoc, length-map, get_or-map}
+use Rattle.std.proofs.lemmas.List.Elements.{Contains-push, Contains-append_left}
+use Rattle.std.proofs.lemmas.Option.{same_Some, none-some}
+use Rattle.std.proofs.lemmas.Simd.{map-map}
+use Rattle.xet_base.specs.declared.error.CoreError.{CoreError}
+use Rattle.xet_base.specs.declared.error.CoreError.TheVariants.{OutOfMemory}
+use Rattle.xet_base.specs.declared.merklehash.DataHash.{DataHash}
+use Rattle.xet_base.specs.Bytes.{u64_bytes}
+use Rattle.xet_base.specs.Errors.{IsInvalidShard}
+use Rattle.xet_base.specs.Hash.{IsHash, hash_bytes, hash_cmp}
+use Rattle.xet_base.specs.KeyedHash.{no_key, under_key}
+use Rattle.xet_base.proofs.Bytes.{length-u64_bytes}
+use Rattle.xet_base.proofs.HashOrder.{hash_cmp-IsTotalOrder, hash_cmp-IsAntisymmetric}
+use Rattle.xet_records.specs.declared.file_structs.rows.FileDataSequenceEntry.{FileDataSequenceEntry}
+use Rattle.xet_records.specs.declared.xorb_structs.MDBXorbInfo.{MDBXorbInfo}
+use Rattle.xet_records.specs.FileRecord.{file_records}
+use Rattle.xet_records.specs.XorbRecord.{xorb_records}
+use Rattle.xet_shards.specs.declared.shard_format.footer.MDBShardFileFooter.{MDBShardFileFooter}
+use Rattle.xet_shards.specs.declared.shard_format.form.Form.{Form}
+use Rattle.xet_shards.specs.ChunkLookup.{ChunkLocation}
+use Rattle.xet_shards.specs.ChunkQuery.{run_at, run_length}
+use Rattle.xet_shards.specs.Layout.{layout_of, header_value, shard_header_bytes, shard_footer_bytes, offsets_of, sums_of, footer_value}
+use Rattle.xet_shards.specs.Joins.{IsJoinOf, AgreePairwise}
+use Rattle.xet_shards.specs.KeyedExport.{exported, export_form, keyed_chunk, keyed_xorb, keyed_xorbs}
+use Rattle.xet_shards.specs.KeyedShards.{keyed_shard}
+use Rattle.xet_shards.specs.Section.{section_bytes, total_rows}
+use Rattle.xet_shards.specs.SetOperations.{ShardsAgree, HasFewRows}
+use Rattle.xet_shards.specs.Shard.{Shard, IsShard}
+use Rattle.xet_shards.specs.Tables.{table_bytes, chunk_table_bytes}
+use Rattle.xet_shards.specs.WrittenQueries.{HasChunkAt, RunAmong}
+use Rattle.xet_shards.proofs.FileUnions.{entry-holds}
+use Rattle.xet_shards.proofs.KeyedHashes.{keyed_total}
+use Rattle.xet_shards.proofs.KeyedShards.{keyed_is_shard, keyed_agree, keyed_join, exported_is, values-keyed, get-keyed, run_no_shorter}
+use Rattle.xet_shards.proofs.Sums.{all_of_map}
+use Rattle.xet_core_structures.specs.declared.set_operations.MergePlan.{MergePlan}
+use Rattle.xet_core_structures.specs.declared.set_operations.MergePlan.TheVariants.{Leaf, Both'}
+use Rattle.xet_core_structures.specs.ByteResults.{keyed_form, keyed_layout}
+use Rattle.xet_core_structures.specs.ExportTrees.{AreExported, JoinsLeaves, run_under}
+use Rattle.xet_core_structures.specs.MergeTrees.{leaves, TreeWrites, TreeRefusal}
+use Rattle.xet_core_structures.proofs.ByteUnions.{layout_in}
+use Rattle.xet_core_structures.proofs.MergeTrees.{AreInputs, keyed_tree, tree_refused}
+
+-- members of a list that is mapped
+mapped_member : {X Y : Type 0} (f : X → Y) (xs : List X) (x : X) → Contains xs x → Contains (map f xs) (f x)
+mapped_member f xs x (k, within, is) = (k, omega (arith, within, length-map xs f), get_or-map f xs k x (f x) within ∙ ap f is)
+
+unmapped_member : {X Y : Type 0} (f : X → Y) (xs : List X) (y : Y) → Contains (map f xs) y → (x : X) × Contains xs x × (f x ≡ y)
+unmapped_member f [] y (k, within, is) = absurd (omega (arith, within))
+unmapped_member f (x ∷ xs) y (zero, within, is) = (x, (0, omega arith, refl), is)
+unmapped_member f (x ∷ xs) y (suc k, within, is) =
+    let found = unmapped_member f xs y (k, omega (arith, within), is) in
+    (found.0, (suc found.1.0, omega (arith, found.1.1), found.1.2), found.2)
+
+-- the values of a map are what it has under its keys
+at_value : {X : Type 0} (m : FinMap hash_cmp X) (q : DataHash) (x : X) → get m q ≡ Some x → Contains (values m) x
+at_value {X} m q x at =
+    entry-holds (λ (e : DataHash × X). Contains (values m) e.1) (entries m) q x
+    (λ k e below. (
+      k,
+      omega (arith, below, length-map (entries m) (λ (d : DataHash × X). d.1)),
+      get_or-map (λ (d : DataHash × X). d.1) (entries m) k e (get_or (entries m) k e).1 below,
+    ))
+    (sym (get-entries m q) ∙ at)
+
+value_at : {X : Type 0} (m : FinMap hash_cmp X) (q : DataHash) (x : X) → Contains (values m) x → (p : DataHash) × (get m p ≡ Some x)
+value_at {X} m q x (k, within, is) =
+    let below : k < length (entries m) = omega (arith, within, length-map (entries m) (λ (d : DataHash × X). d.1)) in
+    let found = all_of_map hash_cmp-IsTotalOrder hash_cmp-IsAntisymmetric (λ (e : DataHash × X). get m e.0 ≡ Some e.1) m (λ p v at. at) k (q, x) below in
+    let same = sym (get_or-map (λ (d : DataHash × X). d.1) (entries m) k (q, x) x below) ∙ is in
+    ((get_or (entries m) k (q, x)).0, found ∙ ap Some same)
+
+first_leaf : (plan : MergePlan) → (i : ℕ) × Contains (leaves plan) i
+first_leaf (Leaf i) = (i, Contains-push [] i)
+first_leaf (Both' p left q right) =
+    let i = first_leaf left in
+    (i.0, Contains-append_left (leaves left) (leaves right) i.0 i.1)
+
+module _ (plan : MergePlan) (key : DataHash) (shard_at : ℕ → Shard) (join : Shard) (joins : JoinsLeaves plan shard_at join) where
+  abbrev keyed_at : ℕ → Shard
+  keyed_at i = keyed_shard key (shard_at i)
+
+  -- the shards at the leaves under the key agree pairwise, and their join is the join under the key
+  one_agrees : (s : Shard) → Contains (map keyed_at (leaves plan)) s → (i : ℕ) × Contains (map shard_at (leaves plan)) (shard_at i) × (keyed_at i ≡ s)
+  one_agrees s member =
+      let from = unmapped_member keyed_at (leaves plan) s member in
+      (from.0, mapped_member shard_at (leaves plan) from.0 from.1, from.2)
+
+  agree_keyed : AgreePairwise (Contains (map keyed_at (leaves plan)))
+  agree_keyed = record {
+    shards = λ s member.
+        let from = one_agrees s member in
+        subst IsShard from.2 (keyed_is_shard key (shard_at from.0) (joins.agree.shards (shard_at from.0) from.1));
+    pairs = λ s t s_member t_member.
+        let one = one_agrees s s_member in
+        let other = one_agrees t t_member in
+        subst (λ p. p) (λ k. ShardsAgree (one.2 k) (other.2 k))
+        (keyed_agree key (shard_at one.0) (shard_at other.0) (joins.agree.pairs (shard_at one.0) (shard_at other.0) one.1 other.1));
+  }
+
+  join_keyed : IsJoinOf (Contains (map keyed_at (leaves plan))) (keyed_shard key join)
+  join_keyed =
+      subst (λ ss. IsJoinOf (Contains ss) (keyed_shard key join)) (map-map (keyed_shard key) shard_at (leaves plan))
+      (keyed_join key (map shard_at (leaves plan)) join joins.is_join)
+
+  pub keyed_leaves : JoinsLeaves plan keyed_at (keyed_shard key join)
+  keyed_leaves = record { union = joins.union; agree = agree_keyed; is_join = join_keyed }
+
+  few_keyed : HasFewRows join → HasFewRows (keyed_shard key join)
+  few_keyed few = record {
+    files = few.files;
+    xorbs = omega (arith, ap (total_rows xorb_records) (values-keyed key join), keyed_total key (values join.xorbs), few.xorbs);
+  }
+
+  module _ (inputs : List (List ℕ)) (form_at : ℕ → Form) (exports : AreExported inputs plan key shard_at form_at) where
+    key_fits : IsHash key
+    key_fits =
+        let leaf = first_leaf plan in
+        let export = exports leaf.0 leaf.1 in
+        subst IsHash export.under export.fits.key
+
+    inputs_are : AreInputs inputs key key_fits keyed_at form_at plan
+    inputs_are i member =
+        let export = exports i member in
+        record {
+          under = export.under;
+          fits = export.fits;
+          bytes = export.bytes ∙ ap Some (exported_is (shard_at i) (form_at i) export.files ∙ (λ k. layout_in (keyed_shard (export.under k) (shard_at i)) (form_at i)));
+        }
+
+    pub tree_of_exports : (out : List ℕ) → TreeWrites inputs plan out → out ≡ keyed_layout (keyed_shard key join) key
+    tree_of_exports out writes = (keyed_tree inputs key key_fits keyed_at form_at plan (keyed_shard key join) out joins.union inputs_are agree_keyed join_keyed writes).0
+
+    pub export_of_join : (out : List ℕ) → TreeWrites inputs plan out → out ≡ exported (values join.files) (values join.xorbs) (export_form key 0 18446744073709551615 true true true)
+    export_of_join out writes = tree_of_exports out writes ∙ sym (exported_is join (keyed_form key) refl)
+
+    pub exports_refused : (e : CoreError) → TreeRefusal inputs plan e → (e ≡ OutOfMemory) ⊎ (IsInvalidShard e × (¬ HasFewRows join))
+    exports_refused e refusal = elim (tree_refused inputs key key_fits keyed_at form_at plan (keyed_shard key join) e inputs_are agree_keyed join_keyed refusal) [
+      | inl no_memory ↦ inl no_memory
+      | inr many ↦ inr (many.0, λ few. many.1 (few_keyed few))
+    ]
+
+-- what an option that is mapped has
+mapped_some : {X Y : Type 0} (f : X → Y) (o : Option X) (y : Y) → option_map f o ≡ Some y → (x : X) × (o ≡ Some x) × (f x ≡ y)
+mapped_some f None y is = absurd (none-some y is)
+mapped_some f (Some x) y is = (x, refl, same_Some (f x) y is)
+
+module _ (plan : MergePlan) (shard_at : ℕ → Shard) (join : Shard) (joins : JoinsLeaves plan shard_at join) where
+  -- the join has the xorbs of the leaves, and no others
+  xorb_kept : (i : ℕ) (q : DataHash) (xorb : MDBXorbInfo) → Contains (leaves plan) i → get (shard_at i).xorbs q ≡ Some xorb → get join.xorbs q ≡ Some xorb
+  xorb_kept i q xorb member has = (joins.is_join.xorbs q xorb).1 (shard_at i, mapped_member shard_at (leaves plan) i member, has)
+
+  xorb_from : (q : DataHash) (xorb : MDBXorbInfo) → get join.xorbs q ≡ Some xorb → (i : ℕ) × Contains (leaves plan) i × (get (shard_at i).xorbs q ≡ Some xorb)
+  xorb_from q xorb has =
+      let found = (joins.is_join.xorbs q xorb).0 has in
+      let from = unmapped_member shard_at (leaves plan) found.0 found.1 in
+      (from.0, from.1, ap (λ (s : Shard). get s.xorbs q) from.2 ∙ found.2)
+
+  pub run_kept : (key : DataHash) (i : ℕ) (q : DataHash) (index : ℕ) (qs : List DataHash) (run : ℕ × FileDataSequenceEntry) → Contains (leaves plan) i
+      → run_under key (shard_at i) q index qs ≡ Some run → run_under key join q index qs ≡ Some run
+  run_kept key i q index qs run member is =
+      let mine = mapped_some (λ (xorb : MDBXorbInfo). run_at key (xorb, index) qs) (get (shard_at i).xorbs q) run is in
+      ap (option_map (λ (xorb : MDBXorbInfo). run_at key (xorb, index) qs)) (xorb_kept i q mine.0 member mine.1) ∙ ap Some mine.2
+
+  pub run_from : (key q : DataHash) (index : ℕ) (qs : List DataHash) (run : ℕ × FileDataSequenceEntry) → run_under key join q index qs ≡ Some run
+      → (i : ℕ) × Contains (leaves plan) i × (run_under key (shard_at i) q index qs ≡ Some run)
+  run_from key q index qs run is =
+      let mine = mapped_some (λ (xorb : MDBXorbInfo). run_at key (xorb, index) qs) (get join.xorbs q) run is in
+      let from = xorb_from q mine.0 mine.1 in
+      (from.0, from.1, ap (option_map (λ (xorb : MDBXorbInfo). run_at key (xorb, index) qs)) from.2 ∙ ap Some mine.2)
+
+  chunk_from : (q : DataHash) (p : ChunkLocation) → HasChunkAt (values join.xorbs) q p → (i : ℕ) × Contains (leaves plan) i × HasChunkAt (values (shard_at i).xorbs) q p
+  chunk_from q p has =
+      let own = value_at join.xorbs q p.0 has.xorb in
+      let from = xorb_from own.0 p.0 own.1 in
+      (from.0, from.1, record { xorb = at_value (shard_at from.0).xorbs own.0 p.0 from.2; chunk = has.chunk })
+
+  pub same_chunks : (q : DataHash) (p : ChunkLocation) → HasChunkAt (values join.xorbs) q p ↔ ((i : ℕ) × Contains (leaves plan) i × HasChunkAt (values (shard_at i).xorbs) q p)
+  same_chunks q p = (
+    chunk_from q p,
+    λ found.
+        let own = value_at (shard_at found.0).xorbs q p.0 found.2.xorb in
+        record { xorb = at_value join.xorbs own.0 p.0 (xorb_kept found.0 own.0 p.0 found.1 own.1); chunk = found.2.chunk },
+  )
+
+  -- an answer to a query on the join is one on a leaf
+  pub answer_from : (key : DataHash) (qs : List DataHash) (run : ℕ × FileDataSequenceEntry) → RunAmong key qs (values join.xorbs) (Some run)
+      → (i : ℕ) × Contains (leaves plan) i × RunAmong key qs (values (shard_at i).xorbs) (Some run)
+  answer_from key [] run is = absurd (none-some run (sym is))
+  answer_from key (q ∷ qs) run (p, has, is) =
+      let from = chunk_from (under_key key q) p has in
+      (from.0, from.1, (p, from.2, is))
+
+  -- under a key a run is at least as long
+  pub longer_run : (key : DataHash) (i : ℕ) (q : DataHash) (index : ℕ) (qs : List DataHash) (run : ℕ × FileDataSequenceEntry) → Contains (leaves plan) i
+      → run_under no_key (shard_at i) q index qs ≡ Some run
+      → (longer : ℕ × FileDataSequenceEntry) × (run_under key (keyed_shard key join) q index qs ≡ Some longer) × (run.0 ≤ longer.0)
+  longer_run key i q index qs run member is =
+      let mine = mapped_some (λ (xorb : MDBXorbInfo). run_at no_key (xorb, index) qs) (get (shard_at i).xorbs q) run is in
+      let xorb = mine.0 in
+      let kept = get-keyed key join q ∙ ap (option_map (keyed_xorb key)) (xorb_kept i q xorb member mine.1) in
+      let chunks = drop-map (keyed_chunk key) index xorb.chunks in (
+        run_at key (keyed_xorb key xorb, index) qs,
+        ap (option_map (λ (x : MDBXorbInfo). run_at key (x, index) qs)) kept,
+        omega (arith, run_no_shorter key qs (drop index xorb.chunks), ap (run_length key qs) chunks, ap (λ (r : ℕ × FileDataSequenceEntry). r.0) mine.2),
+      )
+
+-- two exports of one shard differ in the two timestamps of the footer alone
+module _ (s : Shard) (key : DataHash) where
+  abbrev full_form : ℕ → ℕ → Form
+  full_form now valid = export_form key now valid true true true
+
+  abbrev front_of : MDBShardFileFooter → List ℕ
+  front_of f = flat_map u64_bytes (offsets_of f) ++ hash_bytes f.chunk_hash_hmac_key
+
+  abbrev rest_of : MDBShardFileFooter → List ℕ
+  rest_of f = flat_map u64_bytes f._buffer ++ flat_map u64_bytes (sums_of f)
+
+  regrouped : (b o t u m n : List ℕ) → b ++ (((o ++ (t ++ (u ++ []))) ++ m) ++ n) ≡ (((b ++ o) ++ t) ++ u) ++ (m ++ n)
+  regrouped b o t u m n = simp (append_assoc, append-nil)
+
+  abbrev export_footer : ℕ → ℕ → MDBShardFileFooter
+  export_footer now valid = footer_value (values s.files) (keyed_xorbs key (values s.xorbs)) (full_form now valid)
+
+  abbrev before_footer : List ℕ
+  before_footer =
+      let xorbs = keyed_xorbs key (values s.xorbs) in
+      ((((shard_header_bytes header_value ++ section_bytes file_records (values s.files)) ++ section_bytes xorb_records xorbs) ++ table_bytes file_records (values s.files))
+      ++ table_bytes xorb_records xorbs)
+      ++ chunk_table_bytes xorbs
+
+  abbrev pub before_timestamps : List ℕ
+  before_timestamps = before_footer ++ front_of (export_footer 0 0)
+
+  abbrev pub after_timestamps : List ℕ
+  after_timestamps = rest_of (export_footer 0 0)
+
+  pub split_at_timestamps : (now valid : ℕ)
+      → exported (values s.files) (values s.xorbs) (full_form now valid) ≡ before_timestamps ++ u64_bytes now ++ u64_bytes (now + valid) ++ after_timestamps
+  unfolding layout_of shard_footer_bytes
+  split_at_timestamps now valid =
+      let f = export_footer now valid in
+      regrouped before_footer (front_of f) (u64_bytes now) (u64_bytes (now + valid)) (flat_map u64_bytes f._buffer) (flat_map u64_bytes (sums_of f))
+
+  pub after_timestamps_size : length after_timestamps ≡ 80
+  after_timestamps_size = simp (length-append, length-u64_bytes)
