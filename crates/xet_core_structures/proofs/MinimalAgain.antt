@@ -5,7 +5,10 @@ use Rattle.std.specs.Io.KnownBytes.{Consumes}
 use Rattle.std.specs.List.{enumerate_from}
 use Rattle.std.proofs.lemmas.List.{append_assoc}
 use Rattle.std.proofs.lemmas.List.Elements.{All-nil, All-cons, All-drop}
+use Rattle.xet_base.specs.declared.merklehash.DataHash.{DataHash}
 use Rattle.xet_base.specs.Hash.{all_ones}
+use Rattle.xet_base.specs.Source.{Source, Takes, bytes_left}
+use Rattle.xet_base.proofs.Reading.{Takes-consumes}
 use Rattle.xet_base.proofs.Lists.{same_parts}
 use Rattle.xet_records.specs.declared.file_structs.MDBFileInfo.{MDBFileInfo}
 use Rattle.xet_records.specs.declared.xorb_structs.MDBXorbInfo.{MDBXorbInfo}
@@ -21,7 +24,7 @@ use Rattle.xet_shards.specs.declared.streaming_shard.file_start.FileStart.{FileS
 use Rattle.xet_shards.specs.InForm.{FitsSection}
 use Rattle.xet_shards.specs.declared.shard_format.form.Form.{Form}
 use Rattle.xet_shards.specs.Layout.{if_in, layout_of, header_value, shard_header_bytes}
-use Rattle.xet_shards.specs.MinimalReading.{ReadsViews, ReadsXorbs, ReadsMinimal}
+use Rattle.xet_shards.specs.MinimalReading.{ReadsViews, ReadsXorbs, ReadsMinimal, ReadsEligible}
 use Rattle.xet_shards.specs.MinimalShard.{MinimalShard, FitsSections, IsKept, is_start, chunk_of, marked_if, mark_starts, eligible_in, eligible_hashes, ascending_hashes, minimal_form, WritesMinimal, WritesKept}
 use Rattle.xet_shards.specs.Section.{section_bytes}
 use Rattle.xet_shards.specs.SectionReading.{IsSection}
@@ -165,6 +168,37 @@ subset_read answers with_files m n form y new k fits kept read =
     let back = layout_read [] marked form y new with_files n (none_fit file_records) (xorbs_marked (is_start m.files) answers m.xorbs kept.kept kept.is_kept fits.xorbs) kept.written.text read in
     let no_files : n.files ≡ [] = none_in with_files n.files back.0 in
     (no_files, back.1, (λ i. eligible_hashes (no_files i) (back.1 i)) ∙ subset_again m.files kept.kept)
+
+-- what is said of an input, of what its states have left
+module _ {I J : Type 0} (view : I → J) (one : I → I → List ℕ → Type 0) (other : J → J → List ℕ → Type 0) (also : (a b : I) (xs : List ℕ) → one a b xs → other (view a) (view b) xs) where
+  views_left : {H R : Type 0} (K : RecordKind H R) (old new : I) (records : List R) → ReadsViews K (λ r. r) one old new records → ReadsViews K (λ r. r) other (view old) (view new) records
+  views_left K old new records read = record {
+    mid = view read.mid;
+    left = read.left;
+    records = record { are_stored = read.records.are_stored; taken = also old read.mid _ read.records.taken; rows = read.records.rows };
+    bookend = record { header = read.bookend.header; widths = read.bookend.widths; is_bookend = read.bookend.is_bookend; taken = also read.mid new _ read.bookend.taken };
+  }
+
+  sections_left : (with_files : Bool) (old new : I) (m : MinimalShard) → ReadsMinimal one with_files true old new m → ReadsMinimal other with_files true (view old) (view new) m
+  sections_left with_files old new m (mid, header, sections) = (
+    view mid,
+    record { header = header.header; tag = header.tag; version = header.version; taken = also old mid _ header.taken },
+    record {
+      files = sections.files;
+      mid = view sections.mid;
+      file_section = views_left file_records mid sections.mid sections.files sections.file_section;
+      kept = sections.kept;
+      xorb_section = views_left xorb_records sections.mid new m.xorbs sections.xorb_section;
+    },
+  )
+
+-- a subset that is read again from a source
+pub subset_eligible : (answers : MDBXorbInfo → Bool → Type 0) (m : MinimalShard) (form : Form) (y : List ℕ) (old new : Source) (hashes : List DataHash) (k : ℕ) → FitsSections m
+    → (kept : WritesKept answers (Some []) (Some y) [] m form k) → bytes_left old ≡ y → ReadsEligible old new hashes
+    → hashes ≡ ascending_hashes (flat_map (eligible_in (is_start m.files)) kept.kept)
+subset_eligible answers m form y old new hashes k fits kept are (n, read, hashes_are) =
+    let taken : ReadsMinimal Consumes true true (Some (bytes_left old)) (Some (bytes_left new)) n = sections_left (λ s. Some (bytes_left s)) Takes Consumes Takes-consumes true old new n read in
+    hashes_are ∙ (subset_read answers true m n form y (Some (bytes_left new)) k fits kept (subst (λ bs. ReadsMinimal Consumes true true (Some bs) (Some (bytes_left new)) n) are taken)).2
 
 -- each xorb is accepted
 each_kept : (xs : List MDBXorbInfo) → IsKept (λ x b. Unit {0}) xs xs
