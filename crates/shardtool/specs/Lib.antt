@@ -1,3 +1,5 @@
 pub mod Combining
 pub mod Ends
+pub mod Merging
 pub mod Query
+pub mod Trees

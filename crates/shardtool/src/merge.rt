@@ -1,5 +1,8 @@
 //! Trees of unions over named buffers.
 
+ghost use Rattle.std.specs.Prelude.{map, MatchResult};
+ghost use Rattle.shardtool.specs.Merging.{bytes_under, MergesTo, MergeStops, AddsInputs, IsPlanOf, PlanStops};
+
 use crate::stop::Stop;
 use crate::tree::NameTree;
 use std::alloc::Global;
@@ -14,7 +17,10 @@ pub fn merge_buffers(
     alloc: Global,
     tree: &NameTree<'_>,
     buffers: &BTreeMap<String, Vec<u8>>,
-) -> Result<Vec<u8>, Stop> {
+) -> Result<Vec<u8>, Stop>
+    ensures { MatchResult result (λ bytes. MergesTo (bytes_under buffers.now) tree.now bytes.items)
+        (MergeStops (bytes_under buffers.now) tree.now) }
+{
     let mut inputs = Vec::new(alloc);
     let plan = plan_of(alloc, tree, buffers, &mut inputs)?;
     Ok(shard_union_tree(alloc, &plan, inputs.as_slice())?)
@@ -26,7 +32,11 @@ fn plan_of<'b>(
     tree: &NameTree<'_>,
     buffers: &'b BTreeMap<String, Vec<u8>>,
     inputs: &mut Vec<&'b [u8]>,
-) -> Result<MergePlan, Stop> {
+) -> Result<MergePlan, Stop>
+    ensures { MatchResult result
+        (λ plan. AddsInputs inputs.old inputs.new × IsPlanOf (bytes_under buffers.now) (map (λ x. x.now) inputs.new.items) tree.now plan)
+        (PlanStops (bytes_under buffers.now) tree.now) }
+{
     match tree {
         NameTree::Name(name) => {
             let Some(bytes) = buffers.get(*name) else {

@@ -1,0 +1,15 @@
+-- The words of trees of names.
+use Rattle.std.specs.Prelude.{ℕ, ◌-◌, ◌<◌, List, [], ◌∷◌, ◌++◌}
+use Rattle.script_lines.specs.Words.{IsName}
+use Rattle.shardtool.specs.declared.tree.NameTree.{NameTree}
+use Rattle.shardtool.specs.declared.tree.NameTree.TheVariants.{Name, Both'}
+
+-- a name, or the words of two trees in parentheses
+abbrev pub words_of : NameTree → List (List ℕ)
+words_of (Name name) = name.now ∷ []
+words_of (Both' p left q right) = (40 ∷ []) ∷ (words_of left ++ (words_of right ++ ((41 ∷ []) ∷ [])))
+
+-- its leaves are names, and at most so many pairs of parentheses are in one another
+abbrev pub IsTree : NameTree → ℕ → Type 0
+IsTree (Name name) most = IsName name.now
+IsTree (Both' p left q right) most = (0 < most) × IsTree left (most - 1) × IsTree right (most - 1)
