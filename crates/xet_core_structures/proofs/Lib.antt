@@ -9,6 +9,7 @@ pub mod ListMaps
 pub mod Lists
 pub mod LookupsFound
 pub mod MergeTrees
+pub mod MinimalAgain
 pub mod Mixing
 pub mod Readable
 pub mod Results
