@@ -9,7 +9,6 @@ mod exports;
 mod fields;
 mod lookup;
 mod memory;
-mod minimal;
 mod parse;
 mod reading;
 mod script;
