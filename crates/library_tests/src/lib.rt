@@ -10,6 +10,8 @@ pub mod example;
 #[cfg(test)]
 mod fixtures;
 #[cfg(test)]
+mod minimal;
+#[cfg(test)]
 mod numbers;
 #[cfg(test)]
 mod records;
