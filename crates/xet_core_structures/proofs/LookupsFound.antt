@@ -1,14 +1,11 @@
 -- File lookups on the bytes of a shard under a key find its files, and so do those on the bytes of a tree of unions.
-use Rattle.std.proofs.Common.{◌≡◌, ℕ, ◌^◌, ◌<◌, List, length, get_or, Option, None, Some, Ok, Err, IfSome, refl, sym, ap, ◌∙◌, subst, arith}
+use Rattle.std.proofs.Common.{◌≡◌, ℕ, ◌^◌, ◌<◌, List, Option, Ok, Err, IfSome, refl, sym, subst, arith}
 use Rattle.std.specs.Prelude.{MatchResult}
-use Rattle.std.specs.FinMap.{FinMap, entries, values, get, get-entries, entries_sorted, find}
+use Rattle.std.specs.FinMap.{values, find}
 use Rattle.std.specs.declared.result.Result.{Result}
-use Rattle.std.proofs.lemmas.List.{get_or-map, length-map}
 use Rattle.xet_base.specs.declared.error.CoreError.{CoreError}
 use Rattle.xet_base.specs.declared.merklehash.DataHash.{DataHash}
-use Rattle.xet_base.specs.Hash.{hash_cmp}
 use Rattle.xet_base.specs.Source.{Source}
-use Rattle.xet_base.proofs.HashOrder.{hash_cmp-IsTotalOrder, hash_cmp-IsAntisymmetric}
 use Rattle.xet_records.specs.declared.file_structs.MDBFileInfo.{MDBFileInfo}
 use Rattle.xet_records.specs.FileRecord.{file_records}
 use Rattle.xet_records.specs.XorbRecord.{xorb_records}
@@ -21,10 +18,10 @@ use Rattle.xet_shards.specs.SetOperations.{IsDifference}
 use Rattle.xet_shards.specs.Shard.{Shard, IsShard}
 use Rattle.xet_shards.specs.Tables.{hash_in}
 use Rattle.xet_shards.proofs.EndsUnique.{only_info, ends_of_layout}
-use Rattle.xet_shards.proofs.Found.{found_entry, entry_found}
 use Rattle.xet_shards.proofs.InForm.{no_file, files_in, shard_in_form, files_ascend}
+use Rattle.xet_shards.proofs.MapAnswers.{map_answers}
 use Rattle.xet_shards.proofs.ShardLookups.{lookup_written}
-use Rattle.xet_shards.proofs.TableLookups.{IsLookedUp, IsAnswer, answered, not_answered, lookup_bounded, collision_bounded}
+use Rattle.xet_shards.proofs.TableLookups.{IsLookedUp, answered, not_answered, lookup_bounded, collision_bounded}
 use Rattle.xet_shards.proofs.TableOrder.{hashes_ascend}
 use Rattle.xet_shards.proofs.Widths.{fits_written, fits_in_form}
 use Rattle.xet_core_structures.specs.declared.set_operations.MergePlan.{MergePlan}
@@ -32,37 +29,8 @@ use Rattle.xet_core_structures.specs.declared.set_operations.MergePlan.TheVarian
 use Rattle.xet_core_structures.specs.ByteUnion.{IsByteUnion}
 use Rattle.xet_core_structures.specs.ByteResults.{keyed_form, keyed_layout, keyed_info, key_of, HaveResult, WritesResult}
 use Rattle.xet_core_structures.specs.MergeTrees.{HasUnion, TreeWrites}
-use Rattle.xet_core_structures.specs.Readable.{AreReadable, IsWrittenUnder, WritesInForm, LooksUpFile, FindsInShard}
+use Rattle.xet_core_structures.specs.Readable.{IsWrittenUnder, WritesInForm, LooksUpFile, FindsInShard}
 use Rattle.xet_core_structures.proofs.Readable.{IsReadable, union_readable, difference_readable}
-
-abbrev no_entry : DataHash × MDBFileInfo
-no_entry = (no_file.metadata.file_hash, no_file)
-
--- the answer among the files of a map is that of the map
-module _ (m : FinMap hash_cmp MDBFileInfo) (is : AreReadable file_records m) where
-  entry_in : (i : ℕ) → i < length (values m) → i < length (entries m)
-  entry_in i within = omega (arith, within, length-map (entries m) (λ (e : DataHash × MDBFileInfo). e.1))
-
-  value_of : (i : ℕ) → i < length (values m) → get_or (values m) i no_file ≡ (get_or (entries m) i no_entry).1
-  value_of i within = get_or-map (λ (e : DataHash × MDBFileInfo). e.1) (entries m) i no_entry no_file (entry_in i within)
-
-  hash_of : (i : ℕ) → i < length (values m) → (get_or (entries m) i no_entry).0 ≡ hash_in file_records (get_or (values m) i no_file)
-  hash_of i within = is.keyed i no_entry (entry_in i within) ∙ ap (hash_in file_records) (sym (value_of i within))
-
-  map_answers : (hash : DataHash) (answer : Option MDBFileInfo) → IsAnswer file_records no_file (values m) hash answer → answer ≡ get m hash
-  map_answers hash (Some found) (i, within, handed, same) =
-      let value : found ≡ get_or (values m) i no_file = handed ∙ is.unchanged i no_file within in
-      sym (get-entries m hash
-      ∙ entry_found hash_cmp hash_cmp-IsTotalOrder (entries m) i hash found no_entry (entries_sorted m) (entry_in i within)
-      (λ k. ((hash_of i within ∙ ap (hash_in file_records) (sym value) ∙ same) k, (sym (value_of i within) ∙ sym value) k)))
-  map_answers hash None others = go (find hash_cmp hash (entries m)) refl
-    where
-      go : (o : Option MDBFileInfo) → find hash_cmp hash (entries m) ≡ o → None ≡ get m hash
-      go None none = sym (get-entries m hash ∙ none)
-      go (Some r) found =
-          let at = found_entry hash_cmp hash_cmp-IsAntisymmetric (entries m) hash r no_entry found in
-          let within : at.0 < length (values m) = omega (arith, at.1, length-map (entries m) (λ (e : DataHash × MDBFileInfo). e.1)) in
-          absurd (others at.0 within (sym (hash_of at.0 within) ∙ ap (λ (e : DataHash × MDBFileInfo). e.0) at.2))
 
 -- lookups on the bytes of a shard under a key
 module _ (key : DataHash) (s : Shard) (info : MDBShardInfo) (old : Source) (is : IsWrittenUnder key s old.bytes info) where
@@ -73,7 +41,7 @@ module _ (key : DataHash) (s : Shard) (info : MDBShardInfo) (old : Source) (is :
       → MatchResult found (FoundInShard s hash) (NotFoundAmong file_records (values s.files) hash old new)
   found_answer hash new (Ok answer) looks =
       let among = answered file_records file_laws no_file (values s.files) _ _ _ old looked hash new answer looks.read in
-      (among.0, map_answers s.files is.files hash answer among.1)
+      (among.0, map_answers file_records no_file s.files is.files.keyed is.files.unchanged hash answer among.1)
   found_answer hash new (Err e) looks = not_answered file_records file_laws no_file (values s.files) _ _ _ old looked hash new e looks.read
 
   pub found_under : (hash : DataHash) (new : Source) (found : Result (Option MDBFileInfo) CoreError) → LooksUpFile info hash old new found → FindsInShard s hash old new found

@@ -20,6 +20,7 @@ pub mod KnownRows
 pub mod Layouts
 pub mod Loading
 pub mod Lookups
+pub mod MapAnswers
 pub mod Maps
 pub mod MinimalLaws
 pub mod MinimalReading
