@@ -157,23 +157,32 @@ fn numbers_are_written_lowest_byte_first(rt: HostRuntime) -> Result<(), Fail> {
     Ok(())
 }
 
+fn read_numbers(reader: &mut &[u8]) -> io::Result<(u8, u32, u64)> {
+    let byte = read_u8(reader)?;
+    let number = read_u32(reader)?;
+    Ok((byte, number, read_u64(reader)?))
+}
+
+fn read_lists(reader: &mut &[u8]) -> io::Result<([u32; 2], [u64; 1], [u8; 2])> {
+    let mut pair = [0u32; 2];
+    read_u32s(reader, &mut pair)?;
+    let mut word = [0u64; 1];
+    read_u64s(reader, &mut word)?;
+    let mut text = [0u8; 2];
+    read_bytes(reader, &mut text)?;
+    Ok((pair, word, text))
+}
+
 #[test]
 fn numbers_are_read_back(rt: HostRuntime) -> Result<(), Fail> {
     let mut bytes = Vec::new(rt.alloc());
     written(&mut bytes)?;
     let mut reader = bytes.as_slice();
-    assert_eq!(rt; read_u8(&mut reader)?, 1);
-    assert_eq!(rt; read_u32(&mut reader)?, 0x0403_0201);
-    assert_eq!(rt; read_u64(&mut reader)?, 0x0807_0605_0403_0201);
-    let mut pair = [0u32; 2];
-    read_u32s(&mut reader, &mut pair)?;
-    assert_eq!(rt; pair, [1, 2]);
-    let mut word = [0u64; 1];
-    read_u64s(&mut reader, &mut word)?;
-    assert_eq!(rt; word, [3]);
-    let mut text = [0u8; 2];
-    read_bytes(&mut reader, &mut text)?;
-    assert_eq!(rt; text, *b"ab");
+    assert_eq!(rt;
+        read_numbers(&mut reader)?,
+        (1, 0x0403_0201, 0x0807_0605_0403_0201)
+    );
+    assert_eq!(rt; read_lists(&mut reader)?, ([1, 2], [3], *b"ab"));
     assert_eq!(rt; read_hash(&mut reader)?[3], 0x0600_0000_0000_0000);
     assert_eq!(rt; reader.len(), 0);
     Ok(())
