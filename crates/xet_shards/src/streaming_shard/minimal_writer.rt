@@ -17,11 +17,11 @@ ghost use Rattle.xet_shards.specs.MinimalWriting.{WritesMarked};
 
 use super::file_start::{FileStart, mark_starts, starts_of};
 use super::minimal_shard::MDBMinimalShard;
-use crate::shard_format::MDBShardFileHeader;
 use crate::shard_format::form::Form;
 use crate::shard_format::view_writer::write_file_view;
 use crate::shard_format::writer::write_end;
 use crate::shard_format::written::{WrittenFiles, WrittenSection, WrittenXorbs};
+use crate::shard_format::{MDBShardFileHeader, MDBShardInfo};
 use std::alloc::Global;
 use std::collections::BTreeSet;
 use std::io;
@@ -203,5 +203,6 @@ fn write_xorbs<W: Write, F: Fn(&MDBXorbInfoView) -> bool>(
 fn size_of(files: &WrittenFiles, xorbs: &WrittenXorbs) -> usize
     ensures { result ≡ 344 + 48 * files.now.table.rows + 48 * xorbs.now.table.rows }
 {
-    344 + ROW_SIZE * files.table.rows as usize + ROW_SIZE * xorbs.table.rows as usize
+    let rows = (files.table.rows + xorbs.table.rows) as usize;
+    MDBShardInfo::non_content_byte_size() as usize + ROW_SIZE * rows
 }
