@@ -1,41 +1,38 @@
 -- The turns of the loops that read and write the sections of an export, and its parts together.
-use Rattle.std.proofs.Common.{◌≡◌, Bool, true, false, inl, inr, Ok, Err, ℕ, ◌+◌, ◌*◌, ◌^◌, ◌≤◌, List, [], ◌∷◌, ◌++◌, length, map, flat_map, drop, Option, refl, sym, ap, ◌∙◌, subst, arith, append-nil}
+use Rattle.std.proofs.Common.{◌≡◌, Bool, true, false, inl, inr, Ok, Err, ℕ, ◌+◌, ◌*◌, ◌^◌, ◌≤◌, List, [], ◌∷◌, ◌++◌, length, map, flat_map, drop, Option, None, Some, refl, sym, ap, ◌∙◌, subst, arith, append-nil}
 use Rattle.std.specs.Prelude.{◌⊎◌, All, MatchResult}
-use Rattle.std.specs.declared.io.Error.{Error}
 use Rattle.std.specs.declared.result.Result.{Result}
 use Rattle.std.specs.Io.KnownBytes.{Appends}
-use Rattle.std.proofs.KnownBytes.{Appends-nil, Appends-trans}
-use Rattle.std.proofs.lemmas.List.{drop-drop, map-append, length-append}
+use Rattle.std.proofs.KnownBytes.{Appends-trans}
+use Rattle.std.proofs.lemmas.List.{drop-drop, length-append}
 use Rattle.std.proofs.lemmas.List.Elements.{All-append, All-cons, All-nil}
-use Rattle.std.proofs.lemmas.List.Sums.{sum_by_push}
+use Rattle.std.proofs.lemmas.List.Sums.{sum_by-append, sum_by-cons, sum_by_push}
+use Rattle.std.proofs.lemmas.List.Concat.{flat_map_single}
 use Rattle.std.proofs.lemmas.Grind.{flat_map-append}
 use Rattle.xet_base.specs.declared.error.CoreError.{CoreError}
-use Rattle.xet_base.specs.declared.merklehash.DataHash.{DataHash}
-use Rattle.xet_base.specs.declared.error.CoreError.TheVariants.{Io, OutOfMemory, InvalidArguments}
-use Rattle.xet_base.specs.Errors.{FromDevice, IsDeviceError}
+use Rattle.xet_base.specs.declared.error.CoreError.TheVariants.{InvalidArguments}
+use Rattle.xet_base.specs.Errors.{IsDeviceError}
 use Rattle.xet_base.specs.Source.{Source, Takes, advanced, bytes_left}
 use Rattle.xet_base.specs.InputLaws.{Takes-trans, failed_after, advanced-advanced}
 use Rattle.xet_base.proofs.Reading.{Takes-consumes}
 use Rattle.xet_records.specs.declared.file_structs.MDBFileInfo.{MDBFileInfo}
 use Rattle.xet_records.specs.declared.xorb_structs.MDBXorbInfo.{MDBXorbInfo}
 use Rattle.xet_records.specs.RecordKind.{RecordKind, KindLaws}
-use Rattle.xet_records.specs.Reading.{ReadsBookend, CountsRecord, HasRead}
-use Rattle.xet_records.specs.ViewReading.{CountsStored}
-use Rattle.xet_records.specs.FileRecord.{file_records, file_record_bytes, FitsRecord}
+use Rattle.xet_records.specs.Reading.{ReadsBookend, CountsRecord, ReadsNextRecord, HasRead}
+use Rattle.xet_records.specs.ViewReading.{CountsStored, ReadsNextView}
+use Rattle.xet_records.specs.FileRecord.{file_records, FitsRecord}
 use Rattle.xet_records.specs.XorbRecord.{xorb_records, xorb_record_bytes, IsStoredXorb}
 use Rattle.xet_shards.specs.declared.shard_format.footer.MDBShardFileFooter.{MDBShardFileFooter}
 use Rattle.xet_shards.specs.declared.shard_format.header.MDBShardFileHeader.{MDBShardFileHeader}
 use Rattle.xet_shards.specs.declared.shard_format.info.MDBShardInfo.{MDBShardInfo}
-use Rattle.xet_shards.specs.declared.shard_format.written.WrittenFiles.{WrittenFiles}
-use Rattle.xet_shards.specs.declared.shard_format.written.WrittenXorbs.{WrittenXorbs}
 use Rattle.xet_shards.specs.Section.{total_rows, section_bytes}
 use Rattle.xet_shards.specs.Tables.{chunk_table, table_bytes, chunk_table_bytes}
 use Rattle.xet_shards.specs.Layout.{Form, if_in, shard_header_bytes, header_value, shard_footer_bytes, footer_value, layout_of, info_of}
-use Rattle.xet_shards.specs.Written.{HasWritten, HasWrittenXorbs, end_of_layout}
+use Rattle.xet_shards.specs.Written.{end_of_layout}
 use Rattle.xet_shards.specs.InForm.{FitsSection}
 use Rattle.xet_shards.specs.Ends.{HasHeader, HasUnsupportedHeader, EndsInHeader, FitsFooter, FormatCase, PartFails}
 use Rattle.xet_shards.specs.SectionReading.{IsSection, TakesNoSection, RecordFails}
-use Rattle.xet_shards.specs.KeyedExport.{Exports, ExportFails, ExportCase, CannotExport, ExpiresTooLate, BadSection, PassesSection, WritingFails, HasExported, exported, xorbs_after, keyed_xorb, keyed_xorbs}
+use Rattle.xet_shards.specs.KeyedExport.{Exports, ExportFails, ExportCase, CannotExport, ExpiresTooLate, BadSection, PassesSection, ExportsSection, WritingFails, HasExported, exported, exported_file, exported_xorb, xorbs_after, keyed_xorb, keyed_xorbs}
 use Rattle.xet_shards.specs.KeyedExport.ExportCase.{bad_header, bad_files, bad_xorbs, not_written}
 use Rattle.xet_shards.proofs.EndsUnique.{only_info, ends_of_layout}
 use Rattle.xet_shards.proofs.Files.{length-le-rows}
@@ -47,25 +44,15 @@ use Rattle.xet_shards.proofs.Walks.{flat_map-push}
 use Rattle.xet_shards.proofs.Written.{whole_layout}
 use Rattle.xet_shards.proofs.XorbLayouts.{length-in_form, xorb_rows-chunks, length-chunk_table}
 
--- the records of these files were written one after another, and added to their table; and the same of xorbs
-pub record FilesWritten (before after : Option (List ℕ)) (w : WrittenFiles) (files : List MDBFileInfo) : Type 0 where
-  pub added : HasWritten w files
-  pub bytes : Appends before after (flat_map file_record_bytes files)
-
-pub record XorbsWritten (before after : Option (List ℕ)) (w : WrittenXorbs) (xorbs : List MDBXorbInfo) : Type 0 where
-  pub added : HasWrittenXorbs w xorbs
-  pub bytes : Appends before after (flat_map xorb_record_bytes xorbs)
+-- records were written one after another, and collected
+pub record SectionWritten {H R : Type 0} (K : RecordKind H R) (Collected : List R → Type 0) (before after : Option (List ℕ)) (written : List R) : Type 0 where
+  pub collected : Collected written
+  pub bytes : Appends before after (flat_map K.record_bytes written)
 
 -- a failure among others
 pub or_fails : {T E : Type 0} (r : Result T E) (P : T → Type 0) (Q Other : E → Type 0) → MatchResult r P Q → MatchResult r P (λ e. Other e ⊎ Q e)
 or_fails (Ok v) P Q Other holds = holds
 or_fails (Err e) P Q Other holds = inr holds
-
--- what a device's error becomes is one
-pub device_error : (failure : Error) (e : CoreError) → FromDevice failure e → IsDeviceError e
-device_error failure OutOfMemory from = tt
-device_error failure (Io f) from = tt
-device_error failure _ from = absurd from
 
 pub refused_too : {T : Type 0} (r : Result T CoreError) (P : T → Type 0) (Fails : CoreError → Type 0) (info : MDBShardInfo) (now valid : ℕ)
     → MatchResult r P (λ e. ((e ≡ InvalidArguments) × ExpiresTooLate now valid) ⊎ Fails e)
@@ -74,59 +61,67 @@ refused_too (Ok v) P Fails info now valid holds = holds
 refused_too (Err e) P Fails info now valid (inl (is, late)) = inl (is, inr late)
 refused_too (Err e) P Fails info now valid (inr fails) = inr fails
 
--- what is in of two lists, one after another
-if_in-append : {X : Type 0} (b : Bool) (xs ys : List X) → if_in b (xs ++ ys) ≡ if_in b xs ++ if_in b ys
-if_in-append true xs ys = refl
-if_in-append false xs ys = refl
-
-pub if_in-nil : {X : Type 0} (b : Bool) → if_in {X = X} b [] ≡ []
-if_in-nil true = refl
-if_in-nil false = refl
-
 if_in-size : {X : Type 0} (b : Bool) (xs : List X) → length (if_in b xs) ≤ length xs
 if_in-size true xs = omega arith
 if_in-size false xs = omega arith
-
-pub if_in-rows : (b : Bool) (files : List MDBFileInfo) → total_rows file_records (if_in b files) ≤ total_rows file_records files
-if_in-rows true files = omega arith
-if_in-rows false files = omega arith
 
 if_in-section : (b : Bool) (files : List MDBFileInfo) → FitsSection file_records files → FitsSection file_records (if_in b files)
 if_in-section true files fits = fits
 if_in-section false files fits = record { stored = All-nil file_records.IsStored; rows = omega arith }
 
--- before the first record, and one record more
-pub no_files : (start : Option (List ℕ)) (w : WrittenFiles) (b : Bool) → HasWritten w [] → FilesWritten start start w (if_in b [])
-no_files start w b none = subst (FilesWritten start start w) (sym (if_in-nil b)) (record { added = none; bytes = Appends-nil start })
+-- what an export writes of files is all of them or none, and of xorbs all, under the key
+pub files_exported : (form : Form) (files : List MDBFileInfo) → flat_map (exported_file form) files ≡ if_in form.file_table files
+files_exported form files = by_table form.file_table files
+  where
+    by_table : (b : Bool) (rs : List MDBFileInfo) → flat_map (λ r. if_in b (r ∷ [])) rs ≡ if_in b rs
+    by_table true [] = refl
+    by_table true (r ∷ rs) = ap (λ xs. r ∷ xs) (by_table true rs)
+    by_table false [] = refl
+    by_table false (r ∷ rs) = by_table false rs
 
-pub more_files : (start now new : Option (List ℕ)) (v w : WrittenFiles) (b : Bool) (files : List MDBFileInfo) (r : MDBFileInfo) → FilesWritten start now v (if_in b files)
-    → ((before : List MDBFileInfo) → HasWritten v before → HasWritten w (before ++ if_in b (r ∷ []))) → Appends now new (flat_map file_record_bytes (if_in b (r ∷ [])))
-    → FilesWritten start new w (if_in b (files ++ r ∷ []))
-more_files start now new v w b files r before adds appends = subst (FilesWritten start new w) (sym (if_in-append b files (r ∷ []))) (record {
-  added = adds (if_in b files) before.added;
-  bytes = subst (Appends start new) (sym (flat_map-append file_record_bytes (if_in b files) (if_in b (r ∷ [])))) (Appends-trans start now new _ _ before.bytes appends);
-})
-
-pub no_xorbs : (start : Option (List ℕ)) (w : WrittenXorbs) → HasWrittenXorbs w [] → XorbsWritten start start w []
-no_xorbs start w none = record { added = none; bytes = Appends-nil start }
-
-pub more_xorbs : (start now new : Option (List ℕ)) (v w : WrittenXorbs) (key : DataHash) (xorbs : List MDBXorbInfo) (r x : MDBXorbInfo) → x ≡ keyed_xorb key r → XorbsWritten start now v (keyed_xorbs key xorbs)
-    → ((before : List MDBXorbInfo) → HasWrittenXorbs v before → HasWrittenXorbs w (before ++ x ∷ [])) → Appends now new (xorb_record_bytes x)
-    → XorbsWritten start new w (keyed_xorbs key (xorbs ++ r ∷ []))
-more_xorbs start now new v w key xorbs r x is before adds appends =
-    let front = keyed_xorbs key xorbs in
-    subst (XorbsWritten start new w) (ap (λ y. front ++ y ∷ []) is ∙ sym (map-append (keyed_xorb key) xorbs (r ∷ []))) (record {
-      added = adds front before.added;
-      bytes = subst (Appends start new) (sym (flat_map-push xorb_record_bytes front x)) (Appends-trans start now new _ _ before.bytes appends);
-    })
+pub xorbs_exported : (form : Form) (xorbs : List MDBXorbInfo) → flat_map (exported_xorb form) xorbs ≡ keyed_xorbs form.key xorbs
+xorbs_exported form xorbs = flat_map_single (keyed_xorb form.key) xorbs
 
 -- a xorb that was read is as it is stored
-pub xorb_as_stored : (Took : List ℕ → Type 0) (left after : ℕ) (r : MDBXorbInfo) → CountsRecord xorb_records Took left after r → CountsStored xorb_records Took left after r
+xorb_as_stored : (Took : List ℕ → Type 0) (left after : ℕ) (r : MDBXorbInfo) → CountsRecord xorb_records Took left after r → CountsStored xorb_records Took left after r
 xorb_as_stored Took left after r next = record {
   is_stored = subst IsStoredXorb next.reads.handed next.reads.is_stored;
   taken = subst (λ (x : MDBXorbInfo). Took (xorb_record_bytes x)) next.reads.handed next.reads.taken;
   rows = next.rows;
 }
+
+-- another way to say what a result is
+pub result_as : {T E : Type 0} (r : Result T E) (P Q : T → Type 0) (F G : E → Type 0) → ((v : T) → P v → Q v) → ((e : E) → F e → G e) → MatchResult r P F → MatchResult r Q G
+result_as (Ok v) P Q F G ok err holds = ok v holds
+result_as (Err e) P Q F G ok err holds = err e holds
+
+pub next_xorb : (Took : List ℕ → Type 0) (left after : ℕ) (next : Option MDBXorbInfo) → ReadsNextRecord xorb_records Took left after next
+    → ReadsNextView xorb_records (λ (r : MDBXorbInfo). r) Took left after next
+next_xorb Took left after None read = read
+next_xorb Took left after (Some r) read = xorb_as_stored Took left after r read
+
+-- what was written of the records that were read: no more rows than these have, and one record more
+module _ {H R : Type 0} (K : RecordKind H R) (exports : R → List R) where
+  pub fewer_rows : ((r : R) → total_rows K (exports r) ≤ K.row_count r) → (stored : List R) → total_rows K (flat_map exports stored) ≤ total_rows K stored
+  fewer_rows few [] = omega arith
+  fewer_rows few (r ∷ rs) = omega (arith, sum_by-append K.row_count (exports r) (flat_map exports rs), sum_by-cons K.row_count r rs, few r, fewer_rows few rs)
+
+  pub more_written : (Old New : List R → Type 0) (start now new : Option (List ℕ)) (stored : List R) (r : R) → SectionWritten K Old start now (flat_map exports stored)
+      → ((before : List R) → Old before → New (before ++ exports r)) → Appends now new (flat_map K.record_bytes (exports r))
+      → SectionWritten K New start new (flat_map exports (stored ++ r ∷ []))
+  more_written Old New start now new stored r before adds appends =
+      let front = flat_map exports stored in
+      subst (SectionWritten K New start new) (sym (flat_map-push exports stored r)) (record {
+        collected = adds front before.collected;
+        bytes = subst (Appends start new) (sym (flat_map-append K.record_bytes front (exports r))) (Appends-trans start now new _ _ before.bytes appends);
+      })
+
+-- a section that was exported, where what becomes of its records has another name
+pub section_exported : {H R : Type 0} (K : RecordKind H R) (exports : R → List R) (out : List R → List R) → ((rs : List R) → flat_map exports rs ≡ out rs)
+    → (Collected : List R → Type 0) (old new : Source) (before after : Option (List ℕ)) → ExportsSection K exports Collected old new before after
+    → (stored : List R) × PassesSection K old new stored × Collected (out stored) × Appends before after (section_bytes K (out stored))
+section_exported K exports out same Collected old new before after e =
+    (e.stored, e.passed, subst Collected (same e.stored) e.collected, subst (λ rs. Appends before after (section_bytes K rs)) (same e.stored) e.written)
 
 module _ {H R : Type 0} (K : RecordKind H R) (laws : KindLaws K) where
   pub none_exported : (Took : List ℕ → Type 0) (Made : List R → Type 0) → Took [] → Made [] → HasExported K Took Made 4294967295

@@ -57,3 +57,16 @@ module _ {X : Type 0} where
 
   pub flat_map-push : {Y : Type 0} (f : X → List Y) (xs : List X) (x : X) → flat_map f (xs ++ x ∷ []) ≡ flat_map f xs ++ f x
   flat_map-push f xs x = flat_map-append f xs (x ∷ []) ∙ ap (λ ys. flat_map f xs ++ ys) (append-nil (f x))
+
+-- the same of what each value stands for
+module _ {X Y : Type 0} (f : X → Y) where
+  pub mapped_turn : (all : List X) (before : List (Bor X)) (s t : List X) (r : Option (Bor X)) (x : Bor X)
+      → map deref before ++ s ≡ all → r ≡ Some x → TakesFirst deref s r t → map f (map deref before) ++ f x.now ∷ map f t ≡ map f all
+  mapped_turn all before s t r x whole is step = sym (map-append f (map deref before) (x.now ∷ t)) ∙ ap (map f) (value_turn all before s t r x whole is step)
+
+  pub mapped_end : (all : List X) (before : List (Bor X)) (s t : List X) (r : Option (Bor X))
+      → map deref before ++ s ≡ all → r ≡ None → TakesFirst deref s r t → map f (map deref before) ≡ map f all
+  mapped_end all before s t r whole is step = ap (map f) (value_end all before s t r whole is step)
+
+  pub mapped_push : (before : List (Bor X)) (x : Bor X) → map f (map deref (before ++ x ∷ [])) ≡ map f (map deref before) ++ f x.now ∷ []
+  mapped_push before x = ap (map f) (values_push before x) ∙ map-append f (map deref before) (x.now ∷ [])

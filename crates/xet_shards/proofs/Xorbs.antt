@@ -1,11 +1,10 @@
 -- Loops over `Rc`s of xorbs, and sums over xorbs.
-use Rattle.std.proofs.Common.{◌≡◌, ℕ, ◌+◌, ◌*◌, ◌^◌, ◌<◌, ◌≤◌, List, [], ◌∷◌, ◌++◌, map, Option, Some, None, refl, sym, ap, ◌∙◌, arith}
+use Rattle.std.proofs.Common.{◌≡◌, ℕ, ◌+◌, ◌*◌, ◌^◌, ◌<◌, ◌≤◌, List, [], ◌∷◌, ◌++◌, map, Option, Some, None, refl, ap, ◌∙◌, arith}
 use Rattle.std.specs.Prelude.{All, sum_by}
 use Rattle.std.specs.Borrow.{Bor}
 use Rattle.std.specs.Map.{values_of}
 use Rattle.std.specs.Map.Iter.{TakesFirst, deref}
 use Rattle.std.specs.declared.rc.Rc.{Rc}
-use Rattle.std.proofs.lemmas.List.{map-append}
 use Rattle.std.proofs.lemmas.List.Elements.{All-drop, All-map}
 use Rattle.std.proofs.lemmas.List.Sums.{sum_by-cons}
 use Rattle.xet_base.specs.declared.merklehash.DataHash.{DataHash}
@@ -14,7 +13,7 @@ use Rattle.xet_records.specs.XorbRecord.{xorb_records, xorb_row_count, IsXorb}
 use Rattle.xet_shards.specs.Section.{total_rows}
 use Rattle.xet_shards.specs.Shard.{AreXorbs}
 use Rattle.xet_shards.specs.XorbStore.{shown_xorbs}
-use Rattle.xet_shards.proofs.Walks.{value_turn, value_end, values_push, sum-middle}
+use Rattle.xet_shards.proofs.Walks.{mapped_turn, mapped_end, mapped_push, sum-middle}
 
 module _ {Z : Type 0} where
   abbrev pub owned : List (Rc MDBXorbInfo Z) → List MDBXorbInfo
@@ -24,22 +23,22 @@ module _ {Z : Type 0} where
   abbrev pub seen : List (Bor (Rc MDBXorbInfo Z)) → List MDBXorbInfo
   seen before = owned (map deref before)
 
-  owned-values : (es : List (DataHash × Rc MDBXorbInfo Z)) → owned (values_of es) ≡ values_of (shown_xorbs es)
+  pub owned-values : (es : List (DataHash × Rc MDBXorbInfo Z)) → owned (values_of es) ≡ values_of (shown_xorbs es)
   owned-values [] = refl
   owned-values (e ∷ es) = ap (λ rs. e.1.value ∷ rs) (owned-values es)
 
   pub seen_turn : (es : List (DataHash × Rc MDBXorbInfo Z)) (before : List (Bor (Rc MDBXorbInfo Z))) (s t : List (Rc MDBXorbInfo Z)) (r : Option (Bor (Rc MDBXorbInfo Z))) (x : Bor (Rc MDBXorbInfo Z))
       → map deref before ++ s ≡ values_of es → r ≡ Some x → TakesFirst deref s r t → seen before ++ x.now.value ∷ owned t ≡ values_of (shown_xorbs es)
   seen_turn es before s t r x whole is step =
-      sym (map-append (λ (o : Rc MDBXorbInfo Z). o.value) (map deref before) (x.now ∷ t)) ∙ ap owned (value_turn _ before s t r x whole is step) ∙ owned-values es
+      mapped_turn (λ (o : Rc MDBXorbInfo Z). o.value) _ before s t r x whole is step ∙ owned-values es
 
   pub seen_end : (es : List (DataHash × Rc MDBXorbInfo Z)) (before : List (Bor (Rc MDBXorbInfo Z))) (s t : List (Rc MDBXorbInfo Z)) (r : Option (Bor (Rc MDBXorbInfo Z)))
       → map deref before ++ s ≡ values_of es → r ≡ None → TakesFirst deref s r t → seen before ≡ values_of (shown_xorbs es)
-  seen_end es before s t r whole is step = ap owned (value_end _ before s t r whole is step) ∙ owned-values es
+  seen_end es before s t r whole is step = mapped_end (λ (o : Rc MDBXorbInfo Z). o.value) _ before s t r whole is step ∙ owned-values es
 
   -- these, with the xorb of this iteration
   pub seen_push : (before : List (Bor (Rc MDBXorbInfo Z))) (x : Bor (Rc MDBXorbInfo Z)) → seen (before ++ x ∷ []) ≡ seen before ++ x.now.value ∷ []
-  seen_push before x = ap owned (values_push before x) ∙ map-append (λ (o : Rc MDBXorbInfo Z). o.value) (map deref before) (x.now ∷ [])
+  seen_push before x = mapped_push (λ (o : Rc MDBXorbInfo Z). o.value) before x
 
 -- what holds of a shard's xorbs holds of their list
 pub xorb_values : (es : List (DataHash × MDBXorbInfo)) → AreXorbs es → All IsXorb (values_of es)

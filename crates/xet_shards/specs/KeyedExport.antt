@@ -1,6 +1,6 @@
 -- Keyed exports: a shard is written again, with its chunk hashes under a key, and without its files if they are not asked
 -- for.
-use Rattle.std.specs.Prelude.{◌≡◌, ◌≢◌, ◌⊎◌, ℕ, ◌+◌, ◌*◌, ◌^◌, ◌≤◌, Bool, List, length, map, flat_map, drop, sum_by, All, Option}
+use Rattle.std.specs.Prelude.{◌≡◌, ◌≢◌, ◌⊎◌, ℕ, ◌+◌, ◌*◌, ◌^◌, ◌≤◌, Bool, List, [], ◌∷◌, length, map, flat_map, drop, sum_by, All, Option}
 use Rattle.std.specs.Io.KnownBytes.{Appends}
 use Rattle.xet_base.specs.declared.error.CoreError.{CoreError}
 use Rattle.xet_base.specs.declared.merklehash.DataHash.{DataHash}
@@ -14,7 +14,7 @@ use Rattle.xet_records.specs.RecordKind.{RecordKind}
 use Rattle.xet_records.specs.FileRecord.{file_records}
 use Rattle.xet_records.specs.XorbRecord.{xorb_records}
 use Rattle.xet_shards.specs.declared.shard_format.info.MDBShardInfo.{MDBShardInfo}
-use Rattle.xet_shards.specs.Section.{total_rows}
+use Rattle.xet_shards.specs.Section.{total_rows, section_bytes}
 use Rattle.xet_shards.specs.SectionReading.{IsSection, PassesRows, IsCutSection, SectionCase}
 use Rattle.xet_shards.specs.Ends.{HasHeader, HasEnds, HasUnsupportedHeader, EndsInHeader, FormatCase}
 use Rattle.xet_shards.specs.Layout.{Form, if_in, layout_of}
@@ -29,6 +29,13 @@ keyed_xorb key r = record r { chunks = map (keyed_chunk key) r.chunks }
 
 abbrev pub keyed_xorbs : DataHash → List MDBXorbInfo → List MDBXorbInfo
 keyed_xorbs key xorbs = map (keyed_xorb key) xorbs
+
+-- what an export in a form writes for a file, as it is stored or not at all, and for a xorb
+abbrev pub exported_file : Form → MDBFileInfo → List MDBFileInfo
+exported_file form r = if_in form.file_table (r ∷ [])
+
+abbrev pub exported_xorb : Form → MDBXorbInfo → List MDBXorbInfo
+exported_xorb form r = keyed_xorb form.key r ∷ []
 
 -- the form of an export: the tables asked for, the key, now, and the expiry so many seconds later; the file table is in if
 -- the files are
@@ -95,6 +102,14 @@ CannotExport info now valid = (info.metadata.chunk_hash_hmac_key ≢ no_key) ⊎
 pub record PassesSection {H R : Type 0} (K : RecordKind H R) (old new : Source) (stored : List R) : Type 0 where
   pub section : IsSection K (bytes_left old) stored
   pub after : new ≡ advanced old (48 * (sum_by K.row_count stored + 1))
+
+-- such a section was read, and a section was written of what each record becomes, and collected
+pub record ExportsSection {H R : Type 0} (K : RecordKind H R) (exports : R → List R) (Collected : List R → Type 0) (old new : Source) (before after : Option (List ℕ))
+    : Type 0 where
+  pub stored : List R
+  pub passed : PassesSection K old new stored
+  pub collected : Collected (flat_map exports stored)
+  pub written : Appends before after (section_bytes K (flat_map exports stored))
 
 -- the writer failed or an allocation did, after reads that did not fail
 pub record WritingFails (old new : Source) (e : CoreError) : Type 0 where

@@ -1,6 +1,7 @@
 pub mod ChunkLookup
 pub mod ChunkQuery
 pub mod Ends
+pub mod ExportLaws
 pub mod FileRanges
 pub mod FileStore
 pub mod InForm

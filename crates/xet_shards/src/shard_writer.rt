@@ -3,5 +3,5 @@
 
 pub use crate::shard_format::form::Form;
 pub use crate::shard_format::writer::{write_end, write_layout};
-pub use crate::shard_format::written::{RecordTable, WrittenFiles, WrittenXorbs};
+pub use crate::shard_format::written::{RecordTable, WrittenFiles, WrittenSection, WrittenXorbs};
 pub use crate::shard_format::xorb_writer::ChunkTableRow;

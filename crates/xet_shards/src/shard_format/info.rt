@@ -19,7 +19,8 @@ use super::footer::{FOOTER_SIZE, MDBShardFileFooter, check_version};
 use super::form::Form;
 use super::header::{MDBShardFileHeader, check_tag};
 use super::section_reader::{read_section_at, read_xorb_headers};
-use super::writer::{write_end, write_file_section, write_xorb_section};
+use super::writer::{write_end, write_values};
+use super::written::{WrittenFiles, WrittenXorbs};
 use crate::shard_in_memory::MDBInMemoryShard;
 use std::alloc::Global;
 use std::io;
@@ -72,8 +73,8 @@ impl MDBShardInfo {
     {
         let header = MDBShardFileHeader::default();
         header.serialize(writer)?;
-        let files = write_file_section(alloc, writer, shard.file_content())?;
-        let xorbs = write_xorb_section(alloc, writer, shard.xorb_content())?;
+        let files: WrittenFiles = write_values(alloc, writer, shard.file_content())?;
+        let xorbs: WrittenXorbs = write_values(alloc, writer, shard.xorb_content())?;
         let metadata = write_end(writer, &files, &xorbs, &Form::plain(expiry))?;
         Ok(MDBShardInfo { header, metadata })
     }

@@ -1,18 +1,18 @@
 //! Keyed exports: a shard is written again, record by record as it is read, with its chunk hashes under a key.
 
-ghost use Rattle.std.specs.Prelude.{◌≡◌, ◌⊎◌, ◌+◌, ◌*◌, ◌^◌, ◌≤◌, ◌++◌, [], ◌∷◌, List, flat_map, MatchResult, OnOk, IfErr, IsErrAnd};
+ghost use Rattle.std.specs.Prelude.{◌≡◌, ◌⊎◌, ◌+◌, ◌*◌, ◌^◌, ◌≤◌, ◌++◌, List, flat_map, MatchResult, OnOk, IfErr, IsErrAnd};
 ghost use Rattle.std.specs.Io.KnownBytes.{Appends};
 ghost use Rattle.xet_base.specs.Errors.{IsDeviceError};
 ghost use Rattle.xet_base.specs.KeyedHash.{no_key, under_key};
-ghost use Rattle.xet_records.specs.declared.file_structs.MDBFileInfo.{MDBFileInfo as File};
-ghost use Rattle.xet_records.specs.declared.xorb_structs.MDBXorbInfo.{MDBXorbInfo as Xorb};
-ghost use Rattle.xet_records.specs.FileRecord.{file_records, file_record_bytes, row_count};
-ghost use Rattle.xet_records.specs.XorbRecord.{xorb_records};
-ghost use Rattle.xet_shards.specs.Layout.{if_in};
-ghost use Rattle.xet_shards.specs.Section.{section_bytes};
-ghost use Rattle.xet_shards.specs.SectionReading.{TakesNoSection};
-ghost use Rattle.xet_shards.specs.Written.{HasWritten, HasWrittenXorbs};
-ghost use Rattle.xet_shards.specs.KeyedExport.{Exports, ExportFails, CannotExport, ExpiresTooLate, PassesSection, WritingFails, export_form, keyed_xorb, keyed_xorbs};
+ghost use Rattle.xet_base.specs.Source.{Takes};
+ghost use Rattle.xet_records.specs.RecordKind.{KindLaws};
+ghost use Rattle.xet_records.specs.ViewReading.{ReadsNextView};
+ghost use Rattle.xet_records.proofs.RecordKinds.{file_laws, xorb_laws};
+ghost use Rattle.xet_shards.specs.declared.shard_format.form.Form.{Form};
+ghost use Rattle.xet_shards.specs.Section.{section_bytes, total_rows};
+ghost use Rattle.xet_shards.specs.SectionReading.{TakesNoSection, RecordFails};
+ghost use Rattle.xet_shards.specs.KeyedExport.{Exports, ExportFails, ExportsSection, CannotExport, ExpiresTooLate, WritingFails, export_form, exported_file, exported_xorb, keyed_xorb};
+ghost use Rattle.xet_shards.specs.ExportLaws.{file_rows, xorb_rows};
 
 use super::footer::FOOTER_SIZE;
 use super::form::Form;
@@ -20,18 +20,18 @@ use super::header::MDBShardFileHeader;
 use super::info::{MDBShardInfo, read_header};
 use super::view_writer::write_file_view;
 use super::writer::write_end;
-use super::written::{WrittenFiles, WrittenXorbs};
+use super::written::{WrittenFiles, WrittenSection, WrittenXorbs};
 use std::alloc::Global;
 use std::io::Write;
 use xet_base::error::{CoreError, Result};
 use xet_base::input::OfSource;
 use xet_base::merklehash::{HMACKey, MerkleHash};
 use xet_base::source::ShardSource;
-use xet_records::file_structs::{FileDataSequenceHeader, MDBFileInfo, MDBFileInfoView};
+use xet_records::file_structs::{MDBFileInfo, MDBFileInfoView};
 use xet_records::record_reader::read_record;
 use xet_records::rows::Rows;
 use xet_records::view_reader::read_view;
-use xet_records::xorb_structs::{MDBXorbInfo, XorbChunkSequenceHeader};
+use xet_records::xorb_structs::MDBXorbInfo;
 
 impl MDBShardInfo {
     /// Writes the shard from the source's position on with each chunk hash replaced by its keyed hash, or kept if
@@ -129,85 +129,129 @@ fn export<S: ShardSource, W: Write>(
 {
     read_header(alloc, source)?;
     MDBShardFileHeader::default().serialize(writer)?;
-    let files = export_files(alloc, source, writer, form.file_table)?;
-    let xorbs = export_xorbs(alloc, source, writer, form.key)?;
+    let files = export_section::<MDBFileInfoView, S, W>(alloc, source, writer, form)?;
+    let xorbs = export_section::<MDBXorbInfo, S, W>(alloc, source, writer, form)?;
     let footer = write_end(writer, &files, &xorbs, form)?;
     let size = footer.footer_offset + FOOTER_SIZE;
     Ok(size as usize)
 }
 
-// Reads the file section, and writes it as it is stored if files are wanted, else an empty one.
+// A record as an export reads it from a source, and writes it in a form.
+trait ExportedRecord {
+    type Section: WrittenSection + Drop;
+
+    // the stored record that was read
+    ghost stored: { Self → Self.Section.Record };
+
+    // what is written for it in a form: a record, or none
+    ghost exports: { Form → Self.Section.Record → List Self.Section.Record };
+
+    // Reads the next record, or `None` at the bookend, and counts its rows down from those left.
+    fn read<S: ShardSource>(alloc: Global, source: &mut S, left: &mut u64) -> Result<Option<Self>>
+        requires { left.old ≤ 4294967296 }
+        ensures { MatchResult result
+            (ReadsNextView Self.Section.Record.kind stored (Takes (S.meaning source.old) (S.meaning source.new)) left.old left.new)
+            (RecordFails Self.Section.Record.kind left.old (S.meaning source.old) (S.meaning source.new)) };
+
+    // Adds and writes what the form has of the record.
+    fn export<W: Write>(
+        self,
+        writer: &mut W,
+        written: &mut Self::Section,
+        form: &Form,
+    ) -> Result<()>
+        requires stored { Self.Section.Record.kind.IsStored (stored self) }
+        requires rows { Self.Section.rows written.old + Self.Section.Record.kind.row_count (stored self) ≤ 4294967295 }
+        ensures appended { OnOk result
+            (Appends (W.contents writer.old) (W.contents writer.new)
+            (flat_map Self.Section.Record.kind.record_bytes (exports form.now (stored self)))) }
+        ensures written { OnOk result
+            ((before : List Self.Section.Record) → Self.Section.has_written written.old before
+            → Self.Section.has_written written.new (before ++ exports form.now (stored self))) }
+        ensures causes { IfErr result IsDeviceError };
+
+    ghost laws: { KindLaws Self.Section.Record.kind };
+
+    ghost no_more_rows: { (form : Form) (r : Self.Section.Record)
+        → total_rows Self.Section.Record.kind (exports form r) ≤ Self.Section.Record.kind.row_count r };
+}
+
+// A file is written as it is stored, if the form has files.
+impl ExportedRecord for MDBFileInfoView {
+    type Section = WrittenFiles;
+
+    ghost stored = { λ view. view };
+
+    ghost exports = { exported_file };
+
+    ghost laws = { file_laws };
+
+    ghost no_more_rows = { file_rows };
+
+    fn read<S: ShardSource>(alloc: Global, source: &mut S, left: &mut u64) -> Result<Option<Self>> {
+        read_view::<MDBFileInfo, MDBFileInfoView, OfSource, S>(alloc, source, left)
+    }
+
+    fn export<W: Write>(
+        self,
+        writer: &mut W,
+        written: &mut WrittenFiles,
+        form: &Form,
+    ) -> Result<()> {
+        if !form.file_table {
+            return Ok(());
+        }
+        write_file_view(writer, written, &self, true)
+    }
+}
+
+// A xorb is written with its chunk hashes under the form's key.
+impl ExportedRecord for MDBXorbInfo {
+    type Section = WrittenXorbs;
+
+    ghost stored = { λ xorb. xorb };
+
+    ghost exports = { exported_xorb };
+
+    ghost laws = { xorb_laws };
+
+    ghost no_more_rows = { xorb_rows };
+
+    fn read<S: ShardSource>(alloc: Global, source: &mut S, left: &mut u64) -> Result<Option<Self>> {
+        read_record::<MDBXorbInfo, OfSource, S>(alloc, source, left)
+    }
+
+    fn export<W: Write>(
+        self,
+        writer: &mut W,
+        written: &mut WrittenXorbs,
+        form: &Form,
+    ) -> Result<()> {
+        let xorb = with_keyed_hashes(self, form.key);
+        written.write(writer, &xorb)
+    }
+}
+
+// Reads a section, and writes what the form has of each record as it is read.
 #[tactic(auto, unfolding(crate::specs::Section::section_bytes))]
-fn export_files<S: ShardSource, W: Write>(
+fn export_section<E: ExportedRecord + Drop, S: ShardSource, W: Write>(
     alloc: Global,
     source: &mut S,
     writer: &mut W,
-    wanted: bool,
-) -> Result<WrittenFiles>
+    form: &Form,
+) -> Result<E::Section>
     ensures { MatchResult result
-        (λ written. (files : List File) × PassesSection file_records (S.meaning source.old) (S.meaning source.new) files
-        × HasWritten written (if_in wanted files)
-        × Appends (W.contents writer.old) (W.contents writer.new) (section_bytes file_records (if_in wanted files)))
-        (λ e. TakesNoSection file_records (S.meaning source.old) (S.meaning source.new) e
+        (λ written. ExportsSection E.Section.Record.kind (E.exports form.now) (E.Section.has_written written) (S.meaning source.old) (S.meaning source.new)
+        (W.contents writer.old) (W.contents writer.new))
+        (λ e. TakesNoSection E.Section.Record.kind (S.meaning source.old) (S.meaning source.new) e
         ⊎ WritingFails (S.meaning source.old) (S.meaning source.new) e) }
 {
-    let mut written = WrittenFiles::new(alloc);
+    let mut written = E::Section::new(alloc);
     let mut rows_left = u64::from(u32::MAX);
-    while let Some(view) = read_view::<MDBFileInfo, MDBFileInfoView, OfSource, S>(
-        alloc,
-        source,
-        &mut rows_left,
-    )? {
-        export_file(writer, &mut written, &view, wanted)?;
+    while let Some(next) = E::read(alloc, source, &mut rows_left)? {
+        next.export(writer, &mut written, form)?;
     }
-    FileDataSequenceHeader::bookend().serialize(writer)?;
-    Ok(written)
-}
-
-// Adds and writes the next file, if files are wanted.
-fn export_file<W: Write>(
-    writer: &mut W,
-    written: &mut WrittenFiles,
-    view: &MDBFileInfoView,
-    wanted: bool,
-) -> Result<()>
-    requires rows { written.old.table.rows + row_count view.now ≤ 4294967295 }
-    ensures appended { OnOk result
-        (Appends (W.contents writer.old) (W.contents writer.new)
-        (flat_map file_record_bytes (if_in wanted (view.now ∷ [])))) }
-    ensures written { OnOk result
-        ((before : List File) → HasWritten written.old before
-        → HasWritten written.new (before ++ if_in wanted (view.now ∷ []))) }
-    ensures causes { IfErr result IsDeviceError }
-{
-    if !wanted {
-        return Ok(());
-    }
-    write_file_view(writer, written, view, true)
-}
-
-// Reads the xorb section, and writes it with its chunk hashes under a key.
-#[tactic(auto, unfolding(crate::specs::Section::section_bytes))]
-fn export_xorbs<S: ShardSource, W: Write>(
-    alloc: Global,
-    source: &mut S,
-    writer: &mut W,
-    key: HMACKey,
-) -> Result<WrittenXorbs>
-    ensures { MatchResult result
-        (λ written. (xorbs : List Xorb) × PassesSection xorb_records (S.meaning source.old) (S.meaning source.new) xorbs
-        × HasWrittenXorbs written (keyed_xorbs key xorbs)
-        × Appends (W.contents writer.old) (W.contents writer.new) (section_bytes xorb_records (keyed_xorbs key xorbs)))
-        (λ e. TakesNoSection xorb_records (S.meaning source.old) (S.meaning source.new) e
-        ⊎ WritingFails (S.meaning source.old) (S.meaning source.new) e) }
-{
-    let mut written = WrittenXorbs::new(alloc);
-    let mut rows_left = u64::from(u32::MAX);
-    while let Some(xorb) = read_record::<MDBXorbInfo, OfSource, S>(alloc, source, &mut rows_left)? {
-        let xorb = with_keyed_hashes(xorb, key);
-        written.write(writer, &xorb)?;
-    }
-    XorbChunkSequenceHeader::bookend().serialize(writer)?;
+    E::Section::write_bookend(writer)?;
     Ok(written)
 }
 

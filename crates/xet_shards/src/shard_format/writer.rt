@@ -1,19 +1,17 @@
 //! Writing a shard in any form: sections, lookup tables and footer.
 
-ghost use Rattle.std.specs.Prelude.{◌≡◌, ◌≤◌, None, List, All, OnOk, IfOk, IfErr, flat_map, if◌then◌else◌};
+ghost use Rattle.std.specs.Prelude.{◌≡◌, ◌≤◌, None, List, All, OnOk, IfOk, IfErr, map, flat_map, if◌then◌else◌};
 ghost use Rattle.std.specs.Io.KnownBytes.{Appends};
 ghost use Rattle.std.specs.BTreeMap.{values};
-ghost use Rattle.std.specs.Map.{values_of};
 ghost use Rattle.xet_base.specs.Errors.{IsDeviceError};
 ghost use Rattle.xet_records.specs.declared.file_structs.MDBFileInfo.{MDBFileInfo};
 ghost use Rattle.xet_records.specs.declared.xorb_structs.MDBXorbInfo.{MDBXorbInfo};
 ghost use Rattle.xet_records.specs.FileRecord.{file_records, FitsRecord, IsStored};
 ghost use Rattle.xet_records.specs.XorbRecord.{xorb_records, IsStoredXorb};
-ghost use Rattle.xet_shards.specs.Shard.{IsShard, AreFiles, AreXorbs};
+ghost use Rattle.xet_shards.specs.Shard.{IsShard};
 ghost use Rattle.xet_shards.specs.Section.{total_rows, section_bytes};
 ghost use Rattle.xet_shards.specs.Tables.{chunk_table_row_bytes};
 ghost use Rattle.xet_shards.specs.Written.{HasWritten, HasWrittenXorbs, end_of_layout};
-ghost use Rattle.xet_shards.specs.XorbStore.{shown_xorbs};
 ghost use Rattle.xet_shards.specs.Layout.{if_in, layout, layout_of, footer_value, info_of};
 ghost use Rattle.xet_shards.specs.Ends.{FitsFooter};
 
@@ -21,7 +19,7 @@ use super::footer::MDBShardFileFooter;
 use super::form::Form;
 use super::header::{HEADER_SIZE, MDBShardFileHeader};
 use super::info::MDBShardInfo;
-use super::written::{RecordTable, WrittenFiles, WrittenXorbs};
+use super::written::{RecordTable, WrittenFiles, WrittenSection, WrittenXorbs};
 use super::xorb_writer::ChunkTableRow;
 use crate::shard_in_memory::MDBInMemoryShard;
 use std::alloc::Global;
@@ -31,9 +29,9 @@ use std::rc::Rc;
 use xet_base::error::{CoreError, Result};
 use xet_base::merklehash::MerkleHash;
 use xet_base::serialization_utils::write_bytes;
-use xet_records::file_structs::{FileDataSequenceHeader, MDBFileInfo};
+use xet_records::file_structs::MDBFileInfo;
 use xet_records::rows::ROW_SIZE;
-use xet_records::xorb_structs::{MDBXorbInfo, XorbChunkSequenceHeader};
+use xet_records::xorb_structs::MDBXorbInfo;
 
 impl MDBInMemoryShard {
     /// The bytes of the shard, without expiry: `shard_file_size` of them. `OutOfMemory` if an
@@ -78,101 +76,80 @@ pub fn write_layout<W: Write>(
 {
     let header = MDBShardFileHeader::default();
     header.serialize(writer)?;
-    let files = write_files(alloc, writer, files)?;
-    let xorbs = write_xorbs(alloc, writer, xorbs)?;
+    let files: WrittenFiles = write_section(alloc, writer, files)?;
+    let xorbs: WrittenXorbs = write_section(alloc, writer, xorbs)?;
     let metadata = write_end(writer, &files, &xorbs, form)?;
     Ok(MDBShardInfo { header, metadata })
 }
 
-// Writes the file section of a list of files and collects its table.
+// Writes a section of these records in order, and collects its tables.
 #[tactic(auto, unfolding(crate::specs::Section::section_bytes))]
-fn write_files<W: Write>(
+fn write_section<S: WrittenSection + Drop, W: Write>(
     alloc: Global,
     writer: &mut W,
-    files: &[MDBFileInfo],
-) -> Result<WrittenFiles>
-    requires files { All IsStored files.now }
-    requires rows { total_rows file_records files.now ≤ 4294967295 }
+    records: &[S::Record],
+) -> Result<S>
+    requires whole { All S.is_whole records.now }
+    requires rows { total_rows S.Record.kind records.now ≤ 4294967295 }
     ensures bytes { OnOk result
         (Appends (W.contents writer.old) (W.contents writer.new)
-        (section_bytes file_records files.now)) }
-    ensures written { IfOk result (λ written. HasWritten written files.now) }
+        (section_bytes S.Record.kind records.now)) }
+    ensures written { IfOk result (λ written. S.has_written written records.now) }
     ensures causes { IfErr result IsDeviceError }
 {
-    let mut written = WrittenFiles::new(alloc);
-    for file_info in files {
-        written.write(writer, file_info)?;
+    let mut written = S::new(alloc);
+    for record in records {
+        written.write(writer, record)?;
     }
-    let bookend = FileDataSequenceHeader::bookend();
-    bookend.serialize(writer)?;
+    S::write_bookend(writer)?;
     Ok(written)
 }
 
-// Writes the xorb section of a list of xorbs and collects its tables.
+/// A value of a map that holds records: a record, or an `Rc` of one.
+pub trait HoldsRecord<R> {
+    ghost held: { Self → R };
+
+    fn record(&self) -> &R
+        ensures { result.now ≡ held self.now };
+}
+
+impl HoldsRecord<MDBFileInfo> for MDBFileInfo {
+    ghost held = { λ file_info. file_info };
+
+    fn record(&self) -> &MDBFileInfo {
+        self
+    }
+}
+
+impl HoldsRecord<MDBXorbInfo> for Rc<MDBXorbInfo> {
+    ghost held = { λ owner. owner.value };
+
+    fn record(&self) -> &MDBXorbInfo {
+        self
+    }
+}
+
+/// Writes a section of the records that a map holds, in the order of their hashes, and collects its
+/// tables.
 #[tactic(auto, unfolding(crate::specs::Section::section_bytes))]
-fn write_xorbs<W: Write>(
+pub fn write_values<S: WrittenSection + Drop, V: HoldsRecord<S::Record>, W: Write>(
     alloc: Global,
     writer: &mut W,
-    xorbs: &[MDBXorbInfo],
-) -> Result<WrittenXorbs>
-    requires xorbs { All IsStoredXorb xorbs.now }
-    requires rows { total_rows xorb_records xorbs.now ≤ 4294967295 }
+    records: &BTreeMap<MerkleHash, V>,
+) -> Result<S>
+    requires whole { All S.is_whole (map V.held (values records.now)) }
+    requires rows { total_rows S.Record.kind (map V.held (values records.now)) ≤ 4294967295 }
     ensures bytes { OnOk result
         (Appends (W.contents writer.old) (W.contents writer.new)
-        (section_bytes xorb_records xorbs.now)) }
-    ensures written { IfOk result (λ written. HasWrittenXorbs written xorbs.now) }
+        (section_bytes S.Record.kind (map V.held (values records.now)))) }
+    ensures written { IfOk result (λ written. S.has_written written (map V.held (values records.now))) }
     ensures causes { IfErr result IsDeviceError }
 {
-    let mut written = WrittenXorbs::new(alloc);
-    for xorb in xorbs {
-        written.write(writer, xorb)?;
+    let mut written = S::new(alloc);
+    for value in records.values() {
+        written.write(writer, value.record())?;
     }
-    let bookend = XorbChunkSequenceHeader::bookend();
-    bookend.serialize(writer)?;
-    Ok(written)
-}
-
-/// Writes the file section and collects its table.
-#[tactic(auto, unfolding(crate::specs::Section::section_bytes))]
-pub fn write_file_section<W: Write>(
-    alloc: Global,
-    writer: &mut W,
-    files: &BTreeMap<MerkleHash, MDBFileInfo>,
-) -> Result<WrittenFiles>
-    requires files { AreFiles files.now.entries }
-    requires rows { total_rows file_records (values files.now) ≤ 4294967295 }
-    ensures bytes { OnOk result
-        (Appends (W.contents writer.old) (W.contents writer.new) (section_bytes file_records (values files.now))) }
-    ensures written { IfOk result (λ written. HasWritten written (values files.now)) }
-    ensures causes { IfErr result IsDeviceError }
-{
-    let mut written = WrittenFiles::new(alloc);
-    for file_info in files.values() {
-        written.write(writer, file_info)?;
-    }
-    FileDataSequenceHeader::bookend().serialize(writer)?;
-    Ok(written)
-}
-
-/// Writes the xorb section and collects its tables.
-#[tactic(auto, unfolding(crate::specs::Section::section_bytes))]
-pub fn write_xorb_section<W: Write>(
-    alloc: Global,
-    writer: &mut W,
-    xorbs: &BTreeMap<MerkleHash, Rc<MDBXorbInfo>>,
-) -> Result<WrittenXorbs>
-    requires xorbs { AreXorbs (shown_xorbs xorbs.now.entries) }
-    requires rows { total_rows xorb_records (values_of (shown_xorbs xorbs.now.entries)) ≤ 4294967295 }
-    ensures bytes { OnOk result
-        (Appends (W.contents writer.old) (W.contents writer.new) (section_bytes xorb_records (values_of (shown_xorbs xorbs.now.entries)))) }
-    ensures written { IfOk result (λ written. HasWrittenXorbs written (values_of (shown_xorbs xorbs.now.entries))) }
-    ensures causes { IfErr result IsDeviceError }
-{
-    let mut written = WrittenXorbs::new(alloc);
-    for xorb in xorbs.values() {
-        written.write(writer, xorb)?;
-    }
-    XorbChunkSequenceHeader::bookend().serialize(writer)?;
+    S::write_bookend(writer)?;
     Ok(written)
 }
 

@@ -1,9 +1,57 @@
 //! What is collected while the sections of a shard are written.
 
-ghost use Rattle.std.specs.Prelude.{◌*◌, ◌≤◌};
+ghost use Rattle.std.specs.Prelude.{◌≡◌, ℕ, ◌+◌, ◌*◌, ◌≤◌, List, [], ◌∷◌, ◌++◌, OnOk, IfErr};
+ghost use Rattle.std.specs.Io.KnownBytes.{Appends};
+ghost use Rattle.xet_base.specs.Errors.{IsDeviceError};
+ghost use Rattle.xet_shards.specs.Section.{total_rows};
 
 use super::xorb_writer::ChunkTableRow;
+use std::alloc::Global;
 use std::collections::BTreeSet;
+use std::io::Write;
+use xet_base::error::Result;
+use xet_records::record_reader::SectionRecord;
+
+/// What is collected while a section is written, of files or of xorbs.
+pub trait WrittenSection {
+    type Record: SectionRecord;
+
+    // it has the rows that its header announces
+    ghost is_whole: { Self.Record → Type 0 };
+
+    // these records were written
+    ghost has_written: { Self → List Self.Record → Type 0 };
+
+    // the rows written so far
+    ghost rows: { Self → ℕ };
+
+    /// Before the first record.
+    fn new(alloc: Global) -> Self
+        ensures { has_written result [] };
+
+    /// Adds and writes the next record. The error is the writer's, or `OutOfMemory` if an allocation
+    /// fails.
+    fn write<W: Write>(&mut self, writer: &mut W, next: &Self::Record) -> Result<()>
+        requires whole { is_whole next.now }
+        requires rows { rows self.old + Self.Record.kind.row_count next.now ≤ 4294967295 }
+        ensures appended { OnOk result
+            (Appends (W.contents writer.old) (W.contents writer.new)
+            (Self.Record.kind.record_bytes next.now)) }
+        ensures written { OnOk result
+            ((before : List Self.Record) → has_written self.old before
+            → has_written self.new (before ++ next.now ∷ [])) }
+        ensures causes { IfErr result IsDeviceError };
+
+    /// Writes the bookend, which ends the section. The error is the writer's.
+    fn write_bookend<W: Write>(writer: &mut W) -> Result<()>
+        ensures bytes { OnOk result
+            (Appends (W.contents writer.old) (W.contents writer.new)
+            (Self.Record.kind.header_bytes Self.Record.kind.bookend)) }
+        ensures causes { IfErr result IsDeviceError };
+
+    ghost counts_rows: { (written : Self) (records : List Self.Record)
+        → has_written written records → rows written ≡ total_rows Self.Record.kind records };
+}
 
 /// The records written so far: how many there are, their rows, and the bytes of their lookup table.
 #[derive(Drop)]

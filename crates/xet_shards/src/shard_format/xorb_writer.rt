@@ -9,7 +9,7 @@ ghost use Rattle.xet_records.specs.XorbRecord.{xorb_record_bytes, xorb_row_count
 ghost use Rattle.xet_shards.specs.Tables.{chunk_table_row_bytes, chunk_table_rows_from, ascending};
 ghost use Rattle.xet_shards.specs.Written.{AddsRecord, HasWrittenXorbs};
 
-use super::written::{RecordTable, WrittenXorbs};
+use super::written::{RecordTable, WrittenSection, WrittenXorbs};
 use std::alloc::Global;
 use std::collections::BTreeSet;
 use std::io::Write;
@@ -40,17 +40,6 @@ impl ChunkTableRow {
 }
 
 impl WrittenXorbs {
-    pub fn new(alloc: Global) -> WrittenXorbs
-        ensures { HasWrittenXorbs result [] }
-    {
-        WrittenXorbs {
-            table: RecordTable::new(alloc),
-            chunk_rows: BTreeSet::new(alloc),
-            stored_bytes: 0,
-            stored_bytes_on_disk: 0,
-        }
-    }
-
     /// Adds the next xorb by its header, and not yet its chunks, and returns the row at which its
     /// record starts. `OutOfMemory` if an allocation fails.
     pub fn add(&mut self, header: &XorbChunkSequenceHeader) -> Result<u32>
@@ -74,22 +63,37 @@ impl WrittenXorbs {
         self.stored_bytes_on_disk += u64::from(header.num_bytes_on_disk);
         Ok(row)
     }
+}
 
-    /// Adds and writes the next xorb. The error is the writer's, or `OutOfMemory` if an allocation
-    /// fails.
-    pub fn write<W: Write>(&mut self, writer: &mut W, xorb: &MDBXorbInfo) -> Result<()>
-        requires whole { HasItsChunks xorb.now }
-        requires rows { self.old.table.rows + xorb_row_count xorb.now ≤ 4294967295 }
-        ensures appended { OnOk result
-            (Appends (W.contents writer.old) (W.contents writer.new) (xorb_record_bytes xorb.now)) }
-        ensures written { OnOk result
-            ((before : List MDBXorbInfo) → HasWrittenXorbs self.old before
-            → HasWrittenXorbs self.new (before ++ xorb.now ∷ [])) }
-        ensures causes { IfErr result IsDeviceError }
-    {
+impl WrittenSection for WrittenXorbs {
+    type Record = MDBXorbInfo;
+
+    ghost is_whole = { HasItsChunks };
+
+    ghost has_written = { HasWrittenXorbs };
+
+    ghost rows = { λ written. written.table.rows };
+
+    ghost counts_rows = { λ written xorbs have. have.table.rows };
+
+    fn new(alloc: Global) -> WrittenXorbs {
+        WrittenXorbs {
+            table: RecordTable::new(alloc),
+            chunk_rows: BTreeSet::new(alloc),
+            stored_bytes: 0,
+            stored_bytes_on_disk: 0,
+        }
+    }
+
+    fn write<W: Write>(&mut self, writer: &mut W, xorb: &MDBXorbInfo) -> Result<()> {
         let row = self.add(&xorb.metadata)?;
         insert_chunk_rows(&mut self.chunk_rows, row, xorb.chunks.as_slice())?;
         xorb.serialize(writer)?;
+        Ok(())
+    }
+
+    fn write_bookend<W: Write>(writer: &mut W) -> Result<()> {
+        XorbChunkSequenceHeader::bookend().serialize(writer)?;
         Ok(())
     }
 }

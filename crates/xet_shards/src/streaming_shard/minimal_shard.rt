@@ -17,7 +17,7 @@ ghost use Rattle.xet_records.specs.FileRecord.{file_records, file_record_bytes};
 ghost use Rattle.xet_records.specs.XorbRecord.{xorb_records, xorb_record_bytes};
 
 use super::minimal_reader::read_sections;
-use crate::shard_format::MDBShardFileHeader;
+use crate::shard_format::{MDBShardFileHeader, MDBShardInfo};
 use std::alloc::Global;
 use std::io::Read;
 use std::marker::Model;
@@ -134,7 +134,8 @@ impl MDBMinimalShard {
         if with_verification && !self.has_file_verification() {
             return 0;
         }
-        344 + file_bytes(self.files(), with_verification) + xorb_bytes(self.xorbs())
+        let records = file_bytes(self.files(), with_verification) + xorb_bytes(self.xorbs());
+        MDBShardInfo::non_content_byte_size() + records
     }
 
     /// A copy of the shard, or `OutOfMemory`.

@@ -17,20 +17,20 @@ ghost use Rattle.xet_shards.specs.MinimalWriting.{WritesMarked};
 
 use super::file_start::{FileStart, mark_starts, starts_of};
 use super::minimal_shard::MDBMinimalShard;
-use crate::shard_format::MDBShardFileHeader;
 use crate::shard_format::form::Form;
 use crate::shard_format::view_writer::write_file_view;
 use crate::shard_format::writer::write_end;
-use crate::shard_format::written::{WrittenFiles, WrittenXorbs};
+use crate::shard_format::written::{WrittenFiles, WrittenSection, WrittenXorbs};
+use crate::shard_format::{MDBShardFileHeader, MDBShardInfo};
 use std::alloc::Global;
 use std::collections::BTreeSet;
 use std::io;
 use std::io::{ErrorKind, Write};
 use xet_base::error::{CoreError, Result};
 use xet_base::merklehash::HMACKey;
-use xet_records::file_structs::{FileDataSequenceHeader, MDBFileInfoView};
+use xet_records::file_structs::MDBFileInfoView;
 use xet_records::rows::ROW_SIZE;
-use xet_records::xorb_structs::{MDBXorbInfoView, XorbChunkSequenceHeader};
+use xet_records::xorb_structs::MDBXorbInfoView;
 
 impl MDBMinimalShard {
     /// Writes the shard without tables, with its creation at a timestamp in seconds and expiry 0, and returns the
@@ -170,7 +170,7 @@ fn write_files<W: Write>(
     for file in files {
         write_file_view(writer, &mut written, file, with_verification)?;
     }
-    FileDataSequenceHeader::bookend().serialize(writer)?;
+    WrittenFiles::write_bookend(writer)?;
     Ok(written)
 }
 
@@ -195,7 +195,7 @@ fn write_xorbs<W: Write, F: Fn(&MDBXorbInfoView) -> bool>(
             written.write(writer, &marked)?;
         }
     }
-    XorbChunkSequenceHeader::bookend().serialize(writer)?;
+    WrittenXorbs::write_bookend(writer)?;
     Ok(written)
 }
 
@@ -203,5 +203,6 @@ fn write_xorbs<W: Write, F: Fn(&MDBXorbInfoView) -> bool>(
 fn size_of(files: &WrittenFiles, xorbs: &WrittenXorbs) -> usize
     ensures { result ≡ 344 + 48 * files.now.table.rows + 48 * xorbs.now.table.rows }
 {
-    344 + ROW_SIZE * files.table.rows as usize + ROW_SIZE * xorbs.table.rows as usize
+    let rows = (files.table.rows + xorbs.table.rows) as usize;
+    MDBShardInfo::non_content_byte_size() as usize + ROW_SIZE * rows
 }

@@ -6,7 +6,6 @@ use Rattle.std.proofs.KnownBytes.{Appends-trans}
 use Rattle.std.proofs.lemmas.Grind.{flat_map-append}
 use Rattle.std.proofs.lemmas.List.{map-append}
 use Rattle.std.proofs.lemmas.List.Sums.{sum_by_more_le}
-use Rattle.xet_records.specs.XorbRow.{xorb_header_row}
 use Rattle.xet_records.specs.XorbRecord.{xorb_record_bytes, xorb_row_count, IsStoredXorb, HasItsChunks}
 use Rattle.xet_shards.specs.Section.{section_bytes}
 use Rattle.xet_shards.specs.Written.{HasWrittenXorbs}
@@ -83,7 +82,6 @@ returns-clause-written g c =
     record {
       kept = inv.0;
       is_kept = subst (λ ys. IsKept (FnReturnsAt g.F.Fn c.args.filter) ys inv.0) (take_all _ _ c.loop-xorb-test.false) inv.1;
-      bytes = Appends-trans _ (contents c.loop-xorb.writer) _ _ _ inv.3
-          (subst (λ h. Appends (contents c.loop-xorb.writer) (contents c.serialize.new.writer) (xorb_header_row h)) c.bookend.ensures c.in_ok-serialize.ensures.bytes);
+      bytes = Appends-trans _ (contents c.loop-xorb.writer) _ _ _ inv.3 c.in_ok-write_bookend.ensures.bytes;
       collected = inv.2;
     }

@@ -2,7 +2,7 @@ use Rattle.std.proofs.Common.{refl, sym, ◌∙◌}
 use Rattle.xet_records.specs.XorbRecord.{xorb_records}
 use Rattle.xet_shards.proofs.ChunkTableRows.{ascending-nil}
 use Rattle.xet_shards.proofs.Written.{table_of_none}
-use Rattle.xet_shards.proofs.shard_format.written.WrittenXorbs.new.Goals as goal
+use Rattle.xet_shards.proofs.shard_format.xorb_writer.WrittenXorbsWrittenSection.new.Goals as goal
 
 pub returns : goal.returns
 returns c = record {

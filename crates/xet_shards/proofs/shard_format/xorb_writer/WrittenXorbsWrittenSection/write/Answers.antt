@@ -2,7 +2,7 @@ use Rattle.std.proofs.Common.{◌+◌, ◌++◌, sym, ap, ◌∙◌, subst}
 use Rattle.xet_shards.specs.Tables.{ascending, chunk_table_rows_from}
 use Rattle.xet_shards.specs.Written.{AddsRecord}
 use Rattle.xet_shards.proofs.Written.{xorb_written}
-use Rattle.xet_shards.proofs.shard_format.written.WrittenXorbs.write.Goals as goal
+use Rattle.xet_shards.proofs.shard_format.xorb_writer.WrittenXorbsWrittenSection.write.Goals as goal
 
 pub returns-clause-written : goal.returns-clause-written
 returns-clause-written g c = λ before have.

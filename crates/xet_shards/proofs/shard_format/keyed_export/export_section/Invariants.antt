@@ -1,0 +1,15 @@
+use Rattle.std.proofs.Common.{flat_map}
+use Rattle.xet_base.specs.Source.{Takes}
+use Rattle.xet_shards.specs.KeyedExport.{HasExported}
+use Rattle.xet_shards.proofs.KeyedExport.{SectionWritten}
+use Rattle.xet_shards.proofs.shard_format.keyed_export.export_section.Given as goal
+
+abbrev pub invariant-loop-written : goal.invariant-loop-written
+invariant-loop-written g l =
+    let kind = g.E.Section.Record.SectionRecord.kind in
+    HasExported kind (Takes (g.S.ShardSource.meaning l.fn.source) (g.S.ShardSource.meaning l.source))
+    (λ stored. SectionWritten kind (g.E.Section.WrittenSection.has_written l.written) (g.W.Write.contents l.fn.writer) (g.W.Write.contents l.writer) (flat_map (g.E.ExportedRecord.exports l.form) stored))
+    l.rows_left
+
+abbrev pub decreases-loop-written : goal.decreases-loop-written
+decreases-loop-written g l = l.rows_left
