@@ -25,6 +25,7 @@ use Rattle.xet_shards.specs.Tables.{table_bytes, chunk_table_bytes}
 use Rattle.xet_shards.specs.Written.{HasWritten, HasWrittenXorbs, end_of_layout}
 use Rattle.xet_shards.specs.MinimalWriting.{WritesMarked}
 use Rattle.xet_shards.proofs.Written.{whole_layout}
+use Rattle.xet_shards.specs.InForm.{FitsSection}
 use Rattle.xet_shards.specs.Layout.{Form, if_in, layout_of, header_value, footer_value, shard_header_bytes}
 use Rattle.xet_shards.specs.MinimalShard.{MinimalShard, is_start, chunk_of, marked_if, mark_starts, minimal_form, HasNoTables, IsKept, WritesBytes, WritesKept, WritesMinimal}
 use Rattle.xet_shards.proofs.Layouts.{length-file_section, length-xorb_section, length-shard_header_bytes, length-shard_footer_bytes}
@@ -107,7 +108,7 @@ as_wanted-rows wanted r = either (has_verification r.metadata.file_flags && not 
     either true = omega arith
     either false = omega arith
 
-pub rows_as_wanted : (wanted : Bool) (files : List MDBFileInfo) → total_rows file_records (map (as_wanted wanted) files) ≤ total_rows file_records files
+rows_as_wanted : (wanted : Bool) (files : List MDBFileInfo) → total_rows file_records (map (as_wanted wanted) files) ≤ total_rows file_records files
 rows_as_wanted wanted [] = omega arith
 rows_as_wanted wanted (r ∷ files) =
     omega (arith, sum_by-cons row_count (as_wanted wanted r) (map (as_wanted wanted) files), sum_by-cons row_count r files, as_wanted-rows wanted r, rows_as_wanted wanted files)
@@ -117,6 +118,10 @@ sum_as_wanted wanted [] = refl
 sum_as_wanted wanted (r ∷ files) =
     sum_by-cons row_count (as_wanted wanted r) (map (as_wanted wanted) files) ∙ ap (λ n. row_count (as_wanted wanted r) + n) (sum_as_wanted wanted files)
     ∙ sym (sum_by-cons (λ (s : MDBFileInfo). row_count (as_wanted wanted s)) r files)
+
+-- no more than those of the whole records
+pub few_as_wanted : (wanted : Bool) (files : List MDBFileInfo) → FitsSection file_records files → sum_by (λ r. row_count (as_wanted wanted r)) files ≤ 4294967295
+few_as_wanted wanted files fit = omega (arith, sum_as_wanted wanted files, rows_as_wanted wanted files, fit.rows)
 
 pub fit_as_wanted : (wanted : Bool) (files : List MDBFileInfo) → All IsStored files → All FitsRecord (map (as_wanted wanted) files)
 fit_as_wanted wanted files stored =

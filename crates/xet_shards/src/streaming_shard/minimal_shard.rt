@@ -1,20 +1,19 @@
 //! A shard without its tables, kept as views of its records.
 
 ghost use Rattle.std.proofs.Common.{rules};
-ghost use Rattle.std.specs.Prelude.{◌≡◌, ◌*◌, length, map, nat_eq, slice_get, MatchResult, IfOk, IfErr};
+ghost use Rattle.std.specs.Prelude.{◌≡◌, ℕ, ◌*◌, ◌≤◌, Bool, length, nat_eq, slice_get, sum_by, MatchResult, IfOk, IfErr};
 ghost use Rattle.std.specs.Cmp.Lexicographic.{pointwise};
 ghost use Rattle.std.specs.Cmp.Rules.{comparing};
 ghost use Rattle.std.specs.Ordering.{on, eq_of_both};
 ghost use Rattle.xet_records.specs.View.{as_wanted};
-ghost use Rattle.xet_shards.specs.Section.{total_rows};
 ghost use Rattle.std.specs.Option.{option_copied};
 ghost use Rattle.xet_base.specs.Input.{ReaderFails};
 ghost use Rattle.std.specs.Io.KnownBytes.{Consumes};
 ghost use Rattle.xet_shards.specs.InForm.{FitsSection};
 ghost use Rattle.xet_shards.specs.MinimalShard.{FitsSections, has_file_verification, serialized_size};
 ghost use Rattle.xet_shards.specs.MinimalReading.{ReadsMinimal, MinimalFails, ReaderHeaderFails};
-ghost use Rattle.xet_records.specs.FileRecord.{file_records, file_record_bytes};
-ghost use Rattle.xet_records.specs.XorbRecord.{xorb_records, xorb_record_bytes};
+ghost use Rattle.xet_records.specs.FileRecord.{file_records, file_record_bytes, row_count};
+ghost use Rattle.xet_records.specs.XorbRecord.{xorb_records, xorb_record_bytes, xorb_row_count};
 
 use super::minimal_reader::read_sections;
 use crate::shard_format::{MDBShardFileHeader, MDBShardInfo};
@@ -134,7 +133,8 @@ impl MDBMinimalShard {
         if with_verification && !self.has_file_verification() {
             return 0;
         }
-        let records = file_bytes(self.files(), with_verification) + xorb_bytes(self.xorbs());
+        let files = bytes_of(self.files(), with_verification);
+        let records = files + bytes_of(self.xorbs(), with_verification);
         MDBShardInfo::non_content_byte_size() + records
     }
 
@@ -143,8 +143,8 @@ impl MDBMinimalShard {
         ensures ok { IfOk result (λ copy. copy ≡ self.now) }
         ensures causes { IfErr result (λ e. e ≡ CoreError.OutOfMemory) }
     {
-        let files = clone_files(alloc, self.files())?;
-        let xorbs = clone_xorbs(alloc, self.xorbs())?;
+        let files = copies(alloc, self.files())?;
+        let xorbs = copies(alloc, self.xorbs())?;
         Ok(MDBMinimalShard::of_views(files, xorbs))
     }
 }
@@ -160,48 +160,62 @@ impl PartialEq for MDBMinimalShard {
     }
 }
 
-fn clone_files(alloc: Global, files: &[MDBFileInfoView]) -> Result<Vec<MDBFileInfoView>>
-    ensures ok { IfOk result (λ copies. copies.items ≡ files.now) }
+// A view of a record that a shard keeps.
+trait KeptView {
+    // the rows of its record, with or without verification rows
+    ghost rows: { Bool → Self → ℕ };
+
+    fn copy(&self) -> Result<Self>
+        ensures ok { IfOk result (λ copy. copy ≡ self.now) }
+        ensures causes { IfErr result (λ e. e ≡ CoreError.OutOfMemory) };
+
+    fn bytes(&self, with_verification: bool) -> u64
+        ensures { result ≡ 48 * rows with_verification self.now };
+}
+
+impl KeptView for MDBFileInfoView {
+    ghost rows = { λ wanted view. row_count (as_wanted wanted view) };
+
+    fn copy(&self) -> Result<Self> {
+        self.try_clone()
+    }
+
+    fn bytes(&self, with_verification: bool) -> u64 {
+        self.byte_size(with_verification) as u64
+    }
+}
+
+impl KeptView for MDBXorbInfoView {
+    ghost rows = { λ wanted view. xorb_row_count view };
+
+    fn copy(&self) -> Result<Self> {
+        self.try_clone()
+    }
+
+    fn bytes(&self, _with_verification: bool) -> u64 {
+        self.byte_size() as u64
+    }
+}
+
+fn copies<V: KeptView + Drop>(alloc: Global, views: &[V]) -> Result<Vec<V>>
+    ensures ok { IfOk result (λ copies. copies.items ≡ views.now) }
     ensures causes { IfErr result (λ e. e ≡ CoreError.OutOfMemory) }
 {
     let mut copies = Vec::new(alloc);
-    for file in files {
-        copies.push(file.try_clone()?)?;
+    for view in views {
+        copies.push(view.copy()?)?;
     }
     Ok(copies)
 }
 
-fn clone_xorbs(alloc: Global, xorbs: &[MDBXorbInfoView]) -> Result<Vec<MDBXorbInfoView>>
-    ensures ok { IfOk result (λ copies. copies.items ≡ xorbs.now) }
-    ensures causes { IfErr result (λ e. e ≡ CoreError.OutOfMemory) }
-{
-    let mut copies = Vec::new(alloc);
-    for xorb in xorbs {
-        copies.push(xorb.try_clone()?)?;
-    }
-    Ok(copies)
-}
-
-// The bytes of the records of files, with or without their verification rows.
-fn file_bytes(files: &[MDBFileInfoView], with_verification: bool) -> u64
-    requires { FitsSection file_records files.now }
-    ensures { result ≡ 48 * total_rows file_records (map (as_wanted with_verification) files.now) }
+// The bytes of the records of these views, with or without verification rows.
+fn bytes_of<V: KeptView>(views: &[V], with_verification: bool) -> u64
+    requires { sum_by (V.rows with_verification) views.now ≤ 4294967295 }
+    ensures { result ≡ 48 * sum_by (V.rows with_verification) views.now }
 {
     let mut bytes = 0;
-    for file in files {
-        bytes += file.byte_size(with_verification) as u64;
-    }
-    bytes
-}
-
-// The bytes of the records of xorbs.
-fn xorb_bytes(xorbs: &[MDBXorbInfoView]) -> u64
-    requires { FitsSection xorb_records xorbs.now }
-    ensures { result ≡ 48 * total_rows xorb_records xorbs.now }
-{
-    let mut bytes = 0;
-    for xorb in xorbs {
-        bytes += xorb.byte_size() as u64;
+    for view in views {
+        bytes += view.bytes(with_verification);
     }
     bytes
 }
