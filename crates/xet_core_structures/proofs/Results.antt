@@ -8,7 +8,7 @@ use Rattle.std.proofs.lemmas.Option.{none-some}
 use Rattle.xet_base.specs.declared.error.CoreError.{CoreError}
 use Rattle.xet_base.specs.declared.error.CoreError.TheVariants.{OutOfMemory}
 use Rattle.xet_base.specs.declared.merklehash.DataHash.{DataHash}
-use Rattle.xet_base.specs.Errors.{IsInvalidShard}
+use Rattle.xet_base.specs.Errors.{IsDeviceError, IsInvalidShard}
 use Rattle.xet_base.specs.Hash.{hash_cmp}
 use Rattle.xet_base.specs.Source.{Source}
 use Rattle.xet_base.proofs.HashOrder.{hash_cmp-IsTotalOrder, hash_cmp-IsAntisymmetric}
@@ -29,7 +29,7 @@ use Rattle.xet_core_structures.specs.declared.set_operations.inputs.Inputs.{Inpu
 use Rattle.xet_core_structures.specs.declared.set_operations.results.SetFailure.{SetFailure}
 use Rattle.xet_core_structures.specs.declared.set_operations.results.SetFailure.TheVariants.{Input, Output}
 use Rattle.xet_core_structures.specs.ByteUnion.{IsUnitedFile, IsEitherFile, IsEitherXorb, IsByteUnion}
-use Rattle.xet_core_structures.specs.ByteResults.{keyed_form, key_of, HaveNoUnionOf, InputRefusal, DifferenceRefusal, UnionRefusal, InputsFail, FailsBy, WritesResult, HaveInputs, AreRecords, AreCombined, NoneCombined, WritesRecords}
+use Rattle.xet_core_structures.specs.ByteResults.{keyed_form, key_of, HaveNoUnionOf, InputRefusal, DifferenceRefusal, UnionRefusal, InputsFail, FailsBy, error_of, WritesResult, HaveInputs, AreRecords, AreCombined, AreNotUnited, WritesRecords, OperationLaws}
 use Rattle.xet_core_structures.specs.Combining.{key_of_record, with_hash, IsRest, Combines, NoneCombines}
 use Rattle.xet_core_structures.specs.Held.{AreWritable, IsListOf, IsSectionOf, files_at, xorbs_at, Holds, HoldsLists, BothRefusal, ReadsNoInput}
 use Rattle.xet_core_structures.proofs.Held.{one_map, rows_handed}
@@ -154,9 +154,14 @@ xorbs_unique o p a b is also = is ∙ sym also
 
 -- why no files are made of two lists
 pub no_files : (first second : Records) (e : CoreError) → (e ≡ OutOfMemory) ⊎ (IsInvalidShard e × NoneCombines file_records IsEitherFile first.files.items second.files.items)
-    → (e ≡ OutOfMemory) ⊎ (IsInvalidShard e × NoneCombined IsEitherFile IsEitherXorb first second)
+    → AreNotUnited first second e
 no_files first second e (inl no_memory) = inl no_memory
 no_files first second e (inr (invalid, files)) = inr (invalid, inl files)
+
+-- the error of a failure is the output's, or has the inputs' cause
+pub failed_by : (Cause : CoreError → Type 0) (failure : SetFailure) (e : CoreError) → e ≡ error_of failure → FailsBy Cause failure → IsDeviceError e ⊎ Cause e
+failed_by Cause (Input f) e is failed = inr (subst Cause (sym is) failed)
+failed_by Cause (Output f) e is failed = inl (subst IsDeviceError (sym is) failed)
 
 -- what was written, or a failure of the output
 pub finished : (Done Written : MDBShardInfo → Type 0) (Cause : CoreError → Type 0) (r : Result MDBShardInfo SetFailure) → ((info : MDBShardInfo) → Written info → Done info)
@@ -185,26 +190,27 @@ module _ (x : List ℕ) (i : MDBShardInfo) (y : List ℕ) (j : MDBShardInfo) (ol
   second_fails is (inl failed) = inr (inl failed)
   second_fails is (inr refusal) = inr (inr (inr (same, second_refused (subst (λ bytes. BothRefusal bytes j e) is refusal))))
 
-module _ (x : List ℕ) (i : MDBShardInfo) (y : List ℕ) (j : MDBShardInfo) where
-  -- why there is no union
-  pub union_refused : (old_1 new_1 old_2 new_2 : Source) (e : CoreError) → InputsFail old_1 new_1 old_2 new_2 (DifferenceRefusal x i y j) e
-      → InputsFail old_1 new_1 old_2 new_2 (UnionRefusal x i y j) e
-  union_refused old_1 new_1 old_2 new_2 e (inl failed) = inl failed
-  union_refused old_1 new_1 old_2 new_2 e (inr (inl failed)) = inr (inl failed)
-  union_refused old_1 new_1 old_2 new_2 e (inr (inr (inl keys))) = inr (inr (inl keys))
-  union_refused old_1 new_1 old_2 new_2 e (inr (inr (inr (same, cause)))) = inr (inr (inr (same, inl cause)))
+-- the inputs are refused in one way or in a wider one
+pub refused_so : (Narrow Wide : CoreError → Type 0) → ((e : CoreError) → Narrow e → Wide e) → (old_1 new_1 old_2 new_2 : Source) (e : CoreError) → InputsFail old_1 new_1 old_2 new_2 Narrow e
+    → InputsFail old_1 new_1 old_2 new_2 Wide e
+refused_so Narrow Wide wider old_1 new_1 old_2 new_2 e (inl failed) = inl failed
+refused_so Narrow Wide wider old_1 new_1 old_2 new_2 e (inr (inl failed)) = inr (inl failed)
+refused_so Narrow Wide wider old_1 new_1 old_2 new_2 e (inr (inr refusal)) = inr (inr (wider e refusal))
 
-  module _ (inputs : Inputs) (have : HaveInputs x i y j inputs) where
-    pub none_united : (e : CoreError) → (e ≡ OutOfMemory) ⊎ (IsInvalidShard e × NoneCombined IsEitherFile IsEitherXorb inputs.first inputs.second) → UnionRefusal x i y j e
-    none_united e (inl no_memory) = inr (have.same_key, inl (inl no_memory))
-    none_united e (inr (invalid, inl files)) =
-        inr (have.same_key, inr (invalid, inl (no_union_of file_records file_laws IsEitherFile files_unique (files_at x i) (files_at y j) _ _ have.first.files have.second.files files)))
-    none_united e (inr (invalid, inr xorbs)) =
-        inr (have.same_key, inr (invalid, inr (no_union_of xorb_records xorb_laws IsEitherXorb xorbs_unique (xorbs_at x i) (xorbs_at y j) _ _ have.first.xorbs have.second.xorbs xorbs)))
+-- why there is no union
+not_read : (x : List ℕ) (i : MDBShardInfo) (y : List ℕ) (j : MDBShardInfo) (e : CoreError) → DifferenceRefusal x i y j e → UnionRefusal x i y j e
+not_read x i y j e (inl keys) = inl keys
+not_read x i y j e (inr (same, cause)) = inr (same, inl cause)
 
-    pub none_left : (e : CoreError) → e ≡ OutOfMemory → DifferenceRefusal x i y j e
-    none_left e no_memory = inr (have.same_key, inl no_memory)
+module _ (x : List ℕ) (i : MDBShardInfo) (y : List ℕ) (j : MDBShardInfo) (inputs : Inputs) where
+  none_united : (e : CoreError) → HaveInputs x i y j inputs → AreNotUnited inputs.first inputs.second e → UnionRefusal x i y j e
+  none_united e have (inl no_memory) = inr (have.same_key, inl (inl no_memory))
+  none_united e have (inr (invalid, inl files)) =
+      inr (have.same_key, inr (invalid, inl (no_union_of file_records file_laws IsEitherFile files_unique (files_at x i) (files_at y j) _ _ have.first.files have.second.files files)))
+  none_united e have (inr (invalid, inr xorbs)) =
+      inr (have.same_key, inr (invalid, inr (no_union_of xorb_records xorb_laws IsEitherXorb xorbs_unique (xorbs_at x i) (xorbs_at y j) _ _ have.first.xorbs have.second.xorbs xorbs)))
 
+  module _ (have : HaveInputs x i y j inputs) where
     -- what was written is the layout of the result
     abbrev shard_of : Records → Shard
     shard_of records = record { files = list_map file_records records.files.items; xorbs = list_map xorb_records records.xorbs.items }
@@ -238,14 +244,30 @@ module _ (x : List ℕ) (i : MDBShardInfo) (y : List ℕ) (j : MDBShardInfo) whe
             subst (λ p. p) (λ k. Appends old new (layout_of (sym files k) (sym xorbs k) (keyed_form (key_of i)))) written.1,
           )
 
-      pub union_written : AreCombined IsEitherFile IsEitherXorb inputs.first inputs.second result → WritesResult IsByteUnion x i y j old new info
+      union_written : AreCombined IsEitherFile IsEitherXorb inputs.first inputs.second result → WritesResult IsByteUnion x i y j old new info
       union_written made = result_written IsByteUnion (record {
         files = combined_maps file_records IsEitherFile _ _ _ have.first.files.writable.ascends have.second.files.writable.ascends made.files;
         xorbs = combined_maps xorb_records IsEitherXorb _ _ _ have.first.xorbs.writable.ascends have.second.xorbs.writable.ascends made.xorbs;
       }) made.writable
 
-      pub difference_written : AreCombined IsRest IsRest inputs.first inputs.second result → WritesResult IsDifference x i y j old new info
+      difference_written : AreCombined IsRest IsRest inputs.first inputs.second result → WritesResult IsDifference x i y j old new info
       difference_written made = result_written IsDifference (record {
         files = combined_maps file_records IsRest _ _ _ have.first.files.writable.ascends have.second.files.writable.ascends made.files;
         xorbs = combined_maps xorb_records IsRest _ _ _ have.first.xorbs.writable.ascends have.second.xorbs.writable.ascends made.xorbs;
       }) made.writable
+
+pub union_laws : OperationLaws IsByteUnion (AreCombined IsEitherFile IsEitherXorb) AreNotUnited UnionRefusal
+union_laws = record {
+  writable = λ first second result made. made.writable;
+  written = λ x i y j inputs result old new info have made written. union_written x i y j inputs have result old new info written made;
+  not_read = not_read;
+  not_made = none_united;
+}
+
+pub difference_laws : OperationLaws IsDifference (AreCombined IsRest IsRest) (λ first second e. e ≡ OutOfMemory) DifferenceRefusal
+difference_laws = record {
+  writable = λ first second result made. made.writable;
+  written = λ x i y j inputs result old new info have made written. difference_written x i y j inputs have result old new info written made;
+  not_read = λ x i y j e refusal. refusal;
+  not_made = λ x i y j inputs e have no_memory. inr (have.same_key, inl no_memory);
+}

@@ -114,7 +114,12 @@ BytesRefusal x y e =
 abbrev pub InputsFail : (old_1 new_1 old_2 new_2 : Source) → (CoreError → Type 0) → CoreError → Type 0
 InputsFail old_1 new_1 old_2 new_2 Refusal e = DeviceFailure old_1 new_1 e ⊎ DeviceFailure old_2 new_2 e ⊎ Refusal e
 
--- the same of a failure that says whether it is the inputs' or the output's
+-- the error of a failure that says whether it is the inputs' or the output's
+abbrev pub error_of : SetFailure → CoreError
+error_of (Input e) = e
+error_of (Output e) = e
+
+-- such a failure has this cause, or is that of the output's device
 abbrev pub FailsBy : (CoreError → Type 0) → SetFailure → Type 0
 FailsBy Cause (Input e) = Cause e
 FailsBy Cause (Output e) = IsDeviceError e
@@ -137,13 +142,24 @@ pub record AreCombined (IsFile : Option MDBFileInfo → Option MDBFileInfo → O
   pub xorbs : Combines xorb_records IsXorb first.xorbs.items second.xorbs.items result.xorbs.items
   pub writable : AreRecords result
 
--- there are no such files, or no such xorbs
-abbrev pub NoneCombined : (Option MDBFileInfo → Option MDBFileInfo → Option MDBFileInfo → Type 0) → (Option MDBXorbInfo → Option MDBXorbInfo → Option MDBXorbInfo → Type 0)
-    → Records → Records → Type 0
-NoneCombined IsFile IsXorb first second =
-    NoneCombines file_records IsFile first.files.items second.files.items ⊎ NoneCombines xorb_records IsXorb first.xorbs.items second.xorbs.items
+-- why the records of two inputs are not united: an allocation failed, or there are no such files, or no such xorbs
+abbrev pub AreNotUnited : Records → Records → CoreError → Type 0
+AreNotUnited first second e =
+    (e ≡ OutOfMemory)
+    ⊎ (IsInvalidShard e × (NoneCombines file_records IsEitherFile first.files.items second.files.items ⊎ NoneCombines xorb_records IsEitherXorb first.xorbs.items second.xorbs.items))
 
 -- the layout of the records under a key was written, and the header and the footer in it returned
 abbrev pub WritesRecords : Records → DataHash → Option (List ℕ) → Option (List ℕ) → MDBShardInfo → Type 0
 WritesRecords records key old new info =
     (info ≡ info_of records.files.items records.xorbs.items (keyed_form key)) × Appends old new (layout_of records.files.items records.xorbs.items (keyed_form key))
+
+-- what is made of the records of two inputs may be written, and is then the result for what their bytes hold; and each
+-- error, of reading the inputs or of combining their records, is a refusal
+pub record OperationLaws (IsResult : Shard → Shard → Shard → Type 0) (Makes : Records → Records → Records → Type 0) (MakesNone : Records → Records → CoreError → Type 0)
+    (Refusal : List ℕ → MDBShardInfo → List ℕ → MDBShardInfo → CoreError → Type 0) : Type 0 where
+  pub writable : (first second result : Records) → Makes first second result → AreRecords result
+  pub written : (x : List ℕ) (i : MDBShardInfo) (y : List ℕ) (j : MDBShardInfo) (inputs : Inputs) (result : Records) (old new : Option (List ℕ)) (info : MDBShardInfo)
+      → HaveInputs x i y j inputs → Makes inputs.first inputs.second result → WritesRecords result (key_of i) old new info → WritesResult IsResult x i y j old new info
+  pub not_read : (x : List ℕ) (i : MDBShardInfo) (y : List ℕ) (j : MDBShardInfo) (e : CoreError) → DifferenceRefusal x i y j e → Refusal x i y j e
+  pub not_made : (x : List ℕ) (i : MDBShardInfo) (y : List ℕ) (j : MDBShardInfo) (inputs : Inputs) (e : CoreError)
+      → HaveInputs x i y j inputs → MakesNone inputs.first inputs.second e → Refusal x i y j e

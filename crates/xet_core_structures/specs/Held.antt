@@ -64,24 +64,6 @@ IsBad bytes info =
     PassesRows file_records (files_at bytes info) ⊎ PassesRows xorb_records (xorbs_at bytes info)
     ⊎ FrontFalls file_records (files_at bytes info) ⊎ FrontFalls xorb_records (xorbs_at bytes info)
 
--- why a section is not read as such a list: an allocation failed, the bytes end early, or it is no valid section
-abbrev pub SectionRefusal : {H R : Type 0} → RecordKind H R → List ℕ → CoreError → Type 0
-SectionRefusal K bytes e =
-    (e ≡ OutOfMemory)
-    ⊎ (IsEndOfInput e × IsCutSection K bytes)
-    ⊎ (IsInvalidShard e × (PassesRows K bytes ⊎ FrontFalls K bytes))
-
--- the records of the section at an offset were read, and their hashes strictly ascend
-pub record ReadsList {H R : Type 0} (K : RecordKind H R) (old new : Source) (at : ℕ) (found : List R) : Type 0 where
-  pub bytes : new.bytes ≡ old.bytes
-  pub failures : new.failures ≡ old.failures
-  pub list : IsListOf K (drop at old.bytes) found
-
--- they were not: the device failed, or there is a cause in the bytes
-pub record ReadsNoList {H R : Type 0} (K : RecordKind H R) (old new : Source) (at : ℕ) (e : CoreError) : Type 0 where
-  pub bytes : new.bytes ≡ old.bytes
-  pub cause : DeviceFailure old new e ⊎ ((new.failures ≡ old.failures) × SectionRefusal K (drop at old.bytes) e)
-
 -- the bytes have both sections, with the records of these lists
 pub record HoldsLists (bytes : List ℕ) (info : MDBShardInfo) (fs : List MDBFileInfo) (xs : List MDBXorbInfo) : Type 0 where
   pub files : IsListOf file_records (files_at bytes info) fs

@@ -17,7 +17,8 @@ mod inputs;
 mod results;
 mod set_record;
 
-use results::{SetFailure, subtract, unite};
+use results::{SetFailure, operate};
+use set_record::{OfDifference, OfUnion};
 use std::alloc::Global;
 use std::io::Write;
 use xet_base::error::{CoreError, Result};
@@ -56,11 +57,7 @@ pub fn shard_set_union<S: ShardSource, T: ShardSource, W: Write>(
     ensures sources { ((S.meaning r1.new).bytes ≡ (S.meaning r1.old).bytes) × ((T.meaning r2.new).bytes ≡ (T.meaning r2.old).bytes) }
     ensures widths { IfOk result (λ info. FitsFooter info.metadata) }
 {
-    match unite(alloc, s1, r1, s2, r2, out) {
-        Ok(info) => Ok(info),
-        Err(SetFailure::Input(error)) => Err(error),
-        Err(SetFailure::Output(error)) => Err(error),
-    }
+    Ok(operate::<OfUnion, S, T, W>(alloc, s1, r1, s2, r2, out)?)
 }
 
 /// Writes the difference of two shards, the second's records whose hashes the first does not have,
@@ -88,11 +85,7 @@ pub fn shard_set_difference<S: ShardSource, T: ShardSource, W: Write>(
     ensures sources { ((S.meaning r1.new).bytes ≡ (S.meaning r1.old).bytes) × ((T.meaning r2.new).bytes ≡ (T.meaning r2.old).bytes) }
     ensures widths { IfOk result (λ info. FitsFooter info.metadata) }
 {
-    match subtract(alloc, s1, r1, s2, r2, out) {
-        Ok(info) => Ok(info),
-        Err(SetFailure::Input(error)) => Err(error),
-        Err(SetFailure::Output(error)) => Err(error),
-    }
+    Ok(operate::<OfDifference, S, T, W>(alloc, s1, r1, s2, r2, out)?)
 }
 
 /// A tree of unions. A leaf is the index of an input.
@@ -158,7 +151,9 @@ fn unite_bytes(alloc: Global, first: &[u8], second: &[u8]) -> Result<Vec<u8>>
     let s1 = MDBShardInfo::load_from_reader(alloc, &mut r1)?;
     let s2 = MDBShardInfo::load_from_reader(alloc, &mut r2)?;
     let mut bytes = Vec::new(alloc);
-    match unite(alloc, &s1, &mut r1, &s2, &mut r2, &mut bytes) {
+    match operate::<OfUnion, MemorySource<'_>, MemorySource<'_>, Vec<u8>>(
+        alloc, &s1, &mut r1, &s2, &mut r2, &mut bytes,
+    ) {
         Ok(_) => Ok(bytes),
         Err(SetFailure::Input(error)) => Err(error),
         // Writing to a vector fails only if it is out of memory.

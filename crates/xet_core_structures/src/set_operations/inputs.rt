@@ -1,12 +1,13 @@
 //! Reading the sections of a shard whole, as lists whose hashes strictly ascend.
 
 ghost use Rattle.std.specs.Prelude.{◌≡◌, ◌≢◌, MatchResult};
-ghost use Rattle.xet_records.specs.FileRecord.{file_records};
-ghost use Rattle.xet_records.specs.XorbRecord.{xorb_records};
-ghost use Rattle.xet_core_structures.specs.Held.{ReadsList, ReadsNoList, HoldsLists, ReadsNoInput};
+ghost use Rattle.xet_base.specs.Errors.{IsInvalidShard};
+ghost use Rattle.xet_shards.specs.InForm.{Ascends};
+ghost use Rattle.xet_core_structures.specs.Held.{HoldsLists, ReadsNoInput};
 ghost use Rattle.xet_core_structures.specs.ByteResults.{key_of, HaveInputs, InputsFail, DifferenceRefusal};
 
 use super::combine::ascends;
+use super::set_record::SetRecord;
 use std::alloc::Global;
 use xet_base::error::{CoreError, Result};
 use xet_base::source::ShardSource;
@@ -59,43 +60,18 @@ fn read_input<S: ShardSource>(alloc: Global, info: &MDBShardInfo, source: &mut S
         (ReadsNoInput (S.meaning source.old) (S.meaning source.new) info.now) }
     ensures kept { (S.meaning source.new).bytes ≡ (S.meaning source.old).bytes }
 {
-    let files = read_files(alloc, info, source)?;
-    let xorbs = read_xorbs(alloc, info, source)?;
+    let files = ascending(alloc, info.read_all_file_info_sections(alloc, source)?)?;
+    let xorbs = ascending(alloc, info.read_all_xorb_blocks_full(alloc, source)?)?;
     Ok(Records { files, xorbs })
 }
 
-// Reads the file section. `UnexpectedEof` if the source ends before its bookend, `InvalidShard` if
-// its rows pass 4294967295 or its hashes do not strictly ascend, `OutOfMemory` if an allocation
-// fails.
-fn read_files<S: ShardSource>(
-    alloc: Global,
-    info: &MDBShardInfo,
-    source: &mut S,
-) -> Result<Vec<MDBFileInfo>>
-    ensures { MatchResult result
-        (λ found. ReadsList file_records (S.meaning source.old) (S.meaning source.new) info.now.metadata.file_info_offset found.items)
-        (ReadsNoList file_records (S.meaning source.old) (S.meaning source.new) info.now.metadata.file_info_offset) }
+// The same records. `InvalidShard` unless their hashes strictly ascend.
+fn ascending<R: SetRecord + Drop>(alloc: Global, records: Vec<R>) -> Result<Vec<R>>
+    ensures { MatchResult result (λ same. (same.items ≡ records.items) × Ascends R.kind records.items)
+        (λ e. IsInvalidShard e × (¬ Ascends R.kind records.items)) }
 {
-    let files = info.read_all_file_info_sections(alloc, source)?;
-    if !ascends::<MDBFileInfo>(&files) {
+    if !ascends(&records) {
         return Err(CoreError::InvalidShard(String::new(alloc)));
     }
-    Ok(files)
-}
-
-// Reads the xorb section, with the same errors.
-fn read_xorbs<S: ShardSource>(
-    alloc: Global,
-    info: &MDBShardInfo,
-    source: &mut S,
-) -> Result<Vec<MDBXorbInfo>>
-    ensures { MatchResult result
-        (λ found. ReadsList xorb_records (S.meaning source.old) (S.meaning source.new) info.now.metadata.xorb_info_offset found.items)
-        (ReadsNoList xorb_records (S.meaning source.old) (S.meaning source.new) info.now.metadata.xorb_info_offset) }
-{
-    let xorbs = info.read_all_xorb_blocks_full(alloc, source)?;
-    if !ascends::<MDBXorbInfo>(&xorbs) {
-        return Err(CoreError::InvalidShard(String::new(alloc)));
-    }
-    Ok(xorbs)
+    Ok(records)
 }

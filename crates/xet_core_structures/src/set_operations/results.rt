@@ -1,12 +1,15 @@
 //! The union and the difference of two inputs, written to an output.
 
-ghost use Rattle.std.specs.Prelude.{◌≡◌, ◌≢◌, ◌⊎◌, IfOk, IfErr, MatchResult};
-ghost use Rattle.xet_base.specs.Errors.{IsInvalidShard};
+ghost use Rattle.std.specs.Prelude.{◌≡◌, ◌≢◌, ℕ, List, IfOk, MatchResult};
+ghost use Rattle.xet_base.specs.declared.error.CoreError.{CoreError};
+ghost use Rattle.xet_shards.specs.declared.shard_format.info.MDBShardInfo.{MDBShardInfo};
 ghost use Rattle.xet_shards.specs.Ends.{FitsFooter};
 ghost use Rattle.xet_shards.specs.SetOperations.{IsDifference};
+ghost use Rattle.xet_shards.specs.Shard.{Shard};
+ghost use Rattle.xet_core_structures.specs.declared.set_operations.inputs.Records.{Records};
 ghost use Rattle.xet_core_structures.specs.ByteUnion.{IsByteUnion, IsEitherFile, IsEitherXorb};
 ghost use Rattle.xet_core_structures.specs.Combining.{IsRest};
-ghost use Rattle.xet_core_structures.specs.ByteResults.{key_of, AreRecords, AreCombined, NoneCombined, WritesRecords, WritesResult, InputsFail, FailsBy, UnionRefusal, DifferenceRefusal};
+ghost use Rattle.xet_core_structures.specs.ByteResults.{key_of, AreRecords, AreCombined, AreNotUnited, WritesRecords, WritesResult, InputsFail, FailsBy, UnionRefusal, DifferenceRefusal, OperationLaws};
 
 use super::combine::{combine, combine_within_rows};
 use super::inputs::{Records, read_inputs};
@@ -39,8 +42,93 @@ impl From<CoreError> for SetFailure {
     }
 }
 
-/// Writes the union of two inputs, of equal keys, under their key.
-pub fn unite<S: ShardSource, T: ShardSource, W: Write>(
+impl From<SetFailure> for CoreError {
+    ghost use Rattle.std.specs.Prelude.{◌≡◌};
+    ghost use Rattle.xet_core_structures.specs.ByteResults.{error_of};
+
+    ghost from_gives = { λ failure error. error ≡ error_of failure };
+
+    fn from(failure: SetFailure) -> CoreError {
+        match failure {
+            SetFailure::Input(error) | SetFailure::Output(error) => error,
+        }
+    }
+}
+
+/// An operation on the records of two shards: `OfUnion` or `OfDifference`.
+pub trait SetOperation {
+    // the result for two shards
+    ghost IsResult: { Shard → Shard → Shard → Type 0 };
+
+    // what is made of the records of two inputs, and why nothing is
+    ghost Makes: { Records → Records → Records → Type 0 };
+
+    ghost MakesNone: { Records → Records → CoreError → Type 0 };
+
+    // why nothing is made of the bytes of two inputs
+    ghost Refusal: { List ℕ → MDBShardInfo → List ℕ → MDBShardInfo → CoreError → Type 0 };
+
+    /// Combines the records of two inputs. `InvalidShard` if this makes no records of a shard,
+    /// `OutOfMemory` if an allocation fails.
+    fn combine_records(alloc: Global, first: &Records, second: &Records) -> Result<Records>
+        requires first { AreRecords first.now }
+        requires second { AreRecords second.now }
+        ensures { MatchResult result (Makes first.now second.now) (MakesNone first.now second.now) };
+
+    /// Does nothing. It says what holds of every operation.
+    fn laws()
+        ensures { OperationLaws IsResult Makes MakesNone Refusal };
+}
+
+/// The union: `InvalidShard` if files with one hash can't be united, or the rows of a list pass
+/// 4294967295.
+impl SetOperation for OfUnion {
+    ghost IsResult = { IsByteUnion };
+
+    ghost Makes = { AreCombined IsEitherFile IsEitherXorb };
+
+    ghost MakesNone = { AreNotUnited };
+
+    ghost Refusal = { UnionRefusal };
+
+    fn combine_records(alloc: Global, first: &Records, second: &Records) -> Result<Records> {
+        let files = combine_within_rows::<OfUnion, MDBFileInfo>(
+            alloc,
+            &first.files,
+            &second.files,
+        )?;
+        let xorbs = combine_within_rows::<OfUnion, MDBXorbInfo>(
+            alloc,
+            &first.xorbs,
+            &second.xorbs,
+        )?;
+        Ok(Records { files, xorbs })
+    }
+
+    fn laws() {}
+}
+
+/// The difference: the second's records whose hashes the first does not have.
+impl SetOperation for OfDifference {
+    ghost IsResult = { IsDifference };
+
+    ghost Makes = { AreCombined IsRest IsRest };
+
+    ghost MakesNone = { λ first second e. e ≡ CoreError.OutOfMemory };
+
+    ghost Refusal = { DifferenceRefusal };
+
+    fn combine_records(alloc: Global, first: &Records, second: &Records) -> Result<Records> {
+        let files = combine::<OfDifference, MDBFileInfo>(alloc, &first.files, &second.files)?;
+        let xorbs = combine::<OfDifference, MDBXorbInfo>(alloc, &first.xorbs, &second.xorbs)?;
+        Ok(Records { files, xorbs })
+    }
+
+    fn laws() {}
+}
+
+/// Writes the result of an operation on two inputs, of equal keys, under their key.
+pub fn operate<O: SetOperation, S: ShardSource, T: ShardSource, W: Write>(
     alloc: Global,
     s1: &MDBShardInfo,
     r1: &mut S,
@@ -49,65 +137,18 @@ pub fn unite<S: ShardSource, T: ShardSource, W: Write>(
     out: &mut W,
 ) -> std::result::Result<MDBShardInfo, SetFailure>
     ensures written { MatchResult result
-        (WritesResult IsByteUnion (S.meaning r1.old).bytes s1.now (T.meaning r2.old).bytes s2.now (W.contents out.old) (W.contents out.new))
+        (WritesResult O.IsResult (S.meaning r1.old).bytes s1.now (T.meaning r2.old).bytes s2.now (W.contents out.old) (W.contents out.new))
         (FailsBy (InputsFail (S.meaning r1.old) (S.meaning r1.new) (T.meaning r2.old) (T.meaning r2.new)
-        (UnionRefusal (S.meaning r1.old).bytes s1.now (T.meaning r2.old).bytes s2.now))) }
+        (O.Refusal (S.meaning r1.old).bytes s1.now (T.meaning r2.old).bytes s2.now))) }
     ensures untouched { key_of s1.now ≢ key_of s2.now
         → (S.meaning r1.new ≡ S.meaning r1.old) × (T.meaning r2.new ≡ T.meaning r2.old) × (W.contents out.new ≡ W.contents out.old) }
     ensures sources { ((S.meaning r1.new).bytes ≡ (S.meaning r1.old).bytes) × ((T.meaning r2.new).bytes ≡ (T.meaning r2.old).bytes) }
     ensures widths { IfOk result (λ info. FitsFooter info.metadata) }
 {
+    O::laws();
     let inputs = read_inputs(alloc, s1, r1, s2, r2)?;
-    let records = unite_records(alloc, &inputs.first, &inputs.second)?;
+    let records = O::combine_records(alloc, &inputs.first, &inputs.second)?;
     write_records(alloc, out, &records, s1.metadata.chunk_hash_hmac_key)
-}
-
-/// Writes the difference of two inputs, of equal keys, under their key: the second's records whose
-/// hashes the first does not have.
-pub fn subtract<S: ShardSource, T: ShardSource, W: Write>(
-    alloc: Global,
-    s1: &MDBShardInfo,
-    r1: &mut S,
-    s2: &MDBShardInfo,
-    r2: &mut T,
-    out: &mut W,
-) -> std::result::Result<MDBShardInfo, SetFailure>
-    ensures written { MatchResult result
-        (WritesResult IsDifference (S.meaning r1.old).bytes s1.now (T.meaning r2.old).bytes s2.now (W.contents out.old) (W.contents out.new))
-        (FailsBy (InputsFail (S.meaning r1.old) (S.meaning r1.new) (T.meaning r2.old) (T.meaning r2.new)
-        (DifferenceRefusal (S.meaning r1.old).bytes s1.now (T.meaning r2.old).bytes s2.now))) }
-    ensures untouched { key_of s1.now ≢ key_of s2.now
-        → (S.meaning r1.new ≡ S.meaning r1.old) × (T.meaning r2.new ≡ T.meaning r2.old) × (W.contents out.new ≡ W.contents out.old) }
-    ensures sources { ((S.meaning r1.new).bytes ≡ (S.meaning r1.old).bytes) × ((T.meaning r2.new).bytes ≡ (T.meaning r2.old).bytes) }
-    ensures widths { IfOk result (λ info. FitsFooter info.metadata) }
-{
-    let inputs = read_inputs(alloc, s1, r1, s2, r2)?;
-    let records = subtract_records(alloc, &inputs.first, &inputs.second)?;
-    write_records(alloc, out, &records, s1.metadata.chunk_hash_hmac_key)
-}
-
-// The union of lists of records. `InvalidShard` if files with one hash can't be united or the rows
-// of a list pass 4294967295, `OutOfMemory` if an allocation fails.
-fn unite_records(alloc: Global, first: &Records, second: &Records) -> Result<Records>
-    requires first { AreRecords first.now }
-    requires second { AreRecords second.now }
-    ensures { MatchResult result (AreCombined IsEitherFile IsEitherXorb first.now second.now)
-        (λ e. (e ≡ CoreError.OutOfMemory) ⊎ (IsInvalidShard e × NoneCombined IsEitherFile IsEitherXorb first.now second.now)) }
-{
-    let files = combine_within_rows::<OfUnion, MDBFileInfo>(alloc, &first.files, &second.files)?;
-    let xorbs = combine_within_rows::<OfUnion, MDBXorbInfo>(alloc, &first.xorbs, &second.xorbs)?;
-    Ok(Records { files, xorbs })
-}
-
-// The second's records whose hashes the first does not have. `OutOfMemory` if an allocation fails.
-fn subtract_records(alloc: Global, first: &Records, second: &Records) -> Result<Records>
-    requires first { AreRecords first.now }
-    requires second { AreRecords second.now }
-    ensures { MatchResult result (AreCombined IsRest IsRest first.now second.now) (λ e. e ≡ CoreError.OutOfMemory) }
-{
-    let files = combine::<OfDifference, MDBFileInfo>(alloc, &first.files, &second.files)?;
-    let xorbs = combine::<OfDifference, MDBXorbInfo>(alloc, &first.xorbs, &second.xorbs)?;
-    Ok(Records { files, xorbs })
 }
 
 // Writes records under a key, with all tables and no expiry.

@@ -1,9 +1,12 @@
-use Rattle.std.proofs.Common.{inr}
+use Rattle.std.proofs.lemmas.Result.{err_from_is_err_and}
 use Rattle.xet_core_structures.proofs.LookupsFound.{difference_in_form}
+use Rattle.xet_core_structures.proofs.Results.{failed_by}
 use Rattle.xet_core_structures.proofs.set_operations.shard_set_difference.Goals as goal
 
-pub returns-in-Err-Input-clause-written : goal.returns-in-Err-Input-clause-written
-returns-in-Err-Input-clause-written g c = inr (rw c.in-Err-Input.field-0-is at c.in-Err-Input.ensures.written)
+pub returns-in_err-operate-clause-written : goal.returns-in_err-operate-clause-written
+returns-in_err-operate-clause-written g c =
+    let p = err_from_is_err_and c.from_residual.result c.from_residual.ensures.1 in
+    rw p.1 (failed_by _ c.in_err-operate.field-0.0 _ p.2 c.in_err-operate.ensures.written)
 
-pub returns-in-Ok-clause-in_form : goal.returns-in-Ok-clause-in_form
-returns-in-Ok-clause-in_form g c = difference_in_form _ _ _ _ _ _ c.in-Ok.info c.in-Ok.ensures.widths c.in-Ok.ensures.written
+pub returns-clause-in_form : goal.returns-clause-in_form
+returns-clause-in_form g c = difference_in_form _ _ _ _ _ _ c.in_ok-operate.field-0 c.in_ok-operate.ensures.widths c.in_ok-operate.ensures.written

@@ -6,7 +6,7 @@ use Rattle.xet_records.specs.FileRecord.{file_records}
 use Rattle.xet_core_structures.specs.ByteUnion.{IsEitherFile}
 use Rattle.xet_core_structures.specs.Combining.{NoneCombines}
 use Rattle.xet_core_structures.proofs.Results.{no_files}
-use Rattle.xet_core_structures.proofs.set_operations.results.unite_records.Goals as goal
+use Rattle.xet_core_structures.proofs.set_operations.results.OfUnionSetOperation.combine_records.Goals as goal
 
 pub returns-in_err-files : goal.returns-in_err-files
 returns-in_err-files c =

@@ -4,7 +4,7 @@ use Rattle.xet_records.specs.XorbRecord.{xorb_records}
 use Rattle.xet_core_structures.specs.Combining.{IsRest, Combines}
 use Rattle.xet_core_structures.proofs.Results.{rest_writable}
 use Rattle.xet_records.proofs.RecordKinds.{file_laws, xorb_laws}
-use Rattle.xet_core_structures.proofs.set_operations.results.subtract_records.Goals as goal
+use Rattle.xet_core_structures.proofs.set_operations.results.OfDifferenceSetOperation.combine_records.Goals as goal
 
 pub returns : goal.returns
 returns c =
