@@ -1,9 +1,10 @@
 //! Making buffers, from shards and from other buffers.
 
-ghost use Rattle.std.specs.Prelude.{◌≡◌, ◌⊎◌, ◌↔◌, IfOk, OnOk, OnErr, IfErr, IsErrOf, IsSome, IsNone, Some};
+ghost use Rattle.std.specs.Prelude.{◌≡◌, ◌⊎◌, ◌↔◌, IfOk, OnOk, OnErr, IfErr, IsErrOf, IsErrAnd, IsSome, IsNone, Some};
 ghost use Rattle.std.specs.BTreeMap.{get_by_text, IsUnchanged};
 ghost use Rattle.std.specs.Option.{option_map};
 ghost use Rattle.shardtool.specs.Ends.{IsRefused};
+ghost use Rattle.shardtool.specs.Merging.{bytes_under, HasUnknown, StopsAtUnknown};
 
 use super::Workspace;
 use crate::combine::{Operation, combine_bytes};
@@ -67,6 +68,8 @@ impl Workspace {
         buffer: &str,
         tree: &NameTree<'_>,
     ) -> Result<(), Stop>
+        ensures unreadable { IsErrOf result Stop.Unreadable → HasUnknown (bytes_under self.old.buffers) tree.now }
+        ensures unknown { HasUnknown (bytes_under self.old.buffers) tree.now → IsErrAnd result StopsAtUnknown }
         ensures made { OnOk result (IsSome (get_by_text self.new.buffers buffer.now)) }
         ensures err { OnErr result (IsUnchanged self.old.buffers self.new.buffers) }
         ensures shards { self.new.shards ≡ self.old.shards }
