@@ -11,7 +11,7 @@ use Rattle.xet_core_structures.specs.ByteResults.{keyed_layout, key_of, HaveResu
 use Rattle.shardtool.specs.Combining.{CombinesBytes, CombiningRefusal}
 
 -- what a source in memory is
-abbrev in_memory : MemorySource → Source
+abbrev pub in_memory : MemorySource → Source
 in_memory m = record { bytes = m.bytes.now; at = m.at; seeks = m.seeks.value; read = m.read.value; failures = 0; last_failure = None }
 
 module _ (x y x_read y_read : List ℕ) (i j : MDBShardInfo) (x_is : x_read ≡ x) (y_is : y_read ≡ y) (i_ends : HasEnds x i) (j_ends : HasEnds y j) where

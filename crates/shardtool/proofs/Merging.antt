@@ -12,7 +12,7 @@ use Rattle.xet_core_structures.specs.MergeTrees.{TreeWrites, TreeRefusal}
 use Rattle.shardtool.specs.declared.stop.Stop.{Stop}
 use Rattle.shardtool.specs.declared.tree.NameTree.{NameTree}
 use Rattle.shardtool.specs.declared.tree.NameTree.TheVariants.{Name, Both'}
-use Rattle.shardtool.specs.Merging.{Buffers, MergesTo, MergeRefusal, MergeStops, IsPlanOf, PlanStops}
+use Rattle.shardtool.specs.Merging.{Buffers, MergesTo, MergeRefusal, HasUnknown, StopsAtUnknown, MergeStops, IsPlanOf, PlanStops}
 
 slice_get_append : {X : Type 0} (xs ys : List X) (i : ℕ) (x : X) → slice_get xs i ≡ Some x → slice_get (xs ++ ys) i ≡ Some x
 slice_get_append [] ys i x is = absurd (none-some x is)
@@ -33,6 +33,14 @@ module _ (buffers : Buffers) where
   plan_with_more inputs more (Both' p left q right) (Leaf i) none = absurd none
 
   module _ (inputs : List (List ℕ)) where
+    -- each name in it has a buffer
+    pub plan_known : (tree : NameTree) (plan : MergePlan) → IsPlanOf buffers inputs tree plan → ¬ HasUnknown buffers tree
+    plan_known (Name name) (Leaf i) (bytes, known, at) unknown = none-some bytes (sym unknown ∙ known)
+    plan_known (Both' p left q right) (both_plans p1 plan1 q1 plan2) (first, second) (inl unknown) = plan_known left plan1 first unknown
+    plan_known (Both' p left q right) (both_plans p1 plan1 q1 plan2) (first, second) (inr unknown) = plan_known right plan2 second unknown
+    plan_known (Name name) (both_plans p1 plan1 q1 plan2) none unknown = absurd none
+    plan_known (Both' p left q right) (Leaf i) none unknown = absurd none
+
     pub plan_merges : (tree : NameTree) (plan : MergePlan) (out : List ℕ) → IsPlanOf buffers inputs tree plan → TreeWrites inputs plan out → MergesTo buffers tree out
     plan_merges (Name name) (Leaf i) out (bytes, known, at) is = known ∙ (sym at ∙ is)
     plan_merges (Both' p left q right) (both_plans p1 plan1 q1 plan2) out (first, second) (x, y, x_written, y_written, unites) =
@@ -57,6 +65,10 @@ module _ (buffers : Buffers) where
   pub stops_without_plan : (tree : NameTree) (stop : Stop) → PlanStops buffers tree stop → MergeStops buffers tree stop
   stops_without_plan tree stop (inl is) = subst (MergeStops buffers tree) (sym is) (refused_for_memory tree)
   stops_without_plan tree stop (inr (is, unknown)) = subst (MergeStops buffers tree) (sym is) unknown
+
+  pub stops_at_unknown : (tree : NameTree) (stop : Stop) → PlanStops buffers tree stop → StopsAtUnknown stop
+  stops_at_unknown tree stop (inl is) = inr is
+  stops_at_unknown tree stop (inr (is, unknown)) = inl is
 
   -- one more input, at a name
   pub plan_of_name : (tree : NameTree) (name bytes : Bor (List ℕ)) (old new : List (Bor (List ℕ))) (index : ℕ) → tree ≡ Name name → new ≡ old ++ bytes ∷ [] → index ≡ length old

@@ -5,7 +5,20 @@ use Rattle.xet_core_structures.specs.declared.shard_format.MDBShardInfo.{MDBShar
 use Rattle.xet_core_structures.specs.Errors.{IsDeviceError}
 use Rattle.xet_core_structures.specs.Ends.{HasEnds}
 use Rattle.xet_core_structures.specs.Shard.{Shard}
-use Rattle.xet_core_structures.specs.ByteResults.{keyed_layout, key_of, HaveResult, LoadRefusal}
+use Rattle.xet_core_structures.specs.SetOperations.{IsDifference}
+use Rattle.xet_core_structures.specs.ByteUnion.{IsByteUnion}
+use Rattle.xet_core_structures.specs.ByteResults.{keyed_layout, key_of, HaveResult, LoadRefusal, UnionRefusal, DifferenceRefusal}
+use Rattle.shardtool.specs.declared.combine.Operation.{Operation}
+use Rattle.shardtool.specs.declared.combine.Operation.TheVariants.{Union, Difference}
+
+-- what an operation makes of two shards, and why it makes nothing of the bytes of two inputs
+abbrev pub IsResultOf : Operation → Shard → Shard → Shard → Type 0
+IsResultOf Union = IsByteUnion
+IsResultOf Difference = IsDifference
+
+abbrev pub RefusalOf : Operation → List ℕ → MDBShardInfo → List ℕ → MDBShardInfo → CoreError → Type 0
+RefusalOf Union = UnionRefusal
+RefusalOf Difference = DifferenceRefusal
 
 -- the bytes of the result for what two byte strings hold, each with its own header and footer
 abbrev pub CombinesBytes : (Shard → Shard → Shard → Type 0) → List ℕ → List ℕ → List ℕ → Type 0

@@ -1,5 +1,7 @@
 pub mod Combining
 pub mod Ends
+pub mod Exporting
 pub mod Merging
+pub mod Minimal
 pub mod Query
 pub mod Trees

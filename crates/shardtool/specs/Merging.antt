@@ -39,6 +39,10 @@ abbrev pub HasUnknown : Buffers → NameTree → Type 0
 HasUnknown buffers (Name name) = buffers name.now ≡ None
 HasUnknown buffers (Both' p left q right) = HasUnknown buffers left ⊎ HasUnknown buffers right
 
+-- the stop of a merge at such a name, or of an allocation before it
+abbrev pub StopsAtUnknown : Stop → Type 0
+StopsAtUnknown stop = (stop ≡ Unreadable) ⊎ (stop ≡ Refused OutOfMemory)
+
 -- why a merge stops the script
 abbrev pub MergeStops : Buffers → NameTree → Stop → Type 0
 MergeStops buffers tree (Refused e) = MergeRefusal buffers tree e

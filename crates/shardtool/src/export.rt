@@ -1,5 +1,8 @@
 //! Exporting a shard under a key.
 
+ghost use Rattle.std.specs.Prelude.{MatchResult};
+ghost use Rattle.shardtool.specs.Exporting.{ExportsBytes, RefusesExport};
+
 use std::alloc::Global;
 use xet_core_structures::error::Result;
 use xet_core_structures::merklehash::HMACKey;
@@ -27,7 +30,10 @@ pub struct ExportParts {
 ///
 /// The errors are those of [`MDBShardInfo::load_from_reader`] and
 /// [`MDBShardInfo::export_as_keyed_shard`].
-pub fn export_bytes(alloc: Global, bytes: &[u8], export: &Export) -> Result<Vec<u8>> {
+pub fn export_bytes(alloc: Global, bytes: &[u8], export: &Export) -> Result<Vec<u8>>
+    ensures { MatchResult result (λ exported. ExportsBytes export.entry.now bytes.now exported.items)
+        (RefusesExport export.entry.now bytes.now) }
+{
     let mut source = MemorySource::new(bytes);
     let info = MDBShardInfo::load_from_reader(alloc, &mut source)?;
     source.seek_to(0)?;

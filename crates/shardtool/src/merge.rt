@@ -1,7 +1,7 @@
 //! Trees of unions over named buffers.
 
-ghost use Rattle.std.specs.Prelude.{map, MatchResult};
-ghost use Rattle.shardtool.specs.Merging.{bytes_under, MergesTo, MergeStops, AddsInputs, IsPlanOf, PlanStops};
+ghost use Rattle.std.specs.Prelude.{map, MatchResult, IsErrAnd};
+ghost use Rattle.shardtool.specs.Merging.{bytes_under, HasUnknown, StopsAtUnknown, MergesTo, MergeStops, AddsInputs, IsPlanOf, PlanStops};
 
 use crate::stop::Stop;
 use crate::tree::NameTree;
@@ -18,8 +18,9 @@ pub fn merge_buffers(
     tree: &NameTree<'_>,
     buffers: &BTreeMap<String, Vec<u8>>,
 ) -> Result<Vec<u8>, Stop>
-    ensures { MatchResult result (λ bytes. MergesTo (bytes_under buffers.now) tree.now bytes.items)
+    ensures written { MatchResult result (λ bytes. MergesTo (bytes_under buffers.now) tree.now bytes.items)
         (MergeStops (bytes_under buffers.now) tree.now) }
+    ensures unknown { HasUnknown (bytes_under buffers.now) tree.now → IsErrAnd result StopsAtUnknown }
 {
     let mut inputs = Vec::new(alloc);
     let plan = plan_of(alloc, tree, buffers, &mut inputs)?;

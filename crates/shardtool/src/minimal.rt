@@ -1,5 +1,9 @@
 //! Minimal shards, and the chunks that the global index keeps.
 
+ghost use Rattle.std.specs.Prelude.{◌↔◌, IsTrue, MatchResult};
+ghost use Rattle.xet_core_structures.specs.Shard.{xorb_hash_of};
+ghost use Rattle.shardtool.specs.Minimal.{HoldsMinimal, RefusesMinimal, MinimalBytes, Keeps, SubsetBytes, EligibleIn, WritesNone, EligibleRefusal};
+
 use std::alloc::Global;
 use xet_core_structures::error::Result;
 use xet_core_structures::merklehash::MerkleHash;
@@ -14,7 +18,9 @@ pub enum KeptXorbs {
 }
 
 impl KeptXorbs {
-    fn has(&self, hash: &MerkleHash) -> bool {
+    fn has(&self, hash: &MerkleHash) -> bool
+        ensures { IsTrue result ↔ Keeps self.now hash.now }
+    {
         match self {
             KeptXorbs::All => true,
             KeptXorbs::Listed(hashes) => hashes.as_slice().contains(hash),
@@ -38,7 +44,9 @@ pub fn minimal_bytes(
     bytes: &[u8],
     now: u64,
     with_verification: bool,
-) -> Result<Vec<u8>> {
+) -> Result<Vec<u8>>
+    ensures { MatchResult result (λ minimal. MinimalBytes with_verification now bytes.now minimal.items) (WritesNone bytes.now) }
+{
     let shard = read_minimal(alloc, bytes)?;
     let mut minimal = Vec::new(alloc);
     shard.serialize(alloc, &mut minimal, now, with_verification)?;
@@ -49,10 +57,14 @@ pub fn minimal_bytes(
 ///
 /// The errors are those of [`MDBMinimalShard::from_reader`] and
 /// [`MDBMinimalShard::serialize_xorb_subset_with_expiry`].
-pub fn subset_bytes(alloc: Global, bytes: &[u8], subset: &Subset) -> Result<Vec<u8>> {
+pub fn subset_bytes(alloc: Global, bytes: &[u8], subset: &Subset) -> Result<Vec<u8>>
+    ensures { MatchResult result (λ written. SubsetBytes subset.entry.now bytes.now written.items) (WritesNone bytes.now) }
+{
     let shard = read_minimal(alloc, bytes)?;
     let mut written = Vec::new(alloc);
-    let is_kept = |xorb: &MDBXorbInfoView| subset.kept.has(&xorb.xorb_hash());
+    let is_kept = |xorb: &MDBXorbInfoView| -> bool
+        ensures { IsTrue result ↔ Keeps subset.entry.now.kept (xorb_hash_of xorb.now) }
+    { subset.kept.has(&xorb.xorb_hash()) };
     shard.serialize_xorb_subset_with_expiry(
         alloc,
         &mut written,
@@ -68,11 +80,15 @@ pub fn subset_bytes(alloc: Global, bytes: &[u8], subset: &Subset) -> Result<Vec<
 ///
 /// The errors are those of [`MDBMinimalShard::from_reader`] and
 /// [`MDBMinimalShard::global_dedup_eligible_chunks`].
-pub fn eligible_chunks(alloc: Global, bytes: &[u8]) -> Result<Vec<MerkleHash>> {
+pub fn eligible_chunks(alloc: Global, bytes: &[u8]) -> Result<Vec<MerkleHash>>
+    ensures { MatchResult result (λ hashes. EligibleIn bytes.now hashes.items) (EligibleRefusal bytes.now) }
+{
     read_minimal(alloc, bytes)?.global_dedup_eligible_chunks(alloc)
 }
 
-fn read_minimal(alloc: Global, bytes: &[u8]) -> Result<MDBMinimalShard> {
+fn read_minimal(alloc: Global, bytes: &[u8]) -> Result<MDBMinimalShard>
+    ensures { MatchResult result (HoldsMinimal bytes.now) (RefusesMinimal bytes.now) }
+{
     let mut reader = bytes;
     MDBMinimalShard::from_reader(alloc, &mut reader, true, true)
 }

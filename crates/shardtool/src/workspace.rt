@@ -7,6 +7,7 @@ mod buffers;
 mod printing;
 mod shards;
 
+use crate::combine::Operation;
 use crate::command::{Command, parse_line};
 use crate::stop::Stop;
 use script_lines::lines::without_end;
@@ -69,12 +70,12 @@ impl Workspace {
                 first,
                 second,
                 buffer,
-            } => self.unite_buffers(alloc, first, second, buffer),
+            } => self.combine(alloc, Operation::Union, first, second, buffer),
             Command::Diff {
                 first,
                 second,
                 buffer,
-            } => self.subtract_buffers(alloc, first, second, buffer),
+            } => self.combine(alloc, Operation::Difference, first, second, buffer),
             Command::Merge { buffer, tree } => self.merge(alloc, buffer, &tree),
             Command::Export {
                 from,

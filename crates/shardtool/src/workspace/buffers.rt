@@ -1,12 +1,13 @@
 //! Making buffers, from shards and from other buffers.
 
-ghost use Rattle.std.specs.Prelude.{◌≡◌, ◌⊎◌, ◌↔◌, IfOk, OnOk, OnErr, IfErr, IsErrOf, IsSome, IsNone, Some};
+ghost use Rattle.std.specs.Prelude.{◌≡◌, ◌⊎◌, ◌↔◌, IfOk, OnOk, OnErr, IfErr, IsErrOf, IsErrAnd, IsSome, IsNone, Some};
 ghost use Rattle.std.specs.BTreeMap.{get_by_text, IsUnchanged};
 ghost use Rattle.std.specs.Option.{option_map};
 ghost use Rattle.shardtool.specs.Ends.{IsRefused};
+ghost use Rattle.shardtool.specs.Merging.{bytes_under, HasUnknown, StopsAtUnknown};
 
 use super::Workspace;
-use crate::combine::{subtract_bytes, unite_bytes};
+use crate::combine::{Operation, combine_bytes};
 use crate::export::{Export, export_bytes};
 use crate::merge::merge_buffers;
 use crate::minimal::{Subset, minimal_bytes, subset_bytes};
@@ -38,9 +39,10 @@ impl Workspace {
         self.keep(alloc, buffer, bytes)
     }
 
-    pub(super) fn unite_buffers(
+    pub(super) fn combine(
         &mut self,
         alloc: Global,
+        operation: Operation,
         first: &str,
         second: &str,
         buffer: &str,
@@ -51,24 +53,12 @@ impl Workspace {
         ensures err { OnErr result (IsUnchanged self.old.buffers self.new.buffers) }
         ensures shards { self.new.shards ≡ self.old.shards }
     {
-        let bytes = unite_bytes(alloc, self.bytes_of(first)?, self.bytes_of(second)?)?;
-        self.keep(alloc, buffer, bytes)
-    }
-
-    pub(super) fn subtract_buffers(
-        &mut self,
-        alloc: Global,
-        first: &str,
-        second: &str,
-        buffer: &str,
-    ) -> Result<(), Stop>
-        ensures unknown { IsErrOf result Stop.Unreadable ↔ (IsNone (get_by_text self.old.buffers first.now)
-            ⊎ IsNone (get_by_text self.old.buffers second.now)) }
-        ensures made { OnOk result (IsSome (get_by_text self.new.buffers buffer.now)) }
-        ensures err { OnErr result (IsUnchanged self.old.buffers self.new.buffers) }
-        ensures shards { self.new.shards ≡ self.old.shards }
-    {
-        let bytes = subtract_bytes(alloc, self.bytes_of(first)?, self.bytes_of(second)?)?;
+        let bytes = combine_bytes(
+            alloc,
+            operation,
+            self.bytes_of(first)?,
+            self.bytes_of(second)?,
+        )?;
         self.keep(alloc, buffer, bytes)
     }
 
@@ -78,6 +68,8 @@ impl Workspace {
         buffer: &str,
         tree: &NameTree<'_>,
     ) -> Result<(), Stop>
+        ensures unreadable { IsErrOf result Stop.Unreadable → HasUnknown (bytes_under self.old.buffers) tree.now }
+        ensures unknown { HasUnknown (bytes_under self.old.buffers) tree.now → IsErrAnd result StopsAtUnknown }
         ensures made { OnOk result (IsSome (get_by_text self.new.buffers buffer.now)) }
         ensures err { OnErr result (IsUnchanged self.old.buffers self.new.buffers) }
         ensures shards { self.new.shards ≡ self.old.shards }

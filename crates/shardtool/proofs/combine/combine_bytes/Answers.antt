@@ -2,20 +2,19 @@ use Rattle.std.proofs.Common.{◌≡◌, ap, ◌∙◌, subst}
 use Rattle.std.proofs.lemmas.Result.{err_from_is_err_and}
 use Rattle.xet_core_structures.specs.Source.{Source}
 use Rattle.xet_core_structures.specs.Ends.{HasEnds}
-use Rattle.xet_core_structures.specs.ByteUnion.{IsByteUnion}
-use Rattle.xet_core_structures.specs.ByteResults.{UnionRefusal}
+use Rattle.shardtool.specs.Combining.{IsResultOf, RefusalOf}
 use Rattle.shardtool.proofs.Combining.{bytes_combined, combining_refused}
-use Rattle.shardtool.proofs.combine.unite_bytes.Goals as goal
+use Rattle.shardtool.proofs.combine.combine_bytes.Goals as goal
 
-pub returns-in_err-shard_set_union : goal.returns-in_err-shard_set_union
-returns-in_err-shard_set_union c =
+pub returns-in_err-combine : goal.returns-in_err-combine
+returns-in_err-combine c =
     let x : c.new-r1.result.bytes.now ≡ c.args.first.now = ap (λ (s : Source). s.bytes) c.new-r1.ensures in
     let y : c.new-r2.result.bytes.now ≡ c.args.second.now = ap (λ (s : Source). s.bytes) c.new-r2.ensures in
-    let p = err_from_is_err_and c.from_residual-in_err-shard_set_union.result c.from_residual-in_err-shard_set_union.ensures.1 in
+    let p = err_from_is_err_and c.from_residual-in_err-combine.result c.from_residual-in_err-combine.ensures.1 in
     rw (p.1, p.2) (combining_refused c.args.first.now c.args.second.now c.load_from_reader.new.source.bytes.now c.load_from_reader-2.new.source.bytes.now c.in_ok-s1.s1 c.in_ok-s2.s2
     (c.in_ok-s1.ensures.read.bytes ∙ x) (c.in_ok-s2.ensures.read.bytes ∙ y)
     (subst (λ bytes. HasEnds bytes c.in_ok-s1.s1) x c.in_ok-s1.ensures.read.ends) (subst (λ bytes. HasEnds bytes c.in_ok-s2.s2) y c.in_ok-s2.ensures.read.ends)
-    UnionRefusal c.load_from_reader.new.source c.shard_set_union.new.r1 c.load_from_reader-2.new.source c.shard_set_union.new.r2 c.in_err-shard_set_union.field-0.0 c.in_err-shard_set_union.ensures.written)
+    (RefusalOf c.args.operation) c.load_from_reader.new.source c.combine.new.r1 c.load_from_reader-2.new.source c.combine.new.r2 c.in_err-combine.field-0.0 c.in_err-combine.ensures)
 
 pub returns : goal.returns
 returns c =
@@ -24,4 +23,4 @@ returns c =
     bytes_combined c.args.first.now c.args.second.now c.load_from_reader.new.source.bytes.now c.load_from_reader-2.new.source.bytes.now c.in_ok-s1.s1 c.in_ok-s2.s2
     (c.in_ok-s1.ensures.read.bytes ∙ x) (c.in_ok-s2.ensures.read.bytes ∙ y)
     (subst (λ bytes. HasEnds bytes c.in_ok-s1.s1) x c.in_ok-s1.ensures.read.ends) (subst (λ bytes. HasEnds bytes c.in_ok-s2.s2) y c.in_ok-s2.ensures.read.ends)
-    IsByteUnion c.new-bytes.result.items c.shard_set_union.new.out.items c.in_ok-shard_set_union.field-0 c.new-bytes.ensures.items c.in_ok-shard_set_union.ensures.written
+    (IsResultOf c.args.operation) c.new-bytes.result.items c.combine.new.out.items c.in_ok-combine.field-0 c.new-bytes.ensures.items c.in_ok-combine.ensures

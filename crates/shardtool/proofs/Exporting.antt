@@ -1,0 +1,23 @@
+-- An export that is refused, from a source in memory.
+use Rattle.std.proofs.Common.{◌≡◌, ◌⊎◌, inl, inr, ℕ, List, ap, ◌∙◌, subst, arith}
+use Rattle.xet_core_structures.specs.declared.error.CoreError.{CoreError}
+use Rattle.xet_core_structures.specs.declared.error.CoreError.TheVariants.{InvalidArguments}
+use Rattle.xet_core_structures.specs.declared.shard_format.MDBShardInfo.{MDBShardInfo}
+use Rattle.xet_core_structures.specs.declared.source.MemorySource.{MemorySource}
+use Rattle.xet_core_structures.specs.Ends.{HasEnds}
+use Rattle.xet_core_structures.specs.KeyedExport.{ExportCase, ExportFails, CannotExport}
+use Rattle.xet_core_structures.specs.Source.{FailedBy, bytes_left, moved}
+use Rattle.shardtool.specs.declared.export.Export.{Export}
+use Rattle.shardtool.specs.Exporting.{RefusesExport}
+use Rattle.shardtool.proofs.Combining.{in_memory}
+
+-- the source was read from its start on, and its device does not fail
+pub export_refused : (x : Export) (bytes : List ℕ) (i : MDBShardInfo) (loaded start end : MemorySource) (e : CoreError) → HasEnds bytes i → loaded.bytes.now ≡ bytes
+    → in_memory start ≡ moved (in_memory loaded) 0
+    → (((e ≡ InvalidArguments) × CannotExport i x.now x.valid_seconds) ⊎ ExportFails (in_memory start) (in_memory end) e) → RefusesExport x bytes e
+export_refused x bytes i loaded start end e ends are start_is (inl cannot) = inr (i, ends, inl cannot)
+export_refused x bytes i loaded start end e ends are start_is (inr fails) = go fails.cause
+  where
+    go : FailedBy (ExportCase (bytes_left (in_memory start))) (in_memory start) (in_memory end) e → RefusesExport x bytes e
+    go (inl failed) = absurd (omega (arith, failed.0))
+    go (inr (same, why)) = inr (i, ends, inr (subst (λ left. ExportCase left e) (ap bytes_left start_is ∙ are) why))

@@ -1,0 +1,14 @@
+use Rattle.std.proofs.Common.{◌≡◌, ap, ◌∙◌, subst}
+use Rattle.std.proofs.lemmas.Result.{err_from_is_err_and}
+use Rattle.xet_core_structures.specs.Source.{Source}
+use Rattle.xet_core_structures.specs.Ends.{HasEnds}
+use Rattle.shardtool.proofs.Exporting.{export_refused}
+use Rattle.shardtool.proofs.export.export_bytes.Goals as goal
+
+pub returns-in_err-export_as_keyed_shard : goal.returns-in_err-export_as_keyed_shard
+returns-in_err-export_as_keyed_shard c =
+    let x : c.new-source.result.bytes.now ≡ c.args.bytes.now = ap (λ (s : Source). s.bytes) c.new-source.ensures in
+    let p = err_from_is_err_and c.from_residual-in_err-export_as_keyed_shard.result c.from_residual-in_err-export_as_keyed_shard.ensures.1 in
+    rw (p.1, p.2) (export_refused c.args.export.now c.args.bytes.now c.in_ok-info.info c.load_from_reader.new.source c.seek_to.new.self c.export_as_keyed_shard.new.source
+    c.in_err-export_as_keyed_shard.field-0.0 (subst (λ bytes. HasEnds bytes c.in_ok-info.info) x c.in_ok-info.ensures.read.ends) (c.in_ok-info.ensures.read.bytes ∙ x)
+    c.in_ok-seek_to.ensures c.in_err-export_as_keyed_shard.ensures.written)
