@@ -108,7 +108,7 @@ as_wanted-rows wanted r = either (has_verification r.metadata.file_flags && not 
     either true = omega arith
     either false = omega arith
 
-rows_as_wanted : (wanted : Bool) (files : List MDBFileInfo) → total_rows file_records (map (as_wanted wanted) files) ≤ total_rows file_records files
+pub rows_as_wanted : (wanted : Bool) (files : List MDBFileInfo) → total_rows file_records (map (as_wanted wanted) files) ≤ total_rows file_records files
 rows_as_wanted wanted [] = omega arith
 rows_as_wanted wanted (r ∷ files) =
     omega (arith, sum_by-cons row_count (as_wanted wanted r) (map (as_wanted wanted) files), sum_by-cons row_count r files, as_wanted-rows wanted r, rows_as_wanted wanted files)
