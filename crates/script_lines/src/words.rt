@@ -5,6 +5,7 @@ ghost use Rattle.std.specs.Result.{OkIff};
 ghost use Rattle.std.specs.Str.Parse.{digits_value};
 ghost use Rattle.xet_core_structures.specs.Hash.{words_of};
 ghost use Rattle.xet_core_structures.specs.Hex.{IsHexText, Spells};
+ghost use Rattle.script_lines.specs.declared.words.ParseError.TheVariants.{OutOfMemory};
 ghost use Rattle.script_lines.specs.Words.{IsName, IsNameByte, IsNumber, small_words};
 
 use std::alloc::{AllocError, AllocFailed};
@@ -20,9 +21,6 @@ pub enum ParseError {
 }
 
 impl From<AllocError> for ParseError {
-    ghost use Rattle.std.specs.Prelude.{◌≡◌};
-    ghost use Rattle.script_lines.specs.declared.words.ParseError.TheVariants.{OutOfMemory};
-
     ghost from_gives = { λ _ error. error ≡ OutOfMemory };
 
     fn from(_error: AllocError) -> ParseError {
@@ -31,9 +29,6 @@ impl From<AllocError> for ParseError {
 }
 
 impl<T: Drop> From<AllocFailed<T>> for ParseError {
-    ghost use Rattle.std.specs.Prelude.{◌≡◌};
-    ghost use Rattle.script_lines.specs.declared.words.ParseError.TheVariants.{OutOfMemory};
-
     ghost from_gives = { λ _ error. error ≡ OutOfMemory };
 
     fn from(_error: AllocFailed<T>) -> ParseError {
