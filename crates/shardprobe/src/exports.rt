@@ -57,7 +57,8 @@ pub fn export(
     })
 }
 
-fn print_size(answer: CoreResult<usize>, out: &mut Vec<u8>) -> Result<(), Stop> {
+/// Prints the number that a call which writes returns.
+pub fn print_size(answer: CoreResult<usize>, out: &mut Vec<u8>) -> Result<(), Stop> {
     let size = answer?;
     writeln!(out, "{size}")?;
     Ok(())

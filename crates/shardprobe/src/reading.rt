@@ -6,6 +6,7 @@ use crate::fields::print_info;
 use crate::lookup::{
     print_chunk_index, print_file_index, print_xorb_index, query_at, query_chunks,
 };
+use crate::minimal::print_hashes;
 use crate::search::search;
 use crate::sets::combine;
 use crate::show::{
@@ -88,6 +89,7 @@ fn call(
 ) -> Result<(), Stop> {
     match command {
         "load" => return load(alloc, source, rest, out),
+        "eligible_chunks" => return print_eligible(alloc, source, rest, out),
         "read_file_ranges" => return read_file_ranges(alloc, source, rest, out),
         "search" => return search(alloc, source, rest, out),
         "run" => return query_chunks(alloc, &info_of(alloc, bytes)?, source, rest, out),
@@ -114,6 +116,20 @@ fn load(
 ) -> Result<(), Stop> {
     let info = MDBShardInfo::load_from_reader(alloc, source)?;
     print_info(&info, fields, out)
+}
+
+fn print_eligible(
+    alloc: Global,
+    source: &mut Device<'_>,
+    rest: &[&str],
+    out: &mut Vec<u8>,
+) -> Result<(), Stop> {
+    if !rest.is_empty() {
+        return Err(Stop::Unreadable);
+    }
+    let hashes = MDBShardInfo::filter_cas_chunks_for_global_dedup(alloc, source)?;
+    print_hashes(hashes.as_slice(), out)?;
+    Ok(())
 }
 
 fn read_file_ranges(

@@ -95,7 +95,7 @@ fn count_files(alloc: Global, last: u64, out: &mut Vec<u8>) -> Result<(), Stop> 
 
 /// A reader of zero bytes without an end.
 #[derive(Drop)]
-struct Zeros {}
+pub struct Zeros {}
 
 impl Read for Zeros {
     fn read(&mut self, buf: &mut [u8]) -> io::Result<usize> {
