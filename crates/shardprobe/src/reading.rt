@@ -69,12 +69,17 @@ pub fn run_reading(
     let bytes = workspace.buffer(name)?;
     let mut source = Device::new(bytes, plan);
     let answer = call(alloc, command, bytes, &mut source, rest, out);
-    Ok(Report {
+    Ok(report_of(answer, &source))
+}
+
+/// The result of a command on one device, and its costs.
+pub fn report_of(answer: Result<(), Stop>, source: &Device<'_>) -> Report {
+    Report {
         answer,
         seeks_made: source.seeks_made(),
         bytes_read: source.bytes_read(),
         has_failed: source.has_failed(),
-    })
+    }
 }
 
 // Makes the call of a command. Most calls take header and footer, which are read before from a
@@ -399,7 +404,7 @@ pub fn run_each_failure(
             return finish(
                 turn - 1,
                 answers.as_slice(),
-                report,
+                report.answer,
                 printed.as_slice(),
                 out,
             );
@@ -419,17 +424,17 @@ pub fn run_each_failure(
 fn finish(
     count: u64,
     answers: &[u8],
-    last: Report,
+    last: Result<(), Stop>,
     printed: &[u8],
     out: &mut Vec<u8>,
 ) -> Result<(), Stop> {
-    if matches!(&last.answer, Err(Stop::Unreadable)) {
-        return Err(Stop::Unreadable);
+    if let Err(Stop::Unreadable) = last {
+        return last;
     }
-    let is_same = last.answer.is_ok() && answers == printed;
+    let is_same = last.is_ok() && answers == printed;
     print_failures(count, if is_same { b"as below" } else { answers }, out)?;
     out.extend_from_slice(printed)?;
-    last.answer
+    last
 }
 
 fn write_separated(answers: &mut Vec<u8>, answer: &[u8]) -> io::Result<()> {
