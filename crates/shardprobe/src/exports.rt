@@ -1,11 +1,10 @@
 //! Keyed exports of buffers.
 
 use crate::device::{Device, Plan};
-use crate::parse::{parse_key, parse_part};
-use crate::reading::{Report, Written, info_of};
+use crate::parse::{parse_key, parse_part, parse_u64s};
+use crate::reading::{Written, info_of, report_of};
 use crate::stop::Stop;
 use crate::workspace::Workspace;
-use script_lines::words::parse_u64;
 use std::alloc::Global;
 use std::io::Write;
 use xet_core_structures::error::Result as CoreResult;
@@ -46,18 +45,15 @@ pub fn export(
         }
         _ => export_streaming(alloc, &mut source, &mut written, options),
     };
+    let answer = print_size(answer, out);
     Ok(Written {
-        report: Report {
-            answer: print_size(answer, out),
-            seeks_made: source.seeks_made(),
-            bytes_read: source.bytes_read(),
-            has_failed: source.has_failed(),
-        },
+        report: report_of(answer, &source),
         bytes: written,
     })
 }
 
-fn print_size(answer: CoreResult<usize>, out: &mut Vec<u8>) -> Result<(), Stop> {
+/// Prints the number that a call which writes returns.
+pub fn print_size(answer: CoreResult<usize>, out: &mut Vec<u8>) -> Result<(), Stop> {
     let size = answer?;
     writeln!(out, "{size}")?;
     Ok(())
@@ -104,18 +100,28 @@ fn export_streaming(
 
 // The options of words `KEY NOW VALID PARTS`.
 fn parse_options(words: &[&str]) -> Result<Options, Stop> {
-    let [key, now, valid, parts] = words else {
+    let [key, times @ .., parts] = words else {
         return Err(Stop::Unreadable);
     };
+    let key = parse_key(key)?;
+    let [now, valid_seconds] = parse_u64s::<2>(times)?;
+    let (files, xorb_table, chunk_table) = parse_parts(parts)?;
+    Ok(Options {
+        key,
+        now,
+        valid_seconds,
+        files,
+        xorb_table,
+        chunk_table,
+    })
+}
+
+// Which of files, xorb table and chunk table are named.
+fn parse_parts(parts: &str) -> Result<(bool, bool, bool), Stop> {
     let [files, xorb_table, chunk_table] = parts.as_bytes() else {
         return Err(Stop::Unreadable);
     };
-    Ok(Options {
-        key: parse_key(key)?,
-        now: parse_u64(now)?,
-        valid_seconds: parse_u64(valid)?,
-        files: parse_part(*files, b'f')?,
-        xorb_table: parse_part(*xorb_table, b'x')?,
-        chunk_table: parse_part(*chunk_table, b'c')?,
-    })
+    let files = parse_part(*files, b'f')?;
+    let xorb_table = parse_part(*xorb_table, b'x')?;
+    Ok((files, xorb_table, parse_part(*chunk_table, b'c')?))
 }

@@ -9,6 +9,7 @@ mod exports;
 mod fields;
 mod lookup;
 mod memory;
+mod minimal;
 mod parse;
 mod reading;
 mod script;

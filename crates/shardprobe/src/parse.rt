@@ -63,6 +63,30 @@ fn count_of(length: usize) -> Result<u32, Stop> {
     u32::try_from(length).map_err(|_| Stop::Unreadable)
 }
 
+/// As many numbers as there are to be words.
+pub fn parse_u64s<const N: usize>(words: &[&str]) -> Result<[u64; N], Stop> {
+    if words.len() != N {
+        return Err(Stop::Unreadable);
+    }
+    let mut numbers = [0u64; N];
+    for (i, word) in words.iter().enumerate() {
+        numbers[i] = parse_u64(word)?;
+    }
+    Ok(numbers)
+}
+
+/// Up to so many numbers, `least` at least, and zeros for those that are left out.
+pub fn parse_u32s<const N: usize>(words: &[&str], least: usize) -> Result<[u32; N], Stop> {
+    if words.len() < least || words.len() > N {
+        return Err(Stop::Unreadable);
+    }
+    let mut numbers = [0u32; N];
+    for (i, word) in words.iter().enumerate() {
+        numbers[i] = parse_u32(word)?;
+    }
+    Ok(numbers)
+}
+
 fn split_parts(alloc: Global, word: &str, separator: char) -> Result<Vec<&str>, AllocError> {
     word.split(separator).collect(alloc)
 }
@@ -95,14 +119,14 @@ pub fn parse_metadata(alloc: Global, word: &str) -> Result<FileMetadataExt, Stop
 
 fn parse_hash_and_reserved(alloc: Global, word: &str) -> Result<(MerkleHash, [u64; 2]), Stop> {
     let parts = split_parts(alloc, word, '/')?;
-    match parts.as_slice() {
-        [hash] => Ok((parse_hash(hash)?, [0, 0])),
-        [hash, first, second] => {
-            let hash = parse_hash(hash)?;
-            Ok((hash, [parse_u64(first)?, parse_u64(second)?]))
-        }
-        _ => Err(Stop::Unreadable),
+    let Some((hash, reserved)) = parts.as_slice().split_first() else {
+        return Err(Stop::Unreadable);
+    };
+    let hash = parse_hash(hash)?;
+    if reserved.is_empty() {
+        return Ok((hash, [0, 0]));
     }
+    Ok((hash, parse_u64s(reserved)?))
 }
 
 fn parse_segments(alloc: Global, words: &[&str]) -> Result<Rows<FileDataSequenceEntry>, Stop> {
@@ -116,17 +140,17 @@ fn parse_segments(alloc: Global, words: &[&str]) -> Result<Rows<FileDataSequence
 /// The segment of a word `XORB:START:END:BYTES` or `XORB:START:END:BYTES:FLAGS`.
 pub fn parse_segment(alloc: Global, word: &str) -> Result<FileDataSequenceEntry, Stop> {
     let parts = split_parts(alloc, word, ':')?;
-    let (xorb, start, end, bytes, flags) = match parts.as_slice() {
-        [xorb, start, end, bytes] => (*xorb, *start, *end, *bytes, "0"),
-        [xorb, start, end, bytes, flags] => (*xorb, *start, *end, *bytes, *flags),
-        _ => return Err(Stop::Unreadable),
+    let Some((xorb, numbers)) = parts.as_slice().split_first() else {
+        return Err(Stop::Unreadable);
     };
+    let xorb_hash = parse_hash(xorb)?;
+    let [start, end, bytes, flags] = parse_u32s::<4>(numbers, 3)?;
     Ok(FileDataSequenceEntry {
-        xorb_hash: parse_hash(xorb)?,
-        xorb_flags: parse_u32(flags)?,
-        unpacked_segment_bytes: parse_u32(bytes)?,
-        chunk_index_start: parse_u32(start)?,
-        chunk_index_end: parse_u32(end)?,
+        xorb_hash,
+        xorb_flags: flags,
+        unpacked_segment_bytes: bytes,
+        chunk_index_start: start,
+        chunk_index_end: end,
     })
 }
 
@@ -178,25 +202,17 @@ fn parse_chunks(
 /// out. It then starts at `next`.
 pub fn parse_chunk(alloc: Global, word: &str, next: u32) -> Result<XorbChunkSequenceEntry, Stop> {
     let parts = split_parts(alloc, word, ':')?;
-    let (hash, size, rest) = match parts.as_slice() {
-        [hash, size, rest @ ..] => (*hash, *size, rest),
-        _ => return Err(Stop::Unreadable),
+    let Some((hash, numbers)) = parts.as_slice().split_first() else {
+        return Err(Stop::Unreadable);
     };
     let chunk_hash = parse_hash(hash)?;
-    let unpacked_segment_bytes = parse_u32(size)?;
-    let (chunk_byte_range_start, flags, _unused) = match rest {
-        [] => (next, 0, 0),
-        [start] => (parse_u32(start)?, 0, 0),
-        [start, flags] => (parse_u32(start)?, parse_u32(flags)?, 0),
-        [start, flags, unused] => (parse_u32(start)?, parse_u32(flags)?, parse_u32(unused)?),
-        _ => return Err(Stop::Unreadable),
-    };
+    let [size, start, flags, unused] = parse_u32s::<4>(numbers, 1)?;
     Ok(XorbChunkSequenceEntry {
         chunk_hash,
-        chunk_byte_range_start,
-        unpacked_segment_bytes,
+        chunk_byte_range_start: if numbers.len() == 1 { next } else { start },
+        unpacked_segment_bytes: size,
         flags,
-        _unused,
+        _unused: unused,
     })
 }
 

@@ -6,6 +6,7 @@ use crate::fields::print_info;
 use crate::lookup::{
     print_chunk_index, print_file_index, print_xorb_index, query_at, query_chunks,
 };
+use crate::minimal::print_hashes;
 use crate::search::search;
 use crate::sets::combine;
 use crate::show::{
@@ -68,12 +69,17 @@ pub fn run_reading(
     let bytes = workspace.buffer(name)?;
     let mut source = Device::new(bytes, plan);
     let answer = call(alloc, command, bytes, &mut source, rest, out);
-    Ok(Report {
+    Ok(report_of(answer, &source))
+}
+
+/// The result of a command on one device, and its costs.
+pub fn report_of(answer: Result<(), Stop>, source: &Device<'_>) -> Report {
+    Report {
         answer,
         seeks_made: source.seeks_made(),
         bytes_read: source.bytes_read(),
         has_failed: source.has_failed(),
-    })
+    }
 }
 
 // Makes the call of a command. Most calls take header and footer, which are read before from a
@@ -88,6 +94,7 @@ fn call(
 ) -> Result<(), Stop> {
     match command {
         "load" => return load(alloc, source, rest, out),
+        "eligible_chunks" => return print_eligible(alloc, source, rest, out),
         "read_file_ranges" => return read_file_ranges(alloc, source, rest, out),
         "search" => return search(alloc, source, rest, out),
         "run" => return query_chunks(alloc, &info_of(alloc, bytes)?, source, rest, out),
@@ -114,6 +121,20 @@ fn load(
 ) -> Result<(), Stop> {
     let info = MDBShardInfo::load_from_reader(alloc, source)?;
     print_info(&info, fields, out)
+}
+
+fn print_eligible(
+    alloc: Global,
+    source: &mut Device<'_>,
+    rest: &[&str],
+    out: &mut Vec<u8>,
+) -> Result<(), Stop> {
+    if !rest.is_empty() {
+        return Err(Stop::Unreadable);
+    }
+    let hashes = MDBShardInfo::filter_cas_chunks_for_global_dedup(alloc, source)?;
+    print_hashes(hashes.as_slice(), out)?;
+    Ok(())
 }
 
 fn read_file_ranges(
@@ -383,7 +404,7 @@ pub fn run_each_failure(
             return finish(
                 turn - 1,
                 answers.as_slice(),
-                report,
+                report.answer,
                 printed.as_slice(),
                 out,
             );
@@ -403,17 +424,17 @@ pub fn run_each_failure(
 fn finish(
     count: u64,
     answers: &[u8],
-    last: Report,
+    last: Result<(), Stop>,
     printed: &[u8],
     out: &mut Vec<u8>,
 ) -> Result<(), Stop> {
-    if matches!(&last.answer, Err(Stop::Unreadable)) {
-        return Err(Stop::Unreadable);
+    if let Err(Stop::Unreadable) = last {
+        return last;
     }
-    let is_same = last.answer.is_ok() && answers == printed;
+    let is_same = last.is_ok() && answers == printed;
     print_failures(count, if is_same { b"as below" } else { answers }, out)?;
     out.extend_from_slice(printed)?;
-    last.answer
+    last
 }
 
 fn write_separated(answers: &mut Vec<u8>, answer: &[u8]) -> io::Result<()> {

@@ -4,6 +4,7 @@ use crate::buffers::{ask_buffers, run_on_buffers};
 use crate::codecs::run_codecs;
 use crate::device::{Fault, Operation, Plan};
 use crate::memory::{ask_shards, run_on_shards};
+use crate::minimal::{ask_minimal, run_on_minimal};
 use crate::reading::{Report, run_each_failure, run_reading, run_writing};
 use crate::search::make_table;
 use crate::sections::ask_sections;
@@ -83,6 +84,8 @@ impl Probe {
             || run_codecs(&mut self.workspace, alloc, words, out)?
             || ask_views(&self.workspace, alloc, words, out)?
             || ask_sections(&self.workspace, alloc, words, out)?
+            || run_on_minimal(&mut self.workspace, alloc, words, out)?
+            || ask_minimal(&self.workspace, alloc, words, out)?
             || run_on_values(alloc, words, out)?
             || run_on_records(alloc, words, out)?;
         if is_run {

@@ -5,6 +5,7 @@ ghost use Rattle.xet_core_structures.specs.Source.{FillFails};
 ghost use Rattle.xet_core_structures.specs.Table.{ReadsOn};
 
 use crate::device::Device;
+use crate::parse::parse_u64s;
 use crate::stop::Stop;
 use crate::workspace::Workspace;
 use script_lines::words::parse_u64;
@@ -44,7 +45,12 @@ pub fn make_table(
 fn parse_width(word: &str) -> Result<usize, Stop>
     ensures { IfOk result (λ width. width ≤ 64) }
 {
-    let width = parse_u64(word)?;
+    checked_width(parse_u64(word)?)
+}
+
+fn checked_width(width: u64) -> Result<usize, Stop>
+    ensures { IfOk result (λ width. width ≤ 64) }
+{
     if width > MOST_BYTES {
         return Err(Stop::Unreadable);
     }
@@ -101,18 +107,15 @@ pub fn search(
     numbers: &[&str],
     out: &mut Vec<u8>,
 ) -> Result<(), Stop> {
-    let [start, rows, width, key, places] = numbers else {
-        return Err(Stop::Unreadable);
-    };
-    let width = parse_width(width)?;
-    let places = parse_u64(places)? as usize;
-    let mut results = vec![in alloc; 0u64; places]?;
+    let [start, rows, width, key, places] = parse_u64s::<5>(numbers)?;
+    let width = checked_width(width)?;
+    let mut results = vec![in alloc; 0u64; places as usize]?;
     let found = search_on_sorted_u64s(
         alloc,
         source,
-        parse_u64(start)?,
-        parse_u64(rows)?,
-        parse_u64(key)?,
+        start,
+        rows,
+        key,
         width as u64,
         |source: &mut Device<'_>| read_value(source, width),
         results.as_mut_slice(),

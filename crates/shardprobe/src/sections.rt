@@ -55,25 +55,43 @@ fn end_at(calls: &mut u64, last: u64) -> CoreResult<()> {
     Ok(())
 }
 
+// Prints the record of a call, and fails if the call has to.
+fn give_file(
+    view: &MDBFileInfoView,
+    alloc: Global,
+    out: &mut Vec<u8>,
+    calls: &mut u64,
+    last: u64,
+) -> CoreResult<()> {
+    print_file(&view.to_info(alloc)?, out)?;
+    end_at(calls, last)
+}
+
 fn print_files(alloc: Global, bytes: &[u8], last: u64, out: &mut Vec<u8>) -> Result<(), Stop> {
     let mut reader = bytes;
     let mut calls = 0u64;
-    let mut print = |view: MDBFileInfoView| -> CoreResult<()> {
-        print_file(&view.to_info(alloc)?, out)?;
-        end_at(&mut calls, last)
-    };
+    let mut print = |view: MDBFileInfoView| give_file(&view, alloc, out, &mut calls, last);
     let answer = process_shard_file_info_section(alloc, &mut reader, &mut print);
     print_left(reader, out)?;
     Ok(answer?)
 }
 
+// Prints the record of a call, and fails if the call has to.
+fn give_xorb(
+    view: &MDBXorbInfoView,
+    alloc: Global,
+    out: &mut Vec<u8>,
+    calls: &mut u64,
+    last: u64,
+) -> CoreResult<()> {
+    print_xorb(&view.to_info(alloc)?, out)?;
+    end_at(calls, last)
+}
+
 fn print_xorbs(alloc: Global, bytes: &[u8], last: u64, out: &mut Vec<u8>) -> Result<(), Stop> {
     let mut reader = bytes;
     let mut calls = 0u64;
-    let mut print = |view: MDBXorbInfoView| -> CoreResult<()> {
-        print_xorb(&view.to_info(alloc)?, out)?;
-        end_at(&mut calls, last)
-    };
+    let mut print = |view: MDBXorbInfoView| give_xorb(&view, alloc, out, &mut calls, last);
     let answer = process_shard_xorb_info_section(alloc, &mut reader, &mut print);
     print_left(reader, out)?;
     Ok(answer?)
@@ -95,7 +113,7 @@ fn count_files(alloc: Global, last: u64, out: &mut Vec<u8>) -> Result<(), Stop> 
 
 /// A reader of zero bytes without an end.
 #[derive(Drop)]
-struct Zeros {}
+pub struct Zeros {}
 
 impl Read for Zeros {
     fn read(&mut self, buf: &mut [u8]) -> io::Result<usize> {

@@ -18,7 +18,7 @@ use xet_core_structures::shard_format::MDBShardInfo;
 use xet_core_structures::utils::{
     parse_shard_filename, shard_expiry_time, shard_file_name, truncate_hash,
 };
-use xet_core_structures::xorb_structs::XorbChunkSequenceEntry;
+use xet_core_structures::xorb_structs::{MDBXorbInfo, XorbChunkSequenceEntry};
 
 /// Runs a command on hashes, names or timestamps. `false` if the words are no such command.
 pub fn run_on_values(alloc: Global, words: &[&str], out: &mut Vec<u8>) -> Result<bool, Stop> {
@@ -104,18 +104,20 @@ pub fn run_on_records(alloc: Global, words: &[&str], out: &mut Vec<u8>) -> Resul
 
 // Runs a command on one record. `false` if the words are no such command.
 fn run_on_record(alloc: Global, words: &[&str], out: &mut Vec<u8>) -> Result<bool, Stop> {
-    match words {
-        ["clone_file", record @ ..] => clone_file(alloc, record, out)?,
-        ["clone_xorb", record @ ..] => clone_xorb(alloc, record, out)?,
-        ["measure_file", record @ ..] => measure_file(alloc, record, out)?,
-        ["measure_xorb", record @ ..] => measure_xorb(alloc, record, out)?,
-        ["announces", record @ ..] => print_announced(alloc, record, out)?,
-        ["segment_of", xorb @ .., "from", start, "to", end] => {
-            print_segment_of(alloc, xorb, parse_u32(start)?, parse_u32(end)?, out)?;
-        }
-        ["boundaries", xorb @ ..] => print_boundaries(alloc, xorb, out)?,
+    let Some((command, record)) = words.split_first() else {
+        return Ok(false);
+    };
+    let answer = match *command {
+        "clone_file" => clone_file(alloc, record, out),
+        "clone_xorb" => clone_xorb(alloc, record, out),
+        "measure_file" => measure_file(alloc, record, out),
+        "measure_xorb" => measure_xorb(alloc, record, out),
+        "announces" => print_announced(alloc, record, out),
+        "segment_of" => print_segment_of(alloc, record, out),
+        "boundaries" => print_boundaries(alloc, record, out),
         _ => return Ok(false),
-    }
+    };
+    answer?;
     Ok(true)
 }
 
@@ -224,14 +226,19 @@ fn print_merged(alloc: Global, records: &[&str], out: &mut Vec<u8>) -> Result<()
     Ok(())
 }
 
-fn print_segment_of(
-    alloc: Global,
-    xorb: &[&str],
-    start: u32,
-    end: u32,
-    out: &mut Vec<u8>,
-) -> Result<(), Stop> {
+fn print_segment_of(alloc: Global, words: &[&str], out: &mut Vec<u8>) -> Result<(), Stop> {
+    let [xorb @ .., "from", start, "to", end] = words else {
+        return Err(Stop::Unreadable);
+    };
+    let start = parse_u32(start)?;
+    let end = parse_u32(end)?;
     let xorb = parse_xorb(alloc, xorb)?;
+    let segment = Segment(segment_of(&xorb, start, end)?);
+    writeln!(out, "{segment}")?;
+    Ok(())
+}
+
+fn segment_of(xorb: &MDBXorbInfo, start: u32, end: u32) -> Result<FileDataSequenceEntry, Stop> {
     let chunks = xorb.chunks.as_slice();
     if start > end || end as usize > chunks.len() {
         return Err(Stop::Unreadable);
@@ -240,14 +247,7 @@ fn print_segment_of(
     if !sum_fits(chunks) {
         return Err(Stop::Unreadable);
     }
-    let segment = Segment(FileDataSequenceEntry::from_xorb_entries(
-        &xorb.metadata,
-        chunks,
-        start,
-        end,
-    ));
-    writeln!(out, "{segment}")?;
-    Ok(())
+    Ok(FileDataSequenceEntry::from_xorb_entries(&xorb.metadata, chunks, start, end))
 }
 
 // Whether the sum of the sizes of these chunks fits `u32`.

@@ -1,0 +1,281 @@
+//! Commands on minimal shards.
+
+use crate::exports::print_size;
+use crate::parse::parse_part;
+use crate::sections::Zeros;
+use crate::show::{print_file, print_hash, print_if_empty, print_xorb};
+use crate::stop::Stop;
+use crate::workspace::Workspace;
+use script_lines::records::parse_hashes;
+use script_lines::words::parse_u64;
+use std::alloc::Global;
+use std::io;
+use std::io::Write;
+use xet_core_structures::error::Result as CoreResult;
+use xet_core_structures::merklehash::MerkleHash;
+use xet_core_structures::streaming_shard::MDBMinimalShard;
+use xet_core_structures::xorb_structs::MDBXorbInfoView;
+
+/// Runs a command that writes a minimal shard, into a buffer that it makes. `false` if the words are
+/// no such command.
+pub fn run_on_minimal(
+    workspace: &mut Workspace,
+    alloc: Global,
+    words: &[&str],
+    out: &mut Vec<u8>,
+) -> Result<bool, Stop> {
+    let [command, from, name, options @ ..] = words else {
+        return Ok(false);
+    };
+    let ("minimal" | "subset" | "subset_only") = *command else {
+        return Ok(false);
+    };
+    let mut bytes = Vec::new(alloc);
+    let answer = write(workspace, alloc, command, from, options, &mut bytes)?;
+    workspace.put_buffer(alloc, name, bytes)?;
+    print_size(answer, out)?;
+    Ok(true)
+}
+
+// Makes the call of a command that writes. The inner result is that of the call.
+fn write(
+    workspace: &Workspace,
+    alloc: Global,
+    command: &str,
+    from: &str,
+    options: &[&str],
+    bytes: &mut Vec<u8>,
+) -> Result<CoreResult<usize>, Stop> {
+    let shard = minimal_shard(workspace, alloc, from, "fx")?;
+    match command {
+        "minimal" => write_whole(&shard, alloc, options, bytes),
+        "subset" => write_subset(&shard, alloc, options, bytes),
+        _ => write_subset_only(&shard, alloc, options, bytes),
+    }
+}
+
+// Writes by options `NOW ROWS`.
+fn write_whole(
+    shard: &MDBMinimalShard,
+    alloc: Global,
+    options: &[&str],
+    bytes: &mut Vec<u8>,
+) -> Result<CoreResult<usize>, Stop> {
+    let [now, rows] = options else {
+        return Err(Stop::Unreadable);
+    };
+    let now = parse_u64(now)?;
+    let with_verification = parse_rows(rows)?;
+    Ok(shard.serialize(alloc, bytes, now, with_verification))
+}
+
+// Writes by options `NOW EXPIRY LIST`.
+fn write_subset(
+    shard: &MDBMinimalShard,
+    alloc: Global,
+    options: &[&str],
+    bytes: &mut Vec<u8>,
+) -> Result<CoreResult<usize>, Stop> {
+    let [now, expiry, list @ ..] = options else {
+        return Err(Stop::Unreadable);
+    };
+    let now = parse_u64(now)?;
+    let expiry = parse_expiry(expiry)?;
+    let kept = parse_kept(alloc, list)?;
+    let is_kept = |xorb: &MDBXorbInfoView| kept.has(&xorb.xorb_hash());
+    Ok(shard.serialize_xorb_subset_with_expiry(alloc, bytes, now, expiry, is_kept))
+}
+
+// Writes by options `NOW LIST`.
+fn write_subset_only(
+    shard: &MDBMinimalShard,
+    alloc: Global,
+    options: &[&str],
+    bytes: &mut Vec<u8>,
+) -> Result<CoreResult<usize>, Stop> {
+    let [now, list @ ..] = options else {
+        return Err(Stop::Unreadable);
+    };
+    let now = parse_u64(now)?;
+    let kept = parse_kept(alloc, list)?;
+    let is_kept = |xorb: &MDBXorbInfoView| kept.has(&xorb.xorb_hash());
+    Ok(shard.serialize_xorb_subset_only(alloc, bytes, now, is_kept))
+}
+
+// Whether verification rows are wanted: `v`, or `-`.
+fn parse_rows(word: &str) -> Result<bool, Stop> {
+    let [sign] = word.as_bytes() else {
+        return Err(Stop::Unreadable);
+    };
+    parse_part(*sign, b'v')
+}
+
+fn parse_expiry(word: &str) -> Result<Option<u64>, Stop> {
+    if word == "-" {
+        return Ok(None);
+    }
+    Ok(Some(parse_u64(word)?))
+}
+
+// The xorbs that a subset keeps.
+#[derive(Drop)]
+enum KeptXorbs {
+    All,
+    Listed(Vec<MerkleHash>),
+}
+
+impl KeptXorbs {
+    fn has(&self, hash: &MerkleHash) -> bool {
+        match self {
+            KeptXorbs::All => true,
+            KeptXorbs::Listed(hashes) => hashes.as_slice().contains(hash),
+        }
+    }
+}
+
+// The xorbs that a list names: `*` for all, or their hashes.
+fn parse_kept(alloc: Global, list: &[&str]) -> Result<KeptXorbs, Stop> {
+    if let ["*"] = list {
+        return Ok(KeptXorbs::All);
+    }
+    Ok(KeptXorbs::Listed(parse_hashes(alloc, list)?))
+}
+
+// The minimal shard of a buffer, with the parts that two signs name.
+fn minimal_shard(
+    workspace: &Workspace,
+    alloc: Global,
+    name: &str,
+    parts: &str,
+) -> Result<MDBMinimalShard, Stop> {
+    let (files, xorbs) = parse_parts(parts)?;
+    let mut reader = workspace.buffer(name)?;
+    Ok(MDBMinimalShard::from_reader(alloc, &mut reader, files, xorbs)?)
+}
+
+// Whether two signs name files, `f`, and xorbs, `x`; `-` leaves out.
+fn parse_parts(parts: &str) -> Result<(bool, bool), Stop> {
+    let [files, xorbs] = parts.as_bytes() else {
+        return Err(Stop::Unreadable);
+    };
+    Ok((parse_part(*files, b'f')?, parse_part(*xorbs, b'x')?))
+}
+
+/// Runs a command that prints what a minimal shard has. `false` if the words are no such command.
+pub fn ask_minimal(
+    workspace: &Workspace,
+    alloc: Global,
+    words: &[&str],
+    out: &mut Vec<u8>,
+) -> Result<bool, Stop> {
+    let Some((command, rest)) = words.split_first() else {
+        return Ok(false);
+    };
+    match *command {
+        "minimal_sums" | "minimal_records" | "minimal_eligible" => {
+            print_minimal(workspace, alloc, command, rest, out)?;
+        }
+        "same_minimal" => print_same(workspace, alloc, rest, out)?,
+        "endless_minimal" => print_endless(alloc, rest, out)?,
+        _ => return Ok(false),
+    }
+    Ok(true)
+}
+
+fn print_minimal(
+    workspace: &Workspace,
+    alloc: Global,
+    command: &str,
+    rest: &[&str],
+    out: &mut Vec<u8>,
+) -> Result<(), Stop> {
+    let [name, parts] = rest else {
+        return Err(Stop::Unreadable);
+    };
+    let shard = minimal_shard(workspace, alloc, name, parts)?;
+    match command {
+        "minimal_sums" => Ok(print_sums(&shard, out)?),
+        "minimal_records" => print_copy(&shard, alloc, out),
+        _ => print_eligible(&shard, alloc, out),
+    }
+}
+
+fn print_same(
+    workspace: &Workspace,
+    alloc: Global,
+    names: &[&str],
+    out: &mut Vec<u8>,
+) -> Result<(), Stop> {
+    let [first, second] = names else {
+        return Err(Stop::Unreadable);
+    };
+    let first = minimal_shard(workspace, alloc, first, "fx")?;
+    let second = minimal_shard(workspace, alloc, second, "fx")?;
+    let is_same = first == second;
+    writeln!(out, "{is_same}")?;
+    Ok(())
+}
+
+// Reads a minimal shard from zero bytes without an end, and prints its sums.
+fn print_endless(alloc: Global, rest: &[&str], out: &mut Vec<u8>) -> Result<(), Stop> {
+    let [parts] = rest else {
+        return Err(Stop::Unreadable);
+    };
+    let (files, xorbs) = parse_parts(parts)?;
+    let shard = MDBMinimalShard::from_reader(alloc, &mut Zeros {}, files, xorbs)?;
+    print_sums(&shard, out)?;
+    Ok(())
+}
+
+fn print_sums(shard: &MDBMinimalShard, out: &mut Vec<u8>) -> io::Result<()> {
+    let files = shard.num_files();
+    let xorbs = shard.num_xorb();
+    let verification = shard.has_file_verification();
+    write!(
+        out,
+        "files {files} xorbs {xorbs} verification {verification} "
+    )?;
+    let with = shard.serialized_size(true);
+    let without = shard.serialized_size(false);
+    writeln!(out, "bytes {with} {without}")
+}
+
+fn print_copy(shard: &MDBMinimalShard, alloc: Global, out: &mut Vec<u8>) -> Result<(), Stop> {
+    let copy = shard.try_clone(alloc)?;
+    print_if_empty(copy.num_files() == 0 && copy.num_xorb() == 0, out)?;
+    print_files(&copy, alloc, out)?;
+    print_xorbs(&copy, alloc, out)
+}
+
+fn print_files(shard: &MDBMinimalShard, alloc: Global, out: &mut Vec<u8>) -> Result<(), Stop> {
+    for index in 0..shard.num_files() {
+        if let Some(file) = shard.file(index) {
+            print_file(&file.to_info(alloc)?, out)?;
+        }
+    }
+    Ok(())
+}
+
+fn print_xorbs(shard: &MDBMinimalShard, alloc: Global, out: &mut Vec<u8>) -> Result<(), Stop> {
+    for index in 0..shard.num_xorb() {
+        if let Some(xorb) = shard.xorb(index) {
+            print_xorb(&xorb.to_info(alloc)?, out)?;
+        }
+    }
+    Ok(())
+}
+
+fn print_eligible(shard: &MDBMinimalShard, alloc: Global, out: &mut Vec<u8>) -> Result<(), Stop> {
+    let hashes = shard.global_dedup_eligible_chunks(alloc)?;
+    print_hashes(hashes.as_slice(), out)?;
+    Ok(())
+}
+
+/// Prints hashes, one a line, or `none`.
+pub fn print_hashes(hashes: &[MerkleHash], out: &mut Vec<u8>) -> io::Result<()> {
+    print_if_empty(hashes.is_empty(), out)?;
+    for hash in hashes {
+        print_hash(Some(*hash), out)?;
+    }
+    Ok(())
+}
