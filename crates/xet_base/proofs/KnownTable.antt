@@ -38,19 +38,19 @@ module _ {X : Type 0} (key : X → ℕ) (value : X → List ℕ) (width : ℕ) (
             ∙ found.1,
       )
 
-  module _ (t : Table) (xs : List X) (rest : List ℕ) (stands : drop t.start t.bytes ≡ flat_map row xs ++ rest) (same_width : t.width ≡ width) where
-    row_stands : (i : ℕ) (d : X) → i < length xs → (after : List ℕ) × (drop (row_offset t i) t.bytes ≡ row (get_or xs i d) ++ after)
+  module _ (t : Table) (xs : List X) (rest : List ℕ) (bytes_are : drop t.start t.bytes ≡ flat_map row xs ++ rest) (same_width : t.width ≡ width) where
+    row_is_at : (i : ℕ) (d : X) → i < length xs → (after : List ℕ) × (drop (row_offset t i) t.bytes ≡ row (get_or xs i d) ++ after)
     unfolding offset_of_row
-    row_stands i d within =
+    row_is_at i d within =
         let found = drop_rows xs rest i d within in (
           found.0,
           ap (λ w. drop (t.start + i * (8 + w)) t.bytes) same_width ∙ sym (drop-drop (i * (8 + width)) t.start t.bytes)
-              ∙ ap (drop (i * (8 + width))) stands ∙ found.1,
+              ∙ ap (drop (i * (8 + width))) bytes_are ∙ found.1,
         )
 
     pub row_is_there : (i : ℕ) (d : X) → i < length xs → row_offset t (i + 1) ≤ length t.bytes
     row_is_there i d within =
-        let found = row_stands i d within in
+        let found = row_is_at i d within in
         omega (arith, offset_of_row-next t.start t.width i, same_width, ap length found.1, length-drop (row_offset t i) t.bytes, length-append (row (get_or xs i d)) found.0, length-row (get_or xs i d))
 
     pub key_is_there : (i : ℕ) (d : X) → i < length xs → HasKey t i
@@ -60,7 +60,7 @@ module _ {X : Type 0} (key : X → ℕ) (value : X → List ℕ) (width : ℕ) (
     unfolding key_at
     key_is i d within fits =
         let x = get_or xs i d in
-        let found = row_stands i d within in
+        let found = row_is_at i d within in
         let split = found.1 ∙ append_assoc (u64_bytes (key x)) (value x) found.0 in
         ap spelled_u64 (front_is 8 (drop (row_offset t i) t.bytes) (u64_bytes (key x)) (value x ++ found.0) (length-u64_bytes (key x)) split)
         ∙ spelled_u64-bytes (key x) fits
@@ -68,7 +68,7 @@ module _ {X : Type 0} (key : X → ℕ) (value : X → List ℕ) (width : ℕ) (
     pub value_is : (i : ℕ) (d : X) → i < length xs → value_at t i ≡ value (get_or xs i d)
     value_is i d within =
         let x = get_or xs i d in
-        let found = row_stands i d within in
+        let found = row_is_at i d within in
         let split = found.1 ∙ append_assoc (u64_bytes (key x)) (value x) found.0 in
         ap (λ w. take w (drop (row_offset t i + 8) t.bytes)) same_width
         ∙ front_is width (drop (row_offset t i + 8) t.bytes) (value x) found.0 (length-value x)

@@ -30,7 +30,7 @@ take-put_mid_part at k n xs ys at_in n_in =
 
 -- elements whose bytes have one length and determine them: the first elements of a list are determined by its bytes
 module _ {T : Type 0} (size : ℕ) (bytes : T → List ℕ) (Fits : T → Type 0) (len : (t : T) → Fits t → length (bytes t) ≡ size)
-    (tells : (s t : T) → Fits s → Fits t → bytes s ≡ bytes t → s ≡ t) where
+    (determines : (s t : T) → Fits s → Fits t → bytes s ≡ bytes t → s ≡ t) where
   pub parts_front : (ss ts : List T) (x y : List ℕ) → length ss ≡ length ts → All Fits ss → All Fits ts
       → flat_map bytes ss ++ x ≡ flat_map bytes ts ++ y → (ss ≡ ts) × (x ≡ y)
   parts_front [] [] x y same_len s_fit t_fit same = (refl, same)
@@ -42,4 +42,4 @@ module _ {T : Type 0} (size : ℕ) (bytes : T → List ℕ) (Fits : T → Type 0
       let parts = same_parts (bytes s) (bytes t) (flat_map bytes ss ++ x) (flat_map bytes ts ++ y) (len s s_fits ∙ sym (len t t_fits))
       (sym (append_assoc (bytes s) (flat_map bytes ss) x) ∙ same ∙ append_assoc (bytes t) (flat_map bytes ts) y) in
       let rest = parts_front ss ts x y (omega (arith, same_len)) (All-drop Fits 1 (s ∷ ss) s_fit) (All-drop Fits 1 (t ∷ ts) t_fit) parts.1 in
-      ((λ i. tells s t s_fits t_fits parts.0 i ∷ rest.0 i), rest.1)
+      ((λ i. determines s t s_fits t_fits parts.0 i ∷ rest.0 i), rest.1)

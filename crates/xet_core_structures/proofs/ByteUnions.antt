@@ -71,9 +71,9 @@ module _ (a b : ℕ) where
 
 -- a record whose flags include the other's is the join of both
 bit_kept : (a b : ℕ) (k : ℕ) → k < 32 → Includes a b → ((bit_at b k == 1) ≡ true → (bit_at a k == 1) ≡ true)
-bit_kept a b k low all set = ap (λ n. n == 1) (all k low (told (bit_at b k) set)) where
-  told : (n : ℕ) → (n == 1) ≡ true → n ≡ 1
-  told n is = grind (arith, nat_tests, is)
+bit_kept a b k low all set = ap (λ n. n == 1) (all k low (is_one (bit_at b k) set)) where
+  is_one : (n : ℕ) → (n == 1) ≡ true → n ≡ 1
+  is_one n is = grind (arith, nat_tests, is)
 
 or_more : (v w : Bool) → (w ≡ true → v ≡ true) → (v || w) ≡ v
 or_more true w more = refl

@@ -107,9 +107,9 @@ bit_told : (flags k : ℕ) (v : Bool) → (bit_at flags k == 1) ≡ v → bit_at
 bit_told flags k true is = grind (arith, nat_tests, is)
 bit_told flags k false is = grind (arith, nat_tests, is, bit_at-lt flags k)
 
-bit_tells : (flags k : ℕ) (v : Bool) → bit_at flags k ≡ (if v then 1 else 0) → (bit_at flags k == 1) ≡ v
-bit_tells flags k true is = ap (λ b. b == 1) is
-bit_tells flags k false is = ap (λ b. b == 1) is
+bit_shows : (flags k : ℕ) (v : Bool) → bit_at flags k ≡ (if v then 1 else 0) → (bit_at flags k == 1) ≡ v
+bit_shows flags k true is = ap (λ b. b == 1) is
+bit_shows flags k false is = ap (λ b. b == 1) is
 
 bits_gained : (flags : ℕ) (v m w l : Bool) → bit_at flags 31 ≡ (if v then 1 else 0) → bit_at flags 30 ≡ (if m then 1 else 0)
     → (bit_at (flags + flags_of (w && not v) (l && not m)) 31 ≡ (if v || w then 1 else 0)) × (bit_at (flags + flags_of (w && not v) (l && not m)) 30 ≡ (if m || l then 1 else 0))
@@ -137,10 +137,10 @@ module _ (a b : MDBFileInfo) where
       (bit_told a.metadata.file_flags 31 (verified a) refl) (bit_told a.metadata.file_flags 30 (described a) refl)
 
   pub verified-merged : verified (merged a b) ≡ (verified a || verified b)
-  verified-merged = bit_tells (merged a b).metadata.file_flags 31 (verified a || verified b) flags_gained.0
+  verified-merged = bit_shows (merged a b).metadata.file_flags 31 (verified a || verified b) flags_gained.0
 
   pub described-merged : described (merged a b) ≡ (described a || described b)
-  described-merged = bit_tells (merged a b).metadata.file_flags 30 (described a || described b) flags_gained.1
+  described-merged = bit_shows (merged a b).metadata.file_flags 30 (described a || described b) flags_gained.1
 
 -- so merging three records is the same in either grouping
 flag_regained : (u v w : Bool) (n : ℕ) → (if v && not u then n else 0) + (if w && not (u || v) then n else 0) ≡ (if (v || w) && not u then n else 0)

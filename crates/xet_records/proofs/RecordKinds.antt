@@ -68,7 +68,7 @@ xorb_laws = record {
   front = xorb_front;
 }
 
--- what stands after the records of a section that are read
+-- what is after the records of a section that are read
 abbrev pub StopsAt : {H R : Type 0} → RecordKind H R → ℕ → List ℕ → Type 0
 StopsAt K left bytes = BeginsWithBookend K bytes ⊎ PassesLimit K left bytes ⊎ EndsEarly K left bytes
 

@@ -29,7 +29,7 @@ use Rattle.xet_shards.proofs.InForm.{chunk_table_starts}
 use Rattle.xet_shards.proofs.KnownRows.{IsKnown, rows_sorted, rows_hit, search_served, row_hit}
 use Rattle.xet_shards.proofs.TableOrder.{chunk_table-sorted}
 use Rattle.xet_shards.proofs.Tables.{chunk_table_row_total}
-use Rattle.xet_shards.proofs.WrittenTables.{after_tables, chunk_table_there, chunk_table_stands, chunk_table_fits}
+use Rattle.xet_shards.proofs.WrittenTables.{after_tables, chunk_table_there, chunk_table_is_at, chunk_table_fits}
 use Rattle.xet_shards.proofs.XorbLayouts.{xorb_rows-chunks, length-chunk_table}
 
 -- a row for where a list has none
@@ -93,7 +93,7 @@ module _ (files : List MDBFileInfo) (xorbs : List MDBXorbInfo) (form : Form) (ol
         start_fits = omega (arith, chunk_table_starts files xorbs form old footer is);
         start_there = omega (arith, chunk_table_there files xorbs form, ap length is.bytes_are);
         after = after_tables files xorbs form;
-        table_is = ap (drop (footer_value files xorbs form).chunk_lookup_offset) is.bytes_are ∙ chunk_table_stands files xorbs form
+        table_is = ap (drop (footer_value files xorbs form).chunk_lookup_offset) is.bytes_are ∙ chunk_table_is_at files xorbs form
             ∙ ap (λ b. flat_map triple_row (map triple_of (if_in b rows)) ++ after_tables files xorbs form) with_table
             ∙ ap (λ bs. bs ++ after_tables files xorbs form) (same_rows rows);
       })

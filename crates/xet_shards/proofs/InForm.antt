@@ -27,7 +27,7 @@ use Rattle.xet_shards.proofs.StoredRecords.{AreStoredAt}
 use Rattle.xet_shards.proofs.TableLookups.{IsLookedUp}
 use Rattle.xet_shards.proofs.TableOrder.{hashes_ascend}
 use Rattle.xet_shards.proofs.Tables.{length-starts, length-table_bytes}
-use Rattle.xet_shards.proofs.WrittenTables.{after_file_table, file_table_there, file_table_stands, after_xorb_table, xorb_table_there, xorb_table_stands}
+use Rattle.xet_shards.proofs.WrittenTables.{after_file_table, file_table_there, file_table_is_at, after_xorb_table, xorb_table_there, xorb_table_is_at}
 use Rattle.xet_shards.proofs.XorbLayouts.{xorb_rows-chunks}
 
 -- records for where a list has none
@@ -102,7 +102,7 @@ module _ (files : List MDBFileInfo) (xorbs : List MDBXorbInfo) (form : Form) (ol
         start_fits = omega (arith, file_table_fits);
         start_there = omega (arith, file_table_there files xorbs form, ap length is.bytes_are);
         after = after_file_table files xorbs form;
-        table_is = ap (drop known.file_lookup_offset) is.bytes_are ∙ file_table_stands files xorbs form
+        table_is = ap (drop known.file_lookup_offset) is.bytes_are ∙ file_table_is_at files xorbs form
             ∙ ap (λ b. flat_map start_row (if_in b (starts file_records files)) ++ after_file_table files xorbs form) with_table;
       })
 
@@ -117,7 +117,7 @@ module _ (files : List MDBFileInfo) (xorbs : List MDBXorbInfo) (form : Form) (ol
         start_fits = omega (arith, xorb_table_fits);
         start_there = omega (arith, xorb_table_there files xorbs form, ap length is.bytes_are);
         after = after_xorb_table files xorbs form;
-        table_is = ap (drop known.xorb_lookup_offset) is.bytes_are ∙ xorb_table_stands files xorbs form
+        table_is = ap (drop known.xorb_lookup_offset) is.bytes_are ∙ xorb_table_is_at files xorbs form
             ∙ ap (λ b. flat_map start_row (if_in b (starts xorb_records xorbs)) ++ after_xorb_table files xorbs form) with_table;
       })
 

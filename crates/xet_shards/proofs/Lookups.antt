@@ -100,7 +100,7 @@ module _ {H R : Type 0} (K : RecordKind H R) (laws : KindLaws K) where
         let are : drop (row_at offset row) old.bytes ≡ K.record_bytes read.stored ++ bytes_left new = sym left_is ∙ Takes-consumes mid new (K.record_bytes read.stored) read.taken in
         record {
           within = fits;
-          stands = record { stored = read.stored; is_stored = read.is_stored; rows = read.rows; taken = (bytes_left new, are); handed = read.handed };
+          is_at = record { stored = read.stored; is_stored = read.is_stored; rows = read.rows; taken = (bytes_left new, are); handed = read.handed };
           serves = serves_advanced old mid new (length (K.record_bytes read.stored)) (serves_moved old old mid (row_at offset row) (serves_still old) sought) read.taken.after;
           seeks = ap (λ (s : Source). s.seeks) read.taken.after ∙ ap (λ (s : Source). s.seeks) sought;
           taken = length (K.record_bytes read.stored);
@@ -194,7 +194,7 @@ module _ {H R : Type 0} (K : RecordKind H R) (laws : KindLaws K) where
     visits = visits_read offset row rows old now new found before.visits read;
     serves = serves_after old now new before.serves read.serves;
     others = All-push (λ r. (info : R) × RecordAt K old.bytes (row_at offset r) info × (hash_in K info ≢ hash)) rows row before.others
-        (found, subst (λ bytes. RecordAt K bytes (row_at offset row) found) before.visits.bytes read.stands, other);
+        (found, subst (λ bytes. RecordAt K bytes (row_at offset row) found) before.visits.bytes read.is_at, other);
   }
 
   -- a refusal after reads that did not fail is one over all

@@ -30,8 +30,8 @@ module _ (Absent : CoreError → Type 0) (key : DataHash) (qs : List DataHash) (
 
   -- the header was read
   module _ (mid : Source) (header : XorbChunkSequenceHeader) (fits : FitsXorbHeader header) (taken : Takes (moved old (row_at offset row)) mid (xorb_header_row header)) where
-    stands : drop (row_at offset row) old.bytes ≡ xorb_header_row header ++ bytes_left mid
-    stands = Takes-consumes (moved old (row_at offset row)) mid (xorb_header_row header) taken
+    bytes_are : drop (row_at offset row) old.bytes ≡ xorb_header_row header ++ bytes_left mid
+    bytes_are = Takes-consumes (moved old (row_at offset row)) mid (xorb_header_row header) taken
 
     bytes_same : mid.bytes ≡ old.bytes
     bytes_same = ap (λ (s : Source). s.bytes) taken.after
@@ -40,7 +40,7 @@ module _ (Absent : CoreError → Type 0) (key : DataHash) (qs : List DataHash) (
     failures_same = ap (λ (s : Source). s.failures) taken.after
 
     begins : header.xorb_hash ≢ all_ones → BeginsWithHeader xorb_records (drop (row_at offset row) old.bytes) header (bytes_left mid)
-    begins is_record = record { widths = fits; is_record = is_record; bytes_are = stands }
+    begins is_record = record { widths = fits; is_record = is_record; bytes_are = bytes_are }
 
     seeks_then : mid.seeks ≡ old.seeks + 1
     seeks_then = ap (λ (s : Source). s.seeks) taken.after
@@ -50,7 +50,7 @@ module _ (Absent : CoreError → Type 0) (key : DataHash) (qs : List DataHash) (
 
     -- there is no such location
     pub bookend_here : header.xorb_hash ≡ all_ones → AnnouncesNoChunk old.bytes offset row index
-    bookend_here ones = inl (record { header = header; rest = bytes_left mid; widths = fits; is_bookend = ones; bytes_are = stands })
+    bookend_here ones = inl (record { header = header; rest = bytes_left mid; widths = fits; is_bookend = ones; bytes_are = bytes_are })
 
     pub no_such_chunk : header.xorb_hash ≢ all_ones → header.num_entries ≤ index → AnnouncesNoChunk old.bytes offset row index
     no_such_chunk is_record past = inr (header, bytes_left mid, begins is_record, past)

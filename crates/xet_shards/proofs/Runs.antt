@@ -23,7 +23,7 @@ use Rattle.xet_shards.specs.ChunkQuery.{run_length}
 use Rattle.xet_shards.specs.RunReading.{Decide}
 use Rattle.xet_shards.specs.RunSteps.{RowFailure, RowNotRead, ReadsRun, RunFailure, ReadRunFails, HasReadRun}
 
--- what a test for difference tells
+-- what a test for difference shows
 pub tested_same : (b : Bool) → false ≡ not b → b ≡ true
 tested_same true is = refl
 tested_same false is = is
@@ -35,7 +35,7 @@ tested_other false is = refl
 -- the same of the next hash under a key
 pub next_hash : (key : DataHash) (qs : List DataHash) (n i : ℕ) (d keyed hash : DataHash) (b : Bool) → n ≡ i → keyed ≡ under_key key (get_or qs i d) → hash_eq keyed hash ≡ b
     → hash_eq (under_key key (get_or qs n d)) hash ≡ b
-next_hash key qs n i d keyed hash b same is told = (λ k. hash_eq (under_key key (get_or qs (same k) d)) hash) ∙ ap (λ h. hash_eq h hash) (sym is) ∙ told
+next_hash key qs n i d keyed hash b same is shown = (λ k. hash_eq (under_key key (get_or qs (same k) d)) hash) ∙ ap (λ h. hash_eq h hash) (sym is) ∙ shown
 
 module _ (key : DataHash) where
   run_of_none : (qs : List DataHash) → run_length key qs [] ≡ 0

@@ -172,18 +172,18 @@ module _ {H R : Type 0} (K : RecordKind H R) (laws : KindLaws K) (d : R) (record
 
     -- a record that is at the start of a hit is the one of that row
     hit_reads : (h : Hit ℕ) (r : R) → IsHit table word IsNumber h → RecordAt K old.bytes (row_at offset h.value) r → r ≡ K.handed_out (record_at h.row)
-    hit_reads h r hit stands =
+    hit_reads h r hit is_at =
         let known = hit_is word h hit in
-        record_is K laws records offset old is.section (start_at h.row) (record_at h.row) (at_row h.row known.0) r (subst (λ v. RecordAt K old.bytes (row_at offset v) r) known.2 stands)
+        record_is K laws records offset old is.section (start_at h.row) (record_at h.row) (at_row h.row known.0) r (subst (λ v. RecordAt K old.bytes (row_at offset v) r) known.2 is_at)
 
     pub found_is : (hash : DataHash) (r : R) (row : ℕ) → hash_in K r ≡ hash → Contains (map (λ h. h.value) found) row → RecordAt K old.bytes (row_at offset row) r
         → IsAnswer K d records hash (Some r)
-    found_is hash r row same contains stands =
+    found_is hash r row same contains is_at =
         All-contains (λ v. RecordAt K old.bytes (row_at offset v) r → IsAnswer K d records hash (Some r)) (map (λ h. h.value) found) row
         (All-map (λ v. RecordAt K old.bytes (row_at offset v) r → IsAnswer K d records hash (Some r)) (λ (h : Hit ℕ). h.value) found
         (All-weaker (IsHit table word IsNumber) (λ h. RecordAt K old.bytes (row_at offset h.value) r → IsAnswer K d records hash (Some r))
         (λ h hit at. (h.row, (hit_is word h hit).0, hit_reads h r hit at, same)) found each))
-        contains stands
+        contains is_at
 
     pub found_none : (hash : DataHash) → hash.word0 ≡ word → length found ≡ hits table word → LookupAnswer K old.bytes offset hash None (map (λ h. h.value) found) → IsAnswer K d records hash None
     found_none hash same_word all others i within same =
@@ -298,7 +298,7 @@ module _ {H R : Type 0} (K : RecordKind H R) (laws : KindLaws K) (d : R) (record
     where
       answer_is : (o : Option R) → LookupAnswer K old.bytes offset hash o (map (λ h. h.value) looks.found) → IsAnswer K d records hash o
       answer_is None others = found_none hash.word0 looks.found looks.are_hits.each looks.are_hits.distinct hash refl (looks.are_hits.all table_sorted) others
-      answer_is (Some r) (same, row, contains, stands) = found_is hash.word0 looks.found looks.are_hits.each looks.are_hits.distinct hash r row same contains stands
+      answer_is (Some r) (same, row, contains, is_at) = found_is hash.word0 looks.found looks.are_hits.each looks.are_hits.distinct hash r row same contains is_at
 
   -- a lookup that is refused
   pub not_answered : (hash : DataHash) (new : Source) (e : CoreError) → FindingFails K table offset hash old new e

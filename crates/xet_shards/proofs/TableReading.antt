@@ -41,8 +41,8 @@ module _ {T : Type 0} (row_bytes : T → List ℕ) (Fits : T → Type 0) (size :
 
   -- what is at an offset, as far as its rows were read
   module _ (old now : Source) (at count : ℕ) (found : List T) (read : HasReadRows row_bytes Fits size (moved old at) now count found) where
-    stands_then : drop at old.bytes ≡ flat_map row_bytes found ++ bytes_left now
-    stands_then = Takes-consumes (moved old at) now (flat_map row_bytes found) read.taken
+    bytes_are_then : drop at old.bytes ≡ flat_map row_bytes found ++ bytes_left now
+    bytes_are_then = Takes-consumes (moved old at) now (flat_map row_bytes found) read.taken
 
     bytes_then : now.bytes ≡ old.bytes
     bytes_then = ap (λ (s : Source). s.bytes) read.taken.after
@@ -61,7 +61,7 @@ module _ {T : Type 0} (row_bytes : T → List ℕ) (Fits : T → Type 0) (size :
       few = few;
       number = read.number;
       widths = read.widths;
-      stands = (bytes_left now, stands_then);
+      bytes_are = (bytes_left now, bytes_are_then);
       bytes = bytes_then;
       seeks = seeks_then;
       read = read_then;
@@ -83,7 +83,7 @@ module _ {T : Type 0} (row_bytes : T → List ℕ) (Fits : T → Type 0) (size :
     next_refused rows new e some within cause =
         failed_after (ReadCase (length now.bytes < now.at + size)) (ReadCase (length (drop at old.bytes) < size * rows)) old now new e failures_then
         (read_case (length now.bytes < now.at + size) (length (drop at old.bytes) < size * rows) e
-        (λ short. omega (arith, ap length stands_then, length-append (flat_map row_bytes found) (bytes_left now), read.bytes, within, lacks_left now size some short))) cause
+        (λ short. omega (arith, ap length bytes_are_then, length-append (flat_map row_bytes found) (bytes_left now), read.bytes, within, lacks_left now size some short))) cause
 
     pub row_fails : (rows : ℕ) (new : Source) (e : CoreError) → 0 < size → count < rows → rows ≤ 4294967295 → ReadFails now new size e → TableFails size old new at rows e
     row_fails rows new e some below few fails =
@@ -105,7 +105,7 @@ IsReadAs old new rows r = MatchResult r (λ found. found.items ≡ rows) (λ e. 
 
 -- rows that their bytes determine are read as they are, unless the device fails or an allocation does
 module _ {T : Type 0} (row_bytes : T → List ℕ) (Fits : T → Type 0) (size : ℕ) (len : (t : T) → Fits t → length (row_bytes t) ≡ size)
-    (tells : (s t : T) → Fits s → Fits t → row_bytes s ≡ row_bytes t → s ≡ t) where
+    (determines : (s t : T) → Fits s → Fits t → row_bytes s ≡ row_bytes t → s ≡ t) where
   length-rows : (rows : List T) → All Fits rows → length (flat_map row_bytes rows) ≡ size * length rows
   length-rows [] fit = omega arith
   length-rows (row ∷ rows) fit =
@@ -113,12 +113,12 @@ module _ {T : Type 0} (row_bytes : T → List ℕ) (Fits : T → Type 0) (size :
       ∙ omega (arith, len row (fit 0 row (omega arith)), length-rows rows (All-drop Fits 1 (row ∷ rows) fit), mul-suc size (length rows))
 
   module _ (old new : Source) (at : ℕ) (rows : List T) (rest : List ℕ) (few : length rows ≤ 4294967295) (fit : All Fits rows)
-      (stands : drop at old.bytes ≡ flat_map row_bytes rows ++ rest) where
+      (bytes_are : drop at old.bytes ≡ flat_map row_bytes rows ++ rest) where
     why_not : (e : CoreError) → RowsFailure old new at (size * length rows) e → DeviceFailure old new e ⊎ (e ≡ OutOfMemory)
     why_not e (inl failed) = inl failed
     why_not e (inr (none, out_of_memory is)) = inr is
     why_not e (inr (none, out_of_bytes is short)) =
-        absurd (omega (arith, short, ap length stands, length-append (flat_map row_bytes rows) rest, length-rows rows fit))
+        absurd (omega (arith, short, ap length bytes_are, length-append (flat_map row_bytes rows) rest, length-rows rows fit))
 
     refused_because : (e : CoreError) → TableFails size old new at (length rows) e → DeviceFailure old new e ⊎ (e ≡ OutOfMemory)
     refused_because e fails = elim fails.cause [
@@ -129,5 +129,5 @@ module _ {T : Type 0} (row_bytes : T → List ℕ) (Fits : T → Type 0) (size :
     pub whole_table : {Z : Type 0} (r : Result (Vec T Z) CoreError)
         → ReadsOrFails row_bytes Fits size old new at (length rows) r → IsReadAs old new rows r
     whole_table (Ok found) reads =
-        (parts_front size row_bytes Fits len tells found.items rows reads.stands.0 rest reads.number reads.widths fit (sym reads.stands.1 ∙ stands)).0
+        (parts_front size row_bytes Fits len determines found.items rows reads.bytes_are.0 rest reads.number reads.widths fit (sym reads.bytes_are.1 ∙ bytes_are)).0
     whole_table (Err e) fails = refused_because e fails

@@ -78,7 +78,7 @@ more_hashes stop start now new found left after next before read =
 
 -- after the xorbs that were read
 module _ (stop : ℕ) (old now : Source) (at : ℕ) (found : List (ℕ × (ℕ × ℕ))) (left : ℕ) (before : HasReadHashes stop (moved old at) now found left) where
-  -- they are handed out as they stand
+  -- they are handed out as they are
   same_xorbs : before.read.stored ≡ before.xorbs
   same_xorbs = sym (map-id before.read.stored) ∙ before.read.handed
 

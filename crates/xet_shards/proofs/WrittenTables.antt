@@ -101,10 +101,10 @@ module _ (files : List MDBFileInfo) (xorbs : List MDBXorbInfo) (form : Form) whe
         length-before_file_table,
       )
 
-  pub file_table_stands : drop (footer_value files xorbs form).file_lookup_offset (layout_of files xorbs form)
+  pub file_table_is_at : drop (footer_value files xorbs form).file_lookup_offset (layout_of files xorbs form)
       ≡ flat_map start_row (if_in form.file_table (starts file_records files)) ++ after_file_table
   unfolding table_bytes
-  file_table_stands =
+  file_table_is_at =
       rest_is _ (layout_of files xorbs form) before_file_table (if_in form.file_table (table_bytes file_records files) ++ after_file_table) length-before_file_table split_at_file_table
       ∙ ap (λ bs. bs ++ after_file_table) (rows_in form.file_table start_row (starts file_records files))
 
@@ -133,19 +133,19 @@ module _ (files : List MDBFileInfo) (xorbs : List MDBXorbInfo) (form : Form) whe
     length-before,
   )
 
-  pub xorb_table_stands : drop (footer_value files xorbs form).xorb_lookup_offset (layout_of files xorbs form)
+  pub xorb_table_is_at : drop (footer_value files xorbs form).xorb_lookup_offset (layout_of files xorbs form)
       ≡ flat_map start_row (if_in form.xorb_table (starts xorb_records xorbs)) ++ after_xorb_table
   unfolding layout_of table_bytes
-  xorb_table_stands =
+  xorb_table_is_at =
       rest_is _ (layout_of files xorbs form) before_tables _ length-before
       (append_assoc (before_tables ++ if_in form.xorb_table (table_bytes xorb_records xorbs)) (if_in form.chunk_table (chunk_table_bytes xorbs)) after_tables
       ∙ append_assoc before_tables (if_in form.xorb_table (table_bytes xorb_records xorbs)) (if_in form.chunk_table (chunk_table_bytes xorbs) ++ after_tables))
       ∙ ap (λ bs. bs ++ (if_in form.chunk_table (chunk_table_bytes xorbs) ++ after_tables)) (rows_in form.xorb_table start_row (starts xorb_records xorbs))
 
-  pub chunk_table_stands : drop (footer_value files xorbs form).chunk_lookup_offset (layout_of files xorbs form)
+  pub chunk_table_is_at : drop (footer_value files xorbs form).chunk_lookup_offset (layout_of files xorbs form)
       ≡ flat_map triple_row (map triple_of (if_in form.chunk_table (chunk_table xorbs))) ++ after_tables
   unfolding layout_of chunk_table_bytes
-  chunk_table_stands =
+  chunk_table_is_at =
       rest_is _ (layout_of files xorbs form) (before_tables ++ if_in form.xorb_table (table_bytes xorb_records xorbs)) _
       (length-append before_tables (if_in form.xorb_table (table_bytes xorb_records xorbs)) ∙ ap (λ n. n + length (if_in form.xorb_table (table_bytes xorb_records xorbs))) length-before)
       (append_assoc (before_tables ++ if_in form.xorb_table (table_bytes xorb_records xorbs)) (if_in form.chunk_table (chunk_table_bytes xorbs)) after_tables)
@@ -226,7 +226,7 @@ module _ (files : List MDBFileInfo) (xorbs : List MDBXorbInfo) (form : Form) (fi
   xorb_table_in r read =
       whole_table start_row FitsStart 12 length-start start_told old new written.xorb_lookup_offset (if_in form.xorb_table (starts xorb_records xorbs)) _
       (in_few form.xorb_table (starts xorb_records xorbs) (few_starts xorbs widths fits.rows)) (in_fits FitsStart form.xorb_table (starts xorb_records xorbs) (xorb_starts_fit xorbs widths fits.rows))
-      (ap (drop written.xorb_lookup_offset) are ∙ xorb_table_stands files xorbs form) r read
+      (ap (drop written.xorb_lookup_offset) are ∙ xorb_table_is_at files xorbs form) r read
 
   pub chunk_table_in : {Z : Type 0} (r : Result (Vec (ℕ × (ℕ × ℕ)) Z) CoreError)
       → ReadsOrFails triple_row FitsTriple 16 old new written.chunk_lookup_offset written.chunk_lookup_num_entry r → IsReadAs old new (map triple_of (if_in form.chunk_table (chunk_table xorbs))) r
@@ -236,7 +236,7 @@ module _ (files : List MDBFileInfo) (xorbs : List MDBXorbInfo) (form : Form) (fi
       whole_table triple_row FitsTriple 16 length-triple triple_told old new written.chunk_lookup_offset rows _
       (subst (λ rs. length rs ≤ 4294967295) (sym same) (in_few form.chunk_table (map triple_of (chunk_table xorbs)) (few_table_rows xorbs widths fits.rows)))
       (subst (All FitsTriple) (sym same) (in_fits FitsTriple form.chunk_table (map triple_of (chunk_table xorbs)) (chunk_table_fits xorbs widths fits.rows)))
-      (ap (drop written.chunk_lookup_offset) are ∙ chunk_table_stands files xorbs form) r
+      (ap (drop written.chunk_lookup_offset) are ∙ chunk_table_is_at files xorbs form) r
       (subst (λ n. ReadsOrFails triple_row FitsTriple 16 old new written.chunk_lookup_offset n r) (sym (length-map (if_in form.chunk_table (chunk_table xorbs)) triple_of)) read)
 
 -- the tables of a shard

@@ -1,4 +1,4 @@
--- Where the rows of each file stand in a source.
+-- Where the rows of each file are in a source.
 use Rattle.std.specs.Prelude.{◌≡◌, ◌⊎◌, ℕ, ◌+◌, ◌*◌, ◌^◌, ◌<◌, List, Option, None, Some, option_map, if◌then◌else◌}
 use Rattle.xet_base.specs.declared.error.CoreError.{CoreError}
 use Rattle.xet_base.specs.declared.merklehash.DataHash.{DataHash}

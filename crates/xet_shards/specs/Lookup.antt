@@ -73,7 +73,7 @@ InfoRefusal K offset row old new e =
 -- the record at a row was read
 pub record ReadsInfo {H R : Type 0} (K : RecordKind H R) (offset row : ℕ) (old new : Source) (found : R) : Type 0 where
   pub within : row_at offset row < 2 ^ 64
-  pub stands : RecordAt K old.bytes (row_at offset row) found
+  pub is_at : RecordAt K old.bytes (row_at offset row) found
   pub serves : Serves old new
   pub seeks : new.seeks ≡ old.seeks + 1
   pub taken : ℕ

@@ -35,7 +35,7 @@ pub record ReadsTable {T : Type 0} (row_bytes : T → List ℕ) (Fits : T → Ty
   pub few : count ≤ 4294967295
   pub number : length found ≡ count
   pub widths : All Fits found
-  pub stands : (rest : List ℕ) × (drop at old.bytes ≡ flat_map row_bytes found ++ rest)
+  pub bytes_are : (rest : List ℕ) × (drop at old.bytes ≡ flat_map row_bytes found ++ rest)
   pub bytes : new.bytes ≡ old.bytes
   pub seeks : new.seeks ≡ old.seeks + 1
   pub read : new.read ≡ old.read + size * count

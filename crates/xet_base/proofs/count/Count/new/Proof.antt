@@ -10,7 +10,7 @@ use types.Part.{agg}
 use denote.Builtin.{unit}
 use denote.Steps.{nothing}
 use denote.Triple.Walked.{walk_of, ends_at}
-use Rattle.xet_base.proofs.Ghost.{token, Mark, made, tells_last}
+use Rattle.xet_base.proofs.Ghost.{token, Mark, made, gives_last}
 use Rattle.std.proofs.raw_atomic.Walks.{proved}
 use Rattle.xet_base.specs.contracts.count.Count as R
 use Rattle.xet_base.specs.contracts.count.Count.new as f
@@ -29,4 +29,4 @@ new_spec 𝓤 𝓛 𝓜 𝓡 wired =
     returns ! (look_at ! 0 refl) $ free_all ! refl $
     suffices ! _ (ends_at 𝓛 f.ended tt c y token (record { marker = record {}; value = 0 }) tt tt) $
     nothing ! $ use0 𝓛 (‵ ((Mark (R.the_type).name [] unit).own_val (tt, tt) (token ∷ []))) (made (R.the_type).name [] unit 𝓛) $
-    fjoin ! $ nothing ! $ join ! $ nothing ! $ join ! $ frame ! $ tells_last ! refl))
+    fjoin ! $ nothing ! $ join ! $ nothing ! $ join ! $ frame ! $ gives_last ! refl))
