@@ -97,7 +97,7 @@ tree_under inputs (Both' p left q right) out union (x, y, x_written, y_written, 
 -- the bytes of a shard without a key
 module _ (s : Shard) (shard : IsShard s) (expiry : Option ℕ) (old : Source) (info : MDBShardInfo) (are : old.bytes ≡ layout s expiry) (is : info ≡ info_value s expiry) where
   plain : let footer = info.metadata in IsLookedUp file_records no_file (values s.files) footer.file_info_offset footer.file_lookup_offset footer.file_lookup_num_entry old
-  plain = files_in (values s.files) (values s.xorbs) (plain_form expiry) old info.metadata (shard_in_form s shard expiry old.bytes info are is) (files_ascend s shard) refl
+  plain = files_in (values s.files) (values s.xorbs) (plain_form expiry) old info.metadata (shard_in_form (record { shard = shard; same_bytes = are; same_info = is })) (files_ascend s shard) refl
 
   pub found_in_layout : (hash : DataHash) (new : Source) (found : Result (Option MDBFileInfo) CoreError) → LooksUpFile info hash old new found → FindsInShard s hash old new found
   found_in_layout hash new found looks = record {

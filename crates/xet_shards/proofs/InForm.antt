@@ -16,8 +16,9 @@ use Rattle.xet_shards.specs.declared.shard_format.footer.MDBShardFileFooter.{MDB
 use Rattle.xet_shards.specs.declared.shard_format.info.MDBShardInfo.{MDBShardInfo}
 use Rattle.xet_shards.specs.Shard.{Shard, IsShard}
 use Rattle.xet_shards.specs.Tables.{hash_in, starts, start_row, table_bytes}
-use Rattle.xet_shards.specs.Layout.{Form, if_in, footer_value, layout, info_value, plain_form}
+use Rattle.xet_shards.specs.Layout.{Form, if_in, footer_value, plain_form}
 use Rattle.xet_shards.specs.InForm.{Ascends, IsInForm}
+use Rattle.xet_shards.specs.WrittenShard.{IsWritten}
 use Rattle.xet_shards.proofs.Files.{length-le-rows}
 use Rattle.xet_shards.proofs.Found.{first_words_ascend}
 use Rattle.xet_shards.proofs.Layouts.{length-file_section, length-xorb_section}
@@ -122,12 +123,16 @@ module _ (files : List MDBFileInfo) (xorbs : List MDBXorbInfo) (form : Form) (ol
       })
 
 -- the bytes of a shard
-module _ (s : Shard) (shard : IsShard s) where
-  pub shard_in_form : (expiry : Option ℕ) (bytes : List ℕ) (info : MDBShardInfo) → bytes ≡ layout s expiry → info ≡ info_value s expiry
-      → IsInForm (values s.files) (values s.xorbs) (plain_form expiry) bytes info.metadata
-  shard_in_form expiry bytes info are is =
-      record { files_fit = files_fit s shard; xorbs_fit = xorbs_fit s shard; bytes_are = are; footer_is = ap (λ (i : MDBShardInfo). i.metadata) is }
+pub shard_in_form : {s : Shard} {expiry : Option ℕ} {bytes : List ℕ} {info : MDBShardInfo} → IsWritten s expiry bytes info
+    → IsInForm (values s.files) (values s.xorbs) (plain_form expiry) bytes info.metadata
+shard_in_form {s} is = record {
+  files_fit = files_fit s is.shard;
+  xorbs_fit = xorbs_fit s is.shard;
+  bytes_are = is.same_bytes;
+  footer_is = ap (λ (i : MDBShardInfo). i.metadata) is.same_info;
+}
 
+module _ (s : Shard) (shard : IsShard s) where
   pub files_ascend : Ascends file_records (values s.files)
   files_ascend = hashes_ascend (hash_in file_records) s.files shard.files.keyed
 

@@ -8,13 +8,14 @@ ghost use Rattle.xet_base.specs.Table.{Serves, IsBareInvalidShard};
 ghost use Rattle.xet_records.specs.declared.file_structs.MDBFileInfo.{MDBFileInfo as File};
 ghost use Rattle.xet_records.specs.declared.xorb_structs.MDBXorbInfo.{MDBXorbInfo as Xorb};
 ghost use Rattle.xet_records.specs.XorbRecord.{xorb_records, IsXorb};
-ghost use Rattle.xet_shards.specs.Shard.{Shard, IsShard};
+ghost use Rattle.xet_shards.specs.Shard.{Shard};
 ghost use Rattle.xet_shards.specs.Section.{total_rows, StartsAt};
-ghost use Rattle.xet_shards.specs.Layout.{Form, layout, info_value};
+ghost use Rattle.xet_shards.specs.Layout.{Form};
 ghost use Rattle.xet_shards.specs.InForm.{IsInForm};
 ghost use Rattle.xet_shards.specs.Lookup.{Visit, VisitsSome};
 ghost use Rattle.xet_shards.specs.WrittenQueries.{RunInXorb, NoRunInXorb, RunAmong, QueryCosts};
 ghost use Rattle.xet_shards.specs.RunReading.{AnswerAt, RefusedAt, TriedAnswer, TriedRefused, QueryAnswer, QueryRefused};
+ghost use Rattle.xet_shards.specs.WrittenShard.{IsWritten};
 
 use super::info::MDBShardInfo;
 use super::run_reader::read_header_at;
@@ -51,7 +52,7 @@ impl MDBShardInfo {
         ensures bookend { (files : List File) → (xorbs : List Xorb) → (form : Form) → IsInForm files xorbs form (S.meaning source.old).bytes self.now.metadata → xorb_row ≡ total_rows xorb_records xorbs
             → MatchResult result (λ answer. (unkeyed_query_hashes.now ≡ []) × (answer ≡ None))
             (λ e. DeviceFailure (S.meaning source.old) (S.meaning source.new) e ⊎ (e ≡ CoreError.InvalidArguments)) }
-        ensures written { (s : Shard) → (expiry : Option ℕ) → (xorb : Xorb) → IsShard s → (S.meaning source.old).bytes ≡ layout s expiry → self.now ≡ info_value s expiry
+        ensures written { (s : Shard) → (expiry : Option ℕ) → (xorb : Xorb) → IsWritten s expiry (S.meaning source.old).bytes self.now
             → StartsAt xorb_records (finite.values s.xorbs) xorb_row xorb
             → MatchResult result (RunInXorb no_key unkeyed_query_hashes.now xorb chunk_index) (NoRunInXorb xorb chunk_index (S.meaning source.old) (S.meaning source.new)) }
     {
@@ -86,9 +87,9 @@ impl MDBShardInfo {
             → All IsXorb xorbs → MatchResult result (RunAmong form.key unkeyed_query_hashes.now xorbs) (DeviceFailure (S.meaning source.old) (S.meaning source.new)) }
         ensures in_form_costs { (files : List File) → (xorbs : List Xorb) → (form : Form) → IsInForm files xorbs form (S.meaning source.old).bytes self.now.metadata → form.chunk_table ≡ true
             → QueryCosts form.key unkeyed_query_hashes.now xorbs (S.meaning source.old) (S.meaning source.new) }
-        ensures written { (s : Shard) → (expiry : Option ℕ) → IsShard s → (S.meaning source.old).bytes ≡ layout s expiry → self.now ≡ info_value s expiry
+        ensures written { (s : Shard) → (expiry : Option ℕ) → IsWritten s expiry (S.meaning source.old).bytes self.now
             → MatchResult result (RunAmong no_key unkeyed_query_hashes.now (finite.values s.xorbs)) (DeviceFailure (S.meaning source.old) (S.meaning source.new)) }
-        ensures costs { (s : Shard) → (expiry : Option ℕ) → IsShard s → (S.meaning source.old).bytes ≡ layout s expiry → self.now ≡ info_value s expiry
+        ensures costs { (s : Shard) → (expiry : Option ℕ) → IsWritten s expiry (S.meaning source.old).bytes self.now
             → QueryCosts no_key unkeyed_query_hashes.now (finite.values s.xorbs) (S.meaning source.old) (S.meaning source.new) }
     {
         self.query_by_table(alloc, source, unkeyed_query_hashes)

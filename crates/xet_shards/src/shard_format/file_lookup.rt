@@ -4,9 +4,9 @@ ghost use Rattle.std.specs.Prelude.{◌≡◌, ℕ, Option, MatchResult, OnOk, I
 ghost use Rattle.std.specs.FinMap as finite;
 ghost use Rattle.xet_base.specs.Table.{Serves};
 ghost use Rattle.xet_records.specs.FileRecord.{file_records};
-ghost use Rattle.xet_shards.specs.Shard.{Shard, IsShard};
-ghost use Rattle.xet_shards.specs.Layout.{layout, info_value};
+ghost use Rattle.xet_shards.specs.Shard.{Shard};
 ghost use Rattle.xet_shards.specs.Lookup.{StartsAmong, NoStartsAmong, FoundInShard, NotFoundAmong, WithinBounds, SearchWithinBounds, file_table, LooksUpIndex, LooksUpRecord, ReadsInfo, ReadInfoFails, VisitsSome, Finding, FindingFails, LookupAnswer, LookupRefused};
+ghost use Rattle.xet_shards.specs.WrittenShard.{IsWritten};
 
 use super::info::MDBShardInfo;
 use super::section_reader::read_record_at;
@@ -33,10 +33,10 @@ impl MDBShardInfo {
         dest: &mut [u32; 8],
     ) -> Result<usize>
         ensures looks { LooksUpIndex (file_table self.now.metadata (S.meaning source.old)) hash.now.word0 dest.old dest.new (S.meaning source.old) (S.meaning source.new) result }
-        ensures written { (s : Shard) → (expiry : Option ℕ) → IsShard s → (S.meaning source.old).bytes ≡ layout s expiry → self.now ≡ info_value s expiry
+        ensures written { (s : Shard) → (expiry : Option ℕ) → IsWritten s expiry (S.meaning source.old).bytes self.now
             → MatchResult result (StartsAmong file_records (finite.values s.files) hash.now.word0 dest.new)
             (NoStartsAmong file_records (finite.values s.files) hash.now.word0 (S.meaning source.old) (S.meaning source.new)) }
-        ensures costs { (s : Shard) → (expiry : Option ℕ) → IsShard s → (S.meaning source.old).bytes ≡ layout s expiry → self.now ≡ info_value s expiry
+        ensures costs { (s : Shard) → (expiry : Option ℕ) → IsWritten s expiry (S.meaning source.old).bytes self.now
             → SearchWithinBounds file_records (finite.values s.files) hash.now.word0 (S.meaning source.old) (S.meaning source.new) }
     {
         let start = self.metadata.file_lookup_offset;
@@ -74,11 +74,11 @@ impl MDBShardInfo {
         hash: &MerkleHash,
     ) -> Result<Option<MDBFileInfo>>
         ensures looks { LooksUpRecord file_records (file_table self.now.metadata (S.meaning source.old)) self.now.metadata.file_info_offset hash.now (S.meaning source.old) (S.meaning source.new) result }
-        ensures written { (s : Shard) → (expiry : Option ℕ) → IsShard s → (S.meaning source.old).bytes ≡ layout s expiry → self.now ≡ info_value s expiry
+        ensures written { (s : Shard) → (expiry : Option ℕ) → IsWritten s expiry (S.meaning source.old).bytes self.now
             → MatchResult result (FoundInShard s hash.now) (NotFoundAmong file_records (finite.values s.files) hash.now (S.meaning source.old) (S.meaning source.new)) }
-        ensures costs { (s : Shard) → (expiry : Option ℕ) → IsShard s → (S.meaning source.old).bytes ≡ layout s expiry → self.now ≡ info_value s expiry
+        ensures costs { (s : Shard) → (expiry : Option ℕ) → IsWritten s expiry (S.meaning source.old).bytes self.now
             → WithinBounds file_records (finite.values s.files) hash.now.word0 (S.meaning source.old) (S.meaning source.new) }
-        ensures collision { (s : Shard) → (expiry : Option ℕ) → IsShard s → (S.meaning source.old).bytes ≡ layout s expiry → self.now ≡ info_value s expiry
+        ensures collision { (s : Shard) → (expiry : Option ℕ) → IsWritten s expiry (S.meaning source.old).bytes self.now
             → IfErr result (λ e. e ≡ CoreError.TruncatedHashCollision hash.now.word0
             → SearchWithinBounds file_records (finite.values s.files) hash.now.word0 (S.meaning source.old) (S.meaning source.new)) }
     {

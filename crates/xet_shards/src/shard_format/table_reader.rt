@@ -5,10 +5,10 @@ ghost use Rattle.std.proofs.Common.{rules};
 ghost use Rattle.std.specs.FinMap as finite;
 ghost use Rattle.xet_base.specs.Source.{DeviceFailure, ReadFails};
 ghost use Rattle.xet_records.specs.XorbRecord.{xorb_records};
-ghost use Rattle.xet_shards.specs.Shard.{Shard, IsShard};
+ghost use Rattle.xet_shards.specs.Shard.{Shard};
 ghost use Rattle.xet_shards.specs.Tables.{start_row, starts};
-ghost use Rattle.xet_shards.specs.Layout.{layout, info_value};
 ghost use Rattle.xet_shards.specs.TableReading.{FitsStart, triple_row, FitsTriple, ReadsNextRow, ReadsTable, TableFails};
+ghost use Rattle.xet_shards.specs.WrittenShard.{IsWritten, ReadsBack};
 
 use super::info::MDBShardInfo;
 use std::alloc::Global;
@@ -30,9 +30,9 @@ impl MDBShardInfo {
         ensures read { MatchResult result
             (λ found. ReadsTable start_row FitsStart 12 (S.meaning source.old) (S.meaning source.new) self.now.metadata.xorb_lookup_offset self.now.metadata.xorb_lookup_num_entry found.items)
             (TableFails 12 (S.meaning source.old) (S.meaning source.new) self.now.metadata.xorb_lookup_offset self.now.metadata.xorb_lookup_num_entry) }
-        ensures written { (s : Shard) → (expiry : Option ℕ) → IsShard s → (S.meaning source.old).bytes ≡ layout s expiry → self.now ≡ info_value s expiry
-            → MatchResult result (λ found. found.items ≡ starts xorb_records (finite.values s.xorbs))
-            (λ e. DeviceFailure (S.meaning source.old) (S.meaning source.new) e ⊎ (e ≡ CoreError.OutOfMemory)) }
+        ensures written { (s : Shard) → (expiry : Option ℕ) → IsWritten s expiry (S.meaning source.old).bytes self.now
+            → ReadsBack (starts xorb_records (finite.values s.xorbs))
+            (S.meaning source.old) (S.meaning source.new) result }
     {
         let offset = self.metadata.xorb_lookup_offset;
         let rows = self.metadata.xorb_lookup_num_entry;

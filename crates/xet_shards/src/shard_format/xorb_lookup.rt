@@ -8,11 +8,12 @@ ghost use Rattle.xet_base.specs.Table.{hits, Finds, FitsTable, SearchRefused, Is
 ghost use Rattle.xet_records.specs.declared.file_structs.MDBFileInfo.{MDBFileInfo as File};
 ghost use Rattle.xet_records.specs.declared.xorb_structs.MDBXorbInfo.{MDBXorbInfo as Xorb};
 ghost use Rattle.xet_records.specs.XorbRecord.{xorb_records};
-ghost use Rattle.xet_shards.specs.Shard.{Shard, IsShard};
-ghost use Rattle.xet_shards.specs.Layout.{Form, layout, info_value};
+ghost use Rattle.xet_shards.specs.Shard.{Shard};
+ghost use Rattle.xet_shards.specs.Layout.{Form};
 ghost use Rattle.xet_shards.specs.InForm.{Ascends, IsInForm};
 ghost use Rattle.xet_shards.specs.Lookup.{StartsAmong, NoStartsAmong, SearchWithinBounds, xorb_table, chunk_lookup_table, IsPair, LooksUpIndex};
 ghost use Rattle.xet_shards.specs.WrittenChunks.{RowsAmong, ChunkSearchCosts};
+ghost use Rattle.xet_shards.specs.WrittenShard.{IsWritten};
 
 use super::info::MDBShardInfo;
 use super::table_search::{find_rows, search_table};
@@ -52,9 +53,9 @@ impl MDBShardInfo {
             → MatchResult result (RowsAmong xorbs (under_key form.key unkeyed_hash.now).word0 dest.old dest.new) (DeviceFailure (S.meaning source.old) (S.meaning source.new)) }
         ensures in_form_costs { (files : List File) → (xorbs : List Xorb) → (form : Form) → IsInForm files xorbs form (S.meaning source.old).bytes self.now.metadata → form.chunk_table ≡ true
             → ChunkSearchCosts xorbs (under_key form.key unkeyed_hash.now).word0 (S.meaning source.old) (S.meaning source.new) }
-        ensures written { (s : Shard) → (expiry : Option ℕ) → IsShard s → (S.meaning source.old).bytes ≡ layout s expiry → self.now ≡ info_value s expiry
+        ensures written { (s : Shard) → (expiry : Option ℕ) → IsWritten s expiry (S.meaning source.old).bytes self.now
             → MatchResult result (RowsAmong (finite.values s.xorbs) unkeyed_hash.now.word0 dest.old dest.new) (DeviceFailure (S.meaning source.old) (S.meaning source.new)) }
-        ensures costs { (s : Shard) → (expiry : Option ℕ) → IsShard s → (S.meaning source.old).bytes ≡ layout s expiry → self.now ≡ info_value s expiry
+        ensures costs { (s : Shard) → (expiry : Option ℕ) → IsWritten s expiry (S.meaning source.old).bytes self.now
             → ChunkSearchCosts (finite.values s.xorbs) unkeyed_hash.now.word0 (S.meaning source.old) (S.meaning source.new) }
     {
         let start = self.metadata.chunk_lookup_offset;
@@ -83,10 +84,10 @@ impl MDBShardInfo {
         ensures in_form_costs { (files : List File) → (xorbs : List Xorb) → (form : Form) → IsInForm files xorbs form (S.meaning source.old).bytes self.now.metadata
             → Ascends xorb_records xorbs → form.xorb_table ≡ true
             → SearchWithinBounds xorb_records xorbs hash.now.word0 (S.meaning source.old) (S.meaning source.new) }
-        ensures written { (s : Shard) → (expiry : Option ℕ) → IsShard s → (S.meaning source.old).bytes ≡ layout s expiry → self.now ≡ info_value s expiry
+        ensures written { (s : Shard) → (expiry : Option ℕ) → IsWritten s expiry (S.meaning source.old).bytes self.now
             → MatchResult result (StartsAmong xorb_records (finite.values s.xorbs) hash.now.word0 dest.new)
             (NoStartsAmong xorb_records (finite.values s.xorbs) hash.now.word0 (S.meaning source.old) (S.meaning source.new)) }
-        ensures costs { (s : Shard) → (expiry : Option ℕ) → IsShard s → (S.meaning source.old).bytes ≡ layout s expiry → self.now ≡ info_value s expiry
+        ensures costs { (s : Shard) → (expiry : Option ℕ) → IsWritten s expiry (S.meaning source.old).bytes self.now
             → SearchWithinBounds xorb_records (finite.values s.xorbs) hash.now.word0 (S.meaning source.old) (S.meaning source.new) }
     {
         let start = self.metadata.xorb_lookup_offset;

@@ -19,6 +19,6 @@ returns-clause-bookend g c files xorbs form is at =
     c.run_at_location.ensures.answer c.run_at_location.ensures.refused
 
 pub returns-clause-written : goal.returns-clause-written
-returns-clause-written g c s expiry xorb shard are is at =
+returns-clause-written g c s expiry xorb written at =
     returns-clause-in_form g c (values s.files) (values s.xorbs) (plain_form expiry) xorb
-    (shard_in_form s shard expiry (g.S.ShardSource.meaning c.args.source.now).bytes c.args.self.now are is) at (xorb_of_shard s shard c.args.xorb_row xorb at)
+    (shard_in_form written) at (xorb_of_shard s written.shard c.args.xorb_row xorb at)

@@ -17,15 +17,15 @@ returns-clause-looks g c =
     (record { found = found.found; serves = found.serves; refused = found.refused; kept = found.kept; bounds = found.bounds; even = found.even })
 
 pub returns-clause-written : goal.returns-clause-written
-returns-clause-written g c s expiry shard are is =
+returns-clause-written g c s expiry written =
     let old = g.S.ShardSource.meaning c.args.source.now in
     let footer = c.args.self.now.metadata in
-    let looked = files_in (values s.files) (values s.xorbs) (plain_form expiry) old footer (shard_in_form s shard expiry old.bytes c.args.self.now are is) (files_ascend s shard) refl in
+    let looked = files_in (values s.files) (values s.xorbs) (plain_form expiry) old footer (shard_in_form written) (files_ascend s written.shard) refl in
     index_written file_records file_laws no_file (values s.files) footer.file_info_offset footer.file_lookup_offset footer.file_lookup_num_entry old looked _ _ _ _ c.find_rows.result (returns-clause-looks g c)
 
 pub returns-clause-costs : goal.returns-clause-costs
-returns-clause-costs g c s expiry shard are is =
+returns-clause-costs g c s expiry written =
     let old = g.S.ShardSource.meaning c.args.source.now in
     let footer = c.args.self.now.metadata in
-    let looked = files_in (values s.files) (values s.xorbs) (plain_form expiry) old footer (shard_in_form s shard expiry old.bytes c.args.self.now are is) (files_ascend s shard) refl in
+    let looked = files_in (values s.files) (values s.xorbs) (plain_form expiry) old footer (shard_in_form written) (files_ascend s written.shard) refl in
     index_bounded file_records file_laws no_file (values s.files) footer.file_info_offset footer.file_lookup_offset footer.file_lookup_num_entry old looked _ _ _ _ c.find_rows.result (returns-clause-looks g c)

@@ -58,11 +58,11 @@ returns-clause-in_form_costs g c files xorbs form is with_table =
     (chunk_search_costs files xorbs form old footer is with_table word new (returns-clause-bounds g c))
 
 pub returns-clause-written : goal.returns-clause-written
-returns-clause-written g c s expiry shard are is =
+returns-clause-written g c s expiry written =
     returns-clause-in_form g c (values s.files) (values s.xorbs) (plain_form expiry)
-    (shard_in_form s shard expiry (g.S.ShardSource.meaning c.args.source.now).bytes c.args.self.now are is) refl
+    (shard_in_form written) refl
 
 pub returns-clause-costs : goal.returns-clause-costs
-returns-clause-costs g c s expiry shard are is =
+returns-clause-costs g c s expiry written =
     returns-clause-in_form_costs g c (values s.files) (values s.xorbs) (plain_form expiry)
-    (shard_in_form s shard expiry (g.S.ShardSource.meaning c.args.source.now).bytes c.args.self.now are is) refl
+    (shard_in_form written) refl

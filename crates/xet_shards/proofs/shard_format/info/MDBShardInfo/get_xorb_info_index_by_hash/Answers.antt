@@ -31,11 +31,11 @@ returns-clause-in_form_costs g c files xorbs form is ascends with_table =
     (xorbs_in files xorbs form old footer is ascends with_table) _ _ _ _ c.find_rows.result (returns-clause-looks g c)
 
 pub returns-clause-written : goal.returns-clause-written
-returns-clause-written g c s expiry shard are is =
+returns-clause-written g c s expiry written =
     returns-clause-in_form g c (values s.files) (values s.xorbs) (plain_form expiry)
-    (shard_in_form s shard expiry (g.S.ShardSource.meaning c.args.source.now).bytes c.args.self.now are is) (xorbs_ascend s shard) refl
+    (shard_in_form written) (xorbs_ascend s written.shard) refl
 
 pub returns-clause-costs : goal.returns-clause-costs
-returns-clause-costs g c s expiry shard are is =
+returns-clause-costs g c s expiry written =
     returns-clause-in_form_costs g c (values s.files) (values s.xorbs) (plain_form expiry)
-    (shard_in_form s shard expiry (g.S.ShardSource.meaning c.args.source.now).bytes c.args.self.now are is) (xorbs_ascend s shard) refl
+    (shard_in_form written) (xorbs_ascend s written.shard) refl
