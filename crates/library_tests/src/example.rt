@@ -40,7 +40,8 @@ fn find_file(
     info.get_file_reconstruction_info(alloc, &mut source, &file)
 }
 
-/// Makes a shard of one file, finds the file on its bytes, and unites the shard with another in memory.
+/// Makes a shard of one file, finds the file on its bytes, and unites the shard with another in
+/// memory.
 ///
 /// The errors are those of the calls, `FileNotFound` if the file is not found.
 pub fn example(alloc: Global) -> Result<()> {

@@ -109,8 +109,12 @@ impl<'a> Device<'a> {
     fn failure_of(&mut self, operation: Operation) -> Option<io::Error>
         ensures inner { self.new.inner ≡ self.old.inner }
         ensures seeks { self.new.seeks ≡ self.old.seeks }
-        ensures works { IfNone result ((self.new.failures ≡ self.old.failures) × (self.new.last_failure ≡ self.old.last_failure)) }
-        ensures fails { IfSome result (λ e. (self.new.failures.value ≡ self.old.failures.value + 1) × (self.new.last_failure ≡ Some e)) }
+        ensures works { IfNone result
+            ((self.new.failures ≡ self.old.failures)
+            × (self.new.last_failure ≡ self.old.last_failure)) }
+        ensures fails { IfSome result
+            (λ e. (self.new.failures.value ≡ self.old.failures.value + 1)
+            × (self.new.last_failure ≡ Some e)) }
     {
         let fault = self.plan.fault?;
         if fault.operation != operation && fault.operation != Operation::Call {
@@ -132,7 +136,11 @@ impl<'a> Device<'a> {
 
 impl<'a> ShardSource for Device<'a> {
     ghost meaning = { λ s. let inner = ⟦<MemorySource<'a> as ShardSource>⟧.meaning s.inner in
-        record inner { seeks = inner.seeks + s.seeks.value; failures = s.failures.value; last_failure = s.last_failure } };
+        record inner {
+          seeks = inner.seeks + s.seeks.value;
+          failures = s.failures.value;
+          last_failure = s.last_failure;
+        } };
 
     fn read_some(&mut self, slice: &mut [u8]) -> io::Result<usize> {
         if let Some(error) = self.failure_of(Operation::Read) {

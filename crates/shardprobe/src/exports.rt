@@ -22,8 +22,8 @@ struct Options {
     chunk_table: bool,
 }
 
-/// Runs `export B1 B KEY NOW VALID PARTS` or `export_streaming ..` on the buffer B1 through a device,
-/// and prints the number that the call returns. Stores nothing.
+/// Runs `export B1 B KEY NOW VALID PARTS` or `export_streaming ..` on the buffer B1 through a
+/// device, and prints the number that the call returns. Stores nothing.
 pub fn export(
     workspace: &Workspace,
     alloc: Global,

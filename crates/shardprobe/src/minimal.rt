@@ -16,8 +16,8 @@ use xet_core_structures::merklehash::MerkleHash;
 use xet_core_structures::streaming_shard::MDBMinimalShard;
 use xet_core_structures::xorb_structs::MDBXorbInfoView;
 
-/// Runs a command that writes a minimal shard, into a buffer that it makes. `false` if the words are
-/// no such command.
+/// Runs a command that writes a minimal shard, into a buffer that it makes. `false` if the words
+/// are no such command.
 pub fn run_on_minimal(
     workspace: &mut Workspace,
     alloc: Global,

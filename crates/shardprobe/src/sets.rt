@@ -14,9 +14,9 @@ use xet_core_structures::set_operations::{
 };
 use xet_core_structures::shard_format::MDBShardInfo;
 
-/// Runs `set_union B1 B2 B [FIELD ..]` or `set_difference ..` on the buffers B1 and B2, each through a
-/// device, and prints the named fields of the header and the footer that the call returns. Stores
-/// nothing.
+/// Runs `set_union B1 B2 B [FIELD ..]` or `set_difference ..` on the buffers B1 and B2, each
+/// through a device, and prints the named fields of the header and the footer that the call
+/// returns. Stores nothing.
 pub fn combine(
     workspace: &Workspace,
     alloc: Global,
@@ -79,7 +79,8 @@ fn united(workspace: &Workspace, alloc: Global, words: &[&str]) -> Result<Vec<u8
     Ok(shard_union_tree(alloc, &tree, inputs.as_slice())?)
 }
 
-// The tree of words in postfix order: a number is a leaf, and `+` the union of the two trees before it.
+// The tree of words in postfix order: a number is a leaf, and `+` the union of the two trees before
+// it.
 fn parse_tree(alloc: Global, words: &[&str]) -> Result<MergePlan, Stop> {
     let mut trees = Vec::new(alloc);
     for word in words {

@@ -16,16 +16,20 @@ abbrev pub IsResultOf : Operation → Shard → Shard → Shard → Type 0
 IsResultOf Union = IsByteUnion
 IsResultOf Difference = IsDifference
 
-abbrev pub RefusalOf : Operation → List ℕ → MDBShardInfo → List ℕ → MDBShardInfo → CoreError → Type 0
+abbrev pub RefusalOf : Operation → List ℕ → MDBShardInfo → List ℕ → MDBShardInfo → CoreError
+    → Type 0
 RefusalOf Union = UnionRefusal
 RefusalOf Difference = DifferenceRefusal
 
 -- the bytes of the result for what two byte strings hold, each with its own header and footer
 abbrev pub CombinesBytes : (Shard → Shard → Shard → Type 0) → List ℕ → List ℕ → List ℕ → Type 0
 CombinesBytes IsResult x y out =
-    (i j : MDBShardInfo) × (c : Shard) × HasEnds x i × HasEnds y j × HaveResult IsResult x i y j c × (out ≡ keyed_layout c (key_of i))
+    (i j : MDBShardInfo) × (c : Shard) × HasEnds x i × HasEnds y j × HaveResult IsResult x i y j c
+    × (out ≡ keyed_layout c (key_of i))
 
 -- a header or a footer is not read, the result is not written, or there is none
-abbrev pub CombiningRefusal : (List ℕ → MDBShardInfo → List ℕ → MDBShardInfo → CoreError → Type 0) → List ℕ → List ℕ → CoreError → Type 0
+abbrev pub CombiningRefusal : (List ℕ → MDBShardInfo → List ℕ → MDBShardInfo → CoreError → Type 0)
+    → List ℕ → List ℕ → CoreError → Type 0
 CombiningRefusal Refusal x y e =
-    LoadRefusal x e ⊎ LoadRefusal y e ⊎ IsDeviceError e ⊎ ((i j : MDBShardInfo) × HasEnds x i × HasEnds y j × Refusal x i y j e)
+    LoadRefusal x e ⊎ LoadRefusal y e ⊎ IsDeviceError e
+    ⊎ ((i j : MDBShardInfo) × HasEnds x i × HasEnds y j × Refusal x i y j e)

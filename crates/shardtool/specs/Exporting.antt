@@ -13,17 +13,22 @@ use Rattle.xet_core_structures.specs.SectionReading.{IsSection}
 use Rattle.xet_core_structures.specs.ByteResults.{LoadRefusal}
 use Rattle.shardtool.specs.declared.export.Export.{Export}
 
--- the bytes have a header and both sections, and what these hold is written in the form that is asked for
+-- the bytes have a header and both sections, and what these hold is written in the form that is
+-- asked for
 pub record ExportsBytes (x : Export) (bytes out : List ℕ) : Type 0 where
   pub files : List MDBFileInfo
   pub xorbs : List MDBXorbInfo
   pub header : HasHeader bytes
   pub file_section : IsSection file_records (drop 48 bytes) files
   pub xorb_section : IsSection xorb_records (drop (xorbs_after files) bytes) xorbs
-  pub written : out ≡ exported files xorbs (export_form x.key x.now x.valid_seconds x.parts.files x.parts.xorb_table x.parts.chunk_table)
+  pub written : out ≡ exported files xorbs
+      (export_form x.key x.now x.valid_seconds x.parts.files x.parts.xorb_table
+      x.parts.chunk_table)
 
--- header and footer are not read; or with this footer the shard cannot be exported, or a section is not read or written
+-- header and footer are not read; or with this footer the shard cannot be exported, or a section is
+-- not read or written
 abbrev pub RefusesExport : Export → List ℕ → CoreError → Type 0
 RefusesExport x bytes e =
     LoadRefusal bytes e
-    ⊎ ((i : MDBShardInfo) × HasEnds bytes i × (((e ≡ InvalidArguments) × CannotExport i x.now x.valid_seconds) ⊎ ExportCase bytes e))
+    ⊎ ((i : MDBShardInfo) × HasEnds bytes i
+    × (((e ≡ InvalidArguments) × CannotExport i x.now x.valid_seconds) ⊎ ExportCase bytes e))

@@ -25,7 +25,8 @@ bytes_under buffers name = option_map (λ b. b.items) (get_by_text buffers name)
 -- what a tree gives: a name its buffer's bytes, a pair the union of what both sides give
 abbrev pub MergesTo : Buffers → NameTree → List ℕ → Type 0
 MergesTo buffers (Name name) out = buffers name.now ≡ Some out
-MergesTo buffers (Both' p left q right) out = (x y : List ℕ) × MergesTo buffers left x × MergesTo buffers right y × UnitesBytes x y out
+MergesTo buffers (Both' p left q right) out =
+    (x y : List ℕ) × MergesTo buffers left x × MergesTo buffers right y × UnitesBytes x y out
 
 -- why it gives nothing: an allocation failed, or there is no such union
 abbrev pub MergeRefusal : Buffers → NameTree → CoreError → Type 0
@@ -51,14 +52,18 @@ MergeStops buffers tree Failed = ⊥
 
 -- a plan of the same shape, with the same bytes at its leaves
 abbrev pub IsPlanOf : Buffers → List (List ℕ) → NameTree → MergePlan → Type 0
-IsPlanOf buffers inputs (Name name) (Leaf i) = (bytes : List ℕ) × (buffers name.now ≡ Some bytes) × (slice_get inputs i ≡ Some bytes)
-IsPlanOf buffers inputs (Both' p left q right) (both_plans p1 plan1 q1 plan2) = IsPlanOf buffers inputs left plan1 × IsPlanOf buffers inputs right plan2
+IsPlanOf buffers inputs (Name name) (Leaf i) =
+    (bytes : List ℕ) × (buffers name.now ≡ Some bytes) × (slice_get inputs i ≡ Some bytes)
+IsPlanOf buffers inputs (Both' p left q right) (both_plans p1 plan1 q1 plan2) =
+    IsPlanOf buffers inputs left plan1 × IsPlanOf buffers inputs right plan2
 IsPlanOf buffers inputs _ _ = ⊥
 
 -- the second list has the inputs of the first, and then maybe more
 abbrev pub AddsInputs : {Z : Type 0} → Vec (Bor (List ℕ)) Z → Vec (Bor (List ℕ)) Z → Type 0
-AddsInputs old new = (more : List (List ℕ)) × (map (λ x. x.now) new.items ≡ map (λ x. x.now) old.items ++ more)
+AddsInputs old new =
+    (more : List (List ℕ)) × (map (λ x. x.now) new.items ≡ map (λ x. x.now) old.items ++ more)
 
 -- why there is no plan
 abbrev pub PlanStops : Buffers → NameTree → Stop → Type 0
-PlanStops buffers tree stop = (stop ≡ Refused OutOfMemory) ⊎ ((stop ≡ Unreadable) × HasUnknown buffers tree)
+PlanStops buffers tree stop =
+    (stop ≡ Refused OutOfMemory) ⊎ ((stop ≡ Unreadable) × HasUnknown buffers tree)

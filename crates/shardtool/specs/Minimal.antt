@@ -16,19 +16,25 @@ use Rattle.shardtool.specs.declared.minimal.KeptXorbs.{KeptXorbs}
 use Rattle.shardtool.specs.declared.minimal.KeptXorbs.TheVariants.{All as all_xorbs, Listed}
 use Rattle.shardtool.specs.declared.minimal.Subset.{Subset}
 
--- the bytes begin with a header and two sections, of these records; what comes after them is any bytes
+-- the bytes begin with a header and two sections, of these records; what comes after them is any
+-- bytes
 abbrev pub HoldsMinimal : List ℕ → MinimalShard → Type 0
-HoldsMinimal bytes m = (left : Option (List ℕ)) × ReadsMinimal Consumes true true (Some bytes) left m
+HoldsMinimal bytes m =
+    (left : Option (List ℕ)) × ReadsMinimal Consumes true true (Some bytes) left m
 
 -- why the bytes are not read as those of a shard
 abbrev pub RefusesMinimal : List ℕ → CoreError → Type 0
 RefusesMinimal bytes e =
-    (left : Option (List ℕ)) × MinimalFails Consumes (λ before after n e. ReaderFails before n e) (λ before after e. ReaderHeaderFails before e) true (Some bytes) left e
+    (left : Option (List ℕ))
+    × MinimalFails Consumes (λ before after n e. ReaderFails before n e)
+    (λ before after e. ReaderHeaderFails before e) true (Some bytes) left e
 
 -- the minimal shard, with verification rows only if they are wanted
 abbrev pub MinimalBytes : Bool → ℕ → List ℕ → List ℕ → Type 0
 MinimalBytes with_verification now bytes out =
-    (m : MinimalShard) × HoldsMinimal bytes m × (out ≡ layout_of (map (as_wanted with_verification) m.files) (map (mark_starts (is_start m.files)) m.xorbs) (minimal_form now None))
+    (m : MinimalShard) × HoldsMinimal bytes m
+    × (out ≡ layout_of (map (as_wanted with_verification) m.files)
+    (map (mark_starts (is_start m.files)) m.xorbs) (minimal_form now None))
 
 -- whether a subset keeps a xorb of this hash
 abbrev pub Keeps : KeptXorbs → DataHash → Type 0
@@ -38,12 +44,15 @@ Keeps (Listed hashes) hash = Contains hashes.items hash
 -- no files, and the xorbs that a subset keeps
 abbrev pub SubsetBytes : Subset → List ℕ → List ℕ → Type 0
 SubsetBytes subset bytes out =
-    (m : MinimalShard) × (kept : List MDBXorbInfo) × HoldsMinimal bytes m × IsKept (λ x accepted. IsTrue accepted ↔ Keeps subset.kept (xorb_hash_of x)) m.xorbs kept
-    × (out ≡ layout_of [] (map (mark_starts (is_start m.files)) kept) (minimal_form subset.now subset.expiry))
+    (m : MinimalShard) × (kept : List MDBXorbInfo) × HoldsMinimal bytes m
+    × IsKept (λ x accepted. IsTrue accepted ↔ Keeps subset.kept (xorb_hash_of x)) m.xorbs kept
+    × (out ≡ layout_of [] (map (mark_starts (is_start m.files)) kept)
+    (minimal_form subset.now subset.expiry))
 
 -- the hashes of the eligible chunks
 abbrev pub EligibleIn : List ℕ → List DataHash → Type 0
-EligibleIn bytes hashes = (m : MinimalShard) × HoldsMinimal bytes m × (hashes ≡ eligible_hashes m.files m.xorbs)
+EligibleIn bytes hashes =
+    (m : MinimalShard) × HoldsMinimal bytes m × (hashes ≡ eligible_hashes m.files m.xorbs)
 
 -- why nothing is written: the bytes are not read, or writing fails
 abbrev pub WritesNone : List ℕ → CoreError → Type 0

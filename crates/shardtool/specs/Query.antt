@@ -9,9 +9,10 @@ use Rattle.xet_core_structures.specs.Source.{Source}
 use Rattle.xet_core_structures.specs.Ends.{HasEnds, IsUnsupported, IsTooShort, FormatCase}
 use Rattle.xet_core_structures.specs.RunReading.{QueryAnswer, QueryRefused}
 
--- the bytes have a header and a footer, and with that footer a query has an outcome on a source of them that does not
--- fail
-pub record Queried (bytes : List ℕ) (Outcome : MDBShardFileFooter → Source → Source → Type 0) : Type 0 where
+-- the bytes have a header and a footer, and with that footer a query has an outcome on a source of
+-- them that does not fail
+pub record Queried (bytes : List ℕ) (Outcome : MDBShardFileFooter → Source → Source → Type 0)
+    : Type 0 where
   pub info : MDBShardInfo
   pub ends : HasEnds bytes info
   pub before : Source
@@ -21,7 +22,8 @@ pub record Queried (bytes : List ℕ) (Outcome : MDBShardFileFooter → Source �
   pub outcome : Outcome info.metadata before after
 
 abbrev pub AnswersQuery : List ℕ → List DataHash → Option (ℕ × FileDataSequenceEntry) → Type 0
-AnswersQuery bytes hashes answer = Queried bytes (λ footer before after. QueryAnswer footer hashes before after answer)
+AnswersQuery bytes hashes answer =
+    Queried bytes (λ footer before after. QueryAnswer footer hashes before after answer)
 
 -- the format is unsupported or cut short, or the query is refused
 abbrev pub RefusesQuery : List ℕ → List DataHash → CoreError → Type 0

@@ -7,7 +7,8 @@ use Rattle.shardtool.specs.declared.tree.NameTree.TheVariants.{Name, Both'}
 -- a name, or the words of two trees in parentheses
 abbrev pub words_of : NameTree → List (List ℕ)
 words_of (Name name) = name.now ∷ []
-words_of (Both' p left q right) = (40 ∷ []) ∷ (words_of left ++ (words_of right ++ ((41 ∷ []) ∷ [])))
+words_of (Both' p left q right) =
+    (40 ∷ []) ∷ (words_of left ++ (words_of right ++ ((41 ∷ []) ∷ [])))
 
 -- its leaves are names, and at most so many pairs of parentheses are in one another
 abbrev pub IsTree : NameTree → ℕ → Type 0

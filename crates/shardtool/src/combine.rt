@@ -30,7 +30,8 @@ pub fn combine_bytes(
     first: &[u8],
     second: &[u8],
 ) -> Result<Vec<u8>>
-    ensures { MatchResult result (λ bytes. CombinesBytes (IsResultOf operation) first.now second.now bytes.items)
+    ensures { MatchResult result
+        (λ bytes. CombinesBytes (IsResultOf operation) first.now second.now bytes.items)
         (CombiningRefusal (RefusalOf operation) first.now second.now) }
 {
     let mut r1 = MemorySource::new(first);
@@ -52,9 +53,13 @@ fn combine<S: ShardSource, T: ShardSource, W: Write>(
     out: &mut W,
 ) -> Result<MDBShardInfo>
     ensures { MatchResult result
-        (WritesResult (IsResultOf operation) (S.meaning r1.old).bytes s1.now (T.meaning r2.old).bytes s2.now (W.contents out.old) (W.contents out.new))
-        (λ e. IsDeviceError e ⊎ InputsFail (S.meaning r1.old) (S.meaning r1.new) (T.meaning r2.old) (T.meaning r2.new)
-        (RefusalOf operation (S.meaning r1.old).bytes s1.now (T.meaning r2.old).bytes s2.now) e) }
+        (WritesResult (IsResultOf operation) (S.meaning r1.old).bytes s1.now
+        (T.meaning r2.old).bytes s2.now (W.contents out.old) (W.contents out.new))
+        (λ e. IsDeviceError e
+        ⊎ InputsFail (S.meaning r1.old) (S.meaning r1.new) (T.meaning r2.old) (T.meaning r2.new)
+        (RefusalOf operation (S.meaning r1.old).bytes s1.now (T.meaning r2.old).bytes
+        s2.now)
+        e) }
 {
     match operation {
         Operation::Union => shard_set_union(alloc, s1, r1, s2, r2, out),

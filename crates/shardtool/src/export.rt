@@ -31,7 +31,8 @@ pub struct ExportParts {
 /// The errors are those of [`MDBShardInfo::load_from_reader`] and
 /// [`MDBShardInfo::export_as_keyed_shard`].
 pub fn export_bytes(alloc: Global, bytes: &[u8], export: &Export) -> Result<Vec<u8>>
-    ensures { MatchResult result (λ exported. ExportsBytes export.entry.now bytes.now exported.items)
+    ensures { MatchResult result
+        (λ exported. ExportsBytes export.entry.now bytes.now exported.items)
         (RefusesExport export.entry.now bytes.now) }
 {
     let mut source = MemorySource::new(bytes);

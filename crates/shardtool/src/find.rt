@@ -20,10 +20,15 @@ use xet_core_structures::source::MemorySource;
 /// [`MDBShardInfo::get_file_reconstruction_info`].
 pub fn find_file(alloc: Global, bytes: &[u8], hash: &MerkleHash) -> Result<Option<MDBFileInfo>>
     ensures fits { IfOk result (λ found. IfSome found FitsItsHeader) }
-    ensures hash { IfOk result (λ found. IfSome found (λ file. file.metadata.file_hash ≡ hash.now)) }
-    ensures written { (s : Shard) → (expiry : Option ℕ) → IsShard s → IfSome expiry (λ e. e < 2 ^ 64) → bytes.now ≡ layout s expiry
-        → MatchResult result (FoundInShard s hash.now) (λ e. ((e ≡ CoreError.OutOfMemory) × (length (sharing file_records hash.now.word0 (finite.values s.files)) < 8))
-        ⊎ ((e ≡ CoreError.TruncatedHashCollision hash.now.word0) × (8 ≤ length (sharing file_records hash.now.word0 (finite.values s.files))))) }
+    ensures hash { IfOk result
+        (λ found. IfSome found (λ file. file.metadata.file_hash ≡ hash.now)) }
+    ensures written { (s : Shard) → (expiry : Option ℕ) → IsShard s
+        → IfSome expiry (λ e. e < 2 ^ 64) → bytes.now ≡ layout s expiry
+        → MatchResult result (FoundInShard s hash.now)
+        (λ e. ((e ≡ CoreError.OutOfMemory)
+        × (length (sharing file_records hash.now.word0 (finite.values s.files)) < 8))
+        ⊎ ((e ≡ CoreError.TruncatedHashCollision hash.now.word0)
+        × (8 ≤ length (sharing file_records hash.now.word0 (finite.values s.files))))) }
 {
     let mut source = MemorySource::new(bytes);
     let info = MDBShardInfo::load_from_reader(alloc, &mut source)?;

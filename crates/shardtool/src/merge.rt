@@ -18,9 +18,11 @@ pub fn merge_buffers(
     tree: &NameTree<'_>,
     buffers: &BTreeMap<String, Vec<u8>>,
 ) -> Result<Vec<u8>, Stop>
-    ensures written { MatchResult result (λ bytes. MergesTo (bytes_under buffers.now) tree.now bytes.items)
+    ensures written { MatchResult result
+        (λ bytes. MergesTo (bytes_under buffers.now) tree.now bytes.items)
         (MergeStops (bytes_under buffers.now) tree.now) }
-    ensures unknown { HasUnknown (bytes_under buffers.now) tree.now → IsErrAnd result StopsAtUnknown }
+    ensures unknown { HasUnknown (bytes_under buffers.now) tree.now
+        → IsErrAnd result StopsAtUnknown }
 {
     let mut inputs = Vec::new(alloc);
     let plan = plan_of(alloc, tree, buffers, &mut inputs)?;
@@ -35,7 +37,8 @@ fn plan_of<'b>(
     inputs: &mut Vec<&'b [u8]>,
 ) -> Result<MergePlan, Stop>
     ensures { MatchResult result
-        (λ plan. AddsInputs inputs.old inputs.new × IsPlanOf (bytes_under buffers.now) (map (λ x. x.now) inputs.new.items) tree.now plan)
+        (λ plan. AddsInputs inputs.old inputs.new
+        × IsPlanOf (bytes_under buffers.now) (map (λ x. x.now) inputs.new.items) tree.now plan)
         (PlanStops (bytes_under buffers.now) tree.now) }
 {
     match tree {

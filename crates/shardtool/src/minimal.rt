@@ -45,7 +45,9 @@ pub fn minimal_bytes(
     now: u64,
     with_verification: bool,
 ) -> Result<Vec<u8>>
-    ensures { MatchResult result (λ minimal. MinimalBytes with_verification now bytes.now minimal.items) (WritesNone bytes.now) }
+    ensures { MatchResult result
+        (λ minimal. MinimalBytes with_verification now bytes.now minimal.items)
+        (WritesNone bytes.now) }
 {
     let shard = read_minimal(alloc, bytes)?;
     let mut minimal = Vec::new(alloc);
@@ -58,7 +60,8 @@ pub fn minimal_bytes(
 /// The errors are those of [`MDBMinimalShard::from_reader`] and
 /// [`MDBMinimalShard::serialize_xorb_subset_with_expiry`].
 pub fn subset_bytes(alloc: Global, bytes: &[u8], subset: &Subset) -> Result<Vec<u8>>
-    ensures { MatchResult result (λ written. SubsetBytes subset.entry.now bytes.now written.items) (WritesNone bytes.now) }
+    ensures { MatchResult result (λ written. SubsetBytes subset.entry.now bytes.now written.items)
+        (WritesNone bytes.now) }
 {
     let shard = read_minimal(alloc, bytes)?;
     let mut written = Vec::new(alloc);
@@ -81,7 +84,8 @@ pub fn subset_bytes(alloc: Global, bytes: &[u8], subset: &Subset) -> Result<Vec<
 /// The errors are those of [`MDBMinimalShard::from_reader`] and
 /// [`MDBMinimalShard::global_dedup_eligible_chunks`].
 pub fn eligible_chunks(alloc: Global, bytes: &[u8]) -> Result<Vec<MerkleHash>>
-    ensures { MatchResult result (λ hashes. EligibleIn bytes.now hashes.items) (EligibleRefusal bytes.now) }
+    ensures { MatchResult result (λ hashes. EligibleIn bytes.now hashes.items)
+        (EligibleRefusal bytes.now) }
 {
     read_minimal(alloc, bytes)?.global_dedup_eligible_chunks(alloc)
 }

@@ -29,7 +29,8 @@ pub fn query_chunks(
 ) -> Result<Option<(usize, FileDataSequenceEntry)>>
     ensures any_bytes { MatchResult result (AnswersQuery bytes.now hashes.now)
         (RefusesQuery bytes.now hashes.now) }
-    ensures written { (s : Shard) → (expiry : Option ℕ) → IsShard s → IfSome expiry (λ e. e < 2 ^ 64) → bytes.now ≡ layout s expiry
+    ensures written { (s : Shard) → (expiry : Option ℕ) → IsShard s
+        → IfSome expiry (λ e. e < 2 ^ 64) → bytes.now ≡ layout s expiry
         → IsOkAnd result (RunAmong no_key hashes.now (finite.values s.xorbs)) }
 {
     let mut source = MemorySource::new(bytes);

@@ -20,8 +20,10 @@ const MOST_DEEP: u8 = 64;
 /// The tree of words: a name is a tree, and so is a pair of trees in parentheses, up to 64 in one
 /// another. `Unreadable` if the words are no tree.
 pub fn parse_tree<'a>(alloc: Global, words: &[&'a str]) -> Result<NameTree<'a>, ParseError>
-    ensures found { IfOk result (λ tree. IsTree tree 64 × (words_of tree ≡ map (λ word. word.now) words.now)) }
-    ensures every { (tree : Tree) → IsTree tree 64 → words_of tree ≡ map (λ word. word.now) words.now
+    ensures found { IfOk result
+        (λ tree. IsTree tree 64 × (words_of tree ≡ map (λ word. word.now) words.now)) }
+    ensures every { (tree : Tree) → IsTree tree 64
+        → words_of tree ≡ map (λ word. word.now) words.now
         → IfErr result (λ e. e ≡ ParseError.OutOfMemory) }
 {
     let (tree, rest) = parse_front(alloc, words, MOST_DEEP)?;
@@ -37,10 +39,14 @@ fn parse_front<'w, 'a>(
     words: &'w [&'a str],
     depth: u8,
 ) -> Result<(NameTree<'a>, &'w [&'a str]), ParseError>
-    ensures found { IfOk result (λ found. IsTree found.0 depth
-        × (map (λ word. word.now) words.now ≡ words_of found.0 ++ map (λ word. word.now) found.1.now)) }
-    ensures every { (tree : Tree) → (rest : List (List ℕ)) → IsTree tree depth → map (λ word. word.now) words.now ≡ words_of tree ++ rest
-        → MatchResult result (λ found. map (λ word. word.now) found.1.now ≡ rest) (λ e. e ≡ ParseError.OutOfMemory) }
+    ensures found { IfOk result
+        (λ found. IsTree found.0 depth
+        × (map (λ word. word.now) words.now
+        ≡ words_of found.0 ++ map (λ word. word.now) found.1.now)) }
+    ensures every { (tree : Tree) → (rest : List (List ℕ)) → IsTree tree depth
+        → map (λ word. word.now) words.now ≡ words_of tree ++ rest
+        → MatchResult result (λ found. map (λ word. word.now) found.1.now ≡ rest)
+        (λ e. e ≡ ParseError.OutOfMemory) }
 {
     let Some((first, rest)) = words.split_first() else {
         return Err(ParseError::Unreadable);
@@ -60,7 +66,8 @@ fn parse_front<'w, 'a>(
 
 // The words after a closing parenthesis.
 fn after_end<'w, 'a>(words: &'w [&'a str]) -> Result<&'w [&'a str], ParseError>
-    ensures found { IfOk result (λ rest. map (λ word. word.now) words.now ≡ (41 ∷ []) ∷ map (λ word. word.now) rest.now) }
+    ensures found { IfOk result
+        (λ rest. map (λ word. word.now) words.now ≡ (41 ∷ []) ∷ map (λ word. word.now) rest.now) }
     ensures every { (rest : List (List ℕ)) → map (λ word. word.now) words.now ≡ (41 ∷ []) ∷ rest
         → IsOkAnd result (λ found. map (λ word. word.now) found.now ≡ rest) }
 {

@@ -82,7 +82,9 @@ WithoutFormatError (Ok v) r = r ≡ Ok (Some v)
 WithoutFormatError (Err (MalformedData _)) r = r ≡ Ok None
 WithoutFormatError (Err e) r = r ≡ Err e
 
--- the result of a call that checks its arguments first: `InvalidArguments` exactly if they cannot be admitted, and no error
--- but this and `OutOfMemory`
+-- the result of a call that checks its arguments first: `InvalidArguments` exactly if they cannot
+-- be admitted, and no error but this and `OutOfMemory`
 abbrev pub Admits : {T : Type 0} → Type 0 → CoreResult T → Type 0
-Admits Can result = MatchResult result (λ _. Can) (λ e. ((e ≡ InvalidArguments) × (¬ Can)) ⊎ ((e ≡ OutOfMemory) × Can))
+Admits Can result =
+    MatchResult result (λ _. Can)
+    (λ e. ((e ≡ InvalidArguments) × (¬ Can)) ⊎ ((e ≡ OutOfMemory) × Can))

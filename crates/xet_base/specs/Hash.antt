@@ -5,7 +5,8 @@ use Rattle.std.specs.declared.cmp.Ordering.{Ordering}
 use Rattle.xet_base.specs.declared.merklehash.DataHash.{DataHash}
 use Rattle.xet_base.specs.Bytes.{u64_bytes}
 
--- each word of a hash is below 2 ^ 64, which a definition has to say, since its numbers have no upper end
+-- each word of a hash is below 2 ^ 64, which a definition has to say, since its numbers have no
+-- upper end
 pub record IsHash (hash : DataHash) : Type 0 where
   pub word0 : hash.word0 < 2 ^ 64
   pub word1 : hash.word1 < 2 ^ 64
@@ -23,15 +24,23 @@ hash_cmp a b =
 
 -- two hashes have equal words
 abbrev pub hash_eq : DataHash → DataHash → Bool
-hash_eq a b = (a.word0 == b.word0) && ((a.word1 == b.word1) && ((a.word2 == b.word2) && (a.word3 == b.word3)))
+hash_eq a b =
+    (a.word0 == b.word0) && ((a.word1 == b.word1) && ((a.word2 == b.word2) && (a.word3 == b.word3)))
 
 -- the 32 bytes of a hash: its words in order, each lowest byte first
 unfoldable pub hash_bytes : DataHash → List ℕ
-hash_bytes hash = ((u64_bytes hash.word0 ++ u64_bytes hash.word1) ++ u64_bytes hash.word2) ++ u64_bytes hash.word3
+hash_bytes hash =
+    ((u64_bytes hash.word0 ++ u64_bytes hash.word1) ++ u64_bytes hash.word2) ++ u64_bytes hash.word3
 
 -- the hash that marks the end of a section
 abbrev pub all_ones : DataHash
-all_ones = record { word0 = 18446744073709551615; word1 = 18446744073709551615; word2 = 18446744073709551615; word3 = 18446744073709551615 }
+all_ones =
+    record {
+      word0 = 18446744073709551615;
+      word1 = 18446744073709551615;
+      word2 = 18446744073709551615;
+      word3 = 18446744073709551615;
+    }
 
 -- one hash in 1024 is kept by the global index
 abbrev pub IsEligible : DataHash → Type 0

@@ -14,7 +14,9 @@ hex_digits (suc count) n = hex_digits count (n / 16) ++ hex_digit (n % 16) ∷ [
 
 -- the 64 digits of a hash
 unfoldable pub hash_hex : DataHash → List ℕ
-hash_hex hash = ((hex_digits 16 hash.word0 ++ hex_digits 16 hash.word1) ++ hex_digits 16 hash.word2) ++ hex_digits 16 hash.word3
+hash_hex hash =
+    ((hex_digits 16 hash.word0 ++ hex_digits 16 hash.word1) ++ hex_digits 16 hash.word2)
+    ++ hex_digits 16 hash.word3
 
 -- `0` to `9`, `A` to `F` or `a` to `f`
 abbrev pub IsHexDigit : ℕ → Type 0

@@ -1,5 +1,5 @@
--- The rows that a search probes. Rows are counted from 1; `low` and `high` are the rows around those that may
--- still have the key.
+-- The rows that a search probes. Rows are counted from 1; `low` and `high` are the rows around
+-- those that may still have the key.
 use Rattle.std.specs.Prelude.{◌≡◌, ◌⊎◌, ℕ, ◌+◌, ◌-◌, ◌*◌, ◌/◌, ◌^◌, ◌<◌, ◌≤◌, min, max}
 use Rattle.xet_base.specs.declared.interpolation_search.window.Window.{Window}
 use Rattle.xet_base.specs.Table.{Table, even_step, IsEven}
@@ -68,8 +68,8 @@ pub record Turns (w : Window) (key found : ℕ) (new : Window) : Type 0 where
   pub above : found < key → TurnsAbove w key found new
   pub equal : found ≡ key → TurnsEqual w new
 
--- on an even table the first guess is at most one row off: nothing was probed; the key was found, or a row a little
--- below it; or few rows are left
+-- on an even table the first guess is at most one row off: nothing was probed; the key was found,
+-- or a row a little below it; or few rows are left
 abbrev pub OnEven : Table → ℕ → Window → ℕ → Type 0
 OnEven t key w made =
     ((made ≡ 0) × IsWhole t.rows key w)
@@ -80,4 +80,5 @@ OnEven t key w made =
 -- and so it is after one more probe, which found the key of its row
 abbrev pub KeepsEven : Window → ℕ → ℕ → Window → Type 0
 KeepsEven w key found new =
-    (t : Table) → (made : ℕ) → IsEven t → w.low + 256 < w.high → found ≡ w.probe * even_step t.rows → OnEven t key w made → OnEven t key new (made + 1)
+    (t : Table) → (made : ℕ) → IsEven t → w.low + 256 < w.high → found ≡ w.probe * even_step t.rows
+    → OnEven t key w made → OnEven t key new (made + 1)

@@ -8,7 +8,8 @@ use Rattle.xet_base.specs.Table.{Table, row_offset, key_at, HasKey, hits_below, 
 
 -- the table of a range of these bytes
 abbrev pub table_in : TableRange → List ℕ → Table
-table_in range bytes = record { bytes = bytes; start = range.start; rows = range.rows; width = range.width }
+table_in range bytes =
+    record { bytes = bytes; start = range.start; rows = range.rows; width = range.width }
 
 -- the key of row i was read, by one seek
 pub record ReadsKey (t : Table) (i : ℕ) (old new : Source) (found : ℕ) : Type 0 where
@@ -17,8 +18,11 @@ pub record ReadsKey (t : Table) (i : ℕ) (old new : Source) (found : ℕ) : Typ
   pub after : new ≡ advanced (moved old (row_offset t i)) 8
 
 -- each value is read from `width` bytes, by a function with this result
-abbrev pub ReadsValues : {R V : Type 0} → ℕ → (R → Source) → (R → Result V Error → R → Type 0) → Type 0
-ReadsValues {R} {V} width meaning post = (s : R) (r : Result V Error) (t : R) → post s r t → ActsAsReadFull width (meaning s) r (meaning t)
+abbrev pub ReadsValues : {R V : Type 0} → ℕ → (R → Source) → (R → Result V Error → R → Type 0)
+    → Type 0
+ReadsValues {R} {V} width meaning post =
+    (s : R) (r : Result V Error) (t : R) → post s r t
+    → ActsAsReadFull width (meaning s) r (meaning t)
 
 -- reading was cut off after so many seeks and at most so many bytes
 pub record Stops (t : Table) (made most : ℕ) (old new : Source) (e : Error) : Type 0 where
@@ -33,24 +37,31 @@ pub record IsRow (t : Table) (key i : ℕ) : Type 0 where
   pub there : HasKey t i
   pub same_key : key_at t i ≡ key
 
--- the value was stored behind the first `count` results where there was room, and the results were left where not
-pub record Kept {V : Type 0} (old new : List V) (count : ℕ) (value : V) (count_new : ℕ) : Type 0 where
+-- the value was stored behind the first `count` results where there was room, and the results were
+-- left where not
+pub record Kept {V : Type 0} (old new : List V) (count : ℕ) (value : V) (count_new : ℕ)
+    : Type 0 where
   pub room : count < length old → (new ≡ set old count value) × (count_new ≡ count + 1)
   pub full : length old ≤ count → (new ≡ old) × (count_new ≡ count)
 
 -- the results are the values of rows from `from` on
-pub record FindsFrom {V : Type 0} (t : Table) (key : ℕ) (Gives : List ℕ → V → Type 0) (from : ℕ) (old new : List V) (count : ℕ) : Type 0 where
+pub record FindsFrom {V : Type 0} (t : Table) (key : ℕ) (Gives : List ℕ → V → Type 0) (from : ℕ)
+    (old new : List V) (count : ℕ) : Type 0 where
   pub finds : Finds t key Gives old new count
   pub rows : All (λ hit. from ≤ hit.row) finds.found
 
--- the results are extended by the values of rows from `from` to before `to`, if they were those of rows from `to` on
-abbrev pub Extends : {V : Type 0} → Table → ℕ → (List ℕ → V → Type 0) → ℕ → ℕ → ℕ → List V → List V → Result ℕ Error → Type 0
+-- the results are extended by the values of rows from `from` to before `to`, if they were those of
+-- rows from `to` on
+abbrev pub Extends : {V : Type 0} → Table → ℕ → (List ℕ → V → Type 0) → ℕ → ℕ → ℕ → List V → List V
+    → Result ℕ Error → Type 0
 Extends {V} t key Gives from to had old new result =
-    (before : List V) → FindsFrom t key Gives to before old had → IfOk result (FindsFrom t key Gives from before new)
+    (before : List V) → FindsFrom t key Gives to before old had
+    → IfOk result (FindsFrom t key Gives from before new)
 
 -- of `had` results and the rows with the key from `from` to before `to`, as many are kept as fit
 abbrev pub Counts : Table → ℕ → ℕ → ℕ → ℕ → ℕ → ℕ → Type 0
-Counts t key from to room had count = count + hits_below t key from ≡ min (had + hits_below t key to) (room + hits_below t key from)
+Counts t key from to room had count =
+    count + hits_below t key from ≡ min (had + hits_below t key to) (room + hits_below t key from)
 
 -- rows from `from` to before `to` were read, or some of the first of them
 pub record Passes (t : Table) (from to : ℕ) (old new : Source) : Type 0 where

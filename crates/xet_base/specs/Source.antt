@@ -7,7 +7,8 @@ use Rattle.xet_base.specs.declared.error.CoreError.{CoreError}
 use Rattle.xet_base.specs.declared.error.CoreError.TheVariants.{OutOfMemory}
 use Rattle.xet_base.specs.Errors.{FromDevice, IsEndOfInput}
 
--- the bytes, the position of the next read, the seeks made, the bytes read and the failures so far, and the latest failure
+-- the bytes, the position of the next read, the seeks made, the bytes read and the failures so far,
+-- and the latest failure
 pub record Source : Type 0 where
   pub bytes : List ℕ
   pub at : ℕ
@@ -58,7 +59,8 @@ pub record Takes (old new : Source) (taken : List ℕ) : Type 0 where
 abbrev pub FillFailure : Source → Source → ℕ → Error → Type 0
 FillFailure old new n e =
     ((new.failures ≡ old.failures + 1) × (new.last_failure ≡ Some e))
-    ⊎ ((new.failures ≡ old.failures) × (error_kind e ≡ UnexpectedEof) × (length old.bytes < old.at + n))
+    ⊎ ((new.failures ≡ old.failures) × (error_kind e ≡ UnexpectedEof)
+    × (length old.bytes < old.at + n))
 
 -- a slice of n bytes, which is not empty, was not filled; the position afterwards is unspecified
 pub record FillFails (old new : Source) (n : ℕ) (e : Error) : Type 0 where
@@ -71,7 +73,8 @@ pub record FillFails (old new : Source) (n : ℕ) (e : Error) : Type 0 where
 -- the device failed, and the error is what its own becomes
 abbrev pub DeviceFailure : Source → Source → CoreError → Type 0
 DeviceFailure old new e =
-    (new.failures ≡ old.failures + 1) × (failure : Error) × (new.last_failure ≡ Some failure) × FromDevice failure e
+    (new.failures ≡ old.failures + 1) × (failure : Error) × (new.last_failure ≡ Some failure)
+    × FromDevice failure e
 
 -- why a call failed: the device did, or it did not and one of some cases holds
 abbrev pub FailedBy : (CoreError → Type 0) → Source → Source → CoreError → Type 0
@@ -82,8 +85,8 @@ pub data ReadCase (Short : Type 0) (e : CoreError) : Type 0 where
   out_of_memory : e ≡ OutOfMemory → ReadCase Short e
   out_of_bytes : IsEndOfInput e → Short → ReadCase Short e
 
--- reading up to n bytes, at least one, failed: the device failed, the bytes ended, or memory ran out; the position
--- afterwards is unspecified
+-- reading up to n bytes, at least one, failed: the device failed, the bytes ended, or memory ran
+-- out; the position afterwards is unspecified
 pub record ReadFails (old new : Source) (n : ℕ) (e : CoreError) : Type 0 where
   pub some : 0 < n
   pub bytes : new.bytes ≡ old.bytes

@@ -1,5 +1,5 @@
--- A table of rows in the bytes of a source, each an eight byte key and a value of one width: the rows that hold
--- a key, what a search may answer, and what it may cost.
+-- A table of rows in the bytes of a source, each an eight byte key and a value of one width: the
+-- rows that hold a key, what a search may answer, and what it may cost.
 use Rattle.std.specs.Prelude.{◌≡◌, ◌≢◌, ◌⊎◌, ◌&&◌, ◌==◌, ℕ, zero, suc, ◌+◌, ◌-◌, ◌*◌, ◌/◌, ◌^◌, ◌<◌, ◌≤◌, ◌++◌, List, length, take, drop, map, All, AllPairs, nat_le, string_bytes, [], Some, Ok, Err, if◌then◌else◌}
 use Rattle.std.specs.declared.result.Result.{Result}
 use Rattle.std.specs.IoError.{error_kind}
@@ -19,7 +19,8 @@ pub record Table : Type 0 where
   pub width : ℕ
 
 abbrev pub table_at : Source → ℕ → ℕ → ℕ → Table
-table_at source start rows width = record { bytes = source.bytes; start = start; rows = rows; width = width }
+table_at source start rows width =
+    record { bytes = source.bytes; start = start; rows = rows; width = width }
 
 -- the offset of row i, counted from 0
 unfoldable pub offset_of_row : ℕ → ℕ → ℕ → ℕ
@@ -46,7 +47,9 @@ IsSorted t = (i j : ℕ) → i < j → j < t.rows → HasKey t j → key_at t i 
 -- how many of the first n rows hold the key
 unfoldable pub hits_below : Table → ℕ → ℕ → ℕ
 hits_below t key zero = 0
-hits_below t key (suc n) = hits_below t key n + (if nat_le (row_offset t n + 8) (length t.bytes) && (key_at t n == key) then 1 else 0)
+hits_below t key (suc n) =
+    hits_below t key n
+    + (if nat_le (row_offset t n + 8) (length t.bytes) && (key_at t n == key) then 1 else 0)
 
 abbrev pub hits : Table → ℕ → ℕ
 hits t key = hits_below t key t.rows
@@ -55,7 +58,8 @@ hits t key = hits_below t key t.rows
 abbrev pub even_step : ℕ → ℕ
 even_step rows = (2 ^ 64 - 1) / (rows + 1)
 
--- keys are spread so, as far as the bytes go, and their distance is at least the number of distances
+-- keys are spread so, as far as the bytes go, and their distance is at least the number of
+-- distances
 pub record IsEven (t : Table) : Type 0 where
   pub wide : t.rows + 1 ≤ even_step t.rows
   pub keys : (i : ℕ) → i < t.rows → HasKey t i → key_at t i ≡ (i + 1) * even_step t.rows
@@ -66,7 +70,8 @@ pub record Hit (V : Type 0) : Type 0 where
   pub value : V
 
 -- the row is there, has the key, and its bytes give the value
-pub record IsHit {V : Type 0} (t : Table) (key : ℕ) (Gives : List ℕ → V → Type 0) (hit : Hit V) : Type 0 where
+pub record IsHit {V : Type 0} (t : Table) (key : ℕ) (Gives : List ℕ → V → Type 0) (hit : Hit V)
+    : Type 0 where
   pub within : hit.row < t.rows
   pub there : row_offset t (hit.row + 1) ≤ length t.bytes
   pub same_key : key_at t hit.row ≡ key
@@ -75,8 +80,10 @@ pub record IsHit {V : Type 0} (t : Table) (key : ℕ) (Gives : List ℕ → V �
 abbrev pub OtherRow : {V : Type 0} → Hit V → Hit V → Type 0
 OtherRow g h = g.row ≢ h.row
 
--- the first `count` results are the values of so many different rows with the key, the others are as before
-pub record Finds {V : Type 0} (t : Table) (key : ℕ) (Gives : List ℕ → V → Type 0) (old new : List V) (count : ℕ) : Type 0 where
+-- the first `count` results are the values of so many different rows with the key, the others are
+-- as before
+pub record Finds {V : Type 0} (t : Table) (key : ℕ) (Gives : List ℕ → V → Type 0) (old new : List V)
+    (count : ℕ) : Type 0 where
   pub found : List (Hit V)
   pub number : length found ≡ count
   pub each : All (IsHit t key Gives) found
@@ -97,23 +104,28 @@ pub record Serves (old new : Source) : Type 0 where
   pub failures : new.failures ≡ old.failures
   pub last_failure : new.last_failure ≡ old.last_failure
 
--- why rows were not read: the device failed, and the error is its own; or the bytes end before the table does
+-- why rows were not read: the device failed, and the error is its own; or the bytes end before the
+-- table does
 abbrev pub TableFailure : Table → Source → Source → Error → Type 0
 TableFailure t old new e =
     ((new.failures ≡ old.failures + 1) × (new.last_failure ≡ Some e))
-    ⊎ ((new.failures ≡ old.failures) × (error_kind e ≡ UnexpectedEof) × (length old.bytes < row_offset t t.rows))
+    ⊎ ((new.failures ≡ old.failures) × (error_kind e ≡ UnexpectedEof)
+    × (length old.bytes < row_offset t t.rows))
 
 -- `InvalidShard` without a message
 abbrev pub IsBareInvalidShard : CoreError → Type 0
 IsBareInvalidShard (InvalidShard text) = string_bytes text ≡ []
 IsBareInvalidShard _ = ⊥
 
--- a search was refused: the numbers pass 64 bits, which is found before the first seek; the device failed; or
--- the bytes end before the table does
+-- a search was refused: the numbers pass 64 bits, which is found before the first seek; the device
+-- failed; or the bytes end before the table does
 abbrev pub SearchRefused : Table → Source → Source → CoreError → Type 0
 SearchRefused t old new e =
     (IsBareInvalidShard e × IsPastTable t × (new ≡ old))
-    ⊎ (FitsTable t × (DeviceFailure old new e ⊎ ((new.failures ≡ old.failures) × IsEndOfInput e × (length old.bytes < row_offset t t.rows))))
+    ⊎ (FitsTable t
+    × (DeviceFailure old new e
+    ⊎ ((new.failures ≡ old.failures) × IsEndOfInput e
+    × (length old.bytes < row_offset t t.rows))))
 
 -- the seeks made and the bytes read are within the bounds for a sorted table
 pub record Bounded (t : Table) (key : ℕ) (old new : Source) : Type 0 where
@@ -133,5 +145,7 @@ ActsAsReadFull width old (Ok v) new = ReadsOn old new width
 ActsAsReadFull width old (Err e) new = FillFails old new width e
 
 -- some call, at a source whose next bytes are these, answers the value
-abbrev pub Answers : {R V : Type 0} → (R → Source) → (R → Result V Error → R → Type 0) → ℕ → List ℕ → V → Type 0
-Answers {R} meaning post width bytes v = (s : R) × (t : R) × post s (Ok v) t × (next_bytes (meaning s) width ≡ bytes)
+abbrev pub Answers : {R V : Type 0} → (R → Source) → (R → Result V Error → R → Type 0) → ℕ → List ℕ
+    → V → Type 0
+Answers {R} meaning post width bytes v =
+    (s : R) × (t : R) × post s (Ok v) t × (next_bytes (meaning s) width ≡ bytes)

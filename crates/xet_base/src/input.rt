@@ -40,7 +40,8 @@ pub trait ByteInput<Mark> {
 
     ghost reads_nothing: { (a : Self) → reads a a [] };
 
-    ghost joins: { (a b c : Self) (xs ys : List ℕ) → reads a b xs → reads b c ys → reads a c (xs ++ ys) };
+    ghost joins: { (a b c : Self) (xs ys : List ℕ) → reads a b xs → reads b c ys
+        → reads a c (xs ++ ys) };
 
     ghost fails_once: { (a b : Self) (n : ℕ) (e : DeviceError) (f : CoreError)
         → fill_fails a b n e → FromDevice e f → fails a b n f };
@@ -61,11 +62,13 @@ impl<R: Read> ByteInput<OfReader> for R {
 
     ghost reads_nothing = { λ a. Consumes-nil (R.remaining a) };
 
-    ghost joins = { λ a b c xs ys p q. Consumes-trans (R.remaining a) (R.remaining b) (R.remaining c) xs ys p q };
+    ghost joins = { λ a b c xs ys p q. Consumes-trans (R.remaining a) (R.remaining b)
+        (R.remaining c) xs ys p q };
 
     ghost fails_once = { λ a b n e f p q. reader_fails (R.remaining a) n e f p q };
 
-    ghost fails_later = { λ a b c xs n most f p q r. reader_fails_later (R.remaining a) (R.remaining b) xs n most f p q r };
+    ghost fails_later = { λ a b c xs n most f p q r. reader_fails_later (R.remaining a)
+        (R.remaining b) xs n most f p q r };
 
     ghost lacks_memory = { λ a b xs most f p q r s. reader_lacks_memory (R.remaining a) most f s };
 
@@ -83,13 +86,16 @@ impl<S: ShardSource> ByteInput<OfSource> for S {
 
     ghost reads_nothing = { λ a. Takes-nil (S.meaning a) };
 
-    ghost joins = { λ a b c xs ys p q. Takes-trans (S.meaning a) (S.meaning b) (S.meaning c) xs ys p q };
+    ghost joins = { λ a b c xs ys p q. Takes-trans (S.meaning a) (S.meaning b) (S.meaning c) xs ys p
+        q };
 
     ghost fails_once = { λ a b n e f p q. source_fails (S.meaning a) (S.meaning b) n e f p q };
 
-    ghost fails_later = { λ a b c xs n most f p q r. source_fails_later (S.meaning a) (S.meaning b) (S.meaning c) xs n most f p q r };
+    ghost fails_later = { λ a b c xs n most f p q r. source_fails_later (S.meaning a) (S.meaning b)
+        (S.meaning c) xs n most f p q r };
 
-    ghost lacks_memory = { λ a b xs most f p q r s. source_lacks_memory (S.meaning a) (S.meaning b) xs most f p q r s };
+    ghost lacks_memory = { λ a b xs most f p q r s. source_lacks_memory (S.meaning a) (S.meaning b)
+        xs most f p q r s };
 
     fn fill(&mut self, slice: &mut [u8]) -> io::Result<()> {
         read_full(self, slice)

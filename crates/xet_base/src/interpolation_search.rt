@@ -17,17 +17,17 @@ use std::ops::Range;
 use table_range::TableRange;
 use window::Window;
 
-/// Looks in a sorted table for the rows with this key, and writes their values to the front of `results`, as
-/// many as fit. Returns how many it wrote.
+/// Looks in a sorted table for the rows with this key, and writes their values to the front of
+/// `results`, as many as fit. Returns how many it wrote.
 ///
-/// The table has `num_entries` rows from byte `read_start` of the source on: a key of eight bytes, lowest byte
-/// first, and a value of `value_width` bytes, which `read_value` reads. Does not allocate. Each result is the
-/// value of a different row with the key, even if the table is not sorted. On an even table of fewer
-/// than `u32::MAX` rows, where row i, counted from 1, has the key `i * (u64::MAX / (num_entries + 1))`, it makes
-/// at most three seeks.
+/// The table has `num_entries` rows from byte `read_start` of the source on: a key of eight bytes,
+/// lowest byte first, and a value of `value_width` bytes, which `read_value` reads. Does not
+/// allocate. Each result is the value of a different row with the key, even if the table is not
+/// sorted. On an even table of fewer than `u32::MAX` rows, where row i, counted from 1, has the key
+/// `i * (u64::MAX / (num_entries + 1))`, it makes at most three seeks.
 ///
-/// `InvalidShard` if `num_entries + 1` or the table's end does not fit `u64`, `UnexpectedEof` if the source
-/// ends before the table does. If `results` is empty it reads nothing and returns 0.
+/// `InvalidShard` if `num_entries + 1` or the table's end does not fit `u64`, `UnexpectedEof` if
+/// the source ends before the table does. If `results` is empty it reads nothing and returns 0.
 pub fn search_on_sorted_u64s<S: ShardSource, V: Default + Copy, F: Fn(&mut S) -> io::Result<V>>(
     alloc: Global,
     source: &mut S,
@@ -39,11 +39,14 @@ pub fn search_on_sorted_u64s<S: ShardSource, V: Default + Copy, F: Fn(&mut S) ->
     results: &mut [V],
 ) -> Result<usize>
     requires callable { F.IsAlwaysCallable read_value }
-    requires reads { (s : _) (r : _) (t : _) → F.post read_value s r t → ActsAsReadFull value_width (S.meaning s.now) r (S.meaning t.now) }
-    ensures empty { length results.old ≡ 0 → (result ≡ Ok 0) × (S.meaning source.new ≡ S.meaning source.old) }
-    ensures found { IfOk result (Finds
-        (table_at (S.meaning source.old) read_start num_entries value_width)
-        key (Answers (λ s. S.meaning s.now) (F.post read_value) value_width) results.old results.new) }
+    requires reads { (s : _) (r : _) (t : _) → F.post read_value s r t
+        → ActsAsReadFull value_width (S.meaning s.now) r (S.meaning t.now) }
+    ensures empty { length results.old ≡ 0
+        → (result ≡ Ok 0) × (S.meaning source.new ≡ S.meaning source.old) }
+    ensures found { IfOk result
+        (Finds (table_at (S.meaning source.old) read_start num_entries value_width) key
+        (Answers (λ s. S.meaning s.now) (F.post read_value) value_width) results.old
+        results.new) }
     ensures count { let t = table_at (S.meaning source.old) read_start num_entries value_width in
         IsSorted t → IfOk result (λ n. n ≡ min (hits t key) (length results.old)) }
     ensures serves { OnOk result (Serves (S.meaning source.old) (S.meaning source.new)) }
@@ -77,15 +80,22 @@ fn search_rows<S: ShardSource, V: Copy, F: Fn(&mut S) -> io::Result<V>>(
 ) -> io::Result<usize>
     requires callable { F.IsAlwaysCallable read_value.now }
     requires reads { ReadsValues range.width (λ s. S.meaning s.now) (F.post read_value.now) }
-    ensures found { IfOk result (Finds (table_in range (S.meaning source.old).bytes) key
-        (Answers (λ s. S.meaning s.now) (F.post read_value.now) range.width) results.old results.new) }
+    ensures found { IfOk result
+        (Finds (table_in range (S.meaning source.old).bytes) key
+        (Answers (λ s. S.meaning s.now) (F.post read_value.now) range.width) results.old
+        results.new) }
     ensures count { IsSorted (table_in range (S.meaning source.old).bytes)
-        → IfOk result (λ n. n ≡ min (hits (table_in range (S.meaning source.old).bytes) key) (length results.old)) }
+        → IfOk result
+        (λ n. n ≡ min (hits (table_in range (S.meaning source.old).bytes) key)
+        (length results.old)) }
     ensures serves { OnOk result (Serves (S.meaning source.old) (S.meaning source.new)) }
-    ensures refused { IfErr result (TableFailure (table_in range (S.meaning source.old).bytes) (S.meaning source.old) (S.meaning source.new)) }
+    ensures refused { IfErr result
+        (TableFailure (table_in range (S.meaning source.old).bytes) (S.meaning source.old)
+        (S.meaning source.new)) }
     ensures kept { (S.meaning source.new).bytes ≡ (S.meaning source.old).bytes }
     ensures bounds { IsSorted (table_in range (S.meaning source.old).bytes)
-        → Bounded (table_in range (S.meaning source.old).bytes) key (S.meaning source.old) (S.meaning source.new) }
+        → Bounded (table_in range (S.meaning source.old).bytes) key (S.meaning source.old)
+        (S.meaning source.new) }
     ensures even { IsEven (table_in range (S.meaning source.old).bytes)
         → (S.meaning source.new).seeks ≤ (S.meaning source.old).seeks + 3 }
 {
@@ -104,8 +114,9 @@ fn search_rows<S: ShardSource, V: Copy, F: Fn(&mut S) -> io::Result<V>>(
     collect(source, range, rows, key, read_value, results, count)
 }
 
-// Keeps the value of the first of these rows, whose key was just read and is the key, and those of the rows
-// after it until a key differs. Returns how many values are kept then, `had` of them before.
+// Keeps the value of the first of these rows, whose key was just read and is the key, and those of
+// the rows after it until a key differs. Returns how many values are kept then, `had` of them
+// before.
 fn keep_equal<S: ShardSource, V: Copy, F: Fn(&mut S) -> io::Result<V>>(
     source: &mut S,
     range: TableRange,
@@ -146,9 +157,9 @@ fn keep_equal<S: ShardSource, V: Copy, F: Fn(&mut S) -> io::Result<V>>(
     Ok(count)
 }
 
-// Keeps the values of those of these rows that have the key, up to the first row with a greater key, whose
-// value is read too. The source is at the first of the rows. Returns how many values are kept then, `had` of them
-// before.
+// Keeps the values of those of these rows that have the key, up to the first row with a greater
+// key, whose value is read too. The source is at the first of the rows. Returns how many values are
+// kept then, `had` of them before.
 fn collect<S: ShardSource, V: Copy, F: Fn(&mut S) -> io::Result<V>>(
     source: &mut S,
     range: TableRange,
@@ -205,8 +216,10 @@ fn keep<V: Copy>(results: &mut [V], count: usize, value: V) -> usize
 fn read_key_of<S: ShardSource>(source: &mut S, range: TableRange, row: u64) -> io::Result<u64>
     requires { row < range.rows }
     ensures { MatchResult result
-        (ReadsKey (table_in range (S.meaning source.old).bytes) row (S.meaning source.old) (S.meaning source.new))
-        (Stops (table_in range (S.meaning source.old).bytes) 1 8 (S.meaning source.old) (S.meaning source.new)) }
+        (ReadsKey (table_in range (S.meaning source.old).bytes) row (S.meaning source.old)
+        (S.meaning source.new))
+        (Stops (table_in range (S.meaning source.old).bytes) 1 8 (S.meaning source.old)
+        (S.meaning source.new)) }
 {
     source.seek_to(range.row_offset(row))?;
     read_key(source)
@@ -216,7 +229,8 @@ fn read_key_of<S: ShardSource>(source: &mut S, range: TableRange, row: u64) -> i
 #[tactic(auto, unfolding(crate::specs::Bytes::spelled_u64))]
 fn read_key<S: ShardSource>(source: &mut S) -> io::Result<u64>
     ensures { MatchResult result
-        (λ key. ReadsOn (S.meaning source.old) (S.meaning source.new) 8 × (key ≡ spelled_u64 (next_bytes (S.meaning source.old) 8)))
+        (λ key. ReadsOn (S.meaning source.old) (S.meaning source.new) 8
+        × (key ≡ spelled_u64 (next_bytes (S.meaning source.old) 8)))
         (FillFails (S.meaning source.old) (S.meaning source.new) 8) }
 {
     let mut bytes = [0u8; 8];

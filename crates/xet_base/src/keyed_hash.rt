@@ -16,7 +16,8 @@ pub(crate) fn keyed_bytes(key: &[u8; 32], message: &[u8; 32]) -> [u8; 32]
     digest(&compress(start_of(key), message_of(message)))
 }
 
-// The state that begins with a key: four words of the function, a counter of 0, the length of the block, and flags.
+// The state that begins with a key: four words of the function, a counter of 0, the length of the
+// block, and flags.
 fn start_of(key: &[u8; 32]) -> Words
     ensures { result ≡ start_of key.now }
 {

@@ -173,7 +173,8 @@ impl DataHash {
     pub fn from_hex(text: &str) -> std::result::Result<DataHash, DataHashHexParseError>
         ensures found { IfOk result (λ hash. Spells text.now hash) }
         ensures accepted { IsOk result ↔ IsHexText text.now }
-        ensures back { (hash : DataHash) → IsHash hash → text.now ≡ hash_hex hash → result ≡ Ok hash }
+        ensures back { (hash : DataHash) → IsHash hash → text.now ≡ hash_hex hash
+            → result ≡ Ok hash }
     {
         let digits = text.as_bytes();
         if !is_hex_text(digits) {

@@ -26,7 +26,8 @@ pub fn put_hash(row: &mut [u8], at: usize, hash: &MerkleHash) -> usize
     put(row, at, &hash.as_bytes())
 }
 
-/// Writes four bytes of `value` into `row` at `at`, lowest first, and returns the offset after them.
+/// Writes four bytes of `value` into `row` at `at`, lowest first, and returns the offset after
+/// them.
 #[tactic(auto, unfolding(crate::specs::Bytes::u32_bytes))]
 pub fn put_u32(row: &mut [u8], at: usize, value: u32) -> usize
     requires { at + 4 ≤ length row.old }
@@ -36,7 +37,8 @@ pub fn put_u32(row: &mut [u8], at: usize, value: u32) -> usize
     put(row, at, &value.to_le_bytes())
 }
 
-/// Writes eight bytes of `value` into `row` at `at`, lowest first, and returns the offset after them.
+/// Writes eight bytes of `value` into `row` at `at`, lowest first, and returns the offset after
+/// them.
 #[tactic(auto, unfolding(crate::specs::Bytes::u64_bytes))]
 pub fn put_u64(row: &mut [u8], at: usize, value: u64) -> usize
     requires { at + 8 ≤ length row.old }
@@ -79,8 +81,8 @@ pub fn split_u64(bytes: &[u8]) -> (u64, &[u8])
     (number, rest)
 }
 
-/// Fills `values` with the numbers at the front of `bytes`, eight bytes each, lowest byte first, and
-/// returns what follows them.
+/// Fills `values` with the numbers at the front of `bytes`, eight bytes each, lowest byte first,
+/// and returns what follows them.
 pub fn split_u64s<'a>(bytes: &'a [u8], values: &mut [u64]) -> &'a [u8]
     requires { 8 * length values.old ≤ length bytes.now }
     ensures bytes { bytes.now ≡ flat_map u64_bytes values.new ++ result.now }

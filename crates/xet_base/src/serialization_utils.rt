@@ -16,7 +16,8 @@ use std::io::{ErrorKind, Read, Write};
 
 /// Appends the 32 bytes of a hash. The error is the writer's.
 pub fn write_hash<W: Write>(writer: &mut W, hash: &MerkleHash) -> io::Result<()>
-    ensures { OnOk result (Appends (W.contents writer.old) (W.contents writer.new) (hash_bytes hash.now)) }
+    ensures { OnOk result
+        (Appends (W.contents writer.old) (W.contents writer.new) (hash_bytes hash.now)) }
 {
     writer.write_all(&hash.as_bytes())
 }
@@ -31,7 +32,8 @@ pub fn write_u8<W: Write>(writer: &mut W, value: u8) -> io::Result<()>
 /// Appends four bytes, lowest first. The error is the writer's.
 #[tactic(auto, unfolding(crate::specs::Bytes::u32_bytes))]
 pub fn write_u32<W: Write>(writer: &mut W, value: u32) -> io::Result<()>
-    ensures { OnOk result (Appends (W.contents writer.old) (W.contents writer.new) (u32_bytes value)) }
+    ensures { OnOk result
+        (Appends (W.contents writer.old) (W.contents writer.new) (u32_bytes value)) }
 {
     writer.write_all(&value.to_le_bytes())
 }
@@ -39,7 +41,8 @@ pub fn write_u32<W: Write>(writer: &mut W, value: u32) -> io::Result<()>
 /// Appends eight bytes, lowest first. The error is the writer's.
 #[tactic(auto, unfolding(crate::specs::Bytes::u64_bytes))]
 pub fn write_u64<W: Write>(writer: &mut W, value: u64) -> io::Result<()>
-    ensures { OnOk result (Appends (W.contents writer.old) (W.contents writer.new) (u64_bytes value)) }
+    ensures { OnOk result
+        (Appends (W.contents writer.old) (W.contents writer.new) (u64_bytes value)) }
 {
     writer.write_all(&value.to_le_bytes())
 }
@@ -127,10 +130,12 @@ pub fn read_u64<R: Read>(reader: &mut R) -> io::Result<u64>
 
 /// Fills `slice` from the reader.
 pub fn read_bytes<R: Read>(reader: &mut R, slice: &mut [u8]) -> io::Result<()>
-    ensures value { OnOk result (Consumes (R.remaining reader.old) (R.remaining reader.new) slice.new) }
+    ensures value { OnOk result
+        (Consumes (R.remaining reader.old) (R.remaining reader.new) slice.new) }
     ensures enough { OnOk result (HasBytes (R.remaining reader.old) (length slice.old)) }
     ensures end { IfErr result
-        (λ e. error_kind e ≡ ErrorKind.UnexpectedEof → LacksBytes (R.remaining reader.old) (length slice.old)) }
+        (λ e. error_kind e ≡ ErrorKind.UnexpectedEof
+        → LacksBytes (R.remaining reader.old) (length slice.old)) }
 {
     let mut filled = 0;
     for _turn in 0..u64::MAX {
@@ -150,10 +155,12 @@ pub fn read_bytes<R: Read>(reader: &mut R, slice: &mut [u8]) -> io::Result<()>
 /// Reads four bytes for each element of `values`, lowest byte first.
 pub fn read_u32s<R: Read>(reader: &mut R, values: &mut [u32]) -> io::Result<()>
     ensures value { OnOk result
-        (Consumes (R.remaining reader.old) (R.remaining reader.new) (flat_map u32_bytes values.new)) }
+        (Consumes (R.remaining reader.old) (R.remaining reader.new)
+        (flat_map u32_bytes values.new)) }
     ensures enough { OnOk result (HasBytes (R.remaining reader.old) (4 * length values.old)) }
     ensures end { IfErr result
-        (λ e. error_kind e ≡ ErrorKind.UnexpectedEof → LacksBytes (R.remaining reader.old) (4 * length values.old)) }
+        (λ e. error_kind e ≡ ErrorKind.UnexpectedEof
+        → LacksBytes (R.remaining reader.old) (4 * length values.old)) }
 {
     for value in values.iter_mut() {
         *value = read_u32(reader)?;
@@ -164,10 +171,12 @@ pub fn read_u32s<R: Read>(reader: &mut R, values: &mut [u32]) -> io::Result<()>
 /// Reads eight bytes for each element of `values`, lowest byte first.
 pub fn read_u64s<R: Read>(reader: &mut R, values: &mut [u64]) -> io::Result<()>
     ensures value { OnOk result
-        (Consumes (R.remaining reader.old) (R.remaining reader.new) (flat_map u64_bytes values.new)) }
+        (Consumes (R.remaining reader.old) (R.remaining reader.new)
+        (flat_map u64_bytes values.new)) }
     ensures enough { OnOk result (HasBytes (R.remaining reader.old) (8 * length values.old)) }
     ensures end { IfErr result
-        (λ e. error_kind e ≡ ErrorKind.UnexpectedEof → LacksBytes (R.remaining reader.old) (8 * length values.old)) }
+        (λ e. error_kind e ≡ ErrorKind.UnexpectedEof
+        → LacksBytes (R.remaining reader.old) (8 * length values.old)) }
 {
     for value in values.iter_mut() {
         *value = read_u64(reader)?;
@@ -175,8 +184,8 @@ pub fn read_u64s<R: Read>(reader: &mut R, values: &mut [u64]) -> io::Result<()>
     Ok(())
 }
 
-// A device that calls its own failure an end of the input is not believed: `UnexpectedEof` is kept for
-// the end that a read of no bytes shows.
+// A device that calls its own failure an end of the input is not believed: `UnexpectedEof` is kept
+// for the end that a read of no bytes shows.
 fn device_error(error: io::Error) -> io::Error
     ensures { error_kind result ≢ ErrorKind.UnexpectedEof }
 {

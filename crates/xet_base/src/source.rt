@@ -7,8 +7,8 @@ use crate::count::Count;
 use std::io;
 use std::io::ErrorKind;
 
-/// Bytes with a read position. Contracts see the bytes, the position, the seeks made, the bytes read,
-/// the failures so far and the latest failure.
+/// Bytes with a read position. Contracts see the bytes, the position, the seeks made, the bytes
+/// read, the failures so far and the latest failure.
 pub trait ShardSource {
     ghost meaning: { Self → Source };
 
@@ -35,10 +35,11 @@ pub trait ShardSource {
             (Fails (meaning self.old) (meaning self.new) 1) };
 }
 
-/// Fills `slice` from the source's position on. `UnexpectedEof` if fewer bytes are left; the device's
-/// own error at its first failure, even if that is `Interrupted`. Makes no seek.
+/// Fills `slice` from the source's position on. `UnexpectedEof` if fewer bytes are left; the
+/// device's own error at its first failure, even if that is `Interrupted`. Makes no seek.
 pub fn read_full<S: ShardSource>(source: &mut S, slice: &mut [u8]) -> io::Result<()>
-    ensures { MatchResult result (λ _. Takes (S.meaning source.old) (S.meaning source.new) slice.new)
+    ensures { MatchResult result
+        (λ _. Takes (S.meaning source.old) (S.meaning source.new) slice.new)
         (FillFails (S.meaning source.old) (S.meaning source.new) (length slice.old)) }
 {
     let mut filled = 0;
@@ -63,8 +64,14 @@ pub struct MemorySource<'a> {
 
 impl<'a> MemorySource<'a> {
     pub fn new(bytes: &'a [u8]) -> MemorySource<'a>
-        ensures { ⟦<MemorySource<'a> as ShardSource>⟧.meaning result
-            ≡ record { bytes = bytes.now; at = 0; seeks = 0; read = 0; failures = 0; last_failure = None } }
+        ensures { ⟦<MemorySource<'a> as ShardSource>⟧.meaning result ≡ record {
+          bytes = bytes.now;
+          at = 0;
+          seeks = 0;
+          read = 0;
+          failures = 0;
+          last_failure = None;
+        } }
     {
         MemorySource {
             bytes,
@@ -76,7 +83,14 @@ impl<'a> MemorySource<'a> {
 }
 
 impl<'a> ShardSource for MemorySource<'a> {
-    ghost meaning = { λ s. record { bytes = s.bytes.now; at = s.at; seeks = s.seeks.value; read = s.read.value; failures = 0; last_failure = None } };
+    ghost meaning = { λ s. record {
+      bytes = s.bytes.now;
+      at = s.at;
+      seeks = s.seeks.value;
+      read = s.read.value;
+      failures = 0;
+      last_failure = None;
+    } };
 
     fn read_some(&mut self, slice: &mut [u8]) -> io::Result<usize> {
         let length = self.bytes.len() as u64;

@@ -42,8 +42,10 @@ keyed_info s key = info_of (values s.files) (values s.xorbs) (keyed_form key)
 abbrev pub key_of : MDBShardInfo → DataHash
 key_of info = info.metadata.chunk_hash_hmac_key
 
--- both inputs hold shards, under one key, and this is the result for these, with rows that fit `u32`
-pub record HaveResult (IsResult : Shard → Shard → Shard → Type 0) (x : List ℕ) (i : MDBShardInfo) (y : List ℕ) (j : MDBShardInfo) (c : Shard) : Type 0 where
+-- both inputs hold shards, under one key, and this is the result for these, with rows that fit
+-- `u32`
+pub record HaveResult (IsResult : Shard → Shard → Shard → Type 0) (x : List ℕ) (i : MDBShardInfo)
+    (y : List ℕ) (j : MDBShardInfo) (c : Shard) : Type 0 where
   pub first : Shard
   pub second : Shard
   pub holds_first : Holds x i first
@@ -53,13 +55,16 @@ pub record HaveResult (IsResult : Shard → Shard → Shard → Type 0) (x : Lis
   pub rows : HasFewRows c
 
 -- the layout of the result was written, and the header and the footer in it returned
-abbrev pub WritesResult : (Shard → Shard → Shard → Type 0) → List ℕ → MDBShardInfo → List ℕ → MDBShardInfo → Option (List ℕ) → Option (List ℕ) → MDBShardInfo → Type 0
+abbrev pub WritesResult : (Shard → Shard → Shard → Type 0) → List ℕ → MDBShardInfo → List ℕ
+    → MDBShardInfo → Option (List ℕ) → Option (List ℕ) → MDBShardInfo → Type 0
 WritesResult IsResult x i y j old new info =
-    (c : Shard) × HaveResult IsResult x i y j c × (info ≡ keyed_info c (key_of i)) × Appends old new (keyed_layout c (key_of i))
+    (c : Shard) × HaveResult IsResult x i y j c × (info ≡ keyed_info c (key_of i))
+    × Appends old new (keyed_layout c (key_of i))
 
--- two sections have no union within the rows of a section: they begin with records that have more rows together, or one
--- of each that have no union under one hash
-pub record HaveNoUnionOf {H R : Type 0} (K : RecordKind H R) (IsEither : Option R → Option R → Option R → Type 0) (x y : List ℕ) : Type 0 where
+-- two sections have no union within the rows of a section: they begin with records that have more
+-- rows together, or one of each that have no union under one hash
+pub record HaveNoUnionOf {H R : Type 0} (K : RecordKind H R)
+    (IsEither : Option R → Option R → Option R → Type 0) (x y : List ℕ) : Type 0 where
   pub firsts : List R
   pub seconds : List R
   pub after_firsts : List ℕ
@@ -67,17 +72,21 @@ pub record HaveNoUnionOf {H R : Type 0} (K : RecordKind H R) (IsEither : Option 
   pub first : HoldsRecords K x firsts after_firsts
   pub second : HoldsRecords K y seconds after_seconds
   pub clash : (4294967295 < total_rows K firsts + total_rows K seconds)
-      ⊎ ((r s : R) × Contains firsts r × Contains seconds s × (K.hash_of (K.header_of r) ≡ K.hash_of (K.header_of s))
+      ⊎ ((r s : R) × Contains firsts r × Contains seconds s
+      × (K.hash_of (K.header_of r) ≡ K.hash_of (K.header_of s))
       × ((t : Option R) → ¬ IsEither (Some (K.handed_out r)) (Some (K.handed_out s)) t))
-  pub none : (a b c : FinMap hash_cmp R) → IsSectionOf K x a → IsSectionOf K y b → ((q : DataHash) → IsEither (get a q) (get b q) (get c q))
+  pub none : (a b c : FinMap hash_cmp R) → IsSectionOf K x a → IsSectionOf K y b
+      → ((q : DataHash) → IsEither (get a q) (get b q) (get c q))
       → ¬ (total_rows K (values c) ≤ 4294967295)
 
 -- the files of both inputs have no union, or their xorbs have too many rows
 abbrev pub HaveNoUnion : List ℕ → MDBShardInfo → List ℕ → MDBShardInfo → Type 0
 HaveNoUnion x i y j =
-    HaveNoUnionOf file_records IsEitherFile (files_at x i) (files_at y j) ⊎ HaveNoUnionOf xorb_records IsEitherXorb (xorbs_at x i) (xorbs_at y j)
+    HaveNoUnionOf file_records IsEitherFile (files_at x i) (files_at y j)
+    ⊎ HaveNoUnionOf xorb_records IsEitherXorb (xorbs_at x i) (xorbs_at y j)
 
--- why nothing can be made of two inputs under one key: an allocation failed, an input ends early or is no valid shard
+-- why nothing can be made of two inputs under one key: an allocation failed, an input ends early or
+-- is no valid shard
 abbrev pub InputRefusal : List ℕ → MDBShardInfo → List ℕ → MDBShardInfo → CoreError → Type 0
 InputRefusal x i y j e =
     (e ≡ OutOfMemory)
@@ -86,10 +95,12 @@ InputRefusal x i y j e =
 
 -- the keys differ, or they do not, and there is another cause
 abbrev pub KeyRefusal : (CoreError → Type 0) → MDBShardInfo → MDBShardInfo → CoreError → Type 0
-KeyRefusal Cause i j e = ((e ≡ InvalidArguments) × (key_of i ≢ key_of j)) ⊎ ((key_of i ≡ key_of j) × Cause e)
+KeyRefusal Cause i j e =
+    ((e ≡ InvalidArguments) × (key_of i ≢ key_of j)) ⊎ ((key_of i ≡ key_of j) × Cause e)
 
 abbrev pub UnionRefusal : List ℕ → MDBShardInfo → List ℕ → MDBShardInfo → CoreError → Type 0
-UnionRefusal x i y j = KeyRefusal (λ e. InputRefusal x i y j e ⊎ (IsInvalidShard e × HaveNoUnion x i y j)) i j
+UnionRefusal x i y j =
+    KeyRefusal (λ e. InputRefusal x i y j e ⊎ (IsInvalidShard e × HaveNoUnion x i y j)) i j
 
 abbrev pub DifferenceRefusal : List ℕ → MDBShardInfo → List ℕ → MDBShardInfo → CoreError → Type 0
 DifferenceRefusal x i y j = KeyRefusal (InputRefusal x i y j) i j
@@ -97,7 +108,8 @@ DifferenceRefusal x i y j = KeyRefusal (InputRefusal x i y j) i j
 -- the bytes of the union of two byte strings, each with its own header and footer
 abbrev pub UnitesBytes : List ℕ → List ℕ → List ℕ → Type 0
 UnitesBytes x y out =
-    (i j : MDBShardInfo) × (c : Shard) × HasEnds x i × HasEnds y j × HaveResult IsByteUnion x i y j c × (out ≡ keyed_layout c (key_of i))
+    (i j : MDBShardInfo) × (c : Shard) × HasEnds x i × HasEnds y j
+    × HaveResult IsByteUnion x i y j c × (out ≡ keyed_layout c (key_of i))
 
 -- why header and footer are not read
 abbrev pub LoadRefusal : List ℕ → CoreError → Type 0
@@ -111,8 +123,10 @@ BytesRefusal x y e =
     ⊎ ((i j : MDBShardInfo) × HasEnds x i × HasEnds y j × UnionRefusal x i y j e)
 
 -- why an operation on two sources fails: the device of either did, or there is another cause
-abbrev pub InputsFail : (old_1 new_1 old_2 new_2 : Source) → (CoreError → Type 0) → CoreError → Type 0
-InputsFail old_1 new_1 old_2 new_2 Refusal e = DeviceFailure old_1 new_1 e ⊎ DeviceFailure old_2 new_2 e ⊎ Refusal e
+abbrev pub InputsFail : (old_1 new_1 old_2 new_2 : Source) → (CoreError → Type 0) → CoreError
+    → Type 0
+InputsFail old_1 new_1 old_2 new_2 Refusal e =
+    DeviceFailure old_1 new_1 e ⊎ DeviceFailure old_2 new_2 e ⊎ Refusal e
 
 -- the error of a failure that says whether it is the inputs' or the output's
 abbrev pub error_of : SetFailure → CoreError
@@ -125,7 +139,8 @@ FailsBy Cause (Input e) = Cause e
 FailsBy Cause (Output e) = IsDeviceError e
 
 -- both inputs are under one key, and the bytes of each have the sections of these lists
-pub record HaveInputs (x : List ℕ) (i : MDBShardInfo) (y : List ℕ) (j : MDBShardInfo) (inputs : Inputs) : Type 0 where
+pub record HaveInputs (x : List ℕ) (i : MDBShardInfo) (y : List ℕ) (j : MDBShardInfo)
+    (inputs : Inputs) : Type 0 where
   pub same_key : key_of i ≡ key_of j
   pub first : HoldsLists x i inputs.first.files.items inputs.first.xorbs.items
   pub second : HoldsLists y j inputs.second.files.items inputs.second.xorbs.items
@@ -136,30 +151,43 @@ pub record AreRecords (records : Records) : Type 0 where
   pub xorbs : AreWritable xorb_records records.xorbs.items
 
 -- both lists of the result are what is made of those of both inputs, and may be written
-pub record AreCombined (IsFile : Option MDBFileInfo → Option MDBFileInfo → Option MDBFileInfo → Type 0) (IsXorb : Option MDBXorbInfo → Option MDBXorbInfo → Option MDBXorbInfo → Type 0)
+pub record AreCombined
+    (IsFile : Option MDBFileInfo → Option MDBFileInfo → Option MDBFileInfo → Type 0)
+    (IsXorb : Option MDBXorbInfo → Option MDBXorbInfo → Option MDBXorbInfo → Type 0)
     (first second result : Records) : Type 0 where
   pub files : Combines file_records IsFile first.files.items second.files.items result.files.items
   pub xorbs : Combines xorb_records IsXorb first.xorbs.items second.xorbs.items result.xorbs.items
   pub writable : AreRecords result
 
--- why the records of two inputs are not united: an allocation failed, or there are no such files, or no such xorbs
+-- why the records of two inputs are not united: an allocation failed, or there are no such files,
+-- or no such xorbs
 abbrev pub AreNotUnited : Records → Records → CoreError → Type 0
 AreNotUnited first second e =
     (e ≡ OutOfMemory)
-    ⊎ (IsInvalidShard e × (NoneCombines file_records IsEitherFile first.files.items second.files.items ⊎ NoneCombines xorb_records IsEitherXorb first.xorbs.items second.xorbs.items))
+    ⊎ (IsInvalidShard e
+    × (NoneCombines file_records IsEitherFile first.files.items second.files.items
+    ⊎ NoneCombines xorb_records IsEitherXorb first.xorbs.items second.xorbs.items))
 
 -- the layout of the records under a key was written, and the header and the footer in it returned
-abbrev pub WritesRecords : Records → DataHash → Option (List ℕ) → Option (List ℕ) → MDBShardInfo → Type 0
+abbrev pub WritesRecords : Records → DataHash → Option (List ℕ) → Option (List ℕ) → MDBShardInfo
+    → Type 0
 WritesRecords records key old new info =
-    (info ≡ info_of records.files.items records.xorbs.items (keyed_form key)) × Appends old new (layout_of records.files.items records.xorbs.items (keyed_form key))
+    (info ≡ info_of records.files.items records.xorbs.items (keyed_form key))
+    × Appends old new (layout_of records.files.items records.xorbs.items (keyed_form key))
 
--- what is made of the records of two inputs may be written, and is then the result for what their bytes hold; and each
--- error, of reading the inputs or of combining their records, is a refusal
-pub record OperationLaws (IsResult : Shard → Shard → Shard → Type 0) (Makes : Records → Records → Records → Type 0) (MakesNone : Records → Records → CoreError → Type 0)
+-- what is made of the records of two inputs may be written, and is then the result for what their
+-- bytes hold; and each error, of reading the inputs or of combining their records, is a refusal
+pub record OperationLaws (IsResult : Shard → Shard → Shard → Type 0)
+    (Makes : Records → Records → Records → Type 0)
+    (MakesNone : Records → Records → CoreError → Type 0)
     (Refusal : List ℕ → MDBShardInfo → List ℕ → MDBShardInfo → CoreError → Type 0) : Type 0 where
   pub writable : (first second result : Records) → Makes first second result → AreRecords result
-  pub written : (x : List ℕ) (i : MDBShardInfo) (y : List ℕ) (j : MDBShardInfo) (inputs : Inputs) (result : Records) (old new : Option (List ℕ)) (info : MDBShardInfo)
-      → HaveInputs x i y j inputs → Makes inputs.first inputs.second result → WritesRecords result (key_of i) old new info → WritesResult IsResult x i y j old new info
-  pub not_read : (x : List ℕ) (i : MDBShardInfo) (y : List ℕ) (j : MDBShardInfo) (e : CoreError) → DifferenceRefusal x i y j e → Refusal x i y j e
-  pub not_made : (x : List ℕ) (i : MDBShardInfo) (y : List ℕ) (j : MDBShardInfo) (inputs : Inputs) (e : CoreError)
+  pub written : (x : List ℕ) (i : MDBShardInfo) (y : List ℕ) (j : MDBShardInfo) (inputs : Inputs)
+      (result : Records) (old new : Option (List ℕ)) (info : MDBShardInfo)
+      → HaveInputs x i y j inputs → Makes inputs.first inputs.second result
+      → WritesRecords result (key_of i) old new info → WritesResult IsResult x i y j old new info
+  pub not_read : (x : List ℕ) (i : MDBShardInfo) (y : List ℕ) (j : MDBShardInfo) (e : CoreError)
+      → DifferenceRefusal x i y j e → Refusal x i y j e
+  pub not_made : (x : List ℕ) (i : MDBShardInfo) (y : List ℕ) (j : MDBShardInfo) (inputs : Inputs)
+      (e : CoreError)
       → HaveInputs x i y j inputs → MakesNone inputs.first inputs.second e → Refusal x i y j e

@@ -8,18 +8,21 @@ use Rattle.xet_records.specs.declared.xorb_structs.MDBXorbInfo.{MDBXorbInfo}
 use Rattle.xet_records.specs.Merging.{Includes, verified, described, joined}
 use Rattle.xet_shards.specs.Shard.{Shard}
 
--- a header with the two known flags where either record has them, the first's segments, and each optional part from the
--- first where it has it, else from the second
+-- a header with the two known flags where either record has them, the first's segments, and each
+-- optional part from the first where it has it, else from the second
 abbrev pub mixed : MDBFileInfo → MDBFileInfo → MDBFileInfo
 mixed a b = record (joined a b) { metadata = record (joined a b).metadata { _unused = 0 } }
 
--- of two files with the same hash: the first, if its flags have all bits of the second's; else the second, if its flags
--- have all bits of the first's; else a mix of both, which requires equal counts of segments
+-- of two files with the same hash: the first, if its flags have all bits of the second's; else the
+-- second, if its flags have all bits of the first's; else a mix of both, which requires equal
+-- counts of segments
 abbrev pub IsUnitedFile : MDBFileInfo → MDBFileInfo → MDBFileInfo → Type 0
 IsUnitedFile a b c =
     (Includes a.metadata.file_flags b.metadata.file_flags × (c ≡ a))
-    ⊎ ((¬ Includes a.metadata.file_flags b.metadata.file_flags) × Includes b.metadata.file_flags a.metadata.file_flags × (c ≡ b))
-    ⊎ ((¬ Includes a.metadata.file_flags b.metadata.file_flags) × (¬ Includes b.metadata.file_flags a.metadata.file_flags)
+    ⊎ ((¬ Includes a.metadata.file_flags b.metadata.file_flags)
+    × Includes b.metadata.file_flags a.metadata.file_flags × (c ≡ b))
+    ⊎ ((¬ Includes a.metadata.file_flags b.metadata.file_flags)
+    × (¬ Includes b.metadata.file_flags a.metadata.file_flags)
     × (a.metadata.num_entries ≡ b.metadata.num_entries) × (c ≡ mixed a b))
 
 -- the file of a hash, where each shard may have one
@@ -39,5 +42,7 @@ pub record IsByteUnion (a b c : Shard) : Type 0 where
 
 -- each file of both shards has in the first every optional part that it has in the second
 pub record HasPartsOf (a b : Shard) : Type 0 where
-  pub verification : (q : DataHash) (r s : MDBFileInfo) → get a.files q ≡ Some r → get b.files q ≡ Some s → IsTrue (verified s) → IsTrue (verified r)
-  pub metadata_ext : (q : DataHash) (r s : MDBFileInfo) → get a.files q ≡ Some r → get b.files q ≡ Some s → IsTrue (described s) → IsTrue (described r)
+  pub verification : (q : DataHash) (r s : MDBFileInfo) → get a.files q ≡ Some r
+      → get b.files q ≡ Some s → IsTrue (verified s) → IsTrue (verified r)
+  pub metadata_ext : (q : DataHash) (r s : MDBFileInfo) → get a.files q ≡ Some r
+      → get b.files q ≡ Some s → IsTrue (described s) → IsTrue (described r)

@@ -28,7 +28,8 @@ module _ {H R : Type 0} (K : RecordKind H R) where
   with_hash rs q = entry (by_hash rs) q
 
   -- a list has under each hash what is made of the records that two lists have there
-  pub record Combines (IsEither : Option R → Option R → Option R → Type 0) (xs ys zs : List R) : Type 0 where
+  pub record Combines (IsEither : Option R → Option R → Option R → Type 0) (xs ys zs : List R)
+      : Type 0 where
     pub ascends : Ascends K zs
     pub each : (q : DataHash) → IsEither (with_hash xs q) (with_hash ys q) (with_hash zs q)
     pub stored : All K.IsStored zs
@@ -36,13 +37,15 @@ module _ {H R : Type 0} (K : RecordKind H R) where
   -- each list has a record with one hash of which nothing can be made
   abbrev pub Clash : (Option R → Option R → Option R → Type 0) → List R → List R → Type 0
   Clash IsEither xs ys =
-      (r s : R) × Contains xs r × Contains ys s × (key_of_record r ≡ key_of_record s) × ((t : Option R) → ¬ IsEither (Some r) (Some s) t)
+      (r s : R) × Contains xs r × Contains ys s × (key_of_record r ≡ key_of_record s)
+      × ((t : Option R) → ¬ IsEither (Some r) (Some s) t)
 
   -- no list can be made of two with rows that fit `u32`
   abbrev pub NoneCombines : (Option R → Option R → Option R → Type 0) → List R → List R → Type 0
   NoneCombines IsEither xs ys =
       Clash IsEither xs ys
-      ⊎ ((zs : List R) × Combines IsEither xs ys zs × (4294967295 < total_rows K zs) × (total_rows K zs ≤ total_rows K xs + total_rows K ys))
+      ⊎ ((zs : List R) × Combines IsEither xs ys zs × (4294967295 < total_rows K zs)
+      × (total_rows K zs ≤ total_rows K xs + total_rows K ys))
 
   -- of the next records of two lists, if any, those with the lesser hash, or both
   abbrev pub IsNextPair : Option R → Option R → Option R → Option R → Type 0

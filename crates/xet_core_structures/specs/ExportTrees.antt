@@ -19,7 +19,8 @@ pub record FitsForm (form : Form) : Type 0 where
   pub expiry : form.expiry < 2 ^ 64
 
 -- the input at an index is the export of a shard with its files under a key
-pub record IsExportAt (inputs : List (List ℕ)) (key : DataHash) (i : ℕ) (s : Shard) (form : Form) : Type 0 where
+pub record IsExportAt (inputs : List (List ℕ)) (key : DataHash) (i : ℕ) (s : Shard) (form : Form)
+    : Type 0 where
   pub under : form.key ≡ key
   pub files : form.file_table ≡ true
   pub fits : FitsForm form
@@ -27,10 +28,12 @@ pub record IsExportAt (inputs : List (List ℕ)) (key : DataHash) (i : ℕ) (s :
 
 -- the input at each leaf is such an export, with tables and timestamps of its own
 abbrev pub AreExported : List (List ℕ) → MergePlan → DataHash → (ℕ → Shard) → (ℕ → Form) → Type 0
-AreExported inputs plan key shard_at form_at = (i : ℕ) → Contains (leaves plan) i → IsExportAt inputs key i (shard_at i) (form_at i)
+AreExported inputs plan key shard_at form_at =
+    (i : ℕ) → Contains (leaves plan) i → IsExportAt inputs key i (shard_at i) (form_at i)
 
 -- the run at an index of the xorb that a shard has under a hash, if it has one
-abbrev pub run_under : DataHash → Shard → DataHash → ℕ → List DataHash → Option (ℕ × FileDataSequenceEntry)
+abbrev pub run_under : DataHash → Shard → DataHash → ℕ → List DataHash
+    → Option (ℕ × FileDataSequenceEntry)
 run_under key s q index qs = option_map (λ xorb. run_at key (xorb, index) qs) (get s.xorbs q)
 
 -- a tree with a union, over shards that agree pairwise, and their join

@@ -26,17 +26,21 @@ module _ {H R : Type 0} (K : RecordKind H R) where
 
   -- the bytes begin with records whose hashes do not strictly ascend
   abbrev pub FrontFalls : List ℕ → Type 0
-  FrontFalls bytes = (stored : List R) × (rest : List ℕ) × HoldsRecords K bytes stored rest × (¬ Ascends K stored)
+  FrontFalls bytes =
+      (stored : List R) × (rest : List ℕ) × HoldsRecords K bytes stored rest × (¬ Ascends K stored)
 
--- the bytes are a section whose hashes strictly ascend: this is the map of its records, as reading returns them
-pub record IsSectionOf {H R : Type 0} (K : RecordKind H R) (bytes : List ℕ) (m : FinMap hash_cmp R) : Type 0 where
+-- the bytes are a section whose hashes strictly ascend: this is the map of its records, as reading
+-- returns them
+pub record IsSectionOf {H R : Type 0} (K : RecordKind H R) (bytes : List ℕ) (m : FinMap hash_cmp R)
+    : Type 0 where
   pub stored : List R
   pub section : IsSection K bytes stored
   pub handed : map K.handed_out stored ≡ values m
   pub keyed : All (λ e. e.0 ≡ K.hash_of (K.header_of e.1)) (entries m)
 
 -- the same as a list of the records
-pub record IsListOf {H R : Type 0} (K : RecordKind H R) (bytes : List ℕ) (found : List R) : Type 0 where
+pub record IsListOf {H R : Type 0} (K : RecordKind H R) (bytes : List ℕ) (found : List R)
+    : Type 0 where
   pub stored : List R
   pub section : IsSection K bytes stored
   pub handed : map K.handed_out stored ≡ found
@@ -56,7 +60,9 @@ pub record Holds (bytes : List ℕ) (info : MDBShardInfo) (s : Shard) : Type 0 w
 
 -- the bytes end before the bookend of a section
 abbrev pub IsCut : List ℕ → MDBShardInfo → Type 0
-IsCut bytes info = IsCutSection file_records (files_at bytes info) ⊎ IsCutSection xorb_records (xorbs_at bytes info)
+IsCut bytes info =
+    IsCutSection file_records (files_at bytes info)
+    ⊎ IsCutSection xorb_records (xorbs_at bytes info)
 
 -- a section has too many rows, or hashes that do not strictly ascend
 abbrev pub IsBad : List ℕ → MDBShardInfo → Type 0
@@ -65,13 +71,15 @@ IsBad bytes info =
     ⊎ FrontFalls file_records (files_at bytes info) ⊎ FrontFalls xorb_records (xorbs_at bytes info)
 
 -- the bytes have both sections, with the records of these lists
-pub record HoldsLists (bytes : List ℕ) (info : MDBShardInfo) (fs : List MDBFileInfo) (xs : List MDBXorbInfo) : Type 0 where
+pub record HoldsLists (bytes : List ℕ) (info : MDBShardInfo) (fs : List MDBFileInfo)
+    (xs : List MDBXorbInfo) : Type 0 where
   pub files : IsListOf file_records (files_at bytes info) fs
   pub xorbs : IsListOf xorb_records (xorbs_at bytes info) xs
 
 -- why both sections are not read as such lists
 abbrev pub BothRefusal : List ℕ → MDBShardInfo → CoreError → Type 0
-BothRefusal bytes info e = (e ≡ OutOfMemory) ⊎ (IsEndOfInput e × IsCut bytes info) ⊎ (IsInvalidShard e × IsBad bytes info)
+BothRefusal bytes info e =
+    (e ≡ OutOfMemory) ⊎ (IsEndOfInput e × IsCut bytes info) ⊎ (IsInvalidShard e × IsBad bytes info)
 
 -- the device failed, or there is such a cause
 abbrev pub ReadsNoInput : Source → Source → MDBShardInfo → CoreError → Type 0

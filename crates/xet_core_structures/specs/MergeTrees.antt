@@ -21,7 +21,8 @@ HasUnion (Both' p left q right) = ⊤
 -- what a tree writes: at a leaf the input's bytes, else the union of what both sides write
 abbrev pub TreeWrites : List (List ℕ) → MergePlan → List ℕ → Type 0
 TreeWrites inputs (Leaf i) out = slice_get inputs i ≡ Some out
-TreeWrites inputs (Both' p left q right) out = (x y : List ℕ) × TreeWrites inputs left x × TreeWrites inputs right y × UnitesBytes x y out
+TreeWrites inputs (Both' p left q right) out =
+    (x y : List ℕ) × TreeWrites inputs left x × TreeWrites inputs right y × UnitesBytes x y out
 
 -- why it writes nothing: a leaf has no input, an allocation failed, or there is no such union
 abbrev pub TreeRefusal : List (List ℕ) → MergePlan → CoreError → Type 0
@@ -37,4 +38,6 @@ AtLeaves plan shard_at = Contains (map shard_at (leaves plan))
 -- the input at each leaf is the bytes of a shard, with an expiry or none
 abbrev pub AreWritten : List (List ℕ) → MergePlan → (ℕ → Shard) → (ℕ → Option ℕ) → Type 0
 AreWritten inputs plan shard_at expiry_at =
-    (i : ℕ) → Contains (leaves plan) i → IfSome (expiry_at i) (λ e. e < 2 ^ 64) × (slice_get inputs i ≡ Some (layout (shard_at i) (expiry_at i)))
+    (i : ℕ) → Contains (leaves plan) i
+    → IfSome (expiry_at i) (λ e. e < 2 ^ 64)
+    × (slice_get inputs i ≡ Some (layout (shard_at i) (expiry_at i)))

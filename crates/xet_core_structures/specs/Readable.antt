@@ -20,14 +20,16 @@ use Rattle.xet_shards.specs.Shard.{Shard}
 use Rattle.xet_shards.specs.Tables.{hash_in}
 use Rattle.xet_core_structures.specs.ByteResults.{keyed_form, key_of, HaveResult}
 
--- the records of a map, each under its hash, may be written as a section, and reading it returns them as they are
+-- the records of a map, each under its hash, may be written as a section, and reading it returns
+-- them as they are
 pub record AreReadable {H R : Type 0} (K : RecordKind H R) (m : FinMap hash_cmp R) : Type 0 where
   pub keyed : All (λ e. e.0 ≡ hash_in K e.1) (entries m)
   pub fits : FitsSection K (values m)
   pub unchanged : All (λ r. K.handed_out r ≡ r) (values m)
 
 -- the bytes of a shard under a key, with all tables, and the header and the footer in them
-pub record IsWrittenUnder (key : DataHash) (s : Shard) (bytes : List ℕ) (info : MDBShardInfo) : Type 0 where
+pub record IsWrittenUnder (key : DataHash) (s : Shard) (bytes : List ℕ) (info : MDBShardInfo)
+    : Type 0 where
   pub files : AreReadable file_records s.files
   pub xorbs : AreReadable xorb_records s.xorbs
   pub files_ascend : Ascends file_records (values s.files)
@@ -36,16 +38,26 @@ pub record IsWrittenUnder (key : DataHash) (s : Shard) (bytes : List ℕ) (info 
   pub ends : HasEnds bytes info
 
 -- such bytes of the result for two inputs were written
-abbrev pub WritesInForm : (Shard → Shard → Shard → Type 0) → List ℕ → MDBShardInfo → List ℕ → MDBShardInfo → Option (List ℕ) → Option (List ℕ) → MDBShardInfo → Type 0
+abbrev pub WritesInForm : (Shard → Shard → Shard → Type 0) → List ℕ → MDBShardInfo → List ℕ
+    → MDBShardInfo → Option (List ℕ) → Option (List ℕ) → MDBShardInfo → Type 0
 WritesInForm IsResult x i y j old new info =
-    (c : Shard) × (bytes : List ℕ) × HaveResult IsResult x i y j c × IsWrittenUnder (key_of i) c bytes info × Appends old new bytes
+    (c : Shard) × (bytes : List ℕ) × HaveResult IsResult x i y j c
+    × IsWrittenUnder (key_of i) c bytes info × Appends old new bytes
 
--- a file lookup by this header and footer on any bytes: what `get_file_reconstruction_info` returns is one
-abbrev pub LooksUpFile : MDBShardInfo → DataHash → Source → Source → Result (Option MDBFileInfo) CoreError → Type 0
-LooksUpFile info hash old new found = LooksUpRecord file_records (file_table info.metadata old) info.metadata.file_info_offset hash old new found
+-- a file lookup by this header and footer on any bytes: what `get_file_reconstruction_info` returns
+-- is one
+abbrev pub LooksUpFile : MDBShardInfo → DataHash → Source → Source
+    → Result (Option MDBFileInfo) CoreError → Type 0
+LooksUpFile info hash old new found =
+    LooksUpRecord file_records (file_table info.metadata old) info.metadata.file_info_offset hash
+    old new found
 
 -- it found what the shard has, or had a reason not to, within bounds
-pub record FindsInShard (s : Shard) (hash : DataHash) (old new : Source) (found : Result (Option MDBFileInfo) CoreError) : Type 0 where
-  pub answer : MatchResult found (FoundInShard s hash) (NotFoundAmong file_records (values s.files) hash old new)
+pub record FindsInShard (s : Shard) (hash : DataHash) (old new : Source)
+    (found : Result (Option MDBFileInfo) CoreError) : Type 0 where
+  pub answer : MatchResult found (FoundInShard s hash)
+      (NotFoundAmong file_records (values s.files) hash old new)
   pub costs : WithinBounds file_records (values s.files) hash.word0 old new
-  pub collision : IfErr found (λ e. e ≡ TruncatedHashCollision hash.word0 → SearchWithinBounds file_records (values s.files) hash.word0 old new)
+  pub collision : IfErr found
+      (λ e. e ≡ TruncatedHashCollision hash.word0
+      → SearchWithinBounds file_records (values s.files) hash.word0 old new)

@@ -32,67 +32,94 @@ pub fn keyed_shards_are_exported()
     ensures shards { (key : DataHash) → (s : Shard) → IsShard s → IsShard (keyed_shard key s) }
     ensures bytes { (s : Shard) → (form : Form) → form.file_table ≡ true
         → let keyed = keyed_shard form.key s in
-        exported (values s.files) (values s.xorbs) form ≡ layout_of (values keyed.files) (values keyed.xorbs) form }
+        exported (values s.files) (values s.xorbs) form
+        ≡ layout_of (values keyed.files) (values keyed.xorbs) form }
 {}
 
-/// Chunk hashes can be put under a key before shards are merged or after: unions, joins and agreement of shards
-/// pass to the shards under one key.
+/// Chunk hashes can be put under a key before shards are merged or after: unions, joins and
+/// agreement of shards pass to the shards under one key.
 pub fn keys_pass_to_joins()
     ensures union { (key : DataHash) → (a b c : Shard) → IsUnion a b c
         → IsUnion (keyed_shard key a) (keyed_shard key b) (keyed_shard key c) }
-    ensures join { (key : DataHash) → (shards : List Shard) → (c : Shard) → IsJoinOf (Contains shards) c
+    ensures join { (key : DataHash) → (shards : List Shard) → (c : Shard)
+        → IsJoinOf (Contains shards) c
         → IsJoinOf (Contains (map (keyed_shard key) shards)) (keyed_shard key c) }
     ensures agree { (key : DataHash) → (a b : Shard) → ShardsAgree a b
         → ShardsAgree (keyed_shard key a) (keyed_shard key b) }
 {}
 
-/// Merging loses no chunk to dedup against: a join has the xorb that any of the shards has under a hash, so the runs of
-/// hashes in it are the same, and under a key a run is at least as long.
+/// Merging loses no chunk to dedup against: a join has the xorb that any of the shards has under a
+/// hash, so the runs of hashes in it are the same, and under a key a run is at least as long.
 pub fn joins_keep_runs()
-    ensures xorbs { (shards : List Shard) → (s c : Shard) → (q : DataHash) → (xorb : MDBXorbInfo) → IsJoinOf (Contains shards) c
-        → Contains shards s → get s.xorbs q ≡ Some xorb → get c.xorbs q ≡ Some xorb }
-    ensures runs { (key : DataHash) → (hashes : List DataHash) → (chunks : List XorbChunkSequenceEntry)
+    ensures xorbs { (shards : List Shard) → (s c : Shard) → (q : DataHash) → (xorb : MDBXorbInfo)
+        → IsJoinOf (Contains shards) c → Contains shards s → get s.xorbs q ≡ Some xorb
+        → get c.xorbs q ≡ Some xorb }
+    ensures runs { (key : DataHash) → (hashes : List DataHash)
+        → (chunks : List XorbChunkSequenceEntry)
         → run_length no_key hashes chunks ≤ run_length key hashes (map (keyed_chunk key) chunks) }
 {}
 
-/// Exports of shards that agree, under one key and with their files, merge to the export of their join under this key with
-/// all tables, created at 0 and without expiry. Exports of one shard with all tables under one key differ in the two
-/// timestamps of the footer alone, so merging and exporting can be exchanged but for these. Nothing is written only if an allocation fails or the join has too many rows.
+/// Exports of shards that agree, under one key and with their files, merge to the export of their
+/// join under this key with all tables, created at 0 and without expiry. Exports of one shard with
+/// all tables under one key differ in the two timestamps of the footer alone, so merging and
+/// exporting can be exchanged but for these. Nothing is written only if an allocation fails or the
+/// join has too many rows.
 pub fn exports_merge_to_the_export_of_the_join()
-    ensures bytes { (inputs : List (List ℕ)) → (plan : MergePlan) → (key : DataHash) → (shard_at : ℕ → Shard) → (form_at : ℕ → Form) → (join : Shard) → (out : List ℕ)
-        → JoinsLeaves plan shard_at join → AreExported inputs plan key shard_at form_at → TreeWrites inputs plan out
-        → out ≡ exported (values join.files) (values join.xorbs) (export_form key 0 18446744073709551615 true true true) }
-    ensures timestamps { (s : Shard) → (key : DataHash) → (before after : List ℕ) × (length after ≡ 80) × ((now valid : ℕ)
-        → exported (values s.files) (values s.xorbs) (export_form key now valid true true true) ≡ before ++ u64_bytes now ++ u64_bytes (now + valid) ++ after) }
-    ensures refusals { (inputs : List (List ℕ)) → (plan : MergePlan) → (key : DataHash) → (shard_at : ℕ → Shard) → (form_at : ℕ → Form) → (join : Shard) → (e : CoreError)
-        → JoinsLeaves plan shard_at join → AreExported inputs plan key shard_at form_at → TreeRefusal inputs plan e
-        → (e ≡ OutOfMemory) ⊎ (IsInvalidShard e × (¬ HasFewRows join)) }
+    ensures bytes { (inputs : List (List ℕ)) → (plan : MergePlan) → (key : DataHash)
+        → (shard_at : ℕ → Shard) → (form_at : ℕ → Form) → (join : Shard) → (out : List ℕ)
+        → JoinsLeaves plan shard_at join → AreExported inputs plan key shard_at form_at
+        → TreeWrites inputs plan out
+        → out ≡ exported (values join.files) (values join.xorbs)
+        (export_form key 0 18446744073709551615 true true true) }
+    ensures timestamps { (s : Shard) → (key : DataHash)
+        → (before after : List ℕ) × (length after ≡ 80)
+        × ((now valid : ℕ)
+        → exported (values s.files) (values s.xorbs)
+        (export_form key now valid true true true)
+        ≡ before ++ u64_bytes now ++ u64_bytes (now + valid) ++ after) }
+    ensures refusals { (inputs : List (List ℕ)) → (plan : MergePlan) → (key : DataHash)
+        → (shard_at : ℕ → Shard) → (form_at : ℕ → Form) → (join : Shard) → (e : CoreError)
+        → JoinsLeaves plan shard_at join → AreExported inputs plan key shard_at form_at
+        → TreeRefusal inputs plan e → (e ≡ OutOfMemory) ⊎ (IsInvalidShard e × (¬ HasFewRows join)) }
 {}
 
-/// The bytes that a tree writes for shards that agree have the runs of chunks of these shards, and no others. In those of
-/// their exports under a key a run is at least as long, and the shards under the key have such a join again.
+/// The bytes that a tree writes for shards that agree have the runs of chunks of these shards, and
+/// no others. In those of their exports under a key a run is at least as long, and the shards under
+/// the key have such a join again.
 pub fn merges_keep_runs()
-    ensures kept { (inputs : List (List ℕ)) → (plan : MergePlan) → (shard_at : ℕ → Shard) → (expiry_at : ℕ → Option ℕ) → (join : Shard) → (out : List ℕ)
-        → (i : ℕ) → (q : DataHash) → (index : ℕ) → (hashes : List DataHash) → (run : ℕ × FileDataSequenceEntry)
-        → JoinsLeaves plan shard_at join → AreWritten inputs plan shard_at expiry_at → TreeWrites inputs plan out
-        → Contains (leaves plan) i → run_under no_key (shard_at i) q index hashes ≡ Some run
+    ensures kept { (inputs : List (List ℕ)) → (plan : MergePlan) → (shard_at : ℕ → Shard)
+        → (expiry_at : ℕ → Option ℕ) → (join : Shard) → (out : List ℕ) → (i : ℕ) → (q : DataHash)
+        → (index : ℕ) → (hashes : List DataHash) → (run : ℕ × FileDataSequenceEntry)
+        → JoinsLeaves plan shard_at join → AreWritten inputs plan shard_at expiry_at
+        → TreeWrites inputs plan out → Contains (leaves plan) i
+        → run_under no_key (shard_at i) q index hashes ≡ Some run
         → (out ≡ layout join None) × (run_under no_key join q index hashes ≡ Some run) }
     ensures only { (plan : MergePlan) → (key : DataHash) → (shard_at : ℕ → Shard) → (join : Shard)
-        → (q : DataHash) → (index : ℕ) → (hashes : List DataHash) → (run : ℕ × FileDataSequenceEntry)
-        → JoinsLeaves plan shard_at join → run_under key join q index hashes ≡ Some run
-        → (i : ℕ) × Contains (leaves plan) i × (run_under key (shard_at i) q index hashes ≡ Some run) }
-    ensures answers { (plan : MergePlan) → (key : DataHash) → (shard_at : ℕ → Shard) → (join : Shard) → (hashes : List DataHash) → (run : ℕ × FileDataSequenceEntry)
+        → (q : DataHash) → (index : ℕ) → (hashes : List DataHash)
+        → (run : ℕ × FileDataSequenceEntry) → JoinsLeaves plan shard_at join
+        → run_under key join q index hashes ≡ Some run
+        → (i : ℕ) × Contains (leaves plan) i
+        × (run_under key (shard_at i) q index hashes ≡ Some run) }
+    ensures answers { (plan : MergePlan) → (key : DataHash) → (shard_at : ℕ → Shard)
+        → (join : Shard) → (hashes : List DataHash) → (run : ℕ × FileDataSequenceEntry)
         → JoinsLeaves plan shard_at join → RunAmong key hashes (values join.xorbs) (Some run)
-        → (i : ℕ) × Contains (leaves plan) i × RunAmong key hashes (values (shard_at i).xorbs) (Some run) }
-    ensures chunks { (plan : MergePlan) → (shard_at : ℕ → Shard) → (join : Shard) → (q : DataHash) → (p : ChunkLocation)
-        → JoinsLeaves plan shard_at join
-        → HasChunkAt (values join.xorbs) q p ↔ ((i : ℕ) × Contains (leaves plan) i × HasChunkAt (values (shard_at i).xorbs) q p) }
-    ensures keyed { (inputs : List (List ℕ)) → (plan : MergePlan) → (key : DataHash) → (shard_at : ℕ → Shard) → (form_at : ℕ → Form) → (join : Shard) → (out : List ℕ)
-        → (i : ℕ) → (q : DataHash) → (index : ℕ) → (hashes : List DataHash) → (run : ℕ × FileDataSequenceEntry)
-        → JoinsLeaves plan shard_at join → AreExported inputs plan key shard_at form_at → TreeWrites inputs plan out
+        → (i : ℕ) × Contains (leaves plan) i
+        × RunAmong key hashes (values (shard_at i).xorbs) (Some run) }
+    ensures chunks { (plan : MergePlan) → (shard_at : ℕ → Shard) → (join : Shard) → (q : DataHash)
+        → (p : ChunkLocation) → JoinsLeaves plan shard_at join
+        → HasChunkAt (values join.xorbs) q p
+        ↔ ((i : ℕ) × Contains (leaves plan) i × HasChunkAt (values (shard_at i).xorbs) q p) }
+    ensures keyed { (inputs : List (List ℕ)) → (plan : MergePlan) → (key : DataHash)
+        → (shard_at : ℕ → Shard) → (form_at : ℕ → Form) → (join : Shard) → (out : List ℕ) → (i : ℕ)
+        → (q : DataHash) → (index : ℕ) → (hashes : List DataHash)
+        → (run : ℕ × FileDataSequenceEntry) → JoinsLeaves plan shard_at join
+        → AreExported inputs plan key shard_at form_at → TreeWrites inputs plan out
         → Contains (leaves plan) i → run_under no_key (shard_at i) q index hashes ≡ Some run
         → (out ≡ keyed_layout (keyed_shard key join) key)
-        × ((longer : ℕ × FileDataSequenceEntry) × (run_under key (keyed_shard key join) q index hashes ≡ Some longer) × (run.0 ≤ longer.0)) }
-    ensures keyed_leaves { (plan : MergePlan) → (key : DataHash) → (shard_at : ℕ → Shard) → (join : Shard) → JoinsLeaves plan shard_at join
+        × ((longer : ℕ × FileDataSequenceEntry)
+        × (run_under key (keyed_shard key join) q index hashes ≡ Some longer)
+        × (run.0 ≤ longer.0)) }
+    ensures keyed_leaves { (plan : MergePlan) → (key : DataHash) → (shard_at : ℕ → Shard)
+        → (join : Shard) → JoinsLeaves plan shard_at join
         → JoinsLeaves plan (λ i. keyed_shard key (shard_at i)) (keyed_shard key join) }
 {}

@@ -94,16 +94,25 @@ pub fn agreement_passes_to_unions()
 
 /// A record starts after the rows of all records of its kind with smaller hashes.
 pub fn records_start_after_smaller_hashes()
-    ensures files { (s : Shard) → IsShard s → let files = values s.files in
-        starts file_records files ≡ map (λ r. let q = file_hash_of r in (q.word0, total_rows file_records (records_below file_records q files))) files }
-    ensures xorbs { (s : Shard) → IsShard s → let xorbs = values s.xorbs in
-        starts xorb_records xorbs ≡ map (λ r. let q = xorb_hash_of r in (q.word0, total_rows xorb_records (records_below xorb_records q xorbs))) xorbs }
+    ensures files { (s : Shard) → IsShard s
+        → let files = values s.files in
+        starts file_records files ≡ map
+        (λ r. let q = file_hash_of r in
+        (q.word0, total_rows file_records (records_below file_records q files)))
+        files }
+    ensures xorbs { (s : Shard) → IsShard s
+        → let xorbs = values s.xorbs in
+        starts xorb_records xorbs ≡ map
+        (λ r. let q = xorb_hash_of r in
+        (q.word0, total_rows xorb_records (records_below xorb_records q xorbs)))
+        xorbs }
 {}
 
 /// The chunk table has exactly one row for each chunk of the xorbs, in strictly ascending order: by
 /// first word, then by the row at which the xorb starts, then by the index in the xorb.
 pub fn chunk_table_is_sorted()
-    ensures sorted { (xorbs : List MDBXorbInfo) → IsStrictlySortedBy chunk_table_row_cmp (chunk_table xorbs) }
+    ensures sorted { (xorbs : List MDBXorbInfo)
+        → IsStrictlySortedBy chunk_table_row_cmp (chunk_table xorbs) }
     ensures rows { (xorbs : List MDBXorbInfo) → (p : ChunkTableRow)
         → Contains (chunk_table xorbs) p ↔ Contains (chunk_table_rows xorbs) p }
 {}
@@ -167,55 +176,64 @@ pub fn errors_are_equal_by_variant()
 
 /// A union, a difference and a tree of unions write bytes of a shard under a key, whether their
 /// inputs agree or not. From such bytes `load_from_reader` reads the header and the footer that
-/// were returned, and a file lookup finds what the shard has, within bounds. The xorbs of a union are
-/// well-formed, as queries for chunks require, if those of both inputs are; those of a difference, if
-/// the second's are.
+/// were returned, and a file lookup finds what the shard has, within bounds. The xorbs of a union
+/// are well-formed, as queries for chunks require, if those of both inputs are; those of a
+/// difference, if the second's are.
 pub fn lookups_on_results()
     ensures trees { (inputs : List (List ℕ)) → (plan : MergePlan) → (bytes : List ℕ) → HasUnion plan
         → TreeWrites inputs plan bytes
         → (key : DataHash) × (c : Shard) × IsWrittenUnder key c bytes (keyed_info c key) }
-    ensures loaded { (key : DataHash) → (c : Shard) → (info found : MDBShardInfo) → (old new : Source)
-        → IsWrittenUnder key c old.bytes info → Loads old new found → found ≡ info }
-    ensures files { (key : DataHash) → (c : Shard) → (info : MDBShardInfo) → (hash : DataHash) → (old new : Source)
-        → (found : Result (Option MDBFileInfo) CoreError)
+    ensures loaded { (key : DataHash) → (c : Shard) → (info found : MDBShardInfo)
+        → (old new : Source) → IsWrittenUnder key c old.bytes info → Loads old new found
+        → found ≡ info }
+    ensures files { (key : DataHash) → (c : Shard) → (info : MDBShardInfo) → (hash : DataHash)
+        → (old new : Source) → (found : Result (Option MDBFileInfo) CoreError)
         → IsWrittenUnder key c old.bytes info → LooksUpFile info hash old new found
         → FindsInShard c hash old new found }
-    ensures union_xorbs { (x y : List ℕ) → (i j : MDBShardInfo) → (c : Shard) → (have : HaveResult IsByteUnion x i y j c)
-        → All IsXorb (values have.first.xorbs) → All IsXorb (values have.second.xorbs) → All IsXorb (values c.xorbs) }
-    ensures difference_xorbs { (x y : List ℕ) → (i j : MDBShardInfo) → (c : Shard) → (have : HaveResult IsDifference x i y j c)
+    ensures union_xorbs { (x y : List ℕ) → (i j : MDBShardInfo) → (c : Shard)
+        → (have : HaveResult IsByteUnion x i y j c) → All IsXorb (values have.first.xorbs)
         → All IsXorb (values have.second.xorbs) → All IsXorb (values c.xorbs) }
+    ensures difference_xorbs { (x y : List ℕ) → (i j : MDBShardInfo) → (c : Shard)
+        → (have : HaveResult IsDifference x i y j c) → All IsXorb (values have.second.xorbs)
+        → All IsXorb (values c.xorbs) }
 {}
 
-/// The inputs at the leaves of a tree with a union are the bytes of shards that agree pairwise. What
-/// the tree writes is the bytes of their join without expiry; `load_from_reader` reads the header
-/// and the footer of these, and a file lookup finds what the join has, within bounds.
+/// The inputs at the leaves of a tree with a union are the bytes of shards that agree pairwise.
+/// What the tree writes is the bytes of their join without expiry; `load_from_reader` reads the
+/// header and the footer of these, and a file lookup finds what the join has, within bounds.
 pub fn lookups_on_trees()
-    ensures premises { (inputs : List (List ℕ)) → (plan : MergePlan) → (shard_at : ℕ → Shard) → (expiry_at : ℕ → Option ℕ)
-        → (join : Shard) → (old new : Source) → (info : MDBShardInfo)
-        → HasUnion plan → AreWritten inputs plan shard_at expiry_at → AgreePairwise (AtLeaves plan shard_at)
-        → IsJoinOf (AtLeaves plan shard_at) join → TreeWrites inputs plan old.bytes → Loads old new info
+    ensures premises { (inputs : List (List ℕ)) → (plan : MergePlan) → (shard_at : ℕ → Shard)
+        → (expiry_at : ℕ → Option ℕ) → (join : Shard) → (old new : Source) → (info : MDBShardInfo)
+        → HasUnion plan → AreWritten inputs plan shard_at expiry_at
+        → AgreePairwise (AtLeaves plan shard_at) → IsJoinOf (AtLeaves plan shard_at) join
+        → TreeWrites inputs plan old.bytes → Loads old new info
         → IsShard join × (new.bytes ≡ layout join None) × (info ≡ info_value join None) }
-    ensures files { (inputs : List (List ℕ)) → (plan : MergePlan) → (shard_at : ℕ → Shard) → (expiry_at : ℕ → Option ℕ)
-        → (join : Shard) → (old loaded new : Source) → (info : MDBShardInfo) → (hash : DataHash)
-        → (found : Result (Option MDBFileInfo) CoreError)
-        → HasUnion plan → AreWritten inputs plan shard_at expiry_at → AgreePairwise (AtLeaves plan shard_at)
-        → IsJoinOf (AtLeaves plan shard_at) join → TreeWrites inputs plan old.bytes → Loads old loaded info
-        → LooksUpFile info hash loaded new found → FindsInShard join hash loaded new found }
+    ensures files { (inputs : List (List ℕ)) → (plan : MergePlan) → (shard_at : ℕ → Shard)
+        → (expiry_at : ℕ → Option ℕ) → (join : Shard) → (old loaded new : Source)
+        → (info : MDBShardInfo) → (hash : DataHash)
+        → (found : Result (Option MDBFileInfo) CoreError) → HasUnion plan
+        → AreWritten inputs plan shard_at expiry_at → AgreePairwise (AtLeaves plan shard_at)
+        → IsJoinOf (AtLeaves plan shard_at) join → TreeWrites inputs plan old.bytes
+        → Loads old loaded info → LooksUpFile info hash loaded new found
+        → FindsInShard join hash loaded new found }
 {}
 
-/// Of the bytes of shards that agree, each with any expiry or none, one union is the same byte string
-/// in either order and in either grouping. With the same shard, and with the empty one on either
-/// side, it is the shard's bytes without expiry.
+/// Of the bytes of shards that agree, each with any expiry or none, one union is the same byte
+/// string in either order and in either grouping. With the same shard, and with the empty one on
+/// either side, it is the shard's bytes without expiry.
 pub fn unions_of_bytes()
-    ensures order { (a b : Shard) → (e f g h : Option ℕ) → (x y : List ℕ) → IsShard a → IsShard b → ShardsAgree a b
-        → IfSome e (λ n. n < 2 ^ 64) → IfSome f (λ n. n < 2 ^ 64) → IfSome g (λ n. n < 2 ^ 64) → IfSome h (λ n. n < 2 ^ 64)
-        → UnitesBytes (layout a e) (layout b f) x → UnitesBytes (layout b g) (layout a h) y → x ≡ y }
+    ensures order { (a b : Shard) → (e f g h : Option ℕ) → (x y : List ℕ) → IsShard a → IsShard b
+        → ShardsAgree a b → IfSome e (λ n. n < 2 ^ 64) → IfSome f (λ n. n < 2 ^ 64)
+        → IfSome g (λ n. n < 2 ^ 64) → IfSome h (λ n. n < 2 ^ 64)
+        → UnitesBytes (layout a e) (layout b f) x → UnitesBytes (layout b g) (layout a h) y
+        → x ≡ y }
     ensures grouping { (a b c : Shard) → (e f g h i j : Option ℕ) → (ab bc left right : List ℕ)
         → IsShard a → IsShard b → IsShard c → ShardsAgree a b → ShardsAgree a c → ShardsAgree b c
         → IfSome e (λ n. n < 2 ^ 64) → IfSome f (λ n. n < 2 ^ 64) → IfSome g (λ n. n < 2 ^ 64)
         → IfSome h (λ n. n < 2 ^ 64) → IfSome i (λ n. n < 2 ^ 64) → IfSome j (λ n. n < 2 ^ 64)
         → UnitesBytes (layout a e) (layout b f) ab → UnitesBytes ab (layout c g) left
-        → UnitesBytes (layout b h) (layout c i) bc → UnitesBytes (layout a j) bc right → left ≡ right }
+        → UnitesBytes (layout b h) (layout c i) bc → UnitesBytes (layout a j) bc right
+        → left ≡ right }
     ensures repetition { (a : Shard) → (e f : Option ℕ) → (x : List ℕ) → IsShard a
         → IfSome e (λ n. n < 2 ^ 64) → IfSome f (λ n. n < 2 ^ 64)
         → UnitesBytes (layout a e) (layout a f) x → x ≡ layout a None }
@@ -227,12 +245,13 @@ pub fn unions_of_bytes()
         → UnitesBytes (layout empty_shard e) (layout a f) x → x ≡ layout a None }
 {}
 
-/// If two shards agree, and each file of both has in the first every optional part that it has in the
-/// second, then the union of the first's bytes with those of their difference is the union of the
-/// bytes of both.
+/// If two shards agree, and each file of both has in the first every optional part that it has in
+/// the second, then the union of the first's bytes with those of their difference is the union of
+/// the bytes of both.
 pub fn unions_with_differences()
-    ensures { (a b d : Shard) → (e f g h : Option ℕ) → (x y : List ℕ) → IsShard a → IsShard b → ShardsAgree a b
-        → HasPartsOf a b → IsDifference a b d
-        → IfSome e (λ n. n < 2 ^ 64) → IfSome f (λ n. n < 2 ^ 64) → IfSome g (λ n. n < 2 ^ 64) → IfSome h (λ n. n < 2 ^ 64)
-        → UnitesBytes (layout a e) (layout b f) x → UnitesBytes (layout a g) (layout d h) y → x ≡ y }
+    ensures { (a b d : Shard) → (e f g h : Option ℕ) → (x y : List ℕ) → IsShard a → IsShard b
+        → ShardsAgree a b → HasPartsOf a b → IsDifference a b d → IfSome e (λ n. n < 2 ^ 64)
+        → IfSome f (λ n. n < 2 ^ 64) → IfSome g (λ n. n < 2 ^ 64) → IfSome h (λ n. n < 2 ^ 64)
+        → UnitesBytes (layout a e) (layout b f) x → UnitesBytes (layout a g) (layout d h) y
+        → x ≡ y }
 {}

@@ -1,4 +1,5 @@
-//! Laws of minimal shards that are read again. Each is a function that does nothing; its contract is the law.
+//! Laws of minimal shards that are read again. Each is a function that does nothing; its contract
+//! is the law.
 
 ghost use Rattle.std.specs.Prelude.{◌≡◌, ℕ, Bool, true, List, [], map, flat_map, Option, Some};
 ghost use Rattle.std.specs.Fn.{FnReturnsAt};
@@ -11,37 +12,43 @@ ghost use Rattle.xet_shards.specs.MinimalShard.{MinimalShard, FitsSections, is_s
 
 use xet_records::xorb_structs::MDBXorbInfoView;
 
-/// A subset of a shard's xorbs that is written without files, with any expiry or none, and read again, has the same
-/// eligible chunks as these xorbs in the shard, where a chunk at which any file of the shard starts is eligible. So
-/// `global_dedup_eligible_chunks` of what `from_reader` reads (`read`), and `filter_cas_chunks_for_global_dedup` on a source
-/// that has these bytes left (`source`), return the chunks that the shard has in these xorbs.
+/// A subset of a shard's xorbs that is written without files, with any expiry or none, and read
+/// again, has the same eligible chunks as these xorbs in the shard, where a chunk at which any file
+/// of the shard starts is eligible. So `global_dedup_eligible_chunks` of what `from_reader` reads
+/// (`read`), and `filter_cas_chunks_for_global_dedup` on a source that has these bytes left
+/// (`source`), return the chunks that the shard has in these xorbs.
 pub fn subsets_keep_eligible_chunks<F: Fn(&MDBXorbInfoView) -> bool>()
-    ensures read { (filter : F) → (m n : MinimalShard) → (now size : ℕ) → (expiry : Option ℕ) → (bytes : List ℕ) → (left : Option (List ℕ)) → (with_files : Bool)
-        → FitsSections m
-        → (subset : WritesKept (FnReturnsAt F.Fn filter) (Some []) (Some bytes) [] m (minimal_form now expiry) size)
+    ensures read { (filter : F) → (m n : MinimalShard) → (now size : ℕ) → (expiry : Option ℕ)
+        → (bytes : List ℕ) → (left : Option (List ℕ)) → (with_files : Bool) → FitsSections m
+        → (subset : WritesKept (FnReturnsAt F.Fn filter) (Some []) (Some bytes) [] m
+        (minimal_form now expiry) size)
         → ReadsMinimal Consumes with_files true (Some bytes) left n
-        → eligible_hashes n.files n.xorbs ≡ ascending_hashes (flat_map (eligible_in (is_start m.files)) subset.kept) }
-    ensures source { (filter : F) → (m : MinimalShard) → (now size : ℕ) → (expiry : Option ℕ) → (bytes : List ℕ) → (old new : Source) → (hashes : List DataHash)
-        → FitsSections m
-        → (subset : WritesKept (FnReturnsAt F.Fn filter) (Some []) (Some bytes) [] m (minimal_form now expiry) size)
-        → bytes_left old ≡ bytes
-        → ReadsEligible old new hashes
+        → eligible_hashes n.files n.xorbs
+        ≡ ascending_hashes (flat_map (eligible_in (is_start m.files)) subset.kept) }
+    ensures source { (filter : F) → (m : MinimalShard) → (now size : ℕ) → (expiry : Option ℕ)
+        → (bytes : List ℕ) → (old new : Source) → (hashes : List DataHash) → FitsSections m
+        → (subset : WritesKept (FnReturnsAt F.Fn filter) (Some []) (Some bytes) [] m
+        (minimal_form now expiry) size)
+        → bytes_left old ≡ bytes → ReadsEligible old new hashes
         → hashes ≡ ascending_hashes (flat_map (eligible_in (is_start m.files)) subset.kept) }
 {}
 
-/// A shard that is read, written, read and written again, with the same choice of verification rows and the same timestamp,
-/// gives the same bytes. What is read in between is what was written: the files with the verification rows that were wanted,
-/// and the xorbs with marks at the files' starts.
+/// A shard that is read, written, read and written again, with the same choice of verification rows
+/// and the same timestamp, gives the same bytes. What is read in between is what was written: the
+/// files with the verification rows that were wanted, and the xorbs with marks at the files'
+/// starts.
 pub fn minimal_shards_are_written_again()
-    ensures read { (with_files with_xorbs with_verification : Bool) → (m n : MinimalShard) → (now size : ℕ) → (first rest left : Option (List ℕ)) → (bytes : List ℕ)
+    ensures read { (with_files with_xorbs with_verification : Bool) → (m n : MinimalShard)
+        → (now size : ℕ) → (first rest left : Option (List ℕ)) → (bytes : List ℕ)
         → ReadsMinimal Consumes with_files with_xorbs first rest m
         → WritesMinimal (Some []) (Some bytes) with_verification now m size
         → ReadsMinimal Consumes true true (Some bytes) left n
-        → (n.files ≡ map (as_wanted with_verification) m.files) × (n.xorbs ≡ map (mark_starts (is_start m.files)) m.xorbs) }
-    ensures bytes { (with_files with_xorbs with_verification : Bool) → (m n : MinimalShard) → (now size size_again : ℕ) → (first rest left : Option (List ℕ)) → (bytes again : List ℕ)
+        → (n.files ≡ map (as_wanted with_verification) m.files)
+        × (n.xorbs ≡ map (mark_starts (is_start m.files)) m.xorbs) }
+    ensures bytes { (with_files with_xorbs with_verification : Bool) → (m n : MinimalShard)
+        → (now size size_again : ℕ) → (first rest left : Option (List ℕ)) → (bytes again : List ℕ)
         → ReadsMinimal Consumes with_files with_xorbs first rest m
         → WritesMinimal (Some []) (Some bytes) with_verification now m size
         → ReadsMinimal Consumes true true (Some bytes) left n
-        → WritesMinimal (Some []) (Some again) with_verification now n size_again
-        → again ≡ bytes }
+        → WritesMinimal (Some []) (Some again) with_verification now n size_again → again ≡ bytes }
 {}

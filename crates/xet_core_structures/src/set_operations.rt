@@ -25,9 +25,9 @@ use xet_base::error::{CoreError, Result};
 use xet_base::source::{MemorySource, ShardSource};
 use xet_shards::shard_format::MDBShardInfo;
 
-/// Writes the union of two shards: header, sections, lookup tables and footer, with the key of both,
-/// creation 0 and no expiry. Returns the header and the footer, as `load_from_reader` reads them from
-/// these bytes. Of the inputs' footers it uses the key and the offsets of the sections.
+/// Writes the union of two shards: header, sections, lookup tables and footer, with the key of
+/// both, creation 0 and no expiry. Returns the header and the footer, as `load_from_reader` reads
+/// them from these bytes. Of the inputs' footers it uses the key and the offsets of the sections.
 ///
 /// Of two files with one hash it takes the record whose flags have all bits of the other's, the
 /// first's if both have the same; else the first's segments with each optional part from the first
@@ -36,8 +36,8 @@ use xet_shards::shard_format::MDBShardInfo;
 /// `InvalidArguments` if the keys differ, before anything is read or written. `UnexpectedEof` if a
 /// section ends before its bookend, `InvalidShard` if its rows pass 4294967295 or its hashes do not
 /// strictly ascend. `InvalidShard` too if files that have to be combined differ in their count of
-/// segments, or the rows of a section of the union pass 4294967295. Else the error is a device's, or
-/// `OutOfMemory` if an allocation fails.
+/// segments, or the rows of a section of the union pass 4294967295. Else the error is a device's,
+/// or `OutOfMemory` if an allocation fails.
 pub fn shard_set_union<S: ShardSource, T: ShardSource, W: Write>(
     alloc: Global,
     s1: &MDBShardInfo,
@@ -47,14 +47,19 @@ pub fn shard_set_union<S: ShardSource, T: ShardSource, W: Write>(
     out: &mut W,
 ) -> Result<MDBShardInfo>
     ensures written { MatchResult result
-        (WritesResult IsByteUnion (S.meaning r1.old).bytes s1.now (T.meaning r2.old).bytes s2.now (W.contents out.old) (W.contents out.new))
-        (λ e. IsDeviceError e ⊎ InputsFail (S.meaning r1.old) (S.meaning r1.new) (T.meaning r2.old) (T.meaning r2.new)
+        (WritesResult IsByteUnion (S.meaning r1.old).bytes s1.now (T.meaning r2.old).bytes s2.now
+        (W.contents out.old) (W.contents out.new))
+        (λ e. IsDeviceError e
+        ⊎ InputsFail (S.meaning r1.old) (S.meaning r1.new) (T.meaning r2.old) (T.meaning r2.new)
         (UnionRefusal (S.meaning r1.old).bytes s1.now (T.meaning r2.old).bytes s2.now) e) }
     ensures untouched { key_of s1.now ≢ key_of s2.now
-        → (S.meaning r1.new ≡ S.meaning r1.old) × (T.meaning r2.new ≡ T.meaning r2.old) × (W.contents out.new ≡ W.contents out.old) }
+        → (S.meaning r1.new ≡ S.meaning r1.old) × (T.meaning r2.new ≡ T.meaning r2.old)
+        × (W.contents out.new ≡ W.contents out.old) }
     ensures in_form { IfOk result
-        (WritesInForm IsByteUnion (S.meaning r1.old).bytes s1.now (T.meaning r2.old).bytes s2.now (W.contents out.old) (W.contents out.new)) }
-    ensures sources { ((S.meaning r1.new).bytes ≡ (S.meaning r1.old).bytes) × ((T.meaning r2.new).bytes ≡ (T.meaning r2.old).bytes) }
+        (WritesInForm IsByteUnion (S.meaning r1.old).bytes s1.now (T.meaning r2.old).bytes s2.now
+        (W.contents out.old) (W.contents out.new)) }
+    ensures sources { ((S.meaning r1.new).bytes ≡ (S.meaning r1.old).bytes)
+        × ((T.meaning r2.new).bytes ≡ (T.meaning r2.old).bytes) }
     ensures widths { IfOk result (λ info. FitsFooter info.metadata) }
 {
     Ok(operate::<OfUnion, S, T, W>(alloc, s1, r1, s2, r2, out)?)
@@ -75,14 +80,20 @@ pub fn shard_set_difference<S: ShardSource, T: ShardSource, W: Write>(
     out: &mut W,
 ) -> Result<MDBShardInfo>
     ensures written { MatchResult result
-        (WritesResult IsDifference (S.meaning r1.old).bytes s1.now (T.meaning r2.old).bytes s2.now (W.contents out.old) (W.contents out.new))
-        (λ e. IsDeviceError e ⊎ InputsFail (S.meaning r1.old) (S.meaning r1.new) (T.meaning r2.old) (T.meaning r2.new)
-        (DifferenceRefusal (S.meaning r1.old).bytes s1.now (T.meaning r2.old).bytes s2.now) e) }
+        (WritesResult IsDifference (S.meaning r1.old).bytes s1.now (T.meaning r2.old).bytes s2.now
+        (W.contents out.old) (W.contents out.new))
+        (λ e. IsDeviceError e
+        ⊎ InputsFail (S.meaning r1.old) (S.meaning r1.new) (T.meaning r2.old) (T.meaning r2.new)
+        (DifferenceRefusal (S.meaning r1.old).bytes s1.now (T.meaning r2.old).bytes s2.now)
+        e) }
     ensures untouched { key_of s1.now ≢ key_of s2.now
-        → (S.meaning r1.new ≡ S.meaning r1.old) × (T.meaning r2.new ≡ T.meaning r2.old) × (W.contents out.new ≡ W.contents out.old) }
+        → (S.meaning r1.new ≡ S.meaning r1.old) × (T.meaning r2.new ≡ T.meaning r2.old)
+        × (W.contents out.new ≡ W.contents out.old) }
     ensures in_form { IfOk result
-        (WritesInForm IsDifference (S.meaning r1.old).bytes s1.now (T.meaning r2.old).bytes s2.now (W.contents out.old) (W.contents out.new)) }
-    ensures sources { ((S.meaning r1.new).bytes ≡ (S.meaning r1.old).bytes) × ((T.meaning r2.new).bytes ≡ (T.meaning r2.old).bytes) }
+        (WritesInForm IsDifference (S.meaning r1.old).bytes s1.now (T.meaning r2.old).bytes s2.now
+        (W.contents out.old) (W.contents out.new)) }
+    ensures sources { ((S.meaning r1.new).bytes ≡ (S.meaning r1.old).bytes)
+        × ((T.meaning r2.new).bytes ≡ (T.meaning r2.old).bytes) }
     ensures widths { IfOk result (λ info. FitsFooter info.metadata) }
 {
     Ok(operate::<OfDifference, S, T, W>(alloc, s1, r1, s2, r2, out)?)
@@ -95,9 +106,9 @@ pub enum MergePlan {
     Both(Box<MergePlan>, Box<MergePlan>),
 }
 
-/// Unites the inputs at the leaves of a tree: a leaf is a copy of its input, and each inner node the
-/// union of what its left and its right side give. So inputs that agree give one string of bytes,
-/// whatever the shape of the tree, and the order and the repetition of its leaves.
+/// Unites the inputs at the leaves of a tree: a leaf is a copy of its input, and each inner node
+/// the union of what its left and its right side give. So inputs that agree give one string of
+/// bytes, whatever the shape of the tree, and the order and the repetition of its leaves.
 ///
 /// `InvalidArguments` if a leaf has no input, and else the error of the first union that fails:
 /// `ShardVersion` or `UnexpectedEof` if a header or a footer is unsupported or cut short, or one of
@@ -133,8 +144,10 @@ fn merge(alloc: Global, plan: &MergePlan, inputs: &[&[u8]]) -> Result<Vec<u8>>
 
 // A copy of the input at an index.
 fn copy_input(alloc: Global, inputs: &[&[u8]], index: usize) -> Result<Vec<u8>>
-    ensures { MatchResult result (λ bytes. slice_get (map (λ x. x.now) inputs.now) index ≡ Some bytes.items)
-        (λ e. ((e ≡ CoreError.InvalidArguments) × (length (map (λ x. x.now) inputs.now) ≤ index)) ⊎ (e ≡ CoreError.OutOfMemory)) }
+    ensures { MatchResult result
+        (λ bytes. slice_get (map (λ x. x.now) inputs.now) index ≡ Some bytes.items)
+        (λ e. ((e ≡ CoreError.InvalidArguments) × (length (map (λ x. x.now) inputs.now) ≤ index))
+        ⊎ (e ≡ CoreError.OutOfMemory)) }
 {
     if index >= inputs.len() {
         return Err(CoreError::InvalidArguments);
@@ -144,7 +157,8 @@ fn copy_input(alloc: Global, inputs: &[&[u8]], index: usize) -> Result<Vec<u8>>
 
 // The bytes of the union of two shards.
 fn unite_bytes(alloc: Global, first: &[u8], second: &[u8]) -> Result<Vec<u8>>
-    ensures { MatchResult result (λ bytes. UnitesBytes first.now second.now bytes.items) (BytesRefusal first.now second.now) }
+    ensures { MatchResult result (λ bytes. UnitesBytes first.now second.now bytes.items)
+        (BytesRefusal first.now second.now) }
 {
     let mut r1 = MemorySource::new(first);
     let mut r2 = MemorySource::new(second);

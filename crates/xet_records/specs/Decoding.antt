@@ -21,7 +21,13 @@ u64_at bytes at = from_le_bytes w64 (take 8 (drop at bytes))
 
 -- the hash that bytes begin with
 abbrev pub hash_at : List ℕ → DataHash
-hash_at bytes = record { word0 = u64_at bytes 0; word1 = u64_at bytes 8; word2 = u64_at bytes 16; word3 = u64_at bytes 24 }
+hash_at bytes =
+    record {
+      word0 = u64_at bytes 0;
+      word1 = u64_at bytes 8;
+      word2 = u64_at bytes 16;
+      word3 = u64_at bytes 24;
+    }
 
 -- the row that bytes begin with
 unfoldable pub segment_at : List ℕ → FileDataSequenceEntry
@@ -34,10 +40,12 @@ segment_at bytes = record {
 }
 
 unfoldable pub verification_at : List ℕ → FileVerificationEntry
-verification_at bytes = record { range_hash = hash_at bytes; _unused = u64_at bytes 32 ∷ u64_at bytes 40 ∷ [] }
+verification_at bytes =
+    record { range_hash = hash_at bytes; _unused = u64_at bytes 32 ∷ u64_at bytes 40 ∷ [] }
 
 unfoldable pub metadata_at : List ℕ → FileMetadataExt
-metadata_at bytes = record { sha256 = hash_at bytes; _unused = u64_at bytes 32 ∷ u64_at bytes 40 ∷ [] }
+metadata_at bytes =
+    record { sha256 = hash_at bytes; _unused = u64_at bytes 32 ∷ u64_at bytes 40 ∷ [] }
 
 unfoldable pub chunk_at : List ℕ → XorbChunkSequenceEntry
 chunk_at bytes = record {
@@ -63,8 +71,10 @@ file_at header bytes =
       segments = rows_at segment_at segments (drop 48 bytes);
       verification = rows_at verification_at verification (drop (48 * segments) (drop 48 bytes));
       metadata_ext =
-          if has_metadata_ext header.file_flags then Some (metadata_at (drop (48 * verification) (drop (48 * segments) (drop 48 bytes)))) else None;
+          if has_metadata_ext header.file_flags then Some
+          (metadata_at (drop (48 * verification) (drop (48 * segments) (drop 48 bytes)))) else None;
     }
 
 unfoldable pub xorb_at : XorbChunkSequenceHeader → List ℕ → MDBXorbInfo
-xorb_at header bytes = record { metadata = header; chunks = rows_at chunk_at header.num_entries (drop 48 bytes) }
+xorb_at header bytes =
+    record { metadata = header; chunks = rows_at chunk_at header.num_entries (drop 48 bytes) }

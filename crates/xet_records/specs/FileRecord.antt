@@ -17,7 +17,8 @@ has_metadata_ext flags = bit_at flags 30 == 1
 
 -- the flags that announce these parts and nothing else
 abbrev pub flags_of : Bool → Bool → ℕ
-flags_of verification metadata_ext = (if verification then 2147483648 else 0) + (if metadata_ext then 1073741824 else 0)
+flags_of verification metadata_ext =
+    (if verification then 2147483648 else 0) + (if metadata_ext then 1073741824 else 0)
 
 -- the header that ends a section: the all-ones hash, all else zero
 abbrev pub file_bookend : FileDataSequenceHeader
@@ -26,7 +27,8 @@ file_bookend = record { file_hash = all_ones; file_flags = 0; num_entries = 0; _
 -- the rows that a header announces after it
 abbrev pub rows_after : FileDataSequenceHeader → ℕ
 rows_after h =
-    h.num_entries + (if has_verification h.file_flags then h.num_entries else 0) + (if has_metadata_ext h.file_flags then 1 else 0)
+    h.num_entries + (if has_verification h.file_flags then h.num_entries else 0)
+    + (if has_metadata_ext h.file_flags then 1 else 0)
 
 -- the rows of a record, its header included
 abbrev pub row_count : MDBFileInfo → ℕ
@@ -34,7 +36,9 @@ row_count r = 1 + length r.segments + length r.verification + length (option_to_
 
 -- the rows of a record after its header, in order: segments, verification rows, metadata row
 unfoldable pub file_rows_bytes : MDBFileInfo → List ℕ
-file_rows_bytes r = (flat_map segment_row r.segments ++ flat_map verification_row r.verification) ++ flat_map metadata_row (option_to_list r.metadata_ext)
+file_rows_bytes r =
+    (flat_map segment_row r.segments ++ flat_map verification_row r.verification)
+    ++ flat_map metadata_row (option_to_list r.metadata_ext)
 
 -- the rows of a record in order
 unfoldable pub file_record_bytes : MDBFileInfo → List ℕ
@@ -47,7 +51,8 @@ size_of_file r = sum_by (λ s. s.unpacked_segment_bytes) r.segments
 -- a record has the parts that its header announces
 pub record FitsItsHeader (r : MDBFileInfo) : Type 0 where
   pub segments : length r.segments ≡ r.metadata.num_entries
-  pub verification : length r.verification ≡ (if has_verification r.metadata.file_flags then r.metadata.num_entries else 0)
+  pub verification : length r.verification
+      ≡ (if has_verification r.metadata.file_flags then r.metadata.num_entries else 0)
   pub metadata_ext : is_some r.metadata_ext ≡ has_metadata_ext r.metadata.file_flags
 
 -- the widths of a record's numbers
@@ -65,7 +70,11 @@ pub record IsStored (r : MDBFileInfo) : Type 0 where
 
 -- a record as reading hands it out: reserved words of verification and metadata rows are zero
 abbrev pub handed_out : MDBFileInfo → MDBFileInfo
-handed_out r = record r { verification = map clear_verification r.verification; metadata_ext = option_map clear_metadata r.metadata_ext }
+handed_out r =
+    record r {
+      verification = map clear_verification r.verification;
+      metadata_ext = option_map clear_metadata r.metadata_ext;
+    }
 
 -- a record that may be put into a shard
 pub record IsWellFormed (r : MDBFileInfo) : Type 0 where

@@ -9,12 +9,16 @@ use Rattle.xet_records.specs.declared.file_structs.rows.FileMetadataExt.{FileMet
 
 -- the header: the file's hash, its flags, the number of segments and a reserved word
 unfoldable pub header_row : FileDataSequenceHeader → List ℕ
-header_row h = ((hash_bytes h.file_hash ++ u32_bytes h.file_flags) ++ u32_bytes h.num_entries) ++ u64_bytes h._unused
+header_row h =
+    ((hash_bytes h.file_hash ++ u32_bytes h.file_flags) ++ u32_bytes h.num_entries)
+    ++ u64_bytes h._unused
 
--- a segment: the xorb's hash and flags, the bytes of the segment, its first chunk and the one after its last
+-- a segment: the xorb's hash and flags, the bytes of the segment, its first chunk and the one after
+-- its last
 unfoldable pub segment_row : FileDataSequenceEntry → List ℕ
 segment_row s =
-    (((hash_bytes s.xorb_hash ++ u32_bytes s.xorb_flags) ++ u32_bytes s.unpacked_segment_bytes) ++ u32_bytes s.chunk_index_start)
+    (((hash_bytes s.xorb_hash ++ u32_bytes s.xorb_flags) ++ u32_bytes s.unpacked_segment_bytes)
+    ++ u32_bytes s.chunk_index_start)
     ++ u32_bytes s.chunk_index_end
 
 -- a verification row: the hash of a segment's chunks and two reserved words

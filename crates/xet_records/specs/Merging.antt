@@ -36,7 +36,9 @@ merged a b =
     let takes_verification = verified b && not (verified a) in
     let takes_metadata_ext = described b && not (described a) in
     record {
-      metadata = record a.metadata { file_flags = a.metadata.file_flags + flags_of takes_verification takes_metadata_ext };
+      metadata =
+          record a.metadata
+          { file_flags = a.metadata.file_flags + flags_of takes_verification takes_metadata_ext };
       segments = a.segments;
       verification = if takes_verification then b.verification else a.verification;
       metadata_ext = if takes_metadata_ext then b.metadata_ext else a.metadata_ext;
@@ -48,10 +50,13 @@ pub record Agree (a b : MDBFileInfo) : Type 0 where
   pub verification : IsTrue (verified a) → IsTrue (verified b) → a.verification ≡ b.verification
   pub metadata_ext : IsTrue (described a) → IsTrue (described b) → a.metadata_ext ≡ b.metadata_ext
 
--- the record that has each part that `a` or `b` has; its flags announce these parts and nothing else
+-- the record that has each part that `a` or `b` has; its flags announce these parts and nothing
+-- else
 abbrev pub joined : MDBFileInfo → MDBFileInfo → MDBFileInfo
 joined a b = record {
-  metadata = record a.metadata { file_flags = flags_of (verified a || verified b) (described a || described b) };
+  metadata =
+      record a.metadata
+      { file_flags = flags_of (verified a || verified b) (described a || described b) };
   segments = a.segments;
   verification = if verified a then a.verification else b.verification;
   metadata_ext = if described a then a.metadata_ext else b.metadata_ext;

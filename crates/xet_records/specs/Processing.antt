@@ -9,9 +9,12 @@ use Rattle.xet_records.specs.RecordKind.{RecordKind}
 use Rattle.xet_records.specs.Reading.{ReadsBookend, Stops}
 use Rattle.xet_records.specs.ViewReading.{CountsStored}
 
--- `step` says what a call of the function with a view returns, and what it makes of the function: records were read,
--- their rows counted down from 4294967295, and the function was called with each and accepted it
-pub record HasProcessed {H R V F : Type 0} (K : RecordKind H R) (record_of : V → R) (Took : List ℕ → Type 0) (step : F → V → CoreResult (Unit {0}) → F → Type 0) (old new : F) (left : ℕ) : Type 0 where
+-- `step` says what a call of the function with a view returns, and what it makes of the function:
+-- records were read, their rows counted down from 4294967295, and the function was called with each
+-- and accepted it
+pub record HasProcessed {H R V F : Type 0} (K : RecordKind H R) (record_of : V → R)
+    (Took : List ℕ → Type 0) (step : F → V → CoreResult (Unit {0}) → F → Type 0) (old new : F)
+    (left : ℕ) : Type 0 where
   pub given : List V
   pub are_stored : All (λ view. K.IsStored (record_of view)) given
   pub taken : Took (flat_map (λ view. K.record_bytes (record_of view)) given)
@@ -19,7 +22,8 @@ pub record HasProcessed {H R V F : Type 0} (K : RecordKind H R) (record_of : V �
   pub calls : FoldsTo (λ before view after. step before view (Ok tt) after) old given new
 
 -- an input says that bytes were read between two of its states, and that reading failed
-module _ {H R V F I : Type 0} (K : RecordKind H R) (record_of : V → R) (reads : I → I → List ℕ → Type 0) (fails : I → I → ℕ → CoreError → Type 0)
+module _ {H R V F I : Type 0} (K : RecordKind H R) (record_of : V → R)
+    (reads : I → I → List ℕ → Type 0) (fails : I → I → ℕ → CoreError → Type 0)
     (step : F → V → CoreResult (Unit {0}) → F → Type 0) where
   -- the function accepted each record of a section, and the bookend was read
   pub record ProcessesSection (old new : I) (first last : F) : Type 0 where
@@ -46,11 +50,16 @@ module _ {H R V F I : Type 0} (K : RecordKind H R) (record_of : V → R) (reads 
     pub records : HasProcessed K record_of (reads old mid) step first last left
     pub stops : Stops K reads fails left mid new e
 
--- the same of a reader that has these bytes left: every record was accepted; or one was refused, by the error that is
--- returned; or one was not read
-abbrev pub Processes : {H R F : Type 0} → RecordKind H R → (F → R → CoreResult (Unit {0}) → F → Type 0) → Option (List ℕ) → Option (List ℕ) → F → F
+-- the same of a reader that has these bytes left: every record was accepted; or one was refused, by
+-- the error that is returned; or one was not read
+abbrev pub Processes : {H R F : Type 0} → RecordKind H R
+    → (F → R → CoreResult (Unit {0}) → F → Type 0) → Option (List ℕ) → Option (List ℕ) → F → F
     → CoreResult (Unit {0}) → Type 0
-Processes K step old new first last result = MatchResult result
-    (λ _. ProcessesSection K (λ r. r) Consumes (λ before after n e. ReaderFails before n e) step old new first last)
-    (λ e. RefusesRecord K (λ r. r) Consumes (λ before after n e. ReaderFails before n e) step old new first last e
-    ⊎ StopsReading K (λ r. r) Consumes (λ before after n e. ReaderFails before n e) step old new first last e)
+Processes K step old new first last result =
+    MatchResult result
+    (λ _. ProcessesSection K (λ r. r) Consumes (λ before after n e. ReaderFails before n e) step old
+    new first last)
+    (λ e. RefusesRecord K (λ r. r) Consumes (λ before after n e. ReaderFails before n e) step old
+    new first last e
+    ⊎ StopsReading K (λ r. r) Consumes (λ before after n e. ReaderFails before n e) step old new
+    first last e)

@@ -1,5 +1,5 @@
--- What the bytes at the front of an input are to a reader of records: a bookend, a whole record, a record that
--- is cut short, or a header that announces more than 4294967295 rows.
+-- What the bytes at the front of an input are to a reader of records: a bookend, a whole record, a
+-- record that is cut short, or a header that announces more than 4294967295 rows.
 use Rattle.std.specs.Prelude.{◌≡◌, ◌≢◌, ◌⊎◌, ℕ, ◌+◌, ◌*◌, ◌<◌, ◌≤◌, List, ◌++◌, length, map, flat_map, sum_by, All, Option, MatchOption}
 use Rattle.xet_base.specs.declared.error.CoreError.{CoreError}
 use Rattle.xet_base.specs.Table.{IsBareInvalidShard}
@@ -14,19 +14,22 @@ pub record ReadsBookend {H R : Type 0} (K : RecordKind H R) (Took : List ℕ →
   pub taken : Took (K.header_bytes header)
 
 -- the header of a record was read
-pub record ReadsHeader {H R : Type 0} (K : RecordKind H R) (Took : List ℕ → Type 0) (header : H) : Type 0 where
+pub record ReadsHeader {H R : Type 0} (K : RecordKind H R) (Took : List ℕ → Type 0) (header : H)
+    : Type 0 where
   pub widths : K.Fits header
   pub is_record : K.hash_of header ≢ all_ones
   pub taken : Took (K.header_bytes header)
 
 -- the same, and the record's rows counted down from those that were left
-pub record CountsHeader {H R : Type 0} (K : RecordKind H R) (Took : List ℕ → Type 0) (left after : ℕ) (header : H) : Type 0 where
+pub record CountsHeader {H R : Type 0} (K : RecordKind H R) (Took : List ℕ → Type 0)
+    (left after : ℕ) (header : H) : Type 0 where
   pub read : ReadsHeader K Took header
   pub rows : after + (1 + K.rows_after header) ≡ left
 
--- the rows after a header were read: those of a stored record unless the header is a bookend; `found` is returned
--- for it
-pub record ReadsRowsAfter {H R : Type 0} (K : RecordKind H R) (header : H) (Took : List ℕ → Type 0) (found : R) : Type 0 where
+-- the rows after a header were read: those of a stored record unless the header is a bookend;
+-- `found` is returned for it
+pub record ReadsRowsAfter {H R : Type 0} (K : RecordKind H R) (header : H) (Took : List ℕ → Type 0)
+    (found : R) : Type 0 where
   pub stored : R
   pub same_header : K.header_of stored ≡ header
   pub is_stored : K.hash_of header ≢ all_ones → K.Fits header → K.IsStored stored
@@ -35,7 +38,8 @@ pub record ReadsRowsAfter {H R : Type 0} (K : RecordKind H R) (header : H) (Took
   pub handed : K.handed_out stored ≡ found
 
 -- a stored record was read, and `found` returned for it
-pub record ReadsRecord {H R : Type 0} (K : RecordKind H R) (Took : List ℕ → Type 0) (found : R) : Type 0 where
+pub record ReadsRecord {H R : Type 0} (K : RecordKind H R) (Took : List ℕ → Type 0) (found : R)
+    : Type 0 where
   pub stored : R
   pub is_stored : K.IsStored stored
   pub rows : K.rows_after (K.header_of stored) ≤ 4294967295
@@ -43,41 +47,51 @@ pub record ReadsRecord {H R : Type 0} (K : RecordKind H R) (Took : List ℕ → 
   pub handed : K.handed_out stored ≡ found
 
 -- the same, and its rows counted down from those that were left
-pub record CountsRecord {H R : Type 0} (K : RecordKind H R) (Took : List ℕ → Type 0) (left after : ℕ) (found : R) : Type 0 where
+pub record CountsRecord {H R : Type 0} (K : RecordKind H R) (Took : List ℕ → Type 0)
+    (left after : ℕ) (found : R) : Type 0 where
   pub reads : ReadsRecord K Took found
   pub rows : after + (1 + K.rows_after (K.header_of found)) ≡ left
 
 -- the header of the next record was read, or a bookend; and the same of the whole record
-abbrev pub ReadsNextHeader : {H R : Type 0} → RecordKind H R → (List ℕ → Type 0) → ℕ → ℕ → Option H → Type 0
-ReadsNextHeader K Took left after found = MatchOption found (ReadsBookend K Took) (CountsHeader K Took left after)
+abbrev pub ReadsNextHeader : {H R : Type 0} → RecordKind H R → (List ℕ → Type 0) → ℕ → ℕ → Option H
+    → Type 0
+ReadsNextHeader K Took left after found =
+    MatchOption found (ReadsBookend K Took) (CountsHeader K Took left after)
 
-abbrev pub ReadsNextRecord : {H R : Type 0} → RecordKind H R → (List ℕ → Type 0) → ℕ → ℕ → Option R → Type 0
-ReadsNextRecord K Took left after found = MatchOption found (ReadsBookend K Took) (CountsRecord K Took left after)
+abbrev pub ReadsNextRecord : {H R : Type 0} → RecordKind H R → (List ℕ → Type 0) → ℕ → ℕ → Option R
+    → Type 0
+ReadsNextRecord K Took left after found =
+    MatchOption found (ReadsBookend K Took) (CountsRecord K Took left after)
 
 -- records were read, and their rows counted down from 4294967295; `found` is returned for them
-pub record HasRead {H R : Type 0} (K : RecordKind H R) (Took : List ℕ → Type 0) (found : List R) (left : ℕ) : Type 0 where
+pub record HasRead {H R : Type 0} (K : RecordKind H R) (Took : List ℕ → Type 0) (found : List R)
+    (left : ℕ) : Type 0 where
   pub stored : List R
   pub are_stored : All K.IsStored stored
   pub taken : Took (flat_map K.record_bytes stored)
   pub rows : sum_by K.row_count stored + left ≡ 4294967295
   pub handed : map K.handed_out stored ≡ found
 
--- an input says of some bytes that they were read between two of its states: the records of a section were read, and
--- the bookend after them
-pub record ReadsRecords {H R I : Type 0} (K : RecordKind H R) (reads : I → I → List ℕ → Type 0) (old new : I) (found : List R) : Type 0 where
+-- an input says of some bytes that they were read between two of its states: the records of a
+-- section were read, and the bookend after them
+pub record ReadsRecords {H R I : Type 0} (K : RecordKind H R) (reads : I → I → List ℕ → Type 0)
+    (old new : I) (found : List R) : Type 0 where
   pub mid : I
   pub left : ℕ
   pub records : HasRead K (reads old mid) found left
   pub bookend : ReadsBookend K (reads mid new)
 
 -- it also says that reading up to so many bytes failed
-module _ {H R I : Type 0} (K : RecordKind H R) (reads : I → I → List ℕ → Type 0) (fails : I → I → ℕ → CoreError → Type 0) where
-  -- why the next record was not read: its header was not, or announces more rows than are left, or these rows were not
+module _ {H R I : Type 0} (K : RecordKind H R) (reads : I → I → List ℕ → Type 0)
+    (fails : I → I → ℕ → CoreError → Type 0) where
+  -- why the next record was not read: its header was not, or announces more rows than are left, or
+  -- these rows were not
   pub data Stops (left : ℕ) (old new : I) (e : CoreError) : Type 0 where
     no_header : fails old new 48 e → Stops left old new e
-    too_many_rows : (header : H) → ReadsHeader K (reads old new) header → left < 1 + K.rows_after header → IsBareInvalidShard e → Stops left old new e
-    no_rows : (header : H) (mid : I) (after : ℕ) → CountsHeader K (reads old mid) left after header → fails mid new (48 * K.rows_after header) e
-        → Stops left old new e
+    too_many_rows : (header : H) → ReadsHeader K (reads old new) header
+        → left < 1 + K.rows_after header → IsBareInvalidShard e → Stops left old new e
+    no_rows : (header : H) (mid : I) (after : ℕ) → CountsHeader K (reads old mid) left after header
+        → fails mid new (48 * K.rows_after header) e → Stops left old new e
 
   -- records of a section were read, and the one after them was not
   pub record StopsAfter (old new : I) (e : CoreError) : Type 0 where
@@ -88,7 +102,8 @@ module _ {H R I : Type 0} (K : RecordKind H R) (reads : I → I → List ℕ →
     pub stops : Stops left mid new e
 
 -- the bytes begin with the header of a record, not with a bookend
-pub record BeginsWithHeader {H R : Type 0} (K : RecordKind H R) (bytes : List ℕ) (header : H) (rest : List ℕ) : Type 0 where
+pub record BeginsWithHeader {H R : Type 0} (K : RecordKind H R) (bytes : List ℕ) (header : H)
+    (rest : List ℕ) : Type 0 where
   pub widths : K.Fits header
   pub is_record : K.hash_of header ≢ all_ones
   pub bytes_are : bytes ≡ K.header_bytes header ++ rest
@@ -105,9 +120,11 @@ module _ {H R : Type 0} (K : RecordKind H R) where
   -- a header, not a bookend, whose record has more rows than are left
   abbrev pub PassesLimit : ℕ → List ℕ → Type 0
   PassesLimit left bytes =
-      (header : H) × (rest : List ℕ) × BeginsWithHeader K bytes header rest × (left < 1 + K.rows_after header)
+      (header : H) × (rest : List ℕ) × BeginsWithHeader K bytes header rest
+      × (left < 1 + K.rows_after header)
 
-  -- the bytes end before a header is complete, or before the rows of a record that has no more than are left
+  -- the bytes end before a header is complete, or before the rows of a record that has no more than
+  -- are left
   abbrev pub EndsEarly : ℕ → List ℕ → Type 0
   EndsEarly left bytes =
       (length bytes < 48)

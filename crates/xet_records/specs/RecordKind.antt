@@ -28,20 +28,25 @@ pub record RecordKind (Header Record : Type 0) : Type 1 where
 -- what both kinds have in common: sizes, and that bytes determine what is at their front
 pub record KindLaws {H R : Type 0} (K : RecordKind H R) : Type 0 where
   pub header_size : (h : H) → length (K.header_bytes h) ≡ 48
-  pub header_front : (g h : H) (x y : List ℕ) → K.Fits g → K.Fits h → K.header_bytes g ++ x ≡ K.header_bytes h ++ y → (g ≡ h) × (x ≡ y)
+  pub header_front : (g h : H) (x y : List ℕ) → K.Fits g → K.Fits h
+      → K.header_bytes g ++ x ≡ K.header_bytes h ++ y → (g ≡ h) × (x ≡ y)
   pub bookend_fits : K.Fits K.bookend
   pub bookend_hash : K.hash_of K.bookend ≡ all_ones
-  pub record_bytes_are : (r : R) → K.record_bytes r ≡ K.header_bytes (K.header_of r) ++ K.bytes_after r
-  pub size_after : (r : R) → K.IsStored r → length (K.bytes_after r) ≡ 48 * K.rows_after (K.header_of r)
+  pub record_bytes_are : (r : R)
+      → K.record_bytes r ≡ K.header_bytes (K.header_of r) ++ K.bytes_after r
+  pub size_after : (r : R) → K.IsStored r
+      → length (K.bytes_after r) ≡ 48 * K.rows_after (K.header_of r)
   pub rows : (r : R) → K.IsStored r → K.row_count r ≡ 1 + K.rows_after (K.header_of r)
   pub header_fits : (r : R) → K.IsStored r → K.Fits (K.header_of r)
   pub is_record : (r : R) → K.IsStored r → K.hash_of (K.header_of r) ≢ all_ones
   pub same_header : (r : R) → K.header_of (K.handed_out r) ≡ K.header_of r
   pub same_rows : (r : R) → K.row_count (K.handed_out r) ≡ K.row_count r
-  pub front : (r s : R) (x y : List ℕ) → K.IsStored r → K.IsStored s → K.record_bytes r ++ x ≡ K.record_bytes s ++ y → (r ≡ s) × (x ≡ y)
+  pub front : (r s : R) (x y : List ℕ) → K.IsStored r → K.IsStored s
+      → K.record_bytes r ++ x ≡ K.record_bytes s ++ y → (r ≡ s) × (x ≡ y)
 
 -- a type of rows is that of the headers of a kind, which reading returns as they are stored
-pub record IsHeaderRow {H R : Type 0} (K : RecordKind H R) (row_bytes : H → List ℕ) (Fits : H → Type 0) (handed_out : H → H) : Type 0 where
+pub record IsHeaderRow {H R : Type 0} (K : RecordKind H R) (row_bytes : H → List ℕ)
+    (Fits : H → Type 0) (handed_out : H → H) : Type 0 where
   pub bytes : (h : H) → row_bytes h ≡ K.header_bytes h
   pub widths : (h : H) → Fits h → K.Fits h
   pub same : (h : H) → handed_out h ≡ h

@@ -1,5 +1,6 @@
--- What reading rows takes from an input. A type of rows has the bytes of a stored row, the widths of its
--- numbers, and the row that reading hands out for a stored one; an input says of some bytes that it took them.
+-- What reading rows takes from an input. A type of rows has the bytes of a stored row, the widths
+-- of its numbers, and the row that reading hands out for a stored one; an input says of some bytes
+-- that it took them.
 use Rattle.std.specs.Prelude.{◌≡◌, ℕ, ◌*◌, Bool, List, length, map, flat_map, All, Option, is_some, IfSome, option_map, option_to_list, if◌then◌else◌}
 use Rattle.std.specs.Io.KnownBytes.{Appends, Consumes}
 use Rattle.std.specs.IoError.{error_kind}
@@ -8,7 +9,8 @@ use Rattle.std.specs.declared.io.ErrorKind.TheVariants.{UnexpectedEof}
 use Rattle.xet_base.specs.Bytes.{HasBytes, LacksBytes}
 
 -- a stored row was read, and `row` returned for it
-pub record ReadsRow {T : Type 0} (row_bytes : T → List ℕ) (Fits : T → Type 0) (handed_out : T → T) (Took : List ℕ → Type 0) (row : T) : Type 0 where
+pub record ReadsRow {T : Type 0} (row_bytes : T → List ℕ) (Fits : T → Type 0) (handed_out : T → T)
+    (Took : List ℕ → Type 0) (row : T) : Type 0 where
   pub stored : T
   pub widths : Fits stored
   pub size : length (row_bytes stored) ≡ 48
@@ -16,7 +18,8 @@ pub record ReadsRow {T : Type 0} (row_bytes : T → List ℕ) (Fits : T → Type
   pub handed : handed_out stored ≡ row
 
 -- `count` stored rows were read, and `rows` returned for them
-pub record ReadsRows {T : Type 0} (row_bytes : T → List ℕ) (Fits : T → Type 0) (handed_out : T → T) (Took : List ℕ → Type 0) (count : ℕ) (rows : List T) : Type 0 where
+pub record ReadsRows {T : Type 0} (row_bytes : T → List ℕ) (Fits : T → Type 0) (handed_out : T → T)
+    (Took : List ℕ → Type 0) (count : ℕ) (rows : List T) : Type 0 where
   pub stored : List T
   pub len : length stored ≡ count
   pub widths : All Fits stored
@@ -25,7 +28,8 @@ pub record ReadsRows {T : Type 0} (row_bytes : T → List ℕ) (Fits : T → Typ
   pub handed : map handed_out stored ≡ rows
 
 -- a stored row was read if it was wanted, and `row` returned for it
-pub record ReadsOptional {T : Type 0} (row_bytes : T → List ℕ) (Fits : T → Type 0) (handed_out : T → T) (Took : List ℕ → Type 0) (wanted : Bool) (row : Option T) : Type 0 where
+pub record ReadsOptional {T : Type 0} (row_bytes : T → List ℕ) (Fits : T → Type 0)
+    (handed_out : T → T) (Took : List ℕ → Type 0) (wanted : Bool) (row : Option T) : Type 0 where
   pub stored : Option T
   pub present : is_some stored ≡ wanted
   pub widths : IfSome stored Fits
@@ -39,13 +43,15 @@ pub record WritesRow (old new : Option (List ℕ)) (row_bytes : List ℕ) (n : �
   pub count : n ≡ 48
 
 -- a row was read with all its fields from a reader that had so many bytes
-pub record ReadsWhole {T : Type 0} (row_bytes : T → List ℕ) (Fits : T → Type 0) (old new : Option (List ℕ)) (row : T) : Type 0 where
+pub record ReadsWhole {T : Type 0} (row_bytes : T → List ℕ) (Fits : T → Type 0)
+    (old new : Option (List ℕ)) (row : T) : Type 0 where
   pub value : Consumes old new (row_bytes row)
   pub widths : Fits row
   pub enough : HasBytes old 48
 
 -- a row was read from such a reader, and its reserved words cleared
-pub record ReadsCleared {T : Type 0} (row_bytes : T → List ℕ) (Fits : T → Type 0) (cleared : T → T) (old new : Option (List ℕ)) (row : T) : Type 0 where
+pub record ReadsCleared {T : Type 0} (row_bytes : T → List ℕ) (Fits : T → Type 0) (cleared : T → T)
+    (old new : Option (List ℕ)) (row : T) : Type 0 where
   pub value : ReadsRow row_bytes Fits cleared (Consumes old new) row
   pub enough : HasBytes old 48
 

@@ -1,4 +1,5 @@
--- What some bytes are to a view: the record that they begin with, whatever follows it, or why they begin with none.
+-- What some bytes are to a view: the record that they begin with, whatever follows it, or why they
+-- begin with none.
 use Rattle.std.specs.Prelude.{◌≡◌, ◌≢◌, ◌⊎◌, ℕ, ◌+◌, ◌*◌, ◌<◌, ◌≤◌, Bool, false, not, ◌&&◌, IsTrue, List, [], ◌∷◌, ◌++◌, length, slice_get, Some, if◌then◌else◌}
 use Rattle.std.specs.IoError.{error_kind}
 use Rattle.std.specs.declared.io.ErrorKind.TheVariants.{Other}
@@ -14,7 +15,8 @@ use Rattle.xet_records.specs.RecordKind.{RecordKind}
 use Rattle.xet_records.specs.FileRecord.{has_verification, has_metadata_ext, flags_of, FitsItsHeader, FitsRecord, file_records}
 use Rattle.xet_records.specs.XorbRecord.{end_of_chunk, HasItsChunks, FitsXorb, xorb_records}
 
--- a record that has the parts that its header announces, with its numbers within their widths; its hash may be all-ones
+-- a record that has the parts that its header announces, with its numbers within their widths; its
+-- hash may be all-ones
 pub record IsWholeFile (r : MDBFileInfo) : Type 0 where
   pub parts : FitsItsHeader r
   pub widths : FitsRecord r
@@ -24,13 +26,15 @@ pub record IsWholeXorb (r : MDBXorbInfo) : Type 0 where
   pub widths : FitsXorb r
 
 -- the bytes begin with the bytes of this header, which may be a bookend's
-pub record BeginsWithHeaderRow {H R : Type 0} (K : RecordKind H R) (bytes : List ℕ) (header : H) : Type 0 where
+pub record BeginsWithHeaderRow {H R : Type 0} (K : RecordKind H R) (bytes : List ℕ) (header : H)
+    : Type 0 where
   pub rest : List ℕ
   pub widths : K.Fits header
   pub bytes_are : bytes ≡ K.header_bytes header ++ rest
 
 -- the bytes begin with the bytes of this record, which has at most 4294967295 rows after its header
-pub record BeginsWithRecord {H R : Type 0} (K : RecordKind H R) (IsWhole : R → Type 0) (bytes : List ℕ) (r : R) : Type 0 where
+pub record BeginsWithRecord {H R : Type 0} (K : RecordKind H R) (IsWhole : R → Type 0)
+    (bytes : List ℕ) (r : R) : Type 0 where
   pub rest : List ℕ
   pub whole : IsWhole r
   pub rows : K.rows_after (K.header_of r) ≤ 4294967295
@@ -42,46 +46,58 @@ BeginsWithFile bytes r = BeginsWithRecord file_records IsWholeFile bytes r
 abbrev pub BeginsWithXorb : List ℕ → MDBXorbInfo → Type 0
 BeginsWithXorb bytes r = BeginsWithRecord xorb_records IsWholeXorb bytes r
 
--- a view of this header and these bytes shows a record: the bytes are those of the record, and no others
-pub record Shows {H R : Type 0} (K : RecordKind H R) (IsWhole : R → Type 0) (header : H) (bytes : List ℕ) (r : R) : Type 0 where
+-- a view of this header and these bytes shows a record: the bytes are those of the record, and no
+-- others
+pub record Shows {H R : Type 0} (K : RecordKind H R) (IsWhole : R → Type 0) (header : H)
+    (bytes : List ℕ) (r : R) : Type 0 where
   pub same_header : K.header_of r ≡ header
   pub whole : IsWhole r
   pub rows : K.rows_after header ≤ 4294967295
   pub bytes_are : bytes ≡ K.record_bytes r
 
 -- the same of a record that may be in a section unless the header is a bookend
-pub record ShowsRecord {H R : Type 0} (K : RecordKind H R) (header : H) (bytes : List ℕ) (r : R) : Type 0 where
+pub record ShowsRecord {H R : Type 0} (K : RecordKind H R) (header : H) (bytes : List ℕ) (r : R)
+    : Type 0 where
   pub same_header : K.header_of r ≡ header
   pub is_stored : K.hash_of header ≢ all_ones → K.IsStored r
   pub bytes_are : bytes ≡ K.record_bytes r
 
 module _ {H R : Type 0} (K : RecordKind H R) where
-  -- the bytes end before a header is complete, or before the rows that it announces, at most 4294967295, are
+  -- the bytes end before a header is complete, or before the rows that it announces, at most
+  -- 4294967295, are
   abbrev pub IsTooShort : List ℕ → Type 0
   IsTooShort bytes =
       (length bytes < 48)
-      ⊎ ((header : H) × BeginsWithHeaderRow K bytes header × (K.rows_after header ≤ 4294967295) × (length bytes < 48 + 48 * K.rows_after header))
+      ⊎ ((header : H) × BeginsWithHeaderRow K bytes header × (K.rows_after header ≤ 4294967295)
+      × (length bytes < 48 + 48 * K.rows_after header))
 
   -- the bytes begin with a header that announces more rows
   abbrev pub AnnouncesTooMany : List ℕ → Type 0
-  AnnouncesTooMany bytes = (header : H) × BeginsWithHeaderRow K bytes header × (4294967295 < K.rows_after header)
+  AnnouncesTooMany bytes =
+      (header : H) × BeginsWithHeaderRow K bytes header × (4294967295 < K.rows_after header)
 
   -- why the bytes begin with no record: they are too few, or the header announces too many rows
   abbrev pub NoView : List ℕ → CoreError → Type 0
-  NoView bytes e = (IsEndOfInput e × IsTooShort bytes) ⊎ (IsBareInvalidShard e × AnnouncesTooMany bytes)
+  NoView bytes e =
+      (IsEndOfInput e × IsTooShort bytes) ⊎ (IsBareInvalidShard e × AnnouncesTooMany bytes)
 
--- a record without its verification rows: its header has the bit of a metadata row alone, and a zero reserved word
+-- a record without its verification rows: its header has the bit of a metadata row alone, and a
+-- zero reserved word
 abbrev pub without_verification : MDBFileInfo → MDBFileInfo
 without_verification r = record {
-  metadata = record r.metadata { file_flags = flags_of false (has_metadata_ext r.metadata.file_flags); _unused = 0 };
+  metadata =
+      record r.metadata
+      { file_flags = flags_of false (has_metadata_ext r.metadata.file_flags); _unused = 0 };
   segments = r.segments;
   verification = [];
   metadata_ext = r.metadata_ext;
 }
 
--- the record that is written: verification rows are left out unless they are wanted, and all else is as it is
+-- the record that is written: verification rows are left out unless they are wanted, and all else
+-- is as it is
 abbrev pub as_wanted : Bool → MDBFileInfo → MDBFileInfo
-as_wanted wanted r = if has_verification r.metadata.file_flags && not wanted then without_verification r else r
+as_wanted wanted r =
+    if has_verification r.metadata.file_flags && not wanted then without_verification r else r
 
 -- verification rows are wanted, and the record has none
 abbrev pub LacksVerification : Bool → MDBFileInfo → Type 0
@@ -98,7 +114,8 @@ end_of_chunks [] = 0
 end_of_chunks (c ∷ []) = end_of_chunk c
 end_of_chunks (c ∷ d ∷ cs) = end_of_chunks (d ∷ cs)
 
--- a xorb's chunks under a header of their own: no flags, no bytes on disk, and the end of the last chunk as the size
+-- a xorb's chunks under a header of their own: no flags, no bytes on disk, and the end of the last
+-- chunk as the size
 abbrev pub under_own_header : MDBXorbInfo → MDBXorbInfo
 under_own_header r = record {
   metadata = record {

@@ -11,7 +11,14 @@ use Rattle.xet_records.specs.XorbRow.{xorb_header_row, chunk_row, FitsXorbHeader
 
 -- the header that ends a section: the all-ones hash, all else zero
 abbrev pub xorb_bookend : XorbChunkSequenceHeader
-xorb_bookend = record { xorb_hash = all_ones; xorb_flags = 0; num_entries = 0; num_bytes_in_xorb = 0; num_bytes_on_disk = 0 }
+xorb_bookend =
+    record {
+      xorb_hash = all_ones;
+      xorb_flags = 0;
+      num_entries = 0;
+      num_bytes_in_xorb = 0;
+      num_bytes_on_disk = 0;
+    }
 
 -- the rows of a record, its header included
 abbrev pub xorb_row_count : MDBXorbInfo → ℕ
@@ -39,13 +46,26 @@ boundaries cs = map (λ c. (c.chunk_hash, end_of_chunk c)) cs
 -- the segment of nothing
 abbrev pub default_segment : FileDataSequenceEntry
 default_segment =
-    record { xorb_hash = record { word0 = 0; word1 = 0; word2 = 0; word3 = 0 }; xorb_flags = 0; unpacked_segment_bytes = 0; chunk_index_start = 0; chunk_index_end = 0 }
+    record {
+      xorb_hash = record { word0 = 0; word1 = 0; word2 = 0; word3 = 0 };
+      xorb_flags = 0;
+      unpacked_segment_bytes = 0;
+      chunk_index_start = 0;
+      chunk_index_end = 0;
+    }
 
 -- the segment of a file that has these chunks of a xorb, at the indices from one up to another
-abbrev pub segment_of : XorbChunkSequenceHeader → List XorbChunkSequenceEntry → ℕ → ℕ → FileDataSequenceEntry
+abbrev pub segment_of : XorbChunkSequenceHeader → List XorbChunkSequenceEntry → ℕ → ℕ
+    → FileDataSequenceEntry
 segment_of h [] from to = default_segment
 segment_of h (c ∷ cs) from to =
-    record { xorb_hash = h.xorb_hash; xorb_flags = h.xorb_flags; unpacked_segment_bytes = total_bytes (c ∷ cs); chunk_index_start = from; chunk_index_end = to }
+    record {
+      xorb_hash = h.xorb_hash;
+      xorb_flags = h.xorb_flags;
+      unpacked_segment_bytes = total_bytes (c ∷ cs);
+      chunk_index_start = from;
+      chunk_index_end = to;
+    }
 
 -- the widths of a record's numbers
 pub record FitsXorb (r : MDBXorbInfo) : Type 0 where

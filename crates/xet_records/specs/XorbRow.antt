@@ -6,15 +6,22 @@ use Rattle.xet_base.specs.Hash.{hash_bytes, IsHash, IsEligible}
 use Rattle.xet_records.specs.declared.xorb_structs.XorbChunkSequenceHeader.{XorbChunkSequenceHeader}
 use Rattle.xet_records.specs.declared.xorb_structs.XorbChunkSequenceEntry.{XorbChunkSequenceEntry}
 
--- the header: the xorb's hash and flags, the number of chunks, the bytes of the chunks and those on disk
+-- the header: the xorb's hash and flags, the number of chunks, the bytes of the chunks and those on
+-- disk
 unfoldable pub xorb_header_row : XorbChunkSequenceHeader → List ℕ
 xorb_header_row h =
-    (((hash_bytes h.xorb_hash ++ u32_bytes h.xorb_flags) ++ u32_bytes h.num_entries) ++ u32_bytes h.num_bytes_in_xorb) ++ u32_bytes h.num_bytes_on_disk
+    (((hash_bytes h.xorb_hash ++ u32_bytes h.xorb_flags) ++ u32_bytes h.num_entries)
+    ++ u32_bytes h.num_bytes_in_xorb)
+    ++ u32_bytes h.num_bytes_on_disk
 
--- a chunk: its hash, where it starts in the xorb's bytes, how many bytes it has, its flags and a reserved word
+-- a chunk: its hash, where it starts in the xorb's bytes, how many bytes it has, its flags and a
+-- reserved word
 unfoldable pub chunk_row : XorbChunkSequenceEntry → List ℕ
 chunk_row c =
-    (((hash_bytes c.chunk_hash ++ u32_bytes c.chunk_byte_range_start) ++ u32_bytes c.unpacked_segment_bytes) ++ u32_bytes c.flags) ++ u32_bytes c._unused
+    (((hash_bytes c.chunk_hash ++ u32_bytes c.chunk_byte_range_start)
+    ++ u32_bytes c.unpacked_segment_bytes)
+    ++ u32_bytes c.flags)
+    ++ u32_bytes c._unused
 
 -- the widths of a row's numbers
 pub record FitsXorbHeader (h : XorbChunkSequenceHeader) : Type 0 where

@@ -36,8 +36,8 @@ pub const MDB_FILE_FLAG_METADATA_EXT_MASK: u32 = 1 << 30;
 /// The bytes of each row of the file section.
 pub const MDB_FILE_INFO_ENTRY_SIZE: usize = 48;
 
-/// The record of a file. Its lists and optional parts have to fit its header before it is measured or
-/// written.
+/// The record of a file. Its lists and optional parts have to fit its header before it is measured
+/// or written.
 #[derive(Debug, PartialEq, Drop)]
 pub struct MDBFileInfo {
     pub metadata: FileDataSequenceHeader,
@@ -55,7 +55,8 @@ impl MDBFileInfo {
         (1 + self.metadata.rows_after()) * MDB_FILE_INFO_ENTRY_SIZE as u64
     }
 
-    /// The size of the file in bytes, summed over its segments. Requires that the record's parts fit its header.
+    /// The size of the file in bytes, summed over its segments. Requires that the record's parts
+    /// fit its header.
     pub fn file_size(&self) -> u64
         requires { FitsItsHeader self.now }
         ensures size { result ≡ size_of_file self.now }
@@ -83,8 +84,8 @@ impl MDBFileInfo {
         self.metadata.contains_metadata_ext()
     }
 
-    /// Appends the rows of the record and returns their size in bytes. The error is the writer's. Requires that
-    /// the record's parts fit its header.
+    /// Appends the rows of the record and returns their size in bytes. The error is the writer's.
+    /// Requires that the record's parts fit its header.
     #[tactic(auto, unfolding(crate::specs::FileRecord::file_record_bytes, crate::specs::FileRecord::file_rows_bytes))]
     pub fn serialize<W: Write>(&self, writer: &mut W) -> Result<usize>
         requires { FitsItsHeader self.now }
@@ -100,30 +101,39 @@ impl MDBFileInfo {
         Ok(self.num_bytes() as usize)
     }
 
-    /// Reads a record, or `None` at the header that ends a section, which has the all-ones hash, whatever
-    /// its other fields. Verification and metadata rows get zero reserved words.
+    /// Reads a record, or `None` at the header that ends a section, which has the all-ones hash,
+    /// whatever its other fields. Verification and metadata rows get zero reserved words.
     ///
-    /// `UnexpectedEof` if the bytes end before the header or the rows that it announces, `InvalidShard` if
-    /// these rows pass 4294967295. May fail with `OutOfMemory`.
+    /// `UnexpectedEof` if the bytes end before the header or the rows that it announces,
+    /// `InvalidShard` if these rows pass 4294967295. May fail with `OutOfMemory`.
     pub fn deserialize<R: Read>(alloc: Global, reader: &mut R) -> Result<Option<Self>>
-        ensures found { IfOk result (λ found. MatchOption found
-            (ReadsBookend file_records (Consumes (R.remaining reader.old) (R.remaining reader.new)))
-            (ReadsRecord file_records (Consumes (R.remaining reader.old) (R.remaining reader.new)))) }
-        ensures end { IfErr result (λ e. IsEndOfInput e → IfSome (R.remaining reader.old) (IsCutShort file_records)) }
+        ensures found { IfOk result
+            (λ found. MatchOption found
+            (ReadsBookend file_records
+            (Consumes (R.remaining reader.old) (R.remaining reader.new)))
+            (ReadsRecord file_records
+            (Consumes (R.remaining reader.old) (R.remaining reader.new)))) }
+        ensures end { IfErr result
+            (λ e. IsEndOfInput e → IfSome (R.remaining reader.old) (IsCutShort file_records)) }
         ensures invalid { IfErr result
-            (λ e. IsInvalidShard e → IfSome (R.remaining reader.old) (HasTooManyRows file_records)) }
+            (λ e. IsInvalidShard e
+            → IfSome (R.remaining reader.old) (HasTooManyRows file_records)) }
         ensures causes { IfErr result (λ e. IsDeviceError e ⊎ IsBareInvalidShard e) }
-        ensures whole { OnOk result (IfSome (R.remaining reader.old) (λ bytes. ¬ IsCutShort file_records bytes)) }
-        ensures fits { OnOk result (IfSome (R.remaining reader.old) (λ bytes. ¬ HasTooManyRows file_records bytes)) }
-        ensures again { (r : MDBFileInfo) → (rest : List ℕ) → IsStored r → R.remaining reader.old ≡ Some (file_record_bytes r ++ rest)
-            → IfOk result (λ found. (found ≡ Some (handed_out r)) × (R.remaining reader.new ≡ Some rest)) }
+        ensures whole { OnOk result
+            (IfSome (R.remaining reader.old) (λ bytes. ¬ IsCutShort file_records bytes)) }
+        ensures fits { OnOk result
+            (IfSome (R.remaining reader.old) (λ bytes. ¬ HasTooManyRows file_records bytes)) }
+        ensures again { (r : MDBFileInfo) → (rest : List ℕ) → IsStored r
+            → R.remaining reader.old ≡ Some (file_record_bytes r ++ rest)
+            → IfOk result
+            (λ found. (found ≡ Some (handed_out r)) × (R.remaining reader.new ≡ Some rest)) }
     {
         let mut rows_left = MOST_ROWS_OF_RECORD;
         read_record::<MDBFileInfo, OfReader, R>(alloc, reader, &mut rows_left)
     }
 
-    /// Takes over each optional part that only `other` has, and nothing else. Requires that both records are of
-    /// one file. On `OutOfMemory`, the only error, nothing changes.
+    /// Takes over each optional part that only `other` has, and nothing else. Requires that both
+    /// records are of one file. On `OutOfMemory`, the only error, nothing changes.
     #[tactic(auto, using(crate::proofs::Flags::verification_added, crate::proofs::Flags::metadata_ext_added))]
     pub fn merge_from(&mut self, alloc: Global, other: &Self) -> Result<()>
         requires { IsSameFile self.old.metadata other.now.metadata }

@@ -11,7 +11,8 @@ use xet_base::input::ByteInput;
 
 /// Reads a row. `UnexpectedEof` if fewer than 48 bytes are left.
 pub fn read_row<T: Row, M, I: ByteInput<M>>(input: &mut I) -> io::Result<T>
-    ensures { MatchResult result (ReadsRow T.row_bytes T.Fits T.handed_out (I.reads input.old input.new))
+    ensures { MatchResult result
+        (ReadsRow T.row_bytes T.Fits T.handed_out (I.reads input.old input.new))
         (I.fill_fails input.old input.new 48) }
 {
     let mut bytes = [0u8; 48];
@@ -39,7 +40,8 @@ pub fn read_rows<T: Row + Drop, M, I: ByteInput<M>>(
 /// Reads past `count` rows. Does not allocate. `UnexpectedEof` if fewer are left.
 pub fn skip_rows<T: Row, M, I: ByteInput<M>>(input: &mut I, count: u32) -> Result<()>
     ensures { MatchResult result
-        (λ _. (rows : List T) × ReadsRows T.row_bytes T.Fits T.handed_out (I.reads input.old input.new) count rows)
+        (λ _. (rows : List T)
+        × ReadsRows T.row_bytes T.Fits T.handed_out (I.reads input.old input.new) count rows)
         (I.fails input.old input.new (48 * count)) }
 {
     for _row in 0..count {

@@ -28,7 +28,8 @@ pub fn cut(mut bytes: Bytes, rows_after: u32) -> io::Result<Bytes>
 /// The row that bytes begin with. `UnexpectedEof` if there are fewer than 48.
 pub fn first_row<T: Row>(bytes: &[u8]) -> io::Result<T>
     ensures { MatchResult result
-        (ReadsRow T.row_bytes T.Fits T.handed_out (λ row. (48 ≤ length bytes.now) × (row ≡ take 48 bytes.now)))
+        (ReadsRow T.row_bytes T.Fits T.handed_out
+        (λ row. (48 ≤ length bytes.now) × (row ≡ take 48 bytes.now)))
         (λ e. (error_kind e ≡ ErrorKind.UnexpectedEof) × (length bytes.now < 48)) }
 {
     if bytes.len() < ROW_SIZE {
@@ -40,7 +41,8 @@ pub fn first_row<T: Row>(bytes: &[u8]) -> io::Result<T>
 /// Whether bytes begin with this row. `UnexpectedEof` if there are fewer than 48.
 pub fn begins_with<T: Row>(bytes: &[u8], row: &T) -> io::Result<bool>
     ensures { MatchResult result
-        (λ begins. (48 ≤ length bytes.now) × (IsTrue begins ↔ (take 48 bytes.now ≡ T.row_bytes row.now)))
+        (λ begins. (48 ≤ length bytes.now)
+        × (IsTrue begins ↔ (take 48 bytes.now ≡ T.row_bytes row.now)))
         (λ e. (error_kind e ≡ ErrorKind.UnexpectedEof) × (length bytes.now < 48)) }
 {
     if bytes.len() < ROW_SIZE {
@@ -53,7 +55,8 @@ pub fn begins_with<T: Row>(bytes: &[u8], row: &T) -> io::Result<bool>
 /// The row at an index, counted from the header on.
 pub fn row<T: Row>(bytes: &[u8], index: usize) -> T
     requires { 48 * index + 48 ≤ length bytes.now }
-    ensures { ReadsRow T.row_bytes T.Fits T.handed_out (λ row. row ≡ take 48 (drop (48 * index) bytes.now)) result }
+    ensures { ReadsRow T.row_bytes T.Fits T.handed_out
+        (λ row. row ≡ take 48 (drop (48 * index) bytes.now)) result }
 {
     let mut row = [0u8; ROW_SIZE];
     row.copy_from_slice(part(bytes, index, 1));
@@ -80,7 +83,8 @@ pub fn rows<T: Row + Drop>(
 ) -> Result<Rows<T>>
     requires { 48 * start + 48 * count ≤ length bytes.now }
     ensures ok { IfOk result
-        (ReadsRows T.row_bytes T.Fits T.handed_out (λ rows. rows ≡ take (48 * count) (drop (48 * start) bytes.now)) count) }
+        (ReadsRows T.row_bytes T.Fits T.handed_out
+        (λ rows. rows ≡ take (48 * count) (drop (48 * start) bytes.now)) count) }
     ensures causes { IfErr result (λ e. e ≡ CoreError.OutOfMemory) }
 {
     let mut rows = Rows::new(alloc);

@@ -11,7 +11,8 @@ use std::alloc::Global;
 use xet_base::error::{CoreError, Result};
 use xet_base::input::ByteInput;
 
-/// The most rows that a record read by itself may have, its header included: the rows after it fit `u32`.
+/// The most rows that a record read by itself may have, its header included: the rows after it fit
+/// `u32`.
 pub const MOST_ROWS_OF_RECORD: u64 = 1 << 32;
 
 /// A record of a section, of files or of xorbs: a header row, and the rows that it announces.
@@ -44,26 +45,30 @@ pub trait SectionRecord {
         ensures { MatchResult result (ReadsRowsAfter kind header (I.reads input.old input.new))
             (I.fails input.old input.new (48 * kind.rows_after header)) };
 
-    /// Reads past the rows that the header announces. Does not allocate. `UnexpectedEof` if fewer are left.
+    /// Reads past the rows that the header announces. Does not allocate. `UnexpectedEof` if fewer
+    /// are left.
     fn skip_rows_after<M, I: ByteInput<M>>(
         input: &mut I,
         header: Self::Header,
     ) -> Result<Self::Kept>
         ensures { MatchResult result
-            (λ value. (skipped : Self) × (kept skipped ≡ value) × ReadsRowsAfter kind header (I.reads input.old input.new) skipped)
+            (λ value. (skipped : Self) × (kept skipped ≡ value)
+            × ReadsRowsAfter kind header (I.reads input.old input.new) skipped)
             (I.fails input.old input.new (48 * kind.rows_after header)) };
 
     /// Does nothing. It says what holds of every kind of records.
     fn laws()
         ensures { KindLaws kind };
 
-    ghost header_row: { IsHeaderRow kind Self.Header.row_bytes Self.Header.Fits Self.Header.handed_out };
+    ghost header_row: { IsHeaderRow kind Self.Header.row_bytes Self.Header.Fits
+        Self.Header.handed_out };
 }
 
-/// Reads the header of the next record of a section, or `None` at its bookend, and counts the record's rows down
-/// from `rows_left`.
+/// Reads the header of the next record of a section, or `None` at its bookend, and counts the
+/// record's rows down from `rows_left`.
 ///
-/// `UnexpectedEof` if fewer than 48 bytes are left, `InvalidShard` if the record has more rows than are left.
+/// `UnexpectedEof` if fewer than 48 bytes are left, `InvalidShard` if the record has more rows than
+/// are left.
 pub fn read_header<R: SectionRecord, M, I: ByteInput<M>>(
     alloc: Global,
     input: &mut I,
@@ -85,11 +90,11 @@ pub fn read_header<R: SectionRecord, M, I: ByteInput<M>>(
     Ok(Some(header))
 }
 
-/// Reads the next record of a section, or `None` at its bookend, and counts the record's rows down from
-/// `rows_left`.
+/// Reads the next record of a section, or `None` at its bookend, and counts the record's rows down
+/// from `rows_left`.
 ///
-/// `UnexpectedEof` if too few bytes are left, `InvalidShard` if the record has more rows than are left. May fail
-/// with `OutOfMemory`.
+/// `UnexpectedEof` if too few bytes are left, `InvalidShard` if the record has more rows than are
+/// left. May fail with `OutOfMemory`.
 pub fn read_record<R: SectionRecord, M, I: ByteInput<M>>(
     alloc: Global,
     input: &mut I,
@@ -109,8 +114,8 @@ pub fn read_record<R: SectionRecord, M, I: ByteInput<M>>(
 
 /// Reads the records of a section up to its bookend.
 ///
-/// `UnexpectedEof` if the input ends before the bookend, `InvalidShard` if the rows pass 4294967295. May fail
-/// with `OutOfMemory`.
+/// `UnexpectedEof` if the input ends before the bookend, `InvalidShard` if the rows pass
+/// 4294967295. May fail with `OutOfMemory`.
 pub fn read_section<R: SectionRecord + Drop, M, I: ByteInput<M>>(
     alloc: Global,
     input: &mut I,

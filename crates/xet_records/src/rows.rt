@@ -21,7 +21,8 @@ use xet_base::source::ShardSource;
 /// The size of a row in bytes.
 pub const ROW_SIZE: usize = 48;
 
-/// A list of rows, which contracts see as a list. Converting from and into a `Vec` does not allocate.
+/// A list of rows, which contracts see as a list. Converting from and into a `Vec` does not
+/// allocate.
 #[derive(Debug, Drop)]
 pub struct Rows<T> {
     items: Vec<T>,
@@ -142,7 +143,8 @@ pub fn all_widths<T: Row>(rows: &Rows<T>)
 
 /// Appends a row. The error is the writer's.
 pub fn write_row<T: Row, W: Write>(row: &T, writer: &mut W) -> io::Result<()>
-    ensures { OnOk result (Appends (W.contents writer.old) (W.contents writer.new) (T.row_bytes row.now)) }
+    ensures { OnOk result
+        (Appends (W.contents writer.old) (W.contents writer.new) (T.row_bytes row.now)) }
 {
     write_bytes(writer, &row.to_bytes())
 }
@@ -161,7 +163,8 @@ pub fn write_rows<T: Row, W: Write>(rows: &Rows<T>, writer: &mut W) -> io::Resul
 /// Appends the row, if there is one. The error is the writer's.
 pub fn write_optional<T: Row, W: Write>(row: &Option<T>, writer: &mut W) -> io::Result<()>
     ensures bytes { OnOk result
-        (Appends (W.contents writer.old) (W.contents writer.new) (flat_map T.row_bytes (option_to_list row.now))) }
+        (Appends (W.contents writer.old) (W.contents writer.new)
+        (flat_map T.row_bytes (option_to_list row.now))) }
     ensures touched { IfErr result (λ _. IsTrue (is_some row.now)) }
 {
     if let Some(row) = row {
@@ -173,7 +176,8 @@ pub fn write_optional<T: Row, W: Write>(row: &Option<T>, writer: &mut W) -> io::
 /// Reads a row. `UnexpectedEof` if fewer than 48 bytes are left.
 pub fn read_row<T: Row, R: Read>(reader: &mut R) -> io::Result<T>
     ensures value { IfOk result
-        (ReadsRow T.row_bytes T.Fits T.handed_out (Consumes (R.remaining reader.old) (R.remaining reader.new))) }
+        (ReadsRow T.row_bytes T.Fits T.handed_out
+        (Consumes (R.remaining reader.old) (R.remaining reader.new))) }
     ensures enough { OnOk result (HasBytes (R.remaining reader.old) 48) }
     ensures end { IfErr result
         (λ e. error_kind e ≡ ErrorKind.UnexpectedEof → LacksBytes (R.remaining reader.old) 48) }
@@ -188,8 +192,10 @@ pub fn read_rows<T: Row + Drop, R: Read>(
     count: u32,
 ) -> Result<Rows<T>>
     ensures value { IfOk result
-        (ReadsRows T.row_bytes T.Fits T.handed_out (Consumes (R.remaining reader.old) (R.remaining reader.new)) count) }
-    ensures end { IfErr result (λ e. IsEndOfInput e → LacksBytes (R.remaining reader.old) (48 * count)) }
+        (ReadsRows T.row_bytes T.Fits T.handed_out
+        (Consumes (R.remaining reader.old) (R.remaining reader.new)) count) }
+    ensures end { IfErr result
+        (λ e. IsEndOfInput e → LacksBytes (R.remaining reader.old) (48 * count)) }
     ensures causes { IfErr result IsDeviceError }
 {
     input_rows::read_rows::<T, OfReader, R>(alloc, reader, count)
@@ -198,9 +204,11 @@ pub fn read_rows<T: Row + Drop, R: Read>(
 /// Reads a row if it is `wanted`. `UnexpectedEof` if it is and fewer than 48 bytes are left.
 pub fn read_optional<T: Row, R: Read>(reader: &mut R, wanted: bool) -> io::Result<Option<T>>
     ensures value { IfOk result
-        (ReadsOptional T.row_bytes T.Fits T.handed_out (Consumes (R.remaining reader.old) (R.remaining reader.new)) wanted) }
+        (ReadsOptional T.row_bytes T.Fits T.handed_out
+        (Consumes (R.remaining reader.old) (R.remaining reader.new)) wanted) }
     ensures end { IfErr result
-        (λ e. error_kind e ≡ ErrorKind.UnexpectedEof → LacksBytes (R.remaining reader.old) (if wanted then 48 else 0)) }
+        (λ e. error_kind e ≡ ErrorKind.UnexpectedEof
+        → LacksBytes (R.remaining reader.old) (if wanted then 48 else 0)) }
     ensures touched { IfErr result (λ _. IsTrue wanted) }
 {
     input_rows::read_optional::<T, OfReader, R>(reader, wanted)
@@ -214,20 +222,23 @@ pub fn read_source_rows<T: Row + Drop, S: ShardSource>(
     count: u32,
 ) -> Result<Rows<T>>
     ensures value { IfOk result
-        (ReadsRows T.row_bytes T.Fits T.handed_out (Takes (S.meaning source.old) (S.meaning source.new)) count) }
-    ensures refused { IfErr result (ReadFails (S.meaning source.old) (S.meaning source.new) (48 * count)) }
+        (ReadsRows T.row_bytes T.Fits T.handed_out
+        (Takes (S.meaning source.old) (S.meaning source.new)) count) }
+    ensures refused { IfErr result
+        (ReadFails (S.meaning source.old) (S.meaning source.new) (48 * count)) }
 {
     input_rows::read_rows::<T, OfSource, S>(alloc, source, count)
 }
 
-/// Reads a row at the source's position if it is `wanted`. `UnexpectedEof` if it is and fewer than 48 bytes
-/// are left.
+/// Reads a row at the source's position if it is `wanted`. `UnexpectedEof` if it is and fewer than
+/// 48 bytes are left.
 pub fn read_source_optional<T: Row, S: ShardSource>(
     source: &mut S,
     wanted: bool,
 ) -> Result<Option<T>>
     ensures value { IfOk result
-        (ReadsOptional T.row_bytes T.Fits T.handed_out (Takes (S.meaning source.old) (S.meaning source.new)) wanted) }
+        (ReadsOptional T.row_bytes T.Fits T.handed_out
+        (Takes (S.meaning source.old) (S.meaning source.new)) wanted) }
     ensures refused { IfErr result
         (ReadFails (S.meaning source.old) (S.meaning source.new) (if wanted then 48 else 0)) }
     ensures touched { IfErr result (λ _. IsTrue wanted) }

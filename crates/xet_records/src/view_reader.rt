@@ -26,11 +26,11 @@ pub trait RecordView<R: SectionRecord> {
         ensures { ShowsRecord R.kind header bytes (shown result) };
 }
 
-/// Reads a view of the next record of a section, or `None` at its bookend, and counts the record's rows down from
-/// `rows_left`.
+/// Reads a view of the next record of a section, or `None` at its bookend, and counts the record's
+/// rows down from `rows_left`.
 ///
-/// `UnexpectedEof` if too few bytes are left, `InvalidShard` if the record has more rows than are left. May fail
-/// with `OutOfMemory`.
+/// `UnexpectedEof` if too few bytes are left, `InvalidShard` if the record has more rows than are
+/// left. May fail with `OutOfMemory`.
 pub fn read_view<R: SectionRecord, V: RecordView<R>, M, I: ByteInput<M>>(
     alloc: Global,
     input: &mut I,
@@ -58,7 +58,8 @@ fn read_row_bytes<M, I: ByteInput<M>>(
 ) -> Result<Vec<u8>>
     ensures { MatchResult result
         (λ bytes. AddsRows (I.reads input.old input.new) count first.now bytes.items)
-        (λ e. I.fails input.old input.new (48 * count) e ⊎ LacksMemory (I.reads input.old input.new) count e) }
+        (λ e. I.fails input.old input.new (48 * count) e
+        ⊎ LacksMemory (I.reads input.old input.new) count e) }
 {
     let mut bytes = Vec::from_slice(alloc, first)?;
     for _row in 0..count {
@@ -69,9 +70,9 @@ fn read_row_bytes<M, I: ByteInput<M>>(
     Ok(bytes)
 }
 
-/// Calls `callback` with a view of each record of a section, in order, until a call fails or the bookend is read.
-/// The error is that of the call, or of reading: `UnexpectedEof` if the input ends before the bookend,
-/// `InvalidShard` if the rows pass 4294967295, `OutOfMemory`.
+/// Calls `callback` with a view of each record of a section, in order, until a call fails or the
+/// bookend is read. The error is that of the call, or of reading: `UnexpectedEof` if the input ends
+/// before the bookend, `InvalidShard` if the rows pass 4294967295, `OutOfMemory`.
 pub fn process_section<
     R: SectionRecord,
     V: RecordView<R>,
@@ -81,9 +82,12 @@ pub fn process_section<
 >(alloc: Global, input: &mut I, callback: &mut F) -> Result<()>
     requires { F.IsAlwaysCallable callback.old }
     ensures calls { MatchResult result
-        (λ _. ProcessesSection R.kind V.shown I.reads I.fails F.step input.old input.new callback.old callback.new)
-        (λ e. RefusesRecord R.kind V.shown I.reads I.fails F.step input.old input.new callback.old callback.new e
-        ⊎ StopsReading R.kind V.shown I.reads I.fails F.step input.old input.new callback.old callback.new e) }
+        (λ _. ProcessesSection R.kind V.shown I.reads I.fails F.step input.old input.new
+        callback.old callback.new)
+        (λ e. RefusesRecord R.kind V.shown I.reads I.fails F.step input.old input.new callback.old
+        callback.new e
+        ⊎ StopsReading R.kind V.shown I.reads I.fails F.step input.old input.new callback.old
+        callback.new e) }
     ensures callable { F.IsAlwaysCallable callback.new }
 {
     R::laws();

@@ -29,7 +29,8 @@ pub const MDB_DEFAULT_XORB_FLAG: u32 = 0;
 /// The flag of a chunk that the global index keeps whatever its hash.
 pub const MDB_CHUNK_WITH_GLOBAL_DEDUP_FLAG: u32 = 1 << 31;
 
-/// The first row of a xorb record: which xorb it is, how many chunks follow and how many bytes they have.
+/// The first row of a xorb record: which xorb it is, how many chunks follow and how many bytes they
+/// have.
 #[derive(Clone, Copy, Default, Debug, PartialEq, Eq)]
 pub struct XorbChunkSequenceHeader {
     pub xorb_hash: MerkleHash,
@@ -40,9 +41,16 @@ pub struct XorbChunkSequenceHeader {
 }
 
 impl XorbChunkSequenceHeader {
-    /// The header of a xorb with `num_entries` chunks and `num_bytes_in_xorb` bytes, no flags and no bytes on disk.
+    /// The header of a xorb with `num_entries` chunks and `num_bytes_in_xorb` bytes, no flags and
+    /// no bytes on disk.
     pub fn new(xorb_hash: MerkleHash, num_entries: u32, num_bytes_in_xorb: u32) -> Self
-        ensures { result ≡ record { xorb_hash = xorb_hash; xorb_flags = 0; num_entries = num_entries; num_bytes_in_xorb = num_bytes_in_xorb; num_bytes_on_disk = 0 } }
+        ensures { result ≡ record {
+          xorb_hash = xorb_hash;
+          xorb_flags = 0;
+          num_entries = num_entries;
+          num_bytes_in_xorb = num_bytes_in_xorb;
+          num_bytes_on_disk = 0;
+        } }
     {
         XorbChunkSequenceHeader {
             xorb_hash,
@@ -79,7 +87,8 @@ impl XorbChunkSequenceHeader {
     /// Reads the row. `UnexpectedEof` if fewer than 48 bytes are left.
     pub fn deserialize<R: Read>(reader: &mut R) -> io::Result<Self>
         ensures { MatchResult result
-            (ReadsWhole xorb_header_row FitsXorbHeader (R.remaining reader.old) (R.remaining reader.new))
+            (ReadsWhole xorb_header_row FitsXorbHeader (R.remaining reader.old)
+            (R.remaining reader.new))
             (LacksRow (R.remaining reader.old)) }
     {
         read_row(reader)
@@ -142,7 +151,13 @@ impl XorbChunkSequenceEntry {
         unpacked_segment_bytes: u32,
         chunk_byte_range_start: u32,
     ) -> Self
-        ensures { result ≡ record { chunk_hash = chunk_hash; chunk_byte_range_start = chunk_byte_range_start; unpacked_segment_bytes = unpacked_segment_bytes; flags = 0; _unused = 0 } }
+        ensures { result ≡ record {
+          chunk_hash = chunk_hash;
+          chunk_byte_range_start = chunk_byte_range_start;
+          unpacked_segment_bytes = unpacked_segment_bytes;
+          flags = 0;
+          _unused = 0;
+        } }
     {
         XorbChunkSequenceEntry {
             chunk_hash,
@@ -241,7 +256,8 @@ pub struct MDBXorbInfo {
 }
 
 impl MDBXorbInfo {
-    /// The size of the record in bytes. Requires that it has as many chunks as its header announces.
+    /// The size of the record in bytes. Requires that it has as many chunks as its header
+    /// announces.
     pub fn num_bytes(&self) -> u64
         requires { HasItsChunks self.now }
         ensures { result ≡ 48 * xorb_row_count self.now }
@@ -249,8 +265,8 @@ impl MDBXorbInfo {
         (1 + u64::from(self.metadata.num_entries)) * MDB_FILE_INFO_ENTRY_SIZE as u64
     }
 
-    /// Appends the rows of the record and returns their size in bytes. The error is the writer's. Requires that
-    /// the record has as many chunks as its header announces.
+    /// Appends the rows of the record and returns their size in bytes. The error is the writer's.
+    /// Requires that the record has as many chunks as its header announces.
     #[tactic(auto, unfolding(crate::specs::XorbRecord::xorb_record_bytes))]
     pub fn serialize<W: Write>(&self, writer: &mut W) -> Result<usize>
         requires { HasItsChunks self.now }
@@ -264,28 +280,33 @@ impl MDBXorbInfo {
         Ok(self.num_bytes() as usize)
     }
 
-    /// Reads a record, or `None` at the header that ends a section, which has the all-ones hash, whatever
-    /// its other fields.
+    /// Reads a record, or `None` at the header that ends a section, which has the all-ones hash,
+    /// whatever its other fields.
     ///
-    /// `UnexpectedEof` if the bytes end before the header or the chunks that it announces. May fail with
-    /// `OutOfMemory`.
+    /// `UnexpectedEof` if the bytes end before the header or the chunks that it announces. May fail
+    /// with `OutOfMemory`.
     pub fn deserialize<R: Read>(alloc: Global, reader: &mut R) -> Result<Option<Self>>
-        ensures found { IfOk result (λ found. MatchOption found
-            (ReadsBookend xorb_records (Consumes (R.remaining reader.old) (R.remaining reader.new)))
-            (ReadsRecord xorb_records (Consumes (R.remaining reader.old) (R.remaining reader.new)))) }
+        ensures found { IfOk result
+            (λ found. MatchOption found
+            (ReadsBookend xorb_records
+            (Consumes (R.remaining reader.old) (R.remaining reader.new)))
+            (ReadsRecord xorb_records
+            (Consumes (R.remaining reader.old) (R.remaining reader.new)))) }
         ensures end { IfErr result
             (λ e. IsEndOfInput e → IfSome (R.remaining reader.old) (IsCutShort xorb_records)) }
         ensures causes { IfErr result IsDeviceError }
-        ensures whole { OnOk result (IfSome (R.remaining reader.old) (λ bytes. ¬ IsCutShort xorb_records bytes)) }
-        ensures again { (r : MDBXorbInfo) → (rest : List ℕ) → IsStoredXorb r → R.remaining reader.old ≡ Some (xorb_record_bytes r ++ rest)
+        ensures whole { OnOk result
+            (IfSome (R.remaining reader.old) (λ bytes. ¬ IsCutShort xorb_records bytes)) }
+        ensures again { (r : MDBXorbInfo) → (rest : List ℕ) → IsStoredXorb r
+            → R.remaining reader.old ≡ Some (xorb_record_bytes r ++ rest)
             → IfOk result (λ found. (found ≡ Some r) × (R.remaining reader.new ≡ Some rest)) }
     {
         let mut rows_left = MOST_ROWS_OF_RECORD;
         read_record::<MDBXorbInfo, OfReader, R>(alloc, reader, &mut rows_left)
     }
 
-    /// Each chunk's hash with the offset of its end in the xorb's unpacked bytes. Requires that these offsets
-    /// fit `u32`. May fail with `OutOfMemory`.
+    /// Each chunk's hash with the offset of its end in the xorb's unpacked bytes. Requires that
+    /// these offsets fit `u32`. May fail with `OutOfMemory`.
     pub fn chunks_and_boundaries(&self, alloc: Global) -> Result<Vec<(MerkleHash, u32)>>
         requires { All (λ c. end_of_chunk c < 2 ^ 32) self.now.chunks }
         ensures ok { IfOk result (λ list. list.items ≡ boundaries self.now.chunks) }

@@ -27,7 +27,9 @@ abbrev pub coded_locations : Coded LocationMap
 coded_locations = finite.code hash.the_row.coded (coded× xorb.the_row.coded coded_ℕ)
 
 abbrev pub coded_xorbs_with_lookup : Coded XorbsWithLookup
-coded_xorbs_with_lookup = code_by (XorbMap × LocationMap) (coded× coded_xorbs coded_locations) (λ t. (t.xorbs, t.locations)) (λ p. record { xorbs = p.0; locations = p.1 }) (λ _. refl)
+coded_xorbs_with_lookup =
+    code_by (XorbMap × LocationMap) (coded× coded_xorbs coded_locations)
+    (λ t. (t.xorbs, t.locations)) (λ p. record { xorbs = p.0; locations = p.1 }) (λ _. refl)
 
 -- a shard, and its chunk lookup
 pub record ShardWithLookup : Type 0 where
@@ -36,7 +38,8 @@ pub record ShardWithLookup : Type 0 where
 
 abbrev pub coded_shard_with_lookup : Coded ShardWithLookup
 coded_shard_with_lookup =
-    code_by (Shard × LocationMap) (coded× coded_shard coded_locations) (λ s. (s.content, s.locations)) (λ p. record { content = p.0; locations = p.1 }) (λ _. refl)
+    code_by (Shard × LocationMap) (coded× coded_shard coded_locations)
+    (λ s. (s.content, s.locations)) (λ p. record { content = p.0; locations = p.1 }) (λ _. refl)
 
 -- the hash of the chunk at a location, if there is one
 abbrev pub chunk_at : ChunkLocation → Option DataHash
@@ -48,7 +51,8 @@ pub record IsLocation (xorbs : XorbMap) (q : DataHash) (p : ChunkLocation) : Typ
   pub chunk : chunk_at p ≡ Some q
 
 -- the lookup has exactly the chunk hashes of the xorbs, and for each a location of such a chunk
-pub record IsChunkLookup (xorbs : XorbMap) (locations : DataHash → Option ChunkLocation) : Type 0 where
+pub record IsChunkLookup (xorbs : XorbMap) (locations : DataHash → Option ChunkLocation)
+    : Type 0 where
   pub present : (q : DataHash) → (p : ChunkLocation) → locations q ≡ Some p → IsLocation xorbs q p
   pub complete : (q : DataHash) → (p : ChunkLocation) → IsLocation xorbs q p → IsSome (locations q)
 

@@ -1,4 +1,5 @@
--- The chunk query: the longest run of hashes in a xorb, from the location on that the lookup keeps for the first hash.
+-- The chunk query: the longest run of hashes in a xorb, from the location on that the lookup keeps
+-- for the first hash.
 use Rattle.std.specs.Prelude.{◌≡◌, ◌==◌, ℕ, ◌+◌, List, [], ◌∷◌, drop, take, Option, None, Some, option_map, slice_get, if◌then◌else◌}
 use Rattle.std.specs.List.{common_prefix_len}
 use Rattle.std.specs.FinMap.{get}
@@ -11,7 +12,8 @@ use Rattle.xet_records.specs.XorbRecord.{segment_of}
 use Rattle.xet_shards.specs.ChunkLookup.{ChunkLocation, LocationMap, IsLocation}
 use Rattle.xet_shards.specs.Shard.{XorbMap}
 
--- how many of these hashes, from the first on, equal the hashes of these chunks under a key, one by one
+-- how many of these hashes, from the first on, equal the hashes of these chunks under a key, one by
+-- one
 abbrev pub run_length : DataHash → List DataHash → List XorbChunkSequenceEntry → ℕ
 run_length key qs cs = common_prefix_len (λ q c. hash_eq (under_key key q) c.chunk_hash) qs cs
 
@@ -22,8 +24,10 @@ run_at key p qs =
     (n, segment_of p.0.metadata (take n (drop p.1 p.0.chunks)) p.1 (p.1 + n))
 
 -- the same if it has a chunk
-abbrev pub some_run_at : DataHash → ChunkLocation → List DataHash → Option (ℕ × FileDataSequenceEntry)
-some_run_at key p qs = if run_length key qs (drop p.1 p.0.chunks) == 0 then None else Some (run_at key p qs)
+abbrev pub some_run_at : DataHash → ChunkLocation → List DataHash
+    → Option (ℕ × FileDataSequenceEntry)
+some_run_at key p qs =
+    if run_length key qs (drop p.1 p.0.chunks) == 0 then None else Some (run_at key p qs)
 
 -- the run, without a key, at the location that the lookup keeps for the first hash, if it has one
 abbrev pub query_answer : LocationMap → List DataHash → Option (ℕ × FileDataSequenceEntry)
@@ -32,4 +36,5 @@ query_answer locations (q ∷ qs) = option_map (λ p. run_at no_key p (q ∷ qs)
 
 -- no xorb has a chunk with the first of these hashes, or there are no hashes
 abbrev pub IsUnknown : XorbMap → List DataHash → Type 0
-IsUnknown xorbs qs = (q : DataHash) → (p : ChunkLocation) → slice_get qs 0 ≡ Some q → ¬ IsLocation xorbs q p
+IsUnknown xorbs qs =
+    (q : DataHash) → (p : ChunkLocation) → slice_get qs 0 ≡ Some q → ¬ IsLocation xorbs q p

@@ -29,7 +29,8 @@ EndsInHeader bytes = (length bytes < 32) ⊎ ((length bytes < 48) × (take 32 by
 abbrev pub HasUnsupportedFooter : List ℕ → Type 0
 HasUnsupportedFooter bytes = (8 ≤ length bytes) × (take 8 bytes ≢ u64_bytes 1)
 
--- the bytes end before the version is complete, or after version 1 but before the footer is complete
+-- the bytes end before the version is complete, or after version 1 but before the footer is
+-- complete
 abbrev pub EndsInFooter : List ℕ → Type 0
 EndsInFooter bytes = (length bytes < 8) ⊎ ((length bytes < 200) × (take 8 bytes ≡ u64_bytes 1))
 
@@ -60,7 +61,8 @@ pub record HasEnds (bytes : List ℕ) (info : MDBShardInfo) : Type 0 where
 -- the format is unsupported: the header is, or the header is valid and the footer is
 abbrev pub IsUnsupported : List ℕ → Type 0
 IsUnsupported bytes =
-    HasUnsupportedHeader bytes ⊎ (HasHeader bytes × (200 ≤ length bytes) × HasUnsupportedFooter (last_bytes bytes))
+    HasUnsupportedHeader bytes
+    ⊎ (HasHeader bytes × (200 ≤ length bytes) × HasUnsupportedFooter (last_bytes bytes))
 
 -- the bytes are too few: they end in the header, or after it are fewer than a footer needs
 abbrev pub IsTooShort : List ℕ → Type 0
@@ -75,11 +77,14 @@ pub record Loads (old new : Source) (found : MDBShardInfo) : Type 0 where
   pub ends : HasEnds old.bytes found
 
 -- why a read failed, if the device did not: the format is unsupported, or the bytes are too few
-pub data FormatCase (Unsupported Short : List ℕ → Type 0) (bytes : List ℕ) (e : CoreError) : Type 0 where
-  unsupported_format : IsBareShardVersion e → Unsupported bytes → FormatCase Unsupported Short bytes e
+pub data FormatCase (Unsupported Short : List ℕ → Type 0) (bytes : List ℕ) (e : CoreError)
+    : Type 0 where
+  unsupported_format : IsBareShardVersion e → Unsupported bytes
+      → FormatCase Unsupported Short bytes e
   too_few_bytes : IsEndOfInput e → Short bytes → FormatCase Unsupported Short bytes e
 
-abbrev pub Refusal : (List ℕ → Type 0) → (List ℕ → Type 0) → List ℕ → Source → Source → CoreError → Type 0
+abbrev pub Refusal : (List ℕ → Type 0) → (List ℕ → Type 0) → List ℕ → Source → Source → CoreError
+    → Type 0
 Refusal Unsupported Short bytes old new e = FailedBy (FormatCase Unsupported Short bytes) old new e
 
 -- the read failed, with at most two seeks and 248 bytes; the offset is unspecified
@@ -89,15 +94,18 @@ pub record LoadFails (old new : Source) (e : CoreError) : Type 0 where
   pub read : new.read ≤ old.read + 248
   pub cause : Refusal IsUnsupported IsTooShort old.bytes old new e
 
--- an error says that the format is unsupported, or that the input ended, only of such bytes, where they are known
+-- an error says that the format is unsupported, or that the input ended, only of such bytes, where
+-- they are known
 abbrev pub SaysUnsupported : (List ℕ → Type 0) → Option (List ℕ) → CoreError → Type 0
 SaysUnsupported Unsupported remaining e = IsShardVersion e → IfSome remaining Unsupported
 
 abbrev pub SaysEnd : (List ℕ → Type 0) → Option (List ℕ) → CoreError → Type 0
 SaysEnd Short remaining e = IsEndOfInput e → IfSome remaining Short
 
--- reading a header or a footer from the current offset on failed, after at most so many bytes; the offset is unspecified
-pub record PartFails (Unsupported Short : List ℕ → Type 0) (most : ℕ) (old new : Source) (e : CoreError) : Type 0 where
+-- reading a header or a footer from the current offset on failed, after at most so many bytes; the
+-- offset is unspecified
+pub record PartFails (Unsupported Short : List ℕ → Type 0) (most : ℕ) (old new : Source)
+    (e : CoreError) : Type 0 where
   pub bytes : new.bytes ≡ old.bytes
   pub seeks : new.seeks ≡ old.seeks
   pub read : new.read ≤ old.read + most

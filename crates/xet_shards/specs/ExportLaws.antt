@@ -9,12 +9,14 @@ use Rattle.xet_shards.specs.Section.{total_rows}
 use Rattle.xet_shards.specs.Layout.{Form, if_in}
 use Rattle.xet_shards.specs.KeyedExport.{exported_file, exported_xorb, keyed_chunk}
 
-pub file_rows : (form : Form) (r : MDBFileInfo) → total_rows file_records (exported_file form r) ≤ row_count r
+pub file_rows : (form : Form) (r : MDBFileInfo)
+    → total_rows file_records (exported_file form r) ≤ row_count r
 file_rows form r = by_table form.file_table
   where
     by_table : (b : Bool) → total_rows file_records (if_in b (r ∷ [])) ≤ row_count r
     by_table true = omega arith
     by_table false = omega arith
 
-pub xorb_rows : (form : Form) (r : MDBXorbInfo) → total_rows xorb_records (exported_xorb form r) ≤ xorb_row_count r
+pub xorb_rows : (form : Form) (r : MDBXorbInfo)
+    → total_rows xorb_records (exported_xorb form r) ≤ xorb_row_count r
 xorb_rows form r = omega (arith, length-map r.chunks (keyed_chunk form.key))

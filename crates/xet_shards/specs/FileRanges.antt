@@ -13,7 +13,8 @@ use Rattle.xet_shards.specs.Ends.{HasUnsupportedHeader, EndsInHeader, PartFails}
 use Rattle.xet_shards.specs.SectionReading.{TakesNoSection}
 use Rattle.xet_shards.specs.SectionWalk.{kept_of, KeepsSection}
 
--- a file's hash, the offset of its first segment and the one after its last, those of its verification rows, and its SHA-256
+-- a file's hash, the offset of its first segment and the one after its last, those of its
+-- verification rows, and its SHA-256
 abbrev pub FileRanges : Type 0
 FileRanges = DataHash × (ℕ × ℕ) × Option (ℕ × ℕ) × Option DataHash
 
@@ -35,7 +36,8 @@ ranges_at offset r = ranges_after (offset + 48) r.metadata r.metadata_ext
 abbrev pub file_ranges : ℕ → List MDBFileInfo → List FileRanges
 file_ranges at files = kept_of file_records ranges_at at files
 
--- the file section was read through from the source's offset on, and these are the ranges of its files
+-- the file section was read through from the source's offset on, and these are the ranges of its
+-- files
 abbrev pub TakesRanges : Source → Source → List FileRanges → Type 0
 TakesRanges old new found = KeepsSection file_records ranges_at old new found
 
@@ -53,5 +55,6 @@ pub record ReadsFileRanges (old new : Source) (found : List FileRanges) : Type 0
 abbrev pub FileRangesFail : Source → Source → CoreError → Type 0
 FileRangesFail old new e =
     PartFails HasUnsupportedHeader EndsInHeader 48 old new e
-    ⊎ ((header : MDBShardFileHeader) × (after_header : Source) × (header.version ≡ 2) × Takes old after_header (shard_header_bytes header)
+    ⊎ ((header : MDBShardFileHeader) × (after_header : Source) × (header.version ≡ 2)
+    × Takes old after_header (shard_header_bytes header)
     × TakesNoSection file_records after_header new e)

@@ -22,7 +22,8 @@ abbrev pub Ascends : {H R : Type 0} → RecordKind H R → List R → Type 0
 Ascends K records = IsStrictlySortedBy hash_cmp (map (hash_in K) records)
 
 -- the bytes are those of such files and xorbs in a form, and the footer is theirs
-pub record IsInForm (files : List MDBFileInfo) (xorbs : List MDBXorbInfo) (form : Form) (bytes : List ℕ) (footer : MDBShardFileFooter) : Type 0 where
+pub record IsInForm (files : List MDBFileInfo) (xorbs : List MDBXorbInfo) (form : Form)
+    (bytes : List ℕ) (footer : MDBShardFileFooter) : Type 0 where
   pub files_fit : FitsSection file_records files
   pub xorbs_fit : FitsSection xorb_records xorbs
   pub bytes_are : bytes ≡ layout_of files xorbs form

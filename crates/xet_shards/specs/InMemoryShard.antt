@@ -8,7 +8,9 @@ use Rattle.xet_shards.specs.ChunkLookup.{ShardWithLookup}
 use Rattle.xet_shards.specs.Section.{total_rows}
 
 abbrev pub shard_inside : Inside → ShardWithLookup
-shard_inside s = record { content = record { files = s.files; xorbs = s.xorbs.xorbs }; locations = s.xorbs.locations }
+shard_inside s =
+    record
+    { content = record { files = s.files; xorbs = s.xorbs.xorbs }; locations = s.xorbs.locations }
 
 -- the rows are those of the stores, and fit `u32`
 pub record IsCounted (s : Inside) : Type 0 where

@@ -23,7 +23,8 @@ pub record CanJoinFile (a b : MDBFileInfo) : Type 0 where
 
 -- the files that both maps have can be joined
 abbrev pub CanJoinFiles : FileMap → FileMap → Type 0
-CanJoinFiles a b = (q : DataHash) → (r s : MDBFileInfo) → get a q ≡ Some r → get b q ≡ Some s → CanJoinFile r s
+CanJoinFiles a b =
+    (q : DataHash) → (r s : MDBFileInfo) → get a q ≡ Some r → get b q ≡ Some s → CanJoinFile r s
 
 -- the file of a union: if both maps have one, the first with the parts that only the second has
 abbrev pub either_file : Option MDBFileInfo → Option MDBFileInfo → Option MDBFileInfo

@@ -26,9 +26,12 @@ abbrev pub metadata_under : DataHash → Shard → Option FileMetadataExt
 metadata_under q s = option_and_then (λ r. r.metadata_ext) (get s.files q)
 
 -- the file with these parts: its flags say which optional parts are present
-abbrev pub file_with : DataHash → List FileDataSequenceEntry → Option (List FileVerificationEntry) → Option FileMetadataExt → MDBFileInfo
+abbrev pub file_with : DataHash → List FileDataSequenceEntry → Option (List FileVerificationEntry)
+    → Option FileMetadataExt → MDBFileInfo
 file_with q segments verification metadata_ext = record {
-  metadata = record { file_hash = q; file_flags = flags_of (is_some verification) (is_some metadata_ext); num_entries = length segments; _unused = 0 };
+  metadata =
+      record
+      { file_hash = q; file_flags = flags_of (is_some verification) (is_some metadata_ext); num_entries = length segments; _unused = 0 };
   segments = segments;
   verification = unwrap_or verification [];
   metadata_ext = metadata_ext;
@@ -36,13 +39,17 @@ file_with q segments verification metadata_ext = record {
 
 -- the shard has a part exactly if one of the shards has it
 abbrev pub HasWhatAnyHas : {X : Type 0} → (Shard → Type 0) → Shard → (Shard → Option X) → Type 0
-HasWhatAnyHas {X} IsOne c part = (x : X) → (part c ≡ Some x) ↔ ((s : Shard) × IsOne s × (part s ≡ Some x))
+HasWhatAnyHas {X} IsOne c part =
+    (x : X) → (part c ≡ Some x) ↔ ((s : Shard) × IsOne s × (part s ≡ Some x))
 
 -- each file is determined by its parts
 abbrev pub FollowsParts : Shard → Type 0
-FollowsParts c = (q : DataHash) → (r : MDBFileInfo) → get c.files q ≡ Some r → r ≡ file_with q r.segments (verification_of r) r.metadata_ext
+FollowsParts c =
+    (q : DataHash) → (r : MDBFileInfo) → get c.files q ≡ Some r
+    → r ≡ file_with q r.segments (verification_of r) r.metadata_ext
 
--- the join of a set of shards: for each hash exactly the xorb, the segments and the optional parts that any of them has
+-- the join of a set of shards: for each hash exactly the xorb, the segments and the optional parts
+-- that any of them has
 pub record IsJoinOf (IsOne : Shard → Type 0) (c : Shard) : Type 0 where
   pub xorbs : (q : DataHash) → HasWhatAnyHas IsOne c (λ s. get s.xorbs q)
   pub segments : (q : DataHash) → HasWhatAnyHas IsOne c (segments_under q)

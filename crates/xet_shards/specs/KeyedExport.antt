@@ -1,5 +1,5 @@
--- Keyed exports: a shard is written again, with its chunk hashes under a key, and without its files if they are not asked
--- for.
+-- Keyed exports: a shard is written again, with its chunk hashes under a key, and without its files
+-- if they are not asked for.
 use Rattle.std.specs.Prelude.{◌≡◌, ◌≢◌, ◌⊎◌, ℕ, ◌+◌, ◌*◌, ◌^◌, ◌≤◌, Bool, List, [], ◌∷◌, length, map, flat_map, drop, sum_by, All, Option}
 use Rattle.std.specs.Io.KnownBytes.{Appends}
 use Rattle.xet_base.specs.declared.error.CoreError.{CoreError}
@@ -37,9 +37,10 @@ exported_file form r = if_in form.file_table (r ∷ [])
 abbrev pub exported_xorb : Form → MDBXorbInfo → List MDBXorbInfo
 exported_xorb form r = keyed_xorb form.key r ∷ []
 
--- the form of an export: the tables asked for, the key, now, and the expiry so many seconds later; the file table is in if
--- the files are
-abbrev pub export_form : (key : DataHash) (now valid : ℕ) (files xorb_table chunk_table : Bool) → Form
+-- the form of an export: the tables asked for, the key, now, and the expiry so many seconds later;
+-- the file table is in if the files are
+abbrev pub export_form : (key : DataHash) (now valid : ℕ) (files xorb_table chunk_table : Bool)
+    → Form
 export_form key now valid files xorb_table chunk_table = record {
   file_table = files;
   xorb_table = xorb_table;
@@ -51,15 +52,18 @@ export_form key now valid files xorb_table chunk_table = record {
 
 -- what an export in a form writes of files and xorbs
 abbrev pub exported : List MDBFileInfo → List MDBXorbInfo → Form → List ℕ
-exported files xorbs form = layout_of (if_in form.file_table files) (keyed_xorbs form.key xorbs) form
+exported files xorbs form =
+    layout_of (if_in form.file_table files) (keyed_xorbs form.key xorbs) form
 
 -- the offset of the xorb section after a header and a section of files
 abbrev pub xorbs_after : List MDBFileInfo → ℕ
 xorbs_after files = 48 * (total_rows file_records files + 2)
 
--- a shard was exported: header and sections were read from the source's position on, without a seek and without a byte past
--- the xorb section, and what they hold was written in the form; a reader of these bytes finds it in that form
-pub record Exports (form : Form) (old new : Source) (before after : Option (List ℕ)) (n : ℕ) : Type 0 where
+-- a shard was exported: header and sections were read from the source's position on, without a seek
+-- and without a byte past the xorb section, and what they hold was written in the form; a reader of
+-- these bytes finds it in that form
+pub record Exports (form : Form) (old new : Source) (before after : Option (List ℕ)) (n : ℕ)
+    : Type 0 where
   pub files : List MDBFileInfo
   pub xorbs : List MDBXorbInfo
   pub header : HasHeader (bytes_left old)
@@ -69,19 +73,21 @@ pub record Exports (form : Form) (old new : Source) (before after : Option (List
   pub written : Appends before after (exported files xorbs form)
   pub count : n ≡ length (exported files xorbs form)
   pub in_form : (info : MDBShardInfo) → HasEnds (exported files xorbs form) info
-      → IsInForm (if_in form.file_table files) (keyed_xorbs form.key xorbs) form (exported files xorbs form) info.metadata
+      → IsInForm (if_in form.file_table files) (keyed_xorbs form.key xorbs) form
+      (exported files xorbs form) info.metadata
 
 -- why a section was not read, if the device did not fail
 abbrev pub BadSection : {H R : Type 0} → RecordKind H R → List ℕ → CoreError → Type 0
 BadSection K bytes e = SectionCase (PassesRows K) (IsCutSection K) bytes e
 
--- why a shard was not exported, if the source's device did not fail: the header or a section was not read, or the writer
--- failed or an allocation did
+-- why a shard was not exported, if the source's device did not fail: the header or a section was
+-- not read, or the writer failed or an allocation did
 pub data ExportCase (bytes : List ℕ) (e : CoreError) : Type 0 where
   bad_header : FormatCase HasUnsupportedHeader EndsInHeader bytes e → ExportCase bytes e
   bad_files : HasHeader bytes → BadSection file_records (drop 48 bytes) e → ExportCase bytes e
-  bad_xorbs : HasHeader bytes → (files : List MDBFileInfo) → IsSection file_records (drop 48 bytes) files → BadSection xorb_records (drop (xorbs_after files) bytes) e
-      → ExportCase bytes e
+  bad_xorbs : HasHeader bytes → (files : List MDBFileInfo)
+      → IsSection file_records (drop 48 bytes) files
+      → BadSection xorb_records (drop (xorbs_after files) bytes) e → ExportCase bytes e
   not_written : IsDeviceError e → ExportCase bytes e
 
 -- it was not, without a seek; the position is unspecified
@@ -96,16 +102,18 @@ ExpiresTooLate now valid = 2 ^ 64 ≤ now + valid
 
 -- the shard cannot be exported: its chunk hashes are keyed, or the expiry does not fit 64 bits
 abbrev pub CannotExport : MDBShardInfo → ℕ → ℕ → Type 0
-CannotExport info now valid = (info.metadata.chunk_hash_hmac_key ≢ no_key) ⊎ ExpiresTooLate now valid
+CannotExport info now valid =
+    (info.metadata.chunk_hash_hmac_key ≢ no_key) ⊎ ExpiresTooLate now valid
 
 -- the records of the section at the source's position are these, and it was read up to its end
-pub record PassesSection {H R : Type 0} (K : RecordKind H R) (old new : Source) (stored : List R) : Type 0 where
+pub record PassesSection {H R : Type 0} (K : RecordKind H R) (old new : Source) (stored : List R)
+    : Type 0 where
   pub section : IsSection K (bytes_left old) stored
   pub after : new ≡ advanced old (48 * (sum_by K.row_count stored + 1))
 
 -- such a section was read, and a section was written of what each record becomes, and collected
-pub record ExportsSection {H R : Type 0} (K : RecordKind H R) (exports : R → List R) (Collected : List R → Type 0) (old new : Source) (before after : Option (List ℕ))
-    : Type 0 where
+pub record ExportsSection {H R : Type 0} (K : RecordKind H R) (exports : R → List R)
+    (Collected : List R → Type 0) (old new : Source) (before after : Option (List ℕ)) : Type 0 where
   pub stored : List R
   pub passed : PassesSection K old new stored
   pub collected : Collected (flat_map exports stored)
@@ -118,8 +126,10 @@ pub record WritingFails (old new : Source) (e : CoreError) : Type 0 where
   pub failures : new.failures ≡ old.failures
   pub cause : IsDeviceError e
 
--- records were read from the source, their rows counted down from 4294967295, and this was made of them
-pub record HasExported {H R : Type 0} (K : RecordKind H R) (Took : List ℕ → Type 0) (Made : List R → Type 0) (left : ℕ) : Type 0 where
+-- records were read from the source, their rows counted down from 4294967295, and this was made of
+-- them
+pub record HasExported {H R : Type 0} (K : RecordKind H R) (Took : List ℕ → Type 0)
+    (Made : List R → Type 0) (left : ℕ) : Type 0 where
   pub stored : List R
   pub are_stored : All K.IsStored stored
   pub taken : Took (flat_map K.record_bytes stored)

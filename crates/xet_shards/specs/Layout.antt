@@ -10,7 +10,8 @@ use Rattle.xet_records.specs.XorbRecord.{xorb_records}
 use Rattle.xet_shards.specs.declared.shard_format.header.MDBShardFileHeader.{MDBShardFileHeader}
 use Rattle.xet_shards.specs.declared.shard_format.footer.MDBShardFileFooter.{MDBShardFileFooter}
 use Rattle.xet_shards.specs.declared.shard_format.info.MDBShardInfo.{MDBShardInfo}
--- what a writer chooses beside the records: which tables are in, the key of the chunk hashes and two timestamps
+-- what a writer chooses beside the records: which tables are in, the key of the chunk hashes and
+-- two timestamps
 pub use Rattle.xet_shards.specs.declared.shard_format.form.Form.{Form}
 use Rattle.xet_shards.specs.Shard.{Shard}
 use Rattle.xet_shards.specs.Section.{section_bytes}
@@ -19,7 +20,8 @@ use Rattle.xet_shards.specs.Tables.{starts, chunk_table, table_bytes, chunk_tabl
 -- the 32 bytes that every shard begins with: `HFRepoMetaData`, a zero byte and seventeen more
 abbrev pub header_tag : List ℕ
 header_tag =
-    72 ∷ 70 ∷ 82 ∷ 101 ∷ 112 ∷ 111 ∷ 77 ∷ 101 ∷ 116 ∷ 97 ∷ 68 ∷ 97 ∷ 116 ∷ 97 ∷ 0 ∷ 85 ∷ 105 ∷ 103 ∷ 69 ∷ 106 ∷ 123 ∷ 129 ∷ 87 ∷ 131 ∷ 165 ∷ 189 ∷ 217 ∷ 92 ∷ 205 ∷ 209 ∷ 74 ∷ 169 ∷ []
+    72 ∷ 70 ∷ 82 ∷ 101 ∷ 112 ∷ 111 ∷ 77 ∷ 101 ∷ 116 ∷ 97 ∷ 68 ∷ 97 ∷ 116 ∷ 97 ∷ 0 ∷ 85 ∷ 105 ∷ 103
+    ∷ 69 ∷ 106 ∷ 123 ∷ 129 ∷ 87 ∷ 131 ∷ 165 ∷ 189 ∷ 217 ∷ 92 ∷ 205 ∷ 209 ∷ 74 ∷ 169 ∷ []
 
 -- the header: the tag, whatever the value holds, its version and its footer size
 unfoldable pub shard_header_bytes : MDBShardFileHeader → List ℕ
@@ -28,7 +30,8 @@ shard_header_bytes h = (header_tag ++ u64_bytes h.version) ++ u64_bytes h.footer
 -- the words of a footer before the key, after it, and after the words that are kept free
 abbrev pub offsets_of : MDBShardFileFooter → List ℕ
 offsets_of f =
-    f.version ∷ f.file_info_offset ∷ f.xorb_info_offset ∷ f.file_lookup_offset ∷ f.file_lookup_num_entry ∷ f.xorb_lookup_offset ∷ f.xorb_lookup_num_entry
+    f.version ∷ f.file_info_offset ∷ f.xorb_info_offset ∷ f.file_lookup_offset
+    ∷ f.file_lookup_num_entry ∷ f.xorb_lookup_offset ∷ f.xorb_lookup_num_entry
     ∷ f.chunk_lookup_offset ∷ f.chunk_lookup_num_entry ∷ []
 
 abbrev pub timestamps_of : MDBShardFileFooter → List ℕ
@@ -40,7 +43,9 @@ sums_of f = f.stored_bytes_on_disk ∷ f.materialized_bytes ∷ f.stored_bytes �
 -- the footer: its fields in order
 unfoldable pub shard_footer_bytes : MDBShardFileFooter → List ℕ
 shard_footer_bytes f =
-    (((flat_map u64_bytes (offsets_of f) ++ hash_bytes f.chunk_hash_hmac_key) ++ flat_map u64_bytes (timestamps_of f)) ++ flat_map u64_bytes f._buffer)
+    (((flat_map u64_bytes (offsets_of f) ++ hash_bytes f.chunk_hash_hmac_key)
+    ++ flat_map u64_bytes (timestamps_of f))
+    ++ flat_map u64_bytes f._buffer)
     ++ flat_map u64_bytes (sums_of f)
 
 -- the footer of no shard in particular
@@ -72,13 +77,16 @@ if_in is_in xs = if is_in then xs else []
 abbrev pub header_value : MDBShardFileHeader
 header_value = record { tag = header_tag; version = 2; footer_size = 200 }
 
--- the footer: offsets are sums of lengths, counts those of the tables that are in, byte counts sums over the records
+-- the footer: offsets are sums of lengths, counts those of the tables that are in, byte counts sums
+-- over the records
 abbrev pub footer_value : List MDBFileInfo → List MDBXorbInfo → Form → MDBShardFileFooter
 footer_value files xorbs form =
     let xorb_info = 48 + length (section_bytes file_records files) in
     let file_lookup = xorb_info + length (section_bytes xorb_records xorbs) in
-    let xorb_lookup = file_lookup + length (if_in form.file_table (table_bytes file_records files)) in
-    let chunk_lookup = xorb_lookup + length (if_in form.xorb_table (table_bytes xorb_records xorbs)) in
+    let xorb_lookup =
+    file_lookup + length (if_in form.file_table (table_bytes file_records files)) in
+    let chunk_lookup =
+    xorb_lookup + length (if_in form.xorb_table (table_bytes xorb_records xorbs)) in
     record {
       version = 1;
       file_info_offset = 48;
@@ -102,12 +110,17 @@ footer_value files xorbs form =
 -- all the bytes of a list of files and a list of xorbs in a form
 unfoldable pub layout_of : List MDBFileInfo → List MDBXorbInfo → Form → List ℕ
 layout_of files xorbs form =
-    (((((shard_header_bytes header_value ++ section_bytes file_records files) ++ section_bytes xorb_records xorbs) ++ if_in form.file_table (table_bytes file_records files))
-    ++ if_in form.xorb_table (table_bytes xorb_records xorbs)) ++ if_in form.chunk_table (chunk_table_bytes xorbs)) ++ shard_footer_bytes (footer_value files xorbs form)
+    (((((shard_header_bytes header_value ++ section_bytes file_records files)
+    ++ section_bytes xorb_records xorbs)
+    ++ if_in form.file_table (table_bytes file_records files))
+    ++ if_in form.xorb_table (table_bytes xorb_records xorbs))
+    ++ if_in form.chunk_table (chunk_table_bytes xorbs))
+    ++ shard_footer_bytes (footer_value files xorbs form)
 
 -- what a reader of these bytes finds in header and footer
 abbrev pub info_of : List MDBFileInfo → List MDBXorbInfo → Form → MDBShardInfo
-info_of files xorbs form = record { header = header_value; metadata = footer_value files xorbs form }
+info_of files xorbs form =
+    record { header = header_value; metadata = footer_value files xorbs form }
 
 -- all tables, no key, no creation, and an expiry or none
 abbrev pub plain_form : Option ℕ → Form

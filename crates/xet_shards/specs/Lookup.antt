@@ -1,4 +1,5 @@
--- Looking up a record by its hash: the table of starts, the records that its rows lead to, and what this costs.
+-- Looking up a record by its hash: the table of starts, the records that its rows lead to, and what
+-- this costs.
 use Rattle.std.specs.Prelude.{◌≡◌, ◌≢◌, ◌⊎◌, ◌==◌, ℕ, ◌+◌, ◌*◌, ◌/◌, ◌^◌, ◌<◌, ◌≤◌, List, ◌++◌, length, take, map, filter, flat_map, sum, drop, All, AllPairs, Contains, Option, Some, None, IfOk, IfErr, OnOk, MatchResult, string_bytes, []}
 use Rattle.std.specs.List.{AllZip}
 use Rattle.std.specs.FinMap.{get, values}
@@ -22,7 +23,8 @@ use Rattle.xet_shards.specs.SectionReading.{MayTake, BeginsWithBookend, PassesLi
 abbrev pub sharing : {H R : Type 0} → RecordKind H R → ℕ → List R → List R
 sharing K word records = filter (λ r. (hash_in K r).word0 == word) records
 
--- the file table at the offset that a footer gives: the first word of a hash, and four bytes of a row number
+-- the file table at the offset that a footer gives: the first word of a hash, and four bytes of a
+-- row number
 abbrev pub file_table : MDBShardFileFooter → Source → Table
 file_table footer source = table_at source footer.file_lookup_offset footer.file_lookup_num_entry 4
 
@@ -31,7 +33,8 @@ abbrev pub xorb_table : MDBShardFileFooter → Source → Table
 xorb_table footer source = table_at source footer.xorb_lookup_offset footer.xorb_lookup_num_entry 4
 
 abbrev pub chunk_lookup_table : MDBShardFileFooter → Source → Table
-chunk_lookup_table footer source = table_at source footer.chunk_lookup_offset footer.chunk_lookup_num_entry 8
+chunk_lookup_table footer source =
+    table_at source footer.chunk_lookup_offset footer.chunk_lookup_num_entry 8
 
 -- four bytes spell a number, eight two
 abbrev pub IsNumber : List ℕ → ℕ → Type 0
@@ -57,21 +60,26 @@ abbrev pub IsBareInternalError : CoreError → Type 0
 IsBareInternalError (InternalError text) = string_bytes text ≡ []
 IsBareInternalError _ = ⊥
 
--- why the record in front of some bytes was not read: there is a bookend, the device failed, out of memory, it has more
--- rows than fit `u32`, or the bytes are too few
-abbrev pub RecordRefusal : {H R : Type 0} → RecordKind H R → List ℕ → Source → Source → CoreError → Type 0
+-- why the record in front of some bytes was not read: there is a bookend, the device failed, out of
+-- memory, it has more rows than fit `u32`, or the bytes are too few
+abbrev pub RecordRefusal : {H R : Type 0} → RecordKind H R → List ℕ → Source → Source → CoreError
+    → Type 0
 RecordRefusal K bytes old new e =
     ((new.failures ≡ old.failures) × IsBareInternalError e × BeginsWithBookend K bytes)
     ⊎ SectionFailure (PassesLimit K 4294967296) (EndsEarly K 4294967296) bytes old new e
 
--- why the record at a row was not read: its offset passes 64 bits; or it does not, and the record there was not read
-abbrev pub InfoRefusal : {H R : Type 0} → RecordKind H R → ℕ → ℕ → Source → Source → CoreError → Type 0
+-- why the record at a row was not read: its offset passes 64 bits; or it does not, and the record
+-- there was not read
+abbrev pub InfoRefusal : {H R : Type 0} → RecordKind H R → ℕ → ℕ → Source → Source → CoreError
+    → Type 0
 InfoRefusal K offset row old new e =
     ((new.failures ≡ old.failures) × IsBareInvalidShard e × (2 ^ 64 ≤ row_at offset row))
-    ⊎ ((row_at offset row < 2 ^ 64) × RecordRefusal K (drop (row_at offset row) old.bytes) old new e)
+    ⊎ ((row_at offset row < 2 ^ 64)
+    × RecordRefusal K (drop (row_at offset row) old.bytes) old new e)
 
 -- the record at a row was read
-pub record ReadsInfo {H R : Type 0} (K : RecordKind H R) (offset row : ℕ) (old new : Source) (found : R) : Type 0 where
+pub record ReadsInfo {H R : Type 0} (K : RecordKind H R) (offset row : ℕ) (old new : Source)
+    (found : R) : Type 0 where
   pub within : row_at offset row < 2 ^ 64
   pub is_at : RecordAt K old.bytes (row_at offset row) found
   pub serves : Serves old new
@@ -81,7 +89,8 @@ pub record ReadsInfo {H R : Type 0} (K : RecordKind H R) (offset row : ℕ) (old
   pub may_take : MayTake K (drop (row_at offset row) old.bytes) taken
 
 -- it was not; the source may then be at any offset
-pub record ReadInfoFails {H R : Type 0} (K : RecordKind H R) (offset row : ℕ) (old new : Source) (e : CoreError) : Type 0 where
+pub record ReadInfoFails {H R : Type 0} (K : RecordKind H R) (offset row : ℕ) (old new : Source)
+    (e : CoreError) : Type 0 where
   pub bytes : new.bytes ≡ old.bytes
   pub seeks : new.seeks ≤ old.seeks + 1
   pub no_fewer : old.seeks ≤ new.seeks
@@ -107,7 +116,8 @@ pub record Collides (t : Table) (key : ℕ) : Type 0 where
 -- an index lookup was refused: eight rows have the key, or the search was
 abbrev pub IndexRefused : Table → ℕ → Source → Source → CoreError → Type 0
 IndexRefused t key old new e =
-    ((new.failures ≡ old.failures) × (e ≡ TruncatedHashCollision key) × Collides t key) ⊎ SearchRefused t old new e
+    ((new.failures ≡ old.failures) × (e ≡ TruncatedHashCollision key) × Collides t key)
+    ⊎ SearchRefused t old new e
 
 -- the table fits 64 bits, fewer than eight rows have the key, and their row numbers are handed out
 pub record IndexFinds (t : Table) (key : ℕ) (old new : List ℕ) (count : ℕ) : Type 0 where
@@ -118,9 +128,11 @@ pub record IndexFinds (t : Table) (key : ℕ) (old new : List ℕ) (count : ℕ)
   pub are_hits : AreHits t key found
   pub written : new ≡ map (λ hit. hit.value) found ++ drop count old
 
--- an index lookup: the row numbers behind a key of a table, or why they are not handed out; the bytes of the source stay,
--- and the seeks are bounded where the table is sorted, and where it is even
-pub record LooksUpIndex (t : Table) (key : ℕ) (dest_old dest_new : List ℕ) (old new : Source) (result : CoreResult ℕ) : Type 0 where
+-- an index lookup: the row numbers behind a key of a table, or why they are not handed out; the
+-- bytes of the source stay, and the seeks are bounded where the table is sorted, and where it is
+-- even
+pub record LooksUpIndex (t : Table) (key : ℕ) (dest_old dest_new : List ℕ) (old new : Source)
+    (result : CoreResult ℕ) : Type 0 where
   pub found : IfOk result (IndexFinds t key dest_old dest_new)
   pub serves : OnOk result (Serves old new)
   pub refused : IfErr result (IndexRefused t key old new)
@@ -129,7 +141,8 @@ pub record LooksUpIndex (t : Table) (key : ℕ) (dest_old dest_new : List ℕ) (
   pub even : IsEven t → new.seeks ≤ old.seeks + 3
 
 -- a call went to a row, by at most so many seeks, and read at most the record there
-pub record Visit {H R : Type 0} (K : RecordKind H R) (most offset row : ℕ) (old new : Source) : Type 0 where
+pub record Visit {H R : Type 0} (K : RecordKind H R) (most offset row : ℕ) (old new : Source)
+    : Type 0 where
   pub bytes : new.bytes ≡ old.bytes
   pub seeks : new.seeks ≤ old.seeks + most
   pub no_fewer : old.seeks ≤ new.seeks
@@ -138,7 +151,8 @@ pub record Visit {H R : Type 0} (K : RecordKind H R) (most offset row : ℕ) (ol
   pub may_take : MayTake K (drop (row_at offset row) old.bytes) taken
 
 -- the records at these rows were read, by at most so many seeks each
-pub record Visits {H R : Type 0} (K : RecordKind H R) (most offset : ℕ) (rows : List ℕ) (old new : Source) : Type 0 where
+pub record Visits {H R : Type 0} (K : RecordKind H R) (most offset : ℕ) (rows : List ℕ)
+    (old new : Source) : Type 0 where
   pub bytes : new.bytes ≡ old.bytes
   pub seeks : new.seeks ≤ old.seeks + most * length rows
   pub no_fewer : old.seeks ≤ new.seeks
@@ -150,8 +164,10 @@ pub record Visits {H R : Type 0} (K : RecordKind H R) (most offset : ℕ) (rows 
 abbrev pub VisitsSome : {H R : Type 0} → RecordKind H R → ℕ → ℕ → List ℕ → Source → Source → Type 0
 VisitsSome K most offset rows old new = (n : ℕ) × Visits K most offset (take n rows) old new
 
--- a lookup: the table fits 64 bits, the rows with the first word are found, and records at them read
-pub record LooksUp {H R : Type 0} (K : RecordKind H R) (t : Table) (offset key : ℕ) (old new : Source) (Answer : List ℕ → Type 0) : Type 0 where
+-- a lookup: the table fits 64 bits, the rows with the first word are found, and records at them
+-- read
+pub record LooksUp {H R : Type 0} (K : RecordKind H R) (t : Table) (offset key : ℕ)
+    (old new : Source) (Answer : List ℕ → Type 0) : Type 0 where
   pub fits : FitsTable t
   pub found : List (Hit ℕ)
   pub few : length found < 8
@@ -163,33 +179,42 @@ pub record LooksUp {H R : Type 0} (K : RecordKind H R) (t : Table) (offset key :
   pub answer : Answer (map (λ hit. hit.value) found)
 
 -- the first record with the hash at one of the rows, or none where each has another
-abbrev pub LookupAnswer : {H R : Type 0} → RecordKind H R → List ℕ → ℕ → DataHash → Option R → List ℕ → Type 0
+abbrev pub LookupAnswer : {H R : Type 0} → RecordKind H R → List ℕ → ℕ → DataHash → Option R
+    → List ℕ → Type 0
 LookupAnswer {R = R} K bytes offset hash (Some found) rows =
-    (hash_in K found ≡ hash) × (row : ℕ) × Contains rows row × RecordAt K bytes (row_at offset row) found
+    (hash_in K found ≡ hash) × (row : ℕ) × Contains rows row
+    × RecordAt K bytes (row_at offset row) found
 LookupAnswer {R = R} K bytes offset hash None rows =
-    All (λ row. (found : R) × RecordAt K bytes (row_at offset row) found × (hash_in K found ≢ hash)) rows
+    All (λ row. (found : R) × RecordAt K bytes (row_at offset row) found × (hash_in K found ≢ hash))
+    rows
 
 -- the records at these rows were read, and none of them has the hash
-pub record Missed {H R : Type 0} (K : RecordKind H R) (offset : ℕ) (hash : DataHash) (rows : List ℕ) (old new : Source) : Type 0 where
+pub record Missed {H R : Type 0} (K : RecordKind H R) (offset : ℕ) (hash : DataHash) (rows : List ℕ)
+    (old new : Source) : Type 0 where
   pub visits : Visits K 1 offset rows old new
   pub serves : Serves old new
   pub others : LookupAnswer K old.bytes offset hash None rows
 
 -- the record at one of the rows was not read
-abbrev pub LookupRefused : {H R : Type 0} → RecordKind H R → ℕ → Source → Source → CoreError → List ℕ → Type 0
-LookupRefused K offset old new e rows = (row : ℕ) × Contains rows row × InfoRefusal K offset row old new e
+abbrev pub LookupRefused : {H R : Type 0} → RecordKind H R → ℕ → Source → Source → CoreError
+    → List ℕ → Type 0
+LookupRefused K offset old new e rows =
+    (row : ℕ) × Contains rows row × InfoRefusal K offset row old new e
 
--- what a lookup on the bytes of a shard costs at most: the seeks that the search made, and one more for each file
--- that shares the first word; the bytes of the search and the bytes of these files
-pub record WithinBounds {H R : Type 0} (K : RecordKind H R) (records : List R) (word : ℕ) (old new : Source) : Type 0 where
+-- what a lookup on the bytes of a shard costs at most: the seeks that the search made, and one more
+-- for each file that shares the first word; the bytes of the search and the bytes of these files
+pub record WithinBounds {H R : Type 0} (K : RecordKind H R) (records : List R) (word : ℕ)
+    (old new : Source) : Type 0 where
   pub made : ℕ
   pub more : ℕ
   pub few : made ≤ (length records + 1) / 128 + length (sharing K word records) / 4 + 8
   pub few_more : more ≤ length (sharing K word records)
   pub seeks : new.seeks ≡ old.seeks + made + more
-  pub read : new.read ≤ old.read + (257 + length (sharing K word records) + made) * 12 + length (flat_map K.record_bytes (sharing K word records))
+  pub read : new.read ≤ old.read + (257 + length (sharing K word records) + made) * 12
+      + length (flat_map K.record_bytes (sharing K word records))
 
--- what a search in a sorted table costs at most, by its rows, how many of them have the key, and the bytes of a row
+-- what a search in a sorted table costs at most, by its rows, how many of them have the key, and
+-- the bytes of a row
 pub record SearchCosts (rows hits size : ℕ) (old new : Source) : Type 0 where
   pub made : ℕ
   pub few : made ≤ (rows + 1) / 128 + hits / 4 + 8
@@ -197,45 +222,64 @@ pub record SearchCosts (rows hits size : ℕ) (old new : Source) : Type 0 where
   pub read : new.read ≤ old.read + (257 + hits + made) * size
 
 -- what the search in a table of these records costs
-abbrev pub SearchWithinBounds : {H R : Type 0} → RecordKind H R → List R → ℕ → Source → Source → Type 0
-SearchWithinBounds K records word old new = SearchCosts (length records) (length (sharing K word records)) 12 old new
+abbrev pub SearchWithinBounds : {H R : Type 0} → RecordKind H R → List R → ℕ → Source → Source
+    → Type 0
+SearchWithinBounds K records word old new =
+    SearchCosts (length records) (length (sharing K word records)) 12 old new
 
--- a lookup that gives an answer, and one that gives none: the search was refused, or the record at a row that it found
-abbrev pub Finding : {H R : Type 0} → RecordKind H R → Table → ℕ → DataHash → Source → Source → Option R → Type 0
-Finding K t offset hash old new answer = LooksUp K t offset hash.word0 old new (LookupAnswer K old.bytes offset hash answer)
+-- a lookup that gives an answer, and one that gives none: the search was refused, or the record at
+-- a row that it found
+abbrev pub Finding : {H R : Type 0} → RecordKind H R → Table → ℕ → DataHash → Source → Source
+    → Option R → Type 0
+Finding K t offset hash old new answer =
+    LooksUp K t offset hash.word0 old new (LookupAnswer K old.bytes offset hash answer)
 
-abbrev pub FindingFails : {H R : Type 0} → RecordKind H R → Table → ℕ → DataHash → Source → Source → CoreError → Type 0
+abbrev pub FindingFails : {H R : Type 0} → RecordKind H R → Table → ℕ → DataHash → Source → Source
+    → CoreError → Type 0
 FindingFails K t offset hash old new e =
     (IndexRefused t hash.word0 old new e × (IsSorted t → Bounded t hash.word0 old new))
     ⊎ LooksUp K t offset hash.word0 old new (LookupRefused K offset old new e)
 
 -- a lookup of a record by its hash: the answer or the error, and the bytes of the source stay
-pub record LooksUpRecord {H R : Type 0} (K : RecordKind H R) (t : Table) (offset : ℕ) (hash : DataHash) (old new : Source) (result : CoreResult (Option R)) : Type 0 where
-  pub read : MatchResult result (Finding K t offset hash old new) (FindingFails K t offset hash old new)
+pub record LooksUpRecord {H R : Type 0} (K : RecordKind H R) (t : Table) (offset : ℕ)
+    (hash : DataHash) (old new : Source) (result : CoreResult (Option R)) : Type 0 where
+  pub read : MatchResult result (Finding K t offset hash old new)
+      (FindingFails K t offset hash old new)
   pub serves : OnOk result (Serves old new)
   pub kept : new.bytes ≡ old.bytes
 
 -- these rows are the starts of the records that share the first word, in some order
 abbrev pub AreStarts : {H R : Type 0} → RecordKind H R → List R → ℕ → List ℕ → Type 0
 AreStarts K records word rows =
-    ((row : ℕ) → Contains rows row → Contains (starts K records) (word, row)) × ((row : ℕ) → Contains (starts K records) (word, row) → Contains rows row)
+    ((row : ℕ) → Contains rows row → Contains (starts K records) (word, row))
+    × ((row : ℕ) → Contains (starts K records) (word, row) → Contains rows row)
 
--- an index lookup in written bytes that have these records and their table: the starts if fewer than eight records share
--- the first word, the collision if eight do; else the device failed
+-- an index lookup in written bytes that have these records and their table: the starts if fewer
+-- than eight records share the first word, the collision if eight do; else the device failed
 abbrev pub StartsAmong : {H R : Type 0} → RecordKind H R → List R → ℕ → List ℕ → ℕ → Type 0
 StartsAmong K records word rows count =
-    (length (sharing K word records) < 8) × (count ≡ length (sharing K word records)) × AreStarts K records word (take count rows)
+    (length (sharing K word records) < 8) × (count ≡ length (sharing K word records))
+    × AreStarts K records word (take count rows)
 
-abbrev pub NoStartsAmong : {H R : Type 0} → RecordKind H R → List R → ℕ → Source → Source → CoreError → Type 0
-NoStartsAmong K records word old new e = DeviceFailure old new e ⊎ ((e ≡ TruncatedHashCollision word) × (8 ≤ length (sharing K word records)))
+abbrev pub NoStartsAmong : {H R : Type 0} → RecordKind H R → List R → ℕ → Source → Source
+    → CoreError → Type 0
+NoStartsAmong K records word old new e =
+    DeviceFailure old new e
+    ⊎ ((e ≡ TruncatedHashCollision word) × (8 ≤ length (sharing K word records)))
 
--- a record lookup in such bytes gave none: if fewer than eight records share the first word, an allocation failed, but
--- only if one does, so that a record is read; if eight do, the collision; else the device failed
-abbrev pub NotFoundAmong : {H R : Type 0} → RecordKind H R → List R → DataHash → Source → Source → CoreError → Type 0
+-- a record lookup in such bytes gave none: if fewer than eight records share the first word, an
+-- allocation failed, but only if one does, so that a record is read; if eight do, the collision;
+-- else the device failed
+abbrev pub NotFoundAmong : {H R : Type 0} → RecordKind H R → List R → DataHash → Source → Source
+    → CoreError → Type 0
 NotFoundAmong K records hash old new e =
-    DeviceFailure old new e ⊎ ((e ≡ OutOfMemory) × (1 ≤ length (sharing K hash.word0 records)) × (length (sharing K hash.word0 records) < 8))
+    DeviceFailure old new e
+    ⊎ ((e ≡ OutOfMemory) × (1 ≤ length (sharing K hash.word0 records))
+    × (length (sharing K hash.word0 records) < 8))
     ⊎ ((e ≡ TruncatedHashCollision hash.word0) × (8 ≤ length (sharing K hash.word0 records)))
 
--- a file lookup on the bytes of a shard that gave an answer: fewer than eight files share the first word, and it is the map's
+-- a file lookup on the bytes of a shard that gave an answer: fewer than eight files share the first
+-- word, and it is the map's
 abbrev pub FoundInShard : Shard → DataHash → Option MDBFileInfo → Type 0
-FoundInShard s hash answer = (length (sharing file_records hash.word0 (values s.files)) < 8) × (answer ≡ get s.files hash)
+FoundInShard s hash answer =
+    (length (sharing file_records hash.word0 (values s.files)) < 8) × (answer ≡ get s.files hash)

@@ -17,13 +17,16 @@ use Rattle.xet_shards.specs.Layout.{header_tag, shard_header_bytes, if_in}
 use Rattle.xet_shards.specs.MinimalShard.{MinimalShard, eligible_hashes}
 
 -- views of stored records were read, and their rows counted down from 4294967295
-pub record HasReadViews {H R V : Type 0} (K : RecordKind H R) (record_of : V → R) (Took : List ℕ → Type 0) (views : List V) (left : ℕ) : Type 0 where
+pub record HasReadViews {H R V : Type 0} (K : RecordKind H R) (record_of : V → R)
+    (Took : List ℕ → Type 0) (views : List V) (left : ℕ) : Type 0 where
   pub are_stored : All (λ view. K.IsStored (record_of view)) views
   pub taken : Took (flat_map (λ view. K.record_bytes (record_of view)) views)
   pub rows : sum_by (λ view. K.row_count (record_of view)) views + left ≡ 4294967295
 
--- an input says of some bytes that they were read between two of its states, and that reading failed
-module _ {H R V I : Type 0} (K : RecordKind H R) (record_of : V → R) (reads : I → I → List ℕ → Type 0) where
+-- an input says of some bytes that they were read between two of its states, and that reading
+-- failed
+module _ {H R V I : Type 0} (K : RecordKind H R) (record_of : V → R)
+    (reads : I → I → List ℕ → Type 0) where
   -- views of all records of a section, and the bookend after them, were read
   pub record ReadsViews (old new : I) (views : List V) : Type 0 where
     pub mid : I
@@ -32,7 +35,8 @@ module _ {H R V I : Type 0} (K : RecordKind H R) (record_of : V → R) (reads : 
     pub bookend : ReadsBookend K (reads mid new)
 
   -- views of some records were read, and the record after them was not
-  pub record StopsAfterViews (fails : I → I → ℕ → CoreError → Type 0) (old new : I) (e : CoreError) : Type 0 where
+  pub record StopsAfterViews (fails : I → I → ℕ → CoreError → Type 0) (old new : I) (e : CoreError)
+      : Type 0 where
     pub mid : I
     pub views : List V
     pub left : ℕ
@@ -45,8 +49,10 @@ module _ {I : Type 0} (reads : I → I → List ℕ → Type 0) where
   ReadsXorbs true old new xorbs = ReadsViews xorb_records (λ x. x) reads old new xorbs
   ReadsXorbs false old new xorbs = (new ≡ old) × (xorbs ≡ [])
 
-  -- the file section was read, and its records are kept if they are wanted; then the xorb section was
-  pub record ReadsSections (with_files with_xorbs : Bool) (old new : I) (m : MinimalShard) : Type 0 where
+  -- the file section was read, and its records are kept if they are wanted; then the xorb section
+  -- was
+  pub record ReadsSections (with_files with_xorbs : Bool) (old new : I) (m : MinimalShard)
+      : Type 0 where
     pub files : List MDBFileInfo
     pub mid : I
     pub file_section : ReadsViews file_records (λ r. r) reads old mid files
@@ -62,18 +68,24 @@ module _ {I : Type 0} (reads : I → I → List ℕ → Type 0) where
 
   -- a shard's header and its sections were read
   abbrev pub ReadsMinimal : Bool → Bool → I → I → MinimalShard → Type 0
-  ReadsMinimal with_files with_xorbs old new m = (mid : I) × ReadsShardHeader old mid × ReadsSections with_files with_xorbs mid new m
+  ReadsMinimal with_files with_xorbs old new m =
+      (mid : I) × ReadsShardHeader old mid × ReadsSections with_files with_xorbs mid new m
 
   module _ (fails : I → I → ℕ → CoreError → Type 0) where
     -- the file section was not read, or the xorb section, which is wanted, was not
     pub data SectionsFail (with_xorbs : Bool) (old new : I) (e : CoreError) : Type 0 where
-      no_files : StopsAfterViews file_records (λ r. r) reads fails old new e → SectionsFail with_xorbs old new e
-      no_xorbs : with_xorbs ≡ true → (mid : I) (files : List MDBFileInfo) → ReadsViews file_records (λ r. r) reads old mid files
-          → StopsAfterViews xorb_records (λ x. x) reads fails mid new e → SectionsFail with_xorbs old new e
+      no_files : StopsAfterViews file_records (λ r. r) reads fails old new e
+          → SectionsFail with_xorbs old new e
+      no_xorbs : with_xorbs ≡ true → (mid : I) (files : List MDBFileInfo)
+          → ReadsViews file_records (λ r. r) reads old mid files
+          → StopsAfterViews xorb_records (λ x. x) reads fails mid new e
+          → SectionsFail with_xorbs old new e
 
     -- the header was not read, or the sections after it were not
     abbrev pub MinimalFails : (I → I → CoreError → Type 0) → Bool → I → I → CoreError → Type 0
-    MinimalFails header_fails with_xorbs old new e = header_fails old new e ⊎ ((mid : I) × ReadsShardHeader old mid × SectionsFail with_xorbs mid new e)
+    MinimalFails header_fails with_xorbs old new e =
+        header_fails old new e
+        ⊎ ((mid : I) × ReadsShardHeader old mid × SectionsFail with_xorbs mid new e)
 
 -- a header was not read from a reader that has these bytes left, where they are known
 pub record ReaderHeaderFails (remaining : Option (List ℕ)) (e : CoreError) : Type 0 where
@@ -83,7 +95,9 @@ pub record ReaderHeaderFails (remaining : Option (List ℕ)) (e : CoreError) : T
 
 -- the hashes of a shard's eligible chunks were read from the source's position on
 abbrev pub ReadsEligible : Source → Source → List DataHash → Type 0
-ReadsEligible old new hashes = (m : MinimalShard) × ReadsMinimal Takes true true old new m × (hashes ≡ eligible_hashes m.files m.xorbs)
+ReadsEligible old new hashes =
+    (m : MinimalShard) × ReadsMinimal Takes true true old new m
+    × (hashes ≡ eligible_hashes m.files m.xorbs)
 
 -- they were not: the shard was not read, or it was, and an allocation failed
 abbrev pub EligibleFails : Source → Source → CoreError → Type 0

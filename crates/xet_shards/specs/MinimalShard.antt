@@ -1,5 +1,5 @@
--- A minimal shard: the records of its two sections, the chunks at which its files start, and the chunks that the global
--- index keeps.
+-- A minimal shard: the records of its two sections, the chunks at which its files start, and the
+-- chunks that the global index keeps.
 use Rattle.std.specs.Prelude.{◌≡◌, ℕ, ◌+◌, ◌*◌, ◌%◌, ◌==◌, Bool, true, false, not, ◌&&◌, ◌||◌, List, [], ◌∷◌, take, length, map, filter, flat_map, Option, None, unwrap_or, refl, if◌then◌else◌}
 use Rattle.std.specs.List.{enumerate_from, list_any}
 use Rattle.std.specs.Ordering.{nat_cmp, ordering_then, eq_by_cmp}
@@ -32,8 +32,9 @@ pub record MinimalShard : Type 0 where
 -- the encoding by which proofs distinguish such values
 abbrev pub coded_minimal : Coded MinimalShard
 coded_minimal =
-    code_by (List MDBFileInfo × List MDBXorbInfo) (coded× (coded_list file.the_row.coded) (coded_list xorb.the_row.coded)) (λ m. (m.files, m.xorbs))
-    (λ p. record { files = p.0; xorbs = p.1 }) (λ _. refl)
+    code_by (List MDBFileInfo × List MDBXorbInfo)
+    (coded× (coded_list file.the_row.coded) (coded_list xorb.the_row.coded))
+    (λ m. (m.files, m.xorbs)) (λ p. record { files = p.0; xorbs = p.1 }) (λ _. refl)
 
 -- sections may hold the records
 pub record FitsSections (m : MinimalShard) : Type 0 where
@@ -42,11 +43,14 @@ pub record FitsSections (m : MinimalShard) : Type 0 where
 
 -- the order of starts: by the xorb's hash, then by the chunk's index
 abbrev pub start_cmp : FileStart → FileStart → Ordering
-start_cmp a b = ordering_then (hash_cmp a.xorb_hash b.xorb_hash) (nat_cmp a.chunk_index b.chunk_index)
+start_cmp a b =
+    ordering_then (hash_cmp a.xorb_hash b.xorb_hash) (nat_cmp a.chunk_index b.chunk_index)
 
 -- where a file starts: the xorb and the first chunk of its first segment, if it has one
 abbrev pub start_of_file : MDBFileInfo → List FileStart
-start_of_file r = map (λ s. record { xorb_hash = s.xorb_hash; chunk_index = s.chunk_index_start }) (take 1 r.segments)
+start_of_file r =
+    map (λ s. record { xorb_hash = s.xorb_hash; chunk_index = s.chunk_index_start })
+    (take 1 r.segments)
 
 -- one of these files starts there
 abbrev pub is_start : List MDBFileInfo → FileStart → Bool
@@ -63,11 +67,14 @@ marked_if wanted c = if wanted then record c { flags = with_mark true c.flags } 
 module _ (starts : FileStart → Bool) where
   -- a xorb with a mark on each chunk that is a start, and its other marks as they are
   abbrev pub mark_starts : MDBXorbInfo → MDBXorbInfo
-  mark_starts x = record x { chunks = map (λ e. marked_if (starts (chunk_of x e.0)) e.1) (enumerate_from 0 x.chunks) }
+  mark_starts x =
+      record x
+      { chunks = map (λ e. marked_if (starts (chunk_of x e.0)) e.1) (enumerate_from 0 x.chunks) }
 
   -- a chunk of a xorb, with its index: its mark is set, its hash is eligible, or it is a start
   abbrev pub is_eligible : MDBXorbInfo → ℕ × XorbChunkSequenceEntry → Bool
-  is_eligible x e = (is_marked e.1.flags || (e.1.chunk_hash.word3 % 1024 == 0)) || starts (chunk_of x e.0)
+  is_eligible x e =
+      (is_marked e.1.flags || (e.1.chunk_hash.word3 % 1024 == 0)) || starts (chunk_of x e.0)
 
   -- the hashes of the eligible chunks of a xorb
   abbrev pub eligible_in : MDBXorbInfo → List DataHash
@@ -75,7 +82,8 @@ module _ (starts : FileStart → Bool) where
 
 -- the set of some hashes, in ascending order: the keys of the finite map that has each of them
 abbrev pub ascending_hashes : List DataHash → List DataHash
-ascending_hashes hashes = finite.keys (finite.from_entries {R = hash_cmp} (map (λ h. (h, tt {0})) hashes))
+ascending_hashes hashes =
+    finite.keys (finite.from_entries {R = hash_cmp} (map (λ h. (h, tt {0})) hashes))
 
 -- the set of the hashes of all eligible chunks
 abbrev pub eligible_hashes : List MDBFileInfo → List MDBXorbInfo → List DataHash
@@ -86,11 +94,13 @@ abbrev pub has_file_verification : List MDBFileInfo → Bool
 has_file_verification [] = false
 has_file_verification (r ∷ _) = has_verification r.metadata.file_flags
 
--- header, sections and footer in bytes; nothing if verification rows are wanted and the first file has none
+-- header, sections and footer in bytes; nothing if verification rows are wanted and the first file
+-- has none
 abbrev pub serialized_size : Bool → MinimalShard → ℕ
 serialized_size wanted m =
-    if wanted && not (has_file_verification m.files) then 0
-    else 344 + 48 * total_rows file_records (map (as_wanted wanted) m.files) + 48 * total_rows xorb_records m.xorbs
+    if wanted && not (has_file_verification m.files) then 0 else 344
+    + 48 * total_rows file_records (map (as_wanted wanted) m.files)
+    + 48 * total_rows xorb_records m.xorbs
 
 -- no tables, no key, the creation, and an expiry or 0
 abbrev pub minimal_form : ℕ → Option ℕ → Form
@@ -104,25 +114,35 @@ minimal_form now expiry = record {
 }
 
 abbrev pub HasNoTables : Form → Type 0
-HasNoTables form = (form.file_table ≡ false) × (form.xorb_table ≡ false) × (form.chunk_table ≡ false)
+HasNoTables form =
+    (form.file_table ≡ false) × (form.xorb_table ≡ false) × (form.chunk_table ≡ false)
 
 -- bytes were appended, and their number returned
 pub record WritesBytes (old new : Option (List ℕ)) (bytes : List ℕ) (n : ℕ) : Type 0 where
   pub text : Appends old new bytes
   pub count : n ≡ length bytes
 
--- the shard was written: with verification rows only if they are wanted, and marks at the starts of its files
+-- the shard was written: with verification rows only if they are wanted, and marks at the starts of
+-- its files
 abbrev pub WritesMinimal : Option (List ℕ) → Option (List ℕ) → Bool → ℕ → MinimalShard → ℕ → Type 0
 WritesMinimal old new wanted now m n =
-    WritesBytes old new (layout_of (map (as_wanted wanted) m.files) (map (mark_starts (is_start m.files)) m.xorbs) (minimal_form now None)) n
+    WritesBytes old new
+    (layout_of (map (as_wanted wanted) m.files) (map (mark_starts (is_start m.files)) m.xorbs)
+    (minimal_form now None))
+    n
 
 -- what a filter, called once with each element in order, accepts: `answers` says what it may return
 abbrev pub IsKept : {X : Type 0} → (X → Bool → Type 0) → List X → List X → Type 0
 IsKept answers [] kept = kept ≡ []
-IsKept {X} answers (x ∷ xs) kept = (accepted : Bool) × answers x accepted × (rest : List X) × IsKept answers xs rest × (kept ≡ (if accepted then x ∷ rest else rest))
+IsKept {X} answers (x ∷ xs) kept =
+    (accepted : Bool) × answers x accepted × (rest : List X) × IsKept answers xs rest
+    × (kept ≡ (if accepted then x ∷ rest else rest))
 
--- files were written, and of a shard's xorbs those that a filter accepts, with marks at the starts of all its files
-pub record WritesKept (answers : MDBXorbInfo → Bool → Type 0) (old new : Option (List ℕ)) (files : List MDBFileInfo) (m : MinimalShard) (form : Form) (n : ℕ) : Type 0 where
+-- files were written, and of a shard's xorbs those that a filter accepts, with marks at the starts
+-- of all its files
+pub record WritesKept (answers : MDBXorbInfo → Bool → Type 0) (old new : Option (List ℕ))
+    (files : List MDBFileInfo) (m : MinimalShard) (form : Form) (n : ℕ) : Type 0 where
   pub kept : List MDBXorbInfo
   pub is_kept : IsKept answers m.xorbs kept
-  pub written : WritesBytes old new (layout_of files (map (mark_starts (is_start m.files)) kept) form) n
+  pub written : WritesBytes old new
+      (layout_of files (map (mark_starts (is_start m.files)) kept) form) n

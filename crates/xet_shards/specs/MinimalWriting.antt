@@ -9,8 +9,10 @@ use Rattle.xet_shards.specs.Section.{section_bytes}
 use Rattle.xet_shards.specs.Written.{HasWrittenXorbs}
 use Rattle.xet_shards.specs.MinimalShard.{mark_starts, IsKept}
 
--- the section of the xorbs that a filter accepts was written, with a mark on each start, and this was collected
-pub record WritesMarked (answers : MDBXorbInfo → Bool → Type 0) (starts : FileStart → Bool) (old new : Option (List ℕ)) (xorbs : List MDBXorbInfo) (written : WrittenXorbs) : Type 0 where
+-- the section of the xorbs that a filter accepts was written, with a mark on each start, and this
+-- was collected
+pub record WritesMarked (answers : MDBXorbInfo → Bool → Type 0) (starts : FileStart → Bool)
+    (old new : Option (List ℕ)) (xorbs : List MDBXorbInfo) (written : WrittenXorbs) : Type 0 where
   pub kept : List MDBXorbInfo
   pub is_kept : IsKept answers xorbs kept
   pub bytes : Appends old new (section_bytes xorb_records (map (mark_starts starts) kept))

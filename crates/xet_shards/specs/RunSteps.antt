@@ -23,11 +23,14 @@ pub record NotMoved (offset row : ℕ) (old new : Source) (e : CoreError) : Type
   pub seeks : new.seeks ≤ old.seeks + 1
   pub no_fewer : old.seeks ≤ new.seeks
   pub read : new.read ≡ old.read
-  pub cause : DeviceFailure old new e ⊎ ((new.failures ≡ old.failures) × IsBareInvalidShard e × (2 ^ 64 ≤ row_at offset row))
+  pub cause : DeviceFailure old new e
+      ⊎ ((new.failures ≡ old.failures) × IsBareInvalidShard e × (2 ^ 64 ≤ row_at offset row))
 
 -- why the row at the source's position was not read: the device failed, or the bytes ended
 abbrev pub RowFailure : Source → Source → CoreError → Type 0
-RowFailure old new e = DeviceFailure old new e ⊎ ((new.failures ≡ old.failures) × IsEndOfInput e × (length old.bytes < old.at + 48))
+RowFailure old new e =
+    DeviceFailure old new e
+    ⊎ ((new.failures ≡ old.failures) × IsEndOfInput e × (length old.bytes < old.at + 48))
 
 -- the row at the source's position was not read
 pub record RowNotRead (old new : Source) (e : CoreError) : Type 0 where
@@ -44,10 +47,12 @@ pub record RowFails (offset row : ℕ) (old new : Source) (e : CoreError) : Type
   pub read : new.read ≤ old.read + 48
   pub cause : DeviceFailure old new e
       ⊎ ((new.failures ≡ old.failures) × IsBareInvalidShard e × (2 ^ 64 ≤ row_at offset row))
-      ⊎ ((new.failures ≡ old.failures) × IsEndOfInput e × (length (drop (row_at offset row) old.bytes) < 48))
+      ⊎ ((new.failures ≡ old.failures) × IsEndOfInput e
+      × (length (drop (row_at offset row) old.bytes) < 48))
 
 -- a run was read: how many chunks it has, and how many bytes these
-pub record ReadsRun (key : DataHash) (qs : List DataHash) (left : ℕ) (old new : Source) (run : ℕ × ℕ) : Type 0 where
+pub record ReadsRun (key : DataHash) (qs : List DataHash) (left : ℕ) (old new : Source)
+    (run : ℕ × ℕ) : Type 0 where
   pub chunks : List XorbChunkSequenceEntry
   pub fit : All FitsChunk chunks
   pub few : length chunks ≤ left
@@ -63,14 +68,16 @@ RunFailure key qs left bytes old new e =
     ⊎ ((new.failures ≡ old.failures) × IsBareInvalidShard e × RunPasses key qs left bytes)
     ⊎ ((new.failures ≡ old.failures) × IsEndOfInput e × RunIsCut key qs left bytes)
 
-pub record ReadRunFails (key : DataHash) (qs : List DataHash) (left : ℕ) (old new : Source) (e : CoreError) : Type 0 where
+pub record ReadRunFails (key : DataHash) (qs : List DataHash) (left : ℕ) (old new : Source)
+    (e : CoreError) : Type 0 where
   pub bytes : new.bytes ≡ old.bytes
   pub seeks : new.seeks ≡ old.seeks
   pub read : new.read ≤ old.read + 48 * left
   pub cause : RunFailure key qs left (bytes_left old) old new e
 
 -- the run at a row was not read
-pub record RunFails (key : DataHash) (qs : List DataHash) (left offset row : ℕ) (old new : Source) (e : CoreError) : Type 0 where
+pub record RunFails (key : DataHash) (qs : List DataHash) (left offset row : ℕ) (old new : Source)
+    (e : CoreError) : Type 0 where
   pub bytes : new.bytes ≡ old.bytes
   pub seeks : new.seeks ≤ old.seeks + 1
   pub no_fewer : old.seeks ≤ new.seeks
@@ -79,7 +86,8 @@ pub record RunFails (key : DataHash) (qs : List DataHash) (left offset row : ℕ
       ⊎ ((new.failures ≡ old.failures) × IsBareInvalidShard e × (2 ^ 64 ≤ row_at offset row))
 
 -- so many chunks were read, which have the first hashes, and their bytes were summed
-pub record HasReadRun (key : DataHash) (qs : List DataHash) (left : ℕ) (start now : Source) (length_now bytes : ℕ) : Type 0 where
+pub record HasReadRun (key : DataHash) (qs : List DataHash) (left : ℕ) (start now : Source)
+    (length_now bytes : ℕ) : Type 0 where
   pub chunks : List XorbChunkSequenceEntry
   pub fit : All FitsChunk chunks
   pub many : length chunks ≡ length_now

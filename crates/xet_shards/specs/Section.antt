@@ -12,7 +12,8 @@ abbrev pub total_rows : {H R : Type 0} → RecordKind H R → List R → ℕ
 total_rows K records = sum_by K.row_count records
 
 -- a record of a section starts at a row
-pub record StartsAt {H R : Type 0} (K : RecordKind H R) (records : List R) (row : ℕ) (r : R) : Type 0 where
+pub record StartsAt {H R : Type 0} (K : RecordKind H R) (records : List R) (row : ℕ) (r : R)
+    : Type 0 where
   pub before : List R
   pub after : List R
   pub records_are : records ≡ before ++ r ∷ after

@@ -1,5 +1,5 @@
--- What bytes are to a reader of a section, of files or of xorbs: the bytes of a list of records and a bookend, or
--- such bytes and then a record too many, or such bytes and then too few bytes.
+-- What bytes are to a reader of a section, of files or of xorbs: the bytes of a list of records and
+-- a bookend, or such bytes and then a record too many, or such bytes and then too few bytes.
 use Rattle.std.specs.Prelude.{◌≡◌, ◌⊎◌, ℕ, ◌+◌, ◌-◌, ◌*◌, ◌≤◌, List, ◌++◌, map, flat_map, sum_by, All, Option, MatchResult}
 use Rattle.std.specs.declared.vec.Vec.{Vec}
 use Rattle.xet_base.specs.declared.error.CoreError.{CoreError}
@@ -11,13 +11,15 @@ use Rattle.xet_records.specs.Reading.{CountsRecord, ReadsNextRecord, BeginsWithH
 pub use Rattle.xet_records.specs.Reading.{BeginsWithBookend, PassesLimit, EndsEarly}
 
 -- the bytes begin with those of records, of at most 4294967295 rows, and then come others
-pub record HoldsRecords {H R : Type 0} (K : RecordKind H R) (bytes : List ℕ) (stored : List R) (rest : List ℕ) : Type 0 where
+pub record HoldsRecords {H R : Type 0} (K : RecordKind H R) (bytes : List ℕ) (stored : List R)
+    (rest : List ℕ) : Type 0 where
   pub are_stored : All K.IsStored stored
   pub rows : sum_by K.row_count stored ≤ 4294967295
   pub bytes_are : bytes ≡ flat_map K.record_bytes stored ++ rest
 
 -- the bytes of these records, and then a bookend
-pub record IsSection {H R : Type 0} (K : RecordKind H R) (bytes : List ℕ) (stored : List R) : Type 0 where
+pub record IsSection {H R : Type 0} (K : RecordKind H R) (bytes : List ℕ) (stored : List R)
+    : Type 0 where
   pub rest : List ℕ
   pub records : HoldsRecords K bytes stored rest
   pub bookend : BeginsWithBookend K rest
@@ -29,19 +31,28 @@ module _ {H R : Type 0} (K : RecordKind H R) where
 
   -- the bytes of some records, and then one that is too many
   abbrev pub PassesRows : List ℕ → Type 0
-  PassesRows bytes = (stored : List R) × (rest : List ℕ) × HoldsRecords K bytes stored rest × PassesLimit K (rows_left stored) rest
+  PassesRows bytes =
+      (stored : List R) × (rest : List ℕ) × HoldsRecords K bytes stored rest
+      × PassesLimit K (rows_left stored) rest
 
   -- the bytes of some records, and then too few bytes
   abbrev pub IsCutSection : List ℕ → Type 0
-  IsCutSection bytes = (stored : List R) × (rest : List ℕ) × HoldsRecords K bytes stored rest × EndsEarly K (rows_left stored) rest
+  IsCutSection bytes =
+      (stored : List R) × (rest : List ℕ) × HoldsRecords K bytes stored rest
+      × EndsEarly K (rows_left stored) rest
 
-  -- reading the record at the front of the bytes may take so many: a header, or a header and the rows that it announces
+  -- reading the record at the front of the bytes may take so many: a header, or a header and the
+  -- rows that it announces
   abbrev pub MayTake : List ℕ → ℕ → Type 0
   MayTake bytes n =
-      (n ≤ 48) ⊎ ((header : H) × (rest : List ℕ) × BeginsWithHeader K bytes header rest × (n ≤ 48 * (1 + K.rows_after header)))
+      (n ≤ 48)
+      ⊎ ((header : H) × (rest : List ℕ) × BeginsWithHeader K bytes header rest
+      × (n ≤ 48 * (1 + K.rows_after header)))
 
--- the records of a section were read from the source's offset on, without a seek and without a byte past the bookend
-pub record TakesSection {H R : Type 0} (K : RecordKind H R) (old new : Source) (found : List R) : Type 0 where
+-- the records of a section were read from the source's offset on, without a seek and without a byte
+-- past the bookend
+pub record TakesSection {H R : Type 0} (K : RecordKind H R) (old new : Source) (found : List R)
+    : Type 0 where
   pub stored : List R
   pub section : IsSection K (bytes_left old) stored
   pub handed : map K.handed_out stored ≡ found
@@ -51,17 +62,19 @@ pub record TakesSection {H R : Type 0} (K : RecordKind H R) (old new : Source) (
 abbrev pub ReadsSection : {H R : Type 0} → RecordKind H R → Source → Source → ℕ → List R → Type 0
 ReadsSection K old new at found = TakesSection K (moved old at) new found
 
--- why records were not read, if the device did not fail: an allocation failed or the bytes are too few, or a record was
--- too many
+-- why records were not read, if the device did not fail: an allocation failed or the bytes are too
+-- few, or a record was too many
 pub data SectionCase (Passes Ends : List ℕ → Type 0) (bytes : List ℕ) (e : CoreError) : Type 0 where
   not_read : ReadCase (Ends bytes) e → SectionCase Passes Ends bytes e
   passes_limit : IsBareInvalidShard e → Passes bytes → SectionCase Passes Ends bytes e
 
-abbrev pub SectionFailure : (List ℕ → Type 0) → (List ℕ → Type 0) → List ℕ → Source → Source → CoreError → Type 0
+abbrev pub SectionFailure : (List ℕ → Type 0) → (List ℕ → Type 0) → List ℕ → Source → Source
+    → CoreError → Type 0
 SectionFailure Passes Ends bytes old new e = FailedBy (SectionCase Passes Ends bytes) old new e
 
 -- the records were not read; the source may be at any offset
-pub record TakesNoSection {H R : Type 0} (K : RecordKind H R) (old new : Source) (e : CoreError) : Type 0 where
+pub record TakesNoSection {H R : Type 0} (K : RecordKind H R) (old new : Source) (e : CoreError)
+    : Type 0 where
   pub bytes : new.bytes ≡ old.bytes
   pub seeks : new.seeks ≡ old.seeks
   pub cause : SectionFailure (PassesRows K) (IsCutSection K) (bytes_left old) old new e
@@ -79,7 +92,8 @@ abbrev pub ReadsOne : {H R : Type 0} → RecordKind H R → Source → Source �
 ReadsOne K old new left after found = ReadsNextRecord K (Takes old new) left after found
 
 -- neither was read; the source may be at any offset
-pub record RecordFails {H R : Type 0} (K : RecordKind H R) (left : ℕ) (old new : Source) (e : CoreError) : Type 0 where
+pub record RecordFails {H R : Type 0} (K : RecordKind H R) (left : ℕ) (old new : Source)
+    (e : CoreError) : Type 0 where
   pub bytes : new.bytes ≡ old.bytes
   pub seeks : new.seeks ≡ old.seeks
   pub taken : ℕ
@@ -88,5 +102,7 @@ pub record RecordFails {H R : Type 0} (K : RecordKind H R) (left : ℕ) (old new
   pub cause : SectionFailure (PassesLimit K left) (EndsEarly K left) (bytes_left old) old new e
 
 -- all records of the section at an offset were read, or it failed
-abbrev pub ReadsAll : {H R Z : Type 0} → RecordKind H R → Source → Source → ℕ → CoreResult (Vec R Z) → Type 0
-ReadsAll K old new at result = MatchResult result (λ found. ReadsSection K old new at found.items) (SectionFails K old new at)
+abbrev pub ReadsAll : {H R Z : Type 0} → RecordKind H R → Source → Source → ℕ → CoreResult (Vec R Z)
+    → Type 0
+ReadsAll K old new at result =
+    MatchResult result (λ found. ReadsSection K old new at found.items) (SectionFails K old new at)

@@ -1,5 +1,5 @@
--- A walk through a section that reads past the rows after each header, and keeps something of each record: `keep` says
--- what, of a record at an offset in the source.
+-- A walk through a section that reads past the rows after each header, and keeps something of each
+-- record: `keep` says what, of a record at an offset in the source.
 use Rattle.std.specs.Prelude.{◌≡◌, ℕ, ◌+◌, ◌*◌, List, [], map, Option, MatchOption}
 use Rattle.xet_base.specs.Source.{Source, Takes}
 use Rattle.xet_records.specs.RecordKind.{RecordKind}
@@ -14,7 +14,8 @@ module _ {H R T : Type 0} (K : RecordKind H R) (keep : ℕ → R → T) where
 
   -- the section was read through from the source's offset on, and this was kept of its records
   abbrev pub KeepsSection : Source → Source → List T → Type 0
-  KeepsSection old new found = (records : List R) × TakesSection K old new records × (found ≡ kept_of old.at records)
+  KeepsSection old new found =
+      (records : List R) × TakesSection K old new records × (found ≡ kept_of old.at records)
 
   -- the records that were read past so far
   pub record HasKept (start now : Source) (found : List T) (left : ℕ) : Type 0 where
@@ -25,4 +26,5 @@ module _ {H R T : Type 0} (K : RecordKind H R) (keep : ℕ → R → T) where
   -- the bookend was read, or the next record was read past
   abbrev pub KeepsNext : Source → Source → ℕ → ℕ → Option T → Type 0
   KeepsNext old new left after found =
-      MatchOption found (ReadsBookend K (Takes old new)) (λ value. (r : R) × (value ≡ keep old.at r) × ReadsNext K old new left after r)
+      MatchOption found (ReadsBookend K (Takes old new))
+      (λ value. (r : R) × (value ≡ keep old.at r) × ReadsNext K old new left after r)

@@ -12,8 +12,8 @@ use Rattle.xet_shards.specs.Section.{total_rows}
 use Rattle.xet_shards.specs.Shard.{Shard}
 use Rattle.xet_shards.specs.Joining.{but, either_file}
 
--- the records of both shards: of two files with the same hash, the first with the parts that only the second has; of two
--- xorbs with the same hash, the second
+-- the records of both shards: of two files with the same hash, the first with the parts that only
+-- the second has; of two xorbs with the same hash, the second
 pub record IsUnion (a b c : Shard) : Type 0 where
   pub files : (q : DataHash) → get c.files q ≡ either_file (get a.files q) (get b.files q)
   pub xorbs : (q : DataHash) → get c.xorbs q ≡ option_or (get b.xorbs q) (get a.xorbs q)
@@ -30,11 +30,14 @@ pub record HasFewRows (s : Shard) : Type 0 where
 
 -- files with the same hash have equally many segments, and the rows of the union fit `u32`
 pub record CanUnite (a b : Shard) : Type 0 where
-  pub same : (q : DataHash) → (r s : MDBFileInfo) → get a.files q ≡ Some r → get b.files q ≡ Some s → IsSameFile r.metadata s.metadata
+  pub same : (q : DataHash) → (r s : MDBFileInfo) → get a.files q ≡ Some r → get b.files q ≡ Some s
+      → IsSameFile r.metadata s.metadata
   pub rows : (c : Shard) → IsUnion a b c → HasFewRows c
 
--- xorbs with the same hash are equal; files with the same hash have equal segments, and equal optional parts wherever
--- both have them
+-- xorbs with the same hash are equal; files with the same hash have equal segments, and equal
+-- optional parts wherever both have them
 pub record ShardsAgree (a b : Shard) : Type 0 where
-  pub files : (q : DataHash) → (r s : MDBFileInfo) → get a.files q ≡ Some r → get b.files q ≡ Some s → Agree r s
-  pub xorbs : (q : DataHash) → (r s : MDBXorbInfo) → get a.xorbs q ≡ Some r → get b.xorbs q ≡ Some s → r ≡ s
+  pub files : (q : DataHash) → (r s : MDBFileInfo) → get a.files q ≡ Some r → get b.files q ≡ Some s
+      → Agree r s
+  pub xorbs : (q : DataHash) → (r s : MDBXorbInfo) → get a.xorbs q ≡ Some r → get b.xorbs q ≡ Some s
+      → r ≡ s

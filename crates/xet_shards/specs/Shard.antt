@@ -32,7 +32,9 @@ abbrev pub coded_xorbs : Coded XorbMap
 coded_xorbs = finite.code hash.the_row.coded xorb.the_row.coded
 
 abbrev pub coded_shard : Coded Shard
-coded_shard = code_by (FileMap × XorbMap) (coded× coded_files coded_xorbs) (λ s. (s.files, s.xorbs)) (λ p. record { files = p.0; xorbs = p.1 }) (λ _. refl)
+coded_shard =
+    code_by (FileMap × XorbMap) (coded× coded_files coded_xorbs) (λ s. (s.files, s.xorbs))
+    (λ p. record { files = p.0; xorbs = p.1 }) (λ _. refl)
 
 abbrev pub file_hash_of : MDBFileInfo → DataHash
 file_hash_of r = r.metadata.file_hash

@@ -11,7 +11,8 @@ pub record FitsStart (row : ℕ × ℕ) : Type 0 where
   pub word : row.0 < 2 ^ 64
   pub row_number : row.1 < 2 ^ 32
 
--- a row of the chunk table as a tuple of its numbers: the word, the row at which the xorb starts and the index in the xorb
+-- a row of the chunk table as a tuple of its numbers: the word, the row at which the xorb starts
+-- and the index in the xorb
 abbrev pub triple_of : ChunkTableRow → ℕ × (ℕ × ℕ)
 triple_of row = (row.word, (row.row, row.index))
 
@@ -25,13 +26,15 @@ pub record FitsTriple (row : ℕ × (ℕ × ℕ)) : Type 0 where
   pub index : row.1.1 < 2 ^ 32
 
 -- the next row was read
-pub record ReadsNextRow {T : Type 0} (row_bytes : T → List ℕ) (Fits : T → Type 0) (size : ℕ) (old new : Source) (row : T) : Type 0 where
+pub record ReadsNextRow {T : Type 0} (row_bytes : T → List ℕ) (Fits : T → Type 0) (size : ℕ)
+    (old new : Source) (row : T) : Type 0 where
   pub widths : Fits row
   pub bytes : length (row_bytes row) ≡ size
   pub taken : Takes old new (row_bytes row)
 
 -- the rows of a table at an offset were read, by one seek and no byte past the table
-pub record ReadsTable {T : Type 0} (row_bytes : T → List ℕ) (Fits : T → Type 0) (size : ℕ) (old new : Source) (at count : ℕ) (found : List T) : Type 0 where
+pub record ReadsTable {T : Type 0} (row_bytes : T → List ℕ) (Fits : T → Type 0) (size : ℕ)
+    (old new : Source) (at count : ℕ) (found : List T) : Type 0 where
   pub few : count ≤ 4294967295
   pub number : length found ≡ count
   pub widths : All Fits found
@@ -41,13 +44,13 @@ pub record ReadsTable {T : Type 0} (row_bytes : T → List ℕ) (Fits : T → Ty
   pub read : new.read ≡ old.read + size * count
   pub failures : new.failures ≡ old.failures
 
--- why a table of so many bytes was not read from an offset on: the device failed, an allocation failed, or the bytes
--- end before the table does
+-- why a table of so many bytes was not read from an offset on: the device failed, an allocation
+-- failed, or the bytes end before the table does
 abbrev pub RowsFailure : Source → Source → ℕ → ℕ → CoreError → Type 0
 RowsFailure old new at size e = FailedBy (ReadCase (length (drop at old.bytes) < size)) old new e
 
--- the rows were not read: they are more than 4294967295, which is found before the seek, or a seek and reads did
--- not give them; the source may be at any offset
+-- the rows were not read: they are more than 4294967295, which is found before the seek, or a seek
+-- and reads did not give them; the source may be at any offset
 pub record TableFails (size : ℕ) (old new : Source) (at count : ℕ) (e : CoreError) : Type 0 where
   pub bytes : new.bytes ≡ old.bytes
   pub seeks : new.seeks ≤ old.seeks + 1

@@ -1,4 +1,5 @@
--- The lookup tables: the rows at which the records with a hash's first word start, and the chunks with one.
+-- The lookup tables: the rows at which the records with a hash's first word start, and the chunks
+-- with one.
 use Rattle.std.specs.Prelude.{ℕ, List, [], ◌++◌, map, filter, flat_map}
 use Rattle.std.specs.List.{enumerate_from}
 use Rattle.std.specs.Ordering.{is_lt, nat_cmp, ordering_then}
@@ -18,7 +19,8 @@ use Rattle.xet_shards.specs.Section.{with_fronts, total_rows}
 abbrev pub hash_in : {H R : Type 0} → RecordKind H R → R → DataHash
 hash_in K r = K.hash_of (K.header_of r)
 
--- the row of a record in a table: the first word of its hash, and where it starts, which is the number of rows before it
+-- the row of a record in a table: the first word of its hash, and where it starts, which is the
+-- number of rows before it
 abbrev pub start_of : {H R : Type 0} → RecordKind H R → List R × R → ℕ × ℕ
 start_of K e = ((hash_in K e.1).word0, total_rows K e.0)
 
@@ -30,22 +32,29 @@ starts K records = map (start_of K) (with_fronts [] records)
 abbrev pub records_below : {H R : Type 0} → RecordKind H R → DataHash → List R → List R
 records_below K q records = filter (λ r. is_lt (hash_cmp (hash_in K r) q)) records
 
--- the order of the chunk table: by the first word of the hash, then by the row at which the xorb starts, then by the index
--- in the xorb
+-- the order of the chunk table: by the first word of the hash, then by the row at which the xorb
+-- starts, then by the index in the xorb
 abbrev pub chunk_table_row_cmp : ChunkTableRow → ChunkTableRow → Ordering
-chunk_table_row_cmp a b = ordering_then (nat_cmp a.word b.word) (ordering_then (nat_cmp a.row b.row) (nat_cmp a.index b.index))
+chunk_table_row_cmp a b =
+    ordering_then (nat_cmp a.word b.word)
+    (ordering_then (nat_cmp a.row b.row) (nat_cmp a.index b.index))
 
 -- the rows of the chunk table for the chunks of a xorb that starts at a row
 abbrev pub chunk_table_rows_from : ℕ → List XorbChunkSequenceEntry → List ChunkTableRow
-chunk_table_rows_from row chunks = map (λ c. record { word = c.1.chunk_hash.word0; row = row; index = c.0 }) (enumerate_from 0 chunks)
+chunk_table_rows_from row chunks =
+    map (λ c. record { word = c.1.chunk_hash.word0; row = row; index = c.0 })
+    (enumerate_from 0 chunks)
 
 -- those for all chunks of a list of xorbs, in section order
 abbrev pub chunk_table_rows : List MDBXorbInfo → List ChunkTableRow
-chunk_table_rows xorbs = flat_map (λ e. chunk_table_rows_from (total_rows xorb_records e.0) e.1.chunks) (with_fronts [] xorbs)
+chunk_table_rows xorbs =
+    flat_map (λ e. chunk_table_rows_from (total_rows xorb_records e.0) e.1.chunks)
+    (with_fronts [] xorbs)
 
 -- rows in ascending order: the keys of the finite map that has each of them
 abbrev pub ascending : List ChunkTableRow → List ChunkTableRow
-ascending rows = finite.keys (finite.from_entries {R = chunk_table_row_cmp} (map (λ row. (row, tt {0})) rows))
+ascending rows =
+    finite.keys (finite.from_entries {R = chunk_table_row_cmp} (map (λ row. (row, tt {0})) rows))
 
 abbrev pub chunk_table : List MDBXorbInfo → List ChunkTableRow
 chunk_table xorbs = ascending (chunk_table_rows xorbs)

@@ -13,14 +13,16 @@ use Rattle.xet_shards.specs.Section.{total_rows}
 use Rattle.xet_shards.specs.Tables.{start_row, table_bytes, chunk_table, chunk_table_bytes}
 use Rattle.xet_shards.specs.Layout.{Form, if_in, footer_value, shard_footer_bytes}
 
--- the second table is the first with the row of one more record, which has this word and so many rows
+-- the second table is the first with the row of one more record, which has this word and so many
+-- rows
 pub record AddsRecord (before after : RecordTable) (word more : ℕ) : Type 0 where
   pub records : after.records ≡ before.records + 1
   pub rows : after.rows ≡ before.rows + more
   pub bytes : after.bytes.items ≡ before.bytes.items ++ start_row (word, before.rows)
 
 -- the number, the rows and the table of these records
-pub record IsTableOf {H R : Type 0} (K : RecordKind H R) (table : RecordTable) (stored : List R) : Type 0 where
+pub record IsTableOf {H R : Type 0} (K : RecordKind H R) (table : RecordTable) (stored : List R)
+    : Type 0 where
   pub records : table.records ≡ length stored
   pub rows : table.rows ≡ total_rows K stored
   pub bytes : table.bytes.items ≡ table_bytes K stored
@@ -46,5 +48,7 @@ pub record HasWrittenXorbs (w : WrittenXorbs) (xorbs : List MDBXorbInfo) : Type 
 -- the bytes of a layout after its sections: the tables that are in, and the footer
 abbrev pub end_of_layout : List MDBFileInfo → List MDBXorbInfo → Form → List ℕ
 end_of_layout files xorbs form =
-    ((if_in form.file_table (table_bytes file_records files) ++ if_in form.xorb_table (table_bytes xorb_records xorbs))
-    ++ if_in form.chunk_table (chunk_table_bytes xorbs)) ++ shard_footer_bytes (footer_value files xorbs form)
+    ((if_in form.file_table (table_bytes file_records files)
+    ++ if_in form.xorb_table (table_bytes xorb_records xorbs))
+    ++ if_in form.chunk_table (chunk_table_bytes xorbs))
+    ++ shard_footer_bytes (footer_value files xorbs form)

@@ -12,8 +12,10 @@ rows_with_word word xorbs = filter (λ p. p.word == word) (chunk_table xorbs)
 abbrev pub OtherTableRow : ChunkTableRow → ChunkTableRow → Type 0
 OtherTableRow p q = p ≢ q
 
--- different rows of the chunk table that have the word were put in front: all of them, or eight if they are more
-pub record RowsAmong (xorbs : List MDBXorbInfo) (word : ℕ) (old new : List (ℕ × ℕ)) (count : ℕ) : Type 0 where
+-- different rows of the chunk table that have the word were put in front: all of them, or eight if
+-- they are more
+pub record RowsAmong (xorbs : List MDBXorbInfo) (word : ℕ) (old new : List (ℕ × ℕ)) (count : ℕ)
+    : Type 0 where
   pub found : List ChunkTableRow
   pub number : length found ≡ count
   pub all : count ≡ min (length (rows_with_word word xorbs)) 8
@@ -23,4 +25,5 @@ pub record RowsAmong (xorbs : List MDBXorbInfo) (word : ℕ) (old new : List (�
 
 -- what the search in the chunk table costs
 abbrev pub ChunkSearchCosts : List MDBXorbInfo → ℕ → Source → Source → Type 0
-ChunkSearchCosts xorbs word old new = SearchCosts (length (chunk_table xorbs)) (length (rows_with_word word xorbs)) 16 old new
+ChunkSearchCosts xorbs word old new =
+    SearchCosts (length (chunk_table xorbs)) (length (rows_with_word word xorbs)) 16 old new

@@ -14,20 +14,26 @@ use Rattle.xet_shards.specs.ChunkLookup.{ChunkLocation, chunk_at}
 use Rattle.xet_shards.specs.ChunkQuery.{run_at, some_run_at}
 use Rattle.xet_shards.specs.WrittenChunks.{ChunkSearchCosts}
 
--- a query at a chunk of a xorb: the run there, if it has a chunk; none without hashes, whatever the index
-abbrev pub RunInXorb : DataHash → List DataHash → MDBXorbInfo → ℕ → Option (ℕ × FileDataSequenceEntry) → Type 0
-RunInXorb key qs xorb index answer = (answer ≡ some_run_at key (xorb, index) qs) × ((qs ≡ []) ⊎ (index < length xorb.chunks))
+-- a query at a chunk of a xorb: the run there, if it has a chunk; none without hashes, whatever the
+-- index
+abbrev pub RunInXorb : DataHash → List DataHash → MDBXorbInfo → ℕ
+    → Option (ℕ × FileDataSequenceEntry) → Type 0
+RunInXorb key qs xorb index answer =
+    (answer ≡ some_run_at key (xorb, index) qs) × ((qs ≡ []) ⊎ (index < length xorb.chunks))
 
 -- it is refused: the device failed, or the xorb has no chunk at the index
 abbrev pub NoRunInXorb : MDBXorbInfo → ℕ → Source → Source → CoreError → Type 0
-NoRunInXorb xorb index old new e = DeviceFailure old new e ⊎ ((e ≡ InvalidArguments) × (length xorb.chunks ≤ index))
+NoRunInXorb xorb index old new e =
+    DeviceFailure old new e ⊎ ((e ≡ InvalidArguments) × (length xorb.chunks ≤ index))
 
 -- a location in one of some xorbs, where the chunk has this hash
-pub record HasChunkAt (xorbs : List MDBXorbInfo) (hash : DataHash) (p : ChunkLocation) : Type 0 where
+pub record HasChunkAt (xorbs : List MDBXorbInfo) (hash : DataHash) (p : ChunkLocation)
+    : Type 0 where
   pub xorb : Contains xorbs p.0
   pub chunk : chunk_at p ≡ Some hash
 
--- all chunks of some xorbs, and those of them that share the first word of a hash but have another hash
+-- all chunks of some xorbs, and those of them that share the first word of a hash but have another
+-- hash
 abbrev pub all_chunks : List MDBXorbInfo → List XorbChunkSequenceEntry
 all_chunks xorbs = flat_map (λ x. x.chunks) xorbs
 
@@ -37,14 +43,19 @@ is_other hash chunk = (chunk.chunk_hash.word0 == hash.word0) && not (hash_eq has
 abbrev pub others_sharing : DataHash → List MDBXorbInfo → List XorbChunkSequenceEntry
 others_sharing hash xorbs = filter (is_other hash) (all_chunks xorbs)
 
--- a query by the chunk table: the run at a chunk with the first hash; none without hashes, if no chunk has the first, or
--- if eight others share its first word
-abbrev pub RunAmong : DataHash → List DataHash → List MDBXorbInfo → Option (ℕ × FileDataSequenceEntry) → Type 0
+-- a query by the chunk table: the run at a chunk with the first hash; none without hashes, if no
+-- chunk has the first, or if eight others share its first word
+abbrev pub RunAmong : DataHash → List DataHash → List MDBXorbInfo
+    → Option (ℕ × FileDataSequenceEntry) → Type 0
 RunAmong key [] xorbs answer = answer ≡ None
-RunAmong key (q ∷ qs) xorbs (Some run) = (p : ChunkLocation) × HasChunkAt xorbs (under_key key q) p × (run ≡ run_at key p (q ∷ qs))
-RunAmong key (q ∷ qs) xorbs None = ((p : ChunkLocation) → ¬ HasChunkAt xorbs (under_key key q) p) ⊎ (8 ≤ length (others_sharing (under_key key q) xorbs))
+RunAmong key (q ∷ qs) xorbs (Some run) =
+    (p : ChunkLocation) × HasChunkAt xorbs (under_key key q) p × (run ≡ run_at key p (q ∷ qs))
+RunAmong key (q ∷ qs) xorbs None =
+    ((p : ChunkLocation) → ¬ HasChunkAt xorbs (under_key key q) p)
+    ⊎ (8 ≤ length (others_sharing (under_key key q) xorbs))
 
--- what it costs: the search, and then for each of at most eight xorbs two seeks and the bytes of the xorb
+-- what it costs: the search, and then for each of at most eight xorbs two seeks and the bytes of
+-- the xorb
 pub record TriesCost (xorbs : List MDBXorbInfo) (word : ℕ) (old new : Source) : Type 0 where
   pub searched : Source
   pub search : ChunkSearchCosts xorbs word old searched

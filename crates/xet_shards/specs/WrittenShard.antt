@@ -9,11 +9,14 @@ use Rattle.xet_shards.specs.Shard.{Shard, IsShard}
 use Rattle.xet_shards.specs.Layout.{layout, info_value}
 
 -- the bytes are the layout of the shard, and `info` is its header and footer
-pub record IsWritten (s : Shard) (expiry : Option ℕ) (bytes : List ℕ) (info : MDBShardInfo) : Type 0 where
+pub record IsWritten (s : Shard) (expiry : Option ℕ) (bytes : List ℕ) (info : MDBShardInfo)
+    : Type 0 where
   pub shard : IsShard s
   pub same_bytes : bytes ≡ layout s expiry
   pub same_info : info ≡ info_value s expiry
 
 -- these items were read, unless the device failed or an allocation
 abbrev pub ReadsBack : {T Z : Type 0} → List T → Source → Source → CoreResult (Vec T Z) → Type 0
-ReadsBack items old new result = MatchResult result (λ found. found.items ≡ items) (λ e. DeviceFailure old new e ⊎ (e ≡ OutOfMemory))
+ReadsBack items old new result =
+    MatchResult result (λ found. found.items ≡ items)
+    (λ e. DeviceFailure old new e ⊎ (e ≡ OutOfMemory))

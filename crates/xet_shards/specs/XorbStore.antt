@@ -11,27 +11,36 @@ use Rattle.xet_shards.specs.Shard.{AreXorbs}
 use Rattle.xet_shards.specs.ChunkLookup.{ChunkLocation, XorbsWithLookup, IsChunkLookup, chunk_at}
 
 -- xorbs and locations without `Rc`
-abbrev pub shown_xorbs : {Z : Type 0} → List (DataHash × Rc MDBXorbInfo Z) → List (DataHash × MDBXorbInfo)
+abbrev pub shown_xorbs : {Z : Type 0} → List (DataHash × Rc MDBXorbInfo Z)
+    → List (DataHash × MDBXorbInfo)
 shown_xorbs es = map (λ e. (e.0, e.1.value)) es
 
 abbrev pub shown_location : {Z : Type 0} → (Rc MDBXorbInfo Z × ℕ) → ChunkLocation
 shown_location p = (p.0.value, p.1)
 
 -- the location that a lookup keeps for a chunk hash
-abbrev pub location_in : {S Z : Type 0} → hash_map.HashMap DataHash (Rc MDBXorbInfo Z × ℕ) S → DataHash → Option ChunkLocation
+abbrev pub location_in : {S Z : Type 0} → hash_map.HashMap DataHash (Rc MDBXorbInfo Z × ℕ) S
+    → DataHash → Option ChunkLocation
 location_in m q = option_map shown_location (hash_map.get hash_eq m q)
 
 abbrev pub xorbs_inside : Inside → XorbsWithLookup
-xorbs_inside t = record { xorbs = from_sorted (shown_xorbs t.content.entries); locations = from_entries (map (λ e. (e.0, shown_location e.1)) t.lookup.entries) }
+xorbs_inside t =
+    record {
+      xorbs = from_sorted (shown_xorbs t.content.entries);
+      locations = from_entries (map (λ e. (e.0, shown_location e.1)) t.lookup.entries);
+    }
 
--- the keys ascend, each is its record's hash, the records are well-formed, and the lookup is that of the xorbs
+-- the keys ascend, each is its record's hash, the records are well-formed, and the lookup is that
+-- of the xorbs
 pub record IsSound (t : Inside) : Type 0 where
   pub sorted : T (is_sorted hash_cmp (shown_xorbs t.content.entries))
   pub xorbs : AreXorbs (shown_xorbs t.content.entries)
   pub lookup : IsChunkLookup (from_sorted (shown_xorbs t.content.entries)) (location_in t.lookup)
 
 -- the second lookup is the first with the first n chunks of a xorb entered
-pub record IsEntered (old new : DataHash → Option ChunkLocation) (r : MDBXorbInfo) (n : ℕ) : Type 0 where
-  pub present : (q : DataHash) → (p : ChunkLocation) → new q ≡ Some p → (old q ≡ Some p) ⊎ ((p.0 ≡ r) × (p.1 < n) × (chunk_at p ≡ Some q))
+pub record IsEntered (old new : DataHash → Option ChunkLocation) (r : MDBXorbInfo) (n : ℕ)
+    : Type 0 where
+  pub present : (q : DataHash) → (p : ChunkLocation) → new q ≡ Some p
+      → (old q ≡ Some p) ⊎ ((p.0 ≡ r) × (p.1 < n) × (chunk_at p ≡ Some q))
   pub kept : (q : DataHash) → IsSome (old q) → IsSome (new q)
   pub complete : (q : DataHash) → (i : ℕ) → i < n → chunk_at (r, i) ≡ Some q → IsSome (new q)

@@ -95,7 +95,8 @@ impl MDBInMemoryShard {
     // The rows of all xorbs once this one is inserted.
     fn rows_with_xorb(&self, xorb_block: &MDBXorbInfo) -> u64
         requires { IsXorb xorb_block.now }
-        ensures { result ≡ total_rows xorb_records (finite.values (add_xorb self.now.content xorb_block.now).xorbs) }
+        ensures { result ≡ total_rows xorb_records
+            (finite.values (add_xorb self.now.content xorb_block.now).xorbs) }
     {
         let replaced = self.xorbs.rows_of(&xorb_block.metadata.xorb_hash);
         self.xorb_rows + 1 + u64::from(xorb_block.metadata.num_entries) - replaced
@@ -127,7 +128,8 @@ impl MDBInMemoryShard {
     // The rows of all files once this one is inserted.
     fn rows_with_file(&self, file_info: &MDBFileInfo) -> u64
         requires { IsWellFormed file_info.now }
-        ensures { result ≡ total_rows file_records (finite.values (add_file self.now.content file_info.now).files) }
+        ensures { result ≡ total_rows file_records
+            (finite.values (add_file self.now.content file_info.now).files) }
     {
         let replaced = self.files.rows_of(&file_info.metadata.file_hash);
         self.file_rows + 1 + file_info.metadata.rows_after() - replaced

@@ -19,18 +19,20 @@ use xet_records::file_structs::{MDBFileInfo, MDBFileInfoView};
 use xet_records::view_reader::process_section;
 use xet_records::xorb_structs::{MDBXorbInfo, MDBXorbInfoView};
 
-/// Calls `callback` with a view of each record of a file section, in order, and stops at the first call that fails,
-/// with its error, or after the bookend.
+/// Calls `callback` with a view of each record of a file section, in order, and stops at the first
+/// call that fails, with its error, or after the bookend.
 ///
-/// Other errors come from reading, and then `callback` was called with each record before: `UnexpectedEof` if the
-/// reader ends before the bookend, `InvalidShard` if the rows pass 4294967295, the device's own, `OutOfMemory`.
+/// Other errors come from reading, and then `callback` was called with each record before:
+/// `UnexpectedEof` if the reader ends before the bookend, `InvalidShard` if the rows pass
+/// 4294967295, the device's own, `OutOfMemory`.
 pub fn process_shard_file_info_section<R: Read, F: FnMut(MDBFileInfoView) -> Result<()>>(
     alloc: Global,
     reader: &mut R,
     callback: &mut F,
 ) -> Result<()>
     requires { F.IsAlwaysCallable callback.old }
-    ensures calls { Processes file_records F.step (R.remaining reader.old) (R.remaining reader.new) callback.old callback.new result }
+    ensures calls { Processes file_records F.step (R.remaining reader.old) (R.remaining reader.new)
+        callback.old callback.new result }
     ensures callable { F.IsAlwaysCallable callback.new }
 {
     process_section::<MDBFileInfo, MDBFileInfoView, OfReader, R, F>(alloc, reader, callback)
@@ -43,7 +45,8 @@ pub fn process_shard_xorb_info_section<R: Read, F: FnMut(MDBXorbInfoView) -> Res
     callback: &mut F,
 ) -> Result<()>
     requires { F.IsAlwaysCallable callback.old }
-    ensures calls { Processes xorb_records F.step (R.remaining reader.old) (R.remaining reader.new) callback.old callback.new result }
+    ensures calls { Processes xorb_records F.step (R.remaining reader.old) (R.remaining reader.new)
+        callback.old callback.new result }
     ensures callable { F.IsAlwaysCallable callback.new }
 {
     process_section::<MDBXorbInfo, MDBXorbInfoView, OfReader, R, F>(alloc, reader, callback)

@@ -47,7 +47,8 @@ impl Workspace {
         second: &str,
         buffer: &str,
     ) -> Result<(), Stop>
-        ensures unknown { IsErrOf result Stop.Unreadable ↔ (IsNone (get_by_text self.old.buffers first.now)
+        ensures unknown { IsErrOf result Stop.Unreadable
+            ↔ (IsNone (get_by_text self.old.buffers first.now)
             ⊎ IsNone (get_by_text self.old.buffers second.now)) }
         ensures made { OnOk result (IsSome (get_by_text self.new.buffers buffer.now)) }
         ensures err { OnErr result (IsUnchanged self.old.buffers self.new.buffers) }
@@ -68,8 +69,10 @@ impl Workspace {
         buffer: &str,
         tree: &NameTree<'_>,
     ) -> Result<(), Stop>
-        ensures unreadable { IsErrOf result Stop.Unreadable → HasUnknown (bytes_under self.old.buffers) tree.now }
-        ensures unknown { HasUnknown (bytes_under self.old.buffers) tree.now → IsErrAnd result StopsAtUnknown }
+        ensures unreadable { IsErrOf result Stop.Unreadable
+            → HasUnknown (bytes_under self.old.buffers) tree.now }
+        ensures unknown { HasUnknown (bytes_under self.old.buffers) tree.now
+            → IsErrAnd result StopsAtUnknown }
         ensures made { OnOk result (IsSome (get_by_text self.new.buffers buffer.now)) }
         ensures err { OnErr result (IsUnchanged self.old.buffers self.new.buffers) }
         ensures shards { self.new.shards ≡ self.old.shards }
@@ -85,7 +88,8 @@ impl Workspace {
         buffer: &str,
         export: &Export,
     ) -> Result<(), Stop>
-        ensures unknown { IsErrOf result Stop.Unreadable ↔ IsNone (get_by_text self.old.buffers from.now) }
+        ensures unknown { IsErrOf result Stop.Unreadable
+            ↔ IsNone (get_by_text self.old.buffers from.now) }
         ensures made { OnOk result (IsSome (get_by_text self.new.buffers buffer.now)) }
         ensures err { OnErr result (IsUnchanged self.old.buffers self.new.buffers) }
         ensures shards { self.new.shards ≡ self.old.shards }
@@ -102,7 +106,8 @@ impl Workspace {
         now: u64,
         with_verification: bool,
     ) -> Result<(), Stop>
-        ensures unknown { IsErrOf result Stop.Unreadable ↔ IsNone (get_by_text self.old.buffers from.now) }
+        ensures unknown { IsErrOf result Stop.Unreadable
+            ↔ IsNone (get_by_text self.old.buffers from.now) }
         ensures made { OnOk result (IsSome (get_by_text self.new.buffers buffer.now)) }
         ensures err { OnErr result (IsUnchanged self.old.buffers self.new.buffers) }
         ensures shards { self.new.shards ≡ self.old.shards }
@@ -118,7 +123,8 @@ impl Workspace {
         buffer: &str,
         subset: &Subset,
     ) -> Result<(), Stop>
-        ensures unknown { IsErrOf result Stop.Unreadable ↔ IsNone (get_by_text self.old.buffers from.now) }
+        ensures unknown { IsErrOf result Stop.Unreadable
+            ↔ IsNone (get_by_text self.old.buffers from.now) }
         ensures made { OnOk result (IsSome (get_by_text self.new.buffers buffer.now)) }
         ensures err { OnErr result (IsUnchanged self.old.buffers self.new.buffers) }
         ensures shards { self.new.shards ≡ self.old.shards }
@@ -129,7 +135,9 @@ impl Workspace {
 
     // Keeps bytes as a buffer, in place of the one that has the name.
     pub(super) fn keep(&mut self, alloc: Global, buffer: &str, bytes: Vec<u8>) -> Result<(), Stop>
-        ensures made { OnOk result (option_map (λ b. b.items) (get_by_text self.new.buffers buffer.now) ≡ Some bytes.items) }
+        ensures made { OnOk result
+            (option_map (λ b. b.items) (get_by_text self.new.buffers buffer.now)
+            ≡ Some bytes.items) }
         ensures err { OnErr result (IsUnchanged self.old.buffers self.new.buffers) }
         ensures causes { IfErr result IsRefused }
         ensures shards { self.new.shards ≡ self.old.shards }

@@ -18,8 +18,10 @@ impl TableRange {
     /// The range of these numbers, or `None` if `rows + 1` or the table's end does not fit `u64`.
     #[tactic(auto, unfolding(crate::specs::Table::offset_of_row))]
     pub fn new(start: u64, rows: u64, width: u64) -> Option<TableRange>
-        ensures some { IfSome result (λ r. (r.start ≡ start) × (r.rows ≡ rows) × (r.width ≡ width)) }
-        ensures none { IfNone result ((2 ^ 64 ≤ rows + 1) ⊎ (2 ^ 64 ≤ offset_of_row start width rows)) }
+        ensures some { IfSome result
+            (λ r. (r.start ≡ start) × (r.rows ≡ rows) × (r.width ≡ width)) }
+        ensures none { IfNone result
+            ((2 ^ 64 ≤ rows + 1) ⊎ (2 ^ 64 ≤ offset_of_row start width rows)) }
     {
         if rows == u64::MAX {
             return None;

@@ -3,8 +3,9 @@
 ghost use Rattle.std.specs.Prelude.{◌≡◌, ◌+◌, ◌^◌, ◌<◌};
 ghost use Rattle.xet_base.specs.Probes.{guess_of, Around, AroundKey, AfterBelow, AfterAbove, IsWhole, Turns, KeepsEven};
 
-/// The rows after `low` and before `high`, counted from 1, with the keys at both ends. Row 0, before the
-/// table, has the key 0, and the row after the table the key `u64::MAX`. Row `probe` is looked at next.
+/// The rows after `low` and before `high`, counted from 1, with the keys at both ends. Row 0,
+/// before the table, has the key 0, and the row after the table the key `u64::MAX`. Row `probe` is
+/// looked at next.
 #[derive(Clone, Copy)]
 pub struct Window {
     pub low: u64,
@@ -30,8 +31,9 @@ impl Window {
         }
     }
 
-    /// The rows that are left once the probed row was found to have the key `found`. Where that is the key
-    /// that is looked for, the key at the upper end stays, so that the keys at the ends always differ.
+    /// The rows that are left once the probed row was found to have the key `found`. Where that is
+    /// the key that is looked for, the key at the upper end stays, so that the keys at the ends
+    /// always differ.
     pub fn after(self, found: u64, key: u64) -> Window
         requires around { AroundKey self key }
         requires above_low { self.low < self.probe }
@@ -86,7 +88,8 @@ fn guess(low: u64, low_key: u64, high: u64, high_key: u64, key: u64) -> u64
     (low + rows as u64).max(low + 1).min(high - 1)
 }
 
-// The row to probe after row `probe` had a greater key: the guess, or 256 rows further down if that is nearer.
+// The row to probe after row `probe` had a greater key: the guess, or 256 rows further down if that
+// is nearer.
 #[tactic(auto, unfolding(crate::specs::Probes::guess_of))]
 fn probe_below(low: u64, low_key: u64, probe: u64, found: u64, key: u64) -> u64
     requires { Around low low_key probe found key }
@@ -99,7 +102,8 @@ fn probe_below(low: u64, low_key: u64, probe: u64, found: u64, key: u64) -> u64
     next
 }
 
-// The row to probe after row `probe` had a smaller key: the guess, or 256 rows further up if that is nearer.
+// The row to probe after row `probe` had a smaller key: the guess, or 256 rows further up if that
+// is nearer.
 #[tactic(auto, unfolding(crate::specs::Probes::guess_of))]
 fn probe_above(probe: u64, found: u64, high: u64, high_key: u64, key: u64) -> u64
     requires { Around probe found high high_key key }

@@ -30,7 +30,8 @@ pub fn ascends<R: SetRecord>(records: &[R]) -> bool
 
 // Whether the first record's hash is less.
 fn comes_before<R: SetRecord>(x: &R, y: &R) -> bool
-    ensures { IsTrue result ↔ (hash_cmp (key_of_record R.kind x.now) (key_of_record R.kind y.now) ≡ Less) }
+    ensures { IsTrue result
+        ↔ (hash_cmp (key_of_record R.kind x.now) (key_of_record R.kind y.now) ≡ Less) }
 {
     x.hash().cmp(&y.hash()) == Ordering::Less
 }
@@ -44,8 +45,10 @@ pub fn combine_within_rows<Op: Operation<R>, R: SetRecord + Drop>(
     requires first { AreWritable R.kind first.now }
     requires second { AreWritable R.kind second.now }
     ensures { MatchResult result
-        (λ list. Combines R.kind Op.makes first.now second.now list.items × AreWritable R.kind list.items)
-        (λ e. (e ≡ CoreError.OutOfMemory) ⊎ (IsInvalidShard e × NoneCombines R.kind Op.makes first.now second.now)) }
+        (λ list. Combines R.kind Op.makes first.now second.now list.items
+        × AreWritable R.kind list.items)
+        (λ e. (e ≡ CoreError.OutOfMemory)
+        ⊎ (IsInvalidShard e × NoneCombines R.kind Op.makes first.now second.now)) }
 {
     let records = combine::<Op, R>(alloc, first, second)?;
     if rows_of(&records) > u64::from(u32::MAX) {
@@ -54,8 +57,8 @@ pub fn combine_within_rows<Op: Operation<R>, R: SetRecord + Drop>(
     Ok(records)
 }
 
-/// Combines two lists hash by hash. `InvalidShard` if of two records with one hash none can be made,
-/// `OutOfMemory` if an allocation fails.
+/// Combines two lists hash by hash. `InvalidShard` if of two records with one hash none can be
+/// made, `OutOfMemory` if an allocation fails.
 pub fn combine<Op: Operation<R>, R: SetRecord + Drop>(
     alloc: Global,
     first: &[R],
@@ -65,9 +68,13 @@ pub fn combine<Op: Operation<R>, R: SetRecord + Drop>(
     requires second { All R.kind.IsStored second.now }
     requires first_ascends { Ascends R.kind first.now }
     requires second_ascends { Ascends R.kind second.now }
-    ensures combined { MatchResult result (λ list. Combines R.kind Op.makes first.now second.now list.items)
-        (λ e. (e ≡ CoreError.OutOfMemory) ⊎ (IsInvalidShard e × Clash R.kind Op.makes first.now second.now)) }
-    ensures rows { IfOk result (λ list. total_rows R.kind list.items ≤ total_rows R.kind first.now + total_rows R.kind second.now) }
+    ensures combined { MatchResult result
+        (λ list. Combines R.kind Op.makes first.now second.now list.items)
+        (λ e. (e ≡ CoreError.OutOfMemory)
+        ⊎ (IsInvalidShard e × Clash R.kind Op.makes first.now second.now)) }
+    ensures rows { IfOk result
+        (λ list. total_rows R.kind list.items
+        ≤ total_rows R.kind first.now + total_rows R.kind second.now) }
 {
     let mut combined = Vec::new(alloc);
     let mut i = 0;
@@ -126,8 +133,9 @@ fn next_pair<'a, R: SetRecord>(
     first: Option<&'a R>,
     second: Option<&'a R>,
 ) -> (Option<&'a R>, Option<&'a R>)
-    ensures { IsNextPair R.kind (option_map (λ x. x.now) first.entry) (option_map (λ y. y.now) second.entry)
-        (option_map (λ x. x.now) result.0) (option_map (λ y. y.now) result.1) }
+    ensures { IsNextPair R.kind (option_map (λ x. x.now) first.entry)
+        (option_map (λ y. y.now) second.entry) (option_map (λ x. x.now) result.0)
+        (option_map (λ y. y.now) result.1) }
 {
     match (first, second) {
         (Some(x), Some(y)) => match x.hash().cmp(&y.hash()) {

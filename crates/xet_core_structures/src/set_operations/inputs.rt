@@ -39,11 +39,14 @@ pub fn read_inputs<S: ShardSource, T: ShardSource>(
     s2: &MDBShardInfo,
     r2: &mut T,
 ) -> Result<Inputs>
-    ensures read { MatchResult result (HaveInputs (S.meaning r1.old).bytes s1.now (T.meaning r2.old).bytes s2.now)
+    ensures read { MatchResult result
+        (HaveInputs (S.meaning r1.old).bytes s1.now (T.meaning r2.old).bytes s2.now)
         (InputsFail (S.meaning r1.old) (S.meaning r1.new) (T.meaning r2.old) (T.meaning r2.new)
         (DifferenceRefusal (S.meaning r1.old).bytes s1.now (T.meaning r2.old).bytes s2.now)) }
-    ensures untouched { key_of s1.now ≢ key_of s2.now → (S.meaning r1.new ≡ S.meaning r1.old) × (T.meaning r2.new ≡ T.meaning r2.old) }
-    ensures sources { ((S.meaning r1.new).bytes ≡ (S.meaning r1.old).bytes) × ((T.meaning r2.new).bytes ≡ (T.meaning r2.old).bytes) }
+    ensures untouched { key_of s1.now ≢ key_of s2.now
+        → (S.meaning r1.new ≡ S.meaning r1.old) × (T.meaning r2.new ≡ T.meaning r2.old) }
+    ensures sources { ((S.meaning r1.new).bytes ≡ (S.meaning r1.old).bytes)
+        × ((T.meaning r2.new).bytes ≡ (T.meaning r2.old).bytes) }
 {
     if s1.metadata.chunk_hash_hmac_key != s2.metadata.chunk_hash_hmac_key {
         return Err(CoreError::InvalidArguments);
@@ -56,7 +59,8 @@ pub fn read_inputs<S: ShardSource, T: ShardSource>(
 // Reads both sections, with the same errors.
 fn read_input<S: ShardSource>(alloc: Global, info: &MDBShardInfo, source: &mut S) -> Result<Records>
     ensures read { MatchResult result
-        (λ found. HoldsLists (S.meaning source.old).bytes info.now found.files.items found.xorbs.items)
+        (λ found. HoldsLists (S.meaning source.old).bytes info.now found.files.items
+        found.xorbs.items)
         (ReadsNoInput (S.meaning source.old) (S.meaning source.new) info.now) }
     ensures kept { (S.meaning source.new).bytes ≡ (S.meaning source.old).bytes }
 {
@@ -67,7 +71,8 @@ fn read_input<S: ShardSource>(alloc: Global, info: &MDBShardInfo, source: &mut S
 
 // The same records. `InvalidShard` unless their hashes strictly ascend.
 fn ascending<R: SetRecord + Drop>(alloc: Global, records: Vec<R>) -> Result<Vec<R>>
-    ensures { MatchResult result (λ same. (same.items ≡ records.items) × Ascends R.kind records.items)
+    ensures { MatchResult result
+        (λ same. (same.items ≡ records.items) × Ascends R.kind records.items)
         (λ e. IsInvalidShard e × (¬ Ascends R.kind records.items)) }
 {
     if !ascends(&records) {

@@ -73,7 +73,8 @@ pub trait SetOperation {
     fn combine_records(alloc: Global, first: &Records, second: &Records) -> Result<Records>
         requires first { AreRecords first.now }
         requires second { AreRecords second.now }
-        ensures { MatchResult result (Makes first.now second.now) (MakesNone first.now second.now) };
+        ensures { MatchResult result (Makes first.now second.now)
+            (MakesNone first.now second.now) };
 
     /// Does nothing. It says what holds of every operation.
     fn laws()
@@ -137,12 +138,16 @@ pub fn operate<O: SetOperation, S: ShardSource, T: ShardSource, W: Write>(
     out: &mut W,
 ) -> std::result::Result<MDBShardInfo, SetFailure>
     ensures written { MatchResult result
-        (WritesResult O.IsResult (S.meaning r1.old).bytes s1.now (T.meaning r2.old).bytes s2.now (W.contents out.old) (W.contents out.new))
-        (FailsBy (InputsFail (S.meaning r1.old) (S.meaning r1.new) (T.meaning r2.old) (T.meaning r2.new)
+        (WritesResult O.IsResult (S.meaning r1.old).bytes s1.now (T.meaning r2.old).bytes s2.now
+        (W.contents out.old) (W.contents out.new))
+        (FailsBy
+        (InputsFail (S.meaning r1.old) (S.meaning r1.new) (T.meaning r2.old) (T.meaning r2.new)
         (O.Refusal (S.meaning r1.old).bytes s1.now (T.meaning r2.old).bytes s2.now))) }
     ensures untouched { key_of s1.now ≢ key_of s2.now
-        → (S.meaning r1.new ≡ S.meaning r1.old) × (T.meaning r2.new ≡ T.meaning r2.old) × (W.contents out.new ≡ W.contents out.old) }
-    ensures sources { ((S.meaning r1.new).bytes ≡ (S.meaning r1.old).bytes) × ((T.meaning r2.new).bytes ≡ (T.meaning r2.old).bytes) }
+        → (S.meaning r1.new ≡ S.meaning r1.old) × (T.meaning r2.new ≡ T.meaning r2.old)
+        × (W.contents out.new ≡ W.contents out.old) }
+    ensures sources { ((S.meaning r1.new).bytes ≡ (S.meaning r1.old).bytes)
+        × ((T.meaning r2.new).bytes ≡ (T.meaning r2.old).bytes) }
     ensures widths { IfOk result (λ info. FitsFooter info.metadata) }
 {
     O::laws();
@@ -159,7 +164,9 @@ fn write_records<W: Write>(
     key: HMACKey,
 ) -> std::result::Result<MDBShardInfo, SetFailure>
     requires { AreRecords records.now }
-    ensures written { MatchResult result (WritesRecords records.now key (W.contents out.old) (W.contents out.new)) (FailsBy (λ _. ⊥)) }
+    ensures written { MatchResult result
+        (WritesRecords records.now key (W.contents out.old) (W.contents out.new))
+        (FailsBy (λ _. ⊥)) }
     ensures widths { IfOk result (λ info. FitsFooter info.metadata) }
 {
     let form = Form {

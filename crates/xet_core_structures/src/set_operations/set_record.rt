@@ -92,12 +92,20 @@ pub trait Operation<R: SetRecord> {
     fn combine(alloc: Global, first: Option<&R>, second: Option<&R>) -> Result<Option<R>>
         requires first { IfSome first (λ x. R.kind.IsStored x.now) }
         requires second { IfSome second (λ y. R.kind.IsStored y.now) }
-        requires hash { AreOfOneHash R.kind (option_map (λ x. x.now) first) (option_map (λ y. y.now) second) }
-        ensures made { IfOk result (makes (option_map (λ x. x.now) first.entry) (option_map (λ y. y.now) second.entry)) }
-        ensures stored { IfOk result (λ made. IfSome made
-            (IsMadeOf R.kind (option_map (λ x. x.now) first.entry) (option_map (λ y. y.now) second.entry))) }
-        ensures causes { IfErr result (λ e. (e ≡ CoreError.OutOfMemory) ⊎ (IsInvalidShard e
-            × ((made : Option R) → ¬ makes (option_map (λ x. x.now) first.entry) (option_map (λ y. y.now) second.entry) made))) };
+        requires hash { AreOfOneHash R.kind (option_map (λ x. x.now) first)
+            (option_map (λ y. y.now) second) }
+        ensures made { IfOk result
+            (makes (option_map (λ x. x.now) first.entry) (option_map (λ y. y.now) second.entry)) }
+        ensures stored { IfOk result
+            (λ made. IfSome made
+            (IsMadeOf R.kind (option_map (λ x. x.now) first.entry)
+            (option_map (λ y. y.now) second.entry))) }
+        ensures causes { IfErr result
+            (λ e. (e ≡ CoreError.OutOfMemory)
+            ⊎ (IsInvalidShard e
+            × ((made : Option R)
+            → ¬ makes (option_map (λ x. x.now) first.entry)
+            (option_map (λ y. y.now) second.entry) made))) };
 }
 
 impl Operation<MDBFileInfo> for OfUnion {
@@ -203,7 +211,8 @@ fn unite_file(alloc: Global, first: &MDBFileInfo, second: &MDBFileInfo) -> Resul
     requires hash { first.now.metadata.file_hash ≡ second.now.metadata.file_hash }
     ensures united { IfOk result (IsUnitedFile first.now second.now) }
     ensures stored { IfOk result IsStored }
-    ensures hash { IfOk result (λ united. united.metadata.file_hash ≡ first.now.metadata.file_hash) }
+    ensures hash { IfOk result
+        (λ united. united.metadata.file_hash ≡ first.now.metadata.file_hash) }
     ensures causes { IfErr result (λ e. (e ≡ CoreError.OutOfMemory) ⊎ (IsInvalidShard e
         × ((united : MDBFileInfo) → ¬ IsUnitedFile first.now second.now united))) }
 {
@@ -219,7 +228,8 @@ fn unite_file(alloc: Global, first: &MDBFileInfo, second: &MDBFileInfo) -> Resul
     }
 }
 
-// The first's segments, and each optional part from the first where it has it, else from the second.
+// The first's segments, and each optional part from the first where it has it, else from the
+// second.
 fn mix(alloc: Global, first: &MDBFileInfo, second: &MDBFileInfo) -> Result<MDBFileInfo>
     ensures mixed { IfOk result (λ file. file ≡ mixed first.now second.now) }
     ensures causes { IfErr result (λ e. e ≡ CoreError.OutOfMemory) }

@@ -34,7 +34,12 @@ impl FileDataSequenceHeader {
         contains_verification: bool,
         contains_metadata_ext: bool,
     ) -> Self
-        ensures { result ≡ record { file_hash = file_hash; file_flags = flags_of contains_verification contains_metadata_ext; num_entries = num_entries; _unused = 0 } }
+        ensures { result ≡ record {
+          file_hash = file_hash;
+          file_flags = flags_of contains_verification contains_metadata_ext;
+          num_entries = num_entries;
+          _unused = 0;
+        } }
     {
         let verification = if contains_verification {
             MDB_FILE_FLAG_WITH_VERIFICATION
@@ -127,7 +132,8 @@ impl FileDataSequenceHeader {
 
     /// The number of verification rows that the header announces.
     pub fn verification_rows(&self) -> u32
-        ensures { result ≡ (if has_verification self.now.file_flags then self.now.num_entries else 0) }
+        ensures { result
+            ≡ (if has_verification self.now.file_flags then self.now.num_entries else 0) }
     {
         if self.contains_verification() {
             self.num_entries

@@ -34,7 +34,13 @@ impl FileDataSequenceEntry {
         chunk_index_start: u32,
         chunk_index_end: u32,
     ) -> Self
-        ensures { result ≡ record { xorb_hash = xorb_hash; xorb_flags = 0; unpacked_segment_bytes = unpacked_segment_bytes; chunk_index_start = chunk_index_start; chunk_index_end = chunk_index_end } }
+        ensures { result ≡ record {
+          xorb_hash = xorb_hash;
+          xorb_flags = 0;
+          unpacked_segment_bytes = unpacked_segment_bytes;
+          chunk_index_start = chunk_index_start;
+          chunk_index_end = chunk_index_end;
+        } }
     {
         FileDataSequenceEntry {
             xorb_hash,
@@ -45,8 +51,9 @@ impl FileDataSequenceEntry {
         }
     }
 
-    /// The segment of these chunks of the xorb with this header, at the indices from `chunk_index_start` up to
-    /// `chunk_index_end`; the default if there are no chunks. Requires that their total size fits `u32`.
+    /// The segment of these chunks of the xorb with this header, at the indices from
+    /// `chunk_index_start` up to `chunk_index_end`; the default if there are no chunks. Requires
+    /// that their total size fits `u32`.
     pub fn from_xorb_entries(
         metadata: &XorbChunkSequenceHeader,
         chunks: &[XorbChunkSequenceEntry],
@@ -149,16 +156,19 @@ impl FileVerificationEntry {
     /// Appends the row and returns its 48 bytes. The error is the writer's.
     pub fn serialize<W: Write>(&self, writer: &mut W) -> io::Result<usize>
         ensures { IfOk result
-            (WritesRow (W.contents writer.old) (W.contents writer.new) (verification_row self.now)) }
+            (WritesRow (W.contents writer.old) (W.contents writer.new)
+            (verification_row self.now)) }
     {
         write_row(self, writer)?;
         Ok(MDB_FILE_INFO_ENTRY_SIZE)
     }
 
-    /// Reads the row, and sets its reserved words to zero. `UnexpectedEof` if fewer than 48 bytes are left.
+    /// Reads the row, and sets its reserved words to zero. `UnexpectedEof` if fewer than 48 bytes
+    /// are left.
     pub fn deserialize<R: Read>(reader: &mut R) -> io::Result<Self>
         ensures { MatchResult result
-            (ReadsCleared verification_row FitsVerification clear_verification (R.remaining reader.old) (R.remaining reader.new))
+            (ReadsCleared verification_row FitsVerification clear_verification
+            (R.remaining reader.old) (R.remaining reader.new))
             (LacksRow (R.remaining reader.old)) }
     {
         read_row(reader)
@@ -229,10 +239,12 @@ impl FileMetadataExt {
         Ok(MDB_FILE_INFO_ENTRY_SIZE)
     }
 
-    /// Reads the row, and sets its reserved words to zero. `UnexpectedEof` if fewer than 48 bytes are left.
+    /// Reads the row, and sets its reserved words to zero. `UnexpectedEof` if fewer than 48 bytes
+    /// are left.
     pub fn deserialize<R: Read>(reader: &mut R) -> io::Result<Self>
         ensures { MatchResult result
-            (ReadsCleared metadata_row FitsMetadata clear_metadata (R.remaining reader.old) (R.remaining reader.new))
+            (ReadsCleared metadata_row FitsMetadata clear_metadata (R.remaining reader.old)
+            (R.remaining reader.new))
             (LacksRow (R.remaining reader.old)) }
     {
         read_row(reader)

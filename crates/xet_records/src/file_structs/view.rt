@@ -26,8 +26,8 @@ use xet_base::error::{CoreError, Result};
 use xet_base::merklehash::MerkleHash;
 use xet_base::serialization_utils::write_bytes;
 
-/// A file record as its bytes. Contracts see the record that the bytes are, its reserved words as they are
-/// stored.
+/// A file record as its bytes. Contracts see the record that the bytes are, its reserved words as
+/// they are stored.
 #[derive(Debug, Drop)]
 pub struct MDBFileInfoView {
     header: FileDataSequenceHeader,
@@ -44,15 +44,16 @@ impl Model for MDBFileInfoView {
 
     ghost view = { λ v. file_at v.header v.bytes };
 
-    ghost invariant = { λ v. Shows file_records IsWholeFile v.header v.bytes (file_at v.header v.bytes) };
+    ghost invariant = { λ v. Shows file_records IsWholeFile v.header v.bytes
+        (file_at v.header v.bytes) };
 }
 
 impl MDBFileInfoView {
-    /// The view of the record that the bytes begin with; the bytes after the record are cut off. The record may
-    /// have the all-ones hash.
+    /// The view of the record that the bytes begin with; the bytes after the record are cut off.
+    /// The record may have the all-ones hash.
     ///
-    /// `UnexpectedEof` if the bytes end before the header or the rows that it announces, `InvalidShard` if these
-    /// rows pass 4294967295.
+    /// `UnexpectedEof` if the bytes end before the header or the rows that it announces,
+    /// `InvalidShard` if these rows pass 4294967295.
     pub fn new(alloc: Global, bytes: Bytes) -> Result<Self>
         ensures { MatchResult result (BeginsWithFile bytes) (NoView file_records bytes) }
     {
@@ -66,10 +67,10 @@ impl MDBFileInfoView {
         header: FileDataSequenceHeader,
         bytes: Bytes,
     ) -> Result<Self>
-        ensures { MatchResult result
-            (λ view. BeginsWithFile bytes view × (view.metadata ≡ header))
+        ensures { MatchResult result (λ view. BeginsWithFile bytes view × (view.metadata ≡ header))
             (λ e. NoView file_records bytes e
-            ⊎ ((e ≡ CoreError.InvalidArguments) × (48 ≤ length bytes) × (take 48 bytes ≢ header_row header))) }
+            ⊎ ((e ≡ CoreError.InvalidArguments) × (48 ≤ length bytes)
+            × (take 48 bytes ≢ header_row header))) }
     {
         header.widths();
         if !record_bytes::begins_with(bytes.as_slice(), &header)? {
@@ -140,10 +141,12 @@ impl MDBFileInfoView {
         record_bytes::row(self.bytes.as_slice(), 1 + index)
     }
 
-    /// The verification row of the segment at an index, with zero reserved words. Requires that there is one.
+    /// The verification row of the segment at an index, with zero reserved words. Requires that
+    /// there is one.
     pub fn verification(&self, index: usize) -> FileVerificationEntry
         requires { index < length self.now.verification }
-        ensures { option_map clear_verification (slice_get self.now.verification index) ≡ Some result }
+        ensures { option_map clear_verification (slice_get self.now.verification index)
+            ≡ Some result }
     {
         record_bytes::row(self.bytes.as_slice(), 1 + self.num_entries() + index)
     }
@@ -173,15 +176,18 @@ impl MDBFileInfoView {
         (1 + self.num_entries() + verification + metadata_ext) * MDB_FILE_INFO_ENTRY_SIZE
     }
 
-    /// Appends the record and returns its size in bytes. If verification rows are not wanted, a record that has
-    /// them is written without them, under a header with the flag of a metadata row alone.
+    /// Appends the record and returns its size in bytes. If verification rows are not wanted, a
+    /// record that has them is written without them, under a header with the flag of a metadata row
+    /// alone.
     ///
-    /// `Io` of kind `Other` if they are wanted and missing, and then nothing is written. Any other error is the
-    /// writer's.
+    /// `Io` of kind `Other` if they are wanted and missing, and then nothing is written. Any other
+    /// error is the writer's.
     pub fn serialize<W: Write>(&self, writer: &mut W, with_verification: bool) -> Result<usize>
         ensures bytes { OnOk result
-            (Appends (W.contents writer.old) (W.contents writer.new) (file_record_bytes (as_wanted with_verification self.now))) }
-        ensures count { IfOk result (λ n. n ≡ 48 * row_count (as_wanted with_verification self.now)) }
+            (Appends (W.contents writer.old) (W.contents writer.new)
+            (file_record_bytes (as_wanted with_verification self.now))) }
+        ensures count { IfOk result
+            (λ n. n ≡ 48 * row_count (as_wanted with_verification self.now)) }
         ensures missing { LacksVerification with_verification self.now
             → IsErrAnd result IsOtherDeviceError × (writer.new ≡ writer.old) }
         ensures causes { IfErr result IsDeviceError }
@@ -201,7 +207,8 @@ impl MDBFileInfoView {
     // Appends the record without its verification rows.
     fn write_without_verification<W: Write>(&self, writer: &mut W) -> io::Result<()>
         ensures { OnOk result
-            (Appends (W.contents writer.old) (W.contents writer.new) (file_record_bytes (without_verification self.now))) }
+            (Appends (W.contents writer.old) (W.contents writer.new)
+            (file_record_bytes (without_verification self.now))) }
     {
         let metadata_ext = self.header.contains_metadata_ext();
         let header = FileDataSequenceHeader::new(
@@ -230,7 +237,8 @@ impl MDBFileInfoView {
         Ok(self.bytes.clone()?)
     }
 
-    /// The record, with zero reserved words in verification and metadata rows. `OutOfMemory` is the only error.
+    /// The record, with zero reserved words in verification and metadata rows. `OutOfMemory` is the
+    /// only error.
     pub fn to_info(&self, alloc: Global) -> Result<MDBFileInfo>
         ensures ok { IfOk result (λ info. info ≡ handed_out self.now) }
         ensures causes { IfErr result (λ e. e ≡ CoreError.OutOfMemory) }

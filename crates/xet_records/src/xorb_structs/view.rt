@@ -41,12 +41,13 @@ impl Model for MDBXorbInfoView {
 
     ghost view = { λ v. xorb_at v.header v.bytes };
 
-    ghost invariant = { λ v. Shows xorb_records IsWholeXorb v.header v.bytes (xorb_at v.header v.bytes) };
+    ghost invariant = { λ v. Shows xorb_records IsWholeXorb v.header v.bytes
+        (xorb_at v.header v.bytes) };
 }
 
 impl MDBXorbInfoView {
-    /// The view of the record that the bytes begin with; the bytes after the record are cut off. The record may
-    /// have the all-ones hash.
+    /// The view of the record that the bytes begin with; the bytes after the record are cut off.
+    /// The record may have the all-ones hash.
     ///
     /// `UnexpectedEof` if the bytes end before the header or the chunks that it announces.
     pub fn new(bytes: Bytes) -> Result<Self>
@@ -58,10 +59,10 @@ impl MDBXorbInfoView {
 
     /// The same as `new` if the bytes begin with this header, else `InvalidArguments`.
     pub fn from_data_and_header(header: XorbChunkSequenceHeader, bytes: Bytes) -> Result<Self>
-        ensures { MatchResult result
-            (λ view. BeginsWithXorb bytes view × (view.metadata ≡ header))
+        ensures { MatchResult result (λ view. BeginsWithXorb bytes view × (view.metadata ≡ header))
             (λ e. NoView xorb_records bytes e
-            ⊎ ((e ≡ CoreError.InvalidArguments) × (48 ≤ length bytes) × (take 48 bytes ≢ xorb_header_row header))) }
+            ⊎ ((e ≡ CoreError.InvalidArguments) × (48 ≤ length bytes)
+            × (take 48 bytes ≢ xorb_header_row header))) }
     {
         header.widths();
         if !record_bytes::begins_with(bytes.as_slice(), &header)? {
@@ -127,16 +128,18 @@ impl MDBXorbInfoView {
         Ok(self.byte_size())
     }
 
-    /// Appends the record with the chunk at each index replaced by what `rewrite` returns for the index and the
-    /// chunk, and returns its size in bytes. The error is the writer's.
+    /// Appends the record with the chunk at each index replaced by what `rewrite` returns for the
+    /// index and the chunk, and returns its size in bytes. The error is the writer's.
     #[tactic(auto, unfolding(crate::specs::XorbRecord::xorb_record_bytes))]
     pub fn serialize_with_chunk_rewrite<
         W: Write,
         F: Fn(usize, XorbChunkSequenceEntry) -> XorbChunkSequenceEntry,
     >(&self, writer: &mut W, rewrite: F) -> Result<usize>
         requires { F.IsAlwaysCallable rewrite }
-        ensures bytes { OnOk result ((rewritten : List chunk_type) × Rewrites (F.post rewrite) self.now.chunks rewritten
-            × Appends (W.contents writer.old) (W.contents writer.new) (xorb_header_row self.now.metadata ++ flat_map chunk_row rewritten)) }
+        ensures bytes { OnOk result
+            ((rewritten : List chunk_type) × Rewrites (F.post rewrite) self.now.chunks rewritten
+            × Appends (W.contents writer.old) (W.contents writer.new)
+            (xorb_header_row self.now.metadata ++ flat_map chunk_row rewritten)) }
         ensures count { IfOk result (λ n. n ≡ 48 * xorb_row_count self.now) }
         ensures causes { IfErr result IsDeviceError }
     {
@@ -148,12 +151,13 @@ impl MDBXorbInfoView {
         Ok(self.byte_size())
     }
 
-    /// The record under a header of its own, without flags and bytes on disk, whose size is the end of the last
-    /// chunk. `InvalidShard` if this end passes 32 bits. May fail with `OutOfMemory`.
+    /// The record under a header of its own, without flags and bytes on disk, whose size is the end
+    /// of the last chunk. `InvalidShard` if this end passes 32 bits. May fail with `OutOfMemory`.
     pub fn to_info(&self, alloc: Global) -> Result<MDBXorbInfo>
         ensures { MatchResult result
             (λ info. (info ≡ under_own_header self.now) × (end_of_chunks self.now.chunks < 2 ^ 32))
-            (λ e. (IsBareInvalidShard e × (2 ^ 32 ≤ end_of_chunks self.now.chunks)) ⊎ (e ≡ CoreError.OutOfMemory)) }
+            (λ e. (IsBareInvalidShard e × (2 ^ 32 ≤ end_of_chunks self.now.chunks))
+            ⊎ (e ≡ CoreError.OutOfMemory)) }
     {
         let Some(size) = self.end_of_chunks() else {
             return Err(CoreError::InvalidShard(String::new(alloc)));

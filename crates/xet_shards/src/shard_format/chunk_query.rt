@@ -26,10 +26,10 @@ use xet_base::source::ShardSource;
 use xet_records::file_structs::FileDataSequenceEntry;
 
 impl MDBShardInfo {
-    /// The run of these hashes in the xorb that starts at a row of the xorb section, from the chunk at an index
-    /// on: its number of chunks, and their segment. The hashes are not keyed; if the shard has a key, they are
-    /// compared under it. `None` if no hash is given or the chunk has another hash than the first. Does not
-    /// allocate.
+    /// The run of these hashes in the xorb that starts at a row of the xorb section, from the chunk
+    /// at an index on: its number of chunks, and their segment. The hashes are not keyed; if the
+    /// shard has a key, they are compared under it. `None` if no hash is given or the chunk has
+    /// another hash than the first. Does not allocate.
     ///
     /// `InvalidArguments` if there is a bookend at the row, or the xorb has no chunk at the index;
     /// `InvalidShard` if an offset does not fit `u64`, or the bytes of the run do not fit `u32`;
@@ -42,19 +42,33 @@ impl MDBShardInfo {
         xorb_row: u32,
         chunk_index: u32,
     ) -> Result<Option<(usize, FileDataSequenceEntry)>>
-        ensures answer { IfOk result (AnswerAt self.now.metadata.chunk_hash_hmac_key unkeyed_query_hashes.now (S.meaning source.old).bytes self.now.metadata.xorb_info_offset xorb_row chunk_index) }
-        ensures refused { IfErr result (RefusedAt (λ e. e ≡ CoreError.InvalidArguments) self.now.metadata.chunk_hash_hmac_key unkeyed_query_hashes.now self.now.metadata.xorb_info_offset xorb_row chunk_index (S.meaning source.old) (S.meaning source.new)) }
+        ensures answer { IfOk result
+            (AnswerAt self.now.metadata.chunk_hash_hmac_key unkeyed_query_hashes.now
+            (S.meaning source.old).bytes self.now.metadata.xorb_info_offset xorb_row
+            chunk_index) }
+        ensures refused { IfErr result
+            (RefusedAt (λ e. e ≡ CoreError.InvalidArguments) self.now.metadata.chunk_hash_hmac_key
+            unkeyed_query_hashes.now self.now.metadata.xorb_info_offset xorb_row chunk_index
+            (S.meaning source.old) (S.meaning source.new)) }
         ensures serves { OnOk result (Serves (S.meaning source.old) (S.meaning source.new)) }
-        ensures visit { Visit xorb_records 2 self.now.metadata.xorb_info_offset xorb_row (S.meaning source.old) (S.meaning source.new) }
-        ensures in_form { (files : List File) → (xorbs : List Xorb) → (form : Form) → (xorb : Xorb) → IsInForm files xorbs form (S.meaning source.old).bytes self.now.metadata
+        ensures visit { Visit xorb_records 2 self.now.metadata.xorb_info_offset xorb_row
+            (S.meaning source.old) (S.meaning source.new) }
+        ensures in_form { (files : List File) → (xorbs : List Xorb) → (form : Form) → (xorb : Xorb)
+            → IsInForm files xorbs form (S.meaning source.old).bytes self.now.metadata
             → StartsAt xorb_records xorbs xorb_row xorb → IsXorb xorb
-            → MatchResult result (RunInXorb form.key unkeyed_query_hashes.now xorb chunk_index) (NoRunInXorb xorb chunk_index (S.meaning source.old) (S.meaning source.new)) }
-        ensures bookend { (files : List File) → (xorbs : List Xorb) → (form : Form) → IsInForm files xorbs form (S.meaning source.old).bytes self.now.metadata → xorb_row ≡ total_rows xorb_records xorbs
+            → MatchResult result (RunInXorb form.key unkeyed_query_hashes.now xorb chunk_index)
+            (NoRunInXorb xorb chunk_index (S.meaning source.old) (S.meaning source.new)) }
+        ensures bookend { (files : List File) → (xorbs : List Xorb) → (form : Form)
+            → IsInForm files xorbs form (S.meaning source.old).bytes self.now.metadata
+            → xorb_row ≡ total_rows xorb_records xorbs
             → MatchResult result (λ answer. (unkeyed_query_hashes.now ≡ []) × (answer ≡ None))
-            (λ e. DeviceFailure (S.meaning source.old) (S.meaning source.new) e ⊎ (e ≡ CoreError.InvalidArguments)) }
-        ensures written { (s : Shard) → (expiry : Option ℕ) → (xorb : Xorb) → IsWritten s expiry (S.meaning source.old).bytes self.now
+            (λ e. DeviceFailure (S.meaning source.old) (S.meaning source.new) e
+            ⊎ (e ≡ CoreError.InvalidArguments)) }
+        ensures written { (s : Shard) → (expiry : Option ℕ) → (xorb : Xorb)
+            → IsWritten s expiry (S.meaning source.old).bytes self.now
             → StartsAt xorb_records (finite.values s.xorbs) xorb_row xorb
-            → MatchResult result (RunInXorb no_key unkeyed_query_hashes.now xorb chunk_index) (NoRunInXorb xorb chunk_index (S.meaning source.old) (S.meaning source.new)) }
+            → MatchResult result (RunInXorb no_key unkeyed_query_hashes.now xorb chunk_index)
+            (NoRunInXorb xorb chunk_index (S.meaning source.old) (S.meaning source.new)) }
     {
         let absent = CoreError::InvalidArguments;
         self.run_at_location(
@@ -67,30 +81,45 @@ impl MDBShardInfo {
         )
     }
 
-    /// A run of these hashes in a xorb: its number of chunks, and their segment. It starts at the first of at
-    /// most eight locations, of those that the chunk table has for the first word of the first hash, whose chunk
-    /// has that hash. The hashes are not keyed; if the shard has a key, they are compared under it. `None` if no
-    /// hash is given, there is no chunk table, or none of the locations has the hash. Does not allocate.
+    /// A run of these hashes in a xorb: its number of chunks, and their segment. It starts at the
+    /// first of at most eight locations, of those that the chunk table has for the first word of
+    /// the first hash, whose chunk has that hash. The hashes are not keyed; if the shard has a key,
+    /// they are compared under it. `None` if no hash is given, there is no chunk table, or none of
+    /// the locations has the hash. Does not allocate.
     ///
-    /// `InvalidShard` if the table's offset or end does not fit `u64`, a location is not in the xorb section, or
-    /// the bytes of the run do not fit `u32`; `UnexpectedEof` if the source ends before a row that has to be read.
+    /// `InvalidShard` if the table's offset or end does not fit `u64`, a location is not in the
+    /// xorb section, or the bytes of the run do not fit `u32`; `UnexpectedEof` if the source ends
+    /// before a row that has to be read.
     pub fn chunk_hash_dedup_query<S: ShardSource>(
         &self,
         alloc: Global,
         source: &mut S,
         unkeyed_query_hashes: &[MerkleHash],
     ) -> Result<Option<(usize, FileDataSequenceEntry)>>
-        ensures read { MatchResult result (QueryAnswer self.now.metadata unkeyed_query_hashes.now (S.meaning source.old) (S.meaning source.new))
-            (QueryRefused self.now.metadata unkeyed_query_hashes.now (S.meaning source.old) (S.meaning source.new)) }
+        ensures read { MatchResult result
+            (QueryAnswer self.now.metadata unkeyed_query_hashes.now (S.meaning source.old)
+            (S.meaning source.new))
+            (QueryRefused self.now.metadata unkeyed_query_hashes.now (S.meaning source.old)
+            (S.meaning source.new)) }
         ensures serves { OnOk result (Serves (S.meaning source.old) (S.meaning source.new)) }
-        ensures in_form { (files : List File) → (xorbs : List Xorb) → (form : Form) → IsInForm files xorbs form (S.meaning source.old).bytes self.now.metadata → form.chunk_table ≡ true
-            → All IsXorb xorbs → MatchResult result (RunAmong form.key unkeyed_query_hashes.now xorbs) (DeviceFailure (S.meaning source.old) (S.meaning source.new)) }
-        ensures in_form_costs { (files : List File) → (xorbs : List Xorb) → (form : Form) → IsInForm files xorbs form (S.meaning source.old).bytes self.now.metadata → form.chunk_table ≡ true
-            → QueryCosts form.key unkeyed_query_hashes.now xorbs (S.meaning source.old) (S.meaning source.new) }
-        ensures written { (s : Shard) → (expiry : Option ℕ) → IsWritten s expiry (S.meaning source.old).bytes self.now
-            → MatchResult result (RunAmong no_key unkeyed_query_hashes.now (finite.values s.xorbs)) (DeviceFailure (S.meaning source.old) (S.meaning source.new)) }
-        ensures costs { (s : Shard) → (expiry : Option ℕ) → IsWritten s expiry (S.meaning source.old).bytes self.now
-            → QueryCosts no_key unkeyed_query_hashes.now (finite.values s.xorbs) (S.meaning source.old) (S.meaning source.new) }
+        ensures in_form { (files : List File) → (xorbs : List Xorb) → (form : Form)
+            → IsInForm files xorbs form (S.meaning source.old).bytes self.now.metadata
+            → form.chunk_table ≡ true → All IsXorb xorbs
+            → MatchResult result (RunAmong form.key unkeyed_query_hashes.now xorbs)
+            (DeviceFailure (S.meaning source.old) (S.meaning source.new)) }
+        ensures in_form_costs { (files : List File) → (xorbs : List Xorb) → (form : Form)
+            → IsInForm files xorbs form (S.meaning source.old).bytes self.now.metadata
+            → form.chunk_table ≡ true
+            → QueryCosts form.key unkeyed_query_hashes.now xorbs (S.meaning source.old)
+            (S.meaning source.new) }
+        ensures written { (s : Shard) → (expiry : Option ℕ)
+            → IsWritten s expiry (S.meaning source.old).bytes self.now
+            → MatchResult result (RunAmong no_key unkeyed_query_hashes.now (finite.values s.xorbs))
+            (DeviceFailure (S.meaning source.old) (S.meaning source.new)) }
+        ensures costs { (s : Shard) → (expiry : Option ℕ)
+            → IsWritten s expiry (S.meaning source.old).bytes self.now
+            → QueryCosts no_key unkeyed_query_hashes.now (finite.values s.xorbs)
+            (S.meaning source.old) (S.meaning source.new) }
     {
         self.query_by_table(alloc, source, unkeyed_query_hashes)
     }
@@ -102,8 +131,11 @@ impl MDBShardInfo {
         source: &mut S,
         unkeyed_query_hashes: &[MerkleHash],
     ) -> Result<Option<(usize, FileDataSequenceEntry)>>
-        ensures read { MatchResult result (QueryAnswer self.now.metadata unkeyed_query_hashes.now (S.meaning source.old) (S.meaning source.new))
-            (QueryRefused self.now.metadata unkeyed_query_hashes.now (S.meaning source.old) (S.meaning source.new)) }
+        ensures read { MatchResult result
+            (QueryAnswer self.now.metadata unkeyed_query_hashes.now (S.meaning source.old)
+            (S.meaning source.new))
+            (QueryRefused self.now.metadata unkeyed_query_hashes.now (S.meaning source.old)
+            (S.meaning source.new)) }
         ensures serves { OnOk result (Serves (S.meaning source.old) (S.meaning source.new)) }
     {
         let Some(first) = unkeyed_query_hashes.first() else {
@@ -125,10 +157,18 @@ impl MDBShardInfo {
         query_hashes: &[MerkleHash],
         locations: &[(u32, u32)],
     ) -> Result<Option<(usize, FileDataSequenceEntry)>>
-        ensures answer { IfOk result (λ answer. TriedAnswer self.now.metadata.chunk_hash_hmac_key query_hashes.now (S.meaning source.old).bytes self.now.metadata.xorb_info_offset answer locations.now) }
-        ensures refused { IfErr result (λ e. TriedRefused self.now.metadata.chunk_hash_hmac_key query_hashes.now self.now.metadata.xorb_info_offset (S.meaning source.old) (S.meaning source.new) e locations.now) }
+        ensures answer { IfOk result
+            (λ answer. TriedAnswer self.now.metadata.chunk_hash_hmac_key query_hashes.now
+            (S.meaning source.old).bytes self.now.metadata.xorb_info_offset answer
+            locations.now) }
+        ensures refused { IfErr result
+            (λ e. TriedRefused self.now.metadata.chunk_hash_hmac_key query_hashes.now
+            self.now.metadata.xorb_info_offset (S.meaning source.old) (S.meaning source.new) e
+            locations.now) }
         ensures serves { OnOk result (Serves (S.meaning source.old) (S.meaning source.new)) }
-        ensures visits { VisitsSome xorb_records 2 self.now.metadata.xorb_info_offset (map (λ location. location.0) locations.now) (S.meaning source.old) (S.meaning source.new) }
+        ensures visits { VisitsSome xorb_records 2 self.now.metadata.xorb_info_offset
+            (map (λ location. location.0) locations.now) (S.meaning source.old)
+            (S.meaning source.new) }
     {
         for location in locations {
             let corrupt = CoreError::InvalidShard(String::new(alloc));
@@ -147,8 +187,8 @@ impl MDBShardInfo {
         Ok(None)
     }
 
-    // The run from the chunk at an index on of the xorb at a row. The error is `absent` if there is no such
-    // chunk.
+    // The run from the chunk at an index on of the xorb at a row. The error is `absent` if there is
+    // no such chunk.
     fn run_at_location<S: ShardSource>(
         &self,
         alloc: Global,
@@ -158,10 +198,17 @@ impl MDBShardInfo {
         chunk_index: u32,
         absent: CoreError,
     ) -> Result<Option<(usize, FileDataSequenceEntry)>>
-        ensures answer { IfOk result (AnswerAt self.now.metadata.chunk_hash_hmac_key query_hashes.now (S.meaning source.old).bytes self.now.metadata.xorb_info_offset xorb_row chunk_index) }
-        ensures refused { IfErr result (RefusedAt (λ e. e ≡ absent) self.now.metadata.chunk_hash_hmac_key query_hashes.now self.now.metadata.xorb_info_offset xorb_row chunk_index (S.meaning source.old) (S.meaning source.new)) }
+        ensures answer { IfOk result
+            (AnswerAt self.now.metadata.chunk_hash_hmac_key query_hashes.now
+            (S.meaning source.old).bytes self.now.metadata.xorb_info_offset xorb_row
+            chunk_index) }
+        ensures refused { IfErr result
+            (RefusedAt (λ e. e ≡ absent) self.now.metadata.chunk_hash_hmac_key query_hashes.now
+            self.now.metadata.xorb_info_offset xorb_row chunk_index (S.meaning source.old)
+            (S.meaning source.new)) }
         ensures serves { OnOk result (Serves (S.meaning source.old) (S.meaning source.new)) }
-        ensures visit { Visit xorb_records 2 self.now.metadata.xorb_info_offset xorb_row (S.meaning source.old) (S.meaning source.new) }
+        ensures visit { Visit xorb_records 2 self.now.metadata.xorb_info_offset xorb_row
+            (S.meaning source.old) (S.meaning source.new) }
     {
         if query_hashes.is_empty() {
             return Ok(None);

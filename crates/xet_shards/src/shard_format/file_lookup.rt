@@ -19,12 +19,13 @@ use xet_base::source::ShardSource;
 use xet_records::file_structs::MDBFileInfo;
 
 impl MDBShardInfo {
-    /// Looks in the file table for the first word of `hash`, and puts the row numbers of the records that
-    /// share it at the front of `dest`. Returns how many these are; entries of `dest` past them are unchanged.
-    /// Does not allocate.
+    /// Looks in the file table for the first word of `hash`, and puts the row numbers of the
+    /// records that share it at the front of `dest`. Returns how many these are; entries of `dest`
+    /// past them are unchanged. Does not allocate.
     ///
-    /// `TruncatedHashCollision` of the word if eight or more share it, `InvalidShard` if the table's offset or
-    /// end does not fit `u64`, `UnexpectedEof` if the source ends where the search reads on.
+    /// `TruncatedHashCollision` of the word if eight or more share it, `InvalidShard` if the
+    /// table's offset or end does not fit `u64`, `UnexpectedEof` if the source ends where the
+    /// search reads on.
     pub fn get_file_info_index_by_hash<S: ShardSource>(
         &self,
         alloc: Global,
@@ -32,12 +33,18 @@ impl MDBShardInfo {
         hash: &MerkleHash,
         dest: &mut [u32; 8],
     ) -> Result<usize>
-        ensures looks { LooksUpIndex (file_table self.now.metadata (S.meaning source.old)) hash.now.word0 dest.old dest.new (S.meaning source.old) (S.meaning source.new) result }
-        ensures written { (s : Shard) → (expiry : Option ℕ) → IsWritten s expiry (S.meaning source.old).bytes self.now
-            → MatchResult result (StartsAmong file_records (finite.values s.files) hash.now.word0 dest.new)
-            (NoStartsAmong file_records (finite.values s.files) hash.now.word0 (S.meaning source.old) (S.meaning source.new)) }
-        ensures costs { (s : Shard) → (expiry : Option ℕ) → IsWritten s expiry (S.meaning source.old).bytes self.now
-            → SearchWithinBounds file_records (finite.values s.files) hash.now.word0 (S.meaning source.old) (S.meaning source.new) }
+        ensures looks { LooksUpIndex (file_table self.now.metadata (S.meaning source.old))
+            hash.now.word0 dest.old dest.new (S.meaning source.old) (S.meaning source.new) result }
+        ensures written { (s : Shard) → (expiry : Option ℕ)
+            → IsWritten s expiry (S.meaning source.old).bytes self.now
+            → MatchResult result
+            (StartsAmong file_records (finite.values s.files) hash.now.word0 dest.new)
+            (NoStartsAmong file_records (finite.values s.files) hash.now.word0
+            (S.meaning source.old) (S.meaning source.new)) }
+        ensures costs { (s : Shard) → (expiry : Option ℕ)
+            → IsWritten s expiry (S.meaning source.old).bytes self.now
+            → SearchWithinBounds file_records (finite.values s.files) hash.now.word0
+            (S.meaning source.old) (S.meaning source.new) }
     {
         let start = self.metadata.file_lookup_offset;
         let rows = self.metadata.file_lookup_num_entry;
@@ -46,9 +53,9 @@ impl MDBShardInfo {
 
     /// Reads the record at a row of the file section.
     ///
-    /// `InvalidShard` if the row's offset does not fit `u64`, or the rows after the record's header do not fit
-    /// `u32`; `InternalError` if there is a bookend at the row, `UnexpectedEof` if the source ends before the
-    /// record does, `OutOfMemory` if an allocation fails.
+    /// `InvalidShard` if the row's offset does not fit `u64`, or the rows after the record's header
+    /// do not fit `u32`; `InternalError` if there is a bookend at the row, `UnexpectedEof` if the
+    /// source ends before the record does, `OutOfMemory` if an allocation fails.
     pub fn read_file_info<S: ShardSource>(
         &self,
         alloc: Global,
@@ -56,16 +63,18 @@ impl MDBShardInfo {
         row: u32,
     ) -> Result<MDBFileInfo>
         ensures { MatchResult result
-            (ReadsInfo file_records self.now.metadata.file_info_offset row (S.meaning source.old) (S.meaning source.new))
-            (ReadInfoFails file_records self.now.metadata.file_info_offset row (S.meaning source.old) (S.meaning source.new)) }
+            (ReadsInfo file_records self.now.metadata.file_info_offset row (S.meaning source.old)
+            (S.meaning source.new))
+            (ReadInfoFails file_records self.now.metadata.file_info_offset row
+            (S.meaning source.old) (S.meaning source.new)) }
     {
         read_record_at(alloc, source, self.metadata.file_info_offset, row)
     }
 
     /// Looks for the file with this hash: the record, or `None`.
     ///
-    /// `TruncatedHashCollision` if eight or more files share the first word of the hash. If tables or records
-    /// are corrupt, the errors of [`MDBShardInfo::get_file_info_index_by_hash`] and
+    /// `TruncatedHashCollision` if eight or more files share the first word of the hash. If tables
+    /// or records are corrupt, the errors of [`MDBShardInfo::get_file_info_index_by_hash`] and
     /// [`MDBShardInfo::read_file_info`].
     pub fn get_file_reconstruction_info<S: ShardSource>(
         &self,
@@ -73,14 +82,24 @@ impl MDBShardInfo {
         source: &mut S,
         hash: &MerkleHash,
     ) -> Result<Option<MDBFileInfo>>
-        ensures looks { LooksUpRecord file_records (file_table self.now.metadata (S.meaning source.old)) self.now.metadata.file_info_offset hash.now (S.meaning source.old) (S.meaning source.new) result }
-        ensures written { (s : Shard) → (expiry : Option ℕ) → IsWritten s expiry (S.meaning source.old).bytes self.now
-            → MatchResult result (FoundInShard s hash.now) (NotFoundAmong file_records (finite.values s.files) hash.now (S.meaning source.old) (S.meaning source.new)) }
-        ensures costs { (s : Shard) → (expiry : Option ℕ) → IsWritten s expiry (S.meaning source.old).bytes self.now
-            → WithinBounds file_records (finite.values s.files) hash.now.word0 (S.meaning source.old) (S.meaning source.new) }
-        ensures collision { (s : Shard) → (expiry : Option ℕ) → IsWritten s expiry (S.meaning source.old).bytes self.now
-            → IfErr result (λ e. e ≡ CoreError.TruncatedHashCollision hash.now.word0
-            → SearchWithinBounds file_records (finite.values s.files) hash.now.word0 (S.meaning source.old) (S.meaning source.new)) }
+        ensures looks { LooksUpRecord file_records
+            (file_table self.now.metadata (S.meaning source.old)) self.now.metadata.file_info_offset
+            hash.now (S.meaning source.old) (S.meaning source.new) result }
+        ensures written { (s : Shard) → (expiry : Option ℕ)
+            → IsWritten s expiry (S.meaning source.old).bytes self.now
+            → MatchResult result (FoundInShard s hash.now)
+            (NotFoundAmong file_records (finite.values s.files) hash.now (S.meaning source.old)
+            (S.meaning source.new)) }
+        ensures costs { (s : Shard) → (expiry : Option ℕ)
+            → IsWritten s expiry (S.meaning source.old).bytes self.now
+            → WithinBounds file_records (finite.values s.files) hash.now.word0
+            (S.meaning source.old) (S.meaning source.new) }
+        ensures collision { (s : Shard) → (expiry : Option ℕ)
+            → IsWritten s expiry (S.meaning source.old).bytes self.now
+            → IfErr result
+            (λ e. e ≡ CoreError.TruncatedHashCollision hash.now.word0
+            → SearchWithinBounds file_records (finite.values s.files) hash.now.word0
+            (S.meaning source.old) (S.meaning source.new)) }
     {
         self.look_up(alloc, source, hash)
     }
@@ -93,8 +112,12 @@ impl MDBShardInfo {
         hash: &MerkleHash,
     ) -> Result<Option<MDBFileInfo>>
         ensures read { MatchResult result
-            (Finding file_records (file_table self.now.metadata (S.meaning source.old)) self.now.metadata.file_info_offset hash.now (S.meaning source.old) (S.meaning source.new))
-            (FindingFails file_records (file_table self.now.metadata (S.meaning source.old)) self.now.metadata.file_info_offset hash.now (S.meaning source.old) (S.meaning source.new)) }
+            (Finding file_records (file_table self.now.metadata (S.meaning source.old))
+            self.now.metadata.file_info_offset hash.now (S.meaning source.old)
+            (S.meaning source.new))
+            (FindingFails file_records (file_table self.now.metadata (S.meaning source.old))
+            self.now.metadata.file_info_offset hash.now (S.meaning source.old)
+            (S.meaning source.new)) }
         ensures serves { OnOk result (Serves (S.meaning source.old) (S.meaning source.new)) }
         ensures kept { (S.meaning source.new).bytes ≡ (S.meaning source.old).bytes }
     {
@@ -111,10 +134,15 @@ impl MDBShardInfo {
         hash: &MerkleHash,
         rows: &[u32],
     ) -> Result<Option<MDBFileInfo>>
-        ensures answer { IfOk result (λ answer. LookupAnswer file_records (S.meaning source.old).bytes self.now.metadata.file_info_offset hash.now answer rows.now) }
-        ensures refused { IfErr result (λ e. LookupRefused file_records self.now.metadata.file_info_offset (S.meaning source.old) (S.meaning source.new) e rows.now) }
+        ensures answer { IfOk result
+            (λ answer. LookupAnswer file_records (S.meaning source.old).bytes
+            self.now.metadata.file_info_offset hash.now answer rows.now) }
+        ensures refused { IfErr result
+            (λ e. LookupRefused file_records self.now.metadata.file_info_offset
+            (S.meaning source.old) (S.meaning source.new) e rows.now) }
         ensures serves { OnOk result (Serves (S.meaning source.old) (S.meaning source.new)) }
-        ensures visits { VisitsSome file_records 1 self.now.metadata.file_info_offset rows.now (S.meaning source.old) (S.meaning source.new) }
+        ensures visits { VisitsSome file_records 1 self.now.metadata.file_info_offset rows.now
+            (S.meaning source.old) (S.meaning source.new) }
     {
         for row in rows {
             let file_info = self.read_file_info(alloc, source, *row)?;

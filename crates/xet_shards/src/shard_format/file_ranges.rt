@@ -16,8 +16,8 @@ use xet_base::merklehash::MerkleHash;
 use xet_base::source::ShardSource;
 use xet_records::file_structs::{FileDataSequenceHeader, FileMetadataExt, MDBFileInfo};
 
-/// A file's hash, the byte ranges of its segments and of its verification rows, each as the first byte and the one
-/// after the last, and the SHA-256 of its metadata row.
+/// A file's hash, the byte ranges of its segments and of its verification rows, each as the first
+/// byte and the one after the last, and the SHA-256 of its metadata row.
 type FileRanges = (
     MerkleHash,
     (u64, u64),
@@ -26,20 +26,27 @@ type FileRanges = (
 );
 
 impl MDBShardInfo {
-    /// Reads a shard's header and its file section from the source's position on, without a seek. Returns for
-    /// each file its hash, where in the source its segments and its verification rows are, and its SHA-256.
+    /// Reads a shard's header and its file section from the source's position on, without a seek.
+    /// Returns for each file its hash, where in the source its segments and its verification rows
+    /// are, and its SHA-256.
     ///
-    /// `ShardVersion` if the header's tag or version is unsupported, `UnexpectedEof` if the source ends before
-    /// the bookend, `InvalidShard` if the rows pass 4294967295, `OutOfMemory` if an allocation fails.
+    /// `ShardVersion` if the header's tag or version is unsupported, `UnexpectedEof` if the source
+    /// ends before the bookend, `InvalidShard` if the rows pass 4294967295, `OutOfMemory` if an
+    /// allocation fails.
     pub fn read_file_info_ranges<S: ShardSource>(
         alloc: Global,
         source: &mut S,
     ) -> Result<Vec<FileRanges>>
-        ensures read { MatchResult result (λ found. ReadsFileRanges (S.meaning source.old) (S.meaning source.new) found.items)
+        ensures read { MatchResult result
+            (λ found. ReadsFileRanges (S.meaning source.old) (S.meaning source.new) found.items)
             (FileRangesFail (S.meaning source.old) (S.meaning source.new)) }
-        ensures written { (s : Shard) → (expiry : Option ℕ) → IsShard s → bytes_left (S.meaning source.old) ≡ layout s expiry
-            → MatchResult result (λ found. found.items ≡ file_ranges ((S.meaning source.old).at + 48) (finite.values s.files))
-            (λ e. DeviceFailure (S.meaning source.old) (S.meaning source.new) e ⊎ (e ≡ CoreError.OutOfMemory)) }
+        ensures written { (s : Shard) → (expiry : Option ℕ) → IsShard s
+            → bytes_left (S.meaning source.old) ≡ layout s expiry
+            → MatchResult result
+            (λ found. found.items
+            ≡ file_ranges ((S.meaning source.old).at + 48) (finite.values s.files))
+            (λ e. DeviceFailure (S.meaning source.old) (S.meaning source.new) e
+            ⊎ (e ≡ CoreError.OutOfMemory)) }
     {
         read_header_and_ranges(alloc, source)
     }
@@ -47,7 +54,8 @@ impl MDBShardInfo {
 
 // Reads a shard's header and through its file section, from the source's position on.
 fn read_header_and_ranges<S: ShardSource>(alloc: Global, source: &mut S) -> Result<Vec<FileRanges>>
-    ensures { MatchResult result (λ found. ReadsFileRanges (S.meaning source.old) (S.meaning source.new) found.items)
+    ensures { MatchResult result
+        (λ found. ReadsFileRanges (S.meaning source.old) (S.meaning source.new) found.items)
         (FileRangesFail (S.meaning source.old) (S.meaning source.new)) }
 {
     read_header(alloc, source)?;

@@ -14,8 +14,9 @@ use xet_base::error::{CoreError, Result};
 use xet_records::file_structs::{FileDataSequenceHeader, MDBFileInfo};
 
 impl WrittenFiles {
-    /// Adds the next file, whose record is written elsewhere, by the first word of its hash, the rows
-    /// of its record, its header included, and its size in bytes. `OutOfMemory` if an allocation fails.
+    /// Adds the next file, whose record is written elsewhere, by the first word of its hash, the
+    /// rows of its record, its header included, and its size in bytes. `OutOfMemory` if an
+    /// allocation fails.
     pub fn add(&mut self, word: u64, rows: u64, bytes: u64) -> Result<()>
         requires header { 1 ≤ rows }
         requires rows { self.old.table.rows + rows ≤ 4294967295 }

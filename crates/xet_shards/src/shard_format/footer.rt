@@ -117,7 +117,8 @@ impl MDBShardFileFooter {
             (λ f. Consumes (R.remaining reader.old) (R.remaining reader.new)
             (shard_footer_bytes f)) }
         ensures version { IfOk result (λ f. f.version ≡ 1) }
-        ensures unsupported { IfErr result (SaysUnsupported HasUnsupportedFooter (R.remaining reader.old)) }
+        ensures unsupported { IfErr result
+            (SaysUnsupported HasUnsupportedFooter (R.remaining reader.old)) }
         ensures end { IfErr result (SaysEnd EndsInFooter (R.remaining reader.old)) }
         ensures causes { IfErr result (λ e. IsDeviceError e ⊎ IsBareShardVersion e) }
     {

@@ -47,8 +47,8 @@ impl Default for MDBShardFileHeader {
 }
 
 impl MDBShardFileHeader {
-    /// Writes the tag of every shard, then this value's version and footer size, and returns 48, the
-    /// number of bytes. The error is the writer's.
+    /// Writes the tag of every shard, then this value's version and footer size, and returns 48,
+    /// the number of bytes. The error is the writer's.
     #[tactic(auto, unfolding(crate::specs::Layout::shard_header_bytes))]
     pub fn serialize<W: Write>(&self, writer: &mut W) -> Result<usize>
         ensures bytes { OnOk result
@@ -73,7 +73,8 @@ impl MDBShardFileHeader {
             (λ h. Consumes (R.remaining reader.old) (R.remaining reader.new)
             (shard_header_bytes h)) }
         ensures tag { IfOk result (λ h. (h.tag ≡ header_tag) × (h.version ≡ 2)) }
-        ensures unsupported { IfErr result (SaysUnsupported HasUnsupportedHeader (R.remaining reader.old)) }
+        ensures unsupported { IfErr result
+            (SaysUnsupported HasUnsupportedHeader (R.remaining reader.old)) }
         ensures end { IfErr result (SaysEnd EndsInHeader (R.remaining reader.old)) }
         ensures causes { IfErr result (λ e. IsDeviceError e ⊎ IsBareShardVersion e) }
     {

@@ -46,8 +46,10 @@ impl MDBShardInfo {
     pub fn load_from_reader<S: ShardSource>(alloc: Global, source: &mut S) -> Result<Self>
         ensures read { MatchResult result (Loads (S.meaning source.old) (S.meaning source.new))
             (LoadFails (S.meaning source.old) (S.meaning source.new)) }
-        ensures written { (s : Shard) → (expiry : Option ℕ) → IsShard s → IfSome expiry (λ e. e < 2 ^ 64) → (S.meaning source.old).bytes ≡ layout s expiry
-            → MatchResult result (λ info. info ≡ info_value s expiry) (DeviceFailure (S.meaning source.old) (S.meaning source.new)) }
+        ensures written { (s : Shard) → (expiry : Option ℕ) → IsShard s
+            → IfSome expiry (λ e. e < 2 ^ 64) → (S.meaning source.old).bytes ≡ layout s expiry
+            → MatchResult result (λ info. info ≡ info_value s expiry)
+            (DeviceFailure (S.meaning source.old) (S.meaning source.new)) }
     {
         read_ends(alloc, source)
     }
@@ -107,9 +109,12 @@ impl MDBShardInfo {
         alloc: Global,
         source: &mut S,
     ) -> Result<Vec<MDBFileInfo>>
-        ensures read { ReadsAll file_records (S.meaning source.old) (S.meaning source.new) self.now.metadata.file_info_offset result }
-        ensures written { (s : Shard) → (expiry : Option ℕ) → IsWritten s expiry (S.meaning source.old).bytes self.now
-            → ReadsBack (finite.values s.files) (S.meaning source.old) (S.meaning source.new) result }
+        ensures read { ReadsAll file_records (S.meaning source.old) (S.meaning source.new)
+            self.now.metadata.file_info_offset result }
+        ensures written { (s : Shard) → (expiry : Option ℕ)
+            → IsWritten s expiry (S.meaning source.old).bytes self.now
+            → ReadsBack (finite.values s.files) (S.meaning source.old) (S.meaning source.new)
+            result }
     {
         read_section_at(alloc, source, self.metadata.file_info_offset)
     }
@@ -124,10 +129,17 @@ impl MDBShardInfo {
         alloc: Global,
         source: &mut S,
     ) -> Result<Vec<(XorbChunkSequenceHeader, u64)>>
-        ensures read { MatchResult result (λ found. ReadsXorbHeaders (S.meaning source.old) (S.meaning source.new) self.now.metadata.xorb_info_offset found.items)
-            (SectionFails xorb_records (S.meaning source.old) (S.meaning source.new) self.now.metadata.xorb_info_offset) }
-        ensures written { (s : Shard) → (expiry : Option ℕ) → IsWritten s expiry (S.meaning source.old).bytes self.now
-            → ReadsBack (xorb_headers (info_value s expiry).metadata.xorb_info_offset (finite.values s.xorbs)) (S.meaning source.old) (S.meaning source.new) result }
+        ensures read { MatchResult result
+            (λ found. ReadsXorbHeaders (S.meaning source.old) (S.meaning source.new)
+            self.now.metadata.xorb_info_offset found.items)
+            (SectionFails xorb_records (S.meaning source.old) (S.meaning source.new)
+            self.now.metadata.xorb_info_offset) }
+        ensures written { (s : Shard) → (expiry : Option ℕ)
+            → IsWritten s expiry (S.meaning source.old).bytes self.now
+            → ReadsBack
+            (xorb_headers (info_value s expiry).metadata.xorb_info_offset
+            (finite.values s.xorbs))
+            (S.meaning source.old) (S.meaning source.new) result }
     {
         read_xorb_headers(alloc, source, self.metadata.xorb_info_offset)
     }
@@ -141,9 +153,12 @@ impl MDBShardInfo {
         alloc: Global,
         source: &mut S,
     ) -> Result<Vec<MDBXorbInfo>>
-        ensures read { ReadsAll xorb_records (S.meaning source.old) (S.meaning source.new) self.now.metadata.xorb_info_offset result }
-        ensures written { (s : Shard) → (expiry : Option ℕ) → IsWritten s expiry (S.meaning source.old).bytes self.now
-            → ReadsBack (finite.values s.xorbs) (S.meaning source.old) (S.meaning source.new) result }
+        ensures read { ReadsAll xorb_records (S.meaning source.old) (S.meaning source.new)
+            self.now.metadata.xorb_info_offset result }
+        ensures written { (s : Shard) → (expiry : Option ℕ)
+            → IsWritten s expiry (S.meaning source.old).bytes self.now
+            → ReadsBack (finite.values s.xorbs) (S.meaning source.old) (S.meaning source.new)
+            result }
     {
         read_section_at(alloc, source, self.metadata.xorb_info_offset)
     }

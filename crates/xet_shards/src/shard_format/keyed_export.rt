@@ -1,4 +1,5 @@
-//! Keyed exports: a shard is written again, record by record as it is read, with its chunk hashes under a key.
+//! Keyed exports: a shard is written again, record by record as it is read, with its chunk hashes
+//! under a key.
 
 ghost use Rattle.std.specs.Prelude.{◌≡◌, ◌⊎◌, ◌+◌, ◌*◌, ◌^◌, ◌≤◌, ◌++◌, List, flat_map, MatchResult, OnOk, IfErr, IsErrAnd};
 ghost use Rattle.std.specs.Io.KnownBytes.{Appends};
@@ -34,16 +35,18 @@ use xet_records::view_reader::read_view;
 use xet_records::xorb_structs::MDBXorbInfo;
 
 impl MDBShardInfo {
-    /// Writes the shard from the source's position on with each chunk hash replaced by its keyed hash, or kept if
-    /// the key is zero, and returns the number of bytes. Everything else of a record is copied as it is stored. The
-    /// creation time is `now` and the expiry is `valid_seconds` later, both in seconds. Without files the file
-    /// section and its table are empty; the other tables are written if asked for. Header and sections are read in
-    /// sequence, the footer is not.
+    /// Writes the shard from the source's position on with each chunk hash replaced by its keyed
+    /// hash, or kept if the key is zero, and returns the number of bytes. Everything else of a
+    /// record is copied as it is stored. The creation time is `now` and the expiry is
+    /// `valid_seconds` later, both in seconds. Without files the file section and its table are
+    /// empty; the other tables are written if asked for. Header and sections are read in sequence,
+    /// the footer is not.
     ///
-    /// `InvalidArguments` if the chunk hashes of this shard are keyed or the expiry does not fit `u64`, and then
-    /// nothing is read or written. `ShardVersion` if the source's header is unsupported, `UnexpectedEof` if the
-    /// source ends before both sections do, `InvalidShard` if the rows of either pass 4294967295. May fail with
-    /// `OutOfMemory`. Any other error is the source's or the writer's.
+    /// `InvalidArguments` if the chunk hashes of this shard are keyed or the expiry does not fit
+    /// `u64`, and then nothing is read or written. `ShardVersion` if the source's header is
+    /// unsupported, `UnexpectedEof` if the source ends before both sections do, `InvalidShard` if
+    /// the rows of either pass 4294967295. May fail with `OutOfMemory`. Any other error is the
+    /// source's or the writer's.
     pub fn export_as_keyed_shard<S: ShardSource, W: Write>(
         &self,
         alloc: Global,
@@ -57,12 +60,16 @@ impl MDBShardInfo {
         include_chunk_lookup_table: bool,
     ) -> Result<usize>
         ensures written { MatchResult result
-            (Exports (export_form key now valid_seconds include_file_info include_xorb_lookup_table include_chunk_lookup_table)
-            (S.meaning source.old) (S.meaning source.new) (W.contents writer.old) (W.contents writer.new))
+            (Exports
+            (export_form key now valid_seconds include_file_info include_xorb_lookup_table
+            include_chunk_lookup_table)
+            (S.meaning source.old) (S.meaning source.new) (W.contents writer.old)
+            (W.contents writer.new))
             (λ e. ((e ≡ CoreError.InvalidArguments) × CannotExport self.now now valid_seconds)
             ⊎ ExportFails (S.meaning source.old) (S.meaning source.new) e) }
         ensures untouched { CannotExport self.now now valid_seconds
-            → IsErrAnd result (λ e. e ≡ CoreError.InvalidArguments) × (source.new ≡ source.old) × (writer.new ≡ writer.old) }
+            → IsErrAnd result (λ e. e ≡ CoreError.InvalidArguments) × (source.new ≡ source.old)
+            × (writer.new ≡ writer.old) }
     {
         if self.chunk_hashes_protected() {
             return Err(CoreError::InvalidArguments);
@@ -80,8 +87,8 @@ impl MDBShardInfo {
         )
     }
 
-    /// The same of a shard whose footer is not known. If its chunk hashes are keyed, the keyed hashes are hashed
-    /// again.
+    /// The same of a shard whose footer is not known. If its chunk hashes are keyed, the keyed
+    /// hashes are hashed again.
     pub fn export_as_keyed_shard_streaming<S: ShardSource, W: Write>(
         alloc: Global,
         source: &mut S,
@@ -94,12 +101,16 @@ impl MDBShardInfo {
         include_chunk_lookup_table: bool,
     ) -> Result<usize>
         ensures written { MatchResult result
-            (Exports (export_form key now valid_seconds include_file_info include_xorb_lookup_table include_chunk_lookup_table)
-            (S.meaning source.old) (S.meaning source.new) (W.contents writer.old) (W.contents writer.new))
+            (Exports
+            (export_form key now valid_seconds include_file_info include_xorb_lookup_table
+            include_chunk_lookup_table)
+            (S.meaning source.old) (S.meaning source.new) (W.contents writer.old)
+            (W.contents writer.new))
             (λ e. ((e ≡ CoreError.InvalidArguments) × ExpiresTooLate now valid_seconds)
             ⊎ ExportFails (S.meaning source.old) (S.meaning source.new) e) }
         ensures untouched { ExpiresTooLate now valid_seconds
-            → IsErrAnd result (λ e. e ≡ CoreError.InvalidArguments) × (source.new ≡ source.old) × (writer.new ≡ writer.old) }
+            → IsErrAnd result (λ e. e ≡ CoreError.InvalidArguments) × (source.new ≡ source.old)
+            × (writer.new ≡ writer.old) }
     {
         let Some(expiry) = now.checked_add(valid_seconds) else {
             return Err(CoreError::InvalidArguments);
@@ -124,7 +135,8 @@ fn export<S: ShardSource, W: Write>(
     form: &Form,
 ) -> Result<usize>
     ensures { MatchResult result
-        (Exports form.now (S.meaning source.old) (S.meaning source.new) (W.contents writer.old) (W.contents writer.new))
+        (Exports form.now (S.meaning source.old) (S.meaning source.new) (W.contents writer.old)
+        (W.contents writer.new))
         (ExportFails (S.meaning source.old) (S.meaning source.new)) }
 {
     read_header(alloc, source)?;
@@ -150,8 +162,10 @@ trait ExportedRecord {
     fn read<S: ShardSource>(alloc: Global, source: &mut S, left: &mut u64) -> Result<Option<Self>>
         requires { left.old ≤ 4294967296 }
         ensures { MatchResult result
-            (ReadsNextView Self.Section.Record.kind stored (Takes (S.meaning source.old) (S.meaning source.new)) left.old left.new)
-            (RecordFails Self.Section.Record.kind left.old (S.meaning source.old) (S.meaning source.new)) };
+            (ReadsNextView Self.Section.Record.kind stored
+            (Takes (S.meaning source.old) (S.meaning source.new)) left.old left.new)
+            (RecordFails Self.Section.Record.kind left.old (S.meaning source.old)
+            (S.meaning source.new)) };
 
     // Adds and writes what the form has of the record.
     fn export<W: Write>(
@@ -161,7 +175,9 @@ trait ExportedRecord {
         form: &Form,
     ) -> Result<()>
         requires stored { Self.Section.Record.kind.IsStored (stored self) }
-        requires rows { Self.Section.rows written.old + Self.Section.Record.kind.row_count (stored self) ≤ 4294967295 }
+        requires rows { Self.Section.rows written.old
+            + Self.Section.Record.kind.row_count (stored self)
+            ≤ 4294967295 }
         ensures appended { OnOk result
             (Appends (W.contents writer.old) (W.contents writer.new)
             (flat_map Self.Section.Record.kind.record_bytes (exports form.now (stored self)))) }
@@ -173,7 +189,8 @@ trait ExportedRecord {
     ghost laws: { KindLaws Self.Section.Record.kind };
 
     ghost no_more_rows: { (form : Form) (r : Self.Section.Record)
-        → total_rows Self.Section.Record.kind (exports form r) ≤ Self.Section.Record.kind.row_count r };
+        → total_rows Self.Section.Record.kind (exports form r)
+        ≤ Self.Section.Record.kind.row_count r };
 }
 
 // A file is written as it is stored, if the form has files.
@@ -241,7 +258,8 @@ fn export_section<E: ExportedRecord + Drop, S: ShardSource, W: Write>(
     form: &Form,
 ) -> Result<E::Section>
     ensures { MatchResult result
-        (λ written. ExportsSection E.Section.Record.kind (E.exports form.now) (E.Section.has_written written) (S.meaning source.old) (S.meaning source.new)
+        (λ written. ExportsSection E.Section.Record.kind (E.exports form.now)
+        (E.Section.has_written written) (S.meaning source.old) (S.meaning source.new)
         (W.contents writer.old) (W.contents writer.new))
         (λ e. TakesNoSection E.Section.Record.kind (S.meaning source.old) (S.meaning source.new) e
         ⊎ WritingFails (S.meaning source.old) (S.meaning source.new) e) }

@@ -22,8 +22,8 @@ impl RecordTable {
     }
 
     /// Adds the next record, by the first word of its hash and the number of its rows, its header
-    /// included: the table gets the word and the row at which the record starts. `OutOfMemory` if an
-    /// allocation fails.
+    /// included: the table gets the word and the row at which the record starts. `OutOfMemory` if
+    /// an allocation fails.
     pub fn add(&mut self, word: u64, rows: u64) -> Result<()>
         requires header { 1 ≤ rows }
         requires rows { self.old.rows + rows ≤ 4294967295 }

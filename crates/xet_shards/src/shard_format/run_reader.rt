@@ -27,7 +27,9 @@ pub(super) fn read_header_at<S: ShardSource>(
     row: u32,
 ) -> Result<XorbChunkSequenceHeader>
     ensures { MatchResult result
-        (λ header. FitsXorbHeader header × Takes (moved (S.meaning source.old) (row_at offset row)) (S.meaning source.new) (xorb_header_row header))
+        (λ header. FitsXorbHeader header
+        × Takes (moved (S.meaning source.old) (row_at offset row)) (S.meaning source.new)
+        (xorb_header_row header))
         (RowFails offset row (S.meaning source.old) (S.meaning source.new)) }
 {
     seek_to_row(alloc, source, offset, u64::from(row))?;
@@ -35,7 +37,8 @@ pub(super) fn read_header_at<S: ShardSource>(
 }
 
 impl MDBShardInfo {
-    /// Reads the run of hashes from the chunk at an index on of the xorb with this header, which is at a row.
+    /// Reads the run of hashes from the chunk at an index on of the xorb with this header, which is
+    /// at a row.
     pub(super) fn read_run_at<S: ShardSource>(
         &self,
         alloc: Global,
@@ -46,11 +49,20 @@ impl MDBShardInfo {
         index: u32,
     ) -> Result<Option<(usize, FileDataSequenceEntry)>>
         requires { index < header.now.num_entries }
-        ensures found { IfOk result (FoundRun self.now.metadata.chunk_hash_hmac_key query_hashes.now header.now index (chunks_at (S.meaning source.old).bytes self.now.metadata.xorb_info_offset row index)) }
+        ensures found { IfOk result
+            (FoundRun self.now.metadata.chunk_hash_hmac_key query_hashes.now header.now index
+            (chunks_at (S.meaning source.old).bytes self.now.metadata.xorb_info_offset row
+            index)) }
         ensures serves { OnOk result (Serves (S.meaning source.old) (S.meaning source.new)) }
-        ensures seeks { OnOk result ((S.meaning source.new).seeks ≡ (S.meaning source.old).seeks + 1) }
-        ensures read { OnOk result ((S.meaning source.new).read ≤ (S.meaning source.old).read + 48 * (header.now.num_entries - index)) }
-        ensures refused { IfErr result (RunFails self.now.metadata.chunk_hash_hmac_key query_hashes.now (header.now.num_entries - index) self.now.metadata.xorb_info_offset (row + 1 + index) (S.meaning source.old) (S.meaning source.new)) }
+        ensures seeks { OnOk result
+            ((S.meaning source.new).seeks ≡ (S.meaning source.old).seeks + 1) }
+        ensures read { OnOk result
+            ((S.meaning source.new).read
+            ≤ (S.meaning source.old).read + 48 * (header.now.num_entries - index)) }
+        ensures refused { IfErr result
+            (RunFails self.now.metadata.chunk_hash_hmac_key query_hashes.now
+            (header.now.num_entries - index) self.now.metadata.xorb_info_offset
+            (row + 1 + index) (S.meaning source.old) (S.meaning source.new)) }
     {
         let first = u64::from(row) + 1 + u64::from(index);
         seek_to_row(alloc, source, self.metadata.xorb_info_offset, first)?;
@@ -69,8 +81,8 @@ impl MDBShardInfo {
         Ok(Some((length as usize, segment)))
     }
 
-    // Reads chunks, at most `left`, as long as they have these hashes, one by one: how many have, and their
-    // bytes.
+    // Reads chunks, at most `left`, as long as they have these hashes, one by one: how many have,
+    // and their bytes.
     fn read_run<S: ShardSource>(
         &self,
         alloc: Global,
@@ -79,8 +91,10 @@ impl MDBShardInfo {
         left: u32,
     ) -> Result<(u32, u32)>
         ensures { MatchResult result
-            (ReadsRun self.now.metadata.chunk_hash_hmac_key query_hashes.now left (S.meaning source.old) (S.meaning source.new))
-            (ReadRunFails self.now.metadata.chunk_hash_hmac_key query_hashes.now left (S.meaning source.old) (S.meaning source.new)) }
+            (ReadsRun self.now.metadata.chunk_hash_hmac_key query_hashes.now left
+            (S.meaning source.old) (S.meaning source.new))
+            (ReadRunFails self.now.metadata.chunk_hash_hmac_key query_hashes.now left
+            (S.meaning source.old) (S.meaning source.new)) }
     {
         let mut length = 0;
         let mut bytes = 0u32;
@@ -102,7 +116,8 @@ impl MDBShardInfo {
     }
 }
 
-// Seeks to a row of the section at an offset. `InvalidShard` if the row's offset does not fit `u64`.
+// Seeks to a row of the section at an offset. `InvalidShard` if the row's offset does not fit
+// `u64`.
 fn seek_to_row<S: ShardSource>(alloc: Global, source: &mut S, offset: u64, row: u64) -> Result<()>
     requires { row ≤ 2 ^ 34 }
     ensures { MatchResult result
@@ -116,10 +131,12 @@ fn seek_to_row<S: ShardSource>(alloc: Global, source: &mut S, offset: u64, row: 
     Ok(())
 }
 
-// Reads a row at the source's position. Does not allocate. `UnexpectedEof` if fewer than 48 bytes are left.
+// Reads a row at the source's position. Does not allocate. `UnexpectedEof` if fewer than 48 bytes
+// are left.
 fn read_row<T: Row, S: ShardSource>(source: &mut S) -> Result<T>
     ensures { MatchResult result
-        (ReadsRow T.row_bytes T.Fits T.handed_out (Takes (S.meaning source.old) (S.meaning source.new)))
+        (ReadsRow T.row_bytes T.Fits T.handed_out
+        (Takes (S.meaning source.old) (S.meaning source.new)))
         (RowNotRead (S.meaning source.old) (S.meaning source.new)) }
 {
     let mut bytes = [0u8; 48];

@@ -21,7 +21,8 @@ pub(super) fn read_section_at<R: SectionRecord + Drop, S: ShardSource>(
     offset: u64,
 ) -> Result<Vec<R>>
     ensures { MatchResult result
-        (λ found. ReadsSection R.kind (S.meaning source.old) (S.meaning source.new) offset found.items)
+        (λ found. ReadsSection R.kind (S.meaning source.old) (S.meaning source.new) offset
+        found.items)
         (SectionFails R.kind (S.meaning source.old) (S.meaning source.new) offset) }
 {
     R::laws();
@@ -36,7 +37,8 @@ pub(super) fn read_record_at<R: SectionRecord + Drop, S: ShardSource>(
     offset: u64,
     row: u32,
 ) -> Result<R>
-    ensures { MatchResult result (ReadsInfo R.kind offset row (S.meaning source.old) (S.meaning source.new))
+    ensures { MatchResult result
+        (ReadsInfo R.kind offset row (S.meaning source.old) (S.meaning source.new))
         (ReadInfoFails R.kind offset row (S.meaning source.old) (S.meaning source.new)) }
 {
     R::laws();
@@ -52,13 +54,15 @@ pub(super) fn read_record_at<R: SectionRecord + Drop, S: ShardSource>(
     }
 }
 
-/// Reads the headers of the xorb section at an offset, each with its own offset, and reads past the chunks.
+/// Reads the headers of the xorb section at an offset, each with its own offset, and reads past the
+/// chunks.
 pub(super) fn read_xorb_headers<S: ShardSource>(
     alloc: Global,
     source: &mut S,
     offset: u64,
 ) -> Result<Vec<(XorbChunkSequenceHeader, u64)>>
-    ensures { MatchResult result (λ found. ReadsXorbHeaders (S.meaning source.old) (S.meaning source.new) offset found.items)
+    ensures { MatchResult result
+        (λ found. ReadsXorbHeaders (S.meaning source.old) (S.meaning source.new) offset found.items)
         (SectionFails xorb_records (S.meaning source.old) (S.meaning source.new) offset) }
 {
     source.seek_to(offset)?;

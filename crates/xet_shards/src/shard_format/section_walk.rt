@@ -1,4 +1,5 @@
-//! Walking through a section: something is kept of each record, and the rows after its header are read past.
+//! Walking through a section: something is kept of each record, and the rows after its header are
+//! read past.
 
 ghost use Rattle.std.specs.Prelude.{◌≡◌, ℕ, ◌+◌, ◌*◌, ◌^◌, ◌<◌, ◌≤◌, MatchResult};
 ghost use Rattle.xet_shards.specs.SectionReading.{TakesNoSection, RecordFails};
@@ -14,10 +15,12 @@ use xet_records::record_reader::{SectionRecord, read_header};
 pub(super) trait Kept<R: SectionRecord> {
     ghost keep: { ℕ → R → Self };
 
-    /// What is kept of the record at an offset, from its header and what reading past the rows after it keeps.
+    /// What is kept of the record at an offset, from its header and what reading past the rows
+    /// after it keeps.
     fn of_record(offset: u64, header: &R::Header, rest: R::Kept) -> Self
         requires { offset + 48 * (1 + R.kind.rows_after header.now) < 2 ^ 64 }
-        ensures { (r : R) → R.kind.header_of r ≡ header.now → R.kept r ≡ rest → result ≡ keep offset r };
+        ensures { (r : R) → R.kind.header_of r ≡ header.now → R.kept r ≡ rest
+            → result ≡ keep offset r };
 }
 
 /// Walks through the section from the source's position on.
@@ -26,7 +29,8 @@ pub(super) fn walk_section<R: SectionRecord, T: Kept<R> + Drop, S: ShardSource>(
     source: &mut S,
 ) -> Result<Vec<T>>
     ensures { MatchResult result
-        (λ found. KeepsSection R.kind T.keep (S.meaning source.old) (S.meaning source.new) found.items)
+        (λ found. KeepsSection R.kind T.keep (S.meaning source.old) (S.meaning source.new)
+        found.items)
         (TakesNoSection R.kind (S.meaning source.old) (S.meaning source.new)) }
 {
     R::laws();
@@ -46,7 +50,8 @@ fn keep_next<R: SectionRecord, T: Kept<R> + Drop, S: ShardSource>(
 ) -> Result<Option<T>>
     requires { rows_left.old ≤ 4294967296 }
     ensures { MatchResult result
-        (KeepsNext R.kind T.keep (S.meaning source.old) (S.meaning source.new) rows_left.old rows_left.new)
+        (KeepsNext R.kind T.keep (S.meaning source.old) (S.meaning source.new) rows_left.old
+        rows_left.new)
         (RecordFails R.kind rows_left.old (S.meaning source.old) (S.meaning source.new)) }
 {
     R::laws();

@@ -17,22 +17,26 @@ use xet_base::row::{split_u32, split_u64};
 use xet_base::source::{ShardSource, read_full};
 
 impl MDBShardInfo {
-    /// Reads the rows of the xorb table in order: the first word of each xorb's hash, and the row at which its
-    /// record starts.
+    /// Reads the rows of the xorb table in order: the first word of each xorb's hash, and the row
+    /// at which its record starts.
     ///
-    /// `InvalidShard` past 4294967295 rows, `UnexpectedEof` if the source ends before the table does,
-    /// `OutOfMemory` if an allocation fails.
+    /// `InvalidShard` past 4294967295 rows, `UnexpectedEof` if the source ends before the table
+    /// does, `OutOfMemory` if an allocation fails.
     pub fn read_full_xorb_lookup<S: ShardSource>(
         &self,
         alloc: Global,
         source: &mut S,
     ) -> Result<Vec<(u64, u32)>>
         ensures read { MatchResult result
-            (λ found. ReadsTable start_row FitsStart 12 (S.meaning source.old) (S.meaning source.new) self.now.metadata.xorb_lookup_offset self.now.metadata.xorb_lookup_num_entry found.items)
-            (TableFails 12 (S.meaning source.old) (S.meaning source.new) self.now.metadata.xorb_lookup_offset self.now.metadata.xorb_lookup_num_entry) }
-        ensures written { (s : Shard) → (expiry : Option ℕ) → IsWritten s expiry (S.meaning source.old).bytes self.now
-            → ReadsBack (starts xorb_records (finite.values s.xorbs))
-            (S.meaning source.old) (S.meaning source.new) result }
+            (λ found. ReadsTable start_row FitsStart 12 (S.meaning source.old)
+            (S.meaning source.new) self.now.metadata.xorb_lookup_offset
+            self.now.metadata.xorb_lookup_num_entry found.items)
+            (TableFails 12 (S.meaning source.old) (S.meaning source.new)
+            self.now.metadata.xorb_lookup_offset self.now.metadata.xorb_lookup_num_entry) }
+        ensures written { (s : Shard) → (expiry : Option ℕ)
+            → IsWritten s expiry (S.meaning source.old).bytes self.now
+            → ReadsBack (starts xorb_records (finite.values s.xorbs)) (S.meaning source.old)
+            (S.meaning source.new) result }
     {
         let offset = self.metadata.xorb_lookup_offset;
         let rows = self.metadata.xorb_lookup_num_entry;
@@ -40,8 +44,8 @@ impl MDBShardInfo {
     }
 }
 
-// Reads the rows of a chunk table: the first word of each chunk's hash, the row at which its xorb starts, and
-// its index in the xorb.
+// Reads the rows of a chunk table: the first word of each chunk's hash, the row at which its xorb
+// starts, and its index in the xorb.
 pub(super) fn read_chunk_table<S: ShardSource>(
     alloc: Global,
     source: &mut S,
@@ -49,7 +53,8 @@ pub(super) fn read_chunk_table<S: ShardSource>(
     rows: u64,
 ) -> Result<Vec<(u64, (u32, u32))>>
     ensures { MatchResult result
-        (λ found. ReadsTable triple_row FitsTriple 16 (S.meaning source.old) (S.meaning source.new) offset rows found.items)
+        (λ found. ReadsTable triple_row FitsTriple 16 (S.meaning source.old) (S.meaning source.new)
+        offset rows found.items)
         (TableFails 16 (S.meaning source.old) (S.meaning source.new) offset rows) }
 {
     read_table(alloc, source, offset, rows)
@@ -65,8 +70,10 @@ trait TableRow: Copy {
 
     // Reads a row from the source's position on. `UnexpectedEof` if too few bytes are left.
     fn read<S: ShardSource>(source: &mut S) -> Result<Self>
-        ensures value { IfOk result (ReadsNextRow row_bytes Fits row_size (S.meaning source.old) (S.meaning source.new)) }
-        ensures refused { IfErr result (ReadFails (S.meaning source.old) (S.meaning source.new) row_size) };
+        ensures value { IfOk result
+            (ReadsNextRow row_bytes Fits row_size (S.meaning source.old) (S.meaning source.new)) }
+        ensures refused { IfErr result
+            (ReadFails (S.meaning source.old) (S.meaning source.new) row_size) };
 
     ghost has_bytes: { 0 < row_size };
 }
@@ -116,7 +123,8 @@ fn read_table<T: TableRow + Drop, S: ShardSource>(
     rows: u64,
 ) -> Result<Vec<T>>
     ensures { MatchResult result
-        (λ found. ReadsTable T.row_bytes T.Fits T.row_size (S.meaning source.old) (S.meaning source.new) offset rows found.items)
+        (λ found. ReadsTable T.row_bytes T.Fits T.row_size (S.meaning source.old)
+        (S.meaning source.new) offset rows found.items)
         (TableFails T.row_size (S.meaning source.old) (S.meaning source.new) offset rows) }
 {
     if rows > u64::from(u32::MAX) {

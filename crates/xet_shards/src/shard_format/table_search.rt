@@ -23,7 +23,8 @@ pub(super) trait TableValue: Default + Copy {
     /// Reads a value from the source's position on. `UnexpectedEof` if too few bytes are left.
     fn read<S: ShardSource>(source: &mut S) -> io::Result<Self>
         ensures { MatchResult result
-            (λ value. ReadsOn (S.meaning source.old) (S.meaning source.new) WIDTH × Spells (next_bytes (S.meaning source.old) WIDTH) value)
+            (λ value. ReadsOn (S.meaning source.old) (S.meaning source.new) WIDTH
+            × Spells (next_bytes (S.meaning source.old) WIDTH) value)
             (FillFails (S.meaning source.old) (S.meaning source.new) WIDTH) };
 }
 
@@ -60,7 +61,8 @@ impl TableValue for (u32, u32) {
     }
 }
 
-/// The row numbers of the rows with this word in a table of words and row numbers: fewer than eight.
+/// The row numbers of the rows with this word in a table of words and row numbers: fewer than
+/// eight.
 pub(super) fn find_rows<S: ShardSource>(
     alloc: Global,
     source: &mut S,
@@ -69,12 +71,16 @@ pub(super) fn find_rows<S: ShardSource>(
     word: u64,
     dest: &mut [u32; 8],
 ) -> Result<usize>
-    ensures found { IfOk result (IndexFinds (table_at (S.meaning source.old) start rows 4) word dest.old dest.new) }
+    ensures found { IfOk result
+        (IndexFinds (table_at (S.meaning source.old) start rows 4) word dest.old dest.new) }
     ensures serves { OnOk result (Serves (S.meaning source.old) (S.meaning source.new)) }
-    ensures refused { IfErr result (IndexRefused (table_at (S.meaning source.old) start rows 4) word (S.meaning source.old) (S.meaning source.new)) }
+    ensures refused { IfErr result
+        (IndexRefused (table_at (S.meaning source.old) start rows 4) word (S.meaning source.old)
+        (S.meaning source.new)) }
     ensures kept { (S.meaning source.new).bytes ≡ (S.meaning source.old).bytes }
     ensures bounds { IsSorted (table_at (S.meaning source.old) start rows 4)
-        → Bounded (table_at (S.meaning source.old) start rows 4) word (S.meaning source.old) (S.meaning source.new) }
+        → Bounded (table_at (S.meaning source.old) start rows 4) word (S.meaning source.old)
+        (S.meaning source.new) }
     ensures even { IsEven (table_at (S.meaning source.old) start rows 4)
         → (S.meaning source.new).seeks ≤ (S.meaning source.old).seeks + 3 }
 {
@@ -95,15 +101,23 @@ pub(super) fn search_table<V: TableValue, S: ShardSource>(
     word: u64,
     dest: &mut [V],
 ) -> Result<usize>
-    ensures found { IfOk result (Finds (table_at (S.meaning source.old) start rows V.WIDTH) word V.Spells dest.old dest.new) }
-    ensures count { IsSorted (table_at (S.meaning source.old) start rows V.WIDTH) → IfOk result (λ n. n ≡ min
-        (hits (table_at (S.meaning source.old) start rows V.WIDTH) word) (length dest.old)) }
+    ensures found { IfOk result
+        (Finds (table_at (S.meaning source.old) start rows V.WIDTH) word V.Spells dest.old
+        dest.new) }
+    ensures count { IsSorted (table_at (S.meaning source.old) start rows V.WIDTH)
+        → IfOk result
+        (λ n. n ≡ min (hits (table_at (S.meaning source.old) start rows V.WIDTH) word)
+        (length dest.old)) }
     ensures serves { OnOk result (Serves (S.meaning source.old) (S.meaning source.new)) }
-    ensures fits { OnOk result (0 < length dest.old → FitsTable (table_at (S.meaning source.old) start rows V.WIDTH)) }
-    ensures refused { IfErr result (SearchRefused (table_at (S.meaning source.old) start rows V.WIDTH) (S.meaning source.old) (S.meaning source.new)) }
+    ensures fits { OnOk result
+        (0 < length dest.old → FitsTable (table_at (S.meaning source.old) start rows V.WIDTH)) }
+    ensures refused { IfErr result
+        (SearchRefused (table_at (S.meaning source.old) start rows V.WIDTH) (S.meaning source.old)
+        (S.meaning source.new)) }
     ensures kept { (S.meaning source.new).bytes ≡ (S.meaning source.old).bytes }
     ensures bounds { IsSorted (table_at (S.meaning source.old) start rows V.WIDTH)
-        → Bounded (table_at (S.meaning source.old) start rows V.WIDTH) word (S.meaning source.old) (S.meaning source.new) }
+        → Bounded (table_at (S.meaning source.old) start rows V.WIDTH) word (S.meaning source.old)
+        (S.meaning source.new) }
     ensures even { IsEven (table_at (S.meaning source.old) start rows V.WIDTH)
         → (S.meaning source.new).seeks ≤ (S.meaning source.old).seeks + 3 }
 {

@@ -20,25 +20,36 @@ use xet_records::record_reader::read_record;
 use xet_records::xorb_structs::{MDBXorbInfo, XorbChunkSequenceEntry};
 
 impl MDBShardInfo {
-    /// Reads, for each chunk, the first word of its hash, the row at which its xorb starts, and its index in
-    /// the xorb: the rows of the chunk table, or, if there is none, the chunks of the xorb section in order, up
-    /// to the bookend or to the offset of the file table.
+    /// Reads, for each chunk, the first word of its hash, the row at which its xorb starts, and its
+    /// index in the xorb: the rows of the chunk table, or, if there is none, the chunks of the xorb
+    /// section in order, up to the bookend or to the offset of the file table.
     ///
-    /// `InvalidShard` past 4294967295 rows, `UnexpectedEof` if the source ends before the table or the section
-    /// does, `OutOfMemory` if an allocation fails.
+    /// `InvalidShard` past 4294967295 rows, `UnexpectedEof` if the source ends before the table or
+    /// the section does, `OutOfMemory` if an allocation fails.
     pub fn read_all_truncated_hashes<S: ShardSource>(
         &self,
         alloc: Global,
         source: &mut S,
     ) -> Result<Vec<(u64, (u32, u32))>>
-        ensures table { self.now.metadata.chunk_lookup_num_entry ≢ 0 → MatchResult result
-            (λ found. ReadsTable triple_row FitsTriple 16 (S.meaning source.old) (S.meaning source.new) self.now.metadata.chunk_lookup_offset self.now.metadata.chunk_lookup_num_entry found.items)
-            (TableFails 16 (S.meaning source.old) (S.meaning source.new) self.now.metadata.chunk_lookup_offset self.now.metadata.chunk_lookup_num_entry) }
-        ensures section { self.now.metadata.chunk_lookup_num_entry ≡ 0 → MatchResult result
-            (λ found. ReadsHashes (S.meaning source.old) (S.meaning source.new) self.now.metadata.xorb_info_offset self.now.metadata.file_lookup_offset found.items)
-            (HashesFail (S.meaning source.old) (S.meaning source.new) self.now.metadata.xorb_info_offset self.now.metadata.file_lookup_offset) }
-        ensures written { (s : Shard) → (expiry : Option ℕ) → IsWritten s expiry (S.meaning source.old).bytes self.now
-            → ReadsBack (map triple_of (chunk_table (finite.values s.xorbs))) (S.meaning source.old) (S.meaning source.new) result }
+        ensures table { self.now.metadata.chunk_lookup_num_entry ≢ 0
+            → MatchResult result
+            (λ found. ReadsTable triple_row FitsTriple 16 (S.meaning source.old)
+            (S.meaning source.new) self.now.metadata.chunk_lookup_offset
+            self.now.metadata.chunk_lookup_num_entry found.items)
+            (TableFails 16 (S.meaning source.old) (S.meaning source.new)
+            self.now.metadata.chunk_lookup_offset
+            self.now.metadata.chunk_lookup_num_entry) }
+        ensures section { self.now.metadata.chunk_lookup_num_entry ≡ 0
+            → MatchResult result
+            (λ found. ReadsHashes (S.meaning source.old) (S.meaning source.new)
+            self.now.metadata.xorb_info_offset self.now.metadata.file_lookup_offset
+            found.items)
+            (HashesFail (S.meaning source.old) (S.meaning source.new)
+            self.now.metadata.xorb_info_offset self.now.metadata.file_lookup_offset) }
+        ensures written { (s : Shard) → (expiry : Option ℕ)
+            → IsWritten s expiry (S.meaning source.old).bytes self.now
+            → ReadsBack (map triple_of (chunk_table (finite.values s.xorbs))) (S.meaning source.old)
+            (S.meaning source.new) result }
     {
         let rows = self.metadata.chunk_lookup_num_entry;
         if rows == 0 {
@@ -49,15 +60,16 @@ impl MDBShardInfo {
     }
 }
 
-// Walks through the xorb section at an offset, up to its bookend or to a header that does not start before
-// `stop`.
+// Walks through the xorb section at an offset, up to its bookend or to a header that does not start
+// before `stop`.
 fn read_section_hashes<S: ShardSource>(
     alloc: Global,
     source: &mut S,
     offset: u64,
     stop: u64,
 ) -> Result<Vec<(u64, (u32, u32))>>
-    ensures { MatchResult result (λ found. ReadsHashes (S.meaning source.old) (S.meaning source.new) offset stop found.items)
+    ensures { MatchResult result
+        (λ found. ReadsHashes (S.meaning source.old) (S.meaning source.new) offset stop found.items)
         (HashesFail (S.meaning source.old) (S.meaning source.new) offset stop) }
 {
     source.seek_to(offset)?;
@@ -69,8 +81,8 @@ fn read_section_hashes<S: ShardSource>(
     Ok(hashes)
 }
 
-// Reads the next xorb, with the row at which it starts, or `None` at the bookend or where it would not start
-// before `stop`.
+// Reads the next xorb, with the row at which it starts, or `None` at the bookend or where it would
+// not start before `stop`.
 fn read_xorb_before<S: ShardSource>(
     alloc: Global,
     source: &mut S,
@@ -79,7 +91,8 @@ fn read_xorb_before<S: ShardSource>(
 ) -> Result<Option<(u32, MDBXorbInfo)>>
     requires { rows_left.old ≤ 4294967295 }
     ensures read { IfOk result
-        (ReadsBefore stop (S.meaning source.old) (S.meaning source.new) rows_left.old rows_left.new) }
+        (ReadsBefore stop (S.meaning source.old) (S.meaning source.new) rows_left.old
+        rows_left.new) }
     ensures refused { IfErr result
         (XorbBeforeFails stop rows_left.old (S.meaning source.old) (S.meaning source.new)) }
 {
@@ -102,7 +115,8 @@ fn push_hashes(
 ) -> Result<()>
     requires { length chunks.now ≤ 4294967295 }
     ensures pushed { OnOk result
-        (hashes.new.items ≡ hashes.old.items ++ map triple_of (chunk_table_rows_from start chunks.now)) }
+        (hashes.new.items
+        ≡ hashes.old.items ++ map triple_of (chunk_table_rows_from start chunks.now)) }
     ensures causes { IfErr result (λ e. e ≡ CoreError.OutOfMemory) }
 {
     let mut index = 0;

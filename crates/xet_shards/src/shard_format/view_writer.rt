@@ -14,15 +14,17 @@ use xet_base::error::Result;
 use xet_records::file_structs::MDBFileInfoView;
 use xet_records::rows::ROW_SIZE;
 
-/// Adds and writes the next file, as it is stored, but without verification rows if they are not wanted. Missing
-/// verification rows are no error. The error is the writer's, or `OutOfMemory` if an allocation fails.
+/// Adds and writes the next file, as it is stored, but without verification rows if they are not
+/// wanted. Missing verification rows are no error. The error is the writer's, or `OutOfMemory` if
+/// an allocation fails.
 pub fn write_file_view<W: Write>(
     writer: &mut W,
     written: &mut WrittenFiles,
     view: &MDBFileInfoView,
     with_verification: bool,
 ) -> Result<()>
-    requires rows { written.old.table.rows + row_count (as_wanted with_verification view.now) ≤ 4294967295 }
+    requires rows { written.old.table.rows + row_count (as_wanted with_verification view.now)
+        ≤ 4294967295 }
     ensures appended { OnOk result
         (Appends (W.contents writer.old) (W.contents writer.new)
         (file_record_bytes (as_wanted with_verification view.now))) }

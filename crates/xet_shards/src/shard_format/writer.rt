@@ -54,8 +54,8 @@ impl MDBInMemoryShard {
 /// header and the footer, as `load_from_reader` reads them from these bytes. The error is the
 /// writer's, or `OutOfMemory` if an allocation fails.
 ///
-/// Requires records that a section may hold, and at most 4294967295 rows in each section. The tables
-/// are of use only if the records are in ascending order of their hashes.
+/// Requires records that a section may hold, and at most 4294967295 rows in each section. The
+/// tables are of use only if the records are in ascending order of their hashes.
 pub fn write_layout<W: Write>(
     alloc: Global,
     writer: &mut W,
@@ -142,7 +142,8 @@ pub fn write_values<S: WrittenSection + Drop, V: HoldsRecord<S::Record>, W: Writ
     ensures bytes { OnOk result
         (Appends (W.contents writer.old) (W.contents writer.new)
         (section_bytes S.Record.kind (map V.held (values records.now)))) }
-    ensures written { IfOk result (λ written. S.has_written written (map V.held (values records.now))) }
+    ensures written { IfOk result
+        (λ written. S.has_written written (map V.held (values records.now))) }
     ensures causes { IfErr result IsDeviceError }
 {
     let mut written = S::new(alloc);
@@ -181,7 +182,8 @@ pub fn write_end<W: Write>(
 // Writes the table of a section, if it is in.
 fn write_table<W: Write>(writer: &mut W, is_in: bool, table: &RecordTable) -> Result<()>
     ensures bytes { OnOk result
-        (Appends (W.contents writer.old) (W.contents writer.new) (if_in is_in table.now.bytes.items)) }
+        (Appends (W.contents writer.old) (W.contents writer.new)
+        (if_in is_in table.now.bytes.items)) }
     ensures causes { IfErr result IsDeviceError }
 {
     if is_in {

@@ -29,8 +29,8 @@ pub trait WrittenSection {
     fn new(alloc: Global) -> Self
         ensures { has_written result [] };
 
-    /// Adds and writes the next record. The error is the writer's, or `OutOfMemory` if an allocation
-    /// fails.
+    /// Adds and writes the next record. The error is the writer's, or `OutOfMemory` if an
+    /// allocation fails.
     fn write<W: Write>(&mut self, writer: &mut W, next: &Self::Record) -> Result<()>
         requires whole { is_whole next.now }
         requires rows { rows self.old + Self.Record.kind.row_count next.now ≤ 4294967295 }

@@ -24,13 +24,13 @@ use xet_base::merklehash::MerkleHash;
 use xet_base::source::ShardSource;
 
 impl MDBShardInfo {
-    /// Looks in the chunk table for the first word of a chunk's hash, under the shard's key if it has one, and
-    /// puts up to eight locations at the front of `dest`: the row at which a xorb starts, and an index among its
-    /// chunks. Returns how many these are; entries of `dest` past them are unchanged. Eight are no error. Does
-    /// not allocate.
+    /// Looks in the chunk table for the first word of a chunk's hash, under the shard's key if it
+    /// has one, and puts up to eight locations at the front of `dest`: the row at which a xorb
+    /// starts, and an index among its chunks. Returns how many these are; entries of `dest` past
+    /// them are unchanged. Eight are no error. Does not allocate.
     ///
-    /// `InvalidShard` if the table's offset or end does not fit `u64`, `UnexpectedEof` if the source ends where
-    /// the search reads on.
+    /// `InvalidShard` if the table's offset or end does not fit `u64`, `UnexpectedEof` if the
+    /// source ends where the search reads on.
     pub fn get_xorb_info_index_by_chunk<S: ShardSource>(
         &self,
         alloc: Global,
@@ -38,25 +38,49 @@ impl MDBShardInfo {
         unkeyed_hash: &MerkleHash,
         dest: &mut [(u32, u32); 8],
     ) -> Result<usize>
-        ensures found { IfOk result (Finds (chunk_lookup_table self.now.metadata (S.meaning source.old)) (under_key self.now.metadata.chunk_hash_hmac_key unkeyed_hash.now).word0 IsPair dest.old dest.new) }
+        ensures found { IfOk result
+            (Finds (chunk_lookup_table self.now.metadata (S.meaning source.old))
+            (under_key self.now.metadata.chunk_hash_hmac_key unkeyed_hash.now).word0 IsPair
+            dest.old dest.new) }
         ensures count { IsSorted (chunk_lookup_table self.now.metadata (S.meaning source.old))
-            → IfOk result (λ n. n ≡ min (hits (chunk_lookup_table self.now.metadata (S.meaning source.old)) (under_key self.now.metadata.chunk_hash_hmac_key unkeyed_hash.now).word0) 8) }
+            → IfOk result
+            (λ n. n ≡ min
+            (hits (chunk_lookup_table self.now.metadata (S.meaning source.old))
+            (under_key self.now.metadata.chunk_hash_hmac_key unkeyed_hash.now).word0)
+            8) }
         ensures serves { OnOk result (Serves (S.meaning source.old) (S.meaning source.new)) }
-        ensures fits { OnOk result (FitsTable (chunk_lookup_table self.now.metadata (S.meaning source.old))) }
-        ensures refused { IfErr result (SearchRefused (chunk_lookup_table self.now.metadata (S.meaning source.old)) (S.meaning source.old) (S.meaning source.new)) }
+        ensures fits { OnOk result
+            (FitsTable (chunk_lookup_table self.now.metadata (S.meaning source.old))) }
+        ensures refused { IfErr result
+            (SearchRefused (chunk_lookup_table self.now.metadata (S.meaning source.old))
+            (S.meaning source.old) (S.meaning source.new)) }
         ensures kept { (S.meaning source.new).bytes ≡ (S.meaning source.old).bytes }
         ensures bounds { IsSorted (chunk_lookup_table self.now.metadata (S.meaning source.old))
-            → Bounded (chunk_lookup_table self.now.metadata (S.meaning source.old)) (under_key self.now.metadata.chunk_hash_hmac_key unkeyed_hash.now).word0 (S.meaning source.old) (S.meaning source.new) }
+            → Bounded (chunk_lookup_table self.now.metadata (S.meaning source.old))
+            (under_key self.now.metadata.chunk_hash_hmac_key unkeyed_hash.now).word0
+            (S.meaning source.old) (S.meaning source.new) }
         ensures even { IsEven (chunk_lookup_table self.now.metadata (S.meaning source.old))
             → (S.meaning source.new).seeks ≤ (S.meaning source.old).seeks + 3 }
-        ensures in_form { (files : List File) → (xorbs : List Xorb) → (form : Form) → IsInForm files xorbs form (S.meaning source.old).bytes self.now.metadata → form.chunk_table ≡ true
-            → MatchResult result (RowsAmong xorbs (under_key form.key unkeyed_hash.now).word0 dest.old dest.new) (DeviceFailure (S.meaning source.old) (S.meaning source.new)) }
-        ensures in_form_costs { (files : List File) → (xorbs : List Xorb) → (form : Form) → IsInForm files xorbs form (S.meaning source.old).bytes self.now.metadata → form.chunk_table ≡ true
-            → ChunkSearchCosts xorbs (under_key form.key unkeyed_hash.now).word0 (S.meaning source.old) (S.meaning source.new) }
-        ensures written { (s : Shard) → (expiry : Option ℕ) → IsWritten s expiry (S.meaning source.old).bytes self.now
-            → MatchResult result (RowsAmong (finite.values s.xorbs) unkeyed_hash.now.word0 dest.old dest.new) (DeviceFailure (S.meaning source.old) (S.meaning source.new)) }
-        ensures costs { (s : Shard) → (expiry : Option ℕ) → IsWritten s expiry (S.meaning source.old).bytes self.now
-            → ChunkSearchCosts (finite.values s.xorbs) unkeyed_hash.now.word0 (S.meaning source.old) (S.meaning source.new) }
+        ensures in_form { (files : List File) → (xorbs : List Xorb) → (form : Form)
+            → IsInForm files xorbs form (S.meaning source.old).bytes self.now.metadata
+            → form.chunk_table ≡ true
+            → MatchResult result
+            (RowsAmong xorbs (under_key form.key unkeyed_hash.now).word0 dest.old dest.new)
+            (DeviceFailure (S.meaning source.old) (S.meaning source.new)) }
+        ensures in_form_costs { (files : List File) → (xorbs : List Xorb) → (form : Form)
+            → IsInForm files xorbs form (S.meaning source.old).bytes self.now.metadata
+            → form.chunk_table ≡ true
+            → ChunkSearchCosts xorbs (under_key form.key unkeyed_hash.now).word0
+            (S.meaning source.old) (S.meaning source.new) }
+        ensures written { (s : Shard) → (expiry : Option ℕ)
+            → IsWritten s expiry (S.meaning source.old).bytes self.now
+            → MatchResult result
+            (RowsAmong (finite.values s.xorbs) unkeyed_hash.now.word0 dest.old dest.new)
+            (DeviceFailure (S.meaning source.old) (S.meaning source.new)) }
+        ensures costs { (s : Shard) → (expiry : Option ℕ)
+            → IsWritten s expiry (S.meaning source.old).bytes self.now
+            → ChunkSearchCosts (finite.values s.xorbs) unkeyed_hash.now.word0 (S.meaning source.old)
+            (S.meaning source.new) }
     {
         let start = self.metadata.chunk_lookup_offset;
         let rows = self.metadata.chunk_lookup_num_entry;
@@ -64,12 +88,13 @@ impl MDBShardInfo {
         search_table::<(u32, u32), S>(alloc, source, start, rows, word, dest)
     }
 
-    /// Looks in the xorb table for the first word of `hash`, and puts the row numbers of the xorbs that share
-    /// it at the front of `dest`. Returns how many these are; entries of `dest` past them are unchanged. Does
-    /// not allocate.
+    /// Looks in the xorb table for the first word of `hash`, and puts the row numbers of the xorbs
+    /// that share it at the front of `dest`. Returns how many these are; entries of `dest` past
+    /// them are unchanged. Does not allocate.
     ///
-    /// `TruncatedHashCollision` of the word if eight or more share it, `InvalidShard` if the table's offset or
-    /// end does not fit `u64`, `UnexpectedEof` if the source ends where the search reads on.
+    /// `TruncatedHashCollision` of the word if eight or more share it, `InvalidShard` if the
+    /// table's offset or end does not fit `u64`, `UnexpectedEof` if the source ends where the
+    /// search reads on.
     pub fn get_xorb_info_index_by_hash<S: ShardSource>(
         &self,
         alloc: Global,
@@ -77,18 +102,29 @@ impl MDBShardInfo {
         hash: &MerkleHash,
         dest: &mut [u32; 8],
     ) -> Result<usize>
-        ensures looks { LooksUpIndex (xorb_table self.now.metadata (S.meaning source.old)) hash.now.word0 dest.old dest.new (S.meaning source.old) (S.meaning source.new) result }
-        ensures in_form { (files : List File) → (xorbs : List Xorb) → (form : Form) → IsInForm files xorbs form (S.meaning source.old).bytes self.now.metadata
+        ensures looks { LooksUpIndex (xorb_table self.now.metadata (S.meaning source.old))
+            hash.now.word0 dest.old dest.new (S.meaning source.old) (S.meaning source.new) result }
+        ensures in_form { (files : List File) → (xorbs : List Xorb) → (form : Form)
+            → IsInForm files xorbs form (S.meaning source.old).bytes self.now.metadata
             → Ascends xorb_records xorbs → form.xorb_table ≡ true
-            → MatchResult result (StartsAmong xorb_records xorbs hash.now.word0 dest.new) (NoStartsAmong xorb_records xorbs hash.now.word0 (S.meaning source.old) (S.meaning source.new)) }
-        ensures in_form_costs { (files : List File) → (xorbs : List Xorb) → (form : Form) → IsInForm files xorbs form (S.meaning source.old).bytes self.now.metadata
+            → MatchResult result (StartsAmong xorb_records xorbs hash.now.word0 dest.new)
+            (NoStartsAmong xorb_records xorbs hash.now.word0 (S.meaning source.old)
+            (S.meaning source.new)) }
+        ensures in_form_costs { (files : List File) → (xorbs : List Xorb) → (form : Form)
+            → IsInForm files xorbs form (S.meaning source.old).bytes self.now.metadata
             → Ascends xorb_records xorbs → form.xorb_table ≡ true
-            → SearchWithinBounds xorb_records xorbs hash.now.word0 (S.meaning source.old) (S.meaning source.new) }
-        ensures written { (s : Shard) → (expiry : Option ℕ) → IsWritten s expiry (S.meaning source.old).bytes self.now
-            → MatchResult result (StartsAmong xorb_records (finite.values s.xorbs) hash.now.word0 dest.new)
-            (NoStartsAmong xorb_records (finite.values s.xorbs) hash.now.word0 (S.meaning source.old) (S.meaning source.new)) }
-        ensures costs { (s : Shard) → (expiry : Option ℕ) → IsWritten s expiry (S.meaning source.old).bytes self.now
-            → SearchWithinBounds xorb_records (finite.values s.xorbs) hash.now.word0 (S.meaning source.old) (S.meaning source.new) }
+            → SearchWithinBounds xorb_records xorbs hash.now.word0 (S.meaning source.old)
+            (S.meaning source.new) }
+        ensures written { (s : Shard) → (expiry : Option ℕ)
+            → IsWritten s expiry (S.meaning source.old).bytes self.now
+            → MatchResult result
+            (StartsAmong xorb_records (finite.values s.xorbs) hash.now.word0 dest.new)
+            (NoStartsAmong xorb_records (finite.values s.xorbs) hash.now.word0
+            (S.meaning source.old) (S.meaning source.new)) }
+        ensures costs { (s : Shard) → (expiry : Option ℕ)
+            → IsWritten s expiry (S.meaning source.old).bytes self.now
+            → SearchWithinBounds xorb_records (finite.values s.xorbs) hash.now.word0
+            (S.meaning source.old) (S.meaning source.new) }
     {
         let start = self.metadata.xorb_lookup_offset;
         let rows = self.metadata.xorb_lookup_num_entry;

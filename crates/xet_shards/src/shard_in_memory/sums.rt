@@ -31,7 +31,8 @@ pub fn file_rows(files: &BTreeMap<MerkleHash, MDBFileInfo>) -> u64
 /// The rows of xorbs, which fit `u32`.
 pub fn xorb_rows(xorbs: &BTreeMap<MerkleHash, Rc<MDBXorbInfo>>) -> u64
     requires xorbs { AreXorbs (shown_xorbs xorbs.now.entries) }
-    requires rows { total_rows xorb_records (values_of (shown_xorbs xorbs.now.entries)) ≤ 4294967295 }
+    requires rows { total_rows xorb_records (values_of (shown_xorbs xorbs.now.entries))
+        ≤ 4294967295 }
     ensures { result ≡ total_rows xorb_records (values_of (shown_xorbs xorbs.now.entries)) }
 {
     let mut rows = 0;
@@ -57,8 +58,10 @@ pub fn materialized_bytes(files: &BTreeMap<MerkleHash, MDBFileInfo>) -> u64
 /// The size of xorbs on disk, in bytes. Their rows fit `u32`, so the sum fits `u64`.
 pub fn stored_bytes_on_disk(xorbs: &BTreeMap<MerkleHash, Rc<MDBXorbInfo>>) -> u64
     requires xorbs { AreXorbs (shown_xorbs xorbs.now.entries) }
-    requires rows { total_rows xorb_records (values_of (shown_xorbs xorbs.now.entries)) ≤ 4294967295 }
-    ensures { result ≡ sum_by (λ x. x.metadata.num_bytes_on_disk) (values_of (shown_xorbs xorbs.now.entries)) }
+    requires rows { total_rows xorb_records (values_of (shown_xorbs xorbs.now.entries))
+        ≤ 4294967295 }
+    ensures { result
+        ≡ sum_by (λ x. x.metadata.num_bytes_on_disk) (values_of (shown_xorbs xorbs.now.entries)) }
 {
     let mut bytes = 0;
     for xorb in xorbs.values() {
@@ -70,8 +73,10 @@ pub fn stored_bytes_on_disk(xorbs: &BTreeMap<MerkleHash, Rc<MDBXorbInfo>>) -> u6
 /// The unpacked size of xorbs, in bytes. Their rows fit `u32`, so the sum fits `u64`.
 pub fn stored_bytes(xorbs: &BTreeMap<MerkleHash, Rc<MDBXorbInfo>>) -> u64
     requires xorbs { AreXorbs (shown_xorbs xorbs.now.entries) }
-    requires rows { total_rows xorb_records (values_of (shown_xorbs xorbs.now.entries)) ≤ 4294967295 }
-    ensures { result ≡ sum_by (λ x. x.metadata.num_bytes_in_xorb) (values_of (shown_xorbs xorbs.now.entries)) }
+    requires rows { total_rows xorb_records (values_of (shown_xorbs xorbs.now.entries))
+        ≤ 4294967295 }
+    ensures { result
+        ≡ sum_by (λ x. x.metadata.num_bytes_in_xorb) (values_of (shown_xorbs xorbs.now.entries)) }
 {
     let mut bytes = 0;
     for xorb in xorbs.values() {

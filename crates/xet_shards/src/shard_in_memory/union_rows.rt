@@ -71,7 +71,8 @@ pub fn united_xorb_rows(
 ) -> u64
     requires sorted { T (is_sorted hash_cmp (shown_xorbs xorbs.now.entries)) }
     requires xorbs { AreXorbs (shown_xorbs xorbs.now.entries) }
-    requires rows { total_rows xorb_records (values_of (shown_xorbs xorbs.now.entries)) ≤ 4294967295 }
+    requires rows { total_rows xorb_records (values_of (shown_xorbs xorbs.now.entries))
+        ≤ 4294967295 }
     requires others { other_rows ≡ total_rows xorb_records (finite.values other.now.xorbs) }
     requires other_rows { other_rows ≤ 4294967295 }
     ensures { (c : XorbMap) → ((q : DataHash) → finite.get c q

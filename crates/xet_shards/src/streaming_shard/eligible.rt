@@ -22,10 +22,12 @@ use xet_base::source::ShardSource;
 use xet_records::xorb_structs::MDBXorbInfoView;
 
 impl MDBMinimalShard {
-    /// The hashes of the chunks that the global index keeps, each once and in ascending order: those of chunks
-    /// that are marked, whose hash is eligible, or at which a file starts. `OutOfMemory` is the only error.
+    /// The hashes of the chunks that the global index keeps, each once and in ascending order:
+    /// those of chunks that are marked, whose hash is eligible, or at which a file starts.
+    /// `OutOfMemory` is the only error.
     pub fn global_dedup_eligible_chunks(&self, alloc: Global) -> Result<Vec<MerkleHash>>
-        ensures ok { IfOk result (λ hashes. hashes.items ≡ eligible_hashes self.now.files self.now.xorbs) }
+        ensures ok { IfOk result
+            (λ hashes. hashes.items ≡ eligible_hashes self.now.files self.now.xorbs) }
         ensures causes { IfErr result (λ e. e ≡ CoreError.OutOfMemory) }
     {
         let starts = starts_of(alloc, self.files())?;
@@ -39,11 +41,13 @@ impl MDBMinimalShard {
 }
 
 impl MDBShardInfo {
-    /// Reads a shard's header and both sections from the source's position on, without a seek, and returns the
-    /// hashes of the chunks that the global index keeps, as `MDBMinimalShard::global_dedup_eligible_chunks` does.
+    /// Reads a shard's header and both sections from the source's position on, without a seek, and
+    /// returns the hashes of the chunks that the global index keeps, as
+    /// `MDBMinimalShard::global_dedup_eligible_chunks` does.
     ///
-    /// `ShardVersion` if the header's tag or version is unsupported, `UnexpectedEof` if the source ends before a
-    /// bookend, `InvalidShard` if the rows of a section pass 4294967295, `OutOfMemory` if an allocation fails.
+    /// `ShardVersion` if the header's tag or version is unsupported, `UnexpectedEof` if the source
+    /// ends before a bookend, `InvalidShard` if the rows of a section pass 4294967295,
+    /// `OutOfMemory` if an allocation fails.
     pub fn filter_cas_chunks_for_global_dedup<S: ShardSource>(
         alloc: Global,
         source: &mut S,
@@ -65,8 +69,10 @@ fn insert_eligible(
     starts: &BTreeSet<FileStart>,
 ) -> Result<()>
     requires { IsStoredXorb xorb.now }
-    ensures ok { OnOk result ((before : List DataHash) → hashes.old.keys ≡ ascending_hashes before
-        → hashes.new.keys ≡ ascending_hashes (before ++ eligible_in (contains start_cmp starts.now) xorb.now)) }
+    ensures ok { OnOk result
+        ((before : List DataHash) → hashes.old.keys ≡ ascending_hashes before
+        → hashes.new.keys ≡ ascending_hashes
+        (before ++ eligible_in (contains start_cmp starts.now) xorb.now)) }
     ensures causes { IfErr result (λ e. e ≡ CoreError.OutOfMemory) }
 {
     for index in 0..xorb.num_entries() {
@@ -80,7 +86,9 @@ fn insert_eligible(
 
 // Inserts a hash, or does not.
 fn insert_if(wanted: bool, hashes: &mut BTreeSet<MerkleHash>, hash: MerkleHash) -> Result<()>
-    ensures ok { OnOk result (hashes.new.keys ≡ (if wanted then insert_key hash_cmp hashes.old.keys hash else hashes.old.keys)) }
+    ensures ok { OnOk result
+        (hashes.new.keys
+        ≡ (if wanted then insert_key hash_cmp hashes.old.keys hash else hashes.old.keys)) }
     ensures causes { IfErr result (λ e. e ≡ CoreError.OutOfMemory) }
 {
     if wanted {

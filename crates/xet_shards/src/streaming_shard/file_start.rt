@@ -49,7 +49,10 @@ pub(super) fn starts_of(alloc: Global, files: &[MDBFileInfoView]) -> Result<BTre
 
 // Inserts where a file starts, if it has a segment.
 fn insert_start(starts: &mut BTreeSet<FileStart>, file: &MDBFileInfoView) -> Result<()>
-    ensures ok { OnOk result ((at : FileStart) → contains start_cmp starts.new at ≡ (contains start_cmp starts.old at || list_any (eq_by_cmp start_cmp at) (start_of_file file.now))) }
+    ensures ok { OnOk result
+        ((at : FileStart)
+        → contains start_cmp starts.new at ≡ (contains start_cmp starts.old at || list_any
+        (eq_by_cmp start_cmp at) (start_of_file file.now))) }
     ensures causes { IfErr result (λ e. e ≡ CoreError.OutOfMemory) }
 {
     if file.num_entries() == 0 {
@@ -70,7 +73,8 @@ pub(super) fn mark_starts(
     starts: &BTreeSet<FileStart>,
 ) -> Result<MDBXorbInfo>
     requires { IsStoredXorb xorb.now }
-    ensures ok { IfOk result (λ marked. marked ≡ mark_starts (contains start_cmp starts.now) xorb.now) }
+    ensures ok { IfOk result
+        (λ marked. marked ≡ mark_starts (contains start_cmp starts.now) xorb.now) }
     ensures causes { IfErr result (λ e. e ≡ CoreError.OutOfMemory) }
 {
     let mut chunks = Rows::new(alloc);

@@ -13,7 +13,8 @@ use xet_records::record_reader::SectionRecord;
 use xet_records::view_reader::{RecordView, read_view};
 use xet_records::xorb_structs::{MDBXorbInfo, MDBXorbInfoView};
 
-/// Reads the file section and, if it is wanted, the xorb section after it. Files are kept if they are wanted.
+/// Reads the file section and, if it is wanted, the xorb section after it. Files are kept if they
+/// are wanted.
 pub(super) fn read_sections<M, I: ByteInput<M>>(
     alloc: Global,
     input: &mut I,
@@ -39,7 +40,8 @@ fn read_views<R: SectionRecord, V: RecordView<R> + Drop, M, I: ByteInput<M>>(
     is_kept: bool,
 ) -> Result<Vec<V>>
     ensures { MatchResult result
-        (λ kept. (views : List V) × ReadsViews R.kind V.shown I.reads input.old input.new views × (kept.items ≡ if_in is_kept views))
+        (λ kept. (views : List V) × ReadsViews R.kind V.shown I.reads input.old input.new views
+        × (kept.items ≡ if_in is_kept views))
         (StopsAfterViews R.kind V.shown I.reads I.fails input.old input.new) }
 {
     R::laws();
@@ -53,7 +55,8 @@ fn read_views<R: SectionRecord, V: RecordView<R> + Drop, M, I: ByteInput<M>>(
 
 // Pushes a view, or drops it.
 fn push_if<V: Drop>(wanted: bool, views: &mut Vec<V>, view: V) -> Result<()>
-    ensures ok { OnOk result (views.new.items ≡ (if wanted then views.old.items ++ view ∷ [] else views.old.items)) }
+    ensures ok { OnOk result
+        (views.new.items ≡ (if wanted then views.old.items ++ view ∷ [] else views.old.items)) }
     ensures causes { IfErr result (λ e. e ≡ CoreError.OutOfMemory) }
 {
     if wanted {

@@ -25,7 +25,8 @@ use xet_base::input::OfReader;
 use xet_records::file_structs::MDBFileInfoView;
 use xet_records::xorb_structs::MDBXorbInfoView;
 
-/// The records of a shard's sections, as views. Contracts see both lists of records, as they are stored.
+/// The records of a shard's sections, as views. Contracts see both lists of records, as they are
+/// stored.
 #[derive(Debug, Drop)]
 pub struct MDBMinimalShard {
     files: Vec<MDBFileInfoView>,
@@ -41,16 +42,17 @@ impl Model for MDBMinimalShard {
 
     ghost view = { λ m. record { files = m.files.items; xorbs = m.xorbs.items } };
 
-    ghost invariant = { λ m. FitsSections (record { files = m.files.items; xorbs = m.xorbs.items }) };
+    ghost invariant = { λ m. FitsSections
+        (record { files = m.files.items; xorbs = m.xorbs.items }) };
 }
 
 impl MDBMinimalShard {
-    /// Reads a shard's header, then its file section, whose records are kept if `include_files`, and then, if
-    /// `include_xorb`, its xorb section. What comes after is not read.
+    /// Reads a shard's header, then its file section, whose records are kept if `include_files`,
+    /// and then, if `include_xorb`, its xorb section. What comes after is not read.
     ///
-    /// `ShardVersion` if the header's tag or version is unsupported, `UnexpectedEof` if the reader ends before a
-    /// bookend, `InvalidShard` if the rows of a section pass 4294967295, `OutOfMemory` if an allocation fails.
-    /// Any other error is the reader's.
+    /// `ShardVersion` if the header's tag or version is unsupported, `UnexpectedEof` if the reader
+    /// ends before a bookend, `InvalidShard` if the rows of a section pass 4294967295,
+    /// `OutOfMemory` if an allocation fails. Any other error is the reader's.
     pub fn from_reader<R: Read>(
         alloc: Global,
         reader: &mut R,
@@ -58,8 +60,11 @@ impl MDBMinimalShard {
         include_xorb: bool,
     ) -> Result<Self>
         ensures { MatchResult result
-            (ReadsMinimal Consumes include_files include_xorb (R.remaining reader.old) (R.remaining reader.new))
-            (MinimalFails Consumes (λ before after n e. ReaderFails before n e) (λ before after e. ReaderHeaderFails before e) include_xorb (R.remaining reader.old) (R.remaining reader.new)) }
+            (ReadsMinimal Consumes include_files include_xorb (R.remaining reader.old)
+            (R.remaining reader.new))
+            (MinimalFails Consumes (λ before after n e. ReaderFails before n e)
+            (λ before after e. ReaderHeaderFails before e) include_xorb (R.remaining reader.old)
+            (R.remaining reader.new)) }
     {
         MDBShardFileHeader::deserialize(alloc, reader)?;
         read_sections::<OfReader, R>(alloc, reader, include_files, include_xorb)
@@ -125,8 +130,8 @@ impl MDBMinimalShard {
         self.xorbs.get(index)
     }
 
-    /// The size in bytes that `serialize` writes. It is 0 if verification rows are wanted and there is no file or
-    /// the first one has none.
+    /// The size in bytes that `serialize` writes. It is 0 if verification rows are wanted and there
+    /// is no file or the first one has none.
     pub fn serialized_size(&self, with_verification: bool) -> u64
         ensures { result ≡ serialized_size with_verification self.now }
     {
@@ -151,7 +156,9 @@ impl MDBMinimalShard {
 
 // Two shards are equal if their records are, bit by bit and in order.
 impl PartialEq for MDBMinimalShard {
-    ghost eq = { eq_of_both (on (λ m. m.files) (pointwise (on file_record_bytes (pointwise nat_eq)))) (on (λ m. m.xorbs) (pointwise (on xorb_record_bytes (pointwise nat_eq)))) };
+    ghost eq = { eq_of_both
+        (on (λ m. m.files) (pointwise (on file_record_bytes (pointwise nat_eq))))
+        (on (λ m. m.xorbs) (pointwise (on xorb_record_bytes (pointwise nat_eq)))) };
 
     ghost laws = { Prim.search (comparing, rules) };
 

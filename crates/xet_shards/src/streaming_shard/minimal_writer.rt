@@ -33,12 +33,12 @@ use xet_records::rows::ROW_SIZE;
 use xet_records::xorb_structs::MDBXorbInfoView;
 
 impl MDBMinimalShard {
-    /// Writes the shard without tables, with its creation at a timestamp in seconds and expiry 0, and returns the
-    /// number of bytes. Each chunk at which a file starts is marked. Verification rows are left out if they are
-    /// not wanted.
+    /// Writes the shard without tables, with its creation at a timestamp in seconds and expiry 0,
+    /// and returns the number of bytes. Each chunk at which a file starts is marked. Verification
+    /// rows are left out if they are not wanted.
     ///
-    /// `Io` of kind `Other` if they are wanted and a file has none, and then nothing is written. Any other error
-    /// is the writer's, or `OutOfMemory` if an allocation fails.
+    /// `Io` of kind `Other` if they are wanted and a file has none, and then nothing is written.
+    /// Any other error is the writer's, or `OutOfMemory` if an allocation fails.
     pub fn serialize<W: Write>(
         &self,
         alloc: Global,
@@ -47,7 +47,8 @@ impl MDBMinimalShard {
         with_verification: bool,
     ) -> Result<usize>
         ensures written { IfOk result
-            (WritesMinimal (W.contents writer.old) (W.contents writer.new) with_verification now self.now) }
+            (WritesMinimal (W.contents writer.old) (W.contents writer.new) with_verification now
+            self.now) }
         ensures missing { Any (LacksVerification with_verification) self.now.files
             → IsErrAnd result IsOtherDeviceError × (writer.new ≡ writer.old) }
         ensures causes { IfErr result IsDeviceError }
@@ -63,9 +64,10 @@ impl MDBMinimalShard {
         self.write(alloc, writer, files, with_verification, &form, all)
     }
 
-    /// Writes the xorbs that `filter`, called once with each in order, accepts, and no files, with creation at a
-    /// timestamp in seconds and expiry 0, and returns the number of bytes. Each chunk at which a file of this
-    /// shard starts is marked. The error is the writer's, or `OutOfMemory` if an allocation fails.
+    /// Writes the xorbs that `filter`, called once with each in order, accepts, and no files, with
+    /// creation at a timestamp in seconds and expiry 0, and returns the number of bytes. Each chunk
+    /// at which a file of this shard starts is marked. The error is the writer's, or `OutOfMemory`
+    /// if an allocation fails.
     pub fn serialize_xorb_subset_only<W: Write, F: Fn(&MDBXorbInfoView) -> bool>(
         &self,
         alloc: Global,
@@ -75,7 +77,8 @@ impl MDBMinimalShard {
     ) -> Result<usize>
         requires { F.IsAlwaysCallable filter }
         ensures written { IfOk result
-            (WritesKept (FnReturnsAt F.Fn filter) (W.contents writer.old) (W.contents writer.new) [] self.now (minimal_form now None)) }
+            (WritesKept (FnReturnsAt F.Fn filter) (W.contents writer.old) (W.contents writer.new) []
+            self.now (minimal_form now None)) }
         ensures causes { IfErr result IsDeviceError }
     {
         self.serialize_xorb_subset_with_expiry(alloc, writer, now, None, filter)
@@ -92,14 +95,16 @@ impl MDBMinimalShard {
     ) -> Result<usize>
         requires { F.IsAlwaysCallable filter }
         ensures written { IfOk result
-            (WritesKept (FnReturnsAt F.Fn filter) (W.contents writer.old) (W.contents writer.new) [] self.now (minimal_form now expiry)) }
+            (WritesKept (FnReturnsAt F.Fn filter) (W.contents writer.old) (W.contents writer.new) []
+            self.now (minimal_form now expiry)) }
         ensures causes { IfErr result IsDeviceError }
     {
         let form = minimal_form(now, expiry);
         self.write(alloc, writer, &[], false, &form, filter)
     }
 
-    // Writes these files, and the xorbs that a filter accepts, with marks at the starts of all files.
+    // Writes these files, and the xorbs that a filter accepts, with marks at the starts of all
+    // files.
     fn write<W: Write, F: Fn(&MDBXorbInfoView) -> bool>(
         &self,
         alloc: Global,
@@ -113,7 +118,8 @@ impl MDBMinimalShard {
         requires files { FitsSection file_records files.now }
         requires form { HasNoTables form.now }
         ensures written { IfOk result
-            (WritesKept (FnReturnsAt F.Fn filter) (W.contents writer.old) (W.contents writer.new) (map (as_wanted with_verification) files.now) self.now form.now) }
+            (WritesKept (FnReturnsAt F.Fn filter) (W.contents writer.old) (W.contents writer.new)
+            (map (as_wanted with_verification) files.now) self.now form.now) }
         ensures causes { IfErr result IsDeviceError }
     {
         let starts = starts_of(alloc, self.files())?;
@@ -163,7 +169,8 @@ fn write_files<W: Write>(
     ensures bytes { OnOk result
         (Appends (W.contents writer.old) (W.contents writer.new)
         (section_bytes file_records (map (as_wanted with_verification) files.now))) }
-    ensures written { IfOk result (λ written. HasWritten written (map (as_wanted with_verification) files.now)) }
+    ensures written { IfOk result
+        (λ written. HasWritten written (map (as_wanted with_verification) files.now)) }
     ensures causes { IfErr result IsDeviceError }
 {
     let mut written = WrittenFiles::new(alloc);
@@ -185,7 +192,8 @@ fn write_xorbs<W: Write, F: Fn(&MDBXorbInfoView) -> bool>(
     requires callable { F.IsAlwaysCallable filter }
     requires fit { FitsSection xorb_records xorbs.now }
     ensures written { IfOk result
-        (WritesMarked (FnReturnsAt F.Fn filter) (contains start_cmp starts.now) (W.contents writer.old) (W.contents writer.new) xorbs.now) }
+        (WritesMarked (FnReturnsAt F.Fn filter) (contains start_cmp starts.now)
+        (W.contents writer.old) (W.contents writer.new) xorbs.now) }
     ensures causes { IfErr result IsDeviceError }
 {
     let mut written = WrittenXorbs::new(alloc);
