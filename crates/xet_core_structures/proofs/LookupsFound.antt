@@ -17,6 +17,7 @@ use Rattle.xet_shards.specs.Lookup.{FoundInShard, NotFoundAmong}
 use Rattle.xet_shards.specs.SetOperations.{IsDifference}
 use Rattle.xet_shards.specs.Shard.{Shard, IsShard}
 use Rattle.xet_shards.specs.Tables.{hash_in}
+use Rattle.xet_shards.specs.WrittenShard.{IsWritten}
 use Rattle.xet_shards.proofs.EndsUnique.{only_info, ends_of_layout}
 use Rattle.xet_shards.proofs.InForm.{no_file, files_in, shard_in_form, files_ascend}
 use Rattle.xet_shards.proofs.MapAnswers.{map_answers}
@@ -95,13 +96,13 @@ tree_under inputs (Both' p left q right) out union (x, y, x_written, y_written, 
     (key_of i, c, subst (λ bytes. IsWrittenUnder (key_of i) c bytes (keyed_info c (key_of i))) (sym is) (written_under (key_of i) c readable fits))
 
 -- the bytes of a shard without a key
-module _ (s : Shard) (shard : IsShard s) (expiry : Option ℕ) (old : Source) (info : MDBShardInfo) (are : old.bytes ≡ layout s expiry) (is : info ≡ info_value s expiry) where
+module _ (s : Shard) (expiry : Option ℕ) (old : Source) (info : MDBShardInfo) (written : IsWritten s expiry old.bytes info) where
   plain : let footer = info.metadata in IsLookedUp file_records no_file (values s.files) footer.file_info_offset footer.file_lookup_offset footer.file_lookup_num_entry old
-  plain = files_in (values s.files) (values s.xorbs) (plain_form expiry) old info.metadata (shard_in_form (record { shard = shard; same_bytes = are; same_info = is })) (files_ascend s shard) refl
+  plain = files_in (values s.files) (values s.xorbs) (plain_form expiry) old info.metadata (shard_in_form written) (files_ascend s written.shard) refl
 
   pub found_in_layout : (hash : DataHash) (new : Source) (found : Result (Option MDBFileInfo) CoreError) → LooksUpFile info hash old new found → FindsInShard s hash old new found
   found_in_layout hash new found looks = record {
-    answer = lookup_written s shard _ _ _ old plain new hash found looks;
+    answer = lookup_written s written.shard _ _ _ old plain new hash found looks;
     costs = lookup_bounded file_records file_laws no_file (values s.files) _ _ _ old plain new hash found looks;
     collision = collision_bounded file_records file_laws no_file (values s.files) _ _ _ old plain new hash found looks;
   }

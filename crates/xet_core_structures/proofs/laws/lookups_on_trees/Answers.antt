@@ -11,4 +11,5 @@ returns-clause-premises c = λ inputs plan shard_at expiry_at join old new info 
 pub returns-clause-files : goal.returns-clause-files
 returns-clause-files c = λ inputs plan shard_at expiry_at join old loaded new info hash found union written agree is writes loads looks.
     let one = one_layout inputs shard_at expiry_at plan join old.bytes union written agree is writes in
-    found_in_layout join one.1 None loaded info (loads.bytes ∙ one.0) (loaded_layout join None old loaded info one.1 tt one.0 loads) hash new found looks
+    let info_is = loaded_layout join None old loaded info one.1 tt one.0 loads in
+    found_in_layout join None loaded info (record { shard = one.1; same_bytes = loads.bytes ∙ one.0; same_info = info_is }) hash new found looks
