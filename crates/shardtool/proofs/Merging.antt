@@ -52,9 +52,10 @@ module _ (buffers : Buffers) where
     plan_refused (Name name) (Leaf i) e (bytes, known, at) (inl (is, past)) = absurd (none-some bytes (sym (slice_get_past inputs i past) ∙ at))
     plan_refused (Name name) (Leaf i) e (bytes, known, at) (inr no_memory) = no_memory
     plan_refused (Both' p left q right) (both_plans p1 plan1 q1 plan2) e (first, second) (inl refusal) = inl (plan_refused left plan1 e first refusal)
-    plan_refused (Both' p left q right) (both_plans p1 plan1 q1 plan2) e (first, second) (inr (inl refusal)) = inr (inl (plan_refused right plan2 e second refusal))
-    plan_refused (Both' p left q right) (both_plans p1 plan1 q1 plan2) e (first, second) (inr (inr (x, y, x_written, y_written, refusal))) =
-        inr (inr (x, y, plan_merges left plan1 x first x_written, plan_merges right plan2 y second y_written, refusal))
+    plan_refused (Both' p left q right) (both_plans p1 plan1 q1 plan2) e (first, second) (inr (x, x_written, inl refusal)) =
+        inr (x, plan_merges left plan1 x first x_written, inl (plan_refused right plan2 e second refusal))
+    plan_refused (Both' p left q right) (both_plans p1 plan1 q1 plan2) e (first, second) (inr (x, x_written, inr (y, y_written, refusal))) =
+        inr (x, plan_merges left plan1 x first x_written, inr (y, plan_merges right plan2 y second y_written, refusal))
     plan_refused (Name name) (both_plans p1 plan1 q1 plan2) e none refusal = absurd none
     plan_refused (Both' p left q right) (Leaf i) e none refusal = absurd none
 

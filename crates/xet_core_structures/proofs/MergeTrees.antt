@@ -137,13 +137,13 @@ module _ (inputs : List (List ℕ)) (key : DataHash) (key_fits : IsHash key) (sh
         | inl no_memory ↦ inl no_memory
         | inr many ↦ inr (many.0, λ few. many.1 (few_left left right c agree join l.0 l.1 few))
       ]
-  tree_refused (Both' p left q right) c err written agree join (inr (inl refusal)) =
+  tree_refused (Both' p left q right) c err written agree join (inr (x, x_written, inl refusal)) =
       let r = joins_exist (shards right) (agree_r left right c agree join) in
       elim (tree_refused right r.0 err (written_right left right (leaves left) (leaves right) refl refl written) (agree_r left right c agree join) r.1 refusal) [
         | inl no_memory ↦ inl no_memory
         | inr many ↦ inr (many.0, λ few. many.1 (few_right left right c agree join r.0 r.1 few))
       ]
-  tree_refused (Both' p left q right) c err written agree join (inr (inr (x, y, x_written, y_written, refusal))) =
+  tree_refused (Both' p left q right) c err written agree join (inr (x, x_written, inr (y, y_written, refusal))) =
       let l = joins_exist (shards left) (agree_l left right c agree join) in
       let r = joins_exist (shards right) (agree_r left right c agree join) in
       let first = tree_written left l.0 x (written_left left right (leaves left) (leaves right) refl refl written) (agree_l left right c agree join) l.1 x_written in

@@ -42,8 +42,9 @@ pub both_sides : {Z : Type 0} (inputs : List (List ℕ)) (left right : MergePlan
     → TreeWrites inputs left x → TreeWrites inputs right y → x_read ≡ x → y_read ≡ y
     → MatchResult r (λ bytes. UnitesBytes x_read y_read bytes.items) (BytesRefusal x_read y_read)
     → MatchResult r (λ bytes. (x y : List ℕ) × TreeWrites inputs left x × TreeWrites inputs right y × UnitesBytes x y bytes.items)
-    (λ e. TreeRefusal inputs left e ⊎ TreeRefusal inputs right e ⊎ ((x y : List ℕ) × TreeWrites inputs left x × TreeWrites inputs right y × BytesRefusal x y e))
+    (λ e. TreeRefusal inputs left e
+    ⊎ ((x : List ℕ) × TreeWrites inputs left x × (TreeRefusal inputs right e ⊎ ((y : List ℕ) × TreeWrites inputs right y × BytesRefusal x y e))))
 both_sides inputs left right x y x_read y_read (Ok bytes) x_written y_written x_is y_is unites =
     (x, y, x_written, y_written, subst (λ p. p) (λ k. UnitesBytes (x_is k) (y_is k) bytes.items) unites)
 both_sides inputs left right x y x_read y_read (Err e) x_written y_written x_is y_is refusal =
-    inr (inr (x, y, x_written, y_written, subst (λ p. p) (λ k. BytesRefusal (x_is k) (y_is k) e) refusal))
+    inr (x, x_written, inr (y, y_written, subst (λ p. p) (λ k. BytesRefusal (x_is k) (y_is k) e) refusal))

@@ -1,6 +1,6 @@
 //! Union and difference of shards as bytes, and trees of unions.
 
-ghost use Rattle.std.specs.Prelude.{◌≡◌, ◌≢◌, ◌⊎◌, ℕ, ◌≤◌, Option, None, Some, length, map, slice_get, IfOk, MatchResult};
+ghost use Rattle.std.specs.Prelude.{◌≡◌, ◌≢◌, ◌⊎◌, ℕ, ◌≤◌, Option, None, Some, length, map, slice_get, IfOk, IsErrAnd, MatchResult};
 ghost use Rattle.xet_base.specs.Errors.{IsDeviceError, IsInvalidShard};
 ghost use Rattle.xet_shards.specs.Ends.{FitsFooter};
 ghost use Rattle.xet_shards.specs.Joins.{IsJoinOf, AgreePairwise};
@@ -53,8 +53,8 @@ pub fn shard_set_union<S: ShardSource, T: ShardSource, W: Write>(
         ⊎ InputsFail (S.meaning r1.old) (S.meaning r1.new) (T.meaning r2.old) (T.meaning r2.new)
         (UnionRefusal (S.meaning r1.old).bytes s1.now (T.meaning r2.old).bytes s2.now) e) }
     ensures untouched { key_of s1.now ≢ key_of s2.now
-        → (S.meaning r1.new ≡ S.meaning r1.old) × (T.meaning r2.new ≡ T.meaning r2.old)
-        × (W.contents out.new ≡ W.contents out.old) }
+        → IsErrAnd result (λ e. e ≡ CoreError.InvalidArguments) × (r1.new ≡ r1.old)
+        × (r2.new ≡ r2.old) × (out.new ≡ out.old) }
     ensures in_form { IfOk result
         (WritesInForm IsByteUnion (S.meaning r1.old).bytes s1.now (T.meaning r2.old).bytes s2.now
         (W.contents out.old) (W.contents out.new)) }
@@ -87,8 +87,8 @@ pub fn shard_set_difference<S: ShardSource, T: ShardSource, W: Write>(
         (DifferenceRefusal (S.meaning r1.old).bytes s1.now (T.meaning r2.old).bytes s2.now)
         e) }
     ensures untouched { key_of s1.now ≢ key_of s2.now
-        → (S.meaning r1.new ≡ S.meaning r1.old) × (T.meaning r2.new ≡ T.meaning r2.old)
-        × (W.contents out.new ≡ W.contents out.old) }
+        → IsErrAnd result (λ e. e ≡ CoreError.InvalidArguments) × (r1.new ≡ r1.old)
+        × (r2.new ≡ r2.old) × (out.new ≡ out.old) }
     ensures in_form { IfOk result
         (WritesInForm IsDifference (S.meaning r1.old).bytes s1.now (T.meaning r2.old).bytes s2.now
         (W.contents out.old) (W.contents out.new)) }

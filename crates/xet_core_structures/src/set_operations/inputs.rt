@@ -1,6 +1,6 @@
 //! Reading the sections of a shard whole, as lists whose hashes strictly ascend.
 
-ghost use Rattle.std.specs.Prelude.{◌≡◌, ◌≢◌, MatchResult};
+ghost use Rattle.std.specs.Prelude.{◌≡◌, ◌≢◌, MatchResult, IsErrAnd};
 ghost use Rattle.xet_base.specs.Errors.{IsInvalidShard};
 ghost use Rattle.xet_shards.specs.InForm.{Ascends};
 ghost use Rattle.xet_core_structures.specs.Held.{HoldsLists, ReadsNoInput};
@@ -44,7 +44,8 @@ pub fn read_inputs<S: ShardSource, T: ShardSource>(
         (InputsFail (S.meaning r1.old) (S.meaning r1.new) (T.meaning r2.old) (T.meaning r2.new)
         (DifferenceRefusal (S.meaning r1.old).bytes s1.now (T.meaning r2.old).bytes s2.now)) }
     ensures untouched { key_of s1.now ≢ key_of s2.now
-        → (S.meaning r1.new ≡ S.meaning r1.old) × (T.meaning r2.new ≡ T.meaning r2.old) }
+        → IsErrAnd result (λ e. e ≡ CoreError.InvalidArguments) × (r1.new ≡ r1.old)
+        × (r2.new ≡ r2.old) }
     ensures sources { ((S.meaning r1.new).bytes ≡ (S.meaning r1.old).bytes)
         × ((T.meaning r2.new).bytes ≡ (T.meaning r2.old).bytes) }
 {

@@ -1,12 +1,13 @@
 //! The union and the difference of two inputs, written to an output.
 
-ghost use Rattle.std.specs.Prelude.{◌≡◌, ◌≢◌, ℕ, List, IfOk, MatchResult};
+ghost use Rattle.std.specs.Prelude.{◌≡◌, ◌≢◌, ℕ, List, IfOk, IsErrAnd, MatchResult};
 ghost use Rattle.xet_base.specs.declared.error.CoreError.{CoreError};
 ghost use Rattle.xet_shards.specs.declared.shard_format.info.MDBShardInfo.{MDBShardInfo};
 ghost use Rattle.xet_shards.specs.Ends.{FitsFooter};
 ghost use Rattle.xet_shards.specs.SetOperations.{IsDifference};
 ghost use Rattle.xet_shards.specs.Shard.{Shard};
 ghost use Rattle.xet_core_structures.specs.declared.set_operations.inputs.Records.{Records};
+ghost use Rattle.xet_core_structures.specs.declared.set_operations.results.SetFailure.TheVariants.{Input};
 ghost use Rattle.xet_core_structures.specs.ByteUnion.{IsByteUnion, IsEitherFile, IsEitherXorb};
 ghost use Rattle.xet_core_structures.specs.Combining.{IsRest};
 ghost use Rattle.xet_core_structures.specs.ByteResults.{key_of, AreRecords, AreCombined, AreNotUnited, WritesRecords, WritesResult, InputsFail, FailsBy, UnionRefusal, DifferenceRefusal, OperationLaws};
@@ -144,8 +145,8 @@ pub fn operate<O: SetOperation, S: ShardSource, T: ShardSource, W: Write>(
         (InputsFail (S.meaning r1.old) (S.meaning r1.new) (T.meaning r2.old) (T.meaning r2.new)
         (O.Refusal (S.meaning r1.old).bytes s1.now (T.meaning r2.old).bytes s2.now))) }
     ensures untouched { key_of s1.now ≢ key_of s2.now
-        → (S.meaning r1.new ≡ S.meaning r1.old) × (T.meaning r2.new ≡ T.meaning r2.old)
-        × (W.contents out.new ≡ W.contents out.old) }
+        → IsErrAnd result (λ failure. failure ≡ Input CoreError.InvalidArguments)
+        × (r1.new ≡ r1.old) × (r2.new ≡ r2.old) × (out.new ≡ out.old) }
     ensures sources { ((S.meaning r1.new).bytes ≡ (S.meaning r1.old).bytes)
         × ((T.meaning r2.new).bytes ≡ (T.meaning r2.old).bytes) }
     ensures widths { IfOk result (λ info. FitsFooter info.metadata) }
