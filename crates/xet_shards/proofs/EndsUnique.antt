@@ -151,14 +151,17 @@ why_not_loaded bytes info old new e ends (inl failed) = failed
 why_not_loaded bytes info old new e ends (inr (none, unsupported_format is unsupported)) = absurd (not_unsupported bytes info ends unsupported)
 why_not_loaded bytes info old new e ends (inr (none, too_few_bytes is short)) = absurd (not_too_short bytes info ends short)
 
--- from these bytes header and footer are read, unless the device fails
+-- from bytes with such ends they are read, unless the device fails
+pub loads_ends : (old new : Source) (info : MDBShardInfo) (r : Result MDBShardInfo CoreError) → HasEnds old.bytes info → MatchResult r (Loads old new) (LoadFails old new)
+    → MatchResult r (λ found. found ≡ info) (DeviceFailure old new)
+loads_ends old new info (Ok found) ends loads = only_info old.bytes found info loads.ends ends
+loads_ends old new info (Err e) ends fails = why_not_loaded old.bytes info old new e ends fails.cause
+
 pub loads_layout : (old new : Source) (files : List MDBFileInfo) (xorbs : List MDBXorbInfo) (form : Form) (r : Result MDBShardInfo CoreError)
     → old.bytes ≡ layout_of files xorbs form → FitsFooter (footer_value files xorbs form) → MatchResult r (Loads old new) (LoadFails old new)
     → MatchResult r (λ info. info ≡ info_of files xorbs form) (DeviceFailure old new)
-loads_layout old new files xorbs form (Ok info) are fits loads =
-    only_info old.bytes info (info_of files xorbs form) loads.ends (subst (λ bs. HasEnds bs (info_of files xorbs form)) (sym are) (ends_of_layout files xorbs form fits))
-loads_layout old new files xorbs form (Err e) are fits fails =
-    why_not_loaded old.bytes (info_of files xorbs form) old new e (subst (λ bs. HasEnds bs (info_of files xorbs form)) (sym are) (ends_of_layout files xorbs form fits)) fails.cause
+loads_layout old new files xorbs form r are fits =
+    loads_ends old new (info_of files xorbs form) r (subst (λ bs. HasEnds bs (info_of files xorbs form)) (sym are) (ends_of_layout files xorbs form fits))
 
 pub loads_written : (old new : Source) (s : Shard) (expiry : Option ℕ) (r : Result MDBShardInfo CoreError) → old.bytes ≡ layout s expiry → FitsFooter (info_value s expiry).metadata
     → MatchResult r (Loads old new) (LoadFails old new) → MatchResult r (λ info. info ≡ info_value s expiry) (DeviceFailure old new)

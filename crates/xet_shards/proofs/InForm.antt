@@ -1,5 +1,5 @@
 -- Records that are written in a form with their table are looked up.
-use Rattle.std.proofs.Common.{◌≡◌, Bool, true, false, ℕ, ◌^◌, ◌<◌, ◌≤◌, [], ◌++◌, length, drop, map, flat_map, get_or, Option, None, sym, ap, ◌∙◌, subst, arith, List}
+use Rattle.std.proofs.Common.{◌≡◌, refl, Bool, true, false, ℕ, ◌^◌, ◌<◌, ◌≤◌, [], ◌++◌, length, drop, map, flat_map, get_or, Option, None, sym, ap, ◌∙◌, subst, arith, List}
 use Rattle.std.specs.Prelude.{All}
 use Rattle.std.specs.FinMap.{values}
 use Rattle.std.specs.declared.cmp.Ordering.TheVariants.{Less}
@@ -17,7 +17,7 @@ use Rattle.xet_shards.specs.declared.shard_format.info.MDBShardInfo.{MDBShardInf
 use Rattle.xet_shards.specs.Shard.{Shard, IsShard}
 use Rattle.xet_shards.specs.Tables.{hash_in, starts, start_row, table_bytes}
 use Rattle.xet_shards.specs.Layout.{Form, if_in, footer_value, plain_form}
-use Rattle.xet_shards.specs.InForm.{Ascends, IsInForm}
+use Rattle.xet_shards.specs.InForm.{Ascends, IsInForm, HasFileTable}
 use Rattle.xet_shards.specs.WrittenShard.{IsWritten}
 use Rattle.xet_shards.proofs.Files.{length-le-rows}
 use Rattle.xet_shards.proofs.Found.{first_words_ascend}
@@ -138,3 +138,7 @@ module _ (s : Shard) (shard : IsShard s) where
 
   pub xorbs_ascend : Ascends xorb_records (values s.xorbs)
   xorbs_ascend = hashes_ascend (hash_in xorb_records) s.xorbs shard.xorbs.keyed
+
+pub files_of_shard : {s : Shard} {expiry : Option ℕ} {bytes : List ℕ} {info : MDBShardInfo} → IsWritten s expiry bytes info
+    → HasFileTable (values s.files) (values s.xorbs) (plain_form expiry) bytes info.metadata
+files_of_shard {s} is = record { in_form = shard_in_form is; ascends = files_ascend s is.shard; table = refl }

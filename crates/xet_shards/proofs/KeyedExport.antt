@@ -34,7 +34,7 @@ use Rattle.xet_shards.specs.Ends.{HasHeader, HasUnsupportedHeader, EndsInHeader,
 use Rattle.xet_shards.specs.SectionReading.{IsSection, TakesNoSection, RecordFails}
 use Rattle.xet_shards.specs.KeyedExport.{Exports, ExportFails, ExportCase, CannotExport, ExpiresTooLate, BadSection, PassesSection, ExportsSection, WritingFails, HasExported, exported, exported_file, exported_xorb, xorbs_after, keyed_xorb, keyed_xorbs}
 use Rattle.xet_shards.specs.KeyedExport.ExportCase.{bad_header, bad_files, bad_xorbs, not_written}
-use Rattle.xet_shards.proofs.EndsUnique.{only_info, ends_of_layout}
+use Rattle.xet_shards.proofs.EndsUnique.{ends_of_layout}
 use Rattle.xet_shards.proofs.Files.{length-le-rows}
 use Rattle.xet_shards.proofs.KeyedHashes.{keyed_section}
 use Rattle.xet_shards.proofs.Layouts.{length-shard_header_bytes, length-shard_footer_bytes}
@@ -311,11 +311,6 @@ module _ (old s1 : Source) (h : MDBShardFileHeader) (taken : Takes old s1 (shard
         read = at_end;
         written = whole_layout start after_header after_files after_xorbs end files_out xorbs_out form header_out files_bytes xorbs_bytes end_bytes;
         count = count ∙ ap (λ (f : MDBShardFileFooter). f.footer_offset + 200) is ∙ sym (footer_last files_out xorbs_out form);
-        in_form = λ info ends. record {
-          files_fit = files_fit;
-          xorbs_fit = xorbs_fit;
-          bytes_are = refl;
-          footer_is = ap (λ (i : MDBShardInfo). i.metadata) (only_info (exported files xorbs form) info (info_of files_out xorbs_out form) ends
-              (ends_of_layout files_out xorbs_out form (subst FitsFooter is fits)));
-        };
+        ends = ends_of_layout files_out xorbs_out form (subst FitsFooter is fits);
+        in_form = record { files_fit = files_fit; xorbs_fit = xorbs_fit; bytes_are = refl; footer_is = refl };
       }

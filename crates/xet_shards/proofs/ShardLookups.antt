@@ -1,22 +1,46 @@
 -- File lookups on the bytes of a shard answer as its map does.
-use Rattle.std.proofs.Common.{◌≡◌, Ok, Err, ℕ, get_or, Option}
-use Rattle.std.specs.Prelude.{MatchResult}
+use Rattle.std.proofs.Common.{◌≡◌, ◌∙◌, Ok, Err, ℕ, ◌<◌, List, get_or, length, Option, None, Some, sym, ap, subst}
+use Rattle.std.specs.Prelude.{◌≢◌, MatchResult}
 use Rattle.std.specs.FinMap.{entries, values, get}
 use Rattle.std.specs.declared.result.Result.{Result}
+use Rattle.std.proofs.lemmas.List.{get_or_default}
+use Rattle.std.proofs.lemmas.List.Elements.{Contains-get_or}
 use Rattle.xet_base.specs.declared.error.CoreError.{CoreError}
 use Rattle.xet_base.specs.declared.merklehash.DataHash.{DataHash}
 use Rattle.xet_base.specs.Source.{Source}
 use Rattle.xet_base.specs.Table.{table_at}
 use Rattle.xet_records.specs.declared.file_structs.MDBFileInfo.{MDBFileInfo}
+use Rattle.xet_records.specs.RecordKind.{RecordKind}
 use Rattle.xet_records.specs.FileRecord.{file_records}
-use Rattle.xet_records.proofs.RecordKinds.{file_laws}
+use Rattle.xet_records.proofs.RecordKinds.{KindLaws, file_laws}
 use Rattle.xet_shards.specs.Shard.{Shard, IsShard}
-use Rattle.xet_shards.specs.Lookup.{LooksUpRecord, FoundInShard, NotFoundAmong}
+use Rattle.xet_shards.specs.Lookup.{LooksUpRecord, IsOneOf, FoundAmong, FoundInShard, NotFoundAmong}
+use Rattle.xet_shards.specs.Tables.{hash_in}
 use Rattle.xet_shards.proofs.Files.{well_formed_values}
 use Rattle.xet_shards.proofs.InForm.{no_file}
 use Rattle.xet_shards.proofs.MapAnswers.{map_answers}
 use Rattle.xet_shards.proofs.Readback.{handed_one}
 use Rattle.xet_shards.proofs.TableLookups.{IsLookedUp, IsAnswer, answered, not_answered}
+
+-- the answer among records is one of them with the hash, or none has it
+one_of : {H R : Type 0} (K : RecordKind H R) (laws : KindLaws K) (d : R) (records : List R) (hash : DataHash) (answer : Option R)
+    → IsAnswer K d records hash answer → IsOneOf K records hash answer
+one_of K laws d records hash (Some found) (i, within, handed, same) =
+    let r = get_or records i d in
+    let hash_is : hash_in K r ≡ hash = sym (ap (hash_in K) handed ∙ ap K.hash_of (laws.same_header r)) ∙ same in
+    (r, Contains-get_or records i d within, hash_is, handed)
+one_of K laws d records hash None others =
+    λ i e within. subst (λ r. hash_in K r ≢ hash) (get_or_default records i d e within) (others i within)
+
+-- a lookup of a record among those of any kind that are looked up
+module _ {H R : Type 0} (K : RecordKind H R) (laws : KindLaws K) (d : R) (records : List R) (offset start count : ℕ) (old : Source)
+    (is : IsLookedUp K d records offset start count old) where
+  pub lookup_in_form : (new : Source) (hash : DataHash) (r : Result (Option R) CoreError) → LooksUpRecord K (table_at old start count 4) offset hash old new r
+      → MatchResult r (FoundAmong K records hash) (NotFoundAmong K records hash old new)
+  lookup_in_form new hash (Ok answer) looks =
+      let found = answered K laws d records offset start count old is hash new answer looks.read in
+      (found.0, one_of K laws d records hash answer found.1)
+  lookup_in_form new hash (Err e) looks = not_answered K laws d records offset start count old is hash new e looks.read
 
 module _ (s : Shard) (shard : IsShard s) where
   -- the answer among the files is that of the map

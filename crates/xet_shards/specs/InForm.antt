@@ -1,5 +1,5 @@
 -- Files and xorbs that are written in a form.
-use Rattle.std.specs.Prelude.{◌≡◌, ℕ, ◌≤◌, List, map, All}
+use Rattle.std.specs.Prelude.{◌≡◌, ℕ, ◌≤◌, List, map, All, true}
 use Rattle.std.specs.List.Sorted.{IsStrictlySortedBy}
 use Rattle.xet_base.specs.Hash.{hash_cmp}
 use Rattle.xet_records.specs.declared.file_structs.MDBFileInfo.{MDBFileInfo}
@@ -28,3 +28,10 @@ pub record IsInForm (files : List MDBFileInfo) (xorbs : List MDBXorbInfo) (form 
   pub xorbs_fit : FitsSection xorb_records xorbs
   pub bytes_are : bytes ≡ layout_of files xorbs form
   pub footer_is : footer ≡ footer_value files xorbs form
+
+-- the same, with the file table, of files whose hashes strictly ascend
+pub record HasFileTable (files : List MDBFileInfo) (xorbs : List MDBXorbInfo) (form : Form)
+    (bytes : List ℕ) (footer : MDBShardFileFooter) : Type 0 where
+  pub in_form : IsInForm files xorbs form bytes footer
+  pub ascends : Ascends file_records files
+  pub table : form.file_table ≡ true

@@ -17,7 +17,7 @@ use Rattle.xet_shards.specs.declared.shard_format.info.MDBShardInfo.{MDBShardInf
 use Rattle.xet_shards.specs.Section.{total_rows, section_bytes}
 use Rattle.xet_shards.specs.SectionReading.{IsSection, PassesRows, IsCutSection, SectionCase}
 use Rattle.xet_shards.specs.Ends.{HasHeader, HasEnds, HasUnsupportedHeader, EndsInHeader, FormatCase}
-use Rattle.xet_shards.specs.Layout.{Form, if_in, layout_of}
+use Rattle.xet_shards.specs.Layout.{Form, if_in, layout_of, footer_value, info_of}
 use Rattle.xet_shards.specs.InForm.{IsInForm}
 
 -- a chunk and a xorb with chunk hashes under a key, and all else as it is
@@ -60,8 +60,8 @@ abbrev pub xorbs_after : List MDBFileInfo → ℕ
 xorbs_after files = 48 * (total_rows file_records files + 2)
 
 -- a shard was exported: header and sections were read from the source's position on, without a seek
--- and without a byte past the xorb section, and what they hold was written in the form; a reader of
--- these bytes finds it in that form
+-- and without a byte past the xorb section, and what they hold was written in the form; these bytes
+-- have a header and a footer, and are in that form, as reading and lookups require
 pub record Exports (form : Form) (old new : Source) (before after : Option (List ℕ)) (n : ℕ)
     : Type 0 where
   pub files : List MDBFileInfo
@@ -72,9 +72,11 @@ pub record Exports (form : Form) (old new : Source) (before after : Option (List
   pub read : new ≡ advanced old (xorbs_after files + 48 * (total_rows xorb_records xorbs + 1))
   pub written : Appends before after (exported files xorbs form)
   pub count : n ≡ length (exported files xorbs form)
-  pub in_form : (info : MDBShardInfo) → HasEnds (exported files xorbs form) info
-      → IsInForm (if_in form.file_table files) (keyed_xorbs form.key xorbs) form
-      (exported files xorbs form) info.metadata
+  pub ends : HasEnds (exported files xorbs form)
+      (info_of (if_in form.file_table files) (keyed_xorbs form.key xorbs) form)
+  pub in_form : IsInForm (if_in form.file_table files) (keyed_xorbs form.key xorbs) form
+      (exported files xorbs form)
+      (footer_value (if_in form.file_table files) (keyed_xorbs form.key xorbs) form)
 
 -- why a section was not read, if the device did not fail
 abbrev pub BadSection : {H R : Type 0} → RecordKind H R → List ℕ → CoreError → Type 0

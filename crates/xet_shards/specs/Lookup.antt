@@ -278,6 +278,17 @@ NotFoundAmong K records hash old new e =
     × (length (sharing K hash.word0 records) < 8))
     ⊎ ((e ≡ TruncatedHashCollision hash.word0) × (8 ≤ length (sharing K hash.word0 records)))
 
+-- one of these records with the hash, as reading hands it out, or none if none has the hash
+abbrev pub IsOneOf : {H R : Type 0} → RecordKind H R → List R → DataHash → Option R → Type 0
+IsOneOf {R = R} K records hash (Some found) =
+    (r : R) × Contains records r × (hash_in K r ≡ hash) × (found ≡ K.handed_out r)
+IsOneOf K records hash None = All (λ r. hash_in K r ≢ hash) records
+
+-- a record lookup in such bytes gave an answer: fewer than eight records share the first word
+abbrev pub FoundAmong : {H R : Type 0} → RecordKind H R → List R → DataHash → Option R → Type 0
+FoundAmong K records hash answer =
+    (length (sharing K hash.word0 records) < 8) × IsOneOf K records hash answer
+
 -- a file lookup on the bytes of a shard that gave an answer: fewer than eight files share the first
 -- word, and it is the map's
 abbrev pub FoundInShard : Shard → DataHash → Option MDBFileInfo → Type 0

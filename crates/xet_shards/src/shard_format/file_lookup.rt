@@ -1,11 +1,15 @@
 //! Lookup of one file on the bytes of a shard.
 
-ghost use Rattle.std.specs.Prelude.{◌≡◌, ℕ, Option, MatchResult, OnOk, IfOk, IfErr};
+ghost use Rattle.std.specs.Prelude.{◌≡◌, ℕ, List, Option, MatchResult, OnOk, IfOk, IfErr};
 ghost use Rattle.std.specs.FinMap as finite;
 ghost use Rattle.xet_base.specs.Table.{Serves};
+ghost use Rattle.xet_records.specs.declared.file_structs.MDBFileInfo.{MDBFileInfo};
+ghost use Rattle.xet_records.specs.declared.xorb_structs.MDBXorbInfo.{MDBXorbInfo};
 ghost use Rattle.xet_records.specs.FileRecord.{file_records};
 ghost use Rattle.xet_shards.specs.Shard.{Shard};
-ghost use Rattle.xet_shards.specs.Lookup.{StartsAmong, NoStartsAmong, FoundInShard, NotFoundAmong, WithinBounds, SearchWithinBounds, file_table, LooksUpIndex, LooksUpRecord, ReadsInfo, ReadInfoFails, VisitsSome, Finding, FindingFails, LookupAnswer, LookupRefused};
+ghost use Rattle.xet_shards.specs.Layout.{Form};
+ghost use Rattle.xet_shards.specs.InForm.{HasFileTable};
+ghost use Rattle.xet_shards.specs.Lookup.{StartsAmong, NoStartsAmong, FoundAmong, FoundInShard, NotFoundAmong, WithinBounds, SearchWithinBounds, file_table, LooksUpIndex, LooksUpRecord, ReadsInfo, ReadInfoFails, VisitsSome, Finding, FindingFails, LookupAnswer, LookupRefused};
 ghost use Rattle.xet_shards.specs.WrittenShard.{IsWritten};
 
 use super::info::MDBShardInfo;
@@ -85,6 +89,22 @@ impl MDBShardInfo {
         ensures looks { LooksUpRecord file_records
             (file_table self.now.metadata (S.meaning source.old)) self.now.metadata.file_info_offset
             hash.now (S.meaning source.old) (S.meaning source.new) result }
+        ensures in_form { (files : List MDBFileInfo) → (xorbs : List MDBXorbInfo) → (form : Form)
+            → HasFileTable files xorbs form (S.meaning source.old).bytes self.now.metadata
+            → MatchResult result (FoundAmong file_records files hash.now)
+            (NotFoundAmong file_records files hash.now (S.meaning source.old)
+            (S.meaning source.new)) }
+        ensures in_form_costs { (files : List MDBFileInfo) → (xorbs : List MDBXorbInfo)
+            → (form : Form)
+            → HasFileTable files xorbs form (S.meaning source.old).bytes self.now.metadata
+            → WithinBounds file_records files hash.now.word0 (S.meaning source.old)
+            (S.meaning source.new) }
+        ensures in_form_collision { (files : List MDBFileInfo) → (xorbs : List MDBXorbInfo)
+            → (form : Form)
+            → HasFileTable files xorbs form (S.meaning source.old).bytes self.now.metadata
+            → IfErr result (λ e. e ≡ CoreError.TruncatedHashCollision hash.now.word0
+            → SearchWithinBounds file_records files hash.now.word0 (S.meaning source.old)
+            (S.meaning source.new)) }
         ensures written { (s : Shard) → (expiry : Option ℕ)
             → IsWritten s expiry (S.meaning source.old).bytes self.now
             → MatchResult result (FoundInShard s hash.now)

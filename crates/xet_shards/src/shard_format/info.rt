@@ -13,7 +13,7 @@ ghost use Rattle.xet_records.specs.FileRecord.{file_records};
 ghost use Rattle.xet_records.specs.XorbRecord.{xorb_records};
 ghost use Rattle.xet_shards.specs.SectionReading.{ReadsAll, SectionFails};
 ghost use Rattle.xet_shards.specs.XorbHeaders.{xorb_headers, ReadsXorbHeaders};
-ghost use Rattle.xet_shards.specs.Ends.{HasUnsupportedHeader, EndsInHeader, HasUnsupportedFooter, EndsInFooter, FitsFooter, PartFails, Loads, LoadFails};
+ghost use Rattle.xet_shards.specs.Ends.{HasEnds, HasUnsupportedHeader, EndsInHeader, HasUnsupportedFooter, EndsInFooter, FitsFooter, PartFails, Loads, LoadFails};
 
 use super::footer::{FOOTER_SIZE, MDBShardFileFooter, check_version};
 use super::form::Form;
@@ -46,6 +46,9 @@ impl MDBShardInfo {
     pub fn load_from_reader<S: ShardSource>(alloc: Global, source: &mut S) -> Result<Self>
         ensures read { MatchResult result (Loads (S.meaning source.old) (S.meaning source.new))
             (LoadFails (S.meaning source.old) (S.meaning source.new)) }
+        ensures ends { (info : MDBShardInfo) → HasEnds (S.meaning source.old).bytes info
+            → MatchResult result (λ found. found ≡ info)
+            (DeviceFailure (S.meaning source.old) (S.meaning source.new)) }
         ensures written { (s : Shard) → (expiry : Option ℕ) → IsShard s
             → IfSome expiry (λ e. e < 2 ^ 64) → (S.meaning source.old).bytes ≡ layout s expiry
             → MatchResult result (λ info. info ≡ info_value s expiry)

@@ -1,34 +1,45 @@
-use Rattle.std.proofs.Common.{refl, Option, ℕ}
+use Rattle.std.proofs.Common.{refl, ℕ, List}
 use Rattle.std.specs.FinMap.{values}
+use Rattle.xet_records.specs.declared.file_structs.MDBFileInfo.{MDBFileInfo}
+use Rattle.xet_records.specs.declared.xorb_structs.MDBXorbInfo.{MDBXorbInfo}
 use Rattle.xet_records.specs.FileRecord.{file_records}
 use Rattle.xet_records.proofs.RecordKinds.{file_laws}
-use Rattle.xet_shards.specs.Shard.{Shard}
-use Rattle.xet_shards.specs.Layout.{plain_form}
-use Rattle.xet_shards.specs.WrittenShard.{IsWritten}
-use Rattle.xet_shards.proofs.InForm.{no_file, files_in, shard_in_form, files_ascend}
-use Rattle.xet_shards.proofs.ShardLookups.{lookup_written}
+use Rattle.xet_shards.specs.Layout.{Form, plain_form}
+use Rattle.xet_shards.specs.InForm.{HasFileTable}
+use Rattle.xet_shards.proofs.InForm.{no_file, files_in, files_of_shard}
+use Rattle.xet_shards.proofs.ShardLookups.{lookup_in_form, lookup_written}
 use Rattle.xet_shards.proofs.TableLookups.{IsLookedUp, lookup_bounded, collision_bounded}
 use Rattle.xet_shards.proofs.shard_format.info.MDBShardInfo.get_file_reconstruction_info.Goals as goal
 
--- the files of a shard are looked up in its bytes
-looked : (g : _) (c : goal.After-look_up g) (s : Shard) (expiry : Option ℕ) → IsWritten s expiry (g.S.ShardSource.meaning c.args.source.now).bytes c.args.self.now
+-- files in a form with their table are looked up
+looked : (g : _) (c : goal.After-look_up g) (files : List MDBFileInfo) (xorbs : List MDBXorbInfo) (form : Form)
+    → HasFileTable files xorbs form (g.S.ShardSource.meaning c.args.source.now).bytes c.args.self.now.metadata
     → let footer = c.args.self.now.metadata in
-    IsLookedUp file_records no_file (values s.files) footer.file_info_offset footer.file_lookup_offset footer.file_lookup_num_entry (g.S.ShardSource.meaning c.args.source.now)
-looked g c s expiry written =
-    let old = g.S.ShardSource.meaning c.args.source.now in
-    files_in (values s.files) (values s.xorbs) (plain_form expiry) old c.args.self.now.metadata (shard_in_form written) (files_ascend s written.shard) refl
+    IsLookedUp file_records no_file files footer.file_info_offset footer.file_lookup_offset footer.file_lookup_num_entry (g.S.ShardSource.meaning c.args.source.now)
+looked g c files xorbs form is = files_in files xorbs form (g.S.ShardSource.meaning c.args.source.now) c.args.self.now.metadata is.in_form is.ascends is.table
 
 pub returns-clause-looks : goal.returns-clause-looks
 returns-clause-looks g c = record { read = c.look_up.ensures.read; serves = c.look_up.ensures.serves; kept = c.look_up.ensures.kept }
 
+pub returns-clause-in_form : goal.returns-clause-in_form
+returns-clause-in_form g c files xorbs form is =
+    lookup_in_form file_records file_laws no_file files _ _ _ (g.S.ShardSource.meaning c.args.source.now) (looked g c files xorbs form is) (g.S.ShardSource.meaning c.look_up.new.source) c.args.hash.now c.look_up.result (returns-clause-looks g c)
+
+pub returns-clause-in_form_costs : goal.returns-clause-in_form_costs
+returns-clause-in_form_costs g c files xorbs form is =
+    lookup_bounded file_records file_laws no_file files _ _ _ (g.S.ShardSource.meaning c.args.source.now) (looked g c files xorbs form is) (g.S.ShardSource.meaning c.look_up.new.source) c.args.hash.now c.look_up.result (returns-clause-looks g c)
+
+pub returns-clause-in_form_collision : goal.returns-clause-in_form_collision
+returns-clause-in_form_collision g c files xorbs form is =
+    collision_bounded file_records file_laws no_file files _ _ _ (g.S.ShardSource.meaning c.args.source.now) (looked g c files xorbs form is) (g.S.ShardSource.meaning c.look_up.new.source) c.args.hash.now c.look_up.result (returns-clause-looks g c)
+
 pub returns-clause-written : goal.returns-clause-written
 returns-clause-written g c s expiry written =
-    lookup_written s written.shard _ _ _ (g.S.ShardSource.meaning c.args.source.now) (looked g c s expiry written) (g.S.ShardSource.meaning c.look_up.new.source) c.args.hash.now c.look_up.result (returns-clause-looks g c)
+    lookup_written s written.shard _ _ _ (g.S.ShardSource.meaning c.args.source.now) (looked g c (values s.files) (values s.xorbs) (plain_form expiry) (files_of_shard written))
+    (g.S.ShardSource.meaning c.look_up.new.source) c.args.hash.now c.look_up.result (returns-clause-looks g c)
 
 pub returns-clause-costs : goal.returns-clause-costs
-returns-clause-costs g c s expiry written =
-    lookup_bounded file_records file_laws no_file (values s.files) _ _ _ (g.S.ShardSource.meaning c.args.source.now) (looked g c s expiry written) (g.S.ShardSource.meaning c.look_up.new.source) c.args.hash.now c.look_up.result (returns-clause-looks g c)
+returns-clause-costs g c s expiry written = returns-clause-in_form_costs g c (values s.files) (values s.xorbs) (plain_form expiry) (files_of_shard written)
 
 pub returns-clause-collision : goal.returns-clause-collision
-returns-clause-collision g c s expiry written =
-    collision_bounded file_records file_laws no_file (values s.files) _ _ _ (g.S.ShardSource.meaning c.args.source.now) (looked g c s expiry written) (g.S.ShardSource.meaning c.look_up.new.source) c.args.hash.now c.look_up.result (returns-clause-looks g c)
+returns-clause-collision g c s expiry written = returns-clause-in_form_collision g c (values s.files) (values s.xorbs) (plain_form expiry) (files_of_shard written)
