@@ -11,6 +11,7 @@ pub mod LookupsFound
 pub mod MergeTrees
 pub mod MinimalAgain
 pub mod Mixing
+pub mod OneResult
 pub mod Readable
 pub mod Results
 pub mod Stepping

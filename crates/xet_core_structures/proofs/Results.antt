@@ -144,12 +144,12 @@ united_unique a b c d (inr (inr (lacks, wants, counts, is))) (inl (has, _)) = ab
 united_unique a b c d (inr (inr (lacks, wants, counts, is))) (inr (inl (_, has, _))) = absurd (wants has)
 united_unique a b c d (inr (inr (lacks, wants, counts, is))) (inr (inr (_, _, _, also))) = is ∙ sym also
 
-files_unique : (o p a b : Option MDBFileInfo) → IsEitherFile o p a → IsEitherFile o p b → a ≡ b
+pub files_unique : (o p a b : Option MDBFileInfo) → IsEitherFile o p a → IsEitherFile o p b → a ≡ b
 files_unique None p a b is also = is ∙ sym also
 files_unique (Some x) None a b is also = is ∙ sym also
 files_unique (Some x) (Some y) a b (r, is, one) (s, also, other) = is ∙ ap Some (united_unique x y r s one other) ∙ sym also
 
-xorbs_unique : (o p a b : Option MDBXorbInfo) → IsEitherXorb o p a → IsEitherXorb o p b → a ≡ b
+pub xorbs_unique : (o p a b : Option MDBXorbInfo) → IsEitherXorb o p a → IsEitherXorb o p b → a ≡ b
 xorbs_unique o p a b is also = is ∙ sym also
 
 -- why no files are made of two lists

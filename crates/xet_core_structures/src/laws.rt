@@ -218,6 +218,14 @@ pub fn lookups_on_trees()
         → FindsInShard join hash loaded new found }
 {}
 
+/// Two shards have one union of this kind and one difference, and the bytes of two have one union,
+/// whether they agree or not.
+pub fn results_are_one()
+    ensures union { (a b c d : Shard) → IsByteUnion a b c → IsByteUnion a b d → c ≡ d }
+    ensures difference { (a b c d : Shard) → IsDifference a b c → IsDifference a b d → c ≡ d }
+    ensures bytes { (x y u v : List ℕ) → UnitesBytes x y u → UnitesBytes x y v → u ≡ v }
+{}
+
 /// Of the bytes of shards that agree, each with any expiry or none, one union is the same byte
 /// string in either order and in either grouping. With the same shard, and with the empty one on
 /// either side, it is the shard's bytes without expiry.
