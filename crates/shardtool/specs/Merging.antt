@@ -34,8 +34,8 @@ MergeRefusal buffers (Name name) e = e ≡ OutOfMemory
 MergeRefusal buffers (Both' p left q right) e =
     MergeRefusal buffers left e
     ⊎ ((x : List ℕ) × MergesTo buffers left x
-        × (MergeRefusal buffers right e
-            ⊎ ((y : List ℕ) × MergesTo buffers right y × BytesRefusal x y e)))
+    × (MergeRefusal buffers right e
+    ⊎ ((y : List ℕ) × MergesTo buffers right y × BytesRefusal x y e)))
 
 -- a name in it has no buffer
 abbrev pub HasUnknown : Buffers → NameTree → Type 0

@@ -6,7 +6,8 @@
 ghost use Rattle.std.specs.Prelude.{◌≡◌, ◌*◌, ◌∷◌, [], length, take, flat_map, OnOk, IfOk, IfErr, ◌≢◌};
 ghost use Rattle.std.specs.Io.KnownBytes.{Appends, Consumes};
 ghost use Rattle.std.specs.IoError.{error_kind};
-ghost use Rattle.xet_base.specs.Bytes.{u32_bytes, u64_bytes, HasBytes, LacksBytes};
+ghost use Rattle.xet_base.specs.Bytes.{u32_bytes, u64_bytes, HasBytes};
+ghost use Rattle.xet_base.specs.Input.{ReaderLacks};
 ghost use Rattle.xet_base.specs.Hash.{hash_bytes};
 
 use crate::merklehash::MerkleHash;
@@ -82,7 +83,7 @@ pub fn read_hash<R: Read>(reader: &mut R) -> io::Result<MerkleHash>
         (λ hash. Consumes (R.remaining reader.old) (R.remaining reader.new) (hash_bytes hash)) }
     ensures enough { OnOk result (HasBytes (R.remaining reader.old) 32) }
     ensures end { IfErr result
-        (λ e. error_kind e ≡ ErrorKind.UnexpectedEof → LacksBytes (R.remaining reader.old) 32) }
+        (ReaderLacks (R.remaining reader.old) 32) }
 {
     let mut bytes = [0u8; 32];
     read_bytes(reader, &mut bytes)?;
@@ -95,7 +96,7 @@ pub fn read_u8<R: Read>(reader: &mut R) -> io::Result<u8>
         (λ value. Consumes (R.remaining reader.old) (R.remaining reader.new) (value ∷ [])) }
     ensures enough { OnOk result (HasBytes (R.remaining reader.old) 1) }
     ensures end { IfErr result
-        (λ e. error_kind e ≡ ErrorKind.UnexpectedEof → LacksBytes (R.remaining reader.old) 1) }
+        (ReaderLacks (R.remaining reader.old) 1) }
 {
     let mut bytes = [0u8; 1];
     read_bytes(reader, &mut bytes)?;
@@ -108,7 +109,7 @@ pub fn read_u32<R: Read>(reader: &mut R) -> io::Result<u32>
         (λ value. Consumes (R.remaining reader.old) (R.remaining reader.new) (u32_bytes value)) }
     ensures enough { OnOk result (HasBytes (R.remaining reader.old) 4) }
     ensures end { IfErr result
-        (λ e. error_kind e ≡ ErrorKind.UnexpectedEof → LacksBytes (R.remaining reader.old) 4) }
+        (ReaderLacks (R.remaining reader.old) 4) }
 {
     let mut bytes = [0u8; 4];
     read_bytes(reader, &mut bytes)?;
@@ -121,7 +122,7 @@ pub fn read_u64<R: Read>(reader: &mut R) -> io::Result<u64>
         (λ value. Consumes (R.remaining reader.old) (R.remaining reader.new) (u64_bytes value)) }
     ensures enough { OnOk result (HasBytes (R.remaining reader.old) 8) }
     ensures end { IfErr result
-        (λ e. error_kind e ≡ ErrorKind.UnexpectedEof → LacksBytes (R.remaining reader.old) 8) }
+        (ReaderLacks (R.remaining reader.old) 8) }
 {
     let mut bytes = [0u8; 8];
     read_bytes(reader, &mut bytes)?;
@@ -134,8 +135,7 @@ pub fn read_bytes<R: Read>(reader: &mut R, slice: &mut [u8]) -> io::Result<()>
         (Consumes (R.remaining reader.old) (R.remaining reader.new) slice.new) }
     ensures enough { OnOk result (HasBytes (R.remaining reader.old) (length slice.old)) }
     ensures end { IfErr result
-        (λ e. error_kind e ≡ ErrorKind.UnexpectedEof
-        → LacksBytes (R.remaining reader.old) (length slice.old)) }
+        (ReaderLacks (R.remaining reader.old) (length slice.old)) }
 {
     let mut filled = 0;
     for _turn in 0..u64::MAX {
@@ -159,8 +159,7 @@ pub fn read_u32s<R: Read>(reader: &mut R, values: &mut [u32]) -> io::Result<()>
         (flat_map u32_bytes values.new)) }
     ensures enough { OnOk result (HasBytes (R.remaining reader.old) (4 * length values.old)) }
     ensures end { IfErr result
-        (λ e. error_kind e ≡ ErrorKind.UnexpectedEof
-        → LacksBytes (R.remaining reader.old) (4 * length values.old)) }
+        (ReaderLacks (R.remaining reader.old) (4 * length values.old)) }
 {
     for value in values.iter_mut() {
         *value = read_u32(reader)?;
@@ -175,8 +174,7 @@ pub fn read_u64s<R: Read>(reader: &mut R, values: &mut [u64]) -> io::Result<()>
         (flat_map u64_bytes values.new)) }
     ensures enough { OnOk result (HasBytes (R.remaining reader.old) (8 * length values.old)) }
     ensures end { IfErr result
-        (λ e. error_kind e ≡ ErrorKind.UnexpectedEof
-        → LacksBytes (R.remaining reader.old) (8 * length values.old)) }
+        (ReaderLacks (R.remaining reader.old) (8 * length values.old)) }
 {
     for value in values.iter_mut() {
         *value = read_u64(reader)?;

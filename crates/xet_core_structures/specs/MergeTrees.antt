@@ -31,8 +31,8 @@ TreeRefusal inputs (Leaf i) e = ((e ≡ InvalidArguments) × (length inputs ≤ 
 TreeRefusal inputs (Both' p left q right) e =
     TreeRefusal inputs left e
     ⊎ ((x : List ℕ) × TreeWrites inputs left x
-        × (TreeRefusal inputs right e
-            ⊎ ((y : List ℕ) × TreeWrites inputs right y × BytesRefusal x y e)))
+    × (TreeRefusal inputs right e
+    ⊎ ((y : List ℕ) × TreeWrites inputs right y × BytesRefusal x y e)))
 
 -- the shards at the leaves
 abbrev pub AtLeaves : MergePlan → (ℕ → Shard) → Shard → Type 0

@@ -2,16 +2,16 @@
 
 ghost use Rattle.std.specs.Prelude.{◌≡◌, ℕ, ◌+◌, ◌*◌, List, [], ◌∷◌, ◌++◌, length, map, flat_map, All, OnOk, OnErr, IfOk, IfErr, IsTrue, ◌↔◌, Option, is_some, IfSome, option_map, option_to_list, if◌then◌else◌};
 ghost use Rattle.std.specs.Io.KnownBytes.{Appends, Consumes};
-ghost use Rattle.std.specs.IoError.{error_kind};
 ghost use Rattle.xet_records.specs.Rows.{ReadsRow, ReadsRows, ReadsOptional};
 ghost use Rattle.xet_base.specs.Bytes.{HasBytes, LacksBytes};
+ghost use Rattle.xet_base.specs.Input.{ReaderLacks};
 ghost use Rattle.xet_base.specs.Source.{Takes, ReadFails};
 ghost use Rattle.xet_base.specs.Errors.{IsEndOfInput, IsDeviceError};
 
 use crate::input_rows;
 use std::alloc::{AllocError, AllocFailed, Global};
 use std::io;
-use std::io::{ErrorKind, Read, Write};
+use std::io::{Read, Write};
 use std::marker::Model;
 use xet_base::error::Result;
 use xet_base::input::{OfReader, OfSource};
@@ -180,7 +180,7 @@ pub fn read_row<T: Row, R: Read>(reader: &mut R) -> io::Result<T>
         (Consumes (R.remaining reader.old) (R.remaining reader.new))) }
     ensures enough { OnOk result (HasBytes (R.remaining reader.old) 48) }
     ensures end { IfErr result
-        (λ e. error_kind e ≡ ErrorKind.UnexpectedEof → LacksBytes (R.remaining reader.old) 48) }
+        (ReaderLacks (R.remaining reader.old) 48) }
 {
     input_rows::read_row::<T, OfReader, R>(reader)
 }
@@ -207,8 +207,7 @@ pub fn read_optional<T: Row, R: Read>(reader: &mut R, wanted: bool) -> io::Resul
         (ReadsOptional T.row_bytes T.Fits T.handed_out
         (Consumes (R.remaining reader.old) (R.remaining reader.new)) wanted) }
     ensures end { IfErr result
-        (λ e. error_kind e ≡ ErrorKind.UnexpectedEof
-        → LacksBytes (R.remaining reader.old) (if wanted then 48 else 0)) }
+        (ReaderLacks (R.remaining reader.old) (if wanted then 48 else 0)) }
     ensures touched { IfErr result (λ _. IsTrue wanted) }
 {
     input_rows::read_optional::<T, OfReader, R>(reader, wanted)

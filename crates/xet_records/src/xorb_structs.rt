@@ -2,14 +2,14 @@
 
 mod view;
 
-ghost use Rattle.std.specs.Prelude.{◌≡◌, ◌+◌, ◌*◌, ◌^◌, ◌<◌, ℕ, List, Some, ◌++◌, All, MatchResult, MatchOption, IfSome, OnOk, IfOk, IfErr, IsTrue, ◌↔◌};
+ghost use Rattle.std.specs.Prelude.{◌≡◌, ◌+◌, ◌*◌, ◌^◌, ◌<◌, ℕ, List, Some, ◌++◌, All, MatchResult, IfSome, OnOk, IfOk, IfErr, IsTrue, ◌↔◌};
 ghost use Rattle.std.specs.Io.KnownBytes.{Appends, Consumes};
 ghost use Rattle.xet_base.specs.Hash.{all_ones};
 ghost use Rattle.xet_base.specs.Errors.{IsEndOfInput, IsDeviceError};
 ghost use Rattle.xet_records.specs.XorbRow.{xorb_header_row, chunk_row, FitsXorbHeader, FitsChunk, with_mark, IsEligibleChunk};
 ghost use Rattle.xet_records.specs.XorbRecord.{xorb_bookend, xorb_row_count, xorb_record_bytes, end_of_chunk, boundaries, HasItsChunks, IsStoredXorb, xorb_records};
 ghost use Rattle.xet_records.specs.Rows.{WritesRow, ReadsWhole, LacksRow};
-ghost use Rattle.xet_records.specs.Reading.{ReadsBookend, ReadsRecord, IsCutShort};
+ghost use Rattle.xet_records.specs.Reading.{ReadsOne, IsCutShort};
 
 use crate::file_structs::MDB_FILE_INFO_ENTRY_SIZE;
 use crate::input_rows;
@@ -287,11 +287,7 @@ impl MDBXorbInfo {
     /// with `OutOfMemory`.
     pub fn deserialize<R: Read>(alloc: Global, reader: &mut R) -> Result<Option<Self>>
         ensures found { IfOk result
-            (λ found. MatchOption found
-            (ReadsBookend xorb_records
-            (Consumes (R.remaining reader.old) (R.remaining reader.new)))
-            (ReadsRecord xorb_records
-            (Consumes (R.remaining reader.old) (R.remaining reader.new)))) }
+            (ReadsOne xorb_records (Consumes (R.remaining reader.old) (R.remaining reader.new))) }
         ensures end { IfErr result
             (λ e. IsEndOfInput e → IfSome (R.remaining reader.old) (IsCutShort xorb_records)) }
         ensures causes { IfErr result IsDeviceError }

@@ -6,7 +6,12 @@ use Rattle.xet_base.specs.declared.error.CoreError.{CoreError}
 use Rattle.xet_base.specs.Errors.{CoreResult}
 use Rattle.xet_base.specs.Source.{Source, Takes, FailedBy, ReadCase, advanced, moved, bytes_left}
 use Rattle.xet_base.specs.Table.{IsBareInvalidShard}
+use Rattle.xet_records.specs.declared.file_structs.MDBFileInfo.{MDBFileInfo}
+use Rattle.xet_records.specs.declared.xorb_structs.MDBXorbInfo.{MDBXorbInfo}
 use Rattle.xet_records.specs.RecordKind.{RecordKind}
+use Rattle.xet_records.specs.FileRecord.{file_records}
+use Rattle.xet_records.specs.XorbRecord.{xorb_records}
+use Rattle.xet_shards.specs.declared.shard_format.info.MDBShardInfo.{MDBShardInfo}
 use Rattle.xet_records.specs.Reading.{CountsRecord, ReadsNextRecord, BeginsWithHeader}
 pub use Rattle.xet_records.specs.Reading.{BeginsWithBookend, PassesLimit, EndsEarly}
 
@@ -106,3 +111,14 @@ abbrev pub ReadsAll : {H R Z : Type 0} → RecordKind H R → Source → Source 
     → Type 0
 ReadsAll K old new at result =
     MatchResult result (λ found. ReadsSection K old new at found.items) (SectionFails K old new at)
+
+-- the same of the file section and of the xorb section that a footer names
+abbrev pub ReadsFiles : {Z : Type 0} → MDBShardInfo → Source → Source
+    → CoreResult (Vec MDBFileInfo Z) → Type 0
+ReadsFiles info old new result =
+    ReadsAll file_records old new info.metadata.file_info_offset result
+
+abbrev pub ReadsXorbs : {Z : Type 0} → MDBShardInfo → Source → Source
+    → CoreResult (Vec MDBXorbInfo Z) → Type 0
+ReadsXorbs info old new result =
+    ReadsAll xorb_records old new info.metadata.xorb_info_offset result

@@ -20,3 +20,10 @@ abbrev pub ReadsBack : {T Z : Type 0} → List T → Source → Source → CoreR
 ReadsBack items old new result =
     MatchResult result (λ found. found.items ≡ items)
     (λ e. DeviceFailure old new e ⊎ (e ≡ OutOfMemory))
+
+-- on the bytes of a shard, these items of it were read
+abbrev pub ReadsOfShard : {T Z : Type 0} → (Shard → List T) → Source → Source → MDBShardInfo
+    → CoreResult (Vec T Z) → Type 0
+ReadsOfShard items old new info result =
+    (s : Shard) → (expiry : Option ℕ) → IsWritten s expiry old.bytes info
+    → ReadsBack (items s) old new result

@@ -2,6 +2,7 @@
 use Rattle.std.specs.Prelude.{◌≡◌, ◌⊎◌, ℕ, ◌<◌, List, map, Option, Some, IsSome, option_map, T}
 use Rattle.std.specs.FinMap.{is_sorted, from_sorted, from_entries}
 use Rattle.std.specs.HashMap as hash_map
+use Rattle.std.specs.Map.{values_of}
 use Rattle.std.specs.declared.rc.Rc.{Rc}
 use Rattle.xet_base.specs.declared.merklehash.DataHash.{DataHash}
 use Rattle.xet_base.specs.Hash.{hash_cmp, hash_eq}
@@ -14,6 +15,10 @@ use Rattle.xet_shards.specs.ChunkLookup.{ChunkLocation, XorbsWithLookup, IsChunk
 abbrev pub shown_xorbs : {Z : Type 0} → List (DataHash × Rc MDBXorbInfo Z)
     → List (DataHash × MDBXorbInfo)
 shown_xorbs es = map (λ e. (e.0, e.1.value)) es
+
+-- the xorbs alone
+abbrev pub xorbs_of : {Z : Type 0} → List (DataHash × Rc MDBXorbInfo Z) → List MDBXorbInfo
+xorbs_of es = values_of (shown_xorbs es)
 
 abbrev pub shown_location : {Z : Type 0} → (Rc MDBXorbInfo Z × ℕ) → ChunkLocation
 shown_location p = (p.0.value, p.1)

@@ -45,9 +45,9 @@ pub fn process_shard_xorb_info_section<R: Read, F: FnMut(MDBXorbInfoView) -> Res
     callback: &mut F,
 ) -> Result<()>
     requires { F.IsAlwaysCallable callback.old }
+    ensures callable { F.IsAlwaysCallable callback.new }
     ensures calls { Processes xorb_records F.step (R.remaining reader.old) (R.remaining reader.new)
         callback.old callback.new result }
-    ensures callable { F.IsAlwaysCallable callback.new }
 {
     process_section::<MDBXorbInfo, MDBXorbInfoView, OfReader, R, F>(alloc, reader, callback)
 }

@@ -1,9 +1,10 @@
 //! Making buffers, from shards and from other buffers.
 
-ghost use Rattle.std.specs.Prelude.{◌≡◌, ◌⊎◌, ◌↔◌, IfOk, OnOk, OnErr, IfErr, IsErrOf, IsErrAnd, IsSome, IsNone, Some};
+ghost use Rattle.std.specs.Prelude.{◌≡◌, ◌⊎◌, ◌↔◌, IfOk, OnOk, OnErr, IfErr, IsErrOf, IsErrAnd, Some};
 ghost use Rattle.std.specs.BTreeMap.{get_by_text, IsUnchanged};
 ghost use Rattle.std.specs.Option.{option_map};
 ghost use Rattle.shardtool.specs.Ends.{IsRefused};
+ghost use Rattle.shardtool.specs.Naming.{IsKnown, IsUnknown};
 ghost use Rattle.shardtool.specs.Merging.{bytes_under, HasUnknown, StopsAtUnknown};
 
 use super::Workspace;
@@ -25,9 +26,8 @@ impl Workspace {
         buffer: &str,
         expiry: Option<u64>,
     ) -> Result<(), Stop>
-        ensures unknown { IsErrOf result Stop.Unreadable
-            ↔ IsNone (get_by_text self.old.shards shard.now) }
-        ensures made { OnOk result (IsSome (get_by_text self.new.buffers buffer.now)) }
+        ensures unknown { IsErrOf result Stop.Unreadable ↔ IsUnknown self.old.shards shard.now }
+        ensures made { OnOk result (IsKnown self.new.buffers buffer.now) }
         ensures err { OnErr result (IsUnchanged self.old.buffers self.new.buffers) }
         ensures shards { self.new.shards ≡ self.old.shards }
     {
@@ -48,9 +48,9 @@ impl Workspace {
         buffer: &str,
     ) -> Result<(), Stop>
         ensures unknown { IsErrOf result Stop.Unreadable
-            ↔ (IsNone (get_by_text self.old.buffers first.now)
-            ⊎ IsNone (get_by_text self.old.buffers second.now)) }
-        ensures made { OnOk result (IsSome (get_by_text self.new.buffers buffer.now)) }
+            ↔ (IsUnknown self.old.buffers first.now
+            ⊎ IsUnknown self.old.buffers second.now) }
+        ensures made { OnOk result (IsKnown self.new.buffers buffer.now) }
         ensures err { OnErr result (IsUnchanged self.old.buffers self.new.buffers) }
         ensures shards { self.new.shards ≡ self.old.shards }
     {
@@ -73,7 +73,7 @@ impl Workspace {
             → HasUnknown (bytes_under self.old.buffers) tree.now }
         ensures unknown { HasUnknown (bytes_under self.old.buffers) tree.now
             → IsErrAnd result StopsAtUnknown }
-        ensures made { OnOk result (IsSome (get_by_text self.new.buffers buffer.now)) }
+        ensures made { OnOk result (IsKnown self.new.buffers buffer.now) }
         ensures err { OnErr result (IsUnchanged self.old.buffers self.new.buffers) }
         ensures shards { self.new.shards ≡ self.old.shards }
     {
@@ -88,9 +88,8 @@ impl Workspace {
         buffer: &str,
         export: &Export,
     ) -> Result<(), Stop>
-        ensures unknown { IsErrOf result Stop.Unreadable
-            ↔ IsNone (get_by_text self.old.buffers from.now) }
-        ensures made { OnOk result (IsSome (get_by_text self.new.buffers buffer.now)) }
+        ensures unknown { IsErrOf result Stop.Unreadable ↔ IsUnknown self.old.buffers from.now }
+        ensures made { OnOk result (IsKnown self.new.buffers buffer.now) }
         ensures err { OnErr result (IsUnchanged self.old.buffers self.new.buffers) }
         ensures shards { self.new.shards ≡ self.old.shards }
     {
@@ -106,9 +105,8 @@ impl Workspace {
         now: u64,
         with_verification: bool,
     ) -> Result<(), Stop>
-        ensures unknown { IsErrOf result Stop.Unreadable
-            ↔ IsNone (get_by_text self.old.buffers from.now) }
-        ensures made { OnOk result (IsSome (get_by_text self.new.buffers buffer.now)) }
+        ensures unknown { IsErrOf result Stop.Unreadable ↔ IsUnknown self.old.buffers from.now }
+        ensures made { OnOk result (IsKnown self.new.buffers buffer.now) }
         ensures err { OnErr result (IsUnchanged self.old.buffers self.new.buffers) }
         ensures shards { self.new.shards ≡ self.old.shards }
     {
@@ -123,11 +121,10 @@ impl Workspace {
         buffer: &str,
         subset: &Subset,
     ) -> Result<(), Stop>
-        ensures unknown { IsErrOf result Stop.Unreadable
-            ↔ IsNone (get_by_text self.old.buffers from.now) }
-        ensures made { OnOk result (IsSome (get_by_text self.new.buffers buffer.now)) }
+        ensures made { OnOk result (IsKnown self.new.buffers buffer.now) }
         ensures err { OnErr result (IsUnchanged self.old.buffers self.new.buffers) }
         ensures shards { self.new.shards ≡ self.old.shards }
+        ensures unknown { IsErrOf result Stop.Unreadable ↔ IsUnknown self.old.buffers from.now }
     {
         let bytes = subset_bytes(alloc, self.bytes_of(from)?, subset)?;
         self.keep(alloc, buffer, bytes)
@@ -148,8 +145,7 @@ impl Workspace {
     }
 
     pub(super) fn bytes_of(&self, buffer: &str) -> Result<&[u8], Stop>
-        ensures unknown { IsErrOf result Stop.Unreadable ↔ IsNone
-            (get_by_text self.now.buffers buffer.now) }
+        ensures unknown { IsErrOf result Stop.Unreadable ↔ IsUnknown self.now.buffers buffer.now }
         ensures causes { IfErr result (λ e. e ≡ Stop.Unreadable) }
         ensures found { IfOk result
             (λ bytes. option_map (λ b. b.items) (get_by_text self.now.buffers buffer.now)

@@ -1,7 +1,7 @@
 //! The commands that print.
 
-ghost use Rattle.std.specs.Prelude.{◌↔◌, IsErrOf, IsNone};
-ghost use Rattle.std.specs.BTreeMap.{get_by_text};
+ghost use Rattle.std.specs.Prelude.{◌↔◌, IsErrOf};
+ghost use Rattle.shardtool.specs.Naming.{IsUnknown};
 
 use super::Workspace;
 use crate::find::find_file;
@@ -23,7 +23,7 @@ impl Workspace {
         output: &mut W,
     ) -> Result<(), Stop>
         ensures { IsErrOf result Stop.Unreadable
-            ↔ IsNone (get_by_text self.now.buffers buffer.now) }
+            ↔ IsUnknown self.now.buffers buffer.now }
     {
         match find_file(alloc, self.bytes_of(buffer)?, &hash)? {
             Some(file) => print_file(&file, output)?,
@@ -40,7 +40,7 @@ impl Workspace {
         output: &mut W,
     ) -> Result<(), Stop>
         ensures { IsErrOf result Stop.Unreadable
-            ↔ IsNone (get_by_text self.now.buffers buffer.now) }
+            ↔ IsUnknown self.now.buffers buffer.now }
     {
         match query_chunks(alloc, self.bytes_of(buffer)?, hashes)? {
             Some((count, segment)) => print_run(count, &segment, output)?,
@@ -56,7 +56,7 @@ impl Workspace {
         output: &mut W,
     ) -> Result<(), Stop>
         ensures { IsErrOf result Stop.Unreadable
-            ↔ IsNone (get_by_text self.now.buffers buffer.now) }
+            ↔ IsUnknown self.now.buffers buffer.now }
     {
         let hashes = eligible_chunks(alloc, self.bytes_of(buffer)?)?;
         for hash in hashes.as_slice() {
@@ -67,7 +67,7 @@ impl Workspace {
 
     pub(super) fn print_size<W: Write>(&self, buffer: &str, output: &mut W) -> Result<(), Stop>
         ensures { IsErrOf result Stop.Unreadable
-            ↔ IsNone (get_by_text self.now.buffers buffer.now) }
+            ↔ IsUnknown self.now.buffers buffer.now }
     {
         let size = self.bytes_of(buffer)?.len();
         writeln!(output, "{size}")?;

@@ -1,7 +1,8 @@
 //! Making shards, and adding records to them.
 
-ghost use Rattle.std.specs.Prelude.{◌≡◌, ◌↔◌, OnOk, OnErr, IfErr, IsErrOf, IsSome, IsNone};
-ghost use Rattle.std.specs.BTreeMap.{get_by_text, IsUnchanged};
+ghost use Rattle.std.specs.Prelude.{◌≡◌, ◌↔◌, OnOk, OnErr, IfErr, IsErrOf};
+ghost use Rattle.std.specs.BTreeMap.{IsUnchanged};
+ghost use Rattle.shardtool.specs.Naming.{IsKnown, IsUnknown};
 ghost use Rattle.shardtool.specs.Ends.{IsRefused};
 
 use super::Workspace;
@@ -18,7 +19,7 @@ use xet_core_structures::xorb_structs::{
 
 impl Workspace {
     pub(super) fn make_shard(&mut self, alloc: Global, name: &str) -> Result<(), Stop>
-        ensures made { OnOk result (IsSome (get_by_text self.new.shards name.now)) }
+        ensures made { OnOk result (IsKnown self.new.shards name.now) }
         ensures err { OnErr result (IsUnchanged self.old.shards self.new.shards) }
         ensures causes { IfErr result IsRefused }
         ensures buffers { self.new.buffers ≡ self.old.buffers }
@@ -34,8 +35,7 @@ impl Workspace {
         shard: &str,
         xorb: XorbLine,
     ) -> Result<(), Stop>
-        ensures unknown { IsErrOf result Stop.Unreadable
-            ↔ IsNone (get_by_text self.old.shards shard.now) }
+        ensures unknown { IsErrOf result Stop.Unreadable ↔ IsUnknown self.old.shards shard.now }
         ensures buffers { self.new.buffers ≡ self.old.buffers }
     {
         let Some(shard) = self.shards.get_mut(shard) else {
@@ -47,8 +47,7 @@ impl Workspace {
     }
 
     pub(super) fn add_file(&mut self, alloc: Global, name: &str, file: FileLine) -> Result<(), Stop>
-        ensures unknown { IsErrOf result Stop.Unreadable
-            ↔ IsNone (get_by_text self.old.shards name.now) }
+        ensures unknown { IsErrOf result Stop.Unreadable ↔ IsUnknown self.old.shards name.now }
         ensures buffers { self.new.buffers ≡ self.old.buffers }
     {
         let Some(shard) = self.shards.get_mut(name) else {

@@ -7,11 +7,11 @@ ghost use Rattle.xet_base.specs.Errors.{IsDeviceError};
 ghost use Rattle.xet_base.specs.Table.{IsBareInvalidShard};
 ghost use Rattle.xet_shards.specs.Shard.{Shard, IsShard};
 ghost use Rattle.xet_shards.specs.Layout.{layout, info_value, header_tag, shard_header_bytes, shard_footer_bytes};
-ghost use Rattle.xet_shards.specs.WrittenShard.{IsWritten, ReadsBack};
+ghost use Rattle.xet_shards.specs.WrittenShard.{IsWritten, ReadsBack, ReadsOfShard};
 ghost use Rattle.xet_base.specs.Source.{Takes, DeviceFailure};
 ghost use Rattle.xet_records.specs.FileRecord.{file_records};
 ghost use Rattle.xet_records.specs.XorbRecord.{xorb_records};
-ghost use Rattle.xet_shards.specs.SectionReading.{ReadsAll, SectionFails};
+ghost use Rattle.xet_shards.specs.SectionReading.{ReadsFiles, ReadsXorbs, SectionFails};
 ghost use Rattle.xet_shards.specs.XorbHeaders.{xorb_headers, ReadsXorbHeaders};
 ghost use Rattle.xet_shards.specs.Ends.{HasEnds, HasUnsupportedHeader, EndsInHeader, HasUnsupportedFooter, EndsInFooter, FitsFooter, PartFails, Loads, LoadFails};
 
@@ -112,12 +112,9 @@ impl MDBShardInfo {
         alloc: Global,
         source: &mut S,
     ) -> Result<Vec<MDBFileInfo>>
-        ensures read { ReadsAll file_records (S.meaning source.old) (S.meaning source.new)
-            self.now.metadata.file_info_offset result }
-        ensures written { (s : Shard) → (expiry : Option ℕ)
-            → IsWritten s expiry (S.meaning source.old).bytes self.now
-            → ReadsBack (finite.values s.files) (S.meaning source.old) (S.meaning source.new)
-            result }
+        ensures read { ReadsFiles self.now (S.meaning source.old) (S.meaning source.new) result }
+        ensures written { ReadsOfShard (λ s. finite.values s.files) (S.meaning source.old)
+            (S.meaning source.new) self.now result }
     {
         read_section_at(alloc, source, self.metadata.file_info_offset)
     }
@@ -156,12 +153,9 @@ impl MDBShardInfo {
         alloc: Global,
         source: &mut S,
     ) -> Result<Vec<MDBXorbInfo>>
-        ensures read { ReadsAll xorb_records (S.meaning source.old) (S.meaning source.new)
-            self.now.metadata.xorb_info_offset result }
-        ensures written { (s : Shard) → (expiry : Option ℕ)
-            → IsWritten s expiry (S.meaning source.old).bytes self.now
-            → ReadsBack (finite.values s.xorbs) (S.meaning source.old) (S.meaning source.new)
-            result }
+        ensures read { ReadsXorbs self.now (S.meaning source.old) (S.meaning source.new) result }
+        ensures written { ReadsOfShard (λ s. finite.values s.xorbs) (S.meaning source.old)
+            (S.meaning source.new) self.now result }
     {
         read_section_at(alloc, source, self.metadata.xorb_info_offset)
     }

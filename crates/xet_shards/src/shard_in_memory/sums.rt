@@ -1,13 +1,12 @@
 //! Sums over the files and the xorbs of a shard: their rows and their sizes.
 
 ghost use Rattle.std.specs.Prelude.{◌≡◌, ◌≤◌, sum_by};
-ghost use Rattle.std.specs.Map.{values_of};
 ghost use Rattle.std.specs.BTreeMap.{values};
 ghost use Rattle.xet_records.specs.FileRecord.{file_records, size_of_file};
 ghost use Rattle.xet_records.specs.XorbRecord.{xorb_records};
 ghost use Rattle.xet_shards.specs.Section.{total_rows};
 ghost use Rattle.xet_shards.specs.Shard.{AreFiles, AreXorbs};
-ghost use Rattle.xet_shards.specs.XorbStore.{shown_xorbs};
+ghost use Rattle.xet_shards.specs.XorbStore.{shown_xorbs, xorbs_of};
 
 use std::collections::BTreeMap;
 use std::rc::Rc;
@@ -31,9 +30,8 @@ pub fn file_rows(files: &BTreeMap<MerkleHash, MDBFileInfo>) -> u64
 /// The rows of xorbs, which fit `u32`.
 pub fn xorb_rows(xorbs: &BTreeMap<MerkleHash, Rc<MDBXorbInfo>>) -> u64
     requires xorbs { AreXorbs (shown_xorbs xorbs.now.entries) }
-    requires rows { total_rows xorb_records (values_of (shown_xorbs xorbs.now.entries))
-        ≤ 4294967295 }
-    ensures { result ≡ total_rows xorb_records (values_of (shown_xorbs xorbs.now.entries)) }
+    requires rows { total_rows xorb_records (xorbs_of xorbs.now.entries) ≤ 4294967295 }
+    ensures { result ≡ total_rows xorb_records (xorbs_of xorbs.now.entries) }
 {
     let mut rows = 0;
     for xorb in xorbs.values() {
@@ -58,10 +56,8 @@ pub fn materialized_bytes(files: &BTreeMap<MerkleHash, MDBFileInfo>) -> u64
 /// The size of xorbs on disk, in bytes. Their rows fit `u32`, so the sum fits `u64`.
 pub fn stored_bytes_on_disk(xorbs: &BTreeMap<MerkleHash, Rc<MDBXorbInfo>>) -> u64
     requires xorbs { AreXorbs (shown_xorbs xorbs.now.entries) }
-    requires rows { total_rows xorb_records (values_of (shown_xorbs xorbs.now.entries))
-        ≤ 4294967295 }
-    ensures { result
-        ≡ sum_by (λ x. x.metadata.num_bytes_on_disk) (values_of (shown_xorbs xorbs.now.entries)) }
+    requires rows { total_rows xorb_records (xorbs_of xorbs.now.entries) ≤ 4294967295 }
+    ensures { result ≡ sum_by (λ x. x.metadata.num_bytes_on_disk) (xorbs_of xorbs.now.entries) }
 {
     let mut bytes = 0;
     for xorb in xorbs.values() {
@@ -73,10 +69,8 @@ pub fn stored_bytes_on_disk(xorbs: &BTreeMap<MerkleHash, Rc<MDBXorbInfo>>) -> u6
 /// The unpacked size of xorbs, in bytes. Their rows fit `u32`, so the sum fits `u64`.
 pub fn stored_bytes(xorbs: &BTreeMap<MerkleHash, Rc<MDBXorbInfo>>) -> u64
     requires xorbs { AreXorbs (shown_xorbs xorbs.now.entries) }
-    requires rows { total_rows xorb_records (values_of (shown_xorbs xorbs.now.entries))
-        ≤ 4294967295 }
-    ensures { result
-        ≡ sum_by (λ x. x.metadata.num_bytes_in_xorb) (values_of (shown_xorbs xorbs.now.entries)) }
+    requires rows { total_rows xorb_records (xorbs_of xorbs.now.entries) ≤ 4294967295 }
+    ensures { result ≡ sum_by (λ x. x.metadata.num_bytes_in_xorb) (xorbs_of xorbs.now.entries) }
 {
     let mut bytes = 0;
     for xorb in xorbs.values() {
