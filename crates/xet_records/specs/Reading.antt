@@ -47,8 +47,8 @@ pub record ReadsRecord {H R : Type 0} (K : RecordKind H R) (Took : List ℕ → 
   pub handed : K.handed_out stored ≡ found
 
 -- a record was read, or a bookend
-abbrev pub ReadsOne : {H R : Type 0} → RecordKind H R → (List ℕ → Type 0) → Option R → Type 0
-ReadsOne K Took found = MatchOption found (ReadsBookend K Took) (ReadsRecord K Took)
+abbrev pub ReadsOrEnds : {H R : Type 0} → RecordKind H R → (List ℕ → Type 0) → Option R → Type 0
+ReadsOrEnds K Took found = MatchOption found (ReadsBookend K Took) (ReadsRecord K Took)
 
 -- the same, and its rows counted down from those that were left
 pub record CountsRecord {H R : Type 0} (K : RecordKind H R) (Took : List ℕ → Type 0)

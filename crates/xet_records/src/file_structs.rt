@@ -8,7 +8,7 @@ ghost use Rattle.std.specs.Prelude.{◌≡◌, ℕ, List, Some, ◌++◌, ◌*�
 ghost use Rattle.std.specs.Io.KnownBytes.{Appends, Consumes};
 ghost use Rattle.xet_records.specs.FileRecord.{has_verification, has_metadata_ext, rows_after, row_count, file_record_bytes, size_of_file, FitsItsHeader, IsStored, handed_out, file_records};
 ghost use Rattle.xet_records.specs.Merging.{IsSameFile, merged};
-ghost use Rattle.xet_records.specs.Reading.{ReadsOne, ReadsRowsAfter, IsCutShort, HasTooManyRows};
+ghost use Rattle.xet_records.specs.Reading.{ReadsOrEnds, ReadsRowsAfter, IsCutShort, HasTooManyRows};
 ghost use Rattle.xet_base.specs.Table.{IsBareInvalidShard};
 ghost use Rattle.xet_base.specs.Errors.{IsEndOfInput, IsDeviceError, IsInvalidShard};
 
@@ -108,7 +108,7 @@ impl MDBFileInfo {
     /// `InvalidShard` if these rows pass 4294967295. May fail with `OutOfMemory`.
     pub fn deserialize<R: Read>(alloc: Global, reader: &mut R) -> Result<Option<Self>>
         ensures found { IfOk result
-            (ReadsOne file_records (Consumes (R.remaining reader.old) (R.remaining reader.new))) }
+            (ReadsOrEnds file_records (Consumes (R.remaining reader.old) (R.remaining reader.new))) }
         ensures end { IfErr result
             (λ e. IsEndOfInput e → IfSome (R.remaining reader.old) (IsCutShort file_records)) }
         ensures invalid { IfErr result

@@ -9,7 +9,7 @@ ghost use Rattle.xet_base.specs.Errors.{IsEndOfInput, IsDeviceError};
 ghost use Rattle.xet_records.specs.XorbRow.{xorb_header_row, chunk_row, FitsXorbHeader, FitsChunk, with_mark, IsEligibleChunk};
 ghost use Rattle.xet_records.specs.XorbRecord.{xorb_bookend, xorb_row_count, xorb_record_bytes, end_of_chunk, boundaries, HasItsChunks, IsStoredXorb, xorb_records};
 ghost use Rattle.xet_records.specs.Rows.{WritesRow, ReadsWhole, LacksRow};
-ghost use Rattle.xet_records.specs.Reading.{ReadsOne, IsCutShort};
+ghost use Rattle.xet_records.specs.Reading.{ReadsOrEnds, IsCutShort};
 
 use crate::file_structs::MDB_FILE_INFO_ENTRY_SIZE;
 use crate::input_rows;
@@ -287,7 +287,7 @@ impl MDBXorbInfo {
     /// with `OutOfMemory`.
     pub fn deserialize<R: Read>(alloc: Global, reader: &mut R) -> Result<Option<Self>>
         ensures found { IfOk result
-            (ReadsOne xorb_records (Consumes (R.remaining reader.old) (R.remaining reader.new))) }
+            (ReadsOrEnds xorb_records (Consumes (R.remaining reader.old) (R.remaining reader.new))) }
         ensures end { IfErr result
             (λ e. IsEndOfInput e → IfSome (R.remaining reader.old) (IsCutShort xorb_records)) }
         ensures causes { IfErr result IsDeviceError }
