@@ -25,19 +25,13 @@ pub fn ask_views(
 ) -> Result<bool, Stop> {
     match words {
         ["file_view", name, call @ ..] => {
-            let view = file_view(workspace, alloc, name)?;
-            ask_file_view(&view, alloc, call, out)?;
+            ask_file_view(&file_view(workspace, alloc, name)?, alloc, call, out)?
         }
         ["file_view_under", name, record @ ..] => {
-            let header = parse_file(alloc, record)?.metadata;
-            let bytes = bytes_of(workspace, alloc, name)?;
-            let view = MDBFileInfoView::from_data_and_header(alloc, header, bytes)?;
-            print_file_view(&view, out)?;
+            print_file_view_under(workspace, alloc, name, record, out)?
         }
         ["same_file_views", first, second] => {
-            let first = file_view(workspace, alloc, first)?;
-            let is_same = first == file_view(workspace, alloc, second)?;
-            writeln!(out, "{is_same}")?;
+            compare_file_views(workspace, alloc, first, second, out)?
         }
         _ => return ask_xorb_views(workspace, alloc, words, out),
     }
@@ -52,19 +46,13 @@ fn ask_xorb_views(
 ) -> Result<bool, Stop> {
     match words {
         ["xorb_view", name, call @ ..] => {
-            let view = xorb_view(workspace, alloc, name)?;
-            ask_xorb_view(&view, alloc, call, out)?;
+            ask_xorb_view(&xorb_view(workspace, alloc, name)?, alloc, call, out)?
         }
         ["xorb_view_under", name, record @ ..] => {
-            let header = parse_xorb(alloc, record)?.metadata;
-            let bytes = bytes_of(workspace, alloc, name)?;
-            let view = MDBXorbInfoView::from_data_and_header(header, bytes)?;
-            print_xorb_view(&view, out)?;
+            print_xorb_view_under(workspace, alloc, name, record, out)?
         }
         ["same_xorb_views", first, second] => {
-            let first = xorb_view(workspace, alloc, first)?;
-            let is_same = first == xorb_view(workspace, alloc, second)?;
-            writeln!(out, "{is_same}")?;
+            compare_xorb_views(workspace, alloc, first, second, out)?
         }
         _ => return Ok(false),
     }
@@ -82,6 +70,56 @@ fn file_view(workspace: &Workspace, alloc: Global, name: &str) -> Result<MDBFile
 
 fn xorb_view(workspace: &Workspace, alloc: Global, name: &str) -> Result<MDBXorbInfoView, Stop> {
     Ok(MDBXorbInfoView::new(bytes_of(workspace, alloc, name)?)?)
+}
+
+fn print_file_view_under(
+    workspace: &Workspace,
+    alloc: Global,
+    name: &str,
+    record: &[&str],
+    out: &mut Vec<u8>,
+) -> Result<(), Stop> {
+    let header = parse_file(alloc, record)?.metadata;
+    let bytes = bytes_of(workspace, alloc, name)?;
+    let view = MDBFileInfoView::from_data_and_header(alloc, header, bytes)?;
+    Ok(print_file_view(&view, out)?)
+}
+
+fn print_xorb_view_under(
+    workspace: &Workspace,
+    alloc: Global,
+    name: &str,
+    record: &[&str],
+    out: &mut Vec<u8>,
+) -> Result<(), Stop> {
+    let header = parse_xorb(alloc, record)?.metadata;
+    let bytes = bytes_of(workspace, alloc, name)?;
+    let view = MDBXorbInfoView::from_data_and_header(header, bytes)?;
+    Ok(print_xorb_view(&view, out)?)
+}
+
+fn compare_file_views(
+    workspace: &Workspace,
+    alloc: Global,
+    first: &str,
+    second: &str,
+    out: &mut Vec<u8>,
+) -> Result<(), Stop> {
+    let first = file_view(workspace, alloc, first)?;
+    let is_same = first == file_view(workspace, alloc, second)?;
+    Ok(writeln!(out, "{is_same}")?)
+}
+
+fn compare_xorb_views(
+    workspace: &Workspace,
+    alloc: Global,
+    first: &str,
+    second: &str,
+    out: &mut Vec<u8>,
+) -> Result<(), Stop> {
+    let first = xorb_view(workspace, alloc, first)?;
+    let is_same = first == xorb_view(workspace, alloc, second)?;
+    Ok(writeln!(out, "{is_same}")?)
 }
 
 // Prints the result of a call on a view, or what its header says if no call is named.
