@@ -1,6 +1,6 @@
 //! Queries for runs of chunks on the bytes of a shard.
 
-ghost use Rattle.std.specs.Prelude.{◌≡◌, ◌⊎◌, true, ℕ, List, [], All, Option, None, map, MatchResult, OnOk, IfOk, IfErr};
+ghost use Rattle.std.specs.Prelude.{◌≡◌, ◌≢◌, ◌⊎◌, true, ℕ, List, [], All, Option, None, Ok, map, MatchResult, OnOk, IfOk, IfErr};
 ghost use Rattle.std.specs.FinMap as finite;
 ghost use Rattle.xet_base.specs.KeyedHash.{no_key};
 ghost use Rattle.xet_base.specs.Source.{DeviceFailure};
@@ -46,6 +46,8 @@ impl MDBShardInfo {
             (AnswerAt self.now.metadata.chunk_hash_hmac_key unkeyed_query_hashes.now
             (S.meaning source.old).bytes self.now.metadata.xorb_info_offset xorb_row
             chunk_index) }
+        ensures nothing { unkeyed_query_hashes.now ≡ []
+            → (result ≡ Ok None) × (S.meaning source.new ≡ S.meaning source.old) }
         ensures refused { IfErr result
             (RefusedAt (λ e. e ≡ CoreError.InvalidArguments) self.now.metadata.chunk_hash_hmac_key
             unkeyed_query_hashes.now self.now.metadata.xorb_info_offset xorb_row chunk_index
@@ -57,18 +59,21 @@ impl MDBShardInfo {
             → IsInForm files xorbs form (S.meaning source.old).bytes self.now.metadata
             → StartsAt xorb_records xorbs xorb_row xorb → IsXorb xorb
             → MatchResult result (RunInXorb form.key unkeyed_query_hashes.now xorb chunk_index)
-            (NoRunInXorb xorb chunk_index (S.meaning source.old) (S.meaning source.new)) }
+            (NoRunInXorb unkeyed_query_hashes.now xorb chunk_index (S.meaning source.old)
+            (S.meaning source.new)) }
         ensures bookend { (files : List File) → (xorbs : List Xorb) → (form : Form)
             → IsInForm files xorbs form (S.meaning source.old).bytes self.now.metadata
             → xorb_row ≡ total_rows xorb_records xorbs
             → MatchResult result (λ answer. (unkeyed_query_hashes.now ≡ []) × (answer ≡ None))
-            (λ e. DeviceFailure (S.meaning source.old) (S.meaning source.new) e
-            ⊎ (e ≡ CoreError.InvalidArguments)) }
+            (λ e. (unkeyed_query_hashes.now ≢ [])
+            × (DeviceFailure (S.meaning source.old) (S.meaning source.new) e
+            ⊎ (e ≡ CoreError.InvalidArguments))) }
         ensures written { (s : Shard) → (expiry : Option ℕ) → (xorb : Xorb)
             → IsWritten s expiry (S.meaning source.old).bytes self.now
             → StartsAt xorb_records (finite.values s.xorbs) xorb_row xorb
             → MatchResult result (RunInXorb no_key unkeyed_query_hashes.now xorb chunk_index)
-            (NoRunInXorb xorb chunk_index (S.meaning source.old) (S.meaning source.new)) }
+            (NoRunInXorb unkeyed_query_hashes.now xorb chunk_index (S.meaning source.old)
+            (S.meaning source.new)) }
     {
         let absent = CoreError::InvalidArguments;
         self.run_at_location(
@@ -101,6 +106,9 @@ impl MDBShardInfo {
             (S.meaning source.new))
             (QueryRefused self.now.metadata unkeyed_query_hashes.now (S.meaning source.old)
             (S.meaning source.new)) }
+        ensures nothing { (unkeyed_query_hashes.now ≡ [])
+            ⊎ (self.now.metadata.chunk_lookup_num_entry ≡ 0)
+            → (result ≡ Ok None) × (S.meaning source.new ≡ S.meaning source.old) }
         ensures serves { OnOk result (Serves (S.meaning source.old) (S.meaning source.new)) }
         ensures in_form { (files : List File) → (xorbs : List Xorb) → (form : Form)
             → IsInForm files xorbs form (S.meaning source.old).bytes self.now.metadata
@@ -202,6 +210,8 @@ impl MDBShardInfo {
             (AnswerAt self.now.metadata.chunk_hash_hmac_key query_hashes.now
             (S.meaning source.old).bytes self.now.metadata.xorb_info_offset xorb_row
             chunk_index) }
+        ensures nothing { query_hashes.now ≡ []
+            → (result ≡ Ok None) × (S.meaning source.new ≡ S.meaning source.old) }
         ensures refused { IfErr result
             (RefusedAt (λ e. e ≡ absent) self.now.metadata.chunk_hash_hmac_key query_hashes.now
             self.now.metadata.xorb_info_offset xorb_row chunk_index (S.meaning source.old)
