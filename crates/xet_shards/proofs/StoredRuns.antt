@@ -115,7 +115,7 @@ module _ (x : MDBXorbInfo) (stored : IsStoredXorb x) (offset row : ℕ) (old : S
           omega (arith, few, past, bytes_within (omega (arith, within, stored.count)) cs after there)
 
       within_not_cut : index < x.metadata.num_entries → ¬ RunIsCut key qs left (chunks_at old.bytes offset row index)
-      within_not_cut within (cs, after, there, all, more_hashes, more, short) =
+      within_not_cut within (cs, after, there, all, fit, more_hashes, more, short) =
           let at : index ≤ length x.chunks = omega (arith, within, stored.count) in
           let next = drop (length cs) from in
           omega (

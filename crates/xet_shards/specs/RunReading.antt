@@ -55,13 +55,13 @@ RunPasses key qs left bytes =
     (chunks : List XorbChunkSequenceEntry) × (rest : List ℕ) × HasChunks left bytes chunks rest
     × (run_length key qs chunks ≡ length chunks) × (2 ^ 32 ≤ total_bytes chunks)
 
--- chunks that have the hashes, one by one, after which there are more hashes and should be more
--- chunks, but not the bytes of one
+-- chunks that have the hashes, one by one, whose bytes fit `u32`, after which there are more hashes
+-- and should be more chunks, but not the bytes of one
 abbrev pub RunIsCut : DataHash → List DataHash → ℕ → List ℕ → Type 0
 RunIsCut key qs left bytes =
     (chunks : List XorbChunkSequenceEntry) × (rest : List ℕ) × HasChunks left bytes chunks rest
-    × (run_length key qs chunks ≡ length chunks) × (length chunks < length qs)
-    × (length chunks < left) × (length rest < 48)
+    × (run_length key qs chunks ≡ length chunks) × (total_bytes chunks < 2 ^ 32)
+    × (length chunks < length qs) × (length chunks < left) × (length rest < 48)
 
 -- the bytes of a xorb from the chunk at an index on, where its header is at a row of a section
 abbrev pub chunks_at : List ℕ → ℕ → ℕ → ℕ → List ℕ
