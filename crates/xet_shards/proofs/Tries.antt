@@ -1,6 +1,6 @@
 -- Locations that are tried one after another, after a search in the chunk table.
 use Rattle.std.proofs.Common.{◌≡◌, ◌≢◌, inl, inr, Ok, Err, is_some, true, false, true≢false, ℕ, ◌+◌, ◌<◌, ◌≤◌, List, [], ◌∷◌, ◌++◌, length, take, drop, map, get_or, min, Option, None, Some, String, Global, refl, sym, ap, ◌∙◌, subst, arith}
-use Rattle.std.specs.Prelude.{string_bytes, slice_get, MatchResult, IfOk, IfErr}
+use Rattle.std.specs.Prelude.{string_bytes, slice_get, IfOk, IfErr}
 use Rattle.std.specs.declared.result.Result.{Result}
 use Rattle.std.proofs.lemmas.Option.{none-some, same_Some}
 use Rattle.std.proofs.lemmas.List.{map-append, length-append, length-map, take_more, take_all, take-map}
@@ -17,7 +17,7 @@ use Rattle.xet_records.specs.XorbRecord.{xorb_records}
 use Rattle.xet_records.proofs.RecordKinds.{xorb_laws}
 use Rattle.xet_shards.specs.declared.shard_format.footer.MDBShardFileFooter.{MDBShardFileFooter}
 use Rattle.xet_shards.specs.Lookup.{chunk_lookup_table, IsPair, Visit, Visits, VisitsSome}
-use Rattle.xet_shards.specs.RunReading.{AnswerAt, RefusedAt, PassesAt, IsCutAt, AnnouncesNoChunk, Queries, TriedAnswer, TriedRefused, QueryAnswer, QueryRefused, NoneTried}
+use Rattle.xet_shards.specs.RunReading.{AnswerAt, RefusedAt, PassesAt, IsCutAt, AnnouncesNoChunk, Queries, TriedAnswer, TriedRefused, QueryOutcome, NoneTried}
 use Rattle.xet_shards.proofs.Lookups.{serves_after, visits_more}
 
 -- an error for a location that is not there, if it is a bare `InvalidShard`
@@ -167,7 +167,7 @@ pub query_read : (footer : MDBShardFileFooter) (qs : List DataHash) (q : DataHas
     → footer.chunk_lookup_num_entry ≢ 0
     → IfOk r (λ answer. TriedAnswer footer.chunk_hash_hmac_key qs mid.bytes footer.xorb_info_offset answer (take count dest_new))
     → IfErr r (λ e. TriedRefused footer.chunk_hash_hmac_key qs footer.xorb_info_offset mid new e (take count dest_new))
-    → MatchResult r (QueryAnswer footer qs old new) (QueryRefused footer qs old new)
+    → QueryOutcome footer qs old new r
 query_read footer [] q count dest_old dest_new old mid new first finds fits most all serves bounded visits r some answered refused = absurd (none-some q (sym first))
 query_read footer (h ∷ qs) q count dest_old dest_new old mid new first finds fits most all serves bounded visits r some answered refused = go r answered refused
   where
@@ -177,7 +177,7 @@ query_read footer (h ∷ qs) q count dest_old dest_new old mid new first finds f
     go : (o : Result (Option (ℕ × FileDataSequenceEntry)) CoreError)
         → IfOk o (λ answer. TriedAnswer footer.chunk_hash_hmac_key (h ∷ qs) mid.bytes footer.xorb_info_offset answer (take count dest_new))
         → IfErr o (λ e. TriedRefused footer.chunk_hash_hmac_key (h ∷ qs) footer.xorb_info_offset mid new e (take count dest_new))
-        → MatchResult o (QueryAnswer footer (h ∷ qs) old new) (QueryRefused footer (h ∷ qs) old new)
+        → QueryOutcome footer (h ∷ qs) old new o
     go (Ok answer) found none =
         inr (
           some,

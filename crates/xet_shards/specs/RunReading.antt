@@ -1,9 +1,9 @@
 -- A run in the bytes of a xorb: what reading it from a source returns, why it fails, and what a
 -- chunk query makes of it.
-use Rattle.std.specs.Prelude.{◌≡◌, ◌≢◌, ◌⊎◌, ℕ, ◌+◌, ◌-◌, ◌^◌, ◌<◌, ◌≤◌, min, List, [], ◌∷◌, ◌++◌, length, take, drop, map, flat_map, All, AllPairs, Contains, Option, None, Some}
+use Rattle.std.specs.Prelude.{◌≡◌, ◌≢◌, ◌⊎◌, ℕ, ◌+◌, ◌-◌, ◌^◌, ◌<◌, ◌≤◌, min, List, [], ◌∷◌, ◌++◌, length, take, drop, map, flat_map, All, AllPairs, Contains, Option, None, Some, MatchResult}
 use Rattle.xet_base.specs.declared.error.CoreError.{CoreError}
 use Rattle.xet_base.specs.declared.merklehash.DataHash.{DataHash}
-use Rattle.xet_base.specs.Errors.{IsEndOfInput}
+use Rattle.xet_base.specs.Errors.{CoreResult, IsEndOfInput}
 use Rattle.xet_base.specs.KeyedHash.{under_key}
 use Rattle.xet_base.specs.Source.{Source, DeviceFailure}
 use Rattle.xet_base.specs.Table.{Table, Hit, IsHit, OtherRow, IsSorted, hits, FitsTable, Serves, Bounded, SearchRefused, IsBareInvalidShard}
@@ -178,6 +178,12 @@ QueryRefused footer (q ∷ qs) old new e =
     ⊎ Queries (chunk_lookup_table footer old) footer.xorb_info_offset
     (under_key footer.chunk_hash_hmac_key q).word0 old new
     (TriedRefused footer.chunk_hash_hmac_key (q ∷ qs) footer.xorb_info_offset old new e))
+
+-- the outcome of a query
+abbrev pub QueryOutcome : MDBShardFileFooter → List DataHash → Source → Source
+    → CoreResult (Option (ℕ × FileDataSequenceEntry)) → Type 0
+QueryOutcome footer hashes old new result =
+    MatchResult result (QueryAnswer footer hashes old new) (QueryRefused footer hashes old new)
 
 -- the locations at the front were tried, and have no run
 pub record NoneTried (key : DataHash) (qs : List DataHash) (offset : ℕ) (locations : List (ℕ × ℕ))

@@ -14,7 +14,7 @@ ghost use Rattle.xet_shards.specs.Layout.{Form};
 ghost use Rattle.xet_shards.specs.InForm.{IsInForm};
 ghost use Rattle.xet_shards.specs.Lookup.{Visit, VisitsSome};
 ghost use Rattle.xet_shards.specs.WrittenQueries.{RunInXorb, NoRunInXorb, RunAmong, QueryCosts};
-ghost use Rattle.xet_shards.specs.RunReading.{AnswerAt, RefusedAt, TriedAnswer, TriedRefused, QueryAnswer, QueryRefused};
+ghost use Rattle.xet_shards.specs.RunReading.{AnswerAt, RefusedAt, TriedAnswer, TriedRefused, QueryOutcome};
 ghost use Rattle.xet_shards.specs.WrittenShard.{IsWritten};
 
 use super::info::MDBShardInfo;
@@ -53,12 +53,16 @@ impl MDBShardInfo {
             unkeyed_query_hashes.now self.now.metadata.xorb_info_offset xorb_row chunk_index
             (S.meaning source.old) (S.meaning source.new)) }
         ensures serves { OnOk result (Serves (S.meaning source.old) (S.meaning source.new)) }
-        ensures visit { Visit xorb_records 2 self.now.metadata.xorb_info_offset xorb_row
-            (S.meaning source.old) (S.meaning source.new) }
         ensures in_form { (files : List File) → (xorbs : List Xorb) → (form : Form) → (xorb : Xorb)
             → IsInForm files xorbs form (S.meaning source.old).bytes self.now.metadata
             → StartsAt xorb_records xorbs xorb_row xorb → IsXorb xorb
             → MatchResult result (RunInXorb form.key unkeyed_query_hashes.now xorb chunk_index)
+            (NoRunInXorb unkeyed_query_hashes.now xorb chunk_index (S.meaning source.old)
+            (S.meaning source.new)) }
+        ensures written { (s : Shard) → (expiry : Option ℕ) → (xorb : Xorb)
+            → IsWritten s expiry (S.meaning source.old).bytes self.now
+            → StartsAt xorb_records (finite.values s.xorbs) xorb_row xorb
+            → MatchResult result (RunInXorb no_key unkeyed_query_hashes.now xorb chunk_index)
             (NoRunInXorb unkeyed_query_hashes.now xorb chunk_index (S.meaning source.old)
             (S.meaning source.new)) }
         ensures bookend { (files : List File) → (xorbs : List Xorb) → (form : Form)
@@ -68,12 +72,8 @@ impl MDBShardInfo {
             (λ e. (unkeyed_query_hashes.now ≢ [])
             × (DeviceFailure (S.meaning source.old) (S.meaning source.new) e
             ⊎ (e ≡ CoreError.InvalidArguments))) }
-        ensures written { (s : Shard) → (expiry : Option ℕ) → (xorb : Xorb)
-            → IsWritten s expiry (S.meaning source.old).bytes self.now
-            → StartsAt xorb_records (finite.values s.xorbs) xorb_row xorb
-            → MatchResult result (RunInXorb no_key unkeyed_query_hashes.now xorb chunk_index)
-            (NoRunInXorb unkeyed_query_hashes.now xorb chunk_index (S.meaning source.old)
-            (S.meaning source.new)) }
+        ensures visit { Visit xorb_records 2 self.now.metadata.xorb_info_offset xorb_row
+            (S.meaning source.old) (S.meaning source.new) }
     {
         let absent = CoreError::InvalidArguments;
         self.run_at_location(
@@ -101,11 +101,8 @@ impl MDBShardInfo {
         source: &mut S,
         unkeyed_query_hashes: &[MerkleHash],
     ) -> Result<Option<(usize, FileDataSequenceEntry)>>
-        ensures read { MatchResult result
-            (QueryAnswer self.now.metadata unkeyed_query_hashes.now (S.meaning source.old)
-            (S.meaning source.new))
-            (QueryRefused self.now.metadata unkeyed_query_hashes.now (S.meaning source.old)
-            (S.meaning source.new)) }
+        ensures read { QueryOutcome self.now.metadata unkeyed_query_hashes.now
+            (S.meaning source.old) (S.meaning source.new) result }
         ensures nothing { (unkeyed_query_hashes.now ≡ [])
             ⊎ (self.now.metadata.chunk_lookup_num_entry ≡ 0)
             → (result ≡ Ok None) × (S.meaning source.new ≡ S.meaning source.old) }
@@ -115,15 +112,15 @@ impl MDBShardInfo {
             → form.chunk_table ≡ true → All IsXorb xorbs
             → MatchResult result (RunAmong form.key unkeyed_query_hashes.now xorbs)
             (DeviceFailure (S.meaning source.old) (S.meaning source.new)) }
+        ensures written { (s : Shard) → (expiry : Option ℕ)
+            → IsWritten s expiry (S.meaning source.old).bytes self.now
+            → MatchResult result (RunAmong no_key unkeyed_query_hashes.now (finite.values s.xorbs))
+            (DeviceFailure (S.meaning source.old) (S.meaning source.new)) }
         ensures in_form_costs { (files : List File) → (xorbs : List Xorb) → (form : Form)
             → IsInForm files xorbs form (S.meaning source.old).bytes self.now.metadata
             → form.chunk_table ≡ true
             → QueryCosts form.key unkeyed_query_hashes.now xorbs (S.meaning source.old)
             (S.meaning source.new) }
-        ensures written { (s : Shard) → (expiry : Option ℕ)
-            → IsWritten s expiry (S.meaning source.old).bytes self.now
-            → MatchResult result (RunAmong no_key unkeyed_query_hashes.now (finite.values s.xorbs))
-            (DeviceFailure (S.meaning source.old) (S.meaning source.new)) }
         ensures costs { (s : Shard) → (expiry : Option ℕ)
             → IsWritten s expiry (S.meaning source.old).bytes self.now
             → QueryCosts no_key unkeyed_query_hashes.now (finite.values s.xorbs)
@@ -139,11 +136,8 @@ impl MDBShardInfo {
         source: &mut S,
         unkeyed_query_hashes: &[MerkleHash],
     ) -> Result<Option<(usize, FileDataSequenceEntry)>>
-        ensures read { MatchResult result
-            (QueryAnswer self.now.metadata unkeyed_query_hashes.now (S.meaning source.old)
-            (S.meaning source.new))
-            (QueryRefused self.now.metadata unkeyed_query_hashes.now (S.meaning source.old)
-            (S.meaning source.new)) }
+        ensures read { QueryOutcome self.now.metadata unkeyed_query_hashes.now
+            (S.meaning source.old) (S.meaning source.new) result }
         ensures serves { OnOk result (Serves (S.meaning source.old) (S.meaning source.new)) }
     {
         let Some(first) = unkeyed_query_hashes.first() else {
