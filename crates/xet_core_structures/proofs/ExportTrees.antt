@@ -2,6 +2,7 @@
 use Rattle.std.proofs.Common.{◌≡◌, ◌⊎◌, inl, inr, ℕ, zero, suc, ◌<◌, ◌≤◌, true, List, [], ◌∷◌, ◌++◌, ◌+◌, length, map, flat_map, get_or, drop, Option, None, Some, refl, sym, ap, ◌∙◌, subst, arith, append-nil}
 use Rattle.std.specs.Prelude.{◌↔◌, Contains, option_map}
 use Rattle.std.specs.FinMap.{FinMap, get, entries, values, get-entries}
+use Rattle.std.specs.Io.KnownBytes.{Appends}
 use Rattle.std.specs.List.{drop-map}
 use Rattle.std.proofs.lemmas.List.{length-append, append_assoc, length-map, get_or-map}
 use Rattle.std.proofs.lemmas.List.Elements.{Contains-push, Contains-append_left}
@@ -14,21 +15,24 @@ use Rattle.xet_base.specs.Bytes.{u64_bytes}
 use Rattle.xet_base.specs.Errors.{IsInvalidShard}
 use Rattle.xet_base.specs.Hash.{IsHash, hash_bytes, hash_cmp}
 use Rattle.xet_base.specs.KeyedHash.{no_key, under_key}
+use Rattle.xet_base.specs.Source.{Source, bytes_left}
 use Rattle.xet_base.proofs.Bytes.{length-u64_bytes}
 use Rattle.xet_base.proofs.HashOrder.{hash_cmp-IsTotalOrder, hash_cmp-IsAntisymmetric}
 use Rattle.xet_records.specs.declared.file_structs.rows.FileDataSequenceEntry.{FileDataSequenceEntry}
 use Rattle.xet_records.specs.declared.xorb_structs.MDBXorbInfo.{MDBXorbInfo}
 use Rattle.xet_records.specs.FileRecord.{file_records}
 use Rattle.xet_records.specs.XorbRecord.{xorb_records}
+use Rattle.xet_records.proofs.RecordKinds.{file_laws, xorb_laws}
 use Rattle.xet_shards.specs.declared.shard_format.footer.MDBShardFileFooter.{MDBShardFileFooter}
 use Rattle.xet_shards.specs.declared.shard_format.form.Form.{Form}
 use Rattle.xet_shards.specs.ChunkLookup.{ChunkLocation}
 use Rattle.xet_shards.specs.ChunkQuery.{run_at, run_length}
-use Rattle.xet_shards.specs.Layout.{layout_of, header_value, shard_header_bytes, shard_footer_bytes, offsets_of, sums_of, footer_value}
+use Rattle.xet_shards.specs.Layout.{if_in, layout_of, layout, header_value, shard_header_bytes, shard_footer_bytes, offsets_of, sums_of, footer_value}
 use Rattle.xet_shards.specs.Joins.{IsJoinOf, AgreePairwise}
-use Rattle.xet_shards.specs.KeyedExport.{exported, export_form, keyed_chunk, keyed_xorb, keyed_xorbs}
+use Rattle.xet_shards.specs.KeyedExport.{exported, Exports, export_form, xorbs_after, keyed_chunk, keyed_xorb, keyed_xorbs}
 use Rattle.xet_shards.specs.KeyedShards.{keyed_shard}
 use Rattle.xet_shards.specs.Section.{section_bytes, total_rows}
+use Rattle.xet_shards.specs.SectionReading.{IsSection}
 use Rattle.xet_shards.specs.SetOperations.{ShardsAgree, HasFewRows}
 use Rattle.xet_shards.specs.Shard.{Shard, IsShard}
 use Rattle.xet_shards.specs.Tables.{table_bytes, chunk_table_bytes}
@@ -36,6 +40,10 @@ use Rattle.xet_shards.specs.WrittenQueries.{HasChunkAt, RunAmong}
 use Rattle.xet_shards.proofs.FileUnions.{entry-holds}
 use Rattle.xet_shards.proofs.KeyedHashes.{keyed_total}
 use Rattle.xet_shards.proofs.KeyedShards.{keyed_is_shard, keyed_agree, keyed_join, exported_is, values-keyed, get-keyed, run_no_shorter}
+use Rattle.xet_shards.proofs.Layouts.{length-file_section}
+use Rattle.xet_shards.proofs.Readback.{section_of_shard, xorb_section_of_shard}
+use Rattle.xet_shards.proofs.Sections.{files_fit}
+use Rattle.xet_shards.proofs.SectionUnique.{only_list}
 use Rattle.xet_shards.proofs.Sums.{all_of_map}
 use Rattle.xet_core_structures.specs.declared.set_operations.MergePlan.{MergePlan}
 use Rattle.xet_core_structures.specs.declared.set_operations.MergePlan.TheVariants.{Leaf, Both'}
@@ -144,10 +152,46 @@ module _ (plan : MergePlan) (key : DataHash) (shard_at : ℕ → Shard) (join : 
       | inr many ↦ inr (many.0, λ few. many.1 (few_keyed few))
     ]
 
+-- an export of a shard is the layout of the shard under the key, without files where they are not asked for
+exported_in : (s : Shard) (form : Form) → exported (values s.files) (values s.xorbs) form ≡ layout_of (if_in form.file_table (values s.files)) (values (keyed_shard form.key s).xorbs) form
+exported_in s form = λ i. layout_of (if_in form.file_table (values s.files)) (sym (values-keyed form.key s) i) form
+
+-- and that is what an export of the shard's bytes writes
+module _ (s : Shard) (expiry : Option ℕ) (shard : IsShard s) (form : Form) (old new : Source) (before after : Option (List ℕ)) (n : ℕ) (are : bytes_left old ≡ layout s expiry)
+    (exports : Exports form old new before after n) where
+  files_read : exports.files ≡ values s.files
+  files_read =
+      only_list file_records file_laws (drop 48 (layout s expiry)) exports.files (values s.files)
+      (subst (λ bytes. IsSection file_records (drop 48 bytes) exports.files) are exports.file_section) (section_of_shard s expiry shard)
+
+  after_files : xorbs_after exports.files ≡ 48 + length (section_bytes file_records (values s.files))
+  after_files = ap xorbs_after files_read ∙ omega (arith, length-file_section (values s.files) (λ k r below. ((files_fit s shard).stored k r below).widths))
+
+  xorbs_read : exports.xorbs ≡ values s.xorbs
+  xorbs_read =
+      only_list xorb_records xorb_laws (drop (48 + length (section_bytes file_records (values s.files))) (layout s expiry)) exports.xorbs (values s.xorbs)
+      (subst (λ bytes. IsSection xorb_records bytes exports.xorbs) (λ i. drop (after_files i) (are i)) exports.xorb_section) (xorb_section_of_shard s expiry shard)
+
+  pub export_written : Appends before after (layout_of (if_in form.file_table (values s.files)) (values (keyed_shard form.key s).xorbs) form)
+  export_written = subst (Appends before after) ((λ i. exported (files_read i) (xorbs_read i) form) ∙ exported_in s form) exports.written
+
 -- what an option that is mapped has
 mapped_some : {X Y : Type 0} (f : X → Y) (o : Option X) (y : Y) → option_map f o ≡ Some y → (x : X) × (o ≡ Some x) × (f x ≡ y)
 mapped_some f None y is = absurd (none-some y is)
 mapped_some f (Some x) y is = (x, refl, same_Some (f x) y is)
+
+-- under a key a run is at least as long
+pub longer_under : (key : DataHash) (s : Shard) (q : DataHash) (index : ℕ) (qs : List DataHash) (run : ℕ × FileDataSequenceEntry) → run_under no_key s q index qs ≡ Some run
+    → (longer : ℕ × FileDataSequenceEntry) × (run_under key (keyed_shard key s) q index qs ≡ Some longer) × (run.0 ≤ longer.0)
+longer_under key s q index qs run is =
+    let mine = mapped_some (λ (xorb : MDBXorbInfo). run_at no_key (xorb, index) qs) (get s.xorbs q) run is in
+    let xorb = mine.0 in
+    let kept = get-keyed key s q ∙ ap (option_map (keyed_xorb key)) mine.1 in
+    let chunks = drop-map (keyed_chunk key) index xorb.chunks in (
+      run_at key (keyed_xorb key xorb, index) qs,
+      ap (option_map (λ (x : MDBXorbInfo). run_at key (x, index) qs)) kept,
+      omega (arith, run_no_shorter key qs (drop index xorb.chunks), ap (run_length key qs) chunks, ap (λ (r : ℕ × FileDataSequenceEntry). r.0) mine.2),
+    )
 
 module _ (plan : MergePlan) (shard_at : ℕ → Shard) (join : Shard) (joins : JoinsLeaves plan shard_at join) where
   -- the join has the xorbs of the leaves, and no others
@@ -195,19 +239,11 @@ module _ (plan : MergePlan) (shard_at : ℕ → Shard) (join : Shard) (joins : J
       let from = chunk_from (under_key key q) p has in
       (from.0, from.1, (p, from.2, is))
 
-  -- under a key a run is at least as long
+  -- under a key it has one at least as long
   pub longer_run : (key : DataHash) (i : ℕ) (q : DataHash) (index : ℕ) (qs : List DataHash) (run : ℕ × FileDataSequenceEntry) → Contains (leaves plan) i
       → run_under no_key (shard_at i) q index qs ≡ Some run
       → (longer : ℕ × FileDataSequenceEntry) × (run_under key (keyed_shard key join) q index qs ≡ Some longer) × (run.0 ≤ longer.0)
-  longer_run key i q index qs run member is =
-      let mine = mapped_some (λ (xorb : MDBXorbInfo). run_at no_key (xorb, index) qs) (get (shard_at i).xorbs q) run is in
-      let xorb = mine.0 in
-      let kept = get-keyed key join q ∙ ap (option_map (keyed_xorb key)) (xorb_kept i q xorb member mine.1) in
-      let chunks = drop-map (keyed_chunk key) index xorb.chunks in (
-        run_at key (keyed_xorb key xorb, index) qs,
-        ap (option_map (λ (x : MDBXorbInfo). run_at key (x, index) qs)) kept,
-        omega (arith, run_no_shorter key qs (drop index xorb.chunks), ap (run_length key qs) chunks, ap (λ (r : ℕ × FileDataSequenceEntry). r.0) mine.2),
-      )
+  longer_run key i q index qs run member is = longer_under key join q index qs run (run_kept no_key i q index qs run member is)
 
 -- two exports of one shard differ in the two timestamps of the footer alone
 module _ (s : Shard) (key : DataHash) where

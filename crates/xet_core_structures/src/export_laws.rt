@@ -3,22 +3,24 @@
 
 ghost use Rattle.std.specs.Prelude.{◌≡◌, ◌↔◌, ◌⊎◌, ◌+◌, ◌++◌, ◌≤◌, ℕ, List, length, map, Contains, Option, None, Some, true};
 ghost use Rattle.std.specs.FinMap.{get, values};
+ghost use Rattle.std.specs.Io.KnownBytes.{Appends};
 ghost use Rattle.xet_base.specs.declared.error.CoreError.{CoreError};
 ghost use Rattle.xet_base.specs.declared.error.CoreError.TheVariants.{OutOfMemory};
 ghost use Rattle.xet_base.specs.declared.merklehash.DataHash.{DataHash};
 ghost use Rattle.xet_base.specs.Bytes.{u64_bytes};
 ghost use Rattle.xet_base.specs.Errors.{IsInvalidShard};
 ghost use Rattle.xet_base.specs.KeyedHash.{no_key};
+ghost use Rattle.xet_base.specs.Source.{Source, bytes_left};
 ghost use Rattle.xet_records.specs.declared.file_structs.rows.FileDataSequenceEntry.{FileDataSequenceEntry};
 ghost use Rattle.xet_records.specs.declared.xorb_structs.MDBXorbInfo.{MDBXorbInfo};
 ghost use Rattle.xet_records.specs.declared.xorb_structs.XorbChunkSequenceEntry.{XorbChunkSequenceEntry};
 ghost use Rattle.xet_shards.specs.ChunkLookup.{ChunkLocation};
 ghost use Rattle.xet_shards.specs.ChunkQuery.{run_length};
 ghost use Rattle.xet_shards.specs.Joins.{IsJoinOf};
-ghost use Rattle.xet_shards.specs.KeyedExport.{keyed_chunk, exported, export_form};
+ghost use Rattle.xet_shards.specs.KeyedExport.{keyed_chunk, exported, export_form, Exports};
 ghost use Rattle.xet_shards.specs.KeyedShards.{keyed_shard};
 ghost use Rattle.xet_shards.specs.declared.shard_format.form.Form.{Form};
-ghost use Rattle.xet_shards.specs.Layout.{layout, layout_of};
+ghost use Rattle.xet_shards.specs.Layout.{if_in, layout, layout_of};
 ghost use Rattle.xet_shards.specs.SetOperations.{IsUnion, ShardsAgree, HasFewRows};
 ghost use Rattle.xet_shards.specs.Shard.{Shard, IsShard};
 ghost use Rattle.xet_shards.specs.WrittenQueries.{HasChunkAt, RunAmong};
@@ -85,7 +87,9 @@ pub fn exports_merge_to_the_export_of_the_join()
 
 /// The bytes that a tree writes for shards that agree have the runs of chunks of these shards, and
 /// no others. In those of their exports under a key a run is at least as long, and the shards under
-/// the key have such a join again.
+/// the key have such a join again. An export of the bytes, in any form, writes the layout of the
+/// join under the form's key, without files where they are not asked for (`exported`), and in that
+/// a run is at least as long as in the join (`exported_runs`).
 pub fn merges_keep_runs()
     ensures kept { (inputs : List (List ℕ)) → (plan : MergePlan) → (shard_at : ℕ → Shard)
         → (expiry_at : ℕ → Option ℕ) → (join : Shard) → (out : List ℕ) → (i : ℕ) → (q : DataHash)
@@ -119,6 +123,20 @@ pub fn merges_keep_runs()
         × ((longer : ℕ × FileDataSequenceEntry)
         × (run_under key (keyed_shard key join) q index hashes ≡ Some longer)
         × (run.0 ≤ longer.0)) }
+    ensures exported { (inputs : List (List ℕ)) → (plan : MergePlan) → (shard_at : ℕ → Shard)
+        → (expiry_at : ℕ → Option ℕ) → (join : Shard) → (out : List ℕ) → (form : Form)
+        → (old new : Source) → (before after : Option (List ℕ)) → (size : ℕ)
+        → JoinsLeaves plan shard_at join → AreWritten inputs plan shard_at expiry_at
+        → TreeWrites inputs plan out → bytes_left old ≡ out → Exports form old new before after size
+        → let keyed = keyed_shard form.key join in
+        Appends before after
+        (layout_of (if_in form.file_table (values keyed.files)) (values keyed.xorbs) form) }
+    ensures exported_runs { (key : DataHash) → (join : Shard) → (q : DataHash) → (index : ℕ)
+        → (hashes : List DataHash) → (run : ℕ × FileDataSequenceEntry)
+        → run_under no_key join q index hashes ≡ Some run
+        → (longer : ℕ × FileDataSequenceEntry)
+        × (run_under key (keyed_shard key join) q index hashes ≡ Some longer)
+        × (run.0 ≤ longer.0) }
     ensures keyed_leaves { (plan : MergePlan) → (key : DataHash) → (shard_at : ℕ → Shard)
         → (join : Shard) → JoinsLeaves plan shard_at join
         → JoinsLeaves plan (λ i. keyed_shard key (shard_at i)) (keyed_shard key join) }

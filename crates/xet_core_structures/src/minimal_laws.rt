@@ -8,25 +8,29 @@ ghost use Rattle.xet_base.specs.declared.merklehash.DataHash.{DataHash};
 ghost use Rattle.xet_base.specs.Source.{Source, bytes_left};
 ghost use Rattle.xet_records.specs.View.{as_wanted};
 ghost use Rattle.xet_shards.specs.MinimalReading.{ReadsMinimal, ReadsEligible};
-ghost use Rattle.xet_shards.specs.MinimalShard.{MinimalShard, FitsSections, is_start, mark_starts, eligible_in, eligible_hashes, ascending_hashes, minimal_form, WritesMinimal, WritesKept};
+ghost use Rattle.xet_shards.specs.MinimalShard.{MinimalShard, is_start, mark_starts, eligible_in, eligible_hashes, ascending_hashes, minimal_form, WritesMinimal, WritesKept};
 
 use xet_records::xorb_structs::MDBXorbInfoView;
 
-/// A subset of a shard's xorbs that is written without files, with any expiry or none, and read
-/// again, has the same eligible chunks as these xorbs in the shard, where a chunk at which any file
-/// of the shard starts is eligible. So `global_dedup_eligible_chunks` of what `from_reader` reads
-/// (`read`), and `filter_cas_chunks_for_global_dedup` on a source that has these bytes left
-/// (`source`), return the chunks that the shard has in these xorbs.
+/// Of a shard that was read, a subset of the xorbs that is written without files, with any expiry
+/// or none, and read again, has the same eligible chunks as these xorbs in the shard, where a chunk
+/// at which any file of the shard starts is eligible. So `global_dedup_eligible_chunks` of what
+/// `from_reader` reads (`read`), and `filter_cas_chunks_for_global_dedup` on a source that has these
+/// bytes left (`source`), return the chunks that the shard has in these xorbs.
 pub fn subsets_keep_eligible_chunks<F: Fn(&MDBXorbInfoView) -> bool>()
     ensures read { (filter : F) → (m n : MinimalShard) → (now size : ℕ) → (expiry : Option ℕ)
-        → (bytes : List ℕ) → (left : Option (List ℕ)) → (with_files : Bool) → FitsSections m
+        → (first rest left : Option (List ℕ)) → (bytes : List ℕ)
+        → (with_files with_xorbs files_again : Bool)
+        → ReadsMinimal Consumes with_files with_xorbs first rest m
         → (subset : WritesKept (FnReturnsAt F.Fn filter) (Some []) (Some bytes) [] m
         (minimal_form now expiry) size)
-        → ReadsMinimal Consumes with_files true (Some bytes) left n
+        → ReadsMinimal Consumes files_again true (Some bytes) left n
         → eligible_hashes n.files n.xorbs
         ≡ ascending_hashes (flat_map (eligible_in (is_start m.files)) subset.kept) }
     ensures source { (filter : F) → (m : MinimalShard) → (now size : ℕ) → (expiry : Option ℕ)
-        → (bytes : List ℕ) → (old new : Source) → (hashes : List DataHash) → FitsSections m
+        → (first rest : Option (List ℕ)) → (bytes : List ℕ) → (old new : Source)
+        → (hashes : List DataHash) → (with_files with_xorbs : Bool)
+        → ReadsMinimal Consumes with_files with_xorbs first rest m
         → (subset : WritesKept (FnReturnsAt F.Fn filter) (Some []) (Some bytes) [] m
         (minimal_form now expiry) size)
         → bytes_left old ≡ bytes → ReadsEligible old new hashes

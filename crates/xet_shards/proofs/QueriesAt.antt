@@ -15,7 +15,7 @@ use Rattle.xet_records.specs.XorbRecord.{xorb_records}
 use Rattle.xet_records.specs.Reading.{BeginsWithHeader}
 use Rattle.xet_records.proofs.Lengths.{length-xorb_header_row}
 use Rattle.xet_shards.specs.Lookup.{row_at, Visit}
-use Rattle.xet_shards.specs.RunReading.{FoundRun, AnnouncesChunk, AnnouncesNoChunk, AnswerAt, RefusedAt, chunks_at}
+use Rattle.xet_shards.specs.RunReading.{FoundRun, AnnouncesChunk, AnnouncesNoChunk, AnswerAt, RefusalAt, RefusedAt, chunks_at}
 use Rattle.xet_shards.specs.RunSteps.{RowFails, RunFailure, RunFails}
 
 answer_at : (key : DataHash) (qs : List DataHash) (bytes : List ℕ) (offset row index : ℕ) (header : XorbChunkSequenceHeader) (answer : Option (ℕ × FileDataSequenceEntry)) → length qs ≢ 0
@@ -55,8 +55,8 @@ module _ (Absent : CoreError → Type 0) (key : DataHash) (qs : List DataHash) (
     pub no_such_chunk : header.xorb_hash ≢ all_ones → header.num_entries ≤ index → AnnouncesNoChunk old.bytes offset row index
     no_such_chunk is_record past = inr (header, bytes_left mid, begins is_record, past)
 
-    pub absent : (e : CoreError) → Absent e → AnnouncesNoChunk old.bytes offset row index → RefusedAt Absent key qs offset row index old mid e
-    absent e is none = inr (inr (inl (failures_same, is, none)))
+    pub absent : (e : CoreError) → length qs ≢ 0 → Absent e → AnnouncesNoChunk old.bytes offset row index → RefusedAt Absent key qs offset row index old mid e
+    absent e some is none = (λ no_hash. some (ap length no_hash), inr (inr (inl (failures_same, is, none))))
 
     pub visit_header : Visit xorb_records 2 offset row old mid
     visit_header =
@@ -72,14 +72,17 @@ module _ (Absent : CoreError → Type 0) (key : DataHash) (qs : List DataHash) (
       answered_here answer some found =
           answer_at key qs old.bytes offset row index header answer some location (subst (λ bytes. FoundRun key qs header index (chunks_at bytes offset row index) answer) bytes_same found)
 
-      pub refused_here : (new : Source) (e : CoreError) → RunFails key qs (header.num_entries - index) offset (row + 1 + index) mid new e
+      pub refused_here : (new : Source) (e : CoreError) → length qs ≢ 0 → RunFails key qs (header.num_entries - index) offset (row + 1 + index) mid new e
           → RefusedAt Absent key qs offset row index old new e
-      refused_here new e fails = elim fails.cause [
-        | inl cause ↦ why (subst (λ bytes. RunFailure key qs (header.num_entries - index) (chunks_at bytes offset row index) mid new e) bytes_same cause)
-        | inr past ↦ inr (inl (past.0 ∙ failures_same, past.1, inr (header, location, inl past.2)))
-      ]
+      refused_here new e some fails = (
+        λ no_hash. some (ap length no_hash),
+        elim fails.cause [
+          | inl cause ↦ why (subst (λ bytes. RunFailure key qs (header.num_entries - index) (chunks_at bytes offset row index) mid new e) bytes_same cause)
+          | inr past ↦ inr (inl (past.0 ∙ failures_same, past.1, inr (header, location, inl past.2)))
+        ],
+      )
         where
-          why : RunFailure key qs (header.num_entries - index) (chunks_at old.bytes offset row index) mid new e → RefusedAt Absent key qs offset row index old new e
+          why : RunFailure key qs (header.num_entries - index) (chunks_at old.bytes offset row index) mid new e → RefusalAt Absent key qs offset row index old new e
           why (inl device) = inl (device.0 ∙ ap (λ k. k + 1) failures_same, device.1, device.2, device.3)
           why (inr (inl (none, bare, passes))) = inr (inl (none ∙ failures_same, bare, inr (header, location, inr passes)))
           why (inr (inr (none, end, cut))) = inr (inr (inr (none ∙ failures_same, end, inr (header, location, cut))))

@@ -90,7 +90,7 @@ module _ (key : DataHash) where
   -- reading a run
   module _ (qs : List DataHash) (left : ℕ) (start : Source) where
     pub no_run : HasReadRun key qs left start start 0 0
-    no_run = record { chunks = []; fit = All-nil FitsChunk; many = refl; few = omega arith; taken = Takes-nil start; same = run_of_none qs; sum = refl }
+    no_run = record { chunks = []; fit = All-nil FitsChunk; many = refl; few = omega arith; taken = Takes-nil start; same = run_of_none qs; sum = refl; narrow = omega arith }
 
     module _ (now new : Source) (n bytes : ℕ) (before : HasReadRun key qs left start now n bytes) where
       -- one chunk more
@@ -120,8 +120,8 @@ module _ (key : DataHash) where
         goes_on : hash_eq (under_key key (get_or qs n d)) c.chunk_hash ≡ true → run_length key qs (before.chunks ++ c ∷ []) ≡ length (before.chunks ++ c ∷ [])
         goes_on same = length_is ∙ ap (λ b. n + cond b 1 0) same ∙ sym many
 
-        pub run_goes_on : (sum : ℕ) → hash_eq (under_key key (get_or qs n d)) c.chunk_hash ≡ true → sum ≡ bytes + c.unpacked_segment_bytes → HasReadRun key qs left start new (n + 1) sum
-        run_goes_on sum same added = record {
+        pub run_goes_on : (sum : ℕ) → hash_eq (under_key key (get_or qs n d)) c.chunk_hash ≡ true → sum ≡ bytes + c.unpacked_segment_bytes → sum < 2 ^ 32 → HasReadRun key qs left start new (n + 1) sum
+        run_goes_on sum same added narrow = record {
           chunks = before.chunks ++ c ∷ [];
           fit = fit;
           many = many;
@@ -129,6 +129,7 @@ module _ (key : DataHash) where
           taken = taken;
           same = goes_on same;
           sum = added ∙ sym sum_is;
+          narrow = narrow;
         }
 
         -- it ends at a chunk with another hash
@@ -203,6 +204,7 @@ module _ (key : DataHash) where
               bytes_left now,
               record { fit = before.fit; few = omega (arith, before.many, before.few); bytes_are = Takes-consumes start now (flat_map chunk_row before.chunks) before.taken },
               before.same,
+              omega (arith, before.sum, before.narrow),
               omega (arith, before.many, below),
               omega (arith, before.many, room),
               lacks_left now 48 (omega arith) short,

@@ -115,7 +115,7 @@ module _ (x : MDBXorbInfo) (stored : IsStoredXorb x) (offset row : ℕ) (old : S
           omega (arith, few, past, bytes_within (omega (arith, within, stored.count)) cs after there)
 
       within_not_cut : index < x.metadata.num_entries → ¬ RunIsCut key qs left (chunks_at old.bytes offset row index)
-      within_not_cut within (cs, after, there, all, more_hashes, more, short) =
+      within_not_cut within (cs, after, there, all, fit, more_hashes, more, short) =
           let at : index ≤ length x.chunks = omega (arith, within, stored.count) in
           let next = drop (length cs) from in
           omega (
@@ -164,10 +164,10 @@ module _ (x : MDBXorbInfo) (stored : IsStoredXorb x) (offset row : ℕ) (old : S
 
     pub refuses_at : (new : Source) (e : CoreError) → RefusedAt Absent key qs offset row index old new e
         → DeviceFailure old new e ⊎ (Absent e × (length x.chunks ≤ index))
-    refuses_at new e (inl device) = inl device
-    refuses_at new e (inr (inl (none, bare, passes))) = absurd (not_past passes)
-    refuses_at new e (inr (inr (inl (none, absent, location)))) = inr (absent, no_chunk location)
-    refuses_at new e (inr (inr (inr (none, ended, cut)))) = absurd (not_cut cut)
+    refuses_at new e (some, inl device) = inl device
+    refuses_at new e (some, inr (inl (none, bare, passes))) = absurd (not_past passes)
+    refuses_at new e (some, inr (inr (inl (none, absent, location)))) = inr (absent, no_chunk location)
+    refuses_at new e (some, inr (inr (inr (none, ended, cut)))) = absurd (not_cut cut)
 
 -- where the bookend of the section is, there is no run
 module _ (offset row : ℕ) (old : Source) (rest : List ℕ) (here : drop (row_at offset row) old.bytes ≡ xorb_header_row xorb_bookend ++ rest) (fits : row_at offset row < 2 ^ 64)
@@ -184,10 +184,10 @@ module _ (offset row : ℕ) (old : Source) (rest : List ℕ) (here : drop (row_a
       go (q ∷ hs) (header, location, found) = absurd (no_header header location.rest location.begins)
 
   pub bookend_refuses : (Absent : CoreError → Type 0) (new : Source) (e : CoreError) → RefusedAt Absent key qs offset row index old new e → DeviceFailure old new e ⊎ Absent e
-  bookend_refuses Absent new e (inl device) = inl device
-  bookend_refuses Absent new e (inr (inl (none, bare, inl past))) = absurd (omega (arith, past, fits))
-  bookend_refuses Absent new e (inr (inl (none, bare, inr (header, location, past)))) = absurd (no_header header location.rest location.begins)
-  bookend_refuses Absent new e (inr (inr (inl (none, absent, location)))) = inr absent
-  bookend_refuses Absent new e (inr (inr (inr (none, ended, inl short)))) =
+  bookend_refuses Absent new e (some, inl device) = inl device
+  bookend_refuses Absent new e (some, inr (inl (none, bare, inl past))) = absurd (omega (arith, past, fits))
+  bookend_refuses Absent new e (some, inr (inl (none, bare, inr (header, location, past)))) = absurd (no_header header location.rest location.begins)
+  bookend_refuses Absent new e (some, inr (inr (inl (none, absent, location)))) = inr absent
+  bookend_refuses Absent new e (some, inr (inr (inr (none, ended, inl short)))) =
       absurd (omega (arith, short, header_within xorb_records xorb_laws (drop (row_at offset row) old.bytes) xorb_bookend rest here))
-  bookend_refuses Absent new e (inr (inr (inr (none, ended, inr (header, location, cut))))) = absurd (no_header header location.rest location.begins)
+  bookend_refuses Absent new e (some, inr (inr (inr (none, ended, inr (header, location, cut))))) = absurd (no_header header location.rest location.begins)

@@ -1,6 +1,6 @@
 -- Locations that are tried one after another, after a search in the chunk table.
-use Rattle.std.proofs.Common.{◌≡◌, inl, inr, Ok, Err, is_some, true, false, true≢false, ℕ, ◌+◌, ◌<◌, ◌≤◌, List, [], ◌∷◌, ◌++◌, length, take, drop, map, get_or, min, Option, None, Some, String, Global, refl, sym, ap, ◌∙◌, subst, arith}
-use Rattle.std.specs.Prelude.{string_bytes, slice_get, MatchResult, IfOk, IfErr}
+use Rattle.std.proofs.Common.{◌≡◌, ◌≢◌, inl, inr, Ok, Err, is_some, true, false, true≢false, ℕ, ◌+◌, ◌<◌, ◌≤◌, List, [], ◌∷◌, ◌++◌, length, take, drop, map, get_or, min, Option, None, Some, String, Global, refl, sym, ap, ◌∙◌, subst, arith}
+use Rattle.std.specs.Prelude.{string_bytes, slice_get, IfOk, IfErr}
 use Rattle.std.specs.declared.result.Result.{Result}
 use Rattle.std.proofs.lemmas.Option.{none-some, same_Some}
 use Rattle.std.proofs.lemmas.List.{map-append, length-append, length-map, take_more, take_all, take-map}
@@ -17,16 +17,16 @@ use Rattle.xet_records.specs.XorbRecord.{xorb_records}
 use Rattle.xet_records.proofs.RecordKinds.{xorb_laws}
 use Rattle.xet_shards.specs.declared.shard_format.footer.MDBShardFileFooter.{MDBShardFileFooter}
 use Rattle.xet_shards.specs.Lookup.{chunk_lookup_table, IsPair, Visit, Visits, VisitsSome}
-use Rattle.xet_shards.specs.RunReading.{AnswerAt, RefusedAt, PassesAt, IsCutAt, AnnouncesNoChunk, Queries, TriedAnswer, TriedRefused, QueryAnswer, QueryRefused, NoneTried}
+use Rattle.xet_shards.specs.RunReading.{AnswerAt, RefusedAt, PassesAt, IsCutAt, AnnouncesNoChunk, Queries, TriedAnswer, TriedRefused, QueryOutcome, NoneTried}
 use Rattle.xet_shards.proofs.Lookups.{serves_after, visits_more}
 
 -- an error for a location that is not there, if it is a bare `InvalidShard`
 pub if_corrupt : (key : DataHash) (qs : List DataHash) (offset row index : ℕ) (old new : Source) (e : CoreError) (text : String Global) → string_bytes text ≡ []
     → RefusedAt (λ e. e ≡ InvalidShard text) key qs offset row index old new e → RefusedAt IsBareInvalidShard key qs offset row index old new e
-if_corrupt key qs offset row index old new e text bare (inl device) = inl device
-if_corrupt key qs offset row index old new e text bare (inr (inl passes)) = inr (inl passes)
-if_corrupt key qs offset row index old new e text bare (inr (inr (inl (none, is, location)))) = inr (inr (inl (none, subst IsBareInvalidShard (sym is) bare, location)))
-if_corrupt key qs offset row index old new e text bare (inr (inr (inr ended))) = inr (inr (inr ended))
+if_corrupt key qs offset row index old new e text bare (some, inl device) = (some, inl device)
+if_corrupt key qs offset row index old new e text bare (some, inr (inl passes)) = (some, inr (inl passes))
+if_corrupt key qs offset row index old new e text bare (some, inr (inr (inl (none, is, location)))) = (some, inr (inr (inl (none, subst IsBareInvalidShard (sym is) bare, location))))
+if_corrupt key qs offset row index old new e text bare (some, inr (inr (inr ended))) = (some, inr (inr (inr ended)))
 
 -- what is said of an option that is none
 pub if_none : {X : Type 0} (P : Option X → Type 0) (o : Option X) → is_some o ≡ false → P o → P None
@@ -36,13 +36,13 @@ if_none P (Some x) some holds = absurd (true≢false some)
 -- a refusal after calls that did not fail is one over all
 refused_later : (key : DataHash) (qs : List DataHash) (offset : ℕ) (location : ℕ × ℕ) (old now new : Source) (e : CoreError) → Serves old now
     → RefusedAt IsBareInvalidShard key qs offset location.0 location.1 now new e → RefusedAt IsBareInvalidShard key qs offset location.0 location.1 old new e
-refused_later key qs offset location old now new e serves (inl device) = inl (device.0 ∙ ap (λ k. k + 1) serves.failures, device.1, device.2, device.3)
-refused_later key qs offset location old now new e serves (inr (inl (none, bare, passes))) =
-    inr (inl (none ∙ serves.failures, bare, subst (λ bytes. PassesAt key qs bytes offset location.0 location.1) serves.bytes passes))
-refused_later key qs offset location old now new e serves (inr (inr (inl (none, bare, absent)))) =
-    inr (inr (inl (none ∙ serves.failures, bare, subst (λ bytes. AnnouncesNoChunk bytes offset location.0 location.1) serves.bytes absent)))
-refused_later key qs offset location old now new e serves (inr (inr (inr (none, end, cut)))) =
-    inr (inr (inr (none ∙ serves.failures, end, subst (λ bytes. IsCutAt key qs bytes offset location.0 location.1) serves.bytes cut)))
+refused_later key qs offset location old now new e serves (some, inl device) = (some, inl (device.0 ∙ ap (λ k. k + 1) serves.failures, device.1, device.2, device.3))
+refused_later key qs offset location old now new e serves (some, inr (inl (none, bare, passes))) =
+    (some, inr (inl (none ∙ serves.failures, bare, subst (λ bytes. PassesAt key qs bytes offset location.0 location.1) serves.bytes passes)))
+refused_later key qs offset location old now new e serves (some, inr (inr (inl (none, bare, absent)))) =
+    (some, inr (inr (inl (none ∙ serves.failures, bare, subst (λ bytes. AnnouncesNoChunk bytes offset location.0 location.1) serves.bytes absent))))
+refused_later key qs offset location old now new e serves (some, inr (inr (inr (none, end, cut)))) =
+    (some, inr (inr (inr (none ∙ serves.failures, end, subst (λ bytes. IsCutAt key qs bytes offset location.0 location.1) serves.bytes cut))))
 
 rows_of_values : (found : List (Hit (ℕ × ℕ))) → map (λ (location : ℕ × ℕ). location.0) (map (λ (h : Hit (ℕ × ℕ)). h.value) found) ≡ map (λ (h : Hit (ℕ × ℕ)). h.value.0) found
 rows_of_values [] = refl
@@ -164,11 +164,12 @@ pub query_read : (footer : MDBShardFileFooter) (qs : List DataHash) (q : DataHas
     → (IsSorted (chunk_lookup_table footer old) → Bounded (chunk_lookup_table footer old) (under_key footer.chunk_hash_hmac_key q).word0 old mid)
     → VisitsSome xorb_records 2 footer.xorb_info_offset (map (λ location. location.0) (take count dest_new)) mid new
     → (r : Result (Option (ℕ × FileDataSequenceEntry)) CoreError)
+    → footer.chunk_lookup_num_entry ≢ 0
     → IfOk r (λ answer. TriedAnswer footer.chunk_hash_hmac_key qs mid.bytes footer.xorb_info_offset answer (take count dest_new))
     → IfErr r (λ e. TriedRefused footer.chunk_hash_hmac_key qs footer.xorb_info_offset mid new e (take count dest_new))
-    → MatchResult r (QueryAnswer footer qs old new) (QueryRefused footer qs old new)
-query_read footer [] q count dest_old dest_new old mid new first finds fits most all serves bounded visits r answered refused = absurd (none-some q (sym first))
-query_read footer (h ∷ qs) q count dest_old dest_new old mid new first finds fits most all serves bounded visits r answered refused = go r answered refused
+    → QueryOutcome footer qs old new r
+query_read footer [] q count dest_old dest_new old mid new first finds fits most all serves bounded visits r some answered refused = absurd (none-some q (sym first))
+query_read footer (h ∷ qs) q count dest_old dest_new old mid new first finds fits most all serves bounded visits r some answered refused = go r answered refused
   where
     same : (under_key footer.chunk_hash_hmac_key q).word0 ≡ (under_key footer.chunk_hash_hmac_key h).word0
     same = ap (λ x. (under_key footer.chunk_hash_hmac_key x).word0) (same_Some q h first)
@@ -176,14 +177,19 @@ query_read footer (h ∷ qs) q count dest_old dest_new old mid new first finds f
     go : (o : Result (Option (ℕ × FileDataSequenceEntry)) CoreError)
         → IfOk o (λ answer. TriedAnswer footer.chunk_hash_hmac_key (h ∷ qs) mid.bytes footer.xorb_info_offset answer (take count dest_new))
         → IfErr o (λ e. TriedRefused footer.chunk_hash_hmac_key (h ∷ qs) footer.xorb_info_offset mid new e (take count dest_new))
-        → MatchResult o (QueryAnswer footer (h ∷ qs) old new) (QueryRefused footer (h ∷ qs) old new)
+        → QueryOutcome footer (h ∷ qs) old new o
     go (Ok answer) found none =
-        inr (query_answered footer.chunk_hash_hmac_key (h ∷ qs) footer.xorb_info_offset (chunk_lookup_table footer old) (under_key footer.chunk_hash_hmac_key h).word0 count old mid new dest_old dest_new
-        (subst (λ w. Finds (chunk_lookup_table footer old) w IsPair dest_old dest_new count) same finds) fits most
-        (subst (λ w. IsSorted (chunk_lookup_table footer old) → count ≡ min (hits (chunk_lookup_table footer old) w) 8) same all) serves
-        (subst (λ w. IsSorted (chunk_lookup_table footer old) → Bounded (chunk_lookup_table footer old) w old mid) same bounded) visits answer found)
-    go (Err e) none refused =
-        inr (query_refused footer.chunk_hash_hmac_key (h ∷ qs) footer.xorb_info_offset (chunk_lookup_table footer old) (under_key footer.chunk_hash_hmac_key h).word0 count old mid new dest_old dest_new
-        (subst (λ w. Finds (chunk_lookup_table footer old) w IsPair dest_old dest_new count) same finds) fits most
-        (subst (λ w. IsSorted (chunk_lookup_table footer old) → count ≡ min (hits (chunk_lookup_table footer old) w) 8) same all) serves
-        (subst (λ w. IsSorted (chunk_lookup_table footer old) → Bounded (chunk_lookup_table footer old) w old mid) same bounded) visits e refused)
+        inr (
+          some,
+          query_answered footer.chunk_hash_hmac_key (h ∷ qs) footer.xorb_info_offset (chunk_lookup_table footer old) (under_key footer.chunk_hash_hmac_key h).word0 count old mid new dest_old dest_new
+              (subst (λ w. Finds (chunk_lookup_table footer old) w IsPair dest_old dest_new count) same finds) fits most
+              (subst (λ w. IsSorted (chunk_lookup_table footer old) → count ≡ min (hits (chunk_lookup_table footer old) w) 8) same all) serves
+              (subst (λ w. IsSorted (chunk_lookup_table footer old) → Bounded (chunk_lookup_table footer old) w old mid) same bounded) visits answer found,
+        )
+    go (Err e) none refused = (
+      some,
+      inr (query_refused footer.chunk_hash_hmac_key (h ∷ qs) footer.xorb_info_offset (chunk_lookup_table footer old) (under_key footer.chunk_hash_hmac_key h).word0 count old mid new dest_old dest_new
+          (subst (λ w. Finds (chunk_lookup_table footer old) w IsPair dest_old dest_new count) same finds) fits most
+          (subst (λ w. IsSorted (chunk_lookup_table footer old) → count ≡ min (hits (chunk_lookup_table footer old) w) 8) same all) serves
+          (subst (λ w. IsSorted (chunk_lookup_table footer old) → Bounded (chunk_lookup_table footer old) w old mid) same bounded) visits e refused),
+    )

@@ -30,7 +30,7 @@ use Rattle.xet_shards.specs.Tables.{ChunkTableRow, chunk_table_rows, chunk_table
 use Rattle.xet_shards.specs.Layout.{Form}
 use Rattle.xet_shards.specs.InForm.{IsInForm}
 use Rattle.xet_shards.specs.Lookup.{row_at, chunk_lookup_table, IsPair}
-use Rattle.xet_shards.specs.RunReading.{AnswerAt, RefusedAt, Queries, TriedAnswer, TriedRefused, QueryAnswer, QueryRefused}
+use Rattle.xet_shards.specs.RunReading.{AnswerAt, RefusedAt, Queries, TriedAnswer, TriedRefused, QueryAnswer, QueryRefused, QueryOutcome}
 use Rattle.xet_shards.specs.WrittenChunks.{ChunkSearchCosts}
 use Rattle.xet_shards.specs.WrittenQueries.{HasChunkAt, all_chunks, is_other, others_sharing, RunAmong, TriesCost, QueryCosts}
 use Rattle.xet_shards.proofs.ChunkLocations.{IsLocated, located, has_row}
@@ -364,24 +364,24 @@ module _ (files : List MDBFileInfo) (xorbs : List MDBXorbInfo) (form : Form) (ol
 
     query_gives : (new : Source) (answer : Option (ℕ × FileDataSequenceEntry)) → QueryAnswer footer (q ∷ qs) old new answer → RunAmong key (q ∷ qs) xorbs answer
     query_gives new answer (inl (none, nothing, same)) = subst (RunAmong key (q ∷ qs) xorbs) (sym nothing) (no_rows none)
-    query_gives new (Some run) (inr queries) = found_run queries.found queries.each queries.distinct run queries.answer
-    query_gives new None (inr queries) = found_none queries.found queries.each queries.distinct queries.answer (queries.all (table_sorted files xorbs form old footer is with_table))
+    query_gives new (Some run) (inr (some, queries)) = found_run queries.found queries.each queries.distinct run queries.answer
+    query_gives new None (inr (some, queries)) = found_none queries.found queries.each queries.distinct queries.answer (queries.all (table_sorted files xorbs form old footer is with_table))
 
     query_refuses : All IsXorb xorbs → (new : Source) (e : CoreError) → QueryRefused footer (q ∷ qs) old new e → DeviceFailure old new e
-    query_refuses good new e (inl (refused, bounded)) =
+    query_refuses good new e (some, inl (refused, bounded)) =
         search_served word_of numbers_of 8 no_table_row rows footer.chunk_lookup_offset footer.chunk_lookup_num_entry old (rows_known files xorbs form old footer is with_table) new e refused
-    query_refuses good new e (inr queries) = hit_refused queries.found queries.each queries.distinct good new e queries.answer
+    query_refuses good new e (some, inr queries) = hit_refused queries.found queries.each queries.distinct good new e queries.answer
 
-    query_costs : (new : Source) (r : Result (Option (ℕ × FileDataSequenceEntry)) CoreError) → MatchResult r (QueryAnswer footer (q ∷ qs) old new) (QueryRefused footer (q ∷ qs) old new)
+    query_costs : (new : Source) (r : Result (Option (ℕ × FileDataSequenceEntry)) CoreError) → QueryOutcome footer (q ∷ qs) old new r
         → TriesCost xorbs hash.word0 old new
     query_costs new (Ok answer) (inl (none, nothing, same)) =
         none_tried old new (record { made = 0; few = omega arith; seeks = omega arith; read = omega arith }) same
-    query_costs new (Ok answer) (inr queries) = tries_cost new _ queries
-    query_costs new (Err e) (inl (refused, bounded)) = none_tried new new (chunk_search_costs files xorbs form old footer is with_table hash.word0 new bounded) refl
-    query_costs new (Err e) (inr queries) = tries_cost new _ queries
+    query_costs new (Ok answer) (inr (some, queries)) = tries_cost new _ queries
+    query_costs new (Err e) (some, inl (refused, bounded)) = none_tried new new (chunk_search_costs files xorbs form old footer is with_table hash.word0 new bounded) refl
+    query_costs new (Err e) (some, inr queries) = tries_cost new _ queries
 
   pub query_in_form : All IsXorb xorbs → (qs : List DataHash) (new : Source) (r : Result (Option (ℕ × FileDataSequenceEntry)) CoreError)
-      → MatchResult r (QueryAnswer footer qs old new) (QueryRefused footer qs old new) → MatchResult r (RunAmong form.key qs xorbs) (DeviceFailure old new)
+      → QueryOutcome footer qs old new r → MatchResult r (RunAmong form.key qs xorbs) (DeviceFailure old new)
   query_in_form good [] new (Ok answer) read = read.0
   query_in_form good [] new (Err e) read = absurd read
   query_in_form good (q ∷ qs) new (Ok answer) read =
@@ -389,7 +389,7 @@ module _ (files : List MDBFileInfo) (xorbs : List MDBXorbInfo) (form : Form) (ol
   query_in_form good (q ∷ qs) new (Err e) read = query_refuses q qs good new e read
 
   pub query_costs_in_form : (qs : List DataHash) (new : Source) (r : Result (Option (ℕ × FileDataSequenceEntry)) CoreError)
-      → MatchResult r (QueryAnswer footer qs old new) (QueryRefused footer qs old new) → QueryCosts form.key qs xorbs old new
+      → QueryOutcome footer qs old new r → QueryCosts form.key qs xorbs old new
   query_costs_in_form [] new (Ok answer) read = read.1
   query_costs_in_form [] new (Err e) read = absurd read
   query_costs_in_form (q ∷ qs) new r read = subst (λ (f : MDBShardFileFooter). QueryCosts f.chunk_hash_hmac_key (q ∷ qs) xorbs old new) is.footer_is (query_costs q qs new r read)

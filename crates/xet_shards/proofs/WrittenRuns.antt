@@ -1,5 +1,5 @@
 -- Chunk queries in the bytes of xorbs that are written.
-use Rattle.std.proofs.Common.{◌≡◌, ◌⊎◌, Ok, Err, ℕ, ◌+◌, ◌^◌, ◌<◌, ◌≤◌, List, [], ◌∷◌, ◌++◌, length, drop, Option, None, refl, sym, ap, ◌∙◌, subst, arith}
+use Rattle.std.proofs.Common.{◌≡◌, ◌≢◌, ◌⊎◌, Ok, Err, ℕ, ◌+◌, ◌^◌, ◌<◌, ◌≤◌, List, [], ◌∷◌, ◌++◌, length, drop, Option, None, refl, sym, ap, ◌∙◌, subst, arith}
 use Rattle.std.specs.Prelude.{Contains, MatchResult, IfOk, IfErr}
 use Rattle.std.specs.FinMap.{values, entries}
 use Rattle.std.specs.declared.result.Result.{Result}
@@ -60,16 +60,16 @@ module _ (files : List MDBFileInfo) (xorbs : List MDBXorbInfo) (form : Form) (ol
     pub direct_in_form : size_of_chunks x ≤ 4294967295 → (qs : List DataHash) (index : ℕ) (new : Source) (r : Result (Option (ℕ × FileDataSequenceEntry)) CoreError)
         → IfOk r (AnswerAt footer.chunk_hash_hmac_key qs old.bytes footer.xorb_info_offset row index)
         → IfErr r (RefusedAt (λ e. e ≡ InvalidArguments) footer.chunk_hash_hmac_key qs footer.xorb_info_offset row index old new)
-        → MatchResult r (RunInXorb form.key qs x index) (NoRunInXorb x index old new)
+        → MatchResult r (RunInXorb form.key qs x index) (NoRunInXorb qs x index old new)
     direct_in_form few qs index new (Ok answer) found refused =
         subst (λ (f : MDBShardFileFooter). RunInXorb f.chunk_hash_hmac_key qs x index answer) is.footer_is (run_there qs index answer found)
-    direct_in_form few qs index new (Err e) found refused = no_run_there (λ e. e ≡ InvalidArguments) qs index new e few refused
+    direct_in_form few qs index new (Err e) found refused = (refused.0, no_run_there (λ e. e ≡ InvalidArguments) qs index new e few refused)
 
   -- at the bookend after the last
   pub direct_at_bookend : (row : ℕ) → row ≡ total_rows xorb_records xorbs → (qs : List DataHash) (index : ℕ) (new : Source) (r : Result (Option (ℕ × FileDataSequenceEntry)) CoreError)
       → IfOk r (AnswerAt footer.chunk_hash_hmac_key qs old.bytes footer.xorb_info_offset row index)
       → IfErr r (RefusedAt (λ e. e ≡ InvalidArguments) footer.chunk_hash_hmac_key qs footer.xorb_info_offset row index old new)
-      → MatchResult r (λ answer. (qs ≡ []) × (answer ≡ None)) (λ e. DeviceFailure old new e ⊎ (e ≡ InvalidArguments))
+      → MatchResult r (λ answer. (qs ≡ []) × (answer ≡ None)) (λ e. (qs ≢ []) × (DeviceFailure old new e ⊎ (e ≡ InvalidArguments)))
   direct_at_bookend row at qs index new r answered refused = go r answered refused
     where
       section : AreStoredAt xorb_records xorbs footer.xorb_info_offset old.bytes
@@ -83,6 +83,6 @@ module _ (files : List MDBFileInfo) (xorbs : List MDBXorbInfo) (form : Form) (ol
 
       go : (o : Result (Option (ℕ × FileDataSequenceEntry)) CoreError) → IfOk o (AnswerAt footer.chunk_hash_hmac_key qs old.bytes footer.xorb_info_offset row index)
           → IfErr o (RefusedAt (λ e. e ≡ InvalidArguments) footer.chunk_hash_hmac_key qs footer.xorb_info_offset row index old new)
-          → MatchResult o (λ answer. (qs ≡ []) × (answer ≡ None)) (λ e. DeviceFailure old new e ⊎ (e ≡ InvalidArguments))
+          → MatchResult o (λ answer. (qs ≡ []) × (answer ≡ None)) (λ e. (qs ≢ []) × (DeviceFailure old new e ⊎ (e ≡ InvalidArguments)))
       go (Ok answer) found none = bookend_answers footer.xorb_info_offset row old section.rest here fits footer.chunk_hash_hmac_key qs index answer found
-      go (Err e) none refused = bookend_refuses footer.xorb_info_offset row old section.rest here fits footer.chunk_hash_hmac_key qs index (λ e. e ≡ InvalidArguments) new e refused
+      go (Err e) none refused = (refused.0, bookend_refuses footer.xorb_info_offset row old section.rest here fits footer.chunk_hash_hmac_key qs index (λ e. e ≡ InvalidArguments) new e refused)

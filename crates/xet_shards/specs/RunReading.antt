@@ -1,9 +1,9 @@
 -- A run in the bytes of a xorb: what reading it from a source returns, why it fails, and what a
 -- chunk query makes of it.
-use Rattle.std.specs.Prelude.{◌≡◌, ◌⊎◌, ℕ, ◌+◌, ◌-◌, ◌^◌, ◌<◌, ◌≤◌, min, List, [], ◌∷◌, ◌++◌, length, take, drop, map, flat_map, All, AllPairs, Contains, Option, None, Some}
+use Rattle.std.specs.Prelude.{◌≡◌, ◌≢◌, ◌⊎◌, ℕ, ◌+◌, ◌-◌, ◌^◌, ◌<◌, ◌≤◌, min, List, [], ◌∷◌, ◌++◌, length, take, drop, map, flat_map, All, AllPairs, Contains, Option, None, Some, MatchResult}
 use Rattle.xet_base.specs.declared.error.CoreError.{CoreError}
 use Rattle.xet_base.specs.declared.merklehash.DataHash.{DataHash}
-use Rattle.xet_base.specs.Errors.{IsEndOfInput}
+use Rattle.xet_base.specs.Errors.{CoreResult, IsEndOfInput}
 use Rattle.xet_base.specs.KeyedHash.{under_key}
 use Rattle.xet_base.specs.Source.{Source, DeviceFailure}
 use Rattle.xet_base.specs.Table.{Table, Hit, IsHit, OtherRow, IsSorted, hits, FitsTable, Serves, Bounded, SearchRefused, IsBareInvalidShard}
@@ -55,13 +55,13 @@ RunPasses key qs left bytes =
     (chunks : List XorbChunkSequenceEntry) × (rest : List ℕ) × HasChunks left bytes chunks rest
     × (run_length key qs chunks ≡ length chunks) × (2 ^ 32 ≤ total_bytes chunks)
 
--- chunks that have the hashes, one by one, after which there are more hashes and should be more
--- chunks, but not the bytes of one
+-- chunks that have the hashes, one by one, whose bytes fit `u32`, after which there are more hashes
+-- and should be more chunks, but not the bytes of one
 abbrev pub RunIsCut : DataHash → List DataHash → ℕ → List ℕ → Type 0
 RunIsCut key qs left bytes =
     (chunks : List XorbChunkSequenceEntry) × (rest : List ℕ) × HasChunks left bytes chunks rest
-    × (run_length key qs chunks ≡ length chunks) × (length chunks < length qs)
-    × (length chunks < left) × (length rest < 48)
+    × (run_length key qs chunks ≡ length chunks) × (total_bytes chunks < 2 ^ 32)
+    × (length chunks < length qs) × (length chunks < left) × (length rest < 48)
 
 -- the bytes of a xorb from the chunk at an index on, where its header is at a row of a section
 abbrev pub chunks_at : List ℕ → ℕ → ℕ → ℕ → List ℕ
@@ -107,14 +107,20 @@ AnswerAt key (q ∷ qs) bytes offset row index answer =
 
 -- why it was not answered: the device failed, a number is out of range, there is no such chunk, for
 -- which the error is `Absent`, or the bytes end
-abbrev pub RefusedAt : (CoreError → Type 0) → DataHash → List DataHash → ℕ → ℕ → ℕ → Source → Source
+abbrev pub RefusalAt : (CoreError → Type 0) → DataHash → List DataHash → ℕ → ℕ → ℕ → Source → Source
     → CoreError → Type 0
-RefusedAt Absent key qs offset row index old new e =
+RefusalAt Absent key qs offset row index old new e =
     DeviceFailure old new e
     ⊎ ((new.failures ≡ old.failures) × IsBareInvalidShard e
     × PassesAt key qs old.bytes offset row index)
     ⊎ ((new.failures ≡ old.failures) × Absent e × AnnouncesNoChunk old.bytes offset row index)
     ⊎ ((new.failures ≡ old.failures) × IsEndOfInput e × IsCutAt key qs old.bytes offset row index)
+
+-- it was not answered: there are hashes, and one of these causes
+abbrev pub RefusedAt : (CoreError → Type 0) → DataHash → List DataHash → ℕ → ℕ → ℕ → Source → Source
+    → CoreError → Type 0
+RefusedAt Absent key qs offset row index old new e =
+    (qs ≢ []) × RefusalAt Absent key qs offset row index old new e
 
 -- a query by the chunk table: the table fits 64 bits, rows with the word are found, eight at most,
 -- and the first few of their locations were tried
@@ -147,27 +153,37 @@ TriedRefused key qs offset old new e locations =
     (location : ℕ × ℕ) × Contains locations location
     × RefusedAt IsBareInvalidShard key qs offset location.0 location.1 old new e
 
--- the answer to a query: none without hashes or without a chunk table
+-- the answer to a query: none without hashes or without rows of the chunk table, which it then does
+-- not search
 abbrev pub QueryAnswer : MDBShardFileFooter → List DataHash → Source → Source
     → Option (ℕ × FileDataSequenceEntry) → Type 0
 QueryAnswer footer [] old new answer = (answer ≡ None) × (new ≡ old)
 QueryAnswer footer (q ∷ qs) old new answer =
     ((footer.chunk_lookup_num_entry ≡ 0) × (answer ≡ None) × (new ≡ old))
-    ⊎ Queries (chunk_lookup_table footer old) footer.xorb_info_offset
+    ⊎ ((footer.chunk_lookup_num_entry ≢ 0)
+    × Queries (chunk_lookup_table footer old) footer.xorb_info_offset
     (under_key footer.chunk_hash_hmac_key q).word0 old new
-    (TriedAnswer footer.chunk_hash_hmac_key (q ∷ qs) old.bytes footer.xorb_info_offset answer)
+    (TriedAnswer footer.chunk_hash_hmac_key (q ∷ qs) old.bytes footer.xorb_info_offset answer))
 
--- it has none: the search was refused, or the location of a row that it found
+-- it has none, which needs a hash and a row: the search was refused, or the location of a row that
+-- it found
 abbrev pub QueryRefused : MDBShardFileFooter → List DataHash → Source → Source → CoreError → Type 0
 QueryRefused footer [] old new e = ⊥
 QueryRefused footer (q ∷ qs) old new e =
-    (SearchRefused (chunk_lookup_table footer old) old new e
+    (footer.chunk_lookup_num_entry ≢ 0)
+    × ((SearchRefused (chunk_lookup_table footer old) old new e
     × (IsSorted (chunk_lookup_table footer old)
     → Bounded (chunk_lookup_table footer old) (under_key footer.chunk_hash_hmac_key q).word0
     old new))
     ⊎ Queries (chunk_lookup_table footer old) footer.xorb_info_offset
     (under_key footer.chunk_hash_hmac_key q).word0 old new
-    (TriedRefused footer.chunk_hash_hmac_key (q ∷ qs) footer.xorb_info_offset old new e)
+    (TriedRefused footer.chunk_hash_hmac_key (q ∷ qs) footer.xorb_info_offset old new e))
+
+-- the outcome of a query
+abbrev pub QueryOutcome : MDBShardFileFooter → List DataHash → Source → Source
+    → CoreResult (Option (ℕ × FileDataSequenceEntry)) → Type 0
+QueryOutcome footer hashes old new result =
+    MatchResult result (QueryAnswer footer hashes old new) (QueryRefused footer hashes old new)
 
 -- the locations at the front were tried, and have no run
 pub record NoneTried (key : DataHash) (qs : List DataHash) (offset : ℕ) (locations : List (ℕ × ℕ))

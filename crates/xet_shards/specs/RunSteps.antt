@@ -85,7 +85,7 @@ pub record RunFails (key : DataHash) (qs : List DataHash) (left offset row : ℕ
   pub cause : RunFailure key qs left (drop (row_at offset row) old.bytes) old new e
       ⊎ ((new.failures ≡ old.failures) × IsBareInvalidShard e × (2 ^ 64 ≤ row_at offset row))
 
--- so many chunks were read, which have the first hashes, and their bytes were summed
+-- so many chunks were read, which have the first hashes, and their bytes were summed, in 32 bits
 pub record HasReadRun (key : DataHash) (qs : List DataHash) (left : ℕ) (start now : Source)
     (length_now bytes : ℕ) : Type 0 where
   pub chunks : List XorbChunkSequenceEntry
@@ -95,3 +95,4 @@ pub record HasReadRun (key : DataHash) (qs : List DataHash) (left : ℕ) (start 
   pub taken : Takes start now (flat_map chunk_row chunks)
   pub same : run_length key qs chunks ≡ length chunks
   pub sum : bytes ≡ total_bytes chunks
+  pub narrow : bytes < 2 ^ 32

@@ -1,5 +1,5 @@
 -- Queries for runs of chunks in the bytes of xorbs that are written.
-use Rattle.std.specs.Prelude.{◌≡◌, ◌⊎◌, ◌==◌, ◌&&◌, not, Bool, ℕ, ◌+◌, ◌*◌, ◌<◌, ◌≤◌, List, [], ◌∷◌, length, filter, flat_map, All, Contains, Option, Some, None}
+use Rattle.std.specs.Prelude.{◌≡◌, ◌≢◌, ◌⊎◌, ◌==◌, ◌&&◌, not, Bool, ℕ, ◌+◌, ◌*◌, ◌<◌, ◌≤◌, List, [], ◌∷◌, length, filter, flat_map, All, Contains, Option, Some, None}
 use Rattle.xet_base.specs.declared.error.CoreError.{CoreError}
 use Rattle.xet_base.specs.declared.error.CoreError.TheVariants.{InvalidArguments}
 use Rattle.xet_base.specs.declared.merklehash.DataHash.{DataHash}
@@ -21,10 +21,11 @@ abbrev pub RunInXorb : DataHash → List DataHash → MDBXorbInfo → ℕ
 RunInXorb key qs xorb index answer =
     (answer ≡ some_run_at key (xorb, index) qs) × ((qs ≡ []) ⊎ (index < length xorb.chunks))
 
--- it is refused: the device failed, or the xorb has no chunk at the index
-abbrev pub NoRunInXorb : MDBXorbInfo → ℕ → Source → Source → CoreError → Type 0
-NoRunInXorb xorb index old new e =
-    DeviceFailure old new e ⊎ ((e ≡ InvalidArguments) × (length xorb.chunks ≤ index))
+-- it is refused, which needs a hash: the device failed, or the xorb has no chunk at the index
+abbrev pub NoRunInXorb : List DataHash → MDBXorbInfo → ℕ → Source → Source → CoreError → Type 0
+NoRunInXorb qs xorb index old new e =
+    (qs ≢ [])
+    × (DeviceFailure old new e ⊎ ((e ≡ InvalidArguments) × (length xorb.chunks ≤ index)))
 
 -- a location in one of some xorbs, where the chunk has this hash
 pub record HasChunkAt (xorbs : List MDBXorbInfo) (hash : DataHash) (p : ChunkLocation)

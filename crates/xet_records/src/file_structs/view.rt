@@ -61,16 +61,19 @@ impl MDBFileInfoView {
         MDBFileInfoView::cut(alloc, header, bytes)
     }
 
-    /// The same as `new` if the bytes begin with this header, else `InvalidArguments`.
+    /// The same as `new`, but `InvalidArguments` if the first 48 bytes are not those of this header.
     pub fn from_data_and_header(
         alloc: Global,
         header: FileDataSequenceHeader,
         bytes: Bytes,
     ) -> Result<Self>
-        ensures { MatchResult result (λ view. BeginsWithFile bytes view × (view.metadata ≡ header))
+        ensures shows { MatchResult result
+            (λ view. BeginsWithFile bytes view × (view.metadata ≡ header))
             (λ e. NoView file_records bytes e
             ⊎ ((e ≡ CoreError.InvalidArguments) × (48 ≤ length bytes)
             × (take 48 bytes ≢ header_row header))) }
+        ensures other { 48 ≤ length bytes → take 48 bytes ≢ header_row header
+            → IsErrAnd result (λ e. e ≡ CoreError.InvalidArguments) }
     {
         header.widths();
         if !record_bytes::begins_with(bytes.as_slice(), &header)? {

@@ -1,6 +1,6 @@
 //! A xorb record as a view of its bytes.
 
-ghost use Rattle.std.specs.Prelude.{◌≡◌, ◌≢◌, ◌⊎◌, ◌+◌, ◌*◌, ◌^◌, ◌<◌, ◌≤◌, ◌++◌, ℕ, List, flat_map, nat_eq, slice_get, Some, length, take, MatchResult, MatchOption, OnOk, IfOk, IfErr};
+ghost use Rattle.std.specs.Prelude.{◌≡◌, ◌≢◌, ◌⊎◌, ◌+◌, ◌*◌, ◌^◌, ◌<◌, ◌≤◌, ◌++◌, ℕ, List, flat_map, nat_eq, slice_get, Some, length, take, MatchResult, MatchOption, OnOk, IfOk, IfErr, IsErrAnd};
 ghost use Rattle.std.specs.Cmp.{partial_equiv_from_equiv};
 ghost use Rattle.std.specs.Cmp.Lexicographic.{pointwise, on_texts_equal};
 ghost use Rattle.std.specs.Ordering.{on};
@@ -57,12 +57,15 @@ impl MDBXorbInfoView {
         MDBXorbInfoView::cut(header, bytes)
     }
 
-    /// The same as `new` if the bytes begin with this header, else `InvalidArguments`.
+    /// The same as `new`, but `InvalidArguments` if the first 48 bytes are not those of this header.
     pub fn from_data_and_header(header: XorbChunkSequenceHeader, bytes: Bytes) -> Result<Self>
-        ensures { MatchResult result (λ view. BeginsWithXorb bytes view × (view.metadata ≡ header))
+        ensures shows { MatchResult result
+            (λ view. BeginsWithXorb bytes view × (view.metadata ≡ header))
             (λ e. NoView xorb_records bytes e
             ⊎ ((e ≡ CoreError.InvalidArguments) × (48 ≤ length bytes)
             × (take 48 bytes ≢ xorb_header_row header))) }
+        ensures other { 48 ≤ length bytes → take 48 bytes ≢ xorb_header_row header
+            → IsErrAnd result (λ e. e ≡ CoreError.InvalidArguments) }
     {
         header.widths();
         if !record_bytes::begins_with(bytes.as_slice(), &header)? {

@@ -1,6 +1,6 @@
 //! Queries for runs of chunks on the bytes of a shard.
 
-ghost use Rattle.std.specs.Prelude.{◌≡◌, ◌⊎◌, true, ℕ, List, [], All, Option, None, map, MatchResult, OnOk, IfOk, IfErr};
+ghost use Rattle.std.specs.Prelude.{◌≡◌, ◌≢◌, ◌⊎◌, true, ℕ, List, [], All, Option, None, Ok, map, MatchResult, OnOk, IfOk, IfErr};
 ghost use Rattle.std.specs.FinMap as finite;
 ghost use Rattle.xet_base.specs.KeyedHash.{no_key};
 ghost use Rattle.xet_base.specs.Source.{DeviceFailure};
@@ -14,7 +14,7 @@ ghost use Rattle.xet_shards.specs.Layout.{Form};
 ghost use Rattle.xet_shards.specs.InForm.{IsInForm};
 ghost use Rattle.xet_shards.specs.Lookup.{Visit, VisitsSome};
 ghost use Rattle.xet_shards.specs.WrittenQueries.{RunInXorb, NoRunInXorb, RunAmong, QueryCosts};
-ghost use Rattle.xet_shards.specs.RunReading.{AnswerAt, RefusedAt, TriedAnswer, TriedRefused, QueryAnswer, QueryRefused};
+ghost use Rattle.xet_shards.specs.RunReading.{AnswerAt, RefusedAt, TriedAnswer, TriedRefused, QueryOutcome};
 ghost use Rattle.xet_shards.specs.WrittenShard.{IsWritten};
 
 use super::info::MDBShardInfo;
@@ -46,29 +46,34 @@ impl MDBShardInfo {
             (AnswerAt self.now.metadata.chunk_hash_hmac_key unkeyed_query_hashes.now
             (S.meaning source.old).bytes self.now.metadata.xorb_info_offset xorb_row
             chunk_index) }
+        ensures nothing { unkeyed_query_hashes.now ≡ []
+            → (result ≡ Ok None) × (S.meaning source.new ≡ S.meaning source.old) }
         ensures refused { IfErr result
             (RefusedAt (λ e. e ≡ CoreError.InvalidArguments) self.now.metadata.chunk_hash_hmac_key
             unkeyed_query_hashes.now self.now.metadata.xorb_info_offset xorb_row chunk_index
             (S.meaning source.old) (S.meaning source.new)) }
         ensures serves { OnOk result (Serves (S.meaning source.old) (S.meaning source.new)) }
-        ensures visit { Visit xorb_records 2 self.now.metadata.xorb_info_offset xorb_row
-            (S.meaning source.old) (S.meaning source.new) }
         ensures in_form { (files : List File) → (xorbs : List Xorb) → (form : Form) → (xorb : Xorb)
             → IsInForm files xorbs form (S.meaning source.old).bytes self.now.metadata
             → StartsAt xorb_records xorbs xorb_row xorb → IsXorb xorb
             → MatchResult result (RunInXorb form.key unkeyed_query_hashes.now xorb chunk_index)
-            (NoRunInXorb xorb chunk_index (S.meaning source.old) (S.meaning source.new)) }
-        ensures bookend { (files : List File) → (xorbs : List Xorb) → (form : Form)
-            → IsInForm files xorbs form (S.meaning source.old).bytes self.now.metadata
-            → xorb_row ≡ total_rows xorb_records xorbs
-            → MatchResult result (λ answer. (unkeyed_query_hashes.now ≡ []) × (answer ≡ None))
-            (λ e. DeviceFailure (S.meaning source.old) (S.meaning source.new) e
-            ⊎ (e ≡ CoreError.InvalidArguments)) }
+            (NoRunInXorb unkeyed_query_hashes.now xorb chunk_index (S.meaning source.old)
+            (S.meaning source.new)) }
         ensures written { (s : Shard) → (expiry : Option ℕ) → (xorb : Xorb)
             → IsWritten s expiry (S.meaning source.old).bytes self.now
             → StartsAt xorb_records (finite.values s.xorbs) xorb_row xorb
             → MatchResult result (RunInXorb no_key unkeyed_query_hashes.now xorb chunk_index)
-            (NoRunInXorb xorb chunk_index (S.meaning source.old) (S.meaning source.new)) }
+            (NoRunInXorb unkeyed_query_hashes.now xorb chunk_index (S.meaning source.old)
+            (S.meaning source.new)) }
+        ensures bookend { (files : List File) → (xorbs : List Xorb) → (form : Form)
+            → IsInForm files xorbs form (S.meaning source.old).bytes self.now.metadata
+            → xorb_row ≡ total_rows xorb_records xorbs
+            → MatchResult result (λ answer. (unkeyed_query_hashes.now ≡ []) × (answer ≡ None))
+            (λ e. (unkeyed_query_hashes.now ≢ [])
+            × (DeviceFailure (S.meaning source.old) (S.meaning source.new) e
+            ⊎ (e ≡ CoreError.InvalidArguments))) }
+        ensures visit { Visit xorb_records 2 self.now.metadata.xorb_info_offset xorb_row
+            (S.meaning source.old) (S.meaning source.new) }
     {
         let absent = CoreError::InvalidArguments;
         self.run_at_location(
@@ -96,26 +101,26 @@ impl MDBShardInfo {
         source: &mut S,
         unkeyed_query_hashes: &[MerkleHash],
     ) -> Result<Option<(usize, FileDataSequenceEntry)>>
-        ensures read { MatchResult result
-            (QueryAnswer self.now.metadata unkeyed_query_hashes.now (S.meaning source.old)
-            (S.meaning source.new))
-            (QueryRefused self.now.metadata unkeyed_query_hashes.now (S.meaning source.old)
-            (S.meaning source.new)) }
+        ensures read { QueryOutcome self.now.metadata unkeyed_query_hashes.now
+            (S.meaning source.old) (S.meaning source.new) result }
+        ensures nothing { (unkeyed_query_hashes.now ≡ [])
+            ⊎ (self.now.metadata.chunk_lookup_num_entry ≡ 0)
+            → (result ≡ Ok None) × (S.meaning source.new ≡ S.meaning source.old) }
         ensures serves { OnOk result (Serves (S.meaning source.old) (S.meaning source.new)) }
         ensures in_form { (files : List File) → (xorbs : List Xorb) → (form : Form)
             → IsInForm files xorbs form (S.meaning source.old).bytes self.now.metadata
             → form.chunk_table ≡ true → All IsXorb xorbs
             → MatchResult result (RunAmong form.key unkeyed_query_hashes.now xorbs)
             (DeviceFailure (S.meaning source.old) (S.meaning source.new)) }
+        ensures written { (s : Shard) → (expiry : Option ℕ)
+            → IsWritten s expiry (S.meaning source.old).bytes self.now
+            → MatchResult result (RunAmong no_key unkeyed_query_hashes.now (finite.values s.xorbs))
+            (DeviceFailure (S.meaning source.old) (S.meaning source.new)) }
         ensures in_form_costs { (files : List File) → (xorbs : List Xorb) → (form : Form)
             → IsInForm files xorbs form (S.meaning source.old).bytes self.now.metadata
             → form.chunk_table ≡ true
             → QueryCosts form.key unkeyed_query_hashes.now xorbs (S.meaning source.old)
             (S.meaning source.new) }
-        ensures written { (s : Shard) → (expiry : Option ℕ)
-            → IsWritten s expiry (S.meaning source.old).bytes self.now
-            → MatchResult result (RunAmong no_key unkeyed_query_hashes.now (finite.values s.xorbs))
-            (DeviceFailure (S.meaning source.old) (S.meaning source.new)) }
         ensures costs { (s : Shard) → (expiry : Option ℕ)
             → IsWritten s expiry (S.meaning source.old).bytes self.now
             → QueryCosts no_key unkeyed_query_hashes.now (finite.values s.xorbs)
@@ -131,11 +136,8 @@ impl MDBShardInfo {
         source: &mut S,
         unkeyed_query_hashes: &[MerkleHash],
     ) -> Result<Option<(usize, FileDataSequenceEntry)>>
-        ensures read { MatchResult result
-            (QueryAnswer self.now.metadata unkeyed_query_hashes.now (S.meaning source.old)
-            (S.meaning source.new))
-            (QueryRefused self.now.metadata unkeyed_query_hashes.now (S.meaning source.old)
-            (S.meaning source.new)) }
+        ensures read { QueryOutcome self.now.metadata unkeyed_query_hashes.now
+            (S.meaning source.old) (S.meaning source.new) result }
         ensures serves { OnOk result (Serves (S.meaning source.old) (S.meaning source.new)) }
     {
         let Some(first) = unkeyed_query_hashes.first() else {
@@ -202,6 +204,8 @@ impl MDBShardInfo {
             (AnswerAt self.now.metadata.chunk_hash_hmac_key query_hashes.now
             (S.meaning source.old).bytes self.now.metadata.xorb_info_offset xorb_row
             chunk_index) }
+        ensures nothing { query_hashes.now ≡ []
+            → (result ≡ Ok None) × (S.meaning source.new ≡ S.meaning source.old) }
         ensures refused { IfErr result
             (RefusedAt (λ e. e ≡ absent) self.now.metadata.chunk_hash_hmac_key query_hashes.now
             self.now.metadata.xorb_info_offset xorb_row chunk_index (S.meaning source.old)

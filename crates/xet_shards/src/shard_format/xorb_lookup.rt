@@ -48,35 +48,35 @@ impl MDBShardInfo {
             (hits (chunk_lookup_table self.now.metadata (S.meaning source.old))
             (under_key self.now.metadata.chunk_hash_hmac_key unkeyed_hash.now).word0)
             8) }
-        ensures serves { OnOk result (Serves (S.meaning source.old) (S.meaning source.new)) }
         ensures fits { OnOk result
             (FitsTable (chunk_lookup_table self.now.metadata (S.meaning source.old))) }
         ensures refused { IfErr result
             (SearchRefused (chunk_lookup_table self.now.metadata (S.meaning source.old))
             (S.meaning source.old) (S.meaning source.new)) }
+        ensures serves { OnOk result (Serves (S.meaning source.old) (S.meaning source.new)) }
         ensures kept { (S.meaning source.new).bytes ≡ (S.meaning source.old).bytes }
-        ensures bounds { IsSorted (chunk_lookup_table self.now.metadata (S.meaning source.old))
-            → Bounded (chunk_lookup_table self.now.metadata (S.meaning source.old))
-            (under_key self.now.metadata.chunk_hash_hmac_key unkeyed_hash.now).word0
-            (S.meaning source.old) (S.meaning source.new) }
-        ensures even { IsEven (chunk_lookup_table self.now.metadata (S.meaning source.old))
-            → (S.meaning source.new).seeks ≤ (S.meaning source.old).seeks + 3 }
         ensures in_form { (files : List File) → (xorbs : List Xorb) → (form : Form)
             → IsInForm files xorbs form (S.meaning source.old).bytes self.now.metadata
             → form.chunk_table ≡ true
             → MatchResult result
             (RowsAmong xorbs (under_key form.key unkeyed_hash.now).word0 dest.old dest.new)
             (DeviceFailure (S.meaning source.old) (S.meaning source.new)) }
-        ensures in_form_costs { (files : List File) → (xorbs : List Xorb) → (form : Form)
-            → IsInForm files xorbs form (S.meaning source.old).bytes self.now.metadata
-            → form.chunk_table ≡ true
-            → ChunkSearchCosts xorbs (under_key form.key unkeyed_hash.now).word0
-            (S.meaning source.old) (S.meaning source.new) }
         ensures written { (s : Shard) → (expiry : Option ℕ)
             → IsWritten s expiry (S.meaning source.old).bytes self.now
             → MatchResult result
             (RowsAmong (finite.values s.xorbs) unkeyed_hash.now.word0 dest.old dest.new)
             (DeviceFailure (S.meaning source.old) (S.meaning source.new)) }
+        ensures bounds { IsSorted (chunk_lookup_table self.now.metadata (S.meaning source.old))
+            → Bounded (chunk_lookup_table self.now.metadata (S.meaning source.old))
+            (under_key self.now.metadata.chunk_hash_hmac_key unkeyed_hash.now).word0
+            (S.meaning source.old) (S.meaning source.new) }
+        ensures even { IsEven (chunk_lookup_table self.now.metadata (S.meaning source.old))
+            → (S.meaning source.new).seeks ≤ (S.meaning source.old).seeks + 3 }
+        ensures in_form_costs { (files : List File) → (xorbs : List Xorb) → (form : Form)
+            → IsInForm files xorbs form (S.meaning source.old).bytes self.now.metadata
+            → form.chunk_table ≡ true
+            → ChunkSearchCosts xorbs (under_key form.key unkeyed_hash.now).word0
+            (S.meaning source.old) (S.meaning source.new) }
         ensures costs { (s : Shard) → (expiry : Option ℕ)
             → IsWritten s expiry (S.meaning source.old).bytes self.now
             → ChunkSearchCosts (finite.values s.xorbs) unkeyed_hash.now.word0 (S.meaning source.old)
@@ -110,17 +110,17 @@ impl MDBShardInfo {
             → MatchResult result (StartsAmong xorb_records xorbs hash.now.word0 dest.new)
             (NoStartsAmong xorb_records xorbs hash.now.word0 (S.meaning source.old)
             (S.meaning source.new)) }
-        ensures in_form_costs { (files : List File) → (xorbs : List Xorb) → (form : Form)
-            → IsInForm files xorbs form (S.meaning source.old).bytes self.now.metadata
-            → Ascends xorb_records xorbs → form.xorb_table ≡ true
-            → SearchWithinBounds xorb_records xorbs hash.now.word0 (S.meaning source.old)
-            (S.meaning source.new) }
         ensures written { (s : Shard) → (expiry : Option ℕ)
             → IsWritten s expiry (S.meaning source.old).bytes self.now
             → MatchResult result
             (StartsAmong xorb_records (finite.values s.xorbs) hash.now.word0 dest.new)
             (NoStartsAmong xorb_records (finite.values s.xorbs) hash.now.word0
             (S.meaning source.old) (S.meaning source.new)) }
+        ensures in_form_costs { (files : List File) → (xorbs : List Xorb) → (form : Form)
+            → IsInForm files xorbs form (S.meaning source.old).bytes self.now.metadata
+            → Ascends xorb_records xorbs → form.xorb_table ≡ true
+            → SearchWithinBounds xorb_records xorbs hash.now.word0 (S.meaning source.old)
+            (S.meaning source.new) }
         ensures costs { (s : Shard) → (expiry : Option ℕ)
             → IsWritten s expiry (S.meaning source.old).bytes self.now
             → SearchWithinBounds xorb_records (finite.values s.xorbs) hash.now.word0

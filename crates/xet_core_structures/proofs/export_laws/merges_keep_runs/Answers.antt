@@ -1,5 +1,6 @@
+use Rattle.std.proofs.Common.{None, ◌∙◌}
 use Rattle.xet_base.specs.KeyedHash.{no_key}
-use Rattle.xet_core_structures.proofs.ExportTrees.{tree_of_exports, keyed_leaves, run_kept, run_from, same_chunks, answer_from, longer_run}
+use Rattle.xet_core_structures.proofs.ExportTrees.{tree_of_exports, keyed_leaves, run_kept, run_from, same_chunks, answer_from, longer_run, longer_under, export_written}
 use Rattle.xet_core_structures.proofs.MergeTrees.{one_layout}
 use Rattle.xet_core_structures.proofs.export_laws.merges_keep_runs.Goals as goal
 
@@ -23,6 +24,14 @@ returns-clause-keyed c = λ inputs plan key shard_at form_at join out i q index 
   tree_of_exports plan key shard_at join joins inputs form_at exports out writes,
   longer_run plan shard_at join joins key i q index hashes run member is,
 )
+
+pub returns-clause-exported : goal.returns-clause-exported
+returns-clause-exported c = λ inputs plan shard_at expiry_at join out form old new before after size joins written writes left exports.
+    let joined = one_layout inputs shard_at expiry_at plan join out joins.union written joins.agree joins.is_join writes in
+    export_written join None joined.1 form old new before after size (left ∙ joined.0) exports
+
+pub returns-clause-exported_runs : goal.returns-clause-exported_runs
+returns-clause-exported_runs c = longer_under
 
 pub returns-clause-keyed_leaves : goal.returns-clause-keyed_leaves
 returns-clause-keyed_leaves c = keyed_leaves

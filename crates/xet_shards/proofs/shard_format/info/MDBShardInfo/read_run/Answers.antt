@@ -54,7 +54,7 @@ loop-query_hash-preserved g c =
       run_goes_on c.args.self.now.metadata.chunk_hash_hmac_key qs c.args.left (g.S.ShardSource.meaning c.args.source.now) now new c.loop-query_hash.length c.loop-query_hash.bytes
           c.loop-query_hash.invariant.0 chunk _ c.in_ok-chunk.ensures (omega (arith, c.loop-query_hash.invariant.1, c.loop-query_hash-test.true))
           (omega (arith, c.loop-query_hash.invariant.0.few, c.if-length-left.false)) c.in-Some.sum
-          (next_hash c.args.self.now.metadata.chunk_hash_hmac_key qs c.loop-query_hash.length c.loop-query_hash.query_hash-index _ c.keyed_chunk_hash.result chunk.chunk_hash _ c.loop-query_hash.invariant.1 c.keyed_chunk_hash.ensures (tested_same _ c.if-ne.ensures)) c.in-Some.ensures.1,
+          (next_hash c.args.self.now.metadata.chunk_hash_hmac_key qs c.loop-query_hash.length c.loop-query_hash.query_hash-index _ c.keyed_chunk_hash.result chunk.chunk_hash _ c.loop-query_hash.invariant.1 c.keyed_chunk_hash.ensures (tested_same _ c.if-ne.ensures)) c.in-Some.ensures.1 (omega (arith, c.in-Some.ensures)),
       ap (λ n. n + 1) c.loop-query_hash.invariant.1,
     )
 

@@ -11,7 +11,7 @@ returns-in_err-header-clause-visit g c = visit_failed (λ e. e ≡ c.args.absent
 pub returns-then-is_bookend-clause-refused : goal.returns-then-is_bookend-clause-refused
 returns-then-is_bookend-clause-refused g c =
     let P : CoreError → Type 0 = λ e. e ≡ c.args.absent in
-    absent P c.args.self.now.metadata.chunk_hash_hmac_key c.args.query_hashes.now c.args.self.now.metadata.xorb_info_offset c.args.xorb_row c.args.chunk_index (g.S.ShardSource.meaning c.args.source.now) (g.S.ShardSource.meaning c.read_header_at.new.source) c.in_ok-header.header c.in_ok-header.ensures.0 c.in_ok-header.ensures.1 c.args.absent refl (elim c.then-is_bookend.either [
+    absent P c.args.self.now.metadata.chunk_hash_hmac_key c.args.query_hashes.now c.args.self.now.metadata.xorb_info_offset c.args.xorb_row c.args.chunk_index (g.S.ShardSource.meaning c.args.source.now) (g.S.ShardSource.meaning c.read_header_at.new.source) c.in_ok-header.header c.in_ok-header.ensures.0 c.in_ok-header.ensures.1 c.args.absent (λ none. both_ways _ (sym c.if-is_empty.ensures) (eq-eqb _ _ none)) refl (elim c.then-is_bookend.either [
       | inl is ↦ bookend_here P c.args.self.now.metadata.chunk_hash_hmac_key c.args.query_hashes.now c.args.self.now.metadata.xorb_info_offset c.args.xorb_row c.args.chunk_index (g.S.ShardSource.meaning c.args.source.now) (g.S.ShardSource.meaning c.read_header_at.new.source) c.in_ok-header.header c.in_ok-header.ensures.0 c.in_ok-header.ensures.1 (c.is_bookend.ensures.0 is)
       | inr past ↦ no_such_chunk P c.args.self.now.metadata.chunk_hash_hmac_key c.args.query_hashes.now c.args.self.now.metadata.xorb_info_offset c.args.xorb_row c.args.chunk_index (g.S.ShardSource.meaning c.args.source.now) (g.S.ShardSource.meaning c.read_header_at.new.source) c.in_ok-header.header c.in_ok-header.ensures.0 c.in_ok-header.ensures.1 (λ ones. both_ways c.is_bookend.result past.0 (c.is_bookend.ensures.1 ones)) past.1
     ])
@@ -27,7 +27,7 @@ returns-clause-answer g c =
 pub returns-clause-refused : goal.returns-clause-refused
 returns-clause-refused g c =
     IfErr-weaker c.read_run_at.result _ _ (λ e fails. refused_here (λ e. e ≡ c.args.absent) c.args.self.now.metadata.chunk_hash_hmac_key c.args.query_hashes.now c.args.self.now.metadata.xorb_info_offset c.args.xorb_row c.args.chunk_index (g.S.ShardSource.meaning c.args.source.now) (g.S.ShardSource.meaning c.read_header_at.new.source) c.in_ok-header.header c.in_ok-header.ensures.0 c.in_ok-header.ensures.1
-    (λ ones. both_ways c.is_bookend.result c.if-is_bookend.false (c.is_bookend.ensures.1 ones)) (omega (arith, c.if-chunk_index-header.false)) _ e fails) c.read_run_at.ensures.refused
+    (λ ones. both_ways c.is_bookend.result c.if-is_bookend.false (c.is_bookend.ensures.1 ones)) (omega (arith, c.if-chunk_index-header.false)) _ e (λ none. both_ways _ (sym c.if-is_empty.ensures) (eq-eqb _ _ none)) fails) c.read_run_at.ensures.refused
 
 pub returns-clause-visit : goal.returns-clause-visit
 returns-clause-visit g c =
