@@ -4,7 +4,7 @@ use Rattle.std.specs.Map.Iter.{deref}
 use Rattle.std.specs.Io.KnownBytes.{Appends}
 use Rattle.std.proofs.KnownBytes.{Appends-nil, Appends-trans}
 use Rattle.xet_shards.specs.Section.{section_bytes}
-use Rattle.xet_shards.proofs.Walks.{value_turn, value_turned, mapped_turn, mapped_end, mapped_push, entry_holds, flat_map-push, sum-middle}
+use Rattle.xet_shards.proofs.Walks.{entry_turn, entry_turned, mapped_turn, mapped_end, mapped_push, entry_holds, flat_map-push, sum-middle}
 use Rattle.xet_shards.proofs.shard_format.writer.write_values.Goals as goal
 
 pub loop-value-init : goal.loop-value-init
@@ -43,14 +43,14 @@ loop-value-preserved g c =
     let contents = g.W.Write.contents in
     let start = contents c.args.writer.now in
     let end = contents c.write.new.writer in
-    let whole = value_turn _ c.loop-value.yielded _ _ _ c.in-Some.value c.loop-value.invariant.all c.in-Some.is c.next.ensures.steps in
+    let whole = entry_turn deref _ c.loop-value.yielded _ _ _ c.in-Some.value c.loop-value.invariant.all c.in-Some.is c.next.ensures.steps in
     let before = map held (map deref c.loop-value.yielded) in
     let wrote = c.in_ok-write.ensures in
     let next = ap (λ r. before ++ r ∷ []) c.record.ensures ∙ sym (mapped_push held c.loop-value.yielded c.in-Some.value) in
     record {
       can = tt;
       finite = tt;
-      all = value_turned _ c.loop-value.yielded _ c.in-Some.value whole;
+      all = entry_turned deref _ c.loop-value.yielded _ c.in-Some.value whole;
       written = subst (g.S.WrittenSection.has_written c.write.new.self) next (wrote.written before c.loop-value.invariant.written);
       bytes = subst (λ rs. Appends start end (flat_map record_bytes rs)) next
           (subst (Appends start end) (sym (flat_map-push record_bytes before c.record.result.now))
