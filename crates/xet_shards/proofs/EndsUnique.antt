@@ -1,5 +1,5 @@
 -- The first and the last bytes of a shard determine header and footer, and those of a written shard are its own.
-use Rattle.std.proofs.Common.{◌≡◌, inl, inr, Ok, Err, ℕ, ◌+◌, ◌-◌, ◌^◌, ◌<◌, List, [], ◌∷◌, ◌++◌, length, flat_map, take, drop, Option, refl, sym, ap, ◌∙◌, subst, arith, take-append-drop, append-nil}
+use Rattle.std.proofs.Common.{◌≡◌, inl, inr, Ok, Err, ℕ, ◌+◌, ◌-◌, ◌^◌, ◌<◌, List, [], ◌∷◌, ◌++◌, length, get_or, flat_map, take, drop, Option, refl, sym, ap, ◌∙◌, subst, arith, take-append-drop, append-nil}
 use Rattle.std.specs.Prelude.{MatchResult}
 use Rattle.std.specs.declared.result.Result.{Result}
 use Rattle.std.specs.FinMap.{values}
@@ -37,15 +37,6 @@ header_unique g h g_tag h_tag g_two h_two g_fits h_fits same =
     let size = u64_bytes-injective g.footer_size h.footer_size g_fits h_fits last.1 in
     λ i. record { tag = (g_tag ∙ sym h_tag) i; version = (g_two ∙ sym h_two) i; footer_size = size i }
 
--- the first of some numbers, and those after it
-abbrev first : List ℕ → ℕ
-first [] = 0
-first (n ∷ ns) = n
-
-abbrev after : List ℕ → List ℕ
-after [] = []
-after (n ∷ ns) = ns
-
 from_right : (a b c d e : List ℕ) → (((a ++ b) ++ c) ++ d) ++ e ≡ a ++ (b ++ (c ++ (d ++ e)))
 from_right a b c d e = simp (append_assoc)
 
@@ -66,23 +57,23 @@ footer_unique f g f_fits g_fits same =
     let sums = words (sums_of f) (sums_of g) [] [] refl f_fits.sums g_fits.sums (append-nil (flat_map u64_bytes (sums_of f)) ∙ buffer.1 ∙ sym (append-nil (flat_map u64_bytes (sums_of g)))) in
     let hash = hash_bytes-injective f.chunk_hash_hmac_key g.chunk_hash_hmac_key f_fits.key g_fits.key key.0 in
     λ i. record {
-      version = first (offsets.0 i);
-      file_info_offset = first (after (offsets.0 i));
-      xorb_info_offset = first (after (after (offsets.0 i)));
-      file_lookup_offset = first (after (after (after (offsets.0 i))));
-      file_lookup_num_entry = first (after (after (after (after (offsets.0 i)))));
-      xorb_lookup_offset = first (after (after (after (after (after (offsets.0 i))))));
-      xorb_lookup_num_entry = first (after (after (after (after (after (after (offsets.0 i)))))));
-      chunk_lookup_offset = first (after (after (after (after (after (after (after (offsets.0 i))))))));
-      chunk_lookup_num_entry = first (after (after (after (after (after (after (after (after (offsets.0 i)))))))));
+      version = get_or (offsets.0 i) 0 0;
+      file_info_offset = get_or (offsets.0 i) 1 0;
+      xorb_info_offset = get_or (offsets.0 i) 2 0;
+      file_lookup_offset = get_or (offsets.0 i) 3 0;
+      file_lookup_num_entry = get_or (offsets.0 i) 4 0;
+      xorb_lookup_offset = get_or (offsets.0 i) 5 0;
+      xorb_lookup_num_entry = get_or (offsets.0 i) 6 0;
+      chunk_lookup_offset = get_or (offsets.0 i) 7 0;
+      chunk_lookup_num_entry = get_or (offsets.0 i) 8 0;
       chunk_hash_hmac_key = hash i;
-      shard_creation_timestamp = first (timestamps.0 i);
-      shard_key_expiry = first (after (timestamps.0 i));
+      shard_creation_timestamp = get_or (timestamps.0 i) 0 0;
+      shard_key_expiry = get_or (timestamps.0 i) 1 0;
       _buffer = buffer.0 i;
-      stored_bytes_on_disk = first (sums.0 i);
-      materialized_bytes = first (after (sums.0 i));
-      stored_bytes = first (after (after (sums.0 i)));
-      footer_offset = first (after (after (after (sums.0 i))));
+      stored_bytes_on_disk = get_or (sums.0 i) 0 0;
+      materialized_bytes = get_or (sums.0 i) 1 0;
+      stored_bytes = get_or (sums.0 i) 2 0;
+      footer_offset = get_or (sums.0 i) 3 0;
     }
 
 -- at most one header and footer have these bytes
@@ -102,10 +93,10 @@ module _ (bytes : List ℕ) (info : MDBShardInfo) (ends : HasEnds bytes info) wh
   unfolding shard_footer_bytes
   version_is =
       let f = info.metadata in
-      let rest = flat_map u64_bytes (after (offsets_of f)) ++ (hash_bytes f.chunk_hash_hmac_key ++ (flat_map u64_bytes (timestamps_of f) ++ (flat_map u64_bytes f._buffer ++ flat_map u64_bytes (sums_of f)))) in
+      let rest = flat_map u64_bytes (drop 1 (offsets_of f)) ++ (hash_bytes f.chunk_hash_hmac_key ++ (flat_map u64_bytes (timestamps_of f) ++ (flat_map u64_bytes f._buffer ++ flat_map u64_bytes (sums_of f)))) in
       front_is 8 (last_bytes bytes) (u64_bytes f.version) rest (length-u64_bytes f.version)
       (ends.footer ∙ from_right (flat_map u64_bytes (offsets_of f)) (hash_bytes f.chunk_hash_hmac_key) (flat_map u64_bytes (timestamps_of f)) (flat_map u64_bytes f._buffer) (flat_map u64_bytes (sums_of f))
-      ∙ append_assoc (u64_bytes f.version) (flat_map u64_bytes (after (offsets_of f))) _)
+      ∙ append_assoc (u64_bytes f.version) (flat_map u64_bytes (drop 1 (offsets_of f))) _)
       ∙ ap u64_bytes ends.footer_version
 
   pub not_unsupported : ¬ IsUnsupported bytes

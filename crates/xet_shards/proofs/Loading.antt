@@ -1,8 +1,6 @@
 -- Header and footer of a source.
-use Rattle.std.proofs.Common.{◌≡◌, ◌≢◌, inl, inr, Ok, Err, Some, ℕ, ◌+◌, ◌-◌, ◌^◌, ◌<◌, ◌≤◌, List, [], ◌++◌, length, take, drop, append-nil, sym, ap, ◌∙◌, subst, arith}
+use Rattle.std.proofs.Common.{◌≡◌, ◌≢◌, inl, inr, Some, ℕ, ◌+◌, ◌-◌, ◌^◌, ◌<◌, ◌≤◌, List, [], ◌++◌, length, take, drop, append-nil, sym, ap, ◌∙◌, subst, arith}
 use Rattle.std.proofs.lemmas.List.{length-append, length-drop, append_assoc, nil_from_length}
-use Rattle.std.specs.Prelude.{IfOk, IfErr}
-use Rattle.std.specs.declared.result.Result.{Result}
 use Rattle.std.specs.declared.io.Error.{Error}
 use Rattle.xet_base.specs.declared.error.CoreError.{CoreError}
 use Rattle.xet_base.specs.Bytes.{u64_bytes}
@@ -30,15 +28,6 @@ refusal_of Unsupported Short Unsupported' Short' bytes bytes' old mid new e same
     later : FormatCase Unsupported Short bytes e → FormatCase Unsupported' Short' bytes' e
     later (unsupported_format is has) = unsupported_format is (unsupported has)
     later (too_few_bytes is has) = too_few_bytes is (short has)
-
--- what follows from the value or from the error of a result
-pub ok_gives : {T E : Type 0} (r : Result T E) (P Q : T → Type 0) → ((v : T) → P v → Q v) → IfOk r P → IfOk r Q
-ok_gives (Ok v) P Q gives holds = gives v holds
-ok_gives (Err e) P Q gives holds = tt
-
-pub err_gives : {T E : Type 0} (r : Result T E) (P Q : E → Type 0) → ((e : E) → P e → Q e) → IfErr r P → IfErr r Q
-err_gives (Ok v) P Q gives holds = tt
-err_gives (Err e) P Q gives holds = gives e holds
 
 -- a header in two steps
 pub read_in_two : (a b c : Source) (tag rest : List ℕ) (h : MDBShardFileHeader) → tag ≡ header_tag → rest ≡ u64_bytes 2 ++ u64_bytes h.footer_size → h.version ≡ 2
