@@ -45,10 +45,9 @@ returns-in_err-metadata g c =
     let h = c.in_ok-header.header in
     let n = c.in_ok-length.length in
     let taken = subst (λ s. Takes s mid (shard_header_bytes h)) c.in_ok-seek_to.ensures c.in_ok-header.ensures.read in
-    let p = err_from_is_err_and c.from_residual-in_err-metadata.result c.from_residual-in_err-metadata.ensures.1 in
     let enough : 200 ≤ n = omega (arith, c.if-length-lt-FOOTER_SIZE.false) in
     let at = c.in_ok-seek_to-2.ensures ∙ ap (λ s. moved s (n - 200)) c.in_ok-length.ensures.1 in
-    rw (p.1, p.2) (not_footer old mid h taken n c.in_ok-length.ensures.0 enough new _ c.in_ok-header.ensures.known.1
+    search (rules, not_footer old mid h taken n c.in_ok-length.ensures.0 enough new _ c.in_ok-header.ensures.known.1
     (subst (λ s. PartFails HasUnsupportedFooter EndsInFooter 200 s new c.in_err-metadata.field-0.0) at c.in_err-metadata.ensures.refused))
 
 pub returns : goal.returns

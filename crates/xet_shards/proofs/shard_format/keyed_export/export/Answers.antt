@@ -1,4 +1,4 @@
-use Rattle.std.proofs.Common.{refl, subst, arith}
+use Rattle.std.proofs.Common.{refl, subst, arith, rules}
 use Rattle.std.proofs.lemmas.Result.{err_from_is_err_and}
 use Rattle.std.specs.Io.KnownBytes.{Appends}
 use Rattle.xet_records.specs.FileRecord.{file_records}
@@ -10,15 +10,13 @@ use Rattle.xet_shards.proofs.shard_format.keyed_export.export.Goals as goal
 
 pub returns-in_err-read_header : goal.returns-in_err-read_header
 returns-in_err-read_header g c =
-    let p = err_from_is_err_and c.from_residual.result c.from_residual.ensures.1 in
-    rw (p.1, p.2) (header_fails _ _ _ c.in_err-read_header.ensures.refused)
+    search (rules, header_fails _ _ _ c.in_err-read_header.ensures.refused)
 
 pub returns-in_err-serialize : goal.returns-in_err-serialize
 returns-in_err-serialize g c =
     let source = g.S.ShardSource.meaning in
     let read = c.in_ok-read_header.ensures in
-    let p = err_from_is_err_and c.from_residual-in_err-serialize.result c.from_residual-in_err-serialize.ensures.1 in
-    rw (p.1, p.2) (output_fails (source c.args.source.now) (source c.read_header.new.source) _ _
+    search (rules, output_fails (source c.args.source.now) (source c.read_header.new.source) _ _
     (at_files _ (source c.read_header.new.source) c.in_ok-read_header.field-0 read.read read.known.1) c.in_err-serialize.ensures.causes)
 
 pub returns-in_err-files : goal.returns-in_err-files
@@ -45,8 +43,7 @@ returns-in_err-footer g c =
     let form = c.args.form.now in
     let files = section_exported file_records (exported_file form) (if_in form.file_table) (files_exported form) _ _ _ _ _ c.in_ok-files.ensures in
     let xorbs = section_exported xorb_records (exported_xorb form) (keyed_xorbs form.key) (xorbs_exported form) _ _ _ _ _ c.in_ok-xorbs.ensures in
-    let p = err_from_is_err_and c.from_residual-in_err-footer.result c.from_residual-in_err-footer.ensures.1 in
-    rw (p.1, p.2) (output_fails (source c.args.source.now) (source c.export_section-2.new.source) _ _
+    search (rules, output_fails (source c.args.source.now) (source c.export_section-2.new.source) _ _
     (at_end (source c.args.source.now) (source c.read_header.new.source) c.in_ok-read_header.field-0 read.read read.known.1
     (source c.export_section.new.source) files.0 files.1 (source c.export_section-2.new.source) xorbs.0 xorbs.1 form) c.in_err-footer.ensures.causes)
 

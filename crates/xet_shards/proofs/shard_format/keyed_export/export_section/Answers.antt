@@ -1,5 +1,4 @@
 use Rattle.std.proofs.Common.{rules, inl, inr, subst, arith}
-use Rattle.std.proofs.lemmas.Result.{err_from_is_err_and}
 use Rattle.std.proofs.KnownBytes.{Appends-nil, Appends-trans}
 use Rattle.xet_base.specs.Source.{Takes}
 use Rattle.xet_base.specs.InputLaws.{Takes-nil, Takes-trans}
@@ -45,8 +44,7 @@ loop-written-preserved g c =
 pub returns-in_err-next : goal.returns-in_err-next
 returns-in_err-next g c =
     let source = g.S.ShardSource.meaning in
-    let p = err_from_is_err_and c.from_residual.result c.from_residual.ensures.1 in
-    rw (p.1, p.2) (inl (not_passed g.E.Section.Record.SectionRecord.kind g.met.E.ExportedRecord.laws _ (source c.loop-written.source) _ _ c.loop-written.invariant _ _ c.in_err-next.ensures))
+    search (rules, not_passed g.E.Section.Record.SectionRecord.kind g.met.E.ExportedRecord.laws _ (source c.loop-written.source) _ _ c.loop-written.invariant _ _ c.in_err-next.ensures)
 
 pub returns-in_err-export : goal.returns-in_err-export
 returns-in_err-export g c =
@@ -54,8 +52,7 @@ returns-in_err-export g c =
     let now = g.S.ShardSource.meaning c.loop-written.source in
     let new = g.S.ShardSource.meaning c.read.new.source in
     let next = subst (ReadsNextView kind g.E.ExportedRecord.stored (Takes now new) c.loop-written.rows_left c.read.new.left) c.in-Some.is c.in_ok-next.ensures in
-    let p = err_from_is_err_and c.from_residual-in_err-export.result c.from_residual-in_err-export.ensures.1 in
-    rw (p.1, p.2) (inr (writing_failed kind g.met.E.ExportedRecord.laws _ now _ _ c.loop-written.invariant new _ _ next.taken c.in_err-export.ensures.causes))
+    search (rules, writing_failed kind g.met.E.ExportedRecord.laws _ now _ _ c.loop-written.invariant new _ _ next.taken c.in_err-export.ensures.causes)
 
 pub returns-in_err-write_bookend : goal.returns-in_err-write_bookend
 returns-in_err-write_bookend g c =
@@ -63,8 +60,7 @@ returns-in_err-write_bookend g c =
     let now = g.S.ShardSource.meaning c.loop-written.source in
     let new = g.S.ShardSource.meaning c.read.new.source in
     let last : ReadsBookend kind (Takes now new) = search rules in
-    let p = err_from_is_err_and c.from_residual-in_err-write_bookend.result c.from_residual-in_err-write_bookend.ensures.1 in
-    rw (p.1, p.2) (inr (writing_failed kind g.met.E.ExportedRecord.laws _ now _ _ c.loop-written.invariant new _ _ last.taken c.in_err-write_bookend.ensures.causes))
+    search (rules, writing_failed kind g.met.E.ExportedRecord.laws _ now _ _ c.loop-written.invariant new _ _ last.taken c.in_err-write_bookend.ensures.causes)
 
 pub returns : goal.returns
 unfolding section_bytes

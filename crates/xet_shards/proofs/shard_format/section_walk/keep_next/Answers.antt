@@ -1,4 +1,4 @@
-use Rattle.std.proofs.Common.{◌≡◌, sym, ap, ◌∙◌, subst}
+use Rattle.std.proofs.Common.{◌≡◌, sym, ap, ◌∙◌, subst, rules}
 use Rattle.std.proofs.lemmas.Result.{err_from_is_err_and}
 use Rattle.xet_base.specs.Source.{Takes}
 use Rattle.xet_base.specs.InputLaws.{Takes-trans}
@@ -13,8 +13,7 @@ pub returns-in_err-header : goal.returns-in_err-header
 returns-in_err-header g c =
     let K = g.R.SectionRecord.kind in
     let meaning = g.S.ShardSource.meaning in
-    let p = err_from_is_err_and c.from_residual-in_err-header.result c.from_residual-in_err-header.ensures.1 in
-    rw (p.1, p.2) (subst (λ s. RecordFails K c.args.rows_left.now s (meaning c.read_header.new.input) c.in_err-header.field-0.0) c.in_ok-offset.ensures.1
+    search (rules, subst (λ s. RecordFails K c.args.rows_left.now s (meaning c.read_header.new.input) c.in_err-header.field-0.0) c.in_ok-offset.ensures.1
     (record_fails K c.laws.ensures meaning _ _ _ _ c.in_err-header.ensures))
 
 pub returns-in_err-rest : goal.returns-in_err-rest
@@ -24,8 +23,7 @@ returns-in_err-rest g c =
     let start = meaning c.position.new.self in
     let mid = meaning c.read_header.new.input in
     let begun = subst (ReadsNextHeader K (Takes start mid) c.args.rows_left.now c.read_header.new.rows_left) c.in-Some.is c.in_ok-header.ensures in
-    let p = err_from_is_err_and c.from_residual-in_err-rest.result c.from_residual-in_err-rest.ensures.1 in
-    rw (p.1, p.2) (subst (λ s. RecordFails K c.args.rows_left.now s (meaning c.skip_rows_after.new.input) c.in_err-rest.field-0.0) c.in_ok-offset.ensures.1
+    search (rules, subst (λ s. RecordFails K c.args.rows_left.now s (meaning c.skip_rows_after.new.input) c.in_err-rest.field-0.0) c.in_ok-offset.ensures.1
     (record_fails K c.laws.ensures meaning _ c.position.new.self _ _ (no_rows c.in-Some.header c.read_header.new.input _ begun c.in_err-rest.ensures)))
 
 pub returns-in_err-position : goal.returns-in_err-position

@@ -1,5 +1,4 @@
-use Rattle.std.proofs.Common.{inl, inr, ◌+◌, refl, ap, arith}
-use Rattle.std.proofs.lemmas.Result.{err_from_is_err_and}
+use Rattle.std.proofs.Common.{inl, inr, ◌+◌, refl, ap, arith, rules}
 use Rattle.xet_shards.proofs.Runs.{no_run, next_hash, tested_same, tested_other, run_goes_on, run_stops, run_passes, run_whole, run_fails}
 use Rattle.xet_shards.proofs.shard_format.info.MDBShardInfo.read_run.Goals as goal
 
@@ -16,8 +15,7 @@ pub returns-in_err-chunk : goal.returns-in_err-chunk
 returns-in_err-chunk g c =
     let now = g.S.ShardSource.meaning c.loop-query_hash.source in
     let new = g.S.ShardSource.meaning c.read_row.new.source in
-    let p = err_from_is_err_and c.from_residual.result c.from_residual.ensures.1 in
-    rw (p.1, p.2) (run_fails c.args.self.now.metadata.chunk_hash_hmac_key c.args.query_hashes.now c.args.left (g.S.ShardSource.meaning c.args.source.now) now new c.loop-query_hash.length c.loop-query_hash.bytes
+    search (rules, run_fails c.args.self.now.metadata.chunk_hash_hmac_key c.args.query_hashes.now c.args.left (g.S.ShardSource.meaning c.args.source.now) now new c.loop-query_hash.length c.loop-query_hash.bytes
     c.loop-query_hash.invariant.0 _ (omega (arith, c.loop-query_hash.invariant.1, c.loop-query_hash-test.true)) (omega (arith, c.loop-query_hash.invariant.0.few, c.if-length-left.false)) c.in_err-chunk.ensures)
 
 pub returns-then-ne : goal.returns-then-ne
