@@ -1,7 +1,8 @@
 -- The first and the last bytes of a shard determine header and footer, and those of a written shard are its own.
-use Rattle.std.proofs.Common.{◌≡◌, inl, inr, Ok, Err, ℕ, ◌+◌, ◌-◌, ◌^◌, ◌<◌, List, [], ◌∷◌, ◌++◌, length, get_or, flat_map, take, drop, Option, refl, sym, ap, ◌∙◌, subst, arith, take-append-drop, append-nil}
+use Rattle.std.proofs.Common.{◌≡◌, inl, inr, ℕ, ◌+◌, ◌-◌, ◌^◌, ◌<◌, List, [], ◌∷◌, ◌++◌, length, get_or, flat_map, take, drop, Option, refl, sym, ap, ◌∙◌, subst, arith, take-append-drop, append-nil}
 use Rattle.std.specs.Prelude.{MatchResult}
 use Rattle.std.specs.declared.result.Result.{Result}
+use Rattle.std.proofs.lemmas.Result.{MatchResult-weaker}
 use Rattle.std.specs.FinMap.{values}
 use Rattle.std.proofs.lemmas.List.{length-append, append_assoc}
 use Rattle.xet_base.specs.declared.error.CoreError.{CoreError}
@@ -20,7 +21,7 @@ use Rattle.xet_shards.specs.declared.shard_format.info.MDBShardInfo.{MDBShardInf
 use Rattle.xet_shards.specs.Shard.{Shard}
 use Rattle.xet_shards.specs.Section.{section_bytes}
 use Rattle.xet_shards.specs.Tables.{table_bytes, chunk_table_bytes}
-use Rattle.xet_shards.specs.Layout.{Form, if_in, header_tag, shard_header_bytes, header_value, offsets_of, timestamps_of, sums_of, shard_footer_bytes, footer_value, layout_of, layout, plain_form, info_of, info_value}
+use Rattle.xet_shards.specs.Layout.{Form, if_in, header_tag, shard_header_bytes, header_value, offsets_of, timestamps_of, sums_of, shard_footer_bytes, footer_value, layout_of, layout, plain_form, info_value}
 use Rattle.xet_shards.specs.Ends.{HasHeader, FitsFooter, HasEnds, IsUnsupported, IsTooShort, last_bytes, Loads, LoadFails, Refusal}
 use Rattle.xet_shards.specs.Ends.FormatCase.{unsupported_format, too_few_bytes}
 use Rattle.xet_shards.proofs.Layouts.{length-shard_header_bytes, length-shard_footer_bytes}
@@ -142,15 +143,10 @@ why_not_loaded bytes info old new e ends (inl failed) = failed
 why_not_loaded bytes info old new e ends (inr (none, unsupported_format is unsupported)) = absurd (not_unsupported bytes info ends unsupported)
 why_not_loaded bytes info old new e ends (inr (none, too_few_bytes is short)) = absurd (not_too_short bytes info ends short)
 
--- from these bytes header and footer are read, unless the device fails
-pub loads_layout : (old new : Source) (files : List MDBFileInfo) (xorbs : List MDBXorbInfo) (form : Form) (r : Result MDBShardInfo CoreError)
-    → old.bytes ≡ layout_of files xorbs form → FitsFooter (footer_value files xorbs form) → MatchResult r (Loads old new) (LoadFails old new)
-    → MatchResult r (λ info. info ≡ info_of files xorbs form) (DeviceFailure old new)
-loads_layout old new files xorbs form (Ok info) are fits loads =
-    only_info old.bytes info (info_of files xorbs form) loads.ends (subst (λ bs. HasEnds bs (info_of files xorbs form)) (sym are) (ends_of_layout files xorbs form fits))
-loads_layout old new files xorbs form (Err e) are fits fails =
-    why_not_loaded old.bytes (info_of files xorbs form) old new e (subst (λ bs. HasEnds bs (info_of files xorbs form)) (sym are) (ends_of_layout files xorbs form fits)) fails.cause
-
+-- from a shard's bytes header and footer are read, unless the device fails
 pub loads_written : (old new : Source) (s : Shard) (expiry : Option ℕ) (r : Result MDBShardInfo CoreError) → old.bytes ≡ layout s expiry → FitsFooter (info_value s expiry).metadata
     → MatchResult r (Loads old new) (LoadFails old new) → MatchResult r (λ info. info ≡ info_value s expiry) (DeviceFailure old new)
-loads_written old new s expiry r are fits loads = loads_layout old new (values s.files) (values s.xorbs) (plain_form expiry) r are fits loads
+loads_written old new s expiry r are fits loads =
+    let info = info_value s expiry in
+    let ends = subst (λ bs. HasEnds bs info) (sym are) (ends_of_layout (values s.files) (values s.xorbs) (plain_form expiry) fits) in
+    MatchResult-weaker r loads (λ x found. only_info old.bytes x info found.ends ends) (λ e fails. why_not_loaded old.bytes info old new e ends fails.cause)

@@ -3,9 +3,6 @@ use Rattle.xet_base.specs.declared.error.CoreError.TheVariants.{OutOfMemory}
 use Rattle.xet_shards.proofs.TableReading.{no_rows_read, more_rows_read, table_read, no_memory_for_row, row_fails}
 use Rattle.xet_shards.proofs.shard_format.table_reader.read_table.Goals as goal
 
-pub loop-row-init : goal.loop-row-init
-loop-row-init g c = rw (c.new-found.ensures.items, c.in_ok-seek_to.ensures) (no_rows_read _ _ _ _)
-
 pub returns-in_err-read : goal.returns-in_err-read
 returns-in_err-read g c =
     let few : c.args.rows ≤ 4294967295 = omega (arith, c.if-rows-from.false, c.from.ensures) in
