@@ -31,25 +31,6 @@ serves_after old now new first last = record {
   last_failure = last.last_failure ∙ first.last_failure;
 }
 
--- room for eight results that are all taken are eight hits
-pub collides : (t : Table) (key count : ℕ) (old new : List ℕ) → Finds t key IsNumber old new count → FitsTable t → length old ≡ 8 → length new ≡ 8 → 8 ≤ count → Collides t key
-collides t key count old new finds fits old_len new_len full = record {
-  fits = fits;
-  found = finds.found;
-  eight = omega (
-    arith,
-    finds.number,
-    full,
-    old_len,
-    new_len,
-    ap length finds.written,
-    length-append (map (λ (h : Hit ℕ). h.value) finds.found) (drop count old),
-    length-map finds.found (λ (h : Hit ℕ). h.value),
-  );
-  each = finds.each;
-  distinct = finds.distinct;
-}
-
 -- what some readings gave, others give too
 pub finds_weaker : {V E : Type 0} (t : Table) (key : ℕ) (Gives Others : List ℕ → V → Type 0) (old new : List V) (r : Result ℕ E) → ((bytes : List ℕ) (v : V) → Gives bytes v → Others bytes v)
     → IfOk r (Finds t key Gives old new) → IfOk r (Finds t key Others old new)

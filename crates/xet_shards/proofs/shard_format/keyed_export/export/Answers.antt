@@ -12,13 +12,6 @@ pub returns-in_err-read_header : goal.returns-in_err-read_header
 returns-in_err-read_header g c =
     search (rules, header_fails _ _ _ c.in_err-read_header.ensures.refused)
 
-pub returns-in_err-serialize : goal.returns-in_err-serialize
-returns-in_err-serialize g c =
-    let source = g.S.ShardSource.meaning in
-    let read = c.in_ok-read_header.ensures in
-    search (rules, output_fails (source c.args.source.now) (source c.read_header.new.source) _ _
-    (at_files _ (source c.read_header.new.source) c.in_ok-read_header.field-0 read.read read.known.1) c.in_err-serialize.ensures.causes)
-
 pub returns-in_err-files : goal.returns-in_err-files
 returns-in_err-files g c =
     let source = g.S.ShardSource.meaning in

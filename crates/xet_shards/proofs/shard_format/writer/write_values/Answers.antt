@@ -7,15 +7,6 @@ use Rattle.xet_shards.specs.Section.{section_bytes}
 use Rattle.xet_shards.proofs.Walks.{entry_turn, entry_turned, mapped_turn, mapped_end, mapped_push, entry_holds, flat_map-push, sum-middle}
 use Rattle.xet_shards.proofs.shard_format.writer.write_values.Goals as goal
 
-pub loop-value-init : goal.loop-value-init
-loop-value-init g c = record {
-  can = tt;
-  finite = tt;
-  all = c.into_iter-value-iterator.ensures.into_iter_gives ∙ c.values-value-items.ensures.rest;
-  written = c.new-written.ensures;
-  bytes = Appends-nil _;
-}
-
 pub write-requires-clause-whole : goal.write-requires-clause-whole
 write-requires-clause-whole g c =
     let is_whole = g.S.WrittenSection.is_whole in

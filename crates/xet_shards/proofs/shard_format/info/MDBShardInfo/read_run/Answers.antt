@@ -5,12 +5,6 @@ use Rattle.xet_shards.proofs.shard_format.info.MDBShardInfo.read_run.Goals as go
 pub loop-query_hash-init : goal.loop-query_hash-init
 loop-query_hash-init g c = (no_run c.args.self.now.metadata.chunk_hash_hmac_key c.args.query_hashes.now c.args.left (g.S.ShardSource.meaning c.args.source.now), refl)
 
-pub returns-then-length-left : goal.returns-then-length-left
-returns-then-length-left g c =
-    let now = g.S.ShardSource.meaning c.loop-query_hash.source in
-    run_whole c.args.self.now.metadata.chunk_hash_hmac_key c.args.query_hashes.now c.args.left (g.S.ShardSource.meaning c.args.source.now) now now c.loop-query_hash.length c.loop-query_hash.bytes
-    c.loop-query_hash.invariant.0 (inl (omega (arith, c.if-length-left.true))) (omega (arith, c.loop-query_hash.invariant.1, c.loop-query_hash-test.true))
-
 pub returns-in_err-chunk : goal.returns-in_err-chunk
 returns-in_err-chunk g c =
     let now = g.S.ShardSource.meaning c.loop-query_hash.source in
