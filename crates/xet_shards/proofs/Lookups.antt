@@ -1,10 +1,10 @@
 -- Reading the records that a lookup leads to.
-use Rattle.std.proofs.Common.{◌≡◌, ◌≢◌, inl, inr, ℕ, ◌+◌, ◌*◌, ◌^◌, ◌<◌, ◌≤◌, List, [], ◌∷◌, ◌++◌, length, map, take, drop, Option, sym, ap, ◌∙◌, subst, arith, mul-add, mul-one}
+use Rattle.std.proofs.Common.{◌≡◌, ◌≢◌, inl, inr, ℕ, ◌+◌, ◌*◌, ◌^◌, ◌<◌, List, [], ◌∷◌, ◌++◌, length, map, take, drop, Option, sym, ap, ◌∙◌, subst, arith, mul-add, mul-one}
 use Rattle.std.specs.Prelude.{IfOk}
 use Rattle.std.specs.declared.result.Result.{Result}
 use Rattle.std.proofs.lemmas.Result.{IfOk-weaker}
 use Rattle.std.proofs.lemmas.List.{length-append, length-map}
-use Rattle.xet_base.specs.Table.{Table, FitsTable, Serves, IsSorted, Bounded, Hit, IsHit, Finds, value_at}
+use Rattle.xet_base.specs.Table.{Table, Serves, IsSorted, Bounded, Hit, IsHit, Finds, value_at}
 use Rattle.std.proofs.lemmas.List.Elements.{AllZip-push, All-push, All-weaker}
 use Rattle.std.proofs.lemmas.List.Sums.{sum_by-append}
 use Rattle.xet_base.specs.declared.error.CoreError.{CoreError}
@@ -21,7 +21,7 @@ use Rattle.xet_records.specs.Reading.{ReadsBookend}
 use Rattle.xet_records.proofs.RecordKinds.{KindLaws, length-record_bytes, stored_begins}
 use Rattle.xet_shards.specs.SectionReading.{MayTake, PassesLimit, EndsEarly, SectionCase, ReadsNext, RecordFails}
 use Rattle.xet_base.specs.InputLaws.{failed_after}
-use Rattle.xet_shards.specs.Lookup.{IsNumber, Collides, IndexFinds, VisitsSome, LooksUp, LookupAnswer, LookupRefused, Finding, FindingFails, row_at, RecordAt, IsBareInternalError, RecordRefusal, InfoRefusal, ReadsInfo, ReadInfoFails, Visit, Visits, Missed}
+use Rattle.xet_shards.specs.Lookup.{IndexFinds, VisitsSome, LooksUp, LookupAnswer, LookupRefused, Finding, FindingFails, row_at, RecordAt, IsBareInternalError, RecordRefusal, InfoRefusal, ReadsInfo, ReadInfoFails, Visit, Visits, Missed}
 
 -- calls that did not fail, after others
 pub serves_after : (old now new : Source) → Serves old now → Serves now new → Serves old new

@@ -1,12 +1,11 @@
 use Rattle.std.proofs.Common.{◌≡◌, sym, ap, ◌∙◌, subst, rules}
-use Rattle.std.proofs.lemmas.Result.{err_from_is_err_and}
 use Rattle.xet_base.specs.declared.error.CoreError.{CoreError}
 use Rattle.xet_base.specs.Source.{Takes}
 use Rattle.xet_base.specs.InputLaws.{Takes-trans}
 use Rattle.xet_records.specs.Reading.{ReadsNextHeader}
 use Rattle.xet_records.specs.Reading.Stops.{no_rows}
 use Rattle.xet_records.proofs.SectionRecords.{rows_after_header}
-use Rattle.xet_shards.specs.SectionReading.{RecordFails, ReadsNext}
+use Rattle.xet_shards.specs.SectionReading.{ReadsNext}
 use Rattle.xet_shards.proofs.SectionReading.{record_fails, no_offset_after}
 use Rattle.xet_shards.proofs.shard_format.section_walk.keep_next.Goals as goal
 

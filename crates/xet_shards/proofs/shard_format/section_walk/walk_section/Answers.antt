@@ -1,5 +1,4 @@
 use Rattle.std.proofs.Common.{subst, rules}
-use Rattle.std.proofs.lemmas.Result.{err_from_is_err_and}
 use Rattle.xet_shards.specs.SectionWalk.{KeepsNext}
 use Rattle.xet_shards.proofs.SectionReading.{section_fails}
 use Rattle.xet_shards.proofs.SectionWalks.{nothing_kept, more_kept, all_kept}

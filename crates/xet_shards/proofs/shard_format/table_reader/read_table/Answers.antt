@@ -1,6 +1,6 @@
 use Rattle.std.proofs.Common.{refl, ◌≡◌, ◌≤◌, sym, arith, rules}
 use Rattle.xet_base.specs.declared.error.CoreError.TheVariants.{OutOfMemory}
-use Rattle.xet_shards.proofs.TableReading.{no_rows_read, more_rows_read, table_read, no_memory_for_row, row_fails}
+use Rattle.xet_shards.proofs.TableReading.{more_rows_read, table_read, no_memory_for_row, row_fails}
 use Rattle.xet_shards.proofs.shard_format.table_reader.read_table.Goals as goal
 
 pub returns-in_err-read : goal.returns-in_err-read

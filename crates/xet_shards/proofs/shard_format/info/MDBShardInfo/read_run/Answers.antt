@@ -1,5 +1,5 @@
-use Rattle.std.proofs.Common.{inl, inr, ◌+◌, refl, ap, arith, rules}
-use Rattle.xet_shards.proofs.Runs.{no_run, next_hash, tested_same, tested_other, run_goes_on, run_stops, run_passes, run_whole, run_fails}
+use Rattle.std.proofs.Common.{◌+◌, refl, ap, arith, rules}
+use Rattle.xet_shards.proofs.Runs.{no_run, next_hash, tested_same, tested_other, run_goes_on, run_stops, run_passes, run_fails}
 use Rattle.xet_shards.proofs.shard_format.info.MDBShardInfo.read_run.Goals as goal
 
 pub loop-query_hash-init : goal.loop-query_hash-init
@@ -34,9 +34,6 @@ returns-in_default g c =
     (omega (arith, c.loop-query_hash.invariant.0.few, c.if-length-left.false)) _
     (next_hash c.args.self.now.metadata.chunk_hash_hmac_key qs c.loop-query_hash.length c.loop-query_hash.query_hash-index _ c.keyed_chunk_hash.result chunk.chunk_hash _ c.loop-query_hash.invariant.1 c.keyed_chunk_hash.ensures (tested_same _ c.if-ne.ensures)) c.new.ensures.bytes (omega (arith, c.in_default.ensures))
 
-pub overflow_add-length : goal.overflow_add-length
-overflow_add-length g c = omega (arith, c.loop-query_hash.invariant.0.few, c.if-length-left.false, c.ranges.left)
-
 pub loop-query_hash-preserved : goal.loop-query_hash-preserved
 loop-query_hash-preserved g c =
     let qs = c.args.query_hashes.now in
@@ -49,9 +46,3 @@ loop-query_hash-preserved g c =
           (next_hash c.args.self.now.metadata.chunk_hash_hmac_key qs c.loop-query_hash.length c.loop-query_hash.query_hash-index _ c.keyed_chunk_hash.result chunk.chunk_hash _ c.loop-query_hash.invariant.1 c.keyed_chunk_hash.ensures (tested_same _ c.if-ne.ensures)) c.in-Some.ensures.1,
       ap (λ n. n + 1) c.loop-query_hash.invariant.1,
     )
-
-pub returns : goal.returns
-returns g c =
-    let now = g.S.ShardSource.meaning c.loop-query_hash.source in
-    run_whole c.args.self.now.metadata.chunk_hash_hmac_key c.args.query_hashes.now c.args.left (g.S.ShardSource.meaning c.args.source.now) now now c.loop-query_hash.length c.loop-query_hash.bytes
-    c.loop-query_hash.invariant.0 (inr (omega (arith, c.loop-query_hash.invariant.1, c.loop-query_hash-test.false))) (omega arith)
