@@ -1,5 +1,5 @@
 -- The turns of the loop that reads a table, and what it gives where the rows are known.
-use Rattle.std.proofs.Common.{◌≡◌, ◌⊎◌, inl, inr, Ok, Err, ℕ, ◌+◌, ◌*◌, ◌<◌, ◌≤◌, List, [], ◌∷◌, ◌++◌, length, flat_map, drop, append-nil, refl, sym, ap, ◌∙◌, subst, arith}
+use Rattle.std.proofs.Common.{◌≡◌, ◌⊎◌, inl, inr, Ok, Err, ℕ, ◌+◌, ◌*◌, ◌<◌, ◌≤◌, List, [], ◌∷◌, ◌++◌, length, flat_map, drop, append-nil, sym, ap, ◌∙◌, subst, arith}
 use Rattle.std.specs.Prelude.{All, MatchResult}
 use Rattle.std.specs.declared.result.Result.{Result}
 use Rattle.std.specs.declared.vec.Vec.{Vec}
@@ -12,7 +12,7 @@ use Rattle.xet_base.specs.declared.error.CoreError.TheVariants.{OutOfMemory}
 use Rattle.xet_base.specs.Source.{Source, Takes, DeviceFailure, FailedBy, ReadCase, ReadFails, moved, bytes_left}
 use Rattle.xet_base.specs.Source.ReadCase.{out_of_memory, out_of_bytes}
 use Rattle.xet_base.proofs.Lists.{parts_front}
-use Rattle.xet_base.specs.InputLaws.{Takes-nil, Takes-trans, failed_after, read_case}
+use Rattle.xet_base.specs.InputLaws.{Takes-trans, failed_after, read_case}
 use Rattle.xet_base.proofs.Reading.{Takes-consumes, lacks_left}
 use Rattle.xet_shards.specs.TableReading.{ReadsNextRow, ReadsTable, RowsFailure, TableFails}
 
@@ -24,9 +24,6 @@ pub record HasReadRows {T : Type 0} (row_bytes : T → List ℕ) (Fits : T → T
   pub taken : Takes start now (flat_map row_bytes found)
 
 module _ {T : Type 0} (row_bytes : T → List ℕ) (Fits : T → Type 0) (size : ℕ) where
-  pub no_rows_read : (start : Source) → HasReadRows row_bytes Fits size start start 0 []
-  no_rows_read start = record { number = refl; widths = All-nil Fits; bytes = omega arith; taken = Takes-nil start }
-
   pub more_rows_read : (start now new : Source) (count : ℕ) (found : List T) (row : T) → HasReadRows row_bytes Fits size start now count found
       → ReadsNextRow row_bytes Fits size now new row → HasReadRows row_bytes Fits size start new (count + 1) (found ++ row ∷ [])
   more_rows_read start now new count found row before next =

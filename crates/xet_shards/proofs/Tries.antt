@@ -3,7 +3,7 @@ use Rattle.std.proofs.Common.{◌≡◌, inl, inr, Ok, Err, is_some, true, false
 use Rattle.std.specs.Prelude.{string_bytes, slice_get, MatchResult, IfOk, IfErr}
 use Rattle.std.specs.declared.result.Result.{Result}
 use Rattle.std.proofs.lemmas.Option.{none-some, same_Some}
-use Rattle.std.proofs.lemmas.List.{map-append, length-append, length-map, take_more, take_all, take-map}
+use Rattle.std.proofs.lemmas.List.{map-append, length-append, length-map, take_more, take-map}
 use Rattle.std.proofs.lemmas.List.Elements.{All-push, Contains-get_or}
 use Rattle.xet_base.specs.declared.error.CoreError.{CoreError}
 use Rattle.xet_base.specs.declared.error.CoreError.TheVariants.{InvalidShard}
@@ -99,20 +99,6 @@ module _ (key : DataHash) (qs : List DataHash) (offset : ℕ) where
 
       pub refused_next : (e : CoreError) → RefusedAt IsBareInvalidShard key qs offset next.0 next.1 now new e → TriedRefused key qs offset old new e locations
       refused_next e refused = (next, Contains-get_or locations i (0, 0) below, tried_refused (take i locations) next old now new before visit e refused)
-
-  -- all were
-  module _ (locations : List (ℕ × ℕ)) (i : ℕ) (end : length locations ≤ i) (old now : Source) (before : NoneTried key qs offset (take i locations) old now) where
-    all_tried : NoneTried key qs offset locations old now
-    all_tried = subst (λ ps. NoneTried key qs offset ps old now) (take_all i locations end) before
-
-    pub none_of_all : TriedAnswer key qs old.bytes offset None locations
-    none_of_all = all_tried.none
-
-    pub visits_of_all : VisitsSome xorb_records 2 offset (map row_of locations) old now
-    visits_of_all = (
-      length (map row_of locations),
-      subst (λ rows. Visits xorb_records 2 offset rows old now) (sym (take_all (length (map row_of locations)) (map row_of locations) (omega arith))) all_tried.visits,
-    )
 
   -- the search answered, and locations that it found were tried
   module _ (t : Table) (word count : ℕ) (old mid new : Source) (dest_old dest_new : List (ℕ × ℕ)) (finds : Finds t word IsPair dest_old dest_new count) (fits : FitsTable t)
