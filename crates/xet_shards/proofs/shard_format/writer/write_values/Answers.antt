@@ -1,9 +1,10 @@
-use Rattle.std.proofs.Common.{[], ◌∷◌, ◌++◌, map, flat_map, sym, ap, ◌∙◌, subst}
+use Rattle.std.proofs.Common.{[], ◌∷◌, ◌++◌, map, flat_map, sym, ap, ◌∙◌, subst, arith}
+use Rattle.std.specs.Prelude.{sum_by}
 use Rattle.std.specs.Map.Iter.{deref}
 use Rattle.std.specs.Io.KnownBytes.{Appends}
 use Rattle.std.proofs.KnownBytes.{Appends-trans}
 use Rattle.xet_shards.specs.Section.{section_bytes}
-use Rattle.xet_shards.proofs.Walks.{entry_turn, entry_turned, mapped_turn, mapped_end, mapped_push, entry_holds, flat_map-push}
+use Rattle.xet_shards.proofs.Walks.{entry_turn, entry_turned, mapped_turn, mapped_end, mapped_push, entry_holds, flat_map-push, sum-middle}
 use Rattle.xet_shards.proofs.shard_format.writer.write_values.Goals as goal
 
 pub write-requires-clause-whole : goal.write-requires-clause-whole
@@ -11,6 +12,20 @@ write-requires-clause-whole g c =
     let is_whole = g.S.WrittenSection.is_whole in
     let whole = mapped_turn g.V.HoldsRecord.held _ c.loop-value.yielded _ _ _ c.in-Some.value c.loop-value.invariant.all c.in-Some.is c.next.ensures.steps in
     subst is_whole (sym c.record.ensures) (entry_holds is_whole _ _ _ _ whole c.requires.whole)
+
+pub write-requires-clause-rows : goal.write-requires-clause-rows
+write-requires-clause-rows g c =
+    let count = g.S.Record.SectionRecord.kind.row_count in
+    let held = g.V.HoldsRecord.held in
+    let whole = mapped_turn held _ c.loop-value.yielded _ _ _ c.in-Some.value c.loop-value.invariant.all c.in-Some.is c.next.ensures.steps in
+    omega (
+      arith,
+      ap (sum_by count) whole,
+      sum-middle count (map held (map deref c.loop-value.yielded)) (map held c.next.new.self) (held c.in-Some.value.now),
+      c.requires.rows,
+      g.met.S.WrittenSection.counts_rows _ _ c.loop-value.invariant.written,
+      ap count c.record.ensures,
+    )
 
 pub loop-value-preserved : goal.loop-value-preserved
 loop-value-preserved g c =
