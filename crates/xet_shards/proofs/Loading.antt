@@ -1,5 +1,6 @@
 -- Header and footer of a source.
-use Rattle.std.proofs.Common.{◌≡◌, ◌≢◌, inl, inr, Some, ℕ, ◌+◌, ◌-◌, ◌^◌, ◌<◌, ◌≤◌, List, [], ◌++◌, length, take, drop, append-nil, sym, ap, ◌∙◌, subst, arith}
+use Rattle.std.proofs.Common.{◌≡◌, ◌≢◌, inl, inr, Some, ℕ, ◌+◌, ◌-◌, ◌^◌, ◌<◌, ◌≤◌, List, ◌++◌, length, take, drop, append-nil, sym, ap, ◌∙◌, subst, arith, rules}
+use Rattle.std.proofs.lemmas.Grind.{common_steps}
 use Rattle.std.proofs.lemmas.List.{length-append, length-drop, append_assoc, nil_from_length}
 use Rattle.std.specs.declared.io.Error.{Error}
 use Rattle.xet_base.specs.declared.error.CoreError.{CoreError}
@@ -8,13 +9,13 @@ use Rattle.xet_base.specs.Errors.{IsEndOfInput, IsBareShardVersion, FromDevice}
 use Rattle.xet_base.specs.Source.{Source, Takes, Fails, moved, bytes_left}
 use Rattle.xet_base.proofs.Bytes.{length-u64_bytes}
 use Rattle.xet_base.proofs.Lists.{front_is}
-use Rattle.xet_base.specs.InputLaws.{Takes-trans, failed_after}
+use Rattle.xet_base.specs.InputLaws.{Takes-trans}
 use Rattle.xet_base.proofs.Reading.{Takes-consumes}
 use Rattle.xet_shards.specs.declared.shard_format.header.MDBShardFileHeader.{MDBShardFileHeader}
 use Rattle.xet_shards.specs.declared.shard_format.footer.MDBShardFileFooter.{MDBShardFileFooter}
 use Rattle.xet_shards.specs.Layout.{header_tag, shard_header_bytes, shard_footer_bytes}
-use Rattle.xet_shards.specs.Ends.{HasHeader, FitsFooter, HasUnsupportedHeader, EndsInHeader, HasUnsupportedFooter, EndsInFooter, last_bytes, IsUnsupported, IsTooShort, Loads, LoadFails, PartFails, FormatCase, Refusal}
-use Rattle.xet_shards.specs.Ends.FormatCase.{unsupported_format, too_few_bytes}
+use Rattle.xet_shards.specs.Ends.{HasHeader, FitsFooter, HasUnsupportedHeader, EndsInHeader, HasUnsupportedFooter, EndsInFooter, last_bytes, Loads, LoadFails, PartFails, Refusal}
+use Rattle.xet_shards.specs.Ends.FormatCase.{unsupported_format}
 use Rattle.xet_shards.proofs.Ends.{unsupported_version}
 use Rattle.xet_shards.proofs.Layouts.{length-shard_header_bytes, length-shard_footer_bytes}
 
@@ -23,11 +24,7 @@ pub refusal_of : (Unsupported Short Unsupported' Short' : List ℕ → Type 0) (
     → mid.failures ≡ old.failures → (Unsupported bytes → Unsupported' bytes') → (Short bytes → Short' bytes')
     → Refusal Unsupported Short bytes mid new e → Refusal Unsupported' Short' bytes' old new e
 refusal_of Unsupported Short Unsupported' Short' bytes bytes' old mid new e same unsupported short cause =
-    failed_after (FormatCase Unsupported Short bytes) (FormatCase Unsupported' Short' bytes') old mid new e same later cause
-  where
-    later : FormatCase Unsupported Short bytes e → FormatCase Unsupported' Short' bytes' e
-    later (unsupported_format is has) = unsupported_format is (unsupported has)
-    later (too_few_bytes is has) = too_few_bytes is (short has)
+    search rules
 
 -- a header in two steps
 pub read_in_two : (a b c : Source) (tag rest : List ℕ) (h : MDBShardFileHeader) → tag ≡ header_tag → rest ≡ u64_bytes 2 ++ u64_bytes h.footer_size → h.version ≡ 2
@@ -93,12 +90,8 @@ module _ (old start mid : Source) (h : MDBShardFileHeader) (first : start ≡ mo
   header_there two = header_of old.bytes (bytes_left mid) h begins two
 
   device_failed : (new : Source) (made : ℕ) (f : Error) (e : CoreError) → made ≤ 1 → Fails mid new made f → FromDevice f e → LoadFails old new e
-  device_failed new made f e most fails from = record {
-    bytes = fails.bytes ∙ bytes_same;
-    seeks = omega (arith, fails.seeks, seeks_one);
-    read = omega (arith, fails.read, read_48);
-    cause = inl (fails.failures ∙ ap (λ n. n + 1) failures_same, f, fails.last_failure, from);
-  }
+  device_failed new made f e most fails from =
+      search (rules, bytes_same, seeks_one, read_48, failures_same)
 
   pub no_length : (new : Source) (f : Error) (e : CoreError) → Fails mid new 0 f → FromDevice f e → LoadFails old new e
   no_length new f e fails from = device_failed new 0 f e (omega arith) fails from
@@ -106,12 +99,8 @@ module _ (old start mid : Source) (h : MDBShardFileHeader) (first : start ≡ mo
   -- the length is known
   module _ (n : ℕ) (asked : Source) (known : (n ≡ length mid.bytes) × (asked ≡ mid)) (two : h.version ≡ 2) where
     pub short_of_footer : (e : CoreError) → IsEndOfInput e → n < 200 → LoadFails old asked e
-    short_of_footer e ended short = rw known.1 (record {
-      bytes = bytes_same;
-      seeks = omega (arith, seeks_one);
-      read = omega (arith, read_48);
-      cause = inr (failures_same, too_few_bytes ended (inr (header_there two, omega (arith, short, known.0, ap length bytes_same))));
-    })
+    short_of_footer e ended short =
+        search (rules, bytes_same, seeks_one, read_48, failures_same, header_there)
 
     pub no_seek : (new : Source) (f : Error) (e : CoreError) → Fails asked new 1 f → FromDevice f e → LoadFails old new e
     no_seek new f e fails from = device_failed new 1 f e (omega arith) (subst (λ s. Fails s new 1 f) known.1 fails) from
@@ -132,36 +121,12 @@ module _ (old start mid : Source) (h : MDBShardFileHeader) (first : start ≡ mo
 
       pub not_footer : (new : Source) (e : CoreError) → PartFails HasUnsupportedFooter EndsInFooter 200 end new e → LoadFails old new e
       not_footer new e part =
-          let fails = subst (λ s. PartFails HasUnsupportedFooter EndsInFooter 200 s new e) there part in
-          record {
-            bytes = fails.bytes ∙ bytes_same;
-            seeks = omega (arith, fails.seeks, seeks_one);
-            read = omega (arith, fails.read, read_48);
-            cause = refusal_of HasUnsupportedFooter EndsInFooter IsUnsupported IsTooShort (bytes_left (moved mid (n - 200))) old.bytes old (moved mid (n - 200)) new e failures_same
-                (λ has. inr (header_there two, size, subst HasUnsupportedFooter last_is has)) (λ ends. absurd (has_room (last_bytes old.bytes) length_last (subst EndsInFooter last_is ends))) fails.cause;
-          }
+          search (rules, there, bytes_same, seeks_one, read_48, refusal_of, failures_same,
+          header_there, size, last_is, has_room, length_last)
 
       pub found_both : (new : Source) (f : MDBShardFileFooter) → h.tag ≡ header_tag → h.footer_size < 2 ^ 64 → f.version ≡ 1 → FitsFooter f → Takes end new (shard_footer_bytes f)
           → Loads old new (record { header = h; metadata = f })
       found_both new f tag footer_size one widths took =
-          let last = subst (λ s. Takes s new (shard_footer_bytes f)) there took in
-          let footer_bytes : length (shard_footer_bytes f) ≡ 200 = length-shard_footer_bytes f widths.buffer_size in
-          let left = Takes-consumes (moved mid (n - 200)) new (shard_footer_bytes f) last in
-          let nothing : bytes_left new ≡ [] =
-          nil_from_length (bytes_left new) (omega (arith, ap length left ∙ length-append (shard_footer_bytes f) (bytes_left new), ap length last_is, length_last, footer_bytes)) in
-          record {
-            bytes = ap (λ (s : Source). s.bytes) last.after ∙ bytes_same;
-            seeks = omega (arith, ap (λ (s : Source). s.seeks) last.after, seeks_one);
-            read = omega (arith, ap (λ (s : Source). s.read) last.after, read_48, footer_bytes);
-            failures = ap (λ (s : Source). s.failures) last.after ∙ failures_same;
-            ends = record {
-              size = size;
-              tag = tag;
-              header_version = two;
-              header = front_is_header;
-              footer_size = footer_size;
-              footer_version = one;
-              footer_widths = widths;
-              footer = sym last_is ∙ left ∙ ap (λ bs. shard_footer_bytes f ++ bs) nothing ∙ append-nil (shard_footer_bytes f);
-            };
-          }
+          grind (arith, common_steps, there, length-shard_footer_bytes, Takes-consumes,
+          nil_from_length, length-append, last_is, length_last, bytes_same, seeks_one, read_48,
+          failures_same, size, front_is_header, append-nil)
