@@ -1,5 +1,5 @@
 -- The first and the last bytes of a shard determine header and footer, and those of a written shard are its own.
-use Rattle.std.proofs.Common.{◌≡◌, inl, inr, ℕ, ◌+◌, ◌-◌, ◌^◌, ◌<◌, List, [], ◌++◌, length, get_or, flat_map, take, drop, Option, refl, sym, ap, ◌∙◌, subst, arith, take-append-drop, append-nil}
+use Rattle.std.proofs.Common.{◌≡◌, inl, inr, ℕ, ◌+◌, ◌-◌, ◌^◌, ◌<◌, List, [], ◌++◌, length, get_or, flat_map, take, drop, Option, refl, sym, ap, ◌∙◌, subst, arith, take-append-drop, append-nil, rules}
 use Rattle.std.specs.Prelude.{MatchResult}
 use Rattle.std.specs.declared.result.Result.{Result}
 use Rattle.std.proofs.lemmas.Result.{MatchResult-weaker}
@@ -79,10 +79,7 @@ footer_unique f g f_fits g_fits same =
 
 -- at most one header and footer have these bytes
 pub only_info : (bytes : List ℕ) (x y : MDBShardInfo) → HasEnds bytes x → HasEnds bytes y → x ≡ y
-only_info bytes x y a b =
-    let header = header_unique x.header y.header a.tag b.tag a.header_version b.header_version a.footer_size b.footer_size (sym a.header ∙ b.header) in
-    let footer = footer_unique x.metadata y.metadata a.footer_widths b.footer_widths (sym a.footer ∙ b.footer) in
-    λ i. record { header = header i; metadata = footer i }
+only_info bytes x y a b = search (rules, header_unique, footer_unique)
 
 -- such bytes are neither unsupported nor too short
 module _ (bytes : List ℕ) (info : MDBShardInfo) (ends : HasEnds bytes info) where

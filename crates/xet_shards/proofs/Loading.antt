@@ -1,5 +1,5 @@
 -- Header and footer of a source.
-use Rattle.std.proofs.Common.{◌≡◌, ◌≢◌, inl, inr, Some, ℕ, ◌+◌, ◌-◌, ◌^◌, ◌<◌, ◌≤◌, List, ◌++◌, length, take, drop, append-nil, sym, ap, ◌∙◌, subst, arith, rules}
+use Rattle.std.proofs.Common.{◌≡◌, ◌≢◌, inl, inr, Some, ℕ, ◌-◌, ◌^◌, ◌<◌, ◌≤◌, List, ◌++◌, length, take, drop, append-nil, sym, ap, ◌∙◌, subst, arith, rules}
 use Rattle.std.proofs.lemmas.Grind.{common_steps}
 use Rattle.std.proofs.lemmas.List.{length-append, length-drop, append_assoc, nil_from_length}
 use Rattle.std.specs.declared.io.Error.{Error}
@@ -71,15 +71,6 @@ module _ (old start mid : Source) (h : MDBShardFileHeader) (first : start ≡ mo
   bytes_same : mid.bytes ≡ old.bytes
   bytes_same = ap (λ (s : Source). s.bytes) taken.after
 
-  seeks_one : mid.seeks ≡ old.seeks + 1
-  seeks_one = ap (λ (s : Source). s.seeks) taken.after
-
-  read_48 : mid.read ≡ old.read + 48
-  read_48 = ap (λ (s : Source). s.read) taken.after ∙ ap (λ n. old.read + n) (length-shard_header_bytes h)
-
-  failures_same : mid.failures ≡ old.failures
-  failures_same = ap (λ (s : Source). s.failures) taken.after
-
   begins : old.bytes ≡ shard_header_bytes h ++ bytes_left mid
   begins = Takes-consumes (moved old 0) mid (shard_header_bytes h) taken
 
@@ -91,7 +82,7 @@ module _ (old start mid : Source) (h : MDBShardFileHeader) (first : start ≡ mo
 
   device_failed : (new : Source) (made : ℕ) (f : Error) (e : CoreError) → made ≤ 1 → Fails mid new made f → FromDevice f e → LoadFails old new e
   device_failed new made f e most fails from =
-      search (rules, bytes_same, seeks_one, read_48, failures_same)
+      search (rules, taken, length-shard_header_bytes h)
 
   pub no_length : (new : Source) (f : Error) (e : CoreError) → Fails mid new 0 f → FromDevice f e → LoadFails old new e
   no_length new f e fails from = device_failed new 0 f e (omega arith) fails from
@@ -100,7 +91,7 @@ module _ (old start mid : Source) (h : MDBShardFileHeader) (first : start ≡ mo
   module _ (n : ℕ) (asked : Source) (known : (n ≡ length mid.bytes) × (asked ≡ mid)) (two : h.version ≡ 2) where
     pub short_of_footer : (e : CoreError) → IsEndOfInput e → n < 200 → LoadFails old asked e
     short_of_footer e ended short =
-        search (rules, bytes_same, seeks_one, read_48, failures_same, header_there)
+        search (rules, taken, length-shard_header_bytes h, header_there)
 
     pub no_seek : (new : Source) (f : Error) (e : CoreError) → Fails asked new 1 f → FromDevice f e → LoadFails old new e
     no_seek new f e fails from = device_failed new 1 f e (omega arith) (subst (λ s. Fails s new 1 f) known.1 fails) from
@@ -121,12 +112,11 @@ module _ (old start mid : Source) (h : MDBShardFileHeader) (first : start ≡ mo
 
       pub not_footer : (new : Source) (e : CoreError) → PartFails HasUnsupportedFooter EndsInFooter 200 end new e → LoadFails old new e
       not_footer new e part =
-          search (rules, there, bytes_same, seeks_one, read_48, refusal_of, failures_same,
+          search (rules, there, taken, length-shard_header_bytes h, refusal_of,
           header_there, size, last_is, has_room, length_last)
 
       pub found_both : (new : Source) (f : MDBShardFileFooter) → h.tag ≡ header_tag → h.footer_size < 2 ^ 64 → f.version ≡ 1 → FitsFooter f → Takes end new (shard_footer_bytes f)
           → Loads old new (record { header = h; metadata = f })
       found_both new f tag footer_size one widths took =
           grind (arith, common_steps, there, length-shard_footer_bytes, Takes-consumes,
-          nil_from_length, length-append, last_is, length_last, bytes_same, seeks_one, read_48,
-          failures_same, size, front_is_header, append-nil)
+          nil_from_length, length-append, last_is, length_last, taken, length-shard_header_bytes h, size, front_is_header, append-nil)

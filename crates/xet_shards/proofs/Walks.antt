@@ -1,13 +1,13 @@
 -- The iterations of a loop over the values or the entries of a map.
-use Rattle.std.proofs.Common.{◌≡◌, ℕ, ◌+◌, ◌≤◌, List, [], ◌∷◌, ◌++◌, map, Option, None, Some, sym, ap, ◌∙◌, subst, arith, append_assoc, append-nil}
+use Rattle.std.proofs.Common.{◌≡◌, ℕ, ◌+◌, ◌≤◌, List, [], ◌∷◌, ◌++◌, map, Option, None, Some, sym, ap, ◌∙◌, subst, arith, append-nil, rules}
 use Rattle.std.specs.Prelude.{All, sum_by, flat_map}
-use Rattle.std.proofs.lemmas.Grind.{flat_map-append}
+use Rattle.std.proofs.lemmas.Grind.{common_steps, flat_map-append}
 use Rattle.std.specs.Borrow.{Bor}
 use Rattle.std.specs.Map.Iter.{TakesFirst, deref}
 use Rattle.std.proofs.lemmas.List.{map-append, map_push}
 use Rattle.std.proofs.lemmas.List.Elements.{All-drop}
 use Rattle.std.proofs.lemmas.List.Sums.{sum_by-append, sum_by-cons}
-use Rattle.std.proofs.lemmas.Map.Iter.{rest_more, rest_all}
+use Rattle.std.proofs.lemmas.Map.Iter.{rest_more}
 
 -- the same over the entries of a map: the index of an iteration, and its entry
 module _ {X Y : Type 0} (show : Y → X) where
@@ -16,12 +16,10 @@ module _ {X Y : Type 0} (show : Y → X) where
   entry_turn all before s t r y whole is step = ap (λ rest. map show before ++ rest) (sym (rest_more show s t r y is step)) ∙ whole
 
   pub entry_turned : (all : List X) (before : List Y) (t : List X) (y : Y) → map show before ++ show y ∷ t ≡ all → map show (before ++ y ∷ []) ++ t ≡ all
-  entry_turned all before t y whole =
-      ap (λ front. front ++ t) (map-append show before (y ∷ [])) ∙ append_assoc (map show before) (show y ∷ []) t ∙ whole
+  entry_turned all before t y whole = grind (arith, common_steps)
 
   pub entry_end : (all : List X) (before : List Y) (s t : List X) (r : Option Y) → map show before ++ s ≡ all → r ≡ None → TakesFirst show s r t → map show before ≡ all
-  entry_end all before s t r whole is step =
-      sym (append-nil (map show before)) ∙ ap (λ rest. map show before ++ rest) (sym (rest_all show s t r is step)) ∙ whole
+  entry_end all before s t r whole is step = search rules
 
 module _ {X : Type 0} where
   pub All-middle : (P : X → Type 0) (front rest : List X) (x : X) → All P (front ++ x ∷ rest) → P x
