@@ -57,25 +57,7 @@ footer_unique f g f_fits g_fits same =
     let buffer = words f._buffer g._buffer _ _ (f_fits.buffer_size ∙ sym g_fits.buffer_size) f_fits.buffer g_fits.buffer timestamps.1 in
     let sums = words (sums_of f) (sums_of g) [] [] refl f_fits.sums g_fits.sums (append-nil (flat_map u64_bytes (sums_of f)) ∙ buffer.1 ∙ sym (append-nil (flat_map u64_bytes (sums_of g)))) in
     let hash = hash_bytes-injective f.chunk_hash_hmac_key g.chunk_hash_hmac_key f_fits.key g_fits.key key.0 in
-    λ i. record {
-      version = get_or (offsets.0 i) 0 0;
-      file_info_offset = get_or (offsets.0 i) 1 0;
-      xorb_info_offset = get_or (offsets.0 i) 2 0;
-      file_lookup_offset = get_or (offsets.0 i) 3 0;
-      file_lookup_num_entry = get_or (offsets.0 i) 4 0;
-      xorb_lookup_offset = get_or (offsets.0 i) 5 0;
-      xorb_lookup_num_entry = get_or (offsets.0 i) 6 0;
-      chunk_lookup_offset = get_or (offsets.0 i) 7 0;
-      chunk_lookup_num_entry = get_or (offsets.0 i) 8 0;
-      chunk_hash_hmac_key = hash i;
-      shard_creation_timestamp = get_or (timestamps.0 i) 0 0;
-      shard_key_expiry = get_or (timestamps.0 i) 1 0;
-      _buffer = buffer.0 i;
-      stored_bytes_on_disk = get_or (sums.0 i) 0 0;
-      materialized_bytes = get_or (sums.0 i) 1 0;
-      stored_bytes = get_or (sums.0 i) 2 0;
-      footer_offset = get_or (sums.0 i) 3 0;
-    }
+    search (rules, offsets.0, hash, timestamps.0, buffer.0, sums.0)
 
 -- at most one header and footer have these bytes
 pub only_info : (bytes : List ℕ) (x y : MDBShardInfo) → HasEnds bytes x → HasEnds bytes y → x ≡ y

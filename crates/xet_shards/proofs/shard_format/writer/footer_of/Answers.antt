@@ -1,4 +1,4 @@
-use Rattle.std.proofs.Common.{◌≡◌, ◌+◌, ◌*◌, ap, ◌∙◌, sym, arith}
+use Rattle.std.proofs.Common.{◌≡◌, ◌+◌, ◌*◌, ap, ◌∙◌, sym, arith, rules}
 use Rattle.xet_records.specs.FileRecord.{file_records}
 use Rattle.xet_records.specs.XorbRecord.{xorb_records}
 use Rattle.xet_shards.specs.declared.shard_format.footer.MDBShardFileFooter.{MDBShardFileFooter}
@@ -31,22 +31,4 @@ returns-clause-value c = λ rs xs fit files xorbs.
     let xorb_table : at_xorb_table ≡ value.xorb_lookup_offset = omega (arith, file_table, file_count, bytes_of_table file_records form.file_table rs) in
     let chunks : at_chunk_table ≡ value.chunk_lookup_offset = omega (arith, xorb_table, xorb_count, bytes_of_table xorb_records form.xorb_table xs) in
     let footer : at_chunk_table + 16 * c.rows_in-chunks.result ≡ value.footer_offset = omega (arith, chunks, chunk_count, length-chunks_in form.chunk_table xs) in
-    λ i. record {
-      version = ap (λ (f : MDBShardFileFooter). f.version) plain i;
-      file_info_offset = 48;
-      xorb_info_offset = xorb_section i;
-      file_lookup_offset = file_table i;
-      file_lookup_num_entry = file_count i;
-      xorb_lookup_offset = xorb_table i;
-      xorb_lookup_num_entry = xorb_count i;
-      chunk_lookup_offset = chunks i;
-      chunk_lookup_num_entry = chunk_count i;
-      chunk_hash_hmac_key = form.key;
-      shard_creation_timestamp = form.creation;
-      shard_key_expiry = form.expiry;
-      _buffer = ap (λ (f : MDBShardFileFooter). f._buffer) plain i;
-      stored_bytes_on_disk = xorbs.bytes_on_disk i;
-      materialized_bytes = files.bytes i;
-      stored_bytes = xorbs.bytes i;
-      footer_offset = footer i;
-    }
+    search (rules, plain, xorb_section, file_table, file_count, xorb_table, xorb_count, chunks, chunk_count, footer, xorbs.bytes_on_disk, files.bytes, xorbs.bytes)
