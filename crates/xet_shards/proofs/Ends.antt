@@ -1,8 +1,6 @@
 -- Headers and footers that are read in two steps.
-use Rattle.std.proofs.Common.{◌≡◌, ◌≢◌, inl, inr, ℕ, ◌+◌, ◌^◌, ◌<◌, List, [], ◌∷◌, ◌++◌, length, take, Option, None, Some, IfSome, sym, ap, ◌∙◌, arith}
+use Rattle.std.proofs.Common.{◌≡◌, ◌≢◌, inl, inr, ℕ, ◌+◌, List, ◌++◌, length, take, Option, None, Some, IfSome, sym, ap, ◌∙◌, arith}
 use Rattle.std.proofs.lemmas.List.{length-append, take-append-le}
-use Rattle.std.specs.Prelude.{All}
-use Rattle.std.proofs.lemmas.List.Elements.{All-cons, All-nil, All-append}
 use Rattle.std.specs.Io.KnownBytes.{Consumes}
 use Rattle.xet_base.specs.Bytes.{u64_bytes, LacksBytes}
 use Rattle.xet_base.proofs.Bytes.{length-u64_bytes}
@@ -44,18 +42,3 @@ cut_footer (Some bytes) None version is_one taken lacks = absurd taken
 cut_footer (Some bytes) (Some rest) version is_one taken lacks =
     let len : length version ≡ 8 = ap length is_one ∙ length-u64_bytes 1 in
     inr (omega (arith, length_is bytes version rest taken, len), front_is 8 bytes version rest len taken ∙ is_one)
-
--- lists of numbers that fit `u64`
-pub two_words : (a b : ℕ) → a < 2 ^ 64 → b < 2 ^ 64 → All (λ n. n < 2 ^ 64) (a ∷ b ∷ [])
-two_words a b x y = All-cons (λ n. n < 2 ^ 64) a (b ∷ []) x (All-cons (λ n. n < 2 ^ 64) b [] y (All-nil (λ n. n < 2 ^ 64)))
-
-pub four_words : (a b c d : ℕ) → a < 2 ^ 64 → b < 2 ^ 64 → c < 2 ^ 64 → d < 2 ^ 64 → All (λ n. n < 2 ^ 64) (a ∷ b ∷ c ∷ d ∷ [])
-four_words a b c d x y z w = All-append (λ n. n < 2 ^ 64) (a ∷ b ∷ []) (c ∷ d ∷ []) (two_words a b x y) (two_words c d z w)
-
-pub six_words : (a b c d e f : ℕ) → a < 2 ^ 64 → b < 2 ^ 64 → c < 2 ^ 64 → d < 2 ^ 64 → e < 2 ^ 64 → f < 2 ^ 64 → All (λ n. n < 2 ^ 64) (a ∷ b ∷ c ∷ d ∷ e ∷ f ∷ [])
-six_words a b c d e f u v w x y z = All-append (λ n. n < 2 ^ 64) (a ∷ b ∷ []) (c ∷ d ∷ e ∷ f ∷ []) (two_words a b u v) (four_words c d e f w x y z)
-
-pub nine_words : (a b c d e f g h i : ℕ) → a < 2 ^ 64 → b < 2 ^ 64 → c < 2 ^ 64 → d < 2 ^ 64 → e < 2 ^ 64 → f < 2 ^ 64 → g < 2 ^ 64 → h < 2 ^ 64 → i < 2 ^ 64
-    → All (λ n. n < 2 ^ 64) (a ∷ b ∷ c ∷ d ∷ e ∷ f ∷ g ∷ h ∷ i ∷ [])
-nine_words a b c d e f g h i p q r s t u v w x =
-    All-cons (λ n. n < 2 ^ 64) a (b ∷ c ∷ d ∷ e ∷ f ∷ g ∷ h ∷ i ∷ []) p (All-append (λ n. n < 2 ^ 64) (b ∷ c ∷ d ∷ e ∷ []) (f ∷ g ∷ h ∷ i ∷ []) (four_words b c d e q r s t) (four_words f g h i u v w x))

@@ -1,7 +1,8 @@
 -- The first and the last bytes of a shard determine header and footer, and those of a written shard are its own.
-use Rattle.std.proofs.Common.{◌≡◌, inl, inr, Ok, Err, ℕ, ◌+◌, ◌-◌, ◌^◌, ◌<◌, List, [], ◌∷◌, ◌++◌, length, flat_map, take, drop, Option, refl, sym, ap, ◌∙◌, subst, arith, take-append-drop, append-nil}
+use Rattle.std.proofs.Common.{◌≡◌, inl, inr, ℕ, ◌+◌, ◌-◌, ◌^◌, ◌<◌, List, [], ◌++◌, length, get_or, flat_map, take, drop, Option, refl, sym, ap, ◌∙◌, subst, arith, take-append-drop, append-nil, rules}
 use Rattle.std.specs.Prelude.{MatchResult}
 use Rattle.std.specs.declared.result.Result.{Result}
+use Rattle.std.proofs.lemmas.Result.{MatchResult-weaker}
 use Rattle.std.specs.FinMap.{values}
 use Rattle.std.proofs.lemmas.List.{length-append, append_assoc}
 use Rattle.xet_base.specs.declared.error.CoreError.{CoreError}
@@ -20,7 +21,7 @@ use Rattle.xet_shards.specs.declared.shard_format.info.MDBShardInfo.{MDBShardInf
 use Rattle.xet_shards.specs.Shard.{Shard}
 use Rattle.xet_shards.specs.Section.{section_bytes}
 use Rattle.xet_shards.specs.Tables.{table_bytes, chunk_table_bytes}
-use Rattle.xet_shards.specs.Layout.{Form, if_in, header_tag, shard_header_bytes, header_value, offsets_of, timestamps_of, sums_of, shard_footer_bytes, footer_value, layout_of, layout, plain_form, info_of, info_value}
+use Rattle.xet_shards.specs.Layout.{Form, if_in, header_tag, shard_header_bytes, header_value, offsets_of, timestamps_of, sums_of, shard_footer_bytes, footer_value, layout_of, layout, plain_form, info_value}
 use Rattle.xet_shards.specs.Ends.{HasHeader, FitsFooter, HasEnds, IsUnsupported, IsTooShort, last_bytes, Loads, LoadFails, Refusal}
 use Rattle.xet_shards.specs.Ends.FormatCase.{unsupported_format, too_few_bytes}
 use Rattle.xet_shards.proofs.Layouts.{length-shard_header_bytes, length-shard_footer_bytes}
@@ -36,15 +37,6 @@ header_unique g h g_tag h_tag g_two h_two g_fits h_fits same =
     (simp (length-u64_bytes)) same in
     let size = u64_bytes-injective g.footer_size h.footer_size g_fits h_fits last.1 in
     λ i. record { tag = (g_tag ∙ sym h_tag) i; version = (g_two ∙ sym h_two) i; footer_size = size i }
-
--- the first of some numbers, and those after it
-abbrev first : List ℕ → ℕ
-first [] = 0
-first (n ∷ ns) = n
-
-abbrev after : List ℕ → List ℕ
-after [] = []
-after (n ∷ ns) = ns
 
 from_right : (a b c d e : List ℕ) → (((a ++ b) ++ c) ++ d) ++ e ≡ a ++ (b ++ (c ++ (d ++ e)))
 from_right a b c d e = simp (append_assoc)
@@ -65,32 +57,11 @@ footer_unique f g f_fits g_fits same =
     let buffer = words f._buffer g._buffer _ _ (f_fits.buffer_size ∙ sym g_fits.buffer_size) f_fits.buffer g_fits.buffer timestamps.1 in
     let sums = words (sums_of f) (sums_of g) [] [] refl f_fits.sums g_fits.sums (append-nil (flat_map u64_bytes (sums_of f)) ∙ buffer.1 ∙ sym (append-nil (flat_map u64_bytes (sums_of g)))) in
     let hash = hash_bytes-injective f.chunk_hash_hmac_key g.chunk_hash_hmac_key f_fits.key g_fits.key key.0 in
-    λ i. record {
-      version = first (offsets.0 i);
-      file_info_offset = first (after (offsets.0 i));
-      xorb_info_offset = first (after (after (offsets.0 i)));
-      file_lookup_offset = first (after (after (after (offsets.0 i))));
-      file_lookup_num_entry = first (after (after (after (after (offsets.0 i)))));
-      xorb_lookup_offset = first (after (after (after (after (after (offsets.0 i))))));
-      xorb_lookup_num_entry = first (after (after (after (after (after (after (offsets.0 i)))))));
-      chunk_lookup_offset = first (after (after (after (after (after (after (after (offsets.0 i))))))));
-      chunk_lookup_num_entry = first (after (after (after (after (after (after (after (after (offsets.0 i)))))))));
-      chunk_hash_hmac_key = hash i;
-      shard_creation_timestamp = first (timestamps.0 i);
-      shard_key_expiry = first (after (timestamps.0 i));
-      _buffer = buffer.0 i;
-      stored_bytes_on_disk = first (sums.0 i);
-      materialized_bytes = first (after (sums.0 i));
-      stored_bytes = first (after (after (sums.0 i)));
-      footer_offset = first (after (after (after (sums.0 i))));
-    }
+    search (rules, offsets.0, hash, timestamps.0, buffer.0, sums.0)
 
 -- at most one header and footer have these bytes
 pub only_info : (bytes : List ℕ) (x y : MDBShardInfo) → HasEnds bytes x → HasEnds bytes y → x ≡ y
-only_info bytes x y a b =
-    let header = header_unique x.header y.header a.tag b.tag a.header_version b.header_version a.footer_size b.footer_size (sym a.header ∙ b.header) in
-    let footer = footer_unique x.metadata y.metadata a.footer_widths b.footer_widths (sym a.footer ∙ b.footer) in
-    λ i. record { header = header i; metadata = footer i }
+only_info bytes x y a b = search (rules, header_unique, footer_unique)
 
 -- such bytes are neither unsupported nor too short
 module _ (bytes : List ℕ) (info : MDBShardInfo) (ends : HasEnds bytes info) where
@@ -102,10 +73,10 @@ module _ (bytes : List ℕ) (info : MDBShardInfo) (ends : HasEnds bytes info) wh
   unfolding shard_footer_bytes
   version_is =
       let f = info.metadata in
-      let rest = flat_map u64_bytes (after (offsets_of f)) ++ (hash_bytes f.chunk_hash_hmac_key ++ (flat_map u64_bytes (timestamps_of f) ++ (flat_map u64_bytes f._buffer ++ flat_map u64_bytes (sums_of f)))) in
+      let rest = flat_map u64_bytes (drop 1 (offsets_of f)) ++ (hash_bytes f.chunk_hash_hmac_key ++ (flat_map u64_bytes (timestamps_of f) ++ (flat_map u64_bytes f._buffer ++ flat_map u64_bytes (sums_of f)))) in
       front_is 8 (last_bytes bytes) (u64_bytes f.version) rest (length-u64_bytes f.version)
       (ends.footer ∙ from_right (flat_map u64_bytes (offsets_of f)) (hash_bytes f.chunk_hash_hmac_key) (flat_map u64_bytes (timestamps_of f)) (flat_map u64_bytes f._buffer) (flat_map u64_bytes (sums_of f))
-      ∙ append_assoc (u64_bytes f.version) (flat_map u64_bytes (after (offsets_of f))) _)
+      ∙ append_assoc (u64_bytes f.version) (flat_map u64_bytes (drop 1 (offsets_of f))) _)
       ∙ ap u64_bytes ends.footer_version
 
   pub not_unsupported : ¬ IsUnsupported bytes
@@ -151,18 +122,13 @@ why_not_loaded bytes info old new e ends (inl failed) = failed
 why_not_loaded bytes info old new e ends (inr (none, unsupported_format is unsupported)) = absurd (not_unsupported bytes info ends unsupported)
 why_not_loaded bytes info old new e ends (inr (none, too_few_bytes is short)) = absurd (not_too_short bytes info ends short)
 
--- from bytes with such ends they are read, unless the device fails
+-- from bytes with such ends these are read, unless the device fails
 pub loads_ends : (old new : Source) (info : MDBShardInfo) (r : Result MDBShardInfo CoreError) → HasEnds old.bytes info → MatchResult r (Loads old new) (LoadFails old new)
     → MatchResult r (λ found. found ≡ info) (DeviceFailure old new)
-loads_ends old new info (Ok found) ends loads = only_info old.bytes found info loads.ends ends
-loads_ends old new info (Err e) ends fails = why_not_loaded old.bytes info old new e ends fails.cause
-
-pub loads_layout : (old new : Source) (files : List MDBFileInfo) (xorbs : List MDBXorbInfo) (form : Form) (r : Result MDBShardInfo CoreError)
-    → old.bytes ≡ layout_of files xorbs form → FitsFooter (footer_value files xorbs form) → MatchResult r (Loads old new) (LoadFails old new)
-    → MatchResult r (λ info. info ≡ info_of files xorbs form) (DeviceFailure old new)
-loads_layout old new files xorbs form r are fits =
-    loads_ends old new (info_of files xorbs form) r (subst (λ bs. HasEnds bs (info_of files xorbs form)) (sym are) (ends_of_layout files xorbs form fits))
+loads_ends old new info r ends loads =
+    MatchResult-weaker r loads (λ x found. only_info old.bytes x info found.ends ends) (λ e fails. why_not_loaded old.bytes info old new e ends fails.cause)
 
 pub loads_written : (old new : Source) (s : Shard) (expiry : Option ℕ) (r : Result MDBShardInfo CoreError) → old.bytes ≡ layout s expiry → FitsFooter (info_value s expiry).metadata
     → MatchResult r (Loads old new) (LoadFails old new) → MatchResult r (λ info. info ≡ info_value s expiry) (DeviceFailure old new)
-loads_written old new s expiry r are fits loads = loads_layout old new (values s.files) (values s.xorbs) (plain_form expiry) r are fits loads
+loads_written old new s expiry r are fits =
+    loads_ends old new (info_value s expiry) r (subst (λ bs. HasEnds bs (info_value s expiry)) (sym are) (ends_of_layout (values s.files) (values s.xorbs) (plain_form expiry) fits))

@@ -1,8 +1,7 @@
 -- Header and footer of a source.
-use Rattle.std.proofs.Common.{◌≡◌, ◌≢◌, inl, inr, Ok, Err, Some, ℕ, ◌+◌, ◌-◌, ◌^◌, ◌<◌, ◌≤◌, List, [], ◌++◌, length, take, drop, append-nil, sym, ap, ◌∙◌, subst, arith}
+use Rattle.std.proofs.Common.{◌≡◌, ◌≢◌, inl, inr, Some, ℕ, ◌-◌, ◌^◌, ◌<◌, ◌≤◌, List, ◌++◌, length, take, drop, append-nil, sym, ap, ◌∙◌, subst, arith, rules}
+use Rattle.std.proofs.lemmas.Grind.{common_steps}
 use Rattle.std.proofs.lemmas.List.{length-append, length-drop, append_assoc, nil_from_length}
-use Rattle.std.specs.Prelude.{IfOk, IfErr}
-use Rattle.std.specs.declared.result.Result.{Result}
 use Rattle.std.specs.declared.io.Error.{Error}
 use Rattle.xet_base.specs.declared.error.CoreError.{CoreError}
 use Rattle.xet_base.specs.Bytes.{u64_bytes}
@@ -10,13 +9,13 @@ use Rattle.xet_base.specs.Errors.{IsEndOfInput, IsBareShardVersion, FromDevice}
 use Rattle.xet_base.specs.Source.{Source, Takes, Fails, moved, bytes_left}
 use Rattle.xet_base.proofs.Bytes.{length-u64_bytes}
 use Rattle.xet_base.proofs.Lists.{front_is}
-use Rattle.xet_base.specs.InputLaws.{Takes-trans, failed_after}
+use Rattle.xet_base.specs.InputLaws.{Takes-trans}
 use Rattle.xet_base.proofs.Reading.{Takes-consumes}
 use Rattle.xet_shards.specs.declared.shard_format.header.MDBShardFileHeader.{MDBShardFileHeader}
 use Rattle.xet_shards.specs.declared.shard_format.footer.MDBShardFileFooter.{MDBShardFileFooter}
 use Rattle.xet_shards.specs.Layout.{header_tag, shard_header_bytes, shard_footer_bytes}
-use Rattle.xet_shards.specs.Ends.{HasHeader, FitsFooter, HasUnsupportedHeader, EndsInHeader, HasUnsupportedFooter, EndsInFooter, last_bytes, IsUnsupported, IsTooShort, Loads, LoadFails, PartFails, FormatCase, Refusal}
-use Rattle.xet_shards.specs.Ends.FormatCase.{unsupported_format, too_few_bytes}
+use Rattle.xet_shards.specs.Ends.{HasHeader, FitsFooter, HasUnsupportedHeader, EndsInHeader, HasUnsupportedFooter, EndsInFooter, last_bytes, Loads, LoadFails, PartFails, Refusal}
+use Rattle.xet_shards.specs.Ends.FormatCase.{unsupported_format}
 use Rattle.xet_shards.proofs.Ends.{unsupported_version}
 use Rattle.xet_shards.proofs.Layouts.{length-shard_header_bytes, length-shard_footer_bytes}
 
@@ -25,20 +24,7 @@ pub refusal_of : (Unsupported Short Unsupported' Short' : List ℕ → Type 0) (
     → mid.failures ≡ old.failures → (Unsupported bytes → Unsupported' bytes') → (Short bytes → Short' bytes')
     → Refusal Unsupported Short bytes mid new e → Refusal Unsupported' Short' bytes' old new e
 refusal_of Unsupported Short Unsupported' Short' bytes bytes' old mid new e same unsupported short cause =
-    failed_after (FormatCase Unsupported Short bytes) (FormatCase Unsupported' Short' bytes') old mid new e same later cause
-  where
-    later : FormatCase Unsupported Short bytes e → FormatCase Unsupported' Short' bytes' e
-    later (unsupported_format is has) = unsupported_format is (unsupported has)
-    later (too_few_bytes is has) = too_few_bytes is (short has)
-
--- what follows from the value or from the error of a result
-pub ok_gives : {T E : Type 0} (r : Result T E) (P Q : T → Type 0) → ((v : T) → P v → Q v) → IfOk r P → IfOk r Q
-ok_gives (Ok v) P Q gives holds = gives v holds
-ok_gives (Err e) P Q gives holds = tt
-
-pub err_gives : {T E : Type 0} (r : Result T E) (P Q : E → Type 0) → ((e : E) → P e → Q e) → IfErr r P → IfErr r Q
-err_gives (Ok v) P Q gives holds = tt
-err_gives (Err e) P Q gives holds = gives e holds
+    search rules
 
 -- a header in two steps
 pub read_in_two : (a b c : Source) (tag rest : List ℕ) (h : MDBShardFileHeader) → tag ≡ header_tag → rest ≡ u64_bytes 2 ++ u64_bytes h.footer_size → h.version ≡ 2
@@ -78,82 +64,59 @@ header_of bytes rest h are two =
     }
 
 -- the first 48 bytes were read, as a header
-module _ (old mid : Source) (h : MDBShardFileHeader) (taken : Takes (moved old 0) mid (shard_header_bytes h)) where
-  pub bytes_same : mid.bytes ≡ old.bytes
+module _ (old start mid : Source) (h : MDBShardFileHeader) (first : start ≡ moved old 0) (read : Takes start mid (shard_header_bytes h)) where
+  taken : Takes (moved old 0) mid (shard_header_bytes h)
+  taken = subst (λ s. Takes s mid (shard_header_bytes h)) first read
+
+  bytes_same : mid.bytes ≡ old.bytes
   bytes_same = ap (λ (s : Source). s.bytes) taken.after
-
-  pub seeks_one : mid.seeks ≡ old.seeks + 1
-  seeks_one = ap (λ (s : Source). s.seeks) taken.after
-
-  pub read_48 : mid.read ≡ old.read + 48
-  read_48 = ap (λ (s : Source). s.read) taken.after ∙ ap (λ n. old.read + n) (length-shard_header_bytes h)
-
-  pub failures_same : mid.failures ≡ old.failures
-  failures_same = ap (λ (s : Source). s.failures) taken.after
 
   begins : old.bytes ≡ shard_header_bytes h ++ bytes_left mid
   begins = Takes-consumes (moved old 0) mid (shard_header_bytes h) taken
 
-  pub front_is_header : take 48 old.bytes ≡ shard_header_bytes h
+  front_is_header : take 48 old.bytes ≡ shard_header_bytes h
   front_is_header = front_is 48 old.bytes (shard_header_bytes h) (bytes_left mid) (length-shard_header_bytes h) begins
 
-  pub header_there : h.version ≡ 2 → HasHeader old.bytes
+  header_there : h.version ≡ 2 → HasHeader old.bytes
   header_there two = header_of old.bytes (bytes_left mid) h begins two
 
-  pub short_of_footer : (e : CoreError) → h.version ≡ 2 → IsEndOfInput e → length old.bytes < 200 → LoadFails old mid e
-  short_of_footer e two ended short = record {
-    bytes = bytes_same;
-    seeks = omega (arith, seeks_one);
-    read = omega (arith, read_48);
-    cause = inr (failures_same, too_few_bytes ended (inr (header_there two, short)));
-  }
+  device_failed : (new : Source) (made : ℕ) (f : Error) (e : CoreError) → made ≤ 1 → Fails mid new made f → FromDevice f e → LoadFails old new e
+  device_failed new made f e most fails from =
+      search (rules, taken, length-shard_header_bytes h)
 
-  pub device_failed : (new : Source) (made : ℕ) (f : Error) (e : CoreError) → made ≤ 1 → Fails mid new made f → FromDevice f e → LoadFails old new e
-  device_failed new made f e most fails from = record {
-    bytes = fails.bytes ∙ bytes_same;
-    seeks = omega (arith, fails.seeks, seeks_one);
-    read = omega (arith, fails.read, read_48);
-    cause = inl (fails.failures ∙ ap (λ n. n + 1) failures_same, f, fails.last_failure, from);
-  }
+  pub no_length : (new : Source) (f : Error) (e : CoreError) → Fails mid new 0 f → FromDevice f e → LoadFails old new e
+  no_length new f e fails from = device_failed new 0 f e (omega arith) fails from
 
-  -- the last 200 bytes
-  module _ (n : ℕ) (len : n ≡ length mid.bytes) (enough : 200 ≤ n) where
-    last_is : bytes_left (moved mid (n - 200)) ≡ last_bytes old.bytes
-    last_is = λ i. drop ((len ∙ ap length bytes_same) i - 200) (bytes_same i)
+  -- the length is known
+  module _ (n : ℕ) (asked : Source) (known : (n ≡ length mid.bytes) × (asked ≡ mid)) (two : h.version ≡ 2) where
+    pub short_of_footer : (e : CoreError) → IsEndOfInput e → n < 200 → LoadFails old asked e
+    short_of_footer e ended short =
+        search (rules, taken, length-shard_header_bytes h, header_there)
 
-    length_last : length (last_bytes old.bytes) ≡ 200
-    length_last = omega (arith, length-drop (length old.bytes - 200) old.bytes, len, ap length bytes_same)
+    pub no_seek : (new : Source) (f : Error) (e : CoreError) → Fails asked new 1 f → FromDevice f e → LoadFails old new e
+    no_seek new f e fails from = device_failed new 1 f e (omega arith) (subst (λ s. Fails s new 1 f) known.1 fails) from
 
-    pub not_footer : (new : Source) (e : CoreError) → h.version ≡ 2 → PartFails HasUnsupportedFooter EndsInFooter 200 (moved mid (n - 200)) new e → LoadFails old new e
-    not_footer new e two fails =
-        let size : 200 ≤ length old.bytes = omega (arith, len, ap length bytes_same) in
-        record {
-          bytes = fails.bytes ∙ bytes_same;
-          seeks = omega (arith, fails.seeks, seeks_one);
-          read = omega (arith, fails.read, read_48);
-          cause = refusal_of HasUnsupportedFooter EndsInFooter IsUnsupported IsTooShort (bytes_left (moved mid (n - 200))) old.bytes old (moved mid (n - 200)) new e failures_same
-              (λ has. inr (header_there two, size, subst HasUnsupportedFooter last_is has)) (λ ends. absurd (has_room (last_bytes old.bytes) length_last (subst EndsInFooter last_is ends))) fails.cause;
-        }
+    -- the last 200 bytes
+    module _ (end : Source) (sought : end ≡ moved asked (n - 200)) (enough : 200 ≤ n) where
+      there : end ≡ moved mid (n - 200)
+      there = sought ∙ ap (λ s. moved s (n - 200)) known.1
 
-    pub found_both : (new : Source) (f : MDBShardFileFooter) → h.tag ≡ header_tag → h.version ≡ 2 → h.footer_size < 2 ^ 64 → f.version ≡ 1 → FitsFooter f
-        → Takes (moved mid (n - 200)) new (shard_footer_bytes f) → Loads old new (record { header = h; metadata = f })
-    found_both new f tag two footer_size one widths last =
-        let size : length (shard_footer_bytes f) ≡ 200 = length-shard_footer_bytes f widths.buffer_size in
-        let left = Takes-consumes (moved mid (n - 200)) new (shard_footer_bytes f) last in
-        let nothing : bytes_left new ≡ [] = nil_from_length (bytes_left new) (omega (arith, ap length left ∙ length-append (shard_footer_bytes f) (bytes_left new), ap length last_is, length_last, size)) in
-        record {
-          bytes = ap (λ (s : Source). s.bytes) last.after ∙ bytes_same;
-          seeks = omega (arith, ap (λ (s : Source). s.seeks) last.after, seeks_one);
-          read = omega (arith, ap (λ (s : Source). s.read) last.after, read_48, size);
-          failures = ap (λ (s : Source). s.failures) last.after ∙ failures_same;
-          ends = record {
-            size = omega (arith, len, ap length bytes_same);
-            tag = tag;
-            header_version = two;
-            header = front_is_header;
-            footer_size = footer_size;
-            footer_version = one;
-            footer_widths = widths;
-            footer = sym last_is ∙ left ∙ ap (λ bs. shard_footer_bytes f ++ bs) nothing ∙ append-nil (shard_footer_bytes f);
-          };
-        }
+      last_is : bytes_left (moved mid (n - 200)) ≡ last_bytes old.bytes
+      last_is = λ i. drop ((known.0 ∙ ap length bytes_same) i - 200) (bytes_same i)
+
+      size : 200 ≤ length old.bytes
+      size = omega (arith, known.0, ap length bytes_same)
+
+      length_last : length (last_bytes old.bytes) ≡ 200
+      length_last = omega (arith, length-drop (length old.bytes - 200) old.bytes, size)
+
+      pub not_footer : (new : Source) (e : CoreError) → PartFails HasUnsupportedFooter EndsInFooter 200 end new e → LoadFails old new e
+      not_footer new e part =
+          search (rules, there, taken, length-shard_header_bytes h, refusal_of,
+          header_there, size, last_is, has_room, length_last)
+
+      pub found_both : (new : Source) (f : MDBShardFileFooter) → h.tag ≡ header_tag → h.footer_size < 2 ^ 64 → f.version ≡ 1 → FitsFooter f → Takes end new (shard_footer_bytes f)
+          → Loads old new (record { header = h; metadata = f })
+      found_both new f tag footer_size one widths took =
+          grind (arith, common_steps, there, length-shard_footer_bytes, Takes-consumes,
+          nil_from_length, length-append, last_is, length_last, taken, length-shard_header_bytes h, size, front_is_header, append-nil)

@@ -1,11 +1,11 @@
 -- Reading the records that a lookup leads to.
-use Rattle.std.proofs.Common.{◌≡◌, ◌≢◌, inl, inr, ℕ, ◌+◌, ◌*◌, ◌^◌, ◌<◌, ◌≤◌, List, [], ◌∷◌, ◌++◌, length, map, take, drop, Option, sym, ap, ◌∙◌, subst, arith, mul-add, mul-one}
+use Rattle.std.proofs.Common.{◌≡◌, ◌≢◌, inl, inr, ℕ, ◌+◌, ◌*◌, ◌^◌, ◌<◌, List, [], ◌∷◌, ◌++◌, length, map, take, drop, Option, sym, ap, ◌∙◌, subst, arith, mul-add, mul-one, rules}
 use Rattle.std.specs.Prelude.{IfOk}
 use Rattle.std.specs.declared.result.Result.{Result}
-use Rattle.std.proofs.lemmas.Result.{IfOk-weaker}
-use Rattle.std.proofs.lemmas.List.{length-append, length-map}
-use Rattle.xet_base.specs.Table.{Table, FitsTable, Serves, IsSorted, Bounded, Hit, IsHit, Finds, value_at}
-use Rattle.std.proofs.lemmas.List.Elements.{AllZip-push, All-push, All-weaker}
+use Rattle.std.proofs.lemmas.Grind.{common_steps}
+use Rattle.std.proofs.lemmas.List.{length-append}
+use Rattle.xet_base.specs.Table.{Table, Serves, IsSorted, Bounded, Hit, Finds}
+use Rattle.std.proofs.lemmas.List.Elements.{AllZip-push, All-push}
 use Rattle.std.proofs.lemmas.List.Sums.{sum_by-append}
 use Rattle.xet_base.specs.declared.error.CoreError.{CoreError}
 use Rattle.xet_base.specs.declared.merklehash.DataHash.{DataHash}
@@ -13,7 +13,6 @@ use Rattle.xet_shards.specs.Tables.{hash_in}
 use Rattle.std.specs.declared.io.Error.{Error}
 use Rattle.xet_base.specs.Errors.{FromDevice}
 use Rattle.xet_base.specs.Source.{Source, Takes, Fails, moved, bytes_left}
-use Rattle.xet_base.proofs.Lists.{front_is}
 use Rattle.xet_base.proofs.Reading.{Takes-consumes}
 use Rattle.xet_base.proofs.Search.{serves_still, serves_moved, serves_advanced}
 use Rattle.xet_records.specs.RecordKind.{RecordKind}
@@ -21,55 +20,20 @@ use Rattle.xet_records.specs.Reading.{ReadsBookend}
 use Rattle.xet_records.proofs.RecordKinds.{KindLaws, length-record_bytes, stored_begins}
 use Rattle.xet_shards.specs.SectionReading.{MayTake, PassesLimit, EndsEarly, SectionCase, ReadsNext, RecordFails}
 use Rattle.xet_base.specs.InputLaws.{failed_after}
-use Rattle.xet_shards.specs.Lookup.{IsNumber, Collides, IndexFinds, VisitsSome, LooksUp, LookupAnswer, LookupRefused, Finding, FindingFails, row_at, RecordAt, IsBareInternalError, RecordRefusal, InfoRefusal, ReadsInfo, ReadInfoFails, Visit, Visits, Missed}
+use Rattle.xet_shards.specs.Lookup.{IndexFinds, VisitsSome, LooksUp, LookupAnswer, LookupRefused, Finding, FindingFails, row_at, RecordAt, IsBareInternalError, RecordRefusal, InfoRefusal, ReadsInfo, ReadInfoFails, Visit, Visits, Missed}
 
 -- calls that did not fail, after others
 pub serves_after : (old now new : Source) → Serves old now → Serves now new → Serves old new
-serves_after old now new first last = record {
-  bytes = last.bytes ∙ first.bytes;
-  failures = last.failures ∙ first.failures;
-  last_failure = last.last_failure ∙ first.last_failure;
-}
-
--- room for eight results that are all taken are eight hits
-pub collides : (t : Table) (key count : ℕ) (old new : List ℕ) → Finds t key IsNumber old new count → FitsTable t → length old ≡ 8 → length new ≡ 8 → 8 ≤ count → Collides t key
-collides t key count old new finds fits old_len new_len full = record {
-  fits = fits;
-  found = finds.found;
-  eight = omega (
-    arith,
-    finds.number,
-    full,
-    old_len,
-    new_len,
-    ap length finds.written,
-    length-append (map (λ (h : Hit ℕ). h.value) finds.found) (drop count old),
-    length-map finds.found (λ (h : Hit ℕ). h.value),
-  );
-  each = finds.each;
-  distinct = finds.distinct;
-}
+serves_after old now new first last = search rules
 
 -- what some readings gave, others give too
 pub finds_weaker : {V E : Type 0} (t : Table) (key : ℕ) (Gives Others : List ℕ → V → Type 0) (old new : List V) (r : Result ℕ E) → ((bytes : List ℕ) (v : V) → Gives bytes v → Others bytes v)
     → IfOk r (Finds t key Gives old new) → IfOk r (Finds t key Others old new)
-finds_weaker t key Gives Others old new r weaker = IfOk-weaker r (Finds t key Gives old new) (Finds t key Others old new) (λ n finds. record {
-  found = finds.found;
-  number = finds.number;
-  each = All-weaker (IsHit t key Gives) (IsHit t key Others) (λ h hit. record {
-    within = hit.within;
-    there = hit.there;
-    same_key = hit.same_key;
-    gives = weaker (value_at t h.row) h.value hit.gives;
-  }) finds.found finds.each;
-  distinct = finds.distinct;
-  written = finds.written;
-})
+finds_weaker t key Gives Others old new r weaker = search rules
 
 -- the row numbers that an index lookup put in front
 pub rows_in_front : (t : Table) (key count : ℕ) (old new : List ℕ) (finds : IndexFinds t key old new count) → take count new ≡ map (λ (h : Hit ℕ). h.value) finds.found
-rows_in_front t key count old new finds =
-    front_is count new (map (λ (h : Hit ℕ). h.value) finds.found) (drop count old) (length-map finds.found (λ (h : Hit ℕ). h.value) ∙ finds.number) finds.written
+rows_in_front t key count old new finds = grind (arith, common_steps)
 
 module _ {H R : Type 0} (K : RecordKind H R) (laws : KindLaws K) where
   -- a stored record has the rows that its header announces, and the header
@@ -79,15 +43,7 @@ module _ {H R : Type 0} (K : RecordKind H R) (laws : KindLaws K) where
   -- the seek to a row failed
   pub info_no_seek : (offset row : ℕ) (old new : Source) (failure : Error) (e : CoreError) → row_at offset row < 2 ^ 64 → Fails old new 1 failure → FromDevice failure e
       → ReadInfoFails K offset row old new e
-  info_no_seek offset row old new failure e fits fails is = record {
-    bytes = fails.bytes;
-    seeks = omega (arith, fails.seeks);
-    no_fewer = omega (arith, fails.seeks);
-    taken = 0;
-    read = omega (arith, fails.read);
-    may_take = inl (omega arith);
-    cause = inr (fits, inr (inl (fails.failures, failure, fails.last_failure, is)));
-  }
+  info_no_seek offset row old new failure e fits fails is = search rules
 
   -- after a seek to a row
   module _ (offset row : ℕ) (old mid new : Source) (fits : row_at offset row < 2 ^ 64) (sought : mid ≡ moved old (row_at offset row)) where
@@ -138,19 +94,7 @@ module _ {H R : Type 0} (K : RecordKind H R) (laws : KindLaws K) where
     }
 
     pub info_fails : (e : CoreError) → RecordFails K 4294967296 mid new e → ReadInfoFails K offset row old new e
-    info_fails e fails = record {
-      bytes = fails.bytes ∙ ap (λ (s : Source). s.bytes) sought;
-      seeks = omega (arith, fails.seeks, ap (λ (s : Source). s.seeks) sought);
-      no_fewer = omega (arith, fails.seeks, ap (λ (s : Source). s.seeks) sought);
-      taken = fails.taken;
-      read = omega (arith, fails.read, ap (λ (s : Source). s.read) sought);
-      may_take = subst (λ bytes. MayTake K bytes fails.taken) left_is fails.may_take;
-      cause = inr (
-        fits,
-        inr (failed_after (SectionCase (PassesLimit K 4294967296) (EndsEarly K 4294967296) (bytes_left mid)) (SectionCase (PassesLimit K 4294967296) (EndsEarly K 4294967296) (drop (row_at offset row) old.bytes)) old mid new e
-            (ap (λ (s : Source). s.failures) sought) (subst (λ bytes. SectionCase (PassesLimit K 4294967296) (EndsEarly K 4294967296) bytes e) left_is) fails.cause),
-      );
-    }
+    info_fails e fails = search rules
 
   -- one row more
   pub visits_more : (most offset row : ℕ) (rows : List ℕ) (old now new : Source) → Visits K most offset rows old now → Visit K most offset row now new
@@ -167,25 +111,11 @@ module _ {H R : Type 0} (K : RecordKind H R) (laws : KindLaws K) where
 
   pub visits_read : (offset row : ℕ) (rows : List ℕ) (old now new : Source) (found : R) → Visits K 1 offset rows old now → ReadsInfo K offset row now new found
       → Visits K 1 offset (rows ++ row ∷ []) old new
-  visits_read offset row rows old now new found before read = visits_more 1 offset row rows old now new before (record {
-    bytes = read.serves.bytes;
-    seeks = omega (arith, read.seeks);
-    no_fewer = omega (arith, read.seeks);
-    taken = read.taken;
-    read = omega (arith, read.read);
-    may_take = read.may_take;
-  })
+  visits_read offset row rows old now new found before read = search (rules, visits_more)
 
   pub visits_read_not : (offset row : ℕ) (rows : List ℕ) (old now new : Source) (e : CoreError) → Visits K 1 offset rows old now → ReadInfoFails K offset row now new e
       → Visits K 1 offset (rows ++ row ∷ []) old new
-  visits_read_not offset row rows old now new e before read = visits_more 1 offset row rows old now new before (record {
-    bytes = read.bytes;
-    seeks = read.seeks;
-    no_fewer = read.no_fewer;
-    taken = read.taken;
-    read = read.read;
-    may_take = read.may_take;
-  })
+  visits_read_not offset row rows old now new e before read = search (rules, visits_more)
 
   -- one record more
   pub missed_more : (offset row : ℕ) (hash : DataHash) (rows : List ℕ) (old now new : Source) (found : R) → Missed K offset hash rows old now
@@ -214,21 +144,10 @@ module _ {H R : Type 0} (K : RecordKind H R) (laws : KindLaws K) where
       (finds : IndexFinds t hash.word0 dest_old dest_new count) (serves : Serves old mid) (bounded : IsSorted t → Bounded t hash.word0 old mid)
       (visits : VisitsSome K 1 offset (take count dest_new) mid new) where
     looked_up : (Answer : List ℕ → Type 0) → Answer (take count dest_new) → LooksUp K t offset hash.word0 old new Answer
-    looked_up Answer answer = record {
-      fits = finds.fits;
-      found = finds.found;
-      few = omega (arith, finds.few, finds.number);
-      are_hits = finds.are_hits;
-      searched = mid;
-      serves = serves;
-      bounded = bounded;
-      visits = subst (λ rows. VisitsSome K 1 offset rows mid new) (rows_in_front t hash.word0 count dest_old dest_new finds) visits;
-      answer = subst Answer (rows_in_front t hash.word0 count dest_old dest_new finds) answer;
-    }
+    looked_up Answer answer = grind (arith, common_steps)
 
     pub finding : (answer : Option R) → LookupAnswer K mid.bytes offset hash answer (take count dest_new) → Finding K t offset hash old new answer
-    finding answer read =
-        looked_up (LookupAnswer K old.bytes offset hash answer) (subst (λ bytes. LookupAnswer K bytes offset hash answer (take count dest_new)) serves.bytes read)
+    finding answer read = grind (arith, common_steps)
 
     pub finding_not : (e : CoreError) → LookupRefused K offset mid new e (take count dest_new) → FindingFails K t offset hash old new e
     finding_not e (row, contains, refusal) =

@@ -1,5 +1,5 @@
 -- What is read from the bytes of a shard.
-use Rattle.std.proofs.Common.{◌≡◌, ◌⊎◌, Ok, Err, ℕ, List, [], ◌∷◌, ◌++◌, ◌+◌, length, map, flat_map, drop, Option, None, Some, refl, sym, ap, ◌∙◌, arith}
+use Rattle.std.proofs.Common.{◌≡◌, ◌⊎◌, Ok, Err, ℕ, List, [], ◌∷◌, ◌++◌, ◌+◌, length, map, flat_map, drop, Option, None, Some, refl, sym, ap, ◌∙◌, arith, rules}
 use Rattle.std.specs.Prelude.{All, IfSome, MatchResult, option_map}
 use Rattle.std.specs.FinMap.{values}
 use Rattle.std.specs.declared.result.Result.{Result}
@@ -45,10 +45,7 @@ clear_ext (Some m) clear = λ i. Some (record { sha256 = m.sha256; _unused = sym
 
 -- so a well-formed record is handed out as it is
 pub handed_one : (r : MDBFileInfo) → IsWellFormed r → handed_out r ≡ r
-handed_one r good =
-    let verification = clear_verifications r.verification good.clear_verification in
-    let ext = clear_ext r.metadata_ext good.clear_metadata_ext in
-    λ i. record { metadata = r.metadata; segments = r.segments; verification = verification i; metadata_ext = ext i }
+handed_one r good = search (rules, clear_verifications, clear_ext)
 
 pub handed_same : (rs : List MDBFileInfo) → All IsWellFormed rs → map handed_out rs ≡ rs
 handed_same [] good = refl

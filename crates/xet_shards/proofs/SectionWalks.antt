@@ -1,5 +1,5 @@
 -- The turns of the loop that walks through a section, and what the walk keeps where the records are known.
-use Rattle.std.proofs.Common.{◌≡◌, ◌⊎◌, Ok, Err, ℕ, ◌+◌, ◌*◌, List, [], ◌∷◌, ◌++◌, map, Some, refl, sym, ap, ◌∙◌}
+use Rattle.std.proofs.Common.{◌≡◌, ◌⊎◌, Ok, Err, ℕ, ◌+◌, ◌*◌, List, [], ◌∷◌, ◌++◌, map, Some, refl, sym, ap, ◌∙◌, rules}
 use Rattle.std.specs.Prelude.{MatchResult}
 use Rattle.std.specs.declared.result.Result.{Result}
 use Rattle.std.specs.declared.vec.Vec.{Vec}
@@ -11,7 +11,7 @@ use Rattle.xet_base.specs.InputLaws.{Takes-nil, Takes-trans}
 use Rattle.xet_records.specs.RecordKind.{RecordKind, KindLaws}
 use Rattle.xet_records.specs.Reading.{ReadsBookend}
 use Rattle.xet_records.proofs.SectionRecords.{nothing_read, more_read}
-use Rattle.xet_shards.specs.Section.{total_rows, with_fronts}
+use Rattle.xet_shards.specs.Section.{total_rows}
 use Rattle.xet_shards.specs.SectionReading.{IsSection, TakesNoSection}
 use Rattle.xet_shards.specs.SectionWalk.{kept_of, KeepsSection, HasKept, KeepsNext}
 use Rattle.xet_shards.proofs.SectionReading.{section_ends, offset_after}
@@ -20,9 +20,7 @@ use Rattle.xet_shards.proofs.Tables.{with_fronts-push}
 
 module _ {H R T : Type 0} (K : RecordKind H R) (laws : KindLaws K) (keep : ℕ → R → T) where
   kept_of-push : (at : ℕ) (records : List R) (r : R) → kept_of K keep at (records ++ r ∷ []) ≡ kept_of K keep at records ++ keep (at + 48 * total_rows K records) r ∷ []
-  kept_of-push at records r =
-      let kept : List R × R → T = λ e. keep (at + 48 * total_rows K e.0) e.1 in
-      ap (map kept) (with_fronts-push [] records r) ∙ map-append kept (with_fronts [] records) ((records, r) ∷ [])
+  kept_of-push at records r = search (rules, with_fronts-push, map-append)
 
   -- before the first record
   pub nothing_kept : (start : Source) → HasKept K keep start start [] 4294967295

@@ -1,19 +1,19 @@
 -- The turns of the loop that reads a table, and what it gives where the rows are known.
-use Rattle.std.proofs.Common.{◌≡◌, ◌⊎◌, inl, inr, Ok, Err, ℕ, ◌+◌, ◌*◌, ◌<◌, ◌≤◌, List, [], ◌∷◌, ◌++◌, length, flat_map, drop, append-nil, refl, sym, ap, ◌∙◌, subst, arith}
+use Rattle.std.proofs.Common.{◌≡◌, ◌⊎◌, inl, inr, Ok, Err, ℕ, ◌+◌, ◌*◌, ◌<◌, ◌≤◌, List, [], ◌∷◌, ◌++◌, length, flat_map, drop, append-nil, sym, ap, ◌∙◌, subst, arith, rules}
 use Rattle.std.specs.Prelude.{All, MatchResult}
 use Rattle.std.specs.declared.result.Result.{Result}
 use Rattle.std.specs.declared.vec.Vec.{Vec}
 use Rattle.std.proofs.lemmas.List.{length-append}
 use Rattle.std.proofs.lemmas.List.Elements.{All-append, All-cons, All-drop, All-nil}
-use Rattle.std.proofs.lemmas.Grind.{flat_map-append}
+use Rattle.std.proofs.lemmas.Grind.{common_steps, flat_map-append}
 use Rattle.std.proofs.Math.Nat.{mul-suc, mul-le-mul_left}
 use Rattle.xet_base.specs.declared.error.CoreError.{CoreError}
 use Rattle.xet_base.specs.declared.error.CoreError.TheVariants.{OutOfMemory}
 use Rattle.xet_base.specs.Source.{Source, Takes, DeviceFailure, FailedBy, ReadCase, ReadFails, moved, bytes_left}
 use Rattle.xet_base.specs.Source.ReadCase.{out_of_memory, out_of_bytes}
 use Rattle.xet_base.proofs.Lists.{parts_front}
-use Rattle.xet_base.specs.InputLaws.{Takes-nil, Takes-trans, failed_after, read_case}
-use Rattle.xet_base.proofs.Reading.{Takes-consumes, lacks_left}
+use Rattle.xet_base.specs.InputLaws.{Takes-trans}
+use Rattle.xet_base.proofs.Reading.{Takes-consumes}
 use Rattle.xet_shards.specs.TableReading.{ReadsNextRow, ReadsTable, RowsFailure, TableFails}
 
 -- the rows that were read so far
@@ -24,9 +24,6 @@ pub record HasReadRows {T : Type 0} (row_bytes : T → List ℕ) (Fits : T → T
   pub taken : Takes start now (flat_map row_bytes found)
 
 module _ {T : Type 0} (row_bytes : T → List ℕ) (Fits : T → Type 0) (size : ℕ) where
-  pub no_rows_read : (start : Source) → HasReadRows row_bytes Fits size start start 0 []
-  no_rows_read start = record { number = refl; widths = All-nil Fits; bytes = omega arith; taken = Takes-nil start }
-
   pub more_rows_read : (start now new : Source) (count : ℕ) (found : List T) (row : T) → HasReadRows row_bytes Fits size start now count found
       → ReadsNextRow row_bytes Fits size now new row → HasReadRows row_bytes Fits size start new (count + 1) (found ++ row ∷ [])
   more_rows_read start now new count found row before next =
@@ -44,56 +41,23 @@ module _ {T : Type 0} (row_bytes : T → List ℕ) (Fits : T → Type 0) (size :
     bytes_are_then : drop at old.bytes ≡ flat_map row_bytes found ++ bytes_left now
     bytes_are_then = Takes-consumes (moved old at) now (flat_map row_bytes found) read.taken
 
-    bytes_then : now.bytes ≡ old.bytes
-    bytes_then = ap (λ (s : Source). s.bytes) read.taken.after
-
-    seeks_then : now.seeks ≡ old.seeks + 1
-    seeks_then = ap (λ (s : Source). s.seeks) read.taken.after
-
-    read_then : now.read ≡ old.read + size * count
-    read_then = ap (λ (s : Source). s.read) read.taken.after ∙ ap (λ n. old.read + n) read.bytes
-
-    failures_then : now.failures ≡ old.failures
-    failures_then = ap (λ (s : Source). s.failures) read.taken.after
-
     pub table_read : count ≤ 4294967295 → ReadsTable row_bytes Fits size old now at count found
-    table_read few = record {
-      few = few;
-      number = read.number;
-      widths = read.widths;
-      bytes_are = (bytes_left now, bytes_are_then);
-      bytes = bytes_then;
-      seeks = seeks_then;
-      read = read_then;
-      failures = failures_then;
-    }
+    table_read few =
+        search (rules, bytes_are_then, read)
 
     -- an allocation failed
     pub no_memory_for_row : (rows : ℕ) (e : CoreError) → count ≤ rows → rows ≤ 4294967295 → e ≡ OutOfMemory → TableFails size old now at rows e
-    no_memory_for_row rows e within few is = record {
-      bytes = bytes_then;
-      seeks = omega (arith, seeks_then);
-      read = omega (arith, read_then, mul-le-mul_left size within);
-      cause = inr (few, inr (failures_then, out_of_memory is));
-    }
+    no_memory_for_row rows e within few is = search rules
 
     -- the next row was not read
     next_refused : (rows : ℕ) (new : Source) (e : CoreError) → 0 < size → size * count + size ≤ size * rows
         → FailedBy (ReadCase (length now.bytes < now.at + size)) now new e → RowsFailure old new at (size * rows) e
-    next_refused rows new e some within cause =
-        failed_after (ReadCase (length now.bytes < now.at + size)) (ReadCase (length (drop at old.bytes) < size * rows)) old now new e failures_then
-        (read_case (length now.bytes < now.at + size) (length (drop at old.bytes) < size * rows) e
-        (λ short. omega (arith, ap length bytes_are_then, length-append (flat_map row_bytes found) (bytes_left now), read.bytes, within, lacks_left now size some short))) cause
+    next_refused rows new e some within cause = grind (arith, common_steps)
 
     pub row_fails : (rows : ℕ) (new : Source) (e : CoreError) → 0 < size → count < rows → rows ≤ 4294967295 → ReadFails now new size e → TableFails size old new at rows e
     row_fails rows new e some below few fails =
         let within : size * count + size ≤ size * rows = omega (arith, mul-suc size count, mul-le-mul_left size below) in
-        record {
-          bytes = fails.bytes ∙ bytes_then;
-          seeks = omega (arith, fails.seeks, seeks_then);
-          read = omega (arith, fails.read, read_then, within);
-          cause = inr (few, next_refused rows new e some within fails.cause);
-        }
+        grind (arith, common_steps, read.taken.after, next_refused)
 
 -- what a read of a table answers on any bytes, and on those of known rows
 abbrev pub ReadsOrFails : {T Z : Type 0} → (T → List ℕ) → (T → Type 0) → ℕ → Source → Source → ℕ → ℕ → Result (Vec T Z) CoreError → Type 0
@@ -121,10 +85,7 @@ module _ {T : Type 0} (row_bytes : T → List ℕ) (Fits : T → Type 0) (size :
         absurd (omega (arith, short, ap length bytes_are, length-append (flat_map row_bytes rows) rest, length-rows rows fit))
 
     refused_because : (e : CoreError) → TableFails size old new at (length rows) e → DeviceFailure old new e ⊎ (e ≡ OutOfMemory)
-    refused_because e fails = elim fails.cause [
-      | inl past ↦ absurd (omega (arith, past.1, few))
-      | inr failed ↦ why_not e failed.1
-    ]
+    refused_because e fails = search (rules, why_not)
 
     pub whole_table : {Z : Type 0} (r : Result (Vec T Z) CoreError)
         → ReadsOrFails row_bytes Fits size old new at (length rows) r → IsReadAs old new rows r

@@ -1,9 +1,10 @@
 -- Locations that are tried one after another, after a search in the chunk table.
-use Rattle.std.proofs.Common.{◌≡◌, ◌≢◌, inl, inr, Ok, Err, is_some, true, false, true≢false, ℕ, ◌+◌, ◌<◌, ◌≤◌, List, [], ◌∷◌, ◌++◌, length, take, drop, map, get_or, min, Option, None, Some, String, Global, refl, sym, ap, ◌∙◌, subst, arith}
-use Rattle.std.specs.Prelude.{string_bytes, slice_get, IfOk, IfErr}
+use Rattle.std.proofs.Common.{◌≡◌, ◌≢◌, inl, inr, Ok, Err, is_some, true, false, true≢false, ℕ, ◌+◌, ◌<◌, ◌≤◌, List, [], ◌∷◌, ◌++◌, length, take, drop, map, get_or, min, Option, None, Some, String, Global, refl, sym, ap, ◌∙◌, subst, arith, rules}
+use Rattle.std.specs.Prelude.{string_bytes, slice_get, MatchResult, IfOk, IfErr}
 use Rattle.std.specs.declared.result.Result.{Result}
+use Rattle.std.proofs.lemmas.Grind.{common_steps}
 use Rattle.std.proofs.lemmas.Option.{none-some, same_Some}
-use Rattle.std.proofs.lemmas.List.{map-append, length-append, length-map, take_more, take_all, take-map}
+use Rattle.std.proofs.lemmas.List.{map-append, length-map, take_more, take-map}
 use Rattle.std.proofs.lemmas.List.Elements.{All-push, Contains-get_or}
 use Rattle.xet_base.specs.declared.error.CoreError.{CoreError}
 use Rattle.xet_base.specs.declared.error.CoreError.TheVariants.{InvalidShard}
@@ -55,17 +56,10 @@ module _ (key : DataHash) (qs : List DataHash) (offset : ℕ) where
   -- one location more was tried
   module _ (locations : List (ℕ × ℕ)) (location : ℕ × ℕ) (old now new : Source) (before : NoneTried key qs offset locations old now) (visit : Visit xorb_records 2 offset location.0 now new) where
     pub tried_visits : Visits xorb_records 2 offset (map row_of (locations ++ location ∷ [])) old new
-    tried_visits =
-        subst (λ rows. Visits xorb_records 2 offset rows old new) (sym (map-append row_of locations (location ∷ [])))
-        (visits_more xorb_records xorb_laws 2 offset location.0 (map row_of locations) old now new before.visits visit)
+    tried_visits = search (rules, map-append, visits_more, xorb_laws)
 
     pub tried_more : Serves now new → AnswerAt key qs now.bytes offset location.0 location.1 None → NoneTried key qs offset (locations ++ location ∷ []) old new
-    tried_more serves none = record {
-      visits = tried_visits;
-      serves = serves_after old now new before.serves serves;
-      none = All-push (λ p. AnswerAt key qs old.bytes offset p.0 p.1 None) locations location before.none
-          (subst (λ bytes. AnswerAt key qs bytes offset location.0 location.1 None) before.visits.bytes none);
-    }
+    tried_more serves none = grind (arith, common_steps, tried_visits, serves_after, All-push)
 
     pub tried_found : (answer : Option (ℕ × FileDataSequenceEntry)) → AnswerAt key qs now.bytes offset location.0 location.1 answer → AnswerAt key qs old.bytes offset location.0 location.1 answer
     tried_found answer found = subst (λ bytes. AnswerAt key qs bytes offset location.0 location.1 answer) before.visits.bytes found
@@ -100,20 +94,6 @@ module _ (key : DataHash) (qs : List DataHash) (offset : ℕ) where
       pub refused_next : (e : CoreError) → RefusedAt IsBareInvalidShard key qs offset next.0 next.1 now new e → TriedRefused key qs offset old new e locations
       refused_next e refused = (next, Contains-get_or locations i (0, 0) below, tried_refused (take i locations) next old now new before visit e refused)
 
-  -- all were
-  module _ (locations : List (ℕ × ℕ)) (i : ℕ) (end : length locations ≤ i) (old now : Source) (before : NoneTried key qs offset (take i locations) old now) where
-    all_tried : NoneTried key qs offset locations old now
-    all_tried = subst (λ ps. NoneTried key qs offset ps old now) (take_all i locations end) before
-
-    pub none_of_all : TriedAnswer key qs old.bytes offset None locations
-    none_of_all = all_tried.none
-
-    pub visits_of_all : VisitsSome xorb_records 2 offset (map row_of locations) old now
-    visits_of_all = (
-      length (map row_of locations),
-      subst (λ rows. Visits xorb_records 2 offset rows old now) (sym (take_all (length (map row_of locations)) (map row_of locations) (omega arith))) all_tried.visits,
-    )
-
   -- the search answered, and locations that it found were tried
   module _ (t : Table) (word count : ℕ) (old mid new : Source) (dest_old dest_new : List (ℕ × ℕ)) (finds : Finds t word IsPair dest_old dest_new count) (fits : FitsTable t)
       (most : count ≤ 8) (all : IsSorted t → count ≡ min (hits t word) 8) (serves : Serves old mid) (bounded : IsSorted t → Bounded t word old mid)
@@ -125,37 +105,18 @@ module _ (key : DataHash) (qs : List DataHash) (offset : ℕ) where
     rows_are = ap (map row_of) in_front ∙ rows_of_values finds.found
 
     queried : (Answer : List (ℕ × ℕ) → Type 0) → Answer (take count dest_new) → Queries t offset word old new Answer
-    queried Answer answer = record {
-      fits = fits;
-      found = finds.found;
-      few = omega (arith, most, finds.number);
-      each = finds.each;
-      distinct = finds.distinct;
-      all = λ sorted. finds.number ∙ all sorted;
-      searched = mid;
-      serves = serves;
-      bounded = bounded;
-      visits = subst (λ rows. VisitsSome xorb_records 2 offset rows mid new) rows_are visits;
-      answer = subst Answer in_front answer;
-    }
+    queried Answer answer = search (rules, rows_are, in_front)
 
     pub query_answered : (answer : Option (ℕ × FileDataSequenceEntry)) → TriedAnswer key qs mid.bytes offset answer (take count dest_new)
         → Queries t offset word old new (TriedAnswer key qs old.bytes offset answer)
-    query_answered answer tried =
-        queried (TriedAnswer key qs old.bytes offset answer) (subst (λ bytes. TriedAnswer key qs bytes offset answer (take count dest_new)) serves.bytes tried)
+    query_answered answer tried = search (rules, queried)
 
     pub query_refused : (e : CoreError) → TriedRefused key qs offset mid new e (take count dest_new) → Queries t offset word old new (TriedRefused key qs offset old new e)
     query_refused e (location, contains, refused) = queried (TriedRefused key qs offset old new e) (location, contains, refused_later key qs offset location old mid new e serves refused)
 
 -- what was found is no more than there is room for
 pub found_fit : (t : Table) (word count : ℕ) (dest_old dest_new : List (ℕ × ℕ)) → Finds t word IsPair dest_old dest_new count → count ≤ length dest_new
-found_fit t word count dest_old dest_new finds = omega (
-  arith,
-  finds.number,
-  ap length finds.written,
-  length-append (map (λ (h : Hit (ℕ × ℕ)). h.value) finds.found) (drop count dest_old),
-  length-map finds.found (λ (h : Hit (ℕ × ℕ)). h.value),
-)
+found_fit t word count dest_old dest_new finds = grind (arith, common_steps)
 
 -- the query by the first hash
 pub query_read : (footer : MDBShardFileFooter) (qs : List DataHash) (q : DataHash) (count : ℕ) (dest_old dest_new : List (ℕ × ℕ)) (old mid new : Source) → Some q ≡ slice_get qs 0

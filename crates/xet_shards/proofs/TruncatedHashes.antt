@@ -1,8 +1,9 @@
 -- The turns of the walk that reads the first words of the chunks' hashes.
-use Rattle.std.proofs.Common.{◌≡◌, ◌⊎◌, inl, inr, Ok, Err, drop, flat_map, ℕ, ◌+◌, ◌*◌, ◌<◌, ◌≤◌, List, [], ◌∷◌, ◌++◌, length, map, take, get_or, refl, sym, ap, ◌∙◌, subst, append_assoc, arith}
-use Rattle.std.specs.Prelude.{All, MatchResult}
+use Rattle.std.proofs.Common.{◌≡◌, ◌⊎◌, inl, inr, Ok, Err, drop, flat_map, ℕ, ◌+◌, ◌*◌, ◌<◌, ◌≤◌, List, [], ◌∷◌, ◌++◌, length, map, take, get_or, sym, ap, ◌∙◌, subst, append_assoc, arith, rules}
+use Rattle.std.specs.Prelude.{MatchResult}
 use Rattle.std.specs.declared.result.Result.{Result}
 use Rattle.std.specs.declared.vec.Vec.{Vec}
+use Rattle.std.proofs.lemmas.Grind.{common_steps}
 use Rattle.std.proofs.lemmas.List.{length-map, map-append, map-id, nil_from_length}
 use Rattle.std.proofs.lemmas.List.Sums.{sum_by-append}
 use Rattle.std.proofs.lemmas.List.Elements.{All-append, All-cons, All-nil}
@@ -15,7 +16,7 @@ use Rattle.xet_records.specs.Reading.{ReadsBookend}
 use Rattle.xet_records.specs.XorbRecord.{xorb_record_bytes, xorb_row_count, IsStoredXorb, xorb_records}
 use Rattle.xet_records.proofs.RecordKinds.{xorb_laws, length-record_bytes}
 use Rattle.xet_records.proofs.Lengths.{length-all_record_bytes}
-use Rattle.xet_shards.specs.Section.{total_rows, with_fronts}
+use Rattle.xet_shards.specs.Section.{total_rows}
 use Rattle.xet_shards.specs.Tables.{chunk_table_rows_from, chunk_table_rows, chunk_table}
 use Rattle.xet_shards.specs.TableReading.{triple_of}
 use Rattle.xet_shards.specs.SectionReading.{HoldsRecords, PassesLimit, EndsEarly, SectionFailure, RecordFails, IsSection, PassesRows, IsCutSection, rows_left}
@@ -46,18 +47,11 @@ hashes_of-push xorbs x = ap (map triple_of) (chunk_table_rows-push xorbs x) ∙ 
 
 StartBefore-push : (at stop : ℕ) (xorbs : List MDBXorbInfo) (x : MDBXorbInfo) → StartBefore at stop xorbs → at + 48 * total_rows xorb_records xorbs < stop → StartBefore at stop (xorbs ++ x ∷ [])
 StartBefore-push at stop xorbs x before here =
-    let Starts : List MDBXorbInfo × MDBXorbInfo → Type 0 = λ e. at + 48 * total_rows xorb_records e.0 < stop in
-    subst (All Starts) (sym (with_fronts-push [] xorbs x)) (All-append Starts (with_fronts [] xorbs) ((xorbs, x) ∷ []) before (All-cons Starts (xorbs, x) [] here (All-nil Starts)))
+    grind (arith, common_steps, with_fronts-push, All-append, All-cons, All-nil)
 
 -- the next xorb, which starts before the stop, was not read
 pub before_fails : (stop left : ℕ) (old new : Source) (e : CoreError) → old.at < stop → RecordFails xorb_records left old new e → XorbBeforeFails stop left old new e
-before_fails stop left old new e below fails = record {
-  bytes = fails.bytes;
-  seeks = fails.seeks;
-  cause = section_failure (PassesLimit xorb_records left) (EndsEarly xorb_records left)
-      (λ bytes. (old.at < stop) × PassesLimit xorb_records left bytes) (λ bytes. (old.at < stop) × EndsEarly xorb_records left bytes)
-      (bytes_left old) (bytes_left old) old old new e refl (λ passes. (below, passes)) (λ ends. (below, ends)) fails.cause;
-}
+before_fails stop left old new e below fails = search rules
 
 -- one xorb more
 pub more_hashes : (stop : ℕ) (start now new : Source) (found : List (ℕ × (ℕ × ℕ))) (left after : ℕ) (next : ℕ × MDBXorbInfo)
@@ -129,11 +123,7 @@ module _ (stop : ℕ) (old now : Source) (at : ℕ) (found : List (ℕ × (ℕ �
   whole_cause : (new : Source) (e : CoreError)
       → SectionFailure (λ bytes. (now.at < stop) × PassesLimit xorb_records left bytes) (λ bytes. (now.at < stop) × EndsEarly xorb_records left bytes) (bytes_left now) now new e
       → SectionFailure (PassesBefore at stop) (CutBefore at stop) (drop at old.bytes) old new e
-  whole_cause new e cause =
-      section_failure (λ bytes. (now.at < stop) × PassesLimit xorb_records left bytes) (λ bytes. (now.at < stop) × EndsEarly xorb_records left bytes)
-      (PassesBefore at stop) (CutBefore at stop) (bytes_left now) (drop at old.bytes) old now new e failures_then
-      (λ passes. (before.xorbs, bytes_left now, holds, omega (arith, passes.0, at_is), subst (λ n. PassesLimit xorb_records n (bytes_left now)) left_is passes.1))
-      (λ ends. (before.xorbs, bytes_left now, holds, omega (arith, ends.0, at_is), subst (λ n. EndsEarly xorb_records n (bytes_left now)) left_is ends.1)) cause
+  whole_cause new e cause = search (rules, section_failure, failures_then, holds, at_is, left_is)
 
   pub hashes_fail : (new : Source) (e : CoreError) → XorbBeforeFails stop left now new e → HashesFail old new at stop e
   hashes_fail new e fails = record { bytes = fails.bytes ∙ bytes_then; seeks = fails.seeks ∙ seeks_then; cause = whole_cause new e fails.cause }
@@ -146,9 +136,7 @@ no_chunks_no_hashes xorbs none = nil_from_length (hashes_of xorbs) (length-map (
 module _ (old new : Source) (at stop : ℕ) (xorbs : List MDBXorbInfo) (section : IsSection xorb_records (drop at old.bytes) xorbs) where
   anywhere : (e : CoreError) → SectionFailure (PassesBefore at stop) (CutBefore at stop) (drop at old.bytes) old new e
       → SectionFailure (PassesRows xorb_records) (IsCutSection xorb_records) (drop at old.bytes) old new e
-  anywhere e cause =
-      section_failure (PassesBefore at stop) (CutBefore at stop) (PassesRows xorb_records) (IsCutSection xorb_records) (drop at old.bytes) (drop at old.bytes) old old new e refl
-      (λ passes. (passes.0, passes.1, passes.2, passes.4)) (λ ends. (ends.0, ends.1, ends.2, ends.4)) cause
+  anywhere e cause = search rules
 
   pub no_hashes_read : {Z : Type 0} (r : Result (Vec (ℕ × (ℕ × ℕ)) Z) CoreError) → total_chunks xorbs ≡ 0
       → MatchResult r (λ found. ReadsHashes old new at stop found.items) (HashesFail old new at stop) → IsReadAs old new (map triple_of (chunk_table xorbs)) r

@@ -1,6 +1,6 @@
 -- The tables in the bytes of a shard: where they are, their widths, and that they are
 -- read as they were written.
-use Rattle.std.proofs.Common.{◌≡◌, Bool, true, false, ℕ, ◌+◌, ◌^◌, ◌<◌, ◌≤◌, List, [], ◌∷◌, ◌++◌, map, flat_map, length, drop, Option, refl, sym, ap, ◌∙◌, subst, append_assoc, arith}
+use Rattle.std.proofs.Common.{◌≡◌, Bool, true, false, ℕ, ◌+◌, ◌^◌, ◌<◌, ◌≤◌, List, [], ◌∷◌, ◌++◌, map, flat_map, length, drop, Option, refl, sym, ap, ◌∙◌, subst, append_assoc, arith, rules}
 use Rattle.std.specs.Prelude.{All}
 use Rattle.std.specs.List.{enumerate_from}
 use Rattle.std.specs.FinMap.{values}
@@ -42,23 +42,14 @@ length-start : (row : ℕ × ℕ) → FitsStart row → length (start_row row) �
 length-start row fits = length-append (u64_bytes row.0) (u32_bytes row.1) ∙ omega (arith, length-u64_bytes row.0, length-u32_bytes row.1)
 
 start_told : (a b : ℕ × ℕ) → FitsStart a → FitsStart b → start_row a ≡ start_row b → a ≡ b
-start_told a b a_fits b_fits same =
-    let parts = u64_bytes-front a.0 b.0 (u32_bytes a.1) (u32_bytes b.1) a_fits.word b_fits.word same in
-    let row = u32_bytes-injective a.1 b.1 a_fits.row_number b_fits.row_number parts.1 in
-    λ i. (parts.0 i, row i)
+start_told a b a_fits b_fits same = search (rules, u64_bytes-front, u32_bytes-injective)
 
 length-triple : (row : ℕ × (ℕ × ℕ)) → FitsTriple row → length (triple_row row) ≡ 16
-length-triple row fits =
-    length-append (u64_bytes row.0 ++ u32_bytes row.1.0) (u32_bytes row.1.1)
-    ∙ omega (arith, length-append (u64_bytes row.0) (u32_bytes row.1.0), length-u64_bytes row.0, length-u32_bytes row.1.0, length-u32_bytes row.1.1)
+length-triple row fits = search (rules, length-append, length-u64_bytes, length-u32_bytes)
 
 triple_told : (a b : ℕ × (ℕ × ℕ)) → FitsTriple a → FitsTriple b → triple_row a ≡ triple_row b → a ≡ b
 triple_told a b a_fits b_fits same =
-    let word = u64_bytes-front a.0 b.0 (u32_bytes a.1.0 ++ u32_bytes a.1.1) (u32_bytes b.1.0 ++ u32_bytes b.1.1) a_fits.word b_fits.word
-    (sym (append_assoc (u64_bytes a.0) (u32_bytes a.1.0) (u32_bytes a.1.1)) ∙ same ∙ append_assoc (u64_bytes b.0) (u32_bytes b.1.0) (u32_bytes b.1.1)) in
-    let row = u32_bytes-front a.1.0 b.1.0 (u32_bytes a.1.1) (u32_bytes b.1.1) a_fits.row_number b_fits.row_number word.1 in
-    let index = u32_bytes-injective a.1.1 b.1.1 a_fits.index b_fits.index row.1 in
-    λ i. (word.0 i, (row.0 i, index i))
+    search (rules, u64_bytes-front, append_assoc, u32_bytes-front, u32_bytes-injective)
 
 -- the rows of a table, if it is in
 rows_in : {X : Type 0} (b : Bool) (row : X → List ℕ) (rows : List X) → if_in b (flat_map row rows) ≡ flat_map row (if_in b rows)
@@ -80,33 +71,22 @@ module _ (files : List MDBFileInfo) (xorbs : List MDBXorbInfo) (form : Form) whe
   after_file_table = if_in form.xorb_table (table_bytes xorb_records xorbs) ++ (if_in form.chunk_table (chunk_table_bytes xorbs) ++ after_tables)
 
   length-before_file_table : length before_file_table ≡ (footer_value files xorbs form).file_lookup_offset
-  length-before_file_table =
-      length-append (shard_header_bytes header_value ++ section_bytes file_records files) (section_bytes xorb_records xorbs)
-      ∙ omega (arith, length-append (shard_header_bytes header_value) (section_bytes file_records files), length-shard_header_bytes header_value)
+  length-before_file_table = search (rules, length-append, length-shard_header_bytes)
 
   length-before : length before_tables ≡ (footer_value files xorbs form).xorb_lookup_offset
-  length-before =
-      length-append before_file_table (if_in form.file_table (table_bytes file_records files)) ∙ ap (λ n. n + length (if_in form.file_table (table_bytes file_records files))) length-before_file_table
+  length-before = search (rules, length-append, length-before_file_table)
 
   split_at_file_table : layout_of files xorbs form ≡ before_file_table ++ (if_in form.file_table (table_bytes file_records files) ++ after_file_table)
   unfolding layout_of
   split_at_file_table = simp (append_assoc)
 
   pub file_table_there : (footer_value files xorbs form).file_lookup_offset ≤ length (layout_of files xorbs form)
-  file_table_there =
-      omega (
-        arith,
-        ap length split_at_file_table,
-        length-append before_file_table (if_in form.file_table (table_bytes file_records files) ++ after_file_table),
-        length-before_file_table,
-      )
+  file_table_there = search (rules, split_at_file_table, length-append, length-before_file_table)
 
   pub file_table_is_at : drop (footer_value files xorbs form).file_lookup_offset (layout_of files xorbs form)
       ≡ flat_map start_row (if_in form.file_table (starts file_records files)) ++ after_file_table
   unfolding table_bytes
-  file_table_is_at =
-      rest_is _ (layout_of files xorbs form) before_file_table (if_in form.file_table (table_bytes file_records files) ++ after_file_table) length-before_file_table split_at_file_table
-      ∙ ap (λ bs. bs ++ after_file_table) (rows_in form.file_table start_row (starts file_records files))
+  file_table_is_at = search (rules, rest_is, length-before_file_table, split_at_file_table, rows_in)
 
   abbrev pub after_xorb_table : List ℕ
   after_xorb_table = if_in form.chunk_table (chunk_table_bytes xorbs) ++ after_tables
@@ -116,8 +96,7 @@ module _ (files : List MDBFileInfo) (xorbs : List MDBXorbInfo) (form : Form) whe
   split_at_xorb_table = simp (append_assoc)
 
   pub xorb_table_there : (footer_value files xorbs form).xorb_lookup_offset ≤ length (layout_of files xorbs form)
-  xorb_table_there =
-      omega (arith, ap length split_at_xorb_table, length-append before_tables (if_in form.xorb_table (table_bytes xorb_records xorbs) ++ after_xorb_table), length-before)
+  xorb_table_there = search (rules, split_at_xorb_table, length-append, length-before)
 
   split_at_chunk_table : layout_of files xorbs form
       ≡ (before_tables ++ if_in form.xorb_table (table_bytes xorb_records xorbs)) ++ (if_in form.chunk_table (chunk_table_bytes xorbs) ++ after_tables)
@@ -125,22 +104,12 @@ module _ (files : List MDBFileInfo) (xorbs : List MDBXorbInfo) (form : Form) whe
   split_at_chunk_table = simp (append_assoc)
 
   pub chunk_table_there : (footer_value files xorbs form).chunk_lookup_offset ≤ length (layout_of files xorbs form)
-  chunk_table_there = omega (
-    arith,
-    ap length split_at_chunk_table,
-    length-append (before_tables ++ if_in form.xorb_table (table_bytes xorb_records xorbs)) (if_in form.chunk_table (chunk_table_bytes xorbs) ++ after_tables),
-    length-append before_tables (if_in form.xorb_table (table_bytes xorb_records xorbs)),
-    length-before,
-  )
+  chunk_table_there = search (rules, split_at_chunk_table, length-append, length-before)
 
   pub xorb_table_is_at : drop (footer_value files xorbs form).xorb_lookup_offset (layout_of files xorbs form)
       ≡ flat_map start_row (if_in form.xorb_table (starts xorb_records xorbs)) ++ after_xorb_table
   unfolding layout_of table_bytes
-  xorb_table_is_at =
-      rest_is _ (layout_of files xorbs form) before_tables _ length-before
-      (append_assoc (before_tables ++ if_in form.xorb_table (table_bytes xorb_records xorbs)) (if_in form.chunk_table (chunk_table_bytes xorbs)) after_tables
-      ∙ append_assoc before_tables (if_in form.xorb_table (table_bytes xorb_records xorbs)) (if_in form.chunk_table (chunk_table_bytes xorbs) ++ after_tables))
-      ∙ ap (λ bs. bs ++ (if_in form.chunk_table (chunk_table_bytes xorbs) ++ after_tables)) (rows_in form.xorb_table start_row (starts xorb_records xorbs))
+  xorb_table_is_at = search (rules, rest_is, length-before, append_assoc, rows_in)
 
   pub chunk_table_is_at : drop (footer_value files xorbs form).chunk_lookup_offset (layout_of files xorbs form)
       ≡ flat_map triple_row (map triple_of (if_in form.chunk_table (chunk_table xorbs))) ++ after_tables
@@ -224,20 +193,14 @@ module _ (files : List MDBFileInfo) (xorbs : List MDBXorbInfo) (form : Form) (fi
   pub xorb_table_in : {Z : Type 0} (r : Result (Vec (ℕ × ℕ) Z) CoreError)
       → ReadsOrFails start_row FitsStart 12 old new written.xorb_lookup_offset written.xorb_lookup_num_entry r → IsReadAs old new (if_in form.xorb_table (starts xorb_records xorbs)) r
   xorb_table_in r read =
-      whole_table start_row FitsStart 12 length-start start_told old new written.xorb_lookup_offset (if_in form.xorb_table (starts xorb_records xorbs)) _
-      (in_few form.xorb_table (starts xorb_records xorbs) (few_starts xorbs widths fits.rows)) (in_fits FitsStart form.xorb_table (starts xorb_records xorbs) (xorb_starts_fit xorbs widths fits.rows))
-      (ap (drop written.xorb_lookup_offset) are ∙ xorb_table_is_at files xorbs form) r read
+      search (rules, whole_table, length-start, start_told, in_few, few_starts, widths, in_fits,
+      xorb_starts_fit, xorb_table_is_at)
 
   pub chunk_table_in : {Z : Type 0} (r : Result (Vec (ℕ × (ℕ × ℕ)) Z) CoreError)
       → ReadsOrFails triple_row FitsTriple 16 old new written.chunk_lookup_offset written.chunk_lookup_num_entry r → IsReadAs old new (map triple_of (if_in form.chunk_table (chunk_table xorbs))) r
   chunk_table_in r read =
-      let rows = map triple_of (if_in form.chunk_table (chunk_table xorbs)) in
-      let same : rows ≡ if_in form.chunk_table (map triple_of (chunk_table xorbs)) = map_in triple_of form.chunk_table (chunk_table xorbs) in
-      whole_table triple_row FitsTriple 16 length-triple triple_told old new written.chunk_lookup_offset rows _
-      (subst (λ rs. length rs ≤ 4294967295) (sym same) (in_few form.chunk_table (map triple_of (chunk_table xorbs)) (few_table_rows xorbs widths fits.rows)))
-      (subst (All FitsTriple) (sym same) (in_fits FitsTriple form.chunk_table (map triple_of (chunk_table xorbs)) (chunk_table_fits xorbs widths fits.rows)))
-      (ap (drop written.chunk_lookup_offset) are ∙ chunk_table_is_at files xorbs form) r
-      (subst (λ n. ReadsOrFails triple_row FitsTriple 16 old new written.chunk_lookup_offset n r) (sym (length-map (if_in form.chunk_table (chunk_table xorbs)) triple_of)) read)
+      search (rules, map_in, whole_table, length-triple, triple_told, in_few, few_table_rows,
+      widths, in_fits, chunk_table_fits, chunk_table_is_at, ReadsOrFails, length-map)
 
 -- the tables of a shard
 module _ (s : Shard) (shard : IsShard s) (expiry : Option ℕ) (old new : Source) (are : old.bytes ≡ layout s expiry) (info : MDBShardInfo) (is : info ≡ info_value s expiry) where

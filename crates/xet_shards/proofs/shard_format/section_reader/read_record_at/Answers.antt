@@ -1,5 +1,5 @@
-use Rattle.std.proofs.Common.{◌≡◌, ap, ◌∙◌, subst, arith}
-use Rattle.std.proofs.lemmas.Result.{err_from_is_err_and}
+use Rattle.std.proofs.Common.{◌≡◌, ◌^◌, ◌<◌, ap, ◌∙◌, subst, arith, rules}
+use Rattle.xet_base.specs.declared.error.CoreError.{CoreError}
 use Rattle.xet_base.specs.Source.{moved}
 use Rattle.xet_shards.specs.SectionReading.{ReadsOne}
 use Rattle.xet_shards.proofs.SectionReading.{record_fails}
@@ -9,16 +9,15 @@ use Rattle.xet_shards.proofs.shard_format.section_reader.read_record_at.Goals as
 
 pub returns-in_err-seek_to : goal.returns-in_err-seek_to
 returns-in_err-seek_to g c =
-    let p = err_from_is_err_and c.from_residual.result c.from_residual.ensures.1 in
-    rw p.1 (info_no_seek g.R.SectionRecord.kind c.laws.ensures c.args.offset c.args.row _ _ _ _ (omega (arith, c.in-Some.ensures, c.from-distance.ensures)) c.in_err-seek_to.ensures p.2)
+    let fits : row_at c.args.offset c.args.row < 2 ^ 64 = omega (arith, c.in-Some.ensures, c.from-distance.ensures) in
+    search (rules, λ (e : CoreError). info_no_seek g.R.SectionRecord.kind c.laws.ensures c.args.offset c.args.row _ _ _ e fits c.in_err-seek_to.ensures)
 
 pub returns-in_err-found : goal.returns-in_err-found
 returns-in_err-found g c =
     let offset = c.args.offset in
     let mid = g.S.ShardSource.meaning c.seek_to.new.self in
     let row_offset_is : c.in-Some.row_offset ≡ row_at offset c.args.row = omega (arith, c.in-Some.ensures, c.from-distance.ensures) in
-    let p = err_from_is_err_and c.from_residual-in_err-found.result c.from_residual-in_err-found.ensures.1 in
-    rw (p.1, p.2) (info_fails g.R.SectionRecord.kind c.laws.ensures offset c.args.row _ mid _ (omega (arith, row_offset_is)) (c.in_ok-seek_to.ensures ∙ ap (moved (g.S.ShardSource.meaning c.args.source.now)) row_offset_is) _
+    search (rules, info_fails g.R.SectionRecord.kind c.laws.ensures offset c.args.row (g.S.ShardSource.meaning c.args.source.now) mid (g.S.ShardSource.meaning c.read_record.new.input) (omega (arith, row_offset_is)) (c.in_ok-seek_to.ensures ∙ ap (moved (g.S.ShardSource.meaning c.args.source.now)) row_offset_is) c.in_err-found.field-0.0
     (record_fails g.R.SectionRecord.kind c.laws.ensures g.S.ShardSource.meaning 4294967296 c.seek_to.new.self _ _ c.in_err-found.ensures))
 
 pub returns-in-Some-2 : goal.returns-in-Some-2

@@ -1,11 +1,11 @@
-use Rattle.std.proofs.Common.{◌≡◌, sym, ap, ◌∙◌, subst}
-use Rattle.std.proofs.lemmas.Result.{err_from_is_err_and}
+use Rattle.std.proofs.Common.{◌≡◌, sym, ap, ◌∙◌, subst, rules}
+use Rattle.xet_base.specs.declared.error.CoreError.{CoreError}
 use Rattle.xet_base.specs.Source.{Takes}
 use Rattle.xet_base.specs.InputLaws.{Takes-trans}
 use Rattle.xet_records.specs.Reading.{ReadsNextHeader}
 use Rattle.xet_records.specs.Reading.Stops.{no_rows}
 use Rattle.xet_records.proofs.SectionRecords.{rows_after_header}
-use Rattle.xet_shards.specs.SectionReading.{RecordFails, ReadsNext}
+use Rattle.xet_shards.specs.SectionReading.{ReadsNext}
 use Rattle.xet_shards.proofs.SectionReading.{record_fails, no_offset_after}
 use Rattle.xet_shards.proofs.shard_format.section_walk.keep_next.Goals as goal
 
@@ -13,9 +13,7 @@ pub returns-in_err-header : goal.returns-in_err-header
 returns-in_err-header g c =
     let K = g.R.SectionRecord.kind in
     let meaning = g.S.ShardSource.meaning in
-    let p = err_from_is_err_and c.from_residual-in_err-header.result c.from_residual-in_err-header.ensures.1 in
-    rw (p.1, p.2) (subst (λ s. RecordFails K c.args.rows_left.now s (meaning c.read_header.new.input) c.in_err-header.field-0.0) c.in_ok-offset.ensures.1
-    (record_fails K c.laws.ensures meaning _ _ _ _ c.in_err-header.ensures))
+    search (rules, sym c.in_ok-offset.ensures.1, record_fails K c.laws.ensures meaning _ _ _ _ c.in_err-header.ensures)
 
 pub returns-in_err-rest : goal.returns-in_err-rest
 returns-in_err-rest g c =
@@ -24,8 +22,7 @@ returns-in_err-rest g c =
     let start = meaning c.position.new.self in
     let mid = meaning c.read_header.new.input in
     let begun = subst (ReadsNextHeader K (Takes start mid) c.args.rows_left.now c.read_header.new.rows_left) c.in-Some.is c.in_ok-header.ensures in
-    let p = err_from_is_err_and c.from_residual-in_err-rest.result c.from_residual-in_err-rest.ensures.1 in
-    rw (p.1, p.2) (subst (λ s. RecordFails K c.args.rows_left.now s (meaning c.skip_rows_after.new.input) c.in_err-rest.field-0.0) c.in_ok-offset.ensures.1
+    search (rules, sym c.in_ok-offset.ensures.1,
     (record_fails K c.laws.ensures meaning _ c.position.new.self _ _ (no_rows c.in-Some.header c.read_header.new.input _ begun c.in_err-rest.ensures)))
 
 pub returns-in_err-position : goal.returns-in_err-position
@@ -38,9 +35,7 @@ returns-in_err-position g c =
     let begun = subst (ReadsNextHeader K (Takes start mid) c.args.rows_left.now c.read_header.new.rows_left) c.in-Some.is c.in_ok-header.ensures in
     let skipped = c.in_ok-rest.ensures in
     let next = rows_after_header K c.laws.ensures _ _ _ _ _ c.in-Some.header skipped.0 (Takes-trans start mid now) begun c.requires skipped.2 in
-    let p = err_from_is_err_and c.from_residual-in_err-position.result c.from_residual-in_err-position.ensures.1 in
-    rw p.1 (subst (λ s. RecordFails K c.args.rows_left.now s (meaning c.position-2.new.self) p.0) c.in_ok-offset.ensures.1
-    (no_offset_after K c.laws.ensures _ _ start now _ skipped.0 _ _ next c.in_err-position.ensures p.2))
+    search (rules, sym c.in_ok-offset.ensures.1, λ (e : CoreError). no_offset_after K c.laws.ensures _ _ start now _ skipped.0 _ e next c.in_err-position.ensures)
 
 pub returns : goal.returns
 returns g c =

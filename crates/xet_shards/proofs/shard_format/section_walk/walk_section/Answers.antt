@@ -1,5 +1,4 @@
 use Rattle.std.proofs.Common.{subst, rules}
-use Rattle.std.proofs.lemmas.Result.{err_from_is_err_and}
 use Rattle.xet_shards.specs.SectionWalk.{KeepsNext}
 use Rattle.xet_shards.proofs.SectionReading.{section_fails}
 use Rattle.xet_shards.proofs.SectionWalks.{nothing_kept, more_kept, all_kept}
@@ -18,8 +17,7 @@ loop-found-preserved g c =
 pub returns-in_err-kept : goal.returns-in_err-kept
 returns-in_err-kept g c =
     let now = g.S.ShardSource.meaning c.loop-found.source in
-    let p = err_from_is_err_and c.from_residual.result c.from_residual.ensures.1 in
-    rw (p.1, p.2) (section_fails g.R.SectionRecord.kind c.laws.ensures _ now _ _ c.loop-found.invariant.read _ _ c.in_err-kept.ensures)
+    search (rules, section_fails g.R.SectionRecord.kind c.laws.ensures _ now _ _ c.loop-found.invariant.read (g.S.ShardSource.meaning c.keep_next.new.source) c.in_err-kept.field-0.0 c.in_err-kept.ensures)
 
 pub returns : goal.returns
 returns g c =

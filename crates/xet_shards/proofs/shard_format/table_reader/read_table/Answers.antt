@@ -1,24 +1,18 @@
-use Rattle.std.proofs.Common.{◌≡◌, ◌≤◌, sym, arith}
-use Rattle.std.proofs.lemmas.Result.{err_from_is_err_and}
-use Rattle.xet_shards.proofs.TableReading.{no_rows_read, more_rows_read, table_read, no_memory_for_row, row_fails}
+use Rattle.std.proofs.Common.{refl, ◌≡◌, ◌≤◌, sym, arith, rules}
+use Rattle.xet_base.specs.declared.error.CoreError.TheVariants.{OutOfMemory}
+use Rattle.xet_shards.proofs.TableReading.{more_rows_read, table_read, no_memory_for_row, row_fails}
 use Rattle.xet_shards.proofs.shard_format.table_reader.read_table.Goals as goal
-
-pub loop-row-init : goal.loop-row-init
-loop-row-init g c = rw (c.new-found.ensures.items, c.in_ok-seek_to.ensures) (no_rows_read _ _ _ _)
 
 pub returns-in_err-read : goal.returns-in_err-read
 returns-in_err-read g c =
     let few : c.args.rows ≤ 4294967295 = omega (arith, c.if-rows-from.false, c.from.ensures) in
-    let p = err_from_is_err_and c.from_residual-in_err-read.result c.from_residual-in_err-read.ensures.1 in
-    rw (p.1, p.2)
-    (row_fails _ _ _ _ (g.S.ShardSource.meaning c.loop-row.source) _ _ _ c.loop-row.invariant _ _ _ g.met.T.TableRow.has_bytes c.loop-row-test.true few c.in_err-read.ensures.refused)
+    search (rules, row_fails _ _ _ (g.S.ShardSource.meaning c.args.source.now) (g.S.ShardSource.meaning c.loop-row.source) c.args.offset _ _ c.loop-row.invariant _ _ _ g.met.T.TableRow.has_bytes c.loop-row-test.true few c.in_err-read.ensures.refused)
 
 pub returns-in_err-push : goal.returns-in_err-push
 returns-in_err-push g c =
     let few : c.args.rows ≤ 4294967295 = omega (arith, c.if-rows-from.false, c.from.ensures) in
     let next = more_rows_read _ _ _ _ (g.S.ShardSource.meaning c.loop-row.source) _ _ _ _ c.loop-row.invariant c.in_ok-read.ensures.value in
-    let p = err_from_is_err_and c.from_residual-in_err-push.result c.from_residual-in_err-push.ensures.1 in
-    rw p.1 (no_memory_for_row _ _ _ _ (g.S.ShardSource.meaning c.read.new.source) _ _ _ next c.args.rows _ (omega (arith, c.loop-row-test.true)) few p.2)
+    search (rules, no_memory_for_row _ _ _ (g.S.ShardSource.meaning c.args.source.now) (g.S.ShardSource.meaning c.read.new.source) c.args.offset _ _ next c.args.rows OutOfMemory (omega (arith, c.loop-row-test.true)) few refl)
 
 pub loop-row-preserved : goal.loop-row-preserved
 loop-row-preserved g c =

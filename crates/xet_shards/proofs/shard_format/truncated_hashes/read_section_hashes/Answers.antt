@@ -1,5 +1,4 @@
 use Rattle.std.proofs.Common.{subst, rules}
-use Rattle.std.proofs.lemmas.Result.{err_from_is_err_and}
 use Rattle.xet_shards.specs.TruncatedHashes.{ReadsBefore}
 use Rattle.xet_shards.proofs.TruncatedHashes.{more_hashes, hashes_end, hashes_fail}
 use Rattle.xet_shards.proofs.shard_format.truncated_hashes.read_section_hashes.Goals as goal
@@ -8,8 +7,7 @@ pub returns-in_err-found : goal.returns-in_err-found
 returns-in_err-found g c =
     let old = g.S.ShardSource.meaning c.args.source.now in
     let now = g.S.ShardSource.meaning c.loop-hashes.source in
-    let p = err_from_is_err_and c.from_residual-in_err-found.result c.from_residual-in_err-found.ensures.1 in
-    rw (p.1, p.2) (hashes_fail c.args.stop old now c.args.offset _ _ c.loop-hashes.invariant _ _ c.in_err-found.ensures.refused)
+    search (rules, hashes_fail c.args.stop old now c.args.offset _ _ c.loop-hashes.invariant _ _ c.in_err-found.ensures.refused)
 
 pub loop-hashes-preserved : goal.loop-hashes-preserved
 loop-hashes-preserved g c =

@@ -1,5 +1,4 @@
-use Rattle.std.proofs.Common.{◌<◌, ap, subst, arith}
-use Rattle.std.proofs.lemmas.Result.{err_from_is_err_and}
+use Rattle.std.proofs.Common.{◌<◌, ap, subst, arith, rules}
 use Rattle.xet_base.specs.Source.{Source}
 use Rattle.xet_records.specs.XorbRecord.{xorb_records}
 use Rattle.xet_records.proofs.RecordKinds.{xorb_laws}
@@ -15,6 +14,5 @@ returns-in_err-xorb-clause-refused g c =
     let new = meaning c.read_record.new.input in
     let below : start.at < c.args.stop = omega (arith, c.if-offset-stop.false, c.in_ok-offset.ensures.0, ap (λ (s : Source). s.at) c.in_ok-offset.ensures.1) in
     let fails = record_fails xorb_records xorb_laws meaning _ c.position.new.self _ _ c.in_err-xorb.ensures in
-    let p = err_from_is_err_and c.from_residual-in_err-xorb.result c.from_residual-in_err-xorb.ensures.1 in
-    rw (p.1, p.2) (subst (λ s. XorbBeforeFails c.args.stop c.args.rows_left.now s new c.in_err-xorb.field-0.0) c.in_ok-offset.ensures.1
+    search (rules, subst (λ s. XorbBeforeFails c.args.stop c.args.rows_left.now s new c.in_err-xorb.field-0.0) c.in_ok-offset.ensures.1
     (before_fails c.args.stop _ start new _ below fails))

@@ -5,9 +5,6 @@ use Rattle.std.proofs.lemmas.Option.{get_or_from_slice_get, slice_get_within}
 use Rattle.xet_records.specs.declared.file_structs.rows.FileDataSequenceEntry.{FileDataSequenceEntry}
 use Rattle.xet_shards.proofs.shard_format.view_writer.file_size.Goals as goal
 
-pub overflow_add-size : goal.overflow_add-size
-overflow_add-size c = omega (arith, slice_get_within c.args.view.now.segments c.loop-index.index c.entry.result c.entry.ensures, c.loop-index.invariant.bound, c.from-size.ensures)
-
 pub loop-index-preserved : goal.loop-index-preserved
 loop-index-preserved c =
     let segments = c.args.view.now.segments in

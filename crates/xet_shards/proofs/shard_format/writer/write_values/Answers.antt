@@ -2,19 +2,10 @@ use Rattle.std.proofs.Common.{[], ◌∷◌, ◌++◌, map, flat_map, sym, ap, �
 use Rattle.std.specs.Prelude.{sum_by}
 use Rattle.std.specs.Map.Iter.{deref}
 use Rattle.std.specs.Io.KnownBytes.{Appends}
-use Rattle.std.proofs.KnownBytes.{Appends-nil, Appends-trans}
+use Rattle.std.proofs.KnownBytes.{Appends-trans}
 use Rattle.xet_shards.specs.Section.{section_bytes}
-use Rattle.xet_shards.proofs.Walks.{value_turn, value_turned, mapped_turn, mapped_end, mapped_push, entry_holds, flat_map-push, sum-middle}
+use Rattle.xet_shards.proofs.Walks.{entry_turn, entry_turned, mapped_turn, mapped_end, mapped_push, entry_holds, flat_map-push, sum-middle}
 use Rattle.xet_shards.proofs.shard_format.writer.write_values.Goals as goal
-
-pub loop-value-init : goal.loop-value-init
-loop-value-init g c = record {
-  can = tt;
-  finite = tt;
-  all = c.into_iter-value-iterator.ensures.into_iter_gives ∙ c.values-value-items.ensures.rest;
-  written = c.new-written.ensures;
-  bytes = Appends-nil _;
-}
 
 pub write-requires-clause-whole : goal.write-requires-clause-whole
 write-requires-clause-whole g c =
@@ -43,14 +34,14 @@ loop-value-preserved g c =
     let contents = g.W.Write.contents in
     let start = contents c.args.writer.now in
     let end = contents c.write.new.writer in
-    let whole = value_turn _ c.loop-value.yielded _ _ _ c.in-Some.value c.loop-value.invariant.all c.in-Some.is c.next.ensures.steps in
+    let whole = entry_turn deref _ c.loop-value.yielded _ _ _ c.in-Some.value c.loop-value.invariant.all c.in-Some.is c.next.ensures.steps in
     let before = map held (map deref c.loop-value.yielded) in
     let wrote = c.in_ok-write.ensures in
     let next = ap (λ r. before ++ r ∷ []) c.record.ensures ∙ sym (mapped_push held c.loop-value.yielded c.in-Some.value) in
     record {
       can = tt;
       finite = tt;
-      all = value_turned _ c.loop-value.yielded _ c.in-Some.value whole;
+      all = entry_turned deref _ c.loop-value.yielded _ c.in-Some.value whole;
       written = subst (g.S.WrittenSection.has_written c.write.new.self) next (wrote.written before c.loop-value.invariant.written);
       bytes = subst (λ rs. Appends start end (flat_map record_bytes rs)) next
           (subst (Appends start end) (sym (flat_map-push record_bytes before c.record.result.now))
@@ -65,8 +56,3 @@ returns-clause-bytes g c =
     let record_bytes = g.S.Record.SectionRecord.kind.record_bytes in
     let records = subst (λ rs. Appends (contents c.args.writer.now) (contents c.loop-value.writer) (flat_map record_bytes rs)) all c.loop-value.invariant.bytes in
     Appends-trans _ (contents c.loop-value.writer) _ _ _ records c.in_ok-write_bookend.ensures.bytes
-
-pub returns-clause-written : goal.returns-clause-written
-returns-clause-written g c =
-    subst (g.S.WrittenSection.has_written c.loop-value.written)
-    (mapped_end g.V.HoldsRecord.held _ c.loop-value.yielded _ _ _ c.loop-value.invariant.all c.in-None.is c.next.ensures.steps) c.loop-value.invariant.written

@@ -1,14 +1,19 @@
-use Rattle.std.proofs.Common.{rules, ◌<◌, ◌^◌, sym, subst}
+use Rattle.std.proofs.Common.{rules, ◌<◌, ◌^◌, ℕ, List}
 use Rattle.std.specs.Prelude.{All}
-use Rattle.xet_shards.proofs.Ends.{two_words, four_words, six_words, nine_words}
+use Rattle.std.specs.List.{AllByRecursion}
+use Rattle.std.proofs.lemmas.List.Elements.{All-from_recursion}
+use Rattle.xet_shards.specs.Layout.{offsets_of, timestamps_of, sums_of}
 use Rattle.xet_shards.proofs.shard_format.footer.MDBShardFileFooter.widths.Goals as goal
+
+all_fit : (words : List ℕ) → AllByRecursion (λ n. n < 2 ^ 64) words → All (λ n. n < 2 ^ 64) words
+all_fit words fit = All-from_recursion (λ n. n < 2 ^ 64) words fit
 
 pub returns : goal.returns
 returns c = record {
-  offsets = nine_words _ _ _ _ _ _ _ _ _ (search rules) (search rules) (search rules) (search rules) (search rules) (search rules) (search rules) (search rules) (search rules);
+  offsets = all_fit (offsets_of c.args.self) (search rules);
   key = search rules;
-  timestamps = two_words _ _ (search rules) (search rules);
+  timestamps = all_fit (timestamps_of c.args.self) (search rules);
   buffer_size = search rules;
-  buffer = subst (All (λ n. n < 2 ^ 64)) (sym c.six_words.ensures) (six_words _ _ _ _ _ _ (search rules) (search rules) (search rules) (search rules) (search rules) (search rules));
-  sums = four_words _ _ _ _ (search rules) (search rules) (search rules) (search rules);
+  buffer = all_fit c.args.self._buffer (rw c.six_words.ensures (search rules));
+  sums = all_fit (sums_of c.args.self) (search rules);
 }

@@ -1,8 +1,7 @@
-use Rattle.std.proofs.Common.{◌+◌, get_or, take, sym, ◌∙◌, subst, None, arith}
+use Rattle.std.proofs.Common.{◌+◌, get_or, take, sym, ◌∙◌, subst, None, arith, rules}
 use Rattle.std.proofs.lemmas.List.{take_more, take_all}
 use Rattle.std.proofs.lemmas.List.Elements.{Contains-get_or}
 use Rattle.std.proofs.lemmas.Bool.{both_ways}
-use Rattle.std.proofs.lemmas.Result.{err_from_is_err_and}
 use Rattle.xet_base.proofs.HashOrder.{same_hash}
 use Rattle.xet_records.specs.FileRecord.{file_records}
 use Rattle.xet_records.proofs.RecordKinds.{file_laws}
@@ -14,8 +13,7 @@ pub returns-in_err-file_info-clause-refused : goal.returns-in_err-file_info-clau
 returns-in_err-file_info-clause-refused g c =
     let rows = c.args.rows.now in
     let i = c.loop-row.row-index in
-    let p = err_from_is_err_and c.from_residual.result c.from_residual.ensures.1 in
-    rw (p.1, p.2) (
+    search (rules, 
       get_or rows i 0,
       Contains-get_or rows i 0 c.loop-row-test.true,
       refusal_after file_records file_laws c.args.self.now.metadata.file_info_offset (get_or rows i 0) (g.S.ShardSource.meaning c.args.source.now) (g.S.ShardSource.meaning c.loop-row.source)

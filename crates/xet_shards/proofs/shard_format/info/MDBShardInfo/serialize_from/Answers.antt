@@ -5,7 +5,6 @@ use Rattle.std.specs.Io.KnownBytes.{Appends}
 use Rattle.std.proofs.lemmas.List.{map-id}
 use Rattle.xet_records.specs.FileRecord.{FitsRecord, FitsItsHeader}
 use Rattle.xet_records.specs.XorbRecord.{HasItsChunks}
-use Rattle.xet_shards.specs.Shard.{AreFiles, AreXorbs}
 use Rattle.xet_shards.specs.Layout.{shard_header_bytes, footer_value, layout_of}
 use Rattle.xet_shards.proofs.Files.{well_formed_values, widths_of_values}
 use Rattle.xet_shards.proofs.Xorbs.{xorb_values, owned-values}
@@ -41,11 +40,3 @@ returns-clause-info g c =
     let footer = c.in_ok-metadata.ensures.footer _ _ (subst (All FitsRecord) (sym rs_are) (widths_of_values _ files.files)) c.in_ok-files.ensures.written c.in_ok-xorbs.ensures.written
     ∙ (λ i. footer_value ((rs_are ∙ ap values_of files.entries) i) ((xs_are ∙ ap values_of c.xorb_content.ensures.entries) i) (c.plain.ensures i)) in
     λ i. record { header = c.default-header.ensures i; metadata = footer i }
-
-pub returns-clause-shard : goal.returns-clause-shard
-returns-clause-shard g c = record {
-  files = subst AreFiles c.file_content.ensures.entries c.file_content.ensures.files;
-  file_rows = c.file_content.ensures.rows;
-  xorbs = subst AreXorbs c.xorb_content.ensures.entries c.xorb_content.ensures.xorbs;
-  xorb_rows = c.xorb_content.ensures.rows;
-}
