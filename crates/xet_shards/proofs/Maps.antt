@@ -13,25 +13,20 @@ use Rattle.std.specs.List.Sorted.{IsStrictlySortedBy}
 use Rattle.std.specs.List.{AllByRecursion}
 use Rattle.std.proofs.lemmas.Map.Entries.{sum_by-insert_entry}
 use Rattle.std.proofs.lemmas.Map.Views.{All-keys-insert_entry}
+use Rattle.std.proofs.lemmas.List.{nil_from_length}
 use Rattle.std.proofs.lemmas.List.Elements.{All-cons, All-drop}
 
 order_cases : {A : Type 0} (o : Ordering) (a b c d : A) → c ≡ d → match_ordering o a b c ≡ by_order o a b d
-order_cases Less a b c d same = refl
-order_cases Equal a b c d same = refl
-order_cases Greater a b c d same = same
+order_cases o a b c d same = grind arith
 
-less : (o : Ordering) → T (is_lt o) → o ≡ Less
-less Less p = refl
-less Equal p = absurd p
-less Greater p = absurd p
+pub less : (o : Ordering) → T (is_lt o) → o ≡ Less
+less o p = grind arith
 
 pub both_left : (a b : Bool) → T (a && b) → T a
-both_left true b p = tt
-both_left false b p = p
+both_left a b p = grind arith
 
 pub both_right : (a b : Bool) → T (a && b) → T b
-both_right true b p = p
-both_right false b p = absurd p
+both_right a b p = grind arith
 
 module _ {K X : Type 0} (R : K → K → Ordering) where
   -- insertion into the entries is insertion into the map
@@ -95,13 +90,9 @@ module _ {K X : Type 0} {R : K → K → Ordering} (total : IsTotalOrder R) (exa
       ∙ ap (λ n. sum_by f (values_of (insert_entry R (entries m) k v)) + n) old
       ∙ sum_by-insert_entry f total (entries m) k v (rising_keys R (entries m) (entries_sorted m))
 
-no_entries : {A : Type 0} (es : List A) → length es ≡ 0 → es ≡ []
-no_entries [] none = refl
-no_entries (e ∷ es) some = absurd (omega arith)
-
 module _ {K : Type 0} (X : Type 0) (R : K → K → Ordering) where
   pub entries-empty : entries (empty {X = X} {R = R}) ≡ []
-  entries-empty = no_entries (entries empty) (sym (len-entries empty) ∙ len-empty R X)
+  entries-empty = nil_from_length (entries empty) (sym (len-entries empty) ∙ len-empty R X)
 
   pub values-empty : values (empty {X = X} {R = R}) ≡ []
   values-empty = ap (map (λ e. e.1)) entries-empty

@@ -8,7 +8,7 @@ use Rattle.xet_records.specs.FileRecord.{IsWellFormed}
 use Rattle.xet_records.specs.Merging.{IsSameFile, merged}
 use Rattle.xet_shards.specs.Shard.{file_hash_of}
 use Rattle.xet_shards.specs.Joining.{entry, own_file}
-use Rattle.xet_shards.proofs.Walks.{entry_turn, entry_turned, entry_end, entry_holds}
+use Rattle.xet_shards.proofs.Walks.{entry_turn, entry_turned, entry_holds}
 use Rattle.xet_shards.proofs.FileUnions.{IsOwn, own_merged, own_copied, merged-none, merged-more, entry_of}
 use Rattle.xet_shards.proofs.shard_in_memory.file_store.merged_files.Goals as goal
 use Rattle.xet_shards.proofs.shard_in_memory.file_store.merged_files.Goals.{in-Some-get+in_ok-merge_from, in_default}
@@ -59,8 +59,3 @@ loop-file_hash-preserved c =
           ap (λ m. get m q) put ∙ more q
           ∙ ap (λ es. own_file (entry es q) (get c.args.other.now q)) (sym (map-append deref_pair c.loop-file_hash.yielded ((c.in-Some.file_hash, c.in-Some.file_info) ∷ [])));
     }
-
-pub returns-clause-ok : goal.returns-clause-ok
-returns-clause-ok c = λ q.
-    c.loop-file_hash.invariant.merged q
-    ∙ ap (λ es. own_file (entry es q) (get c.args.other.now q)) (entry_end deref_pair _ c.loop-file_hash.yielded _ _ _ c.loop-file_hash.invariant.all c.in-None.is c.next.ensures.steps)

@@ -1,13 +1,11 @@
-use Rattle.std.proofs.Common.{◌≡◌, [], ◌∷◌, ◌++◌, map, sym, ap, ◌∙◌, subst, arith}
+use Rattle.std.proofs.Common.{◌≡◌, ◌∷◌, ◌++◌, map, sym, ap, subst, arith}
 use Rattle.std.specs.Prelude.{All, sum_by}
 use Rattle.std.specs.Map.Iter.{deref}
 use Rattle.std.specs.BTreeMap.{values}
 use Rattle.std.proofs.Math.Facts.{Fits-of_lt}
-use Rattle.std.proofs.lemmas.List.{map-append}
-use Rattle.std.proofs.lemmas.List.Sums.{sum_by_push}
 use Rattle.xet_records.specs.FileRecord.{size_of_file, IsWellFormed}
 use Rattle.xet_shards.proofs.Files.{files_bound, well_formed_values, widths_of_values}
-use Rattle.xet_shards.proofs.Walks.{value_turn, value_turned, All-middle, sum-middle}
+use Rattle.xet_shards.proofs.Walks.{value_turn, All-middle, sum-middle}
 use Rattle.xet_shards.proofs.shard_in_memory.sums.materialized_bytes.Goals as goal
 
 pub file_size-bytes-requires : goal.file_size-bytes-requires
@@ -23,18 +21,3 @@ overflow_add-bytes c =
     let part = sum-middle size_of_file (map deref c.loop-file_info.yielded) c.next.new.self c.in-Some.file_info.now in
     let sum : sum_by size_of_file (map deref c.loop-file_info.yielded ++ c.in-Some.file_info.now ∷ c.next.new.self) ≡ sum_by size_of_file (values c.args.files.now) = ap (sum_by size_of_file) whole in
     Fits-of_lt (omega (arith, part, sum, files_bound _ (widths_of_values _ c.requires.files), c.requires.rows, c.loop-file_info.invariant.bytes, c.file_size-bytes.ensures.size))
-
-pub loop-file_info-preserved : goal.loop-file_info-preserved
-loop-file_info-preserved c =
-    let whole = value_turn _ c.loop-file_info.yielded _ _ _ c.in-Some.file_info c.loop-file_info.invariant.all c.in-Some.is c.next.ensures.steps in
-    record {
-      can = tt;
-      finite = tt;
-      all = value_turned _ c.loop-file_info.yielded _ c.in-Some.file_info whole;
-      bytes = omega (
-        arith,
-        c.loop-file_info.invariant.bytes,
-        c.file_size-bytes.ensures.size,
-        ap (sum_by size_of_file) (map-append deref c.loop-file_info.yielded (c.in-Some.file_info ∷ [])) ∙ sum_by_push size_of_file (map deref c.loop-file_info.yielded) c.in-Some.file_info.now,
-      );
-    }
