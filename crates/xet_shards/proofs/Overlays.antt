@@ -1,8 +1,7 @@
 -- Overlays of maps, in which values of the same key are joined, and the union of two shards made of them.
-use Rattle.std.proofs.Common.{◌≡◌, ℕ, ◌+◌, ◌≤◌, Bool, true, false, List, [], ◌∷◌, ◌++◌, Option, None, Some, refl, sym, ap, ◌∙◌, subst, cond, true≢false, is_some, arith, T, map}
+use Rattle.std.proofs.Common.{◌≡◌, ℕ, ◌+◌, ◌≤◌, true, List, [], ◌∷◌, ◌++◌, Option, None, Some, refl, sym, ap, ◌∙◌, subst, is_some, arith, T, map}
 use Rattle.std.specs.Prelude.{option_map, unwrap_or, sum_by}
 use Rattle.std.specs.Option.{option_or}
-use Rattle.std.specs.Ordering.{eq_by_cmp}
 use Rattle.std.specs.Map.{values_of}
 use Rattle.std.specs.FinMap.{FinMap, is_sorted, get, insert, entries, values, from_sorted, get-insert, get-entries, same_map, same_entries_map, entries-from_sorted, entries_sorted}
 use Rattle.std.proofs.lemmas.List.{map-append}
@@ -44,41 +43,30 @@ module _ {X : Type 0} (join : X → X → X) where
   pub get-overlay : (es : List (DataHash × X)) (m : FinMap hash_cmp X) (q : DataHash) → get (overlay es m) q ≡ either_joined (entry es q) (get m q)
   get-overlay [] m q = refl
   get-overlay (e ∷ es) m q =
-      get-insert hash_cmp-IsTotalOrder (overlay es m) e.0 (with_twin e.1 (get m e.0)) q ∙ slot (eq_by_cmp hash_cmp q e.0) refl (get-overlay es m q) where
-        slot : (t : Bool) → eq_by_cmp hash_cmp q e.0 ≡ t → get (overlay es m) q ≡ either_joined (entry es q) (get m q)
-            → cond t (Some (with_twin e.1 (get m e.0))) (get (overlay es m) q) ≡ either_joined (cond t (Some e.1) (entry es q)) (get m q)
-        slot true tied rest = ap (λ k. Some (with_twin e.1 (get m k))) (sym ((same_key q e.0).0 tied))
-        slot false tied rest = rest
+      grind (arith, get-insert hash_cmp-IsTotalOrder (overlay es m) e.0 (with_twin e.1 (get m e.0)) q, get-overlay es m q, same_key q e.0)
 
   -- the overlay is the only map with these values
   pub is_overlay : (es : List (DataHash × X)) (m c : FinMap hash_cmp X) → ((q : DataHash) → get c q ≡ either_joined (entry es q) (get m q)) → c ≡ overlay es m
   is_overlay es m c is = same_map hash_cmp-IsTotalOrder hash_cmp-IsAntisymmetric c (overlay es m) (λ q. is q ∙ sym (get-overlay es m q))
 
-  pushed_slot : (t : Bool) (o p : Option X) (x v : X) → (t ≡ true → o ≡ None) → (t ≡ true → v ≡ with_twin x p)
-      → either_joined (option_or o (cond t (Some x) None)) p ≡ cond t (Some v) (either_joined o p)
-  pushed_slot false None p x v new is = refl
-  pushed_slot false (Some y) p x v new is = refl
-  pushed_slot true None p x v new is = ap Some (sym (is refl))
-  pushed_slot true (Some y) p x v new is = absurd (true≢false (ap is_some (new refl)))
-
   module _ (es : List (DataHash × X)) (k : DataHash) (x : X) (m : FinMap hash_cmp X) (new : entry es k ≡ None) where
     -- one more entry, with a new key, is an insertion
     pub overlay-push : overlay (es ++ (k, x) ∷ []) m ≡ insert (overlay es m) k (with_twin x (get m k))
-    overlay-push = same_map hash_cmp-IsTotalOrder hash_cmp-IsAntisymmetric _ _ (λ q.
-        get-overlay (es ++ (k, x) ∷ []) m q ∙ ap (λ o. either_joined o (get m q)) (entry-append es k x q)
-        ∙ pushed_slot (eq_by_cmp hash_cmp q k) (entry es q) (get m q) x (with_twin x (get m k))
-        (λ tied. ap (entry es) ((same_key q k).0 tied) ∙ new)
-        (λ tied. ap (λ j. with_twin x (get m j)) (sym ((same_key q k).0 tied)))
-        ∙ sym (get-insert hash_cmp-IsTotalOrder (overlay es m) k (with_twin x (get m k)) q ∙ ap (cond (eq_by_cmp hash_cmp q k) (Some (with_twin x (get m k)))) (get-overlay es m q)))
+    overlay-push = same_map hash_cmp-IsTotalOrder hash_cmp-IsAntisymmetric _ _ (λ q. grind (
+      arith,
+      get-overlay (es ++ (k, x) ∷ []) m q,
+      get-overlay es m q,
+      entry-append es k x q,
+      get-insert hash_cmp-IsTotalOrder (overlay es m) k (with_twin x (get m k)) q,
+      same_key q k,
+    ))
 
     -- and this is what it adds to a sum
     pub sum-overlay : (f : X → ℕ)
         → sum_by f (values (overlay (es ++ (k, x) ∷ []) m)) + unwrap_or (option_map f (get m k)) 0 ≡ sum_by f (values (overlay es m)) + f (with_twin x (get m k))
     sum-overlay f =
         let before : get (overlay es m) k ≡ get m k = get-overlay es m k ∙ ap (λ o. either_joined o (get m k)) new in
-        ap (λ n. sum_by f (values n) + unwrap_or (option_map f (get m k)) 0) overlay-push
-        ∙ ap (λ o. sum_by f (values (insert (overlay es m) k (with_twin x (get m k)))) + unwrap_or (option_map f o) 0) (sym before)
-        ∙ sum-insert hash_cmp-IsTotalOrder hash_cmp-IsAntisymmetric f (overlay es m) k (with_twin x (get m k))
+        cc (overlay-push, before, sum-insert hash_cmp-IsTotalOrder hash_cmp-IsAntisymmetric f (overlay es m) k (with_twin x (get m k)))
 
 -- a map is the map of its entries
 pub from_sorted-entries : {X : Type 0} (m : FinMap hash_cmp X) (es : List (DataHash × X)) → es ≡ entries m → from_sorted es ≡ m
@@ -101,20 +89,14 @@ abbrev pub other_xorb : MDBXorbInfo → MDBXorbInfo → MDBXorbInfo
 other_xorb own other = other
 
 pub either_file_is : (o p : Option MDBFileInfo) → either_joined merged o p ≡ either_file o p
-either_file_is None p = refl
-either_file_is (Some r) None = refl
-either_file_is (Some r) (Some s) = refl
+either_file_is o p = grind arith
 
 either_xorb_is : (o p : Option MDBXorbInfo) → either_joined other_xorb o p ≡ option_or p o
-either_xorb_is None None = refl
-either_xorb_is None (Some s) = refl
-either_xorb_is (Some r) None = refl
-either_xorb_is (Some r) (Some s) = refl
+either_xorb_is o p = grind arith
 
 -- so an own xorb whose hash the other has adds no rows
 pub rows_kept : (x : MDBXorbInfo) (o : Option MDBXorbInfo) → is_some o ≡ true → xorb_row_count (with_twin other_xorb x o) ≡ unwrap_or (option_map xorb_row_count o) 0
-rows_kept x None there = absurd (true≢false (sym there))
-rows_kept x (Some y) there = refl
+rows_kept x o there = grind arith
 
 -- the maps of a union
 pub are_united_files : (es : List (DataHash × MDBFileInfo)) (b c : FileMap) → ((q : DataHash) → get c q ≡ either_file (entry es q) (get b q)) → c ≡ overlay merged es b
@@ -135,12 +117,8 @@ united_shard a b = record { files = united_files a.files b.files; xorbs = united
 
 pub union_exists : (a b : Shard) → IsUnion a b (united_shard a b)
 union_exists a b = record {
-  files = λ q.
-      get-overlay merged (entries a.files) b.files q ∙ ap (λ o. either_joined merged o (get b.files q)) (sym (get-entries a.files q))
-      ∙ either_file_is (get a.files q) (get b.files q);
-  xorbs = λ q.
-      get-overlay other_xorb (entries a.xorbs) b.xorbs q ∙ ap (λ o. either_joined other_xorb o (get b.xorbs q)) (sym (get-entries a.xorbs q))
-      ∙ either_xorb_is (get a.xorbs q) (get b.xorbs q);
+  files = λ q. cc (get-overlay merged (entries a.files) b.files q, get-entries a.files q, either_file_is (get a.files q) (get b.files q));
+  xorbs = λ q. cc (get-overlay other_xorb (entries a.xorbs) b.xorbs q, get-entries a.xorbs q, either_xorb_is (get a.xorbs q) (get b.xorbs q));
 }
 
 pub union_unique : (a b c d : Shard) → IsUnion a b c → IsUnion a b d → c ≡ d

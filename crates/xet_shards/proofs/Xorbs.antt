@@ -1,5 +1,5 @@
 -- Loops over `Rc`s of xorbs, and sums over xorbs.
-use Rattle.std.proofs.Common.{◌≡◌, ℕ, ◌+◌, ◌*◌, ◌^◌, ◌<◌, ◌≤◌, List, [], ◌∷◌, ◌++◌, map, Option, Some, None, refl, ap, ◌∙◌, arith}
+use Rattle.std.proofs.Common.{◌≡◌, ℕ, ◌+◌, ◌*◌, ◌^◌, ◌<◌, ◌≤◌, List, [], ◌∷◌, ◌++◌, map, Option, Some, refl, ap, ◌∙◌, arith}
 use Rattle.std.specs.Prelude.{All, sum_by}
 use Rattle.std.specs.Borrow.{Bor}
 use Rattle.std.specs.Map.{values_of}
@@ -13,7 +13,7 @@ use Rattle.xet_records.specs.XorbRecord.{xorb_records, xorb_row_count, IsXorb}
 use Rattle.xet_shards.specs.Section.{total_rows}
 use Rattle.xet_shards.specs.Shard.{AreXorbs}
 use Rattle.xet_shards.specs.XorbStore.{shown_xorbs}
-use Rattle.xet_shards.proofs.Walks.{mapped_turn, mapped_end, mapped_push, sum-middle}
+use Rattle.xet_shards.proofs.Walks.{mapped_turn, sum-middle}
 
 module _ {Z : Type 0} where
   abbrev pub owned : List (Rc MDBXorbInfo Z) → List MDBXorbInfo
@@ -31,14 +31,6 @@ module _ {Z : Type 0} where
       → map deref before ++ s ≡ values_of es → r ≡ Some x → TakesFirst deref s r t → seen before ++ x.now.value ∷ owned t ≡ values_of (shown_xorbs es)
   seen_turn es before s t r x whole is step =
       mapped_turn (λ (o : Rc MDBXorbInfo Z). o.value) _ before s t r x whole is step ∙ owned-values es
-
-  pub seen_end : (es : List (DataHash × Rc MDBXorbInfo Z)) (before : List (Bor (Rc MDBXorbInfo Z))) (s t : List (Rc MDBXorbInfo Z)) (r : Option (Bor (Rc MDBXorbInfo Z)))
-      → map deref before ++ s ≡ values_of es → r ≡ None → TakesFirst deref s r t → seen before ≡ values_of (shown_xorbs es)
-  seen_end es before s t r whole is step = mapped_end (λ (o : Rc MDBXorbInfo Z). o.value) _ before s t r whole is step ∙ owned-values es
-
-  -- these, with the xorb of this iteration
-  pub seen_push : (before : List (Bor (Rc MDBXorbInfo Z))) (x : Bor (Rc MDBXorbInfo Z)) → seen (before ++ x ∷ []) ≡ seen before ++ x.now.value ∷ []
-  seen_push before x = mapped_push (λ (o : Rc MDBXorbInfo Z). o.value) before x
 
 -- what holds of a shard's xorbs holds of their list
 pub xorb_values : (es : List (DataHash × MDBXorbInfo)) → AreXorbs es → All IsXorb (values_of es)
