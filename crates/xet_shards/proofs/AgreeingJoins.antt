@@ -1,11 +1,11 @@
 -- Joins of shards that agree pairwise: they agree with each other, exist, and are shards if their rows are few; with more
 -- shards a join has no fewer rows.
-use Rattle.std.proofs.Common.{◌≡◌, ◌≤◌, Bool, true, false, List, [], ◌∷◌, ◌++◌, length, Option, None, Some, is_some, refl, sym, ap, ◌∙◌, subst, if◌then◌else◌, true≢false, arith}
+use Rattle.std.proofs.Common.{◌≡◌, ◌≤◌, Bool, false, List, [], ◌∷◌, ◌++◌, length, Option, None, Some, is_some, refl, sym, ap, ◌∙◌, subst, if◌then◌else◌, arith}
 use Rattle.std.specs.Prelude.{Contains, IsTrue, option_map, option_and_then, option_to_list}
 use Rattle.std.specs.Option.{option_or}
 use Rattle.std.specs.FinMap.{get, entries, get-entries}
 use Rattle.std.proofs.lemmas.List.Elements.{Contains-push, Contains-append_left, Contains-append_right}
-use Rattle.std.proofs.lemmas.Option.{same_Some, none-some}
+use Rattle.std.proofs.lemmas.Option.{same_Some}
 use Rattle.xet_base.specs.declared.merklehash.DataHash.{DataHash}
 use Rattle.xet_base.proofs.HashOrder.{hash_cmp-IsTotalOrder, hash_cmp-IsAntisymmetric}
 use Rattle.xet_records.specs.declared.file_structs.rows.FileVerificationEntry.{FileVerificationEntry}
@@ -31,8 +31,7 @@ verification_is : (r : MDBFileInfo) → IsTrue (verified r) → verification_of 
 verification_is r has = ap (λ (v : Bool). if v then Some r.verification else None) has
 
 row_is : (o : Option FileMetadataExt) → IsTrue (is_some o) → (x : FileMetadataExt) × (o ≡ Some x)
-row_is None has = absurd (true≢false (sym has))
-row_is (Some x) has = (x, refl)
+row_is o has = grind arith
 
 -- agreement of each shard of a set with each of another passes to their joins
 module _ (A B : Shard → Type 0) (a b : Shard) (first : IsJoinOf A a) (second : IsJoinOf B b)
@@ -74,20 +73,16 @@ module _ (A C : Shard → Type 0) (a c : Shard) (few : IsJoinOf A a) (more : IsJ
   has_more part one other x at = let found = (one x).0 at in (other x).1 (found.0, into found.0 found.1, found.2)
 
   file_there : (o : Option MDBFileInfo) (xs : _) → option_map (λ (r : MDBFileInfo). r.segments) o ≡ Some xs → (t : MDBFileInfo) × (o ≡ Some t) × (t.segments ≡ xs)
-  file_there None xs is = absurd (none-some xs is)
-  file_there (Some t) xs is = (t, refl, same_Some t.segments xs is)
+  file_there o xs is = grind arith
 
   verification_there : (v : Bool) (xs ys : List FileVerificationEntry) → (if v then Some xs else None) ≡ Some ys → xs ≡ ys
-  verification_there true xs ys is = same_Some xs ys is
-  verification_there false xs ys is = absurd (none-some ys is)
+  verification_there v xs ys is = grind arith
 
   few_verification : (v : Bool) (xs ys : List FileVerificationEntry) → (v ≡ false → xs ≡ []) → (IsTrue v → ys ≡ xs) → length xs ≤ length ys
-  few_verification true xs ys absent same = omega (arith, ap length (same refl))
-  few_verification false xs ys absent same = omega (arith, ap length (absent refl))
+  few_verification v xs ys absent same = grind arith
 
   few_metadata : (o p : Option FileMetadataExt) → ((x : FileMetadataExt) → o ≡ Some x → p ≡ Some x) → length (option_to_list o) ≤ length (option_to_list p)
-  few_metadata None p same = omega arith
-  few_metadata (Some x) p same = omega (arith, ap (λ r. length (option_to_list r)) (same x refl))
+  few_metadata o p same = grind arith
 
   file_more : (q : DataHash) (r : MDBFileInfo) → get a.files q ≡ Some r → (t : MDBFileInfo) × (get c.files q ≡ Some t) × (row_count r ≤ row_count t)
   file_more q r at =
@@ -192,9 +187,7 @@ agree_right xs ys agree = record {
 
 -- shards that agree pairwise have a join
 pub joins_exist : (ss : List Shard) → AgreePairwise (Contains ss) → (c : Shard) × IsJoinOf (Contains ss) c
-joins_exist [] agree = (_, join-none (Contains []) no_member) where
-  no_member : (t : Shard) → ¬ Contains {X = Shard} [] t
-  no_member t (k, below, is) = absurd (omega (arith, below))
+joins_exist [] agree = (_, join-none)
 joins_exist (s ∷ ss) agree =
     let rest = joins_exist ss (agree_right (s ∷ []) ss agree) in
     let one = join-one s (follows_parts s (agree.shards s (Contains-append_left (s ∷ []) ss s (Contains-push [] s)))) in
