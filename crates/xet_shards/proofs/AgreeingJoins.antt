@@ -1,9 +1,9 @@
 -- Joins of shards that agree pairwise: they agree with each other, exist, and are shards if their rows are few; with more
 -- shards a join has no fewer rows.
 use Rattle.std.proofs.Common.{◌≡◌, ◌≤◌, Bool, false, List, [], ◌∷◌, ◌++◌, length, Option, None, Some, is_some, refl, sym, ap, ◌∙◌, subst, if◌then◌else◌, arith}
-use Rattle.std.specs.Prelude.{Contains, IsTrue, option_map, option_and_then, option_to_list}
+use Rattle.std.specs.Prelude.{All, Contains, IsTrue, option_map, option_and_then, option_to_list}
 use Rattle.std.specs.Option.{option_or}
-use Rattle.std.specs.FinMap.{get, entries, get-entries}
+use Rattle.std.specs.FinMap.{get, entries}
 use Rattle.std.proofs.lemmas.List.Elements.{Contains-push, Contains-append_left, Contains-append_right}
 use Rattle.std.proofs.lemmas.Option.{same_Some}
 use Rattle.xet_base.specs.declared.merklehash.DataHash.{DataHash}
@@ -20,7 +20,7 @@ use Rattle.xet_shards.specs.Shard.{Shard, IsShard, file_hash_of, xorb_hash_of}
 use Rattle.xet_shards.specs.Joining.{either_file}
 use Rattle.xet_shards.specs.SetOperations.{IsUnion, ShardsAgree, HasFewRows}
 use Rattle.xet_shards.specs.Joins.{verification_of, segments_under, verification_under, metadata_under, HasWhatAnyHas, FollowsParts, IsJoinOf, AgreePairwise}
-use Rattle.xet_shards.proofs.FileUnions.{entry-holds}
+use Rattle.xet_shards.proofs.FileUnions.{holds_in_map}
 use Rattle.xet_shards.proofs.Sums.{all_of_map, part-le-sum, sum-below}
 use Rattle.xet_shards.proofs.Unions.{IsKnown, known}
 use Rattle.xet_shards.proofs.Overlays.{united_shard, union_exists}
@@ -107,21 +107,9 @@ module _ (A C : Shard → Type 0) (a c : Shard) (few : IsJoinOf A a) (more : IsJ
   }
 
 -- the union of two shards that agree is a shard if its rows fit `u32`
-record IsKnownXorb (q : DataHash) (r : MDBXorbInfo) : Type 0 where
-  pub keyed : q ≡ xorb_hash_of r
-  pub well_formed : IsXorb r
-
-known_xorb : (s : Shard) (q : DataHash) (r : MDBXorbInfo) → IsShard s → get s.xorbs q ≡ Some r → IsKnownXorb q r
-known_xorb s q r shard at =
-    let found = sym (get-entries s.xorbs q) ∙ at in
-    record {
-      keyed = entry-holds (λ e. e.0 ≡ xorb_hash_of e.1) (entries s.xorbs) q r shard.xorbs.keyed found;
-      well_formed = entry-holds (λ e. IsXorb e.1) (entries s.xorbs) q r shard.xorbs.well_formed found;
-    }
 
 either_known : (P : MDBXorbInfo → Type 0) (o p : Option MDBXorbInfo) → ((r : MDBXorbInfo) → o ≡ Some r → P r) → ((r : MDBXorbInfo) → p ≡ Some r → P r) → (r : MDBXorbInfo) → option_or p o ≡ Some r → P r
-either_known P o None first second r is = first r is
-either_known P o (Some x) first second r is = second r is
+either_known P o p first second r is = grind arith
 
 known_either : (q : DataHash) (o p : Option MDBFileInfo) (t : MDBFileInfo) → ((r : MDBFileInfo) → o ≡ Some r → IsKnown q r) → ((r : MDBFileInfo) → p ≡ Some r → IsKnown q r)
     → ((r s : MDBFileInfo) → o ≡ Some r → p ≡ Some s → Agree r s) → row_count t ≤ 4294967295 → either_file o p ≡ Some t → IsKnown q t
@@ -143,8 +131,9 @@ module _ (a b c : Shard) (first : IsShard a) (second : IsShard b) (agree : Shard
   file_known q t at = known_either q (get a.files q) (get b.files q) t (λ r. known a q r first) (λ r. known b q r second) (agree.files q)
       (omega (arith, few.files, part-le-sum hash_cmp-IsTotalOrder hash_cmp-IsAntisymmetric row_count c.files q t at)) (sym (union.files q) ∙ at)
 
-  xorb_known : (q : DataHash) (t : MDBXorbInfo) → get c.xorbs q ≡ Some t → IsKnownXorb q t
-  xorb_known q t at = either_known (IsKnownXorb q) (get a.xorbs q) (get b.xorbs q) (λ r. known_xorb a q r first) (λ r. known_xorb b q r second) t (sym (union.xorbs q) ∙ at)
+  of_xorbs : (P : DataHash × MDBXorbInfo → Type 0) → All P (entries a.xorbs) → All P (entries b.xorbs) → All P (entries c.xorbs)
+  of_xorbs P own other = all_of_map hash_cmp-IsTotalOrder hash_cmp-IsAntisymmetric P c.xorbs (λ q t at.
+      either_known (λ r. P (q, r)) (get a.xorbs q) (get b.xorbs q) (λ r. holds_in_map P a.xorbs q r own) (λ r. holds_in_map P b.xorbs q r other) t (sym (union.xorbs q) ∙ at))
 
   pub union_is_shard : IsShard c
   union_is_shard = record {
@@ -154,8 +143,8 @@ module _ (a b c : Shard) (first : IsShard a) (second : IsShard b) (agree : Shard
     };
     file_rows = few.files;
     xorbs = record {
-      keyed = all_of_map hash_cmp-IsTotalOrder hash_cmp-IsAntisymmetric (λ e. e.0 ≡ xorb_hash_of e.1) c.xorbs (λ q t at. (xorb_known q t at).keyed);
-      well_formed = all_of_map hash_cmp-IsTotalOrder hash_cmp-IsAntisymmetric (λ e. IsXorb e.1) c.xorbs (λ q t at. (xorb_known q t at).well_formed);
+      keyed = of_xorbs (λ e. e.0 ≡ xorb_hash_of e.1) first.xorbs.keyed second.xorbs.keyed;
+      well_formed = of_xorbs (λ e. IsXorb e.1) first.xorbs.well_formed second.xorbs.well_formed;
     };
     xorb_rows = few.xorbs;
   }

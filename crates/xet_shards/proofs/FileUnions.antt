@@ -1,23 +1,22 @@
 -- Files that are in two stores: whether they can be joined, and the loop that joins them.
-use Rattle.std.proofs.Common.{◌≡◌, ◌+◌, length, Bool, true, false, T, List, [], ◌∷◌, ◌++◌, None, Some, refl, sym, ap, ◌∙◌, subst, cond, true≢false, is_some, arith}
+use Rattle.std.proofs.Common.{◌≡◌, ◌+◌, length, false, T, List, [], ◌∷◌, ◌++◌, None, Some, refl, sym, ap, ◌∙◌, subst, cond, arith}
 use Rattle.std.specs.Prelude.{All}
 use Rattle.std.specs.Option.{option_or}
 use Rattle.std.specs.Ordering.{eq_by_cmp, is_lt, is_eq, ordering_reverse}
-use Rattle.std.specs.FinMap.{get, insert, empty, from_sorted, is_sorted, get-insert, get-empty, get-from_sorted}
+use Rattle.std.specs.FinMap.{FinMap, entries, get-entries, get, insert, empty, from_sorted, is_sorted, get-insert, get-empty, get-from_sorted}
 use Rattle.std.specs.FinMap.Entries.{below_all}
 use Rattle.std.proofs.lemmas.List.{length-append, get_or-append-add}
-use Rattle.std.proofs.lemmas.List.Elements.{All-drop, All-push}
-use Rattle.std.proofs.lemmas.Option.{same_Some}
+use Rattle.std.proofs.lemmas.List.Elements.{All-push}
 use Rattle.xet_base.specs.declared.merklehash.DataHash.{DataHash}
 use Rattle.xet_base.specs.Hash.{hash_cmp}
-use Rattle.xet_base.proofs.HashOrder.{hash_cmp-IsTotalOrder, same_key}
+use Rattle.xet_base.proofs.HashOrder.{hash_cmp-IsTotalOrder, hash_cmp-IsAntisymmetric, same_key}
 use Rattle.xet_records.specs.declared.file_structs.MDBFileInfo.{MDBFileInfo}
 use Rattle.xet_records.specs.FileRecord.{IsWellFormed}
 use Rattle.xet_records.specs.Merging.{merged}
 use Rattle.xet_records.proofs.Merging.{merged_well_formed}
 use Rattle.xet_shards.specs.Shard.{FileMap, file_hash_of}
 use Rattle.xet_shards.specs.Joining.{but, entry, CanJoinFile, CanJoinFiles, either_file, own_file}
-use Rattle.xet_shards.proofs.Found.{entry_found}
+use Rattle.xet_shards.proofs.Found.{found_entry, entry_found}
 use Rattle.xet_shards.proofs.Maps.{less, both_left, both_right}
 use Rattle.xet_shards.proofs.Joining.{entry-append}
 
@@ -43,11 +42,10 @@ module _ {X : Type 0} where
 
   -- what holds of each entry holds of what is found
   pub entry-holds : (P : DataHash × X → Type 0) (es : List (DataHash × X)) (q : DataHash) (x : X) → All P es → entry es q ≡ Some x → P (q, x)
-  entry-holds P [] q x all found = absurd (true≢false (sym (ap is_some found)))
-  entry-holds P (e ∷ es) q x all found = here (eq_by_cmp hash_cmp q e.0) refl found (entry-holds P es q x (All-drop P 1 (e ∷ es) all)) where
-    here : (b : Bool) → eq_by_cmp hash_cmp q e.0 ≡ b → cond b (Some e.1) (entry es q) ≡ Some x → (entry es q ≡ Some x → P (q, x)) → P (q, x)
-    here true tied found later = subst P (λ i. (sym ((same_key q e.0).0 tied) i, same_Some e.1 x found i)) (all 0 e (omega arith))
-    here false tied found later = later found
+  entry-holds P es q x all found = let at = found_entry hash_cmp hash_cmp-IsAntisymmetric es q x (q, x) found in subst P at.2 (all at.0 (q, x) at.1)
+
+  pub holds_in_map : (P : DataHash × X → Type 0) (m : FinMap hash_cmp X) (q : DataHash) (x : X) → All P (entries m) → get m q ≡ Some x → P (q, x)
+  holds_in_map P m q x all at = entry-holds P (entries m) q x all (sym (get-entries m q) ∙ at)
 
 -- each of these entries can be joined with the file in a store, if any
 abbrev pub CanJoinEntries : List (DataHash × MDBFileInfo) → FileMap → Type 0

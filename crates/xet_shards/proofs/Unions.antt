@@ -2,7 +2,7 @@
 use Rattle.std.proofs.Common.{◌≡◌, Option, None, Some, refl, sym, ap, ◌∙◌, subst, arith}
 use Rattle.std.specs.Option.{option_or}
 use Rattle.std.proofs.lemmas.Option.{same_Some}
-use Rattle.std.specs.FinMap.{get, entries, get-empty, get-entries, same_map}
+use Rattle.std.specs.FinMap.{get, get-empty, same_map}
 use Rattle.xet_base.specs.declared.merklehash.DataHash.{DataHash}
 use Rattle.xet_base.specs.Hash.{hash_cmp}
 use Rattle.xet_base.proofs.HashOrder.{hash_cmp-IsTotalOrder, hash_cmp-IsAntisymmetric}
@@ -13,7 +13,7 @@ use Rattle.xet_records.proofs.Merging.{merged_is_joined, merged-assoc, agree-mer
 use Rattle.xet_shards.specs.Shard.{Shard, IsShard, empty_shard, file_hash_of}
 use Rattle.xet_shards.specs.Joining.{either_file}
 use Rattle.xet_shards.specs.SetOperations.{IsUnion, IsDifference, ShardsAgree, HasFewRows, CanUnite}
-use Rattle.xet_shards.proofs.FileUnions.{entry-holds}
+use Rattle.xet_shards.proofs.FileUnions.{holds_in_map}
 use Rattle.xet_shards.proofs.Joining.{but_empty}
 
 pub same_shard : (c d : Shard) → ((q : DataHash) → get c.files q ≡ get d.files q) → ((q : DataHash) → get c.xorbs q ≡ get d.xorbs q) → c ≡ d
@@ -28,12 +28,10 @@ pub record IsKnown (q : DataHash) (r : MDBFileInfo) : Type 0 where
   pub well_formed : IsWellFormed r
 
 pub known : (s : Shard) (q : DataHash) (r : MDBFileInfo) → IsShard s → get s.files q ≡ Some r → IsKnown q r
-known s q r shard at =
-    let found = sym (get-entries s.files q) ∙ at in
-    record {
-      keyed = entry-holds (λ e. e.0 ≡ file_hash_of e.1) (entries s.files) q r shard.files.keyed found;
-      well_formed = entry-holds (λ e. IsWellFormed e.1) (entries s.files) q r shard.files.well_formed found;
-    }
+known s q r shard at = record {
+  keyed = holds_in_map (λ e. e.0 ≡ file_hash_of e.1) s.files q r shard.files.keyed at;
+  well_formed = holds_in_map (λ e. IsWellFormed e.1) s.files q r shard.files.well_formed at;
+}
 
 pub same_either : {X : Type 0} (o p : Option X) → ((x y : X) → o ≡ Some x → p ≡ Some y → x ≡ y) → option_or p o ≡ option_or o p
 same_either None None same = refl
