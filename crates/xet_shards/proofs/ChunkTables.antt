@@ -1,9 +1,8 @@
 -- The chunk table in written bytes, and what a search in it finds.
-use Rattle.std.proofs.Common.{◌≡◌, ◌≢◌, inl, inr, true≢false, true, ℕ, ◌<◌, ◌≤◌, List, [], ◌∷◌, ◌++◌, Ok, Err, length, drop, map, flat_map, get_or, min, refl, sym, ap, ◌∙◌, subst, append_assoc, arith}
+use Rattle.std.proofs.Common.{◌≡◌, ◌≢◌, inl, inr, true, ℕ, ◌<◌, ◌≤◌, List, [], ◌∷◌, ◌++◌, Ok, Err, length, drop, map, flat_map, get_or, min, refl, sym, ap, ◌∙◌, subst, append_assoc, arith}
 use Rattle.std.specs.Prelude.{All, Contains, MatchResult, IfOk, IfErr}
 use Rattle.std.specs.declared.result.Result.{Result}
 use Rattle.std.specs.declared.cmp.Ordering.TheVariants.{Less}
-use Rattle.std.specs.Ordering.{is_eq}
 use Rattle.std.proofs.lemmas.Bool.{cases_lt}
 use Rattle.std.proofs.lemmas.Cmp.{tied_itself}
 use Rattle.std.proofs.lemmas.List.{get_or-map, length-map, length-append}
@@ -51,10 +50,7 @@ module _ (xorbs : List MDBXorbInfo) where
   rows_ascend i j less below = first_ascends _ _ _ (before i j less below)
 
   not_before_itself : (p q : ChunkTableRow) → chunk_table_row_cmp p q ≡ Less → p ≢ q
-  not_before_itself p q less same = true≢false (sym (tied_itself' q) ∙ ap is_eq (ap (λ r. chunk_table_row_cmp r q) (sym same) ∙ less))
-    where
-      tied_itself' : (r : ChunkTableRow) → is_eq (chunk_table_row_cmp r r) ≡ true
-      tied_itself' r = ap is_eq (tied_itself chunk_table_row_total r)
+  not_before_itself p q less same = cc (tied_itself chunk_table_row_total q)
 
   -- rows at different indices differ
   pub rows_differ : (i j : ℕ) → i < length (chunk_table xorbs) → j < length (chunk_table xorbs) → i ≢ j

@@ -1,14 +1,14 @@
 -- Lookups in finite maps.
-use Rattle.std.proofs.Common.{◌≡◌, inl, inr, ℕ, zero, suc, ◌<◌, ◌≤◌, Bool, true, false, List, [], ◌∷◌, length, get_or, Some, T, true≢false, refl, sym, ap, ◌∙◌, arith}
+use Rattle.std.proofs.Common.{◌≡◌, ℕ, zero, suc, ◌<◌, ◌≤◌, Bool, true, false, List, [], ◌∷◌, length, get_or, Some, T, refl, sym, ap, ◌∙◌, arith}
 use Rattle.std.specs.Prelude.{cond}
-use Rattle.std.specs.Ordering.{is_eq, is_gt, nat_cmp, ordering_then, ordering_reverse}
+use Rattle.std.specs.Ordering.{is_eq, nat_cmp, ordering_then, ordering_reverse}
 use Rattle.std.specs.declared.cmp.Ordering.{Ordering}
 use Rattle.std.specs.declared.cmp.Ordering.TheVariants.{Less, Equal, Greater}
 use Rattle.std.specs.Cmp.{IsTotalOrder, nat_cmp_is}
 use Rattle.std.specs.Map.{keys_of}
 use Rattle.std.specs.BTreeMap.{is_at}
 use Rattle.std.specs.FinMap.{IsAntisymmetric, is_sorted, find}
-use Rattle.std.proofs.lemmas.Bool.{cases_lt, cond-true, cond-false}
+use Rattle.std.proofs.lemmas.Bool.{cond-true, cond-false}
 use Rattle.std.proofs.lemmas.Cmp.{tied_itself}
 use Rattle.std.proofs.lemmas.List.{length-map, get_or-map}
 use Rattle.std.proofs.lemmas.Option.{none-some, same_Some}
@@ -18,19 +18,11 @@ use Rattle.xet_base.specs.Hash.{hash_cmp}
 use Rattle.xet_shards.proofs.Maps.{rising_keys, both_right}
 
 tied : (o : Ordering) → is_eq o ≡ true → o ≡ Equal
-tied Less is = absurd (true≢false (sym is))
-tied Equal is = refl
-tied Greater is = absurd (true≢false (sym is))
+tied o is = grind arith
 
 -- a comparison by two numbers and then by others
 pub first_ascends : (m n : ℕ) (rest : Ordering) → ordering_then (nat_cmp m n) rest ≡ Less → m ≤ n
-first_ascends m n rest less = elim (cases_lt n m) [
-  | inl greater ↦ absurd (true≢false (ap is_gt (after (nat_cmp m n) rest (nat_cmp_is m n Greater greater) less)))
-  | inr not_greater ↦ not_greater
-]
-  where
-    after : (o p : Ordering) → Greater ≡ o → ordering_then o p ≡ Less → Greater ≡ Less
-    after o p is then = ap (λ q. ordering_then q p) is ∙ then
+first_ascends m n rest less = grind (arith, nat_cmp_is m n Greater)
 
 -- so a smaller hash has no greater first word
 pub first_words_ascend : (a b : DataHash) → hash_cmp a b ≡ Less → a.word0 ≤ b.word0
