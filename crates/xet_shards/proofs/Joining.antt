@@ -28,12 +28,13 @@ module _ {X : Type 0} where
   entry-append (e ∷ es) k v q = either (eq_by_cmp hash_cmp q e.0) e.1 _ _ _ (entry-append es k v q)
 
   -- an iteration that adds nothing, and one that adds an entry
-  module _ (f : DataHash → Option X) (except m : FinMap hash_cmp X) (es : List (DataHash × X)) (k : DataHash) (v : X) (before : IsFilled f except m es) where
-    pub filled-skip : (is_some (get m k) ≡ true) ⊎ (is_some (get except k) ≡ true) → IsFilled f except m (es ++ (k, v) ∷ [])
+  module _ (f : DataHash → Option X) (except m : FinMap hash_cmp X) (es fs : List (DataHash × X)) (k : DataHash) (v : X) (push : fs ≡ es ++ (k, v) ∷ [])
+      (before : IsFilled f except m es) where
+    pub filled-skip : (is_some (get m k) ≡ true) ⊎ (is_some (get except k) ≡ true) → IsFilled f except m fs
     filled-skip reason = λ q. grind (arith, before q, entry-append es k v q, same_key q k)
 
-    pub filled-add : is_some (get m k) ≡ false → is_some (get except k) ≡ false → IsFilled f except (insert m k v) (es ++ (k, v) ∷ [])
-    filled-add free in_reach = λ q. grind (arith, before q, entry-append es k v q, same_key q k, get-insert hash_cmp-IsTotalOrder m k v q)
+    pub filled-add : (n : FinMap hash_cmp X) → n ≡ insert m k v → is_some (get m k) ≡ false → is_some (get except k) ≡ false → IsFilled f except n fs
+    filled-add n put free in_reach = λ q. grind (arith, before q, entry-append es k v q, same_key q k, get-insert hash_cmp-IsTotalOrder m k v q)
 
   -- a loop over all entries of a map
   module _ (except m n from : FinMap hash_cmp X) (es : List (DataHash × X)) (same : es ≡ entries from) (filled : IsFilled (get m) except n es) where

@@ -49,12 +49,12 @@ module _ {X : Type 0} (join : X → X → X) where
   pub is_overlay : (es : List (DataHash × X)) (m c : FinMap hash_cmp X) → ((q : DataHash) → get c q ≡ either_joined (entry es q) (get m q)) → c ≡ overlay es m
   is_overlay es m c is = same_map hash_cmp-IsTotalOrder hash_cmp-IsAntisymmetric c (overlay es m) (λ q. is q ∙ sym (get-overlay es m q))
 
-  module _ (es : List (DataHash × X)) (k : DataHash) (x : X) (m : FinMap hash_cmp X) (new : entry es k ≡ None) where
+  module _ (es fs : List (DataHash × X)) (k : DataHash) (x : X) (push : fs ≡ es ++ (k, x) ∷ []) (m : FinMap hash_cmp X) (new : entry es k ≡ None) where
     -- one more entry, with a new key, is an insertion
-    pub overlay-push : overlay (es ++ (k, x) ∷ []) m ≡ insert (overlay es m) k (with_twin x (get m k))
+    overlay-push : overlay fs m ≡ insert (overlay es m) k (with_twin x (get m k))
     overlay-push = same_map hash_cmp-IsTotalOrder hash_cmp-IsAntisymmetric _ _ (λ q. grind (
       arith,
-      get-overlay (es ++ (k, x) ∷ []) m q,
+      get-overlay fs m q,
       get-overlay es m q,
       entry-append es k x q,
       get-insert hash_cmp-IsTotalOrder (overlay es m) k (with_twin x (get m k)) q,
@@ -63,7 +63,7 @@ module _ {X : Type 0} (join : X → X → X) where
 
     -- and this is what it adds to a sum
     pub sum-overlay : (f : X → ℕ)
-        → sum_by f (values (overlay (es ++ (k, x) ∷ []) m)) + unwrap_or (option_map f (get m k)) 0 ≡ sum_by f (values (overlay es m)) + f (with_twin x (get m k))
+        → sum_by f (values (overlay fs m)) + unwrap_or (option_map f (get m k)) 0 ≡ sum_by f (values (overlay es m)) + f (with_twin x (get m k))
     sum-overlay f =
         let before : get (overlay es m) k ≡ get m k = get-overlay es m k ∙ ap (λ o. either_joined o (get m k)) new in
         cc (overlay-push, before, sum-insert hash_cmp-IsTotalOrder hash_cmp-IsAntisymmetric f (overlay es m) k (with_twin x (get m k)))
@@ -81,8 +81,8 @@ pub shown_whole : {X Z : Type 0} (f : Z → X) (front rest all : List (DataHash 
     → map (shown f) front ++ shown f e ∷ map (shown f) rest ≡ map (shown f) all
 shown_whole f front rest all e whole = sym (map-append (shown f) front (e ∷ rest)) ∙ ap (map (shown f)) whole
 
-pub sum-entries : {X : Type 0} (f : X → ℕ) (es : List (DataHash × X)) (e : DataHash × X) → sum_by f (values_of (es ++ e ∷ [])) ≡ sum_by f (values_of es) + f e.1
-sum-entries f es e = ap (sum_by f) (map-append (λ d. d.1) es (e ∷ [])) ∙ sum_by_push f (values_of es) e.1
+pub sum-entries : {X : Type 0} (f : X → ℕ) (es fs : List (DataHash × X)) (e : DataHash × X) → fs ≡ es ++ e ∷ [] → sum_by f (values_of fs) ≡ sum_by f (values_of es) + f e.1
+sum-entries f es fs e push = ap (λ gs. sum_by f (values_of gs)) push ∙ ap (sum_by f) (map-append (λ d. d.1) es (e ∷ [])) ∙ sum_by_push f (values_of es) e.1
 
 -- of two xorbs with the same hash, the union has the other's
 abbrev pub other_xorb : MDBXorbInfo → MDBXorbInfo → MDBXorbInfo
@@ -136,19 +136,21 @@ can_join_united a b can = λ q r s own other.
     }
 
 -- whether shards may be united shows in the rows of their union, however they are counted
-module _ (a b : Shard) (files xorbs : ℕ) (files_are : (c : Shard) → IsUnion a b c → files ≡ total_rows file_records (values c.files))
-    (xorbs_are : (c : Shard) → IsUnion a b c → xorbs ≡ total_rows xorb_records (values c.xorbs)) where
+module _ (a b : Shard) (es : List (DataHash × MDBFileInfo)) (xs : List (DataHash × MDBXorbInfo)) (files xorbs : ℕ) (es_are : es ≡ entries a.files) (xs_are : xs ≡ entries a.xorbs)
+    (files_are : (m : FileMap) → ((q : DataHash) → get m q ≡ either_file (entry es q) (get b.files q)) → files ≡ total_rows file_records (values m))
+    (xorbs_are : (m : XorbMap) → ((q : DataHash) → get m q ≡ option_or (get b.xorbs q) (entry xs q)) → xorbs ≡ total_rows xorb_records (values m)) where
+  counted : (c : Shard) → IsUnion a b c → (files ≡ total_rows file_records (values c.files)) × (xorbs ≡ total_rows xorb_records (values c.xorbs))
+  counted c union = (files_are c.files (λ q. cc (union.files q, get-entries a.files q)), xorbs_are c.xorbs (λ q. cc (union.xorbs q, get-entries a.xorbs q)))
+
   pub unite_if_few : CanJoinFiles a.files b.files → files ≤ 4294967295 → xorbs ≤ 4294967295 → CanUnite a b
   unite_if_few joins few_files few_xorbs = record {
     same = λ q r s own other. (joins q r s own other).same;
-    rows = λ c union. record {
-      files = omega (arith, few_files, files_are c union);
-      xorbs = omega (arith, few_xorbs, xorbs_are c union);
-    };
+    rows = λ c union. let are = counted c union in record { files = omega arith; xorbs = omega arith };
   }
 
   pub few_if_unite : CanUnite a b → (files ≤ 4294967295) × (xorbs ≤ 4294967295)
   few_if_unite can =
       let union = union_exists a b in
       let few = can.rows (united_shard a b) union in
-      (omega (arith, few.files, files_are (united_shard a b) union), omega (arith, few.xorbs, xorbs_are (united_shard a b) union))
+      let are = counted (united_shard a b) union in
+      (omega arith, omega arith)

@@ -1,7 +1,6 @@
 use Rattle.std.proofs.Common.{◌≡◌, ◌+◌, sym, ap, ◌∙◌, subst, arith, map, Global}
 use Rattle.std.specs.Prelude.{option_map, unwrap_or}
 use Rattle.std.specs.declared.rc.Rc.{Rc}
-use Rattle.std.specs.Map.{values_of}
 use Rattle.std.specs.Map.Iter.{deref_pair}
 use Rattle.std.specs.FinMap.{get, values}
 use Rattle.xet_records.specs.declared.xorb_structs.MDBXorbInfo.{MDBXorbInfo}
@@ -31,15 +30,13 @@ loop-xorb_hash-preserved-then-not-contains c =
       all = entry_turned deref_pair _ c.loop-xorb_hash.yielded _ (c.in-Some.xorb_hash, c.in-Some.xorb) whole;
       rows = omega (
         arith,
-        ap (λ es. total_rows xorb_records (values (overlay other_xorb es c.args.other.now.xorbs))) push,
-        sum-overlay other_xorb front c.in-Some.xorb_hash.now xorb c.args.other.now.xorbs new xorb_row_count,
+        sum-overlay other_xorb front _ c.in-Some.xorb_hash.now xorb push c.args.other.now.xorbs new xorb_row_count,
         added,
         c.loop-xorb_hash.invariant.rows,
       );
       bound = omega (
         arith,
-        ap (λ es. total_rows xorb_records (values_of es)) push,
-        sum-entries xorb_row_count front (c.in-Some.xorb_hash.now, xorb),
+        sum-entries xorb_row_count front _ (c.in-Some.xorb_hash.now, xorb) push,
         counted,
         c.loop-xorb_hash.invariant.bound,
       );
@@ -59,15 +56,13 @@ loop-xorb_hash-preserved c =
       all = entry_turned deref_pair _ c.loop-xorb_hash.yielded _ (c.in-Some.xorb_hash, c.in-Some.xorb) whole;
       rows = omega (
         arith,
-        ap (λ es. total_rows xorb_records (values (overlay other_xorb es c.args.other.now.xorbs))) push,
-        sum-overlay other_xorb front c.in-Some.xorb_hash.now xorb c.args.other.now.xorbs new xorb_row_count,
+        sum-overlay other_xorb front _ c.in-Some.xorb_hash.now xorb push c.args.other.now.xorbs new xorb_row_count,
         rows_kept xorb twin (sym c.contains.ensures ∙ c.if-not-contains.false),
         c.loop-xorb_hash.invariant.rows,
       );
       bound = omega (
         arith,
-        ap (λ es. total_rows xorb_records (values_of es)) push,
-        sum-entries xorb_row_count front (c.in-Some.xorb_hash.now, xorb),
+        sum-entries xorb_row_count front _ (c.in-Some.xorb_hash.now, xorb) push,
         c.loop-xorb_hash.invariant.bound,
       );
     }
