@@ -1,18 +1,25 @@
 -- Loops over `Rc`s of xorbs, and sums over xorbs.
-use Rattle.std.proofs.Common.{◌≡◌, ℕ, ◌+◌, ◌*◌, ◌^◌, ◌<◌, ◌≤◌, List, [], ◌∷◌, ◌++◌, map, Option, Some, refl, ap, ◌∙◌, arith}
-use Rattle.std.specs.Prelude.{All, sum_by}
+use Rattle.std.proofs.Common.{T, sym, length, ◌≡◌, ℕ, ◌+◌, ◌*◌, ◌^◌, ◌<◌, ◌≤◌, List, [], ◌∷◌, ◌++◌, map, Option, Some, refl, ap, ◌∙◌, arith}
+use Rattle.std.specs.Prelude.{All, sum_by, option_map}
+use Rattle.std.specs.BTreeMap.{is_at}
+use Rattle.std.specs.FinMap.{get, from_sorted, is_sorted}
 use Rattle.std.specs.Borrow.{Bor}
-use Rattle.std.specs.Map.{values_of}
+use Rattle.std.specs.Map.{lookup, values_of}
 use Rattle.std.specs.Map.Iter.{TakesFirst, deref}
 use Rattle.std.specs.declared.rc.Rc.{Rc}
+use Rattle.std.proofs.lemmas.List.{length-map}
 use Rattle.std.proofs.lemmas.List.Elements.{All-drop, All-map}
 use Rattle.std.proofs.lemmas.List.Sums.{sum_by-cons}
+use Rattle.std.proofs.lemmas.Map.Made.{lookup-map_values}
 use Rattle.xet_base.specs.declared.merklehash.DataHash.{DataHash}
+use Rattle.xet_base.specs.Hash.{hash_cmp}
+use Rattle.xet_base.proofs.HashOrder.{hash_cmp-IsTotalOrder, hash_cmp-IsAntisymmetric}
 use Rattle.xet_records.specs.declared.xorb_structs.MDBXorbInfo.{MDBXorbInfo}
 use Rattle.xet_records.specs.XorbRecord.{xorb_records, xorb_row_count, IsXorb}
 use Rattle.xet_shards.specs.Section.{total_rows}
 use Rattle.xet_shards.specs.Shard.{AreXorbs}
 use Rattle.xet_shards.specs.XorbStore.{shown_xorbs}
+use Rattle.xet_shards.proofs.Maps.{found}
 use Rattle.xet_shards.proofs.Walks.{mapped_turn, sum-middle}
 
 module _ {Z : Type 0} where
@@ -26,6 +33,15 @@ module _ {Z : Type 0} where
   pub owned-values : (es : List (DataHash × Rc MDBXorbInfo Z)) → owned (values_of es) ≡ values_of (shown_xorbs es)
   owned-values [] = refl
   owned-values (e ∷ es) = ap (λ rs. e.1.value ∷ rs) (owned-values es)
+
+  pub length-shown : (es : List (DataHash × Rc MDBXorbInfo Z)) → length (shown_xorbs es) ≡ length es
+  length-shown es = length-map es (λ (e : DataHash × Rc MDBXorbInfo Z). (e.0, e.1.value))
+
+  -- what is found among `Rc`s is found among their xorbs
+  pub found_shown : (es : List (DataHash × Rc MDBXorbInfo Z)) (q : DataHash) → T (is_sorted hash_cmp (shown_xorbs es))
+      → option_map (λ (o : Rc MDBXorbInfo Z). o.value) (lookup (is_at (hash_cmp q)) es) ≡ get (from_sorted {R = hash_cmp} (shown_xorbs es)) q
+  found_shown es q sorted =
+      sym (lookup-map_values (λ (o : Rc MDBXorbInfo Z). o.value) (is_at (hash_cmp q)) es) ∙ found hash_cmp-IsTotalOrder hash_cmp-IsAntisymmetric (shown_xorbs es) q sorted
 
   pub seen_turn : (es : List (DataHash × Rc MDBXorbInfo Z)) (before : List (Bor (Rc MDBXorbInfo Z))) (s t : List (Rc MDBXorbInfo Z)) (r : Option (Bor (Rc MDBXorbInfo Z))) (x : Bor (Rc MDBXorbInfo Z))
       → map deref before ++ s ≡ values_of es → r ≡ Some x → TakesFirst deref s r t → seen before ++ x.now.value ∷ owned t ≡ values_of (shown_xorbs es)
