@@ -162,17 +162,14 @@ module _ (xs ys : List Shard) (a b : Shard) (first : IsJoinOf (Contains xs) a) (
       let d = united_shard a b in
       subst (IsUnion a b) (join-unique (Contains (xs ++ ys)) d c (join-append xs ys a b d first second lists_agree (union_exists a b)) join) (union_exists a b)
 
+some_agree : (A B : Shard → Type 0) → ((s : Shard) → A s → B s) → AgreePairwise B → AgreePairwise A
+some_agree A B into agree = record { shards = λ s member. agree.shards s (into s member); pairs = λ s t one other. agree.pairs s t (into s one) (into t other) }
+
 pub agree_left : (xs ys : List Shard) → AgreePairwise (Contains (xs ++ ys)) → AgreePairwise (Contains xs)
-agree_left xs ys agree = record {
-  shards = λ s member. agree.shards s (Contains-append_left xs ys s member);
-  pairs = λ s t one other. agree.pairs s t (Contains-append_left xs ys s one) (Contains-append_left xs ys t other);
-}
+agree_left xs ys = some_agree _ _ (Contains-append_left xs ys)
 
 pub agree_right : (xs ys : List Shard) → AgreePairwise (Contains (xs ++ ys)) → AgreePairwise (Contains ys)
-agree_right xs ys agree = record {
-  shards = λ s member. agree.shards s (Contains-append_right xs ys s member);
-  pairs = λ s t one other. agree.pairs s t (Contains-append_right xs ys s one) (Contains-append_right xs ys t other);
-}
+agree_right xs ys = some_agree _ _ (Contains-append_right xs ys)
 
 -- shards that agree pairwise have a join
 pub joins_exist : (ss : List Shard) → AgreePairwise (Contains ss) → (c : Shard) × IsJoinOf (Contains ss) c

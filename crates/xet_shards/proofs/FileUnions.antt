@@ -58,9 +58,9 @@ pub entry_of : {X : Type 0} (front rest all : List (DataHash × X)) (e : DataHas
 entry_of front rest all e whole sorted =
     get-from_sorted hash_cmp all e.0 sorted ∙ ap (λ es. entry es e.0) (sym whole) ∙ entry-here front rest e (subst (λ es. T (is_sorted hash_cmp es)) (sym whole) sorted)
 
-pub can_join_more : (es : List (DataHash × MDBFileInfo)) (e : DataHash × MDBFileInfo) (b : FileMap) → CanJoinEntries es b → ((s : MDBFileInfo) → get b e.0 ≡ Some s → CanJoinFile e.1 s)
-    → CanJoinEntries (es ++ e ∷ []) b
-can_join_more es e b before new = All-push (λ d. (s : MDBFileInfo) → get b d.0 ≡ Some s → CanJoinFile d.1 s) es e before new
+pub can_join_more : (es fs : List (DataHash × MDBFileInfo)) (e : DataHash × MDBFileInfo) (b : FileMap) → fs ≡ es ++ e ∷ [] → CanJoinEntries es b
+    → ((s : MDBFileInfo) → get b e.0 ≡ Some s → CanJoinFile e.1 s) → CanJoinEntries fs b
+can_join_more es fs e b push before new = subst (λ gs. CanJoinEntries gs b) (sym push) (All-push (λ d. (s : MDBFileInfo) → get b d.0 ≡ Some s → CanJoinFile d.1 s) es e before new)
 
 -- the record of this iteration
 pub record IsOwn (b : FileMap) (k : DataHash) (r m : MDBFileInfo) : Type 0 where

@@ -8,8 +8,7 @@ use Rattle.std.specs.Map.{lookup, values_of}
 use Rattle.std.specs.Map.Iter.{TakesFirst, deref}
 use Rattle.std.specs.declared.rc.Rc.{Rc}
 use Rattle.std.proofs.lemmas.List.{length-map}
-use Rattle.std.proofs.lemmas.List.Elements.{All-drop, All-map}
-use Rattle.std.proofs.lemmas.List.Sums.{sum_by-cons}
+use Rattle.std.proofs.lemmas.List.Elements.{All-map}
 use Rattle.std.proofs.lemmas.Map.Made.{lookup-map_values}
 use Rattle.xet_base.specs.declared.merklehash.DataHash.{DataHash}
 use Rattle.xet_base.specs.Hash.{hash_cmp}
@@ -19,6 +18,7 @@ use Rattle.xet_records.specs.XorbRecord.{xorb_records, xorb_row_count, IsXorb}
 use Rattle.xet_shards.specs.Section.{total_rows}
 use Rattle.xet_shards.specs.Shard.{AreXorbs}
 use Rattle.xet_shards.specs.XorbStore.{shown_xorbs}
+use Rattle.xet_shards.proofs.Files.{sum_bound}
 use Rattle.xet_shards.proofs.Maps.{found}
 use Rattle.xet_shards.proofs.Walks.{mapped_turn, sum-middle}
 
@@ -55,9 +55,7 @@ xorb_values es xorbs = All-map IsXorb (λ (e : DataHash × MDBXorbInfo). e.1) es
 -- each xorb has a row, and so no sum of numbers that fit `u32` passes `u64`
 pub xorbs_bound : (P : MDBXorbInfo → Type 0) (f : MDBXorbInfo → ℕ) → ((r : MDBXorbInfo) → P r → f r ≤ 4294967295) → (rs : List MDBXorbInfo) → All P rs
     → sum_by f rs ≤ 4294967295 * total_rows xorb_records rs
-xorbs_bound P f small [] xorbs = omega arith
-xorbs_bound P f small (r ∷ rs) xorbs =
-    omega (arith, sum_by-cons f r rs, sum_by-cons xorb_row_count r rs, small r (xorbs 0 r (omega arith)), xorbs_bound P f small rs (All-drop P 1 (r ∷ rs) xorbs))
+xorbs_bound P f small rs xorbs = sum_bound P f xorb_row_count (λ r is. omega (arith, small r is)) rs xorbs
 
 -- in a loop over their `Rc`s, the sum of such numbers with that of this iteration fits `u64`
 pub sum_fits : {Z : Type 0} (f : MDBXorbInfo → ℕ) → ((r : MDBXorbInfo) → IsXorb r → f r ≤ 4294967295)

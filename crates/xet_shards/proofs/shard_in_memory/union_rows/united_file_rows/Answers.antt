@@ -1,4 +1,4 @@
-use Rattle.std.proofs.Common.{◌≡◌, ◌+◌, [], ◌∷◌, Option, None, Some, sym, ap, ◌∙◌, arith, map, Bor}
+use Rattle.std.proofs.Common.{◌≡◌, ◌+◌, [], ◌∷◌, Option, Some, sym, ap, ◌∙◌, arith, map, Bor}
 use Rattle.std.specs.Prelude.{option_map, unwrap_or, IfSome}
 use Rattle.std.specs.Map.Iter.{deref_pair}
 use Rattle.std.specs.FinMap.{get, values}
@@ -19,8 +19,7 @@ rows_added-rows-requires-clause-own c =
     entry_holds (λ e. IsWellFormed e.1) _ _ _ _ whole c.requires.files.well_formed
 
 if_there : (P : MDBFileInfo → Type 0) (o : Option (Bor MDBFileInfo)) (p : Option MDBFileInfo) → option_map (λ t. t.now) o ≡ p → ((s : MDBFileInfo) → p ≡ Some s → P s) → IfSome o (λ t. P t.now)
-if_there P None p is holds = tt
-if_there P (Some t) p is holds = holds t.now (sym is)
+if_there P o p is holds = grind (arith, holds)
 
 pub rows_added-rows-requires-clause-same : goal.rows_added-rows-requires-clause-same
 rows_added-rows-requires-clause-same c =
