@@ -1,5 +1,5 @@
 -- Overlays of maps, in which values of the same key are joined, and the union of two shards made of them.
-use Rattle.std.proofs.Common.{◌≡◌, ℕ, ◌+◌, ◌≤◌, true, List, [], ◌∷◌, ◌++◌, Option, None, Some, refl, sym, ap, ◌∙◌, subst, is_some, arith, T, map}
+use Rattle.std.proofs.Common.{◌≡◌, ℕ, ◌+◌, ◌≤◌, List, [], ◌∷◌, ◌++◌, Option, None, Some, refl, sym, ap, ◌∙◌, subst, arith, T, map}
 use Rattle.std.specs.Prelude.{option_map, unwrap_or, sum_by}
 use Rattle.std.specs.Option.{option_or}
 use Rattle.std.specs.Map.{values_of}
@@ -12,7 +12,7 @@ use Rattle.xet_base.proofs.HashOrder.{hash_cmp-IsTotalOrder, hash_cmp-IsAntisymm
 use Rattle.xet_records.specs.declared.file_structs.MDBFileInfo.{MDBFileInfo}
 use Rattle.xet_records.specs.declared.xorb_structs.MDBXorbInfo.{MDBXorbInfo}
 use Rattle.xet_records.specs.FileRecord.{file_records, row_count}
-use Rattle.xet_records.specs.XorbRecord.{xorb_records, xorb_row_count}
+use Rattle.xet_records.specs.XorbRecord.{xorb_records}
 use Rattle.xet_records.specs.Merging.{merged}
 use Rattle.xet_shards.specs.Section.{total_rows}
 use Rattle.xet_shards.specs.Shard.{Shard, FileMap, XorbMap}
@@ -93,10 +93,6 @@ either_file_is o p = grind arith
 
 either_xorb_is : (o p : Option MDBXorbInfo) → either_joined other_xorb o p ≡ option_or p o
 either_xorb_is o p = grind arith
-
--- so an own xorb whose hash the other has adds no rows
-pub rows_kept : (x : MDBXorbInfo) (o : Option MDBXorbInfo) → is_some o ≡ true → xorb_row_count (with_twin other_xorb x o) ≡ unwrap_or (option_map xorb_row_count o) 0
-rows_kept x o there = grind arith
 
 -- the maps of a union
 pub are_united_files : (es : List (DataHash × MDBFileInfo)) (b c : FileMap) → ((q : DataHash) → get c q ≡ either_file (entry es q) (get b q)) → c ≡ overlay merged es b

@@ -52,8 +52,6 @@ returns c =
       arith,
       files_counted at,
       xorbs_counted at,
-      c.self.invariant.file_rows,
-      c.self.invariant.xorb_rows,
       xorb_rows-chunks xorbs,
       length-layout_of files xorbs None fit,
     )

@@ -23,7 +23,5 @@ loop-file_info-preserved c =
         arith,
         ap (λ rs. total_rows file_records rs) (values_push c.loop-file_info.yielded c.in-Some.file_info) ∙ sum_by_push row_count before file,
         row_count-whole file well.whole,
-        c.rows_after.ensures.rows,
-        c.loop-file_info.invariant.rows,
       );
     }

@@ -25,8 +25,5 @@ overflow_add-rows-in-loop-xorb c =
       arith,
       sum,
       sum-middle xorb_row_count (seen c.loop-xorb.yielded) (owned c.next.new.self) xorb,
-      c.len.ensures,
       ap (λ (r : MDBXorbInfo). length r.chunks) c.deref.ensures,
-      c.loop-xorb.invariant.rows,
-      c.requires.rows,
     ))

@@ -40,18 +40,8 @@ loop-file_hash-preserved c =
       can = tt;
       finite = tt;
       all = entry_turned deref_pair _ c.loop-file_hash.yielded _ entry whole;
-      rows = omega (
-        arith,
-        sum-overlay merged front _ c.in-Some.file_hash.now file push c.args.other.now (new_key _ _ _ _ whole c.requires.sorted) row_count,
-        added,
-        c.loop-file_hash.invariant.rows,
-      );
-      bound = omega (
-        arith,
-        sum-entries row_count front _ (c.in-Some.file_hash.now, file) push,
-        c.rows_added-rows.ensures.bound,
-        c.loop-file_hash.invariant.bound,
-      );
+      rows = omega (arith, sum-overlay merged front _ c.in-Some.file_hash.now file push c.args.other.now (new_key _ _ _ _ whole c.requires.sorted) row_count, added);
+      bound = omega (arith, sum-entries row_count front _ (c.in-Some.file_hash.now, file) push);
     }
 
 pub returns : goal.returns

@@ -36,7 +36,6 @@ write-requires-clause-rows g c =
       ap xorb_row_count c.xorb-item.is,
       ap xorb_row_count c.in_ok-marked.ensures.ok,
       rows_marked starts x,
-      c.requires.fit.rows,
     )
 
 pub loop-xorb-preserved : goal.loop-xorb-preserved
