@@ -1,7 +1,7 @@
 -- Rows of the chunk table, inserted into a set one after another.
 use Rattle.std.proofs.Common.{◌≡◌, ℕ, suc, ◌+◌, ◌<◌, cond, List, [], ◌∷◌, ◌++◌, map, length, flat_map, take, get_or, Some, refl, sym, ap, ◌∙◌, arith, append_assoc}
 use Rattle.std.specs.List.{enumerate_from}
-use Rattle.std.specs.Ordering.{eq_by_cmp, match_ordering}
+use Rattle.std.specs.Ordering.{eq_by_cmp}
 use Rattle.std.specs.declared.cmp.Ordering.{Ordering}
 use Rattle.std.specs.Map.{keys_of}
 use Rattle.std.specs.BTreeMap.{insert_entry}
@@ -20,13 +20,10 @@ use Rattle.xet_shards.proofs.Tables.{chunk_table_row_total, chunk_table_row_exac
 use Rattle.xet_shards.proofs.Walks.{flat_map-push}
 
 -- a key among the keys of a map
-key_cases : {K X : Type 0} (o : Ordering) (k x : K) (v w : X) (es fs : List (K × X)) (ks : List K) → keys_of fs ≡ ks
-    → keys_of (match_ordering o ((k, v) ∷ (x, w) ∷ es) ((x, v) ∷ es) ((x, w) ∷ fs)) ≡ match_ordering o (k ∷ x ∷ keys_of es) (x ∷ keys_of es) (x ∷ ks)
-key_cases o k x v w es fs ks same = grind arith
 
 keys-insert_entry : {K X : Type 0} (R : K → K → Ordering) (k : K) (v : X) (es : List (K × X)) → keys_of (insert_entry R es k v) ≡ insert_key R (keys_of es) k
 keys-insert_entry R k v [] = refl
-keys-insert_entry R k v (e ∷ es) = key_cases (R k e.0) k e.0 v e.1 es _ _ (keys-insert_entry R k v es)
+keys-insert_entry R k v (e ∷ es) = grind (arith, keys-insert_entry R k v es)
 
 abbrev pub alone : ChunkTableRow → ChunkTableRow × Unit {0}
 alone p = (p, tt)

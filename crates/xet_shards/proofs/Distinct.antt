@@ -1,7 +1,8 @@
 -- Distinct rows of a table: their sum, and that if they are as many as the rows with a property, they are all of these.
-use Rattle.std.proofs.Common.{◌≡◌, ◌≢◌, ◌⊎◌, inl, inr, ◌==◌, ltb, if◌then◌else◌, Bool, true, ℕ, zero, suc, ◌+◌, ◌<◌, ◌≤◌, List, [], ◌∷◌, ◌++◌, length, take, get_or, All, AllPairs, refl, sym, ap, ◌∙◌, arith}
+use Rattle.std.proofs.Common.{◌≡◌, ◌≢◌, ◌⊎◌, inl, inr, ◌==◌, ltb, if◌then◌else◌, Bool, true, ℕ, zero, suc, ◌+◌, ◌<◌, ◌≤◌, List, [], ◌∷◌, length, take, get_or, All, AllPairs, refl, sym, ap, ◌∙◌, arith}
 use Rattle.std.specs.Prelude.{sum_by, filter}
-use Rattle.std.proofs.lemmas.List.{take_all, take_more}
+use Rattle.std.proofs.Math.Seq.{take-suc}
+use Rattle.std.proofs.lemmas.List.{take_all}
 use Rattle.std.proofs.lemmas.List.Elements.{All-cons, All-drop, All-weaker, filter-append}
 use Rattle.std.proofs.lemmas.List.Sums.{sum_by-append, sum_by-cons}
 use Rattle.std.proofs.lemmas.Bool.{cases_eq, ne_eqb, cond-true, cond-false}
@@ -72,17 +73,8 @@ pub sum_marked : {X : Type 0} (p : X → Bool) (weight : X → ℕ) (xs : List X
 sum_marked p weight xs d zero within = refl
 sum_marked p weight xs d (suc n) within =
     let x = get_or xs n d in
-    let e : n + 1 ≡ suc n = omega arith in
-    let more : take (suc n) xs ≡ take n xs ++ x ∷ [] = ap (λ k. take k xs) (sym e) ∙ take_more xs n d (omega (arith, within)) in
-    let one : sum_by weight (filter p (x ∷ [])) ≡ (if p x then weight x else 0) = one_marked weight x (p x) in
-    omega (
-      arith,
-      sum_marked p weight xs d n (omega (arith, within)),
-      ap (λ ys. sum_by weight (filter p ys)) more,
-      ap (sum_by weight) (filter-append p (take n xs) (x ∷ [])),
-      sum_by-append weight (filter p (take n xs)) (filter p (x ∷ [])),
-      one,
-    )
+    rw (take-suc xs n d within, filter-append p (take n xs) (x ∷ []), sum_by-append weight (filter p (take n xs)) (filter p (x ∷ [])))
+    (omega (arith, sum_marked p weight xs d n (omega (arith, within)), one_marked weight x (p x)))
 
 -- a list of ones
 pub sum-of_ones : {X : Type 0} (f : X → ℕ) (xs : List X) → All (λ x. f x ≡ 1) xs → sum_by f xs ≡ length xs

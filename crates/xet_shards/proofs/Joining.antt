@@ -1,5 +1,5 @@
 -- Entries that a loop adds to a map: those that the map lacks, except for the hashes of another map.
-use Rattle.std.proofs.Common.{◌≡◌, ◌⊎◌, Bool, true, false, List, [], ◌∷◌, ◌++◌, Option, None, Some, refl, sym, ap, ◌∙◌, subst, cond, is_some, map, arith}
+use Rattle.std.proofs.Common.{◌≡◌, ◌⊎◌, true, false, List, [], ◌∷◌, ◌++◌, Option, None, Some, refl, sym, ap, ◌∙◌, subst, cond, is_some, map, arith}
 use Rattle.std.specs.Prelude.{All}
 use Rattle.std.proofs.lemmas.List.{map-append}
 use Rattle.std.specs.Option.{option_or}
@@ -19,13 +19,10 @@ module _ {X : Type 0} where
   pub or_none : (o : Option X) → option_or o None ≡ o
   or_none o = grind arith
 
-  either : (b : Bool) (x : X) (o p r : Option X) → o ≡ option_or p r → cond b (Some x) o ≡ option_or (cond b (Some x) p) r
-  either b x o p r same = grind arith
-
   pub entry-append : (es : List (DataHash × X)) (k : DataHash) (v : X) (q : DataHash)
       → entry (es ++ (k, v) ∷ []) q ≡ option_or (entry es q) (cond (eq_by_cmp hash_cmp q k) (Some v) None)
   entry-append [] k v q = refl
-  entry-append (e ∷ es) k v q = either (eq_by_cmp hash_cmp q e.0) e.1 _ _ _ (entry-append es k v q)
+  entry-append (e ∷ es) k v q = grind (arith, entry-append es k v q)
 
   -- an iteration that adds nothing, and one that adds an entry
   module _ (f : DataHash → Option X) (except m : FinMap hash_cmp X) (es fs : List (DataHash × X)) (k : DataHash) (v : X) (push : fs ≡ es ++ (k, v) ∷ [])
