@@ -3,7 +3,7 @@ use Rattle.std.proofs.Common.{◌≡◌, ◌+◌, length, false, T, List, [], �
 use Rattle.std.specs.Prelude.{All}
 use Rattle.std.specs.Option.{option_or}
 use Rattle.std.specs.Ordering.{eq_by_cmp, is_lt, is_eq, ordering_reverse}
-use Rattle.std.specs.FinMap.{FinMap, entries, get-entries, get, insert, empty, from_sorted, is_sorted, get-insert, get-empty, get-from_sorted}
+use Rattle.std.specs.FinMap.{FinMap, entries, get-entries, get, insert, from_sorted, is_sorted, get-insert, get-from_sorted}
 use Rattle.std.specs.FinMap.Entries.{below_all}
 use Rattle.std.proofs.lemmas.List.{length-append, get_or-append-add}
 use Rattle.std.proofs.lemmas.List.Elements.{All-push}
@@ -86,9 +86,6 @@ own_copied b k r m absent is formed = record {
 -- the loop has joined these entries with those of `b`
 abbrev pub IsMerged : List (DataHash × MDBFileInfo) → FileMap → FileMap → Type 0
 IsMerged es b c = (q : DataHash) → get c q ≡ own_file (entry es q) (get b q)
-
-pub merged-none : (b : FileMap) → IsMerged [] b empty
-merged-none b = λ q. get-empty hash_cmp q
 
 pub merged-more : (front rest : List (DataHash × MDBFileInfo)) (k : DataHash) (r m : MDBFileInfo) (b c : FileMap) → T (is_sorted hash_cmp (front ++ (k, r) ∷ rest))
     → Some m ≡ either_file (Some r) (get b k) → IsMerged front b c → IsMerged (front ++ (k, r) ∷ []) b (insert c k m)

@@ -49,9 +49,6 @@ module _ {X : Type 0} where
   pub but_found : (except : FinMap hash_cmp X) (f : DataHash → Option X) (q : DataHash) (v : X) → but except f q ≡ Some v → f q ≡ Some v
   but_found except f q v found = grind arith
 
-  pub but_empty : (f : DataHash → Option X) (q : DataHash) → but empty f q ≡ f q
-  but_empty f q = ap (λ o. cond (is_some o) None (f q)) (get-empty hash_cmp q)
-
   -- one entry and then the rest of a map
   pub replaced : (one n from : FinMap hash_cmp X) (k : DataHash) (v : X) → one ≡ insert empty k v → ((q : DataHash) → get n q ≡ option_or (get one q) (get from q)) → n ≡ insert from k v
   replaced one n from k v is joined = same_map hash_cmp-IsTotalOrder hash_cmp-IsAntisymmetric n (insert from k v) (λ q.

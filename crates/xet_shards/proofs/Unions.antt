@@ -14,7 +14,6 @@ use Rattle.xet_shards.specs.Shard.{Shard, IsShard, empty_shard, file_hash_of}
 use Rattle.xet_shards.specs.Joining.{either_file}
 use Rattle.xet_shards.specs.SetOperations.{IsUnion, IsDifference, ShardsAgree, HasFewRows, CanUnite}
 use Rattle.xet_shards.proofs.FileUnions.{holds_in_map}
-use Rattle.xet_shards.proofs.Joining.{but_empty}
 
 pub same_shard : (c d : Shard) → ((q : DataHash) → get c.files q ≡ get d.files q) → ((q : DataHash) → get c.xorbs q ≡ get d.xorbs q) → c ≡ d
 same_shard c d files xorbs = λ i. record {
@@ -87,7 +86,7 @@ union-of_empty a c union = same_shard c a (λ q. grind (arith, union.files q, no
 
 -- a shard before the empty one
 pub difference-of_empty : (a c : Shard) → IsDifference empty_shard a c → c ≡ a
-difference-of_empty a c rest = same_shard c a (λ q. rest.files q ∙ but_empty (get a.files) q) (λ q. rest.xorbs q ∙ but_empty (get a.xorbs) q)
+difference-of_empty a c rest = same_shard c a (λ q. grind (arith, rest.files q, no_file q)) (λ q. grind (arith, rest.xorbs q, no_xorb q))
 
 -- shards that agree can be united if the rows of their union fit `u32`
 pub agreeing_unite : (a b : Shard) → IsShard a → IsShard b → ShardsAgree a b → ((c : Shard) → IsUnion a b c → HasFewRows c) → CanUnite a b

@@ -1,5 +1,5 @@
 use Rattle.std.proofs.Common.{◌≡◌, [], ◌∷◌, sym, ap, ◌∙◌, subst, T}
-use Rattle.std.specs.FinMap.{get, insert, is_sorted}
+use Rattle.std.specs.FinMap.{get, get-empty, insert, is_sorted}
 use Rattle.std.specs.Map.Iter.{deref_pair}
 use Rattle.std.proofs.lemmas.List.{map-append}
 use Rattle.xet_base.specs.Hash.{hash_cmp}
@@ -9,12 +9,12 @@ use Rattle.xet_records.specs.Merging.{IsSameFile, merged}
 use Rattle.xet_shards.specs.Shard.{file_hash_of}
 use Rattle.xet_shards.specs.Joining.{entry, own_file}
 use Rattle.xet_shards.proofs.Walks.{entry_turn, entry_turned, entry_holds}
-use Rattle.xet_shards.proofs.FileUnions.{IsOwn, own_merged, own_copied, merged-none, merged-more, entry_of}
+use Rattle.xet_shards.proofs.FileUnions.{IsOwn, own_merged, own_copied, merged-more, entry_of}
 use Rattle.xet_shards.proofs.shard_in_memory.file_store.merged_files.Goals as goal
 use Rattle.xet_shards.proofs.shard_in_memory.file_store.merged_files.Goals.{Joined-get, in-Some-get+in_ok-merge_from, in_default}
 
 pub loop-file_hash-init : goal.loop-file_hash-init
-loop-file_hash-init c = record { can = tt; finite = tt; all = c.into_iter-file_hash-iterator.ensures.into_iter_gives.0; merged = λ q. ap (λ m. get m q) c.new-joined.ensures ∙ merged-none c.args.other.now q }
+loop-file_hash-init c = record { can = tt; finite = tt; all = c.into_iter-file_hash-iterator.ensures.into_iter_gives.0; merged = λ q. ap (λ m. get m q) c.new-joined.ensures ∙ get-empty hash_cmp q }
 
 -- the record that this iteration puts
 own : (c : Joined-get) → IsOwn c.args.other.now c.in-Some.file_hash.now c.in-Some.file_info.now c.match-get.copy
