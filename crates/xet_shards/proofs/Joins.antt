@@ -4,7 +4,7 @@ use Rattle.std.specs.Prelude.{◌↔◌, Contains, IsTrue, option_map, option_an
 use Rattle.std.specs.Option.{option_or}
 use Rattle.std.specs.FinMap.{get, get-empty}
 use Rattle.std.proofs.lemmas.List.Elements.{Contains-push, Contains-append_left, Contains-append_right, Contains-append_cases}
-use Rattle.std.proofs.lemmas.Option.{same_Some, none-some}
+use Rattle.std.proofs.lemmas.Option.{same_Some, none-some, option_and_then_some}
 use Rattle.xet_base.specs.declared.merklehash.DataHash.{DataHash}
 use Rattle.xet_base.specs.Hash.{hash_cmp}
 use Rattle.xet_records.specs.declared.file_structs.rows.FileDataSequenceEntry.{FileDataSequenceEntry}
@@ -99,9 +99,6 @@ module _ (q : DataHash) where
     present = grind (arith, one.present, other.present, described-merged r s);
   }
 
-  metadata-merged : (r s : MDBFileInfo) → HasPlainHeader r → HasPlainHeader s → (merged r s).metadata_ext ≡ option_or r.metadata_ext s.metadata_ext
-  metadata-merged r s one other = metadata_either (described r) (described s) r.metadata_ext s.metadata_ext one.present other.present
-
   -- the parts of the file of a union
   segments_either : (o p : Option MDBFileInfo) → option_map (λ (r : MDBFileInfo). r.segments) (either_file o p) ≡ option_or (option_map (λ r. r.segments) o) (option_map (λ r. r.segments) p)
   segments_either o p = grind arith
@@ -116,7 +113,8 @@ module _ (q : DataHash) where
       → option_and_then (λ (r : MDBFileInfo). r.metadata_ext) (either_file o p) ≡ option_or (option_and_then (λ r. r.metadata_ext) o) (option_and_then (λ r. r.metadata_ext) p)
   metadata_of_either None p first second = refl
   metadata_of_either (Some r) None first second = sym (or_none r.metadata_ext)
-  metadata_of_either (Some r) (Some s) first second = metadata-merged r s (first r refl) (second s refl)
+  metadata_of_either (Some r) (Some s) first second =
+      metadata_either (described r) (described s) r.metadata_ext s.metadata_ext (first r refl).present (second s refl).present
 
   plain_either : (o p : Option MDBFileInfo) → IsPlainFile o → IsPlainFile p → IsPlainFile (either_file o p)
   plain_either None p first second t is = second t is
@@ -135,18 +133,16 @@ module _ (q : DataHash) where
 
   pub same_verification : (o p : Option MDBFileInfo) → ((r s : MDBFileInfo) → o ≡ Some r → p ≡ Some s → Agree r s) → (x y : List FileVerificationEntry)
       → option_and_then verification_of o ≡ Some x → option_and_then verification_of p ≡ Some y → x ≡ y
-  same_verification None p agree x y one other = absurd (none-some x one)
-  same_verification (Some r) None agree x y one other = absurd (none-some y other)
-  same_verification (Some r) (Some s) agree x y one other = same_rows (verified r) (verified s) x y r.verification s.verification (agree r s refl refl).verification one other
+  same_verification o p agree x y one other =
+      option_and_then_some verification_of o x one (λ r at mine. option_and_then_some verification_of p y other (λ s there others.
+      same_rows (verified r) (verified s) x y r.verification s.verification (agree r s at there).verification mine others))
 
   pub same_metadata : (o p : Option MDBFileInfo) → IsPlainFile o → IsPlainFile p
       → ((r s : MDBFileInfo) → o ≡ Some r → p ≡ Some s → Agree r s) → (x y : FileMetadataExt)
       → option_and_then (λ (r : MDBFileInfo). r.metadata_ext) o ≡ Some x → option_and_then (λ (r : MDBFileInfo). r.metadata_ext) p ≡ Some y → x ≡ y
-  same_metadata None p first second agree x y one other = absurd (none-some x one)
-  same_metadata (Some r) None first second agree x y one other = absurd (none-some y other)
-  same_metadata (Some r) (Some s) first second agree x y one other =
-      same_Some x y (sym one ∙ (agree r s refl refl).metadata_ext
-      (sym (first r refl).present ∙ ap is_some one) (sym (second s refl).present ∙ ap is_some other) ∙ other)
+  same_metadata o p first second agree x y one other =
+      option_and_then_some (λ r. r.metadata_ext) o x one (λ r at mine. option_and_then_some (λ s. s.metadata_ext) p y other (λ s there others.
+      same_Some x y (sym mine ∙ (agree r s at there).metadata_ext (sym (first r at).present ∙ ap is_some mine) (sym (second s there).present ∙ ap is_some others) ∙ others)))
 
 -- each file of a shard is determined by its parts
 pub follows_parts : (s : Shard) → IsShard s → FollowsParts s

@@ -1,6 +1,6 @@
 -- Sums over a map, and over a map with some of its entries.
 use Rattle.std.proofs.Common.{◌≡◌, ℕ, ◌+◌, ◌≤◌, false, List, [], ◌∷◌, Some, None, T, refl, ap, ◌∙◌, arith, cond}
-use Rattle.std.specs.Prelude.{All, option_map, unwrap_or, sum_by}
+use Rattle.std.specs.Prelude.{All, sum_by}
 use Rattle.std.specs.Ordering.{eq_by_cmp}
 use Rattle.std.specs.declared.cmp.Ordering.{Ordering}
 use Rattle.std.specs.Cmp.{IsTotalOrder}
@@ -36,12 +36,7 @@ module _ {K X : Type 0} {R : K → K → Ordering} (total : IsTotalOrder R) (exa
 
   -- a sum is that of one value and of the rest
   pub sum-remove : (f : X → ℕ) (m : FinMap R X) (k : K) (v : X) → get m k ≡ Some v → sum_by f (values m) ≡ sum_by f (values (remove m k)) + f v
-  sum-remove f m k v here = omega (
-    arith,
-    sum-insert total exact f (remove m k) k v,
-    ap (λ n. sum_by f (values n)) (put_back m k v here),
-    ap (λ o. unwrap_or (option_map f o) 0) (removed m k),
-  )
+  sum-remove f m k v here = grind (arith, sum-insert total exact f (remove m k) k v, put_back m k v here, removed m k)
 
   -- no value is more than the sum
   pub part-le-sum : (f : X → ℕ) (m : FinMap R X) (k : K) (v : X) → get m k ≡ Some v → f v ≤ sum_by f (values m)
