@@ -1,11 +1,11 @@
 -- Joins of shards that agree pairwise: they agree with each other, exist, and are shards if their rows are few; with more
 -- shards a join has no fewer rows.
-use Rattle.std.proofs.Common.{◌≡◌, ◌≤◌, Bool, true, false, List, [], ◌∷◌, ◌++◌, length, Option, None, Some, is_some, refl, sym, ap, ◌∙◌, subst, if◌then◌else◌, true≢false, arith}
-use Rattle.std.specs.Prelude.{Contains, IsTrue, option_map, option_and_then, option_to_list}
+use Rattle.std.proofs.Common.{◌≡◌, ◌≤◌, Bool, false, List, [], ◌∷◌, ◌++◌, length, Option, None, Some, is_some, refl, sym, ap, ◌∙◌, subst, if◌then◌else◌, arith}
+use Rattle.std.specs.Prelude.{All, Contains, IsTrue, option_map, option_and_then, option_to_list}
 use Rattle.std.specs.Option.{option_or}
-use Rattle.std.specs.FinMap.{get, entries, get-entries}
+use Rattle.std.specs.FinMap.{get, entries}
 use Rattle.std.proofs.lemmas.List.Elements.{Contains-push, Contains-append_left, Contains-append_right}
-use Rattle.std.proofs.lemmas.Option.{same_Some, none-some}
+use Rattle.std.proofs.lemmas.Option.{same_Some}
 use Rattle.xet_base.specs.declared.merklehash.DataHash.{DataHash}
 use Rattle.xet_base.proofs.HashOrder.{hash_cmp-IsTotalOrder, hash_cmp-IsAntisymmetric}
 use Rattle.xet_records.specs.declared.file_structs.rows.FileVerificationEntry.{FileVerificationEntry}
@@ -20,7 +20,7 @@ use Rattle.xet_shards.specs.Shard.{Shard, IsShard, file_hash_of, xorb_hash_of}
 use Rattle.xet_shards.specs.Joining.{either_file}
 use Rattle.xet_shards.specs.SetOperations.{IsUnion, ShardsAgree, HasFewRows}
 use Rattle.xet_shards.specs.Joins.{verification_of, segments_under, verification_under, metadata_under, HasWhatAnyHas, FollowsParts, IsJoinOf, AgreePairwise}
-use Rattle.xet_shards.proofs.FileUnions.{entry-holds}
+use Rattle.xet_shards.proofs.FileUnions.{holds_in_map}
 use Rattle.xet_shards.proofs.Sums.{all_of_map, part-le-sum, sum-below}
 use Rattle.xet_shards.proofs.Unions.{IsKnown, known}
 use Rattle.xet_shards.proofs.Overlays.{united_shard, union_exists}
@@ -31,8 +31,7 @@ verification_is : (r : MDBFileInfo) → IsTrue (verified r) → verification_of 
 verification_is r has = ap (λ (v : Bool). if v then Some r.verification else None) has
 
 row_is : (o : Option FileMetadataExt) → IsTrue (is_some o) → (x : FileMetadataExt) × (o ≡ Some x)
-row_is None has = absurd (true≢false (sym has))
-row_is (Some x) has = (x, refl)
+row_is o has = grind arith
 
 -- agreement of each shard of a set with each of another passes to their joins
 module _ (A B : Shard → Type 0) (a b : Shard) (first : IsJoinOf A a) (second : IsJoinOf B b)
@@ -74,20 +73,16 @@ module _ (A C : Shard → Type 0) (a c : Shard) (few : IsJoinOf A a) (more : IsJ
   has_more part one other x at = let found = (one x).0 at in (other x).1 (found.0, into found.0 found.1, found.2)
 
   file_there : (o : Option MDBFileInfo) (xs : _) → option_map (λ (r : MDBFileInfo). r.segments) o ≡ Some xs → (t : MDBFileInfo) × (o ≡ Some t) × (t.segments ≡ xs)
-  file_there None xs is = absurd (none-some xs is)
-  file_there (Some t) xs is = (t, refl, same_Some t.segments xs is)
+  file_there o xs is = grind arith
 
   verification_there : (v : Bool) (xs ys : List FileVerificationEntry) → (if v then Some xs else None) ≡ Some ys → xs ≡ ys
-  verification_there true xs ys is = same_Some xs ys is
-  verification_there false xs ys is = absurd (none-some ys is)
+  verification_there v xs ys is = grind arith
 
   few_verification : (v : Bool) (xs ys : List FileVerificationEntry) → (v ≡ false → xs ≡ []) → (IsTrue v → ys ≡ xs) → length xs ≤ length ys
-  few_verification true xs ys absent same = omega (arith, ap length (same refl))
-  few_verification false xs ys absent same = omega (arith, ap length (absent refl))
+  few_verification v xs ys absent same = grind arith
 
   few_metadata : (o p : Option FileMetadataExt) → ((x : FileMetadataExt) → o ≡ Some x → p ≡ Some x) → length (option_to_list o) ≤ length (option_to_list p)
-  few_metadata None p same = omega arith
-  few_metadata (Some x) p same = omega (arith, ap (λ r. length (option_to_list r)) (same x refl))
+  few_metadata o p same = grind arith
 
   file_more : (q : DataHash) (r : MDBFileInfo) → get a.files q ≡ Some r → (t : MDBFileInfo) × (get c.files q ≡ Some t) × (row_count r ≤ row_count t)
   file_more q r at =
@@ -112,21 +107,9 @@ module _ (A C : Shard → Type 0) (a c : Shard) (few : IsJoinOf A a) (more : IsJ
   }
 
 -- the union of two shards that agree is a shard if its rows fit `u32`
-record IsKnownXorb (q : DataHash) (r : MDBXorbInfo) : Type 0 where
-  pub keyed : q ≡ xorb_hash_of r
-  pub well_formed : IsXorb r
-
-known_xorb : (s : Shard) (q : DataHash) (r : MDBXorbInfo) → IsShard s → get s.xorbs q ≡ Some r → IsKnownXorb q r
-known_xorb s q r shard at =
-    let found = sym (get-entries s.xorbs q) ∙ at in
-    record {
-      keyed = entry-holds (λ e. e.0 ≡ xorb_hash_of e.1) (entries s.xorbs) q r shard.xorbs.keyed found;
-      well_formed = entry-holds (λ e. IsXorb e.1) (entries s.xorbs) q r shard.xorbs.well_formed found;
-    }
 
 either_known : (P : MDBXorbInfo → Type 0) (o p : Option MDBXorbInfo) → ((r : MDBXorbInfo) → o ≡ Some r → P r) → ((r : MDBXorbInfo) → p ≡ Some r → P r) → (r : MDBXorbInfo) → option_or p o ≡ Some r → P r
-either_known P o None first second r is = first r is
-either_known P o (Some x) first second r is = second r is
+either_known P o p first second r is = grind arith
 
 known_either : (q : DataHash) (o p : Option MDBFileInfo) (t : MDBFileInfo) → ((r : MDBFileInfo) → o ≡ Some r → IsKnown q r) → ((r : MDBFileInfo) → p ≡ Some r → IsKnown q r)
     → ((r s : MDBFileInfo) → o ≡ Some r → p ≡ Some s → Agree r s) → row_count t ≤ 4294967295 → either_file o p ≡ Some t → IsKnown q t
@@ -148,8 +131,9 @@ module _ (a b c : Shard) (first : IsShard a) (second : IsShard b) (agree : Shard
   file_known q t at = known_either q (get a.files q) (get b.files q) t (λ r. known a q r first) (λ r. known b q r second) (agree.files q)
       (omega (arith, few.files, part-le-sum hash_cmp-IsTotalOrder hash_cmp-IsAntisymmetric row_count c.files q t at)) (sym (union.files q) ∙ at)
 
-  xorb_known : (q : DataHash) (t : MDBXorbInfo) → get c.xorbs q ≡ Some t → IsKnownXorb q t
-  xorb_known q t at = either_known (IsKnownXorb q) (get a.xorbs q) (get b.xorbs q) (λ r. known_xorb a q r first) (λ r. known_xorb b q r second) t (sym (union.xorbs q) ∙ at)
+  of_xorbs : (P : DataHash × MDBXorbInfo → Type 0) → All P (entries a.xorbs) → All P (entries b.xorbs) → All P (entries c.xorbs)
+  of_xorbs P own other = all_of_map hash_cmp-IsTotalOrder hash_cmp-IsAntisymmetric P c.xorbs (λ q t at.
+      either_known (λ r. P (q, r)) (get a.xorbs q) (get b.xorbs q) (λ r. holds_in_map P a.xorbs q r own) (λ r. holds_in_map P b.xorbs q r other) t (sym (union.xorbs q) ∙ at))
 
   pub union_is_shard : IsShard c
   union_is_shard = record {
@@ -159,8 +143,8 @@ module _ (a b c : Shard) (first : IsShard a) (second : IsShard b) (agree : Shard
     };
     file_rows = few.files;
     xorbs = record {
-      keyed = all_of_map hash_cmp-IsTotalOrder hash_cmp-IsAntisymmetric (λ e. e.0 ≡ xorb_hash_of e.1) c.xorbs (λ q t at. (xorb_known q t at).keyed);
-      well_formed = all_of_map hash_cmp-IsTotalOrder hash_cmp-IsAntisymmetric (λ e. IsXorb e.1) c.xorbs (λ q t at. (xorb_known q t at).well_formed);
+      keyed = of_xorbs (λ e. e.0 ≡ xorb_hash_of e.1) first.xorbs.keyed second.xorbs.keyed;
+      well_formed = of_xorbs (λ e. IsXorb e.1) first.xorbs.well_formed second.xorbs.well_formed;
     };
     xorb_rows = few.xorbs;
   }
@@ -178,23 +162,18 @@ module _ (xs ys : List Shard) (a b : Shard) (first : IsJoinOf (Contains xs) a) (
       let d = united_shard a b in
       subst (IsUnion a b) (join-unique (Contains (xs ++ ys)) d c (join-append xs ys a b d first second lists_agree (union_exists a b)) join) (union_exists a b)
 
+some_agree : (A B : Shard → Type 0) → ((s : Shard) → A s → B s) → AgreePairwise B → AgreePairwise A
+some_agree A B into agree = record { shards = λ s member. agree.shards s (into s member); pairs = λ s t one other. agree.pairs s t (into s one) (into t other) }
+
 pub agree_left : (xs ys : List Shard) → AgreePairwise (Contains (xs ++ ys)) → AgreePairwise (Contains xs)
-agree_left xs ys agree = record {
-  shards = λ s member. agree.shards s (Contains-append_left xs ys s member);
-  pairs = λ s t one other. agree.pairs s t (Contains-append_left xs ys s one) (Contains-append_left xs ys t other);
-}
+agree_left xs ys = some_agree _ _ (Contains-append_left xs ys)
 
 pub agree_right : (xs ys : List Shard) → AgreePairwise (Contains (xs ++ ys)) → AgreePairwise (Contains ys)
-agree_right xs ys agree = record {
-  shards = λ s member. agree.shards s (Contains-append_right xs ys s member);
-  pairs = λ s t one other. agree.pairs s t (Contains-append_right xs ys s one) (Contains-append_right xs ys t other);
-}
+agree_right xs ys = some_agree _ _ (Contains-append_right xs ys)
 
 -- shards that agree pairwise have a join
 pub joins_exist : (ss : List Shard) → AgreePairwise (Contains ss) → (c : Shard) × IsJoinOf (Contains ss) c
-joins_exist [] agree = (_, join-none (Contains []) no_member) where
-  no_member : (t : Shard) → ¬ Contains {X = Shard} [] t
-  no_member t (k, below, is) = absurd (omega (arith, below))
+joins_exist [] agree = (_, join-none)
 joins_exist (s ∷ ss) agree =
     let rest = joins_exist ss (agree_right (s ∷ []) ss agree) in
     let one = join-one s (follows_parts s (agree.shards s (Contains-append_left (s ∷ []) ss s (Contains-push [] s)))) in

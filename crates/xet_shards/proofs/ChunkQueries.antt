@@ -3,19 +3,15 @@ use Rattle.std.proofs.Common.{◌≡◌, ℕ, ◌+◌, ◌≤◌, Bool, List, []
 use Rattle.std.specs.Prelude.{option_map, slice_get}
 use Rattle.std.specs.List.{zip, prefix_len}
 use Rattle.std.specs.FinMap.{get}
-use Rattle.std.specs.HashMap as hash_map
-use Rattle.std.specs.declared.rc.Rc.{Rc}
 use Rattle.std.proofs.lemmas.Option.{none-some, same_Some}
 use Rattle.std.proofs.lemmas.List.Sums.{sum_by-take-le, sum_by-take-drop}
 use Rattle.xet_base.specs.declared.merklehash.DataHash.{DataHash}
 use Rattle.xet_base.specs.Hash.{hash_eq}
 use Rattle.xet_base.specs.KeyedHash.{no_key}
 use Rattle.xet_records.specs.declared.xorb_structs.XorbChunkSequenceEntry.{XorbChunkSequenceEntry}
-use Rattle.xet_records.specs.declared.xorb_structs.MDBXorbInfo.{MDBXorbInfo}
 use Rattle.xet_records.specs.XorbRecord.{total_bytes}
 use Rattle.xet_shards.specs.ChunkLookup.{ChunkLocation, LocationMap, IsChunkLookup}
 use Rattle.xet_shards.specs.Shard.{XorbMap}
-use Rattle.xet_shards.specs.XorbStore.{shown_location, location_in}
 use Rattle.xet_shards.specs.ChunkQuery.{run_length, run_at, query_answer, IsUnknown}
 use Rattle.xet_shards.proofs.ChunkLookups.{chunk_within}
 
@@ -34,12 +30,7 @@ bytes_of_part cs start most count =
     let size = λ (c : XorbChunkSequenceEntry). c.unpacked_segment_bytes in
     omega (arith, sum_by-take-le size (take most (drop start cs)) count, sum_by-take-le size (drop start cs) most, sum_by-take-drop size cs start)
 
--- what is found in the fields is in the lookup as contracts see it
-pub location_kept : {S Z : Type 0} (m : hash_map.HashMap DataHash (Rc MDBXorbInfo Z × ℕ) S) (locations : LocationMap) (q : DataHash) (e : Rc MDBXorbInfo Z × ℕ)
-    → ((k : DataHash) → location_in m k ≡ get locations k) → Some e ≡ hash_map.get hash_eq m q → get locations q ≡ Some (shown_location e)
-location_kept m locations q e same found = sym (same q) ∙ ap (option_map shown_location) (sym found)
-
--- and its index is within the xorb's chunks
+-- the index of a location is within the xorb's chunks
 pub location_within : (xorbs : XorbMap) (locations : LocationMap) (q : DataHash) (p : ChunkLocation) → IsChunkLookup xorbs (get locations) → get locations q ≡ Some p → p.1 ≤ length p.0.chunks
 location_within xorbs locations q p lookup kept = omega (arith, chunk_within p.0.chunks p.1 q (lookup.present q p kept).chunk)
 
@@ -47,10 +38,6 @@ location_within xorbs locations q p lookup kept = omega (arith, chunk_within p.0
 pub answer_kept : (locations : LocationMap) (qs : List DataHash) (q : DataHash) (p : ChunkLocation) → Some q ≡ slice_get qs 0 → get locations q ≡ Some p → Some (run_at no_key p qs) ≡ query_answer locations qs
 answer_kept locations [] q p first kept = absurd (none-some q (sym first))
 answer_kept locations (r ∷ qs) q p first kept = ap (option_map (λ s. run_at no_key s (r ∷ qs))) (sym kept ∙ ap (get locations) (same_Some q r first))
-
-pub nothing_kept : {S Z : Type 0} (m : hash_map.HashMap DataHash (Rc MDBXorbInfo Z × ℕ) S) (locations : LocationMap) (q : DataHash)
-    → ((k : DataHash) → location_in m k ≡ get locations k) → None ≡ hash_map.get hash_eq m q → get locations q ≡ None
-nothing_kept m locations q same found = sym (same q) ∙ ap (option_map shown_location) (sym found)
 
 -- if the lookup has no location, no xorb has the chunk
 pub unknown : (xorbs : XorbMap) (locations : LocationMap) (qs : List DataHash) (q : DataHash) → IsChunkLookup xorbs (get locations) → Some q ≡ slice_get qs 0 → get locations q ≡ None → IsUnknown xorbs qs

@@ -1,9 +1,8 @@
 -- Rows of the chunk table, inserted into a set one after another.
-use Rattle.std.proofs.Common.{◌≡◌, ℕ, suc, ◌+◌, ◌<◌, Bool, true, false, cond, List, [], ◌∷◌, ◌++◌, map, length, flat_map, take, get_or, Option, Some, refl, sym, ap, ◌∙◌, arith, append_assoc}
+use Rattle.std.proofs.Common.{◌≡◌, ℕ, suc, ◌+◌, ◌<◌, cond, List, [], ◌∷◌, ◌++◌, map, length, flat_map, take, get_or, Some, refl, sym, ap, ◌∙◌, arith, append_assoc}
 use Rattle.std.specs.List.{enumerate_from}
-use Rattle.std.specs.Ordering.{eq_by_cmp, match_ordering}
+use Rattle.std.specs.Ordering.{eq_by_cmp}
 use Rattle.std.specs.declared.cmp.Ordering.{Ordering}
-use Rattle.std.specs.declared.cmp.Ordering.TheVariants.{Less, Equal, Greater}
 use Rattle.std.specs.Map.{keys_of}
 use Rattle.std.specs.BTreeMap.{insert_entry}
 use Rattle.std.specs.BTreeSet.{insert_key}
@@ -21,21 +20,10 @@ use Rattle.xet_shards.proofs.Tables.{chunk_table_row_total, chunk_table_row_exac
 use Rattle.xet_shards.proofs.Walks.{flat_map-push}
 
 -- a key among the keys of a map
-key_cases : {K X : Type 0} (o : Ordering) (k x : K) (v w : X) (es fs : List (K × X)) (ks : List K) → keys_of fs ≡ ks
-    → keys_of (match_ordering o ((k, v) ∷ (x, w) ∷ es) ((x, v) ∷ es) ((x, w) ∷ fs)) ≡ match_ordering o (k ∷ x ∷ keys_of es) (x ∷ keys_of es) (x ∷ ks)
-key_cases Less k x v w es fs ks same = refl
-key_cases Equal k x v w es fs ks same = refl
-key_cases Greater k x v w es fs ks same = ap (λ qs. x ∷ qs) same
 
 keys-insert_entry : {K X : Type 0} (R : K → K → Ordering) (k : K) (v : X) (es : List (K × X)) → keys_of (insert_entry R es k v) ≡ insert_key R (keys_of es) k
 keys-insert_entry R k v [] = refl
-keys-insert_entry R k v (e ∷ es) = key_cases (R k e.0) k e.0 v e.1 es _ _ (keys-insert_entry R k v es)
-
-either_first : {X : Type 0} (a b : Bool) (x : X) (o : Option X) → cond a (Some x) (cond b (Some x) o) ≡ cond b (Some x) (cond a (Some x) o)
-either_first true true x o = refl
-either_first true false x o = refl
-either_first false true x o = refl
-either_first false false x o = refl
+keys-insert_entry R k v (e ∷ es) = grind (arith, keys-insert_entry R k v es)
 
 abbrev pub alone : ChunkTableRow → ChunkTableRow × Unit {0}
 alone p = (p, tt)
@@ -47,8 +35,7 @@ module _ {K : Type 0} (R : K → K → Ordering) (total : IsTotalOrder R) (exact
 
   find-push : (q p : K) (ps : List K) → find R q (map keyed (ps ++ p ∷ [])) ≡ cond (eq_by_cmp R q p) (Some (tt {0})) (find R q (map keyed ps))
   find-push q p [] = refl
-  find-push q p (x ∷ ps) =
-      ap (cond (eq_by_cmp R q x) (Some (tt {0}))) (find-push q p ps) ∙ either_first (eq_by_cmp R q x) (eq_by_cmp R q p) tt (find R q (map keyed ps))
+  find-push q p (x ∷ ps) = grind (arith, find-push q p ps)
 
   -- one more key is inserted in order
   pub keys-push : (ps : List K) (p : K) → insert_key R (keys (from_entries {R = R} (map keyed ps))) p ≡ keys (from_entries {R = R} (map keyed (ps ++ p ∷ [])))

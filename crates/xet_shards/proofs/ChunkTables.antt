@@ -1,10 +1,8 @@
 -- The chunk table in written bytes, and what a search in it finds.
-use Rattle.std.proofs.Common.{◌≡◌, ◌≢◌, inl, inr, true≢false, true, ℕ, ◌<◌, ◌≤◌, List, [], ◌∷◌, ◌++◌, Ok, Err, length, drop, map, flat_map, get_or, min, refl, sym, ap, ◌∙◌, subst, append_assoc, arith}
+use Rattle.std.proofs.Common.{◌≡◌, ◌≢◌, true, ℕ, ◌<◌, ◌≤◌, List, [], ◌∷◌, ◌++◌, Ok, Err, length, drop, map, flat_map, get_or, min, refl, sym, ap, ◌∙◌, subst, append_assoc, arith}
 use Rattle.std.specs.Prelude.{All, Contains, MatchResult, IfOk, IfErr}
 use Rattle.std.specs.declared.result.Result.{Result}
 use Rattle.std.specs.declared.cmp.Ordering.TheVariants.{Less}
-use Rattle.std.specs.Ordering.{is_eq}
-use Rattle.std.proofs.lemmas.Bool.{cases_lt}
 use Rattle.std.proofs.lemmas.Cmp.{tied_itself}
 use Rattle.std.proofs.lemmas.List.{get_or-map, length-map, length-append}
 use Rattle.std.proofs.lemmas.List.Elements.{All-weaker, All-drop, All-map, Contains-get_or}
@@ -50,22 +48,11 @@ module _ (xorbs : List MDBXorbInfo) where
   rows_ascend : (i j : ℕ) → i < j → j < length (chunk_table xorbs) → (get_or (chunk_table xorbs) i no_table_row).word ≤ (get_or (chunk_table xorbs) j no_table_row).word
   rows_ascend i j less below = first_ascends _ _ _ (before i j less below)
 
-  not_before_itself : (p q : ChunkTableRow) → chunk_table_row_cmp p q ≡ Less → p ≢ q
-  not_before_itself p q less same = true≢false (sym (tied_itself' q) ∙ ap is_eq (ap (λ r. chunk_table_row_cmp r q) (sym same) ∙ less))
-    where
-      tied_itself' : (r : ChunkTableRow) → is_eq (chunk_table_row_cmp r r) ≡ true
-      tied_itself' r = ap is_eq (tied_itself chunk_table_row_total r)
-
   -- rows at different indices differ
   pub rows_differ : (i j : ℕ) → i < length (chunk_table xorbs) → j < length (chunk_table xorbs) → i ≢ j
       → get_or (chunk_table xorbs) i no_table_row ≢ get_or (chunk_table xorbs) j no_table_row
-  rows_differ i j i_in j_in other same = elim (cases_lt i j) [
-    | inl less ↦ not_before_itself _ _ (before i j less j_in) same
-    | inr not_less ↦ elim (cases_lt j i) [
-      | inl greater ↦ not_before_itself _ _ (before j i greater i_in) (sym same)
-      | inr not_greater ↦ other (omega (arith, not_less, not_greater))
-    ]
-  ]
+  rows_differ i j i_in j_in other same =
+      grind (arith, before i j, before j i, tied_itself chunk_table_row_total (get_or (chunk_table xorbs) i no_table_row))
 
 module _ (files : List MDBFileInfo) (xorbs : List MDBXorbInfo) (form : Form) (old : Source) (footer : MDBShardFileFooter) (is : IsInForm files xorbs form old.bytes footer)
     (with_table : form.chunk_table ≡ true) where

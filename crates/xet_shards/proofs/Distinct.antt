@@ -1,10 +1,11 @@
 -- Distinct rows of a table: their sum, and that if they are as many as the rows with a property, they are all of these.
-use Rattle.std.proofs.Common.{◌≡◌, ◌≢◌, ◌⊎◌, inl, inr, ◌==◌, if◌then◌else◌, Bool, true, false, ℕ, zero, suc, ◌+◌, ◌<◌, ◌≤◌, List, [], ◌∷◌, ◌++◌, length, take, get_or, All, AllPairs, refl, sym, ap, ◌∙◌, arith}
+use Rattle.std.proofs.Common.{◌≡◌, ◌≢◌, ◌⊎◌, inl, inr, ◌==◌, ltb, if◌then◌else◌, Bool, true, ℕ, zero, suc, ◌+◌, ◌<◌, ◌≤◌, List, [], ◌∷◌, length, take, get_or, All, AllPairs, refl, sym, ap, ◌∙◌, arith}
 use Rattle.std.specs.Prelude.{sum_by, filter}
-use Rattle.std.proofs.lemmas.List.{take_all, take_more}
-use Rattle.std.proofs.lemmas.List.Elements.{All-drop, All-weaker, filter-append}
+use Rattle.std.proofs.Math.Seq.{take-suc}
+use Rattle.std.proofs.lemmas.List.{take_all}
+use Rattle.std.proofs.lemmas.List.Elements.{All-cons, All-drop, All-weaker, filter-append}
 use Rattle.std.proofs.lemmas.List.Sums.{sum_by-append, sum_by-cons}
-use Rattle.std.proofs.lemmas.Bool.{cases_eq, eq-eqb, ne_eqb, cond-true, cond-false}
+use Rattle.std.proofs.lemmas.Bool.{cases_eq, ne_eqb, cond-true, cond-false}
 use Rattle.xet_base.specs.Table.{Hit, OtherRow}
 use Rattle.xet_base.proofs.KnownTable.{sum_below}
 
@@ -12,31 +13,15 @@ use Rattle.xet_base.proofs.KnownTable.{sum_below}
 abbrev without : (ℕ → ℕ) → ℕ → ℕ → ℕ
 without f i j = if j == i then 0 else f j
 
-without-here : (f : ℕ → ℕ) (i : ℕ) → without f i i ≡ 0
-without-here f i = cond-true {A = ℕ} (i == i) 0 (f i) (eq-eqb i i refl)
-
 without-other : (f : ℕ → ℕ) (i j : ℕ) → j ≢ i → without f i j ≡ f j
 without-other f i j other = cond-false {A = ℕ} (j == i) 0 (f j) (ne_eqb j i other)
 
-sum_below-same : (f g : ℕ → ℕ) (n : ℕ) → ((i : ℕ) → i < n → f i ≡ g i) → sum_below f n ≡ sum_below g n
-sum_below-same f g zero same = refl
-sum_below-same f g (suc n) same = λ k. sum_below-same f g n (λ i below. same i (omega (arith, below))) k + same n (omega arith) k
+sum_below-split : (f : ℕ → ℕ) (i n : ℕ) → sum_below f n ≡ sum_below (without f i) n + (if ltb i n then f i else 0)
+sum_below-split f i zero = grind arith
+sum_below-split f i (suc n) = grind (arith, sum_below-split f i n)
 
 sum_below-without : (f : ℕ → ℕ) (i n : ℕ) → i < n → sum_below f n ≡ sum_below (without f i) n + f i
-sum_below-without f i zero within = absurd (omega (arith, within))
-sum_below-without f i (suc n) within = elim (cases_eq i n) [
-  | inl same ↦ omega (
-    arith,
-    sum_below-same f (without f i) n (λ j below. sym (without-other f i j (λ e. absurd (omega (arith, below, e, same))))),
-    ap (without f i) (sym same),
-    without-here f i,
-    ap f same,
-  )
-  | inr other ↦ omega (arith, sum_below-without f i n (below_not i n within other), without-other f i n (λ e. other (sym e)))
-]
-  where
-    below_not : (i n : ℕ) → i < suc n → (i ≡ n → ⊥) → i < n
-    below_not i n lt other = omega (arith, lt, other)
+sum_below-without f i n within = grind (arith, sum_below-split f i n)
 
 module _ {V : Type 0} where
   -- a row is in a list, or differs from each row of the list
@@ -46,10 +31,7 @@ module _ {V : Type 0} where
     | inl same ↦ inl (0, omega arith, λ d. same)
     | inr other ↦ elim (is_among i found) [
       | inl at ↦ inl (suc at.0, omega (arith, at.1), at.2)
-      | inr none ↦ inr (λ k. elim k as (λ k. (d : Hit V) → k < length (h ∷ found) → (get_or (h ∷ found) k d).row ≢ i) [
-        | zero ↦ λ d within. other
-        | suc j ↦ λ d within. none j d (omega (arith, within))
-      ])
+      | inr none ↦ inr (All-cons (λ (g : Hit V). g.row ≢ i) h found other none)
     ]
   ]
 
@@ -83,8 +65,7 @@ module _ {V : Type 0} where
   ]
 
 one_marked : {X : Type 0} (weight : X → ℕ) (x : X) (b : Bool) → sum_by weight (if b then x ∷ [] else []) ≡ (if b then weight x else 0)
-one_marked weight x true = sum_by-cons weight x [] ∙ omega arith
-one_marked weight x false = refl
+one_marked weight x b = grind (arith, sum_by-cons weight x [])
 
 -- weights of the elements with a property, summed by index and over the list of these elements
 pub sum_marked : {X : Type 0} (p : X → Bool) (weight : X → ℕ) (xs : List X) (d : X) (n : ℕ) → n ≤ length xs
@@ -92,17 +73,8 @@ pub sum_marked : {X : Type 0} (p : X → Bool) (weight : X → ℕ) (xs : List X
 sum_marked p weight xs d zero within = refl
 sum_marked p weight xs d (suc n) within =
     let x = get_or xs n d in
-    let e : n + 1 ≡ suc n = omega arith in
-    let more : take (suc n) xs ≡ take n xs ++ x ∷ [] = ap (λ k. take k xs) (sym e) ∙ take_more xs n d (omega (arith, within)) in
-    let one : sum_by weight (filter p (x ∷ [])) ≡ (if p x then weight x else 0) = one_marked weight x (p x) in
-    omega (
-      arith,
-      sum_marked p weight xs d n (omega (arith, within)),
-      ap (λ ys. sum_by weight (filter p ys)) more,
-      ap (sum_by weight) (filter-append p (take n xs) (x ∷ [])),
-      sum_by-append weight (filter p (take n xs)) (filter p (x ∷ [])),
-      one,
-    )
+    rw (take-suc xs n d within, filter-append p (take n xs) (x ∷ []), sum_by-append weight (filter p (take n xs)) (filter p (x ∷ [])))
+    (omega (arith, sum_marked p weight xs d n (omega (arith, within)), one_marked weight x (p x)))
 
 -- a list of ones
 pub sum-of_ones : {X : Type 0} (f : X → ℕ) (xs : List X) → All (λ x. f x ≡ 1) xs → sum_by f xs ≡ length xs

@@ -1,66 +1,51 @@
 -- Files that are in two stores: whether they can be joined, and the loop that joins them.
-use Rattle.std.proofs.Common.{◌≡◌, Bool, true, false, ◌&&◌, T, List, [], ◌∷◌, ◌++◌, Option, None, Some, refl, sym, ap, ◌∙◌, subst, cond, true≢false, is_some, arith}
+use Rattle.std.proofs.Common.{◌≡◌, ◌+◌, length, false, T, List, [], ◌∷◌, ◌++◌, None, Some, refl, sym, ap, ◌∙◌, subst, cond, arith}
 use Rattle.std.specs.Prelude.{All}
 use Rattle.std.specs.Option.{option_or}
-use Rattle.std.specs.Ordering.{eq_by_cmp, is_lt, is_eq}
-use Rattle.std.specs.declared.cmp.Ordering.{Ordering}
-use Rattle.std.specs.declared.cmp.Ordering.TheVariants.{Less, Equal, Greater}
-use Rattle.std.specs.FinMap.{get, insert, empty, from_sorted, is_sorted, get-insert, get-empty, get-from_sorted}
+use Rattle.std.specs.Ordering.{eq_by_cmp, is_lt, is_eq, ordering_reverse}
+use Rattle.std.specs.FinMap.{FinMap, entries, get-entries, get, insert, from_sorted, is_sorted, get-insert, get-from_sorted}
 use Rattle.std.specs.FinMap.Entries.{below_all}
-use Rattle.std.proofs.lemmas.List.Elements.{All-drop, All-push}
-use Rattle.std.proofs.lemmas.Option.{same_Some}
+use Rattle.std.proofs.lemmas.List.{length-append, get_or-append-add}
+use Rattle.std.proofs.lemmas.List.Elements.{All-push}
 use Rattle.xet_base.specs.declared.merklehash.DataHash.{DataHash}
 use Rattle.xet_base.specs.Hash.{hash_cmp}
-use Rattle.xet_base.proofs.HashOrder.{hash_cmp-IsTotalOrder, same_key}
+use Rattle.xet_base.proofs.HashOrder.{hash_cmp-IsTotalOrder, hash_cmp-IsAntisymmetric, same_key}
 use Rattle.xet_records.specs.declared.file_structs.MDBFileInfo.{MDBFileInfo}
 use Rattle.xet_records.specs.FileRecord.{IsWellFormed}
 use Rattle.xet_records.specs.Merging.{merged}
 use Rattle.xet_records.proofs.Merging.{merged_well_formed}
 use Rattle.xet_shards.specs.Shard.{FileMap, file_hash_of}
 use Rattle.xet_shards.specs.Joining.{but, entry, CanJoinFile, CanJoinFiles, either_file, own_file}
-use Rattle.xet_shards.proofs.Maps.{both_right}
+use Rattle.xet_shards.proofs.Found.{found_entry, entry_found}
+use Rattle.xet_shards.proofs.Maps.{less, both_left, both_right}
 use Rattle.xet_shards.proofs.Joining.{entry-append}
 
-left : (a b : Bool) → T (a && b) → T a
-left true b p = tt
-left false b p = absurd p
-
-below_none : (o : Ordering) → T (is_lt o) → is_eq o ≡ false
-below_none Less p = refl
-below_none Equal p = absurd p
-below_none Greater p = absurd p
-
-apart : (k q : DataHash) → T (is_lt (hash_cmp k q)) → (b : Bool) → eq_by_cmp hash_cmp q k ≡ b → b ≡ false
-apart k q less false is = refl
-apart k q less true is =
-    let same = (same_key q k).0 is in
-    absurd (true≢false (sym ((same_key k q).1 (sym same)) ∙ below_none (hash_cmp k q) less))
+apart : (k q : DataHash) → T (is_lt (hash_cmp k q)) → eq_by_cmp hash_cmp q k ≡ false
+apart k q below = ap is_eq (hash_cmp-IsTotalOrder.antisymm q k ∙ ap ordering_reverse (less (hash_cmp k q) below))
 
 -- entries with ascending keys: a later one is found, and not among those before its index
 module _ {X : Type 0} where
   below_front : (k : DataHash) (front rest : List (DataHash × X)) (e : DataHash × X) → T (below_all hash_cmp k (front ++ e ∷ rest)) → T (is_lt (hash_cmp k e.0))
-  below_front k [] rest e below = left _ _ below
+  below_front k [] rest e below = both_left _ _ below
   below_front k (d ∷ front) rest e below = below_front k front rest e (both_right _ _ below)
 
   pub entry-before : (front rest : List (DataHash × X)) (e : DataHash × X) → T (is_sorted hash_cmp (front ++ e ∷ rest)) → entry front e.0 ≡ None
   entry-before [] rest e sorted = refl
   entry-before (d ∷ front) rest e sorted =
-      ap (λ b. cond b (Some d.1) (entry front e.0)) (apart d.0 e.0 (below_front d.0 front rest e (left _ _ sorted)) (eq_by_cmp hash_cmp e.0 d.0) refl)
+      ap (λ b. cond b (Some d.1) (entry front e.0)) (apart d.0 e.0 (below_front d.0 front rest e (both_left _ _ sorted)))
       ∙ entry-before front rest e (both_right _ _ sorted)
 
   pub entry-here : (front rest : List (DataHash × X)) (e : DataHash × X) → T (is_sorted hash_cmp (front ++ e ∷ rest)) → entry (front ++ e ∷ rest) e.0 ≡ Some e.1
-  entry-here [] rest e sorted = ap (λ b. cond b (Some e.1) (entry rest e.0)) ((same_key e.0 e.0).1 refl)
-  entry-here (d ∷ front) rest e sorted =
-      ap (λ b. cond b (Some d.1) (entry (front ++ e ∷ rest) e.0)) (apart d.0 e.0 (below_front d.0 front rest e (left _ _ sorted)) (eq_by_cmp hash_cmp e.0 d.0) refl)
-      ∙ entry-here front rest e (both_right _ _ sorted)
+  entry-here front rest e sorted =
+      entry_found hash_cmp hash_cmp-IsTotalOrder (front ++ e ∷ rest) (length front + 0) e.0 e.1 e sorted (omega (arith, length-append front (e ∷ rest)))
+      (get_or-append-add front (e ∷ rest) 0 e)
 
   -- what holds of each entry holds of what is found
   pub entry-holds : (P : DataHash × X → Type 0) (es : List (DataHash × X)) (q : DataHash) (x : X) → All P es → entry es q ≡ Some x → P (q, x)
-  entry-holds P [] q x all found = absurd (true≢false (sym (ap is_some found)))
-  entry-holds P (e ∷ es) q x all found = here (eq_by_cmp hash_cmp q e.0) refl found (entry-holds P es q x (All-drop P 1 (e ∷ es) all)) where
-    here : (b : Bool) → eq_by_cmp hash_cmp q e.0 ≡ b → cond b (Some e.1) (entry es q) ≡ Some x → (entry es q ≡ Some x → P (q, x)) → P (q, x)
-    here true tied found later = subst P (λ i. (sym ((same_key q e.0).0 tied) i, same_Some e.1 x found i)) (all 0 e (omega arith))
-    here false tied found later = later found
+  entry-holds P es q x all found = let at = found_entry hash_cmp hash_cmp-IsAntisymmetric es q x (q, x) found in subst P at.2 (all at.0 (q, x) at.1)
+
+  pub holds_in_map : (P : DataHash × X → Type 0) (m : FinMap hash_cmp X) (q : DataHash) (x : X) → All P (entries m) → get m q ≡ Some x → P (q, x)
+  holds_in_map P m q x all at = entry-holds P (entries m) q x all (sym (get-entries m q) ∙ at)
 
 -- each of these entries can be joined with the file in a store, if any
 abbrev pub CanJoinEntries : List (DataHash × MDBFileInfo) → FileMap → Type 0
@@ -73,9 +58,9 @@ pub entry_of : {X : Type 0} (front rest all : List (DataHash × X)) (e : DataHas
 entry_of front rest all e whole sorted =
     get-from_sorted hash_cmp all e.0 sorted ∙ ap (λ es. entry es e.0) (sym whole) ∙ entry-here front rest e (subst (λ es. T (is_sorted hash_cmp es)) (sym whole) sorted)
 
-pub can_join_more : (es : List (DataHash × MDBFileInfo)) (e : DataHash × MDBFileInfo) (b : FileMap) → CanJoinEntries es b → ((s : MDBFileInfo) → get b e.0 ≡ Some s → CanJoinFile e.1 s)
-    → CanJoinEntries (es ++ e ∷ []) b
-can_join_more es e b before new = All-push (λ d. (s : MDBFileInfo) → get b d.0 ≡ Some s → CanJoinFile d.1 s) es e before new
+pub can_join_more : (es fs : List (DataHash × MDBFileInfo)) (e : DataHash × MDBFileInfo) (b : FileMap) → fs ≡ es ++ e ∷ [] → CanJoinEntries es b
+    → ((s : MDBFileInfo) → get b e.0 ≡ Some s → CanJoinFile e.1 s) → CanJoinEntries fs b
+can_join_more es fs e b push before new = subst (λ gs. CanJoinEntries gs b) (sym push) (All-push (λ d. (s : MDBFileInfo) → get b d.0 ≡ Some s → CanJoinFile d.1 s) es e before new)
 
 -- the record of this iteration
 pub record IsOwn (b : FileMap) (k : DataHash) (r m : MDBFileInfo) : Type 0 where
@@ -102,31 +87,13 @@ own_copied b k r m absent is formed = record {
 abbrev pub IsMerged : List (DataHash × MDBFileInfo) → FileMap → FileMap → Type 0
 IsMerged es b c = (q : DataHash) → get c q ≡ own_file (entry es q) (get b q)
 
-pub merged-none : (b : FileMap) → IsMerged [] b empty
-merged-none b = λ q. get-empty hash_cmp q
-
-merged_slot : (t : Bool) (o p : Option MDBFileInfo) (r m : MDBFileInfo) → (t ≡ true → o ≡ None) → (t ≡ true → Some m ≡ either_file (Some r) p)
-    → cond t (Some m) (own_file o p) ≡ own_file (option_or o (cond t (Some r) None)) p
-merged_slot false None p r m new is = refl
-merged_slot false (Some x) p r m new is = refl
-merged_slot true None p r m new is = is refl
-merged_slot true (Some x) p r m new is = absurd (true≢false (ap is_some (new refl)))
-
 pub merged-more : (front rest : List (DataHash × MDBFileInfo)) (k : DataHash) (r m : MDBFileInfo) (b c : FileMap) → T (is_sorted hash_cmp (front ++ (k, r) ∷ rest))
     → Some m ≡ either_file (Some r) (get b k) → IsMerged front b c → IsMerged (front ++ (k, r) ∷ []) b (insert c k m)
 merged-more front rest k r m b c sorted is before = λ q.
-    get-insert hash_cmp-IsTotalOrder c k m q ∙ ap (cond (eq_by_cmp hash_cmp q k) (Some m)) (before q)
-    ∙ merged_slot (eq_by_cmp hash_cmp q k) (entry front q) (get b q) r m
-    (λ tied. ap (entry front) ((same_key q k).0 tied) ∙ entry-before front rest (k, r) sorted)
-    (λ tied. is ∙ ap (λ p. either_file (Some r) (get b p)) (sym ((same_key q k).0 tied)))
-    ∙ ap (λ o. own_file o (get b q)) (sym (entry-append front k r q))
+    grind (arith, get-insert hash_cmp-IsTotalOrder c k m q, before q, entry-append front k r q, entry-before front rest (k, r) sorted, same_key q k)
 
 -- own files merged, then the missing ones
-all_slots : (o p : Option MDBFileInfo) → option_or (own_file o p) (cond (is_some o) None p) ≡ either_file o p
-all_slots None p = refl
-all_slots (Some a) None = refl
-all_slots (Some a) (Some b) = refl
 
 pub united : (a b m n : FileMap) → ((q : DataHash) → get m q ≡ own_file (get a q) (get b q)) → ((q : DataHash) → get n q ≡ option_or (get m q) (but a (get b) q))
     → (q : DataHash) → get n q ≡ either_file (get a q) (get b q)
-united a b m n merged filled q = filled q ∙ ap (λ o. option_or o (but a (get b) q)) (merged q) ∙ all_slots (get a q) (get b q)
+united a b m n merged filled q = grind (arith, merged q, filled q)

@@ -1,7 +1,7 @@
 -- Sums over files, and the rows of a map of them.
-use Rattle.std.proofs.Common.{◌*◌, ◌≤◌, List, [], ◌∷◌, map, length, arith}
+use Rattle.std.proofs.Common.{ℕ, ◌*◌, ◌≤◌, List, [], ◌∷◌, map, length, arith}
 use Rattle.std.specs.Prelude.{All, sum_by}
-use Rattle.std.proofs.lemmas.List.Sums.{sum_by-cons}
+use Rattle.std.proofs.lemmas.List.Sums.{sum_by-cons, sum_by-le}
 use Rattle.std.proofs.lemmas.List.Elements.{All-drop, All-map}
 use Rattle.xet_base.specs.declared.merklehash.DataHash.{DataHash}
 use Rattle.xet_records.specs.declared.file_structs.rows.FileDataSequenceEntry.{FileDataSequenceEntry}
@@ -13,17 +13,18 @@ use Rattle.xet_shards.specs.Shard.{AreFiles}
 
 segments_bound : (ss : List FileDataSequenceEntry) → All FitsSegment ss
     → sum_by (λ (s : FileDataSequenceEntry). s.unpacked_segment_bytes) ss ≤ 4294967295 * length ss
-segments_bound [] fit = omega arith
-segments_bound (s ∷ ss) fit =
-    let here : FitsSegment s = fit 0 s (omega arith) in
-    omega (arith, sum_by-cons (λ (t : FileDataSequenceEntry). t.unpacked_segment_bytes) s ss, here.unpacked_segment_bytes, segments_bound ss (All-drop FitsSegment 1 (s ∷ ss) fit))
+segments_bound ss fit =
+    omega (arith, sum_by-le (λ (s : FileDataSequenceEntry). s.unpacked_segment_bytes) 4294967295 ss (λ k s below. omega (arith, (fit k s below).unpacked_segment_bytes)))
+
+-- numbers that are bounded record by record are bounded in sum
+pub sum_bound : {R : Type 0} (P : R → Type 0) (f g : R → ℕ) → ((r : R) → P r → f r ≤ 4294967295 * g r) → (rs : List R) → All P rs → sum_by f rs ≤ 4294967295 * sum_by g rs
+sum_bound P f g small [] all = omega arith
+sum_bound P f g small (r ∷ rs) all =
+    omega (arith, sum_by-cons f r rs, sum_by-cons g r rs, small r (all 0 r (omega arith)), sum_bound P f g small rs (All-drop P 1 (r ∷ rs) all))
 
 -- no file has more bytes than its rows allow
 pub files_bound : (rs : List MDBFileInfo) → All (λ r. FitsRecord r) rs → sum_by size_of_file rs ≤ 4294967295 * total_rows file_records rs
-files_bound [] fit = omega arith
-files_bound (r ∷ rs) fit =
-    let here : FitsRecord r = fit 0 r (omega arith) in
-    omega (arith, sum_by-cons size_of_file r rs, sum_by-cons row_count r rs, segments_bound r.segments here.segments, files_bound rs (All-drop FitsRecord 1 (r ∷ rs) fit))
+files_bound rs fit = sum_bound FitsRecord size_of_file row_count (λ r is. omega (arith, segments_bound r.segments is.segments)) rs fit
 
 -- each file has a row
 pub length-le-rows : (rs : List MDBFileInfo) → length rs ≤ total_rows file_records rs

@@ -1,14 +1,13 @@
 -- Lookups in finite maps.
-use Rattle.std.proofs.Common.{◌≡◌, inl, inr, ℕ, zero, suc, ◌<◌, ◌≤◌, Bool, true, false, List, [], ◌∷◌, length, get_or, Some, T, true≢false, refl, sym, ap, ◌∙◌, arith}
-use Rattle.std.specs.Prelude.{cond}
-use Rattle.std.specs.Ordering.{is_eq, is_gt, nat_cmp, ordering_then, ordering_reverse}
+use Rattle.std.proofs.Common.{inl, inr, ◌≡◌, ℕ, zero, suc, ◌<◌, ◌≤◌, true, List, [], ◌∷◌, length, get_or, Some, T, sym, ap, ◌∙◌, arith}
+use Rattle.std.specs.Ordering.{is_eq, nat_cmp, ordering_then, ordering_reverse}
 use Rattle.std.specs.declared.cmp.Ordering.{Ordering}
 use Rattle.std.specs.declared.cmp.Ordering.TheVariants.{Less, Equal, Greater}
 use Rattle.std.specs.Cmp.{IsTotalOrder, nat_cmp_is}
 use Rattle.std.specs.Map.{keys_of}
 use Rattle.std.specs.BTreeMap.{is_at}
 use Rattle.std.specs.FinMap.{IsAntisymmetric, is_sorted, find}
-use Rattle.std.proofs.lemmas.Bool.{cases_lt, cond-true, cond-false}
+use Rattle.std.proofs.lemmas.Bool.{cases_Bool, cond-true, cond-false}
 use Rattle.std.proofs.lemmas.Cmp.{tied_itself}
 use Rattle.std.proofs.lemmas.List.{length-map, get_or-map}
 use Rattle.std.proofs.lemmas.Option.{none-some, same_Some}
@@ -18,19 +17,11 @@ use Rattle.xet_base.specs.Hash.{hash_cmp}
 use Rattle.xet_shards.proofs.Maps.{rising_keys, both_right}
 
 tied : (o : Ordering) → is_eq o ≡ true → o ≡ Equal
-tied Less is = absurd (true≢false (sym is))
-tied Equal is = refl
-tied Greater is = absurd (true≢false (sym is))
+tied o is = grind arith
 
 -- a comparison by two numbers and then by others
 pub first_ascends : (m n : ℕ) (rest : Ordering) → ordering_then (nat_cmp m n) rest ≡ Less → m ≤ n
-first_ascends m n rest less = elim (cases_lt n m) [
-  | inl greater ↦ absurd (true≢false (ap is_gt (after (nat_cmp m n) rest (nat_cmp_is m n Greater greater) less)))
-  | inr not_greater ↦ not_greater
-]
-  where
-    after : (o p : Ordering) → Greater ≡ o → ordering_then o p ≡ Less → Greater ≡ Less
-    after o p is then = ap (λ q. ordering_then q p) is ∙ then
+first_ascends m n rest less = grind (arith, nat_cmp_is m n Greater)
 
 -- so a smaller hash has no greater first word
 pub first_words_ascend : (a b : DataHash) → hash_cmp a b ≡ Less → a.word0 ≤ b.word0
@@ -40,12 +31,10 @@ module _ {K X : Type 0} (R : K → K → Ordering) where
   -- what is found is among the entries, with its key
   pub found_entry : IsAntisymmetric R → (es : List (K × X)) (q : K) (v : X) (d : K × X) → find R q es ≡ Some v → (i : ℕ) × (i < length es) × (get_or es i d ≡ (q, v))
   found_entry exact [] q v d is = absurd (none-some v is)
-  found_entry exact (e ∷ es) q v d is = go (is_at (R q) e.0) refl is (λ later. found_entry exact es q v d later)
-    where
-      go : (b : Bool) → is_at (R q) e.0 ≡ b → cond b (Some e.1) (find R q es) ≡ Some v
-          → (find R q es ≡ Some v → (i : ℕ) × (i < length es) × (get_or es i d ≡ (q, v))) → (i : ℕ) × (i < length (e ∷ es)) × (get_or (e ∷ es) i d ≡ (q, v))
-      go true at same rest = (0, omega arith, λ k. (sym (exact q e.0 (tied (R q e.0) at)) k, same_Some e.1 v same k))
-      go false at same rest = let found = rest same in (suc found.0, omega (arith, found.1), found.2)
+  found_entry exact (e ∷ es) q v d is = elim (cases_Bool (is_at (R q) e.0)) [
+    | inl at ↦ (0, omega arith, λ k. (sym (exact q e.0 (tied (R q e.0) at)) k, same_Some e.1 v (sym (cond-true _ _ _ at) ∙ is) k))
+    | inr apart ↦ let found = found_entry exact es q v d (sym (cond-false _ _ _ apart) ∙ is) in (suc found.0, omega (arith, found.1), found.2)
+  ]
 
   -- and each entry is found
   pub entry_found : IsTotalOrder R → (es : List (K × X)) (i : ℕ) (q : K) (v : X) (d : K × X) → T (is_sorted R es) → i < length es → get_or es i d ≡ (q, v) → find R q es ≡ Some v

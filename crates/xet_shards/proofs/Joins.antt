@@ -1,10 +1,10 @@
 -- Joins of sets of shards: a set has at most one, and the join of two sets of shards that agree is the union of theirs.
-use Rattle.std.proofs.Common.{◌≡◌, ◌⊎◌, inl, inr, true≢false, Bool, true, false, not, ◌&&◌, ◌||◌, List, [], ◌∷◌, ◌++◌, ◌+◌, length, Option, None, Some, is_some, refl, sym, ap, ◌∙◌, subst, if◌then◌else◌, arith}
+use Rattle.std.proofs.Common.{◌≡◌, ◌⊎◌, inl, inr, zero, suc, Bool, false, not, ◌&&◌, List, [], ◌∷◌, ◌++◌, ◌+◌, length, Option, None, Some, is_some, refl, sym, ap, ◌∙◌, subst, if◌then◌else◌, arith}
 use Rattle.std.specs.Prelude.{◌↔◌, Contains, IsTrue, option_map, option_and_then, unwrap_or}
 use Rattle.std.specs.Option.{option_or}
 use Rattle.std.specs.FinMap.{get, get-empty}
-use Rattle.std.proofs.lemmas.List.Elements.{Contains-push, Contains-push_cases, Contains-append_left, Contains-append_right, Contains-append_cases}
-use Rattle.std.proofs.lemmas.Option.{same_Some, none-some}
+use Rattle.std.proofs.lemmas.List.Elements.{Contains-push, Contains-append_left, Contains-append_right, Contains-append_cases}
+use Rattle.std.proofs.lemmas.Option.{same_Some, none-some, option_and_then_some}
 use Rattle.xet_base.specs.declared.merklehash.DataHash.{DataHash}
 use Rattle.xet_base.specs.Hash.{hash_cmp}
 use Rattle.xet_records.specs.declared.file_structs.rows.FileDataSequenceEntry.{FileDataSequenceEntry}
@@ -23,42 +23,15 @@ use Rattle.xet_shards.proofs.Unions.{IsKnown, known, same_shard, same_either}
 
 -- one of two optional parts that are equal if both are present
 pub either_part : {X : Type 0} (o p : Option X) → ((x y : X) → o ≡ Some x → p ≡ Some y → x ≡ y) → (x : X) → (option_or o p ≡ Some x) ↔ ((o ≡ Some x) ⊎ (p ≡ Some x))
-either_part None p same x = (
-  λ is. inr is,
-  λ (either : (None ≡ Some x) ⊎ (p ≡ Some x)). elim either [
-    | inl is ↦ absurd (none-some x is)
-    | inr is ↦ is
-  ],
-)
-either_part (Some y) p same x = (
-  λ is. inl is,
-  λ (either : (Some y ≡ Some x) ⊎ (p ≡ Some x)). elim either [
-    | inl is ↦ is
-    | inr is ↦ ap Some (same y x refl is)
-  ],
-)
+either_part o p same x = (λ is. grind arith, λ (either : (o ≡ Some x) ⊎ (p ≡ Some x)). grind (arith, same_either o p same))
 
 -- the verification rows and the metadata row of a merged record
-verification_either : (v w : Bool) (x y : List FileVerificationEntry)
-    → (if v || w then Some (if w && not v then y else x) else None) ≡ option_or (if v then Some x else None) (if w then Some y else None)
-verification_either true true x y = refl
-verification_either true false x y = refl
-verification_either false true x y = refl
-verification_either false false x y = refl
 
 verification-merged : (a b : MDBFileInfo) → verification_of (merged a b) ≡ option_or (verification_of a) (verification_of b)
-verification-merged a b =
-    ap (λ (u : Bool). if u then Some (merged a b).verification else None) (verified-merged a b)
-    ∙ verification_either (verified a) (verified b) a.verification b.verification
+verification-merged a b = grind (arith, verified-merged a b)
 
 metadata_either : (m l : Bool) (o p : Option FileMetadataExt) → is_some o ≡ m → is_some p ≡ l → (if l && not m then p else o) ≡ option_or o p
-metadata_either true true (Some x) p there other = refl
-metadata_either true false (Some x) p there other = refl
-metadata_either false l (Some x) p there other = absurd (true≢false there)
-metadata_either true l None p there other = absurd (true≢false (sym there))
-metadata_either false true None p there other = refl
-metadata_either false false None None there other = refl
-metadata_either false false None (Some y) there other = absurd (true≢false other)
+metadata_either m l o p there other = grind arith
 
 -- a file that its parts determine
 module _ (q : DataHash) where
@@ -74,12 +47,10 @@ module _ (q : DataHash) where
     pub present : is_some r.metadata_ext ≡ described r
 
   announced : (v : Bool) (xs : List FileVerificationEntry) → v ≡ is_some (if v then Some xs else None)
-  announced true xs = refl
-  announced false xs = refl
+  announced v xs = grind arith
 
   rows_there : (v : Bool) (xs : List FileVerificationEntry) → (v ≡ false → xs ≡ []) → xs ≡ unwrap_or (if v then Some xs else None) []
-  rows_there true xs absent = refl
-  rows_there false xs absent = absent refl
+  rows_there v xs absent = grind arith
 
   pub plain : (r : MDBFileInfo) → HasPlainHeader r → IsPlain r
   plain r has =
@@ -117,17 +88,6 @@ module _ (q : DataHash) where
         present = formed.whole.metadata_ext;
       }
 
-  rows_absent : (v w : Bool) (xs ys : List FileVerificationEntry) → (v ≡ false → xs ≡ []) → (v || w) ≡ false → (if w && not v then ys else xs) ≡ []
-  rows_absent true w xs ys none is = absurd (true≢false is)
-  rows_absent false true xs ys none is = absurd (true≢false is)
-  rows_absent false false xs ys none is = none refl
-
-  row_present : (m l : Bool) (o p : Option FileMetadataExt) → is_some o ≡ m → is_some p ≡ l → is_some (if l && not m then p else o) ≡ (m || l)
-  row_present true true o p one other = one
-  row_present true false o p one other = one
-  row_present false true o p one other = other
-  row_present false false o p one other = one
-
   merged_header : (r s : MDBFileInfo) → HasPlainHeader r → HasPlainHeader s → HasPlainHeader (merged r s)
   merged_header r s one other = record {
     keyed = one.keyed;
@@ -135,23 +95,16 @@ module _ (q : DataHash) where
     flags = ap (λ n. n + flags_of (verified s && not (verified r)) (described s && not (described r))) one.flags ∙ flags_added (verified r) (described r) (verified s) (described s)
         ∙ (λ i. flags_of (sym (verified-merged r s) i) (sym (described-merged r s) i));
     segments = one.segments;
-    absent = λ none. rows_absent (verified r) (verified s) r.verification s.verification one.absent (sym (verified-merged r s) ∙ none);
-    present = row_present (described r) (described s) r.metadata_ext s.metadata_ext one.present other.present ∙ sym (described-merged r s);
+    absent = λ none. grind (arith, one.absent, verified-merged r s);
+    present = grind (arith, one.present, other.present, described-merged r s);
   }
-
-  metadata-merged : (r s : MDBFileInfo) → HasPlainHeader r → HasPlainHeader s → (merged r s).metadata_ext ≡ option_or r.metadata_ext s.metadata_ext
-  metadata-merged r s one other = metadata_either (described r) (described s) r.metadata_ext s.metadata_ext one.present other.present
 
   -- the parts of the file of a union
   segments_either : (o p : Option MDBFileInfo) → option_map (λ (r : MDBFileInfo). r.segments) (either_file o p) ≡ option_or (option_map (λ r. r.segments) o) (option_map (λ r. r.segments) p)
-  segments_either None p = refl
-  segments_either (Some r) None = refl
-  segments_either (Some r) (Some s) = refl
+  segments_either o p = grind arith
 
   verification_of_either : (o p : Option MDBFileInfo) → option_and_then verification_of (either_file o p) ≡ option_or (option_and_then verification_of o) (option_and_then verification_of p)
-  verification_of_either None p = refl
-  verification_of_either (Some r) None = sym (or_none (verification_of r))
-  verification_of_either (Some r) (Some s) = verification-merged r s
+  verification_of_either o p = grind (arith, verification-merged)
 
   abbrev pub IsPlainFile : Option MDBFileInfo → Type 0
   IsPlainFile o = (r : MDBFileInfo) → o ≡ Some r → HasPlainHeader r
@@ -160,7 +113,8 @@ module _ (q : DataHash) where
       → option_and_then (λ (r : MDBFileInfo). r.metadata_ext) (either_file o p) ≡ option_or (option_and_then (λ r. r.metadata_ext) o) (option_and_then (λ r. r.metadata_ext) p)
   metadata_of_either None p first second = refl
   metadata_of_either (Some r) None first second = sym (or_none r.metadata_ext)
-  metadata_of_either (Some r) (Some s) first second = metadata-merged r s (first r refl) (second s refl)
+  metadata_of_either (Some r) (Some s) first second =
+      metadata_either (described r) (described s) r.metadata_ext s.metadata_ext (first r refl).present (second s refl).present
 
   plain_either : (o p : Option MDBFileInfo) → IsPlainFile o → IsPlainFile p → IsPlainFile (either_file o p)
   plain_either None p first second t is = second t is
@@ -172,27 +126,23 @@ module _ (q : DataHash) where
       → option_map (λ (r : MDBFileInfo). r.segments) o ≡ Some x → option_map (λ (r : MDBFileInfo). r.segments) p ≡ Some y → x ≡ y
   same_segments None p agree x y one other = absurd (none-some x one)
   same_segments (Some r) None agree x y one other = absurd (none-some y other)
-  same_segments (Some r) (Some s) agree x y one other = sym (same_Some r.segments x one) ∙ (agree r s refl refl).segments ∙ same_Some s.segments y other
+  same_segments (Some r) (Some s) agree x y one other = cc (agree r s refl refl).segments
 
   same_rows : (v w : Bool) (x y a b : List FileVerificationEntry) → (IsTrue v → IsTrue w → a ≡ b) → (if v then Some a else None) ≡ Some x → (if w then Some b else None) ≡ Some y → x ≡ y
-  same_rows true true x y a b agree one other = sym (same_Some a x one) ∙ agree refl refl ∙ same_Some b y other
-  same_rows true false x y a b agree one other = absurd (none-some y other)
-  same_rows false w x y a b agree one other = absurd (none-some x one)
+  same_rows v w x y a b agree one other = grind arith
 
   pub same_verification : (o p : Option MDBFileInfo) → ((r s : MDBFileInfo) → o ≡ Some r → p ≡ Some s → Agree r s) → (x y : List FileVerificationEntry)
       → option_and_then verification_of o ≡ Some x → option_and_then verification_of p ≡ Some y → x ≡ y
-  same_verification None p agree x y one other = absurd (none-some x one)
-  same_verification (Some r) None agree x y one other = absurd (none-some y other)
-  same_verification (Some r) (Some s) agree x y one other = same_rows (verified r) (verified s) x y r.verification s.verification (agree r s refl refl).verification one other
+  same_verification o p agree x y one other =
+      option_and_then_some verification_of o x one (λ r at mine. option_and_then_some verification_of p y other (λ s there others.
+      same_rows (verified r) (verified s) x y r.verification s.verification (agree r s at there).verification mine others))
 
   pub same_metadata : (o p : Option MDBFileInfo) → IsPlainFile o → IsPlainFile p
       → ((r s : MDBFileInfo) → o ≡ Some r → p ≡ Some s → Agree r s) → (x y : FileMetadataExt)
       → option_and_then (λ (r : MDBFileInfo). r.metadata_ext) o ≡ Some x → option_and_then (λ (r : MDBFileInfo). r.metadata_ext) p ≡ Some y → x ≡ y
-  same_metadata None p first second agree x y one other = absurd (none-some x one)
-  same_metadata (Some r) None first second agree x y one other = absurd (none-some y other)
-  same_metadata (Some r) (Some s) first second agree x y one other =
-      same_Some x y (sym one ∙ (agree r s refl refl).metadata_ext
-      (sym (first r refl).present ∙ ap is_some one) (sym (second s refl).present ∙ ap is_some other) ∙ other)
+  same_metadata o p first second agree x y one other =
+      option_and_then_some (λ r. r.metadata_ext) o x one (λ r at mine. option_and_then_some (λ s. s.metadata_ext) p y other (λ s there others.
+      same_Some x y (sym mine ∙ (agree r s at there).metadata_ext (sym (first r at).present ∙ ap is_some mine) (sym (second s there).present ∙ ap is_some others) ∙ others)))
 
 -- each file of a shard is determined by its parts
 pub follows_parts : (s : Shard) → IsShard s → FollowsParts s
@@ -201,24 +151,24 @@ follows_parts s shard q r at = plain q r (known_header q r (known s q r shard at
 pub plain_file : (s : Shard) → FollowsParts s → (q : DataHash) → IsPlainFile q (get s.files q)
 plain_file s follows q r at = plain_header q r (follows q r at)
 
--- the union of the joins of two sets is the join of both
-module _ (A B : Shard → Type 0) (a b c : Shard) (first : IsJoinOf A a) (second : IsJoinOf B b) (agree : ShardsAgree a b) (union : IsUnion a b c) where
+-- the union of the joins of two lists of shards is the join of both
+module _ (xs ys : List Shard) (a b c : Shard) (first : IsJoinOf (Contains xs) a) (second : IsJoinOf (Contains ys) b) (agree : ShardsAgree a b) (union : IsUnion a b c) where
   of_either : {X : Type 0} (part : Shard → Option X) → part c ≡ option_or (part a) (part b) → ((x y : X) → part a ≡ Some x → part b ≡ Some y → x ≡ y)
-      → HasWhatAnyHas A a part → HasWhatAnyHas B b part → HasWhatAnyHas (λ s. A s ⊎ B s) c part
+      → HasWhatAnyHas (Contains xs) a part → HasWhatAnyHas (Contains ys) b part → HasWhatAnyHas (Contains (xs ++ ys)) c part
   of_either part is same one other = λ x. (
     λ at. elim ((either_part (part a) (part b) same x).0 (sym is ∙ at)) [
-      | inl own ↦ let found = (one x).0 own in (found.0, inl found.1, found.2)
-      | inr others ↦ let found = (other x).0 others in (found.0, inr found.1, found.2)
+      | inl own ↦ let found = (one x).0 own in (found.0, Contains-append_left xs ys found.0 found.1, found.2)
+      | inr others ↦ let found = (other x).0 others in (found.0, Contains-append_right xs ys found.0 found.1, found.2)
     ],
-    λ (found : (s : Shard) × (A s ⊎ B s) × (part s ≡ Some x)). is ∙ (either_part (part a) (part b) same x).1 (which x found.0 found.1 found.2),
+    λ (found : (s : Shard) × Contains (xs ++ ys) s × (part s ≡ Some x)). is ∙ (either_part (part a) (part b) same x).1
+    (elim (Contains-append_cases xs ys found.0 found.1) [
+      | inl mine ↦ inl ((one x).1 (found.0, mine, found.2))
+      | inr others ↦ inr ((other x).1 (found.0, others, found.2))
+    ]),
   )
-    where
-      which : (x : _) (s : Shard) → A s ⊎ B s → part s ≡ Some x → (part a ≡ Some x) ⊎ (part b ≡ Some x)
-      which x s (inl mine) at = inl ((one x).1 (s, mine, at))
-      which x s (inr others) at = inr ((other x).1 (s, others, at))
 
-  pub join-union : IsJoinOf (λ s. A s ⊎ B s) c
-  join-union = record {
+  pub join-append : IsJoinOf (Contains (xs ++ ys)) c
+  join-append = record {
     xorbs = λ q. of_either (λ s. get s.xorbs q) (union.xorbs q ∙ same_either (get a.xorbs q) (get b.xorbs q) (agree.xorbs q)) (agree.xorbs q) (first.xorbs q) (second.xorbs q);
     segments = λ q. of_either (segments_under q) (ap (option_map (λ r. r.segments)) (union.files q) ∙ segments_either q (get a.files q) (get b.files q))
         (same_segments q (get a.files q) (get b.files q) (agree.files q)) (first.segments q) (second.segments q);
@@ -230,11 +180,8 @@ module _ (A B : Shard → Type 0) (a b c : Shard) (first : IsJoinOf A a) (second
     follows = λ q t at. plain q t (plain_either q (get a.files q) (get b.files q) (plain_file a first.follows q) (plain_file b second.follows q) t (sym (union.files q) ∙ at));
   }
 
--- sets with the same members have the same join, if any
 same_part : {X : Type 0} (o p : Option X) → ((x : X) → o ≡ Some x → p ≡ Some x) → ((x : X) → p ≡ Some x → o ≡ Some x) → o ≡ p
-same_part None None to from = refl
-same_part None (Some y) to from = absurd (none-some y (from y refl))
-same_part (Some x) p to from = sym (to x refl)
+same_part o p to from = grind arith
 
 file_unique : (q : DataHash) (o p : Option MDBFileInfo) → ((r : MDBFileInfo) → o ≡ Some r → IsPlain q r) → ((s : MDBFileInfo) → p ≡ Some s → IsPlain q s)
     → option_map (λ (r : MDBFileInfo). r.segments) o ≡ option_map (λ r. r.segments) p → option_and_then verification_of o ≡ option_and_then verification_of p
@@ -244,22 +191,6 @@ file_unique q None (Some s) first second segments verification metadata_ext = ab
 file_unique q (Some r) None first second segments verification metadata_ext = absurd (none-some r.segments (sym segments))
 file_unique q (Some r) (Some s) first second segments verification metadata_ext =
     ap Some (first r refl ∙ (λ i. file_with q (same_Some r.segments s.segments segments i) (verification i) (metadata_ext i)) ∙ sym (second s refl))
-
-module _ (A B : Shard → Type 0) (into : (s : Shard) → A s → B s) (back : (s : Shard) → B s → A s) where
-  has_of_same : {X : Type 0} (c : Shard) (part : Shard → Option X) → HasWhatAnyHas A c part → HasWhatAnyHas B c part
-  has_of_same c part has = λ x. (
-    λ at. let found = (has x).0 at in (found.0, into found.0 found.1, found.2),
-    λ (found : (s : Shard) × B s × (part s ≡ Some x)). (has x).1 (found.0, back found.0 found.1, found.2),
-  )
-
-  pub join-same : (c : Shard) → IsJoinOf A c → IsJoinOf B c
-  join-same c join = record {
-    xorbs = λ q. has_of_same c (λ s. get s.xorbs q) (join.xorbs q);
-    segments = λ q. has_of_same c (segments_under q) (join.segments q);
-    verification = λ q. has_of_same c (verification_under q) (join.verification q);
-    metadata_ext = λ q. has_of_same c (metadata_under q) (join.metadata_ext q);
-    follows = join.follows;
-  }
 
 -- a set of shards has at most one join
 module _ (IsOne : Shard → Type 0) (c d : Shard) where
@@ -274,12 +205,19 @@ module _ (IsOne : Shard → Type 0) (c d : Shard) where
       (λ q. part_unique (λ s. get s.xorbs q) (one.xorbs q) (other.xorbs q))
 
 -- the join of one shard is this shard
-module _ (A : Shard → Type 0) (c : Shard) (member : A c) (alone : (s : Shard) → A s → c ≡ s) where
-  has_of_one : {X : Type 0} (part : Shard → Option X) → HasWhatAnyHas A c part
-  has_of_one part = λ x. (λ at. (c, member, at), λ (found : (s : Shard) × A s × (part s ≡ Some x)). ap part (alone found.0 found.1) ∙ found.2)
+module _ (c : Shard) where
+  alone : (s : Shard) → Contains (c ∷ []) s → c ≡ s
+  alone s (zero, below, is) = is
+  alone s (suc k, below, is) = absurd (omega (arith, below))
 
-  pub join-single : FollowsParts c → IsJoinOf A c
-  join-single follows = record {
+  has_of_one : {X : Type 0} (part : Shard → Option X) → HasWhatAnyHas (Contains (c ∷ [])) c part
+  has_of_one part = λ x. (
+    λ at. (c, Contains-push [] c, at),
+    λ (found : (s : Shard) × Contains (c ∷ []) s × (part s ≡ Some x)). ap part (alone found.0 found.1) ∙ found.2,
+  )
+
+  pub join-one : FollowsParts c → IsJoinOf (Contains (c ∷ [])) c
+  join-one follows = record {
     xorbs = λ q. has_of_one (λ s. get s.xorbs q);
     segments = λ q. has_of_one (segments_under q);
     verification = λ q. has_of_one (verification_under q);
@@ -287,35 +225,21 @@ module _ (A : Shard → Type 0) (c : Shard) (member : A c) (alone : (s : Shard) 
     follows = follows;
   }
 
-pub join-one : (s : Shard) → FollowsParts s → IsJoinOf (Contains (s ∷ [])) s
-join-one s follows = join-single (Contains (s ∷ [])) s (Contains-push [] s) (λ t member. elim (Contains-push_cases [] s t member) [ inl none ↦ absurd (no_member t none) | inr same ↦ same ]) follows
-  where
-    no_member : (t : Shard) → ¬ Contains {X = Shard} [] t
-    no_member t (k, below, is) = absurd (omega (arith, below))
-
 -- that of none is the empty shard
-module _ (A : Shard → Type 0) (none : (s : Shard) → ¬ A s) where
-  has_of_none : {X : Type 0} (part : Shard → Option X) → part empty_shard ≡ None → HasWhatAnyHas A empty_shard part
-  has_of_none part is = λ x. (
-    λ at. absurd (none-some x (sym is ∙ at)),
-    λ (found : (s : Shard) × A s × (part s ≡ Some x)). absurd (none found.0 found.1),
-  )
+has_of_none : {X : Type 0} (part : Shard → Option X) → part empty_shard ≡ None → HasWhatAnyHas (Contains []) empty_shard part
+has_of_none part is = λ x. (
+  λ at. absurd (none-some x (sym is ∙ at)),
+  λ (found : (s : Shard) × Contains [] s × (part s ≡ Some x)). absurd (omega (arith, found.1.1)),
+)
 
-  pub join-none : IsJoinOf A empty_shard
-  join-none = record {
-    xorbs = λ q. has_of_none (λ s. get s.xorbs q) (get-empty hash_cmp q);
-    segments = λ q. has_of_none (segments_under q) (ap (option_map (λ r. r.segments)) (get-empty hash_cmp q));
-    verification = λ q. has_of_none (verification_under q) (ap (option_and_then verification_of) (get-empty hash_cmp q));
-    metadata_ext = λ q. has_of_none (metadata_under q) (ap (option_and_then (λ r. r.metadata_ext)) (get-empty hash_cmp q));
-    follows = λ q r at. absurd (none-some r (sym (get-empty hash_cmp q) ∙ at));
-  }
-
--- lists of shards
-pub join-append : (xs ys : List Shard) (a b c : Shard) → IsJoinOf (Contains xs) a → IsJoinOf (Contains ys) b → ShardsAgree a b → IsUnion a b c → IsJoinOf (Contains (xs ++ ys)) c
-join-append xs ys a b c first second agree union =
-    join-same (λ s. Contains xs s ⊎ Contains ys s) (Contains (xs ++ ys))
-    (λ s either. elim either [ inl left ↦ Contains-append_left xs ys s left | inr right ↦ Contains-append_right xs ys s right ])
-    (λ s. Contains-append_cases xs ys s) c (join-union (Contains xs) (Contains ys) a b c first second agree union)
+pub join-none : IsJoinOf (Contains []) empty_shard
+join-none = record {
+  xorbs = λ q. has_of_none (λ s. get s.xorbs q) (get-empty hash_cmp q);
+  segments = λ q. has_of_none (segments_under q) (ap (option_map (λ r. r.segments)) (get-empty hash_cmp q));
+  verification = λ q. has_of_none (verification_under q) (ap (option_and_then verification_of) (get-empty hash_cmp q));
+  metadata_ext = λ q. has_of_none (metadata_under q) (ap (option_and_then (λ r. r.metadata_ext)) (get-empty hash_cmp q));
+  follows = λ q r at. absurd (none-some r (sym (get-empty hash_cmp q) ∙ at));
+}
 
 -- the union of two shards that agree is their join
 pub union_is_join : (a b c : Shard) → IsShard a → IsShard b → ShardsAgree a b → IsUnion a b c → IsJoinOf (Contains (a ∷ b ∷ [])) c

@@ -1,7 +1,7 @@
 -- The answer to a lookup among the records of a map is that of the map.
-use Rattle.std.proofs.Common.{◌≡◌, ℕ, ◌<◌, length, get_or, Option, None, Some, refl, sym, ap, ◌∙◌, arith}
+use Rattle.std.proofs.Common.{◌≡◌, ℕ, ◌<◌, length, get_or, Option, None, Some, sym, ap, ◌∙◌, arith}
 use Rattle.std.specs.Prelude.{All}
-use Rattle.std.specs.FinMap.{FinMap, entries, values, get, get-entries, entries_sorted, find}
+use Rattle.std.specs.FinMap.{FinMap, entries, values, get, get-entries, entries_sorted}
 use Rattle.std.proofs.lemmas.List.{get_or-map, length-map}
 use Rattle.xet_base.specs.declared.merklehash.DataHash.{DataHash}
 use Rattle.xet_base.specs.Hash.{hash_cmp}
@@ -32,11 +32,10 @@ module _ {H R : Type 0} (K : RecordKind H R) (d : R) (m : FinMap hash_cmp R)
       sym (get-entries m hash
       ∙ entry_found hash_cmp hash_cmp-IsTotalOrder (entries m) i hash found no_entry (entries_sorted m) (entry_in i within)
       (λ k. ((hash_of i within ∙ ap (hash_in K) (sym value) ∙ same) k, (sym (value_of i within) ∙ sym value) k)))
-  map_answers hash None others = go (find hash_cmp hash (entries m)) refl
+  map_answers hash None others = none_there (get m hash) (λ r found.
+      let at = found_entry hash_cmp hash_cmp-IsAntisymmetric (entries m) hash r no_entry (sym (get-entries m hash) ∙ found) in
+      let within : at.0 < length (values m) = omega (arith, at.1, length-map (entries m) (λ (e : DataHash × R). e.1)) in
+      others at.0 within (sym (hash_of at.0 within) ∙ ap (λ (e : DataHash × R). e.0) at.2))
     where
-      go : (o : Option R) → find hash_cmp hash (entries m) ≡ o → None ≡ get m hash
-      go None none = sym (get-entries m hash ∙ none)
-      go (Some r) found =
-          let at = found_entry hash_cmp hash_cmp-IsAntisymmetric (entries m) hash r no_entry found in
-          let within : at.0 < length (values m) = omega (arith, at.1, length-map (entries m) (λ (e : DataHash × R). e.1)) in
-          absurd (others at.0 within (sym (hash_of at.0 within) ∙ ap (λ (e : DataHash × R). e.0) at.2))
+      none_there : (o : Option R) → ((r : R) → o ≡ Some r → ⊥) → None ≡ o
+      none_there o never = grind (arith, never)

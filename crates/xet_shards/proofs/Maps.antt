@@ -1,43 +1,35 @@
 -- The finite maps of the entries of a `BTreeMap`.
-use Rattle.std.proofs.Common.{◌≡◌, ℕ, ◌+◌, Bool, true, false, ◌&&◌, List, [], ◌∷◌, map, length, Some, None, T, refl, sym, ap, ◌∙◌, subst, arith, is_some, ◌<◌, ◌≤◌}
+use Rattle.std.proofs.Common.{◌≡◌, ℕ, ◌+◌, Bool, ◌&&◌, List, [], ◌∷◌, map, length, Some, None, T, refl, sym, ap, ◌∙◌, subst, arith, is_some, ◌<◌, ◌≤◌}
 use Rattle.std.specs.Prelude.{All, option_map, unwrap_or, sum_by, cond}
-use Rattle.std.specs.Ordering.{is_lt, is_eq, eq_by_cmp, match_ordering}
+use Rattle.std.specs.Ordering.{is_lt, match_ordering}
 use Rattle.std.specs.declared.cmp.Ordering.{Ordering}
 use Rattle.std.specs.declared.cmp.Ordering.TheVariants.{Less, Equal, Greater}
-use Rattle.std.specs.Cmp.{IsTotalOrder, Equal-is}
-use Rattle.std.specs.Map.{lookup, keys_of, values_of}
+use Rattle.std.specs.Cmp.{IsTotalOrder}
+use Rattle.std.specs.Map.{lookup, keys_of}
 use Rattle.std.specs.BTreeMap.{insert_entry, is_at}
 use Rattle.std.specs.FinMap.{FinMap, from_entries, IsAntisymmetric, is_sorted, find, get, insert, entries, keys, values, empty, from_sorted, same_map, same_entries_map, entries-from_sorted, entries-insert, entries_sorted, get-from_sorted, get-entries, get-empty, get-from_entries, len, len-entries, len-empty, len-insert}
-use Rattle.std.specs.FinMap.Entries.{put, is_sorted-put, by_order, below_all}
+use Rattle.std.specs.FinMap.Entries.{put, is_sorted-put, below_all}
 use Rattle.std.specs.List.Sorted.{IsStrictlySortedBy}
 use Rattle.std.specs.List.{AllByRecursion}
 use Rattle.std.proofs.lemmas.Map.Entries.{sum_by-insert_entry}
 use Rattle.std.proofs.lemmas.Map.Views.{All-keys-insert_entry}
+use Rattle.std.proofs.lemmas.List.{nil_from_length}
 use Rattle.std.proofs.lemmas.List.Elements.{All-cons, All-drop}
 
-order_cases : {A : Type 0} (o : Ordering) (a b c d : A) → c ≡ d → match_ordering o a b c ≡ by_order o a b d
-order_cases Less a b c d same = refl
-order_cases Equal a b c d same = refl
-order_cases Greater a b c d same = same
-
-less : (o : Ordering) → T (is_lt o) → o ≡ Less
-less Less p = refl
-less Equal p = absurd p
-less Greater p = absurd p
+pub less : (o : Ordering) → T (is_lt o) → o ≡ Less
+less o p = grind arith
 
 pub both_left : (a b : Bool) → T (a && b) → T a
-both_left true b p = tt
-both_left false b p = p
+both_left a b p = grind arith
 
 pub both_right : (a b : Bool) → T (a && b) → T b
-both_right true b p = p
-both_right false b p = absurd p
+both_right a b p = grind arith
 
 module _ {K X : Type 0} (R : K → K → Ordering) where
   -- insertion into the entries is insertion into the map
   pub put_is : (k : K) (v : X) (es : List (K × X)) → insert_entry R es k v ≡ put R k v es
   put_is k v [] = refl
-  put_is k v (e ∷ es) = order_cases (R k e.0) _ _ _ _ (ap (λ rest. e ∷ rest) (put_is k v es))
+  put_is k v (e ∷ es) = grind (arith, put_is k v es)
 
   pub found_is : (q : K) (es : List (K × X)) → lookup (is_at (R q)) es ≡ find R q es
   found_is q [] = refl
@@ -45,8 +37,7 @@ module _ {K X : Type 0} (R : K → K → Ordering) where
 
   pub below_none : (x : K) (es : List (K × X)) → T (below_all R x es) → find R x es ≡ None
   below_none x [] below = refl
-  below_none x (e ∷ es) below =
-      ap (λ o. cond (is_eq o) (Some e.1) (find R x es)) (less (R x e.0) (both_left _ _ below)) ∙ below_none x es (both_right _ _ below)
+  below_none x (e ∷ es) below = grind (arith, below_none x es (both_right (is_lt (R x e.0)) _ below))
 
   below_keys : (x : K) (es : List (K × X)) → T (below_all R x es) → AllByRecursion (λ y. R x y ≡ Less) (keys_of es)
   below_keys x [] below = tt
@@ -88,20 +79,13 @@ module _ {K X : Type 0} {R : K → K → Ordering} (total : IsTotalOrder R) (exa
   pub sum-insert : (f : X → ℕ) (m : FinMap R X) (k : K) (v : X)
       → sum_by f (values (insert m k v)) + unwrap_or (option_map f (get m k)) 0 ≡ sum_by f (values m) + f v
   sum-insert f m k v =
-      let entered : entries (insert m k v) ≡ insert_entry R (entries m) k v = entries-insert total m k v ∙ sym (put_is R k v (entries m)) in
-      let old : unwrap_or (option_map f (get m k)) 0 ≡ unwrap_or (option_map f (lookup (is_at (R k)) (entries m))) 0 =
-      ap (λ o. unwrap_or (option_map f o) 0) (get-entries m k ∙ sym (found_is R k (entries m))) in
-      ap (λ es. sum_by f (map (λ e. e.1) es) + unwrap_or (option_map f (get m k)) 0) entered
-      ∙ ap (λ n. sum_by f (values_of (insert_entry R (entries m) k v)) + n) old
-      ∙ sum_by-insert_entry f total (entries m) k v (rising_keys R (entries m) (entries_sorted m))
-
-no_entries : {A : Type 0} (es : List A) → length es ≡ 0 → es ≡ []
-no_entries [] none = refl
-no_entries (e ∷ es) some = absurd (omega arith)
+      let entered = entries-insert total m k v ∙ sym (put_is R k v (entries m)) in
+      let old = get-entries m k ∙ sym (found_is R k (entries m)) in
+      cc (entered, old, sum_by-insert_entry f total (entries m) k v (rising_keys R (entries m) (entries_sorted m)))
 
 module _ {K : Type 0} (X : Type 0) (R : K → K → Ordering) where
   pub entries-empty : entries (empty {X = X} {R = R}) ≡ []
-  entries-empty = no_entries (entries empty) (sym (len-entries empty) ∙ len-empty R X)
+  entries-empty = nil_from_length (entries empty) (sym (len-entries empty) ∙ len-empty R X)
 
   pub values-empty : values (empty {X = X} {R = R}) ≡ []
   values-empty = ap (map (λ e. e.1)) entries-empty
@@ -139,10 +123,7 @@ module _ {K X : Type 0} {R : K → K → Ordering} (total : IsTotalOrder R) (ran
   none_ranked : (k : K) (n : ℕ) (es : List (K × X)) → rank k < n → IsRising rank n (keys_of es) → find R k es ≡ None
   none_ranked k n [] below rising = refl
   none_ranked k n (e ∷ es) below rising =
-      ap (λ b. cond b (Some e.1) (find R k es)) (apart (eq_by_cmp R k e.0) refl) ∙ none_ranked k (rank e.0 + 1) es (omega (arith, below, rising.0)) rising.1 where
-        apart : (b : Bool) → eq_by_cmp R k e.0 ≡ b → b ≡ false
-        apart true is = absurd (omega (arith, below, rising.0, same_rank k e.0 ((Equal-is (R k e.0)).0 is)))
-        apart false is = refl
+      grind (arith, same_rank k e.0, none_ranked k (rank e.0 + 1) es (omega (arith, below, rising.0)) rising.1)
 
   -- the map of entries with such keys has them all
   pub length-from_entries : (n : ℕ) (es : List (K × X)) → IsRising rank n (keys_of es) → length (entries (from_entries {R = R} es)) ≡ length es

@@ -1,8 +1,7 @@
 -- Overlays of maps, in which values of the same key are joined, and the union of two shards made of them.
-use Rattle.std.proofs.Common.{◌≡◌, ℕ, ◌+◌, ◌≤◌, Bool, true, false, List, [], ◌∷◌, ◌++◌, Option, None, Some, refl, sym, ap, ◌∙◌, subst, cond, true≢false, is_some, arith, T, map}
+use Rattle.std.proofs.Common.{◌≡◌, ℕ, ◌+◌, ◌≤◌, List, [], ◌∷◌, ◌++◌, Option, None, Some, refl, sym, ap, ◌∙◌, subst, arith, T, map}
 use Rattle.std.specs.Prelude.{option_map, unwrap_or, sum_by}
 use Rattle.std.specs.Option.{option_or}
-use Rattle.std.specs.Ordering.{eq_by_cmp}
 use Rattle.std.specs.Map.{values_of}
 use Rattle.std.specs.FinMap.{FinMap, is_sorted, get, insert, entries, values, from_sorted, get-insert, get-entries, same_map, same_entries_map, entries-from_sorted, entries_sorted}
 use Rattle.std.proofs.lemmas.List.{map-append}
@@ -13,7 +12,7 @@ use Rattle.xet_base.proofs.HashOrder.{hash_cmp-IsTotalOrder, hash_cmp-IsAntisymm
 use Rattle.xet_records.specs.declared.file_structs.MDBFileInfo.{MDBFileInfo}
 use Rattle.xet_records.specs.declared.xorb_structs.MDBXorbInfo.{MDBXorbInfo}
 use Rattle.xet_records.specs.FileRecord.{file_records, row_count}
-use Rattle.xet_records.specs.XorbRecord.{xorb_records, xorb_row_count}
+use Rattle.xet_records.specs.XorbRecord.{xorb_records}
 use Rattle.xet_records.specs.Merging.{merged}
 use Rattle.xet_shards.specs.Section.{total_rows}
 use Rattle.xet_shards.specs.Shard.{Shard, FileMap, XorbMap}
@@ -44,41 +43,30 @@ module _ {X : Type 0} (join : X → X → X) where
   pub get-overlay : (es : List (DataHash × X)) (m : FinMap hash_cmp X) (q : DataHash) → get (overlay es m) q ≡ either_joined (entry es q) (get m q)
   get-overlay [] m q = refl
   get-overlay (e ∷ es) m q =
-      get-insert hash_cmp-IsTotalOrder (overlay es m) e.0 (with_twin e.1 (get m e.0)) q ∙ slot (eq_by_cmp hash_cmp q e.0) refl (get-overlay es m q) where
-        slot : (t : Bool) → eq_by_cmp hash_cmp q e.0 ≡ t → get (overlay es m) q ≡ either_joined (entry es q) (get m q)
-            → cond t (Some (with_twin e.1 (get m e.0))) (get (overlay es m) q) ≡ either_joined (cond t (Some e.1) (entry es q)) (get m q)
-        slot true tied rest = ap (λ k. Some (with_twin e.1 (get m k))) (sym ((same_key q e.0).0 tied))
-        slot false tied rest = rest
+      grind (arith, get-insert hash_cmp-IsTotalOrder (overlay es m) e.0 (with_twin e.1 (get m e.0)) q, get-overlay es m q, same_key q e.0)
 
   -- the overlay is the only map with these values
   pub is_overlay : (es : List (DataHash × X)) (m c : FinMap hash_cmp X) → ((q : DataHash) → get c q ≡ either_joined (entry es q) (get m q)) → c ≡ overlay es m
   is_overlay es m c is = same_map hash_cmp-IsTotalOrder hash_cmp-IsAntisymmetric c (overlay es m) (λ q. is q ∙ sym (get-overlay es m q))
 
-  pushed_slot : (t : Bool) (o p : Option X) (x v : X) → (t ≡ true → o ≡ None) → (t ≡ true → v ≡ with_twin x p)
-      → either_joined (option_or o (cond t (Some x) None)) p ≡ cond t (Some v) (either_joined o p)
-  pushed_slot false None p x v new is = refl
-  pushed_slot false (Some y) p x v new is = refl
-  pushed_slot true None p x v new is = ap Some (sym (is refl))
-  pushed_slot true (Some y) p x v new is = absurd (true≢false (ap is_some (new refl)))
-
-  module _ (es : List (DataHash × X)) (k : DataHash) (x : X) (m : FinMap hash_cmp X) (new : entry es k ≡ None) where
+  module _ (es fs : List (DataHash × X)) (k : DataHash) (x : X) (push : fs ≡ es ++ (k, x) ∷ []) (m : FinMap hash_cmp X) (new : entry es k ≡ None) where
     -- one more entry, with a new key, is an insertion
-    pub overlay-push : overlay (es ++ (k, x) ∷ []) m ≡ insert (overlay es m) k (with_twin x (get m k))
-    overlay-push = same_map hash_cmp-IsTotalOrder hash_cmp-IsAntisymmetric _ _ (λ q.
-        get-overlay (es ++ (k, x) ∷ []) m q ∙ ap (λ o. either_joined o (get m q)) (entry-append es k x q)
-        ∙ pushed_slot (eq_by_cmp hash_cmp q k) (entry es q) (get m q) x (with_twin x (get m k))
-        (λ tied. ap (entry es) ((same_key q k).0 tied) ∙ new)
-        (λ tied. ap (λ j. with_twin x (get m j)) (sym ((same_key q k).0 tied)))
-        ∙ sym (get-insert hash_cmp-IsTotalOrder (overlay es m) k (with_twin x (get m k)) q ∙ ap (cond (eq_by_cmp hash_cmp q k) (Some (with_twin x (get m k)))) (get-overlay es m q)))
+    overlay-push : overlay fs m ≡ insert (overlay es m) k (with_twin x (get m k))
+    overlay-push = same_map hash_cmp-IsTotalOrder hash_cmp-IsAntisymmetric _ _ (λ q. grind (
+      arith,
+      get-overlay fs m q,
+      get-overlay es m q,
+      entry-append es k x q,
+      get-insert hash_cmp-IsTotalOrder (overlay es m) k (with_twin x (get m k)) q,
+      same_key q k,
+    ))
 
     -- and this is what it adds to a sum
     pub sum-overlay : (f : X → ℕ)
-        → sum_by f (values (overlay (es ++ (k, x) ∷ []) m)) + unwrap_or (option_map f (get m k)) 0 ≡ sum_by f (values (overlay es m)) + f (with_twin x (get m k))
+        → sum_by f (values (overlay fs m)) + unwrap_or (option_map f (get m k)) 0 ≡ sum_by f (values (overlay es m)) + f (with_twin x (get m k))
     sum-overlay f =
         let before : get (overlay es m) k ≡ get m k = get-overlay es m k ∙ ap (λ o. either_joined o (get m k)) new in
-        ap (λ n. sum_by f (values n) + unwrap_or (option_map f (get m k)) 0) overlay-push
-        ∙ ap (λ o. sum_by f (values (insert (overlay es m) k (with_twin x (get m k)))) + unwrap_or (option_map f o) 0) (sym before)
-        ∙ sum-insert hash_cmp-IsTotalOrder hash_cmp-IsAntisymmetric f (overlay es m) k (with_twin x (get m k))
+        cc (overlay-push, before, sum-insert hash_cmp-IsTotalOrder hash_cmp-IsAntisymmetric f (overlay es m) k (with_twin x (get m k)))
 
 -- a map is the map of its entries
 pub from_sorted-entries : {X : Type 0} (m : FinMap hash_cmp X) (es : List (DataHash × X)) → es ≡ entries m → from_sorted es ≡ m
@@ -93,28 +81,18 @@ pub shown_whole : {X Z : Type 0} (f : Z → X) (front rest all : List (DataHash 
     → map (shown f) front ++ shown f e ∷ map (shown f) rest ≡ map (shown f) all
 shown_whole f front rest all e whole = sym (map-append (shown f) front (e ∷ rest)) ∙ ap (map (shown f)) whole
 
-pub sum-entries : {X : Type 0} (f : X → ℕ) (es : List (DataHash × X)) (e : DataHash × X) → sum_by f (values_of (es ++ e ∷ [])) ≡ sum_by f (values_of es) + f e.1
-sum-entries f es e = ap (sum_by f) (map-append (λ d. d.1) es (e ∷ [])) ∙ sum_by_push f (values_of es) e.1
+pub sum-entries : {X : Type 0} (f : X → ℕ) (es fs : List (DataHash × X)) (e : DataHash × X) → fs ≡ es ++ e ∷ [] → sum_by f (values_of fs) ≡ sum_by f (values_of es) + f e.1
+sum-entries f es fs e push = ap (λ gs. sum_by f (values_of gs)) push ∙ ap (sum_by f) (map-append (λ d. d.1) es (e ∷ [])) ∙ sum_by_push f (values_of es) e.1
 
 -- of two xorbs with the same hash, the union has the other's
 abbrev pub other_xorb : MDBXorbInfo → MDBXorbInfo → MDBXorbInfo
 other_xorb own other = other
 
 pub either_file_is : (o p : Option MDBFileInfo) → either_joined merged o p ≡ either_file o p
-either_file_is None p = refl
-either_file_is (Some r) None = refl
-either_file_is (Some r) (Some s) = refl
+either_file_is o p = grind arith
 
 either_xorb_is : (o p : Option MDBXorbInfo) → either_joined other_xorb o p ≡ option_or p o
-either_xorb_is None None = refl
-either_xorb_is None (Some s) = refl
-either_xorb_is (Some r) None = refl
-either_xorb_is (Some r) (Some s) = refl
-
--- so an own xorb whose hash the other has adds no rows
-pub rows_kept : (x : MDBXorbInfo) (o : Option MDBXorbInfo) → is_some o ≡ true → xorb_row_count (with_twin other_xorb x o) ≡ unwrap_or (option_map xorb_row_count o) 0
-rows_kept x None there = absurd (true≢false (sym there))
-rows_kept x (Some y) there = refl
+either_xorb_is o p = grind arith
 
 -- the maps of a union
 pub are_united_files : (es : List (DataHash × MDBFileInfo)) (b c : FileMap) → ((q : DataHash) → get c q ≡ either_file (entry es q) (get b q)) → c ≡ overlay merged es b
@@ -135,12 +113,8 @@ united_shard a b = record { files = united_files a.files b.files; xorbs = united
 
 pub union_exists : (a b : Shard) → IsUnion a b (united_shard a b)
 union_exists a b = record {
-  files = λ q.
-      get-overlay merged (entries a.files) b.files q ∙ ap (λ o. either_joined merged o (get b.files q)) (sym (get-entries a.files q))
-      ∙ either_file_is (get a.files q) (get b.files q);
-  xorbs = λ q.
-      get-overlay other_xorb (entries a.xorbs) b.xorbs q ∙ ap (λ o. either_joined other_xorb o (get b.xorbs q)) (sym (get-entries a.xorbs q))
-      ∙ either_xorb_is (get a.xorbs q) (get b.xorbs q);
+  files = λ q. cc (get-overlay merged (entries a.files) b.files q, get-entries a.files q, either_file_is (get a.files q) (get b.files q));
+  xorbs = λ q. cc (get-overlay other_xorb (entries a.xorbs) b.xorbs q, get-entries a.xorbs q, either_xorb_is (get a.xorbs q) (get b.xorbs q));
 }
 
 pub union_unique : (a b c d : Shard) → IsUnion a b c → IsUnion a b d → c ≡ d
@@ -158,19 +132,21 @@ can_join_united a b can = λ q r s own other.
     }
 
 -- whether shards may be united shows in the rows of their union, however they are counted
-module _ (a b : Shard) (files xorbs : ℕ) (files_are : (c : Shard) → IsUnion a b c → files ≡ total_rows file_records (values c.files))
-    (xorbs_are : (c : Shard) → IsUnion a b c → xorbs ≡ total_rows xorb_records (values c.xorbs)) where
+module _ (a b : Shard) (es : List (DataHash × MDBFileInfo)) (xs : List (DataHash × MDBXorbInfo)) (files xorbs : ℕ) (es_are : es ≡ entries a.files) (xs_are : xs ≡ entries a.xorbs)
+    (files_are : (m : FileMap) → ((q : DataHash) → get m q ≡ either_file (entry es q) (get b.files q)) → files ≡ total_rows file_records (values m))
+    (xorbs_are : (m : XorbMap) → ((q : DataHash) → get m q ≡ option_or (get b.xorbs q) (entry xs q)) → xorbs ≡ total_rows xorb_records (values m)) where
+  counted : (c : Shard) → IsUnion a b c → (files ≡ total_rows file_records (values c.files)) × (xorbs ≡ total_rows xorb_records (values c.xorbs))
+  counted c union = (files_are c.files (λ q. cc (union.files q, get-entries a.files q)), xorbs_are c.xorbs (λ q. cc (union.xorbs q, get-entries a.xorbs q)))
+
   pub unite_if_few : CanJoinFiles a.files b.files → files ≤ 4294967295 → xorbs ≤ 4294967295 → CanUnite a b
   unite_if_few joins few_files few_xorbs = record {
     same = λ q r s own other. (joins q r s own other).same;
-    rows = λ c union. record {
-      files = omega (arith, few_files, files_are c union);
-      xorbs = omega (arith, few_xorbs, xorbs_are c union);
-    };
+    rows = λ c union. let are = counted c union in record { files = omega arith; xorbs = omega arith };
   }
 
   pub few_if_unite : CanUnite a b → (files ≤ 4294967295) × (xorbs ≤ 4294967295)
   few_if_unite can =
       let union = union_exists a b in
       let few = can.rows (united_shard a b) union in
-      (omega (arith, few.files, files_are (united_shard a b) union), omega (arith, few.xorbs, xorbs_are (united_shard a b) union))
+      let are = counted (united_shard a b) union in
+      (omega arith, omega arith)

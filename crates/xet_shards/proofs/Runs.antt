@@ -25,12 +25,10 @@ use Rattle.xet_shards.specs.RunSteps.{RowFailure, RowNotRead, ReadsRun, RunFailu
 
 -- what a test for difference shows
 pub tested_same : (b : Bool) → false ≡ not b → b ≡ true
-tested_same true is = refl
-tested_same false is = is
+tested_same b is = grind arith
 
 pub tested_other : (b : Bool) → true ≡ not b → b ≡ false
-tested_other true is = is
-tested_other false is = refl
+tested_other b is = grind arith
 
 -- the same of the next hash under a key
 pub next_hash : (key : DataHash) (qs : List DataHash) (n i : ℕ) (d keyed hash : DataHash) (b : Bool) → n ≡ i → keyed ≡ under_key key (get_or qs i d) → hash_eq keyed hash ≡ b
@@ -38,41 +36,25 @@ pub next_hash : (key : DataHash) (qs : List DataHash) (n i : ℕ) (d keyed hash 
 next_hash key qs n i d keyed hash b same is shown = (λ k. hash_eq (under_key key (get_or qs (same k) d)) hash) ∙ ap (λ h. hash_eq h hash) (sym is) ∙ shown
 
 module _ (key : DataHash) where
-  run_of_none : (qs : List DataHash) → run_length key qs [] ≡ 0
-  run_of_none [] = refl
-  run_of_none (q ∷ qs) = refl
 
   pub run_within : (qs : List DataHash) (cs : List XorbChunkSequenceEntry) → run_length key qs cs ≤ length cs
   run_within qs cs = (common_prefix_len-le (λ (q : DataHash) (c : XorbChunkSequenceEntry). hash_eq (under_key key q) c.chunk_hash) qs cs).1
+
+  run_of_none : (qs : List DataHash) → run_length key qs [] ≡ 0
+  run_of_none qs = omega (arith, run_within qs [])
 
   -- a run that all chunks are in goes on with the next chunk if that has the next hash
   pub run_push : (qs : List DataHash) (cs : List XorbChunkSequenceEntry) (c : XorbChunkSequenceEntry) (d : DataHash) → run_length key qs cs ≡ length cs → length cs < length qs
       → run_length key qs (cs ++ c ∷ []) ≡ length cs + cond (hash_eq (under_key key (get_or qs (length cs) d)) c.chunk_hash) 1 0
   run_push [] cs c d same below = absurd (omega (arith, below))
-  run_push (q ∷ qs) [] c d same below = go (hash_eq (under_key key q) c.chunk_hash)
-    where
-      go : (b : Bool) → cond b (1 + run_length key qs []) 0 ≡ 0 + cond b 1 0
-      go true = omega (arith, run_of_none qs)
-      go false = refl
-  run_push (q ∷ qs) (x ∷ cs) c d same below =
-      go (hash_eq (under_key key q) x.chunk_hash) same (λ all. run_push qs cs c d all (omega (arith, below)))
-    where
-      go : (b : Bool) → cond b (1 + run_length key qs cs) 0 ≡ length (x ∷ cs)
-          → (run_length key qs cs ≡ length cs → run_length key qs (cs ++ c ∷ []) ≡ length cs + cond (hash_eq (under_key key (get_or qs (length cs) d)) c.chunk_hash) 1 0)
-          → cond b (1 + run_length key qs (cs ++ c ∷ [])) 0 ≡ length (x ∷ cs) + cond (hash_eq (under_key key (get_or qs (length cs) d)) c.chunk_hash) 1 0
-      go true all rest = omega (arith, rest (omega (arith, all)))
-      go false none rest = absurd (omega (arith, none))
+  run_push (q ∷ qs) [] c d same below = grind (arith, run_of_none qs)
+  run_push (q ∷ qs) (x ∷ cs) c d same below = grind (arith, run_push qs cs c d)
 
   -- chunks that decide a run decide it whatever follows
   run_ended : (qs : List DataHash) (cs more : List XorbChunkSequenceEntry) → run_length key qs cs < length cs → run_length key qs (cs ++ more) ≡ run_length key qs cs
   run_ended [] cs more below = refl
   run_ended (q ∷ qs) [] more below = absurd (omega (arith, below))
-  run_ended (q ∷ qs) (c ∷ cs) more below = go (hash_eq (under_key key q) c.chunk_hash) below (run_ended qs cs more)
-    where
-      go : (b : Bool) → cond b (1 + run_length key qs cs) 0 < length (c ∷ cs) → (run_length key qs cs < length cs → run_length key qs (cs ++ more) ≡ run_length key qs cs)
-          → cond b (1 + run_length key qs (cs ++ more)) 0 ≡ cond b (1 + run_length key qs cs) 0
-      go true short rest = ap (λ n. 1 + n) (rest (omega (arith, short)))
-      go false short rest = refl
+  run_ended (q ∷ qs) (c ∷ cs) more below = grind (arith, run_ended qs cs more)
 
   run_of_all : (qs : List DataHash) (cs more : List XorbChunkSequenceEntry) → length cs ≡ length qs → run_length key qs (cs ++ more) ≡ run_length key qs cs
   run_of_all [] cs more many = refl

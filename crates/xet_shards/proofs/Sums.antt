@@ -1,9 +1,9 @@
 -- Sums over a map, and over a map with some of its entries.
-use Rattle.std.proofs.Common.{◌≡◌, ℕ, ◌+◌, ◌≤◌, Bool, true, false, List, [], ◌∷◌, Some, None, T, refl, sym, ap, ◌∙◌, arith, cond, true≢false, is_some}
-use Rattle.std.specs.Prelude.{All, option_map, unwrap_or, sum_by}
+use Rattle.std.proofs.Common.{◌≡◌, ℕ, ◌+◌, ◌≤◌, false, List, [], ◌∷◌, Some, None, T, refl, ap, ◌∙◌, arith, cond}
+use Rattle.std.specs.Prelude.{All, sum_by}
 use Rattle.std.specs.Ordering.{eq_by_cmp}
 use Rattle.std.specs.declared.cmp.Ordering.{Ordering}
-use Rattle.std.specs.Cmp.{IsTotalOrder, Equal-is}
+use Rattle.std.specs.Cmp.{IsTotalOrder}
 use Rattle.std.proofs.lemmas.Cmp.{eq_by_cmp_equiv}
 use Rattle.std.specs.Map.{values_of}
 use Rattle.std.specs.FinMap.{FinMap, IsAntisymmetric, is_sorted, find, get, insert, remove, entries, values, same_map, entries_sorted, get-entries, get-insert, get-remove}
@@ -15,18 +15,11 @@ use Rattle.xet_shards.proofs.Maps.{sum-insert, both_left, both_right, below_none
 module _ {K X : Type 0} {R : K → K → Ordering} (total : IsTotalOrder R) (exact : IsAntisymmetric R) where
   -- an entry removed from a map and inserted again
   put_back : (m : FinMap R X) (k : K) (v : X) → get m k ≡ Some v → insert (remove m k) k v ≡ m
-  put_back m k v here = same_map total exact _ _ (λ q.
-      get-insert total (remove m k) k v q ∙ ap (cond (eq_by_cmp R q k) (Some v)) (get-remove total m k q) ∙ at q (eq_by_cmp R q k) refl) where
-        at : (q : K) (b : Bool) → eq_by_cmp R q k ≡ b → cond b (Some v) (cond b None (get m q)) ≡ get m q
-        at q true is = sym here ∙ ap (get m) (sym (exact q k ((Equal-is (R q k)).0 is)))
-        at q false is = refl
+  put_back m k v here = same_map total exact _ _ (λ q. grind (arith, get-insert total (remove m k) k v q, get-remove total m k q, exact q k))
 
   -- a key that is found after an entry is not that entry's
   other_key : (e : K × X) (es : List (K × X)) (q : K) (v : X) → T (below_all R e.0 es) → find R q es ≡ Some v → eq_by_cmp R q e.0 ≡ false
-  other_key e es q v below is = at (eq_by_cmp R q e.0) refl where
-    at : (b : Bool) → eq_by_cmp R q e.0 ≡ b → b ≡ false
-    at true same = absurd (true≢false (sym (ap is_some is) ∙ ap is_some (ap (λ k. find R k es) (exact q e.0 ((Equal-is (R q e.0)).0 same)) ∙ below_none R e.0 es below)))
-    at false same = refl
+  other_key e es q v below is = grind (arith, exact q e.0, below_none R e.0 es below)
 
   all_found : (P : K × X → Type 0) (es : List (K × X)) → T (is_sorted R es) → ((q : K) (v : X) → find R q es ≡ Some v → P (q, v)) → All P es
   all_found P [] sorted each = All-nil P
@@ -43,12 +36,7 @@ module _ {K X : Type 0} {R : K → K → Ordering} (total : IsTotalOrder R) (exa
 
   -- a sum is that of one value and of the rest
   pub sum-remove : (f : X → ℕ) (m : FinMap R X) (k : K) (v : X) → get m k ≡ Some v → sum_by f (values m) ≡ sum_by f (values (remove m k)) + f v
-  sum-remove f m k v here = omega (
-    arith,
-    sum-insert total exact f (remove m k) k v,
-    ap (λ n. sum_by f (values n)) (put_back m k v here),
-    ap (λ o. unwrap_or (option_map f o) 0) (removed m k),
-  )
+  sum-remove f m k v here = grind (arith, sum-insert total exact f (remove m k) k v, put_back m k v here, removed m k)
 
   -- no value is more than the sum
   pub part-le-sum : (f : X → ℕ) (m : FinMap R X) (k : K) (v : X) → get m k ≡ Some v → f v ≤ sum_by f (values m)

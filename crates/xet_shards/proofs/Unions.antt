@@ -1,20 +1,19 @@
 -- Unions of shards: that order, grouping and repetition don't matter.
-use Rattle.std.proofs.Common.{◌≡◌, Option, None, Some, refl, sym, ap, ◌∙◌, subst}
+use Rattle.std.proofs.Common.{◌≡◌, Option, None, Some, refl, sym, ap, ◌∙◌, subst, arith}
 use Rattle.std.specs.Option.{option_or}
 use Rattle.std.proofs.lemmas.Option.{same_Some}
-use Rattle.std.specs.FinMap.{get, entries, get-empty, get-entries, same_map}
+use Rattle.std.specs.FinMap.{get, get-empty, same_map}
 use Rattle.xet_base.specs.declared.merklehash.DataHash.{DataHash}
 use Rattle.xet_base.specs.Hash.{hash_cmp}
 use Rattle.xet_base.proofs.HashOrder.{hash_cmp-IsTotalOrder, hash_cmp-IsAntisymmetric}
 use Rattle.xet_records.specs.declared.file_structs.MDBFileInfo.{MDBFileInfo}
 use Rattle.xet_records.specs.FileRecord.{IsWellFormed}
-use Rattle.xet_records.specs.Merging.{Agree, merged, joined}
+use Rattle.xet_records.specs.Merging.{Agree, merged}
 use Rattle.xet_records.proofs.Merging.{merged_is_joined, merged-assoc, agree-merged, joined-comm, joined-idem, same_file_if_agree}
 use Rattle.xet_shards.specs.Shard.{Shard, IsShard, empty_shard, file_hash_of}
 use Rattle.xet_shards.specs.Joining.{either_file}
 use Rattle.xet_shards.specs.SetOperations.{IsUnion, IsDifference, ShardsAgree, HasFewRows, CanUnite}
-use Rattle.xet_shards.proofs.FileUnions.{entry-holds}
-use Rattle.xet_shards.proofs.Joining.{or_none, but_empty}
+use Rattle.xet_shards.proofs.FileUnions.{holds_in_map}
 
 pub same_shard : (c d : Shard) → ((q : DataHash) → get c.files q ≡ get d.files q) → ((q : DataHash) → get c.xorbs q ≡ get d.xorbs q) → c ≡ d
 same_shard c d files xorbs = λ i. record {
@@ -28,22 +27,16 @@ pub record IsKnown (q : DataHash) (r : MDBFileInfo) : Type 0 where
   pub well_formed : IsWellFormed r
 
 pub known : (s : Shard) (q : DataHash) (r : MDBFileInfo) → IsShard s → get s.files q ≡ Some r → IsKnown q r
-known s q r shard at =
-    let found = sym (get-entries s.files q) ∙ at in
-    record {
-      keyed = entry-holds (λ e. e.0 ≡ file_hash_of e.1) (entries s.files) q r shard.files.keyed found;
-      well_formed = entry-holds (λ e. IsWellFormed e.1) (entries s.files) q r shard.files.well_formed found;
-    }
+known s q r shard at = record {
+  keyed = holds_in_map (λ e. e.0 ≡ file_hash_of e.1) s.files q r shard.files.keyed at;
+  well_formed = holds_in_map (λ e. IsWellFormed e.1) s.files q r shard.files.well_formed at;
+}
 
 pub same_either : {X : Type 0} (o p : Option X) → ((x y : X) → o ≡ Some x → p ≡ Some y → x ≡ y) → option_or p o ≡ option_or o p
 same_either None None same = refl
 same_either None (Some y) same = refl
 same_either (Some x) None same = refl
 same_either (Some x) (Some y) same = ap Some (sym (same x y refl refl))
-
--- merging two records with the same hash
-merged_known : (q : DataHash) (r s : MDBFileInfo) → IsKnown q r → IsKnown q s → merged r s ≡ joined r s
-merged_known q r s own others = merged_is_joined r s own.well_formed others.well_formed
 
 files_turned : (q : DataHash) (o p : Option MDBFileInfo) → ((r : MDBFileInfo) → o ≡ Some r → IsKnown q r) → ((s : MDBFileInfo) → p ≡ Some s → IsKnown q s)
     → ((r s : MDBFileInfo) → o ≡ Some r → p ≡ Some s → Agree r s) → either_file o p ≡ either_file p o
@@ -53,7 +46,9 @@ files_turned q (Some r) None first second agree = refl
 files_turned q (Some r) (Some s) first second agree =
     let own = first r refl in
     let others = second s refl in
-    ap Some (merged_known q r s own others ∙ joined-comm r s own.well_formed others.well_formed (sym own.keyed ∙ others.keyed) (agree r s refl refl) ∙ sym (merged_known q s r others own))
+    ap Some (merged_is_joined r s own.well_formed others.well_formed
+    ∙ joined-comm r s own.well_formed others.well_formed (sym own.keyed ∙ others.keyed) (agree r s refl refl)
+    ∙ sym (merged_is_joined s r others.well_formed own.well_formed))
 
 -- in either order
 pub union-comm : (a b c d : Shard) → IsShard a → IsShard b → ShardsAgree a b → IsUnion a b c → IsUnion b a d → c ≡ d
@@ -61,53 +56,37 @@ union-comm a b c d first second agree one other = same_shard c d (λ q.
     one.files q ∙ files_turned q (get a.files q) (get b.files q) (λ r. known a q r first) (λ s. known b q s second) (agree.files q) ∙ sym (other.files q))
     (λ q. one.xorbs q ∙ same_either (get a.xorbs q) (get b.xorbs q) (agree.xorbs q) ∙ sym (other.xorbs q))
 
-files_grouped : (o p r : Option MDBFileInfo) → either_file (either_file o p) r ≡ either_file o (either_file p r)
-files_grouped None p r = refl
-files_grouped (Some x) None r = refl
-files_grouped (Some x) (Some y) None = refl
-files_grouped (Some x) (Some y) (Some z) = ap Some (merged-assoc x y z)
-
-xorbs_grouped : {X : Type 0} (o p r : Option X) → option_or r (option_or p o) ≡ option_or (option_or r p) o
-xorbs_grouped o p None = refl
-xorbs_grouped o p (Some z) = refl
-
 -- in either grouping
 pub union-assoc : (a b c ab bc left right : Shard) → IsUnion a b ab → IsUnion ab c left → IsUnion b c bc → IsUnion a bc right → left ≡ right
-union-assoc a b c ab bc left right one then_c other then_a = same_shard left right (λ q.
-    then_c.files q ∙ ap (λ o. either_file o (get c.files q)) (one.files q) ∙ files_grouped (get a.files q) (get b.files q) (get c.files q)
-    ∙ sym (then_a.files q ∙ ap (either_file (get a.files q)) (other.files q)))
-    (λ q. then_c.xorbs q ∙ ap (option_or (get c.xorbs q)) (one.xorbs q) ∙ xorbs_grouped (get a.xorbs q) (get b.xorbs q) (get c.xorbs q)
-    ∙ sym (then_a.xorbs q ∙ ap (λ o. option_or o (get a.xorbs q)) (other.xorbs q)))
+union-assoc a b c ab bc left right one then_c other then_a = same_shard left right
+    (λ q. grind (arith, one.files q, then_c.files q, other.files q, then_a.files q, merged-assoc))
+    (λ q. grind (arith, one.xorbs q, then_c.xorbs q, other.xorbs q, then_a.xorbs q))
 
 files_repeated : (q : DataHash) (o : Option MDBFileInfo) → ((r : MDBFileInfo) → o ≡ Some r → IsKnown q r) → either_file o o ≡ o
 files_repeated q None first = refl
-files_repeated q (Some r) first = let own = first r refl in ap Some (merged_known q r r own own ∙ joined-idem r own.well_formed)
-
-xorbs_repeated : {X : Type 0} (o : Option X) → option_or o o ≡ o
-xorbs_repeated None = refl
-xorbs_repeated (Some x) = refl
+files_repeated q (Some r) first = let own = first r refl in ap Some (merged_is_joined r r own.well_formed own.well_formed ∙ joined-idem r own.well_formed)
 
 -- a shard with itself
 pub union-idem : (a c : Shard) → IsShard a → IsUnion a a c → c ≡ a
 union-idem a c shard union = same_shard c a (λ q. union.files q ∙ files_repeated q (get a.files q) (λ r. known a q r shard))
-    (λ q. union.xorbs q ∙ xorbs_repeated (get a.xorbs q))
-
-no_file_after : (o : Option MDBFileInfo) → either_file o None ≡ o
-no_file_after None = refl
-no_file_after (Some r) = refl
+    (λ q. grind (arith, union.xorbs q))
 
 -- a shard with the empty one
+no_file : (q : DataHash) → get empty_shard.files q ≡ None
+no_file q = get-empty hash_cmp q
+
+no_xorb : (q : DataHash) → get empty_shard.xorbs q ≡ None
+no_xorb q = get-empty hash_cmp q
+
 pub union-empty : (a c : Shard) → IsUnion a empty_shard c → c ≡ a
-union-empty a c union = same_shard c a (λ q. union.files q ∙ ap (either_file (get a.files q)) (get-empty hash_cmp q) ∙ no_file_after (get a.files q))
-    (λ q. union.xorbs q ∙ ap (λ o. option_or o (get a.xorbs q)) (get-empty hash_cmp q))
+union-empty a c union = same_shard c a (λ q. grind (arith, union.files q, no_file q)) (λ q. grind (arith, union.xorbs q, no_xorb q))
 
 pub union-of_empty : (a c : Shard) → IsUnion empty_shard a c → c ≡ a
-union-of_empty a c union = same_shard c a (λ q. union.files q ∙ ap (λ o. either_file o (get a.files q)) (get-empty hash_cmp q))
-    (λ q. union.xorbs q ∙ ap (option_or (get a.xorbs q)) (get-empty hash_cmp q) ∙ or_none (get a.xorbs q))
+union-of_empty a c union = same_shard c a (λ q. grind (arith, union.files q, no_file q)) (λ q. grind (arith, union.xorbs q, no_xorb q))
 
 -- a shard before the empty one
 pub difference-of_empty : (a c : Shard) → IsDifference empty_shard a c → c ≡ a
-difference-of_empty a c rest = same_shard c a (λ q. rest.files q ∙ but_empty (get a.files) q) (λ q. rest.xorbs q ∙ but_empty (get a.xorbs) q)
+difference-of_empty a c rest = same_shard c a (λ q. grind (arith, rest.files q, no_file q)) (λ q. grind (arith, rest.xorbs q, no_xorb q))
 
 -- shards that agree can be united if the rows of their union fit `u32`
 pub agreeing_unite : (a b : Shard) → IsShard a → IsShard b → ShardsAgree a b → ((c : Shard) → IsUnion a b c → HasFewRows c) → CanUnite a b
@@ -127,8 +106,7 @@ files_agree (Some x) None r t first second is = first r is
 files_agree (Some x) (Some y) r t first second is = subst (λ z. Agree z t) (same_Some (merged x y) r is) (agree-merged x y t (first x refl) (second y refl))
 
 xorbs_agree : {X : Type 0} (o p : Option X) (r t : X) → ((x : X) → o ≡ Some x → x ≡ t) → ((y : X) → p ≡ Some y → y ≡ t) → option_or p o ≡ Some r → r ≡ t
-xorbs_agree o None r t first second is = first r is
-xorbs_agree o (Some y) r t first second is = second r is
+xorbs_agree o p r t first second is = grind arith
 
 pub union_agrees : (a b c ab : Shard) → ShardsAgree a c → ShardsAgree b c → IsUnion a b ab → ShardsAgree ab c
 union_agrees a b c ab first second union = record {

@@ -1,5 +1,5 @@
 -- The numbers of a shard's footer are within 64 bits.
-use Rattle.std.proofs.Common.{Bool, true, false, List, ℕ, ◌+◌, ◌^◌, ◌<◌, ◌≤◌, length, Option, None, Some, refl, arith}
+use Rattle.std.proofs.Common.{Bool, List, ℕ, ◌+◌, ◌^◌, ◌<◌, ◌≤◌, length, Option, refl, arith}
 use Rattle.std.specs.Prelude.{All, IfSome, unwrap_or}
 use Rattle.std.specs.FinMap.{values}
 use Rattle.std.proofs.lemmas.List.Elements.{All-from_recursion}
@@ -21,8 +21,7 @@ use Rattle.xet_shards.proofs.XorbLayouts.{length-chunk_table, length-chunk_table
 
 -- a table that is in, or none
 in_at_most : {X : Type 0} (b : Bool) (xs : List X) → length (if_in b xs) ≤ length xs
-in_at_most true xs = omega arith
-in_at_most false xs = omega arith
+in_at_most b xs = grind arith
 
 -- those of any records that fit their sections, in any form
 pub fits_in_form : (files : List MDBFileInfo) (xorbs : List MDBXorbInfo) (form : Form) → FitsSection file_records files → FitsSection xorb_records xorbs → IsHash form.key
@@ -51,8 +50,7 @@ fits_in_form files xorbs form files_in xorbs_in key creation expiry =
     }
 
 expiry_fits : (expiry : Option ℕ) → IfSome expiry (λ e. e < 2 ^ 64) → unwrap_or expiry 18446744073709551615 < 2 ^ 64
-expiry_fits None fits = omega arith
-expiry_fits (Some e) fits = fits
+expiry_fits expiry fits = grind arith
 
 pub fits_written : (s : Shard) (expiry : Option ℕ) → IsShard s → IfSome expiry (λ e. e < 2 ^ 64) → FitsFooter (info_value s expiry).metadata
 fits_written s expiry shard fits =

@@ -1,5 +1,5 @@
 -- The lengths of the parts of a shard with xorbs, and of its layout.
-use Rattle.std.proofs.Common.{◌≡◌, Bool, true, false, ℕ, ◌+◌, ◌*◌, List, [], ◌∷◌, ◌++◌, map, flat_map, length, Option, refl, sym, ap, ◌∙◌, subst, arith}
+use Rattle.std.proofs.Common.{◌≡◌, Bool, ℕ, ◌+◌, ◌*◌, List, [], ◌∷◌, ◌++◌, map, flat_map, length, Option, refl, sym, ap, ◌∙◌, subst, arith}
 use Rattle.std.specs.Prelude.{All, sum_by}
 use Rattle.std.specs.List.{enumerate_from}
 use Rattle.std.specs.Map.{keys_of}
@@ -12,9 +12,9 @@ use Rattle.xet_records.specs.declared.xorb_structs.MDBXorbInfo.{MDBXorbInfo}
 use Rattle.xet_records.specs.declared.xorb_structs.XorbChunkSequenceEntry.{XorbChunkSequenceEntry}
 use Rattle.xet_records.specs.FileRecord.{file_records, FitsRecord}
 use Rattle.xet_records.specs.XorbRecord.{xorb_records, xorb_row_count}
-use Rattle.xet_shards.specs.Section.{total_rows, with_fronts, section_bytes}
+use Rattle.xet_shards.specs.Section.{total_rows, with_fronts}
 use Rattle.xet_shards.specs.Tables.{ChunkTableRow, chunk_table_row_cmp, chunk_table_rows_from, chunk_table_rows, chunk_table, table_bytes, chunk_table_bytes}
-use Rattle.xet_shards.specs.Layout.{Form, if_in, shard_header_bytes, shard_footer_bytes, header_value, footer_value, layout_of, plain_form}
+use Rattle.xet_shards.specs.Layout.{Form, if_in, header_value, footer_value, layout_of, plain_form}
 use Rattle.xet_shards.proofs.ChunkTableRows.{alone, chunk_table_row}
 use Rattle.xet_shards.proofs.Maps.{IsRising, rising_lower, length-from_entries}
 use Rattle.xet_shards.proofs.Tables.{length-table_bytes, length-chunk_table_row_bytes, chunk_table_row_total, chunk_table_row_exact}
@@ -96,8 +96,7 @@ length-chunk_table_bytes xorbs = length-chunk_rows xorbs ∙ ap (λ n. 16 * n) (
 
 -- the bytes of a table that is in, or none
 length-in : {X : Type 0} (b : Bool) (bytes : List ℕ) (rows : List X) (size : ℕ) → length bytes ≡ size * length rows → length (if_in b bytes) ≡ size * length (if_in b rows)
-length-in true bytes rows size len = len
-length-in false bytes rows size len = omega arith
+length-in b bytes rows size len = grind arith
 
 -- the bytes of the chunk table, if it is in
 pub length-chunks_in : (b : Bool) (xorbs : List MDBXorbInfo) → length (if_in b (chunk_table_bytes xorbs)) ≡ 16 * length (if_in b (chunk_table xorbs))
@@ -111,28 +110,17 @@ pub length-in_form : (files : List MDBFileInfo) (xorbs : List MDBXorbInfo) (form
     + 16 * length (if_in form.chunk_table (chunk_table xorbs))
 unfolding layout_of
 length-in_form files xorbs form fit =
-    let header = shard_header_bytes header_value in
-    let footer = footer_value files xorbs form in
-    let sections = (header ++ section_bytes file_records files) ++ section_bytes xorb_records xorbs in
-    let file_table = if_in form.file_table (table_bytes file_records files) in
-    let xorb_table = if_in form.xorb_table (table_bytes xorb_records xorbs) in
-    let chunks = if_in form.chunk_table (chunk_table_bytes xorbs) in
-    length-append (((sections ++ file_table) ++ xorb_table) ++ chunks) (shard_footer_bytes footer)
-    ∙ omega (
+
+    simp length-append (omega (
       arith,
-      length-append ((sections ++ file_table) ++ xorb_table) chunks,
-      length-append (sections ++ file_table) xorb_table,
-      length-append sections file_table,
-      length-append (header ++ section_bytes file_records files) (section_bytes xorb_records xorbs),
-      length-append header (section_bytes file_records files),
       length-shard_header_bytes header_value,
       length-file_section files fit,
       length-xorb_section xorbs,
       length-in form.file_table (table_bytes file_records files) files 12 (length-table_bytes file_records files),
       length-in form.xorb_table (table_bytes xorb_records xorbs) xorbs 12 (length-table_bytes xorb_records xorbs),
       length-chunks_in form.chunk_table xorbs,
-      length-shard_footer_bytes footer refl,
-    )
+      length-shard_footer_bytes (footer_value files xorbs form) refl,
+    ))
 
 -- in the plain form all tables are in
 pub length-layout_of : (files : List MDBFileInfo) (xorbs : List MDBXorbInfo) (expiry : Option ℕ) → All FitsRecord files

@@ -1,19 +1,26 @@
 -- Loops over `Rc`s of xorbs, and sums over xorbs.
-use Rattle.std.proofs.Common.{◌≡◌, ℕ, ◌+◌, ◌*◌, ◌^◌, ◌<◌, ◌≤◌, List, [], ◌∷◌, ◌++◌, map, Option, Some, None, refl, ap, ◌∙◌, arith}
-use Rattle.std.specs.Prelude.{All, sum_by}
+use Rattle.std.proofs.Common.{T, sym, length, ◌≡◌, ℕ, ◌+◌, ◌*◌, ◌^◌, ◌<◌, ◌≤◌, List, [], ◌∷◌, ◌++◌, map, Option, Some, refl, ap, ◌∙◌, arith}
+use Rattle.std.specs.Prelude.{All, sum_by, option_map}
+use Rattle.std.specs.BTreeMap.{is_at}
+use Rattle.std.specs.FinMap.{get, from_sorted, is_sorted}
 use Rattle.std.specs.Borrow.{Bor}
-use Rattle.std.specs.Map.{values_of}
+use Rattle.std.specs.Map.{lookup, values_of}
 use Rattle.std.specs.Map.Iter.{TakesFirst, deref}
 use Rattle.std.specs.declared.rc.Rc.{Rc}
-use Rattle.std.proofs.lemmas.List.Elements.{All-drop, All-map}
-use Rattle.std.proofs.lemmas.List.Sums.{sum_by-cons}
+use Rattle.std.proofs.lemmas.List.{length-map}
+use Rattle.std.proofs.lemmas.List.Elements.{All-map}
+use Rattle.std.proofs.lemmas.Map.Made.{lookup-map_values}
 use Rattle.xet_base.specs.declared.merklehash.DataHash.{DataHash}
+use Rattle.xet_base.specs.Hash.{hash_cmp}
+use Rattle.xet_base.proofs.HashOrder.{hash_cmp-IsTotalOrder, hash_cmp-IsAntisymmetric}
 use Rattle.xet_records.specs.declared.xorb_structs.MDBXorbInfo.{MDBXorbInfo}
 use Rattle.xet_records.specs.XorbRecord.{xorb_records, xorb_row_count, IsXorb}
 use Rattle.xet_shards.specs.Section.{total_rows}
 use Rattle.xet_shards.specs.Shard.{AreXorbs}
 use Rattle.xet_shards.specs.XorbStore.{shown_xorbs}
-use Rattle.xet_shards.proofs.Walks.{mapped_turn, mapped_end, mapped_push, sum-middle}
+use Rattle.xet_shards.proofs.Files.{sum_bound}
+use Rattle.xet_shards.proofs.Maps.{found}
+use Rattle.xet_shards.proofs.Walks.{mapped_turn, sum-middle}
 
 module _ {Z : Type 0} where
   abbrev pub owned : List (Rc MDBXorbInfo Z) → List MDBXorbInfo
@@ -27,18 +34,19 @@ module _ {Z : Type 0} where
   owned-values [] = refl
   owned-values (e ∷ es) = ap (λ rs. e.1.value ∷ rs) (owned-values es)
 
+  pub length-shown : (es : List (DataHash × Rc MDBXorbInfo Z)) → length (shown_xorbs es) ≡ length es
+  length-shown es = length-map es (λ (e : DataHash × Rc MDBXorbInfo Z). (e.0, e.1.value))
+
+  -- what is found among `Rc`s is found among their xorbs
+  pub found_shown : (es : List (DataHash × Rc MDBXorbInfo Z)) (q : DataHash) → T (is_sorted hash_cmp (shown_xorbs es))
+      → option_map (λ (o : Rc MDBXorbInfo Z). o.value) (lookup (is_at (hash_cmp q)) es) ≡ get (from_sorted {R = hash_cmp} (shown_xorbs es)) q
+  found_shown es q sorted =
+      sym (lookup-map_values (λ (o : Rc MDBXorbInfo Z). o.value) (is_at (hash_cmp q)) es) ∙ found hash_cmp-IsTotalOrder hash_cmp-IsAntisymmetric (shown_xorbs es) q sorted
+
   pub seen_turn : (es : List (DataHash × Rc MDBXorbInfo Z)) (before : List (Bor (Rc MDBXorbInfo Z))) (s t : List (Rc MDBXorbInfo Z)) (r : Option (Bor (Rc MDBXorbInfo Z))) (x : Bor (Rc MDBXorbInfo Z))
       → map deref before ++ s ≡ values_of es → r ≡ Some x → TakesFirst deref s r t → seen before ++ x.now.value ∷ owned t ≡ values_of (shown_xorbs es)
   seen_turn es before s t r x whole is step =
       mapped_turn (λ (o : Rc MDBXorbInfo Z). o.value) _ before s t r x whole is step ∙ owned-values es
-
-  pub seen_end : (es : List (DataHash × Rc MDBXorbInfo Z)) (before : List (Bor (Rc MDBXorbInfo Z))) (s t : List (Rc MDBXorbInfo Z)) (r : Option (Bor (Rc MDBXorbInfo Z)))
-      → map deref before ++ s ≡ values_of es → r ≡ None → TakesFirst deref s r t → seen before ≡ values_of (shown_xorbs es)
-  seen_end es before s t r whole is step = mapped_end (λ (o : Rc MDBXorbInfo Z). o.value) _ before s t r whole is step ∙ owned-values es
-
-  -- these, with the xorb of this iteration
-  pub seen_push : (before : List (Bor (Rc MDBXorbInfo Z))) (x : Bor (Rc MDBXorbInfo Z)) → seen (before ++ x ∷ []) ≡ seen before ++ x.now.value ∷ []
-  seen_push before x = mapped_push (λ (o : Rc MDBXorbInfo Z). o.value) before x
 
 -- what holds of a shard's xorbs holds of their list
 pub xorb_values : (es : List (DataHash × MDBXorbInfo)) → AreXorbs es → All IsXorb (values_of es)
@@ -47,9 +55,7 @@ xorb_values es xorbs = All-map IsXorb (λ (e : DataHash × MDBXorbInfo). e.1) es
 -- each xorb has a row, and so no sum of numbers that fit `u32` passes `u64`
 pub xorbs_bound : (P : MDBXorbInfo → Type 0) (f : MDBXorbInfo → ℕ) → ((r : MDBXorbInfo) → P r → f r ≤ 4294967295) → (rs : List MDBXorbInfo) → All P rs
     → sum_by f rs ≤ 4294967295 * total_rows xorb_records rs
-xorbs_bound P f small [] xorbs = omega arith
-xorbs_bound P f small (r ∷ rs) xorbs =
-    omega (arith, sum_by-cons f r rs, sum_by-cons xorb_row_count r rs, small r (xorbs 0 r (omega arith)), xorbs_bound P f small rs (All-drop P 1 (r ∷ rs) xorbs))
+xorbs_bound P f small rs xorbs = sum_bound P f xorb_row_count (λ r is. omega (arith, small r is)) rs xorbs
 
 -- in a loop over their `Rc`s, the sum of such numbers with that of this iteration fits `u64`
 pub sum_fits : {Z : Type 0} (f : MDBXorbInfo → ℕ) → ((r : MDBXorbInfo) → IsXorb r → f r ≤ 4294967295)

@@ -1,8 +1,6 @@
-use Rattle.std.proofs.Common.{length, sym, ap, ◌∙◌, Global, true≢false}
+use Rattle.std.proofs.Common.{length, sym, ap, ◌∙◌, true≢false}
 use Rattle.std.specs.FinMap.{len, len-entries, len-empty, empty_of_len}
-use Rattle.std.proofs.lemmas.List.{length-map}
-use Rattle.std.specs.declared.rc.Rc.{Rc}
-use Rattle.xet_base.specs.declared.merklehash.DataHash.{DataHash}
+use Rattle.xet_shards.proofs.Xorbs.{length-shown}
 use Rattle.xet_base.specs.Hash.{hash_cmp}
 use Rattle.xet_records.specs.declared.file_structs.MDBFileInfo.{MDBFileInfo}
 use Rattle.xet_records.specs.declared.xorb_structs.MDBXorbInfo.{MDBXorbInfo}
@@ -13,7 +11,7 @@ use Rattle.xet_shards.proofs.shard_in_memory.MDBInMemoryShard.is_empty.Goals as 
 pub returns-then-is_empty : goal.returns-then-is_empty
 returns-then-is_empty c =
     let files = ap length c.content.ensures.entries ∙ sym (len-entries c.self.inside.files) in
-    let xorbs = sym (length-map c.content-then-is_empty.result.now.entries (λ (e : DataHash × Rc MDBXorbInfo Global). (e.0, e.1.value)))
+    let xorbs = sym (length-shown c.content-then-is_empty.result.now.entries)
     ∙ ap length c.content-then-is_empty.ensures.entries ∙ sym (len-entries c.self.inside.xorbs.xorbs) in (
       λ yes. ap (λ (s : ShardWithLookup). s.content) (sym c.self.view_is)
           ∙ (λ i. record {

@@ -13,11 +13,11 @@ pub overflow_sub-result : goal.overflow_sub-result
 overflow_sub-result c =
     let file = c.args.file_info.now in
     let put_rows = sum-insert hash_cmp-IsTotalOrder hash_cmp-IsAntisymmetric row_count c.self.inside.files (file_hash_of file) file in
-    omega (arith, put_rows, row_count-whole file c.requires.whole, c.self.invariant.file_rows, c.rows_of-replaced.ensures, c.rows_after.ensures.rows)
+    omega (arith, put_rows, row_count-whole file c.requires.whole)
 
 pub returns : goal.returns
 returns c =
     let file = c.args.file_info.now in
     let put_rows = sum-insert hash_cmp-IsTotalOrder hash_cmp-IsAntisymmetric row_count c.self.inside.files (file_hash_of file) file in
     let seen = ap (λ (s : ShardWithLookup). total_rows file_records (values (insert s.content.files (file_hash_of file) file))) c.self.view_is in
-    omega (arith, put_rows, seen, row_count-whole file c.requires.whole, c.self.invariant.file_rows, c.rows_of-replaced.ensures, c.rows_after.ensures.rows)
+    omega (arith, put_rows, seen, row_count-whole file c.requires.whole)

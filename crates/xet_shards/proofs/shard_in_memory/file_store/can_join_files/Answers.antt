@@ -1,9 +1,7 @@
-use Rattle.std.proofs.Common.{◌≡◌, [], ◌∷◌, None, sym, ap, ◌∙◌, subst, true≢false, is_some, refl}
-use Rattle.std.specs.FinMap.{get}
+use Rattle.std.proofs.Common.{[], ◌∷◌, sym, ◌∙◌, subst, true≢false, refl}
 use Rattle.std.specs.Map.Iter.{deref_pair}
 use Rattle.std.proofs.lemmas.List.{map-append}
-use Rattle.std.proofs.lemmas.Option.{same_Some}
-use Rattle.xet_records.specs.declared.file_structs.MDBFileInfo.{MDBFileInfo}
+use Rattle.std.proofs.lemmas.Option.{none-some, same_Some}
 use Rattle.xet_records.specs.FileRecord.{IsWellFormed}
 use Rattle.xet_shards.specs.Joining.{CanJoinFile}
 use Rattle.xet_shards.proofs.Walks.{entry_turn, entry_turned, entry_end, entry_holds}
@@ -30,21 +28,20 @@ loop-file_hash-preserved-else-not-can_join c =
       can = tt;
       finite = tt;
       all = entry_turned deref_pair _ c.loop-file_hash.yielded _ (c.in-Some.file_hash, c.in-Some.file_info) whole;
-      joins = subst (λ es. CanJoinEntries es c.args.other.now) (sym (map-append deref_pair c.loop-file_hash.yielded ((c.in-Some.file_hash, c.in-Some.file_info) ∷ [])))
-          (can_join_more _ _ c.args.other.now c.loop-file_hash.invariant.joins
-          (λ s there. subst (CanJoinFile c.in-Some.file_info.now) (same_Some _ _ (c.in-Some-get.ensures.value ∙ there)) (c.can_join.ensures.0 c.if-not-can_join.false)));
+      joins = can_join_more _ _ _ c.args.other.now (map-append deref_pair c.loop-file_hash.yielded ((c.in-Some.file_hash, c.in-Some.file_info) ∷ [])) c.loop-file_hash.invariant.joins
+          (λ s there. subst (CanJoinFile c.in-Some.file_info.now) (same_Some _ _ (c.in-Some-get.ensures.value ∙ there)) (c.can_join.ensures.0 c.if-not-can_join.false));
     }
 
 pub loop-file_hash-preserved : goal.loop-file_hash-preserved
 loop-file_hash-preserved c =
     let whole = entry_turn deref_pair _ c.loop-file_hash.yielded _ _ _ (c.in-Some.file_hash, c.in-Some.file_info) c.loop-file_hash.invariant.all c.in-Some.is c.next.ensures.steps in
-    let absent : None ≡ get c.args.other.now c.in-Some.file_hash.now = c.in_default.ensures.value in
+
     record {
       can = tt;
       finite = tt;
       all = entry_turned deref_pair _ c.loop-file_hash.yielded _ (c.in-Some.file_hash, c.in-Some.file_info) whole;
-      joins = subst (λ es. CanJoinEntries es c.args.other.now) (sym (map-append deref_pair c.loop-file_hash.yielded ((c.in-Some.file_hash, c.in-Some.file_info) ∷ [])))
-          (can_join_more _ _ c.args.other.now c.loop-file_hash.invariant.joins (λ s there. absurd (true≢false (sym (ap (is_some {T = MDBFileInfo}) (absent ∙ there))))));
+      joins = can_join_more _ _ _ c.args.other.now (map-append deref_pair c.loop-file_hash.yielded ((c.in-Some.file_hash, c.in-Some.file_info) ∷ [])) c.loop-file_hash.invariant.joins
+          (λ s there. absurd (none-some s (c.in_default.ensures.value ∙ there)));
     }
 
 pub returns : goal.returns

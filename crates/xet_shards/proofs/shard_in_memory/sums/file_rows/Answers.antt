@@ -1,49 +1,26 @@
-use Rattle.std.proofs.Common.{◌≡◌, ◌∷◌, ◌++◌, map, sym, ap, ◌∙◌, subst, arith}
-use Rattle.std.specs.Prelude.{All}
-use Rattle.std.specs.Map.Iter.{deref}
-use Rattle.std.specs.BTreeMap.{values}
-use Rattle.std.proofs.Math.Facts.{Fits-of_lt}
+use Rattle.std.proofs.Common.{map, ap, ◌∙◌, arith}
+use Rattle.std.proofs.lemmas.List.{map_push}
 use Rattle.std.proofs.lemmas.List.Sums.{sum_by_push}
+use Rattle.std.specs.Map.Iter.{deref}
 use Rattle.xet_records.specs.FileRecord.{file_records, row_count, IsWellFormed}
 use Rattle.xet_records.proofs.Record.{row_count-whole}
 use Rattle.xet_shards.specs.Section.{total_rows}
 use Rattle.xet_shards.proofs.Files.{well_formed_values}
-use Rattle.std.proofs.lemmas.List.{map_push}
-use Rattle.xet_shards.proofs.Walks.{entry_turn, entry_turned, All-middle, sum-middle}
+use Rattle.xet_shards.proofs.Walks.{entry_turn, entry_turned, entry_holds}
 use Rattle.xet_shards.proofs.shard_in_memory.sums.file_rows.Goals as goal
-
-pub overflow_add-rows-in-loop-file_info : goal.overflow_add-rows-in-loop-file_info
-overflow_add-rows-in-loop-file_info c =
-    let file = c.in-Some.file_info.now in
-    let before = map deref c.loop-file_info.yielded in
-    let whole = entry_turn deref _ c.loop-file_info.yielded _ _ _ c.in-Some.file_info c.loop-file_info.invariant.all c.in-Some.is c.next.ensures.steps in
-    let well = All-middle IsWellFormed before c.next.new.self file (subst (All IsWellFormed) (sym whole) (well_formed_values _ c.requires.files)) in
-    let sum : total_rows file_records (before ++ file ∷ c.next.new.self) ≡ total_rows file_records (values c.args.files.now) = ap (λ rs. total_rows file_records rs) whole in
-    Fits-of_lt (omega (
-      arith,
-      sum,
-      sum-middle row_count before c.next.new.self file,
-      row_count-whole file well.whole,
-      c.rows_after.ensures.rows,
-      c.loop-file_info.invariant.rows,
-      c.requires.rows,
-    ))
 
 pub loop-file_info-preserved : goal.loop-file_info-preserved
 loop-file_info-preserved c =
     let file = c.in-Some.file_info.now in
-    let before = map deref c.loop-file_info.yielded in
     let whole = entry_turn deref _ c.loop-file_info.yielded _ _ _ c.in-Some.file_info c.loop-file_info.invariant.all c.in-Some.is c.next.ensures.steps in
-    let well = All-middle IsWellFormed before c.next.new.self file (subst (All IsWellFormed) (sym whole) (well_formed_values _ c.requires.files)) in
+    let well = entry_holds IsWellFormed _ _ _ _ whole (well_formed_values _ c.requires.files) in
     record {
       can = tt;
       finite = tt;
       all = entry_turned deref _ c.loop-file_info.yielded _ c.in-Some.file_info whole;
       rows = omega (
         arith,
-        ap (λ rs. total_rows file_records rs) (map_push deref c.loop-file_info.yielded c.in-Some.file_info) ∙ sum_by_push row_count before file,
+        ap (λ rs. total_rows file_records rs) (map_push deref c.loop-file_info.yielded c.in-Some.file_info) ∙ sum_by_push row_count (map deref c.loop-file_info.yielded) file,
         row_count-whole file well.whole,
-        c.rows_after.ensures.rows,
-        c.loop-file_info.invariant.rows,
       );
     }

@@ -1,40 +1,19 @@
-use Rattle.std.proofs.Common.{◌≡◌, [], ◌∷◌, ◌++◌, map, sym, ap, ◌∙◌, subst, arith}
-use Rattle.std.specs.Prelude.{All, sum_by}
+use Rattle.std.proofs.Common.{map, ap, arith}
+use Rattle.std.specs.Prelude.{sum_by}
 use Rattle.std.specs.Map.Iter.{deref}
-use Rattle.std.specs.BTreeMap.{values}
 use Rattle.std.proofs.Math.Facts.{Fits-of_lt}
-use Rattle.std.proofs.lemmas.List.{map-append}
-use Rattle.std.proofs.lemmas.List.Sums.{sum_by_push}
 use Rattle.xet_records.specs.FileRecord.{size_of_file, IsWellFormed}
 use Rattle.xet_shards.proofs.Files.{files_bound, well_formed_values, widths_of_values}
-use Rattle.xet_shards.proofs.Walks.{entry_turn, entry_turned, All-middle, sum-middle}
+use Rattle.xet_shards.proofs.Walks.{entry_turn, entry_holds, sum-middle}
 use Rattle.xet_shards.proofs.shard_in_memory.sums.materialized_bytes.Goals as goal
 
 pub file_size-bytes-requires : goal.file_size-bytes-requires
 file_size-bytes-requires c =
     let whole = entry_turn deref _ c.loop-file_info.yielded _ _ _ c.in-Some.file_info c.loop-file_info.invariant.all c.in-Some.is c.next.ensures.steps in
-    let well = All-middle IsWellFormed (map deref c.loop-file_info.yielded) c.next.new.self c.in-Some.file_info.now
-    (subst (All IsWellFormed) (sym whole) (well_formed_values _ c.requires.files)) in
-    well.whole
+    (entry_holds IsWellFormed _ _ _ _ whole (well_formed_values _ c.requires.files)).whole
 
 pub overflow_add-bytes : goal.overflow_add-bytes
 overflow_add-bytes c =
     let whole = entry_turn deref _ c.loop-file_info.yielded _ _ _ c.in-Some.file_info c.loop-file_info.invariant.all c.in-Some.is c.next.ensures.steps in
     let part = sum-middle size_of_file (map deref c.loop-file_info.yielded) c.next.new.self c.in-Some.file_info.now in
-    let sum : sum_by size_of_file (map deref c.loop-file_info.yielded ++ c.in-Some.file_info.now ∷ c.next.new.self) ≡ sum_by size_of_file (values c.args.files.now) = ap (sum_by size_of_file) whole in
-    Fits-of_lt (omega (arith, part, sum, files_bound _ (widths_of_values _ c.requires.files), c.requires.rows, c.loop-file_info.invariant.bytes, c.file_size-bytes.ensures.size))
-
-pub loop-file_info-preserved : goal.loop-file_info-preserved
-loop-file_info-preserved c =
-    let whole = entry_turn deref _ c.loop-file_info.yielded _ _ _ c.in-Some.file_info c.loop-file_info.invariant.all c.in-Some.is c.next.ensures.steps in
-    record {
-      can = tt;
-      finite = tt;
-      all = entry_turned deref _ c.loop-file_info.yielded _ c.in-Some.file_info whole;
-      bytes = omega (
-        arith,
-        c.loop-file_info.invariant.bytes,
-        c.file_size-bytes.ensures.size,
-        ap (sum_by size_of_file) (map-append deref c.loop-file_info.yielded (c.in-Some.file_info ∷ [])) ∙ sum_by_push size_of_file (map deref c.loop-file_info.yielded) c.in-Some.file_info.now,
-      );
-    }
+    Fits-of_lt (omega (arith, part, ap (sum_by size_of_file) whole, files_bound _ (widths_of_values _ c.requires.files)))

@@ -7,8 +7,6 @@ use Rattle.xet_shards.proofs.shard_in_memory.sums.stored_bytes_on_disk.Goals as 
 pub overflow_add-bytes : goal.overflow_add-bytes
 overflow_add-bytes c = Fits-of_lt (omega (
   arith,
-  c.loop-xorb.invariant.bytes,
-  c.from-bytes.ensures,
   ap (λ (r : MDBXorbInfo). r.metadata.num_bytes_on_disk) c.deref.ensures,
   sum_fits (λ r. r.metadata.num_bytes_on_disk) (λ r is. omega (arith, is.widths.metadata.num_bytes_on_disk)) _ c.loop-xorb.yielded _ _ _ c.in-Some.xorb
       c.requires.xorbs c.requires.rows c.loop-xorb.invariant.all c.in-Some.is c.next.ensures.steps,

@@ -1,32 +1,25 @@
-use Rattle.std.proofs.Common.{◌≡◌, ◌∷◌, ◌++◌, length, sym, ap, subst, arith}
-use Rattle.std.specs.Prelude.{All}
-use Rattle.std.specs.Map.{values_of}
+use Rattle.std.proofs.Common.{length, ap, arith}
 use Rattle.std.proofs.Math.Facts.{Fits-of_lt}
 use Rattle.xet_records.specs.declared.xorb_structs.MDBXorbInfo.{MDBXorbInfo}
 use Rattle.xet_records.specs.XorbRecord.{xorb_records, xorb_row_count, IsXorb}
 use Rattle.xet_shards.specs.Section.{total_rows}
-use Rattle.xet_shards.specs.XorbStore.{shown_xorbs}
-use Rattle.xet_shards.proofs.Walks.{All-middle, sum-middle}
+use Rattle.xet_shards.proofs.Walks.{entry_holds, sum-middle}
 use Rattle.xet_shards.proofs.Xorbs.{owned, seen, seen_turn, xorb_values}
 use Rattle.xet_shards.proofs.shard_in_memory.sums.xorb_rows.Goals as goal
 
 pub overflow_add-rows : goal.overflow_add-rows
 overflow_add-rows c =
     let whole = seen_turn _ c.loop-xorb.yielded _ _ _ c.in-Some.xorb c.loop-xorb.invariant.all c.in-Some.is c.next.ensures.steps in
-    let xorb = All-middle IsXorb (seen c.loop-xorb.yielded) (owned c.next.new.self) c.in-Some.xorb.now.value (subst (All IsXorb) (sym whole) (xorb_values _ c.requires.xorbs)) in
-    Fits-of_lt (omega (arith, xorb.rows, c.len.ensures, ap (λ (r : MDBXorbInfo). length r.chunks) c.deref.ensures))
+    let xorb = entry_holds IsXorb _ _ _ _ whole (xorb_values _ c.requires.xorbs) in
+    Fits-of_lt (omega (arith, xorb.rows, ap (λ (r : MDBXorbInfo). length r.chunks) c.deref.ensures))
 
 pub overflow_add-rows-in-loop-xorb : goal.overflow_add-rows-in-loop-xorb
 overflow_add-rows-in-loop-xorb c =
     let xorb = c.in-Some.xorb.now.value in
     let whole = seen_turn _ c.loop-xorb.yielded _ _ _ c.in-Some.xorb c.loop-xorb.invariant.all c.in-Some.is c.next.ensures.steps in
-    let sum : total_rows xorb_records (seen c.loop-xorb.yielded ++ xorb ∷ owned c.next.new.self) ≡ total_rows xorb_records (values_of (shown_xorbs c.args.xorbs.now.entries)) = ap (λ rs. total_rows xorb_records rs) whole in
     Fits-of_lt (omega (
       arith,
-      sum,
+      ap (λ rs. total_rows xorb_records rs) whole,
       sum-middle xorb_row_count (seen c.loop-xorb.yielded) (owned c.next.new.self) xorb,
-      c.len.ensures,
       ap (λ (r : MDBXorbInfo). length r.chunks) c.deref.ensures,
-      c.loop-xorb.invariant.rows,
-      c.requires.rows,
     ))

@@ -1,6 +1,5 @@
-use Rattle.std.proofs.Common.{◌≡◌, ◌+◌, [], ◌∷◌, Option, None, Some, sym, ap, ◌∙◌, subst, arith, map, Bor}
+use Rattle.std.proofs.Common.{◌≡◌, ◌+◌, [], ◌∷◌, Option, Some, sym, ap, ◌∙◌, arith, map, Bor}
 use Rattle.std.specs.Prelude.{option_map, unwrap_or, IfSome}
-use Rattle.std.specs.Map.{values_of}
 use Rattle.std.specs.Map.Iter.{deref_pair}
 use Rattle.std.specs.FinMap.{get, values}
 use Rattle.std.proofs.lemmas.List.{map-append}
@@ -9,10 +8,9 @@ use Rattle.xet_records.specs.declared.file_structs.MDBFileInfo.{MDBFileInfo}
 use Rattle.xet_records.specs.FileRecord.{file_records, row_count, IsWellFormed}
 use Rattle.xet_records.specs.Merging.{IsSameFile, merged}
 use Rattle.xet_shards.specs.Section.{total_rows}
-use Rattle.xet_shards.specs.Joining.{either_file}
 use Rattle.xet_shards.proofs.Walks.{entry_turn, entry_turned, entry_end, entry_holds}
 use Rattle.xet_shards.proofs.FileUnions.{entry_of}
-use Rattle.xet_shards.proofs.Overlays.{with_twin, overlay, sum-overlay, new_key, sum-entries, either_file_is, are_united_files}
+use Rattle.xet_shards.proofs.Overlays.{with_twin, overlay, sum-overlay, new_key, sum-entries, are_united_files}
 use Rattle.xet_shards.proofs.shard_in_memory.union_rows.united_file_rows.Goals as goal
 
 pub rows_added-rows-requires-clause-own : goal.rows_added-rows-requires-clause-own
@@ -21,8 +19,7 @@ rows_added-rows-requires-clause-own c =
     entry_holds (λ e. IsWellFormed e.1) _ _ _ _ whole c.requires.files.well_formed
 
 if_there : (P : MDBFileInfo → Type 0) (o : Option (Bor MDBFileInfo)) (p : Option MDBFileInfo) → option_map (λ t. t.now) o ≡ p → ((s : MDBFileInfo) → p ≡ Some s → P s) → IfSome o (λ t. P t.now)
-if_there P None p is holds = tt
-if_there P (Some t) p is holds = holds t.now (sym is)
+if_there P o p is holds = grind (arith, holds)
 
 pub rows_added-rows-requires-clause-same : goal.rows_added-rows-requires-clause-same
 rows_added-rows-requires-clause-same c =
@@ -38,27 +35,13 @@ loop-file_hash-preserved c =
     let twin = get c.args.other.now c.in-Some.file_hash.now in
     let whole = entry_turn deref_pair _ c.loop-file_hash.yielded _ _ _ entry c.loop-file_hash.invariant.all c.in-Some.is c.next.ensures.steps in
     let push = map-append deref_pair c.loop-file_hash.yielded (entry ∷ []) in
-    let added : unwrap_or (option_map row_count twin) 0 + c.rows_added-rows.result ≡ row_count (with_twin merged file twin) =
-    subst (λ o. unwrap_or (option_map row_count o) 0 + c.rows_added-rows.result ≡ unwrap_or (option_map row_count (either_file (Some file) o)) 0) c.get.ensures.value c.rows_added-rows.ensures.rows
-    ∙ ap (λ o. unwrap_or (option_map row_count o) 0) (sym (either_file_is (Some file) twin)) in
+    let added : unwrap_or (option_map row_count twin) 0 + c.rows_added-rows.result ≡ row_count (with_twin merged file twin) = grind (arith, c.get.ensures.value, c.rows_added-rows.ensures.rows) in
     record {
       can = tt;
       finite = tt;
       all = entry_turned deref_pair _ c.loop-file_hash.yielded _ entry whole;
-      rows = omega (
-        arith,
-        ap (λ es. total_rows file_records (values (overlay merged es c.args.other.now))) push,
-        sum-overlay merged front c.in-Some.file_hash.now file c.args.other.now (new_key _ _ _ _ whole c.requires.sorted) row_count,
-        added,
-        c.loop-file_hash.invariant.rows,
-      );
-      bound = omega (
-        arith,
-        ap (λ es. total_rows file_records (values_of es)) push,
-        sum-entries row_count front (c.in-Some.file_hash.now, file),
-        c.rows_added-rows.ensures.bound,
-        c.loop-file_hash.invariant.bound,
-      );
+      rows = omega (arith, sum-overlay merged front _ c.in-Some.file_hash.now file push c.args.other.now (new_key _ _ _ _ whole c.requires.sorted) row_count, added);
+      bound = omega (arith, sum-entries row_count front _ (c.in-Some.file_hash.now, file) push);
     }
 
 pub returns : goal.returns

@@ -2,18 +2,14 @@ use Rattle.std.proofs.Common.{sym, subst}
 use Rattle.std.proofs.lemmas.Result.{err_from_is_err_and}
 use Rattle.xet_shards.specs.MinimalReading.SectionsFail.{no_xorbs}
 use Rattle.xet_records.specs.FileRecord.{file_records}
-use Rattle.xet_records.specs.XorbRecord.{xorb_records}
 use Rattle.xet_shards.specs.InForm.{FitsSection}
-use Rattle.xet_shards.proofs.MinimalReading.{reads_fit, none_fit, kept_fit}
+use Rattle.xet_shards.proofs.MinimalReading.{reads_fit, kept_fit}
 use Rattle.xet_shards.proofs.streaming_shard.minimal_reader.read_sections.Goals as goal
 
 pub of_views-requires-clause-files : goal.of_views-requires-clause-files
 of_views-requires-clause-files g c =
     let read = c.in_ok-files.ensures in
     subst (FitsSection file_records) (sym read.2) (kept_fit file_records c.args.with_files read.0 (reads_fit file_records g.I.ByteInput.reads _ _ read.0 read.1))
-
-pub of_views-requires-clause-xorbs : goal.of_views-requires-clause-xorbs
-of_views-requires-clause-xorbs g c = subst (FitsSection xorb_records) (sym c.new.ensures.items) (none_fit xorb_records)
 
 pub of_views-requires-2-clause-files : goal.of_views-requires-2-clause-files
 of_views-requires-2-clause-files g c =

@@ -2,13 +2,8 @@ use Rattle.std.proofs.Common.{[], ◌∷◌, ◌++◌, subst, arith}
 use Rattle.std.proofs.lemmas.Result.{err_from_is_err_and}
 use Rattle.xet_records.specs.Reading.Stops.{no_header}
 use Rattle.xet_records.specs.ViewReading.{ReadsNextView}
-use Rattle.xet_shards.proofs.MinimalReading.{no_views, more_views, if_in-nil, kept_more}
+use Rattle.xet_shards.proofs.MinimalReading.{more_views, kept_more}
 use Rattle.xet_shards.proofs.streaming_shard.minimal_reader.read_views.Goals as goal
-
-pub loop-views-init : goal.loop-views-init
-loop-views-init g c =
-    rw c.from-rows_left.ensures
-    ([], no_views g.R.SectionRecord.kind c.laws.ensures g.V.RecordView.shown _ (g.met.I.ByteInput.reads_nothing _), if_in-nil c.args.is_kept _ c.new-views.ensures.items)
 
 pub loop-views-preserved : goal.loop-views-preserved
 loop-views-preserved g c =

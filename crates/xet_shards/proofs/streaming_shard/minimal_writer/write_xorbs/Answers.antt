@@ -1,9 +1,9 @@
-use Rattle.std.proofs.Common.{◌≡◌, ◌+◌, ◌∷◌, [], ◌++◌, true, false, map, take, take_all, flat_map, append-nil, sym, ap, ◌∙◌, subst, arith}
+use Rattle.std.proofs.Common.{◌≡◌, ◌+◌, ◌∷◌, [], ◌++◌, true, false, map, take, take_all, flat_map, sym, ap, ◌∙◌, subst, arith}
 use Rattle.std.specs.BTreeSet.{contains}
 use Rattle.std.specs.Fn.{FnReturnsAt}
 use Rattle.std.specs.Io.KnownBytes.{Appends}
 use Rattle.std.proofs.KnownBytes.{Appends-trans}
-use Rattle.std.proofs.lemmas.Grind.{flat_map-append}
+use Rattle.xet_shards.proofs.Walks.{flat_map-push}
 use Rattle.std.proofs.lemmas.List.{map-append}
 use Rattle.std.proofs.lemmas.List.Sums.{sum_by_more_le}
 use Rattle.xet_records.specs.XorbRecord.{xorb_record_bytes, xorb_row_count, IsStoredXorb, HasItsChunks}
@@ -36,7 +36,6 @@ write-requires-clause-rows g c =
       ap xorb_row_count c.xorb-item.is,
       ap xorb_row_count c.in_ok-marked.ensures.ok,
       rows_marked starts x,
-      c.requires.fit.rows,
     )
 
 pub loop-xorb-preserved : goal.loop-xorb-preserved
@@ -60,10 +59,8 @@ loop-xorb-preserved g c =
             subst (λ v. HasWrittenXorbs v (map (mark_starts starts) (kept ++ x ∷ []))) (sym w.written-is)
                 (subst (HasWrittenXorbs w.write.new.self) pushed (w.in_ok-write.ensures.written first inv.2)),
             subst (λ v. Appends (contents c.args.writer.now) (contents v) (flat_map xorb_record_bytes (map (mark_starts starts) (kept ++ x ∷ [])))) (sym w.writer-is)
-                (subst (Appends (contents c.args.writer.now) (contents w.write.new.writer))
-                (ap (λ bs. flat_map xorb_record_bytes first ++ bs) (sym (append-nil (xorb_record_bytes w.in_ok-marked.marked)))
-                ∙ sym (flat_map-append xorb_record_bytes first (w.in_ok-marked.marked ∷ [])) ∙ ap (flat_map xorb_record_bytes) pushed)
-                (Appends-trans _ (contents c.loop-xorb.writer) _ _ _ inv.3 w.in_ok-write.ensures.appended)),
+                (subst (λ ys. Appends (contents c.args.writer.now) (contents w.write.new.writer) (flat_map xorb_record_bytes ys)) pushed
+                (rw flat_map-push (Appends-trans _ (contents c.loop-xorb.writer) _ _ _ inv.3 w.in_ok-write.ensures.appended))),
           )
       | else-filter w ↦ (
         kept,

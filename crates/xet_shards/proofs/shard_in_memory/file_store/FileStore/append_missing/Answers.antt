@@ -1,15 +1,12 @@
-use Rattle.std.proofs.Common.{◌≡◌, [], ◌∷◌, inl, inr, sym, ap, ◌∙◌, subst}
+use Rattle.std.proofs.Common.{arith, ◌≡◌, [], ◌∷◌, sym, ap, ◌∙◌, subst}
 use Rattle.std.specs.Map.Iter.{deref_pair}
-use Rattle.std.specs.Option.{option_or}
 use Rattle.std.specs.FinMap.{get, insert}
 use Rattle.std.proofs.lemmas.List.{map-append}
 use Rattle.xet_records.specs.FileRecord.{IsWellFormed}
 use Rattle.xet_shards.specs.Shard.{file_hash_of}
-use Rattle.xet_shards.specs.Joining.{but, entry}
 use Rattle.xet_shards.proofs.Walks.{entry_turn, entry_turned, entry_holds}
 use Rattle.xet_shards.proofs.Joining.{filled-skip, filled-add}
 use Rattle.xet_shards.proofs.shard_in_memory.file_store.FileStore.append_missing.Goals as goal
-use Rattle.xet_shards.proofs.shard_in_memory.file_store.FileStore.append_missing.Goals.{else-not-contains-via-then-not-contains+else-not-contains-2, else-not-contains-via-else-not-contains}
 
 pub put-requires : goal.put-requires
 put-requires c =
@@ -23,29 +20,23 @@ loop-file_hash-preserved-then-not-contains-2 c =
     let copied = c.in_ok-try_clone.ensures.ok in
     let key = ap file_hash_of copied ∙ sym keyed in
     let push = map-append deref_pair c.loop-file_hash.yielded ((c.in-Some.file_hash, c.in-Some.file_info) ∷ []) in
-    let filled = filled-add (get c.args.self.now) c.args.except.now c.loop-file_hash.self _ c.in-Some.file_hash.now c.in-Some.file_info.now c.loop-file_hash.invariant.filled
-    (sym c.contains.ensures ∙ c.if-not-contains.true) (sym c.contains-then-not-contains.ensures ∙ c.if-not-contains-2.true) in
     record {
       can = tt;
       finite = tt;
       all = entry_turned deref_pair _ c.loop-file_hash.yielded _ (c.in-Some.file_hash, c.in-Some.file_info) whole;
-      filled = λ q.
-          ap (λ m. get m q) (c.in_ok-put.ensures.ok ∙ (λ i. insert c.loop-file_hash.self (key i) (copied i)))
-          ∙ filled q ∙ ap (λ es. option_or (get c.args.self.now q) (but c.args.except.now (entry es) q)) (sym push);
+      filled = filled-add (get c.args.self.now) c.args.except.now _ _ _ c.in-Some.file_hash.now c.in-Some.file_info.now push c.loop-file_hash.invariant.filled _
+          (c.in_ok-put.ensures.ok ∙ (λ i. insert c.loop-file_hash.self (key i) (copied i)))
+          (sym c.contains.ensures ∙ c.if-not-contains.true) (sym c.contains-then-not-contains.ensures ∙ c.if-not-contains-2.true);
     }
 
 pub loop-file_hash-preserved : goal.loop-file_hash-preserved
 loop-file_hash-preserved c =
     let whole = entry_turn deref_pair _ c.loop-file_hash.yielded _ _ _ (c.in-Some.file_hash, c.in-Some.file_info) c.loop-file_hash.invariant.all c.in-Some.is c.next.ensures.steps in
     let push = map-append deref_pair c.loop-file_hash.yielded ((c.in-Some.file_hash, c.in-Some.file_info) ∷ []) in
-    let filled = filled-skip (get c.args.self.now) c.args.except.now c.loop-file_hash.self _ c.in-Some.file_hash.now c.in-Some.file_info.now c.loop-file_hash.invariant.filled
-    (elim c.else-not-contains.branch [
-      | else-not-contains-via-then-not-contains+else-not-contains-2 w ↦ inr (sym w.contains-then-not-contains.ensures ∙ w.if-not-contains-2.false)
-      | else-not-contains-via-else-not-contains w ↦ inl (sym c.contains.ensures ∙ w.if-not-contains.false)
-    ]) in
     record {
       can = tt;
       finite = tt;
       all = entry_turned deref_pair _ c.loop-file_hash.yielded _ (c.in-Some.file_hash, c.in-Some.file_info) whole;
-      filled = λ q. filled q ∙ ap (λ es. option_or (get c.args.self.now q) (but c.args.except.now (entry es) q)) (sym push);
+      filled = filled-skip (get c.args.self.now) c.args.except.now _ _ _ c.in-Some.file_hash.now c.in-Some.file_info.now push c.loop-file_hash.invariant.filled
+          (grind (arith, c.else-not-contains.branch));
     }

@@ -1,4 +1,4 @@
-use Rattle.std.proofs.Common.{◌≡◌, ◌+◌, Option, Some, None, sym, ap, ◌∙◌, subst}
+use Rattle.std.proofs.Common.{arith, ◌≡◌, ◌+◌, Option, Some, sym, ap, ◌∙◌, subst}
 use Rattle.std.specs.Prelude.{option_map, unwrap_or, IfSome}
 use Rattle.std.specs.FinMap.{get}
 use Rattle.std.proofs.lemmas.Map.Entries.{All-lookup}
@@ -20,6 +20,5 @@ returns-in-Some c =
 
 pub returns-in-None : goal.returns-in-None
 returns-in-None c =
-    let here : None ≡ get c.args.self.now c.args.file_hash.now =
-    c.in-None.ensures.value ∙ found hash_cmp-IsTotalOrder hash_cmp-IsAntisymmetric _ _ c.self.invariant.sorted ∙ ap (λ m. get m c.args.file_hash.now) c.self.view_is in
-    ap (λ (o : Option MDBFileInfo). unwrap_or (option_map row_count o) 0) here
+    let q = c.args.file_hash.now in
+    grind (arith, c.in-None.ensures.value, found hash_cmp-IsTotalOrder hash_cmp-IsAntisymmetric c.self.inside.content.entries q c.self.invariant.sorted, ap (λ m. get m q) c.self.view_is)

@@ -1,16 +1,13 @@
-use Rattle.std.proofs.Common.{◌≡◌, inl, inr, sym, ap, ◌∙◌, subst, Global}
+use Rattle.std.proofs.Common.{arith, ◌≡◌, sym, ap, ◌∙◌, subst, Global}
 use Rattle.std.specs.Map.Iter.{deref_pair}
 use Rattle.std.specs.declared.rc.Rc.{Rc}
-use Rattle.std.specs.Option.{option_or}
 use Rattle.std.specs.FinMap.{get, insert}
 use Rattle.xet_records.specs.declared.xorb_structs.MDBXorbInfo.{MDBXorbInfo}
 use Rattle.xet_records.specs.XorbRecord.{IsXorb}
 use Rattle.xet_shards.specs.Shard.{xorb_hash_of}
-use Rattle.xet_shards.specs.Joining.{but, entry}
 use Rattle.xet_shards.proofs.Walks.{entry_turn, entry_turned}
 use Rattle.xet_shards.proofs.Joining.{filled-skip, filled-add, shown_push, shown_at, none_of}
 use Rattle.xet_shards.proofs.shard_in_memory.xorb_store.XorbStore.append_missing.Goals as goal
-use Rattle.xet_shards.proofs.shard_in_memory.xorb_store.XorbStore.append_missing.Goals.{else-not-contains-via-then-not-contains+else-not-contains-2, else-not-contains-via-else-not-contains}
 
 pub append-requires-clause-absent : goal.append-requires-clause-absent
 append-requires-clause-absent c =
@@ -30,29 +27,24 @@ loop-xorb_hash-preserved-then-not-contains-2 c =
     let copied = c.in_ok-clone.ensures.cases in
     let key = ap xorb_hash_of copied ∙ sym keyed in
     let push = shown_push (λ (o : Rc MDBXorbInfo Global). o.value) deref_pair c.loop-xorb_hash.yielded (c.in-Some.xorb_hash, c.in-Some.xorb) in
-    let filled = filled-add (get c.args.self.now.xorbs) c.args.except.now.xorbs c.loop-xorb_hash.self.xorbs _ c.in-Some.xorb_hash.now c.in-Some.xorb.now.value c.loop-xorb_hash.invariant.filled
-    (sym c.contains.ensures ∙ c.if-not-contains.true) (sym c.contains-then-not-contains.ensures ∙ c.if-not-contains-2.true) in
+
     record {
       can = tt;
       finite = tt;
       all = entry_turned deref_pair _ c.loop-xorb_hash.yielded _ (c.in-Some.xorb_hash, c.in-Some.xorb) whole;
-      filled = λ q.
-          ap (λ m. get m q) (c.in_ok-append.ensures.ok ∙ (λ i. insert c.loop-xorb_hash.self.xorbs (key i) (copied i)))
-          ∙ filled q ∙ ap (λ es. option_or (get c.args.self.now.xorbs q) (but c.args.except.now.xorbs (entry es) q)) (sym push);
+      filled = filled-add (get c.args.self.now.xorbs) c.args.except.now.xorbs _ _ _ c.in-Some.xorb_hash.now c.in-Some.xorb.now.value push c.loop-xorb_hash.invariant.filled _
+          (c.in_ok-append.ensures.ok ∙ (λ i. insert c.loop-xorb_hash.self.xorbs (key i) (copied i)))
+          (sym c.contains.ensures ∙ c.if-not-contains.true) (sym c.contains-then-not-contains.ensures ∙ c.if-not-contains-2.true);
     }
 
 pub loop-xorb_hash-preserved : goal.loop-xorb_hash-preserved
 loop-xorb_hash-preserved c =
     let whole = entry_turn deref_pair _ c.loop-xorb_hash.yielded _ _ _ (c.in-Some.xorb_hash, c.in-Some.xorb) c.loop-xorb_hash.invariant.all c.in-Some.is c.next.ensures.steps in
     let push = shown_push (λ (o : Rc MDBXorbInfo Global). o.value) deref_pair c.loop-xorb_hash.yielded (c.in-Some.xorb_hash, c.in-Some.xorb) in
-    let filled = filled-skip (get c.args.self.now.xorbs) c.args.except.now.xorbs c.loop-xorb_hash.self.xorbs _ c.in-Some.xorb_hash.now c.in-Some.xorb.now.value c.loop-xorb_hash.invariant.filled
-    (elim c.else-not-contains.branch [
-      | else-not-contains-via-then-not-contains+else-not-contains-2 w ↦ inr (sym w.contains-then-not-contains.ensures ∙ w.if-not-contains-2.false)
-      | else-not-contains-via-else-not-contains w ↦ inl (sym c.contains.ensures ∙ w.if-not-contains.false)
-    ]) in
     record {
       can = tt;
       finite = tt;
       all = entry_turned deref_pair _ c.loop-xorb_hash.yielded _ (c.in-Some.xorb_hash, c.in-Some.xorb) whole;
-      filled = λ q. filled q ∙ ap (λ es. option_or (get c.args.self.now.xorbs q) (but c.args.except.now.xorbs (entry es) q)) (sym push);
+      filled = filled-skip (get c.args.self.now.xorbs) c.args.except.now.xorbs _ _ _ c.in-Some.xorb_hash.now c.in-Some.xorb.now.value push c.loop-xorb_hash.invariant.filled
+          (grind (arith, c.else-not-contains.branch));
     }

@@ -1,16 +1,8 @@
-use Rattle.std.proofs.Common.{inl}
 use Rattle.std.specs.Io.KnownBytes.{Consumes}
-use Rattle.std.proofs.lemmas.Result.{err_from_is_err_and}
 use Rattle.xet_base.specs.Input.{ReaderFails}
 use Rattle.xet_shards.specs.MinimalReading.{ReaderHeaderFails}
 use Rattle.xet_shards.proofs.MinimalReading.{after_header}
 use Rattle.xet_shards.proofs.streaming_shard.minimal_shard.MDBMinimalShard.from_reader.Goals as goal
-
-pub returns-in_err-deserialize : goal.returns-in_err-deserialize
-returns-in_err-deserialize g c =
-    let p = err_from_is_err_and c.from_residual.result c.from_residual.ensures.1 in
-    let why = c.in_err-deserialize.ensures in
-    rw (p.1, p.2) (inl (record { causes = why.causes; unsupported = why.unsupported; end = why.end }))
 
 pub returns : goal.returns
 returns g c =

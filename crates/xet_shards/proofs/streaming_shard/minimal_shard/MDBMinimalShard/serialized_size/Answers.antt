@@ -6,15 +6,7 @@ pub bytes_of-files-requires : goal.bytes_of-files-requires
 bytes_of-files-requires c = few_as_wanted c.args.with_verification c.files.result.now c.files.ensures.fit
 
 pub overflow_add-records : goal.overflow_add-records
-overflow_add-records c =
-    omega (arith, c.bytes_of-files.ensures, few_as_wanted c.args.with_verification c.files.result.now c.files.ensures.fit, c.bytes_of.ensures, c.xorbs.ensures.fit.rows)
+overflow_add-records c = omega (arith, few_as_wanted c.args.with_verification c.files.result.now c.files.ensures.fit)
 
 pub overflow_add-result : goal.overflow_add-result
-overflow_add-result c = omega (
-  arith,
-  c.non_content_byte_size.ensures,
-  c.bytes_of-files.ensures,
-  few_as_wanted c.args.with_verification c.files.result.now c.files.ensures.fit,
-  c.bytes_of.ensures,
-  c.xorbs.ensures.fit.rows,
-)
+overflow_add-result c = omega (arith, few_as_wanted c.args.with_verification c.files.result.now c.files.ensures.fit)
