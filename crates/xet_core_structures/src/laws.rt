@@ -35,6 +35,15 @@ ghost use Rattle.xet_shards.specs.Tables.{chunk_table_row_cmp, chunk_table_rows,
 ghost use Rattle.xet_shards.specs.SetOperations.{IsUnion, IsDifference, ShardsAgree, HasFewRows, CanUnite};
 ghost use Rattle.xet_shards.specs.Joins.{IsJoinOf, AgreePairwise};
 
+mod exports;
+mod minimal;
+
+pub use exports::{
+    exports_merge_to_the_export_of_the_join, joins_keep_runs, keyed_shards_are_exported,
+    keys_pass_to_joins, merges_keep_runs,
+};
+pub use minimal::{minimal_shards_are_written_again, subsets_keep_eligible_chunks};
+
 /// Each two shards have exactly one union.
 pub fn unions_exist()
     ensures exists { (a b : Shard) → (c : Shard) × IsUnion a b c }

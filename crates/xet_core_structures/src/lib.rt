@@ -3,9 +3,7 @@
 //! `view_reader` and `shard_writer`.
 #![tactic(auto)]
 
-pub mod export_laws;
 pub mod laws;
-pub mod minimal_laws;
 pub mod set_operations;
 
 pub use xet_base::{count, error, interpolation_search, merklehash, serialization_utils, source};

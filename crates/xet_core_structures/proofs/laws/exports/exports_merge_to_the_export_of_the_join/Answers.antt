@@ -1,5 +1,5 @@
 use Rattle.xet_core_structures.proofs.ExportTrees.{export_of_join, exports_refused, before_timestamps, after_timestamps, split_at_timestamps, after_timestamps_size}
-use Rattle.xet_core_structures.proofs.export_laws.exports_merge_to_the_export_of_the_join.Goals as goal
+use Rattle.xet_core_structures.proofs.laws.exports.exports_merge_to_the_export_of_the_join.Goals as goal
 
 pub returns-clause-bytes : goal.returns-clause-bytes
 returns-clause-bytes c = λ inputs plan key shard_at form_at join out joins exports writes. export_of_join plan key shard_at join joins inputs form_at exports out writes

@@ -1,5 +1,5 @@
 use Rattle.xet_shards.proofs.KeyedShards.{keyed_union, keyed_join, keyed_agree}
-use Rattle.xet_core_structures.proofs.export_laws.keys_pass_to_joins.Goals as goal
+use Rattle.xet_core_structures.proofs.laws.exports.keys_pass_to_joins.Goals as goal
 
 pub returns-clause-union : goal.returns-clause-union
 returns-clause-union c = keyed_union

@@ -2,7 +2,7 @@ use Rattle.std.proofs.Common.{None, ◌∙◌}
 use Rattle.xet_base.specs.KeyedHash.{no_key}
 use Rattle.xet_core_structures.proofs.ExportTrees.{tree_of_exports, keyed_leaves, run_kept, run_from, same_chunks, answer_from, longer_run, longer_under, export_written}
 use Rattle.xet_core_structures.proofs.MergeTrees.{one_layout}
-use Rattle.xet_core_structures.proofs.export_laws.merges_keep_runs.Goals as goal
+use Rattle.xet_core_structures.proofs.laws.exports.merges_keep_runs.Goals as goal
 
 pub returns-clause-kept : goal.returns-clause-kept
 returns-clause-kept c = λ inputs plan shard_at expiry_at join out i q index hashes run joins written writes member is. (

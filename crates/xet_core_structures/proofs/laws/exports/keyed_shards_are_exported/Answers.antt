@@ -1,5 +1,5 @@
 use Rattle.xet_shards.proofs.KeyedShards.{keyed_is_shard, exported_is}
-use Rattle.xet_core_structures.proofs.export_laws.keyed_shards_are_exported.Goals as goal
+use Rattle.xet_core_structures.proofs.laws.exports.keyed_shards_are_exported.Goals as goal
 
 pub returns-clause-shards : goal.returns-clause-shards
 returns-clause-shards c = keyed_is_shard

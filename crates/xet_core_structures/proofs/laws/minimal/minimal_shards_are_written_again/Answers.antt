@@ -1,5 +1,5 @@
 use Rattle.xet_core_structures.proofs.MinimalAgain.{read_fits, shard_read, shard_again}
-use Rattle.xet_core_structures.proofs.minimal_laws.minimal_shards_are_written_again.Goals as goal
+use Rattle.xet_core_structures.proofs.laws.minimal.minimal_shards_are_written_again.Goals as goal
 
 pub returns-clause-read : goal.returns-clause-read
 returns-clause-read c = λ with_files with_xorbs wanted m n now size first rest left bytes read written back.

@@ -1,7 +1,7 @@
 use Rattle.std.specs.Fn.{FnReturnsAt}
 use Rattle.xet_shards.specs.MinimalShard.{minimal_form}
 use Rattle.xet_core_structures.proofs.MinimalAgain.{read_fits, subset_read, subset_eligible}
-use Rattle.xet_core_structures.proofs.minimal_laws.subsets_keep_eligible_chunks.Goals as goal
+use Rattle.xet_core_structures.proofs.laws.minimal.subsets_keep_eligible_chunks.Goals as goal
 
 pub returns-clause-read : goal.returns-clause-read
 returns-clause-read g c = λ filter m n now size expiry first rest left bytes with_files with_xorbs files_again read subset back.
