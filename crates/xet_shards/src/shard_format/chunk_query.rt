@@ -200,12 +200,12 @@ impl MDBShardInfo {
         chunk_index: u32,
         absent: CoreError,
     ) -> Result<Option<(usize, FileDataSequenceEntry)>>
+        ensures nothing { query_hashes.now ≡ []
+            → (result ≡ Ok None) × (S.meaning source.new ≡ S.meaning source.old) }
         ensures answer { IfOk result
             (AnswerAt self.now.metadata.chunk_hash_hmac_key query_hashes.now
             (S.meaning source.old).bytes self.now.metadata.xorb_info_offset xorb_row
             chunk_index) }
-        ensures nothing { query_hashes.now ≡ []
-            → (result ≡ Ok None) × (S.meaning source.new ≡ S.meaning source.old) }
         ensures refused { IfErr result
             (RefusedAt (λ e. e ≡ absent) self.now.metadata.chunk_hash_hmac_key query_hashes.now
             self.now.metadata.xorb_info_offset xorb_row chunk_index (S.meaning source.old)
