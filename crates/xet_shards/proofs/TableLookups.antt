@@ -1,5 +1,5 @@
 -- Lookups in a source that holds a section of records and a table of their starts.
-use Rattle.std.proofs.Common.{◌≡◌, ◌≢◌, ◌⊎◌, inl, inr, ◌==◌, if◌then◌else◌, ℕ, zero, suc, ◌-◌, ◌^◌, ◌<◌, ◌≤◌, List, [], ◌∷◌, ◌++◌, length, take, drop, map, flat_map, get_or, true, false, Bool, Ok, Err, Option, None, Some, refl, sym, ap, ◌∙◌, subst, append_assoc, append-nil, arith}
+use Rattle.std.proofs.Common.{◌≡◌, ◌≢◌, ◌⊎◌, inl, inr, ◌==◌, if◌then◌else◌, ℕ, zero, suc, ◌-◌, ◌^◌, ◌<◌, ◌≤◌, List, [], ◌∷◌, ◌++◌, length, take, drop, map, flat_map, get_or, true, false, Bool, Ok, Err, Option, None, Some, refl, sym, ap, ◌∙◌, subst, append_assoc, append-nil, arith, rules}
 use Rattle.std.specs.Prelude.{All, AllPairs, sum_by, sum, Contains, filter, cond, MatchResult, IfErr}
 use Rattle.std.specs.declared.result.Result.{Result}
 use Rattle.std.specs.List.{AllZip}
@@ -258,12 +258,7 @@ module _ {H R : Type 0} (K : RecordKind H R) (laws : KindLaws K) (d : R) (record
 
   -- what the search costs, and what the lookup does
   pub search_costs : (word : ℕ) (new : Source) → Bounded table word old new → SearchWithinBounds K records word old new
-  search_costs word new bounded = record {
-    made = bounded.made;
-    few = omega (arith, bounded.few, rows_is, table_hits word);
-    seeks = bounded.seeks;
-    read = omega (arith, bounded.read, table_hits word);
-  }
+  search_costs word new bounded = search (rules, rows_is, table_hits)
 
   -- a lookup reads at most the records of the records that share the first word
   pub lookup_costs : (word : ℕ) (new : Source) (Answer : List ℕ → Type 0) → LooksUp K table offset word old new Answer → WithinBounds K records word old new
