@@ -122,15 +122,6 @@ module _ {H R : Type 0} (K : RecordKind H R) (laws : KindLaws K) where
     left_is : left ≡ rows_left K read.stored
     left_is = omega (arith, read.rows)
 
-    bytes_then : now.bytes ≡ start.bytes
-    bytes_then = ap (λ (s : Source). s.bytes) read.taken.after
-
-    seeks_then : now.seeks ≡ start.seeks
-    seeks_then = ap (λ (s : Source). s.seeks) read.taken.after
-
-    failures_then : now.failures ≡ start.failures
-    failures_then = ap (λ (s : Source). s.failures) read.taken.after
-
     -- the section of the records that were read, whose bookend was read after them
     pub section_passed : (new : Source) → ReadsBookend K (Takes now new)
         → IsSection K (bytes_left start) read.stored × (new ≡ advanced start (48 * (sum_by K.row_count read.stored + 1)))
@@ -144,31 +135,15 @@ module _ {H R : Type 0} (K : RecordKind H R) (laws : KindLaws K) where
           laws.header_size last.header,
           length-all_record_bytes K.record_bytes K.row_count K.IsStored (length-record_bytes K laws) read.stored read.are_stored,
         ) in (
-          record {
-            rest = bytes_left now;
-            records = holds;
-            bookend = record {
-              header = last.header;
-              rest = bytes_left new;
-              widths = last.widths;
-              is_bookend = last.is_bookend;
-              bytes_are = Takes-consumes now new bookend last.taken;
-            };
-          },
+          search (rules, holds, Takes-consumes now new bookend last.taken),
           (Takes-trans start now new records_bytes bookend read.taken last.taken).after ∙ ap (advanced start) size,
         )
 
     pub section_ends : (new : Source) → ReadsBookend K (Takes now new) → TakesSection K start new found
-    section_ends new last =
-        let passed = section_passed new last in
-        record { stored = read.stored; section = passed.0; handed = read.handed; after = passed.1 }
-
-    whole_cause : (new : Source) (e : CoreError) → SectionFailure (PassesLimit K left) (EndsEarly K left) (bytes_left now) now new e
-        → SectionFailure (PassesRows K) (IsCutSection K) (bytes_left start) start new e
-    whole_cause new e cause = search (rules, section_failure, failures_then, holds, left_is)
+    section_ends new last = search (rules, section_passed new last)
 
     pub section_fails : (new : Source) (e : CoreError) → RecordFails K left now new e → TakesNoSection K start new e
-    section_fails new e fails = record { bytes = fails.bytes ∙ bytes_then; seeks = fails.seeks ∙ seeks_then; cause = whole_cause new e fails.cause }
+    section_fails new e fails = search (rules, read.taken.after, section_failure, holds, left_is)
 
   -- the whole section
   pub section_read : {S : Type 0} (meaning : S → Source) (s t : S) (found : List R) → ReadsRecords K (TakesOf meaning) s t found → TakesSection K (meaning s) (meaning t) found
