@@ -14,7 +14,7 @@ use Rattle.xet_records.specs.Reading.Stops.{no_header, too_many_rows, no_rows}
 use Rattle.xet_records.proofs.Lengths.{length-all_record_bytes}
 use Rattle.xet_records.proofs.RecordKinds.{KindLaws, length-record_bytes, stored_begins}
 use Rattle.xet_shards.specs.SectionReading.SectionCase.{passes_limit}
-use Rattle.xet_shards.specs.SectionReading.{HoldsRecords, IsSection, PassesRows, IsCutSection, TakesSection, TakesNoSection, SectionFailure, ReadsNext, RecordFails, rows_left}
+use Rattle.xet_shards.specs.SectionReading.{HoldsRecords, IsSection, TakesSection, TakesNoSection, SectionFailure, ReadsNext, RecordFails, rows_left}
 
 -- a read of n bytes was refused, after calls that did not fail
 refused_as : (Passes Ends : List ℕ → Type 0) (bytes : List ℕ) (old mid new : Source) (n : ℕ) (e : CoreError) → mid.failures ≡ old.failures

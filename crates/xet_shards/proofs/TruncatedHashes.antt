@@ -19,8 +19,8 @@ use Rattle.xet_records.proofs.Lengths.{length-all_record_bytes}
 use Rattle.xet_shards.specs.Section.{total_rows}
 use Rattle.xet_shards.specs.Tables.{chunk_table_rows_from, chunk_table_rows, chunk_table}
 use Rattle.xet_shards.specs.TableReading.{triple_of}
-use Rattle.xet_shards.specs.SectionReading.{HoldsRecords, PassesLimit, EndsEarly, SectionFailure, RecordFails, IsSection, PassesRows, IsCutSection, rows_left}
-use Rattle.xet_shards.specs.TruncatedHashes.{hashes_of, StartBefore, ReadsHashes, PassesBefore, CutBefore, HashesFail, HasReadHashes, ReadsXorbBefore, XorbBeforeFails}
+use Rattle.xet_shards.specs.SectionReading.{HoldsRecords, RecordFails, IsSection, rows_left}
+use Rattle.xet_shards.specs.TruncatedHashes.{hashes_of, StartBefore, ReadsHashes, HashesFail, HasReadHashes, ReadsXorbBefore, XorbBeforeFails}
 use Rattle.xet_shards.proofs.ChunkTableRows.{chunk_table_rows-push, chunk_table_rows_from-more, chunk_table_row, no_chunk}
 use Rattle.xet_records.proofs.SectionRecords.{more_read}
 use Rattle.xet_base.specs.InputLaws.{Takes-trans}
