@@ -1,38 +1,32 @@
 -- The turns of the loop that reads a section.
-use Rattle.std.proofs.Common.{◌≡◌, inl, inr, ℕ, ◌+◌, ◌*◌, ◌<◌, ◌≤◌, List, [], ◌∷◌, ◌++◌, length, map, flat_map, sum_by, refl, ap, ◌∙◌, subst, arith}
+use Rattle.std.proofs.Common.{◌≡◌, inl, inr, ℕ, ◌+◌, ◌*◌, ◌<◌, ◌≤◌, List, [], ◌∷◌, ◌++◌, length, map, flat_map, sum_by, refl, ap, ◌∙◌, arith, rules}
 use Rattle.std.proofs.lemmas.List.{length-append}
 use Rattle.std.proofs.lemmas.List.Sums.{sum_by-cons}
 use Rattle.xet_base.specs.declared.error.CoreError.{CoreError}
 use Rattle.std.specs.declared.io.Error.{Error}
 use Rattle.xet_base.specs.Errors.{FromDevice}
 use Rattle.xet_base.specs.Source.{Source, Takes, Fails, FailedBy, ReadCase, ReadFails, advanced, bytes_left}
-use Rattle.xet_base.specs.InputLaws.{Takes-trans, failed_after, read_case}
+use Rattle.xet_base.specs.InputLaws.{Takes-trans}
 use Rattle.xet_base.proofs.Reading.{Takes-consumes, lacks_left}
 use Rattle.xet_records.specs.RecordKind.{RecordKind}
 use Rattle.xet_records.specs.Reading.{ReadsBookend, ReadsHeader, BeginsWithHeader, PassesLimit, EndsEarly, HasRead, Stops, ReadsRecords, StopsAfter}
 use Rattle.xet_records.specs.Reading.Stops.{no_header, too_many_rows, no_rows}
 use Rattle.xet_records.proofs.Lengths.{length-all_record_bytes}
 use Rattle.xet_records.proofs.RecordKinds.{KindLaws, length-record_bytes, stored_begins}
-use Rattle.xet_shards.specs.SectionReading.SectionCase.{not_read, passes_limit}
-use Rattle.xet_shards.specs.SectionReading.{HoldsRecords, IsSection, PassesRows, IsCutSection, TakesSection, TakesNoSection, SectionCase, SectionFailure, ReadsNext, RecordFails, rows_left}
+use Rattle.xet_shards.specs.SectionReading.SectionCase.{passes_limit}
+use Rattle.xet_shards.specs.SectionReading.{HoldsRecords, IsSection, TakesSection, TakesNoSection, SectionFailure, ReadsNext, RecordFails, rows_left}
 
 -- a read of n bytes was refused, after calls that did not fail
 refused_as : (Passes Ends : List ℕ → Type 0) (bytes : List ℕ) (old mid new : Source) (n : ℕ) (e : CoreError) → mid.failures ≡ old.failures
     → (length mid.bytes < mid.at + n → Ends bytes) → FailedBy (ReadCase (length mid.bytes < mid.at + n)) mid new e
     → SectionFailure Passes Ends bytes old new e
-refused_as Passes Ends bytes old mid new n e same ends cause =
-    failed_after (ReadCase (length mid.bytes < mid.at + n)) (SectionCase Passes Ends bytes) old mid new e same
-    (λ short. not_read (read_case (length mid.bytes < mid.at + n) (Ends bytes) e ends short)) cause
+refused_as Passes Ends bytes old mid new n e same ends cause = search rules
 
 -- records were not read after calls that did not fail
 pub section_failure : (Passes Ends Passes' Ends' : List ℕ → Type 0) (bytes bytes' : List ℕ) (old mid new : Source) (e : CoreError) → mid.failures ≡ old.failures
     → (Passes bytes → Passes' bytes') → (Ends bytes → Ends' bytes') → SectionFailure Passes Ends bytes mid new e → SectionFailure Passes' Ends' bytes' old new e
 section_failure Passes Ends Passes' Ends' bytes bytes' old mid new e same passes ends cause =
-    failed_after (SectionCase Passes Ends bytes) (SectionCase Passes' Ends' bytes') old mid new e same later cause
-  where
-    later : SectionCase Passes Ends bytes e → SectionCase Passes' Ends' bytes' e
-    later (not_read unread) = not_read (read_case (Ends bytes) (Ends' bytes') e ends unread)
-    later (passes_limit is holds) = passes_limit is (passes holds)
+    search rules
 
 module _ {H R : Type 0} (K : RecordKind H R) (laws : KindLaws K) where
   -- the header at the front of the bytes that were left
@@ -123,23 +117,10 @@ module _ {H R : Type 0} (K : RecordKind H R) (laws : KindLaws K) where
   -- the bytes of the section, as far as the records that were read
   module _ (start now : Source) (found : List R) (left : ℕ) (read : HasRead K (Takes start now) found left) where
     holds : HoldsRecords K (bytes_left start) read.stored (bytes_left now)
-    holds = record {
-      are_stored = read.are_stored;
-      rows = omega (arith, read.rows);
-      bytes_are = Takes-consumes start now (flat_map K.record_bytes read.stored) read.taken;
-    }
+    holds = search (rules, Takes-consumes)
 
     left_is : left ≡ rows_left K read.stored
     left_is = omega (arith, read.rows)
-
-    bytes_then : now.bytes ≡ start.bytes
-    bytes_then = ap (λ (s : Source). s.bytes) read.taken.after
-
-    seeks_then : now.seeks ≡ start.seeks
-    seeks_then = ap (λ (s : Source). s.seeks) read.taken.after
-
-    failures_then : now.failures ≡ start.failures
-    failures_then = ap (λ (s : Source). s.failures) read.taken.after
 
     -- the section of the records that were read, whose bookend was read after them
     pub section_passed : (new : Source) → ReadsBookend K (Takes now new)
@@ -154,34 +135,15 @@ module _ {H R : Type 0} (K : RecordKind H R) (laws : KindLaws K) where
           laws.header_size last.header,
           length-all_record_bytes K.record_bytes K.row_count K.IsStored (length-record_bytes K laws) read.stored read.are_stored,
         ) in (
-          record {
-            rest = bytes_left now;
-            records = holds;
-            bookend = record {
-              header = last.header;
-              rest = bytes_left new;
-              widths = last.widths;
-              is_bookend = last.is_bookend;
-              bytes_are = Takes-consumes now new bookend last.taken;
-            };
-          },
+          search (rules, holds, Takes-consumes now new bookend last.taken),
           (Takes-trans start now new records_bytes bookend read.taken last.taken).after ∙ ap (advanced start) size,
         )
 
     pub section_ends : (new : Source) → ReadsBookend K (Takes now new) → TakesSection K start new found
-    section_ends new last =
-        let passed = section_passed new last in
-        record { stored = read.stored; section = passed.0; handed = read.handed; after = passed.1 }
-
-    whole_cause : (new : Source) (e : CoreError) → SectionFailure (PassesLimit K left) (EndsEarly K left) (bytes_left now) now new e
-        → SectionFailure (PassesRows K) (IsCutSection K) (bytes_left start) start new e
-    whole_cause new e cause =
-        section_failure (PassesLimit K left) (EndsEarly K left) (PassesRows K) (IsCutSection K) (bytes_left now) (bytes_left start) start now new e failures_then
-        (λ passes. (read.stored, bytes_left now, holds, subst (λ n. PassesLimit K n (bytes_left now)) left_is passes))
-        (λ ends. (read.stored, bytes_left now, holds, subst (λ n. EndsEarly K n (bytes_left now)) left_is ends)) cause
+    section_ends new last = search (rules, section_passed new last)
 
     pub section_fails : (new : Source) (e : CoreError) → RecordFails K left now new e → TakesNoSection K start new e
-    section_fails new e fails = record { bytes = fails.bytes ∙ bytes_then; seeks = fails.seeks ∙ seeks_then; cause = whole_cause new e fails.cause }
+    section_fails new e fails = search (rules, read.taken.after, section_failure, holds, left_is)
 
   -- the whole section
   pub section_read : {S : Type 0} (meaning : S → Source) (s t : S) (found : List R) → ReadsRecords K (TakesOf meaning) s t found → TakesSection K (meaning s) (meaning t) found

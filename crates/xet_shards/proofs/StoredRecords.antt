@@ -3,8 +3,7 @@ use Rattle.std.proofs.Common.{◌≡◌, ◌⊎◌, inl, inr, ℕ, suc, ◌+◌,
 use Rattle.std.specs.Prelude.{All, Contains}
 use Rattle.std.proofs.lemmas.List.{drop-drop, take-append-drop}
 use Rattle.std.proofs.lemmas.List.Elements.{All-contains, Contains-append_left, Contains-append_right, Contains-get_or}
-use Rattle.std.proofs.lemmas.List.Sums.{sum_by-append, sum_by-cons}
-use Rattle.std.proofs.lemmas.Grind.{flat_map-append}
+use Rattle.std.proofs.lemmas.Grind.{common_steps, flat_map-append}
 use Rattle.xet_base.specs.declared.error.CoreError.{CoreError}
 use Rattle.xet_base.specs.declared.error.CoreError.TheVariants.{OutOfMemory}
 use Rattle.xet_base.specs.Source.{Source, DeviceFailure}
@@ -78,8 +77,7 @@ module _ {H R : Type 0} (K : RecordKind H R) (laws : KindLaws K) (records : List
 
   -- the rows of a record and of those before it
   pub end_bound : row + K.row_count r ≤ 4294967295
-  end_bound =
-      omega (arith, is.fits.rows, ap (total_rows K) at.records_are, sum_by-append K.row_count at.before (r ∷ at.after), sum_by-cons K.row_count r at.after, at.row_is)
+  end_bound = grind (arith, common_steps)
 
   -- reading it takes no more than its bytes
   pub record_is_enough : (n : ℕ) → MayTake K (drop (row_at offset row) old.bytes) n → n ≤ length (K.record_bytes r)

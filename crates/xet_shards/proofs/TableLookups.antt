@@ -1,6 +1,6 @@
 -- Lookups in a source that holds a section of records and a table of their starts.
-use Rattle.std.proofs.Common.{◌≡◌, ◌≢◌, ◌⊎◌, inl, inr, ◌==◌, if◌then◌else◌, ℕ, zero, suc, ◌-◌, ◌^◌, ◌<◌, ◌≤◌, List, [], ◌∷◌, ◌++◌, length, take, drop, map, flat_map, get_or, true, false, Bool, Ok, Err, Option, None, Some, refl, sym, ap, ◌∙◌, subst, append_assoc, append-nil, arith}
-use Rattle.std.specs.Prelude.{All, AllPairs, sum_by, sum, Contains, filter, cond, MatchResult, IfErr}
+use Rattle.std.proofs.Common.{◌≡◌, ◌≢◌, ◌⊎◌, inl, inr, ◌==◌, if◌then◌else◌, ℕ, zero, suc, ◌-◌, ◌^◌, ◌<◌, ◌≤◌, List, [], ◌∷◌, ◌++◌, length, take, drop, map, flat_map, get_or, Ok, Err, Option, None, Some, refl, sym, ap, ◌∙◌, subst, append_assoc, append-nil, arith, rules}
+use Rattle.std.specs.Prelude.{All, AllPairs, sum_by, sum, Contains, filter, MatchResult, IfErr}
 use Rattle.std.specs.declared.result.Result.{Result}
 use Rattle.std.specs.List.{AllZip}
 use Rattle.std.proofs.lemmas.List.{take_all, length-append, length-map, length-take, get_or-map, get_or_default}
@@ -11,7 +11,6 @@ use Rattle.xet_base.specs.declared.error.CoreError.{CoreError}
 use Rattle.xet_base.specs.declared.error.CoreError.TheVariants.{OutOfMemory, TruncatedHashCollision}
 use Rattle.xet_base.specs.declared.merklehash.DataHash.{DataHash}
 use Rattle.xet_base.specs.Bytes.{u32_bytes}
-use Rattle.xet_base.specs.Errors.{FromDevice, variant_number}
 use Rattle.xet_base.specs.Source.{Source, DeviceFailure}
 use Rattle.xet_base.specs.Table.{table_at, Table, IsSorted, hits, Hit, IsHit, OtherRow, SearchRefused, Bounded}
 use Rattle.xet_base.proofs.Bytes.{length-u32_bytes, u32_bytes-injective}
@@ -63,12 +62,8 @@ sum-lengths f (x ∷ xs) = sum_by-cons (λ y. length (f y)) x xs ∙ omega (arit
 length-sharing : {H R : Type 0} (K : RecordKind H R) (word : ℕ) (front records : List R)
     → length (filter (λ (row : ℕ × ℕ). row.0 == word) (map (start_of K) (with_fronts front records))) ≡ length (sharing K word records)
 length-sharing K word front [] = refl
-length-sharing K word front (r ∷ records) = go ((hash_in K r).word0 == word) (length-sharing K word (front ++ r ∷ []) records)
-  where
-    go : (b : Bool) → let rows = filter (λ (row : ℕ × ℕ). row.0 == word) (map (start_of K) (with_fronts (front ++ r ∷ []) records)) in
-        length rows ≡ length (sharing K word records) → length (cond b (start_of K (front, r) ∷ rows) rows) ≡ length (cond b (r ∷ sharing K word records) (sharing K word records))
-    go true rest = ap (λ n. suc n) rest
-    go false rest = rest
+length-sharing K word front (r ∷ records) =
+    search (rules, (length-sharing K word (front ++ r ∷ []) records))
 
 -- stored records, in ascending order of the first words of their hashes, with their section at an offset of a source, and
 -- a table of their starts at another; `d` is a record for where a list has none
@@ -258,12 +253,7 @@ module _ {H R : Type 0} (K : RecordKind H R) (laws : KindLaws K) (d : R) (record
 
   -- what the search costs, and what the lookup does
   pub search_costs : (word : ℕ) (new : Source) → Bounded table word old new → SearchWithinBounds K records word old new
-  search_costs word new bounded = record {
-    made = bounded.made;
-    few = omega (arith, bounded.few, rows_is, table_hits word);
-    seeks = bounded.seeks;
-    read = omega (arith, bounded.read, table_hits word);
-  }
+  search_costs word new bounded = search (rules, rows_is, table_hits)
 
   -- a lookup reads at most the records of the records that share the first word
   pub lookup_costs : (word : ℕ) (new : Source) (Answer : List ℕ → Type 0) → LooksUp K table offset word old new Answer → WithinBounds K records word old new
@@ -328,11 +318,7 @@ module _ {H R : Type 0} (K : RecordKind H R) (laws : KindLaws K) (d : R) (record
   pub costs_collision : (hash : DataHash) (new : Source) (e : CoreError) → FindingFails K table offset hash old new e → e ≡ TruncatedHashCollision hash.word0
       → SearchWithinBounds K records hash.word0 old new
   costs_collision hash new e (inl (refused, bounded)) collision = search_costs hash.word0 new (bounded table_sorted)
-  costs_collision hash new e (inr looks) collision =
-      elim (hits_are_read hash.word0 looks.found looks.are_hits.each looks.are_hits.distinct new e looks.answer.0 looks.answer.1 looks.answer.2) [
-        | inl failed ↦ absurd (subst (FromDevice failed.1) collision failed.3)
-        | inr no_memory ↦ absurd (omega (arith, ap variant_number (sym no_memory ∙ collision)))
-      ]
+  costs_collision hash new e (inr looks) collision = search rules
 
   -- an index lookup
   index_answered : (word count : ℕ) (dest_old dest_new : List ℕ) → IndexFinds table word dest_old dest_new count → StartsAmong K records word dest_new count
@@ -345,8 +331,7 @@ module _ {H R : Type 0} (K : RecordKind H R) (laws : KindLaws K) (d : R) (record
       )
 
   index_not_answered : (word : ℕ) (new : Source) (e : CoreError) → IndexRefused table word old new e → NoStartsAmong K records word old new e
-  index_not_answered word new e (inl (none, collision, collides)) =
-      inr (collision, omega (arith, collides.eight, hits_share word collides.found collides.each collides.distinct))
+  index_not_answered word new e (inl (none, collision, collides)) = search (rules, hits_share)
   index_not_answered word new e (inr refused) = inl (search_answers new e refused)
 
   pub index_written : (new : Source) (word : ℕ) (dest_old dest_new : List ℕ) (r : Result ℕ CoreError) → LooksUpIndex table word dest_old dest_new old new r

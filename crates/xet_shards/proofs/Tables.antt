@@ -1,5 +1,5 @@
 -- The tables of a list with one more record.
-use Rattle.std.proofs.Common.{◌≡◌, ℕ, suc, ◌*◌, List, [], ◌∷◌, ◌++◌, map, flat_map, length, refl, sym, ap, ◌∙◌, append_assoc, append-nil, arith}
+use Rattle.std.proofs.Common.{◌≡◌, ℕ, suc, ◌*◌, List, [], ◌∷◌, ◌++◌, flat_map, length, refl, sym, ap, ◌∙◌, append_assoc, append-nil, arith, rules}
 use Rattle.std.proofs.lemmas.List.{map-append, length-append, length-map}
 use Rattle.std.proofs.lemmas.Grind.{flat_map-append}
 use Rattle.xet_base.specs.Bytes.{u32_bytes, u64_bytes}
@@ -7,9 +7,7 @@ use Rattle.xet_base.proofs.Bytes.{length-u32_bytes, length-u64_bytes}
 use Rattle.xet_records.specs.RecordKind.{RecordKind}
 use Rattle.xet_shards.specs.Section.{with_fronts, total_rows}
 use Rattle.std.specs.Cmp.{IsTotalOrder}
-use Rattle.std.specs.Ordering.{nat_cmp}
 use Rattle.std.specs.FinMap.{IsAntisymmetric}
-use Rattle.std.proofs.lemmas.Map.Lookups.{exact_pairs, exact_unsigned}
 use Rattle.std.proofs.lemmas.Cmp.{then_total, on_total, nat_cmp_total}
 use Rattle.xet_shards.specs.Tables.{ChunkTableRow, chunk_table_row_cmp, hash_in, start_of, starts, start_row, chunk_table_row_bytes, table_bytes}
 
@@ -33,12 +31,7 @@ length-start_rows (row ∷ rows) =
 module _ {H R : Type 0} (K : RecordKind H R) where
   pub table_bytes-push : (rs : List R) (r : R) → table_bytes K (rs ++ r ∷ []) ≡ table_bytes K rs ++ start_row ((hash_in K r).word0, total_rows K rs)
   unfolding table_bytes
-  table_bytes-push rs r =
-      let last : List R × R = (rs, r) in
-      ap (λ es. flat_map start_row (map (start_of K) es)) (with_fronts-push [] rs r)
-      ∙ ap (flat_map start_row) (map-append (start_of K) (with_fronts [] rs) (last ∷ []))
-      ∙ flat_map-append start_row (starts K rs) (start_of K last ∷ [])
-      ∙ ap (λ bytes. flat_map start_row (starts K rs) ++ bytes) (append-nil (start_row ((hash_in K r).word0, total_rows K rs)))
+  table_bytes-push rs r = search (rules, with_fronts-push, map-append, flat_map-append, append-nil)
 
   pub table_bytes-nil : table_bytes K [] ≡ []
   unfolding table_bytes
@@ -75,6 +68,4 @@ chunk_table_row_total =
 
 -- and only equal rows tie
 pub chunk_table_row_exact : IsAntisymmetric chunk_table_row_cmp
-chunk_table_row_exact a b tied =
-    ap (λ (p : ℕ × (ℕ × ℕ)). record { word = p.0; row = p.1.0; index = p.1.1 })
-    (exact_pairs nat_cmp _ exact_unsigned (exact_pairs nat_cmp nat_cmp exact_unsigned exact_unsigned) (a.word, (a.row, a.index)) (b.word, (b.row, b.index)) tied)
+chunk_table_row_exact a b tied = search rules

@@ -19,8 +19,8 @@ use Rattle.xet_records.proofs.Lengths.{length-all_record_bytes}
 use Rattle.xet_shards.specs.Section.{total_rows}
 use Rattle.xet_shards.specs.Tables.{chunk_table_rows_from, chunk_table_rows, chunk_table}
 use Rattle.xet_shards.specs.TableReading.{triple_of}
-use Rattle.xet_shards.specs.SectionReading.{HoldsRecords, PassesLimit, EndsEarly, SectionFailure, RecordFails, IsSection, PassesRows, IsCutSection, rows_left}
-use Rattle.xet_shards.specs.TruncatedHashes.{hashes_of, StartBefore, ReadsHashes, PassesBefore, CutBefore, HashesFail, HasReadHashes, ReadsXorbBefore, XorbBeforeFails}
+use Rattle.xet_shards.specs.SectionReading.{HoldsRecords, RecordFails, IsSection, rows_left}
+use Rattle.xet_shards.specs.TruncatedHashes.{hashes_of, StartBefore, ReadsHashes, HashesFail, HasReadHashes, ReadsXorbBefore, XorbBeforeFails}
 use Rattle.xet_shards.proofs.ChunkTableRows.{chunk_table_rows-push, chunk_table_rows_from-more, chunk_table_row, no_chunk}
 use Rattle.xet_records.proofs.SectionRecords.{more_read}
 use Rattle.xet_base.specs.InputLaws.{Takes-trans}
@@ -87,15 +87,6 @@ module _ (stop : ℕ) (old now : Source) (at : ℕ) (found : List (ℕ × (ℕ �
   left_is : left ≡ rows_left xorb_records before.xorbs
   left_is = omega (arith, before.read.rows, ap (total_rows xorb_records) same_xorbs)
 
-  bytes_then : now.bytes ≡ old.bytes
-  bytes_then = ap (λ (s : Source). s.bytes) before.read.taken.after
-
-  seeks_then : now.seeks ≡ old.seeks + 1
-  seeks_then = ap (λ (s : Source). s.seeks) before.read.taken.after
-
-  failures_then : now.failures ≡ old.failures
-  failures_then = ap (λ (s : Source). s.failures) before.read.taken.after
-
   -- the bookend, or the stop
   pub hashes_end : (new : Source) → ((now.at < stop) × ReadsBookend xorb_records (Takes now new)) ⊎ ((stop ≤ now.at) × (new ≡ now)) → ReadsHashes old new at stop found
   hashes_end new (inl (below, last)) =
@@ -120,13 +111,8 @@ module _ (stop : ℕ) (old now : Source) (at : ℕ) (found : List (ℕ × (ℕ �
         hashes = before.hashes;
       }
 
-  whole_cause : (new : Source) (e : CoreError)
-      → SectionFailure (λ bytes. (now.at < stop) × PassesLimit xorb_records left bytes) (λ bytes. (now.at < stop) × EndsEarly xorb_records left bytes) (bytes_left now) now new e
-      → SectionFailure (PassesBefore at stop) (CutBefore at stop) (drop at old.bytes) old new e
-  whole_cause new e cause = search (rules, section_failure, failures_then, holds, at_is, left_is)
-
   pub hashes_fail : (new : Source) (e : CoreError) → XorbBeforeFails stop left now new e → HashesFail old new at stop e
-  hashes_fail new e fails = record { bytes = fails.bytes ∙ bytes_then; seeks = fails.seeks ∙ seeks_then; cause = whole_cause new e fails.cause }
+  hashes_fail new e fails = search (rules, before.read.taken.after, section_failure, holds, at_is, left_is)
 
 -- xorbs without chunks have no hashes
 no_chunks_no_hashes : (xorbs : List MDBXorbInfo) → total_chunks xorbs ≡ 0 → hashes_of xorbs ≡ []
@@ -134,10 +120,6 @@ no_chunks_no_hashes xorbs none = nil_from_length (hashes_of xorbs) (length-map (
 
 -- and so the walk through their section finds none, wherever it stops, unless the device fails or an allocation does
 module _ (old new : Source) (at stop : ℕ) (xorbs : List MDBXorbInfo) (section : IsSection xorb_records (drop at old.bytes) xorbs) where
-  anywhere : (e : CoreError) → SectionFailure (PassesBefore at stop) (CutBefore at stop) (drop at old.bytes) old new e
-      → SectionFailure (PassesRows xorb_records) (IsCutSection xorb_records) (drop at old.bytes) old new e
-  anywhere e cause = search rules
-
   pub no_hashes_read : {Z : Type 0} (r : Result (Vec (ℕ × (ℕ × ℕ)) Z) CoreError) → total_chunks xorbs ≡ 0
       → MatchResult r (λ found. ReadsHashes old new at stop found.items) (HashesFail old new at stop) → IsReadAs old new (map triple_of (chunk_table xorbs)) r
   no_hashes_read (Ok found) none read =
@@ -145,4 +127,4 @@ module _ (old new : Source) (at stop : ℕ) (xorbs : List MDBXorbInfo) (section 
       let chunks : MDBXorbInfo → ℕ = λ x. length x.chunks in
       read.hashes ∙ no_chunks_no_hashes read.xorbs (omega (arith, none, ap total_chunks more.1, sum_by-append chunks read.xorbs more.0))
       ∙ ap (map triple_of) (sym (nil_from_length (chunk_table xorbs) (length-chunk_table xorbs ∙ none)))
-  no_hashes_read (Err e) none fails = why_not xorb_records xorb_laws (moved old at) new xorbs section e (anywhere e fails.cause)
+  no_hashes_read (Err e) none fails = why_not xorb_records xorb_laws (moved old at) new xorbs section e (search (rules, fails.cause))

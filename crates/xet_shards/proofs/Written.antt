@@ -1,8 +1,9 @@
 -- What is gathered while a section is written, and what is written after the sections.
-use Rattle.std.proofs.Common.{◌≡◌, Bool, true, false, ℕ, ◌+◌, ◌*◌, List, [], ◌∷◌, ◌++◌, length, Option, refl, sym, ap, ◌∙◌, subst, append_assoc, arith}
+use Rattle.std.proofs.Common.{◌≡◌, Bool, true, false, ℕ, ◌+◌, ◌*◌, List, [], ◌∷◌, ◌++◌, length, Option, refl, sym, ap, ◌∙◌, subst, append_assoc, arith, rules}
 use Rattle.std.specs.Prelude.{if◌then◌else◌}
 use Rattle.std.specs.Io.KnownBytes.{Appends}
 use Rattle.std.proofs.KnownBytes.{Appends-trans}
+use Rattle.std.proofs.lemmas.Grind.{common_steps}
 use Rattle.std.proofs.lemmas.List.{length-append}
 use Rattle.std.proofs.lemmas.List.Sums.{sum_by_push}
 use Rattle.xet_records.specs.declared.file_structs.MDBFileInfo.{MDBFileInfo}
@@ -15,7 +16,7 @@ use Rattle.xet_shards.specs.declared.shard_format.written.WrittenFiles.{WrittenF
 use Rattle.xet_shards.specs.declared.shard_format.written.WrittenXorbs.{WrittenXorbs}
 use Rattle.xet_shards.specs.Shard.{xorb_hash_of}
 use Rattle.xet_shards.specs.Section.{section_bytes}
-use Rattle.xet_shards.specs.Tables.{ChunkTableRow, hash_in, start_row, starts, table_bytes, chunk_table_rows_from, chunk_table_rows, ascending}
+use Rattle.xet_shards.specs.Tables.{ChunkTableRow, hash_in, starts, table_bytes, chunk_table_rows_from, chunk_table_rows, ascending}
 use Rattle.xet_shards.specs.Layout.{Form, if_in, shard_header_bytes, header_value, layout_of}
 use Rattle.xet_shards.specs.Written.{AddsRecord, IsTableOf, IsFileOf, HasWritten, HasWrittenXorbs, end_of_layout}
 use Rattle.xet_shards.proofs.ChunkTableRows.{chunk_table_rows-push}
@@ -26,11 +27,8 @@ module _ {H R : Type 0} (K : RecordKind H R) where
   table_of_none table records rows bytes = record { records = records; rows = rows; bytes = bytes ∙ sym (table_bytes-nil K) }
 
   pub table_of_more : (v w : RecordTable) (records : List R) (r : R) → IsTableOf K v records → AddsRecord v w (hash_in K r).word0 (K.row_count r) → IsTableOf K w (records ++ r ∷ [])
-  table_of_more v w records r before added = record {
-    records = omega (arith, added.records, before.records, length-append records (r ∷ []));
-    rows = added.rows ∙ ap (λ n. n + K.row_count r) before.rows ∙ sym (sum_by_push K.row_count records r);
-    bytes = added.bytes ∙ (λ i. before.bytes i ++ start_row ((hash_in K r).word0, before.rows i)) ∙ sym (table_bytes-push K records r);
-  }
+  table_of_more v w records r before added =
+      search (rules, length-append, sum_by_push, table_bytes-push)
 
 pub file_written : (v w : WrittenFiles) (word rows bytes : ℕ) → AddsRecord v.table w.table word rows → w.materialized_bytes ≡ v.materialized_bytes + bytes
     → (files : List MDBFileInfo) (r : MDBFileInfo) → HasWritten v files → IsFileOf word rows bytes r → HasWritten w (files ++ r ∷ [])
@@ -75,5 +73,4 @@ pub whole_layout : (start after_header after_files after_xorbs end : Option (Lis
     → Appends after_files after_xorbs (section_bytes xorb_records xorbs) → Appends after_xorbs end (end_of_layout files xorbs form)
     → Appends start end (layout_of files xorbs form)
 whole_layout start after_header after_files after_xorbs end files xorbs form header file_section xorb_section rest =
-    subst (Appends start end) (layout-parts files xorbs form)
-    (Appends-trans _ after_xorbs _ _ _ (Appends-trans _ after_files _ _ _ (Appends-trans _ after_header _ _ _ header file_section) xorb_section) rest)
+    grind (arith, common_steps, layout-parts, Appends-trans)
