@@ -7,7 +7,7 @@ use Rattle.std.specs.Map.{keys_of}
 use Rattle.std.specs.BTreeMap.{insert_entry}
 use Rattle.std.specs.BTreeSet.{insert_key}
 use Rattle.std.specs.Cmp.{IsTotalOrder}
-use Rattle.std.specs.FinMap.{FinMap, IsAntisymmetric, from_entries, find, insert, entries, keys, same_map, entries-insert, get-insert, get-from_entries}
+use Rattle.std.specs.FinMap.{FinMap, IsAntisymmetric, from_entries, find, insert, entries, keys, same_map, get-insert, get-from_entries}
 use Rattle.std.proofs.lemmas.List.{map-append, length-take}
 use Rattle.std.proofs.Math.Seq.{take-suc}
 use Rattle.xet_records.specs.declared.xorb_structs.XorbChunkSequenceEntry.{XorbChunkSequenceEntry}
@@ -15,7 +15,7 @@ use Rattle.xet_records.specs.declared.xorb_structs.MDBXorbInfo.{MDBXorbInfo}
 use Rattle.xet_records.specs.XorbRecord.{xorb_records}
 use Rattle.xet_shards.specs.Section.{total_rows, with_fronts}
 use Rattle.xet_shards.specs.Tables.{ChunkTableRow, chunk_table_row_cmp, ascending, chunk_table_rows_from, chunk_table_rows}
-use Rattle.xet_shards.proofs.Maps.{put_is, entries-empty}
+use Rattle.xet_shards.proofs.Maps.{entries-inserted, entries-empty}
 use Rattle.xet_shards.proofs.Tables.{chunk_table_row_total, chunk_table_row_exact, with_fronts-push}
 use Rattle.xet_shards.proofs.Walks.{flat_map-push}
 
@@ -45,7 +45,7 @@ module _ {K : Type 0} (R : K → K → Ordering) (total : IsTotalOrder R) (exact
       let same : more ≡ insert m p tt = same_map total exact more (insert m p tt) (λ q.
       get-from_entries total (map keyed (ps ++ p ∷ [])) q ∙ find-push q p ps
       ∙ sym (get-insert total m p tt q ∙ ap (cond (eq_by_cmp R q p) (Some (tt {0}))) (get-from_entries total (map keyed ps) q))) in
-      sym (ap keys same ∙ ap keys_of (entries-insert total m p tt ∙ sym (put_is R p tt (entries m))) ∙ keys-insert_entry R p tt (entries m))
+      sym (ap keys same ∙ ap keys_of (entries-inserted total m p tt) ∙ keys-insert_entry R p tt (entries m))
 
 pub ascending-push : (ps : List ChunkTableRow) (p : ChunkTableRow) → insert_key chunk_table_row_cmp (ascending ps) p ≡ ascending (ps ++ p ∷ [])
 ascending-push = keys-push chunk_table_row_cmp chunk_table_row_total chunk_table_row_exact

@@ -49,6 +49,9 @@ module _ {K X : Type 0} (R : K → K → Ordering) where
   rising_keys [] sorted = tt
   rising_keys (e ∷ es) sorted = (below_keys e.0 es (both_left _ _ sorted), rising_keys es (both_right _ _ sorted))
 
+pub entries-inserted : {K X : Type 0} {R : K → K → Ordering} → IsTotalOrder R → (m : FinMap R X) (k : K) (v : X) → entries (insert m k v) ≡ insert_entry R (entries m) k v
+entries-inserted {R = R} total m k v = entries-insert total m k v ∙ sym (put_is R k v (entries m))
+
 module _ {K X : Type 0} {R : K → K → Ordering} (total : IsTotalOrder R) (exact : IsAntisymmetric R) where
   pub from_sorted-nil : from_sorted {X = X} {R = R} [] ≡ empty
   from_sorted-nil = same_map total exact (from_sorted []) empty (λ q. get-from_sorted R [] q tt ∙ sym (get-empty R q))
@@ -59,8 +62,8 @@ module _ {K X : Type 0} {R : K → K → Ordering} (total : IsTotalOrder R) (exa
   -- the map of the entries after an insertion
   pub from_sorted-insert_entry : (es : List (K × X)) (k : K) (v : X) → T (is_sorted R es) → from_sorted {R = R} (insert_entry R es k v) ≡ insert (from_sorted es) k v
   from_sorted-insert_entry es k v sorted =
-      same_entries_map _ _ (entries-from_sorted R (insert_entry R es k v) (sorted-insert_entry es k v sorted) ∙ put_is R k v es
-      ∙ ap (put R k v) (sym (entries-from_sorted R es sorted)) ∙ sym (entries-insert total (from_sorted es) k v))
+      same_entries_map _ _ (entries-from_sorted R (insert_entry R es k v) (sorted-insert_entry es k v sorted)
+      ∙ ap (λ fs. insert_entry R fs k v) (sym (entries-from_sorted R es sorted)) ∙ sym (entries-inserted total (from_sorted es) k v))
 
   pub found : (es : List (K × X)) (q : K) → T (is_sorted R es) → lookup (is_at (R q)) es ≡ get (from_sorted {R = R} es) q
   found es q sorted = found_is R q es ∙ sym (get-from_sorted R es q sorted)
@@ -79,9 +82,8 @@ module _ {K X : Type 0} {R : K → K → Ordering} (total : IsTotalOrder R) (exa
   pub sum-insert : (f : X → ℕ) (m : FinMap R X) (k : K) (v : X)
       → sum_by f (values (insert m k v)) + unwrap_or (option_map f (get m k)) 0 ≡ sum_by f (values m) + f v
   sum-insert f m k v =
-      let entered = entries-insert total m k v ∙ sym (put_is R k v (entries m)) in
       let old = get-entries m k ∙ sym (found_is R k (entries m)) in
-      cc (entered, old, sum_by-insert_entry f total (entries m) k v (rising_keys R (entries m) (entries_sorted m)))
+      cc (entries-inserted total m k v, old, sum_by-insert_entry f total (entries m) k v (rising_keys R (entries m) (entries_sorted m)))
 
 module _ {K : Type 0} (X : Type 0) (R : K → K → Ordering) where
   pub entries-empty : entries (empty {X = X} {R = R}) ≡ []
@@ -102,13 +104,10 @@ entries-from_entries {X = X} {R = R} total (e ∷ es) = entries-insert total (fr
 -- what holds of the keys of entries holds of those of their map
 pub All-keys-from_entries : {K X : Type 0} {R : K → K → Ordering} → IsTotalOrder R → (P : K → Type 0) (es : List (K × X)) → All P (keys_of es)
     → All P (keys (from_entries {R = R} es))
-All-keys-from_entries {K = K} {X = X} {R = R} total P es all = subst (λ fs. All P (keys_of fs)) (sym (entries-from_entries total es)) (in_puts es all)
-  where
-    in_puts : (fs : List (K × X)) → All P (keys_of fs) → All P (keys_of (puts R fs))
-    in_puts [] all = all
-    in_puts (e ∷ fs) all =
-        subst (λ gs. All P (keys_of gs)) (put_is R e.0 e.1 (puts R fs))
-        (All-keys-insert_entry R e.0 e.1 P (puts R fs) (in_puts fs (All-drop P 1 (keys_of (e ∷ fs)) all)) (all 0 e.0 (omega arith)))
+All-keys-from_entries {X = X} {R = R} total P [] all = subst (λ fs. All P (keys_of fs)) (sym (entries-empty X R)) all
+All-keys-from_entries {R = R} total P (e ∷ es) all =
+    subst (λ fs. All P (keys_of fs)) (sym (entries-inserted total (from_entries es) e.0 e.1))
+    (All-keys-insert_entry R e.0 e.1 P (entries (from_entries es)) (All-keys-from_entries total P es (All-drop P 1 (keys_of (e ∷ es)) all)) (all 0 e.0 (omega arith)))
 
 -- keys whose ranks ascend from n on
 abbrev pub IsRising : {K : Type 0} → (K → ℕ) → ℕ → List K → Type 0

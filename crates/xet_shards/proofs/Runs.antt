@@ -4,7 +4,6 @@ use Rattle.std.specs.Prelude.{All}
 use Rattle.std.proofs.lemmas.List.{length-append, take_all, nil_from_length}
 use Rattle.std.proofs.lemmas.List.Elements.{All-append, All-cons, All-nil}
 use Rattle.std.proofs.lemmas.List.Sums.{common_prefix_len-le, sum_by_push}
-use Rattle.std.proofs.lemmas.Grind.{flat_map-append}
 use Rattle.xet_base.specs.declared.error.CoreError.{CoreError}
 use Rattle.xet_base.specs.declared.merklehash.DataHash.{DataHash}
 use Rattle.xet_base.specs.Hash.{hash_eq}
@@ -22,6 +21,7 @@ use Rattle.xet_records.proofs.Lengths.{length-chunk_rows}
 use Rattle.xet_shards.specs.ChunkQuery.{run_length}
 use Rattle.xet_shards.specs.RunReading.{Decide}
 use Rattle.xet_shards.specs.RunSteps.{RowFailure, RowNotRead, ReadsRun, RunFailure, ReadRunFails, HasReadRun}
+use Rattle.xet_shards.proofs.Walks.{flat_map-push}
 
 -- what a test for difference shows
 pub tested_same : (b : Bool) → false ≡ not b → b ≡ true
@@ -36,7 +36,6 @@ pub next_hash : (key : DataHash) (qs : List DataHash) (n i : ℕ) (d keyed hash 
 next_hash key qs n i d keyed hash b same is shown = (λ k. hash_eq (under_key key (get_or qs (same k) d)) hash) ∙ ap (λ h. hash_eq h hash) (sym is) ∙ shown
 
 module _ (key : DataHash) where
-
   pub run_within : (qs : List DataHash) (cs : List XorbChunkSequenceEntry) → run_length key qs cs ≤ length cs
   run_within qs cs = (common_prefix_len-le (λ (q : DataHash) (c : XorbChunkSequenceEntry). hash_eq (under_key key q) c.chunk_hash) qs cs).1
 
@@ -84,9 +83,7 @@ module _ (key : DataHash) where
         many = length-append before.chunks (c ∷ []) ∙ ap (λ k. k + 1) before.many
 
         both_bytes : flat_map chunk_row before.chunks ++ chunk_row read.stored ≡ flat_map chunk_row (before.chunks ++ c ∷ [])
-        both_bytes =
-            ap (λ x. flat_map chunk_row before.chunks ++ chunk_row x) read.handed ∙ ap (λ bs. flat_map chunk_row before.chunks ++ bs) (sym (append-nil (chunk_row c)))
-            ∙ sym (flat_map-append chunk_row before.chunks (c ∷ []))
+        both_bytes = ap (λ x. flat_map chunk_row before.chunks ++ chunk_row x) read.handed ∙ sym (flat_map-push chunk_row before.chunks c)
 
         taken : Takes start new (flat_map chunk_row (before.chunks ++ c ∷ []))
         taken = subst (Takes start new) both_bytes (Takes-trans start now new (flat_map chunk_row before.chunks) (chunk_row read.stored) before.taken read.taken)

@@ -71,13 +71,13 @@ pub union-idem : (a c : Shard) → IsShard a → IsUnion a a c → c ≡ a
 union-idem a c shard union = same_shard c a (λ q. union.files q ∙ files_repeated q (get a.files q) (λ r. known a q r shard))
     (λ q. grind (arith, union.xorbs q))
 
--- a shard with the empty one
 no_file : (q : DataHash) → get empty_shard.files q ≡ None
 no_file q = get-empty hash_cmp q
 
 no_xorb : (q : DataHash) → get empty_shard.xorbs q ≡ None
 no_xorb q = get-empty hash_cmp q
 
+-- a shard with the empty one
 pub union-empty : (a c : Shard) → IsUnion a empty_shard c → c ≡ a
 union-empty a c union = same_shard c a (λ q. grind (arith, union.files q, no_file q)) (λ q. grind (arith, union.xorbs q, no_xorb q))
 

@@ -2,9 +2,9 @@ use Rattle.std.proofs.Common.{◌≡◌, ◌≤◌, length, Some, sym, ap, ◌�
 use Rattle.std.specs.Prelude.{option_map}
 use Rattle.std.specs.FinMap.{get}
 use Rattle.std.proofs.lemmas.Option.{none-some}
+use Rattle.xet_base.specs.KeyedHash.{no_key}
 use Rattle.xet_records.specs.declared.xorb_structs.MDBXorbInfo.{MDBXorbInfo}
 use Rattle.xet_records.specs.XorbRecord.{IsXorb}
-use Rattle.xet_base.specs.KeyedHash.{no_key}
 use Rattle.xet_shards.specs.XorbStore.{shown_location}
 use Rattle.xet_shards.specs.ChunkQuery.{run_at}
 use Rattle.xet_shards.proofs.ChunkQueries.{location_within, answer_kept, unknown}

@@ -3,6 +3,8 @@ use Rattle.std.specs.Prelude.{option_map, unwrap_or}
 use Rattle.std.specs.declared.rc.Rc.{Rc}
 use Rattle.std.specs.Map.Iter.{deref_pair}
 use Rattle.std.specs.FinMap.{get, values}
+use Rattle.std.specs.Map.{values_of}
+use Rattle.xet_base.specs.declared.merklehash.DataHash.{DataHash}
 use Rattle.xet_records.specs.declared.xorb_structs.MDBXorbInfo.{MDBXorbInfo}
 use Rattle.xet_records.specs.XorbRecord.{xorb_records, xorb_row_count, IsXorb}
 use Rattle.xet_shards.specs.Section.{total_rows}
@@ -10,8 +12,6 @@ use Rattle.xet_shards.specs.XorbStore.{shown_xorbs}
 use Rattle.xet_shards.proofs.Walks.{entry_turn, entry_turned, entry_end}
 use Rattle.xet_shards.proofs.Joining.{shown_push, shown_at}
 use Rattle.xet_shards.proofs.Overlays.{with_twin, overlay, other_xorb, sum-overlay, sum-entries, new_key, shown_whole, are_united_xorbs}
-use Rattle.xet_base.specs.declared.merklehash.DataHash.{DataHash}
-use Rattle.std.specs.Map.{values_of}
 use Rattle.xet_shards.proofs.shard_in_memory.union_rows.united_xorb_rows.Goals.{After-contains}
 use Rattle.xet_shards.proofs.shard_in_memory.union_rows.united_xorb_rows.Goals as goal
 

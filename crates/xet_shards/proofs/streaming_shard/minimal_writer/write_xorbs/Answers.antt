@@ -3,13 +3,13 @@ use Rattle.std.specs.BTreeSet.{contains}
 use Rattle.std.specs.Fn.{FnReturnsAt}
 use Rattle.std.specs.Io.KnownBytes.{Appends}
 use Rattle.std.proofs.KnownBytes.{Appends-trans}
-use Rattle.xet_shards.proofs.Walks.{flat_map-push}
 use Rattle.std.proofs.lemmas.List.{map-append}
 use Rattle.std.proofs.lemmas.List.Sums.{sum_by_more_le}
 use Rattle.xet_records.specs.XorbRecord.{xorb_record_bytes, xorb_row_count, IsStoredXorb, HasItsChunks}
 use Rattle.xet_shards.specs.Section.{section_bytes}
 use Rattle.xet_shards.specs.Written.{HasWrittenXorbs}
 use Rattle.xet_shards.specs.MinimalShard.{start_cmp, mark_starts, IsKept}
+use Rattle.xet_shards.proofs.Walks.{flat_map-push}
 use Rattle.xet_shards.proofs.MinimalShard.{one_more_item}
 use Rattle.xet_shards.proofs.MinimalWriting.{rows_marked, marked_whole, one_kept, none_kept, says_at, rows_kept}
 use Rattle.xet_shards.proofs.streaming_shard.minimal_writer.write_xorbs.Goals as goal
