@@ -108,7 +108,8 @@ impl MDBFileInfo {
     /// `InvalidShard` if these rows pass 4294967295. May fail with `OutOfMemory`.
     pub fn deserialize<R: Read>(alloc: Global, reader: &mut R) -> Result<Option<Self>>
         ensures found { IfOk result
-            (ReadsOrEnds file_records (Consumes (R.remaining reader.old) (R.remaining reader.new))) }
+            (ReadsOrEnds file_records
+            (Consumes (R.remaining reader.old) (R.remaining reader.new))) }
         ensures end { IfErr result
             (λ e. IsEndOfInput e → IfSome (R.remaining reader.old) (IsCutShort file_records)) }
         ensures invalid { IfErr result

@@ -287,7 +287,8 @@ impl MDBXorbInfo {
     /// with `OutOfMemory`.
     pub fn deserialize<R: Read>(alloc: Global, reader: &mut R) -> Result<Option<Self>>
         ensures found { IfOk result
-            (ReadsOrEnds xorb_records (Consumes (R.remaining reader.old) (R.remaining reader.new))) }
+            (ReadsOrEnds xorb_records
+            (Consumes (R.remaining reader.old) (R.remaining reader.new))) }
         ensures end { IfErr result
             (λ e. IsEndOfInput e → IfSome (R.remaining reader.old) (IsCutShort xorb_records)) }
         ensures causes { IfErr result IsDeviceError }

@@ -161,10 +161,10 @@ module _ (xs ys : List Shard) (a b c : Shard) (first : IsJoinOf (Contains xs) a)
       | inr others ↦ let found = (other x).0 others in (found.0, Contains-append_right xs ys found.0 found.1, found.2)
     ],
     λ (found : (s : Shard) × Contains (xs ++ ys) s × (part s ≡ Some x)). is ∙ (either_part (part a) (part b) same x).1
-    (elim (Contains-append_cases xs ys found.0 found.1) [
-      | inl mine ↦ inl ((one x).1 (found.0, mine, found.2))
-      | inr others ↦ inr ((other x).1 (found.0, others, found.2))
-    ]),
+        (elim (Contains-append_cases xs ys found.0 found.1) [
+          | inl mine ↦ inl ((one x).1 (found.0, mine, found.2))
+          | inr others ↦ inr ((other x).1 (found.0, others, found.2))
+        ]),
   )
 
   pub join-append : IsJoinOf (Contains (xs ++ ys)) c

@@ -112,11 +112,35 @@ module _ (old start mid : Source) (h : MDBShardFileHeader) (first : start ≡ mo
 
       pub not_footer : (new : Source) (e : CoreError) → PartFails HasUnsupportedFooter EndsInFooter 200 end new e → LoadFails old new e
       not_footer new e part =
-          search (rules, there, taken, length-shard_header_bytes h, refusal_of,
-          header_there, size, last_is, has_room, length_last)
+          search (
+            rules,
+            there,
+            taken,
+            length-shard_header_bytes h,
+            refusal_of,
+            header_there,
+            size,
+            last_is,
+            has_room,
+            length_last,
+          )
 
       pub found_both : (new : Source) (f : MDBShardFileFooter) → h.tag ≡ header_tag → h.footer_size < 2 ^ 64 → f.version ≡ 1 → FitsFooter f → Takes end new (shard_footer_bytes f)
           → Loads old new (record { header = h; metadata = f })
       found_both new f tag footer_size one widths took =
-          grind (arith, common_steps, there, length-shard_footer_bytes, Takes-consumes,
-          nil_from_length, length-append, last_is, length_last, taken, length-shard_header_bytes h, size, front_is_header, append-nil)
+          grind (
+            arith,
+            common_steps,
+            there,
+            length-shard_footer_bytes,
+            Takes-consumes,
+            nil_from_length,
+            length-append,
+            last_is,
+            length_last,
+            taken,
+            length-shard_header_bytes h,
+            size,
+            front_is_header,
+            append-nil,
+          )

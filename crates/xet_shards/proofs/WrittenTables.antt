@@ -193,14 +193,37 @@ module _ (files : List MDBFileInfo) (xorbs : List MDBXorbInfo) (form : Form) (fi
   pub xorb_table_in : {Z : Type 0} (r : Result (Vec (ℕ × ℕ) Z) CoreError)
       → ReadsOrFails start_row FitsStart 12 old new written.xorb_lookup_offset written.xorb_lookup_num_entry r → IsReadAs old new (if_in form.xorb_table (starts xorb_records xorbs)) r
   xorb_table_in r read =
-      search (rules, whole_table, length-start, start_told, in_few, few_starts, widths, in_fits,
-      xorb_starts_fit, xorb_table_is_at)
+      search (
+        rules,
+        whole_table,
+        length-start,
+        start_told,
+        in_few,
+        few_starts,
+        widths,
+        in_fits,
+        xorb_starts_fit,
+        xorb_table_is_at,
+      )
 
   pub chunk_table_in : {Z : Type 0} (r : Result (Vec (ℕ × (ℕ × ℕ)) Z) CoreError)
       → ReadsOrFails triple_row FitsTriple 16 old new written.chunk_lookup_offset written.chunk_lookup_num_entry r → IsReadAs old new (map triple_of (if_in form.chunk_table (chunk_table xorbs))) r
   chunk_table_in r read =
-      search (rules, map_in, whole_table, length-triple, triple_told, in_few, few_table_rows,
-      widths, in_fits, chunk_table_fits, chunk_table_is_at, ReadsOrFails, length-map)
+      search (
+        rules,
+        map_in,
+        whole_table,
+        length-triple,
+        triple_told,
+        in_few,
+        few_table_rows,
+        widths,
+        in_fits,
+        chunk_table_fits,
+        chunk_table_is_at,
+        ReadsOrFails,
+        length-map,
+      )
 
 -- the tables of a shard
 module _ (s : Shard) (shard : IsShard s) (expiry : Option ℕ) (old new : Source) (are : old.bytes ≡ layout s expiry) (info : MDBShardInfo) (is : info ≡ info_value s expiry) where

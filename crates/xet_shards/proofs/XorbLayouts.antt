@@ -110,7 +110,6 @@ pub length-in_form : (files : List MDBFileInfo) (xorbs : List MDBXorbInfo) (form
     + 16 * length (if_in form.chunk_table (chunk_table xorbs))
 unfolding layout_of
 length-in_form files xorbs form fit =
-
     simp length-append (omega (
       arith,
       length-shard_header_bytes header_value,

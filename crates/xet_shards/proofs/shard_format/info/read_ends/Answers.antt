@@ -19,14 +19,20 @@ pub returns-in_err-seek_to-2 : goal.returns-in_err-seek_to-2
 returns-in_err-seek_to-2 g c =
     let header = c.in_ok-header.ensures in
     let old = g.S.ShardSource.meaning c.args.source.now in
-    search (rules, λ (f : Error) (e : CoreError). no_seek old _ _ _ c.in_ok-seek_to.ensures header.read _ _ c.in_ok-length.ensures header.known.1
-    (g.S.ShardSource.meaning c.seek_to-2.new.self) f e)
+    search (
+      rules,
+      λ (f : Error) (e : CoreError). no_seek old _ _ _ c.in_ok-seek_to.ensures header.read _ _ c.in_ok-length.ensures header.known.1
+          (g.S.ShardSource.meaning c.seek_to-2.new.self) f e,
+    )
 
 pub returns-in_err-metadata : goal.returns-in_err-metadata
 returns-in_err-metadata g c =
     let header = c.in_ok-header.ensures in
-    search (rules, not_footer (g.S.ShardSource.meaning c.args.source.now) _ _ _ c.in_ok-seek_to.ensures header.read _ _ c.in_ok-length.ensures header.known.1
-    _ c.in_ok-seek_to-2.ensures c.if-length-lt-FOOTER_SIZE.false _ _ c.in_err-metadata.ensures.refused)
+    search (
+      rules,
+      not_footer (g.S.ShardSource.meaning c.args.source.now) _ _ _ c.in_ok-seek_to.ensures header.read _ _ c.in_ok-length.ensures header.known.1
+          _ c.in_ok-seek_to-2.ensures c.if-length-lt-FOOTER_SIZE.false _ _ c.in_err-metadata.ensures.refused,
+    )
 
 pub returns : goal.returns
 returns g c =

@@ -17,8 +17,11 @@ returns-in_err-found g c =
     let offset = c.args.offset in
     let mid = g.S.ShardSource.meaning c.seek_to.new.self in
     let row_offset_is : c.in-Some.row_offset ≡ row_at offset c.args.row = omega (arith, c.in-Some.ensures, c.from-distance.ensures) in
-    search (rules, info_fails g.R.SectionRecord.kind c.laws.ensures offset c.args.row (g.S.ShardSource.meaning c.args.source.now) mid (g.S.ShardSource.meaning c.read_record.new.input) (omega (arith, row_offset_is)) (c.in_ok-seek_to.ensures ∙ ap (moved (g.S.ShardSource.meaning c.args.source.now)) row_offset_is) c.in_err-found.field-0.0
-    (record_fails g.R.SectionRecord.kind c.laws.ensures g.S.ShardSource.meaning 4294967296 c.seek_to.new.self _ _ c.in_err-found.ensures))
+    search (
+      rules,
+      info_fails g.R.SectionRecord.kind c.laws.ensures offset c.args.row (g.S.ShardSource.meaning c.args.source.now) mid (g.S.ShardSource.meaning c.read_record.new.input) (omega (arith, row_offset_is)) (c.in_ok-seek_to.ensures ∙ ap (moved (g.S.ShardSource.meaning c.args.source.now)) row_offset_is) c.in_err-found.field-0.0
+          (record_fails g.R.SectionRecord.kind c.laws.ensures g.S.ShardSource.meaning 4294967296 c.seek_to.new.self _ _ c.in_err-found.ensures),
+    )
 
 pub returns-in-Some-2 : goal.returns-in-Some-2
 returns-in-Some-2 g c =

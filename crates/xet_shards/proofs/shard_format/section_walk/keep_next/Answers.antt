@@ -22,8 +22,11 @@ returns-in_err-rest g c =
     let start = meaning c.position.new.self in
     let mid = meaning c.read_header.new.input in
     let begun = subst (ReadsNextHeader K (Takes start mid) c.args.rows_left.now c.read_header.new.rows_left) c.in-Some.is c.in_ok-header.ensures in
-    search (rules, sym c.in_ok-offset.ensures.1,
-    (record_fails K c.laws.ensures meaning _ c.position.new.self _ _ (no_rows c.in-Some.header c.read_header.new.input _ begun c.in_err-rest.ensures)))
+    search (
+      rules,
+      sym c.in_ok-offset.ensures.1,
+      (record_fails K c.laws.ensures meaning _ c.position.new.self _ _ (no_rows c.in-Some.header c.read_header.new.input _ begun c.in_err-rest.ensures)),
+    )
 
 pub returns-in_err-position : goal.returns-in_err-position
 returns-in_err-position g c =

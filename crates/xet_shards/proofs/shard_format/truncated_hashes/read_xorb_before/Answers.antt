@@ -14,5 +14,8 @@ returns-in_err-xorb-clause-refused g c =
     let new = meaning c.read_record.new.input in
     let below : start.at < c.args.stop = omega (arith, c.if-offset-stop.false, c.in_ok-offset.ensures.0, ap (λ (s : Source). s.at) c.in_ok-offset.ensures.1) in
     let fails = record_fails xorb_records xorb_laws meaning _ c.position.new.self _ _ c.in_err-xorb.ensures in
-    search (rules, subst (λ s. XorbBeforeFails c.args.stop c.args.rows_left.now s new c.in_err-xorb.field-0.0) c.in_ok-offset.ensures.1
-    (before_fails c.args.stop _ start new _ below fails))
+    search (
+      rules,
+      subst (λ s. XorbBeforeFails c.args.stop c.args.rows_left.now s new c.in_err-xorb.field-0.0) c.in_ok-offset.ensures.1
+          (before_fails c.args.stop _ start new _ below fails),
+    )

@@ -35,7 +35,6 @@ loop-file_hash-preserved-else-not-can_join c =
 pub loop-file_hash-preserved : goal.loop-file_hash-preserved
 loop-file_hash-preserved c =
     let whole = entry_turn deref_pair _ c.loop-file_hash.yielded _ _ _ (c.in-Some.file_hash, c.in-Some.file_info) c.loop-file_hash.invariant.all c.in-Some.is c.next.ensures.steps in
-
     record {
       can = tt;
       finite = tt;

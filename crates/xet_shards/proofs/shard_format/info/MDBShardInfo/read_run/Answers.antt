@@ -9,8 +9,11 @@ pub returns-in_err-chunk : goal.returns-in_err-chunk
 returns-in_err-chunk g c =
     let now = g.S.ShardSource.meaning c.loop-query_hash.source in
     let new = g.S.ShardSource.meaning c.read_row.new.source in
-    search (rules, run_fails c.args.self.now.metadata.chunk_hash_hmac_key c.args.query_hashes.now c.args.left (g.S.ShardSource.meaning c.args.source.now) now new c.loop-query_hash.length c.loop-query_hash.bytes
-    c.loop-query_hash.invariant.0 _ (omega (arith, c.loop-query_hash.invariant.1, c.loop-query_hash-test.true)) (omega (arith, c.loop-query_hash.invariant.0.few, c.if-length-left.false)) c.in_err-chunk.ensures)
+    search (
+      rules,
+      run_fails c.args.self.now.metadata.chunk_hash_hmac_key c.args.query_hashes.now c.args.left (g.S.ShardSource.meaning c.args.source.now) now new c.loop-query_hash.length c.loop-query_hash.bytes
+          c.loop-query_hash.invariant.0 _ (omega (arith, c.loop-query_hash.invariant.1, c.loop-query_hash-test.true)) (omega (arith, c.loop-query_hash.invariant.0.few, c.if-length-left.false)) c.in_err-chunk.ensures,
+    )
 
 pub returns-then-ne : goal.returns-then-ne
 returns-then-ne g c =

@@ -27,7 +27,6 @@ loop-xorb_hash-preserved-then-not-contains-2 c =
     let copied = c.in_ok-clone.ensures.cases in
     let key = ap xorb_hash_of copied ∙ sym keyed in
     let push = shown_push (λ (o : Rc MDBXorbInfo Global). o.value) deref_pair c.loop-xorb_hash.yielded (c.in-Some.xorb_hash, c.in-Some.xorb) in
-
     record {
       can = tt;
       finite = tt;
