@@ -1,5 +1,5 @@
 -- The ranges of the files of a shard, read from its layout.
-use Rattle.std.proofs.Common.{◌≡◌, ◌⊎◌, inl, inr, Ok, Err, drop, Option, subst, arith, ℕ, ◌+◌, List, map, refl, sym, ap, ◌∙◌, rules}
+use Rattle.std.proofs.Common.{◌≡◌, ◌⊎◌, inl, inr, Ok, Err, drop, Option, subst, ℕ, ◌+◌, List, map, refl, sym, ap, ◌∙◌, rules}
 use Rattle.std.specs.Prelude.{MatchResult}
 use Rattle.std.specs.FinMap.{entries, values}
 use Rattle.std.specs.declared.result.Result.{Result}
@@ -16,8 +16,7 @@ use Rattle.xet_records.proofs.RecordKinds.{file_laws}
 use Rattle.xet_shards.specs.declared.shard_format.header.MDBShardFileHeader.{MDBShardFileHeader}
 use Rattle.xet_shards.specs.Shard.{Shard, IsShard}
 use Rattle.xet_shards.specs.Layout.{layout_of, Form, shard_header_bytes, header_value, plain_form, layout}
-use Rattle.xet_shards.specs.Ends.{HasHeader, HasUnsupportedHeader, EndsInHeader, Refusal}
-use Rattle.xet_shards.specs.Ends.FormatCase.{unsupported_format, too_few_bytes}
+use Rattle.xet_shards.specs.Ends.{HasHeader}
 use Rattle.xet_shards.specs.SectionReading.{IsSection}
 use Rattle.xet_shards.specs.FileRanges.{FileRanges, ranges_at, file_ranges, ReadsFileRanges, FileRangesFail}
 use Rattle.xet_shards.proofs.Files.{well_formed_values}

@@ -18,9 +18,8 @@ use Rattle.xet_base.proofs.Search.{serves_still, serves_moved, serves_advanced}
 use Rattle.xet_records.specs.RecordKind.{RecordKind}
 use Rattle.xet_records.specs.Reading.{ReadsBookend}
 use Rattle.xet_records.proofs.RecordKinds.{KindLaws, length-record_bytes, stored_begins}
-use Rattle.xet_shards.specs.SectionReading.{MayTake, PassesLimit, EndsEarly, SectionCase, ReadsNext, RecordFails}
-use Rattle.xet_base.specs.InputLaws.{failed_after}
-use Rattle.xet_shards.specs.Lookup.{IndexFinds, VisitsSome, LooksUp, LookupAnswer, LookupRefused, Finding, FindingFails, row_at, RecordAt, IsBareInternalError, RecordRefusal, InfoRefusal, ReadsInfo, ReadInfoFails, Visit, Visits, Missed}
+use Rattle.xet_shards.specs.SectionReading.{MayTake, ReadsNext, RecordFails}
+use Rattle.xet_shards.specs.Lookup.{IndexFinds, VisitsSome, LooksUp, LookupAnswer, LookupRefused, Finding, FindingFails, row_at, RecordAt, IsBareInternalError, InfoRefusal, ReadsInfo, ReadInfoFails, Visit, Visits, Missed}
 
 -- calls that did not fail, after others
 pub serves_after : (old now new : Source) → Serves old now → Serves now new → Serves old new

@@ -1,5 +1,5 @@
 -- Locations that are tried one after another, after a search in the chunk table.
-use Rattle.std.proofs.Common.{◌≡◌, inl, inr, Ok, Err, is_some, true, false, true≢false, ℕ, ◌+◌, ◌<◌, ◌≤◌, List, [], ◌∷◌, ◌++◌, length, take, drop, map, get_or, min, Option, None, Some, String, Global, refl, sym, ap, ◌∙◌, subst, arith, rules}
+use Rattle.std.proofs.Common.{◌≡◌, inr, Ok, Err, is_some, true, false, true≢false, ℕ, ◌+◌, ◌<◌, ◌≤◌, List, [], ◌∷◌, ◌++◌, length, take, drop, map, get_or, min, Option, None, Some, String, Global, refl, sym, ap, ◌∙◌, subst, arith, rules}
 use Rattle.std.specs.Prelude.{string_bytes, slice_get, MatchResult, IfOk, IfErr}
 use Rattle.std.specs.declared.result.Result.{Result}
 use Rattle.std.proofs.lemmas.Grind.{common_steps}
@@ -18,16 +18,13 @@ use Rattle.xet_records.specs.XorbRecord.{xorb_records}
 use Rattle.xet_records.proofs.RecordKinds.{xorb_laws}
 use Rattle.xet_shards.specs.declared.shard_format.footer.MDBShardFileFooter.{MDBShardFileFooter}
 use Rattle.xet_shards.specs.Lookup.{chunk_lookup_table, IsPair, Visit, Visits, VisitsSome}
-use Rattle.xet_shards.specs.RunReading.{AnswerAt, RefusedAt, PassesAt, IsCutAt, AnnouncesNoChunk, Queries, TriedAnswer, TriedRefused, QueryAnswer, QueryRefused, NoneTried}
+use Rattle.xet_shards.specs.RunReading.{AnswerAt, RefusedAt, Queries, TriedAnswer, TriedRefused, QueryAnswer, QueryRefused, NoneTried}
 use Rattle.xet_shards.proofs.Lookups.{serves_after, visits_more}
 
 -- an error for a location that is not there, if it is a bare `InvalidShard`
 pub if_corrupt : (key : DataHash) (qs : List DataHash) (offset row index : ℕ) (old new : Source) (e : CoreError) (text : String Global) → string_bytes text ≡ []
     → RefusedAt (λ e. e ≡ InvalidShard text) key qs offset row index old new e → RefusedAt IsBareInvalidShard key qs offset row index old new e
-if_corrupt key qs offset row index old new e text bare (inl device) = inl device
-if_corrupt key qs offset row index old new e text bare (inr (inl passes)) = inr (inl passes)
-if_corrupt key qs offset row index old new e text bare (inr (inr (inl (none, is, location)))) = inr (inr (inl (none, subst IsBareInvalidShard (sym is) bare, location)))
-if_corrupt key qs offset row index old new e text bare (inr (inr (inr ended))) = inr (inr (inr ended))
+if_corrupt key qs offset row index old new e text bare refused = search rules
 
 -- what is said of an option that is none
 pub if_none : {X : Type 0} (P : Option X → Type 0) (o : Option X) → is_some o ≡ false → P o → P None
@@ -37,13 +34,7 @@ if_none P (Some x) some holds = absurd (true≢false some)
 -- a refusal after calls that did not fail is one over all
 refused_later : (key : DataHash) (qs : List DataHash) (offset : ℕ) (location : ℕ × ℕ) (old now new : Source) (e : CoreError) → Serves old now
     → RefusedAt IsBareInvalidShard key qs offset location.0 location.1 now new e → RefusedAt IsBareInvalidShard key qs offset location.0 location.1 old new e
-refused_later key qs offset location old now new e serves (inl device) = inl (device.0 ∙ ap (λ k. k + 1) serves.failures, device.1, device.2, device.3)
-refused_later key qs offset location old now new e serves (inr (inl (none, bare, passes))) =
-    inr (inl (none ∙ serves.failures, bare, subst (λ bytes. PassesAt key qs bytes offset location.0 location.1) serves.bytes passes))
-refused_later key qs offset location old now new e serves (inr (inr (inl (none, bare, absent)))) =
-    inr (inr (inl (none ∙ serves.failures, bare, subst (λ bytes. AnnouncesNoChunk bytes offset location.0 location.1) serves.bytes absent)))
-refused_later key qs offset location old now new e serves (inr (inr (inr (none, end, cut)))) =
-    inr (inr (inr (none ∙ serves.failures, end, subst (λ bytes. IsCutAt key qs bytes offset location.0 location.1) serves.bytes cut)))
+refused_later key qs offset location old now new e serves refused = search rules
 
 rows_of_values : (found : List (Hit (ℕ × ℕ))) → map (λ (location : ℕ × ℕ). location.0) (map (λ (h : Hit (ℕ × ℕ)). h.value) found) ≡ map (λ (h : Hit (ℕ × ℕ)). h.value.0) found
 rows_of_values [] = refl
