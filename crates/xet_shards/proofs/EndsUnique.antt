@@ -1,5 +1,5 @@
 -- The first and the last bytes of a shard determine header and footer, and those of a written shard are its own.
-use Rattle.std.proofs.Common.{◌≡◌, inl, inr, ℕ, ◌+◌, ◌-◌, ◌^◌, ◌<◌, List, [], ◌++◌, length, flat_map, take, drop, Option, refl, sym, ap, ◌∙◌, subst, arith, take-append-drop, append-nil, rules}
+use Rattle.std.proofs.Common.{◌≡◌, ℕ, ◌+◌, ◌-◌, ◌^◌, ◌<◌, List, [], ◌++◌, length, flat_map, take, drop, Option, refl, sym, ap, ◌∙◌, subst, arith, take-append-drop, append-nil, rules}
 use Rattle.std.specs.Prelude.{MatchResult}
 use Rattle.std.specs.declared.result.Result.{Result}
 use Rattle.std.proofs.lemmas.Result.{MatchResult-weaker}
@@ -23,7 +23,6 @@ use Rattle.xet_shards.specs.Section.{section_bytes}
 use Rattle.xet_shards.specs.Tables.{table_bytes, chunk_table_bytes}
 use Rattle.xet_shards.specs.Layout.{Form, if_in, header_tag, shard_header_bytes, header_value, offsets_of, timestamps_of, sums_of, shard_footer_bytes, footer_value, layout_of, layout, plain_form, info_value}
 use Rattle.xet_shards.specs.Ends.{HasHeader, FitsFooter, HasEnds, IsUnsupported, IsTooShort, last_bytes, Loads, LoadFails, Refusal}
-use Rattle.xet_shards.specs.Ends.FormatCase.{unsupported_format, too_few_bytes}
 use Rattle.xet_shards.proofs.Layouts.{length-shard_header_bytes, length-shard_footer_bytes}
 use Rattle.xet_shards.proofs.Loading.{header_of}
 use Rattle.xet_shards.proofs.Readback.{layout_from_48}
@@ -80,14 +79,10 @@ module _ (bytes : List ℕ) (info : MDBShardInfo) (ends : HasEnds bytes info) wh
       ∙ ap u64_bytes ends.footer_version
 
   pub not_unsupported : ¬ IsUnsupported bytes
-  not_unsupported (inl (inl (size, differs))) = differs header_is.tag
-  not_unsupported (inl (inr (size, differs))) = differs header_is.version
-  not_unsupported (inr (header, size, unsupported)) = unsupported.1 version_is
+  not_unsupported unsupported = search (rules, header_is, version_is)
 
   pub not_too_short : ¬ IsTooShort bytes
-  not_too_short (inl (inl short)) = omega (arith, short, ends.size)
-  not_too_short (inl (inr (short, tag))) = omega (arith, short, ends.size)
-  not_too_short (inr (header, short)) = omega (arith, short, ends.size)
+  not_too_short short = search (rules, ends.size)
 
 -- the ends of a shard's bytes
 module _ (files : List MDBFileInfo) (xorbs : List MDBXorbInfo) (form : Form) where
@@ -118,9 +113,8 @@ module _ (files : List MDBFileInfo) (xorbs : List MDBXorbInfo) (form : Form) whe
       }
 
 why_not_loaded : (bytes : List ℕ) (info : MDBShardInfo) (old new : Source) (e : CoreError) → HasEnds bytes info → Refusal IsUnsupported IsTooShort bytes old new e → DeviceFailure old new e
-why_not_loaded bytes info old new e ends (inl failed) = failed
-why_not_loaded bytes info old new e ends (inr (none, unsupported_format is unsupported)) = absurd (not_unsupported bytes info ends unsupported)
-why_not_loaded bytes info old new e ends (inr (none, too_few_bytes is short)) = absurd (not_too_short bytes info ends short)
+why_not_loaded bytes info old new e ends refusal =
+    search (rules, not_unsupported bytes info ends, not_too_short bytes info ends)
 
 -- from bytes with such ends these are read, unless the device fails
 pub loads_ends : (old new : Source) (info : MDBShardInfo) (r : Result MDBShardInfo CoreError) → HasEnds old.bytes info → MatchResult r (Loads old new) (LoadFails old new)

@@ -1,5 +1,5 @@
 -- The ranges of the files of a shard, read from its layout.
-use Rattle.std.proofs.Common.{◌≡◌, ◌⊎◌, inl, inr, Ok, Err, drop, Option, subst, arith, ℕ, ◌+◌, List, map, refl, sym, ap, ◌∙◌}
+use Rattle.std.proofs.Common.{◌≡◌, ◌⊎◌, inl, inr, Ok, Err, drop, Option, subst, ℕ, ◌+◌, List, map, refl, sym, ap, ◌∙◌, rules}
 use Rattle.std.specs.Prelude.{MatchResult}
 use Rattle.std.specs.FinMap.{entries, values}
 use Rattle.std.specs.declared.result.Result.{Result}
@@ -16,8 +16,7 @@ use Rattle.xet_records.proofs.RecordKinds.{file_laws}
 use Rattle.xet_shards.specs.declared.shard_format.header.MDBShardFileHeader.{MDBShardFileHeader}
 use Rattle.xet_shards.specs.Shard.{Shard, IsShard}
 use Rattle.xet_shards.specs.Layout.{layout_of, Form, shard_header_bytes, header_value, plain_form, layout}
-use Rattle.xet_shards.specs.Ends.{HasHeader, HasUnsupportedHeader, EndsInHeader, Refusal}
-use Rattle.xet_shards.specs.Ends.FormatCase.{unsupported_format, too_few_bytes}
+use Rattle.xet_shards.specs.Ends.{HasHeader}
 use Rattle.xet_shards.specs.SectionReading.{IsSection}
 use Rattle.xet_shards.specs.FileRanges.{FileRanges, ranges_at, file_ranges, ReadsFileRanges, FileRangesFail}
 use Rattle.xet_shards.proofs.Files.{well_formed_values}
@@ -39,20 +38,9 @@ module _ (old new : Source) (files : List MDBFileInfo) (xorbs : List MDBXorbInfo
       subst (λ bytes. IsSection file_records bytes files) (sym (ap (drop 48) are) ∙ rest) (file_section_in files xorbs form fits)
 
   why_no_ranges : (e : CoreError) → FileRangesFail old new e → DeviceFailure old new e ⊎ (e ≡ OutOfMemory)
-  why_no_ranges e (inl part) = why_no_header part.cause
-    where
-      why_no_header : Refusal HasUnsupportedHeader EndsInHeader (bytes_left old) old new e → DeviceFailure old new e ⊎ (e ≡ OutOfMemory)
-      why_no_header (inl failed) = inl failed
-      why_no_header (inr (none, unsupported_format is (inl (size, differs)))) = absurd (differs has_header.tag)
-      why_no_header (inr (none, unsupported_format is (inr (size, differs)))) = absurd (differs has_header.version)
-      why_no_header (inr (none, too_few_bytes is (inl short))) = absurd (omega (arith, short, has_header.size))
-      why_no_header (inr (none, too_few_bytes is (inr (short, tag)))) = absurd (omega (arith, short, has_header.size))
+  why_no_ranges e (inl part) = search (rules, has_header)
   why_no_ranges e (inr (header, mid, known, taken, fails)) =
-      since (why_not file_records file_laws mid new files (section header mid taken) e fails.cause)
-    where
-      since : DeviceFailure mid new e ⊎ (e ≡ OutOfMemory) → DeviceFailure old new e ⊎ (e ≡ OutOfMemory)
-      since (inl failed) = inl (failed.0 ∙ ap (λ (s : Source). s.failures + 1) taken.after, failed.1, failed.2, failed.3)
-      since (inr no_memory) = inr no_memory
+      search (rules, taken.after, why_not file_records file_laws mid new files (section header mid taken) e fails.cause)
 
   -- is read so, unless the device fails or an allocation does
   pub ranges_in_layout : {Z : Type 0} (r : Result (Vec FileRanges Z) CoreError) → map file_records.handed_out files ≡ files → MatchResult r (λ found. ReadsFileRanges old new found.items) (FileRangesFail old new)

@@ -1,5 +1,5 @@
 -- A lookup table whose rows are known, in the bytes of a source: what a search in it finds.
-use Rattle.std.proofs.Common.{◌≡◌, true, inl, inr, ◌==◌, if◌then◌else◌, ℕ, ◌+◌, ◌-◌, ◌*◌, ◌^◌, ◌<◌, ◌≤◌, List, ◌++◌, length, drop, flat_map, get_or, refl, sym, ap, ◌∙◌, subst, arith, mul-le-mul_left}
+use Rattle.std.proofs.Common.{◌≡◌, true, inl, inr, ◌==◌, if◌then◌else◌, ℕ, ◌+◌, ◌-◌, ◌^◌, ◌<◌, ◌≤◌, List, ◌++◌, length, drop, flat_map, get_or, refl, sym, ap, ◌∙◌, arith, rules}
 use Rattle.std.specs.Prelude.{All, AllPairs, filter}
 use Rattle.std.proofs.lemmas.List.Elements.{All-weaker}
 use Rattle.std.proofs.lemmas.Bool.{eq-eqb, cond-true}
@@ -45,10 +45,7 @@ module _ {X : Type 0} (key : X → ℕ) (value : X → List ℕ) (width : ℕ) (
   row_has_key i within = key_is_there key value width is.sizes table rows is.after is.table_is refl i d within
 
   pub rows_sorted : IsSorted table
-  rows_sorted i j less within there =
-      let j_in : j < length rows = omega (arith, within, rows_is) in
-      let i_in : i < length rows = omega (arith, less, j_in) in
-      omega (arith, row_key i i_in, row_key j j_in, is.ascend i j less j_in)
+  rows_sorted i j less within there = search (rules, rows_is, row_key)
 
   -- so many rows as have the word are hits
   abbrev mark : ℕ → ℕ → ℕ
@@ -69,10 +66,7 @@ module _ {X : Type 0} (key : X → ℕ) (value : X → List ℕ) (width : ℕ) (
   -- the table fits 64 bits, and is there
   pub rows_fit : FitsTable table
   unfolding offset_of_row
-  rows_fit = record { countable = omega (arith, rows_is, is.few); placed = bound width is.width_fits }
-    where
-      bound : (w : ℕ) → w ≤ 8 → start + count * (8 + w) < 2 ^ 64
-      bound w small = let wide : 8 + w ≤ 16 = omega (arith, small) in omega (arith, rows_is, is.start_fits, is.few, mul-le-mul_left count wide)
+  rows_fit = search rules
 
   pub rows_there : row_offset table table.rows ≤ length table.bytes
   rows_there = elim (eq-zero-or-pos (length rows)) [
@@ -88,17 +82,12 @@ module _ {X : Type 0} (key : X → ℕ) (value : X → List ℕ) (width : ℕ) (
 
   -- the search is refused only if the device fails
   pub search_served : (new : Source) (e : CoreError) → SearchRefused table old new e → DeviceFailure old new e
-  search_served new e (inl (bare, inl past, untouched)) = absurd (omega (arith, past, rows_fit.countable))
-  search_served new e (inl (bare, inr past, untouched)) = absurd (omega (arith, past, rows_fit.placed))
-  search_served new e (inr (fits, inl failed)) = failed
-  search_served new e (inr (fits, inr (none, ended, short))) = absurd (omega (arith, short, rows_there))
+  search_served new e refused = search (rules, rows_fit, rows_there)
 
   module _ {V : Type 0} (Gives : List ℕ → V → Type 0) (word : ℕ) where
     -- a hit is a row with the word, and has its value
     pub row_hit : (h : Hit V) → IsHit table word Gives h → (h.row < length rows) × (key (row_of h.row) ≡ word) × Gives (value (row_of h.row)) h.value
-    row_hit h hit =
-        let within : h.row < length rows = omega (arith, hit.within, rows_is) in
-        (within, sym (row_key h.row within) ∙ hit.same_key, subst (λ bytes. Gives bytes h.value) (row_value h.row within) hit.gives)
+    row_hit h hit = search (rules, rows_is, row_key, row_value)
 
     module _ (found : List (Hit V)) (each : All (IsHit table word Gives) found) (distinct : AllPairs OtherRow found) where
       pub hits_below_end : All (λ h. h.row < length rows) found

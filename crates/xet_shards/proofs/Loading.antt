@@ -1,5 +1,5 @@
 -- Header and footer of a source.
-use Rattle.std.proofs.Common.{◌≡◌, ◌≢◌, inl, inr, Some, ℕ, ◌-◌, ◌^◌, ◌<◌, ◌≤◌, List, ◌++◌, length, take, drop, append-nil, sym, ap, ◌∙◌, subst, arith, rules}
+use Rattle.std.proofs.Common.{◌≡◌, ◌≢◌, inr, Some, ℕ, ◌-◌, ◌^◌, ◌<◌, ◌≤◌, List, ◌++◌, length, take, drop, append-nil, sym, ap, ◌∙◌, subst, arith, rules}
 use Rattle.std.proofs.lemmas.Grind.{common_steps}
 use Rattle.std.proofs.lemmas.List.{length-append, length-drop, append_assoc, nil_from_length}
 use Rattle.std.specs.declared.io.Error.{Error}
@@ -48,8 +48,7 @@ other_version_read a b c tag rest e tag_len len first last is differs = record {
 
 -- 200 bytes are enough for a footer
 has_room : (bytes : List ℕ) → length bytes ≡ 200 → ¬ EndsInFooter bytes
-has_room bytes len (inl short) = omega (arith, len)
-has_room bytes len (inr (short, _)) = omega (arith, len)
+has_room bytes len ends = search rules
 
 -- bytes that begin with a header of version 2
 pub header_of : (bytes rest : List ℕ) (h : MDBShardFileHeader) → bytes ≡ shard_header_bytes h ++ rest → h.version ≡ 2 → HasHeader bytes

@@ -18,9 +18,8 @@ use Rattle.xet_base.proofs.Search.{serves_still, serves_moved, serves_advanced}
 use Rattle.xet_records.specs.RecordKind.{RecordKind}
 use Rattle.xet_records.specs.Reading.{ReadsBookend}
 use Rattle.xet_records.proofs.RecordKinds.{KindLaws, length-record_bytes, stored_begins}
-use Rattle.xet_shards.specs.SectionReading.{MayTake, PassesLimit, EndsEarly, SectionCase, ReadsNext, RecordFails}
-use Rattle.xet_base.specs.InputLaws.{failed_after}
-use Rattle.xet_shards.specs.Lookup.{IndexFinds, VisitsSome, LooksUp, LookupAnswer, LookupRefused, Finding, FindingFails, row_at, RecordAt, IsBareInternalError, RecordRefusal, InfoRefusal, ReadsInfo, ReadInfoFails, Visit, Visits, Missed}
+use Rattle.xet_shards.specs.SectionReading.{MayTake, ReadsNext, RecordFails}
+use Rattle.xet_shards.specs.Lookup.{IndexFinds, VisitsSome, LooksUp, LookupAnswer, LookupRefused, Finding, FindingFails, row_at, RecordAt, IsBareInternalError, InfoRefusal, ReadsInfo, ReadInfoFails, Visit, Visits, Missed}
 
 -- calls that did not fail, after others
 pub serves_after : (old now new : Source) → Serves old now → Serves now new → Serves old new
@@ -130,14 +129,7 @@ module _ {H R : Type 0} (K : RecordKind H R) (laws : KindLaws K) where
   -- a refusal after reads that did not fail is one over all
   pub refusal_after : (offset row : ℕ) (old now new : Source) (e : CoreError) → now.bytes ≡ old.bytes → now.failures ≡ old.failures → InfoRefusal K offset row now new e
       → InfoRefusal K offset row old new e
-  refusal_after offset row old now new e bytes same (inl (none, bare, past)) = inl (none ∙ same, bare, past)
-  refusal_after offset row old now new e bytes same (inr (fits, refusal)) =
-      inr (fits, later (subst (λ bs. RecordRefusal K (drop (row_at offset row) bs) now new e) bytes refusal))
-    where
-      later : RecordRefusal K (drop (row_at offset row) old.bytes) now new e → RecordRefusal K (drop (row_at offset row) old.bytes) old new e
-      later (inl (none, bare, bookend)) = inl (none ∙ same, bare, bookend)
-      later (inr cause) = inr (failed_after (SectionCase (PassesLimit K 4294967296) (EndsEarly K 4294967296) (drop (row_at offset row) old.bytes))
-          (SectionCase (PassesLimit K 4294967296) (EndsEarly K 4294967296) (drop (row_at offset row) old.bytes)) old now new e same (λ holds. holds) cause)
+  refusal_after offset row old now new e bytes same refusal = search rules
 
   -- the search answered, and the records at its rows were read
   module _ (t : Table) (offset count : ℕ) (hash : DataHash) (old mid new : Source) (dest_old dest_new : List ℕ)

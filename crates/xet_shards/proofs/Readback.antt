@@ -24,10 +24,7 @@ use Rattle.xet_shards.specs.Shard.{Shard, IsShard}
 use Rattle.xet_shards.specs.Section.{section_bytes}
 use Rattle.xet_shards.specs.Tables.{table_bytes, chunk_table_bytes}
 use Rattle.xet_shards.specs.Layout.{Form, if_in, shard_header_bytes, header_value, shard_footer_bytes, footer_value, layout_of, layout, plain_form}
-use Rattle.xet_base.specs.Source.ReadCase.{out_of_memory, out_of_bytes}
-use Rattle.xet_base.specs.InputLaws.{unless_device}
-use Rattle.xet_shards.specs.SectionReading.SectionCase.{not_read, passes_limit}
-use Rattle.xet_shards.specs.SectionReading.{IsSection, TakesSection, TakesNoSection, SectionCase, SectionFailure, PassesRows, IsCutSection}
+use Rattle.xet_shards.specs.SectionReading.{IsSection, TakesSection, TakesNoSection, SectionFailure, PassesRows, IsCutSection}
 use Rattle.xet_shards.proofs.Sections.{FitsSection, section_there, files_fit, xorbs_fit}
 use Rattle.xet_shards.proofs.Layouts.{length-shard_header_bytes}
 use Rattle.xet_shards.proofs.SectionUnique.{only_list, section_or_passes, section_or_cut}
@@ -96,12 +93,8 @@ xorb_section_of_shard s expiry shard = xorb_section_in (values s.files) (values 
 -- bytes that are a section of records are read as these, unless the device fails or an allocation does
 module _ {H R : Type 0} (K : RecordKind H R) (laws : KindLaws K) (old new : Source) (rs : List R) (section : IsSection K (bytes_left old) rs) where
   pub why_not : (e : CoreError) → SectionFailure (PassesRows K) (IsCutSection K) (bytes_left old) old new e → DeviceFailure old new e ⊎ (e ≡ OutOfMemory)
-  why_not e cause = unless_device (SectionCase (PassesRows K) (IsCutSection K) (bytes_left old)) (e ≡ OutOfMemory) old new e memory_alone cause
-    where
-      memory_alone : SectionCase (PassesRows K) (IsCutSection K) (bytes_left old) e → e ≡ OutOfMemory
-      memory_alone (not_read (out_of_memory is)) = is
-      memory_alone (not_read (out_of_bytes is ends)) = absurd (section_or_cut K laws (bytes_left old) rs section ends)
-      memory_alone (passes_limit is passes) = absurd (section_or_passes K laws (bytes_left old) rs section passes)
+  why_not e cause =
+      search (rules, section_or_cut K laws (bytes_left old) rs section, section_or_passes K laws (bytes_left old) rs section)
 
   pub only_these : (found : List R) → map K.handed_out rs ≡ rs → TakesSection K old new found → found ≡ rs
   only_these found same reads = sym reads.handed ∙ ap (map K.handed_out) (only_list K laws (bytes_left old) reads.stored rs reads.section section) ∙ same

@@ -1,5 +1,5 @@
 -- Stored records in the bytes of a source: each is read at the row at which it starts.
-use Rattle.std.proofs.Common.{◌≡◌, ◌⊎◌, inl, inr, ℕ, suc, ◌+◌, ◌*◌, ◌^◌, ◌<◌, ◌≤◌, List, ◌∷◌, ◌++◌, length, take, drop, drop-cons, flat_map, get_or, sym, ap, refl, ◌∙◌, subst, append_assoc, arith}
+use Rattle.std.proofs.Common.{◌≡◌, ◌⊎◌, ℕ, suc, ◌+◌, ◌*◌, ◌^◌, ◌<◌, ◌≤◌, List, ◌∷◌, ◌++◌, length, take, drop, drop-cons, flat_map, get_or, sym, ap, refl, ◌∙◌, subst, append_assoc, arith, rules}
 use Rattle.std.specs.Prelude.{All, Contains}
 use Rattle.std.proofs.lemmas.List.{drop-drop, take-append-drop}
 use Rattle.std.proofs.lemmas.List.Elements.{All-contains, Contains-append_left, Contains-append_right, Contains-get_or}
@@ -7,15 +7,13 @@ use Rattle.std.proofs.lemmas.Grind.{common_steps, flat_map-append}
 use Rattle.xet_base.specs.declared.error.CoreError.{CoreError}
 use Rattle.xet_base.specs.declared.error.CoreError.TheVariants.{OutOfMemory}
 use Rattle.xet_base.specs.Source.{Source, DeviceFailure}
-use Rattle.xet_base.specs.Source.ReadCase.{out_of_memory, out_of_bytes}
 use Rattle.xet_base.proofs.Lists.{rest_is}
 use Rattle.xet_records.specs.RecordKind.{RecordKind}
 use Rattle.xet_records.specs.Reading.{BeginsWithHeader}
 use Rattle.xet_records.proofs.Lengths.{length-all_record_bytes}
-use Rattle.xet_records.proofs.RecordKinds.{KindLaws, StopsAt, length-record_bytes, stored_begins, same_front, no_record}
+use Rattle.xet_records.proofs.RecordKinds.{KindLaws, length-record_bytes, stored_begins, same_front, no_record}
 use Rattle.xet_shards.specs.InForm.{FitsSection}
 use Rattle.xet_shards.specs.Section.{total_rows, StartsAt}
-use Rattle.xet_shards.specs.SectionReading.SectionCase.{not_read, passes_limit}
 use Rattle.xet_shards.specs.SectionReading.{MayTake}
 use Rattle.xet_shards.specs.Lookup.{row_at, RecordAt, InfoRefusal}
 use Rattle.xet_shards.proofs.Lookups.{length-stored}
@@ -81,23 +79,12 @@ module _ {H R : Type 0} (K : RecordKind H R) (laws : KindLaws K) (records : List
 
   -- reading it takes no more than its bytes
   pub record_is_enough : (n : ℕ) → MayTake K (drop (row_at offset row) old.bytes) n → n ≤ length (K.record_bytes r)
-  record_is_enough n (inl few) = omega (arith, few, length-stored K laws r is_stored)
-  record_is_enough n (inr (h, rest, begins, most)) = omega (arith, most, length-stored K laws r is_stored, ap (λ (k : H). K.rows_after k) (header_is h rest begins))
+  record_is_enough n takes = search (rules, length-stored K laws r is_stored, header_is)
 
   -- it is read, unless the device fails or an allocation does
   pub record_is_read : (new : Source) (e : CoreError) → InfoRefusal K offset row old new e → DeviceFailure old new e ⊎ (e ≡ OutOfMemory)
-  record_is_read new e refusal = why refusal
-    where
-      nothing_stops : ¬ StopsAt K 4294967296 (drop (row_at offset row) old.bytes)
-      nothing_stops = no_record K laws 4294967296 (drop (row_at offset row) old.bytes) r record_there.0 is_stored (omega (arith, end_bound)) record_there.1
-
-      why : InfoRefusal K offset row old new e → DeviceFailure old new e ⊎ (e ≡ OutOfMemory)
-      why (inl (none, bare, past)) = absurd (omega (arith, past, is.offset_fits, end_bound))
-      why (inr (fits, inl (none, bare, bookend))) = absurd (nothing_stops (inl bookend))
-      why (inr (fits, inr (inl failed))) = inl failed
-      why (inr (fits, inr (inr (none, not_read (out_of_memory no_memory))))) = inr no_memory
-      why (inr (fits, inr (inr (none, passes_limit invalid passes)))) = absurd (nothing_stops (inr (inl passes)))
-      why (inr (fits, inr (inr (none, not_read (out_of_bytes ended ends))))) = absurd (nothing_stops (inr (inr ends)))
+  record_is_read new e refusal =
+      search (rules, no_record K laws 4294967296 (drop (row_at offset row) old.bytes) r record_there.0 is_stored (omega (arith, end_bound)) record_there.1, end_bound, is.offset_fits)
 
 -- the bookend is after the last record
 pub bookend_there : {H R : Type 0} (K : RecordKind H R) → KindLaws K → (records : List R) (offset : ℕ) (bytes : List ℕ) → (is : AreStoredAt K records offset bytes)

@@ -1,5 +1,5 @@
 -- The turns of the loop that reads a table, and what it gives where the rows are known.
-use Rattle.std.proofs.Common.{◌≡◌, ◌⊎◌, inl, inr, Ok, Err, ℕ, ◌+◌, ◌*◌, ◌<◌, ◌≤◌, List, [], ◌∷◌, ◌++◌, length, flat_map, drop, append-nil, sym, ap, ◌∙◌, subst, arith, rules}
+use Rattle.std.proofs.Common.{◌≡◌, ◌⊎◌, Ok, Err, ℕ, ◌+◌, ◌*◌, ◌<◌, ◌≤◌, List, [], ◌∷◌, ◌++◌, length, flat_map, drop, append-nil, sym, ap, ◌∙◌, subst, arith, rules}
 use Rattle.std.specs.Prelude.{All, MatchResult}
 use Rattle.std.specs.declared.result.Result.{Result}
 use Rattle.std.specs.declared.vec.Vec.{Vec}
@@ -10,7 +10,6 @@ use Rattle.std.proofs.Math.Nat.{mul-suc, mul-le-mul_left}
 use Rattle.xet_base.specs.declared.error.CoreError.{CoreError}
 use Rattle.xet_base.specs.declared.error.CoreError.TheVariants.{OutOfMemory}
 use Rattle.xet_base.specs.Source.{Source, Takes, DeviceFailure, FailedBy, ReadCase, ReadFails, moved, bytes_left}
-use Rattle.xet_base.specs.Source.ReadCase.{out_of_memory, out_of_bytes}
 use Rattle.xet_base.proofs.Lists.{parts_front}
 use Rattle.xet_base.specs.InputLaws.{Takes-trans}
 use Rattle.xet_base.proofs.Reading.{Takes-consumes}
@@ -79,10 +78,8 @@ module _ {T : Type 0} (row_bytes : T → List ℕ) (Fits : T → Type 0) (size :
   module _ (old new : Source) (at : ℕ) (rows : List T) (rest : List ℕ) (few : length rows ≤ 4294967295) (fit : All Fits rows)
       (bytes_are : drop at old.bytes ≡ flat_map row_bytes rows ++ rest) where
     why_not : (e : CoreError) → RowsFailure old new at (size * length rows) e → DeviceFailure old new e ⊎ (e ≡ OutOfMemory)
-    why_not e (inl failed) = inl failed
-    why_not e (inr (none, out_of_memory is)) = inr is
-    why_not e (inr (none, out_of_bytes is short)) =
-        absurd (omega (arith, short, ap length bytes_are, length-append (flat_map row_bytes rows) rest, length-rows rows fit))
+    why_not e cause =
+        search (rules, ap length bytes_are, length-append (flat_map row_bytes rows) rest, length-rows rows fit)
 
     refused_because : (e : CoreError) → TableFails size old new at (length rows) e → DeviceFailure old new e ⊎ (e ≡ OutOfMemory)
     refused_because e fails = search (rules, why_not)

@@ -24,10 +24,7 @@ use Rattle.xet_shards.proofs.Lookups.{serves_after, visits_more}
 -- an error for a location that is not there, if it is a bare `InvalidShard`
 pub if_corrupt : (key : DataHash) (qs : List DataHash) (offset row index : ℕ) (old new : Source) (e : CoreError) (text : String Global) → string_bytes text ≡ []
     → RefusedAt (λ e. e ≡ InvalidShard text) key qs offset row index old new e → RefusedAt IsBareInvalidShard key qs offset row index old new e
-if_corrupt key qs offset row index old new e text bare (some, inl device) = (some, inl device)
-if_corrupt key qs offset row index old new e text bare (some, inr (inl passes)) = (some, inr (inl passes))
-if_corrupt key qs offset row index old new e text bare (some, inr (inr (inl (none, is, location)))) = (some, inr (inr (inl (none, subst IsBareInvalidShard (sym is) bare, location))))
-if_corrupt key qs offset row index old new e text bare (some, inr (inr (inr ended))) = (some, inr (inr (inr ended)))
+if_corrupt key qs offset row index old new e text bare refused = search rules
 
 -- what is said of an option that is none
 pub if_none : {X : Type 0} (P : Option X → Type 0) (o : Option X) → is_some o ≡ false → P o → P None
@@ -37,13 +34,7 @@ if_none P (Some x) some holds = absurd (true≢false some)
 -- a refusal after calls that did not fail is one over all
 refused_later : (key : DataHash) (qs : List DataHash) (offset : ℕ) (location : ℕ × ℕ) (old now new : Source) (e : CoreError) → Serves old now
     → RefusedAt IsBareInvalidShard key qs offset location.0 location.1 now new e → RefusedAt IsBareInvalidShard key qs offset location.0 location.1 old new e
-refused_later key qs offset location old now new e serves (some, inl device) = (some, inl (device.0 ∙ ap (λ k. k + 1) serves.failures, device.1, device.2, device.3))
-refused_later key qs offset location old now new e serves (some, inr (inl (none, bare, passes))) =
-    (some, inr (inl (none ∙ serves.failures, bare, subst (λ bytes. PassesAt key qs bytes offset location.0 location.1) serves.bytes passes)))
-refused_later key qs offset location old now new e serves (some, inr (inr (inl (none, bare, absent)))) =
-    (some, inr (inr (inl (none ∙ serves.failures, bare, subst (λ bytes. AnnouncesNoChunk bytes offset location.0 location.1) serves.bytes absent))))
-refused_later key qs offset location old now new e serves (some, inr (inr (inr (none, end, cut)))) =
-    (some, inr (inr (inr (none ∙ serves.failures, end, subst (λ bytes. IsCutAt key qs bytes offset location.0 location.1) serves.bytes cut))))
+refused_later key qs offset location old now new e serves refused = search rules
 
 rows_of_values : (found : List (Hit (ℕ × ℕ))) → map (λ (location : ℕ × ℕ). location.0) (map (λ (h : Hit (ℕ × ℕ)). h.value) found) ≡ map (λ (h : Hit (ℕ × ℕ)). h.value.0) found
 rows_of_values [] = refl
