@@ -22,9 +22,6 @@ use Rattle.xet_shards.specs.MinimalReading.SectionsFail.{no_files, no_xorbs}
 
 module _ {H R V : Type 0} (K : RecordKind H R) (laws : KindLaws K) (record_of : V → R) where
   -- before the first record
-  pub no_views : (Took : List ℕ → Type 0) → Took [] → HasReadViews K record_of Took [] 4294967295
-  no_views Took nothing = record { are_stored = All-nil _; taken = nothing; rows = refl }
-
   -- one record more
   pub more_views : (First Next Both : List ℕ → Type 0) (views : List V) (left after : ℕ) (view : V) → ((xs ys : List ℕ) → First xs → Next ys → Both (xs ++ ys))
       → HasReadViews K record_of First views left → CountsStored K Next left after (record_of view) → HasReadViews K record_of Both (views ++ view ∷ []) after
@@ -112,10 +109,6 @@ kept_fit K true records fits = fits
 kept_fit K false records fits = none_fit K
 
 -- what is kept so far, after one record more
-pub if_in-nil : {X : Type 0} (is_kept : Bool) (none : List X) → none ≡ [] → none ≡ if_in is_kept []
-if_in-nil true none is = is
-if_in-nil false none is = is
-
 pub kept_more : {X : Type 0} (is_kept : Bool) (read : List X) (x : X) (before after : List X) → before ≡ if_in is_kept read
     → after ≡ (if is_kept then before ++ x ∷ [] else before) → after ≡ if_in is_kept (read ++ x ∷ [])
 kept_more true read x before after is more = more ∙ ap (λ vs. vs ++ x ∷ []) is

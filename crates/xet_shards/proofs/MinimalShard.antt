@@ -46,14 +46,6 @@ start_inserted b c old s at is set = set ∙ ap (λ t. cond t true old) (is ∙ 
     both false true = refl
     both false false = refl
 
--- one more file
-pub is_start-push : (files : List MDBFileInfo) (r : MDBFileInfo) (at : FileStart)
-    → is_start (files ++ r ∷ []) at ≡ (is_start files at || list_any (eq_by_cmp start_cmp at) (start_of_file r))
-is_start-push files r at =
-    ap (list_any (eq_by_cmp start_cmp at)) (flat_map-append start_of_file files (r ∷ []))
-    ∙ list_any-append (eq_by_cmp start_cmp at) (flat_map start_of_file files) (flat_map start_of_file (r ∷ []))
-    ∙ ap (λ xs. is_start files at || list_any (eq_by_cmp start_cmp at) xs) (append-nil (start_of_file r))
-
 -- one more chunk, with its index
 pub enumerated-more : (cs : List XorbChunkSequenceEntry) (i : ℕ) (c : XorbChunkSequenceEntry) → slice_get cs i ≡ Some c
     → enumerate_from 0 (take (i + 1) cs) ≡ enumerate_from 0 (take i cs) ++ (i, c) ∷ []

@@ -176,16 +176,3 @@ all_written answers each old new wanted now m (Ok n) kept =
     subst (λ xs. WritesBytes old new (layout_of (map (as_wanted wanted) m.files) (map (mark_starts (is_start m.files)) xs) (minimal_form now None)) n)
     (all_kept answers each m.xorbs kept.kept kept.is_kept) kept.written
 all_written answers each old new wanted now m (Err e) kept = tt
-
--- if some file lacks verification rows that are wanted, they are wanted and not each file has them
-pub lacks_some : (wanted : Bool) (files : List MDBFileInfo) → Any (LacksVerification wanted) files → (wanted ≡ true) × (list_all (λ r. has_verification r.metadata.file_flags) files ≡ false)
-lacks_some true files (k, r, below, there, lacks) = (
-  refl,
-  list_all_at (λ (r : MDBFileInfo). has_verification r.metadata.file_flags) files k r below
-      (ap (λ (f : MDBFileInfo). has_verification f.metadata.file_flags) there ∙ not_true (has_verification r.metadata.file_flags) lacks),
-)
-  where
-    not_true : (b : Bool) → not b ≡ true → b ≡ false
-    not_true true never = absurd (true≢false (sym never))
-    not_true false is = refl
-lacks_some false files (k, r, below, there, lacks) = absurd (true≢false (sym lacks))
