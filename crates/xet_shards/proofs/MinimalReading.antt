@@ -1,5 +1,5 @@
 -- Sections that are read as views.
-use Rattle.std.proofs.Common.{◌≡◌, inr, Ok, Err, ℕ, Bool, true, false, List, [], ◌∷◌, ◌++◌, flat_map, append-nil, refl, sym, ap, ◌∙◌, subst, arith}
+use Rattle.std.proofs.Common.{◌≡◌, inr, Ok, Err, ℕ, Bool, true, false, List, [], ◌∷◌, ◌++◌, flat_map, append-nil, sym, ap, ◌∙◌, subst, arith}
 use Rattle.std.proofs.lemmas.List.Elements.{All-append, All-cons, All-nil}
 use Rattle.std.proofs.lemmas.List.Sums.{sum_by_push}
 use Rattle.std.proofs.lemmas.Grind.{flat_map-append}

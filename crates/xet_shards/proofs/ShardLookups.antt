@@ -1,5 +1,5 @@
 -- File lookups on the bytes of a shard answer as its map does.
-use Rattle.std.proofs.Common.{◌≡◌, ◌∙◌, Ok, Err, ℕ, ◌<◌, List, get_or, length, Option, None, Some, sym, ap, subst}
+use Rattle.std.proofs.Common.{◌≡◌, ◌∙◌, Ok, Err, ℕ, List, get_or, Option, None, Some, sym, ap, subst}
 use Rattle.std.specs.Prelude.{◌≢◌, MatchResult}
 use Rattle.std.specs.FinMap.{entries, values, get}
 use Rattle.std.specs.declared.result.Result.{Result}

@@ -1,7 +1,7 @@
 use Rattle.std.proofs.Common.{◌≡◌, Bool, false, T, sym, ◌∙◌, subst, true≢false, IsTrue, arith}
 use Rattle.std.specs.Prelude.{◌↔◌}
 use Rattle.std.proofs.lemmas.Bool.{leb-true, le-leb}
-use Rattle.std.specs.FinMap.{is_sorted, entries, entries_sorted}
+use Rattle.std.specs.FinMap.{is_sorted, entries_sorted}
 use Rattle.xet_base.specs.Hash.{hash_cmp}
 use Rattle.xet_shards.specs.ChunkLookup.{ShardWithLookup}
 use Rattle.xet_shards.specs.InMemoryShard.{shard_inside}
