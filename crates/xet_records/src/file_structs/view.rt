@@ -61,7 +61,7 @@ impl MDBFileInfoView {
         MDBFileInfoView::cut(alloc, header, bytes)
     }
 
-    /// The same as `new`, but `InvalidArguments` if the first 48 bytes are not those of this header.
+    /// The same as `new`, but `InvalidArguments` if the first 48 bytes are not this header's.
     pub fn from_data_and_header(
         alloc: Global,
         header: FileDataSequenceHeader,

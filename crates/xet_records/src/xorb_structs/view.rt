@@ -57,7 +57,7 @@ impl MDBXorbInfoView {
         MDBXorbInfoView::cut(header, bytes)
     }
 
-    /// The same as `new`, but `InvalidArguments` if the first 48 bytes are not those of this header.
+    /// The same as `new`, but `InvalidArguments` if the first 48 bytes are not this header's.
     pub fn from_data_and_header(header: XorbChunkSequenceHeader, bytes: Bytes) -> Result<Self>
         ensures shows { MatchResult result
             (λ view. BeginsWithXorb bytes view × (view.metadata ≡ header))
