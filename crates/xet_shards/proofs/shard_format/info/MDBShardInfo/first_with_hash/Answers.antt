@@ -13,7 +13,8 @@ pub returns-in_err-file_info-clause-refused : goal.returns-in_err-file_info-clau
 returns-in_err-file_info-clause-refused g c =
     let rows = c.args.rows.now in
     let i = c.loop-row.row-index in
-    search (rules, 
+    search (
+      rules,
       get_or rows i 0,
       Contains-get_or rows i 0 c.loop-row-test.true,
       refusal_after file_records file_laws c.args.self.now.metadata.file_info_offset (get_or rows i 0) (g.S.ShardSource.meaning c.args.source.now) (g.S.ShardSource.meaning c.loop-row.source)
