@@ -84,7 +84,8 @@ module _ {H R : Type 0} (K : RecordKind H R) (laws : KindLaws K) (records : List
   -- it is read, unless the device fails or an allocation does
   pub record_is_read : (new : Source) (e : CoreError) → InfoRefusal K offset row old new e → DeviceFailure old new e ⊎ (e ≡ OutOfMemory)
   record_is_read new e refusal =
-      search (rules, no_record K laws 4294967296 (drop (row_at offset row) old.bytes) r record_there.0 is_stored (omega (arith, end_bound)) record_there.1, end_bound, is.offset_fits)
+      let nothing_stops = no_record K laws 4294967296 (drop (row_at offset row) old.bytes) r record_there.0 is_stored (omega (arith, end_bound)) record_there.1 in
+      search (rules, nothing_stops, end_bound, is.offset_fits)
 
 -- the bookend is after the last record
 pub bookend_there : {H R : Type 0} (K : RecordKind H R) → KindLaws K → (records : List R) (offset : ℕ) (bytes : List ℕ) → (is : AreStoredAt K records offset bytes)
