@@ -11,9 +11,8 @@ use Rattle.std.proofs.lemmas.List.Concat.{flat_map_single}
 use Rattle.std.proofs.lemmas.Grind.{flat_map-append}
 use Rattle.xet_base.specs.declared.error.CoreError.{CoreError}
 use Rattle.xet_base.specs.declared.error.CoreError.TheVariants.{InvalidArguments}
-use Rattle.xet_base.specs.Errors.{IsDeviceError}
 use Rattle.xet_base.specs.Source.{Source, Takes, advanced, bytes_left}
-use Rattle.xet_base.specs.InputLaws.{Takes-trans, failed_after, advanced-advanced}
+use Rattle.xet_base.specs.InputLaws.{failed_after, advanced-advanced}
 use Rattle.xet_base.proofs.Reading.{Takes-consumes}
 use Rattle.xet_records.specs.declared.file_structs.MDBFileInfo.{MDBFileInfo}
 use Rattle.xet_records.specs.declared.xorb_structs.MDBXorbInfo.{MDBXorbInfo}
@@ -30,10 +29,10 @@ use Rattle.xet_shards.specs.Tables.{chunk_table, table_bytes, chunk_table_bytes}
 use Rattle.xet_shards.specs.Layout.{Form, if_in, shard_header_bytes, header_value, shard_footer_bytes, footer_value, layout_of}
 use Rattle.xet_shards.specs.Written.{end_of_layout}
 use Rattle.xet_shards.specs.InForm.{FitsSection}
-use Rattle.xet_shards.specs.Ends.{HasHeader, HasUnsupportedHeader, EndsInHeader, FitsFooter, FormatCase, PartFails}
+use Rattle.xet_shards.specs.Ends.{HasHeader, FitsFooter}
 use Rattle.xet_shards.specs.SectionReading.{IsSection, TakesNoSection, RecordFails}
 use Rattle.xet_shards.specs.KeyedExport.{Exports, ExportFails, ExportCase, CannotExport, ExpiresTooLate, BadSection, PassesSection, ExportsSection, WritingFails, HasExported, exported_file, exported_xorb, xorbs_after, keyed_xorb, keyed_xorbs}
-use Rattle.xet_shards.specs.KeyedExport.ExportCase.{bad_header, bad_files, bad_xorbs, not_written}
+use Rattle.xet_shards.specs.KeyedExport.ExportCase.{bad_files, bad_xorbs, not_written}
 use Rattle.xet_shards.proofs.EndsUnique.{ends_of_layout}
 use Rattle.xet_shards.proofs.Files.{length-le-rows}
 use Rattle.xet_shards.proofs.KeyedHashes.{keyed_section}
@@ -124,9 +123,6 @@ section_exported K exports out same Collected old new before after e =
     (e.stored, e.passed, subst Collected (same e.stored) e.collected, subst (λ rs. Appends before after (section_bytes K rs)) (same e.stored) e.written)
 
 module _ {H R : Type 0} (K : RecordKind H R) (laws : KindLaws K) where
-  pub none_exported : (Took : List ℕ → Type 0) (Made : List R → Type 0) → Took [] → Made [] → HasExported K Took Made 4294967295
-  none_exported Took Made nothing made = record { stored = []; are_stored = All-nil K.IsStored; taken = nothing; rows = refl; made = made }
-
   pub one_exported : (First Next Both : List ℕ → Type 0) (Made After : List R → Type 0) (left after : ℕ) (r : R) → ((xs ys : List ℕ) → First xs → Next ys → Both (xs ++ ys))
       → (before : HasExported K First Made left) → CountsStored K Next left after r → After (before.stored ++ r ∷ []) → HasExported K Both After after
   one_exported First Next Both Made After left after r joins before next made = record {
@@ -155,36 +151,9 @@ module _ {H R : Type 0} (K : RecordKind H R) (laws : KindLaws K) where
     pub not_passed : (new : Source) (e : CoreError) → RecordFails K left now new e → TakesNoSection K start new e
     not_passed new e fails = section_fails K laws start now (map K.handed_out before.stored) left (read_of (Takes start now) Made left before) new e fails
 
-    -- the writer failed after a record, or a bookend, that was read
-    pub writing_failed : (new : Source) (taken : List ℕ) (e : CoreError) → Takes now new taken → IsDeviceError e → WritingFails start new e
-    writing_failed new taken e takes is =
-        let all = Takes-trans start now new (flat_map K.record_bytes before.stored) taken before.taken takes in
-        record {
-          bytes = ap (λ (s : Source). s.bytes) all.after;
-          seeks = ap (λ (s : Source). s.seeks) all.after;
-          failures = ap (λ (s : Source). s.failures) all.after;
-          cause = is;
-        }
-
 -- what is left after some bytes
 left_after : (s : Source) (n : ℕ) → bytes_left (advanced s n) ≡ drop n (bytes_left s)
 left_after s n = sym (drop-drop n s.at s.bytes)
-
--- the header was not read
-pub header_fails : (old new : Source) (e : CoreError) → PartFails HasUnsupportedHeader EndsInHeader 48 old new e → ExportFails old new e
-header_fails old new e fails = record {
-  bytes = fails.bytes;
-  seeks = fails.seeks;
-  cause = failed_after (FormatCase HasUnsupportedHeader EndsInHeader (bytes_left old)) (ExportCase (bytes_left old)) old old new e refl (λ c. bad_header c) fails.cause;
-}
-
--- the writer failed after bytes that were read
-pub output_fails : (old new : Source) (n : ℕ) (e : CoreError) → new ≡ advanced old n → IsDeviceError e → ExportFails old new e
-output_fails old new n e at is = record {
-  bytes = ap (λ (s : Source). s.bytes) at;
-  seeks = ap (λ (s : Source). s.seeks) at;
-  cause = inr (ap (λ (s : Source). s.failures) at, not_written is);
-}
 
 -- a section was not read or not written
 section_not_exported : {H R : Type 0} (K : RecordKind H R) (old mid new : Source) (n : ℕ) (e : CoreError) → mid ≡ advanced old n

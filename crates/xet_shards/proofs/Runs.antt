@@ -1,7 +1,7 @@
 -- Runs of hashes among chunks that are read one after another.
-use Rattle.std.proofs.Common.{◌≡◌, ◌⊎◌, inl, inr, ℕ, ◌+◌, ◌^◌, ◌<◌, ◌≤◌, Bool, true, false, not, cond, List, [], ◌∷◌, ◌++◌, length, flat_map, get_or, refl, sym, ap, ◌∙◌, subst, append-nil, arith}
+use Rattle.std.proofs.Common.{◌≡◌, inl, inr, ℕ, ◌+◌, ◌^◌, ◌<◌, ◌≤◌, Bool, true, false, not, cond, List, [], ◌∷◌, ◌++◌, length, flat_map, get_or, refl, sym, ap, ◌∙◌, subst, append-nil, arith}
 use Rattle.std.specs.Prelude.{All}
-use Rattle.std.proofs.lemmas.List.{length-append, take_all, nil_from_length}
+use Rattle.std.proofs.lemmas.List.{length-append, nil_from_length}
 use Rattle.std.proofs.lemmas.List.Elements.{All-append, All-cons, All-nil}
 use Rattle.std.proofs.lemmas.List.Sums.{common_prefix_len-le, sum_by_push}
 use Rattle.xet_base.specs.declared.error.CoreError.{CoreError}
@@ -144,22 +144,6 @@ module _ (key : DataHash) where
             ),
           ));
         }
-
-      -- all chunks that are left have their hashes, or all hashes are found
-      pub run_whole : (n ≡ left) ⊎ (length qs ≤ n) → n ≤ length qs → ReadsRun key qs left start now (n, bytes)
-      run_whole end within = record {
-        chunks = before.chunks;
-        fit = before.fit;
-        few = omega (arith, before.many, before.few);
-        taken = before.taken;
-        decide = why end;
-        count = sym (before.same ∙ before.many);
-        bytes = before.sum ∙ ap total_bytes (sym (take_all n before.chunks (omega (arith, before.many))));
-      }
-        where
-          why : (n ≡ left) ⊎ (length qs ≤ n) → Decide key qs left before.chunks
-          why (inl all) = inr (inr (before.many ∙ all))
-          why (inr found) = inr (inl (omega (arith, before.many, found, within)))
 
       -- the next chunk was not read
       pub run_fails : (e : CoreError) → n < length qs → n < left → RowNotRead now new e → ReadRunFails key qs left start new e
