@@ -8,7 +8,7 @@ use xet_core_structures::error::{CoreError, Result, Validate};
 use xet_core_structures::merklehash::{DataHash, DataHashBytesParseError, DataHashHexParseError};
 use xet_core_structures::source::{MemorySource, ShardSource, read_full};
 
-/// An error of each type that converts to `CoreError`.
+/// The `CoreError` that an error becomes.
 fn core_error<E: Into<CoreError>>(error: E) -> CoreError {
     error.into()
 }

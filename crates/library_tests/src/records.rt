@@ -154,7 +154,7 @@ fn rows_are_a_list(rt: HostRuntime) -> std::result::Result<(), Fail> {
     Ok(())
 }
 
-/// The result of writing rows generically if the stream fails after this many bytes.
+/// The kind of the error of a write, or `None` if it succeeded.
 fn kind_of(answer: std::io::Result<()>) -> Option<ErrorKind> {
     Some(answer.err()?.kind())
 }

@@ -1,5 +1,5 @@
 //! The lines of scripts about metadata shards: their words, the values that these spell, and the
-//! output. For test tools; not part of the library.
+//! output. For programs that read scripts; not part of the library.
 #![tactic(auto)]
 
 pub mod lines;

@@ -51,8 +51,8 @@ pub fn run_writing(
     }
 }
 
-/// Runs a command on the buffer that its second word names, or a union or a difference on two,
-/// through devices. `Unreadable` if there is none.
+/// Runs a command on the buffer that its second word names, or a command that writes, through
+/// devices. `Unreadable` if there is no such buffer.
 pub fn run_reading(
     workspace: &Workspace,
     alloc: Global,

@@ -57,7 +57,7 @@ impl Probe {
         }
     }
 
-    // Runs a line and returns its output.
+    // Runs a line and appends its output.
     fn answer(&mut self, alloc: Global, line: &[u8], out: &mut Vec<u8>) -> io::Result<()> {
         if is_skipped(line) {
             return Ok(());

@@ -18,7 +18,7 @@ found_same : {A : Type 0} (q : DataHash) (es : List (DataHash × A)) → find ha
 found_same q [] = refl
 found_same q (e ∷ es) = λ i. cond (one_answer _ _ (same_key q e.0) (same_hash q e.0) i) (Some e.1) (found_same q es i)
 
--- the finite map that the entries of a `HashMap` stand for
+-- the finite map with the entries of a `HashMap`
 pub get-shown : {A B : Type 0} (f : A → B) (q : DataHash) (es : List (DataHash × A))
     → get (from_entries {R = hash_cmp} (map (λ e. (e.0, f e.1)) es)) q ≡ option_map f (lookup (hash_eq q) es)
 get-shown f q es =

@@ -34,7 +34,7 @@ FromDevice e OutOfMemory = error_kind e ≡ no_memory
 FromDevice e (Io f) = (f ≡ e) × (error_kind e ≢ no_memory)
 FromDevice e _ = ⊥
 
--- a device's error, or the end of the input
+-- `Io` or `OutOfMemory`: an error of a device, the end of the input, or a failed allocation
 abbrev pub IsDeviceError : CoreError → Type 0
 IsDeviceError OutOfMemory = ⊤
 IsDeviceError (Io _) = ⊤

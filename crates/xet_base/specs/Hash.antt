@@ -5,8 +5,8 @@ use Rattle.std.specs.declared.cmp.Ordering.{Ordering}
 use Rattle.xet_base.specs.declared.merklehash.DataHash.{DataHash}
 use Rattle.xet_base.specs.Bytes.{u64_bytes}
 
--- each word of a hash is below 2 ^ 64, which a definition has to say, since its numbers have no
--- upper end
+-- each word of a hash is below 2 ^ 64, which a definition has to say, since its numbers are
+-- unbounded
 pub record IsHash (hash : DataHash) : Type 0 where
   pub word0 : hash.word0 < 2 ^ 64
   pub word1 : hash.word1 < 2 ^ 64
@@ -42,6 +42,6 @@ all_ones =
       word3 = 18446744073709551615;
     }
 
--- one hash in 1024 is kept by the global index
+-- the global index keeps a chunk with this hash: word 3 is a multiple of 1024
 abbrev pub IsEligible : DataHash → Type 0
 IsEligible hash = hash.word3 % 1024 ≡ 0

@@ -98,7 +98,7 @@ pub record FitsTable (t : Table) : Type 0 where
 abbrev pub IsPastTable : Table → Type 0
 IsPastTable t = (2 ^ 64 ≤ t.rows + 1) ⊎ (2 ^ 64 ≤ row_offset t t.rows)
 
--- the device neither failed nor changed
+-- the device did not fail, and the bytes are the same
 pub record Serves (old new : Source) : Type 0 where
   pub bytes : new.bytes ≡ old.bytes
   pub failures : new.failures ≡ old.failures

@@ -19,6 +19,7 @@ impl Model for Count {
 }
 
 impl Count {
+    /// A counter at 0.
     pub fn new() -> Count
         ensures { result.value ≡ 0 }
     {
@@ -27,6 +28,7 @@ impl Count {
         }
     }
 
+    /// Adds `n`.
     pub fn add(&mut self, n: u64)
         ensures { self.new.value ≡ self.old.value + n }
     {}

@@ -1,4 +1,4 @@
-//! The error of every crate above.
+//! The error type of all crates of the library.
 
 ghost use Rattle.std.specs.Prelude.{◌≡◌, ◌==◌, Option, codes};
 ghost use Rattle.xet_base.specs.Errors.{variant_number, FromDevice, IsOtherText, IsInvalidShardText, WithoutFormatError, CoreResult};
@@ -11,49 +11,63 @@ use std::alloc::{AllocError, AllocFailed, Global};
 use std::{fmt, io};
 use thiserror::Error;
 
-/// The error of a hash that is parsed from text. No value of it exists.
+/// The content of `CoreError::HashParsing`. It has no value, so that variant is never made.
 #[derive(Clone, Copy)]
 pub enum Infallible {}
 
 /// Why a call failed. Two errors are equal exactly if their variants are.
 #[derive(Drop, Error)]
 pub enum CoreError {
-    /// The input ended too early (`UnexpectedEof`), or a device failed.
+    /// The input ended too early (`UnexpectedEof`), verification rows are missing (`Other`), or a
+    /// device failed.
     #[error("I/O error: {0}")]
     Io(io::Error),
+    /// A row number leads to the bookend of a section.
     #[error("Internal error: {0}")]
     InternalError(String),
+    /// Any other failure, in words.
     #[error("{0}")]
     Other(String),
     /// So many records share this first word of a hash that a lookup gives up.
     #[error("Too many collisions for truncated hash: {0}")]
     TruncatedHashCollision(u64),
+    /// An unsupported tag or version of a header or a footer.
     #[error("Shard version error: {0}")]
     ShardVersion(String),
+    /// Not made by this library.
     #[error("Bad filename: {0}")]
     BadFilename(String),
+    /// Not made by this library.
     #[error("Shard not found: {0}")]
     ShardNotFound(MerkleHash),
+    /// Not made by this library.
     #[error("File not found: {0}")]
     FileNotFound(MerkleHash),
+    /// Not made by this library.
     #[error("Query failed: {0}")]
     QueryFailed(String),
+    /// Not made by this library.
     #[error("Smudge query policy error: {0}")]
     SmudgeQueryPolicy(String),
     /// The bytes are not a valid shard.
     #[error("Invalid shard: {0}")]
     InvalidShard(String),
+    /// Not made by this library.
     #[error("Invalid range")]
     InvalidRange,
+    /// Arguments that the call does not admit; its documentation says which.
     #[error("Invalid arguments")]
     InvalidArguments,
+    /// Not made by this library; see [`Validate`].
     #[error("Malformed data: {0}")]
     MalformedData(String),
+    /// Not made by this library.
     #[error("Hash mismatch")]
     HashMismatch,
     /// Never made: its content has no value.
     #[error("Hash parsing error")]
     HashParsing(Infallible),
+    /// Not made by this library.
     #[error("Chunk header parse error")]
     ChunkHeaderParse,
     /// Out of memory, here or in a device.

@@ -27,7 +27,8 @@ use window::Window;
 /// `i * (u64::MAX / (num_entries + 1))`, it makes at most three seeks.
 ///
 /// `InvalidShard` if `num_entries + 1` or the table's end does not fit `u64`, `UnexpectedEof` if
-/// the source ends before the table does. If `results` is empty it reads nothing and returns 0.
+/// the search reads past the end of the source; any other error is the source's. If `results` is
+/// empty it reads nothing and returns 0.
 pub fn search_on_sorted_u64s<S: ShardSource, V: Default + Copy, F: Fn(&mut S) -> io::Result<V>>(
     alloc: Global,
     source: &mut S,

@@ -119,7 +119,7 @@ impl DataHash {
         ]
     }
 
-    /// The hash with these 32 bytes.
+    /// The hash with these 32 bytes. Fails if there are more or fewer.
     pub fn from_slice(bytes: &[u8]) -> std::result::Result<DataHash, DataHashBytesParseError>
         ensures found { IfOk result (λ hash. hash_bytes hash ≡ bytes.now) }
         ensures accepted { IsOk result ↔ (length bytes.now ≡ 32) }
@@ -169,7 +169,7 @@ impl DataHash {
         Ok(text)
     }
 
-    /// The hash with these 64 hexadecimal digits, of either case.
+    /// The hash with these 64 hexadecimal digits, of either case. Fails on any other text.
     pub fn from_hex(text: &str) -> std::result::Result<DataHash, DataHashHexParseError>
         ensures found { IfOk result (λ hash. Spells text.now hash) }
         ensures accepted { IsOk result ↔ IsHexText text.now }

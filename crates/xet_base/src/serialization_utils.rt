@@ -1,7 +1,8 @@
 //! Little-endian codecs of numbers and hashes over readers and writers.
 //!
-//! A reader that knows its bytes gives `UnexpectedEof` only if fewer bytes were left than the call
-//! reads, and no value there. A read that is interrupted is tried again.
+//! Reading fails with `UnexpectedEof` only if fewer bytes are left than the call reads; a reader's
+//! own `UnexpectedEof` becomes `Other`. A read that is interrupted is tried again; after 2^64 - 1
+//! reads for one value or slice the error is `TimedOut`. Any other error is the reader's.
 
 ghost use Rattle.std.specs.Prelude.{◌≡◌, ◌*◌, ◌∷◌, [], length, take, flat_map, OnOk, IfOk, IfErr, ◌≢◌};
 ghost use Rattle.std.specs.Io.KnownBytes.{Appends, Consumes};

@@ -9,6 +9,9 @@ use std::io::ErrorKind;
 
 /// Bytes with a read position. Contracts see the bytes, the position, the seeks made, the bytes
 /// read, the failures so far and the latest failure.
+///
+/// A call that fails leaves the bytes as they are, and counts one failure and no byte as read;
+/// `seek_to` counts its seek also if it fails. The position after a failure is unspecified.
 pub trait ShardSource {
     ghost meaning: { Self → Source };
 
@@ -63,6 +66,7 @@ pub struct MemorySource<'a> {
 }
 
 impl<'a> MemorySource<'a> {
+    /// A source of these bytes, at position 0.
     pub fn new(bytes: &'a [u8]) -> MemorySource<'a>
         ensures { ⟦<MemorySource<'a> as ShardSource>⟧.meaning result ≡ record {
           bytes = bytes.now;

@@ -183,11 +183,11 @@ pub fn errors_are_equal_by_variant()
         → IsTrue (error_eq e f) → IsTrue (error_eq f g) → IsTrue (error_eq e g) }
 {}
 
-/// A union, a difference and a tree of unions write bytes of a shard under a key, whether their
-/// inputs agree or not. From such bytes `load_from_reader` reads the header and the footer that
-/// were returned, and a file lookup finds what the shard has, within bounds. The xorbs of a union
-/// are well-formed, as queries for chunks require, if those of both inputs are; those of a
-/// difference, if the second's are.
+/// A union, a difference and a tree with at least one union write bytes of a shard under a key,
+/// whether their inputs agree or not. From such bytes `load_from_reader` reads the header and the
+/// footer that were returned, and a file lookup finds what the shard has, within bounds. The xorbs
+/// of a union are well-formed, as queries for chunks require, if those of both inputs are; those of
+/// a difference, if the second's are.
 pub fn lookups_on_results()
     ensures trees { (inputs : List (List ℕ)) → (plan : MergePlan) → (bytes : List ℕ) → HasUnion plan
         → TreeWrites inputs plan bytes
@@ -227,8 +227,8 @@ pub fn lookups_on_trees()
         → FindsInShard join hash loaded new found }
 {}
 
-/// Two shards have one union of this kind and one difference, and the bytes of two have one union,
-/// whether they agree or not.
+/// Two shards have at most one union of the kind that `shard_set_union` writes and at most one
+/// difference, and the bytes of two have at most one union, whether they agree or not.
 pub fn results_are_one()
     ensures union { (a b c d : Shard) → IsByteUnion a b c → IsByteUnion a b d → c ≡ d }
     ensures difference { (a b c d : Shard) → IsDifference a b c → IsDifference a b d → c ≡ d }

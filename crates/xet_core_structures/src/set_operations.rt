@@ -102,17 +102,20 @@ pub fn shard_set_difference<S: ShardSource, T: ShardSource, W: Write>(
 /// A tree of unions. A leaf is the index of an input.
 #[derive(Drop)]
 pub enum MergePlan {
+    /// The input at this index.
     Leaf(usize),
+    /// The union of what both sides give, the left one first.
     Both(Box<MergePlan>, Box<MergePlan>),
 }
 
 /// Unites the inputs at the leaves of a tree: a leaf is a copy of its input, and each inner node
 /// the union of what its left and its right side give. So inputs that agree give one string of
-/// bytes, whatever the shape of the tree, and the order and the repetition of its leaves.
+/// bytes if the tree has a union, whatever its shape and whatever the order and the repetition of
+/// its leaves.
 ///
-/// `InvalidArguments` if a leaf has no input, and else the error of the first union that fails:
-/// `ShardVersion` or `UnexpectedEof` if a header or a footer is unsupported or cut short, or one of
-/// `shard_set_union`. `OutOfMemory` if an allocation fails.
+/// The error is that of the first leaf or union that fails, left sides first: `InvalidArguments` if
+/// a leaf has no input, `ShardVersion` or `UnexpectedEof` if a header or a footer is unsupported or
+/// cut short, or one of `shard_set_union`. `OutOfMemory` if an allocation fails.
 pub fn shard_union_tree(alloc: Global, plan: &MergePlan, inputs: &[&[u8]]) -> Result<Vec<u8>>
     ensures any_bytes { MatchResult result
         (λ bytes. TreeWrites (map (λ x. x.now) inputs.now) plan.now bytes.items)

@@ -29,7 +29,7 @@ verification_row v = hash_bytes v.range_hash ++ flat_map u64_bytes v._unused
 unfoldable pub metadata_row : FileMetadataExt → List ℕ
 metadata_row m = hash_bytes m.sha256 ++ flat_map u64_bytes m._unused
 
--- the widths of a row's numbers, which a definition has to say, since its numbers have no upper end
+-- the widths of a row's numbers, which a definition has to say, since its numbers are unbounded
 pub record FitsHeader (h : FileDataSequenceHeader) : Type 0 where
   pub file_hash : IsHash h.file_hash
   pub file_flags : h.file_flags < 2 ^ 32

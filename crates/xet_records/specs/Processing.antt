@@ -21,7 +21,8 @@ pub record HasProcessed {H R V F : Type 0} (K : RecordKind H R) (record_of : V �
   pub rows : sum_by (λ view. K.row_count (record_of view)) given + left ≡ 4294967295
   pub calls : FoldsTo (λ before view after. step before view (Ok tt) after) old given new
 
--- an input says that bytes were read between two of its states, and that reading failed
+-- `reads a b bytes` says that an input read these bytes between its states `a` and `b`, and
+-- `fails a b n e` that reading up to `n` bytes failed with `e`
 module _ {H R V F I : Type 0} (K : RecordKind H R) (record_of : V → R)
     (reads : I → I → List ℕ → Type 0) (fails : I → I → ℕ → CoreError → Type 0)
     (step : F → V → CoreResult (Unit {0}) → F → Type 0) where

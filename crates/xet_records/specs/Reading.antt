@@ -76,8 +76,8 @@ pub record HasRead {H R : Type 0} (K : RecordKind H R) (Took : List ℕ → Type
   pub rows : sum_by K.row_count stored + left ≡ 4294967295
   pub handed : map K.handed_out stored ≡ found
 
--- an input says of some bytes that they were read between two of its states: the records of a
--- section were read, and the bookend after them
+-- `reads a b bytes` says that an input read these bytes between its states `a` and `b`. The records
+-- of a section were read, and the bookend after them
 pub record ReadsRecords {H R I : Type 0} (K : RecordKind H R) (reads : I → I → List ℕ → Type 0)
     (old new : I) (found : List R) : Type 0 where
   pub mid : I
@@ -85,7 +85,7 @@ pub record ReadsRecords {H R I : Type 0} (K : RecordKind H R) (reads : I → I �
   pub records : HasRead K (reads old mid) found left
   pub bookend : ReadsBookend K (reads mid new)
 
--- it also says that reading up to so many bytes failed
+-- `fails a b n e` says that reading up to `n` bytes failed with `e`
 module _ {H R I : Type 0} (K : RecordKind H R) (reads : I → I → List ℕ → Type 0)
     (fails : I → I → ℕ → CoreError → Type 0) where
   -- why the next record was not read: its header was not, or announces more rows than are left, or

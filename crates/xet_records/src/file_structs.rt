@@ -105,7 +105,8 @@ impl MDBFileInfo {
     /// whatever its other fields. Verification and metadata rows get zero reserved words.
     ///
     /// `UnexpectedEof` if the bytes end before the header or the rows that it announces,
-    /// `InvalidShard` if these rows pass 4294967295. May fail with `OutOfMemory`.
+    /// `InvalidShard` if these rows pass 4294967295. May fail with `OutOfMemory`. Any other error
+    /// is the reader's.
     pub fn deserialize<R: Read>(alloc: Global, reader: &mut R) -> Result<Option<Self>>
         ensures found { IfOk result
             (ReadsOrEnds file_records

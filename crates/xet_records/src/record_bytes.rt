@@ -11,7 +11,7 @@ use std::io;
 use std::io::ErrorKind;
 use xet_base::error::{CoreError, Result};
 
-/// Cuts bytes to a header and so many rows after it. `UnexpectedEof` if there are fewer bytes.
+/// Cuts bytes to a header and `rows_after` rows. `UnexpectedEof` if there are fewer bytes.
 pub fn cut(mut bytes: Bytes, rows_after: u32) -> io::Result<Bytes>
     ensures { MatchResult result
         (λ cut. (48 + 48 * rows_after ≤ length bytes) × (cut ≡ take (48 + 48 * rows_after) bytes))
@@ -52,7 +52,7 @@ pub fn begins_with<T: Row>(bytes: &[u8], row: &T) -> io::Result<bool>
     Ok(part(bytes, 0, 1) == row.as_slice())
 }
 
-/// The row at an index, counted from the header on.
+/// The row at an index, counted from the header on. Requires that it is there.
 pub fn row<T: Row>(bytes: &[u8], index: usize) -> T
     requires { 48 * index + 48 ≤ length bytes.now }
     ensures { ReadsRow T.row_bytes T.Fits T.handed_out
@@ -63,7 +63,7 @@ pub fn row<T: Row>(bytes: &[u8], index: usize) -> T
     T::from_bytes(&row)
 }
 
-/// The bytes of so many rows from an index on.
+/// The bytes of `count` rows from row `start` on. Requires that they are there.
 pub fn part(bytes: &[u8], start: usize, count: usize) -> &[u8]
     requires { 48 * start + 48 * count ≤ length bytes.now }
     ensures bytes { result.now ≡ take (48 * count) (drop (48 * start) bytes.now) }
@@ -74,7 +74,7 @@ pub fn part(bytes: &[u8], start: usize, count: usize) -> &[u8]
     &bytes[start..end]
 }
 
-/// So many rows from an index on. `OutOfMemory` is the only error.
+/// `count` rows from row `start` on. Requires that they are there. `OutOfMemory` is the only error.
 pub fn rows<T: Row + Drop>(
     alloc: Global,
     bytes: &[u8],

@@ -68,7 +68,7 @@ pub trait SectionRecord {
 /// record's rows down from `rows_left`.
 ///
 /// `UnexpectedEof` if fewer than 48 bytes are left, `InvalidShard` if the record has more rows than
-/// are left.
+/// `rows_left`.
 pub fn read_header<R: SectionRecord, M, I: ByteInput<M>>(
     alloc: Global,
     input: &mut I,
@@ -93,8 +93,8 @@ pub fn read_header<R: SectionRecord, M, I: ByteInput<M>>(
 /// Reads the next record of a section, or `None` at its bookend, and counts the record's rows down
 /// from `rows_left`.
 ///
-/// `UnexpectedEof` if too few bytes are left, `InvalidShard` if the record has more rows than are
-/// left. May fail with `OutOfMemory`.
+/// `UnexpectedEof` if too few bytes are left, `InvalidShard` if the record has more rows than
+/// `rows_left`. May fail with `OutOfMemory`.
 pub fn read_record<R: SectionRecord, M, I: ByteInput<M>>(
     alloc: Global,
     input: &mut I,

@@ -48,6 +48,7 @@ impl<T> From<Vec<T>> for Rows<T> {
 }
 
 impl<T> Rows<T> {
+    /// The empty list. Does not allocate.
     pub fn new(alloc: Global) -> Rows<T>
         ensures { result ≡ [] }
     {
@@ -56,18 +57,21 @@ impl<T> Rows<T> {
         }
     }
 
+    /// The number of rows.
     pub fn len(&self) -> usize
         ensures { result ≡ length self.now }
     {
         self.items.len()
     }
 
+    /// Whether there is no row.
     pub fn is_empty(&self) -> bool
         ensures { IsTrue result ↔ (self.now ≡ []) }
     {
         self.items.is_empty()
     }
 
+    /// The rows in order.
     pub fn as_slice(&self) -> &[T]
         ensures { result.now ≡ self.now }
     {
@@ -81,6 +85,7 @@ impl<T> Rows<T> {
         self.items
     }
 
+    /// Appends a row. If the allocation fails, the row is handed back and the list is unchanged.
     pub fn push(&mut self, row: T) -> std::result::Result<(), AllocFailed<T>>
         ensures ok { OnOk result (self.new ≡ self.old ++ row ∷ []) }
         ensures err { OnErr result (self.new ≡ self.old) }
@@ -120,9 +125,11 @@ pub trait Row: Copy {
 
     ghost handed_out: { Self → Self };
 
+    /// The bytes of the row.
     fn to_bytes(&self) -> [u8; 48]
         ensures { result ≡ row_bytes self.now };
 
+    /// The row with these bytes, as reading returns it.
     fn from_bytes(bytes: &[u8; 48]) -> Self
         ensures { (stored : Self) × Fits stored × (row_bytes stored ≡ bytes.now) ×
             (handed_out stored ≡ result) };

@@ -29,8 +29,8 @@ pub trait RecordView<R: SectionRecord> {
 /// Reads a view of the next record of a section, or `None` at its bookend, and counts the record's
 /// rows down from `rows_left`.
 ///
-/// `UnexpectedEof` if too few bytes are left, `InvalidShard` if the record has more rows than are
-/// left. May fail with `OutOfMemory`.
+/// `UnexpectedEof` if too few bytes are left, `InvalidShard` if the record has more rows than
+/// `rows_left`. May fail with `OutOfMemory`.
 pub fn read_view<R: SectionRecord, V: RecordView<R>, M, I: ByteInput<M>>(
     alloc: Global,
     input: &mut I,
@@ -49,7 +49,7 @@ pub fn read_view<R: SectionRecord, V: RecordView<R>, M, I: ByteInput<M>>(
     Ok(Some(V::of_bytes(header, Bytes::from_vec(bytes)?)))
 }
 
-// These 48 bytes, and those of so many rows that are read after them.
+// These 48 bytes, and those of `count` rows that are read after them.
 fn read_row_bytes<M, I: ByteInput<M>>(
     alloc: Global,
     input: &mut I,

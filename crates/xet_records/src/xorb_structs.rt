@@ -75,7 +75,7 @@ impl XorbChunkSequenceHeader {
         self.xorb_hash == MerkleHash::from([u64::MAX; 4])
     }
 
-    /// Appends the row and returns its 48 bytes. The error is the writer's.
+    /// Appends the row and returns 48, the number of bytes. The error is the writer's.
     pub fn serialize<W: Write>(&self, writer: &mut W) -> io::Result<usize>
         ensures { IfOk result
             (WritesRow (W.contents writer.old) (W.contents writer.new) (xorb_header_row self.now)) }
@@ -191,7 +191,7 @@ impl XorbChunkSequenceEntry {
             || hash_is_global_dedup_eligible(&self.chunk_hash)
     }
 
-    /// Appends the row and returns its 48 bytes. The error is the writer's.
+    /// Appends the row and returns 48, the number of bytes. The error is the writer's.
     pub fn serialize<W: Write>(&self, writer: &mut W) -> io::Result<usize>
         ensures { IfOk result
             (WritesRow (W.contents writer.old) (W.contents writer.new) (chunk_row self.now)) }
@@ -284,7 +284,7 @@ impl MDBXorbInfo {
     /// whatever its other fields.
     ///
     /// `UnexpectedEof` if the bytes end before the header or the chunks that it announces. May fail
-    /// with `OutOfMemory`.
+    /// with `OutOfMemory`. Any other error is the reader's.
     pub fn deserialize<R: Read>(alloc: Global, reader: &mut R) -> Result<Option<Self>>
         ensures found { IfOk result
             (ReadsOrEnds xorb_records

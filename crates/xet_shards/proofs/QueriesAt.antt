@@ -1,4 +1,4 @@
--- Queries at one location: what the header that is read there and the run after it tell.
+-- Queries at one location: what follows from the header that is read there and the run after it.
 use Rattle.std.proofs.Common.{◌≡◌, ◌≢◌, inl, inr, Ok, Err, ℕ, ◌+◌, ◌-◌, ◌*◌, ◌<◌, ◌≤◌, List, [], ◌∷◌, ◌++◌, length, drop, Option, refl, ap, ◌∙◌, subst, arith}
 use Rattle.std.specs.Prelude.{OnOk, IfErr}
 use Rattle.std.specs.declared.result.Result.{Result}

@@ -35,7 +35,7 @@ module _ {X : Type 0} where
   pub flat_map-push : {Y : Type 0} (f : X → List Y) (xs : List X) (x : X) → flat_map f (xs ++ x ∷ []) ≡ flat_map f xs ++ f x
   flat_map-push f xs x = flat_map-append f xs (x ∷ []) ∙ ap (λ ys. flat_map f xs ++ ys) (append-nil (f x))
 
--- the same of what each value stands for
+-- the same of what a function makes of each value
 module _ {X Y : Type 0} (f : X → Y) where
   pub mapped_turn : (all : List X) (before : List (Bor X)) (s t : List X) (r : Option (Bor X)) (x : Bor X)
       → map deref before ++ s ≡ all → r ≡ Some x → TakesFirst deref s r t → map f (map deref before) ++ f x.now ∷ map f t ≡ map f all

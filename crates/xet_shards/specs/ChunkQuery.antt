@@ -1,5 +1,5 @@
--- The chunk query: the longest run of hashes in a xorb, from the location on that the lookup keeps
--- for the first hash.
+-- The chunk query: the longest run of hashes in a xorb that begins at the location which the lookup
+-- has for the first hash.
 use Rattle.std.specs.Prelude.{◌≡◌, ◌==◌, ℕ, ◌+◌, List, [], ◌∷◌, drop, take, Option, None, Some, option_map, slice_get, if◌then◌else◌}
 use Rattle.std.specs.List.{common_prefix_len}
 use Rattle.std.specs.FinMap.{get}

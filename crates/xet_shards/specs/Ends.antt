@@ -102,8 +102,8 @@ SaysUnsupported Unsupported remaining e = IsShardVersion e → IfSome remaining 
 abbrev pub SaysEnd : (List ℕ → Type 0) → Option (List ℕ) → CoreError → Type 0
 SaysEnd Short remaining e = IsEndOfInput e → IfSome remaining Short
 
--- reading a header or a footer from the current offset on failed, after at most so many bytes; the
--- offset is unspecified
+-- reading a header or a footer from the source's position on failed, after at most `most` bytes;
+-- the position afterwards is unspecified
 pub record PartFails (Unsupported Short : List ℕ → Type 0) (most : ℕ) (old new : Source)
     (e : CoreError) : Type 0 where
   pub bytes : new.bytes ≡ old.bytes

@@ -36,12 +36,12 @@ ranges_at offset r = ranges_after (offset + 48) r.metadata r.metadata_ext
 abbrev pub file_ranges : ℕ → List MDBFileInfo → List FileRanges
 file_ranges at files = kept_of file_records ranges_at at files
 
--- the file section was read through from the source's offset on, and these are the ranges of its
+-- the file section was read through from the source's position on, and these are the ranges of its
 -- files
 abbrev pub TakesRanges : Source → Source → List FileRanges → Type 0
 TakesRanges old new found = KeepsSection file_records ranges_at old new found
 
--- a shard's header, and after it the file section, were read from the source's offset on
+-- a shard's header, and after it the file section, were read from the source's position on
 pub record ReadsFileRanges (old new : Source) (found : List FileRanges) : Type 0 where
   pub header : MDBShardFileHeader
   pub tag : header.tag ≡ header_tag

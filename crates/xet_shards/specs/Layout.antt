@@ -27,7 +27,7 @@ header_tag =
 unfoldable pub shard_header_bytes : MDBShardFileHeader → List ℕ
 shard_header_bytes h = (header_tag ++ u64_bytes h.version) ++ u64_bytes h.footer_size
 
--- the words of a footer before the key, after it, and after the words that are kept free
+-- the words of a footer before the key, after it, and after the reserved words
 abbrev pub offsets_of : MDBShardFileFooter → List ℕ
 offsets_of f =
     f.version ∷ f.file_info_offset ∷ f.xorb_info_offset ∷ f.file_lookup_offset
@@ -48,7 +48,7 @@ shard_footer_bytes f =
     ++ flat_map u64_bytes f._buffer)
     ++ flat_map u64_bytes (sums_of f)
 
--- the footer of no shard in particular
+-- the footer of `Default`
 abbrev pub default_footer : MDBShardFileFooter
 default_footer = record {
   version = 1;
@@ -70,7 +70,7 @@ default_footer = record {
   footer_offset = 0;
 }
 
--- something that is in, or nothing
+-- a list, or the empty list if it is not in
 abbrev pub if_in : {X : Type 0} → Bool → List X → List X
 if_in is_in xs = if is_in then xs else []
 

@@ -55,7 +55,7 @@ StandsAt bytes offset part = (rest : List ℕ) × (drop offset bytes ≡ part ++
 abbrev pub RecordAt : {H R : Type 0} → RecordKind H R → List ℕ → ℕ → R → Type 0
 RecordAt K bytes offset found = ReadsRecord K (StandsAt bytes offset) found
 
--- an error without a text: there is no record where one should be
+-- `InternalError` without a message: there is a bookend where a record should be
 abbrev pub IsBareInternalError : CoreError → Type 0
 IsBareInternalError (InternalError text) = string_bytes text ≡ []
 IsBareInternalError _ = ⊥
@@ -254,22 +254,23 @@ AreStarts K records word rows =
     ((row : ℕ) → Contains rows row → Contains (starts K records) (word, row))
     × ((row : ℕ) → Contains (starts K records) (word, row) → Contains rows row)
 
--- an index lookup in written bytes that have these records and their table: the starts if fewer
--- than eight records share the first word, the collision if eight do; else the device failed
+-- an index lookup in written bytes that have these records and their table: the starts, if fewer
+-- than eight records share the first word
 abbrev pub StartsAmong : {H R : Type 0} → RecordKind H R → List R → ℕ → List ℕ → ℕ → Type 0
 StartsAmong K records word rows count =
     (length (sharing K word records) < 8) × (count ≡ length (sharing K word records))
     × AreStarts K records word (take count rows)
 
+-- its errors: the collision, if eight or more do, or the device's own
 abbrev pub NoStartsAmong : {H R : Type 0} → RecordKind H R → List R → ℕ → Source → Source
     → CoreError → Type 0
 NoStartsAmong K records word old new e =
     DeviceFailure old new e
     ⊎ ((e ≡ TruncatedHashCollision word) × (8 ≤ length (sharing K word records)))
 
--- a record lookup in such bytes gave none: if fewer than eight records share the first word, an
--- allocation failed, but only if one does, so that a record is read; if eight do, the collision;
--- else the device failed
+-- why a record lookup in such bytes fails: the device failed; out of memory, if one to seven
+-- records share the first word, since only then a record is read; or the collision, if eight or
+-- more do
 abbrev pub NotFoundAmong : {H R : Type 0} → RecordKind H R → List R → DataHash → Source → Source
     → CoreError → Type 0
 NotFoundAmong K records hash old new e =

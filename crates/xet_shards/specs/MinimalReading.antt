@@ -23,8 +23,8 @@ pub record HasReadViews {H R V : Type 0} (K : RecordKind H R) (record_of : V →
   pub taken : Took (flat_map (λ view. K.record_bytes (record_of view)) views)
   pub rows : sum_by (λ view. K.row_count (record_of view)) views + left ≡ 4294967295
 
--- an input says of some bytes that they were read between two of its states, and that reading
--- failed
+-- `reads a b bytes` says that an input read these bytes between its states `a` and `b`, and
+-- `fails a b n e` that reading up to `n` bytes failed with `e`
 module _ {H R V I : Type 0} (K : RecordKind H R) (record_of : V → R)
     (reads : I → I → List ℕ → Type 0) where
   -- views of all records of a section, and the bookend after them, were read

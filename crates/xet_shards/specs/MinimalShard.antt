@@ -94,8 +94,8 @@ abbrev pub has_file_verification : List MDBFileInfo → Bool
 has_file_verification [] = false
 has_file_verification (r ∷ _) = has_verification r.metadata.file_flags
 
--- header, sections and footer in bytes; nothing if verification rows are wanted and the first file
--- has none
+-- the number of bytes of header, sections and footer; 0 if verification rows are wanted and there
+-- is no file or the first one has none
 abbrev pub serialized_size : Bool → MinimalShard → ℕ
 serialized_size wanted m =
     if wanted && not (has_file_verification m.files) then 0 else 344

@@ -54,8 +54,8 @@ module _ {H R : Type 0} (K : RecordKind H R) where
       ⊎ ((header : H) × (rest : List ℕ) × BeginsWithHeader K bytes header rest
       × (n ≤ 48 * (1 + K.rows_after header)))
 
--- the records of a section were read from the source's offset on, without a seek and without a byte
--- past the bookend
+-- the records of a section were read from the source's position on, without a seek and without a
+-- byte past the bookend
 pub record TakesSection {H R : Type 0} (K : RecordKind H R) (old new : Source) (found : List R)
     : Type 0 where
   pub stored : List R

@@ -12,7 +12,7 @@ module _ {H R T : Type 0} (K : RecordKind H R) (keep : ℕ → R → T) where
   abbrev pub kept_of : ℕ → List R → List T
   kept_of at records = map (λ e. keep (at + 48 * total_rows K e.0) e.1) (with_fronts [] records)
 
-  -- the section was read through from the source's offset on, and this was kept of its records
+  -- the section was read through from the source's position on, and this was kept of its records
   abbrev pub KeepsSection : Source → Source → List T → Type 0
   KeepsSection old new found =
       (records : List R) × TakesSection K old new records × (found ≡ kept_of old.at records)

@@ -1,5 +1,5 @@
--- The lookup tables: the rows at which the records with a hash's first word start, and the chunks
--- with one.
+-- The lookup tables: by the first word of a hash, the row at which the record with this hash
+-- starts; for a chunk's hash, the row at which the xorb starts and the chunk's index in it.
 use Rattle.std.specs.Prelude.{ℕ, List, [], ◌++◌, map, filter, flat_map}
 use Rattle.std.specs.List.{enumerate_from}
 use Rattle.std.specs.Ordering.{is_lt, nat_cmp, ordering_then}

@@ -141,6 +141,7 @@ impl MDBInMemoryShard {
         ensures xorbs { AreXorbs (shown_xorbs result.now.entries) }
         ensures rows { total_rows xorb_records (finite.values self.now.content.xorbs) ≤ 4294967295 }
     {
+        // The count is named so that the proof has its bound.
         let _rows = self.xorb_rows;
         self.xorbs.content()
     }
@@ -151,6 +152,7 @@ impl MDBInMemoryShard {
         ensures files { AreFiles result.now.entries }
         ensures rows { total_rows file_records (finite.values self.now.content.files) ≤ 4294967295 }
     {
+        // The count is named so that the proof has its bound.
         let _rows = self.file_rows;
         self.files.content()
     }
@@ -177,8 +179,9 @@ impl MDBInMemoryShard {
     /// The records of both shards. Of two xorbs with the same hash it has that of `other`; of two
     /// files with the same hash, this shard's with each optional part that only `other` has for it.
     ///
-    /// `InvalidArguments` if such files have different numbers of segments, or the rows pass
-    /// 4294967295; `OutOfMemory` if an allocation fails.
+    /// `InvalidArguments` if such files have different numbers of segments, or the rows of all
+    /// files, or of all xorbs, of the union would pass 4294967295; `OutOfMemory` if an allocation
+    /// fails.
     pub fn union(&self, alloc: Global, other: &MDBInMemoryShard) -> Result<MDBInMemoryShard>
         ensures ok { IfOk result (λ s. IsUnion self.now.content other.now.content s.content) }
         ensures join { ShardsAgree self.now.content other.now.content
@@ -269,8 +272,8 @@ impl MDBInMemoryShard {
         }
     }
 
-    /// The longest run of these chunk hashes from the location on that the lookup keeps for the
-    /// first of them: its number of chunks, and their segment. `None` if no hash is given or no
+    /// The longest run of these chunk hashes that begins at the location which the lookup has for
+    /// the first of them: its number of chunks, and their segment. `None` if no hash is given or no
     /// xorb has the first. Does not allocate.
     pub fn chunk_hash_dedup_query(
         &self,

@@ -94,7 +94,7 @@ impl FileDataSequenceHeader {
         self.file_flags & MDB_FILE_FLAG_METADATA_EXT_MASK != 0
     }
 
-    /// Appends the row and returns its 48 bytes. The error is the writer's.
+    /// Appends the row and returns 48, the number of bytes. The error is the writer's.
     pub fn serialize<W: Write>(&self, writer: &mut W) -> io::Result<usize>
         ensures { IfOk result
             (WritesRow (W.contents writer.old) (W.contents writer.new) (header_row self.now)) }

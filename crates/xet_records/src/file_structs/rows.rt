@@ -79,7 +79,7 @@ impl FileDataSequenceEntry {
         }
     }
 
-    /// Appends the row and returns its 48 bytes. The error is the writer's.
+    /// Appends the row and returns 48, the number of bytes. The error is the writer's.
     pub fn serialize<W: Write>(&self, writer: &mut W) -> io::Result<usize>
         ensures { IfOk result
             (WritesRow (W.contents writer.old) (W.contents writer.new) (segment_row self.now)) }
@@ -153,7 +153,7 @@ impl FileVerificationEntry {
         }
     }
 
-    /// Appends the row and returns its 48 bytes. The error is the writer's.
+    /// Appends the row and returns 48, the number of bytes. The error is the writer's.
     pub fn serialize<W: Write>(&self, writer: &mut W) -> io::Result<usize>
         ensures { IfOk result
             (WritesRow (W.contents writer.old) (W.contents writer.new)
@@ -204,7 +204,8 @@ impl Row for FileVerificationEntry {
     }
 }
 
-// The two words of a slice.
+// The two words of a slice. Called for its contract alone, by which the slice is two numbers that
+// fit `u64`.
 fn two_words(words: &[u64]) -> (u64, u64)
     requires { length words.now ≡ 2 }
     ensures { words.now ≡ result.0 ∷ result.1 ∷ [] }
@@ -230,7 +231,7 @@ impl FileMetadataExt {
         }
     }
 
-    /// Appends the row and returns its 48 bytes. The error is the writer's.
+    /// Appends the row and returns 48, the number of bytes. The error is the writer's.
     pub fn serialize<W: Write>(&self, writer: &mut W) -> io::Result<usize>
         ensures { IfOk result
             (WritesRow (W.contents writer.old) (W.contents writer.new) (metadata_row self.now)) }

@@ -98,6 +98,7 @@ impl MDBFileInfoView {
         Ok(MDBFileInfoView { header, bytes })
     }
 
+    /// The record's header.
     pub fn header(&self) -> &FileDataSequenceHeader
         ensures { result.now ≡ self.now.metadata }
     {
@@ -111,12 +112,14 @@ impl MDBFileInfoView {
         self.header.num_entries as usize
     }
 
+    /// The hash of the file.
     pub fn file_hash(&self) -> MerkleHash
         ensures { result ≡ self.now.metadata.file_hash }
     {
         self.header.file_hash
     }
 
+    /// The flags of the header.
     pub fn file_flags(&self) -> u32
         ensures { result ≡ self.now.metadata.file_flags }
     {

@@ -87,12 +87,14 @@ impl MDBXorbInfoView {
         Ok(MDBXorbInfoView { header, bytes })
     }
 
+    /// The record's header.
     pub fn header(&self) -> &XorbChunkSequenceHeader
         ensures { result.now ≡ self.now.metadata }
     {
         &self.header
     }
 
+    /// The hash of the xorb.
     pub fn xorb_hash(&self) -> MerkleHash
         ensures { result ≡ self.now.metadata.xorb_hash }
     {

@@ -33,7 +33,8 @@ impl MDBShardInfo {
     ///
     /// `InvalidArguments` if there is a bookend at the row, or the xorb has no chunk at the index;
     /// `InvalidShard` if an offset does not fit `u64`, or the bytes of the run do not fit `u32`;
-    /// `UnexpectedEof` if the source ends before a row that has to be read.
+    /// `UnexpectedEof` if the source ends before the end of a row that has to be read. Any other
+    /// error is the source's.
     pub fn chunk_hash_dedup_query_direct<S: ShardSource>(
         &self,
         alloc: Global,
@@ -92,9 +93,9 @@ impl MDBShardInfo {
     /// they are compared under it. `None` if no hash is given, there is no chunk table, or none of
     /// the locations has the hash. Does not allocate.
     ///
-    /// `InvalidShard` if the table's offset or end does not fit `u64`, a location is not in the
-    /// xorb section, or the bytes of the run do not fit `u32`; `UnexpectedEof` if the source ends
-    /// before a row that has to be read.
+    /// `InvalidShard` if the table's end or a row's offset does not fit `u64`, a location is not in
+    /// the xorb section, or the bytes of the run do not fit `u32`; `UnexpectedEof` if the source
+    /// ends before the end of a row that has to be read. Any other error is the source's.
     pub fn chunk_hash_dedup_query<S: ShardSource>(
         &self,
         alloc: Global,

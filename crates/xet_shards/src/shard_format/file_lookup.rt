@@ -28,8 +28,8 @@ impl MDBShardInfo {
     /// past them are unchanged. Does not allocate.
     ///
     /// `TruncatedHashCollision` of the word if eight or more share it, `InvalidShard` if the
-    /// table's offset or end does not fit `u64`, `UnexpectedEof` if the source ends where the
-    /// search reads on.
+    /// table's end does not fit `u64`, `UnexpectedEof` if the search reads past the end of the
+    /// source. Any other error is the source's.
     pub fn get_file_info_index_by_hash<S: ShardSource>(
         &self,
         alloc: Global,
@@ -59,7 +59,8 @@ impl MDBShardInfo {
     ///
     /// `InvalidShard` if the row's offset does not fit `u64`, or the rows after the record's header
     /// do not fit `u32`; `InternalError` if there is a bookend at the row, `UnexpectedEof` if the
-    /// source ends before the record does, `OutOfMemory` if an allocation fails.
+    /// source ends before the record does, `OutOfMemory` if an allocation fails. Any other error is
+    /// the source's.
     pub fn read_file_info<S: ShardSource>(
         &self,
         alloc: Global,
@@ -77,8 +78,8 @@ impl MDBShardInfo {
 
     /// Looks for the file with this hash: the record, or `None`.
     ///
-    /// `TruncatedHashCollision` if eight or more files share the first word of the hash. If tables
-    /// or records are corrupt, the errors of [`MDBShardInfo::get_file_info_index_by_hash`] and
+    /// `TruncatedHashCollision` if eight or more files share the first word of the hash. Else the
+    /// errors of [`MDBShardInfo::get_file_info_index_by_hash`] and
     /// [`MDBShardInfo::read_file_info`].
     pub fn get_file_reconstruction_info<S: ShardSource>(
         &self,

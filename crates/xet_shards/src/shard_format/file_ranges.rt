@@ -32,7 +32,7 @@ impl MDBShardInfo {
     ///
     /// `ShardVersion` if the header's tag or version is unsupported, `UnexpectedEof` if the source
     /// ends before the bookend, `InvalidShard` if the rows pass 4294967295, `OutOfMemory` if an
-    /// allocation fails.
+    /// allocation fails. Any other error is the source's.
     pub fn read_file_info_ranges<S: ShardSource>(
         alloc: Global,
         source: &mut S,

@@ -35,7 +35,8 @@ pub struct MDBShardFileFooter {
     /// The key of the chunk hashes; if all zero, they are not keyed.
     pub chunk_hash_hmac_key: HMACKey,
     pub shard_creation_timestamp: u64,
-    /// The timestamp after which the shard is no longer valid.
+    /// The timestamp, in seconds, after which the shard is no longer valid; `u64::MAX` for no
+    /// expiry, 0 in a minimal shard without one.
     pub shard_key_expiry: u64,
     pub _buffer: [u64; 6],
     pub stored_bytes_on_disk: u64,
@@ -177,7 +178,8 @@ impl MDBShardFileFooter {
     }
 }
 
-// The words of an array, as a tuple.
+// The words of an array, as a tuple. Called for its contract alone, by which the array is six
+// numbers that fit `u64`.
 fn six_words(words: [u64; 6]) -> (u64, u64, u64, u64, u64, u64)
     ensures { words ≡ result.0 ∷ result.1 ∷ result.2 ∷ result.3 ∷ result.4 ∷ result.5 ∷ [] }
 {

@@ -12,14 +12,14 @@ use xet_base::merklehash::{HMACKey, MerkleHash};
 use xet_records::rows::ROW_SIZE;
 
 impl MDBShardInfo {
-    /// The rows of the xorb table.
+    /// The number of rows of the xorb table, 0 if the shard has none.
     pub fn num_xorb_entries(&self) -> u64
         ensures { result ≡ self.now.metadata.xorb_lookup_num_entry }
     {
         self.metadata.xorb_lookup_num_entry
     }
 
-    /// The rows of the chunk table.
+    /// The number of rows of the chunk table, 0 if the shard has none.
     pub fn total_num_chunks(&self) -> u64
         ensures { result ≡ self.now.metadata.chunk_lookup_num_entry }
     {
@@ -47,7 +47,8 @@ impl MDBShardInfo {
         self.metadata.stored_bytes
     }
 
-    /// The offsets at which the file section begins and ends.
+    /// Where the file section starts, and where the next part does: offsets in bytes, as the footer
+    /// has them.
     pub fn file_info_byte_range(&self) -> (u64, u64)
         ensures { result
             ≡ (self.now.metadata.file_info_offset, self.now.metadata.xorb_info_offset) }
@@ -56,7 +57,8 @@ impl MDBShardInfo {
         (footer.file_info_offset, footer.xorb_info_offset)
     }
 
-    /// The offsets at which the xorb section begins and ends.
+    /// Where the xorb section starts, and where the next part does: offsets in bytes, as the footer
+    /// has them.
     pub fn xorb_info_byte_range(&self) -> (u64, u64)
         ensures { result
             ≡ (self.now.metadata.xorb_info_offset, self.now.metadata.file_lookup_offset) }
@@ -65,7 +67,8 @@ impl MDBShardInfo {
         (footer.xorb_info_offset, footer.file_lookup_offset)
     }
 
-    /// The offsets at which the file table begins and ends.
+    /// Where the file table starts, and where the next part does: offsets in bytes, as the footer
+    /// has them.
     pub fn file_lookup_byte_range(&self) -> (u64, u64)
         ensures { result
             ≡ (self.now.metadata.file_lookup_offset, self.now.metadata.xorb_lookup_offset) }
@@ -74,7 +77,8 @@ impl MDBShardInfo {
         (footer.file_lookup_offset, footer.xorb_lookup_offset)
     }
 
-    /// The offsets at which the xorb table begins and ends.
+    /// Where the xorb table starts, and where the next part does: offsets in bytes, as the footer
+    /// has them.
     pub fn xorb_lookup_byte_range(&self) -> (u64, u64)
         ensures { result
             ≡ (self.now.metadata.xorb_lookup_offset, self.now.metadata.chunk_lookup_offset) }
@@ -83,7 +87,8 @@ impl MDBShardInfo {
         (footer.xorb_lookup_offset, footer.chunk_lookup_offset)
     }
 
-    /// The offsets at which the chunk table begins and ends.
+    /// Where the chunk table starts, and where the next part does: offsets in bytes, as the footer
+    /// has them.
     pub fn chuck_lookup_byte_range(&self) -> (u64, u64)
         ensures { result
             ≡ (self.now.metadata.chunk_lookup_offset, self.now.metadata.footer_offset) }

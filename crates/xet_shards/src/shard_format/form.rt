@@ -14,6 +14,7 @@ pub struct Form {
     /// The key of the chunk hashes; if all zero, they are not keyed.
     pub key: HMACKey,
     pub creation: u64,
+    /// In seconds; `u64::MAX` for no expiry, 0 in a minimal shard without one.
     pub expiry: u64,
 }
 

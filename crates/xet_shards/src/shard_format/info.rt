@@ -42,7 +42,7 @@ impl MDBShardInfo {
     /// allocate.
     ///
     /// `ShardVersion` if the tag differs, the header's version is not 2 or the footer's is not 1,
-    /// `UnexpectedEof` if the source has too few bytes.
+    /// `UnexpectedEof` if the source has too few bytes. Any other error is the source's.
     pub fn load_from_reader<S: ShardSource>(alloc: Global, source: &mut S) -> Result<Self>
         ensures read { MatchResult result (Loads (S.meaning source.old) (S.meaning source.new))
             (LoadFails (S.meaning source.old) (S.meaning source.new)) }
@@ -84,7 +84,7 @@ impl MDBShardInfo {
         Ok(MDBShardInfo { header, metadata })
     }
 
-    /// The rows of the file table.
+    /// The number of rows of the file table, 0 if the shard has none.
     pub fn num_file_entries(&self) -> u64
         ensures { result ≡ self.now.metadata.file_lookup_num_entry }
     {
@@ -106,7 +106,7 @@ impl MDBShardInfo {
     /// Reads all records of the file section, in order.
     ///
     /// `UnexpectedEof` if the source ends before the bookend, `InvalidShard` if the rows pass
-    /// 4294967295, `OutOfMemory` if an allocation fails.
+    /// 4294967295, `OutOfMemory` if an allocation fails. Any other error is the source's.
     pub fn read_all_file_info_sections<S: ShardSource>(
         &self,
         alloc: Global,
@@ -123,7 +123,7 @@ impl MDBShardInfo {
     /// chunks.
     ///
     /// `UnexpectedEof` if the source ends before the bookend, `InvalidShard` if the rows pass
-    /// 4294967295, `OutOfMemory` if an allocation fails.
+    /// 4294967295, `OutOfMemory` if an allocation fails. Any other error is the source's.
     pub fn read_all_xorb_blocks<S: ShardSource>(
         &self,
         alloc: Global,
@@ -147,7 +147,7 @@ impl MDBShardInfo {
     /// Reads all records of the xorb section, in order.
     ///
     /// `UnexpectedEof` if the source ends before the bookend, `InvalidShard` if the rows pass
-    /// 4294967295, `OutOfMemory` if an allocation fails.
+    /// 4294967295, `OutOfMemory` if an allocation fails. Any other error is the source's.
     pub fn read_all_xorb_blocks_full<S: ShardSource>(
         &self,
         alloc: Global,
@@ -177,7 +177,7 @@ fn read_ends<S: ShardSource>(alloc: Global, source: &mut S) -> Result<MDBShardIn
     Ok(MDBShardInfo { header, metadata })
 }
 
-/// Reads a header from the source's current offset on.
+/// Reads a header from the source's position on.
 #[tactic(auto, unfolding(crate::specs::Layout::shard_header_bytes))]
 pub(crate) fn read_header<S: ShardSource>(
     alloc: Global,
@@ -199,7 +199,7 @@ pub(crate) fn read_header<S: ShardSource>(
     MDBShardFileHeader::after_tag(alloc, &rest)
 }
 
-// Reads a footer from the source's current offset on.
+// Reads a footer from the source's position on.
 fn read_footer<S: ShardSource>(alloc: Global, source: &mut S) -> Result<MDBShardFileFooter>
     ensures read { IfOk result
         (λ f. Takes (S.meaning source.old) (S.meaning source.new) (shard_footer_bytes f)) }

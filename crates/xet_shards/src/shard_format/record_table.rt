@@ -9,6 +9,7 @@ use xet_base::error::{CoreError, Result};
 use xet_base::row::{put_u32, put_u64};
 
 impl RecordTable {
+    /// The table of no record.
     pub fn new(alloc: Global) -> RecordTable
         ensures records { result.records ≡ 0 }
         ensures rows { result.rows ≡ 0 }

@@ -1,4 +1,4 @@
-//! Reading the lookup tables whole.
+//! Reading the xorb table and the chunk table whole.
 
 ghost use Rattle.std.specs.Prelude.{◌≡◌, ◌⊎◌, ℕ, List, Option, MatchResult, IfOk, IfErr, ◌<◌};
 ghost use Rattle.std.proofs.Common.{rules};
@@ -21,7 +21,7 @@ impl MDBShardInfo {
     /// at which its record starts.
     ///
     /// `InvalidShard` past 4294967295 rows, `UnexpectedEof` if the source ends before the table
-    /// does, `OutOfMemory` if an allocation fails.
+    /// does, `OutOfMemory` if an allocation fails. Any other error is the source's.
     pub fn read_full_xorb_lookup<S: ShardSource>(
         &self,
         alloc: Global,
@@ -115,7 +115,7 @@ impl TableRow for (u64, (u32, u32)) {
     }
 }
 
-// Reads so many rows from an offset on.
+// Reads `rows` rows from an offset on.
 fn read_table<T: TableRow + Drop, S: ShardSource>(
     alloc: Global,
     source: &mut S,

@@ -61,8 +61,9 @@ impl TableValue for (u32, u32) {
     }
 }
 
-/// The row numbers of the rows with this word in a table of words and row numbers: fewer than
-/// eight.
+/// Puts the row numbers that a table of words and row numbers has for this word at the front of
+/// `dest`, and returns how many these are. `TruncatedHashCollision` of the word if eight or more
+/// rows of the table have it, else the errors of `search_table`.
 pub(super) fn find_rows<S: ShardSource>(
     alloc: Global,
     source: &mut S,
@@ -92,7 +93,8 @@ pub(super) fn find_rows<S: ShardSource>(
     }
 }
 
-/// The values of as many rows with this word as `dest` has room for.
+/// Puts the values of the rows with this word at the front of `dest`, as many as fit, and returns
+/// their number. The errors are those of `search_on_sorted_u64s`.
 pub(super) fn search_table<V: TableValue, S: ShardSource>(
     alloc: Global,
     source: &mut S,

@@ -25,7 +25,7 @@ impl MDBShardInfo {
     /// section in order, up to the bookend or to the offset of the file table.
     ///
     /// `InvalidShard` past 4294967295 rows, `UnexpectedEof` if the source ends before the table or
-    /// the section does, `OutOfMemory` if an allocation fails.
+    /// the section does, `OutOfMemory` if an allocation fails. Any other error is the source's.
     pub fn read_all_truncated_hashes<S: ShardSource>(
         &self,
         alloc: Global,

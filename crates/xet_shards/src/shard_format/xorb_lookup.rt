@@ -29,8 +29,8 @@ impl MDBShardInfo {
     /// starts, and an index among its chunks. Returns how many these are; entries of `dest` past
     /// them are unchanged. Eight are no error. Does not allocate.
     ///
-    /// `InvalidShard` if the table's offset or end does not fit `u64`, `UnexpectedEof` if the
-    /// source ends where the search reads on.
+    /// `InvalidShard` if the table's end does not fit `u64`, `UnexpectedEof` if the search reads
+    /// past the end of the source. Any other error is the source's.
     pub fn get_xorb_info_index_by_chunk<S: ShardSource>(
         &self,
         alloc: Global,
@@ -93,8 +93,8 @@ impl MDBShardInfo {
     /// them are unchanged. Does not allocate.
     ///
     /// `TruncatedHashCollision` of the word if eight or more share it, `InvalidShard` if the
-    /// table's offset or end does not fit `u64`, `UnexpectedEof` if the source ends where the
-    /// search reads on.
+    /// table's end does not fit `u64`, `UnexpectedEof` if the search reads past the end of the
+    /// source. Any other error is the source's.
     pub fn get_xorb_info_index_by_hash<S: ShardSource>(
         &self,
         alloc: Global,

@@ -10,8 +10,8 @@ use xet_base::merklehash::MerkleHash;
 use xet_records::file_structs::FileDataSequenceEntry;
 use xet_records::xorb_structs::{MDBXorbInfo, XorbChunkSequenceEntry};
 
-/// The longest run of these hashes from the location on that the lookup keeps for the first of
-/// them: its number of chunks, and their segment. `None` if no hash is given or no xorb has the
+/// The longest run of these hashes that begins at the location which the lookup has for the first
+/// of them: its number of chunks, and their segment. `None` if no hash is given or no xorb has the
 /// first.
 pub fn chunk_hash_dedup_query(
     xorbs: &XorbStore,

@@ -41,6 +41,7 @@ impl Model for FileStore {
 }
 
 impl FileStore {
+    /// The empty store.
     pub fn new(alloc: Global) -> FileStore
         ensures { result ≡ finite.empty }
     {
@@ -49,6 +50,7 @@ impl FileStore {
         }
     }
 
+    /// The records by their hashes.
     pub fn content(&self) -> &BTreeMap<MerkleHash, MDBFileInfo>
         ensures entries { result.now.entries ≡ finite.entries self.now }
         ensures files { AreFiles result.now.entries }

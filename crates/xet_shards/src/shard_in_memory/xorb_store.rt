@@ -43,6 +43,7 @@ impl Model for XorbStore {
 }
 
 impl XorbStore {
+    /// The empty store.
     pub fn new(alloc: Global) -> XorbStore
         ensures { result ≡ record { xorbs = finite.empty; locations = finite.empty } }
     {
@@ -52,6 +53,7 @@ impl XorbStore {
         }
     }
 
+    /// The records by their hashes.
     pub fn content(&self) -> &BTreeMap<MerkleHash, Rc<MDBXorbInfo>>
         ensures entries { shown_xorbs result.now.entries ≡ finite.entries self.now.xorbs }
         ensures xorbs { AreXorbs (shown_xorbs result.now.entries) }
@@ -59,6 +61,7 @@ impl XorbStore {
         &self.content
     }
 
+    /// The chunk lookup.
     pub fn lookup(&self) -> &HashMap<MerkleHash, (Rc<MDBXorbInfo>, u64)>
         ensures locations { (q : DataHash)
             → location_in result.now q ≡ finite.get self.now.locations q }
@@ -201,6 +204,7 @@ fn enter_chunks(
 {
     let mut index = 0;
     for chunk in xorb.chunks.as_slice() {
+        // There is an owner for each chunk and room for each entry, so neither call fails.
         let owner = owners.pop().unwrap();
         let inserted: std::result::Result<_, _> = lookup.insert(chunk.chunk_hash, (owner, index));
         inserted.unwrap();

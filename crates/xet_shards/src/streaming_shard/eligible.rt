@@ -47,7 +47,7 @@ impl MDBShardInfo {
     ///
     /// `ShardVersion` if the header's tag or version is unsupported, `UnexpectedEof` if the source
     /// ends before a bookend, `InvalidShard` if the rows of a section pass 4294967295,
-    /// `OutOfMemory` if an allocation fails.
+    /// `OutOfMemory` if an allocation fails. Any other error is the source's.
     pub fn filter_cas_chunks_for_global_dedup<S: ShardSource>(
         alloc: Global,
         source: &mut S,

@@ -109,7 +109,7 @@ impl MDBMinimalShard {
         self.files.len()
     }
 
-    /// The file at an index, or `None` if there are not so many.
+    /// The file at an index, or `None` if there is none.
     pub fn file(&self, index: usize) -> Option<&MDBFileInfoView>
         ensures { option_copied result ≡ slice_get self.now.files index }
     {
@@ -123,7 +123,7 @@ impl MDBMinimalShard {
         self.xorbs.len()
     }
 
-    /// The xorb at an index, or `None` if there are not so many.
+    /// The xorb at an index, or `None` if there is none.
     pub fn xorb(&self, index: usize) -> Option<&MDBXorbInfoView>
         ensures { option_copied result ≡ slice_get self.now.xorbs index }
     {

@@ -84,7 +84,7 @@ impl MDBMinimalShard {
         self.serialize_xorb_subset_with_expiry(alloc, writer, now, None, filter)
     }
 
-    /// The same with an expiry, a timestamp in seconds, or 0 if there is none.
+    /// The same with an expiry, a timestamp in seconds; `None` is written as 0.
     pub fn serialize_xorb_subset_with_expiry<W: Write, F: Fn(&MDBXorbInfoView) -> bool>(
         &self,
         alloc: Global,
