@@ -240,11 +240,11 @@ fn run_found(alloc: Global, bytes: &[u8]) -> Result<(usize, (u32, u32), Option<u
     let mut source = MemorySource::new(bytes);
     let info = MDBShardInfo::load_from_reader(alloc, &mut source)?;
     let chunk = small(22);
-    let mut places = [(9u32, 9u32); 8];
-    let found = info.get_xorb_info_index_by_chunk(alloc, &mut source, &chunk, &mut places)?;
-    let (row, index) = places[0];
+    let mut locations = [(9u32, 9u32); 8];
+    let found = info.get_xorb_info_index_by_chunk(alloc, &mut source, &chunk, &mut locations)?;
+    let (row, index) = locations[0];
     let run = info.chunk_hash_dedup_query_direct(alloc, &mut source, &[chunk], row, index)?;
-    Ok((found, places[0], run.map(|(chunks, _)| chunks)))
+    Ok((found, locations[0], run.map(|(chunks, _)| chunks)))
 }
 
 #[test]

@@ -10,10 +10,8 @@ use xet_core_structures::file_structs::{
     FileDataSequenceEntry, FileDataSequenceHeader, FileVerificationEntry, MDBFileInfo,
 };
 use xet_core_structures::rows::{
-    Rows, read_optional, read_rows, read_source_optional, read_source_rows, write_optional,
-    write_row, write_rows,
+    Rows, read_optional, read_rows, write_optional, write_row, write_rows,
 };
-use xet_core_structures::source::{MemorySource, ShardSource};
 use xet_core_structures::xorb_structs::MDBXorbInfo;
 
 const BROKEN: Fault = Fault::Fails(ErrorKind::BrokenPipe);
@@ -125,21 +123,6 @@ fn rows_are_read_back_from_a_reader(rt: HostRuntime) -> std::result::Result<(), 
     let none: Option<FileVerificationEntry> = read_optional(&mut reader, false)?;
     assert_eq!(rt; none, None);
     assert_eq!(rt; reader.len(), 0);
-    Ok(())
-}
-
-#[test]
-fn rows_are_read_back_from_a_source(rt: HostRuntime) -> std::result::Result<(), Fail> {
-    let alloc = rt.alloc();
-    let rows = two_rows(alloc)?;
-    let bytes = row_bytes(alloc, &rows)?;
-    let mut source = MemorySource::new(bytes.as_slice());
-    assert_eq!(rt; read_source_rows(alloc, &mut source, 2)?, rows);
-    let last: Option<FileVerificationEntry> = read_source_optional(&mut source, true)?;
-    assert_eq!(rt; last, Some(FileVerificationEntry::new(small(3))));
-    let none: Option<FileVerificationEntry> = read_source_optional(&mut source, false)?;
-    assert_eq!(rt; none, None);
-    assert_eq!(rt; source.position()?, 144);
     Ok(())
 }
 

@@ -9,8 +9,8 @@ IsSkipped line = (line ≡ []) ⊎ (slice_index line 0 ≡ 35)
 
 -- a line without this byte at its end
 abbrev pub without_last : ℕ → List ℕ → List ℕ
-without_last byte text =
-    if slice_index text (length text - 1) == byte then take (length text - 1) text else text
+without_last byte line =
+    if slice_index line (length line - 1) == byte then take (length line - 1) line else line
 
 -- an ASCII digit or letter, or `_`
 abbrev pub IsNameByte : ℕ → Type 0

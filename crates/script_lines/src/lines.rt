@@ -12,10 +12,10 @@ pub fn without_end(line: &[u8]) -> &[u8]
     without_last(without_last(line, b'\n'), b'\r')
 }
 
-fn without_last(text: &[u8], byte: u8) -> &[u8]
-    ensures { result.now ≡ without_last byte text.now }
+fn without_last(line: &[u8], byte: u8) -> &[u8]
+    ensures { result.now ≡ without_last byte line.now }
 {
-    text.strip_suffix(&[byte]).unwrap_or(text)
+    line.strip_suffix(&[byte]).unwrap_or(line)
 }
 
 /// Whether a line without its end is skipped: it is empty, or begins with `#`.

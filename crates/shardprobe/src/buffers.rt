@@ -107,7 +107,7 @@ fn put(workspace: &mut Workspace, name: &str, offset: u64, new: &[u8]) -> Result
 }
 
 /// Runs a command that prints the contents of a buffer. `false` if the words are no such command.
-pub fn ask_buffers(
+pub fn show_buffers(
     workspace: &Workspace,
     alloc: Global,
     words: &[&str],

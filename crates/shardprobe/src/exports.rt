@@ -1,10 +1,11 @@
 //! Keyed exports of buffers.
 
 use crate::device::{Device, Plan};
-use crate::parse::{parse_key, parse_part, parse_u64s};
+use crate::parse::parse_u64s;
 use crate::reading::{Written, info_of, report_of};
 use crate::stop::Stop;
 use crate::workspace::Workspace;
+use script_lines::words::{parse_flag, parse_key};
 use std::alloc::Global;
 use std::io::Write;
 use xet_core_structures::error::Result as CoreResult;
@@ -121,7 +122,7 @@ fn parse_parts(parts: &str) -> Result<(bool, bool, bool), Stop> {
     let [files, xorb_table, chunk_table] = parts.as_bytes() else {
         return Err(Stop::Unreadable);
     };
-    let files = parse_part(*files, b'f')?;
-    let xorb_table = parse_part(*xorb_table, b'x')?;
-    Ok((files, xorb_table, parse_part(*chunk_table, b'c')?))
+    let files = parse_flag(*files, b'f')?;
+    let xorb_table = parse_flag(*xorb_table, b'x')?;
+    Ok((files, xorb_table, parse_flag(*chunk_table, b'c')?))
 }

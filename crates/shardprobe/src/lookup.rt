@@ -52,8 +52,8 @@ fn print_rows(rows: &mut [u32], out: &mut Vec<u8>) -> io::Result<()> {
     writeln!(out)
 }
 
-/// Prints the places, each a xorb's row and an index, of the chunks that share the first word of a
-/// hash.
+/// Prints the locations, each a xorb's row and an index, of the chunks that share the first word of
+/// a hash.
 pub fn print_chunk_index(
     alloc: Global,
     info: &MDBShardInfo,
@@ -61,19 +61,19 @@ pub fn print_chunk_index(
     hash: MerkleHash,
     out: &mut Vec<u8>,
 ) -> Result<(), Stop> {
-    let mut places = [(0u32, 0u32); 8];
-    let count = info.get_xorb_info_index_by_chunk(alloc, source, &hash, &mut places)?;
-    print_places(&mut places[..count], out)?;
+    let mut locations = [(0u32, 0u32); 8];
+    let count = info.get_xorb_info_index_by_chunk(alloc, source, &hash, &mut locations)?;
+    print_locations(&mut locations[..count], out)?;
     Ok(())
 }
 
-// Prints places, ascending by row and then by index, behind their number.
-fn print_places(places: &mut [(u32, u32)], out: &mut Vec<u8>) -> io::Result<()> {
-    places.sort_unstable();
-    let count = places.len();
+// Prints locations, ascending by row and then by index, behind their number.
+fn print_locations(locations: &mut [(u32, u32)], out: &mut Vec<u8>) -> io::Result<()> {
+    locations.sort_unstable();
+    let count = locations.len();
     write!(out, "{count}")?;
     let mut separator = ": ";
-    for (row, index) in places.iter() {
+    for (row, index) in locations.iter() {
         write!(out, "{separator}{row}:{index}")?;
         separator = " ";
     }

@@ -82,7 +82,7 @@ fn recount(workspace: &mut Workspace, name: &str) -> Result<(), Stop> {
 
 /// Runs a command that prints the result of a call on a shard. `false` if the words are no such
 /// command.
-pub fn ask_shards(
+pub fn show_shards(
     workspace: &Workspace,
     alloc: Global,
     words: &[&str],
@@ -103,7 +103,7 @@ pub fn ask_shards(
                 .chunk_hash_dedup_query(hashes.as_slice());
             print_run(&run, out)?;
         }
-        ["place", name, hash] => print_place(workspace.shard(name)?, parse_hash(hash)?, out)?,
+        ["location", name, hash] => print_location(workspace.shard(name)?, parse_hash(hash)?, out)?,
         ["counts", name] => print_counts(workspace.shard(name)?, out)?,
         ["sums", name] => print_sums(workspace.shard(name)?, out)?,
         ["files", name] => print_files(workspace.shard(name)?, out)?,
@@ -113,7 +113,7 @@ pub fn ask_shards(
     Ok(true)
 }
 
-fn print_place(shard: &MDBInMemoryShard, hash: MerkleHash, out: &mut Vec<u8>) -> io::Result<()> {
+fn print_location(shard: &MDBInMemoryShard, hash: MerkleHash, out: &mut Vec<u8>) -> io::Result<()> {
     match shard.chunk_hash_lookup().get(&hash) {
         Some((xorb, index)) => {
             let xorb = Short(xorb.metadata.xorb_hash);

@@ -1,13 +1,12 @@
 //! Commands on minimal shards.
 
 use crate::exports::print_size;
-use crate::parse::parse_part;
 use crate::sections::Zeros;
 use crate::show::{print_file, print_hash, print_if_empty, print_xorb};
 use crate::stop::Stop;
 use crate::workspace::Workspace;
 use script_lines::records::parse_hashes;
-use script_lines::words::parse_u64;
+use script_lines::words::{parse_flag, parse_u64};
 use std::alloc::Global;
 use std::io;
 use std::io::Write;
@@ -104,10 +103,10 @@ fn write_subset_only(
 
 // Whether verification rows are wanted: `v`, or `-`.
 fn parse_rows(word: &str) -> Result<bool, Stop> {
-    let [sign] = word.as_bytes() else {
+    let [character] = word.as_bytes() else {
         return Err(Stop::Unreadable);
     };
-    parse_part(*sign, b'v')
+    Ok(parse_flag(*character, b'v')?)
 }
 
 fn parse_expiry(word: &str) -> Result<Option<u64>, Stop> {
@@ -141,7 +140,7 @@ fn parse_kept(alloc: Global, list: &[&str]) -> Result<KeptXorbs, Stop> {
     Ok(KeptXorbs::Listed(parse_hashes(alloc, list)?))
 }
 
-// The minimal shard of a buffer, with the parts that two signs name.
+// The minimal shard of a buffer, with the parts that two characters name.
 fn minimal_shard(
     workspace: &Workspace,
     alloc: Global,
@@ -153,16 +152,16 @@ fn minimal_shard(
     Ok(MDBMinimalShard::from_reader(alloc, &mut reader, files, xorbs)?)
 }
 
-// Whether two signs name files, `f`, and xorbs, `x`; `-` leaves out.
+// Whether two characters name files, `f`, and xorbs, `x`; `-` leaves out.
 fn parse_parts(parts: &str) -> Result<(bool, bool), Stop> {
     let [files, xorbs] = parts.as_bytes() else {
         return Err(Stop::Unreadable);
     };
-    Ok((parse_part(*files, b'f')?, parse_part(*xorbs, b'x')?))
+    Ok((parse_flag(*files, b'f')?, parse_flag(*xorbs, b'x')?))
 }
 
 /// Runs a command that prints what a minimal shard has. `false` if the words are no such command.
-pub fn ask_minimal(
+pub fn show_minimal(
     workspace: &Workspace,
     alloc: Global,
     words: &[&str],

@@ -9,7 +9,7 @@ use xet_core_structures::file_structs::{
     FileDataSequenceEntry, FileDataSequenceHeader, FileMetadataExt, FileVerificationEntry,
     MDBFileInfo,
 };
-use xet_core_structures::merklehash::{HMACKey, MerkleHash};
+use xet_core_structures::merklehash::MerkleHash;
 use xet_core_structures::rows::Rows;
 use xet_core_structures::xorb_structs::{
     MDBXorbInfo, XorbChunkSequenceEntry, XorbChunkSequenceHeader,
@@ -214,25 +214,6 @@ pub fn parse_chunk(alloc: Global, word: &str, next: u32) -> Result<XorbChunkSequ
         flags,
         _unused: unused,
     })
-}
-
-/// A key: a hash, or `0` for the key that is all zero.
-pub fn parse_key(word: &str) -> Result<HMACKey, Stop> {
-    if word == "0" {
-        return Ok(HMACKey::default());
-    }
-    Ok(parse_hash(word)?)
-}
-
-/// Whether a part is named by its letter, or left out by `-`.
-pub fn parse_part(sign: u8, letter: u8) -> Result<bool, Stop> {
-    if sign == letter {
-        return Ok(true);
-    }
-    if sign == b'-' {
-        return Ok(false);
-    }
-    Err(Stop::Unreadable)
 }
 
 /// The words before and after the word `with`. `Unreadable` if the word is missing.

@@ -1,17 +1,17 @@
 //! Running a script line by line.
 
-use crate::buffers::{ask_buffers, run_on_buffers};
+use crate::buffers::{run_on_buffers, show_buffers};
 use crate::codecs::run_codecs;
 use crate::device::{Fault, Operation, Plan};
-use crate::memory::{ask_shards, run_on_shards};
-use crate::minimal::{ask_minimal, run_on_minimal};
+use crate::memory::{run_on_shards, show_shards};
+use crate::minimal::{run_on_minimal, show_minimal};
 use crate::reading::{Report, run_each_failure, run_reading, run_writing};
 use crate::search::make_table;
-use crate::sections::ask_sections;
+use crate::sections::show_sections;
 use crate::sets::unite_tree;
 use crate::stop::Stop;
 use crate::values::{run_on_records, run_on_values};
-use crate::views::ask_views;
+use crate::views::show_views;
 use crate::workspace::Workspace;
 use script_lines::lines::{is_skipped, split_words, without_end};
 use script_lines::words::parse_u64;
@@ -78,14 +78,14 @@ impl Probe {
     fn run(&mut self, alloc: Global, words: &[&str], out: &mut Vec<u8>) -> Result<(), Stop> {
         let is_run = self.switch(words)?
             || run_on_shards(&mut self.workspace, alloc, words)?
-            || ask_shards(&self.workspace, alloc, words, out)?
+            || show_shards(&self.workspace, alloc, words, out)?
             || run_on_buffers(&mut self.workspace, alloc, words)?
-            || ask_buffers(&self.workspace, alloc, words, out)?
+            || show_buffers(&self.workspace, alloc, words, out)?
             || run_codecs(&mut self.workspace, alloc, words, out)?
-            || ask_views(&self.workspace, alloc, words, out)?
-            || ask_sections(&self.workspace, alloc, words, out)?
+            || show_views(&self.workspace, alloc, words, out)?
+            || show_sections(&self.workspace, alloc, words, out)?
             || run_on_minimal(&mut self.workspace, alloc, words, out)?
-            || ask_minimal(&self.workspace, alloc, words, out)?
+            || show_minimal(&self.workspace, alloc, words, out)?
             || run_on_values(alloc, words, out)?
             || run_on_records(alloc, words, out)?;
         if is_run {

@@ -16,7 +16,7 @@ use xet_core_structures::interpolation_search::search_on_sorted_u64s;
 use xet_core_structures::source::{ShardSource, read_full};
 
 /// The greatest width of a value, in bytes.
-const MOST_BYTES: u64 = 64;
+const MAX_WIDTH: u64 = 64;
 
 /// The value of a table's first row.
 const FIRST_VALUE: u64 = 100;
@@ -51,7 +51,7 @@ fn parse_width(word: &str) -> Result<usize, Stop>
 fn checked_width(width: u64) -> Result<usize, Stop>
     ensures { IfOk result (λ width. width ≤ 64) }
 {
-    if width > MOST_BYTES {
+    if width > MAX_WIDTH {
         return Err(Stop::Unreadable);
     }
     Ok(width as usize)
@@ -107,9 +107,9 @@ pub fn search(
     numbers: &[&str],
     out: &mut Vec<u8>,
 ) -> Result<(), Stop> {
-    let [start, rows, width, key, places] = parse_u64s::<5>(numbers)?;
+    let [start, rows, width, key, results_len] = parse_u64s::<5>(numbers)?;
     let width = checked_width(width)?;
-    let mut results = vec![in alloc; 0u64; places as usize]?;
+    let mut results = vec![in alloc; 0u64; results_len as usize]?;
     let found = search_on_sorted_u64s(
         alloc,
         source,

@@ -16,7 +16,7 @@ use xet_core_structures::streaming_shard::{
 use xet_core_structures::xorb_structs::MDBXorbInfoView;
 
 /// Runs a command that reads a section in one pass. `false` if the words are no such command.
-pub fn ask_sections(
+pub fn show_sections(
     workspace: &Workspace,
     alloc: Global,
     words: &[&str],

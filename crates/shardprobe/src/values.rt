@@ -4,10 +4,10 @@ ghost use Rattle.std.specs.Prelude.{◌<◌, ◌^◌, ◌↔◌, IsTrue};
 ghost use Rattle.xet_core_structures.specs.XorbRecord.{end_of_chunk, total_bytes};
 
 use crate::codecs::fits_its_header;
-use crate::parse::{parse_bytes, parse_chunk, parse_file, parse_key, parse_xorb, split_at_with};
+use crate::parse::{parse_bytes, parse_chunk, parse_file, parse_xorb, split_at_with};
 use crate::show::{Segment, Short, print_bytes, print_file, print_hash, print_words, print_xorb};
 use crate::stop::Stop;
-use script_lines::words::{parse_hash, parse_u32, parse_u64};
+use script_lines::words::{parse_hash, parse_key, parse_u32, parse_u64};
 use std::alloc::Global;
 use std::io;
 use std::io::Write;

@@ -17,7 +17,7 @@ use xet_core_structures::xorb_structs::{MDBXorbInfoView, XorbChunkSequenceEntry}
 
 /// Runs a command on a view of the record that a buffer begins with. `false` if the words are no
 /// such command.
-pub fn ask_views(
+pub fn show_views(
     workspace: &Workspace,
     alloc: Global,
     words: &[&str],
@@ -25,7 +25,7 @@ pub fn ask_views(
 ) -> Result<bool, Stop> {
     match words {
         ["file_view", name, call @ ..] => {
-            ask_file_view(&file_view(workspace, alloc, name)?, alloc, call, out)?
+            show_file_view(&file_view(workspace, alloc, name)?, alloc, call, out)?
         }
         ["file_view_under", name, record @ ..] => {
             print_file_view_under(workspace, alloc, name, record, out)?
@@ -33,12 +33,12 @@ pub fn ask_views(
         ["same_file_views", first, second] => {
             compare_file_views(workspace, alloc, first, second, out)?
         }
-        _ => return ask_xorb_views(workspace, alloc, words, out),
+        _ => return show_xorb_views(workspace, alloc, words, out),
     }
     Ok(true)
 }
 
-fn ask_xorb_views(
+fn show_xorb_views(
     workspace: &Workspace,
     alloc: Global,
     words: &[&str],
@@ -46,7 +46,7 @@ fn ask_xorb_views(
 ) -> Result<bool, Stop> {
     match words {
         ["xorb_view", name, call @ ..] => {
-            ask_xorb_view(&xorb_view(workspace, alloc, name)?, alloc, call, out)?
+            show_xorb_view(&xorb_view(workspace, alloc, name)?, alloc, call, out)?
         }
         ["xorb_view_under", name, record @ ..] => {
             print_xorb_view_under(workspace, alloc, name, record, out)?
@@ -123,7 +123,7 @@ fn compare_xorb_views(
 }
 
 // Prints the result of a call on a view, or what its header says if no call is named.
-fn ask_file_view(
+fn show_file_view(
     view: &MDBFileInfoView,
     alloc: Global,
     call: &[&str],
@@ -213,7 +213,7 @@ fn print_written_file(
     Ok(())
 }
 
-fn ask_xorb_view(
+fn show_xorb_view(
     view: &MDBXorbInfoView,
     alloc: Global,
     call: &[&str],

@@ -3,6 +3,7 @@
 ghost use Rattle.std.specs.Prelude.{IfOk, IsOkAnd, IsNone, IsErrOf, IsUtf8};
 ghost use Rattle.script_lines.specs.Words.{IsSkipped};
 
+use crate::combine::Operation;
 use crate::export::{Export, ExportParts};
 use crate::minimal::{KeptXorbs, Subset};
 use crate::tree::{NameTree, parse_tree};
@@ -43,14 +44,10 @@ pub enum Command<'a> {
         buffer: &'a str,
         expiry: Option<u64>,
     },
-    /// `union B1 B2 B3`: the union of the shards in two buffers, into the third.
-    Union {
-        first: &'a str,
-        second: &'a str,
-        buffer: &'a str,
-    },
-    /// `diff B1 B2 B3`: the difference of the shards in two buffers, into the third.
-    Diff {
+    /// `union B1 B2 B3` or `diff B1 B2 B3`: the union or the difference of the shards in two
+    /// buffers, into the third.
+    Combine {
+        operation: Operation,
         first: &'a str,
         second: &'a str,
         buffer: &'a str,
@@ -151,8 +148,8 @@ fn parse_words<'a>(alloc: Global, words: &[&'a str]) -> Result<Command<'a>, Pars
         "xorb" => parse_xorb(alloc, arguments),
         "file" => parse_file(alloc, arguments),
         "write" => parse_write(arguments),
-        "union" => parse_union(arguments),
-        "diff" => parse_diff(arguments),
+        "union" => parse_combine(Operation::Union, arguments),
+        "diff" => parse_combine(Operation::Difference, arguments),
         "merge" => parse_merge(alloc, arguments),
         "export" => parse_export(arguments),
         "minimal" => parse_minimal(arguments),
@@ -224,22 +221,15 @@ fn parse_write<'a>(arguments: &[&'a str]) -> Result<Command<'a>, ParseError> {
     })
 }
 
-fn parse_union<'a>(arguments: &[&'a str]) -> Result<Command<'a>, ParseError> {
+fn parse_combine<'a>(
+    operation: Operation,
+    arguments: &[&'a str],
+) -> Result<Command<'a>, ParseError> {
     let [first, second, buffer] = arguments else {
         return Err(ParseError::Unreadable);
     };
-    Ok(Command::Union {
-        first: parse_name(first)?,
-        second: parse_name(second)?,
-        buffer: parse_name(buffer)?,
-    })
-}
-
-fn parse_diff<'a>(arguments: &[&'a str]) -> Result<Command<'a>, ParseError> {
-    let [first, second, buffer] = arguments else {
-        return Err(ParseError::Unreadable);
-    };
-    Ok(Command::Diff {
+    Ok(Command::Combine {
+        operation,
         first: parse_name(first)?,
         second: parse_name(second)?,
         buffer: parse_name(buffer)?,

@@ -15,7 +15,7 @@ pub enum NameTree<'a> {
 }
 
 /// The greatest number of parentheses in one another.
-const MOST_DEEP: u8 = 64;
+const MAX_DEPTH: u8 = 64;
 
 /// The tree of words: a name is a tree, and so is a pair of trees in parentheses, up to 64 in one
 /// another. `Unreadable` if the words are no tree.
@@ -26,7 +26,7 @@ pub fn parse_tree<'a>(alloc: Global, words: &[&'a str]) -> Result<NameTree<'a>, 
         → words_of tree ≡ map (λ word. word.now) words.now
         → IfErr result (λ e. e ≡ ParseError.OutOfMemory) }
 {
-    let (tree, rest) = parse_front(alloc, words, MOST_DEEP)?;
+    let (tree, rest) = parse_front(alloc, words, MAX_DEPTH)?;
     if !rest.is_empty() {
         return Err(ParseError::Unreadable);
     }

@@ -7,7 +7,6 @@ mod buffers;
 mod printing;
 mod shards;
 
-use crate::combine::Operation;
 use crate::command::{Command, parse_line};
 use crate::stop::Stop;
 use script_lines::lines::without_end;
@@ -66,16 +65,12 @@ impl Workspace {
                 buffer,
                 expiry,
             } => self.write_shard(alloc, shard, buffer, expiry),
-            Command::Union {
+            Command::Combine {
+                operation,
                 first,
                 second,
                 buffer,
-            } => self.combine(alloc, Operation::Union, first, second, buffer),
-            Command::Diff {
-                first,
-                second,
-                buffer,
-            } => self.combine(alloc, Operation::Difference, first, second, buffer),
+            } => self.combine(alloc, operation, first, second, buffer),
             Command::Merge { buffer, tree } => self.merge(alloc, buffer, &tree),
             Command::Export {
                 from,

@@ -5,7 +5,6 @@ ghost use Rattle.std.specs.Io.KnownBytes.{Appends, Consumes};
 ghost use Rattle.xet_records.specs.Rows.{ReadsRow, ReadsRows, ReadsOptional};
 ghost use Rattle.xet_base.specs.Bytes.{HasBytes, LacksBytes};
 ghost use Rattle.xet_base.specs.Input.{ReaderLacks};
-ghost use Rattle.xet_base.specs.Source.{Takes, ReadFails};
 ghost use Rattle.xet_base.specs.Errors.{IsEndOfInput, IsDeviceError};
 
 use crate::input_rows;
@@ -14,9 +13,8 @@ use std::io;
 use std::io::{Read, Write};
 use std::marker::Model;
 use xet_base::error::Result;
-use xet_base::input::{OfReader, OfSource};
+use xet_base::input::OfReader;
 use xet_base::serialization_utils::write_bytes;
-use xet_base::source::ShardSource;
 
 /// The size of a row in bytes.
 pub const ROW_SIZE: usize = 48;
@@ -218,36 +216,4 @@ pub fn read_optional<T: Row, R: Read>(reader: &mut R, wanted: bool) -> io::Resul
     ensures touched { IfErr result (λ _. IsTrue wanted) }
 {
     input_rows::read_optional::<T, OfReader, R>(reader, wanted)
-}
-
-/// Reads `count` rows at the source's position. `UnexpectedEof` if fewer are left. May fail with
-/// `OutOfMemory`.
-pub fn read_source_rows<T: Row + Drop, S: ShardSource>(
-    alloc: Global,
-    source: &mut S,
-    count: u32,
-) -> Result<Rows<T>>
-    ensures value { IfOk result
-        (ReadsRows T.row_bytes T.Fits T.handed_out
-        (Takes (S.meaning source.old) (S.meaning source.new)) count) }
-    ensures refused { IfErr result
-        (ReadFails (S.meaning source.old) (S.meaning source.new) (48 * count)) }
-{
-    input_rows::read_rows::<T, OfSource, S>(alloc, source, count)
-}
-
-/// Reads a row at the source's position if it is `wanted`. `UnexpectedEof` if it is and fewer than
-/// 48 bytes are left.
-pub fn read_source_optional<T: Row, S: ShardSource>(
-    source: &mut S,
-    wanted: bool,
-) -> Result<Option<T>>
-    ensures value { IfOk result
-        (ReadsOptional T.row_bytes T.Fits T.handed_out
-        (Takes (S.meaning source.old) (S.meaning source.new)) wanted) }
-    ensures refused { IfErr result
-        (ReadFails (S.meaning source.old) (S.meaning source.new) (if wanted then 48 else 0)) }
-    ensures touched { IfErr result (λ _. IsTrue wanted) }
-{
-    Ok(input_rows::read_optional::<T, OfSource, S>(source, wanted)?)
 }
