@@ -33,5 +33,5 @@ module _ (x y x_read y_read : List ℕ) (i j : MDBShardInfo) (x_is : x_read ≡ 
   combining_refused Refusal old_1 new_1 old_2 new_2 e (inl failed) = inr (inr (inl failed))
   combining_refused Refusal old_1 new_1 old_2 new_2 e (inr (inl failed)) = absurd (omega (arith, failed.0))
   combining_refused Refusal old_1 new_1 old_2 new_2 e (inr (inr (inl failed))) = absurd (omega (arith, failed.0))
-  combining_refused Refusal old_1 new_1 old_2 new_2 e (inr (inr (inr refusal))) =
+  combining_refused Refusal old_1 new_1 old_2 new_2 e (inr (inr (inr (none, none_too, refusal)))) =
       inr (inr (inr (i, j, i_ends, j_ends, subst (λ p. p) (λ k. Refusal (x_is k) i (y_is k) j e) refusal)))

@@ -50,7 +50,7 @@ module _ (buffers : Buffers) where
 
     pub plan_refused : (tree : NameTree) (plan : MergePlan) (e : CoreError) → IsPlanOf buffers inputs tree plan → TreeRefusal inputs plan e → MergeRefusal buffers tree e
     plan_refused (Name name) (Leaf i) e (bytes, known, at) (inl (is, past)) = absurd (none-some bytes (sym (slice_get_past inputs i past) ∙ at))
-    plan_refused (Name name) (Leaf i) e (bytes, known, at) (inr no_memory) = no_memory
+    plan_refused (Name name) (Leaf i) e (bytes, known, at) (inr (no_memory, here)) = no_memory
     plan_refused (Both' p left q right) (both_plans p1 plan1 q1 plan2) e (first, second) (inl refusal) = inl (plan_refused left plan1 e first refusal)
     plan_refused (Both' p left q right) (both_plans p1 plan1 q1 plan2) e (first, second) (inr (x, x_written, inl refusal)) =
         inr (x, plan_merges left plan1 x first x_written, inl (plan_refused right plan2 e second refusal))

@@ -14,12 +14,12 @@ use Rattle.xet_base.proofs.Tables.{offset_of_row-next, offset_of_row-le}
 pub row_within : (t : Table) (i : ℕ) → i < t.rows → row_offset t i + (8 + t.width) ≤ row_offset t t.rows
 row_within t i within = omega (arith, offset_of_row-next t.start t.width i, offset_of_row-le t.start t.width (i + 1) t.rows (omega arith))
 
--- a read within the table failed, after reads that did not
-pub read_failure : (t : Table) (old mid new : Source) (n : ℕ) (e : Error) → Serves old mid → mid.at + n ≤ row_offset t t.rows
+-- a read within a row failed, after reads that did not
+pub read_failure : (t : Table) (i : ℕ) (old mid new : Source) (n : ℕ) (e : Error) → Serves old mid → i < t.rows → mid.at + n ≤ row_offset t i + (8 + t.width)
     → FillFailure mid new n e → TableFailure t old new e
-read_failure t old mid new n e serves within (inl failed) = inl (failed.0 ∙ ap (λ k. k + 1) serves.failures, failed.1)
-read_failure t old mid new n e serves within (inr ended) =
-    inr (ended.0 ∙ serves.failures, ended.1, omega (arith, ended.2, ap length serves.bytes))
+read_failure t i old mid new n e serves row within (inl failed) = inl (failed.0 ∙ ap (λ k. k + 1) serves.failures, failed.1)
+read_failure t i old mid new n e serves row within (inr ended) =
+    inr (ended.0 ∙ serves.failures, ended.1, omega (arith, row), omega (arith, ended.2, ap length serves.bytes, within, row_within t i row))
 
 pub serves_still : (s : Source) → Serves s s
 serves_still s = record { bytes = refl; failures = refl; last_failure = refl }
@@ -52,8 +52,8 @@ key_read t i old mid new (Err e) same within sought fails = record {
   bytes = fails.bytes ∙ ap (λ s. s.bytes) sought;
   seeks = fails.seeks ∙ ap (λ s. s.seeks) sought;
   read = omega (arith, fails.read, ap (λ s. s.read) sought);
-  cause = read_failure t old mid new 8 e (serves_moved old old mid (row_offset t i) (serves_still old) sought)
-      (omega (arith, ap (λ s. s.at) sought, row_within t i within)) fails.cause;
+  cause = read_failure t i old mid new 8 e (serves_moved old old mid (row_offset t i) (serves_still old) sought) within
+      (omega (arith, ap (λ s. s.at) sought)) fails.cause;
 }
 
 -- a range of these numbers is the table that they determine

@@ -88,12 +88,6 @@ failed_after Case Later old mid new e same later (inl failed) =
 failed_after Case Later old mid new e same later (inr (none, holds)) =
     inr (none ∙ same, later holds)
 
--- what the cases leave beside the device
-pub unless_device : (Case : CoreError → Type 0) (Left : Type 0) (old new : Source) (e : CoreError)
-    → (Case e → Left) → FailedBy Case old new e → DeviceFailure old new e ⊎ Left
-unless_device Case Left old new e leaves (inl failed) = inl failed
-unless_device Case Left old new e leaves (inr (none, holds)) = inr (leaves holds)
-
 pub read_case : (Short Later : Type 0) (e : CoreError) → (Short → Later) → ReadCase Short e
     → ReadCase Later e
 read_case Short Later e later (out_of_memory is) = out_of_memory is

@@ -104,12 +104,12 @@ pub record Serves (old new : Source) : Type 0 where
   pub failures : new.failures ≡ old.failures
   pub last_failure : new.last_failure ≡ old.last_failure
 
--- why rows were not read: the device failed, and the error is its own; or the bytes end before the
--- table does
+-- why rows were not read: the device failed, and the error is its own; or there are rows, and the
+-- bytes end before the table does
 abbrev pub TableFailure : Table → Source → Source → Error → Type 0
 TableFailure t old new e =
     ((new.failures ≡ old.failures + 1) × (new.last_failure ≡ Some e))
-    ⊎ ((new.failures ≡ old.failures) × (error_kind e ≡ UnexpectedEof)
+    ⊎ ((new.failures ≡ old.failures) × (error_kind e ≡ UnexpectedEof) × (0 < t.rows)
     × (length old.bytes < row_offset t t.rows))
 
 -- `InvalidShard` without a message
@@ -118,13 +118,13 @@ IsBareInvalidShard (InvalidShard text) = string_bytes text ≡ []
 IsBareInvalidShard _ = ⊥
 
 -- a search was refused: the numbers pass 64 bits, which is found before the first seek; the device
--- failed; or the bytes end before the table does
+-- failed; or there are rows, and the bytes end before the table does
 abbrev pub SearchRefused : Table → Source → Source → CoreError → Type 0
 SearchRefused t old new e =
     (IsBareInvalidShard e × IsPastTable t × (new ≡ old))
     ⊎ (FitsTable t
     × (DeviceFailure old new e
-    ⊎ ((new.failures ≡ old.failures) × IsEndOfInput e
+    ⊎ ((new.failures ≡ old.failures) × IsEndOfInput e × (0 < t.rows)
     × (length old.bytes < row_offset t t.rows))))
 
 -- the seeks made and the bytes read are within the bounds for a sorted table

@@ -44,7 +44,7 @@ module _ {H R : Type 0} (K : RecordKind H R) (laws : KindLaws K) (old new : Sour
 pub files_fall : (old new : Source) (info : MDBShardInfo) (files : List MDBFileInfo) (e : CoreError) → ReadsSection file_records old new info.metadata.file_info_offset files
     → IsInvalidShard e × (¬ Ascends file_records files) → ReadsNoInput old new info e
 files_fall old new info files e read (invalid, falls) =
-    inr (inr (inr (invalid, inr (inr (inl (list_falls file_records file_laws old new info.metadata.file_info_offset files read falls))))))
+    inr (ap (λ (s : Source). s.failures) read.after, inr (inr (invalid, inr (inr (inl (list_falls file_records file_laws old new info.metadata.file_info_offset files read falls))))))
 
 module _ (old mid new : Source) (info : MDBShardInfo) (files : List MDBFileInfo) (xorbs : List MDBXorbInfo)
     (read : ReadsSection file_records old mid info.metadata.file_info_offset files) (further : ReadsSection xorb_records mid new info.metadata.xorb_info_offset xorbs) where
@@ -53,11 +53,14 @@ module _ (old mid new : Source) (info : MDBShardInfo) (files : List MDBFileInfo)
 
   pub xorbs_fall : (e : CoreError) → IsInvalidShard e × (¬ Ascends xorb_records xorbs) → ReadsNoInput old new info e
   xorbs_fall e (invalid, falls) =
-      inr (inr (inr (
-        invalid,
-        inr (inr (inr (subst (λ bytes. FrontFalls xorb_records (xorbs_at bytes info)) same_bytes
-            (list_falls xorb_records xorb_laws mid new info.metadata.xorb_info_offset xorbs further falls)))),
-      )))
+      inr (
+        ap (λ (s : Source). s.failures) further.after ∙ ap (λ (s : Source). s.failures) read.after,
+        inr (inr (
+          invalid,
+          inr (inr (inr (subst (λ bytes. FrontFalls xorb_records (xorbs_at bytes info)) same_bytes
+              (list_falls xorb_records xorb_laws mid new info.metadata.xorb_info_offset xorbs further falls)))),
+        )),
+      )
 
   pub lists_read : Ascends file_records files → Ascends xorb_records xorbs → HoldsLists old.bytes info files xorbs
   lists_read files_ascend xorbs_ascend = record {

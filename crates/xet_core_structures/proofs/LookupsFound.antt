@@ -13,7 +13,7 @@ use Rattle.xet_records.proofs.RecordKinds.{file_laws}
 use Rattle.xet_shards.specs.declared.shard_format.info.MDBShardInfo.{MDBShardInfo}
 use Rattle.xet_shards.specs.Ends.{FitsFooter, HasEnds, Loads}
 use Rattle.xet_shards.specs.Layout.{layout, plain_form, info_value}
-use Rattle.xet_shards.specs.Lookup.{FoundInShard, NotFoundAmong}
+use Rattle.xet_shards.specs.Lookup.{FoundInShard, LookupFailsAmong}
 use Rattle.xet_shards.specs.SetOperations.{IsDifference}
 use Rattle.xet_shards.specs.Shard.{Shard, IsShard}
 use Rattle.xet_shards.specs.Tables.{hash_in}
@@ -39,7 +39,7 @@ module _ (key : DataHash) (s : Shard) (info : MDBShardInfo) (old : Source) (is :
   looked = files_in (values s.files) (values s.xorbs) (keyed_form key) old info.metadata is.in_form is.files_ascend refl
 
   found_answer : (hash : DataHash) (new : Source) (found : Result (Option MDBFileInfo) CoreError) → LooksUpFile info hash old new found
-      → MatchResult found (FoundInShard s hash) (NotFoundAmong file_records (values s.files) hash old new)
+      → MatchResult found (FoundInShard s hash) (LookupFailsAmong file_records (values s.files) hash old new)
   found_answer hash new (Ok answer) looks =
       let among = answered file_records file_laws no_file (values s.files) _ _ _ old looked hash new answer looks.read in
       (among.0, map_answers file_records no_file s.files is.files.keyed is.files.unchanged hash answer among.1)

@@ -130,7 +130,7 @@ module _ (inputs : List (List ℕ)) (key : DataHash) (key_fits : IsHash key) (sh
       → TreeRefusal inputs plan err → (err ≡ OutOfMemory) ⊎ (IsInvalidShard err × (¬ HasFewRows c))
   tree_refused (Leaf i) c err written agree join (inl (is, past)) =
       absurd (none-some (layout_in (shard_at i) (form_at i)) (sym (slice_get_past inputs i past) ∙ (written i (Contains-push [] i)).bytes))
-  tree_refused (Leaf i) c err written agree join (inr no_memory) = inl no_memory
+  tree_refused (Leaf i) c err written agree join (inr (no_memory, here)) = inl no_memory
   tree_refused (Both' p left q right) c err written agree join (inl refusal) =
       let l = joins_exist (shards left) (agree_l left right c agree join) in
       elim (tree_refused left l.0 err (written_left left right (leaves left) (leaves right) refl refl written) (agree_l left right c agree join) l.1 refusal) [

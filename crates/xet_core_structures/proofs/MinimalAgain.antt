@@ -18,13 +18,13 @@ use Rattle.xet_records.specs.FileRecord.{file_records, has_verification, has_met
 use Rattle.xet_records.specs.XorbRow.{FitsChunk}
 use Rattle.xet_records.specs.XorbRecord.{xorb_records, IsStoredXorb}
 use Rattle.xet_records.specs.View.{as_wanted, without_verification}
-use Rattle.xet_records.proofs.Merging.{verification_told, metadata_ext_told}
+use Rattle.xet_records.proofs.Merging.{verification_injective, metadata_ext_injective}
 use Rattle.xet_records.proofs.RecordKinds.{file_laws, xorb_laws}
 use Rattle.xet_shards.specs.declared.streaming_shard.file_start.FileStart.{FileStart}
 use Rattle.xet_shards.specs.InForm.{FitsSection}
 use Rattle.xet_shards.specs.declared.shard_format.form.Form.{Form}
 use Rattle.xet_shards.specs.Layout.{if_in, layout_of, header_value, shard_header_bytes}
-use Rattle.xet_shards.specs.MinimalReading.{ReadsViews, ReadsXorbs, ReadsMinimal, ReadsEligible}
+use Rattle.xet_shards.specs.MinimalReading.{ReadsViews, ReadsWantedXorbs, ReadsMinimal, ReadsEligible}
 use Rattle.xet_shards.specs.MinimalShard.{MinimalShard, FitsSections, IsKept, is_start, chunk_of, marked_if, mark_starts, eligible_in, eligible_hashes, ascending_hashes, minimal_form, WritesMinimal, WritesKept}
 use Rattle.xet_shards.specs.Section.{section_bytes}
 use Rattle.xet_shards.specs.SectionReading.{IsSection}
@@ -87,7 +87,7 @@ read_fits with_files with_xorbs old new m (mid, header, sections) = record {
   xorbs = xorbs_too with_xorbs sections.mid m.xorbs sections.xorb_section;
 }
   where
-    xorbs_too : (wanted : Bool) (at : Option (List ℕ)) (xorbs : List MDBXorbInfo) → ReadsXorbs Consumes wanted at new xorbs → FitsSection xorb_records xorbs
+    xorbs_too : (wanted : Bool) (at : Option (List ℕ)) (xorbs : List MDBXorbInfo) → ReadsWantedXorbs Consumes wanted at new xorbs → FitsSection xorb_records xorbs
     xorbs_too true at xorbs read = reads_fit xorb_records Consumes at new xorbs read
     xorbs_too false at xorbs none = subst (FitsSection xorb_records) (sym none.1) (none_fit xorb_records)
 
@@ -106,8 +106,8 @@ file_as_wanted wanted r stored =
         let has_ext = has_metadata_ext r.metadata.file_flags in
         record {
           segments = stored.whole.segments;
-          verification = ap (λ v. if v then r.metadata.num_entries else 0) (sym (verification_told false has_ext));
-          metadata_ext = stored.whole.metadata_ext ∙ sym (metadata_ext_told false has_ext);
+          verification = ap (λ v. if v then r.metadata.num_entries else 0) (sym (verification_injective false has_ext));
+          metadata_ext = stored.whole.metadata_ext ∙ sym (metadata_ext_injective false has_ext);
         }
     still_whole false = stored.whole
 
@@ -165,7 +165,7 @@ pub subset_read : (answers : MDBXorbInfo → Bool → Type 0) (with_files : Bool
     → (n.files ≡ []) × (n.xorbs ≡ map (mark_starts (is_start m.files)) kept.kept) × (eligible_hashes n.files n.xorbs ≡ ascending_hashes (flat_map (eligible_in (is_start m.files)) kept.kept))
 subset_read answers with_files m n form y new k fits kept read =
     let marked = map (mark_starts (is_start m.files)) kept.kept in
-    let back = layout_read [] marked form y new with_files n (none_fit file_records) (xorbs_marked (is_start m.files) answers m.xorbs kept.kept kept.is_kept fits.xorbs) kept.written.text read in
+    let back = layout_read [] marked form y new with_files n (none_fit file_records) (xorbs_marked (is_start m.files) answers m.xorbs kept.kept kept.is_kept fits.xorbs) kept.written.appended read in
     let no_files : n.files ≡ [] = none_in with_files n.files back.0 in
     (no_files, back.1, (λ i. eligible_hashes (no_files i) (back.1 i)) ∙ subset_again m.files kept.kept)
 
@@ -211,14 +211,14 @@ pub shard_read : (wanted : Bool) (now : ℕ) (m n : MinimalShard) (y : List ℕ)
     → (n.files ≡ map (as_wanted wanted) m.files) × (n.xorbs ≡ map (mark_starts (is_start m.files)) m.xorbs)
 shard_read wanted now m n y new k fits written read =
     layout_read (map (as_wanted wanted) m.files) (map (mark_starts (is_start m.files)) m.xorbs) (minimal_form now None) y new true n (files_as_wanted wanted m.files fits.files)
-    (xorbs_marked (is_start m.files) (λ x b. Unit {0}) m.xorbs m.xorbs (each_kept m.xorbs) fits.xorbs) written.text read
+    (xorbs_marked (is_start m.files) (λ x b. Unit {0}) m.xorbs m.xorbs (each_kept m.xorbs) fits.xorbs) written.appended read
 
 pub shard_again : (wanted : Bool) (now : ℕ) (m n : MinimalShard) (y z : List ℕ) (new : Option (List ℕ)) (k l : ℕ) → FitsSections m
     → WritesMinimal (Some []) (Some y) wanted now m k → ReadsMinimal Consumes true true (Some y) new n → WritesMinimal (Some []) (Some z) wanted now n l → z ≡ y
 shard_again wanted now m n y z new k l fits written read again =
     let back = shard_read wanted now m n y new k fits written read in
     let same = written_again wanted m.files m.xorbs in
-    again.text
+    again.appended
     ∙ (λ i. layout_of (map (as_wanted wanted) (back.0 i)) (map (mark_starts (is_start (back.0 i))) (back.1 i)) (minimal_form now None))
     ∙ (λ i. layout_of (same.0 i) (same.1 i) (minimal_form now None))
-    ∙ sym written.text
+    ∙ sym written.appended

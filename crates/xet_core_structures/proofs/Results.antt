@@ -182,20 +182,20 @@ module _ (x : List ℕ) (i : MDBShardInfo) (y : List ℕ) (j : MDBShardInfo) (ol
   second_refused (inr (inl (end, cut))) = inr (inl (end, inr cut))
   second_refused (inr (inr (invalid, bad))) = inr (inr (invalid, inr bad))
 
-  pub first_fails : old_1.bytes ≡ x → ReadsNoInput old_1 new_1 i e → InputsFail old_1 new_1 old_2 new_2 (DifferenceRefusal x i y j) e
-  first_fails is (inl failed) = inl failed
-  first_fails is (inr refusal) = inr (inr (inr (same, first_refused (subst (λ bytes. BothRefusal bytes i e) is refusal))))
+  pub first_fails : old_1.bytes ≡ x → new_2.failures ≡ old_2.failures → ReadsNoInput old_1 new_1 i e → InputsFail old_1 new_1 old_2 new_2 (DifferenceRefusal x i y j) e
+  first_fails is still (inl failed) = inl failed
+  first_fails is still (inr (none, refusal)) = inr (inr (none, still, inr (same, first_refused (subst (λ bytes. BothRefusal bytes i e) is refusal))))
 
-  pub second_fails : old_2.bytes ≡ y → ReadsNoInput old_2 new_2 j e → InputsFail old_1 new_1 old_2 new_2 (DifferenceRefusal x i y j) e
-  second_fails is (inl failed) = inr (inl failed)
-  second_fails is (inr refusal) = inr (inr (inr (same, second_refused (subst (λ bytes. BothRefusal bytes j e) is refusal))))
+  pub second_fails : old_2.bytes ≡ y → new_1.failures ≡ old_1.failures → ReadsNoInput old_2 new_2 j e → InputsFail old_1 new_1 old_2 new_2 (DifferenceRefusal x i y j) e
+  second_fails is still (inl failed) = inr (inl failed)
+  second_fails is still (inr (none, refusal)) = inr (inr (still, none, inr (same, second_refused (subst (λ bytes. BothRefusal bytes j e) is refusal))))
 
 -- the inputs are refused in one way or in a wider one
 pub refused_so : (Narrow Wide : CoreError → Type 0) → ((e : CoreError) → Narrow e → Wide e) → (old_1 new_1 old_2 new_2 : Source) (e : CoreError) → InputsFail old_1 new_1 old_2 new_2 Narrow e
     → InputsFail old_1 new_1 old_2 new_2 Wide e
 refused_so Narrow Wide wider old_1 new_1 old_2 new_2 e (inl failed) = inl failed
 refused_so Narrow Wide wider old_1 new_1 old_2 new_2 e (inr (inl failed)) = inr (inl failed)
-refused_so Narrow Wide wider old_1 new_1 old_2 new_2 e (inr (inr refusal)) = inr (inr (wider e refusal))
+refused_so Narrow Wide wider old_1 new_1 old_2 new_2 e (inr (inr (none, none_too, refusal))) = inr (inr (none, none_too, wider e refusal))
 
 -- why there is no union
 not_read : (x : List ℕ) (i : MDBShardInfo) (y : List ℕ) (j : MDBShardInfo) (e : CoreError) → DifferenceRefusal x i y j e → UnionRefusal x i y j e

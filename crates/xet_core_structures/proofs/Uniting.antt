@@ -35,7 +35,7 @@ module _ (x y x_read y_read : List ℕ) (i j : MDBShardInfo) (x_is : x_read ≡ 
       → InputsFail (in_memory old_1) (in_memory new_1) (in_memory old_2) (in_memory new_2) (UnionRefusal x_read i y_read j) e → BytesRefusal x y e
   bytes_refused old_1 new_1 old_2 new_2 e (inl failed) = absurd (omega (arith, failed.0))
   bytes_refused old_1 new_1 old_2 new_2 e (inr (inl failed)) = absurd (omega (arith, failed.0))
-  bytes_refused old_1 new_1 old_2 new_2 e (inr (inr refusal)) = inr (inr (inr (i, j, i_ends, j_ends, subst (λ p. p) (λ k. UnionRefusal (x_is k) i (y_is k) j e) refusal)))
+  bytes_refused old_1 new_1 old_2 new_2 e (inr (inr (none, none_too, refusal))) = inr (inr (i, j, i_ends, j_ends, subst (λ p. p) (λ k. UnionRefusal (x_is k) i (y_is k) j e) refusal))
 
 -- both sides of a tree are written, and their union is, or is refused
 pub both_sides : {Z : Type 0} (inputs : List (List ℕ)) (left right : MergePlan) (x y x_read y_read : List ℕ) (r : Result (Vec ℕ Z) CoreError)

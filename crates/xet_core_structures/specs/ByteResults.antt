@@ -1,5 +1,5 @@
 -- What one union or one difference of bytes writes, and why it fails.
-use Rattle.std.specs.Prelude.{◌≡◌, ◌≢◌, ◌⊎◌, ℕ, ◌+◌, ◌<◌, ◌≤◌, List, Contains, Option, None, Some}
+use Rattle.std.specs.Prelude.{◌≡◌, ◌≢◌, ◌⊎◌, ⊤, ℕ, ◌+◌, ◌<◌, ◌≤◌, List, Contains, Option, None, Some}
 use Rattle.std.specs.FinMap.{FinMap, get, values}
 use Rattle.std.specs.Io.KnownBytes.{Appends}
 use Rattle.xet_base.specs.declared.error.CoreError.{CoreError}
@@ -119,14 +119,15 @@ LoadRefusal x e = (IsShardVersion e × IsUnsupported x) ⊎ (IsEndOfInput e × I
 abbrev pub BytesRefusal : List ℕ → List ℕ → CoreError → Type 0
 BytesRefusal x y e =
     LoadRefusal x e ⊎ LoadRefusal y e
-    ⊎ (e ≡ OutOfMemory)
     ⊎ ((i j : MDBShardInfo) × HasEnds x i × HasEnds y j × UnionRefusal x i y j e)
 
--- why an operation on two sources fails: the device of either did, or there is another cause
+-- why an operation on two sources fails: the device of either did, or neither did and there is
+-- another cause
 abbrev pub InputsFail : (old_1 new_1 old_2 new_2 : Source) → (CoreError → Type 0) → CoreError
     → Type 0
 InputsFail old_1 new_1 old_2 new_2 Refusal e =
-    DeviceFailure old_1 new_1 e ⊎ DeviceFailure old_2 new_2 e ⊎ Refusal e
+    DeviceFailure old_1 new_1 e ⊎ DeviceFailure old_2 new_2 e
+    ⊎ ((new_1.failures ≡ old_1.failures) × (new_2.failures ≡ old_2.failures) × Refusal e)
 
 -- the error of a failure that says whether it is the inputs' or the output's
 abbrev pub error_of : SetFailure → CoreError
@@ -137,6 +138,11 @@ error_of (Output e) = e
 abbrev pub FailsBy : (CoreError → Type 0) → SetFailure → Type 0
 FailsBy Cause (Input e) = Cause e
 FailsBy Cause (Output e) = IsDeviceError e
+
+-- the failure is the output's
+abbrev pub IsOutput : SetFailure → Type 0
+IsOutput (Input e) = ⊥
+IsOutput (Output e) = ⊤
 
 -- both inputs are under one key, and the bytes of each have the sections of these lists
 pub record HaveInputs (x : List ℕ) (i : MDBShardInfo) (y : List ℕ) (j : MDBShardInfo)

@@ -5,7 +5,7 @@ use Rattle.xet_base.specs.declared.error.CoreError.{CoreError}
 use Rattle.xet_base.specs.declared.error.CoreError.TheVariants.{OutOfMemory}
 use Rattle.xet_base.specs.Errors.{IsEndOfInput, IsInvalidShard}
 use Rattle.xet_base.specs.Hash.{hash_cmp}
-use Rattle.xet_base.specs.Source.{Source, DeviceFailure}
+use Rattle.xet_base.specs.Source.{Source, FailedBy}
 use Rattle.xet_records.specs.declared.file_structs.MDBFileInfo.{MDBFileInfo}
 use Rattle.xet_records.specs.declared.xorb_structs.MDBXorbInfo.{MDBXorbInfo}
 use Rattle.xet_records.specs.RecordKind.{RecordKind}
@@ -81,6 +81,6 @@ abbrev pub BothRefusal : List ℕ → MDBShardInfo → CoreError → Type 0
 BothRefusal bytes info e =
     (e ≡ OutOfMemory) ⊎ (IsEndOfInput e × IsCut bytes info) ⊎ (IsInvalidShard e × IsBad bytes info)
 
--- the device failed, or there is such a cause
+-- the device failed, or it did not and there is such a cause
 abbrev pub ReadsNoInput : Source → Source → MDBShardInfo → CoreError → Type 0
-ReadsNoInput old new info e = DeviceFailure old new e ⊎ BothRefusal old.bytes info e
+ReadsNoInput old new info = FailedBy (BothRefusal old.bytes info) old new

@@ -24,10 +24,12 @@ TreeWrites inputs (Leaf i) out = slice_get inputs i ≡ Some out
 TreeWrites inputs (Both' p left q right) out =
     (x y : List ℕ) × TreeWrites inputs left x × TreeWrites inputs right y × UnitesBytes x y out
 
--- why it writes nothing: a leaf has no input or an allocation failed; else the left side writes
--- nothing, or it does and the right side writes nothing, or both do and there is no such union
+-- why it writes nothing: a leaf has no input, or it has one and an allocation failed; else the left
+-- side writes nothing, or it does and the right side writes nothing, or both do and there is no
+-- such union
 abbrev pub TreeRefusal : List (List ℕ) → MergePlan → CoreError → Type 0
-TreeRefusal inputs (Leaf i) e = ((e ≡ InvalidArguments) × (length inputs ≤ i)) ⊎ (e ≡ OutOfMemory)
+TreeRefusal inputs (Leaf i) e =
+    ((e ≡ InvalidArguments) × (length inputs ≤ i)) ⊎ ((e ≡ OutOfMemory) × (i < length inputs))
 TreeRefusal inputs (Both' p left q right) e =
     TreeRefusal inputs left e
     ⊎ ((x : List ℕ) × TreeWrites inputs left x

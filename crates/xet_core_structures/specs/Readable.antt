@@ -15,7 +15,7 @@ use Rattle.xet_records.specs.XorbRecord.{xorb_records}
 use Rattle.xet_shards.specs.declared.shard_format.info.MDBShardInfo.{MDBShardInfo}
 use Rattle.xet_shards.specs.Ends.{HasEnds}
 use Rattle.xet_shards.specs.InForm.{FitsSection, Ascends, IsInForm}
-use Rattle.xet_shards.specs.Lookup.{file_table, LooksUpRecord, FoundInShard, NotFoundAmong, WithinBounds, SearchWithinBounds}
+use Rattle.xet_shards.specs.Lookup.{file_table, LooksUpRecord, FoundInShard, LookupFailsAmong, WithinBounds, SearchWithinBounds}
 use Rattle.xet_shards.specs.Shard.{Shard}
 use Rattle.xet_shards.specs.Tables.{hash_in}
 use Rattle.xet_core_structures.specs.ByteResults.{keyed_form, key_of, HaveResult}
@@ -56,7 +56,7 @@ LooksUpFile info hash old new found =
 pub record FindsInShard (s : Shard) (hash : DataHash) (old new : Source)
     (found : Result (Option MDBFileInfo) CoreError) : Type 0 where
   pub answer : MatchResult found (FoundInShard s hash)
-      (NotFoundAmong file_records (values s.files) hash old new)
+      (LookupFailsAmong file_records (values s.files) hash old new)
   pub costs : WithinBounds file_records (values s.files) hash.word0 old new
   pub collision : IfErr found
       (λ e. e ≡ TruncatedHashCollision hash.word0

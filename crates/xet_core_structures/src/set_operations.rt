@@ -1,7 +1,8 @@
 //! Union and difference of shards as bytes, and trees of unions.
 
-ghost use Rattle.std.specs.Prelude.{◌≡◌, ◌≢◌, ◌⊎◌, ℕ, ◌≤◌, Option, None, Some, length, map, slice_get, IfOk, IsErrAnd, MatchResult};
+ghost use Rattle.std.specs.Prelude.{◌≡◌, ◌≢◌, ◌⊎◌, ℕ, ◌<◌, ◌≤◌, Option, None, Some, length, map, slice_get, IfOk, OnOk, IsErrAnd, MatchResult};
 ghost use Rattle.xet_base.specs.Errors.{IsDeviceError, IsInvalidShard};
+ghost use Rattle.xet_base.specs.Table.{Serves};
 ghost use Rattle.xet_shards.specs.Ends.{FitsFooter};
 ghost use Rattle.xet_shards.specs.Joins.{IsJoinOf, AgreePairwise};
 ghost use Rattle.xet_shards.specs.Layout.{layout};
@@ -58,6 +59,8 @@ pub fn shard_set_union<S: ShardSource, T: ShardSource, W: Write>(
     ensures in_form { IfOk result
         (WritesInForm IsByteUnion (S.meaning r1.old).bytes s1.now (T.meaning r2.old).bytes s2.now
         (W.contents out.old) (W.contents out.new)) }
+    ensures serves { OnOk result (Serves (S.meaning r1.old) (S.meaning r1.new)
+        × Serves (T.meaning r2.old) (T.meaning r2.new)) }
     ensures sources { ((S.meaning r1.new).bytes ≡ (S.meaning r1.old).bytes)
         × ((T.meaning r2.new).bytes ≡ (T.meaning r2.old).bytes) }
     ensures widths { IfOk result (λ info. FitsFooter info.metadata) }
@@ -92,6 +95,8 @@ pub fn shard_set_difference<S: ShardSource, T: ShardSource, W: Write>(
     ensures in_form { IfOk result
         (WritesInForm IsDifference (S.meaning r1.old).bytes s1.now (T.meaning r2.old).bytes s2.now
         (W.contents out.old) (W.contents out.new)) }
+    ensures serves { OnOk result (Serves (S.meaning r1.old) (S.meaning r1.new)
+        × Serves (T.meaning r2.old) (T.meaning r2.new)) }
     ensures sources { ((S.meaning r1.new).bytes ≡ (S.meaning r1.old).bytes)
         × ((T.meaning r2.new).bytes ≡ (T.meaning r2.old).bytes) }
     ensures widths { IfOk result (λ info. FitsFooter info.metadata) }
@@ -150,7 +155,7 @@ fn copy_input(alloc: Global, inputs: &[&[u8]], index: usize) -> Result<Vec<u8>>
     ensures { MatchResult result
         (λ bytes. slice_get (map (λ x. x.now) inputs.now) index ≡ Some bytes.items)
         (λ e. ((e ≡ CoreError.InvalidArguments) × (length (map (λ x. x.now) inputs.now) ≤ index))
-        ⊎ (e ≡ CoreError.OutOfMemory)) }
+        ⊎ ((e ≡ CoreError.OutOfMemory) × (index < length (map (λ x. x.now) inputs.now)))) }
 {
     if index >= inputs.len() {
         return Err(CoreError::InvalidArguments);

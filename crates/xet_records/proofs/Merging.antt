@@ -25,17 +25,17 @@ flags_are_parts flags fits known =
     let whole : flags / 2 ^ 30 * 2 ^ 30 ≡ flags = omega arith in
     subst (λ n. n ≡ flags_of (has_verification n) (has_metadata_ext n)) whole (known_flags (flags / 2 ^ 30) (omega arith))
 
-pub verification_told : (v m : Bool) → has_verification (flags_of v m) ≡ v
-verification_told true true = refl
-verification_told true false = refl
-verification_told false true = refl
-verification_told false false = refl
+pub verification_injective : (v m : Bool) → has_verification (flags_of v m) ≡ v
+verification_injective true true = refl
+verification_injective true false = refl
+verification_injective false true = refl
+verification_injective false false = refl
 
-pub metadata_ext_told : (v m : Bool) → has_metadata_ext (flags_of v m) ≡ m
-metadata_ext_told true true = refl
-metadata_ext_told true false = refl
-metadata_ext_told false true = refl
-metadata_ext_told false false = refl
+pub metadata_ext_injective : (v m : Bool) → has_metadata_ext (flags_of v m) ≡ m
+metadata_ext_injective true true = refl
+metadata_ext_injective true false = refl
+metadata_ext_injective false true = refl
+metadata_ext_injective false false = refl
 
 flags_fit : (v m : Bool) → flags_of v m < 2 ^ 32
 flags_fit true true = omega arith
@@ -103,9 +103,9 @@ or_itself true = refl
 or_itself false = refl
 
 -- the flags of a record that took over parts, whatever its flags were
-bit_told : (flags k : ℕ) (v : Bool) → (bit_at flags k == 1) ≡ v → bit_at flags k ≡ (if v then 1 else 0)
-bit_told flags k true is = grind (arith, nat_tests, is)
-bit_told flags k false is = grind (arith, nat_tests, is, bit_at-lt flags k)
+bit_injective : (flags k : ℕ) (v : Bool) → (bit_at flags k == 1) ≡ v → bit_at flags k ≡ (if v then 1 else 0)
+bit_injective flags k true is = grind (arith, nat_tests, is)
+bit_injective flags k false is = grind (arith, nat_tests, is, bit_at-lt flags k)
 
 bit_shows : (flags k : ℕ) (v : Bool) → bit_at flags k ≡ (if v then 1 else 0) → (bit_at flags k == 1) ≡ v
 bit_shows flags k true is = ap (λ b. b == 1) is
@@ -134,7 +134,7 @@ module _ (a b : MDBFileInfo) where
   flags_gained : (bit_at (merged a b).metadata.file_flags 31 ≡ (if verified a || verified b then 1 else 0)) × (bit_at (merged a b).metadata.file_flags 30 ≡ (if described a || described b then 1 else 0))
   flags_gained =
       bits_gained a.metadata.file_flags (verified a) (described a) (verified b) (described b)
-      (bit_told a.metadata.file_flags 31 (verified a) refl) (bit_told a.metadata.file_flags 30 (described a) refl)
+      (bit_injective a.metadata.file_flags 31 (verified a) refl) (bit_injective a.metadata.file_flags 30 (described a) refl)
 
   pub verified-merged : verified (merged a b) ≡ (verified a || verified b)
   verified-merged = bit_shows (merged a b).metadata.file_flags 31 (verified a || verified b) flags_gained.0
@@ -244,10 +244,10 @@ joined-idem a formed =
     λ i. record { metadata = record a.metadata { file_flags = flags i }; segments = a.segments; verification = verification i; metadata_ext = metadata_ext i }
 
 pub verified-joined : (a b : MDBFileInfo) → verified (joined a b) ≡ (verified a || verified b)
-verified-joined a b = verification_told (verified a || verified b) (described a || described b)
+verified-joined a b = verification_injective (verified a || verified b) (described a || described b)
 
 pub described-joined : (a b : MDBFileInfo) → described (joined a b) ≡ (described a || described b)
-described-joined a b = metadata_ext_told (verified a || verified b) (described a || described b)
+described-joined a b = metadata_ext_injective (verified a || verified b) (described a || described b)
 
 -- the record with the parts of two well-formed records of one file is well-formed, but for the limit on rows
 pub joined_whole : (a b : MDBFileInfo) → FitsItsHeader a → FitsItsHeader b → IsSameFile a.metadata b.metadata → FitsItsHeader (joined a b)

@@ -65,8 +65,8 @@ pub record ShowsRecord {H R : Type 0} (K : RecordKind H R) (header : H) (bytes :
 module _ {H R : Type 0} (K : RecordKind H R) where
   -- the bytes end before a header is complete, or before the rows that it announces, at most
   -- 4294967295, are
-  abbrev pub IsTooShort : List ℕ → Type 0
-  IsTooShort bytes =
+  abbrev pub EndsInRecord : List ℕ → Type 0
+  EndsInRecord bytes =
       (length bytes < 48)
       ⊎ ((header : H) × BeginsWithHeaderRow K bytes header × (K.rows_after header ≤ 4294967295)
       × (length bytes < 48 + 48 * K.rows_after header))
@@ -79,7 +79,7 @@ module _ {H R : Type 0} (K : RecordKind H R) where
   -- why the bytes begin with no record: they are too few, or the header announces too many rows
   abbrev pub NoView : List ℕ → CoreError → Type 0
   NoView bytes e =
-      (IsEndOfInput e × IsTooShort bytes) ⊎ (IsBareInvalidShard e × AnnouncesTooMany bytes)
+      (IsEndOfInput e × EndsInRecord bytes) ⊎ (IsBareInvalidShard e × AnnouncesTooMany bytes)
 
 -- a record without its verification rows: its header has the bit of a metadata row alone, and a
 -- zero reserved word
@@ -104,9 +104,9 @@ abbrev pub LacksVerification : Bool → MDBFileInfo → Type 0
 LacksVerification wanted r = IsTrue (wanted && not (has_verification r.metadata.file_flags))
 
 -- `Io` of kind `Other`
-abbrev pub IsOtherDeviceError : CoreError → Type 0
-IsOtherDeviceError (Io e) = error_kind e ≡ Other
-IsOtherDeviceError _ = ⊥
+abbrev pub IsIoOther : CoreError → Type 0
+IsIoOther (Io e) = error_kind e ≡ Other
+IsIoOther _ = ⊥
 
 -- the offset after the last chunk, 0 if there is none
 abbrev pub end_of_chunks : List XorbChunkSequenceEntry → ℕ

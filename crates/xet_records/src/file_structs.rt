@@ -4,7 +4,7 @@ mod header;
 mod rows;
 mod view;
 
-ghost use Rattle.std.specs.Prelude.{◌≡◌, ℕ, List, Some, ◌++◌, ◌*◌, ◌≤◌, ◌⊎◌, length, MatchResult, IfSome, OnOk, OnErr, IfOk, IfErr};
+ghost use Rattle.std.specs.Prelude.{◌≡◌, ℕ, List, Some, ◌++◌, ◌*◌, ◌≤◌, ◌⊎◌, length, MatchResult, IfSome, OnOk, OnErr, IfOk, IfErr, IsTrue};
 ghost use Rattle.std.specs.Io.KnownBytes.{Appends, Consumes};
 ghost use Rattle.xet_records.specs.FileRecord.{has_verification, has_metadata_ext, rows_after, row_count, file_record_bytes, size_of_file, FitsItsHeader, IsStored, handed_out, file_records};
 ghost use Rattle.xet_records.specs.Merging.{IsSameFile, merged};
@@ -13,8 +13,8 @@ ghost use Rattle.xet_base.specs.Table.{IsBareInvalidShard};
 ghost use Rattle.xet_base.specs.Errors.{IsEndOfInput, IsDeviceError, IsInvalidShard};
 
 use crate::input_rows;
-use crate::record_reader::{MOST_ROWS_OF_RECORD, SectionRecord, read_record};
-use crate::rows::{Rows, write_optional, write_row, write_rows};
+use crate::record_reader::{MAX_ROWS_OF_RECORD, SectionRecord, read_record};
+use crate::rows::{ROW_SIZE, Rows, write_optional, write_row, write_rows};
 pub use header::{FileDataSequenceHeader, SupersetResult};
 pub use rows::{FileDataSequenceEntry, FileMetadataExt, FileVerificationEntry};
 use std::alloc::Global;
@@ -34,7 +34,7 @@ pub const MDB_FILE_FLAG_WITH_METADATA_EXT: u32 = 1 << 30;
 /// The bit that says whether a file has a metadata row.
 pub const MDB_FILE_FLAG_METADATA_EXT_MASK: u32 = 1 << 30;
 /// The bytes of each row of the file section.
-pub const MDB_FILE_INFO_ENTRY_SIZE: usize = 48;
+pub const MDB_FILE_INFO_ENTRY_SIZE: usize = ROW_SIZE;
 
 /// The record of a file. Its lists and optional parts have to fit its header before it is measured
 /// or written.
@@ -126,18 +126,21 @@ impl MDBFileInfo {
             → IfOk result
             (λ found. (found ≡ Some (handed_out r)) × (R.remaining reader.new ≡ Some rest)) }
     {
-        let mut rows_left = MOST_ROWS_OF_RECORD;
+        let mut rows_left = MAX_ROWS_OF_RECORD;
         read_record::<MDBFileInfo, OfReader, R>(alloc, reader, &mut rows_left)
     }
 
     /// Takes over each optional part that only `other` has, and nothing else. Requires that both
-    /// records are of one file. On `OutOfMemory`, the only error, nothing changes.
+    /// records are of one file. On `OutOfMemory`, the only error, nothing changes; it comes only if
+    /// verification rows are taken over.
     #[tactic(auto, using(crate::proofs::Flags::verification_added, crate::proofs::Flags::metadata_ext_added))]
     pub fn merge_from(&mut self, alloc: Global, other: &Self) -> Result<()>
         requires { IsSameFile self.old.metadata other.now.metadata }
         ensures ok { OnOk result (self.new ≡ merged self.old other.now) }
         ensures err { OnErr result (self.new ≡ self.old) }
-        ensures causes { IfErr result (λ e. e ≡ CoreError.OutOfMemory) }
+        ensures causes { IfErr result (λ e. (e ≡ CoreError.OutOfMemory)
+            × IsTrue (has_verification other.now.metadata.file_flags)
+            × (¬ IsTrue (has_verification self.old.metadata.file_flags))) }
     {
         let takes_verification = other.contains_verification() && !self.contains_verification();
         let takes_metadata_ext = other.contains_metadata_ext() && !self.contains_metadata_ext();

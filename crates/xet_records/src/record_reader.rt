@@ -13,7 +13,7 @@ use xet_base::input::ByteInput;
 
 /// The most rows that a record read by itself may have, its header included: the rows after it fit
 /// `u32`.
-pub const MOST_ROWS_OF_RECORD: u64 = 1 << 32;
+pub const MAX_ROWS_OF_RECORD: u64 = 1 << 32;
 
 /// A record of a section, of files or of xorbs: a header row, and the rows that it announces.
 pub trait SectionRecord {

@@ -11,10 +11,9 @@ ghost use Rattle.xet_records.specs.XorbRecord.{xorb_bookend, xorb_row_count, xor
 ghost use Rattle.xet_records.specs.Rows.{WritesRow, ReadsWhole, LacksRow};
 ghost use Rattle.xet_records.specs.Reading.{ReadsOrEnds, IsCutShort};
 
-use crate::file_structs::MDB_FILE_INFO_ENTRY_SIZE;
 use crate::input_rows;
-use crate::record_reader::{MOST_ROWS_OF_RECORD, SectionRecord, read_record};
-use crate::rows::{Row, Rows, read_row, write_row, write_rows};
+use crate::record_reader::{MAX_ROWS_OF_RECORD, SectionRecord, read_record};
+use crate::rows::{ROW_SIZE, Row, Rows, read_row, write_row, write_rows};
 use std::alloc::Global;
 use std::io;
 use std::io::{Read, Write};
@@ -81,7 +80,7 @@ impl XorbChunkSequenceHeader {
             (WritesRow (W.contents writer.old) (W.contents writer.new) (xorb_header_row self.now)) }
     {
         write_row(self, writer)?;
-        Ok(MDB_FILE_INFO_ENTRY_SIZE)
+        Ok(ROW_SIZE)
     }
 
     /// Reads the row. `UnexpectedEof` if fewer than 48 bytes are left.
@@ -197,7 +196,7 @@ impl XorbChunkSequenceEntry {
             (WritesRow (W.contents writer.old) (W.contents writer.new) (chunk_row self.now)) }
     {
         write_row(self, writer)?;
-        Ok(MDB_FILE_INFO_ENTRY_SIZE)
+        Ok(ROW_SIZE)
     }
 
     /// Reads the row. `UnexpectedEof` if fewer than 48 bytes are left.
@@ -262,7 +261,7 @@ impl MDBXorbInfo {
         requires { HasItsChunks self.now }
         ensures { result ≡ 48 * xorb_row_count self.now }
     {
-        (1 + u64::from(self.metadata.num_entries)) * MDB_FILE_INFO_ENTRY_SIZE as u64
+        (1 + u64::from(self.metadata.num_entries)) * ROW_SIZE as u64
     }
 
     /// Appends the rows of the record and returns their size in bytes. The error is the writer's.
@@ -298,7 +297,7 @@ impl MDBXorbInfo {
             → R.remaining reader.old ≡ Some (xorb_record_bytes r ++ rest)
             → IfOk result (λ found. (found ≡ Some r) × (R.remaining reader.new ≡ Some rest)) }
     {
-        let mut rows_left = MOST_ROWS_OF_RECORD;
+        let mut rows_left = MAX_ROWS_OF_RECORD;
         read_record::<MDBXorbInfo, OfReader, R>(alloc, reader, &mut rows_left)
     }
 

@@ -13,7 +13,7 @@ use Rattle.xet_records.specs.declared.file_structs.rows.FileMetadataExt.{FileMet
 use Rattle.xet_records.specs.declared.file_structs.MDBFileInfo.{MDBFileInfo}
 use Rattle.xet_records.specs.FileRecord.{flags_of}
 use Rattle.xet_records.specs.Merging.{Agree, verified, described, merged}
-use Rattle.xet_records.proofs.Merging.{flags_are_parts, flags_added, metadata_ext_told, verification_absent, verified-merged, described-merged}
+use Rattle.xet_records.proofs.Merging.{flags_are_parts, flags_added, metadata_ext_injective, verification_absent, verified-merged, described-merged}
 use Rattle.xet_shards.specs.Shard.{Shard, IsShard, empty_shard, file_hash_of}
 use Rattle.xet_shards.specs.Joining.{either_file}
 use Rattle.xet_shards.specs.SetOperations.{IsUnion, ShardsAgree}
@@ -66,7 +66,7 @@ module _ (q : DataHash) where
 
   pub plain_header : (r : MDBFileInfo) → IsPlain r → HasPlainHeader r
   plain_header r is =
-      let present : is_some r.metadata_ext ≡ described r = sym (ap described is ∙ metadata_ext_told (is_some (verification_of r)) (is_some r.metadata_ext)) in
+      let present : is_some r.metadata_ext ≡ described r = sym (ap described is ∙ metadata_ext_injective (is_some (verification_of r)) (is_some r.metadata_ext)) in
       record {
         keyed = sym (ap file_hash_of is);
         reserved = ap (λ (s : MDBFileInfo). s.metadata._unused) is;

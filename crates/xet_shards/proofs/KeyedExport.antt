@@ -10,6 +10,7 @@ use Rattle.std.proofs.lemmas.List.Sums.{sum_by-append, sum_by-cons, sum_by_push}
 use Rattle.std.proofs.lemmas.List.Concat.{flat_map_single}
 use Rattle.std.proofs.lemmas.Grind.{flat_map-append}
 use Rattle.xet_base.specs.declared.error.CoreError.{CoreError}
+use Rattle.xet_base.specs.Errors.{IsDeviceError}
 use Rattle.xet_base.specs.declared.error.CoreError.TheVariants.{InvalidArguments}
 use Rattle.xet_base.specs.Source.{Source, Takes, advanced, bytes_left}
 use Rattle.xet_base.specs.InputLaws.{failed_after, advanced-advanced}
@@ -156,17 +157,17 @@ left_after : (s : Source) (n : ℕ) → bytes_left (advanced s n) ≡ drop n (by
 left_after s n = sym (drop-drop n s.at s.bytes)
 
 -- a section was not read or not written
-section_not_exported : {H R : Type 0} (K : RecordKind H R) (old mid new : Source) (n : ℕ) (e : CoreError) → mid ≡ advanced old n
+section_not_exported : {H R : Type 0} (K : RecordKind H R) (old mid new : Source) (n : ℕ) (e : CoreError) → mid ≡ advanced old n → HasHeader (bytes_left old)
     → (BadSection K (bytes_left mid) e → ExportCase (bytes_left old) e) → TakesNoSection K mid new e ⊎ WritingFails mid new e → ExportFails old new e
-section_not_exported K old mid new n e at bad (inl fails) = record {
+section_not_exported K old mid new n e at header bad (inl fails) = record {
   bytes = fails.bytes ∙ ap (λ (s : Source). s.bytes) at;
   seeks = fails.seeks ∙ ap (λ (s : Source). s.seeks) at;
   cause = failed_after (BadSection K (bytes_left mid)) (ExportCase (bytes_left old)) old mid new e (ap (λ (s : Source). s.failures) at) bad fails.cause;
 }
-section_not_exported K old mid new n e at bad (inr fails) = record {
+section_not_exported K old mid new n e at header bad (inr fails) = record {
   bytes = fails.bytes ∙ ap (λ (s : Source). s.bytes) at;
   seeks = fails.seeks ∙ ap (λ (s : Source). s.seeks) at;
-  cause = inr (fails.failures ∙ ap (λ (s : Source). s.failures) at, not_written fails.cause);
+  cause = inr (fails.failures ∙ ap (λ (s : Source). s.failures) at, not_written header fails.cause);
 }
 
 -- the layout ends after the footer
@@ -219,7 +220,10 @@ module _ (old s1 : Source) (h : MDBShardFileHeader) (taken : Takes old s1 (shard
 
   pub files_not_exported : (new : Source) (e : CoreError) → TakesNoSection file_records s1 new e ⊎ WritingFails s1 new e → ExportFails old new e
   files_not_exported new e why =
-      section_not_exported file_records old s1 new 48 e at_files (λ bad. bad_files header_there (subst (λ bs. BadSection file_records bs e) files_left bad)) why
+      section_not_exported file_records old s1 new 48 e at_files header_there (λ bad. bad_files header_there (subst (λ bs. BadSection file_records bs e) files_left bad)) why
+
+  pub header_not_written : (e : CoreError) → IsDeviceError e → ExportFails old s1 e
+  header_not_written e cause = files_not_exported s1 e (inr (record { bytes = refl; seeks = refl; failures = refl; cause = cause }))
 
   -- after the files
   module _ (s2 : Source) (files : List MDBFileInfo) (passed : PassesSection file_records s1 s2 files) where
@@ -237,7 +241,7 @@ module _ (old s1 : Source) (h : MDBShardFileHeader) (taken : Takes old s1 (shard
 
     pub xorbs_not_exported : (new : Source) (e : CoreError) → TakesNoSection xorb_records s2 new e ⊎ WritingFails s2 new e → ExportFails old new e
     xorbs_not_exported new e why =
-        section_not_exported xorb_records old s2 new (xorbs_after files) e at_xorbs
+        section_not_exported xorb_records old s2 new (xorbs_after files) e at_xorbs header_there
         (λ bad. bad_xorbs header_there files file_section (subst (λ bs. BadSection xorb_records bs e) xorbs_left bad)) why
 
     -- after the xorbs
@@ -252,6 +256,14 @@ module _ (old s1 : Source) (h : MDBShardFileHeader) (taken : Takes old s1 (shard
       at_end =
           let n = 48 * (total_rows xorb_records xorbs + 1) in
           rest.after ∙ ap (λ s. advanced s n) at_xorbs ∙ advanced-advanced old (xorbs_after files) n
+
+      pub end_not_written : (e : CoreError) → IsDeviceError e → ExportFails old s3 e
+      end_not_written e cause = xorbs_not_exported s3 e (inr (record {
+        bytes = ap (λ (s : Source). s.bytes) rest.after;
+        seeks = ap (λ (s : Source). s.seeks) rest.after;
+        failures = ap (λ (s : Source). s.failures) rest.after;
+        cause = cause;
+      }))
 
       files_fit : FitsSection file_records files_out
       files_fit = if_in-section form.file_table files (record { stored = file_section.records.are_stored; rows = file_section.records.rows })

@@ -17,7 +17,7 @@ use Rattle.xet_records.specs.ViewReading.{CountsStored}
 use Rattle.xet_shards.specs.InForm.{FitsSection}
 use Rattle.xet_shards.specs.MinimalShard.{MinimalShard, eligible_hashes}
 use Rattle.xet_shards.specs.Layout.{if_in}
-use Rattle.xet_shards.specs.MinimalReading.{HasReadViews, ReadsViews, StopsAfterViews, ReadsXorbs, ReadsSections, ReadsShardHeader, ReadsMinimal, SectionsFail, MinimalFails, ReadsEligible, EligibleFails}
+use Rattle.xet_shards.specs.MinimalReading.{HasReadViews, ReadsViews, StopsAfterViews, ReadsWantedXorbs, ReadsSections, ReadsShardHeader, ReadsMinimal, SectionsFail, MinimalFails, ReadsEligible, EligibleFails}
 use Rattle.xet_shards.specs.MinimalReading.SectionsFail.{no_files, no_xorbs}
 
 module _ {H R V : Type 0} (K : RecordKind H R) (laws : KindLaws K) (record_of : V → R) where
@@ -49,7 +49,7 @@ module _ {I J : Type 0} (view : I → J) (reads : J → J → List ℕ → Type 
       → ReadsViews K (λ r. r) reads (view old) (view new) records
   views_seen K old new records read = record { mid = view read.mid; left = read.left; records = read.records; bookend = read.bookend }
 
-  xorbs_seen : (wanted : Bool) (old new : I) (xorbs : List _) → ReadsXorbs (λ a b xs. reads (view a) (view b) xs) wanted old new xorbs → ReadsXorbs reads wanted (view old) (view new) xorbs
+  xorbs_seen : (wanted : Bool) (old new : I) (xorbs : List _) → ReadsWantedXorbs (λ a b xs. reads (view a) (view b) xs) wanted old new xorbs → ReadsWantedXorbs reads wanted (view old) (view new) xorbs
   xorbs_seen true old new xorbs read = views_seen _ old new xorbs read
   xorbs_seen false old new xorbs none = (ap view none.0, none.1)
 

@@ -163,7 +163,7 @@ shard_written answers m files form start after_header after_files after_xorbs en
       kept = marked.kept;
       is_kept = subst (λ ys. IsKept answers ys marked.kept) same_xorbs marked.is_kept;
       written = record {
-        text = whole_layout start after_header after_files after_xorbs end files xs form header section bytes (rest files xs fit written collected);
+        appended = whole_layout start after_header after_files after_xorbs end files xs form header section bytes (rest files xs fit written collected);
         count = omega (arith, count, written.table.rows, collected.table.rows, length-without_tables files xs form tables fit);
       };
     }

@@ -14,7 +14,7 @@ use Rattle.xet_records.specs.RecordKind.{RecordKind}
 use Rattle.xet_records.specs.FileRecord.{file_records}
 use Rattle.xet_records.proofs.RecordKinds.{KindLaws, file_laws}
 use Rattle.xet_shards.specs.Shard.{Shard, IsShard}
-use Rattle.xet_shards.specs.Lookup.{LooksUpRecord, IsOneOf, FoundAmong, FoundInShard, NotFoundAmong}
+use Rattle.xet_shards.specs.Lookup.{LooksUpRecord, IsOneOf, FoundAmong, FoundInShard, LookupFailsAmong}
 use Rattle.xet_shards.specs.Tables.{hash_in}
 use Rattle.xet_shards.proofs.Files.{well_formed_values}
 use Rattle.xet_shards.proofs.InForm.{no_file}
@@ -36,7 +36,7 @@ one_of K laws d records hash None others =
 module _ {H R : Type 0} (K : RecordKind H R) (laws : KindLaws K) (d : R) (records : List R) (offset start count : ℕ) (old : Source)
     (is : IsLookedUp K d records offset start count old) where
   pub lookup_in_form : (new : Source) (hash : DataHash) (r : Result (Option R) CoreError) → LooksUpRecord K (table_at old start count 4) offset hash old new r
-      → MatchResult r (FoundAmong K records hash) (NotFoundAmong K records hash old new)
+      → MatchResult r (FoundAmong K records hash) (LookupFailsAmong K records hash old new)
   lookup_in_form new hash (Ok answer) looks =
       let found = answered K laws d records offset start count old is hash new answer looks.read in
       (found.0, one_of K laws d records hash answer found.1)
@@ -50,7 +50,7 @@ module _ (s : Shard) (shard : IsShard s) where
   pub lookup_written : (offset start count : ℕ) (old : Source) → IsLookedUp file_records no_file (values s.files) offset start count old
       → (new : Source) (hash : DataHash) (r : Result (Option MDBFileInfo) CoreError)
       → LooksUpRecord file_records (table_at old start count 4) offset hash old new r
-      → MatchResult r (FoundInShard s hash) (NotFoundAmong file_records (values s.files) hash old new)
+      → MatchResult r (FoundInShard s hash) (LookupFailsAmong file_records (values s.files) hash old new)
   lookup_written offset start count old is new hash (Ok answer) looks =
       let found = answered file_records file_laws no_file (values s.files) offset start count old is hash new answer looks.read in
       (found.0, answers hash answer found.1)

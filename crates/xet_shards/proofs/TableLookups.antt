@@ -19,7 +19,7 @@ use Rattle.xet_records.proofs.RecordKinds.{KindLaws}
 use Rattle.xet_shards.specs.Section.{total_rows, with_fronts, StartsAt}
 use Rattle.xet_shards.specs.Tables.{hash_in, start_of, starts, start_row}
 use Rattle.xet_shards.specs.SectionReading.{MayTake}
-use Rattle.xet_shards.specs.Lookup.{sharing, IsNumber, row_at, RecordAt, InfoRefusal, LooksUp, LooksUpIndex, LooksUpRecord, LookupAnswer, LookupRefused, Finding, FindingFails, WithinBounds, SearchWithinBounds, IndexFinds, IndexRefused, AreStarts, StartsAmong, NoStartsAmong, NotFoundAmong}
+use Rattle.xet_shards.specs.Lookup.{sharing, IsNumber, row_at, RecordAt, InfoRefusal, LooksUp, LooksUpIndex, LooksUpRecord, LookupAnswer, LookupRefused, Finding, FindingFails, WithinBounds, SearchWithinBounds, IndexFinds, IndexRefused, AreStarts, StartsAmong, IndexFailsAmong, LookupFailsAmong}
 use Rattle.xet_shards.proofs.Tables.{length-starts}
 use Rattle.xet_shards.proofs.Distinct.{sum_distinct, sum_marked}
 use Rattle.xet_shards.proofs.KnownRows.{IsKnown, rows_sorted, rows_hit, search_served, row_hit, hits_few, hits_all}
@@ -292,7 +292,7 @@ module _ {H R : Type 0} (K : RecordKind H R) (laws : KindLaws K) (d : R) (record
 
   -- a lookup that is refused
   pub not_answered : (hash : DataHash) (new : Source) (e : CoreError) → FindingFails K table offset hash old new e
-      → NotFoundAmong K records hash old new e
+      → LookupFailsAmong K records hash old new e
   not_answered hash new e (inl (inl (none, collision, collides), bounded)) =
       inr (inr (collision, omega (arith, collides.eight, hits_share hash.word0 collides.found collides.each collides.distinct)))
   not_answered hash new e (inl (inr refused, bounded)) = inl (search_answers new e refused)
@@ -330,12 +330,12 @@ module _ {H R : Type 0} (K : RecordKind H R) (laws : KindLaws K) (d : R) (record
             (starts_of_hits word finds.found finds.are_hits.each finds.are_hits.distinct all),
       )
 
-  index_not_answered : (word : ℕ) (new : Source) (e : CoreError) → IndexRefused table word old new e → NoStartsAmong K records word old new e
+  index_not_answered : (word : ℕ) (new : Source) (e : CoreError) → IndexRefused table word old new e → IndexFailsAmong K records word old new e
   index_not_answered word new e (inl (none, collision, collides)) = search (rules, hits_share)
   index_not_answered word new e (inr refused) = inl (search_answers new e refused)
 
   pub index_written : (new : Source) (word : ℕ) (dest_old dest_new : List ℕ) (r : Result ℕ CoreError) → LooksUpIndex table word dest_old dest_new old new r
-      → MatchResult r (StartsAmong K records word dest_new) (NoStartsAmong K records word old new)
+      → MatchResult r (StartsAmong K records word dest_new) (IndexFailsAmong K records word old new)
   index_written new word dest_old dest_new (Ok count) looks = index_answered word count dest_old dest_new looks.found
   index_written new word dest_old dest_new (Err e) looks = index_not_answered word new e looks.refused
 

@@ -21,7 +21,7 @@ use Rattle.xet_shards.specs.Layout.{Form}
 use Rattle.xet_shards.specs.InForm.{IsInForm}
 use Rattle.xet_shards.specs.Lookup.{row_at}
 use Rattle.xet_shards.specs.RunReading.{AnswerAt, RefusedAt}
-use Rattle.xet_shards.specs.WrittenQueries.{RunInXorb, NoRunInXorb}
+use Rattle.xet_shards.specs.WrittenQueries.{RunInXorb, QueryFailsInXorb}
 use Rattle.xet_shards.proofs.InForm.{xorbs_stored}
 use Rattle.xet_shards.proofs.StoredRecords.{AreStoredAt, is_stored, record_there, bookend_there, end_bound}
 use Rattle.xet_shards.proofs.StoredRuns.{answers_at, refuses_at, bookend_answers, bookend_refuses}
@@ -60,7 +60,7 @@ module _ (files : List MDBFileInfo) (xorbs : List MDBXorbInfo) (form : Form) (ol
     pub direct_in_form : size_of_chunks x ≤ 4294967295 → (qs : List DataHash) (index : ℕ) (new : Source) (r : Result (Option (ℕ × FileDataSequenceEntry)) CoreError)
         → IfOk r (AnswerAt footer.chunk_hash_hmac_key qs old.bytes footer.xorb_info_offset row index)
         → IfErr r (RefusedAt (λ e. e ≡ InvalidArguments) footer.chunk_hash_hmac_key qs footer.xorb_info_offset row index old new)
-        → MatchResult r (RunInXorb form.key qs x index) (NoRunInXorb qs x index old new)
+        → MatchResult r (RunInXorb form.key qs x index) (QueryFailsInXorb qs x index old new)
     direct_in_form few qs index new (Ok answer) found refused =
         subst (λ (f : MDBShardFileFooter). RunInXorb f.chunk_hash_hmac_key qs x index answer) is.footer_is (run_there qs index answer found)
     direct_in_form few qs index new (Err e) found refused = (refused.0, no_run_there (λ e. e ≡ InvalidArguments) qs index new e few refused)

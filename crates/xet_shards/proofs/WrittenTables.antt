@@ -41,14 +41,14 @@ use Rattle.xet_shards.proofs.XorbLayouts.{keys-alone, length-chunk_table, xorb_r
 length-start : (row : ℕ × ℕ) → FitsStart row → length (start_row row) ≡ 12
 length-start row fits = length-append (u64_bytes row.0) (u32_bytes row.1) ∙ omega (arith, length-u64_bytes row.0, length-u32_bytes row.1)
 
-start_told : (a b : ℕ × ℕ) → FitsStart a → FitsStart b → start_row a ≡ start_row b → a ≡ b
-start_told a b a_fits b_fits same = search (rules, u64_bytes-front, u32_bytes-injective)
+start_injective : (a b : ℕ × ℕ) → FitsStart a → FitsStart b → start_row a ≡ start_row b → a ≡ b
+start_injective a b a_fits b_fits same = search (rules, u64_bytes-front, u32_bytes-injective)
 
 length-triple : (row : ℕ × (ℕ × ℕ)) → FitsTriple row → length (triple_row row) ≡ 16
 length-triple row fits = search (rules, length-append, length-u64_bytes, length-u32_bytes)
 
-triple_told : (a b : ℕ × (ℕ × ℕ)) → FitsTriple a → FitsTriple b → triple_row a ≡ triple_row b → a ≡ b
-triple_told a b a_fits b_fits same =
+triple_injective : (a b : ℕ × (ℕ × ℕ)) → FitsTriple a → FitsTriple b → triple_row a ≡ triple_row b → a ≡ b
+triple_injective a b a_fits b_fits same =
     search (rules, u64_bytes-front, append_assoc, u32_bytes-front, u32_bytes-injective)
 
 -- the rows of a table, if it is in
@@ -197,7 +197,7 @@ module _ (files : List MDBFileInfo) (xorbs : List MDBXorbInfo) (form : Form) (fi
         rules,
         whole_table,
         length-start,
-        start_told,
+        start_injective,
         in_few,
         few_starts,
         widths,
@@ -214,7 +214,7 @@ module _ (files : List MDBFileInfo) (xorbs : List MDBXorbInfo) (form : Form) (fi
         map_in,
         whole_table,
         length-triple,
-        triple_told,
+        triple_injective,
         in_few,
         few_table_rows,
         widths,

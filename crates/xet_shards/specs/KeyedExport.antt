@@ -90,7 +90,7 @@ pub data ExportCase (bytes : List ℕ) (e : CoreError) : Type 0 where
   bad_xorbs : HasHeader bytes → (files : List MDBFileInfo)
       → IsSection file_records (drop 48 bytes) files
       → BadSection xorb_records (drop (xorbs_after files) bytes) e → ExportCase bytes e
-  not_written : IsDeviceError e → ExportCase bytes e
+  not_written : HasHeader bytes → IsDeviceError e → ExportCase bytes e
 
 -- it was not, without a seek; the position is unspecified
 pub record ExportFails (old new : Source) (e : CoreError) : Type 0 where

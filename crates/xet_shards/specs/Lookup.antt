@@ -48,12 +48,12 @@ abbrev pub row_at : ℕ → ℕ → ℕ
 row_at offset row = offset + 48 * row
 
 -- bytes are at an offset
-abbrev pub StandsAt : List ℕ → ℕ → List ℕ → Type 0
-StandsAt bytes offset part = (rest : List ℕ) × (drop offset bytes ≡ part ++ rest)
+abbrev pub HasAt : List ℕ → ℕ → List ℕ → Type 0
+HasAt bytes offset part = (rest : List ℕ) × (drop offset bytes ≡ part ++ rest)
 
 -- a record that is at an offset is handed out as `found`
 abbrev pub RecordAt : {H R : Type 0} → RecordKind H R → List ℕ → ℕ → R → Type 0
-RecordAt K bytes offset found = ReadsRecord K (StandsAt bytes offset) found
+RecordAt K bytes offset found = ReadsRecord K (HasAt bytes offset) found
 
 -- `InternalError` without a message: there is a bookend where a record should be
 abbrev pub IsBareInternalError : CoreError → Type 0
@@ -262,18 +262,18 @@ StartsAmong K records word rows count =
     × AreStarts K records word (take count rows)
 
 -- its errors: the collision, if eight or more do, or the device's own
-abbrev pub NoStartsAmong : {H R : Type 0} → RecordKind H R → List R → ℕ → Source → Source
+abbrev pub IndexFailsAmong : {H R : Type 0} → RecordKind H R → List R → ℕ → Source → Source
     → CoreError → Type 0
-NoStartsAmong K records word old new e =
+IndexFailsAmong K records word old new e =
     DeviceFailure old new e
     ⊎ ((e ≡ TruncatedHashCollision word) × (8 ≤ length (sharing K word records)))
 
 -- why a record lookup in such bytes fails: the device failed; out of memory, if one to seven
 -- records share the first word, since only then a record is read; or the collision, if eight or
 -- more do
-abbrev pub NotFoundAmong : {H R : Type 0} → RecordKind H R → List R → DataHash → Source → Source
+abbrev pub LookupFailsAmong : {H R : Type 0} → RecordKind H R → List R → DataHash → Source → Source
     → CoreError → Type 0
-NotFoundAmong K records hash old new e =
+LookupFailsAmong K records hash old new e =
     DeviceFailure old new e
     ⊎ ((e ≡ OutOfMemory) × (1 ≤ length (sharing K hash.word0 records))
     × (length (sharing K hash.word0 records) < 8))

@@ -45,9 +45,9 @@ module _ {H R V I : Type 0} (K : RecordKind H R) (record_of : V → R)
 
 module _ {I : Type 0} (reads : I → I → List ℕ → Type 0) where
   -- the xorb section was read if it is wanted, and nothing if it is not
-  abbrev pub ReadsXorbs : Bool → I → I → List MDBXorbInfo → Type 0
-  ReadsXorbs true old new xorbs = ReadsViews xorb_records (λ x. x) reads old new xorbs
-  ReadsXorbs false old new xorbs = (new ≡ old) × (xorbs ≡ [])
+  abbrev pub ReadsWantedXorbs : Bool → I → I → List MDBXorbInfo → Type 0
+  ReadsWantedXorbs true old new xorbs = ReadsViews xorb_records (λ x. x) reads old new xorbs
+  ReadsWantedXorbs false old new xorbs = (new ≡ old) × (xorbs ≡ [])
 
   -- the file section was read, and its records are kept if they are wanted; then the xorb section
   -- was
@@ -57,7 +57,7 @@ module _ {I : Type 0} (reads : I → I → List ℕ → Type 0) where
     pub mid : I
     pub file_section : ReadsViews file_records (λ r. r) reads old mid files
     pub kept : m.files ≡ if_in with_files files
-    pub xorb_section : ReadsXorbs with_xorbs mid new m.xorbs
+    pub xorb_section : ReadsWantedXorbs with_xorbs mid new m.xorbs
 
   -- a shard's header was read
   pub record ReadsShardHeader (old new : I) : Type 0 where

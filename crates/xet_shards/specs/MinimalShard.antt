@@ -119,7 +119,7 @@ HasNoTables form =
 
 -- bytes were appended, and their number returned
 pub record WritesBytes (old new : Option (List ℕ)) (bytes : List ℕ) (n : ℕ) : Type 0 where
-  pub text : Appends old new bytes
+  pub appended : Appends old new bytes
   pub count : n ≡ length bytes
 
 -- the shard was written: with verification rows only if they are wanted, and marks at the starts of

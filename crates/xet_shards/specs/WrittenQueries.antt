@@ -22,8 +22,8 @@ RunInXorb key qs xorb index answer =
     (answer ≡ some_run_at key (xorb, index) qs) × ((qs ≡ []) ⊎ (index < length xorb.chunks))
 
 -- it is refused, which needs a hash: the device failed, or the xorb has no chunk at the index
-abbrev pub NoRunInXorb : List DataHash → MDBXorbInfo → ℕ → Source → Source → CoreError → Type 0
-NoRunInXorb qs xorb index old new e =
+abbrev pub QueryFailsInXorb : List DataHash → MDBXorbInfo → ℕ → Source → Source → CoreError → Type 0
+QueryFailsInXorb qs xorb index old new e =
     (qs ≢ [])
     × (DeviceFailure old new e ⊎ ((e ≡ InvalidArguments) × (length xorb.chunks ≤ index)))
 

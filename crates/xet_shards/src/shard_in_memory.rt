@@ -1,6 +1,6 @@
 //! Shards in memory.
 
-ghost use Rattle.std.specs.Prelude.{◌≡◌, ◌<◌, ◌≤◌, ◌↔◌, [], ◌∷◌, Contains, length, sum_by, OnOk, OnErr, IfOk, IfErr, IsTrue, MatchResult, None};
+ghost use Rattle.std.specs.Prelude.{◌≡◌, ◌<◌, ◌≤◌, ◌↔◌, [], ◌∷◌, Contains, length, sum_by, OnOk, OnErr, IfOk, IfErr, IsTrue, MatchResult, None, IsSome};
 ghost use Rattle.std.specs.FinMap as finite;
 ghost use Rattle.xet_base.specs.declared.merklehash.DataHash.{DataHash};
 ghost use Rattle.xet_base.specs.Errors.{Admits};
@@ -255,8 +255,8 @@ impl MDBInMemoryShard {
         ensures { self.new ≡ self.old }
     {}
 
-    /// A copy of the record of this file, or `None` if the shard has none. `OutOfMemory` if an
-    /// allocation fails.
+    /// A copy of the record of this file, or `None` if the shard has none. `OutOfMemory` if
+    /// copying a record fails to allocate; nothing else allocates.
     pub fn get_file_reconstruction_info(
         &self,
         alloc: Global,
@@ -264,7 +264,8 @@ impl MDBInMemoryShard {
     ) -> Result<Option<MDBFileInfo>>
         ensures ok { IfOk result
             (λ found. found ≡ finite.get self.now.content.files file_hash.now) }
-        ensures causes { IfErr result (λ e. e ≡ CoreError.OutOfMemory) }
+        ensures causes { IfErr result (λ e. (e ≡ CoreError.OutOfMemory)
+            × IsSome (finite.get self.now.content.files file_hash.now)) }
     {
         match self.files.get(file_hash) {
             Some(file_info) => Ok(Some(file_info.try_clone(alloc)?)),

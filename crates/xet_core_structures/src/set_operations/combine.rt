@@ -9,7 +9,7 @@ ghost use Rattle.xet_shards.specs.InForm.{Ascends};
 ghost use Rattle.xet_core_structures.specs.Held.{AreWritable};
 ghost use Rattle.xet_core_structures.specs.Combining.{key_of_record, count, IsNextPair, Combines, Clash, NoneCombines};
 
-use super::set_record::{Operation, SetRecord};
+use super::set_record::{RecordOperation, SetRecord};
 use std::alloc::Global;
 use std::cmp::Ordering;
 use xet_base::error::{CoreError, Result};
@@ -37,7 +37,7 @@ fn comes_before<R: SetRecord>(x: &R, y: &R) -> bool
 }
 
 /// The same as `combine`; also `InvalidShard` if the rows of the result pass 4294967295.
-pub fn combine_within_rows<Op: Operation<R>, R: SetRecord + Drop>(
+pub fn combine_within_rows<Op: RecordOperation<R>, R: SetRecord + Drop>(
     alloc: Global,
     first: &[R],
     second: &[R],
@@ -59,7 +59,7 @@ pub fn combine_within_rows<Op: Operation<R>, R: SetRecord + Drop>(
 
 /// Combines two lists hash by hash. `InvalidShard` if of two records with one hash none can be
 /// made, `OutOfMemory` if an allocation fails.
-pub fn combine<Op: Operation<R>, R: SetRecord + Drop>(
+pub fn combine<Op: RecordOperation<R>, R: SetRecord + Drop>(
     alloc: Global,
     first: &[R],
     second: &[R],

@@ -1,7 +1,8 @@
 //! Reading the sections of a shard whole, as lists whose hashes strictly ascend.
 
-ghost use Rattle.std.specs.Prelude.{◌≡◌, ◌≢◌, MatchResult, IsErrAnd};
+ghost use Rattle.std.specs.Prelude.{◌≡◌, ◌≢◌, MatchResult, OnOk, IsErrAnd};
 ghost use Rattle.xet_base.specs.Errors.{IsInvalidShard};
+ghost use Rattle.xet_base.specs.Table.{Serves};
 ghost use Rattle.xet_shards.specs.InForm.{Ascends};
 ghost use Rattle.xet_core_structures.specs.Held.{HoldsLists, ReadsNoInput};
 ghost use Rattle.xet_core_structures.specs.ByteResults.{key_of, HaveInputs, InputsFail, DifferenceRefusal};
@@ -46,6 +47,8 @@ pub fn read_inputs<S: ShardSource, T: ShardSource>(
     ensures untouched { key_of s1.now ≢ key_of s2.now
         → IsErrAnd result (λ e. e ≡ CoreError.InvalidArguments) × (r1.new ≡ r1.old)
         × (r2.new ≡ r2.old) }
+    ensures serves { OnOk result (Serves (S.meaning r1.old) (S.meaning r1.new)
+        × Serves (T.meaning r2.old) (T.meaning r2.new)) }
     ensures sources { ((S.meaning r1.new).bytes ≡ (S.meaning r1.old).bytes)
         × ((T.meaning r2.new).bytes ≡ (T.meaning r2.old).bytes) }
 {
@@ -63,6 +66,7 @@ fn read_input<S: ShardSource>(alloc: Global, info: &MDBShardInfo, source: &mut S
         (λ found. HoldsLists (S.meaning source.old).bytes info.now found.files.items
         found.xorbs.items)
         (ReadsNoInput (S.meaning source.old) (S.meaning source.new) info.now) }
+    ensures serves { OnOk result (Serves (S.meaning source.old) (S.meaning source.new)) }
     ensures kept { (S.meaning source.new).bytes ≡ (S.meaning source.old).bytes }
 {
     let files = ascending(alloc, info.read_all_file_info_sections(alloc, source)?)?;

@@ -1,7 +1,8 @@
 //! The union and the difference of two inputs, written to an output.
 
-ghost use Rattle.std.specs.Prelude.{◌≡◌, ◌≢◌, ℕ, List, IfOk, IsErrAnd, MatchResult};
+ghost use Rattle.std.specs.Prelude.{◌≡◌, ◌≢◌, ℕ, List, IfOk, OnOk, IfErr, IsErrAnd, MatchResult};
 ghost use Rattle.xet_base.specs.declared.error.CoreError.{CoreError};
+ghost use Rattle.xet_base.specs.Table.{Serves};
 ghost use Rattle.xet_shards.specs.declared.shard_format.info.MDBShardInfo.{MDBShardInfo};
 ghost use Rattle.xet_shards.specs.Ends.{FitsFooter};
 ghost use Rattle.xet_shards.specs.SetOperations.{IsDifference};
@@ -10,7 +11,7 @@ ghost use Rattle.xet_core_structures.specs.declared.set_operations.inputs.Record
 ghost use Rattle.xet_core_structures.specs.declared.set_operations.results.SetFailure.TheVariants.{Input};
 ghost use Rattle.xet_core_structures.specs.ByteUnion.{IsByteUnion, IsEitherFile, IsEitherXorb};
 ghost use Rattle.xet_core_structures.specs.Combining.{IsRest};
-ghost use Rattle.xet_core_structures.specs.ByteResults.{key_of, AreRecords, AreCombined, AreNotUnited, WritesRecords, WritesResult, InputsFail, FailsBy, UnionRefusal, DifferenceRefusal, OperationLaws};
+ghost use Rattle.xet_core_structures.specs.ByteResults.{key_of, AreRecords, AreCombined, AreNotUnited, WritesRecords, WritesResult, InputsFail, FailsBy, IsOutput, UnionRefusal, DifferenceRefusal, OperationLaws};
 
 use super::combine::{combine, combine_within_rows};
 use super::inputs::{Records, read_inputs};
@@ -144,9 +145,13 @@ pub fn operate<O: SetOperation, S: ShardSource, T: ShardSource, W: Write>(
         (FailsBy
         (InputsFail (S.meaning r1.old) (S.meaning r1.new) (T.meaning r2.old) (T.meaning r2.new)
         (O.Refusal (S.meaning r1.old).bytes s1.now (T.meaning r2.old).bytes s2.now))) }
+    ensures same_key { IfErr result
+        (λ failure. IsOutput failure → key_of s1.now ≡ key_of s2.now) }
     ensures untouched { key_of s1.now ≢ key_of s2.now
         → IsErrAnd result (λ failure. failure ≡ Input CoreError.InvalidArguments)
         × (r1.new ≡ r1.old) × (r2.new ≡ r2.old) × (out.new ≡ out.old) }
+    ensures serves { OnOk result (Serves (S.meaning r1.old) (S.meaning r1.new)
+        × Serves (T.meaning r2.old) (T.meaning r2.new)) }
     ensures sources { ((S.meaning r1.new).bytes ≡ (S.meaning r1.old).bytes)
         × ((T.meaning r2.new).bytes ≡ (T.meaning r2.old).bytes) }
     ensures widths { IfOk result (λ info. FitsFooter info.metadata) }

@@ -77,7 +77,7 @@ impl SetRecord for MDBXorbInfo {
 }
 
 /// An operation on two lists of such records: `OfUnion` or `OfDifference`.
-pub trait Operation<R: SetRecord> {
+pub trait RecordOperation<R: SetRecord> {
     // what is made of the records with one hash, where each list may have one
     ghost makes: { Option R → Option R → Option R → Type 0 };
 
@@ -108,7 +108,7 @@ pub trait Operation<R: SetRecord> {
             (option_map (λ y. y.now) second.entry) made))) };
 }
 
-impl Operation<MDBFileInfo> for OfUnion {
+impl RecordOperation<MDBFileInfo> for OfUnion {
     ghost use Rattle.std.specs.Prelude.{refl};
 
     ghost makes = { IsEitherFile };
@@ -133,7 +133,7 @@ impl Operation<MDBFileInfo> for OfUnion {
     }
 }
 
-impl Operation<MDBXorbInfo> for OfUnion {
+impl RecordOperation<MDBXorbInfo> for OfUnion {
     ghost use Rattle.std.specs.Prelude.{refl};
 
     ghost makes = { IsEitherXorb };
@@ -157,7 +157,7 @@ impl Operation<MDBXorbInfo> for OfUnion {
     }
 }
 
-impl Operation<MDBFileInfo> for OfDifference {
+impl RecordOperation<MDBFileInfo> for OfDifference {
     ghost use Rattle.std.specs.Prelude.{refl};
 
     ghost makes = { IsRest };
@@ -180,7 +180,7 @@ impl Operation<MDBFileInfo> for OfDifference {
     }
 }
 
-impl Operation<MDBXorbInfo> for OfDifference {
+impl RecordOperation<MDBXorbInfo> for OfDifference {
     ghost use Rattle.std.specs.Prelude.{refl};
 
     ghost makes = { IsRest };

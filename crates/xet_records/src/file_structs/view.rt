@@ -8,7 +8,7 @@ ghost use Rattle.std.specs.Io.KnownBytes.{Appends};
 ghost use Rattle.xet_base.specs.Errors.{IsDeviceError};
 ghost use Rattle.xet_records.specs.FileRow.{header_row, clear_verification, clear_metadata};
 ghost use Rattle.xet_records.specs.FileRecord.{has_verification, has_metadata_ext, row_count, file_record_bytes, handed_out, file_records};
-ghost use Rattle.xet_records.specs.View.{BeginsWithHeaderRow, BeginsWithFile, NoView, without_verification, as_wanted, LacksVerification, IsOtherDeviceError};
+ghost use Rattle.xet_records.specs.View.{BeginsWithHeaderRow, BeginsWithFile, NoView, without_verification, as_wanted, LacksVerification, IsIoOther};
 
 use super::{
     FileDataSequenceEntry, FileDataSequenceHeader, FileMetadataExt, FileVerificationEntry,
@@ -196,7 +196,7 @@ impl MDBFileInfoView {
         ensures count { IfOk result
             (λ n. n ≡ 48 * row_count (as_wanted with_verification self.now)) }
         ensures missing { LacksVerification with_verification self.now
-            → IsErrAnd result IsOtherDeviceError × (writer.new ≡ writer.old) }
+            → IsErrAnd result IsIoOther × (writer.new ≡ writer.old) }
         ensures causes { IfErr result IsDeviceError }
     {
         let contains_verification = self.contains_verification();

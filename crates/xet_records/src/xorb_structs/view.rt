@@ -163,7 +163,7 @@ impl MDBXorbInfoView {
         ensures { MatchResult result
             (λ info. (info ≡ under_own_header self.now) × (end_of_chunks self.now.chunks < 2 ^ 32))
             (λ e. (IsBareInvalidShard e × (2 ^ 32 ≤ end_of_chunks self.now.chunks))
-            ⊎ (e ≡ CoreError.OutOfMemory)) }
+            ⊎ ((e ≡ CoreError.OutOfMemory) × (end_of_chunks self.now.chunks < 2 ^ 32))) }
     {
         let Some(size) = self.end_of_chunks() else {
             return Err(CoreError::InvalidShard(String::new(alloc)));

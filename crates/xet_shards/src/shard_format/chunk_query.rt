@@ -13,7 +13,7 @@ ghost use Rattle.xet_shards.specs.Section.{total_rows, StartsAt};
 ghost use Rattle.xet_shards.specs.Layout.{Form};
 ghost use Rattle.xet_shards.specs.InForm.{IsInForm};
 ghost use Rattle.xet_shards.specs.Lookup.{Visit, VisitsSome};
-ghost use Rattle.xet_shards.specs.WrittenQueries.{RunInXorb, NoRunInXorb, RunAmong, QueryCosts};
+ghost use Rattle.xet_shards.specs.WrittenQueries.{RunInXorb, QueryFailsInXorb, RunAmong, QueryCosts};
 ghost use Rattle.xet_shards.specs.RunReading.{AnswerAt, RefusedAt, TriedAnswer, TriedRefused, QueryOutcome};
 ghost use Rattle.xet_shards.specs.WrittenShard.{IsWritten};
 
@@ -58,13 +58,13 @@ impl MDBShardInfo {
             → IsInForm files xorbs form (S.meaning source.old).bytes self.now.metadata
             → StartsAt xorb_records xorbs xorb_row xorb → IsXorb xorb
             → MatchResult result (RunInXorb form.key unkeyed_query_hashes.now xorb chunk_index)
-            (NoRunInXorb unkeyed_query_hashes.now xorb chunk_index (S.meaning source.old)
+            (QueryFailsInXorb unkeyed_query_hashes.now xorb chunk_index (S.meaning source.old)
             (S.meaning source.new)) }
         ensures written { (s : Shard) → (expiry : Option ℕ) → (xorb : Xorb)
             → IsWritten s expiry (S.meaning source.old).bytes self.now
             → StartsAt xorb_records (finite.values s.xorbs) xorb_row xorb
             → MatchResult result (RunInXorb no_key unkeyed_query_hashes.now xorb chunk_index)
-            (NoRunInXorb unkeyed_query_hashes.now xorb chunk_index (S.meaning source.old)
+            (QueryFailsInXorb unkeyed_query_hashes.now xorb chunk_index (S.meaning source.old)
             (S.meaning source.new)) }
         ensures bookend { (files : List File) → (xorbs : List Xorb) → (form : Form)
             → IsInForm files xorbs form (S.meaning source.old).bytes self.now.metadata
@@ -108,6 +108,7 @@ impl MDBShardInfo {
             ⊎ (self.now.metadata.chunk_lookup_num_entry ≡ 0)
             → (result ≡ Ok None) × (S.meaning source.new ≡ S.meaning source.old) }
         ensures serves { OnOk result (Serves (S.meaning source.old) (S.meaning source.new)) }
+        ensures kept { (S.meaning source.new).bytes ≡ (S.meaning source.old).bytes }
         ensures in_form { (files : List File) → (xorbs : List Xorb) → (form : Form)
             → IsInForm files xorbs form (S.meaning source.old).bytes self.now.metadata
             → form.chunk_table ≡ true → All IsXorb xorbs
@@ -140,6 +141,7 @@ impl MDBShardInfo {
         ensures read { QueryOutcome self.now.metadata unkeyed_query_hashes.now
             (S.meaning source.old) (S.meaning source.new) result }
         ensures serves { OnOk result (Serves (S.meaning source.old) (S.meaning source.new)) }
+        ensures kept { (S.meaning source.new).bytes ≡ (S.meaning source.old).bytes }
     {
         let Some(first) = unkeyed_query_hashes.first() else {
             return Ok(None);

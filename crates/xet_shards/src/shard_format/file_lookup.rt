@@ -9,7 +9,7 @@ ghost use Rattle.xet_records.specs.FileRecord.{file_records};
 ghost use Rattle.xet_shards.specs.Shard.{Shard};
 ghost use Rattle.xet_shards.specs.Layout.{Form};
 ghost use Rattle.xet_shards.specs.InForm.{HasFileTable};
-ghost use Rattle.xet_shards.specs.Lookup.{StartsAmong, NoStartsAmong, FoundAmong, FoundInShard, NotFoundAmong, WithinBounds, SearchWithinBounds, file_table, LooksUpIndex, LooksUpRecord, ReadsInfo, ReadInfoFails, VisitsSome, Finding, FindingFails, LookupAnswer, LookupRefused};
+ghost use Rattle.xet_shards.specs.Lookup.{StartsAmong, IndexFailsAmong, FoundAmong, FoundInShard, LookupFailsAmong, WithinBounds, SearchWithinBounds, file_table, LooksUpIndex, LooksUpRecord, ReadsInfo, ReadInfoFails, VisitsSome, Finding, FindingFails, LookupAnswer, LookupRefused};
 ghost use Rattle.xet_shards.specs.WrittenShard.{IsWritten};
 
 use super::info::MDBShardInfo;
@@ -43,7 +43,7 @@ impl MDBShardInfo {
             → IsWritten s expiry (S.meaning source.old).bytes self.now
             → MatchResult result
             (StartsAmong file_records (finite.values s.files) hash.now.word0 dest.new)
-            (NoStartsAmong file_records (finite.values s.files) hash.now.word0
+            (IndexFailsAmong file_records (finite.values s.files) hash.now.word0
             (S.meaning source.old) (S.meaning source.new)) }
         ensures costs { (s : Shard) → (expiry : Option ℕ)
             → IsWritten s expiry (S.meaning source.old).bytes self.now
@@ -93,7 +93,7 @@ impl MDBShardInfo {
         ensures in_form { (files : List MDBFileInfo) → (xorbs : List MDBXorbInfo) → (form : Form)
             → HasFileTable files xorbs form (S.meaning source.old).bytes self.now.metadata
             → MatchResult result (FoundAmong file_records files hash.now)
-            (NotFoundAmong file_records files hash.now (S.meaning source.old)
+            (LookupFailsAmong file_records files hash.now (S.meaning source.old)
             (S.meaning source.new)) }
         ensures in_form_costs { (files : List MDBFileInfo) → (xorbs : List MDBXorbInfo)
             → (form : Form)
@@ -109,7 +109,7 @@ impl MDBShardInfo {
         ensures written { (s : Shard) → (expiry : Option ℕ)
             → IsWritten s expiry (S.meaning source.old).bytes self.now
             → MatchResult result (FoundInShard s hash.now)
-            (NotFoundAmong file_records (finite.values s.files) hash.now (S.meaning source.old)
+            (LookupFailsAmong file_records (finite.values s.files) hash.now (S.meaning source.old)
             (S.meaning source.new)) }
         ensures costs { (s : Shard) → (expiry : Option ℕ)
             → IsWritten s expiry (S.meaning source.old).bytes self.now

@@ -129,9 +129,17 @@ impl MDBShardInfo {
     pub fn keyed_chunk_hash(&self, hash: &MerkleHash) -> MerkleHash
         ensures { result ≡ under_key self.now.metadata.chunk_hash_hmac_key hash.now }
     {
-        match self.chunk_hmac_key() {
-            Some(key) => hash.hmac(key),
-            None => *hash,
-        }
+        keyed(*hash, self.metadata.chunk_hash_hmac_key)
+    }
+}
+
+// A hash under a key. The key of zeros, which is no key, leaves it as it is.
+pub(super) fn keyed(hash: MerkleHash, key: HMACKey) -> MerkleHash
+    ensures { result ≡ under_key key hash }
+{
+    if key == HMACKey::default() {
+        hash
+    } else {
+        hash.hmac(key)
     }
 }

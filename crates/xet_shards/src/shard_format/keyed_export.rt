@@ -4,7 +4,7 @@
 ghost use Rattle.std.specs.Prelude.{◌≡◌, ◌⊎◌, ◌+◌, ◌*◌, ◌^◌, ◌≤◌, ◌++◌, List, flat_map, MatchResult, OnOk, IfErr, IsErrAnd};
 ghost use Rattle.std.specs.Io.KnownBytes.{Appends};
 ghost use Rattle.xet_base.specs.Errors.{IsDeviceError};
-ghost use Rattle.xet_base.specs.KeyedHash.{no_key, under_key};
+ghost use Rattle.xet_base.specs.KeyedHash.{no_key};
 ghost use Rattle.xet_base.specs.Source.{Takes};
 ghost use Rattle.xet_records.specs.RecordKind.{KindLaws};
 ghost use Rattle.xet_records.specs.ViewReading.{ReadsNextView};
@@ -16,6 +16,7 @@ ghost use Rattle.xet_shards.specs.KeyedExport.{Exports, ExportFails, ExportsSect
 ghost use Rattle.xet_shards.specs.ExportLaws.{file_rows, xorb_rows};
 
 use super::footer::FOOTER_SIZE;
+use super::footer_facts::keyed;
 use super::form::Form;
 use super::header::MDBShardFileHeader;
 use super::info::{MDBShardInfo, read_header};
@@ -26,7 +27,7 @@ use std::alloc::Global;
 use std::io::Write;
 use xet_base::error::{CoreError, Result};
 use xet_base::input::OfSource;
-use xet_base::merklehash::{HMACKey, MerkleHash};
+use xet_base::merklehash::HMACKey;
 use xet_base::source::ShardSource;
 use xet_records::file_structs::{MDBFileInfo, MDBFileInfoView};
 use xet_records::record_reader::read_record;
@@ -285,16 +286,5 @@ fn with_keyed_hashes(xorb: MDBXorbInfo, key: HMACKey) -> MDBXorbInfo
     MDBXorbInfo {
         metadata,
         chunks: Rows::from(chunks),
-    }
-}
-
-// A hash under a key.
-fn keyed(hash: MerkleHash, key: HMACKey) -> MerkleHash
-    ensures { result ≡ under_key key hash }
-{
-    if key == HMACKey::default() {
-        hash
-    } else {
-        hash.hmac(key)
     }
 }

@@ -11,7 +11,7 @@ use std::alloc::Global;
 use xet_base::error::{CoreError, Result};
 use xet_base::input::OfSource;
 use xet_base::source::ShardSource;
-use xet_records::record_reader::{MOST_ROWS_OF_RECORD, SectionRecord, read_record, read_section};
+use xet_records::record_reader::{MAX_ROWS_OF_RECORD, SectionRecord, read_record, read_section};
 use xet_records::xorb_structs::{MDBXorbInfo, XorbChunkSequenceHeader};
 
 /// Reads the records of the section at an offset.
@@ -47,7 +47,7 @@ pub(super) fn read_record_at<R: SectionRecord + Drop, S: ShardSource>(
         return Err(CoreError::InvalidShard(String::new(alloc)));
     };
     source.seek_to(row_offset)?;
-    let mut rows_left = MOST_ROWS_OF_RECORD;
+    let mut rows_left = MAX_ROWS_OF_RECORD;
     match read_record::<R, OfSource, S>(alloc, source, &mut rows_left)? {
         Some(found) => Ok(found),
         None => Err(CoreError::InternalError(String::new(alloc))),

@@ -11,7 +11,7 @@ ghost use Rattle.xet_records.specs.XorbRecord.{xorb_records};
 ghost use Rattle.xet_shards.specs.Shard.{Shard};
 ghost use Rattle.xet_shards.specs.Layout.{Form};
 ghost use Rattle.xet_shards.specs.InForm.{Ascends, IsInForm};
-ghost use Rattle.xet_shards.specs.Lookup.{StartsAmong, NoStartsAmong, SearchWithinBounds, xorb_table, chunk_lookup_table, IsPair, LooksUpIndex};
+ghost use Rattle.xet_shards.specs.Lookup.{StartsAmong, IndexFailsAmong, SearchWithinBounds, xorb_table, chunk_lookup_table, IsPair, LooksUpIndex};
 ghost use Rattle.xet_shards.specs.WrittenChunks.{RowsAmong, ChunkSearchCosts};
 ghost use Rattle.xet_shards.specs.WrittenShard.{IsWritten};
 
@@ -108,13 +108,13 @@ impl MDBShardInfo {
             → IsInForm files xorbs form (S.meaning source.old).bytes self.now.metadata
             → Ascends xorb_records xorbs → form.xorb_table ≡ true
             → MatchResult result (StartsAmong xorb_records xorbs hash.now.word0 dest.new)
-            (NoStartsAmong xorb_records xorbs hash.now.word0 (S.meaning source.old)
+            (IndexFailsAmong xorb_records xorbs hash.now.word0 (S.meaning source.old)
             (S.meaning source.new)) }
         ensures written { (s : Shard) → (expiry : Option ℕ)
             → IsWritten s expiry (S.meaning source.old).bytes self.now
             → MatchResult result
             (StartsAmong xorb_records (finite.values s.xorbs) hash.now.word0 dest.new)
-            (NoStartsAmong xorb_records (finite.values s.xorbs) hash.now.word0
+            (IndexFailsAmong xorb_records (finite.values s.xorbs) hash.now.word0
             (S.meaning source.old) (S.meaning source.new)) }
         ensures in_form_costs { (files : List File) → (xorbs : List Xorb) → (form : Form)
             → IsInForm files xorbs form (S.meaning source.old).bytes self.now.metadata

@@ -8,7 +8,7 @@ ghost use Rattle.std.specs.List.{Any, list_all};
 ghost use Rattle.xet_base.specs.Errors.{IsDeviceError};
 ghost use Rattle.xet_records.specs.FileRecord.{file_records, has_verification};
 ghost use Rattle.xet_records.specs.XorbRecord.{xorb_records};
-ghost use Rattle.xet_records.specs.View.{as_wanted, LacksVerification, IsOtherDeviceError};
+ghost use Rattle.xet_records.specs.View.{as_wanted, LacksVerification, IsIoOther};
 ghost use Rattle.xet_shards.specs.InForm.{FitsSection};
 ghost use Rattle.xet_shards.specs.Section.{section_bytes};
 ghost use Rattle.xet_shards.specs.Written.{HasWritten};
@@ -50,7 +50,7 @@ impl MDBMinimalShard {
             (WritesMinimal (W.contents writer.old) (W.contents writer.new) with_verification now
             self.now) }
         ensures missing { Any (LacksVerification with_verification) self.now.files
-            → IsErrAnd result IsOtherDeviceError × (writer.new ≡ writer.old) }
+            → IsErrAnd result IsIoOther × (writer.new ≡ writer.old) }
         ensures causes { IfErr result IsDeviceError }
     {
         let files = self.files();

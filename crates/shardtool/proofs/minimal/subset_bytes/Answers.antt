@@ -16,5 +16,5 @@ returns c =
       c.in_ok-shard.ensures,
       kept_so _ (λ x accepted. IsTrue accepted ↔ Keeps subset.kept (xorb_hash_of x))
           (λ x accepted answer. subst (λ y. IsTrue accepted ↔ Keeps subset.kept (xorb_hash_of y)) answer.shows answer.says.met) m.xorbs written.kept written.is_kept,
-      written.written.text ∙ ap (λ (zs : List ℕ). zs ++ layout_of [] (map (mark_starts (is_start m.files)) written.kept) (minimal_form subset.now subset.expiry)) c.new-written.ensures.items,
+      written.written.appended ∙ ap (λ (zs : List ℕ). zs ++ layout_of [] (map (mark_starts (is_start m.files)) written.kept) (minimal_form subset.now subset.expiry)) c.new-written.ensures.items,
     )

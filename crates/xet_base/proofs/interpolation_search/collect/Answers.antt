@@ -2,7 +2,7 @@ use Rattle.std.proofs.Common.{◌+◌, refl, sym, ap, ◌∙◌, arith}
 use Rattle.std.proofs.lemmas.Result.{err_from_is_err_and}
 use Rattle.xet_base.specs.Search.{table_in}
 use Rattle.xet_base.proofs.Tables.{none_after}
-use Rattle.xet_base.proofs.Search.{read_failure, row_within, serves_advanced}
+use Rattle.xet_base.proofs.Search.{read_failure, serves_advanced}
 use Rattle.xet_base.proofs.Collecting.{around_end, key_is, key_there, collected_start, collected_keep, collected_skip, counts_rest, passes_part}
 use Rattle.xet_base.proofs.interpolation_search.collect.Goals as goal
 use Rattle.xet_base.proofs.interpolation_search.collect.Goals.{then-found-key-2, else-found-key-2}
@@ -14,8 +14,8 @@ pub returns-in_err-found-clause-refused : goal.returns-in_err-found-clause-refus
 returns-in_err-found-clause-refused g c =
     let t = table_in c.args.range (g.S.ShardSource.meaning c.args.source.now).bytes in
     let p = err_from_is_err_and c.from_residual.result c.from_residual.ensures.1 in
-    rw (p.1, p.2) (read_failure t (g.S.ShardSource.meaning c.args.source.now) (g.S.ShardSource.meaning c.loop-row.source) (g.S.ShardSource.meaning c.read_key.new.source) 8 _ c.loop-row.invariant.serves
-    (omega (arith, c.loop-row.invariant.at, row_within t c.loop-row.row (omega (arith, c.loop-row-test.true, c.requires.within)))) c.in_err-found.ensures.cause)
+    rw (p.1, p.2) (read_failure t c.loop-row.row (g.S.ShardSource.meaning c.args.source.now) (g.S.ShardSource.meaning c.loop-row.source) (g.S.ShardSource.meaning c.read_key.new.source) 8 _ c.loop-row.invariant.serves
+    (omega (arith, c.loop-row-test.true, c.requires.within)) (omega (arith, c.loop-row.invariant.at)) c.in_err-found.ensures.cause)
 
 pub returns-in_err-found-clause-passes : goal.returns-in_err-found-clause-passes
 returns-in_err-found-clause-passes g c =
@@ -29,8 +29,8 @@ returns-in_err-value-clause-refused g c =
     let p = err_from_is_err_and c.from_residual-in_err-value.result c.from_residual-in_err-value.ensures.1 in
     let fails = c.requires.reads _ _ _ c.in_err-value.ensures in
     let after = c.in_ok-found.ensures.0.after in
-    rw (p.1, p.2) (read_failure t (g.S.ShardSource.meaning c.args.source.now) (g.S.ShardSource.meaning c.read_key.new.source) (g.S.ShardSource.meaning c.read_value.new.arg2) t.width _ (serves_advanced _ (g.S.ShardSource.meaning c.loop-row.source) _ 8 c.loop-row.invariant.serves after)
-    (omega (arith, ap (λ s. s.at) after, c.loop-row.invariant.at, row_within t c.loop-row.row (omega (arith, c.loop-row-test.true, c.requires.within)))) fails.cause)
+    rw (p.1, p.2) (read_failure t c.loop-row.row (g.S.ShardSource.meaning c.args.source.now) (g.S.ShardSource.meaning c.read_key.new.source) (g.S.ShardSource.meaning c.read_value.new.arg2) t.width _ (serves_advanced _ (g.S.ShardSource.meaning c.loop-row.source) _ 8 c.loop-row.invariant.serves after)
+    (omega (arith, c.loop-row-test.true, c.requires.within)) (omega (arith, ap (λ s. s.at) after, c.loop-row.invariant.at)) fails.cause)
 
 pub returns-in_err-value-clause-passes : goal.returns-in_err-value-clause-passes
 returns-in_err-value-clause-passes g c =

@@ -3,7 +3,7 @@ use Rattle.std.proofs.lemmas.Result.{err_from_is_err_and}
 use Rattle.xet_base.specs.Table.{key_at}
 use Rattle.xet_base.specs.Search.{table_in}
 use Rattle.xet_base.proofs.Tables.{hits_below-hit, keys_ascend, none_after}
-use Rattle.xet_base.proofs.Search.{read_failure, row_within, serves_still, serves_advanced}
+use Rattle.xet_base.proofs.Search.{read_failure, serves_still, serves_advanced}
 use Rattle.xet_base.proofs.Collecting.{around_end, key_is, key_there, value_is, collected_first, collected_keep, counts_rest, runs_first, runs_part, runs_row}
 use Rattle.xet_base.proofs.interpolation_search.keep_equal.Goals as goal
 
@@ -13,8 +13,8 @@ returns-in_err-value-clause-refused g c =
     let t = table_in c.args.range old.bytes in
     let p = err_from_is_err_and c.from_residual.result c.from_residual.ensures.1 in
     let fails = c.requires.reads _ _ _ c.in_err-value.ensures in
-    rw (p.1, p.2) (read_failure t old old (g.S.ShardSource.meaning c.read_value.new.arg2) t.width _ (serves_still old)
-    (omega (arith, c.requires.key_read, row_within t c.args.rows.start c.requires.equal.within)) fails.cause)
+    rw (p.1, p.2) (read_failure t c.args.rows.start old old (g.S.ShardSource.meaning c.read_value.new.arg2) t.width _ (serves_still old)
+    c.requires.equal.within (omega (arith, c.requires.key_read)) fails.cause)
 
 pub returns-in_err-value-clause-runs : goal.returns-in_err-value-clause-runs
 returns-in_err-value-clause-runs g c =
@@ -40,8 +40,8 @@ returns-in_err-read_key-clause-refused g c =
     let t = table_in c.args.range (g.S.ShardSource.meaning c.args.source.now).bytes in
     let p = err_from_is_err_and c.from_residual-in_err-read_key.result c.from_residual-in_err-read_key.ensures.1 in
     let so_far = c.loop-row.invariant.collected in
-    rw (p.1, p.2) (read_failure t (g.S.ShardSource.meaning c.args.source.now) (g.S.ShardSource.meaning c.loop-row.source) (g.S.ShardSource.meaning c.read_key.new.source) 8 _ so_far.serves
-    (omega (arith, so_far.at, row_within t c.loop-row.row (omega (arith, c.loop-row-test.true, c.requires.within)))) c.in_err-read_key.ensures.cause)
+    rw (p.1, p.2) (read_failure t c.loop-row.row (g.S.ShardSource.meaning c.args.source.now) (g.S.ShardSource.meaning c.loop-row.source) (g.S.ShardSource.meaning c.read_key.new.source) 8 _ so_far.serves
+    (omega (arith, c.loop-row-test.true, c.requires.within)) (omega (arith, so_far.at)) c.in_err-read_key.ensures.cause)
 
 pub returns-in_err-read_key-clause-runs : goal.returns-in_err-read_key-clause-runs
 returns-in_err-read_key-clause-runs g c =
@@ -89,8 +89,8 @@ returns-in_err-value-2-clause-refused g c =
     let so_far = c.loop-row.invariant.collected in
     let fails = c.requires.reads _ _ _ c.in_err-value-2.ensures in
     let after = c.in_ok-read_key.ensures.0.after in
-    rw (p.1, p.2) (read_failure t (g.S.ShardSource.meaning c.args.source.now) (g.S.ShardSource.meaning c.read_key.new.source) (g.S.ShardSource.meaning c.read_value-in-loop-row.new.arg2) t.width _ (serves_advanced _ (g.S.ShardSource.meaning c.loop-row.source) _ 8 so_far.serves after)
-    (omega (arith, ap (λ s. s.at) after, so_far.at, row_within t c.loop-row.row (omega (arith, c.loop-row-test.true, c.requires.within)))) fails.cause)
+    rw (p.1, p.2) (read_failure t c.loop-row.row (g.S.ShardSource.meaning c.args.source.now) (g.S.ShardSource.meaning c.read_key.new.source) (g.S.ShardSource.meaning c.read_value-in-loop-row.new.arg2) t.width _ (serves_advanced _ (g.S.ShardSource.meaning c.loop-row.source) _ 8 so_far.serves after)
+    (omega (arith, c.loop-row-test.true, c.requires.within)) (omega (arith, ap (λ s. s.at) after, so_far.at)) fails.cause)
 
 pub returns-in_err-value-2-clause-runs : goal.returns-in_err-value-2-clause-runs
 returns-in_err-value-2-clause-runs g c =

@@ -10,7 +10,7 @@ returns-in_err-first-clause-read g c =
     let p = err_from_is_err_and c.from_residual.result c.from_residual.ensures.1 in
     rw (p.1, p.2) (first_fails (g.S.ShardSource.meaning c.args.r1.now).bytes c.args.s1.now (g.T.ShardSource.meaning c.args.r2.now).bytes c.args.s2.now
     (g.S.ShardSource.meaning c.args.r1.now) (g.S.ShardSource.meaning c.read_input.new.source) (g.T.ShardSource.meaning c.args.r2.now) (g.T.ShardSource.meaning c.args.r2.now)
-    c.in_err-first.field-0.0 same refl c.in_err-first.ensures.read)
+    c.in_err-first.field-0.0 same refl refl c.in_err-first.ensures.read)
 
 pub returns-in_err-second-clause-read : goal.returns-in_err-second-clause-read
 returns-in_err-second-clause-read g c =
@@ -18,4 +18,4 @@ returns-in_err-second-clause-read g c =
     let p = err_from_is_err_and c.from_residual-in_err-second.result c.from_residual-in_err-second.ensures.1 in
     rw (p.1, p.2) (second_fails (g.S.ShardSource.meaning c.args.r1.now).bytes c.args.s1.now (g.T.ShardSource.meaning c.args.r2.now).bytes c.args.s2.now
     (g.S.ShardSource.meaning c.args.r1.now) (g.S.ShardSource.meaning c.read_input.new.source) (g.T.ShardSource.meaning c.args.r2.now) (g.T.ShardSource.meaning c.read_input-2.new.source)
-    c.in_err-second.field-0.0 same refl c.in_err-second.ensures.read)
+    c.in_err-second.field-0.0 same refl c.in_ok-first.ensures.serves.failures c.in_err-second.ensures.read)

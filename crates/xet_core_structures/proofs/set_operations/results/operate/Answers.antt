@@ -17,8 +17,12 @@ returns-in_err-inputs-clause-written g c =
 pub returns-in_err-records-clause-written : goal.returns-in_err-records-clause-written
 returns-in_err-records-clause-written g c =
     let p = err_from_is_err_and c.from_residual-in_err-records.result c.from_residual-in_err-records.ensures.1 in
-    rw (p.1, p.2) (inr (inr (c.laws.ensures.not_made (g.S.ShardSource.meaning c.args.r1.now).bytes c.args.s1.now (g.T.ShardSource.meaning c.args.r2.now).bytes c.args.s2.now
-    c.in_ok-inputs.inputs c.in_err-records.field-0.0 c.in_ok-inputs.ensures.read c.in_err-records.ensures)))
+    rw (p.1, p.2) (inr (inr (
+      c.in_ok-inputs.ensures.serves.0.failures,
+      c.in_ok-inputs.ensures.serves.1.failures,
+      c.laws.ensures.not_made (g.S.ShardSource.meaning c.args.r1.now).bytes c.args.s1.now (g.T.ShardSource.meaning c.args.r2.now).bytes c.args.s2.now
+          c.in_ok-inputs.inputs c.in_err-records.field-0.0 c.in_ok-inputs.ensures.read c.in_err-records.ensures,
+    )))
 
 pub write_records-requires : goal.write_records-requires
 write_records-requires g c = c.laws.ensures.writable c.in_ok-inputs.inputs.first c.in_ok-inputs.inputs.second c.in_ok-records.records c.in_ok-records.ensures

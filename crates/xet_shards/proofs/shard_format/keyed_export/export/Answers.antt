@@ -5,8 +5,15 @@ use Rattle.xet_records.specs.FileRecord.{file_records}
 use Rattle.xet_records.specs.XorbRecord.{xorb_records}
 use Rattle.xet_shards.specs.Layout.{if_in, shard_header_bytes}
 use Rattle.xet_shards.specs.KeyedExport.{exported_file, exported_xorb, keyed_xorbs}
-use Rattle.xet_shards.proofs.KeyedExport.{files_exported, xorbs_exported, section_exported, files_not_exported, xorbs_not_exported, widths_out, export_small, all_exported}
+use Rattle.xet_shards.proofs.KeyedExport.{files_exported, xorbs_exported, section_exported, files_not_exported, xorbs_not_exported, header_not_written, end_not_written, widths_out, export_small, all_exported}
 use Rattle.xet_shards.proofs.shard_format.keyed_export.export.Goals as goal
+
+pub returns-in_err-serialize : goal.returns-in_err-serialize
+returns-in_err-serialize g c =
+    let source = g.S.ShardSource.meaning in
+    let read = c.in_ok-read_header.ensures in
+    let p = err_from_is_err_and c.from_residual-in_err-serialize.result c.from_residual-in_err-serialize.ensures.1 in
+    rw (p.1, p.2) (header_not_written (source c.args.source.now) (source c.read_header.new.source) c.in_ok-read_header.field-0 read.read read.known.1 _ c.in_err-serialize.ensures.causes)
 
 pub returns-in_err-files : goal.returns-in_err-files
 returns-in_err-files g c =
@@ -24,6 +31,17 @@ returns-in_err-xorbs g c =
     let p = err_from_is_err_and c.from_residual-in_err-xorbs.result c.from_residual-in_err-xorbs.ensures.1 in
     rw (p.1, p.2) (xorbs_not_exported (source c.args.source.now) (source c.read_header.new.source) c.in_ok-read_header.field-0 read.read read.known.1
     (source c.export_section.new.source) files.0 files.1 _ _ c.in_err-xorbs.ensures)
+
+pub returns-in_err-footer : goal.returns-in_err-footer
+returns-in_err-footer g c =
+    let source = g.S.ShardSource.meaning in
+    let read = c.in_ok-read_header.ensures in
+    let form = c.args.form.now in
+    let files = section_exported file_records (exported_file form) (if_in form.file_table) (files_exported form) _ _ _ _ _ c.in_ok-files.ensures in
+    let xorbs = section_exported xorb_records (exported_xorb form) (keyed_xorbs form.key) (xorbs_exported form) _ _ _ _ _ c.in_ok-xorbs.ensures in
+    let p = err_from_is_err_and c.from_residual-in_err-footer.result c.from_residual-in_err-footer.ensures.1 in
+    rw (p.1, p.2) (end_not_written (source c.args.source.now) (source c.read_header.new.source) c.in_ok-read_header.field-0 read.read read.known.1
+    (source c.export_section.new.source) files.0 files.1 (source c.export_section-2.new.source) xorbs.0 xorbs.1 form _ c.in_err-footer.ensures.causes)
 
 pub overflow_add-size : goal.overflow_add-size
 overflow_add-size g c =

@@ -1,6 +1,6 @@
 use Rattle.std.proofs.lemmas.Result.{err_from_is_err_and}
 use Rattle.xet_core_structures.proofs.Mixing.{no_either}
-use Rattle.xet_core_structures.proofs.set_operations.set_record.OfUnionOperationMDBFileInfo.combine.Goals as goal
+use Rattle.xet_core_structures.proofs.set_operations.set_record.OfUnionRecordOperationMDBFileInfo.combine.Goals as goal
 
 pub returns-in_err-unite_file-in-Some-Some-clause-causes :
     goal.returns-in_err-unite_file-in-Some-Some-clause-causes
