@@ -1,21 +1,33 @@
-//! A source over bytes in memory that counts its costs and fails by a plan.
+//! Devices over bytes in memory that fail by a plan: a source, also as a reader, that counts its
+//! costs, and an output.
 
-ghost use Rattle.std.specs.Prelude.{◌≡◌, ◌+◌, IfNone, IfSome, Some};
+ghost use Rattle.std.specs.Prelude.{◌≡◌, ◌≤◌, ◌<◌, ◌+◌, IfNone, IfSome, Some};
 
+use std::alloc::Global;
 use std::io;
-use std::io::ErrorKind;
+use std::io::{ErrorKind, Read, Write};
 use xet_core_structures::count::Count;
 use xet_core_structures::source::{MemorySource, ShardSource};
 
-/// How a device deviates from one that works.
+/// How the devices of a command deviate from ones that work.
 #[derive(Clone, Copy)]
 pub struct Plan {
     /// The call that fails, if any.
     pub fault: Option<Fault>,
-    /// Whether each read returns one byte.
+    /// The device whose call fails, where a command has several.
+    pub target: Target,
+    /// Whether each read and each write transfers one byte.
     pub is_slow: bool,
-    /// Whether the call of the second device fails, where a command has two.
-    pub is_second: bool,
+    /// Whether a command with a failure runs once more, on the same devices.
+    pub runs_again: bool,
+}
+
+/// A device of a command.
+#[derive(Clone, Copy, PartialEq, Eq)]
+pub enum Target {
+    First,
+    Second,
+    Output,
 }
 
 impl Plan {
@@ -23,25 +35,44 @@ impl Plan {
     pub fn new() -> Plan {
         Plan {
             fault: None,
+            target: Target::First,
             is_slow: false,
-            is_second: false,
+            runs_again: false,
         }
     }
 
-    /// The plan of the first of two devices.
-    pub fn of_first(self) -> Plan {
-        self.unless(self.is_second)
-    }
-
-    /// The plan of the second of two devices.
-    pub fn of_second(self) -> Plan {
-        self.unless(!self.is_second)
-    }
-
-    // The plan without its failure if it is another device's.
-    fn unless(self, is_other: bool) -> Plan {
-        let fault = if is_other { None } else { self.fault };
+    /// The plan of one of the devices, without a failure that is another's.
+    pub fn of(self, device: Target) -> Plan {
+        let fault = if self.target == device {
+            self.fault
+        } else {
+            None
+        };
         Plan { fault, ..self }
+    }
+
+    // The failure of the next call, if it is the one that fails.
+    fn failure_of(&mut self, operation: Operation) -> Option<io::Error> {
+        let fault = self.fault?;
+        if fault.operation != operation && fault.operation != Operation::Call {
+            return None;
+        }
+        self.fault = Some(Fault {
+            turn: fault.turn.saturating_sub(1),
+            ..fault
+        });
+        if fault.turn != 1 {
+            return None;
+        }
+        Some(io::Error::from(fault.kind))
+    }
+
+    // How many of so many bytes a call transfers at most.
+    fn most(&self, len: usize) -> usize
+        ensures within { result ≤ len }
+        ensures some { 0 < len → 0 < result }
+    {
+        if self.is_slow { len.min(1) } else { len }
     }
 }
 
@@ -61,6 +92,7 @@ pub enum Operation {
     Seek,
     Length,
     Position,
+    Write,
     /// Any of the others.
     Call,
 }
@@ -116,18 +148,7 @@ impl<'a> Device<'a> {
             (λ e. (self.new.failures.value ≡ self.old.failures.value + 1)
             × (self.new.last_failure ≡ Some e)) }
     {
-        let fault = self.plan.fault?;
-        if fault.operation != operation && fault.operation != Operation::Call {
-            return None;
-        }
-        self.plan.fault = Some(Fault {
-            turn: fault.turn.saturating_sub(1),
-            ..fault
-        });
-        if fault.turn != 1 {
-            return None;
-        }
-        let error = io::Error::from(fault.kind);
+        let error = self.plan.failure_of(operation)?;
         self.failures.add(1);
         self.last_failure = Some(error);
         Some(error)
@@ -146,11 +167,7 @@ impl<'a> ShardSource for Device<'a> {
         if let Some(error) = self.failure_of(Operation::Read) {
             return Err(error);
         }
-        let most = if self.plan.is_slow {
-            slice.len().min(1)
-        } else {
-            slice.len()
-        };
+        let most = self.plan.most(slice.len());
         let n = self.inner.read_some(&mut slice[..most])?;
         self.bytes_read = self.bytes_read.saturating_add(n as u64);
         Ok(n)
@@ -177,5 +194,60 @@ impl<'a> ShardSource for Device<'a> {
             return Err(error);
         }
         self.inner.seek_to(to)
+    }
+}
+
+impl Read for Device<'_> {
+    fn read(&mut self, buf: &mut [u8]) -> io::Result<usize> {
+        self.read_some(buf)
+    }
+}
+
+/// An output to memory that fails once by its plan.
+#[derive(Drop)]
+pub struct Output {
+    bytes: Vec<u8>,
+    plan: Plan,
+    has_failed: bool,
+}
+
+impl Output {
+    pub fn new(alloc: Global, plan: Plan) -> Output {
+        Output {
+            bytes: Vec::new(alloc),
+            plan,
+            has_failed: false,
+        }
+    }
+
+    /// Whether a write failed.
+    pub fn has_failed(&self) -> bool {
+        self.has_failed
+    }
+
+    /// Drops what was written.
+    pub fn clear(&mut self) {
+        self.bytes.clear();
+    }
+
+    /// What was written.
+    pub fn into_bytes(self) -> Vec<u8> {
+        self.bytes
+    }
+}
+
+impl Write for Output {
+    fn write(&mut self, buf: &[u8]) -> io::Result<usize> {
+        if let Some(error) = self.plan.failure_of(Operation::Write) {
+            self.has_failed = true;
+            return Err(error);
+        }
+        let most = self.plan.most(buf.len());
+        self.bytes.extend_from_slice(&buf[..most])?;
+        Ok(most)
+    }
+
+    fn flush(&mut self) -> io::Result<()> {
+        Ok(())
     }
 }

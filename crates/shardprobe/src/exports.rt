@@ -1,8 +1,8 @@
 //! Keyed exports of buffers.
 
-use crate::device::{Device, Plan};
+use crate::device::{Device, Output};
 use crate::parse::parse_u64s;
-use crate::reading::{Written, info_of, report_of};
+use crate::reading::info_of;
 use crate::stop::Stop;
 use crate::workspace::Workspace;
 use script_lines::words::{parse_flag, parse_key};
@@ -23,38 +23,28 @@ struct Options {
     chunk_table: bool,
 }
 
-/// Runs `export B1 B KEY NOW VALID PARTS` or `export_streaming ..` on the buffer B1 through a
-/// device, and prints the number that the call returns. Stores nothing.
+/// Runs `export B1 B KEY NOW VALID PARTS` or `export_streaming ..` on the source of B1, and prints
+/// the number that the call returns. The header and the footer for `export` are read before, from
+/// the bytes of B1.
 pub fn export(
     workspace: &Workspace,
     alloc: Global,
-    plan: Plan,
     words: &[&str],
+    source: &mut Device<'_>,
+    output: &mut Output,
     out: &mut Vec<u8>,
-) -> Result<Written, Stop> {
+) -> Result<(), Stop> {
     let [command, from, _name, options @ ..] = words else {
         return Err(Stop::Unreadable);
     };
     let options = parse_options(options)?;
-    let bytes = workspace.buffer(from)?;
-    let mut source = Device::new(bytes, plan);
-    let mut written = Vec::new(alloc);
     let answer = match *command {
         "export" => {
-            let info = info_of(alloc, bytes)?;
-            export_known(alloc, &info, &mut source, &mut written, options)
+            let info = info_of(alloc, workspace.buffer(from)?)?;
+            export_known(alloc, &info, source, output, options)
         }
-        _ => export_streaming(alloc, &mut source, &mut written, options),
+        _ => export_streaming(alloc, source, output, options),
     };
-    let answer = print_size(answer, out);
-    Ok(Written {
-        report: report_of(answer, &source),
-        bytes: written,
-    })
-}
-
-/// Prints the number that a call which writes returns.
-pub fn print_size(answer: CoreResult<usize>, out: &mut Vec<u8>) -> Result<(), Stop> {
     let size = answer?;
     writeln!(out, "{size}")?;
     Ok(())
@@ -64,13 +54,13 @@ fn export_known(
     alloc: Global,
     info: &MDBShardInfo,
     source: &mut Device<'_>,
-    written: &mut Vec<u8>,
+    output: &mut Output,
     options: Options,
 ) -> CoreResult<usize> {
     info.export_as_keyed_shard(
         alloc,
         source,
-        written,
+        output,
         options.key,
         options.now,
         options.valid_seconds,
@@ -83,13 +73,13 @@ fn export_known(
 fn export_streaming(
     alloc: Global,
     source: &mut Device<'_>,
-    written: &mut Vec<u8>,
+    output: &mut Output,
     options: Options,
 ) -> CoreResult<usize> {
     MDBShardInfo::export_as_keyed_shard_streaming(
         alloc,
         source,
-        written,
+        output,
         options.key,
         options.now,
         options.valid_seconds,

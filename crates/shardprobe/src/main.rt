@@ -21,6 +21,7 @@ mod stop;
 mod values;
 mod views;
 mod workspace;
+mod writing;
 
 use std::io;
 

@@ -1,6 +1,6 @@
 //! Commands on minimal shards.
 
-use crate::exports::print_size;
+use crate::device::{Device, Output};
 use crate::sections::Zeros;
 use crate::show::{print_file, print_hash, print_if_empty, print_xorb};
 use crate::stop::Stop;
@@ -9,48 +9,31 @@ use script_lines::records::parse_hashes;
 use script_lines::words::{parse_flag, parse_u64};
 use std::alloc::Global;
 use std::io;
-use std::io::Write;
-use xet_core_structures::error::Result as CoreResult;
+use std::io::{Read, Write};
 use xet_core_structures::merklehash::MerkleHash;
 use xet_core_structures::streaming_shard::MDBMinimalShard;
 use xet_core_structures::xorb_structs::MDBXorbInfoView;
 
-/// Runs a command that writes a minimal shard, into a buffer that it makes. `false` if the words
-/// are no such command.
-pub fn run_on_minimal(
-    workspace: &mut Workspace,
+/// Runs `minimal B1 B NOW ROWS`, `subset B1 B NOW EXPIRY LIST` or `subset_only B1 B NOW LIST` on the
+/// minimal shard that is read from the source of B1, and prints the number that the call returns.
+pub fn write_minimal(
     alloc: Global,
     words: &[&str],
+    source: &mut Device<'_>,
+    output: &mut Output,
     out: &mut Vec<u8>,
-) -> Result<bool, Stop> {
-    let [command, from, name, options @ ..] = words else {
-        return Ok(false);
+) -> Result<(), Stop> {
+    let [command, _from, _name, options @ ..] = words else {
+        return Err(Stop::Unreadable);
     };
-    let ("minimal" | "subset" | "subset_only") = *command else {
-        return Ok(false);
+    let shard = minimal_shard(alloc, source, "fx")?;
+    let size = match *command {
+        "minimal" => write_whole(&shard, alloc, options, output)?,
+        "subset" => write_subset(&shard, alloc, options, output)?,
+        _ => write_subset_only(&shard, alloc, options, output)?,
     };
-    let mut bytes = Vec::new(alloc);
-    let answer = write(workspace, alloc, command, from, options, &mut bytes)?;
-    workspace.put_buffer(alloc, name, bytes)?;
-    print_size(answer, out)?;
-    Ok(true)
-}
-
-// Makes the call of a command that writes. The inner result is that of the call.
-fn write(
-    workspace: &Workspace,
-    alloc: Global,
-    command: &str,
-    from: &str,
-    options: &[&str],
-    bytes: &mut Vec<u8>,
-) -> Result<CoreResult<usize>, Stop> {
-    let shard = minimal_shard(workspace, alloc, from, "fx")?;
-    match command {
-        "minimal" => write_whole(&shard, alloc, options, bytes),
-        "subset" => write_subset(&shard, alloc, options, bytes),
-        _ => write_subset_only(&shard, alloc, options, bytes),
-    }
+    writeln!(out, "{size}")?;
+    Ok(())
 }
 
 // Writes by options `NOW ROWS`.
@@ -58,14 +41,14 @@ fn write_whole(
     shard: &MDBMinimalShard,
     alloc: Global,
     options: &[&str],
-    bytes: &mut Vec<u8>,
-) -> Result<CoreResult<usize>, Stop> {
+    output: &mut Output,
+) -> Result<usize, Stop> {
     let [now, rows] = options else {
         return Err(Stop::Unreadable);
     };
     let now = parse_u64(now)?;
     let with_verification = parse_rows(rows)?;
-    Ok(shard.serialize(alloc, bytes, now, with_verification))
+    Ok(shard.serialize(alloc, output, now, with_verification)?)
 }
 
 // Writes by options `NOW EXPIRY LIST`.
@@ -73,8 +56,8 @@ fn write_subset(
     shard: &MDBMinimalShard,
     alloc: Global,
     options: &[&str],
-    bytes: &mut Vec<u8>,
-) -> Result<CoreResult<usize>, Stop> {
+    output: &mut Output,
+) -> Result<usize, Stop> {
     let [now, expiry, list @ ..] = options else {
         return Err(Stop::Unreadable);
     };
@@ -82,7 +65,7 @@ fn write_subset(
     let expiry = parse_expiry(expiry)?;
     let kept = parse_kept(alloc, list)?;
     let is_kept = |xorb: &MDBXorbInfoView| kept.has(&xorb.xorb_hash());
-    Ok(shard.serialize_xorb_subset_with_expiry(alloc, bytes, now, expiry, is_kept))
+    Ok(shard.serialize_xorb_subset_with_expiry(alloc, output, now, expiry, is_kept)?)
 }
 
 // Writes by options `NOW LIST`.
@@ -90,15 +73,15 @@ fn write_subset_only(
     shard: &MDBMinimalShard,
     alloc: Global,
     options: &[&str],
-    bytes: &mut Vec<u8>,
-) -> Result<CoreResult<usize>, Stop> {
+    output: &mut Output,
+) -> Result<usize, Stop> {
     let [now, list @ ..] = options else {
         return Err(Stop::Unreadable);
     };
     let now = parse_u64(now)?;
     let kept = parse_kept(alloc, list)?;
     let is_kept = |xorb: &MDBXorbInfoView| kept.has(&xorb.xorb_hash());
-    Ok(shard.serialize_xorb_subset_only(alloc, bytes, now, is_kept))
+    Ok(shard.serialize_xorb_subset_only(alloc, output, now, is_kept)?)
 }
 
 // Whether verification rows are wanted: `v`, or `-`.
@@ -140,16 +123,14 @@ fn parse_kept(alloc: Global, list: &[&str]) -> Result<KeptXorbs, Stop> {
     Ok(KeptXorbs::Listed(parse_hashes(alloc, list)?))
 }
 
-// The minimal shard of a buffer, with the parts that two characters name.
-fn minimal_shard(
-    workspace: &Workspace,
+// The minimal shard that is read from here on, with the parts that two characters name.
+fn minimal_shard<R: Read>(
     alloc: Global,
-    name: &str,
+    reader: &mut R,
     parts: &str,
 ) -> Result<MDBMinimalShard, Stop> {
     let (files, xorbs) = parse_parts(parts)?;
-    let mut reader = workspace.buffer(name)?;
-    Ok(MDBMinimalShard::from_reader(alloc, &mut reader, files, xorbs)?)
+    Ok(MDBMinimalShard::from_reader(alloc, reader, files, xorbs)?)
 }
 
 // Whether two characters name files, `f`, and xorbs, `x`; `-` leaves out.
@@ -160,38 +141,34 @@ fn parse_parts(parts: &str) -> Result<(bool, bool), Stop> {
     Ok((parse_flag(*files, b'f')?, parse_flag(*xorbs, b'x')?))
 }
 
-/// Runs a command that prints what a minimal shard has. `false` if the words are no such command.
+/// Runs a command that compares minimal shards, or reads one from a reader without an end. `false`
+/// if the words are no such command.
 pub fn show_minimal(
     workspace: &Workspace,
     alloc: Global,
     words: &[&str],
     out: &mut Vec<u8>,
 ) -> Result<bool, Stop> {
-    let Some((command, rest)) = words.split_first() else {
-        return Ok(false);
-    };
-    match *command {
-        "minimal_sums" | "minimal_records" | "minimal_eligible" => {
-            print_minimal(workspace, alloc, command, rest, out)?;
-        }
-        "same_minimal" => print_same(workspace, alloc, rest, out)?,
-        "endless_minimal" => print_endless(alloc, rest, out)?,
+    match words {
+        ["same_minimal", names @ ..] => print_same(workspace, alloc, names, out)?,
+        ["endless_minimal", rest @ ..] => print_endless(alloc, rest, out)?,
         _ => return Ok(false),
     }
     Ok(true)
 }
 
-fn print_minimal(
-    workspace: &Workspace,
+/// Prints what the minimal shard has that is read from a source. The word names its parts.
+pub fn print_minimal(
     alloc: Global,
     command: &str,
+    source: &mut Device<'_>,
     rest: &[&str],
     out: &mut Vec<u8>,
 ) -> Result<(), Stop> {
-    let [name, parts] = rest else {
+    let [parts] = rest else {
         return Err(Stop::Unreadable);
     };
-    let shard = minimal_shard(workspace, alloc, name, parts)?;
+    let shard = minimal_shard(alloc, source, parts)?;
     match command {
         "minimal_sums" => Ok(print_sums(&shard, out)?),
         "minimal_records" => print_copy(&shard, alloc, out),
@@ -208,8 +185,10 @@ fn print_same(
     let [first, second] = names else {
         return Err(Stop::Unreadable);
     };
-    let first = minimal_shard(workspace, alloc, first, "fx")?;
-    let second = minimal_shard(workspace, alloc, second, "fx")?;
+    let mut first = workspace.buffer(first)?;
+    let mut second = workspace.buffer(second)?;
+    let first = minimal_shard(alloc, &mut first, "fx")?;
+    let second = minimal_shard(alloc, &mut second, "fx")?;
     let is_same = first == second;
     writeln!(out, "{is_same}")?;
     Ok(())
@@ -220,8 +199,7 @@ fn print_endless(alloc: Global, rest: &[&str], out: &mut Vec<u8>) -> Result<(), 
     let [parts] = rest else {
         return Err(Stop::Unreadable);
     };
-    let (files, xorbs) = parse_parts(parts)?;
-    let shard = MDBMinimalShard::from_reader(alloc, &mut Zeros {}, files, xorbs)?;
+    let shard = minimal_shard(alloc, &mut Zeros {}, parts)?;
     print_sums(&shard, out)?;
     Ok(())
 }

@@ -1,19 +1,18 @@
 //! Commands that read a buffer through the device.
 
-use crate::device::{Device, Fault, Operation, Plan};
-use crate::exports::export;
+use crate::device::{Device, Fault, Operation, Plan, Target};
 use crate::fields::print_info;
 use crate::lookup::{
     print_chunk_index, print_file_index, print_xorb_index, query_at, query_chunks,
 };
-use crate::minimal::print_hashes;
+use crate::minimal::{print_hashes, print_minimal};
 use crate::search::search;
-use crate::sets::combine;
 use crate::show::{
     Short, print_file, print_found, print_hash, print_if_empty, print_xorb, print_xorb_header,
 };
 use crate::stop::Stop;
 use crate::workspace::Workspace;
+use crate::writing::{output_of, run_writing};
 use script_lines::words::{parse_hash, parse_u32, parse_u64};
 use std::alloc::Global;
 use std::io;
@@ -30,27 +29,6 @@ pub struct Report {
     pub has_failed: bool,
 }
 
-/// The result of a command that writes, and the bytes that it wrote, also if it failed.
-#[derive(Drop)]
-pub struct Written {
-    pub report: Report,
-    pub bytes: Vec<u8>,
-}
-
-/// Runs a command that writes the bytes of a buffer, through devices. Stores nothing.
-pub fn run_writing(
-    workspace: &Workspace,
-    alloc: Global,
-    plan: Plan,
-    words: &[&str],
-    out: &mut Vec<u8>,
-) -> Result<Written, Stop> {
-    match words {
-        ["export", ..] | ["export_streaming", ..] => export(workspace, alloc, plan, words, out),
-        _ => combine(workspace, alloc, plan, words, out),
-    }
-}
-
 /// Runs a command on the buffer that its second word names, or a command that writes, through
 /// devices. `Unreadable` if there is no such buffer.
 pub fn run_reading(
@@ -60,25 +38,44 @@ pub fn run_reading(
     words: &[&str],
     out: &mut Vec<u8>,
 ) -> Result<Report, Stop> {
+    if output_of(words).is_some() {
+        return Ok(run_writing(workspace, alloc, plan, words, out)?.report);
+    }
     let [command, name, rest @ ..] = words else {
         return Err(Stop::Unreadable);
     };
-    if let "set_union" | "set_difference" | "export" | "export_streaming" = *command {
-        return Ok(run_writing(workspace, alloc, plan, words, out)?.report);
-    }
     let bytes = workspace.buffer(name)?;
-    let mut source = Device::new(bytes, plan);
-    let answer = call(alloc, command, bytes, &mut source, rest, out);
-    Ok(report_of(answer, &source))
-}
-
-/// The result of a command on one device, and its costs.
-pub fn report_of(answer: Result<(), Stop>, source: &Device<'_>) -> Report {
-    Report {
+    let mut source = Device::new(bytes, plan.of(Target::First));
+    let mut printed = Vec::new(alloc);
+    let mut answer = call(alloc, command, bytes, &mut source, rest, &mut printed);
+    if plan.runs_again && source.has_failed() {
+        set_back(command, &mut source)?;
+        printed.clear();
+        answer = call(alloc, command, bytes, &mut source, rest, &mut printed);
+    }
+    out.extend_from_slice(printed.as_slice())?;
+    Ok(Report {
         answer,
         seeks_made: source.seeks_made(),
         bytes_read: source.bytes_read(),
         has_failed: source.has_failed(),
+    })
+}
+
+/// Sets a source back to its first byte, for a command whose call reads on from the source's
+/// position.
+pub fn set_back(command: &str, source: &mut Device<'_>) -> io::Result<()> {
+    match command {
+        "eligible_chunks"
+        | "export"
+        | "export_streaming"
+        | "minimal"
+        | "subset"
+        | "subset_only"
+        | "minimal_sums"
+        | "minimal_records"
+        | "minimal_eligible" => { source.seek_to(0) }
+        _ => Ok(()),
     }
 }
 
@@ -95,6 +92,9 @@ fn call(
     match command {
         "load" => return load(alloc, source, rest, out),
         "eligible_chunks" => return print_eligible(alloc, source, rest, out),
+        "minimal_sums" | "minimal_records" | "minimal_eligible" => {
+            return print_minimal(alloc, command, source, rest, out);
+        }
         "read_file_ranges" => return read_file_ranges(alloc, source, rest, out),
         "search" => return search(alloc, source, rest, out),
         "run" => return query_chunks(alloc, &info_of(alloc, bytes)?, source, rest, out),
@@ -340,45 +340,13 @@ fn look_up(
     Ok(())
 }
 
-// Runs a command on the buffer that its second word names, and once more on the same device if a
-// call of it failed. The results are those of the last run.
-fn run_again(
-    workspace: &Workspace,
-    alloc: Global,
-    plan: Plan,
-    words: &[&str],
-    out: &mut Vec<u8>,
-) -> Result<Report, Stop> {
-    let [command, name, rest @ ..] = words else {
-        return Err(Stop::Unreadable);
-    };
-    let bytes = workspace.buffer(name)?;
-    let mut source = Device::new(bytes, plan);
-    let mut printed = Vec::new(alloc);
-    let mut answer = call(alloc, command, bytes, &mut source, rest, &mut printed);
-    let has_failed = source.has_failed();
-    if has_failed {
-        printed.clear();
-        answer = call(alloc, command, bytes, &mut source, rest, &mut printed);
-    }
-    out.extend_from_slice(printed.as_slice())?;
-    Ok(Report {
-        answer,
-        seeks_made: source.seeks_made(),
-        bytes_read: source.bytes_read(),
-        has_failed,
-    })
-}
-
-/// Runs a command with each call of the device failing in turn, until a run meets no failure, and
-/// with `again` a second time on the same device after a failure. Prints how many failed and the
-/// last results of these runs, one if they are all the same, `as below` if they are that of the run
-/// without failure, and then the output of that run.
+/// Runs a command with each call of a device failing in turn, until a run meets no failure. Prints
+/// how many failed and the last results of these runs, one if they are all the same, `as below` if
+/// they are that of the run without failure, and then the output of that run.
 pub fn run_each_failure(
     workspace: &Workspace,
     alloc: Global,
     plan: Plan,
-    again: bool,
     words: &[&str],
     out: &mut Vec<u8>,
 ) -> Result<(), Stop> {
@@ -395,11 +363,7 @@ pub fn run_each_failure(
             fault: Some(fault),
             ..plan
         };
-        let report = if again {
-            run_again(workspace, alloc, plan, words, &mut printed)?
-        } else {
-            run_reading(workspace, alloc, plan, words, &mut printed)?
-        };
+        let report = run_reading(workspace, alloc, plan, words, &mut printed)?;
         if !report.has_failed {
             return finish(
                 turn - 1,

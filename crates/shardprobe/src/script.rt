@@ -2,10 +2,10 @@
 
 use crate::buffers::{run_on_buffers, show_buffers};
 use crate::codecs::run_codecs;
-use crate::device::{Fault, Operation, Plan};
+use crate::device::{Fault, Operation, Plan, Target};
 use crate::memory::{run_on_shards, show_shards};
-use crate::minimal::{run_on_minimal, show_minimal};
-use crate::reading::{Report, run_each_failure, run_reading, run_writing};
+use crate::minimal::show_minimal;
+use crate::reading::{Report, run_each_failure, run_reading};
 use crate::search::make_table;
 use crate::sections::show_sections;
 use crate::sets::unite_tree;
@@ -13,6 +13,7 @@ use crate::stop::Stop;
 use crate::values::{run_on_records, run_on_values};
 use crate::views::show_views;
 use crate::workspace::Workspace;
+use crate::writing::{output_of, run_writing};
 use script_lines::lines::{is_skipped, split_words, without_end};
 use script_lines::words::parse_u64;
 use std::alloc::Global;
@@ -84,7 +85,6 @@ impl Probe {
             || run_codecs(&mut self.workspace, alloc, words, out)?
             || show_views(&self.workspace, alloc, words, out)?
             || show_sections(&self.workspace, alloc, words, out)?
-            || run_on_minimal(&mut self.workspace, alloc, words, out)?
             || show_minimal(&self.workspace, alloc, words, out)?
             || run_on_values(alloc, words, out)?
             || run_on_records(alloc, words, out)?;
@@ -98,36 +98,31 @@ impl Probe {
             ["set_tree", name, words @ ..] => {
                 unite_tree(&mut self.workspace, alloc, name, words)
             }
-            ["set_union", _, _, name, ..] | ["set_difference", _, _, name, ..] => {
-                self.write(alloc, name, words, out)
-            }
-            ["export", _, name, ..] | ["export_streaming", _, name, ..] => {
-                self.write(alloc, name, words, out)
-            }
             ["each_failure", command @ ..] => {
-                run_each_failure(&self.workspace, alloc, self.plan, false, command, out)
+                run_each_failure(&self.workspace, alloc, self.plan, command, out)
             }
             ["each_failure_again", command @ ..] => {
-                run_each_failure(&self.workspace, alloc, self.plan, true, command, out)
+                let plan = Plan {
+                    runs_again: true,
+                    ..self.plan
+                };
+                run_each_failure(&self.workspace, alloc, plan, command, out)
             }
-            _ => self.read(alloc, words, out),
+            _ => self.run_through_devices(alloc, words, out),
         }
     }
 
-    // Runs a command through the device.
-    fn read(&self, alloc: Global, words: &[&str], out: &mut Vec<u8>) -> Result<(), Stop> {
-        let report = run_reading(&self.workspace, alloc, self.plan, words, out)?;
-        self.show(&report, out)
-    }
-
-    // Runs a command that writes, and stores what it wrote, also if it failed.
-    fn write(
+    // Runs a command through devices, and stores what it wrote, also if it failed.
+    fn run_through_devices(
         &mut self,
         alloc: Global,
-        name: &str,
         words: &[&str],
         out: &mut Vec<u8>,
     ) -> Result<(), Stop> {
+        let Some(name) = output_of(words) else {
+            let report = run_reading(&self.workspace, alloc, self.plan, words, out)?;
+            return self.show(&report, out);
+        };
         let written = run_writing(&self.workspace, alloc, self.plan, words, out)?;
         self.show(&written.report, out)?;
         self.workspace.put_buffer(alloc, name, written.bytes)
@@ -158,8 +153,9 @@ impl Probe {
             ["fail", operation, turn, kind] => {
                 self.plan.fault = Some(parse_fault(operation, turn, kind)?);
             }
-            ["fail_in", "first"] => self.plan.is_second = false,
-            ["fail_in", "second"] => self.plan.is_second = true,
+            ["fail_in", "first"] => self.plan.target = Target::First,
+            ["fail_in", "second"] => self.plan.target = Target::Second,
+            ["fail_in", "output"] => self.plan.target = Target::Output,
             ["slow", "on"] => self.plan.is_slow = true,
             ["slow", "off"] => self.plan.is_slow = false,
             ["costs", "on"] => self.shows_costs = true,
@@ -184,6 +180,7 @@ fn parse_operation(word: &str) -> Result<Operation, Stop> {
         "seek" => Ok(Operation::Seek),
         "length" => Ok(Operation::Length),
         "position" => Ok(Operation::Position),
+        "write" => Ok(Operation::Write),
         "call" => Ok(Operation::Call),
         _ => Err(Stop::Unreadable),
     }

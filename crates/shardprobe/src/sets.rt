@@ -1,9 +1,9 @@
 //! Unions and differences of buffers.
 
-use crate::device::{Device, Plan};
+use crate::device::{Device, Output};
 use crate::fields::print_info;
 use crate::parse::split_at_with;
-use crate::reading::{Report, Written, info_of};
+use crate::reading::info_of;
 use crate::stop::Stop;
 use crate::workspace::Workspace;
 use script_lines::words::parse_u64;
@@ -14,40 +14,28 @@ use xet_core_structures::set_operations::{
 };
 use xet_core_structures::shard_format::MDBShardInfo;
 
-/// Runs `set_union B1 B2 B [FIELD ..]` or `set_difference ..` on the buffers B1 and B2, each
-/// through a device, and prints the named fields of the header and the footer that the call
-/// returns. Stores nothing.
+/// Runs `set_union B1 B2 B [FIELD ..]` or `set_difference ..` on the sources of B1 and B2, and
+/// prints the named fields of the header and the footer that the call returns. The headers and
+/// footers of B1 and B2 are read before, from their bytes.
 pub fn combine(
     workspace: &Workspace,
     alloc: Global,
-    plan: Plan,
     words: &[&str],
+    r1: &mut Device<'_>,
+    r2: &mut Device<'_>,
+    output: &mut Output,
     out: &mut Vec<u8>,
-) -> Result<Written, Stop> {
+) -> Result<(), Stop> {
     let [command, first, second, _name, fields @ ..] = words else {
         return Err(Stop::Unreadable);
     };
-    let (first, second) = (workspace.buffer(first)?, workspace.buffer(second)?);
-    let infos = (info_of(alloc, first)?, info_of(alloc, second)?);
-    let mut r1 = Device::new(first, plan.of_first());
-    let mut r2 = Device::new(second, plan.of_second());
-    let mut bytes = Vec::new(alloc);
+    let s1 = info_of(alloc, workspace.buffer(first)?)?;
+    let s2 = info_of(alloc, workspace.buffer(second)?)?;
     let answer = match *command {
-        "set_union" => shard_set_union(alloc, &infos.0, &mut r1, &infos.1, &mut r2, &mut bytes),
-        "set_difference" => {
-            shard_set_difference(alloc, &infos.0, &mut r1, &infos.1, &mut r2, &mut bytes)
-        }
-        _ => return Err(Stop::Unreadable),
+        "set_union" => shard_set_union(alloc, &s1, r1, &s2, r2, output),
+        _ => shard_set_difference(alloc, &s1, r1, &s2, r2, output),
     };
-    Ok(Written {
-        report: Report {
-            answer: print_returned(answer, fields, out),
-            seeks_made: r1.seeks_made().saturating_add(r2.seeks_made()),
-            bytes_read: r1.bytes_read().saturating_add(r2.bytes_read()),
-            has_failed: r1.has_failed() || r2.has_failed(),
-        },
-        bytes,
-    })
+    print_returned(answer, fields, out)
 }
 
 fn print_returned(
