@@ -47,7 +47,8 @@ pub struct DataHashHexParseError;
 /// The global index keeps one chunk hash in this many.
 pub const MDB_SHARD_GLOBAL_DEDUP_CHUNK_MODULUS: u64 = 1024;
 
-/// Whether the global index keeps a chunk with this hash.
+/// Whether the global index keeps a chunk for its hash alone: word 3 is a multiple of
+/// [`MDB_SHARD_GLOBAL_DEDUP_CHUNK_MODULUS`].
 pub fn hash_is_global_dedup_eligible(hash: &MerkleHash) -> bool
     ensures { IsTrue result ↔ IsEligible hash.now }
 {

@@ -59,7 +59,8 @@ pub fn union_commutes()
 {}
 
 /// Shards that agree pairwise have exactly one join, and that of two groups of them is the union of
-/// the joins of each. The join is of a set, so order, grouping and repetition don't matter.
+/// the joins of each. The join is of a set, so order, grouping and repetition don't matter. If the
+/// rows of the join of two groups fit `u32`, so do those of the join of the first.
 pub fn joins_exist()
     ensures exists { (shards : List Shard) → AgreePairwise (Contains shards)
         → (c : Shard) × IsJoinOf (Contains shards) c }

@@ -181,7 +181,8 @@ impl XorbChunkSequenceEntry {
         XorbChunkSequenceEntry { flags, ..self }
     }
 
-    /// Whether the global index keeps the chunk: it is marked, or its hash is eligible.
+    /// Whether the global index keeps the chunk by what its row says: it is marked, or its hash is
+    /// eligible.
     #[tactic(auto, using(crate::proofs::Flags::verification_masked))]
     pub fn is_global_dedup_eligible(&self) -> bool
         ensures { IsTrue result ↔ IsEligibleChunk self.now }

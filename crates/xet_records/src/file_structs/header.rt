@@ -168,9 +168,9 @@ impl FileDataSequenceHeader {
 /// How the flags of two headers `a` and `b` compare.
 #[derive(Clone, Copy, Debug, PartialEq, Eq)]
 pub enum SupersetResult {
-    /// `a` has each flag that `b` has, and one more.
+    /// `a` has each flag that `b` has, and at least one more.
     SuperA,
-    /// `b` has each flag that `a` has, and one more.
+    /// `b` has each flag that `a` has, and at least one more.
     SuperB,
     /// Each has a flag that the other has not.
     Neither,

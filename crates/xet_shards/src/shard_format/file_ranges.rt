@@ -27,8 +27,8 @@ type FileRanges = (
 
 impl MDBShardInfo {
     /// Reads a shard's header and its file section from the source's position on, without a seek.
-    /// Returns for each file its hash, where in the source its segments and its verification rows
-    /// are, and its SHA-256.
+    /// Returns for each file its hash, where in the source its segments are and, if it has them,
+    /// where its verification rows are, and its SHA-256.
     ///
     /// `ShardVersion` if the header's tag or version is unsupported, `UnexpectedEof` if the source
     /// ends before the bookend, `InvalidShard` if the rows pass 4294967295, `OutOfMemory` if an

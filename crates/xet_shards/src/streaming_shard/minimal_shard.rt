@@ -130,8 +130,9 @@ impl MDBMinimalShard {
         self.xorbs.get(index)
     }
 
-    /// The size in bytes that `serialize` writes. It is 0 if verification rows are wanted and there
-    /// is no file or the first one has none.
+    /// The size in bytes that `serialize` writes, but 0 if verification rows are wanted and there is
+    /// no file, or the first one has none. Of a shard in which only a later file has none, it is the
+    /// size of the records, although `serialize` refuses the shard.
     pub fn serialized_size(&self, with_verification: bool) -> u64
         ensures { result ≡ serialized_size with_verification self.now }
     {
