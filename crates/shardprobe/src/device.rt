@@ -25,8 +25,11 @@ pub struct Plan {
 /// A device of a command.
 #[derive(Clone, Copy, PartialEq, Eq)]
 pub enum Target {
+    /// The source of the first input.
     First,
+    /// The source of the second input.
     Second,
+    /// The output.
     Output,
 }
 
@@ -110,6 +113,7 @@ pub struct Device<'a> {
 }
 
 impl<'a> Device<'a> {
+    /// A source at the first of these bytes.
     pub fn new(bytes: &'a [u8], plan: Plan) -> Device<'a> {
         Device {
             inner: MemorySource::new(bytes),
@@ -212,6 +216,7 @@ pub struct Output {
 }
 
 impl Output {
+    /// An output with nothing written.
     pub fn new(alloc: Global, plan: Plan) -> Output {
         Output {
             bytes: Vec::new(alloc),

@@ -24,9 +24,9 @@ use window::Window;
 /// lowest byte first, and a value of `value_width` bytes. `read_value` reads these: it can always
 /// be called, and acts on the source as `read_full` of `value_width` bytes does. Does not allocate.
 /// Each result is the value of a different row with the key, even if the table is not sorted. On a
-/// sorted table of n rows, d of which have the key, it makes at most (n + 1) / 128 + d / 4 + 8 seeks
-/// (`Bounded`). On an even table of fewer than `u32::MAX` rows, where row i, counted from 1, has
-/// the key `i * (u64::MAX / (num_entries + 1))`, it makes at most three seeks.
+/// sorted table of n rows, d of which have the key, it makes at most (n + 1) / 128 + d / 4 + 8
+/// seeks. On an even table of fewer than `u32::MAX` rows, where row i, counted from 1, has the key
+/// `i * (u64::MAX / (num_entries + 1))`, it makes at most three seeks.
 ///
 /// `InvalidShard` if `num_entries + 1` or the table's end does not fit `u64`, `UnexpectedEof` if
 /// the search reads past the end of the source; any other error is the source's. If `results` is
