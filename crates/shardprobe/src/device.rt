@@ -245,6 +245,10 @@ impl Write for Output {
     fn write(&mut self, buf: &[u8]) -> io::Result<usize> {
         if let Some(error) = self.plan.failure_of(Operation::Write) {
             self.has_failed = true;
+            // A write that takes nothing is how this error comes about.
+            if error.kind() == ErrorKind::WriteZero {
+                return Ok(0);
+            }
             return Err(error);
         }
         let most = self.plan.most(buf.len());

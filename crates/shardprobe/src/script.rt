@@ -193,6 +193,7 @@ fn parse_kind(word: &str) -> Result<ErrorKind, Stop> {
         "BrokenPipe" => Ok(ErrorKind::BrokenPipe),
         "UnexpectedEof" => Ok(ErrorKind::UnexpectedEof),
         "OutOfMemory" => Ok(ErrorKind::OutOfMemory),
+        "WriteZero" => Ok(ErrorKind::WriteZero),
         _ => Err(Stop::Unreadable),
     }
 }
