@@ -163,9 +163,14 @@ fn new_shards_are_made_or_out_of_memory(rt: HostRuntime) {
     assert!(rt; is_made(copy(alloc), 700));
 }
 
+/// The bytes of that shard.
+fn larger_bytes(alloc: Global) -> Result<Vec<u8>> {
+    larger_shard(alloc)?.to_bytes(alloc)
+}
+
 /// The number of bytes that `to_bytes` writes.
 fn size_written(alloc: Global) -> Result<usize> {
-    Ok(larger_shard(alloc)?.to_bytes(alloc)?.len())
+    Ok(larger_bytes(alloc)?.len())
 }
 
 /// The numbers of files, of xorbs, of their headers, of rows of the xorb table, of chunks and of
@@ -192,10 +197,8 @@ fn bytes_are_made_or_out_of_memory(rt: HostRuntime) {
 #[test]
 fn whole_reads_answer_or_are_out_of_memory(rt: HostRuntime) {
     let alloc = rt.alloc();
-    if let Ok(shard) = larger_shard(alloc) {
-        if let Ok(bytes) = shard.to_bytes(alloc) {
-            assert!(rt; is_answer(counts_read(alloc, bytes.as_slice()), Ok([1, 2, 2, 2, 2, 1])));
-        }
+    if let Ok(bytes) = larger_bytes(alloc) {
+        assert!(rt; is_answer(counts_read(alloc, bytes.as_slice()), Ok([1, 2, 2, 2, 2, 1])));
     }
 }
 
@@ -248,19 +251,29 @@ fn run_found(alloc: Global, bytes: &[u8]) -> Result<(usize, (u32, u32), Option<u
 }
 
 #[test]
-fn lookups_do_not_allocate(rt: HostRuntime) {
+fn reading_rows_does_not_allocate(rt: HostRuntime) {
     let alloc = rt.alloc();
-    if let Ok(shard) = larger_shard(alloc) {
-        if let Ok(bytes) = shard.to_bytes(alloc) {
-            let bytes = bytes.as_slice();
-            assert!(rt; is_value(rows_read(alloc, bytes), (2, 1, 5)));
-            assert!(rt; is_value(rows_found(alloc, bytes), (700, 1, 0, 1, 2)));
-            assert!(rt; is_value(run_found(alloc, bytes), (1, (2, 0), Some(1))));
-            let header = bytes.get(..48).unwrap_or(&[]);
-            assert!(rt;
-                run_found(alloc, header).is_err_and(|error| error != CoreError::OutOfMemory)
-            );
-        }
+    if let Ok(bytes) = larger_bytes(alloc) {
+        assert!(rt; is_value(rows_read(alloc, bytes.as_slice()), (2, 1, 5)));
+    }
+}
+
+#[test]
+fn lookups_of_rows_do_not_allocate(rt: HostRuntime) {
+    let alloc = rt.alloc();
+    if let Ok(bytes) = larger_bytes(alloc) {
+        assert!(rt; is_value(rows_found(alloc, bytes.as_slice()), (700, 1, 0, 1, 2)));
+    }
+}
+
+#[test]
+fn chunk_lookups_do_not_allocate(rt: HostRuntime) {
+    let alloc = rt.alloc();
+    if let Ok(bytes) = larger_bytes(alloc) {
+        let bytes = bytes.as_slice();
+        assert!(rt; is_value(run_found(alloc, bytes), (1, (2, 0), Some(1))));
+        let header = bytes.get(..48).unwrap_or(&[]);
+        assert!(rt; run_found(alloc, header).is_err_and(|error| error != CoreError::OutOfMemory));
     }
 }
 
@@ -314,10 +327,18 @@ fn files_answer(alloc: Global) -> bool {
 }
 
 #[test]
-fn calls_in_memory_do_not_allocate(rt: HostRuntime) {
+fn calls_on_shards_do_not_allocate(rt: HostRuntime) {
     let alloc = rt.alloc();
     assert!(rt; MDBInMemoryShard::new(alloc).is_empty());
-    assert!(rt; is_hash_read());
     assert!(rt; shard_answers(alloc));
-    assert!(rt; files_answer(alloc));
+}
+
+#[test]
+fn calls_on_files_do_not_allocate(rt: HostRuntime) {
+    assert!(rt; files_answer(rt.alloc()));
+}
+
+#[test]
+fn calls_on_hashes_do_not_allocate(rt: HostRuntime) {
+    assert!(rt; is_hash_read());
 }
