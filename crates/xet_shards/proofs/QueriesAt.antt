@@ -1,5 +1,5 @@
 -- Queries at one location: what follows from the header that is read there and the run after it.
-use Rattle.std.proofs.Common.{◌≡◌, ◌≢◌, inl, inr, Ok, Err, ℕ, ◌+◌, ◌-◌, ◌*◌, ◌<◌, ◌≤◌, List, [], ◌∷◌, ◌++◌, length, drop, Option, refl, ap, ◌∙◌, subst, arith}
+use Rattle.std.proofs.Common.{◌≡◌, ◌≢◌, inl, inr, Ok, Err, ℕ, ◌+◌, ◌-◌, ◌*◌, ◌^◌, ◌<◌, ◌≤◌, List, [], ◌∷◌, ◌++◌, length, drop, Option, refl, ap, ◌∙◌, subst, arith}
 use Rattle.std.specs.Prelude.{OnOk, IfErr}
 use Rattle.std.specs.declared.result.Result.{Result}
 use Rattle.xet_base.specs.declared.error.CoreError.{CoreError}
@@ -77,15 +77,16 @@ module _ (Absent : CoreError → Type 0) (key : DataHash) (qs : List DataHash) (
       refused_here new e some fails = (
         λ no_hash. some (ap length no_hash),
         elim fails.cause [
-          | inl cause ↦ why (subst (λ bytes. RunFailure key qs (header.num_entries - index) (chunks_at bytes offset row index) mid new e) bytes_same cause)
-          | inr past ↦ inr (inl (past.0 ∙ failures_same, past.1, inr (header, location, inl past.2)))
+          | inl cause ↦ why cause.0 (subst (λ bytes. RunFailure key qs (header.num_entries - index) (chunks_at bytes offset row index) mid new e) bytes_same cause.1)
+          | inr (inl device) ↦ inl (device.0 ∙ ap (λ k. k + 1) failures_same, device.1, device.2, device.3)
+          | inr (inr past) ↦ inr (inl (past.0 ∙ failures_same, past.1, inr (header, location, inl past.2)))
         ],
       )
         where
-          why : RunFailure key qs (header.num_entries - index) (chunks_at old.bytes offset row index) mid new e → RefusalAt Absent key qs offset row index old new e
-          why (inl device) = inl (device.0 ∙ ap (λ k. k + 1) failures_same, device.1, device.2, device.3)
-          why (inr (inl (none, bare, passes))) = inr (inl (none ∙ failures_same, bare, inr (header, location, inr passes)))
-          why (inr (inr (none, end, cut))) = inr (inr (inr (none ∙ failures_same, end, inr (header, location, cut))))
+          why : row_at offset (row + 1 + index) < 2 ^ 64 → RunFailure key qs (header.num_entries - index) (chunks_at old.bytes offset row index) mid new e → RefusalAt Absent key qs offset row index old new e
+          why fits (inl device) = inl (device.0 ∙ ap (λ k. k + 1) failures_same, device.1, device.2, device.3)
+          why fits (inr (inl (none, bare, passes))) = inr (inl (none ∙ failures_same, bare, inr (header, location, inr passes)))
+          why fits (inr (inr (none, end, cut))) = inr (inr (inr (none ∙ failures_same, end, inr (header, location, fits, cut))))
 
       visit_run : (new : Source) → new.bytes ≡ mid.bytes → new.seeks ≤ mid.seeks + 1 → mid.seeks ≤ new.seeks → new.read ≤ mid.read + 48 * (header.num_entries - index)
           → Visit xorb_records 2 offset row old new

@@ -152,8 +152,8 @@ module _ (x : MDBXorbInfo) (stored : IsStoredXorb x) (offset row : ℕ) (old : S
         ]
 
     not_cut : ¬ IsCutAt key qs old.bytes offset row index
-    not_cut (inl short) = omega (arith, short, header_within xorb_records xorb_laws at_header x.metadata (flat_map chunk_row x.chunks ++ rest) begins.bytes_are)
-    not_cut (inr (header, location, cut)) =
+    not_cut (inl (at, short)) = omega (arith, short, header_within xorb_records xorb_laws at_header x.metadata (flat_map chunk_row x.chunks ++ rest) begins.bytes_are)
+    not_cut (inr (header, location, at, cut)) =
         let is = header_is header location.rest location.begins in
         let within : index < x.metadata.num_entries = omega (arith, location.within, ap (λ (h : XorbChunkSequenceHeader). h.num_entries) is) in
         within_not_cut index key qs within (subst (λ (h : XorbChunkSequenceHeader). RunIsCut key qs (h.num_entries - index) (chunks_at old.bytes offset row index)) is cut)
@@ -188,6 +188,6 @@ module _ (offset row : ℕ) (old : Source) (rest : List ℕ) (here : drop (row_a
   bookend_refuses Absent new e (some, inr (inl (none, bare, inl past))) = absurd (omega (arith, past, fits))
   bookend_refuses Absent new e (some, inr (inl (none, bare, inr (header, location, past)))) = absurd (no_header header location.rest location.begins)
   bookend_refuses Absent new e (some, inr (inr (inl (none, absent, location)))) = inr absent
-  bookend_refuses Absent new e (some, inr (inr (inr (none, ended, inl short)))) =
+  bookend_refuses Absent new e (some, inr (inr (inr (none, ended, inl (at, short))))) =
       absurd (omega (arith, short, header_within xorb_records xorb_laws (drop (row_at offset row) old.bytes) xorb_bookend rest here))
-  bookend_refuses Absent new e (some, inr (inr (inr (none, ended, inr (header, location, cut))))) = absurd (no_header header location.rest location.begins)
+  bookend_refuses Absent new e (some, inr (inr (inr (none, ended, inr (header, location, at, cut))))) = absurd (no_header header location.rest location.begins)

@@ -90,11 +90,13 @@ PassesAt key qs bytes offset row index =
     × ((2 ^ 64 ≤ row_at offset (row + 1 + index))
     ⊎ RunPasses key qs (header.num_entries - index) (chunks_at bytes offset row index)))
 
--- the bytes end before the header does, or before a chunk that has to be read
+-- the offset of the row or of the chunk fits 64 bits, and the bytes end before the header does, or
+-- before a chunk that has to be read
 abbrev pub IsCutAt : DataHash → List DataHash → List ℕ → ℕ → ℕ → ℕ → Type 0
 IsCutAt key qs bytes offset row index =
-    (length (drop (row_at offset row) bytes) < 48)
+    ((row_at offset row < 2 ^ 64) × (length (drop (row_at offset row) bytes) < 48))
     ⊎ ((header : XorbChunkSequenceHeader) × AnnouncesChunk bytes offset row index header
+    × (row_at offset (row + 1 + index) < 2 ^ 64)
     × RunIsCut key qs (header.num_entries - index) (chunks_at bytes offset row index))
 
 -- the query at a location: nothing without hashes, else the run there

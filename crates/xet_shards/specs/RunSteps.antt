@@ -47,7 +47,7 @@ pub record RowFails (offset row : ℕ) (old new : Source) (e : CoreError) : Type
   pub read : new.read ≤ old.read + 48
   pub cause : DeviceFailure old new e
       ⊎ ((new.failures ≡ old.failures) × IsBareInvalidShard e × (2 ^ 64 ≤ row_at offset row))
-      ⊎ ((new.failures ≡ old.failures) × IsEndOfInput e
+      ⊎ ((new.failures ≡ old.failures) × IsEndOfInput e × (row_at offset row < 2 ^ 64)
       × (length (drop (row_at offset row) old.bytes) < 48))
 
 -- a run was read: how many chunks it has, and how many bytes these
@@ -82,7 +82,9 @@ pub record RunFails (key : DataHash) (qs : List DataHash) (left offset row : ℕ
   pub seeks : new.seeks ≤ old.seeks + 1
   pub no_fewer : old.seeks ≤ new.seeks
   pub read : new.read ≤ old.read + 48 * left
-  pub cause : RunFailure key qs left (drop (row_at offset row) old.bytes) old new e
+  pub cause : ((row_at offset row < 2 ^ 64)
+      × RunFailure key qs left (drop (row_at offset row) old.bytes) old new e)
+      ⊎ DeviceFailure old new e
       ⊎ ((new.failures ≡ old.failures) × IsBareInvalidShard e × (2 ^ 64 ≤ row_at offset row))
 
 -- so many chunks were read, which have the first hashes, and their bytes were summed, in 32 bits
