@@ -13,9 +13,9 @@ use Rattle.xet_records.specs.XorbRecord.{xorb_records}
 use Rattle.xet_records.proofs.RecordKinds.{KindLaws, file_laws, xorb_laws}
 use Rattle.xet_shards.specs.declared.shard_format.info.MDBShardInfo.{MDBShardInfo}
 use Rattle.xet_shards.specs.InForm.{Ascends}
-use Rattle.xet_shards.specs.SectionReading.{ReadsSection}
+use Rattle.xet_shards.specs.SectionReading.{IsSection, ReadsSection}
 use Rattle.xet_shards.specs.Section.{total_rows}
-use Rattle.xet_core_structures.specs.Held.{FrontFalls, IsListOf, xorbs_at, HoldsLists, ReadsNoInput}
+use Rattle.xet_core_structures.specs.Held.{FrontFalls, IsListOf, xorbs_at, HoldsLists, ReadsSections, ReadsNoInput}
 use Rattle.xet_core_structures.proofs.Held.{hashes_handed, rows_handed}
 use Rattle.xet_core_structures.proofs.Handed.{all_handed, file_handed}
 
@@ -61,6 +61,16 @@ module _ (old mid new : Source) (info : MDBShardInfo) (files : List MDBFileInfo)
               (list_falls xorb_records xorb_laws mid new info.metadata.xorb_info_offset xorbs further falls)))),
         )),
       )
+
+  pub sections_read : ReadsSections info old new
+  sections_read = record {
+    files = read.stored;
+    xorbs = further.stored;
+    are_files = read.section;
+    are_xorbs = subst (λ bytes. IsSection xorb_records (xorbs_at bytes info) further.stored) same_bytes further.section;
+    seeks = omega (arith, ap (λ (s : Source). s.seeks) further.after, ap (λ (s : Source). s.seeks) read.after);
+    read = omega (arith, ap (λ (s : Source). s.read) further.after, ap (λ (s : Source). s.read) read.after);
+  }
 
   pub lists_read : Ascends file_records files → Ascends xorb_records xorbs → HoldsLists old.bytes info files xorbs
   lists_read files_ascend xorbs_ascend = record {

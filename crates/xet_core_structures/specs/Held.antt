@@ -1,5 +1,5 @@
 -- What bytes hold, to an operation that reads both sections of a shard at the offsets of a footer.
-use Rattle.std.specs.Prelude.{◌≡◌, ◌⊎◌, ℕ, ◌≤◌, List, map, drop, All}
+use Rattle.std.specs.Prelude.{◌≡◌, ◌⊎◌, ℕ, ◌+◌, ◌*◌, ◌≤◌, List, map, drop, All}
 use Rattle.std.specs.FinMap.{FinMap, entries, values}
 use Rattle.xet_base.specs.declared.error.CoreError.{CoreError}
 use Rattle.xet_base.specs.declared.error.CoreError.TheVariants.{OutOfMemory}
@@ -75,6 +75,18 @@ pub record HoldsLists (bytes : List ℕ) (info : MDBShardInfo) (fs : List MDBFil
     (xs : List MDBXorbInfo) : Type 0 where
   pub files : IsListOf file_records (files_at bytes info) fs
   pub xorbs : IsListOf xorb_records (xorbs_at bytes info) xs
+
+-- the bytes have both sections, and of these no more bytes were read than they have, with at most
+-- two seeks
+pub record ReadsSections (info : MDBShardInfo) (old new : Source) : Type 0 where
+  pub files : List MDBFileInfo
+  pub xorbs : List MDBXorbInfo
+  pub are_files : IsSection file_records (files_at old.bytes info) files
+  pub are_xorbs : IsSection xorb_records (xorbs_at old.bytes info) xorbs
+  pub seeks : new.seeks ≤ old.seeks + 2
+  pub read : new.read
+      ≤ old.read + 48 * (total_rows file_records files + 1)
+      + 48 * (total_rows xorb_records xorbs + 1)
 
 -- why both sections are not read as such lists
 abbrev pub BothRefusal : List ℕ → MDBShardInfo → CoreError → Type 0

@@ -10,6 +10,7 @@ ghost use Rattle.xet_shards.specs.SetOperations.{IsDifference, HasFewRows};
 ghost use Rattle.xet_shards.specs.Shard.{Shard, IsShard};
 ghost use Rattle.xet_core_structures.specs.ByteUnion.{IsByteUnion};
 ghost use Rattle.xet_core_structures.specs.ByteResults.{key_of, WritesResult, InputsFail, UnionRefusal, DifferenceRefusal, UnitesBytes, BytesRefusal};
+ghost use Rattle.xet_core_structures.specs.Held.{ReadsSections};
 ghost use Rattle.xet_core_structures.specs.Readable.{WritesInForm};
 ghost use Rattle.xet_core_structures.specs.MergeTrees.{HasUnion, TreeWrites, TreeRefusal, AtLeaves, AreWritten};
 
@@ -28,7 +29,8 @@ use xet_shards::shard_format::MDBShardInfo;
 
 /// Writes the union of two shards: header, sections, lookup tables and footer, with the key of
 /// both, creation 0 and no expiry. Returns the header and the footer, as `load_from_reader` reads
-/// them from these bytes. Of the inputs' footers it uses the key and the offsets of the sections.
+/// them from these bytes. Of the inputs' footers it uses the key and the offsets of the sections,
+/// and it reads each section once, by one seek.
 ///
 /// Of two files with one hash it takes the record whose flags have all bits of the other's, the
 /// first's if both have the same; else the first's segments with each optional part from the first
@@ -59,6 +61,8 @@ pub fn shard_set_union<S: ShardSource, T: ShardSource, W: Write>(
     ensures in_form { IfOk result
         (WritesInForm IsByteUnion (S.meaning r1.old).bytes s1.now (T.meaning r2.old).bytes s2.now
         (W.contents out.old) (W.contents out.new)) }
+    ensures costs { OnOk result (ReadsSections s1.now (S.meaning r1.old) (S.meaning r1.new)
+        × ReadsSections s2.now (T.meaning r2.old) (T.meaning r2.new)) }
     ensures serves { OnOk result (Serves (S.meaning r1.old) (S.meaning r1.new)
         × Serves (T.meaning r2.old) (T.meaning r2.new)) }
     ensures sources { ((S.meaning r1.new).bytes ≡ (S.meaning r1.old).bytes)
@@ -95,6 +99,8 @@ pub fn shard_set_difference<S: ShardSource, T: ShardSource, W: Write>(
     ensures in_form { IfOk result
         (WritesInForm IsDifference (S.meaning r1.old).bytes s1.now (T.meaning r2.old).bytes s2.now
         (W.contents out.old) (W.contents out.new)) }
+    ensures costs { OnOk result (ReadsSections s1.now (S.meaning r1.old) (S.meaning r1.new)
+        × ReadsSections s2.now (T.meaning r2.old) (T.meaning r2.new)) }
     ensures serves { OnOk result (Serves (S.meaning r1.old) (S.meaning r1.new)
         × Serves (T.meaning r2.old) (T.meaning r2.new)) }
     ensures sources { ((S.meaning r1.new).bytes ≡ (S.meaning r1.old).bytes)

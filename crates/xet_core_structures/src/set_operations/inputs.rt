@@ -4,7 +4,7 @@ ghost use Rattle.std.specs.Prelude.{◌≡◌, ◌≢◌, MatchResult, OnOk, IsE
 ghost use Rattle.xet_base.specs.Errors.{IsInvalidShard};
 ghost use Rattle.xet_base.specs.Table.{Serves};
 ghost use Rattle.xet_shards.specs.InForm.{Ascends};
-ghost use Rattle.xet_core_structures.specs.Held.{HoldsLists, ReadsNoInput};
+ghost use Rattle.xet_core_structures.specs.Held.{HoldsLists, ReadsSections, ReadsNoInput};
 ghost use Rattle.xet_core_structures.specs.ByteResults.{key_of, HaveInputs, InputsFail, DifferenceRefusal};
 
 use super::combine::ascends;
@@ -47,6 +47,8 @@ pub fn read_inputs<S: ShardSource, T: ShardSource>(
     ensures untouched { key_of s1.now ≢ key_of s2.now
         → IsErrAnd result (λ e. e ≡ CoreError.InvalidArguments) × (r1.new ≡ r1.old)
         × (r2.new ≡ r2.old) }
+    ensures costs { OnOk result (ReadsSections s1.now (S.meaning r1.old) (S.meaning r1.new)
+        × ReadsSections s2.now (T.meaning r2.old) (T.meaning r2.new)) }
     ensures serves { OnOk result (Serves (S.meaning r1.old) (S.meaning r1.new)
         × Serves (T.meaning r2.old) (T.meaning r2.new)) }
     ensures sources { ((S.meaning r1.new).bytes ≡ (S.meaning r1.old).bytes)
@@ -66,6 +68,8 @@ fn read_input<S: ShardSource>(alloc: Global, info: &MDBShardInfo, source: &mut S
         (λ found. HoldsLists (S.meaning source.old).bytes info.now found.files.items
         found.xorbs.items)
         (ReadsNoInput (S.meaning source.old) (S.meaning source.new) info.now) }
+    ensures costs { OnOk result
+        (ReadsSections info.now (S.meaning source.old) (S.meaning source.new)) }
     ensures serves { OnOk result (Serves (S.meaning source.old) (S.meaning source.new)) }
     ensures kept { (S.meaning source.new).bytes ≡ (S.meaning source.old).bytes }
 {

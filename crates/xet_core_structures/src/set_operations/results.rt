@@ -11,6 +11,7 @@ ghost use Rattle.xet_core_structures.specs.declared.set_operations.inputs.Record
 ghost use Rattle.xet_core_structures.specs.declared.set_operations.results.SetFailure.TheVariants.{Input};
 ghost use Rattle.xet_core_structures.specs.ByteUnion.{IsByteUnion, IsEitherFile, IsEitherXorb};
 ghost use Rattle.xet_core_structures.specs.Combining.{IsRest};
+ghost use Rattle.xet_core_structures.specs.Held.{ReadsSections};
 ghost use Rattle.xet_core_structures.specs.ByteResults.{key_of, AreRecords, AreCombined, AreNotUnited, WritesRecords, WritesResult, InputsFail, FailsBy, IsOutput, UnionRefusal, DifferenceRefusal, OperationLaws};
 
 use super::combine::{combine, combine_within_rows};
@@ -150,6 +151,8 @@ pub fn operate<O: SetOperation, S: ShardSource, T: ShardSource, W: Write>(
     ensures untouched { key_of s1.now ≢ key_of s2.now
         → IsErrAnd result (λ failure. failure ≡ Input CoreError.InvalidArguments)
         × (r1.new ≡ r1.old) × (r2.new ≡ r2.old) × (out.new ≡ out.old) }
+    ensures costs { OnOk result (ReadsSections s1.now (S.meaning r1.old) (S.meaning r1.new)
+        × ReadsSections s2.now (T.meaning r2.old) (T.meaning r2.new)) }
     ensures serves { OnOk result (Serves (S.meaning r1.old) (S.meaning r1.new)
         × Serves (T.meaning r2.old) (T.meaning r2.new)) }
     ensures sources { ((S.meaning r1.new).bytes ≡ (S.meaning r1.old).bytes)
