@@ -163,7 +163,7 @@ fn new_shards_are_made_or_out_of_memory(rt: HostRuntime) {
     assert!(rt; is_made(copy(alloc), 700));
 }
 
-/// The bytes of that shard.
+/// The bytes of the larger shard.
 fn larger_bytes(alloc: Global) -> Result<Vec<u8>> {
     larger_shard(alloc)?.to_bytes(alloc)
 }
