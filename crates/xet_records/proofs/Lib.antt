@@ -1,5 +1,7 @@
+pub mod Copying
 pub mod Decoding
 pub mod Flags
+pub mod Handed
 pub mod Lengths
 pub mod Processing
 pub mod Reading

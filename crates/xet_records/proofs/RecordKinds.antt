@@ -17,6 +17,7 @@ use Rattle.xet_records.specs.XorbRow.{chunk_row, FitsChunk}
 use Rattle.xet_records.specs.FileRecord.{file_record_bytes, file_rows_bytes, has_verification, has_metadata_ext, rows_after, file_records}
 use Rattle.xet_records.specs.XorbRecord.{xorb_record_bytes, xorb_records}
 use Rattle.xet_records.specs.Reading.{ReadsRowsAfter, ReadsRecord, BeginsWithHeader, BeginsWithBookend, PassesLimit, EndsEarly}
+use Rattle.xet_records.proofs.Handed.{file_handed}
 use Rattle.xet_records.proofs.Lengths.{length-header_row, length-file_record_bytes, length-xorb_header_row, length-chunk_rows}
 use Rattle.xet_records.proofs.Record.{length-three, row_or_none, header_row-front, row_count-whole}
 use Rattle.xet_records.proofs.Unique.{record_front}
@@ -42,6 +43,7 @@ file_laws = record {
   is_record = λ r stored. stored.is_file;
   same_header = λ r. refl;
   same_rows = λ r. omega (arith, length-map r.verification clear_verification, present r.metadata_ext);
+  handed_stored = file_handed;
   front = record_front;
 }
 
@@ -65,6 +67,7 @@ xorb_laws = record {
   is_record = λ r stored. stored.is_xorb;
   same_header = λ r. refl;
   same_rows = λ r. refl;
+  handed_stored = λ r stored. stored;
   front = xorb_front;
 }
 

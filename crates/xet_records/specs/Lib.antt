@@ -1,3 +1,4 @@
+pub mod Copying
 pub mod Decoding
 pub mod FileRecord
 pub mod FileRow

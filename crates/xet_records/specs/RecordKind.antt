@@ -41,6 +41,7 @@ pub record KindLaws {H R : Type 0} (K : RecordKind H R) : Type 0 where
   pub is_record : (r : R) → K.IsStored r → K.hash_of (K.header_of r) ≢ all_ones
   pub same_header : (r : R) → K.header_of (K.handed_out r) ≡ K.header_of r
   pub same_rows : (r : R) → K.row_count (K.handed_out r) ≡ K.row_count r
+  pub handed_stored : (r : R) → K.IsStored r → K.IsStored (K.handed_out r)
   pub front : (r s : R) (x y : List ℕ) → K.IsStored r → K.IsStored s
       → K.record_bytes r ++ x ≡ K.record_bytes s ++ y → (r ≡ s) × (x ≡ y)
 

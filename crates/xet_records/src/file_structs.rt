@@ -22,6 +22,7 @@ use std::io::{Read, Write};
 pub use view::MDBFileInfoView;
 use xet_base::error::{CoreError, Result};
 use xet_base::input::{ByteInput, OfReader};
+use xet_base::merklehash::MerkleHash;
 
 /// The flags of a file without optional parts.
 pub const MDB_DEFAULT_FILE_FLAG: u32 = 0;
@@ -181,6 +182,10 @@ impl SectionRecord for MDBFileInfo {
     ghost kept = { λ r. r.metadata_ext };
 
     ghost header_row = { record { bytes = λ h. refl; widths = λ h fits. fits; same = λ h. refl } };
+
+    fn hash(header: &FileDataSequenceHeader) -> MerkleHash {
+        header.file_hash
+    }
 
     fn is_bookend(header: &FileDataSequenceHeader) -> bool {
         header.is_bookend()

@@ -10,6 +10,7 @@ use crate::rows::Row;
 use std::alloc::Global;
 use xet_base::error::{CoreError, Result};
 use xet_base::input::ByteInput;
+use xet_base::merklehash::MerkleHash;
 
 /// The most rows that a record read by itself may have, its header included: the rows after it fit
 /// `u32`.
@@ -25,6 +26,10 @@ pub trait SectionRecord {
     ghost kind: { RecordKind Self.Header Self };
 
     ghost kept: { Self → Self.Kept };
+
+    /// The hash of the file or xorb.
+    fn hash(header: &Self::Header) -> MerkleHash
+        ensures { result ≡ kind.hash_of header.now };
 
     /// Whether the header ends a section.
     fn is_bookend(header: &Self::Header) -> bool

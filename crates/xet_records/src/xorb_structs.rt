@@ -342,6 +342,10 @@ impl SectionRecord for MDBXorbInfo {
 
     ghost header_row = { record { bytes = λ h. refl; widths = λ h fits. fits; same = λ h. refl } };
 
+    fn hash(header: &XorbChunkSequenceHeader) -> MerkleHash {
+        header.xorb_hash
+    }
+
     fn is_bookend(header: &XorbChunkSequenceHeader) -> bool {
         header.is_bookend()
     }

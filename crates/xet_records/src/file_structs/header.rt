@@ -142,6 +142,13 @@ impl FileDataSequenceHeader {
         }
     }
 
+    /// The number of metadata rows that the header announces, 1 or 0.
+    pub fn metadata_rows(&self) -> u32
+        ensures { result ≡ (if has_metadata_ext self.now.file_flags then 1 else 0) }
+    {
+        if self.contains_metadata_ext() { 1 } else { 0 }
+    }
+
     /// Whether both headers have the same hash and the same number of segments.
     pub fn verify_same_file(header_1: &Self, header_2: &Self) -> bool
         ensures { IsTrue result ↔ IsSameFile header_1.now header_2.now }
