@@ -1,4 +1,3 @@
-pub mod Ascending
 pub mod ByteLaws
 pub mod ByteUnions
 pub mod Combining
@@ -10,9 +9,14 @@ pub mod Lists
 pub mod LookupsFound
 pub mod MergeTrees
 pub mod MinimalAgain
+pub mod MixWriting
 pub mod Mixing
 pub mod OneResult
+pub mod Operating
+pub mod Pairs
 pub mod Readable
+pub mod Refusing
 pub mod Results
-pub mod Stepping
+pub mod SideBySide
+pub mod UnitedFiles
 pub mod Uniting

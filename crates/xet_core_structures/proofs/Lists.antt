@@ -1,9 +1,5 @@
--- Sections that are read whole, and tested to ascend.
-use Rattle.std.proofs.Common.{◌≡◌, inl, inr, ℕ, List, map, drop, sym, ap, ◌∙◌, subst, arith}
-use Rattle.std.specs.List.Sorted.{IsStrictlySortedBy}
-use Rattle.xet_base.specs.declared.error.CoreError.{CoreError}
-use Rattle.xet_base.specs.Errors.{IsInvalidShard}
-use Rattle.xet_base.specs.Hash.{hash_cmp}
+-- Sections that are read whole, with hashes that ascend.
+use Rattle.std.proofs.Common.{◌≡◌, ℕ, List, drop, ap, subst, arith}
 use Rattle.xet_base.specs.Source.{Source}
 use Rattle.xet_records.specs.declared.file_structs.MDBFileInfo.{MDBFileInfo}
 use Rattle.xet_records.specs.declared.xorb_structs.MDBXorbInfo.{MDBXorbInfo}
@@ -15,52 +11,28 @@ use Rattle.xet_shards.specs.declared.shard_format.info.MDBShardInfo.{MDBShardInf
 use Rattle.xet_shards.specs.InForm.{Ascends}
 use Rattle.xet_shards.specs.SectionReading.{IsSection, ReadsSection}
 use Rattle.xet_shards.specs.Section.{total_rows}
-use Rattle.xet_core_structures.specs.Held.{FrontFalls, IsListOf, xorbs_at, HoldsLists, ReadsSections, ReadsNoInput}
-use Rattle.xet_core_structures.proofs.Held.{hashes_handed, rows_handed}
-use Rattle.xet_core_structures.proofs.Handed.{all_handed, file_handed}
+use Rattle.xet_core_structures.specs.Held.{IsListOf, xorbs_at, HoldsLists, ReadsSections}
+use Rattle.xet_core_structures.proofs.Held.{rows_handed}
+use Rattle.xet_core_structures.proofs.Handed.{all_handed}
 
 module _ {H R : Type 0} (K : RecordKind H R) (laws : KindLaws K) (old new : Source) (at : ℕ) where
-  list_read : ((r : R) → K.IsStored r → K.IsStored (K.handed_out r)) → (found : List R) → ReadsSection K old new at found → Ascends K found → IsListOf K (drop at old.bytes) found
-  list_read again found reads ascends = record {
+  list_read : (found : List R) → ReadsSection K old new at found → Ascends K found → IsListOf K (drop at old.bytes) found
+  list_read found reads ascends = record {
     stored = reads.stored;
     section = reads.section;
     handed = reads.handed;
     writable = record {
-      stored = all_handed K again reads.stored found reads.section.records.are_stored reads.handed;
+      stored = all_handed K laws reads.stored found reads.section.records.are_stored reads.handed;
       ascends = ascends;
       rows = omega (arith, reads.section.records.rows, rows_handed K laws reads.stored, ap (total_rows K) reads.handed);
     };
   }
 
-  list_falls : (found : List R) → ReadsSection K old new at found → ¬ Ascends K found → FrontFalls K (drop at old.bytes)
-  list_falls found reads falls = (
-    reads.stored,
-    reads.section.rest,
-    reads.section.records,
-    λ ascends. falls (subst (IsStrictlySortedBy hash_cmp) (sym (hashes_handed K laws reads.stored) ∙ ap (map (λ r. K.hash_of (K.header_of r))) reads.handed) ascends),
-  )
-
 -- both sections of an input, one after the other
-pub files_fall : (old new : Source) (info : MDBShardInfo) (files : List MDBFileInfo) (e : CoreError) → ReadsSection file_records old new info.metadata.file_info_offset files
-    → IsInvalidShard e × (¬ Ascends file_records files) → ReadsNoInput old new info e
-files_fall old new info files e read (invalid, falls) =
-    inr (ap (λ (s : Source). s.failures) read.after, inr (inr (invalid, inr (inr (inl (list_falls file_records file_laws old new info.metadata.file_info_offset files read falls))))))
-
 module _ (old mid new : Source) (info : MDBShardInfo) (files : List MDBFileInfo) (xorbs : List MDBXorbInfo)
     (read : ReadsSection file_records old mid info.metadata.file_info_offset files) (further : ReadsSection xorb_records mid new info.metadata.xorb_info_offset xorbs) where
   same_bytes : mid.bytes ≡ old.bytes
   same_bytes = ap (λ (s : Source). s.bytes) read.after
-
-  pub xorbs_fall : (e : CoreError) → IsInvalidShard e × (¬ Ascends xorb_records xorbs) → ReadsNoInput old new info e
-  xorbs_fall e (invalid, falls) =
-      inr (
-        ap (λ (s : Source). s.failures) further.after ∙ ap (λ (s : Source). s.failures) read.after,
-        inr (inr (
-          invalid,
-          inr (inr (inr (subst (λ bytes. FrontFalls xorb_records (xorbs_at bytes info)) same_bytes
-              (list_falls xorb_records xorb_laws mid new info.metadata.xorb_info_offset xorbs further falls)))),
-        )),
-      )
 
   pub sections_read : ReadsSections info old new
   sections_read = record {
@@ -74,7 +46,7 @@ module _ (old mid new : Source) (info : MDBShardInfo) (files : List MDBFileInfo)
 
   pub lists_read : Ascends file_records files → Ascends xorb_records xorbs → HoldsLists old.bytes info files xorbs
   lists_read files_ascend xorbs_ascend = record {
-    files = list_read file_records file_laws old mid info.metadata.file_info_offset file_handed files read files_ascend;
+    files = list_read file_records file_laws old mid info.metadata.file_info_offset files read files_ascend;
     xorbs = subst (λ bytes. IsListOf xorb_records (xorbs_at bytes info) xorbs) same_bytes
-        (list_read xorb_records xorb_laws mid new info.metadata.xorb_info_offset (λ r stored. stored) xorbs further xorbs_ascend);
+        (list_read xorb_records xorb_laws mid new info.metadata.xorb_info_offset xorbs further xorbs_ascend);
   }

@@ -1,16 +1,28 @@
--- A mix of two records of one file may be stored; what has no united file has no file under its hash.
-use Rattle.std.proofs.Common.{◌≡◌, ◌⊎◌, inl, inr, ◌^◌, ◌<◌, Bool, true, false, ◌||◌, Option, Some, IfSome, Ok, Err, sym, subst, if◌then◌else◌, arith}
-use Rattle.std.specs.Prelude.{All, IfOk}
-use Rattle.std.specs.declared.result.Result.{Result}
-use Rattle.xet_base.specs.declared.error.CoreError.{CoreError}
-use Rattle.xet_base.specs.declared.error.CoreError.TheVariants.{OutOfMemory}
-use Rattle.xet_base.specs.Errors.{IsInvalidShard}
+-- A mix of two records of one file: it may be stored, and is written part by part.
+use Rattle.std.proofs.Common.{◌≡◌, ◌≢◌, ℕ, zero, suc, ◌+◌, ◌*◌, ◌^◌, ◌<◌, Bool, true, false, ◌||◌, List, [], ◌∷◌, length, flat_map, Option, IfSome, refl, sym, ap, ◌∙◌, subst, if◌then◌else◌, arith}
+use Rattle.std.specs.Prelude.{All, ◌==◌, option_to_list}
+use Rattle.std.specs.Io.KnownBytes.{Appends}
+use Rattle.std.proofs.Math.Dec.{eqb-suc-zero}
+use Rattle.xet_base.specs.InputLaws.{Takes-nil}
+use Rattle.xet_base.specs.Source.{Source, Takes, ReadFails}
+use Rattle.xet_records.specs.declared.file_structs.header.FileDataSequenceHeader.{FileDataSequenceHeader}
+use Rattle.xet_records.specs.declared.file_structs.rows.FileVerificationEntry.{FileVerificationEntry}
+use Rattle.xet_records.specs.declared.file_structs.rows.FileMetadataExt.{FileMetadataExt}
 use Rattle.xet_records.specs.declared.file_structs.MDBFileInfo.{MDBFileInfo}
+use Rattle.xet_records.specs.declared.row_copier.CopyFailure.{CopyFailure}
+use Rattle.xet_records.specs.declared.row_copier.CopyFailure.TheVariants.{Input, Output}
+use Rattle.xet_records.specs.Copying.{CopiesRows, CopyFails}
+use Rattle.xet_records.specs.Rows.{ReadsRows}
+use Rattle.xet_records.proofs.Reading.{no_rows}
+use Rattle.xet_records.proofs.RecordKinds.{file_laws}
 use Rattle.xet_records.specs.FileRow.{FitsVerification, FitsMetadata}
-use Rattle.xet_records.specs.FileRecord.{flags_of, IsStored}
+use Rattle.xet_records.specs.FileRecord.{flags_of, row_count, rows_after, IsStored}
 use Rattle.xet_records.specs.Merging.{verified, described}
 use Rattle.xet_records.proofs.Merging.{joined_whole}
-use Rattle.xet_core_structures.specs.ByteUnion.{mixed, IsUnitedFile, IsEitherFile}
+use Rattle.xet_core_structures.specs.ByteUnion.{mixed}
+use Rattle.xet_core_structures.specs.MixedFiles.{mixed_header, CopiesEither, EitherFails}
+use Rattle.xet_core_structures.specs.MixedFiles.EitherFails.{output_fails, first_fails, second_fails}
+use Rattle.xet_core_structures.proofs.SideBySide.{serves_same, taken_serves}
 
 flags_fit : (v m : Bool) → flags_of v m < 2 ^ 32
 flags_fit true true = omega arith
@@ -41,12 +53,82 @@ mixed_stored a b one other hash counts =
       };
     }
 
-pub no_either : (x y : MDBFileInfo) (e : CoreError) → (e ≡ OutOfMemory) ⊎ (IsInvalidShard e × ((united : MDBFileInfo) → ¬ IsUnitedFile x y united))
-    → (e ≡ OutOfMemory) ⊎ (IsInvalidShard e × ((made : Option MDBFileInfo) → ¬ IsEitherFile (Some x) (Some y) made))
-no_either x y e (inl no_memory) = inl no_memory
-no_either x y e (inr (invalid, none)) = inr (invalid, λ made either. none either.0 either.2)
+-- the rows of a mix
+module _ (g h : FileDataSequenceHeader) (a b : MDBFileInfo) (a_is : a.metadata ≡ g) (b_is : b.metadata ≡ h) (one : IsStored a) (other : IsStored b) (hash : g.file_hash ≡ h.file_hash) (count : g.num_entries ≡ h.num_entries) where
+  same_hash : a.metadata.file_hash ≡ b.metadata.file_hash
+  same_hash = ap (λ (k : FileDataSequenceHeader). k.file_hash) a_is ∙ hash ∙ sym (ap (λ (k : FileDataSequenceHeader). k.file_hash) b_is)
 
-pub stored_if_mixed : (a b : MDBFileInfo) (r : Result MDBFileInfo CoreError) → IsStored a → IsStored b → a.metadata.file_hash ≡ b.metadata.file_hash → a.metadata.num_entries ≡ b.metadata.num_entries
-    → IfOk r (λ file. file ≡ mixed a b) → IfOk r IsStored
-stored_if_mixed a b (Ok file) one other hash counts is = subst IsStored (sym is) (mixed_stored a b one other hash counts)
-stored_if_mixed a b (Err e) one other hash counts is = tt
+  same_count : a.metadata.num_entries ≡ b.metadata.num_entries
+  same_count = ap (λ (k : FileDataSequenceHeader). k.num_entries) a_is ∙ count ∙ sym (ap (λ (k : FileDataSequenceHeader). k.num_entries) b_is)
+
+  pub is_stored : IsStored (mixed a b)
+  is_stored = mixed_stored a b one other same_hash same_count
+
+  header_is : (mixed a b).metadata ≡ mixed_header g h
+  header_is = λ i. mixed_header (a_is i) (b_is i)
+
+  pub rows_of_mix : row_count (mixed a b) ≡ 1 + rows_after (mixed_header g h)
+  rows_of_mix = file_laws.rows (mixed a b) is_stored ∙ ap (λ k. 1 + rows_after k) header_is
+
+not_zero : (n : ℕ) → n ≢ 0 → (n == 0) ≡ false
+not_zero zero some = absurd (some refl)
+not_zero (suc n) some = eqb-suc-zero n
+
+-- the rows of either
+module _ {T : Type 0} (row_bytes : T → List ℕ) (Fits : T → Type 0) (handed : T → T) where
+  pub second_copied : (one old_2 new_2 : Source) (count_1 count_2 : ℕ) (old new : Option (List ℕ)) (rows : List T) → count_1 ≡ 0
+      → CopiesRows row_bytes Fits handed (Takes old_2 new_2) old new count_2 rows → CopiesEither row_bytes Fits handed one one old_2 new_2 count_1 count_2 old new
+  second_copied one old_2 new_2 count_1 count_2 old new rows none copied =
+      subst (λ n. CopiesEither row_bytes Fits handed one one old_2 new_2 n count_2 old new) (sym none) (record {
+        firsts = [];
+        seconds = rows;
+        first = no_rows row_bytes Fits handed (Takes one one) (Takes-nil one);
+        second = copied.read;
+        bytes = copied.written;
+      })
+
+  pub first_copied : (old_1 new_1 old_2 new_2 : Source) (count_1 count_2 : ℕ) (old new : Option (List ℕ)) (firsts seconds : List T) → count_1 ≢ 0
+      → CopiesRows row_bytes Fits handed (Takes old_1 new_1) old new count_1 firsts → ReadsRows row_bytes Fits handed (Takes old_2 new_2) count_2 seconds
+      → CopiesEither row_bytes Fits handed old_1 new_1 old_2 new_2 count_1 count_2 old new
+  first_copied old_1 new_1 old_2 new_2 count_1 count_2 old new firsts seconds some copied skipped = record {
+    firsts = firsts;
+    seconds = seconds;
+    first = copied.read;
+    second = skipped;
+    bytes = subst (λ b. Appends old new (flat_map row_bytes (if b then seconds else firsts))) (sym (not_zero count_1 some)) copied.written;
+  }
+
+-- why neither was copied
+pub second_not_copied : {S : Type 0} (meaning : S → Source) (s t : S) (one : Source) (count_1 count_2 : ℕ) (failure : CopyFailure)
+    → CopyFails (λ a b xs. Takes (meaning a) (meaning b) xs) (λ a b n e. ReadFails (meaning a) (meaning b) n e) s t (48 * count_2) failure
+    → EitherFails one one (meaning s) (meaning t) count_1 count_2 failure
+second_not_copied meaning s t one count_1 count_2 (Input e) fails = second_fails e refl fails (serves_same one one refl)
+second_not_copied meaning s t one count_1 count_2 (Output e) (is, taken, read) = output_fails e refl is refl (taken_serves (meaning s) (meaning t) taken read).bytes
+
+pub first_not_copied : {S : Type 0} (meaning : S → Source) (s t : S) (two : Source) (count_1 count_2 : ℕ) (failure : CopyFailure)
+    → CopyFails (λ a b xs. Takes (meaning a) (meaning b) xs) (λ a b n e. ReadFails (meaning a) (meaning b) n e) s t (48 * count_1) failure
+    → EitherFails (meaning s) (meaning t) two two count_1 count_2 failure
+first_not_copied meaning s t two count_1 count_2 (Input e) fails = first_fails e refl fails (serves_same two two refl)
+first_not_copied meaning s t two count_1 count_2 (Output e) (is, taken, read) = output_fails e refl is (taken_serves (meaning s) (meaning t) taken read).bytes refl
+
+-- the parts that are written are those of a mix
+no_row : {T : Type 0} (xs ys : List T) → length xs ≡ 0 → length ys ≡ 0 → xs ≡ ys
+no_row [] [] one other = refl
+no_row [] (y ∷ ys) one other = absurd (omega (arith, other))
+no_row (x ∷ xs) ys one other = absurd (omega (arith, one))
+
+pub verification_of : (v w : Bool) (n count_1 count_2 : ℕ) (firsts seconds : List FileVerificationEntry) → count_1 ≡ (if v then n else 0) → count_2 ≡ (if w then n else 0)
+    → length firsts ≡ count_1 → length seconds ≡ count_2 → (if count_1 == 0 then seconds else firsts) ≡ (if v then firsts else seconds)
+verification_of false w n count_1 count_2 firsts seconds one other len_1 len_2 = ap (λ k. if k == 0 then seconds else firsts) one
+verification_of true w n count_1 count_2 firsts seconds one other len_1 len_2 = ap (λ k. if k == 0 then seconds else firsts) one ∙ at n refl where
+  at : (k : ℕ) → n ≡ k → (if k == 0 then seconds else firsts) ≡ firsts
+  at zero none = no_row seconds firsts (len_2 ∙ other ∙ no_rows_of w) (len_1 ∙ one ∙ none) where
+    no_rows_of : (w : Bool) → (if w then n else 0) ≡ 0
+    no_rows_of true = none
+    no_rows_of false = refl
+  at (suc k) some = ap (λ b. if b then seconds else firsts) (eqb-suc-zero k)
+
+pub metadata_of : (v : Bool) (count : ℕ) (firsts seconds : List FileMetadataExt) (one other : Option FileMetadataExt) → count ≡ (if v then 1 else 0)
+    → firsts ≡ option_to_list one → seconds ≡ option_to_list other → (if count == 0 then seconds else firsts) ≡ option_to_list (if v then one else other)
+metadata_of true count firsts seconds one other counted first second = ap (λ k. if k == 0 then seconds else firsts) counted ∙ first
+metadata_of false count firsts seconds one other counted first second = ap (λ k. if k == 0 then seconds else firsts) counted ∙ second

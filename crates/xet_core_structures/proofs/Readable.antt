@@ -12,7 +12,8 @@ use Rattle.xet_records.specs.declared.file_structs.rows.FileVerificationEntry.{F
 use Rattle.xet_records.specs.declared.file_structs.rows.FileMetadataExt.{FileMetadataExt}
 use Rattle.xet_records.specs.declared.file_structs.MDBFileInfo.{MDBFileInfo}
 use Rattle.xet_records.specs.declared.xorb_structs.MDBXorbInfo.{MDBXorbInfo}
-use Rattle.xet_records.specs.RecordKind.{RecordKind}
+use Rattle.xet_records.specs.RecordKind.{RecordKind, KindLaws}
+use Rattle.xet_records.proofs.RecordKinds.{file_laws, xorb_laws}
 use Rattle.xet_records.specs.FileRow.{clear_verification, clear_metadata}
 use Rattle.xet_records.specs.FileRecord.{file_records, handed_out}
 use Rattle.xet_records.specs.XorbRecord.{xorb_records, IsXorb}
@@ -29,7 +30,7 @@ use Rattle.xet_core_structures.specs.ByteUnion.{mixed, IsUnitedFile, IsEitherFil
 use Rattle.xet_core_structures.specs.Combining.{IsRest}
 use Rattle.xet_core_structures.specs.Held.{IsSectionOf}
 use Rattle.xet_core_structures.specs.Readable.{AreReadable}
-use Rattle.xet_core_structures.proofs.Handed.{file_handed, all_handed}
+use Rattle.xet_core_structures.proofs.Handed.{all_handed}
 use Rattle.xet_core_structures.proofs.Mixing.{mixed_stored, either_part}
 
 -- reading returns again what it returned
@@ -62,11 +63,11 @@ module _ {H R : Type 0} (K : RecordKind H R) where
   all_values P m each = All-map P (λ e. e.1) (entries m) (all_of_map hash_cmp-IsTotalOrder hash_cmp-IsAntisymmetric (λ e. P e.1) m each)
 
   -- the records of a section are such
-  module _ (again : (r : R) → K.IsStored r → K.IsStored (K.handed_out r)) (twice : (r : R) → K.handed_out (K.handed_out r) ≡ K.handed_out r)
+  module _ (laws : KindLaws K) (twice : (r : R) → K.handed_out (K.handed_out r) ≡ K.handed_out r)
       (bytes : List ℕ) (m : FinMap hash_cmp R) (is : IsSectionOf K bytes m) where
     pub section_readable : (q : DataHash) (r : R) → get m q ≡ Some r → IsReadableAs q r
     section_readable q r at =
-        let all_stored = all_handed K again is.stored (values m) is.section.records.are_stored is.handed in
+        let all_stored = all_handed K laws is.stored (values m) is.section.records.are_stored is.handed in
         let all_unchanged = subst (All (λ s. K.handed_out s ≡ s)) is.handed (All-map (λ s. K.handed_out s ≡ s) K.handed_out is.stored (λ k s below. twice (get_or is.stored k s))) in
         record {
           keyed = entry-holds (λ e. e.0 ≡ hash_in K e.1) (entries m) q r is.keyed (sym (get-entries m q) ∙ at);
@@ -131,11 +132,11 @@ module _ (x : List ℕ) (i : MDBShardInfo) (y : List ℕ) (j : MDBShardInfo) (c 
       → IsReadable c
   made_readable IsFile IsXorb IsResult have keeps_files keeps_xorbs files xorbs = record {
     files = readable_if_each file_records c.files (λ q r at. keeps_files q _ _ _ r
-        (section_readable file_records file_handed handed_twice _ have.first.files have.holds_first.files q)
-        (section_readable file_records file_handed handed_twice _ have.second.files have.holds_second.files q) (files q) at) have.rows.files;
+        (section_readable file_records file_laws handed_twice _ have.first.files have.holds_first.files q)
+        (section_readable file_records file_laws handed_twice _ have.second.files have.holds_second.files q) (files q) at) have.rows.files;
     xorbs = readable_if_each xorb_records c.xorbs (λ q r at. keeps_xorbs q _ _ _ r
-        (section_readable xorb_records (λ r stored. stored) (λ r. refl) _ have.first.xorbs have.holds_first.xorbs q)
-        (section_readable xorb_records (λ r stored. stored) (λ r. refl) _ have.second.xorbs have.holds_second.xorbs q) (xorbs q) at) have.rows.xorbs;
+        (section_readable xorb_records xorb_laws (λ r. refl) _ have.first.xorbs have.holds_first.xorbs q)
+        (section_readable xorb_records xorb_laws (λ r. refl) _ have.second.xorbs have.holds_second.xorbs q) (xorbs q) at) have.rows.xorbs;
   }
 
   pub union_readable : HaveResult IsByteUnion x i y j c → IsReadable c

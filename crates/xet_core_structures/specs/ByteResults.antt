@@ -1,5 +1,5 @@
 -- What one union or one difference of bytes writes, and why it fails.
-use Rattle.std.specs.Prelude.{◌≡◌, ◌≢◌, ◌⊎◌, ⊤, ℕ, ◌+◌, ◌<◌, ◌≤◌, List, Contains, Option, None, Some}
+use Rattle.std.specs.Prelude.{◌≡◌, ◌≢◌, ◌⊎◌, ⊤, ℕ, ◌+◌, ◌<◌, ◌≤◌, List, All, Contains, Option, None, Some}
 use Rattle.std.specs.FinMap.{FinMap, get, values}
 use Rattle.std.specs.Io.KnownBytes.{Appends}
 use Rattle.xet_base.specs.declared.error.CoreError.{CoreError}
@@ -10,10 +10,15 @@ use Rattle.xet_base.specs.Hash.{hash_cmp}
 use Rattle.xet_base.specs.Source.{Source, DeviceFailure}
 use Rattle.xet_records.specs.declared.file_structs.MDBFileInfo.{MDBFileInfo}
 use Rattle.xet_records.specs.declared.xorb_structs.MDBXorbInfo.{MDBXorbInfo}
+use Rattle.xet_records.specs.declared.row_copier.CopyFailure.{CopyFailure}
+use Rattle.xet_records.specs.declared.row_copier.CopyFailure.TheVariants.{Input, Output}
 use Rattle.xet_records.specs.RecordKind.{RecordKind}
-use Rattle.xet_records.specs.FileRecord.{file_records}
+use Rattle.xet_records.specs.FileRecord.{file_records, FitsRecord}
 use Rattle.xet_records.specs.XorbRecord.{xorb_records}
 use Rattle.xet_shards.specs.declared.shard_format.info.MDBShardInfo.{MDBShardInfo}
+use Rattle.xet_shards.specs.declared.shard_format.written.WrittenFiles.{WrittenFiles}
+use Rattle.xet_shards.specs.declared.shard_format.written.WrittenXorbs.{WrittenXorbs}
+use Rattle.xet_shards.specs.Written.{HasWritten, HasWrittenXorbs, end_of_layout}
 use Rattle.xet_shards.specs.Ends.{HasEnds, IsUnsupported, IsTooShort}
 use Rattle.xet_shards.specs.declared.shard_format.form.Form.{Form}
 use Rattle.xet_shards.specs.Layout.{plain_form, layout_of, info_of}
@@ -22,12 +27,9 @@ use Rattle.xet_shards.specs.SectionReading.{HoldsRecords}
 use Rattle.xet_shards.specs.SetOperations.{HasFewRows}
 use Rattle.xet_shards.specs.Shard.{Shard}
 use Rattle.xet_core_structures.specs.ByteUnion.{IsEitherFile, IsEitherXorb, IsByteUnion}
-use Rattle.xet_core_structures.specs.declared.set_operations.inputs.Records.{Records}
-use Rattle.xet_core_structures.specs.declared.set_operations.inputs.Inputs.{Inputs}
-use Rattle.xet_core_structures.specs.declared.set_operations.results.SetFailure.{SetFailure}
-use Rattle.xet_core_structures.specs.declared.set_operations.results.SetFailure.TheVariants.{Input, Output}
-use Rattle.xet_core_structures.specs.Combining.{Combines, NoneCombines}
-use Rattle.xet_core_structures.specs.Held.{AreWritable, IsSectionOf, files_at, xorbs_at, Holds, HoldsLists, IsCut, IsBad}
+use Rattle.xet_core_structures.specs.Combining.{Combines}
+use Rattle.xet_core_structures.specs.SideBySide.{NoneMade}
+use Rattle.xet_core_structures.specs.Held.{IsSectionOf, files_at, xorbs_at, Holds, HoldsLists, IsCut, IsBad}
 
 -- all tables, this key, creation 0 and no expiry
 abbrev pub keyed_form : DataHash → Form
@@ -129,71 +131,68 @@ InputsFail old_1 new_1 old_2 new_2 Refusal e =
     DeviceFailure old_1 new_1 e ⊎ DeviceFailure old_2 new_2 e
     ⊎ ((new_1.failures ≡ old_1.failures) × (new_2.failures ≡ old_2.failures) × Refusal e)
 
--- the error of a failure that says whether it is the inputs' or the output's
-abbrev pub error_of : SetFailure → CoreError
-error_of (Input e) = e
-error_of (Output e) = e
-
 -- such a failure has this cause, or is that of the output's device
-abbrev pub FailsBy : (CoreError → Type 0) → SetFailure → Type 0
+abbrev pub FailsBy : (CoreError → Type 0) → CopyFailure → Type 0
 FailsBy Cause (Input e) = Cause e
 FailsBy Cause (Output e) = IsDeviceError e
 
 -- the failure is the output's
-abbrev pub IsOutput : SetFailure → Type 0
+abbrev pub IsOutput : CopyFailure → Type 0
 IsOutput (Input e) = ⊥
 IsOutput (Output e) = ⊤
 
--- both inputs are under one key, and the bytes of each have the sections of these lists
-pub record HaveInputs (x : List ℕ) (i : MDBShardInfo) (y : List ℕ) (j : MDBShardInfo)
-    (inputs : Inputs) : Type 0 where
-  pub same_key : key_of i ≡ key_of j
-  pub first : HoldsLists x i inputs.first.files.items inputs.first.xorbs.items
-  pub second : HoldsLists y j inputs.second.files.items inputs.second.xorbs.items
+-- the records of both sections
+pub record Records : Type 0 where
+  pub files : List MDBFileInfo
+  pub xorbs : List MDBXorbInfo
 
--- both lists of records may be written as sections
-pub record AreRecords (records : Records) : Type 0 where
-  pub files : AreWritable file_records records.files.items
-  pub xorbs : AreWritable xorb_records records.xorbs.items
+-- both inputs are under one key, and the bytes of each have the sections of these records
+pub record HaveInputs (x : List ℕ) (i : MDBShardInfo) (y : List ℕ) (j : MDBShardInfo)
+    (one other : Records) : Type 0 where
+  pub same_key : key_of i ≡ key_of j
+  pub first : HoldsLists x i one.files one.xorbs
+  pub second : HoldsLists y j other.files other.xorbs
 
 -- both lists of the result are what is made of those of both inputs, and may be written
 pub record AreCombined
     (IsFile : Option MDBFileInfo → Option MDBFileInfo → Option MDBFileInfo → Type 0)
     (IsXorb : Option MDBXorbInfo → Option MDBXorbInfo → Option MDBXorbInfo → Type 0)
     (first second result : Records) : Type 0 where
-  pub files : Combines file_records IsFile first.files.items second.files.items result.files.items
-  pub xorbs : Combines xorb_records IsXorb first.xorbs.items second.xorbs.items result.xorbs.items
-  pub writable : AreRecords result
-
--- why the records of two inputs are not united: an allocation failed, or there are no such files,
--- or no such xorbs
-abbrev pub AreNotUnited : Records → Records → CoreError → Type 0
-AreNotUnited first second e =
-    (e ≡ OutOfMemory)
-    ⊎ (IsInvalidShard e
-    × (NoneCombines file_records IsEitherFile first.files.items second.files.items
-    ⊎ NoneCombines xorb_records IsEitherXorb first.xorbs.items second.xorbs.items))
+  pub files : Combines file_records IsFile first.files second.files result.files
+  pub xorbs : Combines xorb_records IsXorb first.xorbs second.xorbs result.xorbs
+  pub few_files : total_rows file_records result.files ≤ 4294967295
+  pub few_xorbs : total_rows xorb_records result.xorbs ≤ 4294967295
 
 -- the layout of the records under a key was written, and the header and the footer in it returned
 abbrev pub WritesRecords : Records → DataHash → Option (List ℕ) → Option (List ℕ) → MDBShardInfo
     → Type 0
 WritesRecords records key old new info =
-    (info ≡ info_of records.files.items records.xorbs.items (keyed_form key))
-    × Appends old new (layout_of records.files.items records.xorbs.items (keyed_form key))
+    (info ≡ info_of records.files records.xorbs (keyed_form key))
+    × Appends old new (layout_of records.files records.xorbs (keyed_form key))
 
--- what is made of the records of two inputs may be written, and is then the result for what their
--- bytes hold; and each error, of reading the inputs or of combining their records, is a refusal
+-- the end of a layout in a form was, after sections of these records
+abbrev pub WritesEnd : WrittenFiles → WrittenXorbs → Form → Option (List ℕ) → Option (List ℕ)
+    → MDBShardInfo → Type 0
+WritesEnd files xorbs form old new info =
+    (rs : List MDBFileInfo) → (xs : List MDBXorbInfo) → All FitsRecord rs → HasWritten files rs
+    → HasWrittenXorbs xorbs xs
+    → (info ≡ info_of rs xs form) × Appends old new (end_of_layout rs xs form)
+
+-- what is made of the records of two inputs is the result for what their bytes hold; and each error,
+-- of reading the inputs or of records of which nothing can be made, is a refusal
 pub record OperationLaws (IsResult : Shard → Shard → Shard → Type 0)
-    (Makes : Records → Records → Records → Type 0)
-    (MakesNone : Records → Records → CoreError → Type 0)
+    (IsFile : Option MDBFileInfo → Option MDBFileInfo → Option MDBFileInfo → Type 0)
+    (IsXorb : Option MDBXorbInfo → Option MDBXorbInfo → Option MDBXorbInfo → Type 0)
     (Refusal : List ℕ → MDBShardInfo → List ℕ → MDBShardInfo → CoreError → Type 0) : Type 0 where
-  pub writable : (first second result : Records) → Makes first second result → AreRecords result
-  pub written : (x : List ℕ) (i : MDBShardInfo) (y : List ℕ) (j : MDBShardInfo) (inputs : Inputs)
-      (result : Records) (old new : Option (List ℕ)) (info : MDBShardInfo)
-      → HaveInputs x i y j inputs → Makes inputs.first inputs.second result
+  pub written : (x : List ℕ) (i : MDBShardInfo) (y : List ℕ) (j : MDBShardInfo)
+      (first second result : Records) (old new : Option (List ℕ)) (info : MDBShardInfo)
+      → HaveInputs x i y j first second → AreCombined IsFile IsXorb first second result
       → WritesRecords result (key_of i) old new info → WritesResult IsResult x i y j old new info
   pub not_read : (x : List ℕ) (i : MDBShardInfo) (y : List ℕ) (j : MDBShardInfo) (e : CoreError)
       → DifferenceRefusal x i y j e → Refusal x i y j e
-  pub not_made : (x : List ℕ) (i : MDBShardInfo) (y : List ℕ) (j : MDBShardInfo) (inputs : Inputs)
-      (e : CoreError)
-      → HaveInputs x i y j inputs → MakesNone inputs.first inputs.second e → Refusal x i y j e
+  pub no_files : (x : List ℕ) (i : MDBShardInfo) (y : List ℕ) (j : MDBShardInfo) (e : CoreError)
+      → key_of i ≡ key_of j → IsInvalidShard e
+      → NoneMade file_records IsFile (files_at x i) (files_at y j) → Refusal x i y j e
+  pub no_xorbs : (x : List ℕ) (i : MDBShardInfo) (y : List ℕ) (j : MDBShardInfo) (e : CoreError)
+      → key_of i ≡ key_of j → IsInvalidShard e
+      → NoneMade xorb_records IsXorb (xorbs_at x i) (xorbs_at y j) → Refusal x i y j e

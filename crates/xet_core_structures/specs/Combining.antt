@@ -1,20 +1,31 @@
 -- Lists of records whose hashes strictly ascend, combined hash by hash.
-use Rattle.std.specs.Prelude.{◌≡◌, ◌⊎◌, ℕ, ◌+◌, ◌<◌, ◌≤◌, List, map, All, Contains, Option, None, Some, is_some, if◌then◌else◌}
+use Rattle.std.specs.Prelude.{◌≡◌, ◌⊎◌, ℕ, ◌+◌, ◌≤◌, List, map, All, Option, None, Some, is_some, if◌then◌else◌}
+use Rattle.std.specs.List.{AllByRecursion}
 use Rattle.std.specs.declared.cmp.Ordering.TheVariants.{Less}
 use Rattle.xet_base.specs.Hash.{hash_cmp}
 use Rattle.xet_base.specs.declared.merklehash.DataHash.{DataHash}
 use Rattle.xet_records.specs.RecordKind.{RecordKind}
 use Rattle.xet_shards.specs.Joining.{entry}
-use Rattle.xet_shards.specs.Section.{total_rows}
 use Rattle.xet_shards.specs.InForm.{Ascends}
-
--- 1 for a record, 0 for none
-abbrev pub count : {X : Type 0} → Option X → ℕ
-count o = if is_some o then 1 else 0
 
 -- the second's record, unless the first has one
 abbrev pub IsRest : {R : Type 0} → Option R → Option R → Option R → Type 0
 IsRest a b c = c ≡ (if is_some a then None else b)
+
+-- of the next headers of two sections, if any, those with the lesser hash, or both
+abbrev pub IsNextPair : {H : Type 0} → (H → DataHash) → Option H → Option H → Option H → Option H
+    → Type 0
+IsNextPair hash None q a b = (a ≡ None) × (b ≡ q)
+IsNextPair hash (Some g) None a b = (a ≡ Some g) × (b ≡ None)
+IsNextPair hash (Some g) (Some h) a b =
+    ((hash_cmp (hash g) (hash h) ≡ Less) × (a ≡ Some g) × (b ≡ None))
+    ⊎ ((hash_cmp (hash h) (hash g) ≡ Less) × (a ≡ None) × (b ≡ Some h))
+    ⊎ ((hash g ≡ hash h) × (a ≡ Some g) × (b ≡ Some h))
+
+-- headers with one hash, where there are any
+abbrev pub AreOfOneHash : {H : Type 0} → (H → DataHash) → Option H → Option H → Type 0
+AreOfOneHash hash (Some g) (Some h) = hash g ≡ hash h
+AreOfOneHash hash a b = Unit {0}
 
 module _ {H R : Type 0} (K : RecordKind H R) where
   abbrev pub key_of_record : R → DataHash
@@ -34,32 +45,15 @@ module _ {H R : Type 0} (K : RecordKind H R) where
     pub each : (q : DataHash) → IsEither (with_hash xs q) (with_hash ys q) (with_hash zs q)
     pub stored : All K.IsStored zs
 
-  -- each list has a record with one hash of which nothing can be made
-  abbrev pub Clash : (Option R → Option R → Option R → Type 0) → List R → List R → Type 0
-  Clash IsEither xs ys =
-      (r s : R) × Contains xs r × Contains ys s × (key_of_record r ≡ key_of_record s)
-      × ((t : Option R) → ¬ IsEither (Some r) (Some s) t)
+  -- the records of a list have smaller hashes
+  abbrev pub ComeBefore : DataHash → List R → Type 0
+  ComeBefore k rs = AllByRecursion (λ r. hash_cmp (key_of_record r) k ≡ Less) rs
 
-  -- no list can be made of two with rows that fit `u32`
-  abbrev pub NoneCombines : (Option R → Option R → Option R → Type 0) → List R → List R → Type 0
-  NoneCombines IsEither xs ys =
-      Clash IsEither xs ys
-      ⊎ ((zs : List R) × Combines IsEither xs ys zs × (4294967295 < total_rows K zs)
-      × (total_rows K zs ≤ total_rows K xs + total_rows K ys))
-
-  -- of the next records of two lists, if any, those with the lesser hash, or both
-  abbrev pub IsNextPair : Option R → Option R → Option R → Option R → Type 0
-  IsNextPair None p a b = (a ≡ None) × (b ≡ p)
-  IsNextPair (Some x) None a b = (a ≡ Some x) × (b ≡ None)
-  IsNextPair (Some x) (Some y) a b =
-      ((hash_cmp (key_of_record x) (key_of_record y) ≡ Less) × (a ≡ Some x) × (b ≡ None))
-      ⊎ ((hash_cmp (key_of_record y) (key_of_record x) ≡ Less) × (a ≡ None) × (b ≡ Some y))
-      ⊎ ((key_of_record x ≡ key_of_record y) × (a ≡ Some x) × (b ≡ Some y))
-
-  -- records with one hash, where there are any
-  abbrev pub AreOfOneHash : Option R → Option R → Type 0
-  AreOfOneHash (Some x) (Some y) = key_of_record x ≡ key_of_record y
-  AreOfOneHash a b = Unit {0}
+  -- so have those of two lists, and those that were made of them
+  pub record ArePassed (firsts seconds made : List R) (k : DataHash) : Type 0 where
+    pub first : ComeBefore k firsts
+    pub second : ComeBefore k seconds
+    pub combined : ComeBefore k made
 
   -- the rows of a record, if there is one
   abbrev pub rows_in : Option R → ℕ

@@ -1,11 +1,8 @@
 -- What bytes hold, to an operation that reads both sections of a shard at the offsets of a footer.
 use Rattle.std.specs.Prelude.{◌≡◌, ◌⊎◌, ℕ, ◌+◌, ◌*◌, ◌≤◌, List, map, drop, All}
 use Rattle.std.specs.FinMap.{FinMap, entries, values}
-use Rattle.xet_base.specs.declared.error.CoreError.{CoreError}
-use Rattle.xet_base.specs.declared.error.CoreError.TheVariants.{OutOfMemory}
-use Rattle.xet_base.specs.Errors.{IsEndOfInput, IsInvalidShard}
 use Rattle.xet_base.specs.Hash.{hash_cmp}
-use Rattle.xet_base.specs.Source.{Source, FailedBy}
+use Rattle.xet_base.specs.Source.{Source}
 use Rattle.xet_records.specs.declared.file_structs.MDBFileInfo.{MDBFileInfo}
 use Rattle.xet_records.specs.declared.xorb_structs.MDBXorbInfo.{MDBXorbInfo}
 use Rattle.xet_records.specs.RecordKind.{RecordKind}
@@ -87,12 +84,3 @@ pub record ReadsSections (info : MDBShardInfo) (old new : Source) : Type 0 where
   pub read : new.read
       ≤ old.read + 48 * (total_rows file_records files + 1)
       + 48 * (total_rows xorb_records xorbs + 1)
-
--- why both sections are not read as such lists
-abbrev pub BothRefusal : List ℕ → MDBShardInfo → CoreError → Type 0
-BothRefusal bytes info e =
-    (e ≡ OutOfMemory) ⊎ (IsEndOfInput e × IsCut bytes info) ⊎ (IsInvalidShard e × IsBad bytes info)
-
--- the device failed, or it did not and there is such a cause
-abbrev pub ReadsNoInput : Source → Source → MDBShardInfo → CoreError → Type 0
-ReadsNoInput old new info = FailedBy (BothRefusal old.bytes info) old new

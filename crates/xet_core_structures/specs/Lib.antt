@@ -5,7 +5,9 @@ pub mod Equality
 pub mod ExportTrees
 pub mod Held
 pub mod MergeTrees
+pub mod MixedFiles
 pub mod Readable
+pub mod SideBySide
 pub use Rattle.xet_base.specs.Errors
 pub use Rattle.xet_base.specs.Hash
 pub use Rattle.xet_base.specs.Hex

@@ -14,23 +14,25 @@ ghost use Rattle.xet_core_structures.specs.Held.{ReadsSections};
 ghost use Rattle.xet_core_structures.specs.Readable.{WritesInForm};
 ghost use Rattle.xet_core_structures.specs.MergeTrees.{HasUnion, TreeWrites, TreeRefusal, AtLeaves, AreWritten};
 
-mod combine;
-mod inputs;
+mod mix;
+mod record_operation;
 mod results;
-mod set_record;
+mod sections;
 
-use results::{SetFailure, operate};
-use set_record::{OfDifference, OfUnion};
+use record_operation::{OfDifference, OfUnion};
+use results::operate;
 use std::alloc::Global;
 use std::io::Write;
 use xet_base::error::{CoreError, Result};
 use xet_base::source::{MemorySource, ShardSource};
+use xet_records::row_copier::CopyFailure;
 use xet_shards::shard_format::MDBShardInfo;
 
 /// Writes the union of two shards: header, sections, lookup tables and footer, with the key of
 /// both, creation 0 and no expiry. Returns the header and the footer, as `load_from_reader` reads
 /// them from these bytes. Of the inputs' footers it uses the key and the offsets of the sections,
-/// and it reads each section once, by one seek.
+/// and it reads each section once, by one seek. Each row is written as it is read, and only the rows
+/// of the lookup tables are held. So the output may be begun when the call fails.
 ///
 /// Of two files with one hash it takes the record whose flags have all bits of the other's, the
 /// first's if both have the same; else the first's segments with each optional part from the first
@@ -73,7 +75,7 @@ pub fn shard_set_union<S: ShardSource, T: ShardSource, W: Write>(
 }
 
 /// Writes the difference of two shards, the second's records whose hashes the first does not have,
-/// in the same form.
+/// in the same form, each row as it is read.
 ///
 /// `InvalidArguments` if the keys differ, before anything is read or written. `UnexpectedEof` if a
 /// section ends before its bookend, `InvalidShard` if its rows pass 4294967295 or its hashes do not
@@ -183,8 +185,8 @@ fn unite_bytes(alloc: Global, first: &[u8], second: &[u8]) -> Result<Vec<u8>>
         alloc, &s1, &mut r1, &s2, &mut r2, &mut bytes,
     ) {
         Ok(_) => Ok(bytes),
-        Err(SetFailure::Input(error)) => Err(error),
+        Err(CopyFailure::Input(error)) => Err(error),
         // Writing to a vector fails only if it is out of memory.
-        Err(SetFailure::Output(_)) => Err(CoreError::OutOfMemory),
+        Err(CopyFailure::Output(_)) => Err(CoreError::OutOfMemory),
     }
 }

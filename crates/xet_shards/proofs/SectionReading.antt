@@ -116,7 +116,7 @@ module _ {H R : Type 0} (K : RecordKind H R) (laws : KindLaws K) where
 
   -- the bytes of the section, as far as the records that were read
   module _ (start now : Source) (found : List R) (left : ℕ) (read : HasRead K (Takes start now) found left) where
-    holds : HoldsRecords K (bytes_left start) read.stored (bytes_left now)
+    pub holds : HoldsRecords K (bytes_left start) read.stored (bytes_left now)
     holds = search (rules, Takes-consumes)
 
     left_is : left ≡ rows_left K read.stored

@@ -16,7 +16,7 @@ use Rattle.xet_shards.specs.declared.shard_format.written.WrittenFiles.{WrittenF
 use Rattle.xet_shards.specs.declared.shard_format.written.WrittenXorbs.{WrittenXorbs}
 use Rattle.xet_shards.specs.Shard.{xorb_hash_of}
 use Rattle.xet_shards.specs.Section.{section_bytes}
-use Rattle.xet_shards.specs.Tables.{ChunkTableRow, hash_in, starts, table_bytes, chunk_table_rows_from, chunk_table_rows, ascending}
+use Rattle.xet_shards.specs.Tables.{AddsChunkRows, hash_in, starts, table_bytes, chunk_table_rows_from, chunk_table_rows, ascending}
 use Rattle.xet_shards.specs.Layout.{Form, if_in, shard_header_bytes, header_value, layout_of}
 use Rattle.xet_shards.specs.Written.{AddsRecord, IsTableOf, IsFileOf, HasWritten, HasWrittenXorbs, end_of_layout}
 use Rattle.xet_shards.proofs.ChunkTableRows.{chunk_table_rows-push}
@@ -40,7 +40,7 @@ file_written v w word rows bytes added more files r before is = record {
 
 pub xorb_written : (v w : WrittenXorbs) (xorbs : List MDBXorbInfo) (r : MDBXorbInfo) → HasWrittenXorbs v xorbs
     → AddsRecord v.table w.table (xorb_hash_of r).word0 (xorb_row_count r)
-    → ((before : List ChunkTableRow) → v.chunk_rows.keys ≡ ascending before → w.chunk_rows.keys ≡ ascending (before ++ chunk_table_rows_from v.table.rows r.chunks))
+    → AddsChunkRows v.chunk_rows.keys w.chunk_rows.keys v.table.rows r.chunks
     → w.stored_bytes ≡ v.stored_bytes + r.metadata.num_bytes_in_xorb → w.stored_bytes_on_disk ≡ v.stored_bytes_on_disk + r.metadata.num_bytes_on_disk
     → HasWrittenXorbs w (xorbs ++ r ∷ [])
 xorb_written v w xorbs r before added chunk_rows bytes bytes_on_disk = record {

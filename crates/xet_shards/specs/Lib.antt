@@ -1,5 +1,6 @@
 pub mod ChunkLookup
 pub mod ChunkQuery
+pub mod Copying
 pub mod Ends
 pub mod ExportLaws
 pub mod FileRanges

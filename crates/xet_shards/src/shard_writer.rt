@@ -1,7 +1,7 @@
-//! Writing shards in any form, for the crates that make shards from other shards: a whole shard
-//! from lists of records, or one record after another and then the end of the shard.
+//! Writing shards in any form, for the crates that make shards from other shards: one record after
+//! another, and then the end of the shard.
 
 pub use crate::shard_format::form::Form;
-pub use crate::shard_format::writer::{write_end, write_layout};
+pub use crate::shard_format::writer::write_end;
 pub use crate::shard_format::written::{RecordTable, WrittenFiles, WrittenSection, WrittenXorbs};
 pub use crate::shard_format::xorb_writer::ChunkTableRow;

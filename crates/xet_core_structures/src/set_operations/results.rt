@@ -1,137 +1,79 @@
 //! The union and the difference of two inputs, written to an output.
 
-ghost use Rattle.std.specs.Prelude.{◌≡◌, ◌≢◌, ℕ, List, IfOk, OnOk, IfErr, IsErrAnd, MatchResult};
+ghost use Rattle.std.specs.Prelude.{◌≡◌, ◌≢◌, ◌++◌, ℕ, List, IfOk, OnOk, IfErr, IsErrAnd, MatchResult};
+ghost use Rattle.std.specs.Io.KnownBytes.{Appends};
 ghost use Rattle.xet_base.specs.declared.error.CoreError.{CoreError};
+ghost use Rattle.xet_base.specs.Source.{moved, DeviceFailure};
 ghost use Rattle.xet_base.specs.Table.{Serves};
+ghost use Rattle.xet_records.specs.declared.row_copier.CopyFailure.TheVariants.{Input};
+ghost use Rattle.xet_records.specs.Copying.{IsOutputFailure};
 ghost use Rattle.xet_shards.specs.declared.shard_format.info.MDBShardInfo.{MDBShardInfo};
 ghost use Rattle.xet_shards.specs.Ends.{FitsFooter};
+ghost use Rattle.xet_shards.specs.Layout.{shard_header_bytes, header_value};
 ghost use Rattle.xet_shards.specs.SetOperations.{IsDifference};
 ghost use Rattle.xet_shards.specs.Shard.{Shard};
-ghost use Rattle.xet_core_structures.specs.declared.set_operations.inputs.Records.{Records};
-ghost use Rattle.xet_core_structures.specs.declared.set_operations.results.SetFailure.TheVariants.{Input};
-ghost use Rattle.xet_core_structures.specs.ByteUnion.{IsByteUnion, IsEitherFile, IsEitherXorb};
-ghost use Rattle.xet_core_structures.specs.Combining.{IsRest};
+ghost use Rattle.xet_core_structures.specs.ByteUnion.{IsByteUnion};
 ghost use Rattle.xet_core_structures.specs.Held.{ReadsSections};
-ghost use Rattle.xet_core_structures.specs.ByteResults.{key_of, AreRecords, AreCombined, AreNotUnited, WritesRecords, WritesResult, InputsFail, FailsBy, IsOutput, UnionRefusal, DifferenceRefusal, OperationLaws};
+ghost use Rattle.xet_core_structures.specs.SideBySide.{CombinesSections, SectionsFail};
+ghost use Rattle.xet_core_structures.specs.ByteResults.{key_of, keyed_form, WritesResult, WritesEnd, InputsFail, FailsBy, IsOutput, UnionRefusal, DifferenceRefusal, OperationLaws};
 
-use super::combine::{combine, combine_within_rows};
-use super::inputs::{Records, read_inputs};
-use super::set_record::{OfDifference, OfUnion};
+use super::record_operation::{OfDifference, OfUnion, RecordOperation};
+use super::sections::combine_sections;
 use std::alloc::Global;
 use std::io::Write;
 use xet_base::error::{CoreError, Result};
-use xet_base::merklehash::HMACKey;
 use xet_base::source::ShardSource;
-use xet_records::file_structs::MDBFileInfo;
-use xet_records::xorb_structs::MDBXorbInfo;
-use xet_shards::shard_format::MDBShardInfo;
-use xet_shards::shard_writer::{Form, write_layout};
+use xet_records::row_copier::{CopyFailure, CopyResult};
+use xet_shards::shard_format::{MDBShardFileHeader, MDBShardInfo};
+use xet_shards::shard_writer::{Form, WrittenFiles, WrittenSection, WrittenXorbs, write_end};
 
-/// Why an operation failed: by an input, or by the output.
-#[derive(Drop)]
-pub enum SetFailure {
-    Input(CoreError),
-    Output(CoreError),
-}
-
-impl From<CoreError> for SetFailure {
-    ghost use Rattle.std.specs.Prelude.{◌≡◌};
-    ghost use Rattle.xet_core_structures.specs.declared.set_operations.results.SetFailure.TheVariants.{Input};
-
-    ghost from_gives = { λ error failure. failure ≡ Input error };
-
-    fn from(error: CoreError) -> SetFailure {
-        SetFailure::Input(error)
-    }
-}
-
-impl From<SetFailure> for CoreError {
-    ghost use Rattle.std.specs.Prelude.{◌≡◌};
-    ghost use Rattle.xet_core_structures.specs.ByteResults.{error_of};
-
-    ghost from_gives = { λ failure error. error ≡ error_of failure };
-
-    fn from(failure: SetFailure) -> CoreError {
-        match failure {
-            SetFailure::Input(error) | SetFailure::Output(error) => error,
-        }
-    }
-}
-
-/// An operation on the records of two shards: `OfUnion` or `OfDifference`.
+/// An operation on two shards: `OfUnion` or `OfDifference`.
 pub trait SetOperation {
+    type Files: RecordOperation<WrittenFiles>;
+
+    type Xorbs: RecordOperation<WrittenXorbs>;
+
     // the result for two shards
     ghost IsResult: { Shard → Shard → Shard → Type 0 };
-
-    // what is made of the records of two inputs, and why nothing is
-    ghost Makes: { Records → Records → Records → Type 0 };
-
-    ghost MakesNone: { Records → Records → CoreError → Type 0 };
 
     // why nothing is made of the bytes of two inputs
     ghost Refusal: { List ℕ → MDBShardInfo → List ℕ → MDBShardInfo → CoreError → Type 0 };
 
-    /// Combines the records of two inputs. `InvalidShard` if this makes no records of a shard,
-    /// `OutOfMemory` if an allocation fails.
-    fn combine_records(alloc: Global, first: &Records, second: &Records) -> Result<Records>
-        requires first { AreRecords first.now }
-        requires second { AreRecords second.now }
-        ensures { MatchResult result (Makes first.now second.now)
-            (MakesNone first.now second.now) };
-
     /// Does nothing. It says what holds of every operation.
     fn laws()
-        ensures { OperationLaws IsResult Makes MakesNone Refusal };
+        ensures { OperationLaws IsResult Self.Files.makes Self.Xorbs.makes Refusal };
 }
 
-/// The union: `InvalidShard` if files with one hash can't be united, or the rows of a list pass
+/// The union: `InvalidShard` if files with one hash can't be united, or the rows of a section pass
 /// 4294967295.
 impl SetOperation for OfUnion {
+    type Files = OfUnion;
+
+    type Xorbs = OfUnion;
+
     ghost IsResult = { IsByteUnion };
 
-    ghost Makes = { AreCombined IsEitherFile IsEitherXorb };
-
-    ghost MakesNone = { AreNotUnited };
-
     ghost Refusal = { UnionRefusal };
-
-    fn combine_records(alloc: Global, first: &Records, second: &Records) -> Result<Records> {
-        let files = combine_within_rows::<OfUnion, MDBFileInfo>(
-            alloc,
-            &first.files,
-            &second.files,
-        )?;
-        let xorbs = combine_within_rows::<OfUnion, MDBXorbInfo>(
-            alloc,
-            &first.xorbs,
-            &second.xorbs,
-        )?;
-        Ok(Records { files, xorbs })
-    }
 
     fn laws() {}
 }
 
 /// The difference: the second's records whose hashes the first does not have.
 impl SetOperation for OfDifference {
+    type Files = OfDifference;
+
+    type Xorbs = OfDifference;
+
     ghost IsResult = { IsDifference };
 
-    ghost Makes = { AreCombined IsRest IsRest };
-
-    ghost MakesNone = { λ first second e. e ≡ CoreError.OutOfMemory };
-
     ghost Refusal = { DifferenceRefusal };
-
-    fn combine_records(alloc: Global, first: &Records, second: &Records) -> Result<Records> {
-        let files = combine::<OfDifference, MDBFileInfo>(alloc, &first.files, &second.files)?;
-        let xorbs = combine::<OfDifference, MDBXorbInfo>(alloc, &first.xorbs, &second.xorbs)?;
-        Ok(Records { files, xorbs })
-    }
 
     fn laws() {}
 }
 
-/// Writes the result of an operation on two inputs, of equal keys, under their key.
+/// Writes the result of an operation on two inputs, of equal keys, under their key. Both inputs are
+/// read side by side, each section once, and of what is written only the rows of the lookup tables
+/// are held.
 pub fn operate<O: SetOperation, S: ShardSource, T: ShardSource, W: Write>(
     alloc: Global,
     s1: &MDBShardInfo,
@@ -139,7 +81,7 @@ pub fn operate<O: SetOperation, S: ShardSource, T: ShardSource, W: Write>(
     s2: &MDBShardInfo,
     r2: &mut T,
     out: &mut W,
-) -> std::result::Result<MDBShardInfo, SetFailure>
+) -> CopyResult<MDBShardInfo>
     ensures written { MatchResult result
         (WritesResult O.IsResult (S.meaning r1.old).bytes s1.now (T.meaning r2.old).bytes s2.now
         (W.contents out.old) (W.contents out.new))
@@ -160,30 +102,83 @@ pub fn operate<O: SetOperation, S: ShardSource, T: ShardSource, W: Write>(
     ensures widths { IfOk result (λ info. FitsFooter info.metadata) }
 {
     O::laws();
-    let inputs = read_inputs(alloc, s1, r1, s2, r2)?;
-    let records = O::combine_records(alloc, &inputs.first, &inputs.second)?;
-    write_records(alloc, out, &records, s1.metadata.chunk_hash_hmac_key)
-}
-
-// Writes records under a key, with all tables and no expiry.
-fn write_records<W: Write>(
-    alloc: Global,
-    out: &mut W,
-    records: &Records,
-    key: HMACKey,
-) -> std::result::Result<MDBShardInfo, SetFailure>
-    requires { AreRecords records.now }
-    ensures written { MatchResult result
-        (WritesRecords records.now key (W.contents out.old) (W.contents out.new))
-        (FailsBy (λ _. ⊥)) }
-    ensures widths { IfOk result (λ info. FitsFooter info.metadata) }
-{
+    let key = s1.metadata.chunk_hash_hmac_key;
+    if key != s2.metadata.chunk_hash_hmac_key {
+        return Err(CopyFailure::Input(CoreError::InvalidArguments));
+    }
+    write_header(out)?;
+    let at_1 = s1.metadata.file_info_offset;
+    let at_2 = s2.metadata.file_info_offset;
+    let files = combine_at::<O::Files, WrittenFiles, S, T, W>(alloc, r1, at_1, r2, at_2, out)?;
+    let at_1 = s1.metadata.xorb_info_offset;
+    let at_2 = s2.metadata.xorb_info_offset;
+    let xorbs = combine_at::<O::Xorbs, WrittenXorbs, S, T, W>(alloc, r1, at_1, r2, at_2, out)?;
     let form = Form {
         key,
         ..Form::plain(None)
     };
-    match write_layout(alloc, out, &records.files, &records.xorbs, &form) {
-        Ok(info) => Ok(info),
-        Err(error) => Err(SetFailure::Output(error)),
+    write_tables(out, &files, &xorbs, &form)
+}
+
+// Combines the sections at two offsets.
+fn combine_at<
+    Op: RecordOperation<Sec>,
+    Sec: WrittenSection + Drop,
+    S: ShardSource,
+    T: ShardSource,
+    W: Write,
+>(alloc: Global, r1: &mut S, at_1: u64, r2: &mut T, at_2: u64, out: &mut W) -> CopyResult<Sec>
+    ensures { MatchResult result
+        (λ written. CombinesSections Sec.Record.kind Op.makes (moved (S.meaning r1.old) at_1)
+        (S.meaning r1.new) (moved (T.meaning r2.old) at_2) (T.meaning r2.new)
+        (Sec.has_written written) (W.contents out.old) (W.contents out.new))
+        (SectionsFail Sec.Record.kind Op.makes (moved (S.meaning r1.old) at_1) (S.meaning r1.new)
+        (moved (T.meaning r2.old) at_2) (T.meaning r2.new)) }
+{
+    seek(r1, at_1)?;
+    seek(r2, at_2)?;
+    combine_sections::<Op, Sec, S, T, W>(alloc, r1, r2, out)
+}
+
+// Moves a source to an offset.
+fn seek<S: ShardSource>(source: &mut S, offset: u64) -> Result<()>
+    ensures moved { OnOk result (S.meaning source.new ≡ moved (S.meaning source.old) offset) }
+    ensures bytes { (S.meaning source.new).bytes ≡ (S.meaning source.old).bytes }
+    ensures causes { IfErr result (DeviceFailure (S.meaning source.old) (S.meaning source.new)) }
+{
+    Ok(source.seek_to(offset)?)
+}
+
+// Writes the header of a shard. The failure is the output's.
+fn write_header<W: Write>(out: &mut W) -> CopyResult<()>
+    ensures appended { OnOk result
+        (Appends (W.contents out.old) (W.contents out.new) (shard_header_bytes header_value)) }
+    ensures causes { IfErr result IsOutputFailure }
+{
+    match MDBShardFileHeader::default().serialize(out) {
+        Ok(_) => Ok(()),
+        Err(error) => Err(CopyFailure::Output(error)),
+    }
+}
+
+// Writes the lookup tables and the footer of a shard in a form, and returns its header and footer.
+// The failure is the output's.
+fn write_tables<W: Write>(
+    out: &mut W,
+    files: &WrittenFiles,
+    xorbs: &WrittenXorbs,
+    form: &Form,
+) -> CopyResult<MDBShardInfo>
+    ensures written { IfOk result
+        (WritesEnd files.now xorbs.now form.now (W.contents out.old) (W.contents out.new)) }
+    ensures widths { IfOk result (λ info. FitsFooter info.metadata) }
+    ensures causes { IfErr result IsOutputFailure }
+{
+    match write_end(out, files, xorbs, form) {
+        Ok(metadata) => Ok(MDBShardInfo {
+            header: MDBShardFileHeader::default(),
+            metadata,
+        }),
+        Err(error) => Err(CopyFailure::Output(error)),
     }
 }

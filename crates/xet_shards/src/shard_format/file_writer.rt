@@ -11,7 +11,10 @@ use super::written::{RecordTable, WrittenFiles, WrittenSection};
 use std::alloc::Global;
 use std::io::Write;
 use xet_base::error::{CoreError, Result};
+use xet_base::input::ByteInput;
+use xet_records::file_copier::copy_file_rows;
 use xet_records::file_structs::{FileDataSequenceHeader, MDBFileInfo};
+use xet_records::row_copier::{CopyFailure, CopyResult, write_row};
 
 impl WrittenFiles {
     /// Adds the next file, whose record is written elsewhere, by the first word of its hash, the
@@ -50,12 +53,31 @@ impl WrittenSection for WrittenFiles {
         }
     }
 
+    fn has_room(&self, more: u64) -> bool {
+        self.table.has_room(more)
+    }
+
     fn write<W: Write>(&mut self, writer: &mut W, file_info: &MDBFileInfo) -> Result<()> {
         let metadata = &file_info.metadata;
         let rows = 1 + metadata.rows_after();
         self.add(metadata.file_hash.word0, rows, file_info.file_size())?;
         file_info.serialize(writer)?;
         Ok(())
+    }
+
+    fn copy<M, I: ByteInput<M>, W: Write>(
+        &mut self,
+        input: &mut I,
+        writer: &mut W,
+        header: FileDataSequenceHeader,
+    ) -> CopyResult<()> {
+        write_row(&header, writer)?;
+        let size = copy_file_rows::<M, I, W>(input, writer, header)?;
+        let rows = 1 + header.rows_after();
+        match self.add(header.file_hash.word0, rows, size) {
+            Ok(()) => Ok(()),
+            Err(error) => Err(CopyFailure::Output(error)),
+        }
     }
 
     fn write_bookend<W: Write>(writer: &mut W) -> Result<()> {

@@ -1,6 +1,6 @@
 //! The lookup table of a section's records, collected while the section is written.
 
-ghost use Rattle.std.specs.Prelude.{◌≡◌, ◌+◌, ◌≤◌, [], OnOk, OnErr, IfErr};
+ghost use Rattle.std.specs.Prelude.{◌≡◌, ◌+◌, ◌≤◌, [], IsTrue, ◌↔◌, OnOk, OnErr, IfErr};
 ghost use Rattle.xet_shards.specs.Written.{AddsRecord};
 
 use super::written::RecordTable;
@@ -20,6 +20,13 @@ impl RecordTable {
             rows: 0,
             bytes: Vec::new(alloc),
         }
+    }
+
+    /// Whether so many rows more fit the section.
+    pub fn has_room(&self, more: u64) -> bool
+        ensures { IsTrue result ↔ (self.now.rows + more ≤ 4294967295) }
+    {
+        more <= u64::from(u32::MAX) - self.rows
     }
 
     /// Adds the next record, by the first word of its hash and the number of its rows, its header

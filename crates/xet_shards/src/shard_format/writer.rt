@@ -6,18 +6,17 @@ ghost use Rattle.std.specs.BTreeMap.{values};
 ghost use Rattle.xet_base.specs.Errors.{IsDeviceError};
 ghost use Rattle.xet_records.specs.declared.file_structs.MDBFileInfo.{MDBFileInfo};
 ghost use Rattle.xet_records.specs.declared.xorb_structs.MDBXorbInfo.{MDBXorbInfo};
-ghost use Rattle.xet_records.specs.FileRecord.{file_records, FitsRecord, IsStored};
-ghost use Rattle.xet_records.specs.XorbRecord.{xorb_records, IsStoredXorb};
+ghost use Rattle.xet_records.specs.FileRecord.{FitsRecord};
 ghost use Rattle.xet_shards.specs.Shard.{IsShard};
 ghost use Rattle.xet_shards.specs.Section.{total_rows, section_bytes};
 ghost use Rattle.xet_shards.specs.Tables.{chunk_table_row_bytes};
 ghost use Rattle.xet_shards.specs.Written.{HasWritten, HasWrittenXorbs, end_of_layout};
-ghost use Rattle.xet_shards.specs.Layout.{if_in, layout, layout_of, footer_value, info_of};
+ghost use Rattle.xet_shards.specs.Layout.{if_in, layout, footer_value};
 ghost use Rattle.xet_shards.specs.Ends.{FitsFooter};
 
 use super::footer::MDBShardFileFooter;
 use super::form::Form;
-use super::header::{HEADER_SIZE, MDBShardFileHeader};
+use super::header::HEADER_SIZE;
 use super::info::MDBShardInfo;
 use super::written::{RecordTable, WrittenFiles, WrittenSection, WrittenXorbs};
 use super::xorb_writer::ChunkTableRow;
@@ -48,61 +47,6 @@ impl MDBInMemoryShard {
             Err(_) => Err(CoreError::OutOfMemory),
         }
     }
-}
-
-/// Writes a shard in any form: header, sections, the tables that are in, and footer. Returns the
-/// header and the footer, as `load_from_reader` reads them from these bytes. The error is the
-/// writer's, or `OutOfMemory` if an allocation fails.
-///
-/// Requires records that a section may hold, and at most 4294967295 rows in each section. The
-/// tables are of use only if the records are in ascending order of their hashes.
-pub fn write_layout<W: Write>(
-    alloc: Global,
-    writer: &mut W,
-    files: &[MDBFileInfo],
-    xorbs: &[MDBXorbInfo],
-    form: &Form,
-) -> Result<MDBShardInfo>
-    requires files { All IsStored files.now }
-    requires file_rows { total_rows file_records files.now ≤ 4294967295 }
-    requires xorbs { All IsStoredXorb xorbs.now }
-    requires xorb_rows { total_rows xorb_records xorbs.now ≤ 4294967295 }
-    ensures bytes { OnOk result
-        (Appends (W.contents writer.old) (W.contents writer.new)
-        (layout_of files.now xorbs.now form.now)) }
-    ensures info { IfOk result (λ info. info ≡ info_of files.now xorbs.now form.now) }
-    ensures widths { IfOk result (λ info. FitsFooter info.metadata) }
-    ensures causes { IfErr result IsDeviceError }
-{
-    let header = MDBShardFileHeader::default();
-    header.serialize(writer)?;
-    let files: WrittenFiles = write_section(alloc, writer, files)?;
-    let xorbs: WrittenXorbs = write_section(alloc, writer, xorbs)?;
-    let metadata = write_end(writer, &files, &xorbs, form)?;
-    Ok(MDBShardInfo { header, metadata })
-}
-
-// Writes a section of these records in order, and collects its tables.
-#[tactic(auto, unfolding(crate::specs::Section::section_bytes))]
-fn write_section<S: WrittenSection + Drop, W: Write>(
-    alloc: Global,
-    writer: &mut W,
-    records: &[S::Record],
-) -> Result<S>
-    requires whole { All S.is_whole records.now }
-    requires rows { total_rows S.Record.kind records.now ≤ 4294967295 }
-    ensures bytes { OnOk result
-        (Appends (W.contents writer.old) (W.contents writer.new)
-        (section_bytes S.Record.kind records.now)) }
-    ensures written { IfOk result (λ written. S.has_written written records.now) }
-    ensures causes { IfErr result IsDeviceError }
-{
-    let mut written = S::new(alloc);
-    for record in records {
-        written.write(writer, record)?;
-    }
-    S::write_bookend(writer)?;
-    Ok(written)
 }
 
 /// A value of a map that holds records: a record, or an `Rc` of one.

@@ -1,16 +1,21 @@
 //! What is collected while the sections of a shard are written.
 
-ghost use Rattle.std.specs.Prelude.{◌≡◌, ℕ, ◌+◌, ◌*◌, ◌≤◌, List, [], ◌∷◌, ◌++◌, OnOk, IfErr};
+ghost use Rattle.std.specs.Prelude.{◌≡◌, ◌≢◌, ℕ, ◌+◌, ◌*◌, ◌≤◌, List, [], ◌∷◌, ◌++◌, OnOk, IfErr, MatchResult, IsTrue, ◌↔◌};
 ghost use Rattle.std.specs.Io.KnownBytes.{Appends};
 ghost use Rattle.xet_base.specs.Errors.{IsDeviceError};
+ghost use Rattle.xet_base.specs.Hash.{all_ones};
+ghost use Rattle.xet_records.specs.Copying.{CopyFails};
 ghost use Rattle.xet_shards.specs.Section.{total_rows};
+ghost use Rattle.xet_shards.specs.Copying.{CopiesRecord};
 
 use super::xorb_writer::ChunkTableRow;
 use std::alloc::Global;
 use std::collections::BTreeSet;
 use std::io::Write;
 use xet_base::error::Result;
+use xet_base::input::ByteInput;
 use xet_records::record_reader::SectionRecord;
+use xet_records::row_copier::CopyResult;
 
 /// What is collected while a section is written, of files or of xorbs.
 pub trait WrittenSection {
@@ -29,6 +34,10 @@ pub trait WrittenSection {
     fn new(alloc: Global) -> Self
         ensures { has_written result [] };
 
+    /// Whether so many rows more fit the section.
+    fn has_room(&self, more: u64) -> bool
+        ensures { IsTrue result ↔ (rows self.now + more ≤ 4294967295) };
+
     /// Adds and writes the next record. The error is the writer's, or `OutOfMemory` if an
     /// allocation fails.
     fn write<W: Write>(&mut self, writer: &mut W, next: &Self::Record) -> Result<()>
@@ -41,6 +50,25 @@ pub trait WrittenSection {
             ((before : List Self.Record) → has_written self.old before
             → has_written self.new (before ++ next.now ∷ [])) }
         ensures causes { IfErr result IsDeviceError };
+
+    /// Adds and writes the record of a header that was read, each row after it as it is read, as
+    /// reading returns it. The failure is the input's, `UnexpectedEof` if fewer rows are left; or the
+    /// output's, `OutOfMemory` if an allocation fails.
+    fn copy<M, I: ByteInput<M>, W: Write>(
+        &mut self,
+        input: &mut I,
+        writer: &mut W,
+        header: <Self::Record as SectionRecord>::Header,
+    ) -> CopyResult<()>
+        requires is_record { Self.Record.kind.hash_of header ≢ all_ones }
+        requires fits { Self.Record.kind.Fits header }
+        requires rows { rows self.old + (1 + Self.Record.kind.rows_after header) ≤ 4294967295 }
+        ensures { MatchResult result
+            (λ _. CopiesRecord Self.Record.kind header (I.reads input.old input.new)
+            (W.contents writer.old) (W.contents writer.new) (has_written self.old)
+            (has_written self.new))
+            (CopyFails I.reads I.fails input.old input.new
+            (48 * Self.Record.kind.rows_after header)) };
 
     /// Writes the bookend, which ends the section. The error is the writer's.
     fn write_bookend<W: Write>(writer: &mut W) -> Result<()>

@@ -1,12 +1,16 @@
 //! Writing the xorb section, and collecting the tables by which its records and their chunks are
 //! found.
 
-ghost use Rattle.std.specs.Prelude.{◌≡◌, ◌+◌, ◌≤◌, ◌++◌, [], ◌∷◌, List, length, OnOk, IfOk, IfErr};
+ghost use Rattle.std.specs.Prelude.{◌≡◌, ◌+◌, ◌*◌, ◌≤◌, ◌++◌, [], ◌∷◌, List, length, MatchResult, OnOk, IfOk, IfErr};
+ghost use Rattle.std.specs.BTreeSet.{insert_key};
 ghost use Rattle.std.specs.Io.KnownBytes.{Appends};
 ghost use Rattle.xet_base.specs.Errors.{IsDeviceError};
 ghost use Rattle.xet_records.specs.declared.xorb_structs.MDBXorbInfo.{MDBXorbInfo};
+ghost use Rattle.xet_records.specs.declared.xorb_structs.XorbChunkSequenceEntry.{XorbChunkSequenceEntry};
+ghost use Rattle.xet_records.specs.Copying.{CopiesRows, CopyFails, IsOutputFailure};
 ghost use Rattle.xet_records.specs.XorbRecord.{xorb_record_bytes, xorb_row_count, HasItsChunks};
-ghost use Rattle.xet_shards.specs.Tables.{chunk_table_row_bytes, chunk_table_rows_from, ascending};
+ghost use Rattle.xet_records.specs.XorbRow.{chunk_row, FitsChunk};
+ghost use Rattle.xet_shards.specs.Tables.{chunk_table_row_bytes, chunk_table_row_cmp, AddsChunkRows};
 ghost use Rattle.xet_shards.specs.Written.{AddsRecord, HasWrittenXorbs};
 
 use super::written::{RecordTable, WrittenSection, WrittenXorbs};
@@ -14,7 +18,9 @@ use std::alloc::Global;
 use std::collections::BTreeSet;
 use std::io::Write;
 use xet_base::error::{CoreError, Result};
+use xet_base::input::ByteInput;
 use xet_base::row::{put_u32, put_u64};
+use xet_records::row_copier::{CopyFailure, CopyResult, copy_row, write_row};
 use xet_records::xorb_structs::{MDBXorbInfo, XorbChunkSequenceEntry, XorbChunkSequenceHeader};
 
 /// A row of the chunk table: the first word of a chunk's hash, the row at which its xorb starts,
@@ -85,10 +91,29 @@ impl WrittenSection for WrittenXorbs {
         }
     }
 
+    fn has_room(&self, more: u64) -> bool {
+        self.table.has_room(more)
+    }
+
     fn write<W: Write>(&mut self, writer: &mut W, xorb: &MDBXorbInfo) -> Result<()> {
         let row = self.add(&xorb.metadata)?;
         insert_chunk_rows(&mut self.chunk_rows, row, xorb.chunks.as_slice())?;
         xorb.serialize(writer)?;
+        Ok(())
+    }
+
+    fn copy<M, I: ByteInput<M>, W: Write>(
+        &mut self,
+        input: &mut I,
+        writer: &mut W,
+        header: XorbChunkSequenceHeader,
+    ) -> CopyResult<()> {
+        write_row(&header, writer)?;
+        let row = match self.add(&header) {
+            Ok(row) => row,
+            Err(error) => return Err(CopyFailure::Output(error)),
+        };
+        copy_chunks::<M, I, W>(&mut self.chunk_rows, row, input, writer, header.num_entries)?;
         Ok(())
     }
 
@@ -105,8 +130,8 @@ fn insert_chunk_rows(
     chunks: &[XorbChunkSequenceEntry],
 ) -> Result<()>
     requires { length chunks.now ≤ 4294967295 }
-    ensures ok { OnOk result ((before : List ChunkTableRow) → chunk_rows.old.keys ≡ ascending before
-        → chunk_rows.new.keys ≡ ascending (before ++ chunk_table_rows_from row chunks.now)) }
+    ensures ok { OnOk result
+        (AddsChunkRows chunk_rows.old.keys chunk_rows.new.keys row chunks.now) }
     ensures causes { IfErr result (λ e. e ≡ CoreError.OutOfMemory) }
 {
     let mut index = 0;
@@ -116,4 +141,39 @@ fn insert_chunk_rows(
         index += 1;
     }
     Ok(())
+}
+
+// Copies the chunks of a xorb that starts at this row, and adds their rows.
+fn copy_chunks<M, I: ByteInput<M>, W: Write>(
+    chunk_rows: &mut BTreeSet<ChunkTableRow>,
+    row: u32,
+    input: &mut I,
+    writer: &mut W,
+    count: u32,
+) -> CopyResult<()>
+    ensures { MatchResult result
+        (λ _. (chunks : List XorbChunkSequenceEntry)
+        × CopiesRows chunk_row FitsChunk (λ c. c) (I.reads input.old input.new)
+        (W.contents writer.old) (W.contents writer.new) count chunks
+        × AddsChunkRows chunk_rows.old.keys chunk_rows.new.keys row chunks)
+        (CopyFails I.reads I.fails input.old input.new (48 * count)) }
+{
+    for index in 0..count {
+        let chunk = copy_row::<XorbChunkSequenceEntry, M, I, W>(input, writer)?;
+        let word = chunk.chunk_hash.word0;
+        add_chunk_row(chunk_rows, ChunkTableRow { word, row, index })?;
+    }
+    Ok(())
+}
+
+// Adds a row of the chunk table. `OutOfMemory` of the output if an allocation fails.
+fn add_chunk_row(chunk_rows: &mut BTreeSet<ChunkTableRow>, row: ChunkTableRow) -> CopyResult<()>
+    ensures added { OnOk result
+        (chunk_rows.new.keys ≡ insert_key chunk_table_row_cmp chunk_rows.old.keys row) }
+    ensures causes { IfErr result IsOutputFailure }
+{
+    match chunk_rows.insert(row) {
+        Ok(_) => Ok(()),
+        Err(_) => Err(CopyFailure::Output(CoreError::OutOfMemory)),
+    }
 }

@@ -1,0 +1,203 @@
+-- Two sections that are read side by side, a record of each at a time, while what is made of the
+-- records with one hash is written.
+use Rattle.std.specs.Prelude.{◌≡◌, ◌≢◌, ◌⊎◌, ℕ, ◌+◌, ◌*◌, ◌<◌, ◌≤◌, List, ◌++◌, map, flat_map, Option, None, Some, IfSome, option_to_list}
+use Rattle.std.specs.Io.KnownBytes.{Appends}
+use Rattle.std.specs.declared.cmp.Ordering.TheVariants.{Less}
+use Rattle.xet_base.specs.declared.error.CoreError.{CoreError}
+use Rattle.xet_base.specs.declared.error.CoreError.TheVariants.{OutOfMemory}
+use Rattle.xet_base.specs.declared.merklehash.DataHash.{DataHash}
+use Rattle.xet_base.specs.Errors.{IsDeviceError, IsEndOfInput, IsInvalidShard}
+use Rattle.xet_base.specs.Hash.{all_ones, hash_cmp}
+use Rattle.xet_base.specs.Source.{Source, Takes, FailedBy, ReadFails, bytes_left}
+use Rattle.xet_base.specs.Table.{Serves}
+use Rattle.xet_records.specs.declared.row_copier.CopyFailure.{CopyFailure}
+use Rattle.xet_records.specs.declared.row_copier.CopyFailure.TheVariants.{Input, Output}
+use Rattle.xet_records.specs.RecordKind.{RecordKind}
+use Rattle.xet_records.specs.Reading.{ReadsNextHeader, ReadsRowsAfter, BeginsWithHeader}
+use Rattle.xet_shards.specs.InForm.{Ascends}
+use Rattle.xet_shards.specs.Section.{total_rows, section_bytes}
+use Rattle.xet_shards.specs.Copying.{CopiesRecord}
+use Rattle.xet_shards.specs.SectionReading.{HoldsRecords, BeginsWithBookend, PassesRows, IsCutSection, ReadsNext, RecordFails, TakesSection}
+use Rattle.xet_core_structures.specs.Combining.{key_of_record, Combines, IsMadeOf, ArePassed}
+use Rattle.xet_core_structures.specs.Held.{FrontFalls}
+
+module _ {H R : Type 0} (K : RecordKind H R) where
+  -- a header of a record, and not a bookend
+  pub record IsRecordHeader (h : H) : Type 0 where
+    pub is_record : K.hash_of h ≢ all_ones
+    pub fits : K.Fits h
+
+  -- the hash of a header is greater than that of another, if there is one
+  abbrev pub Follows : Option H → H → Type 0
+  Follows before h = IfSome before (λ b. hash_cmp (K.hash_of b) (K.hash_of h) ≡ Less)
+
+  -- a bookend was read, or a header that follows another
+  pub record ReadsFollowing (before : Option H) (old new : Source) (left after : ℕ)
+      (next : Option H) : Type 0 where
+    pub read : ReadsNextHeader K (Takes old new) left after next
+    pub follows : IfSome next (Follows before)
+
+  -- neither was: the next record was not read, or it was and does not follow
+  pub data FollowingFails (before : Option H) (left : ℕ) (old new : Source) (e : CoreError)
+      : Type 0 where
+    not_read : RecordFails K left old new e → FollowingFails before left old new e
+    falls : IsInvalidShard e → (after : ℕ) → (found : R) → ReadsNext K old new left after found
+        → ¬ Follows before (K.header_of found) → FollowingFails before left old new e
+
+  -- the next header was read after one that was passed, or if none was, it stays
+  abbrev pub Advances : Option H → Option H → Source → Source → ℕ → ℕ → Option H → Type 0
+  Advances next None old new left after found = (found ≡ next) × (new ≡ old) × (after ≡ left)
+  Advances next (Some h) old new left after found =
+      ReadsFollowing (Some h) old new left after found
+
+  abbrev pub AdvanceFails : Option H → ℕ → Source → Source → CoreError → Type 0
+  AdvanceFails None left old new e = ⊥
+  AdvanceFails (Some h) left old new e = FollowingFails (Some h) left old new e
+
+  -- the rows after a header were read, those of this record; there is none without a header
+  abbrev pub PassesRecord : Option H → Source → Source → Option R → Type 0
+  PassesRecord None old new found = (found ≡ None) × (new ≡ old)
+  PassesRecord (Some h) old new found =
+      (r : R) × (found ≡ Some r) × ReadsRowsAfter K h (Takes old new) r
+
+  abbrev pub ReadsPast : Option H → Source → Source → Type 0
+  ReadsPast header old new = (found : Option R) × PassesRecord header old new found
+
+  abbrev pub ReadsNotPast : Option H → Source → Source → CoreError → Type 0
+  ReadsNotPast header old new e =
+      (h : H) × (header ≡ Some h) × ReadFails old new (48 * K.rows_after h) e
+
+  abbrev pub PassesBoth : Option H → Option H → Source → Source → Source → Source → Type 0
+  PassesBoth first second old_1 new_1 old_2 new_2 =
+      ReadsPast first old_1 new_1 × ReadsPast second old_2 new_2
+
+  -- the record of one header was read, written and gathered, and that of another read past
+  pub record KeepsRecord (kept : H) (passed : Option H) (old_1 new_1 old_2 new_2 : Source)
+      (rows : ℕ) (Before After : List R → Type 0) (old new : Option (List ℕ)) : Type 0 where
+    pub copied : CopiesRecord K kept (Takes old_1 new_1) old new Before After
+    pub few : rows + (1 + K.rows_after kept) ≤ 4294967295
+    pub other : Option R
+    pub past : PassesRecord passed old_2 new_2 other
+
+  -- a record has too many rows for a section beside those before it
+  abbrev pub HasNoRoom : ℕ → Option R → Type 0
+  HasNoRoom rows found = IfSome found (λ r. 4294967295 < rows + K.row_count r)
+
+  -- the records of both headers were read, and what is made of them, if anything, was written and
+  -- gathered, with rows that fit a section beside those before it
+  pub record WritesMade (makes : Option R → Option R → Option R → Type 0) (first second : Option H)
+      (old_1 new_1 old_2 new_2 : Source) (rows : ℕ) (Before After : List R → Type 0)
+      (old new : Option (List ℕ)) : Type 0 where
+    pub one : Option R
+    pub other : Option R
+    pub made : Option R
+    pub reads_first : PassesRecord first old_1 new_1 one
+    pub reads_second : PassesRecord second old_2 new_2 other
+    pub is_made : makes one other made
+    pub made_of : IfSome made (IsMadeOf K one other)
+    pub few : IfSome made (λ r. rows + K.row_count r ≤ 4294967295)
+    pub bytes : Appends old new (flat_map K.record_bytes (option_to_list made))
+    pub written : (front : List R) → Before front → After (front ++ option_to_list made)
+
+  -- nothing can be made of both records, or something that has too many rows beside those before it
+  pub data CannotMake (makes : Option R → Option R → Option R → Type 0) (rows : ℕ)
+      (one other : Option R) : Type 0 where
+    nothing_made : (r s : R) → one ≡ Some r → other ≡ Some s
+        → ((made : Option R) → ¬ makes (Some r) (Some s) made) → CannotMake makes rows one other
+    too_many_rows : (made : R) → makes one other (Some made) → IsMadeOf K one other made
+        → 4294967295 < rows + K.row_count made → CannotMake makes rows one other
+
+  -- why nothing was written for the records of both headers: the output failed, or an input, or
+  -- both records were read and are refused
+  pub data PairFails (first second : Option H) (old_1 new_1 old_2 new_2 : Source)
+      (Refused : Option R → Option R → Type 0) (failure : CopyFailure) : Type 0 where
+    output_fails : (e : CoreError) → failure ≡ Output e → IsDeviceError e
+        → new_1.bytes ≡ old_1.bytes → new_2.bytes ≡ old_2.bytes
+        → PairFails first second old_1 new_1 old_2 new_2 Refused failure
+    first_fails : (e : CoreError) → failure ≡ Input e → (h : H) → first ≡ Some h
+        → ReadFails old_1 new_1 (48 * K.rows_after h) e → Serves old_2 new_2
+        → PairFails first second old_1 new_1 old_2 new_2 Refused failure
+    second_fails : (e : CoreError) → failure ≡ Input e → (h : H) → second ≡ Some h
+        → ReadFails old_2 new_2 (48 * K.rows_after h) e → Serves old_1 new_1
+        → PairFails first second old_1 new_1 old_2 new_2 Refused failure
+    refused : (e : CoreError) → failure ≡ Input e → IsInvalidShard e → (one other : Option R)
+        → PassesRecord first old_1 new_1 one → PassesRecord second old_2 new_2 other
+        → Refused one other → PairFails first second old_1 new_1 old_2 new_2 Refused failure
+
+  -- both sections were read, and a section was written and gathered of what is made of them
+  pub record CombinesSections (makes : Option R → Option R → Option R → Type 0)
+      (old_1 new_1 old_2 new_2 : Source) (Written : List R → Type 0) (old new : Option (List ℕ))
+      : Type 0 where
+    pub firsts : List R
+    pub seconds : List R
+    pub made : List R
+    pub first : TakesSection K old_1 new_1 firsts
+    pub second : TakesSection K old_2 new_2 seconds
+    pub first_ascends : Ascends K firsts
+    pub second_ascends : Ascends K seconds
+    pub combined : Combines K makes firsts seconds made
+    pub few : total_rows K made ≤ 4294967295
+    pub written : Written made
+    pub bytes : Appends old new (section_bytes K made)
+
+  -- why a section is not read as records whose hashes strictly ascend, if the device does not fail
+  abbrev pub SectionRefusal : List ℕ → CoreError → Type 0
+  SectionRefusal bytes e =
+      (e ≡ OutOfMemory) ⊎ (IsEndOfInput e × IsCutSection K bytes)
+      ⊎ (IsInvalidShard e × (PassesRows K bytes ⊎ FrontFalls K bytes))
+
+  -- it was not read from the source's position on
+  pub record TakesNoAscending (old new : Source) (e : CoreError) : Type 0 where
+    pub bytes : new.bytes ≡ old.bytes
+    pub cause : FailedBy (SectionRefusal (bytes_left old)) old new e
+
+  -- the bytes go on with a bookend, or with a header whose hash is greater
+  abbrev pub GoesOnAfter : DataHash → List ℕ → Type 0
+  GoesOnAfter k bytes =
+      BeginsWithBookend K bytes
+      ⊎ ((h : H) × (rest : List ℕ) × BeginsWithHeader K bytes h rest
+      × (hash_cmp k (K.hash_of h) ≡ Less))
+
+  -- two sections begin with records of which nothing can be made: those with one hash, after all
+  -- that have smaller ones
+  pub record NoneMade (makes : Option R → Option R → Option R → Type 0) (x y : List ℕ)
+      : Type 0 where
+    pub stored_1 : List R
+    pub stored_2 : List R
+    pub rest_1 : List ℕ
+    pub rest_2 : List ℕ
+    pub holds_1 : HoldsRecords K x stored_1 rest_1
+    pub holds_2 : HoldsRecords K y stored_2 rest_2
+    pub firsts : List R
+    pub seconds : List R
+    pub made : List R
+    pub one : Option R
+    pub other : Option R
+    pub first_is : map K.handed_out stored_1 ≡ firsts ++ option_to_list one
+    pub second_is : map K.handed_out stored_2 ≡ seconds ++ option_to_list other
+    pub first_ascends : Ascends K firsts
+    pub second_ascends : Ascends K seconds
+    pub combined : Combines K makes firsts seconds made
+    pub rows : total_rows K made ≤ total_rows K firsts + total_rows K seconds
+    pub hash : DataHash
+    pub passed : ArePassed K firsts seconds made hash
+    pub one_hash : IfSome one (λ r. key_of_record K r ≡ hash)
+    pub other_hash : IfSome other (λ r. key_of_record K r ≡ hash)
+    pub next_1 : one ≡ None → GoesOnAfter hash rest_1
+    pub next_2 : other ≡ None → GoesOnAfter hash rest_2
+    pub cannot : CannotMake makes (total_rows K made) one other
+
+  -- why no section was written of what is made of two: the output failed, or an input; or nothing
+  -- can be made of records that both begin with
+  pub data SectionsFail (makes : Option R → Option R → Option R → Type 0)
+      (old_1 new_1 old_2 new_2 : Source) (failure : CopyFailure) : Type 0 where
+    output_fails : (e : CoreError) → failure ≡ Output e → IsDeviceError e
+        → new_1.bytes ≡ old_1.bytes → new_2.bytes ≡ old_2.bytes
+        → SectionsFail makes old_1 new_1 old_2 new_2 failure
+    first_fails : (e : CoreError) → failure ≡ Input e → TakesNoAscending old_1 new_1 e
+        → Serves old_2 new_2 → SectionsFail makes old_1 new_1 old_2 new_2 failure
+    second_fails : (e : CoreError) → failure ≡ Input e → TakesNoAscending old_2 new_2 e
+        → Serves old_1 new_1 → SectionsFail makes old_1 new_1 old_2 new_2 failure
+    refused : (e : CoreError) → failure ≡ Input e → IsInvalidShard e → Serves old_1 new_1
+        → Serves old_2 new_2 → NoneMade makes (bytes_left old_1) (bytes_left old_2)
+        → SectionsFail makes old_1 new_1 old_2 new_2 failure

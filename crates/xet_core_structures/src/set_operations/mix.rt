@@ -1,0 +1,111 @@
+//! A mix of two records of one file, written as both are read.
+
+ghost use Rattle.std.specs.Prelude.{◌≡◌, Some, MatchResult};
+ghost use Rattle.xet_records.specs.FileRecord.{file_records};
+ghost use Rattle.xet_shards.specs.Written.{HasWritten};
+ghost use Rattle.xet_core_structures.specs.SideBySide.{IsRecordHeader, PairFails};
+ghost use Rattle.xet_core_structures.specs.MixedFiles.{MixesFiles, MixHasNoRoom, mixed_header, CopiesEither, EitherFails};
+
+use super::record_operation::refuse;
+use std::alloc::Global;
+use std::io::Write;
+use xet_base::input::OfSource;
+use xet_base::source::ShardSource;
+use xet_records::file_copier::copy_segments;
+use xet_records::file_structs::{
+    FileDataSequenceEntry, FileDataSequenceHeader, FileMetadataExt, FileVerificationEntry,
+    MDBFileInfo,
+};
+use xet_records::input_rows::skip_rows;
+use xet_records::row_copier::{CopyFailure, CopyResult, copy_rows, write_row};
+use xet_records::rows::Row;
+use xet_shards::shard_writer::{WrittenFiles, WrittenSection};
+
+/// Writes the first's segments, and each optional part from the first where it has it, else from
+/// the second. `InvalidShard` if its rows do not fit the section; then both are read past.
+pub fn mix<S: ShardSource, T: ShardSource, W: Write>(
+    alloc: Global,
+    first: FileDataSequenceHeader,
+    r1: &mut S,
+    second: FileDataSequenceHeader,
+    r2: &mut T,
+    written: &mut WrittenFiles,
+    out: &mut W,
+) -> CopyResult<()>
+    requires first { IsRecordHeader file_records first }
+    requires second { IsRecordHeader file_records second }
+    requires hash { first.file_hash ≡ second.file_hash }
+    requires count { first.num_entries ≡ second.num_entries }
+    ensures { MatchResult result
+        (λ _. MixesFiles first second (S.meaning r1.old) (S.meaning r1.new) (T.meaning r2.old)
+        (T.meaning r2.new) written.old.table.rows (HasWritten written.old) (HasWritten written.new)
+        (W.contents out.old) (W.contents out.new))
+        (PairFails file_records (Some first) (Some second) (S.meaning r1.old) (S.meaning r1.new)
+        (T.meaning r2.old) (T.meaning r2.new) (MixHasNoRoom written.old.table.rows)) }
+{
+    let header = header_of_mix(&first, &second);
+    let rows = 1 + header.rows_after();
+    if !written.has_room(rows) {
+        return refuse::<MDBFileInfo, S, T>(alloc, Some(first), r1, Some(second), r2);
+    }
+    write_row(&header, out)?;
+    let size = copy_segments::<OfSource, S, W>(r1, out, first.num_entries)?;
+    skip_rows::<FileDataSequenceEntry, OfSource, T>(r2, second.num_entries)?;
+    copy_either::<FileVerificationEntry, S, T, W>(
+        r1,
+        first.verification_rows(),
+        r2,
+        second.verification_rows(),
+        out,
+    )?;
+    copy_either::<FileMetadataExt, S, T, W>(
+        r1,
+        first.metadata_rows(),
+        r2,
+        second.metadata_rows(),
+        out,
+    )?;
+    match written.add(first.file_hash.word0, rows, size) {
+        Ok(()) => Ok(()),
+        Err(error) => Err(CopyFailure::Output(error)),
+    }
+}
+
+// The header of a mix: the two known flags where either has them.
+fn header_of_mix(
+    first: &FileDataSequenceHeader,
+    second: &FileDataSequenceHeader,
+) -> FileDataSequenceHeader
+    ensures { result ≡ mixed_header first.now second.now }
+{
+    FileDataSequenceHeader::new(
+        first.file_hash,
+        first.num_entries,
+        first.contains_verification() || second.contains_verification(),
+        first.contains_metadata_ext() || second.contains_metadata_ext(),
+    )
+}
+
+// Copies the rows of the first, or if it has none, those of the second, and reads past the others.
+fn copy_either<R: Row, S: ShardSource, T: ShardSource, W: Write>(
+    r1: &mut S,
+    count_1: u32,
+    r2: &mut T,
+    count_2: u32,
+    out: &mut W,
+) -> CopyResult<()>
+    ensures { MatchResult result
+        (λ _. CopiesEither R.row_bytes R.Fits R.handed_out (S.meaning r1.old) (S.meaning r1.new)
+        (T.meaning r2.old) (T.meaning r2.new) count_1 count_2 (W.contents out.old)
+        (W.contents out.new))
+        (EitherFails (S.meaning r1.old) (S.meaning r1.new) (T.meaning r2.old) (T.meaning r2.new)
+        count_1 count_2) }
+{
+    if count_1 == 0 {
+        copy_rows::<R, OfSource, T, W>(r2, out, count_2)?;
+        return Ok(());
+    }
+    copy_rows::<R, OfSource, S, W>(r1, out, count_1)?;
+    skip_rows::<R, OfSource, T>(r2, count_2)?;
+    Ok(())
+}
