@@ -36,7 +36,7 @@ impl MDBMinimalShard {
         for xorb in xorbs {
             insert_eligible(&mut hashes, xorb, &starts)?;
         }
-        Ok(hashes.into_iter().collect(alloc)?)
+        list_of(alloc, hashes)
     }
 }
 
@@ -60,6 +60,19 @@ impl MDBShardInfo {
         let shard = read_sections::<OfSource, S>(alloc, source, true, true)?;
         shard.global_dedup_eligible_chunks(alloc)
     }
+}
+
+// The hashes of a set in ascending order. `collect` would go on if its first allocation, of room for
+// all of them, fails.
+fn list_of(alloc: Global, hashes: BTreeSet<MerkleHash>) -> Result<Vec<MerkleHash>>
+    ensures ok { IfOk result (λ listed. listed.items ≡ hashes.keys) }
+    ensures causes { IfErr result (λ e. e ≡ CoreError.OutOfMemory) }
+{
+    let mut listed = Vec::new(alloc);
+    for hash in hashes {
+        listed.push(hash)?;
+    }
+    Ok(listed)
 }
 
 // Inserts the hashes of the eligible chunks of a xorb.
