@@ -5,7 +5,6 @@ use std::io;
 use std::io::ErrorKind;
 use std::test::Fail;
 use xet_core_structures::error::{CoreError, Result, Validate};
-use xet_core_structures::merklehash::{DataHash, DataHashBytesParseError, DataHashHexParseError};
 use xet_core_structures::source::{MemorySource, ShardSource, read_full};
 
 /// The `CoreError` that an error becomes.
@@ -60,22 +59,6 @@ fn errors_have_texts(rt: HostRuntime) -> std::result::Result<(), Fail> {
 }
 
 #[test]
-fn parse_errors_have_texts(rt: HostRuntime) -> std::result::Result<(), Fail> {
-    let alloc = rt.alloc();
-    let bytes = CoreError::of_bytes_error(alloc, DataHashBytesParseError);
-    assert!(rt; has_text(alloc, bytes, "a hash has 32 bytes")?);
-    let digits = CoreError::of_hex_error(alloc, DataHashHexParseError);
-    assert!(rt;
-        has_text(
-            alloc,
-            digits,
-            "the text of a hash has 64 hexadecimal digits"
-        )?
-    );
-    Ok(())
-}
-
-#[test]
 fn malformed_data_is_no_value(rt: HostRuntime) {
     let alloc = rt.alloc();
     let good: Result<u8> = Ok(7);
@@ -84,14 +67,6 @@ fn malformed_data_is_no_value(rt: HostRuntime) {
     assert_eq!(rt; malformed.ok_for_format_error(), Ok(None));
     let other: Result<u8> = Err(CoreError::HashMismatch);
     assert_eq!(rt; other.ok_for_format_error(), Err(CoreError::HashMismatch));
-}
-
-#[test]
-fn words_of_a_hash_go_by_index(rt: HostRuntime) {
-    let hash = DataHash::from([100, 1, 2, 3]);
-    assert_eq!(rt; hash[0], 100);
-    assert_eq!(rt; hash[3], 3);
-    assert_eq!(rt; DataHash::default(), DataHash::from([0; 4]));
 }
 
 #[test]

@@ -1,9 +1,7 @@
-//! Tests of the library that no line of a script can make: streams that fail, allocations that
-//! fail, conversions, and generic calls at concrete types.
+//! Tests of the library that no line of a script can make: streams that fail, conversions, and
+//! generic calls at concrete types.
 #![tactic(auto)]
 
-#[cfg(test)]
-mod allocations;
 #[cfg(test)]
 mod conversions;
 pub mod example;

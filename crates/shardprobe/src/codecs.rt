@@ -65,10 +65,13 @@ fn append(
     let Some(bytes) = workspace.buffers.get_mut(name) else {
         return Err(Stop::Unreadable);
     };
+    // The buffer stays as it is if serializing fails.
+    let mut written = Vec::new(alloc);
     let count = match kind {
-        "file" | "xorb" | "header" | "footer" => write_whole(alloc, kind, value, bytes)?,
-        _ => write_row(alloc, kind, value, bytes)?,
+        "file" | "xorb" | "header" | "footer" => write_whole(alloc, kind, value, &mut written)?,
+        _ => write_row(alloc, kind, value, &mut written)?,
     };
+    bytes.extend_from_slice(written.as_slice())?;
     writeln!(out, "{count}")?;
     Ok(())
 }

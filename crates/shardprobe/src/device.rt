@@ -3,7 +3,7 @@
 
 ghost use Rattle.std.specs.Prelude.{◌≡◌, ◌≤◌, ◌<◌, ◌+◌, IfNone, IfSome, Some};
 
-use std::alloc::Global;
+use std::alloc::{AllocError, Global};
 use std::io;
 use std::io::{ErrorKind, Read, Write};
 use xet_core_structures::count::Count;
@@ -20,6 +20,8 @@ pub struct Plan {
     pub is_slow: bool,
     /// Whether a command with a failure runs once more, on the same devices.
     pub runs_again: bool,
+    /// The number of bytes that an output has room for before the command runs.
+    pub room: u64,
 }
 
 /// A device of a command.
@@ -41,6 +43,7 @@ impl Plan {
             target: Target::First,
             is_slow: false,
             runs_again: false,
+            room: 0,
         }
     }
 
@@ -216,13 +219,13 @@ pub struct Output {
 }
 
 impl Output {
-    /// An output with nothing written.
-    pub fn new(alloc: Global, plan: Plan) -> Output {
-        Output {
-            bytes: Vec::new(alloc),
+    /// An output with nothing written, and with the room that the plan says.
+    pub fn new(alloc: Global, plan: Plan) -> Result<Output, AllocError> {
+        Ok(Output {
+            bytes: Vec::with_capacity(alloc, plan.room as usize)?,
             plan,
             has_failed: false,
-        }
+        })
     }
 
     /// Whether a write failed.
@@ -259,4 +262,13 @@ impl Write for Output {
     fn flush(&mut self) -> io::Result<()> {
         Ok(())
     }
+}
+
+// More bytes than any machine has.
+const MARK: usize = 1 << 46;
+
+/// Asks for memory that is never there. `.ci/refusals` sees by such requests where a call of the
+/// library begins and ends.
+pub fn mark(alloc: Global) {
+    let _refused: Result<Vec<u8>, AllocError> = Vec::with_capacity(alloc, MARK);
 }

@@ -87,8 +87,13 @@ pub fn parse_u32s<const N: usize>(words: &[&str], least: usize) -> Result<[u32; 
     Ok(numbers)
 }
 
+// `collect` would go on if its first allocation, of room for several parts, fails.
 fn split_parts(alloc: Global, word: &str, separator: char) -> Result<Vec<&str>, AllocError> {
-    word.split(separator).collect(alloc)
+    let mut parts = Vec::new(alloc);
+    for part in word.split(separator) {
+        parts.push(part)?;
+    }
+    Ok(parts)
 }
 
 fn parse_verification_rows(alloc: Global, list: &str) -> Result<Rows<FileVerificationEntry>, Stop> {

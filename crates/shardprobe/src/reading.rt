@@ -46,14 +46,13 @@ pub fn run_reading(
     };
     let bytes = workspace.buffer(name)?;
     let mut source = Device::new(bytes, plan.of(Target::First));
-    let mut printed = Vec::new(alloc);
-    let mut answer = call(alloc, command, bytes, &mut source, rest, &mut printed);
+    let start = out.len();
+    let mut answer = call(alloc, command, bytes, &mut source, rest, out);
     if plan.runs_again && source.has_failed() {
         set_back(command, &mut source)?;
-        printed.clear();
-        answer = call(alloc, command, bytes, &mut source, rest, &mut printed);
+        out.truncate(start);
+        answer = call(alloc, command, bytes, &mut source, rest, out);
     }
-    out.extend_from_slice(printed.as_slice())?;
     Ok(Report {
         answer,
         seeks_made: source.seeks_made(),

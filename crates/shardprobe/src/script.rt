@@ -20,6 +20,9 @@ use std::alloc::Global;
 use std::io::{BufRead, BufReader, ErrorKind, Read, Write};
 use std::{io, str};
 
+// The bytes of a line, and of its output, for which there is room before the first line is read.
+const ROOM: usize = 1 << 20;
+
 /// Runs the commands of `input`, one a line, and writes their results to `output`. The error is
 /// that of the input, of the output, or of an allocation.
 pub fn run_script<R: Read, W: Write>(
@@ -29,12 +32,15 @@ pub fn run_script<R: Read, W: Write>(
 ) -> io::Result<()> {
     let mut lines = BufReader::new(alloc, input)?;
     let mut probe = Probe::new(alloc);
+    // With this room, all that is allocated while a line runs is allocated by its command.
+    let mut line = Vec::with_capacity(alloc, ROOM)?;
+    let mut answer = Vec::with_capacity(alloc, ROOM)?;
     for _number in 1..u64::MAX {
-        let mut line = Vec::new(alloc);
+        line.clear();
         if lines.read_until(b'\n', &mut line)? == 0 {
             break;
         }
-        let mut answer = Vec::new(alloc);
+        answer.clear();
         probe.answer(alloc, without_end(line.as_slice()), &mut answer)?;
         output.write_all(answer.as_slice())?;
     }
@@ -69,14 +75,23 @@ impl Probe {
         if let Some(heading) = text.strip_prefix("say ") {
             return writeln!(out, "{heading}");
         }
-        let words = split_words(alloc, text)?;
-        match self.run(alloc, words.as_slice(), out) {
+        match self.run(alloc, text, out) {
             Ok(()) => Ok(()),
             Err(stop) => writeln!(out, "{stop}"),
         }
     }
 
-    fn run(&mut self, alloc: Global, words: &[&str], out: &mut Vec<u8>) -> Result<(), Stop> {
+    fn run(&mut self, alloc: Global, text: &str, out: &mut Vec<u8>) -> Result<(), Stop> {
+        let words = split_words(alloc, text)?;
+        self.run_command(alloc, words.as_slice(), out)
+    }
+
+    fn run_command(
+        &mut self,
+        alloc: Global,
+        words: &[&str],
+        out: &mut Vec<u8>,
+    ) -> Result<(), Stop> {
         let is_run = self.switch(words)?
             || run_on_shards(&mut self.workspace, alloc, words)?
             || show_shards(&self.workspace, alloc, words, out)?
@@ -158,6 +173,7 @@ impl Probe {
             ["fail_in", "output"] => self.plan.target = Target::Output,
             ["slow", "on"] => self.plan.is_slow = true,
             ["slow", "off"] => self.plan.is_slow = false,
+            ["room", bytes] => self.plan.room = parse_u64(bytes)?,
             ["costs", "on"] => self.shows_costs = true,
             ["costs", "off"] => self.shows_costs = false,
             _ => return Ok(false),

@@ -1,6 +1,6 @@
 //! Unions and differences of buffers.
 
-use crate::device::{Device, Output};
+use crate::device::{Device, Output, mark};
 use crate::fields::print_info;
 use crate::parse::split_at_with;
 use crate::reading::info_of;
@@ -31,10 +31,12 @@ pub fn combine(
     };
     let s1 = info_of(alloc, workspace.buffer(first)?)?;
     let s2 = info_of(alloc, workspace.buffer(second)?)?;
+    mark(alloc);
     let answer = match *command {
         "set_union" => shard_set_union(alloc, &s1, r1, &s2, r2, output),
         _ => shard_set_difference(alloc, &s1, r1, &s2, r2, output),
     };
+    mark(alloc);
     print_returned(answer, fields, out)
 }
 

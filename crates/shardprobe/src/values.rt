@@ -69,6 +69,10 @@ fn hash_of_bytes(alloc: Global, digits: &[&str]) -> Result<MerkleHash, Stop> {
 
 fn run_on_names(alloc: Global, words: &[&str], out: &mut Vec<u8>) -> Result<bool, Stop> {
     match words {
+        ["error", "other", text] => return Err(Stop::Refused(CoreError::other(alloc, text))),
+        ["error", "invalid_shard", text] => {
+            return Err(Stop::Refused(CoreError::invalid_shard(alloc, text)));
+        }
         ["name", hash] => {
             let name = shard_file_name(alloc, &parse_hash(hash)?)?;
             writeln!(out, "{name}")?;

@@ -41,7 +41,7 @@ pub fn run_writing(
     let second = second_input(workspace, command, second)?;
     let mut r1 = Device::new(workspace.buffer(first)?, plan.of(Target::First));
     let mut r2 = Device::new(second, plan.of(Target::Second));
-    let mut output = Output::new(alloc, plan.of(Target::Output));
+    let mut output = Output::new(alloc, plan.of(Target::Output))?;
     let mut answer = write(workspace, alloc, words, &mut r1, &mut r2, &mut output, out);
     let has_failed = r1.has_failed() || r2.has_failed() || output.has_failed();
     if plan.runs_again && has_failed {
