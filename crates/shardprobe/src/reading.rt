@@ -12,7 +12,7 @@ use crate::show::{
 };
 use crate::stop::Stop;
 use crate::workspace::Workspace;
-use crate::writing::{output_of, run_writing};
+use crate::writing::{Written, output_of, run_writing};
 use script_lines::words::{parse_hash, parse_u32, parse_u64};
 use std::alloc::Global;
 use std::io;
@@ -29,8 +29,8 @@ pub struct Report {
     pub has_failed: bool,
 }
 
-/// Runs a command on the buffer that its second word names, or a command that writes, through
-/// devices. `Unreadable` if there is no such buffer.
+/// Runs a command on the buffer that its second word names, through a device. `Unreadable` if there
+/// is no such buffer.
 pub fn run_reading(
     workspace: &Workspace,
     alloc: Global,
@@ -38,9 +38,6 @@ pub fn run_reading(
     words: &[&str],
     out: &mut Vec<u8>,
 ) -> Result<Report, Stop> {
-    if output_of(words).is_some() {
-        return Ok(run_writing(workspace, alloc, plan, words, out)?.report);
-    }
     let [command, name, rest @ ..] = words else {
         return Err(Stop::Unreadable);
     };
@@ -339,9 +336,27 @@ fn look_up(
     Ok(())
 }
 
+// Runs a command through devices, and returns the bytes that it wrote, none if it only reads.
+fn run_once(
+    workspace: &Workspace,
+    alloc: Global,
+    plan: Plan,
+    words: &[&str],
+    out: &mut Vec<u8>,
+) -> Result<Written, Stop> {
+    if output_of(words).is_some() {
+        return run_writing(workspace, alloc, plan, words, out);
+    }
+    Ok(Written {
+        report: run_reading(workspace, alloc, plan, words, out)?,
+        bytes: Vec::new(alloc),
+    })
+}
+
 /// Runs a command with each call of a device failing in turn, until a run meets no failure. Prints
 /// how many failed and the last results of these runs, one if they are all the same, `as below` if
-/// they are that of the run without failure, and then the output of that run.
+/// they are that of the run without failure, and then the output of that run. The result of a
+/// command that ran once more ends in `other bytes` if it did not write those of that run.
 pub fn run_each_failure(
     workspace: &Workspace,
     alloc: Global,
@@ -349,6 +364,11 @@ pub fn run_each_failure(
     words: &[&str],
     out: &mut Vec<u8>,
 ) -> Result<(), Stop> {
+    let works = Plan {
+        fault: None,
+        ..plan
+    };
+    let wanted = run_once(workspace, alloc, works, words, &mut Vec::new(alloc))?;
     let mut answers = Vec::new(alloc);
     let mut last = Vec::new(alloc);
     for turn in 1..u64::MAX {
@@ -362,7 +382,7 @@ pub fn run_each_failure(
             fault: Some(fault),
             ..plan
         };
-        let report = run_reading(workspace, alloc, plan, words, &mut printed)?;
+        let Written { report, bytes } = run_once(workspace, alloc, plan, words, &mut printed)?;
         if !report.has_failed {
             return finish(
                 turn - 1,
@@ -374,6 +394,9 @@ pub fn run_each_failure(
         }
         if let Err(stop) = report.answer {
             write!(printed, "{stop}")?;
+        }
+        if plan.runs_again && bytes != wanted.bytes {
+            write!(printed, "other bytes")?;
         }
         if printed != last {
             write_separated(&mut answers, printed.as_slice())?;
