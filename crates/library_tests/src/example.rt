@@ -21,6 +21,7 @@ fn shard_of_file(alloc: Global, file: MerkleHash) -> Result<MDBInMemoryShard> {
         segments,
         verification: Rows::new(alloc),
         metadata_ext: None,
+        aux_ext: None,
     };
 
     let mut shard = MDBInMemoryShard::new(alloc);

@@ -33,6 +33,7 @@ pub fn file(alloc: Global) -> Result<MDBFileInfo>
         segments,
         verification: Rows::new(alloc),
         metadata_ext: None,
+        aux_ext: None,
     })
 }
 
@@ -49,6 +50,7 @@ pub fn full_file(alloc: Global) -> Result<MDBFileInfo>
         segments,
         verification,
         metadata_ext: Some(FileMetadataExt::new(small(9364))),
+        aux_ext: None,
     })
 }
 

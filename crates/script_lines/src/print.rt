@@ -28,6 +28,10 @@ pub fn print_file<W: Write>(file: &MDBFileInfo, output: &mut W) -> io::Result<()
         let sha256 = row.sha256;
         writeln!(output, "sha {sha256}")?;
     }
+    if let Some(row) = file.aux_ext {
+        let aux_hash = row.aux_hash;
+        writeln!(output, "aux {aux_hash}")?;
+    }
     Ok(())
 }
 

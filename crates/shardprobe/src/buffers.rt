@@ -10,6 +10,7 @@ use script_lines::words::parse_u64;
 use std::alloc::Global;
 use std::io::Write;
 use xet_core_structures::shard_format::MDBShardInfo;
+use xet_core_structures::shard_in_memory::MDBInMemoryShard;
 
 /// Runs a command that makes or changes a buffer. `false` if the words are no such command.
 pub fn run_on_buffers(
@@ -18,9 +19,13 @@ pub fn run_on_buffers(
     words: &[&str],
 ) -> Result<bool, Stop> {
     match words {
-        ["write", shard, name] => write_shard(workspace, alloc, shard, name, None)?,
-        ["write", shard, name, expiry] => {
-            write_shard(workspace, alloc, shard, name, Some(parse_u64(expiry)?))?;
+        ["write", shard, name, expiry @ ..] => {
+            let (bytes, _info) = written(alloc, workspace.shard(shard)?, parse_expiry(expiry)?)?;
+            workspace.put_buffer(alloc, name, bytes)?;
+        }
+        ["write2", shard, name, expiry @ ..] => {
+            let (bytes, _info) = written_v2(alloc, workspace.shard(shard)?, parse_expiry(expiry)?)?;
+            workspace.put_buffer(alloc, name, bytes)?;
         }
         ["to_bytes", shard, name] => {
             let bytes = workspace.shard(shard)?.to_bytes(alloc)?;
@@ -43,35 +48,35 @@ pub fn run_on_buffers(
     Ok(true)
 }
 
-// Prints what `serialize_from` returns: the named fields, or all.
-fn print_written(
-    workspace: &Workspace,
-    alloc: Global,
-    shard: &str,
-    expiry: &str,
-    fields: &[&str],
-    out: &mut Vec<u8>,
-) -> Result<(), Stop> {
-    let expiry = match expiry {
-        "none" => None,
-        number => Some(parse_u64(number)?),
-    };
-    let mut bytes = Vec::new(alloc);
-    let shard = workspace.shard(shard)?;
-    let info = MDBShardInfo::serialize_from(alloc, &mut bytes, shard, expiry)?;
-    print_info(&info, fields, out)
+// The expiry of a shard that is written, or none.
+fn parse_expiry(words: &[&str]) -> Result<Option<u64>, Stop> {
+    match words {
+        [] | ["none"] => Ok(None),
+        [expiry] => Ok(Some(parse_u64(expiry)?)),
+        _ => Err(Stop::Unreadable),
+    }
 }
 
-fn write_shard(
-    workspace: &mut Workspace,
+// The bytes that `serialize_from` writes, and what it returns.
+fn written(
     alloc: Global,
-    shard: &str,
-    name: &str,
+    shard: &MDBInMemoryShard,
     expiry: Option<u64>,
-) -> Result<(), Stop> {
+) -> Result<(Vec<u8>, MDBShardInfo), Stop> {
     let mut bytes = Vec::new(alloc);
-    MDBShardInfo::serialize_from(alloc, &mut bytes, workspace.shard(shard)?, expiry)?;
-    workspace.put_buffer(alloc, name, bytes)
+    let info = MDBShardInfo::serialize_from(alloc, &mut bytes, shard, expiry)?;
+    Ok((bytes, info))
+}
+
+// The same of `serialize_from_v2`.
+fn written_v2(
+    alloc: Global,
+    shard: &MDBInMemoryShard,
+    expiry: Option<u64>,
+) -> Result<(Vec<u8>, MDBShardInfo), Stop> {
+    let mut bytes = Vec::new(alloc);
+    let info = MDBShardInfo::serialize_from_v2(alloc, &mut bytes, shard, expiry)?;
+    Ok((bytes, info))
 }
 
 fn joined(workspace: &Workspace, alloc: Global, parts: &[&str]) -> Result<Vec<u8>, Stop> {
@@ -115,7 +120,17 @@ pub fn show_buffers(
 ) -> Result<bool, Stop> {
     match words {
         ["written", shard, expiry, fields @ ..] => {
-            print_written(workspace, alloc, shard, expiry, fields, out)?;
+            let (_bytes, info) = written(
+                alloc,
+                workspace.shard(shard)?,
+                parse_expiry(&[*expiry])?,
+            )?;
+            print_info(&info, fields, out)?;
+        }
+        ["written2", shard, expiry, fields @ ..] => {
+            let expiry = parse_expiry(&[*expiry])?;
+            let (_bytes, info) = written_v2(alloc, workspace.shard(shard)?, expiry)?;
+            print_info(&info, fields, out)?;
         }
         ["same", first, second] => {
             let is_same = workspace.buffer(first)? == workspace.buffer(second)?;

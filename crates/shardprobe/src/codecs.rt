@@ -5,7 +5,8 @@ ghost use Rattle.xet_core_structures.specs.FileRecord.{FitsItsHeader};
 
 use crate::fields::{print_footer, print_header};
 use crate::parse::{
-    parse_chunk, parse_file, parse_metadata, parse_segment, parse_verification, parse_xorb,
+    parse_aux, parse_chunk, parse_file, parse_metadata, parse_segment, parse_verification,
+    parse_xorb,
 };
 use crate::show::{
     Chunk, HashRow, Segment, print_file_header, print_found, print_xorb, print_xorb_header,
@@ -17,8 +18,8 @@ use std::alloc::Global;
 use std::io::{ErrorKind, Write};
 use xet_core_structures::error::CoreError;
 use xet_core_structures::file_structs::{
-    FileDataSequenceEntry, FileDataSequenceHeader, FileMetadataExt, FileVerificationEntry,
-    MDBFileInfo,
+    FileAuxExt, FileDataSequenceEntry, FileDataSequenceHeader, FileMetadataExt,
+    FileVerificationEntry, MDBFileInfo,
 };
 use xet_core_structures::shard_format::{MDBShardFileFooter, MDBShardFileHeader};
 use xet_core_structures::xorb_structs::{
@@ -101,6 +102,7 @@ fn write_row(
         "segment" => Ok(parse_segment(alloc, word)?.serialize(bytes)?),
         "verification" => Ok(parse_verification(alloc, word)?.serialize(bytes)?),
         "metadata" => Ok(parse_metadata(alloc, word)?.serialize(bytes)?),
+        "aux" => Ok(parse_aux(alloc, word)?.serialize(bytes)?),
         "chunk" => Ok(parse_chunk(alloc, word, 0)?.serialize(bytes)?),
         _ => Err(Stop::Unreadable),
     }
@@ -138,6 +140,7 @@ pub fn fits_its_header(file: &MDBFileInfo) -> bool
     file.segments.len() == header.num_entries as usize
         && file.verification.len() == header.verification_rows() as usize
         && file.metadata_ext.is_some() == header.contains_metadata_ext()
+        && file.aux_ext.is_some() == header.contains_aux_ext()
 }
 
 fn write_xorb(xorb: &MDBXorbInfo, bytes: &mut Vec<u8>) -> Result<usize, Stop> {
@@ -178,6 +181,11 @@ fn read_row(kind: &str, bytes: &[u8], out: &mut Vec<u8>) -> Result<(), Stop> {
         "metadata" => {
             let row = FileMetadataExt::deserialize(&mut rest)?;
             let row = HashRow(row.sha256, row._unused);
+            write!(out, "{row}")?;
+        }
+        "aux" => {
+            let row = FileAuxExt::deserialize(&mut rest)?;
+            let row = HashRow(row.aux_hash, row._unused);
             write!(out, "{row}")?;
         }
         "chunk" => {

@@ -6,8 +6,8 @@ use crate::stop::Stop;
 use script_lines::words::{parse_hash, parse_u32, parse_u64, split_option};
 use std::alloc::{AllocError, Global};
 use xet_core_structures::file_structs::{
-    FileDataSequenceEntry, FileDataSequenceHeader, FileMetadataExt, FileVerificationEntry,
-    MDBFileInfo,
+    FileAuxExt, FileDataSequenceEntry, FileDataSequenceHeader, FileMetadataExt,
+    FileVerificationEntry, MDBFileInfo,
 };
 use xet_core_structures::merklehash::MerkleHash;
 use xet_core_structures::rows::Rows;
@@ -15,8 +15,8 @@ use xet_core_structures::xorb_structs::{
     MDBXorbInfo, XorbChunkSequenceEntry, XorbChunkSequenceHeader,
 };
 
-/// The record of words `HASH flags=N count=N unused=N v=ROW,ROW.. s=ROW SEGMENT ..`, of which all
-/// but the hash may be left out. Flags and count are then those of the parts.
+/// The record of words `HASH flags=N count=N unused=N v=ROW,ROW.. s=ROW x=ROW SEGMENT ..`, of which
+/// all but the hash may be left out. Flags and count are then those of the parts.
 pub fn parse_file(alloc: Global, words: &[&str]) -> Result<MDBFileInfo, Stop> {
     let Some((hash, rest)) = words.split_first() else {
         return Err(Stop::Unreadable);
@@ -26,24 +26,35 @@ pub fn parse_file(alloc: Global, words: &[&str]) -> Result<MDBFileInfo, Stop> {
     let (count, rest) = parse_u32_option(rest, "count=")?;
     let (unused, rest) = split_option(rest, "unused=");
     let (list, rest) = split_option(rest, "v=");
-    let (row, rest) = split_option(rest, "s=");
+    let (metadata_row, rest) = split_option(rest, "s=");
+    let (aux_row, rest) = split_option(rest, "x=");
     let verification = parse_verification_rows(alloc, list.unwrap_or(""))?;
-    let metadata_ext = match row {
+    let metadata_ext = match metadata_row {
         Some(row) => Some(parse_metadata(alloc, row)?),
+        None => None,
+    };
+    let aux_ext = match aux_row {
+        Some(row) => Some(parse_aux(alloc, row)?),
         None => None,
     };
     let segments = parse_segments(alloc, rest)?;
     let count = count.unwrap_or(count_of(segments.len())?);
-    let metadata = FileDataSequenceHeader::new(hash, count, list.is_some(), row.is_some());
+    let header = FileDataSequenceHeader::new(
+        hash,
+        count,
+        list.is_some(),
+        metadata_ext.is_some(),
+    ).with_aux_ext(aux_ext.is_some());
     Ok(MDBFileInfo {
         metadata: FileDataSequenceHeader {
-            file_flags: flags.unwrap_or(metadata.file_flags),
+            file_flags: flags.unwrap_or(header.file_flags),
             _unused: parse_u64(unused.unwrap_or("0"))?,
-            ..metadata
+            ..header
         },
         segments,
         verification,
         metadata_ext,
+        aux_ext,
     })
 }
 
@@ -120,6 +131,12 @@ pub fn parse_verification(alloc: Global, word: &str) -> Result<FileVerificationE
 pub fn parse_metadata(alloc: Global, word: &str) -> Result<FileMetadataExt, Stop> {
     let (sha256, _unused) = parse_hash_and_reserved(alloc, word)?;
     Ok(FileMetadataExt { sha256, _unused })
+}
+
+/// The row of a word `HASH` or `HASH/A/B`, with the two reserved words.
+pub fn parse_aux(alloc: Global, word: &str) -> Result<FileAuxExt, Stop> {
+    let (aux_hash, _unused) = parse_hash_and_reserved(alloc, word)?;
+    Ok(FileAuxExt { aux_hash, _unused })
 }
 
 fn parse_hash_and_reserved(alloc: Global, word: &str) -> Result<(MerkleHash, [u64; 2]), Stop> {

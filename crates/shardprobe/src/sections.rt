@@ -11,7 +11,8 @@ use std::io::{Read, Write};
 use xet_core_structures::error::{CoreError, Result as CoreResult};
 use xet_core_structures::file_structs::MDBFileInfoView;
 use xet_core_structures::streaming_shard::{
-    process_shard_file_info_section, process_shard_xorb_info_section,
+    process_shard_file_info_section, process_shard_file_info_section_versioned,
+    process_shard_xorb_info_section,
 };
 use xet_core_structures::xorb_structs::MDBXorbInfoView;
 
@@ -25,7 +26,12 @@ pub fn show_sections(
     match words {
         ["each_file", name, from, last @ ..] => {
             let bytes = bytes_from(workspace.buffer(name)?, parse_u64(from)?)?;
-            print_files(alloc, bytes, parse_last(last)?, out)?;
+            print_files(alloc, bytes, None, parse_last(last)?, out)?;
+        }
+        ["each_file_in", version, name, from, last @ ..] => {
+            let bytes = bytes_from(workspace.buffer(name)?, parse_u64(from)?)?;
+            let version = parse_u64(version)?;
+            print_files(alloc, bytes, Some(version), parse_last(last)?, out)?;
         }
         ["each_xorb", name, from, last @ ..] => {
             let bytes = bytes_from(workspace.buffer(name)?, parse_u64(from)?)?;
@@ -67,11 +73,23 @@ fn give_file(
     end_at(calls, last)
 }
 
-fn print_files(alloc: Global, bytes: &[u8], last: u64, out: &mut Vec<u8>) -> Result<(), Stop> {
+// Prints the files of a section, in the version that is given, if one is.
+fn print_files(
+    alloc: Global,
+    bytes: &[u8],
+    version: Option<u64>,
+    last: u64,
+    out: &mut Vec<u8>,
+) -> Result<(), Stop> {
     let mut reader = bytes;
     let mut calls = 0u64;
     let mut print = |view: MDBFileInfoView| give_file(&view, alloc, out, &mut calls, last);
-    let answer = process_shard_file_info_section(alloc, &mut reader, &mut print);
+    let answer = match version {
+        Some(version) => {
+            process_shard_file_info_section_versioned(alloc, &mut reader, version, &mut print)
+        }
+        None => process_shard_file_info_section(alloc, &mut reader, &mut print),
+    };
     print_left(reader, out)?;
     Ok(answer?)
 }

@@ -113,6 +113,10 @@ pub fn print_file(file: &MDBFileInfo, out: &mut Vec<u8>) -> io::Result<()> {
         let row = HashRow(row.sha256, row._unused);
         write!(out, " s={row}")?;
     }
+    if let Some(row) = file.aux_ext {
+        let row = HashRow(row.aux_hash, row._unused);
+        write!(out, " x={row}")?;
+    }
     for segment in file.segments.as_slice() {
         let segment = Segment(*segment);
         write!(out, " {segment}")?;

@@ -117,6 +117,7 @@ fn run_on_record(alloc: Global, words: &[&str], out: &mut Vec<u8>) -> Result<boo
         "measure_file" => measure_file(alloc, record, out),
         "measure_xorb" => measure_xorb(alloc, record, out),
         "announces" => print_announced(alloc, record, out),
+        "with_aux" => print_header_with_aux(alloc, record, out),
         "segment_of" => print_segment_of(alloc, record, out),
         "boundaries" => print_boundaries(alloc, record, out),
         _ => return Ok(false),
@@ -165,15 +166,29 @@ fn print_announced(alloc: Global, record: &[&str], out: &mut Vec<u8>) -> Result<
     let header = file.metadata;
     let verification = file.contains_verification();
     let metadata = file.contains_metadata_ext();
-    if (verification, metadata)
+    let aux = file.contains_aux_ext();
+    if (verification, metadata, aux)
         != (
             header.contains_verification(),
             header.contains_metadata_ext(),
+            header.contains_aux_ext(),
         )
     {
         writeln!(out, "the header announces other parts")?;
     }
-    writeln!(out, "verification {verification} metadata {metadata}")?;
+    writeln!(
+        out,
+        "verification {verification} metadata {metadata} aux {aux}"
+    )?;
+    Ok(())
+}
+
+// Prints the header of a record with the flag of the auxiliary row set, and cleared.
+fn print_header_with_aux(alloc: Global, record: &[&str], out: &mut Vec<u8>) -> Result<(), Stop> {
+    let header = parse_file(alloc, record)?.metadata;
+    let with = header.with_aux_ext(true).file_flags;
+    let without = header.with_aux_ext(false).file_flags;
+    writeln!(out, "{with} {without}")?;
     Ok(())
 }
 

@@ -134,6 +134,7 @@ fn show_file_view(
         ["entry", index] => print_entry(view, parse_u64(index)?, out)?,
         ["verification", index] => print_verification(view, alloc, parse_u64(index)?, out)?,
         ["metadata_ext"] => print_metadata_ext(view, out)?,
+        ["aux_ext"] => print_aux_ext(view, out)?,
         ["bytes"] => print_bytes(alloc, view.bytes()?.as_slice(), out)?,
         ["serialize", "with"] => print_written_file(view, alloc, true, out)?,
         ["serialize", "without"] => print_written_file(view, alloc, false, out)?,
@@ -153,13 +154,14 @@ fn print_file_view(view: &MDBFileInfoView, out: &mut Vec<u8>) -> io::Result<()> 
     let entries = view.num_entries();
     let verification = view.contains_verification();
     let metadata = view.contains_metadata_ext();
+    let aux = view.contains_aux_ext();
     write!(
         out,
         "{hash} flags {flags} entries {entries} verification {verification} "
     )?;
     let with = view.byte_size(true);
     let without = view.byte_size(false);
-    writeln!(out, "metadata {metadata} bytes {with} {without}")
+    writeln!(out, "metadata {metadata} aux {aux} bytes {with} {without}")
 }
 
 fn print_entry(view: &MDBFileInfoView, index: u64, out: &mut Vec<u8>) -> Result<(), Stop> {
@@ -190,6 +192,16 @@ fn print_metadata_ext(view: &MDBFileInfoView, out: &mut Vec<u8>) -> io::Result<(
     match view.metadata_ext() {
         Some(row) => {
             let row = HashRow(row.sha256, row._unused);
+            writeln!(out, "{row}")
+        }
+        None => writeln!(out, "none"),
+    }
+}
+
+fn print_aux_ext(view: &MDBFileInfoView, out: &mut Vec<u8>) -> io::Result<()> {
+    match view.aux_ext() {
+        Some(row) => {
+            let row = HashRow(row.aux_hash, row._unused);
             writeln!(out, "{row}")
         }
         None => writeln!(out, "none"),

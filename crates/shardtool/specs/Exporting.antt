@@ -6,7 +6,7 @@ use Rattle.xet_core_structures.specs.declared.file_structs.MDBFileInfo.{MDBFileI
 use Rattle.xet_core_structures.specs.declared.xorb_structs.MDBXorbInfo.{MDBXorbInfo}
 use Rattle.xet_core_structures.specs.declared.shard_format.MDBShardInfo.{MDBShardInfo}
 use Rattle.xet_core_structures.specs.Ends.{HasHeader, HasEnds}
-use Rattle.xet_core_structures.specs.FileRecord.{file_records}
+use Rattle.xet_core_structures.specs.FileRecord.{file_records_in}
 use Rattle.xet_core_structures.specs.XorbRecord.{xorb_records}
 use Rattle.xet_core_structures.specs.KeyedExport.{export_form, exported, xorbs_after, ExportCase, CannotExport}
 use Rattle.xet_core_structures.specs.SectionReading.{IsSection}
@@ -19,7 +19,7 @@ pub record ExportsBytes (x : Export) (bytes out : List ℕ) : Type 0 where
   pub files : List MDBFileInfo
   pub xorbs : List MDBXorbInfo
   pub header : HasHeader bytes
-  pub file_section : IsSection file_records (drop 48 bytes) files
+  pub file_section : IsSection (file_records_in header.version) (drop 48 bytes) files
   pub xorb_section : IsSection xorb_records (drop (xorbs_after files) bytes) xorbs
   pub written : out ≡ exported files xorbs
       (export_form x.key x.now x.valid_seconds x.parts.files x.parts.xorb_table

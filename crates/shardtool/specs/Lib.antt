@@ -6,3 +6,4 @@ pub mod Minimal
 pub mod Naming
 pub mod Query
 pub mod Trees
+pub mod Writing

@@ -7,6 +7,7 @@ use crate::combine::Operation;
 use crate::export::{Export, ExportParts};
 use crate::minimal::{KeptXorbs, Subset};
 use crate::tree::{NameTree, parse_tree};
+use crate::write::Version;
 use script_lines::lines::{is_skipped, split_words};
 use script_lines::ranges::ByteRange;
 use script_lines::records::{
@@ -17,7 +18,7 @@ use script_lines::words::{
 };
 use std::alloc::Global;
 use xet_core_structures::file_structs::{
-    FileDataSequenceEntry, FileMetadataExt, FileVerificationEntry,
+    FileAuxExt, FileDataSequenceEntry, FileMetadataExt, FileVerificationEntry,
 };
 use xet_core_structures::merklehash::MerkleHash;
 
@@ -33,13 +34,15 @@ pub enum Command<'a> {
         shard: &'a str,
         xorb: XorbLine,
     },
-    /// `file S HASH [v=HASH,HASH..] [s=HASH] XORB:START:END:BYTES ..`: adds a file to a shard.
+    /// `file S HASH [v=HASH,HASH..] [s=HASH] [x=HASH] XORB:START:END:BYTES ..`: adds a file to a
+    /// shard.
     File {
         shard: &'a str,
         file: FileLine,
     },
-    /// `write S B [EXPIRY]`: a shard's bytes into a buffer.
+    /// `write S B [EXPIRY]`, or `write2 S B [EXPIRY]` for version 2: a shard's bytes into a buffer.
     Write {
+        version: Version,
         shard: &'a str,
         buffer: &'a str,
         expiry: Option<u64>,
@@ -117,6 +120,8 @@ pub struct FileLine {
     pub verification: Option<Vec<FileVerificationEntry>>,
     /// The row of `s=`, if the line has it.
     pub metadata_ext: Option<FileMetadataExt>,
+    /// The row of `x=`, if the line has it.
+    pub aux_ext: Option<FileAuxExt>,
     pub segments: Vec<FileDataSequenceEntry>,
 }
 
@@ -147,7 +152,8 @@ fn parse_words<'a>(alloc: Global, words: &[&'a str]) -> Result<Command<'a>, Pars
         "shard" => parse_shard(arguments),
         "xorb" => parse_xorb(alloc, arguments),
         "file" => parse_file(alloc, arguments),
-        "write" => parse_write(arguments),
+        "write" => parse_write(Version::V3, arguments),
+        "write2" => parse_write(Version::V2, arguments),
         "union" => parse_combine(Operation::Union, arguments),
         "diff" => parse_combine(Operation::Difference, arguments),
         "merge" => parse_merge(alloc, arguments),
@@ -198,23 +204,30 @@ fn parse_file<'a>(alloc: Global, arguments: &[&'a str]) -> Result<Command<'a>, P
         Some(sha256) => Some(FileMetadataExt::new(parse_hash(sha256)?)),
         None => None,
     };
+    let (aux_hash, rest) = split_option(rest, "x=");
+    let aux_ext = match aux_hash {
+        Some(aux_hash) => Some(FileAuxExt::new(parse_hash(aux_hash)?)),
+        None => None,
+    };
     let segments = parse_segments(alloc, rest)?;
     let file = FileLine {
         hash,
         verification,
         metadata_ext,
+        aux_ext,
         segments,
     };
     Ok(Command::File { shard, file })
 }
 
-fn parse_write<'a>(arguments: &[&'a str]) -> Result<Command<'a>, ParseError> {
+fn parse_write<'a>(version: Version, arguments: &[&'a str]) -> Result<Command<'a>, ParseError> {
     let (shard, buffer, expiry) = match arguments {
         [shard, buffer] => (*shard, *buffer, None),
         [shard, buffer, expiry] => (*shard, *buffer, Some(parse_u64(expiry)?)),
         _ => return Err(ParseError::Unreadable),
     };
     Ok(Command::Write {
+        version,
         shard: parse_name(shard)?,
         buffer: parse_name(buffer)?,
         expiry,

@@ -4,8 +4,8 @@ ghost use Rattle.std.specs.Prelude.{◌≡◌, ◌⊎◌, ◌<◌, ◌≤◌, �
 ghost use Rattle.std.specs.FinMap as finite;
 ghost use Rattle.xet_core_structures.specs.FileRecord.{FitsItsHeader, file_records};
 ghost use Rattle.xet_core_structures.specs.Shard.{Shard, IsShard};
-ghost use Rattle.xet_core_structures.specs.Layout.{layout};
 ghost use Rattle.xet_core_structures.specs.Lookup.{FoundInShard, sharing};
+ghost use Rattle.xet_core_structures.specs.WrittenShard.{AreBytesOf};
 
 use std::alloc::Global;
 use xet_core_structures::error::{CoreError, Result};
@@ -23,7 +23,7 @@ pub fn find_file(alloc: Global, bytes: &[u8], hash: &MerkleHash) -> Result<Optio
     ensures hash { IfOk result
         (λ found. IfSome found (λ file. file.metadata.file_hash ≡ hash.now)) }
     ensures written { (s : Shard) → (expiry : Option ℕ) → IsShard s
-        → IfSome expiry (λ e. e < 2 ^ 64) → bytes.now ≡ layout s expiry
+        → IfSome expiry (λ e. e < 2 ^ 64) → AreBytesOf s expiry bytes.now
         → MatchResult result (FoundInShard s hash.now)
         (λ e. ((e ≡ CoreError.OutOfMemory)
         × (length (sharing file_records hash.now.word0 (finite.values s.files)) < 8))

@@ -15,6 +15,7 @@ mod stop;
 mod tests;
 mod tree;
 mod workspace;
+mod write;
 
 use std::io;
 use std::process::ExitCode;

@@ -1,11 +1,11 @@
 //! Looking for a run of chunks in the bytes of a shard.
 
-ghost use Rattle.std.specs.Prelude.{◌≡◌, ◌<◌, ◌^◌, ℕ, Option, IfSome, IsOkAnd, MatchResult};
+ghost use Rattle.std.specs.Prelude.{◌<◌, ◌^◌, ℕ, Option, IfSome, IsOkAnd, MatchResult};
 ghost use Rattle.std.specs.FinMap as finite;
 ghost use Rattle.xet_core_structures.specs.KeyedHash.{no_key};
-ghost use Rattle.xet_core_structures.specs.Layout.{layout};
 ghost use Rattle.xet_core_structures.specs.Shard.{Shard, IsShard};
 ghost use Rattle.xet_core_structures.specs.WrittenQueries.{RunAmong};
+ghost use Rattle.xet_core_structures.specs.WrittenShard.{AreBytesOf};
 ghost use Rattle.shardtool.specs.Query.{AnswersQuery, RefusesQuery};
 
 use std::alloc::Global;
@@ -30,7 +30,7 @@ pub fn query_chunks(
     ensures any_bytes { MatchResult result (AnswersQuery bytes.now hashes.now)
         (RefusesQuery bytes.now hashes.now) }
     ensures written { (s : Shard) → (expiry : Option ℕ) → IsShard s
-        → IfSome expiry (λ e. e < 2 ^ 64) → bytes.now ≡ layout s expiry
+        → IfSome expiry (λ e. e < 2 ^ 64) → AreBytesOf s expiry bytes.now
         → IsOkAnd result (RunAmong no_key hashes.now (finite.values s.xorbs)) }
 {
     let mut source = MemorySource::new(bytes);

@@ -61,10 +61,11 @@ impl Workspace {
             Command::Xorb { shard, xorb } => self.add_xorb(alloc, shard, xorb),
             Command::File { shard, file } => self.add_file(alloc, shard, file),
             Command::Write {
+                version,
                 shard,
                 buffer,
                 expiry,
-            } => self.write_shard(alloc, shard, buffer, expiry),
+            } => self.write_shard(alloc, version, shard, buffer, expiry),
             Command::Combine {
                 operation,
                 first,

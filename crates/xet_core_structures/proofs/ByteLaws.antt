@@ -1,5 +1,5 @@
 -- Of the bytes of shards that agree, one union is the same in either order and grouping, and if it is repeated.
-use Rattle.std.proofs.Common.{◌≡◌, ℕ, ◌+◌, ◌^◌, ◌<◌, Bool, true, false, ◌&&◌, not, List, Option, None, Some, IfSome, refl, sym, ap, ◌∙◌, subst, if◌then◌else◌, is_some, true≢false, arith}
+use Rattle.std.proofs.Common.{◌≡◌, ℕ, ◌+◌, Bool, true, false, ◌&&◌, not, List, Option, None, Some, refl, sym, ap, ◌∙◌, if◌then◌else◌, is_some, true≢false, arith}
 use Rattle.std.specs.Prelude.{IsTrue}
 use Rattle.std.specs.Option.{option_or}
 use Rattle.std.specs.FinMap.{get, entries, get-empty, get-entries}
@@ -11,7 +11,8 @@ use Rattle.xet_records.specs.declared.file_structs.MDBFileInfo.{MDBFileInfo}
 use Rattle.xet_records.specs.declared.xorb_structs.MDBXorbInfo.{MDBXorbInfo}
 use Rattle.xet_records.specs.FileRecord.{file_records, IsWellFormed, row_count, flags_of}
 use Rattle.xet_records.specs.XorbRecord.{xorb_records, IsXorb, xorb_row_count}
-use Rattle.xet_records.specs.Merging.{verified, described, merged}
+use Rattle.xet_records.specs.declared.record_reader.FormatVersion.TheVariants.{V3}
+use Rattle.xet_records.specs.Merging.{verified, described, merged, extended}
 use Rattle.xet_shards.specs.Joining.{either_file}
 use Rattle.xet_shards.specs.Layout.{layout}
 use Rattle.xet_shards.specs.SetOperations.{IsUnion, IsDifference, ShardsAgree}
@@ -26,17 +27,15 @@ use Rattle.xet_shards.proofs.Sums.{all_of_map, sub-sum}
 use Rattle.xet_shards.proofs.Unions.{union-comm, union-assoc, union-idem, union-empty, union-of_empty, union_agrees}
 use Rattle.xet_core_structures.specs.ByteUnion.{HasPartsOf}
 use Rattle.xet_core_structures.specs.ByteResults.{UnitesBytes}
+use Rattle.xet_core_structures.specs.MergeTrees.{AreSomeBytesOf}
 use Rattle.xet_core_structures.proofs.ByteUnions.{written_union}
-
-abbrev Fits : Option ℕ → Type 0
-Fits expiry = IfSome expiry (λ n. n < 2 ^ 64)
 
 -- agreement has no order, and a shard agrees with itself
 agree_turned : (a b : Shard) → ShardsAgree a b → ShardsAgree b a
 agree_turned a b agree = record {
   files = λ q r s r_at s_at.
       let pair = agree.files q s r s_at r_at in
-      record { segments = sym pair.segments; verification = λ v w. sym (pair.verification w v); metadata_ext = λ v w. sym (pair.metadata_ext w v) };
+      record { segments = sym pair.segments; verification = λ v w. sym (pair.verification w v); metadata_ext = λ v w. sym (pair.metadata_ext w v); aux_ext = λ v w. sym (pair.aux_ext w v) };
   xorbs = λ q r s r_at s_at. sym (agree.xorbs q s r s_at r_at);
 }
 
@@ -44,7 +43,7 @@ agree_itself : (a : Shard) → ShardsAgree a a
 agree_itself a = record {
   files = λ q r s r_at s_at.
       let same = same_Some r s (sym r_at ∙ s_at) in
-      record { segments = ap (λ (f : MDBFileInfo). f.segments) same; verification = λ v w. ap (λ (f : MDBFileInfo). f.verification) same; metadata_ext = λ v w. ap (λ (f : MDBFileInfo). f.metadata_ext) same };
+      record { segments = ap (λ (f : MDBFileInfo). f.segments) same; verification = λ v w. ap (λ (f : MDBFileInfo). f.verification) same; metadata_ext = λ v w. ap (λ (f : MDBFileInfo). f.metadata_ext) same; aux_ext = λ v w. ap (λ (f : MDBFileInfo). f.aux_ext) same };
   xorbs = λ q r s r_at s_at. same_Some r s (sym r_at ∙ s_at);
 }
 
@@ -55,39 +54,43 @@ agree_empty a = record {
 }
 
 -- the one union of the bytes of two shards that agree
-one_union : (a b c : Shard) (e f : Option ℕ) (x : List ℕ) → IsShard a → IsShard b → ShardsAgree a b → Fits e → Fits f → IsUnion a b c → UnitesBytes (layout a e) (layout b f) x
-    → (x ≡ layout c None) × IsShard c
-one_union a b c e f x first second agree e_fits f_fits union unites =
-    let written = written_union a b c e f first second e_fits f_fits agree union x unites in
+one_union : (a b c : Shard) (x y out : List ℕ) → IsShard a → IsShard b → ShardsAgree a b → AreSomeBytesOf a x → AreSomeBytesOf b y → IsUnion a b c → UnitesBytes x y out
+    → (out ≡ layout c None) × IsShard c
+one_union a b c x y out first second agree x_are y_are union unites =
+    let written = written_union a b c x y first second x_are y_are agree union out unites in
     (written.0, union_is_shard a b c first second agree union written.1)
 
-pub bytes_commute : (a b : Shard) (e f g h : Option ℕ) (x y : List ℕ) → IsShard a → IsShard b → ShardsAgree a b → Fits e → Fits f → Fits g → Fits h
-    → UnitesBytes (layout a e) (layout b f) x → UnitesBytes (layout b g) (layout a h) y → x ≡ y
-bytes_commute a b e f g h x y first second agree e_fits f_fits g_fits h_fits one other =
+pub bytes_commute : (a b : Shard) (a_1 a_2 b_1 b_2 x y : List ℕ) → IsShard a → IsShard b → ShardsAgree a b
+    → AreSomeBytesOf a a_1 → AreSomeBytesOf a a_2 → AreSomeBytesOf b b_1 → AreSomeBytesOf b b_2 → UnitesBytes a_1 b_1 x → UnitesBytes b_2 a_2 y → x ≡ y
+bytes_commute a b a_1 a_2 b_1 b_2 x y first second agree a_1_are a_2_are b_1_are b_2_are one other =
     let c = united_shard a b in
     let d = united_shard b a in
-    (one_union a b c e f x first second agree e_fits f_fits (union_exists a b) one).0
+    (one_union a b c a_1 b_1 x first second agree a_1_are b_1_are (union_exists a b) one).0
     ∙ ap (λ s. layout s None) (union-comm a b c d first second agree (union_exists a b) (union_exists b a))
-    ∙ sym (one_union b a d g h y second first (agree_turned a b agree) g_fits h_fits (union_exists b a) other).0
+    ∙ sym (one_union b a d b_2 a_2 y second first (agree_turned a b agree) b_2_are a_2_are (union_exists b a) other).0
 
-pub bytes_associate : (a b c : Shard) (e f g h i j : Option ℕ) (ab bc left right : List ℕ) → IsShard a → IsShard b → IsShard c → ShardsAgree a b → ShardsAgree a c → ShardsAgree b c
-    → Fits e → Fits f → Fits g → Fits h → Fits i → Fits j
-    → UnitesBytes (layout a e) (layout b f) ab → UnitesBytes ab (layout c g) left → UnitesBytes (layout b h) (layout c i) bc → UnitesBytes (layout a j) bc right → left ≡ right
-bytes_associate a b c e f g h i j ab bc left right first second third ab_agree ac_agree bc_agree e_fits f_fits g_fits h_fits i_fits j_fits ab_is left_is bc_is right_is =
+-- a layout is such bytes
+layout_itself : (s : Shard) (x : List ℕ) → x ≡ layout s None → AreSomeBytesOf s x
+layout_itself s x is = (None, tt, record { version = V3; files = tt; bytes_are = is })
+
+pub bytes_associate : (a b c : Shard) (a_1 a_2 b_1 b_2 c_1 c_2 ab bc left right : List ℕ) → IsShard a → IsShard b → IsShard c → ShardsAgree a b → ShardsAgree a c → ShardsAgree b c
+    → AreSomeBytesOf a a_1 → AreSomeBytesOf a a_2 → AreSomeBytesOf b b_1 → AreSomeBytesOf b b_2 → AreSomeBytesOf c c_1 → AreSomeBytesOf c c_2
+    → UnitesBytes a_1 b_1 ab → UnitesBytes ab c_1 left → UnitesBytes b_2 c_2 bc → UnitesBytes a_2 bc right → left ≡ right
+bytes_associate a b c a_1 a_2 b_1 b_2 c_1 c_2 ab bc left right first second third ab_agree ac_agree bc_agree a_1_are a_2_are b_1_are b_2_are c_1_are c_2_are ab_is left_is bc_is right_is =
     let d = united_shard a b in
     let k = united_shard b c in
-    let one = one_union a b d e f ab first second ab_agree e_fits f_fits (union_exists a b) ab_is in
-    let other = one_union b c k h i bc second third bc_agree h_fits i_fits (union_exists b c) bc_is in
+    let one = one_union a b d a_1 b_1 ab first second ab_agree a_1_are b_1_are (union_exists a b) ab_is in
+    let other = one_union b c k b_2 c_2 bc second third bc_agree b_2_are c_2_are (union_exists b c) bc_is in
     let d_agrees = union_agrees a b c d ac_agree bc_agree (union_exists a b) in
     let k_agrees = agree_turned k a (union_agrees b c a k (agree_turned a b ab_agree) (agree_turned a c ac_agree) (union_exists b c)) in
-    (one_union d c (united_shard d c) None g left one.1 third d_agrees tt g_fits (union_exists d c) (subst (λ x. UnitesBytes x (layout c g) left) one.0 left_is)).0
+    (one_union d c (united_shard d c) ab c_1 left one.1 third d_agrees (layout_itself d ab one.0) c_1_are (union_exists d c) left_is).0
     ∙ ap (λ s. layout s None) (union-assoc a b c d k (united_shard d c) (united_shard a k) (union_exists a b) (union_exists d c) (union_exists b c) (union_exists a k))
-    ∙ sym (one_union a k (united_shard a k) j None right first other.1 k_agrees j_fits tt (union_exists a k) (subst (λ x. UnitesBytes (layout a j) x right) other.0 right_is)).0
+    ∙ sym (one_union a k (united_shard a k) a_2 bc right first other.1 k_agrees a_2_are (layout_itself k bc other.0) (union_exists a k) right_is).0
 
-pub bytes_repeat : (a : Shard) (e f : Option ℕ) (x : List ℕ) → IsShard a → Fits e → Fits f → UnitesBytes (layout a e) (layout a f) x → x ≡ layout a None
-bytes_repeat a e f x shard e_fits f_fits unites =
+pub bytes_repeat : (a : Shard) (a_1 a_2 x : List ℕ) → IsShard a → AreSomeBytesOf a a_1 → AreSomeBytesOf a a_2 → UnitesBytes a_1 a_2 x → x ≡ layout a None
+bytes_repeat a a_1 a_2 x shard a_1_are a_2_are unites =
     let c = united_shard a a in
-    (one_union a a c e f x shard shard (agree_itself a) e_fits f_fits (union_exists a a) unites).0 ∙ ap (λ s. layout s None) (union-idem a c shard (union_exists a a))
+    (one_union a a c a_1 a_2 x shard shard (agree_itself a) a_1_are a_2_are (union_exists a a) unites).0 ∙ ap (λ s. layout s None) (union-idem a c shard (union_exists a a))
 
 -- the empty shard is one
 pub empty_is_shard : IsShard empty_shard
@@ -104,16 +107,16 @@ empty_is_shard = record {
   xorb_rows = omega (arith, ap (total_rows xorb_records) (values-empty MDBXorbInfo hash_cmp));
 }
 
-pub bytes_with_nothing : (a : Shard) (e f : Option ℕ) (x : List ℕ) → IsShard a → Fits e → Fits f → UnitesBytes (layout a e) (layout empty_shard f) x → x ≡ layout a None
-bytes_with_nothing a e f x shard e_fits f_fits unites =
+pub bytes_with_nothing : (a : Shard) (some none x : List ℕ) → IsShard a → AreSomeBytesOf a some → AreSomeBytesOf empty_shard none → UnitesBytes some none x → x ≡ layout a None
+bytes_with_nothing a some none x shard some_are none_are unites =
     let c = united_shard a empty_shard in
-    (one_union a empty_shard c e f x shard empty_is_shard (agree_empty a) e_fits f_fits (union_exists a empty_shard) unites).0
+    (one_union a empty_shard c some none x shard empty_is_shard (agree_empty a) some_are none_are (union_exists a empty_shard) unites).0
     ∙ ap (λ s. layout s None) (union-empty a c (union_exists a empty_shard))
 
-pub bytes_of_nothing : (a : Shard) (e f : Option ℕ) (x : List ℕ) → IsShard a → Fits e → Fits f → UnitesBytes (layout empty_shard e) (layout a f) x → x ≡ layout a None
-bytes_of_nothing a e f x shard e_fits f_fits unites =
+pub bytes_of_nothing : (a : Shard) (some none x : List ℕ) → IsShard a → AreSomeBytesOf a some → AreSomeBytesOf empty_shard none → UnitesBytes none some x → x ≡ layout a None
+bytes_of_nothing a some none x shard some_are none_are unites =
     let c = united_shard empty_shard a in
-    (one_union empty_shard a c e f x empty_is_shard shard (agree_turned a empty_shard (agree_empty a)) e_fits f_fits (union_exists empty_shard a) unites).0
+    (one_union empty_shard a c none some x empty_is_shard shard (agree_turned a empty_shard (agree_empty a)) none_are some_are (union_exists empty_shard a) unites).0
     ∙ ap (λ s. layout s None) (union-of_empty a c (union_exists empty_shard a))
 
 -- a difference of shards is one, and agrees with the first
@@ -158,28 +161,31 @@ nothing_more false w more = refl
 nothing_more true true more = refl
 nothing_more true false more = absurd (true≢false (sym (more refl)))
 
-merged_kept : (r s : MDBFileInfo) (v m : Bool) → v ≡ false → m ≡ false → merged r s ≡ record {
-  metadata = record r.metadata { file_flags = r.metadata.file_flags + flags_of v m };
+merged_kept : (r s : MDBFileInfo) (v m x : Bool) → v ≡ false → m ≡ false → x ≡ false → merged r s ≡ record {
+  metadata = record r.metadata { file_flags = r.metadata.file_flags + flags_of v m x };
   segments = r.segments;
   verification = if v then s.verification else r.verification;
   metadata_ext = if m then s.metadata_ext else r.metadata_ext;
+  aux_ext = if x then s.aux_ext else r.aux_ext;
 } → merged r s ≡ r
-merged_kept r s v m no_rows no_metadata is =
-    let flags : r.metadata.file_flags + flags_of false false ≡ r.metadata.file_flags = omega arith in
+merged_kept r s v m x no_rows no_metadata no_aux is =
+    let flags : r.metadata.file_flags + flags_of false false false ≡ r.metadata.file_flags = omega arith in
     is ∙ (λ i. record {
-      metadata = record r.metadata { file_flags = r.metadata.file_flags + flags_of (no_rows i) (no_metadata i) };
+      metadata = record r.metadata { file_flags = r.metadata.file_flags + flags_of (no_rows i) (no_metadata i) (no_aux i) };
       segments = r.segments;
       verification = if no_rows i then s.verification else r.verification;
       metadata_ext = if no_metadata i then s.metadata_ext else r.metadata_ext;
+      aux_ext = if no_aux i then s.aux_ext else r.aux_ext;
     }) ∙ (λ i. record r { metadata = record r.metadata { file_flags = flags i } })
 
 module _ (a b c d : Shard) (first : IsShard a) (second : IsShard b) (agree : ShardsAgree a b) (parts : HasPartsOf a b) (is : IsDifference a b d) (union : IsUnion a b c) where
   same_files : (q : DataHash) (o p : Option MDBFileInfo) → get a.files q ≡ o → get b.files q ≡ p → either_file o p ≡ either_file o (if is_some o then None else p)
   same_files q None p o_at p_at = refl
   same_files q (Some r) None o_at p_at = refl
-  same_files q (Some r) (Some s) o_at p_at = ap Some (merged_kept r s _ _
+  same_files q (Some r) (Some s) o_at p_at = ap Some (merged_kept r s _ _ _
       (nothing_more (verified s) (verified r) (parts.verification q r s o_at p_at))
-      (nothing_more (described s) (described r) (parts.metadata_ext q r s o_at p_at)) refl)
+      (nothing_more (described s) (described r) (parts.metadata_ext q r s o_at p_at))
+      (nothing_more (extended s) (extended r) (parts.aux_ext q r s o_at p_at)) refl)
 
   same_xorbs : (q : DataHash) (o p : Option MDBXorbInfo) → get a.xorbs q ≡ o → get b.xorbs q ≡ p → option_or p o ≡ option_or (if is_some o then None else p) o
   same_xorbs q None p o_at p_at = refl
@@ -192,10 +198,10 @@ module _ (a b c d : Shard) (first : IsShard a) (second : IsShard b) (agree : Sha
     xorbs = λ q. union.xorbs q ∙ same_xorbs q (get a.xorbs q) (get b.xorbs q) refl refl ∙ ap (λ o. option_or o (get a.xorbs q)) (sym (is.xorbs q));
   }
 
-pub bytes_with_difference : (a b d : Shard) (e f g h : Option ℕ) (x y : List ℕ) → IsShard a → IsShard b → ShardsAgree a b → HasPartsOf a b → IsDifference a b d → Fits e → Fits f → Fits g → Fits h
-    → UnitesBytes (layout a e) (layout b f) x → UnitesBytes (layout a g) (layout d h) y → x ≡ y
-bytes_with_difference a b d e f g h x y first second agree parts is e_fits f_fits g_fits h_fits one other =
+pub bytes_with_difference : (a b d : Shard) (a_1 a_2 b_1 d_1 x y : List ℕ) → IsShard a → IsShard b → ShardsAgree a b → HasPartsOf a b → IsDifference a b d
+    → AreSomeBytesOf a a_1 → AreSomeBytesOf a a_2 → AreSomeBytesOf b b_1 → AreSomeBytesOf d d_1 → UnitesBytes a_1 b_1 x → UnitesBytes a_2 d_1 y → x ≡ y
+bytes_with_difference a b d a_1 a_2 b_1 d_1 x y first second agree parts is a_1_are a_2_are b_1_are d_1_are one other =
     let c = united_shard a b in
-    (one_union a b c e f x first second agree e_fits f_fits (union_exists a b) one).0
-    ∙ sym (one_union a d c g h y first (difference_is_shard a b d is second) (difference_agrees a b d is) g_fits h_fits
+    (one_union a b c a_1 b_1 x first second agree a_1_are b_1_are (union_exists a b) one).0
+    ∙ sym (one_union a d c a_2 d_1 y first (difference_is_shard a b d is second) (difference_agrees a b d is) a_2_are d_1_are
     (union_of_difference a b c d first second agree parts is (union_exists a b)) other).0

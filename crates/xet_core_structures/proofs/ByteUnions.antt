@@ -1,5 +1,6 @@
 -- On shards that agree the byte union is their union, and the union of their bytes the layout of it.
 use Rattle.std.proofs.Common.{◌≡◌, ◌⊎◌, inl, inr, ℕ, zero, suc, ◌^◌, ◌<◌, ◌≤◌, Bool, true, false, ◌||◌, List, Option, None, Some, IfSome, refl, sym, ap, ◌∙◌, subst, if◌then◌else◌, ◌==◌, true≢false, arith}
+use Rattle.xet_shards.specs.InForm.{FitsSection}
 use Rattle.std.specs.Int.{bit_at}
 use Rattle.std.specs.FinMap.{get, values}
 use Rattle.std.proofs.lemmas.Bool.Decides.{nat_tests}
@@ -9,25 +10,27 @@ use Rattle.xet_base.specs.declared.error.CoreError.TheVariants.{OutOfMemory}
 use Rattle.xet_base.specs.Errors.{IsInvalidShard}
 use Rattle.xet_base.specs.declared.merklehash.DataHash.{DataHash}
 use Rattle.xet_records.specs.declared.file_structs.MDBFileInfo.{MDBFileInfo}
-use Rattle.xet_records.specs.FileRecord.{flags_of}
-use Rattle.xet_records.specs.Merging.{Includes, verified, described, Agree, joined}
-use Rattle.xet_records.proofs.Merging.{flags_are_parts, verification_absent, metadata_ext_absent, joined-comm, same_file_if_agree, merged_is_joined}
+use Rattle.xet_records.specs.declared.record_reader.FormatVersion.{FormatVersion}
+use Rattle.xet_records.specs.FileRecord.{flags_of, file_records_in}
+use Rattle.xet_records.specs.Merging.{Includes, verified, described, Agree, joined, extended}
+use Rattle.xet_records.proofs.Merging.{flags_are_parts, verification_absent, metadata_ext_absent, joined-comm, same_file_if_agree, merged_is_joined, aux_ext_absent}
 use Rattle.xet_shards.specs.declared.shard_format.info.MDBShardInfo.{MDBShardInfo}
 use Rattle.xet_shards.specs.Ends.{HasEnds}
 use Rattle.xet_shards.specs.Joining.{either_file}
 use Rattle.xet_shards.specs.declared.shard_format.form.Form.{Form}
-use Rattle.xet_shards.specs.Layout.{layout_of, layout, plain_form, info_of}
+use Rattle.xet_shards.specs.Layout.{layout_of, layout, plain_form, plain_form_in, info_of}
 use Rattle.xet_shards.specs.SetOperations.{IsUnion, ShardsAgree, HasFewRows}
 use Rattle.xet_shards.specs.Shard.{Shard, IsShard}
 use Rattle.xet_shards.proofs.EndsUnique.{only_info, ends_of_layout, not_unsupported, not_too_short}
 use Rattle.xet_shards.proofs.Overlays.{union_unique}
-use Rattle.xet_shards.proofs.Sections.{files_fit, xorbs_fit}
+use Rattle.xet_shards.proofs.Sections.{files_fit, files_fit_in, xorbs_fit}
 use Rattle.xet_shards.proofs.Unions.{IsKnown, known, same_either}
 use Rattle.xet_shards.proofs.Widths.{fits_in_form}
 use Rattle.xet_core_structures.specs.ByteUnion.{mixed, IsUnitedFile, IsEitherFile, IsByteUnion}
 use Rattle.xet_core_structures.specs.ByteResults.{keyed_layout, key_of, HaveNoUnion, UnionRefusal, UnitesBytes, LoadRefusal, BytesRefusal}
 use Rattle.xet_core_structures.specs.ExportTrees.{FitsForm}
 use Rattle.xet_core_structures.specs.Held.{Holds}
+use Rattle.xet_core_structures.specs.MergeTrees.{AreSomeBytesOf}
 use Rattle.xet_core_structures.proofs.Held.{held_once, held_whole, held_well, holds_in_form}
 
 -- whether one set of bits includes another is decided
@@ -90,13 +93,16 @@ module _ (q : DataHash) (a b : MDBFileInfo) (one : IsKnown q a) (other : IsKnown
   joined-more all =
       let v = bit_kept a.metadata.file_flags b.metadata.file_flags 31 (omega arith) all in
       let m = bit_kept a.metadata.file_flags b.metadata.file_flags 30 (omega arith) all in
-      let flags = (λ i. flags_of (or_more (verified a) (verified b) v i) (or_more (described a) (described b) m i))
+      let x = bit_kept a.metadata.file_flags b.metadata.file_flags 29 (omega arith) all in
+      let flags = (λ i. flags_of (or_more (verified a) (verified b) v i) (or_more (described a) (described b) m i) (or_more (extended a) (extended b) x i))
       ∙ sym (flags_are_parts a.metadata.file_flags one.well_formed.widths.metadata.file_flags one.well_formed.known_flags) in
       let verification = part_more (verified a) (verified b) a.verification b.verification v
-      (λ x y. verification_absent a one.well_formed.whole x ∙ sym (verification_absent b other.well_formed.whole y)) in
+      (λ n k. verification_absent a one.well_formed.whole n ∙ sym (verification_absent b other.well_formed.whole k)) in
       let metadata_ext = part_more (described a) (described b) a.metadata_ext b.metadata_ext m
-      (λ x y. metadata_ext_absent a one.well_formed.whole x ∙ sym (metadata_ext_absent b other.well_formed.whole y)) in
-      λ i. record { metadata = record a.metadata { file_flags = flags i }; segments = a.segments; verification = verification i; metadata_ext = metadata_ext i }
+      (λ n k. metadata_ext_absent a one.well_formed.whole n ∙ sym (metadata_ext_absent b other.well_formed.whole k)) in
+      let aux_ext = part_more (extended a) (extended b) a.aux_ext b.aux_ext x
+      (λ n k. aux_ext_absent a one.well_formed.whole n ∙ sym (aux_ext_absent b other.well_formed.whole k)) in
+      λ i. record { metadata = record a.metadata { file_flags = flags i }; segments = a.segments; verification = verification i; metadata_ext = metadata_ext i; aux_ext = aux_ext i }
 
   pub mixed_is_joined : mixed a b ≡ joined a b
   mixed_is_joined = λ i. record (joined a b) { metadata = record (joined a b).metadata { _unused = sym one.well_formed.reserved i } }
@@ -180,29 +186,30 @@ module _ (s : Shard) (form : Form) (shard : IsShard s) (fits : FitsForm form) wh
   loads_well e (inr (is, short)) = not_too_short (layout_in s form) (info_in s form) ends_in_form short
 
 -- the union of the bytes of two shards that agree, under one key
-module _ (a b c : Shard) (f g : Form) (first : IsShard a) (second : IsShard b) (f_fits : FitsForm f) (g_fits : FitsForm g) (same_key : f.key ≡ g.key)
+module _ (a b c : Shard) (f g : Form) (first : IsShard a) (second : IsShard b) (f_files : FitsSection (file_records_in f.version) (values a.files)) (g_files : FitsSection (file_records_in g.version) (values b.files))
+    (f_fits : FitsForm f) (g_fits : FitsForm g) (same_key : f.key ≡ g.key)
     (agree : ShardsAgree a b) (union : IsUnion a b c) where
   pub form_union : (out : List ℕ) → UnitesBytes (layout_in a f) (layout_in b g) out → (out ≡ keyed_layout c f.key) × HasFewRows c
   form_union out (i, j, d, i_ends, j_ends, have, is) =
       let i_is = info_found a f first f_fits i i_ends in
       let j_is = info_found b g second g_fits j j_ends in
-      let a_is = held_once (layout_in a f) (info_in a f) a (holds_in_form a f first) have.first (subst (λ k. Holds (layout_in a f) k have.first) i_is have.holds_first) in
-      let b_is = held_once (layout_in b g) (info_in b g) b (holds_in_form b g second) have.second (subst (λ k. Holds (layout_in b g) k have.second) j_is have.holds_second) in
+      let a_is = held_once (layout_in a f) (info_in a f) a (holds_in_form a f first f_files) have.first (subst (λ k. Holds (layout_in a f) k have.first) i_is have.holds_first) in
+      let b_is = held_once (layout_in b g) (info_in b g) b (holds_in_form b g second g_files) have.second (subst (λ k. Holds (layout_in b g) k have.second) j_is have.holds_second) in
       let bytes : IsByteUnion a b d = subst (λ p. p) (λ k. IsByteUnion (a_is k) (b_is k) d) have.result in
       let d_is = union_unique a b d c (byte_union_is_union a b d first second agree bytes) union in
       (is ∙ (λ k. keyed_layout (d_is k) (key_of (i_is k))), subst HasFewRows d_is have.rows)
 
   no_union : HasFewRows c → ¬ HaveNoUnion (layout_in a f) (info_in a f) (layout_in b g) (info_in b g)
-  no_union few (inl files) = files.none a.files b.files c.files (holds_in_form a f first).files (holds_in_form b g second).files (union_is_byte_union a b c first second agree union).files few.files
-  no_union few (inr xorbs) = xorbs.none a.xorbs b.xorbs c.xorbs (holds_in_form a f first).xorbs (holds_in_form b g second).xorbs (union_is_byte_union a b c first second agree union).xorbs few.xorbs
+  no_union few (inl files) = files.none a.files b.files c.files (holds_in_form a f first f_files).files (holds_in_form b g second g_files).files (union_is_byte_union a b c first second agree union).files few.files
+  no_union few (inr xorbs) = xorbs.none a.xorbs b.xorbs c.xorbs (holds_in_form a f first f_files).xorbs (holds_in_form b g second g_files).xorbs (union_is_byte_union a b c first second agree union).xorbs few.xorbs
 
   refused : (err : CoreError) → UnionRefusal (layout_in a f) (info_in a f) (layout_in b g) (info_in b g) err → (err ≡ OutOfMemory) ⊎ (IsInvalidShard err × (¬ HasFewRows c))
   refused err (inl (is, differ)) = absurd (differ same_key)
   refused err (inr (same, inl (inl no_memory))) = inl no_memory
-  refused err (inr (same, inl (inr (inl (is, inl cut))))) = absurd (held_whole (layout_in a f) (info_in a f) a (holds_in_form a f first) cut)
-  refused err (inr (same, inl (inr (inl (is, inr cut))))) = absurd (held_whole (layout_in b g) (info_in b g) b (holds_in_form b g second) cut)
-  refused err (inr (same, inl (inr (inr (is, inl bad))))) = absurd (held_well (layout_in a f) (info_in a f) a (holds_in_form a f first) bad)
-  refused err (inr (same, inl (inr (inr (is, inr bad))))) = absurd (held_well (layout_in b g) (info_in b g) b (holds_in_form b g second) bad)
+  refused err (inr (same, inl (inr (inl (is, inl cut))))) = absurd (held_whole (layout_in a f) (info_in a f) a (holds_in_form a f first f_files) cut)
+  refused err (inr (same, inl (inr (inl (is, inr cut))))) = absurd (held_whole (layout_in b g) (info_in b g) b (holds_in_form b g second g_files) cut)
+  refused err (inr (same, inl (inr (inr (is, inl bad))))) = absurd (held_well (layout_in a f) (info_in a f) a (holds_in_form a f first f_files) bad)
+  refused err (inr (same, inl (inr (inr (is, inr bad))))) = absurd (held_well (layout_in b g) (info_in b g) b (holds_in_form b g second g_files) bad)
   refused err (inr (same, inr (is, none))) = inr (is, λ few. no_union few none)
 
   pub refused_union : (err : CoreError) → BytesRefusal (layout_in a f) (layout_in b g) err → (err ≡ OutOfMemory) ⊎ (IsInvalidShard err × (¬ HasFewRows c))
@@ -216,14 +223,16 @@ expiry_fits : (expiry : Option ℕ) → IfSome expiry (λ e. e < 2 ^ 64) → (pl
 expiry_fits None fits = omega arith
 expiry_fits (Some e) fits = fits
 
-pub plain_fits : (expiry : Option ℕ) → IfSome expiry (λ e. e < 2 ^ 64) → FitsForm (plain_form expiry)
-plain_fits expiry fits = record {
+pub plain_fits : (version : FormatVersion) (expiry : Option ℕ) → IfSome expiry (λ e. e < 2 ^ 64) → FitsForm (plain_form_in version expiry)
+plain_fits version expiry fits = record {
   key = record { word0 = omega arith; word1 = omega arith; word2 = omega arith; word3 = omega arith };
   creation = omega arith;
   expiry = expiry_fits expiry fits;
 }
 
-pub written_union : (a b c : Shard) (e f : Option ℕ) → IsShard a → IsShard b → IfSome e (λ n. n < 2 ^ 64) → IfSome f (λ n. n < 2 ^ 64) → ShardsAgree a b → IsUnion a b c
-    → (out : List ℕ) → UnitesBytes (layout a e) (layout b f) out → (out ≡ layout c None) × HasFewRows c
-written_union a b c e f first second e_fits f_fits agree union =
-    form_union a b c (plain_form e) (plain_form f) first second (plain_fits e e_fits) (plain_fits f f_fits) refl agree union
+-- of bytes of either version each
+pub written_union : (a b c : Shard) (x y : List ℕ) → IsShard a → IsShard b → AreSomeBytesOf a x → AreSomeBytesOf b y → ShardsAgree a b → IsUnion a b c
+    → (out : List ℕ) → UnitesBytes x y out → (out ≡ layout c None) × HasFewRows c
+written_union a b c x y first second (e, e_fits, one) (f, f_fits, other) agree union out unites =
+    form_union a b c (plain_form_in one.version e) (plain_form_in other.version f) first second (files_fit_in one.version a first one.files) (files_fit_in other.version b second other.files)
+    (plain_fits one.version e e_fits) (plain_fits other.version f f_fits) refl agree union out (subst (λ p. p) (λ k. UnitesBytes (one.bytes_are k) (other.bytes_are k) out) unites)

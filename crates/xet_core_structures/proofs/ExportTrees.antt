@@ -1,5 +1,9 @@
 -- Trees of unions over exports of shards write the export of their join, and keep runs of chunks.
 use Rattle.std.proofs.Common.{◌≡◌, ◌⊎◌, inl, inr, ℕ, zero, suc, ◌<◌, ◌≤◌, true, List, [], ◌∷◌, ◌++◌, ◌+◌, length, map, flat_map, get_or, drop, Option, None, Some, refl, sym, ap, ◌∙◌, subst, arith, append-nil}
+use Rattle.xet_shards.specs.InForm.{FitsSection}
+use Rattle.xet_shards.proofs.Loading.{header_of, one_version}
+use Rattle.xet_shards.specs.Ends.{HasHeader}
+use Rattle.xet_records.specs.declared.record_reader.FormatVersion.TheVariants.{V3}
 use Rattle.std.specs.Prelude.{◌↔◌, Contains, option_map}
 use Rattle.std.specs.FinMap.{FinMap, get, entries, values, get-entries}
 use Rattle.std.specs.Io.KnownBytes.{Appends}
@@ -20,14 +24,15 @@ use Rattle.xet_base.proofs.Bytes.{length-u64_bytes}
 use Rattle.xet_base.proofs.HashOrder.{hash_cmp-IsTotalOrder, hash_cmp-IsAntisymmetric}
 use Rattle.xet_records.specs.declared.file_structs.rows.FileDataSequenceEntry.{FileDataSequenceEntry}
 use Rattle.xet_records.specs.declared.xorb_structs.MDBXorbInfo.{MDBXorbInfo}
-use Rattle.xet_records.specs.FileRecord.{file_records}
+use Rattle.xet_records.specs.FileRecord.{file_records, file_records_in}
 use Rattle.xet_records.specs.XorbRecord.{xorb_records}
-use Rattle.xet_records.proofs.RecordKinds.{file_laws, xorb_laws}
+use Rattle.xet_records.proofs.RecordKinds.{xorb_laws, version_known}
 use Rattle.xet_shards.specs.declared.shard_format.footer.MDBShardFileFooter.{MDBShardFileFooter}
 use Rattle.xet_shards.specs.declared.shard_format.form.Form.{Form}
 use Rattle.xet_shards.specs.ChunkLookup.{ChunkLocation}
 use Rattle.xet_shards.specs.ChunkQuery.{run_at, run_length}
-use Rattle.xet_shards.specs.Layout.{if_in, layout_of, layout, header_value, shard_header_bytes, shard_footer_bytes, offsets_of, sums_of, footer_value}
+use Rattle.xet_shards.specs.Layout.{if_in, layout_of, header_value, shard_header_bytes, shard_footer_bytes, offsets_of, sums_of, footer_value, plain_form_in, layout_in as layout_in_version}
+use Rattle.xet_shards.specs.WrittenShard.{AreBytesOf}
 use Rattle.xet_shards.specs.Joins.{IsJoinOf, AgreePairwise}
 use Rattle.xet_shards.specs.KeyedExport.{exported, Exports, export_form, xorbs_after, keyed_chunk, keyed_xorb, keyed_xorbs}
 use Rattle.xet_shards.specs.KeyedShards.{keyed_shard}
@@ -41,8 +46,8 @@ use Rattle.xet_shards.proofs.FileUnions.{entry-holds}
 use Rattle.xet_shards.proofs.KeyedHashes.{keyed_total}
 use Rattle.xet_shards.proofs.KeyedShards.{keyed_is_shard, keyed_agree, keyed_join, exported_is, values-keyed, get-keyed, run_no_shorter}
 use Rattle.xet_shards.proofs.Layouts.{length-file_section}
-use Rattle.xet_shards.proofs.Readback.{section_of_shard, xorb_section_of_shard}
-use Rattle.xet_shards.proofs.Sections.{files_fit}
+use Rattle.xet_shards.proofs.Readback.{section_of_shard, xorb_section_of_shard, layout_from_48}
+use Rattle.xet_shards.proofs.Sections.{files_laws, files_fit, files_fit_in}
 use Rattle.xet_shards.proofs.SectionUnique.{only_list}
 use Rattle.xet_shards.proofs.Sums.{all_of_map}
 use Rattle.xet_core_structures.specs.declared.set_operations.MergePlan.{MergePlan}
@@ -51,12 +56,9 @@ use Rattle.xet_core_structures.specs.ByteResults.{keyed_form, keyed_layout}
 use Rattle.xet_core_structures.specs.ExportTrees.{AreExported, JoinsLeaves, run_under}
 use Rattle.xet_core_structures.specs.MergeTrees.{leaves, TreeWrites, TreeRefusal}
 use Rattle.xet_core_structures.proofs.ByteUnions.{layout_in}
-use Rattle.xet_core_structures.proofs.MergeTrees.{AreInputs, keyed_tree, tree_refused}
+use Rattle.xet_core_structures.proofs.MergeTrees.{mapped_member, AreInputs, keyed_tree, tree_refused}
 
--- members of a list that is mapped
-mapped_member : {X Y : Type 0} (f : X → Y) (xs : List X) (x : X) → Contains xs x → Contains (map f xs) (f x)
-mapped_member f xs x (k, within, is) = (k, omega (arith, within, length-map xs f), get_or-map f xs k x (f x) within ∙ ap f is)
-
+-- a member of a list that is mapped comes from one of the list
 unmapped_member : {X Y : Type 0} (f : X → Y) (xs : List X) (y : Y) → Contains (map f xs) y → (x : X) × Contains xs x × (f x ≡ y)
 unmapped_member f [] y (k, within, is) = absurd (omega (arith, within))
 unmapped_member f (x ∷ xs) y (zero, within, is) = (x, (0, omega arith, refl), is)
@@ -131,23 +133,25 @@ module _ (plan : MergePlan) (key : DataHash) (shard_at : ℕ → Shard) (join : 
         let export = exports leaf.0 leaf.1 in
         subst IsHash export.under export.fits.key
 
-    inputs_are : AreInputs inputs key key_fits keyed_at form_at plan
+    inputs_are : AreInputs inputs key key_fits keyed_at plan
     inputs_are i member =
         let export = exports i member in
         record {
+          form = form_at i;
           under = export.under;
+          files = subst (λ v. FitsSection (file_records_in v) (values (keyed_at i).files)) (sym export.version) (files_fit (keyed_at i) (agree_keyed.shards (keyed_at i) (mapped_member keyed_at (leaves plan) i member)));
           fits = export.fits;
           bytes = export.bytes ∙ ap Some (exported_is (shard_at i) (form_at i) export.files ∙ (λ k. layout_in (keyed_shard (export.under k) (shard_at i)) (form_at i)));
         }
 
     pub tree_of_exports : (out : List ℕ) → TreeWrites inputs plan out → out ≡ keyed_layout (keyed_shard key join) key
-    tree_of_exports out writes = (keyed_tree inputs key key_fits keyed_at form_at plan (keyed_shard key join) out joins.union inputs_are agree_keyed join_keyed writes).0
+    tree_of_exports out writes = (keyed_tree inputs key key_fits keyed_at plan (keyed_shard key join) out joins.union inputs_are agree_keyed join_keyed writes).0
 
     pub export_of_join : (out : List ℕ) → TreeWrites inputs plan out → out ≡ exported (values join.files) (values join.xorbs) (export_form key 0 18446744073709551615 true true true)
     export_of_join out writes = tree_of_exports out writes ∙ sym (exported_is join (keyed_form key) refl)
 
     pub exports_refused : (e : CoreError) → TreeRefusal inputs plan e → (e ≡ OutOfMemory) ⊎ (IsInvalidShard e × (¬ HasFewRows join))
-    exports_refused e refusal = elim (tree_refused inputs key key_fits keyed_at form_at plan (keyed_shard key join) e inputs_are agree_keyed join_keyed refusal) [
+    exports_refused e refusal = elim (tree_refused inputs key key_fits keyed_at plan (keyed_shard key join) e inputs_are agree_keyed join_keyed refusal) [
       | inl no_memory ↦ inl no_memory
       | inr many ↦ inr (many.0, λ few. many.1 (few_keyed few))
     ]
@@ -156,24 +160,35 @@ module _ (plan : MergePlan) (key : DataHash) (shard_at : ℕ → Shard) (join : 
 exported_in : (s : Shard) (form : Form) → exported (values s.files) (values s.xorbs) form ≡ layout_of (if_in form.file_table (values s.files)) (values (keyed_shard form.key s).xorbs) form
 exported_in s form = λ i. layout_of (if_in form.file_table (values s.files)) (sym (values-keyed form.key s) i) form
 
--- and that is what an export of the shard's bytes writes
-module _ (s : Shard) (expiry : Option ℕ) (shard : IsShard s) (form : Form) (old new : Source) (before after : Option (List ℕ)) (n : ℕ) (are : bytes_left old ≡ layout s expiry)
+-- and that is what an export of the shard's bytes writes, in whichever version they are
+module _ (s : Shard) (expiry : Option ℕ) (shard : IsShard s) (form : Form) (old new : Source) (before after : Option (List ℕ)) (n : ℕ) (are : AreBytesOf s expiry (bytes_left old))
     (exports : Exports form old new before after n) where
+  abbrev own_header : HasHeader (bytes_left old)
+  own_header = header_of (bytes_left old) _ (header_value are.version) (are.bytes_are ∙ layout_from_48 (values s.files) (values s.xorbs) (plain_form_in are.version expiry)) (are.version, refl)
+
+  section_in : IsSection (file_records_in are.version) (drop 48 (bytes_left old)) exports.files
+  section_in =
+      subst (λ v. IsSection (file_records_in v) (drop 48 (bytes_left old)) exports.files)
+      (one_version (bytes_left old) exports.header own_header ∙ version_known are.version) exports.file_section
+
   files_read : exports.files ≡ values s.files
   files_read =
-      only_list file_records file_laws (drop 48 (layout s expiry)) exports.files (values s.files)
-      (subst (λ bytes. IsSection file_records (drop 48 bytes) exports.files) are exports.file_section) (section_of_shard s expiry shard)
+      only_list (file_records_in are.version) (files_laws are.version) (drop 48 (layout_in_version are.version s expiry)) exports.files (values s.files)
+      (subst (λ bytes. IsSection (file_records_in are.version) (drop 48 bytes) exports.files) are.bytes_are section_in) (section_of_shard are.version s expiry (files_fit_in are.version s shard are.files))
 
   after_files : xorbs_after exports.files ≡ 48 + length (section_bytes file_records (values s.files))
   after_files = ap xorbs_after files_read ∙ omega (arith, length-file_section (values s.files) (λ k r below. ((files_fit s shard).stored k r below).widths))
 
   xorbs_read : exports.xorbs ≡ values s.xorbs
   xorbs_read =
-      only_list xorb_records xorb_laws (drop (48 + length (section_bytes file_records (values s.files))) (layout s expiry)) exports.xorbs (values s.xorbs)
-      (subst (λ bytes. IsSection xorb_records bytes exports.xorbs) (λ i. drop (after_files i) (are i)) exports.xorb_section) (xorb_section_of_shard s expiry shard)
+      only_list xorb_records xorb_laws (drop (48 + length (section_bytes file_records (values s.files))) (layout_in_version are.version s expiry)) exports.xorbs (values s.xorbs)
+      (subst (λ bytes. IsSection xorb_records bytes exports.xorbs) (λ i. drop (after_files i) (are.bytes_are i)) exports.xorb_section) (xorb_section_of_shard are.version s expiry shard)
+
+  pub export_of_bytes : Appends before after (exported (values s.files) (values s.xorbs) form)
+  export_of_bytes = subst (Appends before after) (λ i. exported (files_read i) (xorbs_read i) form) exports.written
 
   pub export_written : Appends before after (layout_of (if_in form.file_table (values s.files)) (values (keyed_shard form.key s).xorbs) form)
-  export_written = subst (Appends before after) ((λ i. exported (files_read i) (xorbs_read i) form) ∙ exported_in s form) exports.written
+  export_written = subst (Appends before after) (exported_in s form) export_of_bytes
 
 -- what an option that is mapped has
 mapped_some : {X Y : Type 0} (f : X → Y) (o : Option X) (y : Y) → option_map f o ≡ Some y → (x : X) × (o ≡ Some x) × (f x ≡ y)
@@ -265,7 +280,7 @@ module _ (s : Shard) (key : DataHash) where
   abbrev before_footer : List ℕ
   before_footer =
       let xorbs = keyed_xorbs key (values s.xorbs) in
-      ((((shard_header_bytes header_value ++ section_bytes file_records (values s.files)) ++ section_bytes xorb_records xorbs) ++ table_bytes file_records (values s.files))
+      ((((shard_header_bytes (header_value V3) ++ section_bytes file_records (values s.files)) ++ section_bytes xorb_records xorbs) ++ table_bytes file_records (values s.files))
       ++ table_bytes xorb_records xorbs)
       ++ chunk_table_bytes xorbs
 

@@ -11,21 +11,22 @@ use Rattle.std.proofs.lemmas.List.Sums.{sum_by-cons}
 use Rattle.xet_base.specs.declared.merklehash.DataHash.{DataHash}
 use Rattle.xet_base.specs.Hash.{hash_cmp}
 use Rattle.xet_records.specs.RecordKind.{RecordKind}
-use Rattle.xet_records.specs.FileRecord.{file_records}
+use Rattle.xet_records.specs.FileRecord.{file_records_in}
+use Rattle.xet_records.specs.Version.{version_of}
 use Rattle.xet_records.specs.XorbRecord.{xorb_records}
-use Rattle.xet_records.proofs.RecordKinds.{KindLaws, file_laws, xorb_laws}
+use Rattle.xet_records.proofs.RecordKinds.{KindLaws, xorb_laws, version_known}
 use Rattle.xet_shards.specs.declared.shard_format.info.MDBShardInfo.{MDBShardInfo}
-use Rattle.xet_shards.specs.InForm.{Ascends}
+use Rattle.xet_shards.specs.InForm.{FitsSection, Ascends}
 use Rattle.xet_shards.specs.declared.shard_format.form.Form.{Form}
 use Rattle.xet_shards.specs.Layout.{layout_of, info_of}
 use Rattle.xet_shards.specs.Section.{total_rows}
-use Rattle.xet_shards.specs.SectionReading.{PassesRows, IsCutSection}
+use Rattle.xet_shards.specs.SectionReading.{files_of, PassesRows, IsCutSection}
 use Rattle.xet_shards.specs.Shard.{Shard, IsShard}
 use Rattle.xet_shards.proofs.Files.{well_formed_values}
 use Rattle.xet_shards.proofs.Maps.{rising_keys}
 use Rattle.xet_shards.proofs.Readback.{handed_same, file_section_in, xorb_section_in}
 use Rattle.xet_shards.proofs.SameBytes.{same_values}
-use Rattle.xet_shards.proofs.Sections.{files_fit, xorbs_fit}
+use Rattle.xet_shards.proofs.Sections.{xorbs_fit, files_laws}
 use Rattle.xet_shards.proofs.SectionUnique.{only_list, first_of_section, section_or_passes, section_or_cut}
 use Rattle.xet_core_structures.specs.Held.{FrontFalls, IsSectionOf, files_at, xorbs_at, Holds, IsCut, IsBad}
 
@@ -91,18 +92,18 @@ module _ {H R : Type 0} (K : RecordKind H R) (laws : KindLaws K) where
 module _ (bytes : List ℕ) (info : MDBShardInfo) (s : Shard) (holds : Holds bytes info s) where
   pub held_once : (t : Shard) → Holds bytes info t → t ≡ s
   held_once t other =
-      let files = one_map file_records file_laws (files_at bytes info) s.files holds.files t.files other.files in
+      let files = one_map (files_of info) (files_laws (version_of info.header.version)) (files_at bytes info) s.files holds.files t.files other.files in
       let xorbs = one_map xorb_records xorb_laws (xorbs_at bytes info) s.xorbs holds.xorbs t.xorbs other.xorbs in
       λ i. record { files = files i; xorbs = xorbs i }
 
   pub held_whole : ¬ IsCut bytes info
-  held_whole (inl files) = not_cut file_records file_laws (files_at bytes info) s.files holds.files files
+  held_whole (inl files) = not_cut (files_of info) (files_laws (version_of info.header.version)) (files_at bytes info) s.files holds.files files
   held_whole (inr xorbs) = not_cut xorb_records xorb_laws (xorbs_at bytes info) s.xorbs holds.xorbs xorbs
 
   pub held_well : ¬ IsBad bytes info
-  held_well (inl files) = not_passing file_records file_laws (files_at bytes info) s.files holds.files files
+  held_well (inl files) = not_passing (files_of info) (files_laws (version_of info.header.version)) (files_at bytes info) s.files holds.files files
   held_well (inr (inl xorbs)) = not_passing xorb_records xorb_laws (xorbs_at bytes info) s.xorbs holds.xorbs xorbs
-  held_well (inr (inr (inl files))) = not_falling file_records file_laws (files_at bytes info) s.files holds.files files
+  held_well (inr (inr (inl files))) = not_falling (files_of info) (files_laws (version_of info.header.version)) (files_at bytes info) s.files holds.files files
   held_well (inr (inr (inr xorbs))) = not_falling xorb_records xorb_laws (xorbs_at bytes info) s.xorbs holds.xorbs xorbs
 
 -- the bytes of a shard hold it
@@ -110,15 +111,15 @@ same_xorbs : {X : Type 0} (xs : List X) → map (λ x. x) xs ≡ xs
 same_xorbs [] = refl
 same_xorbs (x ∷ xs) = ap (λ ys. x ∷ ys) (same_xorbs xs)
 
-module _ (s : Shard) (form : Form) (shard : IsShard s) where
+module _ (s : Shard) (form : Form) (shard : IsShard s) (fits : FitsSection (file_records_in form.version) (values s.files)) where
   pub holds_in_form : Holds (layout_of (values s.files) (values s.xorbs) form) (info_of (values s.files) (values s.xorbs) form) s
   holds_in_form = record {
-    files = record {
+    files = subst (λ v. IsSectionOf (file_records_in v) (files_at (layout_of (values s.files) (values s.xorbs) form) (info_of (values s.files) (values s.xorbs) form)) s.files) (sym (version_known form.version)) (record {
       stored = values s.files;
-      section = file_section_in (values s.files) (values s.xorbs) form (files_fit s shard);
+      section = file_section_in (values s.files) (values s.xorbs) form fits;
       handed = handed_same (values s.files) (well_formed_values (entries s.files) shard.files);
       keyed = shard.files.keyed;
-    };
+    });
     xorbs = record {
       stored = values s.xorbs;
       section = xorb_section_in (values s.files) (values s.xorbs) form (xorbs_fit s shard);

@@ -12,6 +12,7 @@ pub mod MinimalAgain
 pub mod MixWriting
 pub mod Mixing
 pub mod OneResult
+pub mod OneSection
 pub mod Operating
 pub mod Pairs
 pub mod Readable

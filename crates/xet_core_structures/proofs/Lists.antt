@@ -5,12 +5,14 @@ use Rattle.xet_records.specs.declared.file_structs.MDBFileInfo.{MDBFileInfo}
 use Rattle.xet_records.specs.declared.xorb_structs.MDBXorbInfo.{MDBXorbInfo}
 use Rattle.xet_records.specs.RecordKind.{RecordKind}
 use Rattle.xet_records.specs.FileRecord.{file_records}
+use Rattle.xet_records.specs.Version.{version_of}
 use Rattle.xet_records.specs.XorbRecord.{xorb_records}
-use Rattle.xet_records.proofs.RecordKinds.{KindLaws, file_laws, xorb_laws}
+use Rattle.xet_records.proofs.RecordKinds.{KindLaws, xorb_laws}
 use Rattle.xet_shards.specs.declared.shard_format.info.MDBShardInfo.{MDBShardInfo}
 use Rattle.xet_shards.specs.InForm.{Ascends}
-use Rattle.xet_shards.specs.SectionReading.{IsSection, ReadsSection}
+use Rattle.xet_shards.specs.SectionReading.{files_of, IsSection, ReadsSection}
 use Rattle.xet_shards.specs.Section.{total_rows}
+use Rattle.xet_shards.proofs.Sections.{files_laws}
 use Rattle.xet_core_structures.specs.Held.{IsListOf, xorbs_at, HoldsLists, ReadsSections}
 use Rattle.xet_core_structures.proofs.Held.{rows_handed}
 use Rattle.xet_core_structures.proofs.Handed.{all_handed}
@@ -30,7 +32,7 @@ module _ {H R : Type 0} (K : RecordKind H R) (laws : KindLaws K) (old new : Sour
 
 -- both sections of an input, one after the other
 module _ (old mid new : Source) (info : MDBShardInfo) (files : List MDBFileInfo) (xorbs : List MDBXorbInfo)
-    (read : ReadsSection file_records old mid info.metadata.file_info_offset files) (further : ReadsSection xorb_records mid new info.metadata.xorb_info_offset xorbs) where
+    (read : ReadsSection (files_of info) old mid info.metadata.file_info_offset files) (further : ReadsSection xorb_records mid new info.metadata.xorb_info_offset xorbs) where
   same_bytes : mid.bytes ≡ old.bytes
   same_bytes = ap (λ (s : Source). s.bytes) read.after
 
@@ -46,7 +48,7 @@ module _ (old mid new : Source) (info : MDBShardInfo) (files : List MDBFileInfo)
 
   pub lists_read : Ascends file_records files → Ascends xorb_records xorbs → HoldsLists old.bytes info files xorbs
   lists_read files_ascend xorbs_ascend = record {
-    files = list_read file_records file_laws old mid info.metadata.file_info_offset files read files_ascend;
+    files = list_read (files_of info) (files_laws (version_of info.header.version)) old mid info.metadata.file_info_offset files read files_ascend;
     xorbs = subst (λ bytes. IsListOf xorb_records (xorbs_at bytes info) xorbs) same_bytes
         (list_read xorb_records xorb_laws mid new info.metadata.xorb_info_offset xorbs further xorbs_ascend);
   }

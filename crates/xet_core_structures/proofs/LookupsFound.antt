@@ -1,5 +1,8 @@
 -- File lookups on the bytes of a shard under a key find its files, and so do those on the bytes of a tree of unions.
-use Rattle.std.proofs.Common.{◌≡◌, ℕ, ◌^◌, ◌<◌, List, Option, Ok, Err, IfSome, refl, sym, subst, arith}
+use Rattle.std.proofs.Common.{◌≡◌, ℕ, ◌^◌, ◌<◌, List, Option, Ok, Err, IfSome, refl, sym, subst, arith, ap}
+use Rattle.xet_shards.proofs.Sections.{files_laws}
+use Rattle.xet_shards.specs.SectionReading.{files_of}
+use Rattle.xet_records.specs.Version.{version_of}
 use Rattle.std.specs.Prelude.{MatchResult}
 use Rattle.std.specs.FinMap.{values}
 use Rattle.std.specs.declared.result.Result.{Result}
@@ -7,21 +10,21 @@ use Rattle.xet_base.specs.declared.error.CoreError.{CoreError}
 use Rattle.xet_base.specs.declared.merklehash.DataHash.{DataHash}
 use Rattle.xet_base.specs.Source.{Source}
 use Rattle.xet_records.specs.declared.file_structs.MDBFileInfo.{MDBFileInfo}
-use Rattle.xet_records.specs.FileRecord.{file_records}
+use Rattle.xet_records.specs.FileRecord.{file_records, file_records_in}
 use Rattle.xet_records.specs.XorbRecord.{xorb_records}
 use Rattle.xet_records.proofs.RecordKinds.{file_laws}
 use Rattle.xet_shards.specs.declared.shard_format.info.MDBShardInfo.{MDBShardInfo}
 use Rattle.xet_shards.specs.Ends.{FitsFooter, HasEnds, Loads}
-use Rattle.xet_shards.specs.Layout.{layout, plain_form, info_value}
-use Rattle.xet_shards.specs.Lookup.{FoundInShard, LookupFailsAmong}
+use Rattle.xet_shards.specs.Layout.{layout, plain_form, info_value, plain_form_in}
+use Rattle.xet_shards.specs.Lookup.{FoundInShard, LookupFailsAmong, LooksUpRecord, file_table}
 use Rattle.xet_shards.specs.SetOperations.{IsDifference}
 use Rattle.xet_shards.specs.Shard.{Shard, IsShard}
 use Rattle.xet_shards.specs.Tables.{hash_in}
 use Rattle.xet_shards.specs.WrittenShard.{IsWritten}
 use Rattle.xet_shards.proofs.EndsUnique.{only_info, ends_of_layout}
-use Rattle.xet_shards.proofs.InForm.{no_file, files_in, shard_in_form, files_ascend}
+use Rattle.xet_shards.proofs.InForm.{no_file, files_in, shard_in_form, files_ascend, files_of_shard}
 use Rattle.xet_shards.proofs.MapAnswers.{map_answers}
-use Rattle.xet_shards.proofs.ShardLookups.{lookup_written}
+use Rattle.xet_shards.proofs.ShardLookups.{lookup_written, bounds_ever}
 use Rattle.xet_shards.proofs.TableLookups.{IsLookedUp, answered, not_answered, lookup_bounded, collision_bounded}
 use Rattle.xet_shards.proofs.TableOrder.{hashes_ascend}
 use Rattle.xet_shards.proofs.Widths.{fits_written, fits_in_form}
@@ -38,7 +41,17 @@ module _ (key : DataHash) (s : Shard) (info : MDBShardInfo) (old : Source) (is :
   looked : let footer = info.metadata in IsLookedUp file_records no_file (values s.files) footer.file_info_offset footer.file_lookup_offset footer.file_lookup_num_entry old
   looked = files_in (values s.files) (values s.xorbs) (keyed_form key) old info.metadata is.in_form is.files_ascend refl
 
-  found_answer : (hash : DataHash) (new : Source) (found : Result (Option MDBFileInfo) CoreError) → LooksUpFile info hash old new found
+  -- the header is that of the bytes, so files are read in version 3
+  info_is : info ≡ keyed_info s key
+  info_is = only_info old.bytes info (keyed_info s key) is.ends (subst (λ bytes. HasEnds bytes (keyed_info s key)) (sym is.in_form.bytes_are)
+      (ends_of_layout (values s.files) (values s.xorbs) (keyed_form key) (subst FitsFooter is.in_form.footer_is is.ends.footer_widths)))
+
+  looks_in_3 : (hash : DataHash) (new : Source) (found : Result (Option MDBFileInfo) CoreError) → LooksUpFile info hash old new found
+      → LooksUpRecord file_records (file_table info.metadata old) info.metadata.file_info_offset hash old new found
+  looks_in_3 hash new found looks =
+      subst (λ v. LooksUpRecord (file_records_in v) (file_table info.metadata old) info.metadata.file_info_offset hash old new found) (ap (λ (k : MDBShardInfo). version_of k.header.version) info_is) looks
+
+  found_answer : (hash : DataHash) (new : Source) (found : Result (Option MDBFileInfo) CoreError) → LooksUpRecord file_records (file_table info.metadata old) info.metadata.file_info_offset hash old new found
       → MatchResult found (FoundInShard s hash) (LookupFailsAmong file_records (values s.files) hash old new)
   found_answer hash new (Ok answer) looks =
       let among = answered file_records file_laws no_file (values s.files) _ _ _ old looked hash new answer looks.read in
@@ -47,9 +60,9 @@ module _ (key : DataHash) (s : Shard) (info : MDBShardInfo) (old : Source) (is :
 
   pub found_under : (hash : DataHash) (new : Source) (found : Result (Option MDBFileInfo) CoreError) → LooksUpFile info hash old new found → FindsInShard s hash old new found
   found_under hash new found looks = record {
-    answer = found_answer hash new found looks;
-    costs = lookup_bounded file_records file_laws no_file (values s.files) _ _ _ old looked new hash found looks;
-    collision = collision_bounded file_records file_laws no_file (values s.files) _ _ _ old looked new hash found looks;
+    answer = found_answer hash new found (looks_in_3 hash new found looks);
+    costs = lookup_bounded file_records file_laws no_file (values s.files) _ _ _ old looked new hash found (looks_in_3 hash new found looks);
+    collision = collision_bounded file_records file_laws no_file (values s.files) _ _ _ old looked new hash found (looks_in_3 hash new found looks);
   }
 
   -- header and footer are read as they were returned
@@ -97,14 +110,18 @@ tree_under inputs (Both' p left q right) out union (x, y, x_written, y_written, 
 
 -- the bytes of a shard without a key
 module _ (s : Shard) (expiry : Option ℕ) (old : Source) (info : MDBShardInfo) (written : IsWritten s expiry old.bytes info) where
-  plain : let footer = info.metadata in IsLookedUp file_records no_file (values s.files) footer.file_info_offset footer.file_lookup_offset footer.file_lookup_num_entry old
-  plain = files_in (values s.files) (values s.xorbs) (plain_form expiry) old info.metadata (shard_in_form written) (files_ascend s written.shard) refl
+  plain : let footer = info.metadata in IsLookedUp (files_of info) no_file (values s.files) footer.file_info_offset footer.file_lookup_offset footer.file_lookup_num_entry old
+  plain =
+      let footer = info.metadata in
+      subst (λ v. IsLookedUp (file_records_in v) no_file (values s.files) footer.file_info_offset footer.file_lookup_offset footer.file_lookup_num_entry old) (sym (files_of_shard written).version)
+      (files_in (values s.files) (values s.xorbs) (plain_form_in written.version expiry) old info.metadata (shard_in_form written) (files_ascend s written.shard) refl)
 
   pub found_in_layout : (hash : DataHash) (new : Source) (found : Result (Option MDBFileInfo) CoreError) → LooksUpFile info hash old new found → FindsInShard s hash old new found
   found_in_layout hash new found looks = record {
-    answer = lookup_written s written.shard _ _ _ old plain new hash found looks;
-    costs = lookup_bounded file_records file_laws no_file (values s.files) _ _ _ old plain new hash found looks;
-    collision = collision_bounded file_records file_laws no_file (values s.files) _ _ _ old plain new hash found looks;
+    answer = lookup_written s written.shard (version_of info.header.version) _ _ _ old plain new hash found looks;
+    costs = bounds_ever file_records (version_of info.header.version) (values s.files) _ _ _
+        (lookup_bounded (files_of info) (files_laws (version_of info.header.version)) no_file (values s.files) _ _ _ old plain new hash found looks);
+    collision = collision_bounded (files_of info) (files_laws (version_of info.header.version)) no_file (values s.files) _ _ _ old plain new hash found looks;
   }
 
 pub loaded_layout : (s : Shard) (expiry : Option ℕ) (old new : Source) (found : MDBShardInfo) → IsShard s → IfSome expiry (λ n. n < 2 ^ 64) → old.bytes ≡ layout s expiry → Loads old new found

@@ -1,10 +1,14 @@
 -- A tree of unions over the bytes of shards that agree pairwise, in forms with one key, writes the layout of their join
 -- under this key.
 use Rattle.std.proofs.Common.{◌≡◌, ◌⊎◌, inl, inr, ℕ, List, [], ◌∷◌, ◌++◌, map, Option, None, Some, Ok, Err, refl, sym, ap, ◌∙◌, subst, arith}
+use Rattle.xet_shards.proofs.Sections.{files_fit, files_fit_in}
+use Rattle.std.specs.FinMap.{values}
+use Rattle.xet_records.specs.FileRecord.{file_records_in}
+use Rattle.xet_shards.specs.InForm.{FitsSection}
 use Rattle.std.specs.Prelude.{Contains, MatchResult, slice_get}
 use Rattle.std.specs.declared.result.Result.{Result}
 use Rattle.std.specs.declared.vec.Vec.{Vec}
-use Rattle.std.proofs.lemmas.List.{map-append}
+use Rattle.std.proofs.lemmas.List.{map-append, length-map, get_or-map}
 use Rattle.std.proofs.lemmas.List.Elements.{Contains-push, Contains-append_left, Contains-append_right}
 use Rattle.std.proofs.lemmas.Option.{same_Some, none-some, slice_get_past}
 use Rattle.xet_base.specs.declared.error.CoreError.{CoreError}
@@ -14,7 +18,7 @@ use Rattle.xet_base.specs.Errors.{IsInvalidShard}
 use Rattle.xet_base.specs.Hash.{IsHash}
 use Rattle.xet_base.specs.KeyedHash.{no_key}
 use Rattle.xet_shards.specs.declared.shard_format.form.Form.{Form}
-use Rattle.xet_shards.specs.Layout.{layout, plain_form}
+use Rattle.xet_shards.specs.Layout.{layout, plain_form_in}
 use Rattle.xet_shards.specs.Joins.{IsJoinOf, AgreePairwise}
 use Rattle.xet_shards.specs.SetOperations.{HasFewRows}
 use Rattle.xet_shards.specs.Shard.{Shard, IsShard}
@@ -27,32 +31,39 @@ use Rattle.xet_core_structures.specs.ExportTrees.{FitsForm}
 use Rattle.xet_core_structures.specs.MergeTrees.{leaves, HasUnion, TreeWrites, TreeRefusal, AtLeaves, AreWritten}
 use Rattle.xet_core_structures.proofs.ByteUnions.{layout_in, form_union, refused_union, plain_fits}
 
+-- a member of a list is one of the list that is mapped
+pub mapped_member : {X Y : Type 0} (f : X → Y) (xs : List X) (x : X) → Contains xs x → Contains (map f xs) (f x)
+mapped_member f xs x (k, within, is) = (k, omega (arith, within, length-map xs f), get_or-map f xs k x (f x) within ∙ ap f is)
+
 -- the bytes of a shard in a form with this key
 record IsLayout (key : DataHash) (out : List ℕ) (c : Shard) (form : Form) : Type 0 where
   pub shard : IsShard c
   pub under : form.key ≡ key
+  pub files : FitsSection (file_records_in form.version) (values c.files)
   pub fits : FitsForm form
   pub bytes : out ≡ layout_in c form
 
--- the input at an index is such bytes
-pub record IsInputAt (inputs : List (List ℕ)) (key : DataHash) (i : ℕ) (s : Shard) (form : Form) : Type 0 where
+-- the input at an index is such bytes, in some form
+pub record IsInputAt (inputs : List (List ℕ)) (key : DataHash) (i : ℕ) (s : Shard) : Type 0 where
+  pub form : Form
   pub under : form.key ≡ key
+  pub files : FitsSection (file_records_in form.version) (values s.files)
   pub fits : FitsForm form
   pub bytes : slice_get inputs i ≡ Some (layout_in s form)
 
-module _ (inputs : List (List ℕ)) (key : DataHash) (key_fits : IsHash key) (shard_at : ℕ → Shard) (form_at : ℕ → Form) where
+module _ (inputs : List (List ℕ)) (key : DataHash) (key_fits : IsHash key) (shard_at : ℕ → Shard) where
   -- the inputs at all leaves are
   abbrev pub AreInputs : MergePlan → Type 0
-  AreInputs plan = (i : ℕ) → Contains (leaves plan) i → IsInputAt inputs key i (shard_at i) (form_at i)
+  AreInputs plan = (i : ℕ) → Contains (leaves plan) i → IsInputAt inputs key i (shard_at i)
 
   abbrev shards : MergePlan → List Shard
   shards plan = map shard_at (leaves plan)
 
-  written_left : (left right : MergePlan) (xs ys : List ℕ) → leaves left ≡ xs → leaves right ≡ ys → ((i : ℕ) → Contains (xs ++ ys) i → IsInputAt inputs key i (shard_at i) (form_at i))
+  written_left : (left right : MergePlan) (xs ys : List ℕ) → leaves left ≡ xs → leaves right ≡ ys → ((i : ℕ) → Contains (xs ++ ys) i → IsInputAt inputs key i (shard_at i))
       → AreInputs left
   written_left left right xs ys is _ all i member = all i (Contains-append_left xs ys i (subst (λ zs. Contains zs i) is member))
 
-  written_right : (left right : MergePlan) (xs ys : List ℕ) → leaves left ≡ xs → leaves right ≡ ys → ((i : ℕ) → Contains (xs ++ ys) i → IsInputAt inputs key i (shard_at i) (form_at i))
+  written_right : (left right : MergePlan) (xs ys : List ℕ) → leaves left ≡ xs → leaves right ≡ ys → ((i : ℕ) → Contains (xs ++ ys) i → IsInputAt inputs key i (shard_at i))
       → AreInputs right
   written_right left right xs ys _ is all i member = all i (Contains-append_right xs ys i (subst (λ zs. Contains zs i) is member))
 
@@ -86,11 +97,13 @@ module _ (inputs : List (List ℕ)) (key : DataHash) (key_fits : IsHash key) (sh
     both_written a b f g x y out one other first second unites =
         let union = union-of_joins (shards left) (shards right) a b one other agree_parted c join_parted in
         let pair = lists_agree (shards left) (shards right) a b one other agree_parted in
-        let written = form_union a b c f g first.shard second.shard first.fits second.fits (first.under ∙ sym second.under) pair union out
+        let written = form_union a b c f g first.shard second.shard first.files second.files first.fits second.fits (first.under ∙ sym second.under) pair union out
         (subst (λ p. p) (λ k. UnitesBytes (first.bytes k) (second.bytes k) out) unites) in
+        let shard = union_is_shard a b c first.shard second.shard pair union written.1 in
         record {
-          shard = union_is_shard a b c first.shard second.shard pair union written.1;
+          shard = shard;
           under = refl;
+          files = files_fit c shard;
           fits = record { key = key_fits; creation = omega arith; expiry = omega arith };
           bytes = written.0 ∙ ap (keyed_layout c) first.under;
         }
@@ -98,7 +111,7 @@ module _ (inputs : List (List ℕ)) (key : DataHash) (key_fits : IsHash key) (sh
     both_refused : (a b : Shard) (f g : Form) (x y : List ℕ) (err : CoreError) → IsJoinOf (AtLeaves left shard_at) a → IsJoinOf (AtLeaves right shard_at) b
         → IsLayout key x a f → IsLayout key y b g → BytesRefusal x y err → (err ≡ OutOfMemory) ⊎ (IsInvalidShard err × (¬ HasFewRows c))
     both_refused a b f g x y err one other first second refusal =
-        refused_union a b c f g first.shard second.shard first.fits second.fits (first.under ∙ sym second.under) (lists_agree (shards left) (shards right) a b one other agree_parted)
+        refused_union a b c f g first.shard second.shard first.files second.files first.fits second.fits (first.under ∙ sym second.under) (lists_agree (shards left) (shards right) a b one other agree_parted)
         (union-of_joins (shards left) (shards right) a b one other agree_parted c join_parted) err
         (subst (λ p. p) (λ k. BytesRefusal (first.bytes k) (second.bytes k) err) refusal)
 
@@ -109,12 +122,13 @@ module _ (inputs : List (List ℕ)) (key : DataHash) (key_fits : IsHash key) (sh
       let here = written i (Contains-push [] i) in
       let shard = agree.shards (shard_at i) (Contains-push [] (shard_at i)) in
       let same = join-unique (Contains (shard_at i ∷ [])) (shard_at i) c (join-one (shard_at i) (follows_parts (shard_at i) shard)) join in (
-        form_at i,
+        here.form,
         record {
           shard = subst IsShard same shard;
           under = here.under;
+          files = subst (λ (s : Shard). FitsSection (file_records_in here.form.version) (values s.files)) same here.files;
           fits = here.fits;
-          bytes = same_Some out (layout_in (shard_at i) (form_at i)) (sym is ∙ here.bytes) ∙ ap (λ s. layout_in s (form_at i)) same;
+          bytes = same_Some out (layout_in (shard_at i) here.form) (sym is ∙ here.bytes) ∙ ap (λ s. layout_in s here.form) same;
         },
         λ none. absurd none,
       )
@@ -129,7 +143,7 @@ module _ (inputs : List (List ℕ)) (key : DataHash) (key_fits : IsHash key) (sh
   pub tree_refused : (plan : MergePlan) (c : Shard) (err : CoreError) → AreInputs plan → AgreePairwise (AtLeaves plan shard_at) → IsJoinOf (AtLeaves plan shard_at) c
       → TreeRefusal inputs plan err → (err ≡ OutOfMemory) ⊎ (IsInvalidShard err × (¬ HasFewRows c))
   tree_refused (Leaf i) c err written agree join (inl (is, past)) =
-      absurd (none-some (layout_in (shard_at i) (form_at i)) (sym (slice_get_past inputs i past) ∙ (written i (Contains-push [] i)).bytes))
+      let here = written i (Contains-push [] i) in absurd (none-some (layout_in (shard_at i) here.form) (sym (slice_get_past inputs i past) ∙ here.bytes))
   tree_refused (Leaf i) c err written agree join (inr (no_memory, here)) = inl no_memory
   tree_refused (Both' p left q right) c err written agree join (inl refusal) =
       let l = joins_exist (shards left) (agree_l left right c agree join) in
@@ -161,21 +175,25 @@ module _ (inputs : List (List ℕ)) (shard_at : ℕ → Shard) (expiry_at : ℕ 
   no_key_fits : IsHash no_key
   no_key_fits = record { word0 = omega arith; word1 = omega arith; word2 = omega arith; word3 = omega arith }
 
-  abbrev form_at : ℕ → Form
-  form_at i = plain_form (expiry_at i)
-
-  plain_inputs : (plan : MergePlan) → AreWritten inputs plan shard_at expiry_at → AreInputs inputs no_key no_key_fits shard_at form_at plan
-  plain_inputs plan written i member =
+  plain_inputs : (plan : MergePlan) → AgreePairwise (AtLeaves plan shard_at) → AreWritten inputs plan shard_at expiry_at → AreInputs inputs no_key no_key_fits shard_at plan
+  plain_inputs plan agree written i member =
       let here = written i member in
-      record { under = refl; fits = plain_fits (expiry_at i) here.0; bytes = here.1 }
+      let bytes = here.3 in
+      record {
+        form = plain_form_in bytes.version (expiry_at i);
+        under = refl;
+        files = files_fit_in bytes.version (shard_at i) (agree.shards (shard_at i) (mapped_member shard_at (leaves plan) i member)) bytes.files;
+        fits = plain_fits bytes.version (expiry_at i) here.0;
+        bytes = here.2 ∙ ap Some bytes.bytes_are;
+      }
 
   pub one_layout : (plan : MergePlan) (c : Shard) (out : List ℕ) → HasUnion plan → AreWritten inputs plan shard_at expiry_at
       → AgreePairwise (AtLeaves plan shard_at) → IsJoinOf (AtLeaves plan shard_at) c → TreeWrites inputs plan out → (out ≡ layout c None) × IsShard c
-  one_layout plan c out union written agree join writes = keyed_tree inputs no_key no_key_fits shard_at form_at plan c out union (plain_inputs plan written) agree join writes
+  one_layout plan c out union written agree join writes = keyed_tree inputs no_key no_key_fits shard_at plan c out union (plain_inputs plan agree written) agree join writes
 
   pub one_string : {Z : Type 0} (plan : MergePlan) (c : Shard) (result : Result (Vec ℕ Z) CoreError) → HasUnion plan → AreWritten inputs plan shard_at expiry_at
       → AgreePairwise (AtLeaves plan shard_at) → IsJoinOf (AtLeaves plan shard_at) c
       → MatchResult result (λ bytes. TreeWrites inputs plan bytes.items) (TreeRefusal inputs plan)
       → MatchResult result (λ bytes. (bytes.items ≡ layout c None) × IsShard c) (λ e. (e ≡ OutOfMemory) ⊎ (IsInvalidShard e × (¬ HasFewRows c)))
   one_string plan c (Ok bytes) union written agree join writes = one_layout plan c bytes.items union written agree join writes
-  one_string plan c (Err e) union written agree join refusal = tree_refused inputs no_key no_key_fits shard_at form_at plan c e (plain_inputs plan written) agree join refusal
+  one_string plan c (Err e) union written agree join refusal = tree_refused inputs no_key no_key_fits shard_at plan c e (plain_inputs plan agree written) agree join refusal

@@ -1,5 +1,7 @@
 -- Minimal shards that are read from the bytes that were written of them.
 use Rattle.std.proofs.Common.{◌≡◌, ◌≢◌, ℕ, ◌+◌, Bool, true, false, List, [], ◌∷◌, ◌++◌, map, flat_map, Option, None, Some, refl, sym, ap, ◌∙◌, subst, arith}
+use Rattle.xet_shards.proofs.Loading.{header_of, one_version}
+use Rattle.xet_records.specs.Version.{version_of}
 use Rattle.std.specs.Prelude.{All, ◌&&◌, not, if◌then◌else◌}
 use Rattle.std.specs.Io.KnownBytes.{Consumes}
 use Rattle.std.specs.List.{enumerate_from}
@@ -14,12 +16,12 @@ use Rattle.xet_records.specs.declared.file_structs.MDBFileInfo.{MDBFileInfo}
 use Rattle.xet_records.specs.declared.xorb_structs.MDBXorbInfo.{MDBXorbInfo}
 use Rattle.xet_records.specs.declared.xorb_structs.XorbChunkSequenceEntry.{XorbChunkSequenceEntry}
 use Rattle.xet_records.specs.RecordKind.{RecordKind, KindLaws}
-use Rattle.xet_records.specs.FileRecord.{file_records, has_verification, has_metadata_ext, FitsItsHeader, IsStored}
+use Rattle.xet_records.specs.FileRecord.{file_records, has_verification, has_metadata_ext, FitsItsHeader, IsStored, file_records_in, has_aux_ext}
 use Rattle.xet_records.specs.XorbRow.{FitsChunk}
 use Rattle.xet_records.specs.XorbRecord.{xorb_records, IsStoredXorb}
 use Rattle.xet_records.specs.View.{as_wanted, without_verification}
-use Rattle.xet_records.proofs.Merging.{verification_injective, metadata_ext_injective}
-use Rattle.xet_records.proofs.RecordKinds.{file_laws, xorb_laws}
+use Rattle.xet_records.proofs.Merging.{verification_injective, metadata_ext_injective, aux_ext_injective}
+use Rattle.xet_records.proofs.RecordKinds.{xorb_laws, version_known}
 use Rattle.xet_shards.specs.declared.streaming_shard.file_start.FileStart.{FileStart}
 use Rattle.xet_shards.specs.InForm.{FitsSection}
 use Rattle.xet_shards.specs.declared.shard_format.form.Form.{Form}
@@ -33,7 +35,7 @@ use Rattle.xet_shards.proofs.MinimalLaws.{subset_again, written_again}
 use Rattle.xet_shards.proofs.MinimalReading.{reads_fit, none_fit, kept_fit}
 use Rattle.xet_shards.proofs.MinimalWriting.{marked_whole, as_wanted-fits, rows_as_wanted, rows_kept}
 use Rattle.xet_shards.proofs.Readback.{after_section, after_xorbs, layout_from_48}
-use Rattle.xet_shards.proofs.Sections.{section_there}
+use Rattle.xet_shards.proofs.Sections.{section_there, files_laws, fits_ever, section_bytes_in}
 use Rattle.xet_shards.proofs.SectionUnique.{only_list}
 
 -- of known bytes that were consumed, the rest is known
@@ -66,16 +68,19 @@ module _ {H R : Type 0} (K : RecordKind H R) (laws : KindLaws K) where
 
 -- from a layout, its files, where they are wanted, and its xorbs are read
 layout_read : (files : List MDBFileInfo) (xorbs : List MDBXorbInfo) (form : Form) (y : List ℕ) (new : Option (List ℕ)) (with_files : Bool) (n : MinimalShard)
-    → FitsSection file_records files → FitsSection xorb_records xorbs → y ≡ layout_of files xorbs form → ReadsMinimal Consumes with_files true (Some y) new n
+    → FitsSection (file_records_in form.version) files → FitsSection xorb_records xorbs → y ≡ layout_of files xorbs form → ReadsMinimal Consumes with_files true (Some y) new n
     → (n.files ≡ if_in with_files files) × (n.xorbs ≡ xorbs)
 layout_read files xorbs form y new with_files n files_fit xorbs_fit are (mid, header, sections) =
     let first = known_rest y mid (shard_header_bytes header.header) header.taken in
     let z = first.0 in
     let after : z ≡ section_bytes file_records files ++ after_section files xorbs form =
-    (same_parts (shard_header_bytes header.header) (shard_header_bytes header_value) z (section_bytes file_records files ++ after_section files xorbs form)
-    (length-shard_header_bytes header.header ∙ sym (length-shard_header_bytes header_value)) (sym first.2 ∙ are ∙ layout_from_48 files xorbs form)).1 in
-    let file_part = section_read file_records file_laws z sections.mid sections.files files (after_section files xorbs form) files_fit after
-    (subst (λ b. ReadsViews file_records (λ r. r) Consumes b sections.mid sections.files) first.1 sections.file_section) in
+    (same_parts (shard_header_bytes header.header) (shard_header_bytes (header_value form.version)) z (section_bytes file_records files ++ after_section files xorbs form)
+    (length-shard_header_bytes header.header ∙ sym (length-shard_header_bytes (header_value form.version))) (sym first.2 ∙ are ∙ layout_from_48 files xorbs form)).1 in
+    let same : version_of header.header.version ≡ form.version =
+    one_version y (header_of y z header.header first.2 header.version) (header_of y _ (header_value form.version) (are ∙ layout_from_48 files xorbs form) (form.version, refl))
+    ∙ version_known form.version in
+    let file_part = section_read (file_records_in form.version) (files_laws form.version) z sections.mid sections.files files (after_section files xorbs form) files_fit (after ∙ ap (λ bs. bs ++ after_section files xorbs form) (sym (section_bytes_in file_records form.version files)))
+    (subst (λ p. p) (λ i. ReadsViews (file_records_in (same i)) (λ r. r) Consumes (first.1 i) sections.mid sections.files) sections.file_section) in
     let xorb_part = section_read xorb_records xorb_laws (after_section files xorbs form) new n.xorbs xorbs (after_xorbs files xorbs form) xorbs_fit refl
     (subst (λ b. ReadsViews xorb_records (λ r. r) Consumes b new n.xorbs) file_part.1 sections.xorb_section) in
     (sections.kept ∙ ap (λ rs. if_in with_files rs) file_part.0, xorb_part.0)
@@ -83,7 +88,8 @@ layout_read files xorbs form y new with_files n files_fit xorbs_fit are (mid, he
 -- what was read, from whatever reader, fits its sections
 pub read_fits : (with_files with_xorbs : Bool) (old new : Option (List ℕ)) (m : MinimalShard) → ReadsMinimal Consumes with_files with_xorbs old new m → FitsSections m
 read_fits with_files with_xorbs old new m (mid, header, sections) = record {
-  files = subst (FitsSection file_records) (sym sections.kept) (kept_fit file_records with_files sections.files (reads_fit file_records Consumes mid sections.mid sections.files sections.file_section));
+  files = subst (FitsSection file_records) (sym sections.kept) (kept_fit file_records with_files sections.files (fits_ever file_records (version_of header.header.version) sections.files
+      (reads_fit (file_records_in (version_of header.header.version)) Consumes mid sections.mid sections.files sections.file_section)));
   xorbs = xorbs_too with_xorbs sections.mid m.xorbs sections.xorb_section;
 }
   where
@@ -104,10 +110,12 @@ file_as_wanted wanted r stored =
     still_whole : (b : Bool) → FitsItsHeader (if b then without_verification r else r)
     still_whole true =
         let has_ext = has_metadata_ext r.metadata.file_flags in
+        let has_aux = has_aux_ext r.metadata.file_flags in
         record {
           segments = stored.whole.segments;
-          verification = ap (λ v. if v then r.metadata.num_entries else 0) (sym (verification_injective false has_ext));
-          metadata_ext = stored.whole.metadata_ext ∙ sym (metadata_ext_injective false has_ext);
+          verification = ap (λ v. if v then r.metadata.num_entries else 0) (sym (verification_injective false has_ext has_aux));
+          metadata_ext = stored.whole.metadata_ext ∙ sym (metadata_ext_injective false has_ext has_aux);
+          aux_ext = stored.whole.aux_ext ∙ sym (aux_ext_injective false has_ext has_aux);
         }
     still_whole false = stored.whole
 
@@ -165,7 +173,7 @@ pub subset_read : (answers : MDBXorbInfo → Bool → Type 0) (with_files : Bool
     → (n.files ≡ []) × (n.xorbs ≡ map (mark_starts (is_start m.files)) kept.kept) × (eligible_hashes n.files n.xorbs ≡ ascending_hashes (flat_map (eligible_in (is_start m.files)) kept.kept))
 subset_read answers with_files m n form y new k fits kept read =
     let marked = map (mark_starts (is_start m.files)) kept.kept in
-    let back = layout_read [] marked form y new with_files n (none_fit file_records) (xorbs_marked (is_start m.files) answers m.xorbs kept.kept kept.is_kept fits.xorbs) kept.written.appended read in
+    let back = layout_read [] marked form y new with_files n (none_fit (file_records_in form.version)) (xorbs_marked (is_start m.files) answers m.xorbs kept.kept kept.is_kept fits.xorbs) kept.written.appended read in
     let no_files : n.files ≡ [] = none_in with_files n.files back.0 in
     (no_files, back.1, (λ i. eligible_hashes (no_files i) (back.1 i)) ∙ subset_again m.files kept.kept)
 
@@ -186,7 +194,7 @@ module _ {I J : Type 0} (view : I → J) (one : I → I → List ℕ → Type 0)
     record {
       files = sections.files;
       mid = view sections.mid;
-      file_section = views_left file_records mid sections.mid sections.files sections.file_section;
+      file_section = views_left (file_records_in (version_of header.header.version)) mid sections.mid sections.files sections.file_section;
       kept = sections.kept;
       xorb_section = views_left xorb_records sections.mid new m.xorbs sections.xorb_section;
     },

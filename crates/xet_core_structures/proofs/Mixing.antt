@@ -1,5 +1,5 @@
 -- A mix of two records of one file: it may be stored, and is written part by part.
-use Rattle.std.proofs.Common.{◌≡◌, ◌≢◌, ℕ, zero, suc, ◌+◌, ◌*◌, ◌^◌, ◌<◌, Bool, true, false, ◌||◌, List, [], ◌∷◌, length, flat_map, Option, IfSome, refl, sym, ap, ◌∙◌, subst, if◌then◌else◌, arith}
+use Rattle.std.proofs.Common.{◌≡◌, ◌≢◌, ℕ, zero, suc, ◌+◌, ◌*◌, Bool, true, false, ◌||◌, List, [], ◌∷◌, length, flat_map, Option, IfSome, refl, sym, ap, ◌∙◌, subst, if◌then◌else◌, arith}
 use Rattle.std.specs.Prelude.{All, ◌==◌, option_to_list}
 use Rattle.std.specs.Io.KnownBytes.{Appends}
 use Rattle.std.proofs.Math.Dec.{eqb-suc-zero}
@@ -7,7 +7,6 @@ use Rattle.xet_base.specs.InputLaws.{Takes-nil}
 use Rattle.xet_base.specs.Source.{Source, Takes, ReadFails}
 use Rattle.xet_records.specs.declared.file_structs.header.FileDataSequenceHeader.{FileDataSequenceHeader}
 use Rattle.xet_records.specs.declared.file_structs.rows.FileVerificationEntry.{FileVerificationEntry}
-use Rattle.xet_records.specs.declared.file_structs.rows.FileMetadataExt.{FileMetadataExt}
 use Rattle.xet_records.specs.declared.file_structs.MDBFileInfo.{MDBFileInfo}
 use Rattle.xet_records.specs.declared.row_copier.CopyFailure.{CopyFailure}
 use Rattle.xet_records.specs.declared.row_copier.CopyFailure.TheVariants.{Input, Output}
@@ -15,20 +14,14 @@ use Rattle.xet_records.specs.Copying.{CopiesRows, CopyFails}
 use Rattle.xet_records.specs.Rows.{ReadsRows}
 use Rattle.xet_records.proofs.Reading.{no_rows}
 use Rattle.xet_records.proofs.RecordKinds.{file_laws}
-use Rattle.xet_records.specs.FileRow.{FitsVerification, FitsMetadata}
-use Rattle.xet_records.specs.FileRecord.{flags_of, row_count, rows_after, IsStored}
-use Rattle.xet_records.specs.Merging.{verified, described}
-use Rattle.xet_records.proofs.Merging.{joined_whole}
+use Rattle.xet_records.specs.FileRow.{FitsVerification, FitsMetadata, FitsAux}
+use Rattle.xet_records.specs.FileRecord.{row_count, rows_after, IsStored}
+use Rattle.xet_records.specs.Merging.{verified, described, extended, mixed_header}
+use Rattle.xet_records.proofs.Merging.{joined_whole, flags_fit}
 use Rattle.xet_core_structures.specs.ByteUnion.{mixed}
-use Rattle.xet_core_structures.specs.MixedFiles.{mixed_header, CopiesEither, EitherFails}
+use Rattle.xet_core_structures.specs.MixedFiles.{CopiesEither, EitherFails}
 use Rattle.xet_core_structures.specs.MixedFiles.EitherFails.{output_fails, first_fails, second_fails}
-use Rattle.xet_core_structures.proofs.SideBySide.{serves_same, taken_serves}
-
-flags_fit : (v m : Bool) → flags_of v m < 2 ^ 32
-flags_fit true true = omega arith
-flags_fit true false = omega arith
-flags_fit false true = omega arith
-flags_fit false false = omega arith
+use Rattle.xet_core_structures.proofs.OneSection.{serves_same, taken_serves}
 
 pub either_part : {X : Type 0} (P : X → Type 0) (v : Bool) (x y : X) → P x → P y → P (if v then x else y)
 either_part P true x y first second = first
@@ -39,17 +32,18 @@ mixed_stored a b one other hash counts =
     let whole = joined_whole a b one.whole other.whole (record { file_hash = hash; num_entries = counts }) in
     record {
       is_file = one.is_file;
-      whole = record { segments = whole.segments; verification = whole.verification; metadata_ext = whole.metadata_ext };
+      whole = record { segments = whole.segments; verification = whole.verification; metadata_ext = whole.metadata_ext; aux_ext = whole.aux_ext };
       widths = record {
         metadata = record {
           file_hash = one.widths.metadata.file_hash;
-          file_flags = flags_fit (verified a || verified b) (described a || described b);
+          file_flags = flags_fit (verified a || verified b) (described a || described b) (extended a || extended b);
           num_entries = one.widths.metadata.num_entries;
           unused = omega arith;
         };
         segments = one.widths.segments;
         verification = either_part (All FitsVerification) (verified a) a.verification b.verification one.widths.verification other.widths.verification;
         metadata_ext = either_part (λ o. IfSome o FitsMetadata) (described a) a.metadata_ext b.metadata_ext one.widths.metadata_ext other.widths.metadata_ext;
+        aux_ext = either_part (λ o. IfSome o FitsAux) (extended a) a.aux_ext b.aux_ext one.widths.aux_ext other.widths.aux_ext;
       };
     }
 
@@ -128,7 +122,7 @@ verification_of true w n count_1 count_2 firsts seconds one other len_1 len_2 = 
     no_rows_of false = refl
   at (suc k) some = ap (λ b. if b then seconds else firsts) (eqb-suc-zero k)
 
-pub metadata_of : (v : Bool) (count : ℕ) (firsts seconds : List FileMetadataExt) (one other : Option FileMetadataExt) → count ≡ (if v then 1 else 0)
+pub row_of : {T : Type 0} (v : Bool) (count : ℕ) (firsts seconds : List T) (one other : Option T) → count ≡ (if v then 1 else 0)
     → firsts ≡ option_to_list one → seconds ≡ option_to_list other → (if count == 0 then seconds else firsts) ≡ option_to_list (if v then one else other)
-metadata_of true count firsts seconds one other counted first second = ap (λ k. if k == 0 then seconds else firsts) counted ∙ first
-metadata_of false count firsts seconds one other counted first second = ap (λ k. if k == 0 then seconds else firsts) counted ∙ second
+row_of true count firsts seconds one other counted first second = ap (λ k. if k == 0 then seconds else firsts) counted ∙ first
+row_of false count firsts seconds one other counted first second = ap (λ k. if k == 0 then seconds else firsts) counted ∙ second

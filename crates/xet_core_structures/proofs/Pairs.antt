@@ -18,7 +18,7 @@ use Rattle.xet_core_structures.specs.Combining.{key_of_record, AreOfOneHash}
 use Rattle.xet_core_structures.specs.SideBySide.{IsRecordHeader, PassesRecord, ReadsNotPast, PassesBoth, KeepsRecord, HasNoRoom, WritesMade, CannotMake, PairFails}
 use Rattle.xet_core_structures.specs.SideBySide.CannotMake.{too_many_rows}
 use Rattle.xet_core_structures.specs.SideBySide.PairFails.{output_fails, first_fails, second_fails, refused}
-use Rattle.xet_core_structures.proofs.SideBySide.{serves_same, taken_serves}
+use Rattle.xet_core_structures.proofs.OneSection.{serves_same, taken_serves}
 
 module _ {H R : Type 0} (K : RecordKind H R) where
   module _ (first second : Option H) (old_1 new_1 old_2 new_2 : Source) where

@@ -1,5 +1,10 @@
 -- The results of union and difference are shards whose bytes lookups find their records in.
 use Rattle.std.proofs.Common.{◌≡◌, inl, inr, ℕ, ◌≤◌, List, [], ◌∷◌, map, get_or, Option, None, Some, refl, sym, ap, ◌∙◌, subst, arith}
+use Rattle.xet_records.specs.declared.file_structs.rows.FileAuxExt.{FileAuxExt}
+use Rattle.xet_shards.proofs.Sections.{files_laws}
+use Rattle.xet_shards.specs.SectionReading.{files_of}
+use Rattle.xet_records.specs.Version.{version_of}
+use Rattle.xet_records.specs.declared.record_reader.FormatVersion.{FormatVersion}
 use Rattle.std.specs.Prelude.{All, option_map}
 use Rattle.std.specs.FinMap.{FinMap, entries, values, get, get-entries}
 use Rattle.std.proofs.lemmas.List.{get_or-map, length-map}
@@ -12,12 +17,12 @@ use Rattle.xet_records.specs.declared.file_structs.rows.FileVerificationEntry.{F
 use Rattle.xet_records.specs.declared.file_structs.rows.FileMetadataExt.{FileMetadataExt}
 use Rattle.xet_records.specs.declared.file_structs.MDBFileInfo.{MDBFileInfo}
 use Rattle.xet_records.specs.declared.xorb_structs.MDBXorbInfo.{MDBXorbInfo}
-use Rattle.xet_records.specs.RecordKind.{RecordKind, KindLaws}
-use Rattle.xet_records.proofs.RecordKinds.{file_laws, xorb_laws}
-use Rattle.xet_records.specs.FileRow.{clear_verification, clear_metadata}
+use Rattle.xet_records.specs.RecordKind.{RecordKind, KindLaws, in_version}
+use Rattle.xet_records.proofs.RecordKinds.{xorb_laws, stored_ever}
+use Rattle.xet_records.specs.FileRow.{clear_verification, clear_metadata, clear_aux}
 use Rattle.xet_records.specs.FileRecord.{file_records, handed_out}
 use Rattle.xet_records.specs.XorbRecord.{xorb_records, IsXorb}
-use Rattle.xet_records.specs.Merging.{verified, described}
+use Rattle.xet_records.specs.Merging.{verified, described, extended}
 use Rattle.xet_shards.specs.declared.shard_format.info.MDBShardInfo.{MDBShardInfo}
 use Rattle.xet_shards.specs.SetOperations.{IsDifference}
 use Rattle.xet_shards.specs.Shard.{Shard}
@@ -42,8 +47,12 @@ metadata_twice : (o : Option FileMetadataExt) → option_map clear_metadata (opt
 metadata_twice None = refl
 metadata_twice (Some m) = refl
 
+aux_twice : (o : Option FileAuxExt) → option_map clear_aux (option_map clear_aux o) ≡ option_map clear_aux o
+aux_twice None = refl
+aux_twice (Some m) = refl
+
 handed_twice : (r : MDBFileInfo) → handed_out (handed_out r) ≡ handed_out r
-handed_twice r = λ i. record r { verification = cleared_twice r.verification i; metadata_ext = metadata_twice r.metadata_ext i }
+handed_twice r = λ i. record r { verification = cleared_twice r.verification i; metadata_ext = metadata_twice r.metadata_ext i; aux_ext = aux_twice r.aux_ext i }
 
 module _ {H R : Type 0} (K : RecordKind H R) where
   -- a record under its hash that may be stored, and that reading returns as it is
@@ -98,15 +107,20 @@ pub xorb_readable : Keeps xorb_records IsEitherXorb
 xorb_readable q None p c t first second is at = second t (sym is ∙ at)
 xorb_readable q (Some a) p c t first second is at = first t (sym is ∙ at)
 
+-- a record of a version is one of the kind
+readable_ever : {H R : Type 0} (K : RecordKind H R) (version : FormatVersion) (q : DataHash) (r : R) → IsReadableAs (in_version K version) q r → IsReadableAs K q r
+readable_ever K version q r is = record { keyed = is.keyed; stored = stored_ever K version r is.stored; unchanged = is.unchanged }
+
 -- a mix of two files has rows of either
 mixed_readable : (q : DataHash) (a b : MDBFileInfo) → IsReadableAs file_records q a → IsReadableAs file_records q b → a.metadata.num_entries ≡ b.metadata.num_entries → IsReadableAs file_records q (mixed a b)
 mixed_readable q a b one other counts =
     let verification = either_part (λ vs. map clear_verification vs ≡ vs) (verified a) a.verification b.verification (ap (λ (r : MDBFileInfo). r.verification) one.unchanged) (ap (λ (r : MDBFileInfo). r.verification) other.unchanged) in
     let metadata_ext = either_part (λ o. option_map clear_metadata o ≡ o) (described a) a.metadata_ext b.metadata_ext (ap (λ (r : MDBFileInfo). r.metadata_ext) one.unchanged) (ap (λ (r : MDBFileInfo). r.metadata_ext) other.unchanged) in
+    let aux_ext = either_part (λ o. option_map clear_aux o ≡ o) (extended a) a.aux_ext b.aux_ext (ap (λ (r : MDBFileInfo). r.aux_ext) one.unchanged) (ap (λ (r : MDBFileInfo). r.aux_ext) other.unchanged) in
     record {
       keyed = one.keyed;
       stored = mixed_stored a b one.stored other.stored (sym one.keyed ∙ other.keyed) counts;
-      unchanged = λ i. record (mixed a b) { verification = verification i; metadata_ext = metadata_ext i };
+      unchanged = λ i. record (mixed a b) { verification = verification i; metadata_ext = metadata_ext i; aux_ext = aux_ext i };
     }
 
 united_readable : (q : DataHash) (a b t : MDBFileInfo) → IsReadableAs file_records q a → IsReadableAs file_records q b → IsUnitedFile a b t → IsReadableAs file_records q t
@@ -132,8 +146,8 @@ module _ (x : List ℕ) (i : MDBShardInfo) (y : List ℕ) (j : MDBShardInfo) (c 
       → IsReadable c
   made_readable IsFile IsXorb IsResult have keeps_files keeps_xorbs files xorbs = record {
     files = readable_if_each file_records c.files (λ q r at. keeps_files q _ _ _ r
-        (section_readable file_records file_laws handed_twice _ have.first.files have.holds_first.files q)
-        (section_readable file_records file_laws handed_twice _ have.second.files have.holds_second.files q) (files q) at) have.rows.files;
+        (λ r at. readable_ever file_records (version_of i.header.version) q r (section_readable (files_of i) (files_laws (version_of i.header.version)) handed_twice _ have.first.files have.holds_first.files q r at))
+        (λ r at. readable_ever file_records (version_of j.header.version) q r (section_readable (files_of j) (files_laws (version_of j.header.version)) handed_twice _ have.second.files have.holds_second.files q r at)) (files q) at) have.rows.files;
     xorbs = readable_if_each xorb_records c.xorbs (λ q r at. keeps_xorbs q _ _ _ r
         (section_readable xorb_records xorb_laws (λ r. refl) _ have.first.xorbs have.holds_first.xorbs q)
         (section_readable xorb_records xorb_laws (λ r. refl) _ have.second.xorbs have.holds_second.xorbs q) (xorbs q) at) have.rows.xorbs;

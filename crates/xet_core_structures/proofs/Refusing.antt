@@ -13,8 +13,9 @@ use Rattle.std.proofs.lemmas.Option.{none-some}
 use Rattle.xet_base.specs.declared.merklehash.DataHash.{DataHash}
 use Rattle.xet_base.specs.Hash.{hash_cmp}
 use Rattle.xet_base.proofs.HashOrder.{hash_cmp-IsTotalOrder, hash_cmp-IsAntisymmetric}
-use Rattle.xet_records.specs.RecordKind.{RecordKind, KindLaws}
-use Rattle.xet_records.proofs.RecordKinds.{bookend_or_header, same_front, stored_begins}
+use Rattle.xet_records.specs.declared.record_reader.FormatVersion.{FormatVersion}
+use Rattle.xet_records.specs.RecordKind.{RecordKind, in_version, KindLaws}
+use Rattle.xet_records.proofs.RecordKinds.{laws_in, stored_ever, bookend_or_header, same_front, stored_begins}
 use Rattle.xet_shards.specs.InForm.{Ascends}
 use Rattle.xet_shards.specs.Section.{total_rows}
 use Rattle.xet_shards.specs.SectionReading.{HoldsRecords}
@@ -75,11 +76,11 @@ module _ {H R : Type 0} (K : RecordKind H R) (laws : KindLaws K) where
   after_last (x ∷ xs) r ys ascends = after_last xs r ys ascends.1
 
   -- one of two sections that begin with such records
-  module _ (bytes : List ℕ) (stored : List R) (rest : List ℕ) (found : List R) (one : Option R) (k : DataHash) (held : HoldsRecords K bytes stored rest)
+  module _ (version : FormatVersion) (bytes : List ℕ) (stored : List R) (rest : List ℕ) (found : List R) (one : Option R) (k : DataHash) (held : HoldsRecords (in_version K version) bytes stored rest)
       (handed : map K.handed_out stored ≡ found ++ option_to_list one) (one_hash : IfSome one (λ r. key_of_record K r ≡ k)) (next : one ≡ None → GoesOnAfter K k rest)
-      (a : FinMap hash_cmp R) (is : IsSectionOf K bytes a) where
+      (a : FinMap hash_cmp R) (is : IsSectionOf (in_version K version) bytes a) where
     whole : (zs : List R) × (is.stored ≡ stored ++ zs)
-    whole = first_of_section K laws bytes stored is.stored rest held is.section
+    whole = first_of_section (in_version K version) (laws_in K laws version) bytes stored is.stored rest held is.section
 
     abbrev more : List R
     more = map K.handed_out whole.0
@@ -88,7 +89,7 @@ module _ {H R : Type 0} (K : RecordKind H R) (laws : KindLaws K) where
     all_records = ap (map K.handed_out) whole.1 ∙ map-append K.handed_out stored whole.0 ∙ ap (λ rs. rs ++ more) handed
 
     all_ascend : Ascends K ((found ++ option_to_list one) ++ more)
-    all_ascend = subst (Ascends K) all_records (subst (IsStrictlySortedBy hash_cmp) (sym (hashes_handed K laws is.stored)) (section_ascends K laws bytes a is))
+    all_ascend = subst (Ascends K) all_records (subst (IsStrictlySortedBy hash_cmp) (sym (hashes_handed K laws is.stored)) (section_ascends (in_version K version) (laws_in K laws version) bytes a is))
 
     pub front_ascends : Ascends K (found ++ option_to_list one)
     front_ascends = front (found ++ option_to_list one) more all_ascend where
@@ -103,25 +104,25 @@ module _ {H R : Type 0} (K : RecordKind H R) (laws : KindLaws K) where
     -- the hashes after them are greater
     more_after : ComeAfter K k more
     more_after = at one one_hash next all_ascend where
-      none_later : (zs : List R) → All K.IsStored zs → rest ≡ flat_map K.record_bytes zs ++ is.section.rest → GoesOnAfter K k rest → Ascends K ((found ++ []) ++ map K.handed_out zs) → ComeAfter K k (map K.handed_out zs)
+      none_later : (zs : List R) → All (in_version K version).IsStored zs → rest ≡ flat_map K.record_bytes zs ++ is.section.rest → GoesOnAfter K k rest → Ascends K ((found ++ []) ++ map K.handed_out zs) → ComeAfter K k (map K.handed_out zs)
       none_later [] stored_zs bytes_are goes ascends = tt
       none_later (z ∷ zs) stored_zs bytes_are (inl bookend) ascends =
           absurd (bookend_or_header K laws rest (K.header_of z) _ bookend
-          (stored_begins K laws rest z _ (stored_zs 0 z (omega arith)) (bytes_are ∙ append_assoc (K.record_bytes z) (flat_map K.record_bytes zs) is.section.rest)))
+          (stored_begins K laws rest z _ (stored_ever K version z (stored_zs 0 z (omega arith))) (bytes_are ∙ append_assoc (K.record_bytes z) (flat_map K.record_bytes zs) is.section.rest)))
       none_later (z ∷ zs) stored_zs bytes_are (inr (h, after, begins, less)) ascends =
-          let z_begins = stored_begins K laws rest z _ (stored_zs 0 z (omega arith)) (bytes_are ∙ append_assoc (K.record_bytes z) (flat_map K.record_bytes zs) is.section.rest) in
+          let z_begins = stored_begins K laws rest z _ (stored_ever K version z (stored_zs 0 z (omega arith))) (bytes_are ∙ append_assoc (K.record_bytes z) (flat_map K.record_bytes zs) is.section.rest) in
           let same = same_front K laws rest (K.header_of z) h _ after z_begins.widths z_begins.bytes_are begins in
           tail_after k (K.handed_out z) (map K.handed_out zs) (ascends_back (found ++ []) (map K.handed_out (z ∷ zs)) ascends)
           (subst (λ (g : H). hash_cmp k (K.hash_of g) ≡ Less) (same.0 ∙ sym (laws.same_header z)) less)
 
       at : (o : Option R) → IfSome o (λ r. key_of_record K r ≡ k) → (o ≡ None → GoesOnAfter K k rest) → Ascends K ((found ++ option_to_list o) ++ more) → ComeAfter K k more
-      at None hash goes ascends = none_later whole.0 (rest_all K.IsStored stored whole.0 (subst (All K.IsStored) whole.1 is.section.records.are_stored)) rest_is (goes refl) ascends
+      at None hash goes ascends = none_later whole.0 (rest_all (in_version K version).IsStored stored whole.0 (subst (All (in_version K version).IsStored) whole.1 is.section.records.are_stored)) rest_is (goes refl) ascends
       at (Some r) hash goes ascends = subst (λ j. ComeAfter K j more) hash (after_last found r more ascends)
 
     -- so the map has at each hash up to theirs what they have
     pub get_up_to : (q : DataHash) → (hash_cmp q k ≡ Less) ⊎ (q ≡ k) → get a q ≡ with_hash K (found ++ option_to_list one) q
     get_up_to q below =
-        ap (λ m. get m q) (one_map K laws bytes (list_map K _) (section_of_list K _ all_ascend bytes is.stored is.section all_records) a is)
+        ap (λ m. get m q) (one_map (in_version K version) (laws_in K laws version) bytes (list_map K _) (section_of_list (in_version K version) _ all_ascend bytes is.stored is.section all_records) a is)
         ∙ get-list_map K ((found ++ option_to_list one) ++ more) all_ascend q ∙ same_before K q (found ++ option_to_list one) more (after q below)
       where
         after : (q : DataHash) → (hash_cmp q k ≡ Less) ⊎ (q ≡ k) → ComeAfter K q more
@@ -139,15 +140,15 @@ module _ {H R : Type 0} (K : RecordKind H R) (laws : KindLaws K) where
       let has = subst (λ rs. Contains rs r) (ap (λ o. found ++ option_to_list o) (sym is) ∙ sym handed) (last_in found r) in
       mapped_at K.handed_out stored has.0 r has.1 has.2
 
-  module _ (makes : Option R → Option R → Option R → Type 0) (unique : (o p a b : Option R) → makes o p a → makes o p b → a ≡ b) (x y : List ℕ) (none : NoneMade K makes x y) where
-    at_first : (a : FinMap hash_cmp R) → IsSectionOf K x a → (q : DataHash) → (hash_cmp q none.hash ≡ Less) ⊎ (q ≡ none.hash) → get a q ≡ with_hash K (none.firsts ++ option_to_list none.one) q
-    at_first a a_is = get_up_to x none.stored_1 none.rest_1 none.firsts none.one none.hash none.holds_1 none.first_is none.one_hash none.next_1 a a_is
+  module _ (v w : FormatVersion) (makes : Option R → Option R → Option R → Type 0) (unique : (o p a b : Option R) → makes o p a → makes o p b → a ≡ b) (x y : List ℕ) (none : NoneMade K v w makes x y) where
+    at_first : (a : FinMap hash_cmp R) → IsSectionOf (in_version K v) x a → (q : DataHash) → (hash_cmp q none.hash ≡ Less) ⊎ (q ≡ none.hash) → get a q ≡ with_hash K (none.firsts ++ option_to_list none.one) q
+    at_first a a_is = get_up_to v x none.stored_1 none.rest_1 none.firsts none.one none.hash none.holds_1 none.first_is none.one_hash none.next_1 a a_is
 
-    at_second : (b : FinMap hash_cmp R) → IsSectionOf K y b → (q : DataHash) → (hash_cmp q none.hash ≡ Less) ⊎ (q ≡ none.hash) → get b q ≡ with_hash K (none.seconds ++ option_to_list none.other) q
-    at_second b b_is = get_up_to y none.stored_2 none.rest_2 none.seconds none.other none.hash none.holds_2 none.second_is none.other_hash none.next_2 b b_is
+    at_second : (b : FinMap hash_cmp R) → IsSectionOf (in_version K w) y b → (q : DataHash) → (hash_cmp q none.hash ≡ Less) ⊎ (q ≡ none.hash) → get b q ≡ with_hash K (none.seconds ++ option_to_list none.other) q
+    at_second b b_is = get_up_to w y none.stored_2 none.rest_2 none.seconds none.other none.hash none.holds_2 none.second_is none.other_hash none.next_2 b b_is
 
     -- sections of maps with a union within the rows of a section do not begin so
-    module _ (a b c : FinMap hash_cmp R) (a_is : IsSectionOf K x a) (b_is : IsSectionOf K y b) (each : (q : DataHash) → makes (get a q) (get b q) (get c q)) where
+    module _ (a b c : FinMap hash_cmp R) (a_is : IsSectionOf (in_version K v) x a) (b_is : IsSectionOf (in_version K w) y b) (each : (q : DataHash) → makes (get a q) (get b q) (get c q)) where
       here : (q : DataHash) → (hash_cmp q none.hash ≡ Less) ⊎ (q ≡ none.hash)
           → makes (with_hash K (none.firsts ++ option_to_list none.one) q) (with_hash K (none.seconds ++ option_to_list none.other) q) (get c q)
       here q below = subst (λ p. p) (λ i. makes (at_first a a_is q below i) (at_second b b_is q below i) (get c q)) (each q)
@@ -159,9 +160,9 @@ module _ {H R : Type 0} (K : RecordKind H R) (laws : KindLaws K) where
 
       not_both : (r s : R) → none.one ≡ Some r → none.other ≡ Some s → ¬ ((made : Option R) → ¬ makes (Some r) (Some s) made)
       not_both r s one other never =
-          let first = the_last none.firsts none.one r one (front_ascends x none.stored_1 none.rest_1 none.firsts none.one none.hash none.holds_1 none.first_is none.one_hash none.next_1 a a_is)
+          let first = the_last none.firsts none.one r one (front_ascends v x none.stored_1 none.rest_1 none.firsts none.one none.hash none.holds_1 none.first_is none.one_hash none.next_1 a a_is)
           (subst (λ o. IfSome o (λ t. key_of_record K t ≡ none.hash)) one none.one_hash) in
-          let second = the_last none.seconds none.other s other (front_ascends y none.stored_2 none.rest_2 none.seconds none.other none.hash none.holds_2 none.second_is none.other_hash none.next_2 b b_is)
+          let second = the_last none.seconds none.other s other (front_ascends w y none.stored_2 none.rest_2 none.seconds none.other none.hash none.holds_2 none.second_is none.other_hash none.next_2 b b_is)
           (subst (λ o. IfSome o (λ t. key_of_record K t ≡ none.hash)) other none.other_hash) in
           never (get c none.hash) (subst (λ p. p) (λ i. makes (first i) (second i) (get c none.hash)) (here none.hash (inr refl)))
 
@@ -182,7 +183,7 @@ module _ {H R : Type 0} (K : RecordKind H R) (laws : KindLaws K) where
             some_rows : (r : R) → K.IsStored r → 1 ≤ K.row_count r
             some_rows r stored = omega (arith, laws.rows r stored)
 
-    pub no_union : HaveNoUnionOf K makes x y
+    pub no_union : HaveNoUnionOf K v w makes x y
     no_union = record {
       firsts = none.stored_1;
       seconds = none.stored_2;
@@ -218,7 +219,7 @@ module _ {H R : Type 0} (K : RecordKind H R) (laws : KindLaws K) where
         rows_front none.stored_2 none.seconds none.other none.second_is,
       ))
 
-      refused : CannotMake K makes (total_rows K none.made) none.one none.other → (a b c : FinMap hash_cmp R) → IsSectionOf K x a → IsSectionOf K y b
+      refused : CannotMake K makes (total_rows K none.made) none.one none.other → (a b c : FinMap hash_cmp R) → IsSectionOf (in_version K v) x a → IsSectionOf (in_version K w) y b
           → ((q : DataHash) → makes (get a q) (get b q) (get c q)) → ¬ (total_rows K (values c) ≤ 4294967295)
       refused (nothing_made r s one other never) a b c a_is b_is each fits = not_both a b c a_is b_is each r s one other never
       refused (too_many_rows z is_made made_of many) a b c a_is b_is each fits = not_within a b c a_is b_is each z is_made made_of many fits
@@ -234,8 +235,8 @@ module _ {H R : Type 0} (K : RecordKind H R) (laws : KindLaws K) where
       from_second (get (list_map K xs) q) (get (list_map K ys) q) (get (list_map K zs) q) v (combined_maps K IsRest xs ys zs x_ascends y_ascends combines q) at) in
       omega (arith, fewer, ap (total_rows K) (values-list_map K zs combines.ascends), ap (total_rows K) (values-list_map K ys y_ascends))
 
-  pub always_rest : (x y : List ℕ) → ¬ NoneMade K IsRest x y
-  always_rest x y none = never none.cannot where
+  pub always_rest : (v w : FormatVersion) (x y : List ℕ) → ¬ NoneMade K v w IsRest x y
+  always_rest v w x y none = never none.cannot where
     never : CannotMake K IsRest (total_rows K none.made) none.one none.other → ⊥
     never (nothing_made r s one other not_made) = not_made None refl
     never (too_many_rows z is_made made_of many) = omega (

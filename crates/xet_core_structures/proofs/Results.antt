@@ -10,6 +10,9 @@ use Rattle.xet_records.specs.declared.xorb_structs.MDBXorbInfo.{MDBXorbInfo}
 use Rattle.xet_records.specs.declared.row_copier.CopyFailure.{CopyFailure}
 use Rattle.xet_records.specs.declared.row_copier.CopyFailure.TheVariants.{Input, Output}
 use Rattle.xet_records.specs.Copying.{error_of}
+use Rattle.xet_records.specs.declared.record_reader.FormatVersion.{FormatVersion}
+use Rattle.xet_records.specs.declared.record_reader.FormatVersion.TheVariants.{V3}
+use Rattle.xet_records.specs.Version.{version_of}
 use Rattle.xet_records.specs.RecordKind.{RecordKind}
 use Rattle.xet_records.specs.FileRecord.{file_records}
 use Rattle.xet_records.specs.XorbRecord.{xorb_records}
@@ -17,7 +20,7 @@ use Rattle.xet_records.proofs.RecordKinds.{file_laws, xorb_laws}
 use Rattle.xet_shards.specs.declared.shard_format.info.MDBShardInfo.{MDBShardInfo}
 use Rattle.xet_shards.specs.Layout.{layout_of, info_of}
 use Rattle.xet_shards.specs.Section.{total_rows}
-use Rattle.xet_shards.specs.SectionReading.{TakesSection}
+use Rattle.xet_shards.specs.SectionReading.{files_of, TakesSection}
 use Rattle.xet_shards.specs.SetOperations.{IsDifference}
 use Rattle.xet_shards.specs.Shard.{Shard}
 use Rattle.xet_core_structures.specs.ByteUnion.{IsUnitedFile, IsEitherFile, IsEitherXorb, IsByteUnion}
@@ -55,28 +58,28 @@ failed_by Cause (Input f) e is failed = inr (subst Cause (sym is) failed)
 failed_by Cause (Output f) e is failed = inl (subst IsDeviceError (sym is) failed)
 
 -- why two sections were not combined, after calls that did not fail
-module _ {H R : Type 0} (K : RecordKind H R) (makes : Option R → Option R → Option R → Type 0) (mid_1 new_1 mid_2 new_2 : Source) where
+module _ {H R : Type 0} (K : RecordKind H R) (v w : FormatVersion) (makes : Option R → Option R → Option R → Type 0) (mid_1 new_1 mid_2 new_2 : Source) where
   pub sections_failed : (old_1 old_2 : Source) (Cause : CoreError → Type 0) → mid_1.failures ≡ old_1.failures → mid_2.failures ≡ old_2.failures
-      → ((e : CoreError) → SectionRefusal K (bytes_left mid_1) e → Cause e) → ((e : CoreError) → SectionRefusal K (bytes_left mid_2) e → Cause e)
-      → ((e : CoreError) → IsInvalidShard e → NoneMade K makes (bytes_left mid_1) (bytes_left mid_2) → Cause e)
-      → (failure : CopyFailure) → SectionsFail K makes mid_1 new_1 mid_2 new_2 failure → FailsBy (InputsFail old_1 new_1 old_2 new_2 Cause) failure
+      → ((e : CoreError) → SectionRefusal K v (bytes_left mid_1) e → Cause e) → ((e : CoreError) → SectionRefusal K w (bytes_left mid_2) e → Cause e)
+      → ((e : CoreError) → IsInvalidShard e → NoneMade K v w makes (bytes_left mid_1) (bytes_left mid_2) → Cause e)
+      → (failure : CopyFailure) → SectionsFail K v w makes mid_1 new_1 mid_2 new_2 failure → FailsBy (InputsFail old_1 new_1 old_2 new_2 Cause) failure
   sections_failed old_1 old_2 Cause same_1 same_2 first second none failure (output_fails e is device _ _) = subst (FailsBy (InputsFail old_1 new_1 old_2 new_2 Cause)) (sym is) device
   sections_failed old_1 old_2 Cause same_1 same_2 first second none failure (first_fails e is fails serves) =
       subst (FailsBy (InputsFail old_1 new_1 old_2 new_2 Cause)) (sym is) (of_first fails.cause)
     where
-      of_first : FailedBy (SectionRefusal K (bytes_left mid_1)) mid_1 new_1 e → InputsFail old_1 new_1 old_2 new_2 Cause e
+      of_first : FailedBy (SectionRefusal K v (bytes_left mid_1)) mid_1 new_1 e → InputsFail old_1 new_1 old_2 new_2 Cause e
       of_first (inl failed) = inl (failed.0 ∙ ap (λ n. n + 1) same_1, failed.1, failed.2, failed.3)
       of_first (inr (still, refusal)) = inr (inr (still ∙ same_1, serves.failures ∙ same_2, first e refusal))
   sections_failed old_1 old_2 Cause same_1 same_2 first second none failure (second_fails e is fails serves) =
       subst (FailsBy (InputsFail old_1 new_1 old_2 new_2 Cause)) (sym is) (of_second fails.cause)
     where
-      of_second : FailedBy (SectionRefusal K (bytes_left mid_2)) mid_2 new_2 e → InputsFail old_1 new_1 old_2 new_2 Cause e
+      of_second : FailedBy (SectionRefusal K w (bytes_left mid_2)) mid_2 new_2 e → InputsFail old_1 new_1 old_2 new_2 Cause e
       of_second (inl failed) = inr (inl (failed.0 ∙ ap (λ n. n + 1) same_2, failed.1, failed.2, failed.3))
       of_second (inr (still, refusal)) = inr (inr (serves.failures ∙ same_1, still ∙ same_2, second e refusal))
   sections_failed old_1 old_2 Cause same_1 same_2 first second none failure (refused e is invalid serves_1 serves_2 nothing) =
       subst (FailsBy (InputsFail old_1 new_1 old_2 new_2 Cause)) (sym is) (inr (inr (serves_1.failures ∙ same_1, serves_2.failures ∙ same_2, none e invalid nothing)))
 
-  pub sections_kept : (failure : CopyFailure) → SectionsFail K makes mid_1 new_1 mid_2 new_2 failure → (new_1.bytes ≡ mid_1.bytes) × (new_2.bytes ≡ mid_2.bytes)
+  pub sections_kept : (failure : CopyFailure) → SectionsFail K v w makes mid_1 new_1 mid_2 new_2 failure → (new_1.bytes ≡ mid_1.bytes) × (new_2.bytes ≡ mid_2.bytes)
   sections_kept failure (output_fails e is device first second) = (first, second)
   sections_kept failure (first_fails e is fails serves) = (fails.bytes, serves.bytes)
   sections_kept failure (second_fails e is fails serves) = (serves.bytes, fails.bytes)
@@ -92,25 +95,25 @@ section_serves K old new found read = record {
 
 -- the causes of either section of either input
 module _ (x : List ℕ) (i : MDBShardInfo) (y : List ℕ) (j : MDBShardInfo) (e : CoreError) where
-  pub files_of_first : SectionRefusal file_records (files_at x i) e → InputRefusal x i y j e
+  pub files_of_first : SectionRefusal file_records (version_of i.header.version) (files_at x i) e → InputRefusal x i y j e
   files_of_first (inl no_memory) = inl no_memory
   files_of_first (inr (inl (end, cut))) = inr (inl (end, inl (inl cut)))
   files_of_first (inr (inr (invalid, inl passes))) = inr (inr (invalid, inl (inl passes)))
   files_of_first (inr (inr (invalid, inr falls))) = inr (inr (invalid, inl (inr (inr (inl falls)))))
 
-  pub files_of_second : SectionRefusal file_records (files_at y j) e → InputRefusal x i y j e
+  pub files_of_second : SectionRefusal file_records (version_of j.header.version) (files_at y j) e → InputRefusal x i y j e
   files_of_second (inl no_memory) = inl no_memory
   files_of_second (inr (inl (end, cut))) = inr (inl (end, inr (inl cut)))
   files_of_second (inr (inr (invalid, inl passes))) = inr (inr (invalid, inr (inl passes)))
   files_of_second (inr (inr (invalid, inr falls))) = inr (inr (invalid, inr (inr (inr (inl falls)))))
 
-  pub xorbs_of_first : SectionRefusal xorb_records (xorbs_at x i) e → InputRefusal x i y j e
+  pub xorbs_of_first : SectionRefusal xorb_records V3 (xorbs_at x i) e → InputRefusal x i y j e
   xorbs_of_first (inl no_memory) = inl no_memory
   xorbs_of_first (inr (inl (end, cut))) = inr (inl (end, inl (inr cut)))
   xorbs_of_first (inr (inr (invalid, inl passes))) = inr (inr (invalid, inl (inr (inl passes))))
   xorbs_of_first (inr (inr (invalid, inr falls))) = inr (inr (invalid, inl (inr (inr (inr falls)))))
 
-  pub xorbs_of_second : SectionRefusal xorb_records (xorbs_at y j) e → InputRefusal x i y j e
+  pub xorbs_of_second : SectionRefusal xorb_records V3 (xorbs_at y j) e → InputRefusal x i y j e
   xorbs_of_second (inl no_memory) = inl no_memory
   xorbs_of_second (inr (inl (end, cut))) = inr (inl (end, inr (inr cut)))
   xorbs_of_second (inr (inr (invalid, inl passes))) = inr (inr (invalid, inr (inr (inl passes))))
@@ -131,7 +134,7 @@ module _ (x : List ℕ) (i : MDBShardInfo) (y : List ℕ) (j : MDBShardInfo) (on
 
   held : (bytes : List ℕ) (info : MDBShardInfo) (records : Records) → HoldsLists bytes info records.files records.xorbs → Holds bytes info (shard_of records)
   held bytes info records lists = record {
-    files = section_of file_records (files_at bytes info) records.files lists.files;
+    files = section_of (files_of info) (files_at bytes info) records.files lists.files;
     xorbs = section_of xorb_records (xorbs_at bytes info) records.xorbs lists.xorbs;
   }
 
@@ -177,14 +180,14 @@ pub union_laws : OperationLaws IsByteUnion IsEitherFile IsEitherXorb UnionRefusa
 union_laws = record {
   written = λ x i y j one other result old new info have made written. union_written x i y j one other have result old new info made written;
   not_read = not_read;
-  no_files = λ x i y j e same invalid none. inr (same, inr (invalid, inl (no_union file_records file_laws IsEitherFile files_unique (files_at x i) (files_at y j) none)));
-  no_xorbs = λ x i y j e same invalid none. inr (same, inr (invalid, inr (no_union xorb_records xorb_laws IsEitherXorb xorbs_unique (xorbs_at x i) (xorbs_at y j) none)));
+  no_files = λ x i y j e same invalid none. inr (same, inr (invalid, inl (no_union file_records file_laws (version_of i.header.version) (version_of j.header.version) IsEitherFile files_unique (files_at x i) (files_at y j) none)));
+  no_xorbs = λ x i y j e same invalid none. inr (same, inr (invalid, inr (no_union xorb_records xorb_laws V3 V3 IsEitherXorb xorbs_unique (xorbs_at x i) (xorbs_at y j) none)));
 }
 
 pub difference_laws : OperationLaws IsDifference IsRest IsRest DifferenceRefusal
 difference_laws = record {
   written = λ x i y j one other result old new info have made written. difference_written x i y j one other have result old new info made written;
   not_read = λ x i y j e refusal. refusal;
-  no_files = λ x i y j e same invalid none. absurd (always_rest file_records file_laws (files_at x i) (files_at y j) none);
-  no_xorbs = λ x i y j e same invalid none. absurd (always_rest xorb_records xorb_laws (xorbs_at x i) (xorbs_at y j) none);
+  no_files = λ x i y j e same invalid none. absurd (always_rest file_records file_laws (version_of i.header.version) (version_of j.header.version) (files_at x i) (files_at y j) none);
+  no_xorbs = λ x i y j e same invalid none. absurd (always_rest xorb_records xorb_laws V3 V3 (xorbs_at x i) (xorbs_at y j) none);
 }

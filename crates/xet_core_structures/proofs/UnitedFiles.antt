@@ -11,17 +11,17 @@ use Rattle.xet_records.specs.declared.file_structs.header.SupersetResult.TheVari
 use Rattle.xet_records.specs.declared.file_structs.MDBFileInfo.{MDBFileInfo}
 use Rattle.xet_records.specs.declared.row_copier.CopyFailure.{CopyFailure}
 use Rattle.xet_records.specs.FileRecord.{file_records, file_record_bytes, row_count, rows_after}
-use Rattle.xet_records.specs.Merging.{Includes, Compares, verified, described}
+use Rattle.xet_records.specs.Merging.{Includes, Compares, verified, described, extended, mixed_header}
 use Rattle.xet_records.specs.Reading.{ReadsRowsAfter}
 use Rattle.xet_records.proofs.RecordKinds.{file_laws}
 use Rattle.xet_core_structures.specs.ByteUnion.{mixed, IsEitherFile}
 use Rattle.xet_core_structures.specs.Combining.{IsMadeOf}
-use Rattle.xet_core_structures.specs.MixedFiles.{mixed_header, MixesFiles, MixHasNoRoom}
+use Rattle.xet_core_structures.specs.MixedFiles.{MixesFiles, MixHasNoRoom}
 use Rattle.xet_core_structures.specs.SideBySide.{IsRecordHeader, PassesRecord, WritesMade, CannotMake, PairFails}
 use Rattle.xet_core_structures.specs.SideBySide.CannotMake.{nothing_made, too_many_rows}
 use Rattle.xet_core_structures.proofs.Mixing.{mixed_stored, rows_of_mix}
 use Rattle.xet_core_structures.proofs.Pairs.{fails_so, record_of}
-use Rattle.xet_core_structures.proofs.SideBySide.{header_of_found}
+use Rattle.xet_core_structures.proofs.OneSection.{header_of_found}
 
 -- which flags include the other's
 pub first_includes : (a b : ℕ) (r : SupersetResult) → Compares a b r → (r ≡ Equal) ⊎ (r ≡ SuperA) → Includes a b
@@ -112,7 +112,7 @@ module _ (g h : FileDataSequenceHeader) (old_1 new_1 old_2 new_2 : Source) where
         record {
           stored = mixed_stored r s (record_of file_records file_laws g old_1 new_1 r read first).2 (record_of file_records file_laws h old_2 new_2 s also second).2 same
               (ap (λ (k : FileDataSequenceHeader). k.num_entries) r_is ∙ count ∙ ap (λ (k : FileDataSequenceHeader). k.num_entries) (sym s_is));
-          rows = omega (arith, either_rows (verified r) r.verification s.verification, either_row (described r) r.metadata_ext s.metadata_ext);
+          rows = omega (arith, either_rows (verified r) r.verification s.verification, either_row (described r) r.metadata_ext s.metadata_ext, either_row (extended r) r.aux_ext s.aux_ext);
           hash = of_either same;
         } where
           of_either : r.metadata.file_hash ≡ s.metadata.file_hash → (x : MDBFileInfo) → (Some r ≡ Some x) ⊎ (Some s ≡ Some x) → r.metadata.file_hash ≡ x.metadata.file_hash

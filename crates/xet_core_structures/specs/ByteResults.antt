@@ -12,7 +12,10 @@ use Rattle.xet_records.specs.declared.file_structs.MDBFileInfo.{MDBFileInfo}
 use Rattle.xet_records.specs.declared.xorb_structs.MDBXorbInfo.{MDBXorbInfo}
 use Rattle.xet_records.specs.declared.row_copier.CopyFailure.{CopyFailure}
 use Rattle.xet_records.specs.declared.row_copier.CopyFailure.TheVariants.{Input, Output}
-use Rattle.xet_records.specs.RecordKind.{RecordKind}
+use Rattle.xet_records.specs.declared.record_reader.FormatVersion.{FormatVersion}
+use Rattle.xet_records.specs.declared.record_reader.FormatVersion.TheVariants.{V3}
+use Rattle.xet_records.specs.Version.{version_of}
+use Rattle.xet_records.specs.RecordKind.{RecordKind, in_version}
 use Rattle.xet_records.specs.FileRecord.{file_records, FitsRecord}
 use Rattle.xet_records.specs.XorbRecord.{xorb_records}
 use Rattle.xet_shards.specs.declared.shard_format.info.MDBShardInfo.{MDBShardInfo}
@@ -63,29 +66,31 @@ WritesResult IsResult x i y j old new info =
     (c : Shard) × HaveResult IsResult x i y j c × (info ≡ keyed_info c (key_of i))
     × Appends old new (keyed_layout c (key_of i))
 
--- two sections have no union within the rows of a section: they begin with records that have more
--- rows together, or one of each that have no union under one hash
-pub record HaveNoUnionOf {H R : Type 0} (K : RecordKind H R)
+-- two sections, each in its version, have no union within the rows of a section: they begin with
+-- records that have more rows together, or one of each that have no union under one hash
+pub record HaveNoUnionOf {H R : Type 0} (K : RecordKind H R) (version_1 version_2 : FormatVersion)
     (IsEither : Option R → Option R → Option R → Type 0) (x y : List ℕ) : Type 0 where
   pub firsts : List R
   pub seconds : List R
   pub after_firsts : List ℕ
   pub after_seconds : List ℕ
-  pub first : HoldsRecords K x firsts after_firsts
-  pub second : HoldsRecords K y seconds after_seconds
+  pub first : HoldsRecords (in_version K version_1) x firsts after_firsts
+  pub second : HoldsRecords (in_version K version_2) y seconds after_seconds
   pub clash : (4294967295 < total_rows K firsts + total_rows K seconds)
       ⊎ ((r s : R) × Contains firsts r × Contains seconds s
       × (K.hash_of (K.header_of r) ≡ K.hash_of (K.header_of s))
       × ((t : Option R) → ¬ IsEither (Some (K.handed_out r)) (Some (K.handed_out s)) t))
-  pub none : (a b c : FinMap hash_cmp R) → IsSectionOf K x a → IsSectionOf K y b
+  pub none : (a b c : FinMap hash_cmp R) → IsSectionOf (in_version K version_1) x a
+      → IsSectionOf (in_version K version_2) y b
       → ((q : DataHash) → IsEither (get a q) (get b q) (get c q))
       → ¬ (total_rows K (values c) ≤ 4294967295)
 
 -- the files of both inputs have no union, or their xorbs have too many rows
 abbrev pub HaveNoUnion : List ℕ → MDBShardInfo → List ℕ → MDBShardInfo → Type 0
 HaveNoUnion x i y j =
-    HaveNoUnionOf file_records IsEitherFile (files_at x i) (files_at y j)
-    ⊎ HaveNoUnionOf xorb_records IsEitherXorb (xorbs_at x i) (xorbs_at y j)
+    HaveNoUnionOf file_records (version_of i.header.version) (version_of j.header.version)
+    IsEitherFile (files_at x i) (files_at y j)
+    ⊎ HaveNoUnionOf xorb_records V3 V3 IsEitherXorb (xorbs_at x i) (xorbs_at y j)
 
 -- why nothing can be made of two inputs under one key: an allocation failed, an input ends early or
 -- is no valid shard
@@ -192,7 +197,8 @@ pub record OperationLaws (IsResult : Shard → Shard → Shard → Type 0)
       → DifferenceRefusal x i y j e → Refusal x i y j e
   pub no_files : (x : List ℕ) (i : MDBShardInfo) (y : List ℕ) (j : MDBShardInfo) (e : CoreError)
       → key_of i ≡ key_of j → IsInvalidShard e
-      → NoneMade file_records IsFile (files_at x i) (files_at y j) → Refusal x i y j e
+      → NoneMade file_records (version_of i.header.version) (version_of j.header.version) IsFile
+      (files_at x i) (files_at y j) → Refusal x i y j e
   pub no_xorbs : (x : List ℕ) (i : MDBShardInfo) (y : List ℕ) (j : MDBShardInfo) (e : CoreError)
       → key_of i ≡ key_of j → IsInvalidShard e
-      → NoneMade xorb_records IsXorb (xorbs_at x i) (xorbs_at y j) → Refusal x i y j e
+      → NoneMade xorb_records V3 V3 IsXorb (xorbs_at x i) (xorbs_at y j) → Refusal x i y j e

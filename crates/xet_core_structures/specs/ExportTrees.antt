@@ -1,5 +1,6 @@
 -- Trees of unions over exports of shards, and runs of chunks in the shards at their leaves.
 use Rattle.std.specs.Prelude.{◌≡◌, ℕ, ◌^◌, ◌<◌, true, List, Contains, Option, Some, option_map, slice_get}
+use Rattle.xet_records.specs.declared.record_reader.FormatVersion.TheVariants.{V3}
 use Rattle.std.specs.FinMap.{get, values}
 use Rattle.xet_base.specs.declared.merklehash.DataHash.{DataHash}
 use Rattle.xet_base.specs.Hash.{IsHash}
@@ -23,6 +24,7 @@ pub record IsExportAt (inputs : List (List ℕ)) (key : DataHash) (i : ℕ) (s :
     : Type 0 where
   pub under : form.key ≡ key
   pub files : form.file_table ≡ true
+  pub version : form.version ≡ V3
   pub fits : FitsForm form
   pub bytes : slice_get inputs i ≡ Some (exported (values s.files) (values s.xorbs) form)
 

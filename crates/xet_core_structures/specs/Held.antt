@@ -12,7 +12,7 @@ use Rattle.xet_shards.specs.declared.shard_format.info.MDBShardInfo.{MDBShardInf
 use Rattle.xet_shards.specs.InForm.{Ascends}
 use Rattle.xet_shards.specs.Section.{total_rows}
 use Rattle.xet_shards.specs.Shard.{Shard}
-use Rattle.xet_shards.specs.SectionReading.{HoldsRecords, IsSection, PassesRows, IsCutSection}
+use Rattle.xet_shards.specs.SectionReading.{files_of, HoldsRecords, IsSection, PassesRows, IsCutSection}
 
 module _ {H R : Type 0} (K : RecordKind H R) where
   -- the records may be written as a section whose hashes strictly ascend
@@ -52,25 +52,27 @@ xorbs_at bytes info = drop info.metadata.xorb_info_offset bytes
 
 -- the bytes have both sections of this shard
 pub record Holds (bytes : List ℕ) (info : MDBShardInfo) (s : Shard) : Type 0 where
-  pub files : IsSectionOf file_records (files_at bytes info) s.files
+  pub files : IsSectionOf (files_of info) (files_at bytes info) s.files
   pub xorbs : IsSectionOf xorb_records (xorbs_at bytes info) s.xorbs
 
 -- the bytes end before the bookend of a section
 abbrev pub IsCut : List ℕ → MDBShardInfo → Type 0
 IsCut bytes info =
-    IsCutSection file_records (files_at bytes info)
+    IsCutSection (files_of info) (files_at bytes info)
     ⊎ IsCutSection xorb_records (xorbs_at bytes info)
 
--- a section has too many rows, or hashes that do not strictly ascend
+-- a section has too many rows, a header that its version does not have, or hashes that do not
+-- strictly ascend
 abbrev pub IsBad : List ℕ → MDBShardInfo → Type 0
 IsBad bytes info =
-    PassesRows file_records (files_at bytes info) ⊎ PassesRows xorb_records (xorbs_at bytes info)
-    ⊎ FrontFalls file_records (files_at bytes info) ⊎ FrontFalls xorb_records (xorbs_at bytes info)
+    PassesRows (files_of info) (files_at bytes info) ⊎ PassesRows xorb_records (xorbs_at bytes info)
+    ⊎ FrontFalls (files_of info) (files_at bytes info)
+    ⊎ FrontFalls xorb_records (xorbs_at bytes info)
 
 -- the bytes have both sections, with the records of these lists
 pub record HoldsLists (bytes : List ℕ) (info : MDBShardInfo) (fs : List MDBFileInfo)
     (xs : List MDBXorbInfo) : Type 0 where
-  pub files : IsListOf file_records (files_at bytes info) fs
+  pub files : IsListOf (files_of info) (files_at bytes info) fs
   pub xorbs : IsListOf xorb_records (xorbs_at bytes info) xs
 
 -- the bytes have both sections, and of these no more bytes were read than they have, with at most
@@ -78,7 +80,7 @@ pub record HoldsLists (bytes : List ℕ) (info : MDBShardInfo) (fs : List MDBFil
 pub record ReadsSections (info : MDBShardInfo) (old new : Source) : Type 0 where
   pub files : List MDBFileInfo
   pub xorbs : List MDBXorbInfo
-  pub are_files : IsSection file_records (files_at old.bytes info) files
+  pub are_files : IsSection (files_of info) (files_at old.bytes info) files
   pub are_xorbs : IsSection xorb_records (xorbs_at old.bytes info) xorbs
   pub seeks : new.seeks ≤ old.seeks + 2
   pub read : new.read

@@ -16,6 +16,7 @@ pub use Rattle.xet_base.specs.KeyedHash
 pub use Rattle.xet_base.specs.Source
 pub use Rattle.xet_base.specs.Table
 pub use Rattle.xet_records.specs.FileRecord
+pub use Rattle.xet_records.specs.Version
 pub use Rattle.xet_records.specs.View
 pub use Rattle.xet_records.specs.XorbRecord
 pub use Rattle.xet_shards.specs.ChunkQuery
@@ -34,3 +35,4 @@ pub use Rattle.xet_shards.specs.SectionReading
 pub use Rattle.xet_shards.specs.SetOperations
 pub use Rattle.xet_shards.specs.Shard
 pub use Rattle.xet_shards.specs.WrittenQueries
+pub use Rattle.xet_shards.specs.WrittenShard

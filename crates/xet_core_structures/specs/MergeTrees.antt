@@ -2,8 +2,8 @@
 use Rattle.std.specs.Prelude.{◌≡◌, ◌⊎◌, ⊤, ℕ, ◌^◌, ◌<◌, ◌≤◌, List, [], ◌∷◌, ◌++◌, length, map, Contains, Option, Some, IfSome, slice_get}
 use Rattle.xet_base.specs.declared.error.CoreError.{CoreError}
 use Rattle.xet_base.specs.declared.error.CoreError.TheVariants.{InvalidArguments, OutOfMemory}
-use Rattle.xet_shards.specs.Layout.{layout}
 use Rattle.xet_shards.specs.Shard.{Shard}
+use Rattle.xet_shards.specs.WrittenShard.{AreBytesOf}
 use Rattle.xet_core_structures.specs.declared.set_operations.MergePlan.{MergePlan}
 use Rattle.xet_core_structures.specs.declared.set_operations.MergePlan.TheVariants.{Leaf, Both'}
 use Rattle.xet_core_structures.specs.ByteResults.{UnitesBytes, BytesRefusal}
@@ -40,9 +40,15 @@ TreeRefusal inputs (Both' p left q right) e =
 abbrev pub AtLeaves : MergePlan → (ℕ → Shard) → Shard → Type 0
 AtLeaves plan shard_at = Contains (map shard_at (leaves plan))
 
--- the input at each leaf is the bytes of a shard, with an expiry or none
+-- bytes are those of a shard, in either version, with any expiry or none
+abbrev pub AreSomeBytesOf : Shard → List ℕ → Type 0
+AreSomeBytesOf s bytes =
+    (expiry : Option ℕ) × IfSome expiry (λ e. e < 2 ^ 64) × AreBytesOf s expiry bytes
+
+-- the input at each leaf is the bytes of a shard, in either version, with an expiry or none
 abbrev pub AreWritten : List (List ℕ) → MergePlan → (ℕ → Shard) → (ℕ → Option ℕ) → Type 0
 AreWritten inputs plan shard_at expiry_at =
     (i : ℕ) → Contains (leaves plan) i
     → IfSome (expiry_at i) (λ e. e < 2 ^ 64)
-    × (slice_get inputs i ≡ Some (layout (shard_at i) (expiry_at i)))
+    × (bytes : List ℕ) × (slice_get inputs i ≡ Some bytes)
+    × AreBytesOf (shard_at i) (expiry_at i) bytes

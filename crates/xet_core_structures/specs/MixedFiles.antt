@@ -1,5 +1,5 @@
 -- A mix of two records of one file, written while both are read.
-use Rattle.std.specs.Prelude.{◌≡◌, ℕ, ◌+◌, ◌*◌, ◌<◌, ◌≤◌, ◌==◌, ◌||◌, List, [], ◌∷◌, ◌++◌, flat_map, Option, Some, if◌then◌else◌}
+use Rattle.std.specs.Prelude.{◌≡◌, ℕ, ◌+◌, ◌*◌, ◌<◌, ◌≤◌, ◌==◌, List, [], ◌∷◌, ◌++◌, flat_map, Option, Some, if◌then◌else◌}
 use Rattle.std.specs.Io.KnownBytes.{Appends}
 use Rattle.xet_base.specs.declared.error.CoreError.{CoreError}
 use Rattle.xet_base.specs.Errors.{IsDeviceError}
@@ -9,20 +9,10 @@ use Rattle.xet_records.specs.declared.file_structs.header.FileDataSequenceHeader
 use Rattle.xet_records.specs.declared.file_structs.MDBFileInfo.{MDBFileInfo}
 use Rattle.xet_records.specs.declared.row_copier.CopyFailure.{CopyFailure}
 use Rattle.xet_records.specs.declared.row_copier.CopyFailure.TheVariants.{Input, Output}
-use Rattle.xet_records.specs.FileRecord.{file_records, file_record_bytes, row_count, flags_of, has_verification, has_metadata_ext}
+use Rattle.xet_records.specs.FileRecord.{file_records, file_record_bytes, row_count}
 use Rattle.xet_records.specs.Reading.{ReadsRowsAfter}
 use Rattle.xet_records.specs.Rows.{ReadsRows}
 use Rattle.xet_core_structures.specs.ByteUnion.{mixed}
-
--- the header of a mix of the records of two headers
-abbrev pub mixed_header : FileDataSequenceHeader → FileDataSequenceHeader → FileDataSequenceHeader
-mixed_header g h =
-    record g {
-      file_flags =
-          flags_of (has_verification g.file_flags || has_verification h.file_flags)
-          (has_metadata_ext g.file_flags || has_metadata_ext h.file_flags);
-      _unused = 0;
-    }
 
 -- both records were read, and a mix of them was written and gathered, with rows that fit a section
 -- beside those before it

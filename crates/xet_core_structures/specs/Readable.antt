@@ -16,6 +16,7 @@ use Rattle.xet_shards.specs.declared.shard_format.info.MDBShardInfo.{MDBShardInf
 use Rattle.xet_shards.specs.Ends.{HasEnds}
 use Rattle.xet_shards.specs.InForm.{FitsSection, Ascends, IsInForm}
 use Rattle.xet_shards.specs.Lookup.{file_table, LooksUpRecord, FoundInShard, LookupFailsAmong, WithinBounds, SearchWithinBounds}
+use Rattle.xet_shards.specs.SectionReading.{files_of}
 use Rattle.xet_shards.specs.Shard.{Shard}
 use Rattle.xet_shards.specs.Tables.{hash_in}
 use Rattle.xet_core_structures.specs.ByteResults.{keyed_form, key_of, HaveResult}
@@ -49,7 +50,7 @@ WritesInForm IsResult x i y j old new info =
 abbrev pub LooksUpFile : MDBShardInfo → DataHash → Source → Source
     → Result (Option MDBFileInfo) CoreError → Type 0
 LooksUpFile info hash old new found =
-    LooksUpRecord file_records (file_table info.metadata old) info.metadata.file_info_offset hash
+    LooksUpRecord (files_of info) (file_table info.metadata old) info.metadata.file_info_offset hash
     old new found
 
 -- it found what the shard has, or had a reason not to, within bounds

@@ -12,7 +12,8 @@ use Rattle.xet_base.specs.Source.{Source, Takes, FailedBy, ReadFails, bytes_left
 use Rattle.xet_base.specs.Table.{Serves}
 use Rattle.xet_records.specs.declared.row_copier.CopyFailure.{CopyFailure}
 use Rattle.xet_records.specs.declared.row_copier.CopyFailure.TheVariants.{Input, Output}
-use Rattle.xet_records.specs.RecordKind.{RecordKind}
+use Rattle.xet_records.specs.declared.record_reader.FormatVersion.{FormatVersion}
+use Rattle.xet_records.specs.RecordKind.{RecordKind, in_version}
 use Rattle.xet_records.specs.Reading.{ReadsNextHeader, ReadsRowsAfter, BeginsWithHeader}
 use Rattle.xet_shards.specs.InForm.{Ascends}
 use Rattle.xet_shards.specs.Section.{total_rows, section_bytes}
@@ -124,15 +125,16 @@ module _ {H R : Type 0} (K : RecordKind H R) where
         → PassesRecord first old_1 new_1 one → PassesRecord second old_2 new_2 other
         → Refused one other → PairFails first second old_1 new_1 old_2 new_2 Refused failure
 
-  -- both sections were read, and a section was written and gathered of what is made of them
-  pub record CombinesSections (makes : Option R → Option R → Option R → Type 0)
-      (old_1 new_1 old_2 new_2 : Source) (Written : List R → Type 0) (old new : Option (List ℕ))
-      : Type 0 where
+  -- both sections were read, each in its version, and a section was written and gathered of what is
+  -- made of them
+  pub record CombinesSections (version_1 version_2 : FormatVersion)
+      (makes : Option R → Option R → Option R → Type 0) (old_1 new_1 old_2 new_2 : Source)
+      (Written : List R → Type 0) (old new : Option (List ℕ)) : Type 0 where
     pub firsts : List R
     pub seconds : List R
     pub made : List R
-    pub first : TakesSection K old_1 new_1 firsts
-    pub second : TakesSection K old_2 new_2 seconds
+    pub first : TakesSection (in_version K version_1) old_1 new_1 firsts
+    pub second : TakesSection (in_version K version_2) old_2 new_2 seconds
     pub first_ascends : Ascends K firsts
     pub second_ascends : Ascends K seconds
     pub combined : Combines K makes firsts seconds made
@@ -141,15 +143,17 @@ module _ {H R : Type 0} (K : RecordKind H R) where
     pub bytes : Appends old new (section_bytes K made)
 
   -- why a section is not read as records whose hashes strictly ascend, if the device does not fail
-  abbrev pub SectionRefusal : List ℕ → CoreError → Type 0
-  SectionRefusal bytes e =
-      (e ≡ OutOfMemory) ⊎ (IsEndOfInput e × IsCutSection K bytes)
-      ⊎ (IsInvalidShard e × (PassesRows K bytes ⊎ FrontFalls K bytes))
+  abbrev pub SectionRefusal : FormatVersion → List ℕ → CoreError → Type 0
+  SectionRefusal version bytes e =
+      (e ≡ OutOfMemory) ⊎ (IsEndOfInput e × IsCutSection (in_version K version) bytes)
+      ⊎ (IsInvalidShard e
+      × (PassesRows (in_version K version) bytes ⊎ FrontFalls (in_version K version) bytes))
 
   -- it was not read from the source's position on
-  pub record TakesNoAscending (old new : Source) (e : CoreError) : Type 0 where
+  pub record TakesNoAscending (version : FormatVersion) (old new : Source) (e : CoreError)
+      : Type 0 where
     pub bytes : new.bytes ≡ old.bytes
-    pub cause : FailedBy (SectionRefusal (bytes_left old)) old new e
+    pub cause : FailedBy (SectionRefusal version (bytes_left old)) old new e
 
   -- the bytes go on with a bookend, or with a header whose hash is greater
   abbrev pub GoesOnAfter : DataHash → List ℕ → Type 0
@@ -158,16 +162,16 @@ module _ {H R : Type 0} (K : RecordKind H R) where
       ⊎ ((h : H) × (rest : List ℕ) × BeginsWithHeader K bytes h rest
       × (hash_cmp k (K.hash_of h) ≡ Less))
 
-  -- two sections begin with records of which nothing can be made: those with one hash, after all
-  -- that have smaller ones
-  pub record NoneMade (makes : Option R → Option R → Option R → Type 0) (x y : List ℕ)
-      : Type 0 where
+  -- two sections, each in its version, begin with records of which nothing can be made: those with
+  -- one hash, after all that have smaller ones
+  pub record NoneMade (version_1 version_2 : FormatVersion)
+      (makes : Option R → Option R → Option R → Type 0) (x y : List ℕ) : Type 0 where
     pub stored_1 : List R
     pub stored_2 : List R
     pub rest_1 : List ℕ
     pub rest_2 : List ℕ
-    pub holds_1 : HoldsRecords K x stored_1 rest_1
-    pub holds_2 : HoldsRecords K y stored_2 rest_2
+    pub holds_1 : HoldsRecords (in_version K version_1) x stored_1 rest_1
+    pub holds_2 : HoldsRecords (in_version K version_2) y stored_2 rest_2
     pub firsts : List R
     pub seconds : List R
     pub made : List R
@@ -189,15 +193,19 @@ module _ {H R : Type 0} (K : RecordKind H R) where
 
   -- why no section was written of what is made of two: the output failed, or an input; or nothing
   -- can be made of records that both begin with
-  pub data SectionsFail (makes : Option R → Option R → Option R → Type 0)
-      (old_1 new_1 old_2 new_2 : Source) (failure : CopyFailure) : Type 0 where
+  pub data SectionsFail (version_1 version_2 : FormatVersion)
+      (makes : Option R → Option R → Option R → Type 0) (old_1 new_1 old_2 new_2 : Source)
+      (failure : CopyFailure) : Type 0 where
     output_fails : (e : CoreError) → failure ≡ Output e → IsDeviceError e
         → new_1.bytes ≡ old_1.bytes → new_2.bytes ≡ old_2.bytes
-        → SectionsFail makes old_1 new_1 old_2 new_2 failure
-    first_fails : (e : CoreError) → failure ≡ Input e → TakesNoAscending old_1 new_1 e
-        → Serves old_2 new_2 → SectionsFail makes old_1 new_1 old_2 new_2 failure
-    second_fails : (e : CoreError) → failure ≡ Input e → TakesNoAscending old_2 new_2 e
-        → Serves old_1 new_1 → SectionsFail makes old_1 new_1 old_2 new_2 failure
+        → SectionsFail version_1 version_2 makes old_1 new_1 old_2 new_2 failure
+    first_fails : (e : CoreError) → failure ≡ Input e → TakesNoAscending version_1 old_1 new_1 e
+        → Serves old_2 new_2
+        → SectionsFail version_1 version_2 makes old_1 new_1 old_2 new_2 failure
+    second_fails : (e : CoreError) → failure ≡ Input e → TakesNoAscending version_2 old_2 new_2 e
+        → Serves old_1 new_1
+        → SectionsFail version_1 version_2 makes old_1 new_1 old_2 new_2 failure
     refused : (e : CoreError) → failure ≡ Input e → IsInvalidShard e → Serves old_1 new_1
-        → Serves old_2 new_2 → NoneMade makes (bytes_left old_1) (bytes_left old_2)
-        → SectionsFail makes old_1 new_1 old_2 new_2 failure
+        → Serves old_2 new_2
+        → NoneMade version_1 version_2 makes (bytes_left old_1) (bytes_left old_2)
+        → SectionsFail version_1 version_2 makes old_1 new_1 old_2 new_2 failure

@@ -20,7 +20,7 @@ ghost use Rattle.xet_core_structures.specs.declared.set_operations.MergePlan.{Me
 ghost use Rattle.xet_core_structures.specs.ByteResults.{keyed_info, HaveResult, UnitesBytes};
 ghost use Rattle.xet_core_structures.specs.ByteUnion.{IsByteUnion, HasPartsOf};
 ghost use Rattle.xet_core_structures.specs.Equality.{error_eq, derived_eq, derived_partial_cmp, derived_cmp, derived_input};
-ghost use Rattle.xet_core_structures.specs.MergeTrees.{HasUnion, TreeWrites, AtLeaves, AreWritten};
+ghost use Rattle.xet_core_structures.specs.MergeTrees.{HasUnion, TreeWrites, AtLeaves, AreSomeBytesOf, AreWritten};
 ghost use Rattle.xet_core_structures.specs.Readable.{IsWrittenUnder, LooksUpFile, FindsInShard};
 ghost use Rattle.xet_records.specs.declared.file_structs.MDBFileInfo.{MDBFileInfo};
 ghost use Rattle.xet_shards.specs.declared.shard_format.info.MDBShardInfo.{MDBShardInfo};
@@ -236,40 +236,33 @@ pub fn results_are_one()
     ensures bytes { (x y u v : List ℕ) → UnitesBytes x y u → UnitesBytes x y v → u ≡ v }
 {}
 
-/// Of the bytes of shards that agree, each with any expiry or none, one union is the same byte
-/// string in either order and in either grouping. With the same shard, and with the empty one on
-/// either side, it is the shard's bytes without expiry.
+/// Of the bytes of shards that agree, each in either version and with any expiry or none, one union
+/// is the same byte string in either order and in either grouping. With the same shard, and with the
+/// empty one on either side, it is the shard's bytes in version 3 without expiry.
 pub fn unions_of_bytes()
-    ensures order { (a b : Shard) → (e f g h : Option ℕ) → (x y : List ℕ) → IsShard a → IsShard b
-        → ShardsAgree a b → IfSome e (λ n. n < 2 ^ 64) → IfSome f (λ n. n < 2 ^ 64)
-        → IfSome g (λ n. n < 2 ^ 64) → IfSome h (λ n. n < 2 ^ 64)
-        → UnitesBytes (layout a e) (layout b f) x → UnitesBytes (layout b g) (layout a h) y
-        → x ≡ y }
-    ensures grouping { (a b c : Shard) → (e f g h i j : Option ℕ) → (ab bc left right : List ℕ)
+    ensures order { (a b : Shard) → (a_1 a_2 b_1 b_2 x y : List ℕ) → IsShard a → IsShard b
+        → ShardsAgree a b → AreSomeBytesOf a a_1 → AreSomeBytesOf a a_2 → AreSomeBytesOf b b_1
+        → AreSomeBytesOf b b_2 → UnitesBytes a_1 b_1 x → UnitesBytes b_2 a_2 y → x ≡ y }
+    ensures grouping { (a b c : Shard) → (a_1 a_2 b_1 b_2 c_1 c_2 ab bc left right : List ℕ)
         → IsShard a → IsShard b → IsShard c → ShardsAgree a b → ShardsAgree a c → ShardsAgree b c
-        → IfSome e (λ n. n < 2 ^ 64) → IfSome f (λ n. n < 2 ^ 64) → IfSome g (λ n. n < 2 ^ 64)
-        → IfSome h (λ n. n < 2 ^ 64) → IfSome i (λ n. n < 2 ^ 64) → IfSome j (λ n. n < 2 ^ 64)
-        → UnitesBytes (layout a e) (layout b f) ab → UnitesBytes ab (layout c g) left
-        → UnitesBytes (layout b h) (layout c i) bc → UnitesBytes (layout a j) bc right
-        → left ≡ right }
-    ensures repetition { (a : Shard) → (e f : Option ℕ) → (x : List ℕ) → IsShard a
-        → IfSome e (λ n. n < 2 ^ 64) → IfSome f (λ n. n < 2 ^ 64)
-        → UnitesBytes (layout a e) (layout a f) x → x ≡ layout a None }
-    ensures right { (a : Shard) → (e f : Option ℕ) → (x : List ℕ) → IsShard a
-        → IfSome e (λ n. n < 2 ^ 64) → IfSome f (λ n. n < 2 ^ 64)
-        → UnitesBytes (layout a e) (layout empty_shard f) x → x ≡ layout a None }
-    ensures left { (a : Shard) → (e f : Option ℕ) → (x : List ℕ) → IsShard a
-        → IfSome e (λ n. n < 2 ^ 64) → IfSome f (λ n. n < 2 ^ 64)
-        → UnitesBytes (layout empty_shard e) (layout a f) x → x ≡ layout a None }
+        → AreSomeBytesOf a a_1 → AreSomeBytesOf a a_2 → AreSomeBytesOf b b_1
+        → AreSomeBytesOf b b_2 → AreSomeBytesOf c c_1 → AreSomeBytesOf c c_2
+        → UnitesBytes a_1 b_1 ab → UnitesBytes ab c_1 left → UnitesBytes b_2 c_2 bc
+        → UnitesBytes a_2 bc right → left ≡ right }
+    ensures repetition { (a : Shard) → (a_1 a_2 x : List ℕ) → IsShard a → AreSomeBytesOf a a_1
+        → AreSomeBytesOf a a_2 → UnitesBytes a_1 a_2 x → x ≡ layout a None }
+    ensures right { (a : Shard) → (some none x : List ℕ) → IsShard a → AreSomeBytesOf a some
+        → AreSomeBytesOf empty_shard none → UnitesBytes some none x → x ≡ layout a None }
+    ensures left { (a : Shard) → (some none x : List ℕ) → IsShard a → AreSomeBytesOf a some
+        → AreSomeBytesOf empty_shard none → UnitesBytes none some x → x ≡ layout a None }
 {}
 
 /// If two shards agree, and each file of both has in the first every optional part that it has in
 /// the second, then the union of the first's bytes with those of their difference is the union of
-/// the bytes of both.
+/// the bytes of both, whatever the versions of these.
 pub fn unions_with_differences()
-    ensures { (a b d : Shard) → (e f g h : Option ℕ) → (x y : List ℕ) → IsShard a → IsShard b
-        → ShardsAgree a b → HasPartsOf a b → IsDifference a b d → IfSome e (λ n. n < 2 ^ 64)
-        → IfSome f (λ n. n < 2 ^ 64) → IfSome g (λ n. n < 2 ^ 64) → IfSome h (λ n. n < 2 ^ 64)
-        → UnitesBytes (layout a e) (layout b f) x → UnitesBytes (layout a g) (layout d h) y
-        → x ≡ y }
+    ensures { (a b d : Shard) → (a_1 a_2 b_1 d_1 x y : List ℕ) → IsShard a → IsShard b
+        → ShardsAgree a b → HasPartsOf a b → IsDifference a b d → AreSomeBytesOf a a_1
+        → AreSomeBytesOf a a_2 → AreSomeBytesOf b b_1 → AreSomeBytesOf d d_1
+        → UnitesBytes a_1 b_1 x → UnitesBytes a_2 d_1 y → x ≡ y }
 {}

@@ -28,21 +28,22 @@ use xet_base::source::{MemorySource, ShardSource};
 use xet_records::row_copier::CopyFailure;
 use xet_shards::shard_format::MDBShardInfo;
 
-/// Writes the union of two shards: header, sections, lookup tables and footer, with the key of
-/// both, creation 0 and no expiry. Returns the header and the footer, as `load_from_reader` reads
-/// them from these bytes. Of the inputs' footers it uses the key and the offsets of the sections,
-/// and it reads each section once, by one seek. Each row is written as it is read, and only the rows
-/// of the lookup tables are held. So the output may be begun when the call fails.
+/// Writes the union of two shards, each of either version, in version 3: header, sections, lookup
+/// tables and footer, with the key of both, creation 0 and no expiry. Returns the header and the
+/// footer, as `load_from_reader` reads them from these bytes. Of the inputs' footers it uses the key
+/// and the offsets of the sections, and it reads each section once, by one seek. Each row is written
+/// as it is read, and only the rows of the lookup tables are held. So the output may be begun when
+/// the call fails.
 ///
 /// Of two files with one hash it takes the record whose flags have all bits of the other's, the
 /// first's if both have the same; else the first's segments with each optional part from the first
 /// where it has it, else from the second. Of two xorbs with one hash it takes the first's.
 ///
 /// `InvalidArguments` if the keys differ, before anything is read or written. `UnexpectedEof` if a
-/// section ends before its bookend, `InvalidShard` if its rows pass 4294967295 or its hashes do not
-/// strictly ascend. `InvalidShard` too if files that have to be combined differ in their count of
-/// segments, or the rows of a section of the union pass 4294967295. Else the error is a device's,
-/// or `OutOfMemory` if an allocation fails.
+/// section ends before its bookend, `InvalidShard` if its version does not have the header of a
+/// file, its rows pass 4294967295 or its hashes do not strictly ascend. `InvalidShard` too if files
+/// that have to be combined differ in their count of segments, or the rows of a section of the union
+/// pass 4294967295. Else the error is a device's, or `OutOfMemory` if an allocation fails.
 pub fn shard_set_union<S: ShardSource, T: ShardSource, W: Write>(
     alloc: Global,
     s1: &MDBShardInfo,
@@ -78,8 +79,9 @@ pub fn shard_set_union<S: ShardSource, T: ShardSource, W: Write>(
 /// in the same form, each row as it is read.
 ///
 /// `InvalidArguments` if the keys differ, before anything is read or written. `UnexpectedEof` if a
-/// section ends before its bookend, `InvalidShard` if its rows pass 4294967295 or its hashes do not
-/// strictly ascend. Else the error is a device's, or `OutOfMemory` if an allocation fails.
+/// section ends before its bookend, `InvalidShard` if its version does not have the header of a
+/// file, its rows pass 4294967295 or its hashes do not strictly ascend. Else the error is a
+/// device's, or `OutOfMemory` if an allocation fails.
 pub fn shard_set_difference<S: ShardSource, T: ShardSource, W: Write>(
     alloc: Global,
     s1: &MDBShardInfo,

@@ -10,11 +10,12 @@ use Rattle.xet_records.specs.declared.file_structs.header.FileDataSequenceHeader
 use Rattle.xet_records.specs.declared.file_structs.rows.FileDataSequenceEntry.{FileDataSequenceEntry}
 use Rattle.xet_records.specs.declared.file_structs.rows.FileVerificationEntry.{FileVerificationEntry}
 use Rattle.xet_records.specs.declared.file_structs.rows.FileMetadataExt.{FileMetadataExt}
+use Rattle.xet_records.specs.declared.file_structs.rows.FileAuxExt.{FileAuxExt}
 use Rattle.xet_records.specs.declared.row_copier.CopyFailure.{CopyFailure}
 use Rattle.xet_records.specs.declared.row_copier.CopyFailure.TheVariants.{Input, Output}
 use Rattle.xet_records.specs.Copying.{CopiesRow, CopiesRows, CopiesFile, CopyFails, IsOutputFailure}
-use Rattle.xet_records.specs.FileRecord.{file_rows_bytes, has_verification, has_metadata_ext}
-use Rattle.xet_records.specs.FileRow.{segment_row, verification_row, metadata_row, FitsSegment, FitsVerification, FitsMetadata, clear_verification, clear_metadata}
+use Rattle.xet_records.specs.FileRecord.{file_rows_bytes, has_verification, has_metadata_ext, has_aux_ext}
+use Rattle.xet_records.specs.FileRow.{segment_row, verification_row, metadata_row, aux_row, FitsSegment, FitsVerification, FitsMetadata, FitsAux, clear_verification, clear_metadata, clear_aux}
 use Rattle.xet_records.specs.Rows.{ReadsRows, ReadsOptional}
 use Rattle.xet_records.proofs.Reading.{no_rows, more_rows}
 use Rattle.xet_records.proofs.RecordKinds.{parts_after}
@@ -62,21 +63,27 @@ one_more_segment rows row bytes is = omega (
 )
 
 -- the parts of a file after its header, copied one after another
-module _ (First Second Third Both Whole : List ℕ → Type 0) (two : (xs ys : List ℕ) → First xs → Second ys → Both (xs ++ ys)) (three : (xs ys : List ℕ) → Both xs → Third ys → Whole (xs ++ ys)) where
-  pub file_copied : (h : FileDataSequenceHeader) (v_count m_count : ℕ) (start one other new : Option (List ℕ)) (size : ℕ)
-      (ss : List FileDataSequenceEntry) (vs : List FileVerificationEntry) (ms : List FileMetadataExt)
+module _ (First Second Third Fourth Both Last Whole : List ℕ → Type 0) (two : (xs ys : List ℕ) → First xs → Second ys → Both (xs ++ ys))
+    (last : (xs ys : List ℕ) → Third xs → Fourth ys → Last (xs ++ ys)) (whole : (xs ys : List ℕ) → Both xs → Last ys → Whole (xs ++ ys)) where
+  pub file_copied : (h : FileDataSequenceHeader) (v_count m_count a_count : ℕ) (start one other third new : Option (List ℕ)) (size : ℕ)
+      (ss : List FileDataSequenceEntry) (vs : List FileVerificationEntry) (ms : List FileMetadataExt) (xs : List FileAuxExt)
       → v_count ≡ (if has_verification h.file_flags then h.num_entries else 0) → m_count ≡ (if has_metadata_ext h.file_flags then 1 else 0)
+      → a_count ≡ (if has_aux_ext h.file_flags then 1 else 0)
       → CopiesRows segment_row FitsSegment (λ s. s) First start one h.num_entries ss → size ≡ sum_by (λ s. s.unpacked_segment_bytes) ss
       → CopiesRows verification_row FitsVerification clear_verification Second one other v_count vs
-      → CopiesRows metadata_row FitsMetadata clear_metadata Third other new m_count ms → CopiesFile Whole start new h size
+      → CopiesRows metadata_row FitsMetadata clear_metadata Third other third m_count ms
+      → CopiesRows aux_row FitsAux clear_aux Fourth third new a_count xs → CopiesFile Whole start new h size
   unfolding file_rows_bytes
-  file_copied h v_count m_count start one other new size ss vs ms v_counted m_counted s is v m =
-      let optional = optional_of metadata_row FitsMetadata clear_metadata Third (has_metadata_ext h.file_flags) m_count ms m_counted m.read in
+  file_copied h v_count m_count a_count start one other third new size ss vs ms xs v_counted m_counted a_counted s is v m a =
+      let metadata = optional_of metadata_row FitsMetadata clear_metadata Third (has_metadata_ext h.file_flags) m_count ms m_counted m.read in
+      let aux = optional_of aux_row FitsAux clear_aux Fourth (has_aux_ext h.file_flags) a_count xs a_counted a.read in
       record {
-        found = record { metadata = h; segments = ss; verification = vs; metadata_ext = optional.0 };
-        read = parts_after First Second Third Both Whole two three h v_count (has_metadata_ext h.file_flags) ss vs optional.0 v_counted refl s.read v.read optional.2;
-        written = subst (λ rows. Appends start new ((flat_map segment_row ss ++ flat_map verification_row vs) ++ flat_map metadata_row rows)) optional.1
-            (Appends-trans start other new _ _ (Appends-trans start one other _ _ s.written v.written) m.written);
+        found = record { metadata = h; segments = ss; verification = vs; metadata_ext = metadata.0; aux_ext = aux.0 };
+        read = parts_after First Second Third Fourth Both Last Whole two last whole h v_count (has_metadata_ext h.file_flags) (has_aux_ext h.file_flags) ss vs metadata.0 aux.0
+            v_counted refl refl s.read v.read metadata.2 aux.2;
+        written = subst (λ rows. Appends start new ((flat_map segment_row ss ++ flat_map verification_row vs) ++ (flat_map metadata_row rows ++ flat_map aux_row (option_to_list aux.0)))) metadata.1
+            (subst (λ rows. Appends start new ((flat_map segment_row ss ++ flat_map verification_row vs) ++ (flat_map metadata_row ms ++ flat_map aux_row rows))) aux.1
+            (Appends-trans start other new _ _ (Appends-trans start one other _ _ s.written v.written) (Appends-trans other third new _ _ m.written a.written)));
         size_is = is;
       }
 

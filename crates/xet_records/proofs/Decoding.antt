@@ -8,9 +8,9 @@ use Rattle.std.proofs.lemmas.List.Elements.{All-cons, All-nil}
 use Rattle.std.proofs.lemmas.Nat.{le_bytes_4, le_bytes_8}
 use Rattle.xet_base.specs.Bytes.{u32_bytes, u64_bytes}
 use Rattle.xet_base.specs.Hash.{hash_bytes, IsHash}
-use Rattle.xet_records.specs.FileRow.{segment_row, verification_row, metadata_row, IsReserved, FitsSegment, FitsVerification, FitsMetadata}
+use Rattle.xet_records.specs.FileRow.{segment_row, verification_row, metadata_row, aux_row, IsReserved, FitsSegment, FitsVerification, FitsMetadata, FitsAux}
 use Rattle.xet_records.specs.XorbRow.{chunk_row, FitsChunk}
-use Rattle.xet_records.specs.Decoding.{u32_at, u64_at, hash_at, segment_at, verification_at, metadata_at, chunk_at, rows_at}
+use Rattle.xet_records.specs.Decoding.{u32_at, u64_at, hash_at, segment_at, verification_at, metadata_at, aux_at, chunk_at, rows_at}
 
 -- each number of a list is a byte
 abbrev pub AreBytes : List ℕ → Type 0
@@ -114,6 +114,10 @@ pub metadata_spelled : (bytes : List ℕ) → AreBytes bytes → 48 ≤ length b
 unfolding metadata_row metadata_at
 metadata_spelled bytes are within =
     hash_and_words metadata_row FitsMetadata (metadata_at bytes) bytes are within refl (λ h words. record { sha256 = h; unused = words })
+
+pub aux_spelled : (bytes : List ℕ) → AreBytes bytes → 48 ≤ length bytes → Spells aux_row FitsAux bytes (aux_at bytes)
+unfolding aux_row aux_at
+aux_spelled bytes are within = hash_and_words aux_row FitsAux (aux_at bytes) bytes are within refl (λ h words. record { aux_hash = h; unused = words })
 
 -- so many rows have the bytes that spell them
 pub record SpellsRows {T : Type 0} (row_bytes : T → List ℕ) (Fits : T → Type 0) (bytes : List ℕ) (count : ℕ) (rows : List T) : Type 0 where

@@ -5,7 +5,7 @@ use Rattle.std.specs.Int.{bit_at}
 use Rattle.std.proofs.lemmas.Nat.{and_mask, and_le_r, and_comm, or_disjoint}
 use Rattle.std.proofs.lemmas.Nat.Bits.{and_pow, bit_at_and, bit_at-lt, same_from_bits_below}
 use Rattle.std.proofs.lemmas.Bool.Decides.{nat_tests}
-use Rattle.xet_records.specs.FileRecord.{has_verification, has_metadata_ext}
+use Rattle.xet_records.specs.FileRecord.{has_verification, has_metadata_ext, has_aux_ext}
 use Rattle.xet_records.specs.Merging.{Includes}
 
 masked : (b k : ℕ) → b < 2 → 0 < k → not (nat_eq (b * k) 0) ≡ nat_eq b 1
@@ -18,6 +18,10 @@ verification_masked flags =
 pub metadata_ext_masked : (flags : ℕ) → not (nat_eq (bit_and flags 1073741824) 0) ≡ has_metadata_ext flags
 metadata_ext_masked flags =
     ap (λ m. not (nat_eq m 0)) (and_pow flags 30) ∙ masked (bit_at flags 30) 1073741824 (omega arith) (omega arith)
+
+pub aux_ext_masked : (flags : ℕ) → not (nat_eq (bit_and flags 536870912) 0) ≡ has_aux_ext flags
+aux_ext_masked flags =
+    ap (λ m. not (nat_eq m 0)) (and_pow flags 29) ∙ masked (bit_at flags 29) 536870912 (omega arith) (omega arith)
 
 -- a bit that is not set is added
 pub or_unset : (n k : ℕ) → bit_at n k ≡ 0 → bit_or n (2 ^ k) ≡ n + 2 ^ k
@@ -36,6 +40,9 @@ verification_added flags unset = or_unset flags 31 (grind (arith, nat_tests))
 
 pub metadata_ext_added : (flags : ℕ) → has_metadata_ext flags ≡ false → bit_or flags 1073741824 ≡ flags + 1073741824
 metadata_ext_added flags unset = or_unset flags 30 (grind (arith, nat_tests))
+
+pub aux_ext_added : (flags : ℕ) → has_aux_ext flags ≡ false → bit_or flags 536870912 ≡ flags + 536870912
+aux_ext_added flags unset = or_unset flags 29 (grind (arith, nat_tests))
 
 -- inclusion of sets of bits, tested by the bits in common
 bits_in_common : (x y : ℕ) → y < 2 → (y ≡ 1 → x ≡ 1) → min x y ≡ y

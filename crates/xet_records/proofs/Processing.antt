@@ -11,7 +11,7 @@ use Rattle.xet_base.specs.Errors.{CoreResult}
 use Rattle.xet_base.specs.Input.{ReaderFails}
 use Rattle.xet_records.specs.RecordKind.{RecordKind, KindLaws}
 use Rattle.xet_records.specs.Reading.{Stops}
-use Rattle.xet_records.specs.Reading.Stops.{no_header, too_many_rows, no_rows}
+use Rattle.xet_records.specs.Reading.Stops.{no_header, refused_header, no_rows}
 use Rattle.xet_records.specs.ViewReading.{CountsStored}
 use Rattle.xet_records.specs.Processing.{HasProcessed, ProcessesSection, RefusesRecord, StopsReading, Processes}
 
@@ -42,7 +42,7 @@ module _ {H R V F I J : Type 0} (K : RecordKind H R) (record_of : V → R) (view
   stops_seen : (left : ℕ) (old new : I) (e : CoreError) → Stops K (λ a b xs. reads (view a) (view b) xs) (λ a b n f. fails (view a) (view b) n f) left old new e
       → Stops K reads fails left (view old) (view new) e
   stops_seen left old new e (no_header failed) = no_header failed
-  stops_seen left old new e (too_many_rows h read past bare) = too_many_rows h read past bare
+  stops_seen left old new e (refused_header h read refused bare) = refused_header h read refused bare
   stops_seen left old new e (no_rows h mid after begun failed) = no_rows h (view mid) after begun failed
 
   pub seen : (old new : I) (first last : F) (result : CoreResult (Unit {0}))

@@ -9,11 +9,11 @@ use Rattle.xet_base.proofs.Bytes.{length-u32_bytes, length-hash_bytes, u32_bytes
 use Rattle.xet_records.specs.declared.file_structs.header.FileDataSequenceHeader.{FileDataSequenceHeader}
 use Rattle.xet_records.specs.declared.file_structs.MDBFileInfo.{MDBFileInfo}
 use Rattle.xet_records.specs.FileRow.{header_row, FitsHeader}
-use Rattle.xet_records.specs.FileRecord.{rows_after, row_count, has_metadata_ext, FitsItsHeader}
+use Rattle.xet_records.specs.FileRecord.{rows_after, row_count, has_metadata_ext, has_aux_ext, FitsItsHeader}
 use Rattle.xet_records.proofs.Lengths.{length-header_row}
 
-pub length-three : (a b c : List ℕ) → length ((a ++ b) ++ c) ≡ length a + length b + length c
-length-three a b c = length-append (a ++ b) c ∙ ap (λ n. n + length c) (length-append a b)
+pub length-four : (a b c d : List ℕ) → length ((a ++ b) ++ (c ++ d)) ≡ length a + length b + (length c + length d)
+length-four a b c d = length-append (a ++ b) (c ++ d) ∙ (λ i. length-append a b i + length-append c d i)
 
 pub row_or_none : (b : Bool) → (if b then 48 else 0) ≡ 48 * (if b then 1 else 0)
 row_or_none true = refl
@@ -46,6 +46,8 @@ optional_rows (Some x) = refl
 -- a record that fits its header has the rows that the header announces
 pub row_count-whole : (r : MDBFileInfo) → FitsItsHeader r → row_count r ≡ 1 + rows_after r.metadata
 row_count-whole r whole =
-    let last : length (option_to_list r.metadata_ext) ≡ (if has_metadata_ext r.metadata.file_flags then 1 else 0) =
+    let metadata : length (option_to_list r.metadata_ext) ≡ (if has_metadata_ext r.metadata.file_flags then 1 else 0) =
     optional_rows r.metadata_ext ∙ ap (λ (b : Bool). (if b then 1 else 0)) whole.metadata_ext in
-    omega (arith, whole.segments, whole.verification, last)
+    let aux : length (option_to_list r.aux_ext) ≡ (if has_aux_ext r.metadata.file_flags then 1 else 0) =
+    optional_rows r.aux_ext ∙ ap (λ (b : Bool). (if b then 1 else 0)) whole.aux_ext in
+    omega (arith, whole.segments, whole.verification, metadata, aux)

@@ -5,11 +5,11 @@ use Rattle.std.specs.List.{slice_get}
 use Rattle.std.proofs.lemmas.List.{length-append, append_assoc, drop-drop}
 use Rattle.std.proofs.lemmas.List.Elements.{All-drop}
 use Rattle.xet_base.proofs.Lists.{front_is, rest_is, parts_front}
-use Rattle.xet_records.specs.FileRow.{segment_row, verification_row, metadata_row, FitsSegment, FitsVerification, FitsMetadata}
+use Rattle.xet_records.specs.FileRow.{segment_row, verification_row, metadata_row, aux_row, FitsSegment, FitsVerification, FitsMetadata, FitsAux}
 use Rattle.xet_records.specs.XorbRow.{chunk_row, FitsChunk}
 use Rattle.xet_records.specs.Rows.{ReadsRow, ReadsRows}
-use Rattle.xet_records.proofs.Lengths.{length-segment_row, length-verification_row, length-metadata_row, length-chunk_row}
-use Rattle.xet_records.proofs.Unique.{segment_row-injective, verification_row-injective, metadata_row-injective}
+use Rattle.xet_records.proofs.Lengths.{length-segment_row, length-verification_row, length-metadata_row, length-aux_row, length-chunk_row}
+use Rattle.xet_records.proofs.Unique.{segment_row-injective, verification_row-injective, metadata_row-injective, aux_row-injective}
 use Rattle.xet_records.proofs.XorbUnique.{chunk_row-injective}
 
 -- a row of a type has 48 bytes, which determine it
@@ -26,6 +26,9 @@ verification_laws = record { size = length-verification_row; determined = verifi
 pub metadata_laws : RowLaws metadata_row FitsMetadata
 metadata_laws = record { size = length-metadata_row; determined = metadata_row-injective }
 
+pub aux_laws : RowLaws aux_row FitsAux
+aux_laws = record { size = length-aux_row; determined = aux_row-injective }
+
 pub chunk_laws : RowLaws chunk_row FitsChunk
 chunk_laws = record { size = λ t _. length-chunk_row t; determined = chunk_row-injective }
 
@@ -38,7 +41,7 @@ pub record HasRows {T : Type 0} (row_bytes : T → List ℕ) (Fits : T → Type 
   pub bytes_are : bytes ≡ before ++ (flat_map row_bytes rows ++ after)
 
 module _ {T : Type 0} (row_bytes : T → List ℕ) (Fits : T → Type 0) (laws : RowLaws row_bytes Fits) where
-  length-rows : (rows : List T) → All Fits rows → length (flat_map row_bytes rows) ≡ 48 * length rows
+  pub length-rows : (rows : List T) → All Fits rows → length (flat_map row_bytes rows) ≡ 48 * length rows
   length-rows [] fit = refl
   length-rows (row ∷ rows) fit =
       length-append (row_bytes row) (flat_map row_bytes rows)

@@ -9,7 +9,8 @@ use Rattle.std.proofs.lemmas.List.Sums.{sum_by_push}
 use Rattle.std.proofs.lemmas.Grind.{flat_map-append}
 use Rattle.xet_base.specs.declared.error.CoreError.{CoreError}
 use Rattle.xet_base.specs.Hash.{all_ones}
-use Rattle.xet_records.specs.RecordKind.{RecordKind, KindLaws, IsHeaderRow}
+use Rattle.xet_records.specs.declared.record_reader.FormatVersion.{FormatVersion}
+use Rattle.xet_records.specs.RecordKind.{RecordKind, in_version, KindLaws, IsHeaderRow}
 use Rattle.xet_records.specs.Rows.{ReadsRow}
 use Rattle.xet_records.specs.Reading.{ReadsHeader, CountsHeader, ReadsRowsAfter, CountsRecord, ReadsNextRecord, HasRead, BeginsWithBookend, PassesLimit, EndsEarly}
 use Rattle.xet_records.proofs.RecordKinds.{whole_record, stored_begins, bookend_or_header, bookend_or_ends, bookend_or_passes, no_record}
@@ -25,6 +26,10 @@ header_read {H = H} K row_bytes Fits handed_out Took h row read is_record =
       taken = subst Took (row.bytes read.stored ∙ ap (λ (k : H). K.header_bytes k) same) read.taken;
     }
 
+-- the same in a version
+pub header_in : {H R : Type 0} (K : RecordKind H R) (version : FormatVersion) (Took : List ℕ → Type 0) (h : H) → ReadsHeader K Took h → ReadsHeader (in_version K version) Took h
+header_in K version Took h read = record { widths = read.widths; is_record = read.is_record; taken = read.taken }
+
 -- what an answer says of a value
 on_value : {T E : Type 0} (P Claim : T → Type 0) (Q : E → Type 0) (r : Result T E) → ((v : T) → P v → Claim v) → MatchResult r P Q → IfOk r Claim
 on_value P Claim Q (Ok v) claims holds = claims v holds
@@ -32,12 +37,12 @@ on_value P Claim Q (Err e) claims holds = tt
 
 module _ {H R : Type 0} (K : RecordKind H R) (laws : KindLaws K) where
   -- the rows after a header make a record
-  pub rows_after_header : (First Next Both : List ℕ → Type 0) (left after : ℕ) (h : H) (found : R) → ((xs ys : List ℕ) → First xs → Next ys → Both (xs ++ ys))
-      → CountsHeader K First left after h → left ≤ 4294967296 → ReadsRowsAfter K h Next found → CountsRecord K Both left after found
-  rows_after_header First Next Both left after h found joins begun few read =
+  pub rows_after_header : (version : FormatVersion) (First Next Both : List ℕ → Type 0) (left after : ℕ) (h : H) (found : R) → ((xs ys : List ℕ) → First xs → Next ys → Both (xs ++ ys))
+      → CountsHeader (in_version K version) First left after h → left ≤ 4294967296 → ReadsRowsAfter K h Next found → CountsRecord (in_version K version) Both left after found
+  rows_after_header version First Next Both left after h found joins begun few read =
       let same : K.header_of found ≡ h = ap K.header_of (sym read.handed) ∙ laws.same_header read.stored ∙ read.same_header in
       record {
-        reads = whole_record K laws First Next Both h found joins begun.read.widths begun.read.is_record begun.read.taken read (omega (arith, begun.rows, few));
+        reads = whole_record K laws version First Next Both h found joins begun.read.widths begun.read.is_record begun.allowed begun.read.taken read (omega (arith, begun.rows, few));
         rows = ap (λ (k : H). after + (1 + K.rows_after k)) same ∙ begun.rows;
       }
 

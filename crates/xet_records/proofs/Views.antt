@@ -1,41 +1,41 @@
 -- The record that a view shows, and its rows in the view's bytes.
-use Rattle.std.proofs.Common.{◌≡◌, ℕ, ◌+◌, ◌*◌, ◌≤◌, List, [], ◌∷◌, ◌++◌, length, take, drop, flat_map, Bool, true, false, Option, None, Some, refl, sym, ap, ◌∙◌, arith, subst, append-nil, if◌then◌else◌}
+use Rattle.std.proofs.Common.{◌≡◌, ℕ, ◌+◌, ◌*◌, ◌≤◌, List, [], ◌++◌, length, take, drop, flat_map, Bool, true, false, Option, None, Some, refl, sym, ap, ◌∙◌, arith, subst, append-nil, if◌then◌else◌}
 use Rattle.std.specs.Prelude.{IfSome, is_some, option_map, option_to_list}
 use Rattle.std.specs.List.{slice_get}
 use Rattle.std.proofs.lemmas.List.{length-append, length-take-le, length-drop, append_assoc, take-append-drop, take-append-le, take_all}
-use mir.Val.{bool_byte}
-use Rattle.xet_base.proofs.Lists.{front_is}
+use Rattle.xet_base.proofs.Lists.{front_is, rest_is}
 use Rattle.xet_records.specs.declared.file_structs.header.FileDataSequenceHeader.{FileDataSequenceHeader}
-use Rattle.xet_records.specs.declared.file_structs.rows.FileMetadataExt.{FileMetadataExt}
 use Rattle.xet_records.specs.declared.file_structs.MDBFileInfo.{MDBFileInfo}
 use Rattle.xet_records.specs.declared.xorb_structs.XorbChunkSequenceHeader.{XorbChunkSequenceHeader}
 use Rattle.xet_records.specs.declared.xorb_structs.MDBXorbInfo.{MDBXorbInfo}
-use Rattle.xet_records.specs.FileRow.{header_row, segment_row, verification_row, metadata_row, FitsHeader, FitsSegment, FitsVerification, FitsMetadata, clear_metadata}
-use Rattle.xet_records.specs.FileRecord.{has_verification, has_metadata_ext, rows_after, file_record_bytes, file_rows_bytes, file_records}
+use Rattle.xet_records.specs.FileRow.{header_row, segment_row, verification_row, metadata_row, aux_row, FitsHeader, FitsSegment, FitsVerification, FitsMetadata, FitsAux}
+use Rattle.xet_records.specs.FileRecord.{has_verification, has_metadata_ext, has_aux_ext, rows_after, file_record_bytes, file_rows_bytes, file_records}
 use Rattle.xet_records.specs.XorbRow.{xorb_header_row, chunk_row, FitsXorbHeader, FitsChunk}
 use Rattle.xet_records.specs.XorbRecord.{xorb_record_bytes, xorb_records}
-use Rattle.xet_records.specs.Decoding.{segment_at, verification_at, metadata_at, chunk_at, rows_at, file_at, xorb_at}
+use Rattle.xet_records.specs.Decoding.{segment_at, verification_at, metadata_at, aux_at, chunk_at, rows_at, optional_at, file_at, xorb_at}
 use Rattle.xet_records.specs.RecordKind.{RecordKind}
 use Rattle.xet_records.specs.View.{IsWholeFile, IsWholeXorb, BeginsWithHeaderRow, BeginsWithRecord, Shows, ShowsRecord, without_verification}
-use Rattle.xet_records.proofs.Lengths.{length-header_row, length-segment_rows, length-verification_rows, length-xorb_header_row}
+use Rattle.xet_records.proofs.Lengths.{length-header_row, length-segment_rows, length-verification_rows, length-metadata_row, length-aux_row, length-optional_row, length-xorb_header_row}
 use Rattle.xet_records.proofs.Record.{optional_rows}
 use Rattle.xet_records.proofs.Unique.{optional_fits}
-use Rattle.xet_records.proofs.Decoding.{AreBytes, take-bytes, drop-bytes, rows_spelled, segment_spelled, verification_spelled, metadata_spelled, chunk_spelled}
+use Rattle.xet_records.proofs.Decoding.{AreBytes, take-bytes, drop-bytes, Spells, rows_spelled, segment_spelled, verification_spelled, metadata_spelled, aux_spelled, chunk_spelled}
 use Rattle.xet_records.proofs.RowsWithin.{HasRows}
 
--- the metadata row, if there is one, has the bytes that are left
-record LastRow (wanted : Bool) (bytes : List ℕ) (row : Option FileMetadataExt) : Type 0 where
+-- an optional row, if it is wanted, has the bytes at the front
+record FirstRow {T : Type 0} (row_bytes : T → List ℕ) (Fits : T → Type 0) (wanted : Bool) (bytes : List ℕ) (row : Option T) : Type 0 where
   present : is_some row ≡ wanted
-  fits : IfSome row FitsMetadata
-  row_is : flat_map metadata_row (option_to_list row) ≡ bytes
+  fits : IfSome row Fits
+  row_is : flat_map row_bytes (option_to_list row) ≡ take (48 * (if wanted then 1 else 0)) bytes
 
-last_row : (wanted : Bool) (bytes : List ℕ) → AreBytes bytes → length bytes ≡ 48 * (if wanted then 1 else 0)
-    → LastRow wanted bytes (if wanted then Some (metadata_at bytes) else None)
-last_row true bytes are size =
-    let spelled = metadata_spelled bytes are (omega (arith, size)) in
-    record { present = refl; fits = spelled.fits; row_is = append-nil (metadata_row (metadata_at bytes)) ∙ spelled.row_is ∙ take_all 48 bytes (omega (arith, size)) }
-last_row false [] are size = record { present = refl; fits = tt; row_is = refl }
-last_row false (b ∷ bytes) are size = absurd (omega (arith, size))
+first_row : {T : Type 0} (row_bytes : T → List ℕ) (Fits : T → Type 0) (row_at : List ℕ → T)
+    → ((bytes : List ℕ) → AreBytes bytes → 48 ≤ length bytes → Spells row_bytes Fits bytes (row_at bytes))
+    → (wanted : Bool) (bytes : List ℕ) → AreBytes bytes → 48 * (if wanted then 1 else 0) ≤ length bytes
+    → FirstRow row_bytes Fits wanted bytes (optional_at row_at wanted bytes)
+unfolding optional_at
+first_row row_bytes Fits row_at spelled true bytes are within =
+    let row = spelled bytes are within in
+    record { present = refl; fits = row.fits; row_is = append-nil (row_bytes (row_at bytes)) ∙ row.row_is }
+first_row row_bytes Fits row_at spelled false bytes are within = record { present = refl; fits = tt; row_is = refl }
 
 -- bytes that are as long as a header says, and begin with it, are the bytes of the record that they spell
 file_shown : (header : FileDataSequenceHeader) (bytes : List ℕ) → FitsHeader header → AreBytes bytes → rows_after header ≤ 4294967295
@@ -47,25 +47,31 @@ file_shown header bytes fits are few size begins =
     let first = drop 48 bytes in
     let second = drop (48 * segments) first in
     let third = drop (48 * verification) second in
+    let metadata : ℕ = if has_metadata_ext header.file_flags then 1 else 0 in
+    let aux : ℕ = if has_aux_ext header.file_flags then 1 else 0 in
+    let fourth = drop (48 * metadata) third in
     let first_are = drop-bytes 48 bytes are in
     let second_are = drop-bytes (48 * segments) first first_are in
     let third_are = drop-bytes (48 * verification) second second_are in
+    let fourth_are = drop-bytes (48 * metadata) third third_are in
     let first_size : length first ≡ 48 * rows_after header = omega (arith, size, length-drop 48 bytes) in
-    let second_size : length second ≡ 48 * verification + 48 * (if has_metadata_ext header.file_flags then 1 else 0) =
-    omega (arith, first_size, length-drop (48 * segments) first) in
-    let third_size : length third ≡ 48 * (if has_metadata_ext header.file_flags then 1 else 0) =
-    omega (arith, second_size, length-drop (48 * verification) second) in
+    let second_size : length second ≡ 48 * verification + 48 * metadata + 48 * aux = omega (arith, first_size, length-drop (48 * segments) first) in
+    let third_size : length third ≡ 48 * metadata + 48 * aux = omega (arith, second_size, length-drop (48 * verification) second) in
+    let fourth_size : length fourth ≡ 48 * aux = omega (arith, third_size, length-drop (48 * metadata) third) in
     let s = rows_spelled segment_row FitsSegment segment_at segment_spelled segments first first_are (omega (arith, first_size)) in
     let v = rows_spelled verification_row FitsVerification verification_at verification_spelled verification second second_are (omega (arith, second_size)) in
-    let m = last_row (has_metadata_ext header.file_flags) third third_are third_size in
-    let after_segments = sym (take-append-drop (48 * verification) second) ∙ (λ i. sym v.rows_are i ++ sym m.row_is i) in
+    let m = first_row metadata_row FitsMetadata metadata_at metadata_spelled (has_metadata_ext header.file_flags) third third_are (omega (arith, third_size)) in
+    let a = first_row aux_row FitsAux aux_at aux_spelled (has_aux_ext header.file_flags) fourth fourth_are (omega (arith, fourth_size)) in
+    let last = sym (a.row_is ∙ take_all (48 * aux) fourth (omega (arith, fourth_size))) in
+    let after_verification = sym (take-append-drop (48 * metadata) third) ∙ (λ i. sym m.row_is i ++ last i) in
+    let after_segments = sym (take-append-drop (48 * verification) second) ∙ (λ i. sym v.rows_are i ++ after_verification i) in
     let after_header = sym (take-append-drop (48 * segments) first) ∙ (λ i. sym s.rows_are i ++ after_segments i)
     ∙ sym (append_assoc (flat_map segment_row (rows_at segment_at segments first)) (flat_map verification_row (rows_at verification_at verification second)) _) in
     record {
       same_header = refl;
       whole = record {
-        parts = record { segments = s.len; verification = v.len; metadata_ext = m.present };
-        widths = record { metadata = fits; segments = s.fit; verification = v.fit; metadata_ext = m.fits };
+        parts = record { segments = s.len; verification = v.len; metadata_ext = m.present; aux_ext = a.present };
+        widths = record { metadata = fits; segments = s.fit; verification = v.fit; metadata_ext = m.fits; aux_ext = a.fits };
       };
       rows = few;
       bytes_are = sym (take-append-drop 48 bytes) ∙ (λ i. begins i ++ after_header i);
@@ -146,28 +152,35 @@ module _ (header : FileDataSequenceHeader) (bytes : List ℕ) (r : MDBFileInfo) 
       optional_rows r.metadata_ext ∙ ap (λ (b : Bool). if b then 1 else 0) (shown.whole.parts.metadata_ext
       ∙ ap (λ (h : FileDataSequenceHeader). has_metadata_ext h.file_flags) shown.same_header)
 
+  pub aux_count : length (option_to_list r.aux_ext) ≡ (if has_aux_ext header.file_flags then 1 else 0)
+  aux_count =
+      optional_rows r.aux_ext ∙ ap (λ (b : Bool). if b then 1 else 0) (shown.whole.parts.aux_ext
+      ∙ ap (λ (h : FileDataSequenceHeader). has_aux_ext h.file_flags) shown.same_header)
+
   -- the record without its verification rows has the bytes of the other parts
-  pub parts_without_verification : (header_bytes segment_bytes metadata_bytes : List ℕ) → header_bytes ≡ header_row (without_verification r).metadata
-      → segment_bytes ≡ flat_map segment_row r.segments → metadata_bytes ≡ flat_map metadata_row (option_to_list r.metadata_ext)
-      → (header_bytes ++ segment_bytes) ++ metadata_bytes ≡ file_record_bytes (without_verification r)
+  abbrev pub last_parts : List ℕ
+  last_parts = flat_map metadata_row (option_to_list r.metadata_ext) ++ flat_map aux_row (option_to_list r.aux_ext)
+
+  pub parts_without_verification : (header_bytes segment_bytes last_bytes : List ℕ) → header_bytes ≡ header_row (without_verification r).metadata
+      → segment_bytes ≡ flat_map segment_row r.segments → last_bytes ≡ last_parts
+      → (header_bytes ++ segment_bytes) ++ last_bytes ≡ file_record_bytes (without_verification r)
   unfolding file_record_bytes file_rows_bytes
-  parts_without_verification header_bytes segment_bytes metadata_bytes header_is segments_are metadata_is =
-      (λ i. (header_is i ++ segments_are i) ++ metadata_is i)
-      ∙ append_assoc (header_row (without_verification r).metadata) (flat_map segment_row r.segments) (flat_map metadata_row (option_to_list r.metadata_ext))
-      ∙ ap (λ bs. header_row (without_verification r).metadata ++ (bs ++ flat_map metadata_row (option_to_list r.metadata_ext))) (sym (append-nil (flat_map segment_row r.segments)))
+  parts_without_verification header_bytes segment_bytes last_bytes header_is segments_are last_is =
+      (λ i. (header_is i ++ segments_are i) ++ last_is i)
+      ∙ append_assoc (header_row (without_verification r).metadata) (flat_map segment_row r.segments) last_parts
+      ∙ ap (λ bs. header_row (without_verification r).metadata ++ (bs ++ last_parts)) (sym (append-nil (flat_map segment_row r.segments)))
 
   pub has_segments : HasRows segment_row FitsSegment bytes 1 r.segments
   unfolding file_record_bytes file_rows_bytes
   has_segments =
       let s = flat_map segment_row r.segments in
       let v = flat_map verification_row r.verification in
-      let m = flat_map metadata_row (option_to_list r.metadata_ext) in
       record {
         before = header_row r.metadata;
-        after = v ++ m;
+        after = v ++ last_parts;
         start_is = length-header_row r.metadata;
         fit = shown.whole.widths.segments;
-        bytes_are = shown.bytes_are ∙ ap (λ bs. header_row r.metadata ++ bs) (append_assoc s v m);
+        bytes_are = shown.bytes_are ∙ ap (λ bs. header_row r.metadata ++ bs) (append_assoc s v last_parts);
       }
 
   pub has_verification_rows : HasRows verification_row FitsVerification bytes (1 + length r.segments) r.verification
@@ -176,45 +189,79 @@ module _ (header : FileDataSequenceHeader) (bytes : List ℕ) (r : MDBFileInfo) 
       let h = header_row r.metadata in
       let s = flat_map segment_row r.segments in
       let v = flat_map verification_row r.verification in
-      let m = flat_map metadata_row (option_to_list r.metadata_ext) in
       record {
         before = h ++ s;
-        after = m;
+        after = last_parts;
         start_is = length-append h s ∙ omega (arith, length-header_row r.metadata, length-segment_rows r.segments);
         fit = shown.whole.widths.verification;
-        bytes_are = shown.bytes_are ∙ ap (λ bs. h ++ bs) (append_assoc s v m) ∙ sym (append_assoc h s (v ++ m));
+        bytes_are = shown.bytes_are ∙ ap (λ bs. h ++ bs) (append_assoc s v last_parts) ∙ sym (append_assoc h s (v ++ last_parts));
       }
+
+  -- the bytes before the last two parts
+  abbrev pub first_parts : List ℕ
+  first_parts = header_row r.metadata ++ (flat_map segment_row r.segments ++ flat_map verification_row r.verification)
+
+  length-first_parts : length first_parts ≡ 48 * (1 + length r.segments + length r.verification)
+  length-first_parts = length-append (header_row r.metadata) (flat_map segment_row r.segments ++ flat_map verification_row r.verification) ∙ omega (
+    arith,
+    length-append (flat_map segment_row r.segments) (flat_map verification_row r.verification),
+    length-header_row r.metadata,
+    length-segment_rows r.segments,
+    length-verification_rows r.verification shown.whole.widths.verification,
+  )
+
+  last_parts_are : bytes ≡ first_parts ++ last_parts
+  unfolding file_record_bytes file_rows_bytes
+  last_parts_are =
+      shown.bytes_are ∙ sym (append_assoc (header_row r.metadata) (flat_map segment_row r.segments ++ flat_map verification_row r.verification) last_parts)
+
+  length-last_parts : length last_parts ≡ 48 * (length (option_to_list r.metadata_ext) + length (option_to_list r.aux_ext))
+  length-last_parts = length-append (flat_map metadata_row (option_to_list r.metadata_ext)) (flat_map aux_row (option_to_list r.aux_ext)) ∙ omega (
+    arith,
+    length-optional_row metadata_row FitsMetadata length-metadata_row r.metadata_ext shown.whole.widths.metadata_ext,
+    length-optional_row aux_row FitsAux length-aux_row r.aux_ext shown.whole.widths.aux_ext,
+  )
+
+  pub length-shown : length bytes ≡ 48 * (1 + length r.segments + length r.verification) + 48 * (length (option_to_list r.metadata_ext) + length (option_to_list r.aux_ext))
+  length-shown = ap length last_parts_are ∙ length-append first_parts last_parts ∙ (λ i. length-first_parts i + length-last_parts i)
+
+  pub last_parts_at : (at count : ℕ) → at ≡ 1 + length r.segments + length r.verification → count ≡ length (option_to_list r.metadata_ext) + length (option_to_list r.aux_ext)
+      → take (48 * count) (drop (48 * at) bytes) ≡ last_parts
+  last_parts_at at count at_is count_is =
+      ap (take (48 * count)) (rest_is (48 * at) bytes first_parts last_parts (length-first_parts ∙ ap (λ n. 48 * n) (sym at_is)) last_parts_are)
+      ∙ take_all (48 * count) last_parts (omega (arith, length-last_parts, count_is))
 
   pub has_metadata_rows : HasRows metadata_row FitsMetadata bytes (1 + length r.segments + length r.verification) (option_to_list r.metadata_ext)
-  unfolding file_record_bytes file_rows_bytes
-  has_metadata_rows =
-      let h = header_row r.metadata in
-      let s = flat_map segment_row r.segments in
-      let v = flat_map verification_row r.verification in
+  has_metadata_rows = record {
+    before = first_parts;
+    after = flat_map aux_row (option_to_list r.aux_ext);
+    start_is = length-first_parts;
+    fit = optional_fits FitsMetadata r.metadata_ext shown.whole.widths.metadata_ext;
+    bytes_are = last_parts_are;
+  }
+
+  pub has_aux_rows : HasRows aux_row FitsAux bytes (1 + length r.segments + length r.verification + length (option_to_list r.metadata_ext)) (option_to_list r.aux_ext)
+  has_aux_rows =
       let m = flat_map metadata_row (option_to_list r.metadata_ext) in
+      let a = flat_map aux_row (option_to_list r.aux_ext) in
       record {
-        before = h ++ (s ++ v);
+        before = first_parts ++ m;
         after = [];
-        start_is = length-append h (s ++ v) ∙ omega (
-          arith,
-          length-append s v,
-          length-header_row r.metadata,
-          length-segment_rows r.segments,
-          length-verification_rows r.verification shown.whole.widths.verification,
-        );
-        fit = optional_fits r.metadata_ext shown.whole.widths.metadata_ext;
-        bytes_are = shown.bytes_are ∙ sym (append_assoc h (s ++ v) m) ∙ ap (λ bs. (h ++ (s ++ v)) ++ bs) (sym (append-nil m));
+        start_is = length-append first_parts m
+            ∙ omega (arith, length-first_parts, length-optional_row metadata_row FitsMetadata length-metadata_row r.metadata_ext shown.whole.widths.metadata_ext);
+        fit = optional_fits FitsAux r.aux_ext shown.whole.widths.aux_ext;
+        bytes_are = last_parts_are ∙ sym (append_assoc first_parts m a) ∙ ap (λ bs. (first_parts ++ m) ++ bs) (sym (append-nil a));
       }
 
--- 1 for a row that is wanted
-pub one_if : (b : Bool) → bool_byte b ≡ (if b then 1 else 0)
-one_if true = refl
-one_if false = refl
+-- the row that reading hands out for an optional row
+pub the_row : {T : Type 0} (clear : T → T) (row : Option T) (stored found : T) → slice_get (option_to_list row) 0 ≡ Some stored → clear stored ≡ found → Some found ≡ option_map clear row
+the_row clear None stored found there handed = cc
+the_row clear (Some row) stored found there handed = ap Some (sym handed) ∙ ap (option_map clear) (sym there)
 
-pub the_metadata : (row : Option FileMetadataExt) (stored found : FileMetadataExt) → slice_get (option_to_list row) 0 ≡ Some stored
-    → clear_metadata stored ≡ found → Some found ≡ option_map clear_metadata row
-the_metadata None stored found there handed = cc
-the_metadata (Some row) stored found there handed = ap Some (sym handed) ∙ ap (option_map clear_metadata) (sym there)
+-- there is one if the header announces it
+pub one_row : {T : Type 0} (row : Option T) (announced there : Bool) → length (option_to_list row) ≡ (if announced then 1 else 0) → there ≡ announced → there ≡ true
+    → length (option_to_list row) ≡ 1
+one_row row announced there count is holds = count ∙ ap (λ (b : Bool). if b then 1 else 0) (sym is ∙ holds)
 
 pub has_chunks : (header : XorbChunkSequenceHeader) (bytes : List ℕ) (r : MDBXorbInfo) → Shows xorb_records IsWholeXorb header bytes r
     → HasRows chunk_row FitsChunk bytes 1 r.chunks

@@ -7,6 +7,7 @@ pub mod Processing
 pub mod Reading
 pub mod RecordKind
 pub mod Rows
+pub mod Version
 pub mod View
 pub mod ViewReading
 pub mod XorbRecord

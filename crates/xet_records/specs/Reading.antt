@@ -1,6 +1,7 @@
 -- What the bytes at the front of an input are to a reader of records: a bookend, a whole record, a
--- record that is cut short, or a header that announces more than 4294967295 rows.
-use Rattle.std.specs.Prelude.{◌≡◌, ◌≢◌, ◌⊎◌, ℕ, ◌+◌, ◌*◌, ◌<◌, ◌≤◌, List, ◌++◌, length, map, flat_map, sum_by, All, Option, MatchOption}
+-- record that is cut short, or a header that is refused, since the version does not have it or it
+-- announces too many rows.
+use Rattle.std.specs.Prelude.{◌≡◌, ◌≢◌, ◌⊎◌, ℕ, ◌+◌, ◌*◌, ◌<◌, ◌≤◌, true, false, List, ◌++◌, length, map, flat_map, sum_by, All, Option, MatchOption}
 use Rattle.xet_base.specs.declared.error.CoreError.{CoreError}
 use Rattle.xet_base.specs.Table.{IsBareInvalidShard}
 use Rattle.xet_base.specs.Hash.{all_ones}
@@ -20,10 +21,12 @@ pub record ReadsHeader {H R : Type 0} (K : RecordKind H R) (Took : List ℕ → 
   pub is_record : K.hash_of header ≢ all_ones
   pub taken : Took (K.header_bytes header)
 
--- the same, and the record's rows counted down from those that were left
+-- the same, the reader does not refuse it, and the record's rows were counted down from those that
+-- were left
 pub record CountsHeader {H R : Type 0} (K : RecordKind H R) (Took : List ℕ → Type 0)
     (left after : ℕ) (header : H) : Type 0 where
   pub read : ReadsHeader K Took header
+  pub allowed : K.refuses header ≡ false
   pub rows : after + (1 + K.rows_after header) ≡ left
 
 -- the rows after a header were read: those of a stored record unless the header is a bookend;
@@ -85,15 +88,27 @@ pub record ReadsRecords {H R I : Type 0} (K : RecordKind H R) (reads : I → I �
   pub records : HasRead K (reads old mid) found left
   pub bookend : ReadsBookend K (reads mid new)
 
+module _ {H R : Type 0} (K : RecordKind H R) (left : ℕ) (header : H) where
+  -- a reader does not go on after a header: its version does not have it, or the record has more
+  -- rows than are left
+  pub data IsRefused : Type 0 where
+    not_allowed : K.refuses header ≡ true → IsRefused
+    too_many_rows : left < 1 + K.rows_after header → IsRefused
+
+  -- a reader goes on after it
+  pub record IsTaken : Type 0 where
+    pub allowed : K.refuses header ≡ false
+    pub rows : 1 + K.rows_after header ≤ left
+
 -- `fails a b n e` says that reading up to `n` bytes failed with `e`
 module _ {H R I : Type 0} (K : RecordKind H R) (reads : I → I → List ℕ → Type 0)
     (fails : I → I → ℕ → CoreError → Type 0) where
-  -- why the next record was not read: its header was not, or announces more rows than are left, or
-  -- these rows were not
+  -- why the next record was not read: its header was not, or is refused, or the rows after it were
+  -- not
   pub data Stops (left : ℕ) (old new : I) (e : CoreError) : Type 0 where
     no_header : fails old new 48 e → Stops left old new e
-    too_many_rows : (header : H) → ReadsHeader K (reads old new) header
-        → left < 1 + K.rows_after header → IsBareInvalidShard e → Stops left old new e
+    refused_header : (header : H) → ReadsHeader K (reads old new) header
+        → IsRefused K left header → IsBareInvalidShard e → Stops left old new e
     no_rows : (header : H) (mid : I) (after : ℕ) → CountsHeader K (reads old mid) left after header
         → fails mid new (48 * K.rows_after header) e → Stops left old new e
 
@@ -121,24 +136,25 @@ pub record BeginsWithBookend {H R : Type 0} (K : RecordKind H R) (bytes : List �
   pub bytes_are : bytes ≡ K.header_bytes header ++ rest
 
 module _ {H R : Type 0} (K : RecordKind H R) where
-  -- a header, not a bookend, whose record has more rows than are left
+  -- a header, not a bookend, that is refused
   abbrev pub PassesLimit : ℕ → List ℕ → Type 0
   PassesLimit left bytes =
       (header : H) × (rest : List ℕ) × BeginsWithHeader K bytes header rest
-      × (left < 1 + K.rows_after header)
+      × IsRefused K left header
 
-  -- the bytes end before a header is complete, or before the rows of a record that has no more than
-  -- are left
+  -- the bytes end before a header is complete, or after a header that is not refused and before its
+  -- rows are
   abbrev pub EndsEarly : ℕ → List ℕ → Type 0
   EndsEarly left bytes =
       (length bytes < 48)
       ⊎ ((header : H) × (rest : List ℕ) × BeginsWithHeader K bytes header rest
-      × (1 + K.rows_after header ≤ left) × (length rest < 48 * K.rows_after header))
+      × IsTaken K left header × (length rest < 48 * K.rows_after header))
 
   -- the bytes end before a header is complete, or before its rows, at most 4294967295, are
   abbrev pub IsCutShort : List ℕ → Type 0
   IsCutShort bytes = EndsEarly 4294967296 bytes
 
-  -- the bytes begin with a header that announces more than 4294967295 rows
+  -- the bytes begin with a header that is refused; in version 3 it announces more than 4294967295
+  -- rows
   abbrev pub HasTooManyRows : List ℕ → Type 0
   HasTooManyRows bytes = PassesLimit 4294967296 bytes

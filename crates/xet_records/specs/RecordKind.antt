@@ -1,8 +1,10 @@
 -- Files and xorbs have records of one shape: a header row, and the rows that
 -- it announces. A kind of records says what these are.
-use Rattle.std.specs.Prelude.{◌≡◌, ◌≢◌, ℕ, ◌+◌, ◌*◌, List, ◌++◌, length}
+use Rattle.std.specs.Prelude.{◌≡◌, ◌≢◌, ℕ, ◌+◌, ◌*◌, Bool, false, List, ◌++◌, length}
 use Rattle.xet_base.specs.declared.merklehash.DataHash.{DataHash}
 use Rattle.xet_base.specs.Hash.{all_ones}
+use Rattle.xet_records.specs.declared.record_reader.FormatVersion.{FormatVersion}
+use Rattle.xet_records.specs.declared.record_reader.FormatVersion.TheVariants.{V2, V3}
 
 pub record RecordKind (Header Record : Type 0) : Type 1 where
   pub header_of : Record → Header
@@ -15,6 +17,10 @@ pub record RecordKind (Header Record : Type 0) : Type 1 where
   pub Fits : Header → Type 0
   -- the rows that it announces
   pub rows_after : Header → ℕ
+  -- a header that version 2 does not have
+  pub is_new : Header → Bool
+  -- a header that a reader refuses
+  pub refuses : Header → Bool
   -- the bytes of these rows, and of the whole record
   pub bytes_after : Record → List ℕ
   pub record_bytes : Record → List ℕ
@@ -24,6 +30,23 @@ pub record RecordKind (Header Record : Type 0) : Type 1 where
   pub IsStored : Record → Type 0
   -- what reading the record returns
   pub handed_out : Record → Record
+
+-- in version 2 a reader refuses the headers that are new in version 3, and no record has one
+abbrev pub refuses_in : {H : Type 0} → FormatVersion → (H → Bool) → H → Bool
+refuses_in V2 is_new = is_new
+refuses_in V3 is_new = λ h. false
+
+abbrev pub StoredIn : {R : Type 0} → FormatVersion → (R → Bool) → (R → Type 0) → R → Type 0
+StoredIn V2 is_new IsStored = λ r. IsStored r × (is_new r ≡ false)
+StoredIn V3 is_new IsStored = IsStored
+
+-- the kind in shards of a version
+abbrev pub in_version : {H R : Type 0} → RecordKind H R → FormatVersion → RecordKind H R
+in_version K version =
+    record K {
+      refuses = refuses_in version K.is_new;
+      IsStored = StoredIn version (λ r. K.is_new (K.header_of r)) K.IsStored;
+    }
 
 -- what both kinds have in common: sizes, and that bytes determine what is at their front
 pub record KindLaws {H R : Type 0} (K : RecordKind H R) : Type 0 where
@@ -39,6 +62,7 @@ pub record KindLaws {H R : Type 0} (K : RecordKind H R) : Type 0 where
   pub rows : (r : R) → K.IsStored r → K.row_count r ≡ 1 + K.rows_after (K.header_of r)
   pub header_fits : (r : R) → K.IsStored r → K.Fits (K.header_of r)
   pub is_record : (r : R) → K.IsStored r → K.hash_of (K.header_of r) ≢ all_ones
+  pub allowed : (r : R) → K.IsStored r → K.refuses (K.header_of r) ≡ false
   pub same_header : (r : R) → K.header_of (K.handed_out r) ≡ K.header_of r
   pub same_rows : (r : R) → K.row_count (K.handed_out r) ≡ K.row_count r
   pub handed_stored : (r : R) → K.IsStored r → K.IsStored (K.handed_out r)

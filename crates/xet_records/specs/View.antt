@@ -12,7 +12,7 @@ use Rattle.xet_records.specs.declared.file_structs.MDBFileInfo.{MDBFileInfo}
 use Rattle.xet_records.specs.declared.xorb_structs.XorbChunkSequenceEntry.{XorbChunkSequenceEntry}
 use Rattle.xet_records.specs.declared.xorb_structs.MDBXorbInfo.{MDBXorbInfo}
 use Rattle.xet_records.specs.RecordKind.{RecordKind}
-use Rattle.xet_records.specs.FileRecord.{has_verification, has_metadata_ext, flags_of, FitsItsHeader, FitsRecord, file_records}
+use Rattle.xet_records.specs.FileRecord.{has_verification, has_metadata_ext, has_aux_ext, flags_of, FitsItsHeader, FitsRecord, file_records}
 use Rattle.xet_records.specs.XorbRecord.{end_of_chunk, HasItsChunks, FitsXorb, xorb_records}
 
 -- a record that has the parts that its header announces, with its numbers within their widths; its
@@ -81,16 +81,21 @@ module _ {H R : Type 0} (K : RecordKind H R) where
   NoView bytes e =
       (IsEndOfInput e × EndsInRecord bytes) ⊎ (IsBareInvalidShard e × AnnouncesTooMany bytes)
 
--- a record without its verification rows: its header has the bit of a metadata row alone, and a
--- zero reserved word
+-- a record without its verification rows: its header has the bits of a metadata row and of an
+-- auxiliary row alone, and a zero reserved word
 abbrev pub without_verification : MDBFileInfo → MDBFileInfo
 without_verification r = record {
   metadata =
-      record r.metadata
-      { file_flags = flags_of false (has_metadata_ext r.metadata.file_flags); _unused = 0 };
+      record r.metadata {
+        file_flags =
+            flags_of false (has_metadata_ext r.metadata.file_flags)
+            (has_aux_ext r.metadata.file_flags);
+        _unused = 0;
+      };
   segments = r.segments;
   verification = [];
   metadata_ext = r.metadata_ext;
+  aux_ext = r.aux_ext;
 }
 
 -- the record that is written: verification rows are left out unless they are wanted, and all else

@@ -1,5 +1,5 @@
 -- A xorb record: a header and its chunks.
-use Rattle.std.specs.Prelude.{◌≡◌, ◌≢◌, ℕ, ◌+◌, ◌≤◌, List, [], ◌∷◌, ◌++◌, length, map, flat_map, sum_by, All}
+use Rattle.std.specs.Prelude.{◌≡◌, ◌≢◌, ℕ, ◌+◌, ◌≤◌, false, List, [], ◌∷◌, ◌++◌, length, map, flat_map, sum_by, All}
 use Rattle.xet_base.specs.declared.merklehash.DataHash.{DataHash}
 use Rattle.xet_base.specs.Hash.{all_ones}
 use Rattle.xet_records.specs.declared.file_structs.rows.FileDataSequenceEntry.{FileDataSequenceEntry}
@@ -99,6 +99,8 @@ xorb_records = record {
   bookend = xorb_bookend;
   Fits = FitsXorbHeader;
   rows_after = λ h. h.num_entries;
+  is_new = λ h. false;
+  refuses = λ h. false;
   bytes_after = λ r. flat_map chunk_row r.chunks;
   record_bytes = xorb_record_bytes;
   row_count = xorb_row_count;

@@ -7,14 +7,15 @@ ghost use Rattle.xet_records.specs.FileRow.{segment_row, FitsSegment};
 ghost use Rattle.xet_records.specs.FileRecord.{rows_after};
 
 use crate::file_structs::{
-    FileDataSequenceEntry, FileDataSequenceHeader, FileMetadataExt, FileVerificationEntry,
+    FileAuxExt, FileDataSequenceEntry, FileDataSequenceHeader, FileMetadataExt,
+    FileVerificationEntry,
 };
 use crate::row_copier::{CopyResult, copy_row, copy_rows};
 use std::io::Write;
 use xet_base::input::ByteInput;
 
 /// Copies the rows that a file's header announces, and returns the size of the file in bytes.
-/// Reserved words of verification and metadata rows are written as zero. `UnexpectedEof` of the
+/// Reserved words of the rows of its optional parts are written as zero. `UnexpectedEof` of the
 /// input if fewer rows are left.
 pub fn copy_file_rows<M, I: ByteInput<M>, W: Write>(
     input: &mut I,
@@ -30,6 +31,7 @@ pub fn copy_file_rows<M, I: ByteInput<M>, W: Write>(
     let size = copy_segments::<M, I, W>(input, writer, header.num_entries)?;
     copy_rows::<FileVerificationEntry, M, I, W>(input, writer, header.verification_rows())?;
     copy_rows::<FileMetadataExt, M, I, W>(input, writer, header.metadata_rows())?;
+    copy_rows::<FileAuxExt, M, I, W>(input, writer, header.aux_rows())?;
     Ok(size)
 }
 

@@ -6,17 +6,17 @@ mod view;
 
 ghost use Rattle.std.specs.Prelude.{◌≡◌, ℕ, List, Some, ◌++◌, ◌*◌, ◌≤◌, ◌⊎◌, length, MatchResult, IfSome, OnOk, OnErr, IfOk, IfErr, IsTrue};
 ghost use Rattle.std.specs.Io.KnownBytes.{Appends, Consumes};
-ghost use Rattle.xet_records.specs.FileRecord.{has_verification, has_metadata_ext, rows_after, row_count, file_record_bytes, size_of_file, FitsItsHeader, IsStored, handed_out, file_records};
+ghost use Rattle.xet_records.specs.FileRecord.{has_verification, has_metadata_ext, has_aux_ext, rows_after, row_count, file_record_bytes, size_of_file, FitsItsHeader, IsStored, handed_out, file_records};
 ghost use Rattle.xet_records.specs.Merging.{IsSameFile, merged};
 ghost use Rattle.xet_records.specs.Reading.{ReadsOrEnds, ReadsRowsAfter, IsCutShort, HasTooManyRows};
 ghost use Rattle.xet_base.specs.Table.{IsBareInvalidShard};
 ghost use Rattle.xet_base.specs.Errors.{IsEndOfInput, IsDeviceError, IsInvalidShard};
 
 use crate::input_rows;
-use crate::record_reader::{MAX_ROWS_OF_RECORD, SectionRecord, read_record};
+use crate::record_reader::{FormatVersion, MAX_ROWS_OF_RECORD, SectionRecord, read_record};
 use crate::rows::{ROW_SIZE, Rows, write_optional, write_row, write_rows};
 pub use header::{FileDataSequenceHeader, SupersetResult};
-pub use rows::{FileDataSequenceEntry, FileMetadataExt, FileVerificationEntry};
+pub use rows::{FileAuxExt, FileDataSequenceEntry, FileMetadataExt, FileVerificationEntry};
 use std::alloc::Global;
 use std::io::{Read, Write};
 pub use view::MDBFileInfoView;
@@ -34,6 +34,10 @@ pub const MDB_FILE_FLAG_VERIFICATION_MASK: u32 = 1 << 31;
 pub const MDB_FILE_FLAG_WITH_METADATA_EXT: u32 = 1 << 30;
 /// The bit that says whether a file has a metadata row.
 pub const MDB_FILE_FLAG_METADATA_EXT_MASK: u32 = 1 << 30;
+/// The flag of a file with an auxiliary row, which version 2 does not have.
+pub const MDB_FILE_FLAG_WITH_AUX_EXT: u32 = 1 << 29;
+/// The bit that says whether a file has an auxiliary row.
+pub const MDB_FILE_FLAG_AUX_EXT_MASK: u32 = 1 << 29;
 /// The bytes of each row of the file section.
 pub const MDB_FILE_INFO_ENTRY_SIZE: usize = ROW_SIZE;
 
@@ -45,6 +49,7 @@ pub struct MDBFileInfo {
     pub segments: Rows<FileDataSequenceEntry>,
     pub verification: Rows<FileVerificationEntry>,
     pub metadata_ext: Option<FileMetadataExt>,
+    pub aux_ext: Option<FileAuxExt>,
 }
 
 impl MDBFileInfo {
@@ -78,11 +83,18 @@ impl MDBFileInfo {
         self.metadata.contains_verification()
     }
 
-    /// Whether the record ends in a metadata row.
+    /// Whether the record has a metadata row.
     pub fn contains_metadata_ext(&self) -> bool
         ensures { result ≡ has_metadata_ext self.now.metadata.file_flags }
     {
         self.metadata.contains_metadata_ext()
+    }
+
+    /// Whether the record ends in an auxiliary row.
+    pub fn contains_aux_ext(&self) -> bool
+        ensures { result ≡ has_aux_ext self.now.metadata.file_flags }
+    {
+        self.metadata.contains_aux_ext()
     }
 
     /// Appends the rows of the record and returns their size in bytes. The error is the writer's.
@@ -99,11 +111,12 @@ impl MDBFileInfo {
         write_rows(&self.segments, writer)?;
         write_rows(&self.verification, writer)?;
         write_optional(&self.metadata_ext, writer)?;
+        write_optional(&self.aux_ext, writer)?;
         Ok(self.num_bytes() as usize)
     }
 
     /// Reads a record, or `None` at the header that ends a section, which has the all-ones hash,
-    /// whatever its other fields. Verification and metadata rows get zero reserved words.
+    /// whatever its other fields. The rows of optional parts get zero reserved words.
     ///
     /// `UnexpectedEof` if the bytes end before the header or the rows that it announces,
     /// `InvalidShard` if these rows pass 4294967295. May fail with `OutOfMemory`. Any other error
@@ -128,13 +141,13 @@ impl MDBFileInfo {
             (λ found. (found ≡ Some (handed_out r)) × (R.remaining reader.new ≡ Some rest)) }
     {
         let mut rows_left = MAX_ROWS_OF_RECORD;
-        read_record::<MDBFileInfo, OfReader, R>(alloc, reader, &mut rows_left)
+        read_record::<MDBFileInfo, OfReader, R>(alloc, reader, FormatVersion::V3, &mut rows_left)
     }
 
     /// Takes over each optional part that only `other` has, and nothing else. Requires that both
     /// records are of one file. On `OutOfMemory`, the only error, nothing changes; it comes only if
     /// verification rows are taken over.
-    #[tactic(auto, using(crate::proofs::Flags::verification_added, crate::proofs::Flags::metadata_ext_added))]
+    #[tactic(auto, using(crate::proofs::Flags::verification_added, crate::proofs::Flags::metadata_ext_added, crate::proofs::Flags::aux_ext_added))]
     pub fn merge_from(&mut self, alloc: Global, other: &Self) -> Result<()>
         requires { IsSameFile self.old.metadata other.now.metadata }
         ensures ok { OnOk result (self.new ≡ merged self.old other.now) }
@@ -143,8 +156,9 @@ impl MDBFileInfo {
             × IsTrue (has_verification other.now.metadata.file_flags)
             × (¬ IsTrue (has_verification self.old.metadata.file_flags))) }
     {
-        let takes_verification = other.contains_verification() && !self.contains_verification();
-        let takes_metadata_ext = other.contains_metadata_ext() && !self.contains_metadata_ext();
+        let takes_verification = other.contains_verification() & !self.contains_verification();
+        let takes_metadata_ext = other.contains_metadata_ext() & !self.contains_metadata_ext();
+        let takes_aux_ext = other.contains_aux_ext() & !self.contains_aux_ext();
         if takes_verification {
             self.verification = other.verification.try_clone(alloc)?;
             self.metadata.file_flags |= MDB_FILE_FLAG_WITH_VERIFICATION;
@@ -152,6 +166,10 @@ impl MDBFileInfo {
         if takes_metadata_ext {
             self.metadata_ext = other.metadata_ext;
             self.metadata.file_flags |= MDB_FILE_FLAG_WITH_METADATA_EXT;
+        }
+        if takes_aux_ext {
+            self.aux_ext = other.aux_ext;
+            self.metadata.file_flags |= MDB_FILE_FLAG_WITH_AUX_EXT;
         }
         Ok(())
     }
@@ -166,6 +184,7 @@ impl MDBFileInfo {
             segments: self.segments.try_clone(alloc)?,
             verification: self.verification.try_clone(alloc)?,
             metadata_ext: self.metadata_ext,
+            aux_ext: self.aux_ext,
         })
     }
 }
@@ -195,6 +214,10 @@ impl SectionRecord for MDBFileInfo {
         header.rows_after()
     }
 
+    fn is_new(header: &FileDataSequenceHeader) -> bool {
+        header.contains_aux_ext()
+    }
+
     #[tactic(auto, unfolding(crate::specs::FileRecord::file_rows_bytes))]
     fn read_rows_after<M, I: ByteInput<M>>(
         alloc: Global,
@@ -204,11 +227,13 @@ impl SectionRecord for MDBFileInfo {
         let segments = input_rows::read_rows(alloc, input, header.num_entries)?;
         let verification = input_rows::read_rows(alloc, input, header.verification_rows())?;
         let metadata_ext = input_rows::read_optional(input, header.contains_metadata_ext())?;
+        let aux_ext = input_rows::read_optional(input, header.contains_aux_ext())?;
         Ok(MDBFileInfo {
             metadata: header,
             segments,
             verification,
             metadata_ext,
+            aux_ext,
         })
     }
 
@@ -219,7 +244,12 @@ impl SectionRecord for MDBFileInfo {
     ) -> Result<Option<FileMetadataExt>> {
         input_rows::skip_rows::<FileDataSequenceEntry, M, I>(input, header.num_entries)?;
         input_rows::skip_rows::<FileVerificationEntry, M, I>(input, header.verification_rows())?;
-        Ok(input_rows::read_optional(input, header.contains_metadata_ext())?)
+        let metadata_ext = input_rows::read_optional(input, header.contains_metadata_ext())?;
+        let _aux_ext: Option<FileAuxExt> = input_rows::read_optional(
+            input,
+            header.contains_aux_ext(),
+        )?;
+        Ok(metadata_ext)
     }
 
     fn laws() {}

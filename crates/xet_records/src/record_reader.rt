@@ -1,8 +1,9 @@
 //! Reading headers, records and sections from any input, reader or source.
 
-ghost use Rattle.std.specs.Prelude.{◌≡◌, ◌≤◌, ◌<◌, ◌*◌, ◌^◌, ◌↔◌, IsTrue, MatchResult};
+ghost use Rattle.std.specs.Prelude.{◌≡◌, ◌≤◌, ◌<◌, ◌*◌, ◌^◌, ◌↔◌, IsTrue, MatchResult, MatchOption};
 ghost use Rattle.xet_base.specs.Hash.{all_ones};
-ghost use Rattle.xet_records.specs.RecordKind.{RecordKind, KindLaws, IsHeaderRow};
+ghost use Rattle.xet_records.specs.RecordKind.{RecordKind, in_version, KindLaws, IsHeaderRow};
+ghost use Rattle.xet_records.specs.Version.{number_of, IsVersion, version_of};
 ghost use Rattle.xet_records.specs.Reading.{ReadsRowsAfter, ReadsNextHeader, ReadsNextRecord, Stops, ReadsRecords, StopsAfter};
 
 use crate::input_rows;
@@ -15,6 +16,50 @@ use xet_base::merklehash::MerkleHash;
 /// The most rows that a record read by itself may have, its header included: the rows after it fit
 /// `u32`.
 pub const MAX_ROWS_OF_RECORD: u64 = 1 << 32;
+
+/// A version of the format that is read. Xorb sections are alike in both.
+#[derive(Clone, Copy, Debug, PartialEq, Eq)]
+pub enum FormatVersion {
+    /// Files have no auxiliary row.
+    V2,
+    /// Files may have an auxiliary row.
+    V3,
+}
+
+impl FormatVersion {
+    /// The version with this number, or `None` if it is not read.
+    pub fn of_number(number: u64) -> Option<FormatVersion>
+        ensures { MatchOption result (¬ IsVersion number) (λ version. number ≡ number_of version) }
+    {
+        match number {
+            2 => Some(FormatVersion::V2),
+            3 => Some(FormatVersion::V3),
+            _ => None,
+        }
+    }
+
+    /// The version in which sections are read under a header with this number: 2, or else 3. A
+    /// header that was read has one of the two; any other number is that of a header made by hand.
+    pub fn of_header(number: u64) -> FormatVersion
+        ensures { result ≡ version_of number }
+    {
+        if number == 2 {
+            FormatVersion::V2
+        } else {
+            FormatVersion::V3
+        }
+    }
+
+    /// The number of the version.
+    pub fn number(self) -> u64
+        ensures { result ≡ number_of self }
+    {
+        match self {
+            FormatVersion::V2 => 2,
+            FormatVersion::V3 => 3,
+        }
+    }
+}
 
 /// A record of a section, of files or of xorbs: a header row, and the rows that it announces.
 pub trait SectionRecord {
@@ -38,7 +83,11 @@ pub trait SectionRecord {
     /// The number of rows after the header.
     fn rows_after(header: &Self::Header) -> u64
         ensures rows { result ≡ kind.rows_after header.now }
-        ensures bound { result < 2 ^ 33 };
+        ensures bound { result ≤ 2 ^ 33 };
+
+    /// Whether the header is new in version 3, so that a reader of version 2 refuses it.
+    fn is_new(header: &Self::Header) -> bool
+        ensures { result ≡ kind.is_new header.now };
 
     /// Reads the rows that the header announces. `UnexpectedEof` if fewer are left. May fail with
     /// `OutOfMemory`.
@@ -72,20 +121,25 @@ pub trait SectionRecord {
 /// Reads the header of the next record of a section, or `None` at its bookend, and counts the
 /// record's rows down from `rows_left`.
 ///
-/// `UnexpectedEof` if fewer than 48 bytes are left, `InvalidShard` if the record has more rows than
-/// `rows_left`.
+/// `UnexpectedEof` if fewer than 48 bytes are left, `InvalidShard` if the version does not have
+/// such a header, or the record has more rows than `rows_left`.
 pub fn read_header<R: SectionRecord, M, I: ByteInput<M>>(
     alloc: Global,
     input: &mut I,
+    version: FormatVersion,
     rows_left: &mut u64,
 ) -> Result<Option<R::Header>>
     ensures { MatchResult result
-        (ReadsNextHeader R.kind (I.reads input.old input.new) rows_left.old rows_left.new)
-        (Stops R.kind I.reads I.fails rows_left.old input.old input.new) }
+        (ReadsNextHeader (in_version R.kind version) (I.reads input.old input.new) rows_left.old
+        rows_left.new)
+        (Stops (in_version R.kind version) I.reads I.fails rows_left.old input.old input.new) }
 {
     let header: R::Header = input_rows::read_row(input)?;
     if R::is_bookend(&header) {
         return Ok(None);
+    }
+    if refuses::<R>(version, &header) {
+        return Err(CoreError::InvalidShard(String::new(alloc)));
     }
     let rows = 1 + R::rows_after(&header);
     if rows > *rows_left {
@@ -95,23 +149,35 @@ pub fn read_header<R: SectionRecord, M, I: ByteInput<M>>(
     Ok(Some(header))
 }
 
+// Whether a reader of this version refuses the header.
+fn refuses<R: SectionRecord>(version: FormatVersion, header: &R::Header) -> bool
+    ensures { result ≡ (in_version R.kind version).refuses header.now }
+{
+    match version {
+        FormatVersion::V2 => R::is_new(header),
+        FormatVersion::V3 => false,
+    }
+}
+
 /// Reads the next record of a section, or `None` at its bookend, and counts the record's rows down
 /// from `rows_left`.
 ///
-/// `UnexpectedEof` if too few bytes are left, `InvalidShard` if the record has more rows than
-/// `rows_left`. May fail with `OutOfMemory`.
+/// `UnexpectedEof` if too few bytes are left, `InvalidShard` if the version does not have such a
+/// header, or the record has more rows than `rows_left`. May fail with `OutOfMemory`.
 pub fn read_record<R: SectionRecord, M, I: ByteInput<M>>(
     alloc: Global,
     input: &mut I,
+    version: FormatVersion,
     rows_left: &mut u64,
 ) -> Result<Option<R>>
     requires { rows_left.old ≤ 4294967296 }
     ensures { MatchResult result
-        (ReadsNextRecord R.kind (I.reads input.old input.new) rows_left.old rows_left.new)
-        (Stops R.kind I.reads I.fails rows_left.old input.old input.new) }
+        (ReadsNextRecord (in_version R.kind version) (I.reads input.old input.new) rows_left.old
+        rows_left.new)
+        (Stops (in_version R.kind version) I.reads I.fails rows_left.old input.old input.new) }
 {
     R::laws();
-    let Some(header) = read_header::<R, M, I>(alloc, input, rows_left)? else {
+    let Some(header) = read_header::<R, M, I>(alloc, input, version, rows_left)? else {
         return Ok(None);
     };
     Ok(Some(R::read_rows_after(alloc, input, header)?))
@@ -119,20 +185,21 @@ pub fn read_record<R: SectionRecord, M, I: ByteInput<M>>(
 
 /// Reads the records of a section up to its bookend.
 ///
-/// `UnexpectedEof` if the input ends before the bookend, `InvalidShard` if the rows pass
-/// 4294967295. May fail with `OutOfMemory`.
+/// `UnexpectedEof` if the input ends before the bookend, `InvalidShard` if the version does not
+/// have a header, or the rows pass 4294967295. May fail with `OutOfMemory`.
 pub fn read_section<R: SectionRecord + Drop, M, I: ByteInput<M>>(
     alloc: Global,
     input: &mut I,
+    version: FormatVersion,
 ) -> Result<Vec<R>>
     ensures { MatchResult result
-        (λ found. ReadsRecords R.kind I.reads input.old input.new found.items)
-        (StopsAfter R.kind I.reads I.fails input.old input.new) }
+        (λ found. ReadsRecords (in_version R.kind version) I.reads input.old input.new found.items)
+        (StopsAfter (in_version R.kind version) I.reads I.fails input.old input.new) }
 {
     R::laws();
     let mut records = Vec::new(alloc);
     let mut rows_left = u64::from(u32::MAX);
-    while let Some(next) = read_record(alloc, input, &mut rows_left)? {
+    while let Some(next) = read_record(alloc, input, version, &mut rows_left)? {
         records.push(next)?;
     }
     Ok(records)

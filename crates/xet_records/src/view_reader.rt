@@ -4,10 +4,11 @@ ghost use Rattle.std.specs.Prelude.{◌≡◌, ◌⊎◌, ℕ, ◌+◌, ◌*◌,
 ghost use Rattle.xet_base.specs.declared.error.CoreError.TheVariants.{OutOfMemory};
 ghost use Rattle.xet_records.specs.Processing.{ProcessesSection, RefusesRecord, StopsReading};
 ghost use Rattle.xet_records.specs.Reading.{Stops};
+ghost use Rattle.xet_records.specs.RecordKind.{in_version};
 ghost use Rattle.xet_records.specs.View.{BeginsWithHeaderRow, ShowsRecord};
 ghost use Rattle.xet_records.specs.ViewReading.{ReadsNextView, AddsRows, LacksMemory};
 
-use crate::record_reader::{SectionRecord, read_header};
+use crate::record_reader::{FormatVersion, SectionRecord, read_header};
 use crate::rows::{ROW_SIZE, Row};
 use bytes::Bytes;
 use std::alloc::Global;
@@ -29,20 +30,22 @@ pub trait RecordView<R: SectionRecord> {
 /// Reads a view of the next record of a section, or `None` at its bookend, and counts the record's
 /// rows down from `rows_left`.
 ///
-/// `UnexpectedEof` if too few bytes are left, `InvalidShard` if the record has more rows than
-/// `rows_left`. May fail with `OutOfMemory`.
+/// `UnexpectedEof` if too few bytes are left, `InvalidShard` if the version does not have such a
+/// header, or the record has more rows than `rows_left`. May fail with `OutOfMemory`.
 pub fn read_view<R: SectionRecord, V: RecordView<R>, M, I: ByteInput<M>>(
     alloc: Global,
     input: &mut I,
+    version: FormatVersion,
     rows_left: &mut u64,
 ) -> Result<Option<V>>
     requires { rows_left.old ≤ 4294967296 }
     ensures { MatchResult result
-        (ReadsNextView R.kind V.shown (I.reads input.old input.new) rows_left.old rows_left.new)
-        (Stops R.kind I.reads I.fails rows_left.old input.old input.new) }
+        (ReadsNextView (in_version R.kind version) V.shown (I.reads input.old input.new)
+        rows_left.old rows_left.new)
+        (Stops (in_version R.kind version) I.reads I.fails rows_left.old input.old input.new) }
 {
     R::laws();
-    let Some(header) = read_header::<R, M, I>(alloc, input, rows_left)? else {
+    let Some(header) = read_header::<R, M, I>(alloc, input, version, rows_left)? else {
         return Ok(None);
     };
     let bytes = read_row_bytes(alloc, input, &header.to_bytes(), R::rows_after(&header))?;
@@ -72,27 +75,28 @@ fn read_row_bytes<M, I: ByteInput<M>>(
 
 /// Calls `callback` with a view of each record of a section, in order, until a call fails or the
 /// bookend is read. The error is that of the call, or of reading: `UnexpectedEof` if the input ends
-/// before the bookend, `InvalidShard` if the rows pass 4294967295, `OutOfMemory`.
+/// before the bookend, `InvalidShard` if the version does not have a header, or the rows pass
+/// 4294967295, `OutOfMemory`.
 pub fn process_section<
     R: SectionRecord,
     V: RecordView<R>,
     M,
     I: ByteInput<M>,
     F: FnMut(V) -> Result<()>,
->(alloc: Global, input: &mut I, callback: &mut F) -> Result<()>
+>(alloc: Global, input: &mut I, version: FormatVersion, callback: &mut F) -> Result<()>
     requires { F.IsAlwaysCallable callback.old }
     ensures calls { MatchResult result
-        (λ _. ProcessesSection R.kind V.shown I.reads I.fails F.step input.old input.new
-        callback.old callback.new)
-        (λ e. RefusesRecord R.kind V.shown I.reads I.fails F.step input.old input.new callback.old
-        callback.new e
-        ⊎ StopsReading R.kind V.shown I.reads I.fails F.step input.old input.new callback.old
-        callback.new e) }
+        (λ _. ProcessesSection (in_version R.kind version) V.shown I.reads I.fails F.step input.old
+        input.new callback.old callback.new)
+        (λ e. RefusesRecord (in_version R.kind version) V.shown I.reads I.fails F.step input.old
+        input.new callback.old callback.new e
+        ⊎ StopsReading (in_version R.kind version) V.shown I.reads I.fails F.step input.old
+        input.new callback.old callback.new e) }
     ensures callable { F.IsAlwaysCallable callback.new }
 {
     R::laws();
     let mut rows_left = u64::from(u32::MAX);
-    while let Some(view) = read_view::<R, V, M, I>(alloc, input, &mut rows_left)? {
+    while let Some(view) = read_view::<R, V, M, I>(alloc, input, version, &mut rows_left)? {
         callback(view)?;
     }
     Ok(())

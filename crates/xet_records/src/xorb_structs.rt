@@ -12,7 +12,7 @@ ghost use Rattle.xet_records.specs.Rows.{WritesRow, ReadsWhole, LacksRow};
 ghost use Rattle.xet_records.specs.Reading.{ReadsOrEnds, IsCutShort};
 
 use crate::input_rows;
-use crate::record_reader::{MAX_ROWS_OF_RECORD, SectionRecord, read_record};
+use crate::record_reader::{FormatVersion, MAX_ROWS_OF_RECORD, SectionRecord, read_record};
 use crate::rows::{ROW_SIZE, Row, Rows, read_row, write_row, write_rows};
 use std::alloc::Global;
 use std::io;
@@ -299,7 +299,7 @@ impl MDBXorbInfo {
             → IfOk result (λ found. (found ≡ Some r) × (R.remaining reader.new ≡ Some rest)) }
     {
         let mut rows_left = MAX_ROWS_OF_RECORD;
-        read_record::<MDBXorbInfo, OfReader, R>(alloc, reader, &mut rows_left)
+        read_record::<MDBXorbInfo, OfReader, R>(alloc, reader, FormatVersion::V3, &mut rows_left)
     }
 
     /// Each chunk's hash with the offset of its end in the xorb's unpacked bytes. Requires that
@@ -352,6 +352,10 @@ impl SectionRecord for MDBXorbInfo {
 
     fn rows_after(header: &XorbChunkSequenceHeader) -> u64 {
         u64::from(header.num_entries)
+    }
+
+    fn is_new(_header: &XorbChunkSequenceHeader) -> bool {
+        false
     }
 
     fn read_rows_after<M, I: ByteInput<M>>(

@@ -9,7 +9,6 @@ use Rattle.std.proofs.lemmas.Option.{same_Some}
 use Rattle.xet_base.specs.declared.merklehash.DataHash.{DataHash}
 use Rattle.xet_base.proofs.HashOrder.{hash_cmp-IsTotalOrder, hash_cmp-IsAntisymmetric}
 use Rattle.xet_records.specs.declared.file_structs.rows.FileVerificationEntry.{FileVerificationEntry}
-use Rattle.xet_records.specs.declared.file_structs.rows.FileMetadataExt.{FileMetadataExt}
 use Rattle.xet_records.specs.declared.file_structs.MDBFileInfo.{MDBFileInfo}
 use Rattle.xet_records.specs.declared.xorb_structs.MDBXorbInfo.{MDBXorbInfo}
 use Rattle.xet_records.specs.FileRecord.{row_count, IsWellFormed}
@@ -19,18 +18,18 @@ use Rattle.xet_records.proofs.Merging.{same_file_if_agree, merged_well_formed}
 use Rattle.xet_shards.specs.Shard.{Shard, IsShard, file_hash_of, xorb_hash_of}
 use Rattle.xet_shards.specs.Joining.{either_file}
 use Rattle.xet_shards.specs.SetOperations.{IsUnion, ShardsAgree, HasFewRows}
-use Rattle.xet_shards.specs.Joins.{verification_of, segments_under, verification_under, metadata_under, HasWhatAnyHas, FollowsParts, IsJoinOf, AgreePairwise}
+use Rattle.xet_shards.specs.Joins.{verification_of, segments_under, verification_under, metadata_under, aux_under, HasWhatAnyHas, FollowsParts, IsJoinOf, AgreePairwise}
 use Rattle.xet_shards.proofs.FileUnions.{holds_in_map}
 use Rattle.xet_shards.proofs.Sums.{all_of_map, part-le-sum, sum-below}
 use Rattle.xet_shards.proofs.Unions.{IsKnown, known}
 use Rattle.xet_shards.proofs.Overlays.{united_shard, union_exists}
-use Rattle.xet_shards.proofs.Joins.{same_segments, same_verification, same_metadata, follows_parts, plain_file, join-unique, join-none, join-one, join-append}
+use Rattle.xet_shards.proofs.Joins.{same_segments, same_verification, same_metadata, same_aux, follows_parts, plain_file, join-unique, join-none, join-one, join-append}
 
 -- the parts of a file that is present
 verification_is : (r : MDBFileInfo) → IsTrue (verified r) → verification_of r ≡ Some r.verification
 verification_is r has = ap (λ (v : Bool). if v then Some r.verification else None) has
 
-row_is : (o : Option FileMetadataExt) → IsTrue (is_some o) → (x : FileMetadataExt) × (o ≡ Some x)
+row_is : {X : Type 0} (o : Option X) → IsTrue (is_some o) → (x : X) × (o ≡ Some x)
 row_is o has = grind arith
 
 -- agreement of each shard of a set with each of another passes to their joins
@@ -59,6 +58,13 @@ module _ (A B : Shard → Type 0) (a b : Shard) (first : IsJoinOf A a) (second :
         (λ u k i j x y. same_metadata q (get u.files q) (get k.files q) (plain_file u (follows_A u i) q) (plain_file k (follows_B k j) q) ((agree u k i j).files q) x y)
         mine.0 others.0 (ap (option_and_then (λ t. t.metadata_ext)) own ∙ mine.1) (ap (option_and_then (λ t. t.metadata_ext)) other ∙ others.1))
         ∙ sym others.1;
+    aux_ext = λ m l.
+        let mine = row_is r.aux_ext ((plain_file a first.follows q r own).aux_present ∙ m) in
+        let others = row_is s.aux_ext ((plain_file b second.follows q s other).aux_present ∙ l) in
+        mine.1 ∙ ap Some (from_members (aux_under q) (first.aux_ext q) (second.aux_ext q)
+        (λ u k i j x y. same_aux q (get u.files q) (get k.files q) (plain_file u (follows_A u i) q) (plain_file k (follows_B k j) q) ((agree u k i j).files q) x y)
+        mine.0 others.0 (ap (option_and_then (λ t. t.aux_ext)) own ∙ mine.1) (ap (option_and_then (λ t. t.aux_ext)) other ∙ others.1))
+        ∙ sym others.1;
   }
 
   pub joins_agree : ShardsAgree a b
@@ -81,8 +87,8 @@ module _ (A C : Shard → Type 0) (a c : Shard) (few : IsJoinOf A a) (more : IsJ
   few_verification : (v : Bool) (xs ys : List FileVerificationEntry) → (v ≡ false → xs ≡ []) → (IsTrue v → ys ≡ xs) → length xs ≤ length ys
   few_verification v xs ys absent same = grind arith
 
-  few_metadata : (o p : Option FileMetadataExt) → ((x : FileMetadataExt) → o ≡ Some x → p ≡ Some x) → length (option_to_list o) ≤ length (option_to_list p)
-  few_metadata o p same = grind arith
+  few_row : {X : Type 0} (o p : Option X) → ((x : X) → o ≡ Some x → p ≡ Some x) → length (option_to_list o) ≤ length (option_to_list p)
+  few_row o p same = grind arith
 
   file_more : (q : DataHash) (r : MDBFileInfo) → get a.files q ≡ Some r → (t : MDBFileInfo) × (get c.files q ≡ Some t) × (row_count r ≤ row_count t)
   file_more q r at =
@@ -91,9 +97,11 @@ module _ (A C : Shard → Type 0) (a c : Shard) (few : IsJoinOf A a) (more : IsJ
       let header = plain_file a few.follows q r at in
       let verification = few_verification (verified r) r.verification t.verification header.absent (λ has. verification_there (verified t) t.verification r.verification
       (sym (ap (option_and_then verification_of) there.1) ∙ has_more (verification_under q) (few.verification q) (more.verification q) r.verification (ap (option_and_then verification_of) at ∙ verification_is r has))) in
-      let metadata_ext = few_metadata r.metadata_ext t.metadata_ext (λ x is.
+      let metadata_ext = few_row r.metadata_ext t.metadata_ext (λ x is.
       sym (ap (option_and_then (λ s. s.metadata_ext)) there.1) ∙ has_more (metadata_under q) (few.metadata_ext q) (more.metadata_ext q) x (ap (option_and_then (λ s. s.metadata_ext)) at ∙ is)) in
-      (t, there.1, omega (arith, ap length there.2, verification, metadata_ext))
+      let aux_ext = few_row r.aux_ext t.aux_ext (λ x is.
+      sym (ap (option_and_then (λ s. s.aux_ext)) there.1) ∙ has_more (aux_under q) (few.aux_ext q) (more.aux_ext q) x (ap (option_and_then (λ s. s.aux_ext)) at ∙ is)) in
+      (t, there.1, omega (arith, ap length there.2, verification, metadata_ext, aux_ext))
 
   pub fewer_if_more : HasFewRows c → HasFewRows a
   fewer_if_more all = record {

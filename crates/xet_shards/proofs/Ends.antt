@@ -5,6 +5,8 @@ use Rattle.std.specs.Io.KnownBytes.{Consumes}
 use Rattle.xet_base.specs.Bytes.{u64_bytes, LacksBytes}
 use Rattle.xet_base.proofs.Bytes.{length-u64_bytes}
 use Rattle.xet_base.proofs.Lists.{front_is, rest_is}
+use Rattle.xet_records.specs.declared.record_reader.FormatVersion.{FormatVersion}
+use Rattle.xet_records.specs.Version.{number_of}
 use Rattle.xet_shards.specs.Layout.{header_tag}
 use Rattle.xet_shards.specs.Ends.{HasUnsupportedHeader, HasUnsupportedFooter, EndsInFooter}
 
@@ -18,14 +20,14 @@ unsupported_tag (Some bytes) (Some rest) tag len taken differs =
     inl (omega (arith, length_is bytes tag rest taken, len), λ same. differs (sym (front_is 32 bytes tag rest len taken) ∙ same))
 
 pub unsupported_version : (old mid new : Option (List ℕ)) (tag rest : List ℕ) → length tag ≡ 32 → length rest ≡ 16 → Consumes old mid tag → Consumes mid new rest
-    → take 8 rest ≢ u64_bytes 2 → IfSome old HasUnsupportedHeader
+    → ((version : FormatVersion) → take 8 rest ≢ u64_bytes (number_of version)) → IfSome old HasUnsupportedHeader
 unsupported_version None mid new tag rest tag_len len first last differs = tt
 unsupported_version (Some bytes) None new tag rest tag_len len first last differs = absurd first
 unsupported_version (Some bytes) (Some more) None tag rest tag_len len first last differs = absurd last
 unsupported_version (Some bytes) (Some more) (Some after) tag rest tag_len len first last differs =
     inr (
       omega (arith, length_is bytes tag more first, length_is more rest after last, tag_len, len),
-      λ same. differs (sym (take-append-le 8 rest after (omega (arith, len))) ∙ ap (take 8) (sym last ∙ sym (rest_is 32 bytes tag more tag_len first)) ∙ same),
+      λ version same. differs version (sym (take-append-le 8 rest after (omega (arith, len))) ∙ ap (take 8) (sym last ∙ sym (rest_is 32 bytes tag more tag_len first)) ∙ same),
     )
 
 pub unsupported_footer : (old mid : Option (List ℕ)) (version : List ℕ) → length version ≡ 8 → Consumes old mid version → version ≢ u64_bytes 1

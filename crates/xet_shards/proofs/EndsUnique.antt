@@ -15,27 +15,36 @@ use Rattle.xet_records.specs.declared.file_structs.MDBFileInfo.{MDBFileInfo}
 use Rattle.xet_records.specs.declared.xorb_structs.MDBXorbInfo.{MDBXorbInfo}
 use Rattle.xet_records.specs.FileRecord.{file_records}
 use Rattle.xet_records.specs.XorbRecord.{xorb_records}
+use Rattle.xet_shards.proofs.Versions.{number_fits}
+use Rattle.xet_records.specs.Version.{IsVersion}
+use Rattle.xet_records.specs.declared.record_reader.FormatVersion.{FormatVersion}
 use Rattle.xet_shards.specs.declared.shard_format.header.MDBShardFileHeader.{MDBShardFileHeader}
 use Rattle.xet_shards.specs.declared.shard_format.footer.MDBShardFileFooter.{MDBShardFileFooter}
 use Rattle.xet_shards.specs.declared.shard_format.info.MDBShardInfo.{MDBShardInfo}
 use Rattle.xet_shards.specs.Shard.{Shard}
 use Rattle.xet_shards.specs.Section.{section_bytes}
 use Rattle.xet_shards.specs.Tables.{table_bytes, chunk_table_bytes}
-use Rattle.xet_shards.specs.Layout.{Form, if_in, header_tag, shard_header_bytes, header_value, offsets_of, timestamps_of, sums_of, shard_footer_bytes, footer_value, layout_of, layout, plain_form, info_value}
+use Rattle.xet_shards.specs.Layout.{Form, if_in, header_tag, shard_header_bytes, header_value, offsets_of, timestamps_of, sums_of, shard_footer_bytes, footer_value, layout_of, layout_in, plain_form_in, info_value_in}
 use Rattle.xet_shards.specs.Ends.{HasHeader, FitsFooter, HasEnds, IsUnsupported, IsTooShort, last_bytes, Loads, LoadFails, Refusal}
 use Rattle.xet_shards.proofs.Layouts.{length-shard_header_bytes, length-shard_footer_bytes}
 use Rattle.xet_shards.proofs.Loading.{header_of}
 use Rattle.xet_shards.proofs.Readback.{layout_from_48}
 
+-- the number of a version that is read
+version_fits : (n : ℕ) → IsVersion n → n < 2 ^ 64
+version_fits n (version, is) = omega (arith, is, number_fits version)
+
 -- the bytes of a header determine it
-header_unique : (g h : MDBShardFileHeader) → g.tag ≡ header_tag → h.tag ≡ header_tag → g.version ≡ 2 → h.version ≡ 2 → g.footer_size < 2 ^ 64 → h.footer_size < 2 ^ 64
+header_unique : (g h : MDBShardFileHeader) → g.tag ≡ header_tag → h.tag ≡ header_tag → IsVersion g.version → IsVersion h.version → g.footer_size < 2 ^ 64 → h.footer_size < 2 ^ 64
     → shard_header_bytes g ≡ shard_header_bytes h → g ≡ h
 unfolding shard_header_bytes
-header_unique g h g_tag h_tag g_two h_two g_fits h_fits same =
+header_unique g h g_tag h_tag g_known h_known g_fits h_fits same =
     let last = same_parts (header_tag ++ u64_bytes g.version) (header_tag ++ u64_bytes h.version) (u64_bytes g.footer_size) (u64_bytes h.footer_size)
     (simp (length-u64_bytes)) same in
+    let version = u64_bytes-injective g.version h.version (version_fits g.version g_known) (version_fits h.version h_known)
+    (same_parts header_tag header_tag (u64_bytes g.version) (u64_bytes h.version) refl last.0).1 in
     let size = u64_bytes-injective g.footer_size h.footer_size g_fits h_fits last.1 in
-    λ i. record { tag = (g_tag ∙ sym h_tag) i; version = (g_two ∙ sym h_two) i; footer_size = size i }
+    λ i. record { tag = (g_tag ∙ sym h_tag) i; version = version i; footer_size = size i }
 
 from_right : (a b c d e : List ℕ) → (((a ++ b) ++ c) ++ d) ++ e ≡ a ++ (b ++ (c ++ (d ++ e)))
 from_right a b c d e = simp (append_assoc)
@@ -88,14 +97,14 @@ module _ (bytes : List ℕ) (info : MDBShardInfo) (ends : HasEnds bytes info) wh
 module _ (files : List MDBFileInfo) (xorbs : List MDBXorbInfo) (form : Form) where
   before_footer : List ℕ
   before_footer =
-      ((((shard_header_bytes header_value ++ section_bytes file_records files) ++ section_bytes xorb_records xorbs) ++ if_in form.file_table (table_bytes file_records files)) ++ if_in form.xorb_table (table_bytes xorb_records xorbs))
+      ((((shard_header_bytes (header_value form.version) ++ section_bytes file_records files) ++ section_bytes xorb_records xorbs) ++ if_in form.file_table (table_bytes file_records files)) ++ if_in form.xorb_table (table_bytes xorb_records xorbs))
       ++ if_in form.chunk_table (chunk_table_bytes xorbs)
 
   layout_is : layout_of files xorbs form ≡ before_footer ++ shard_footer_bytes (footer_value files xorbs form)
   unfolding layout_of before_footer
   layout_is = refl
 
-  pub ends_of_layout : FitsFooter (footer_value files xorbs form) → HasEnds (layout_of files xorbs form) (record { header = header_value; metadata = footer_value files xorbs form })
+  pub ends_of_layout : FitsFooter (footer_value files xorbs form) → HasEnds (layout_of files xorbs form) (record { header = header_value form.version; metadata = footer_value files xorbs form })
   ends_of_layout fits =
       let bytes = layout_of files xorbs form in
       let footer = shard_footer_bytes (footer_value files xorbs form) in
@@ -104,9 +113,9 @@ module _ (files : List MDBFileInfo) (xorbs : List MDBXorbInfo) (form : Form) whe
       record {
         size = omega (arith, whole);
         tag = refl;
-        header_version = refl;
+        header_version = (form.version, refl);
         footer_size = omega arith;
-        header = front_is 48 bytes (shard_header_bytes header_value) _ (length-shard_header_bytes header_value) (layout_from_48 files xorbs form);
+        header = front_is 48 bytes (shard_header_bytes (header_value form.version)) _ (length-shard_header_bytes (header_value form.version)) (layout_from_48 files xorbs form);
         footer_version = refl;
         footer_widths = fits;
         footer = rest_is (length bytes - 200) bytes before_footer footer (omega (arith, whole)) layout_is;
@@ -122,7 +131,8 @@ pub loads_ends : (old new : Source) (info : MDBShardInfo) (r : Result MDBShardIn
 loads_ends old new info r ends loads =
     MatchResult-weaker r loads (λ x found. only_info old.bytes x info found.ends ends) (λ e fails. why_not_loaded old.bytes info old new e ends fails.cause)
 
-pub loads_written : (old new : Source) (s : Shard) (expiry : Option ℕ) (r : Result MDBShardInfo CoreError) → old.bytes ≡ layout s expiry → FitsFooter (info_value s expiry).metadata
-    → MatchResult r (Loads old new) (LoadFails old new) → MatchResult r (λ info. info ≡ info_value s expiry) (DeviceFailure old new)
-loads_written old new s expiry r are fits =
-    loads_ends old new (info_value s expiry) r (subst (λ bs. HasEnds bs (info_value s expiry)) (sym are) (ends_of_layout (values s.files) (values s.xorbs) (plain_form expiry) fits))
+pub loads_written : (old new : Source) (version : FormatVersion) (s : Shard) (expiry : Option ℕ) (r : Result MDBShardInfo CoreError) → old.bytes ≡ layout_in version s expiry
+    → FitsFooter (info_value_in version s expiry).metadata → MatchResult r (Loads old new) (LoadFails old new) → MatchResult r (λ info. info ≡ info_value_in version s expiry) (DeviceFailure old new)
+loads_written old new version s expiry r are fits =
+    loads_ends old new (info_value_in version s expiry) r
+    (subst (λ bs. HasEnds bs (info_value_in version s expiry)) (sym are) (ends_of_layout (values s.files) (values s.xorbs) (plain_form_in version expiry) fits))

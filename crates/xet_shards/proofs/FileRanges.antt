@@ -11,8 +11,7 @@ use Rattle.xet_base.proofs.Lists.{rest_is}
 use Rattle.xet_base.proofs.Reading.{Takes-consumes}
 use Rattle.xet_records.specs.declared.file_structs.MDBFileInfo.{MDBFileInfo}
 use Rattle.xet_records.specs.declared.xorb_structs.MDBXorbInfo.{MDBXorbInfo}
-use Rattle.xet_records.specs.FileRecord.{file_records}
-use Rattle.xet_records.proofs.RecordKinds.{file_laws}
+use Rattle.xet_records.specs.FileRecord.{file_records, file_records_in}
 use Rattle.xet_shards.specs.declared.shard_format.header.MDBShardFileHeader.{MDBShardFileHeader}
 use Rattle.xet_shards.specs.Shard.{Shard, IsShard}
 use Rattle.xet_shards.specs.Layout.{layout_of, Form, shard_header_bytes, header_value, plain_form, layout}
@@ -21,26 +20,35 @@ use Rattle.xet_shards.specs.SectionReading.{IsSection}
 use Rattle.xet_shards.specs.FileRanges.{FileRanges, ranges_at, file_ranges, ReadsFileRanges, FileRangesFail}
 use Rattle.xet_shards.proofs.Files.{well_formed_values}
 use Rattle.xet_shards.proofs.Layouts.{length-shard_header_bytes}
-use Rattle.xet_shards.proofs.Loading.{header_of}
+use Rattle.xet_shards.proofs.Loading.{header_of, one_version}
+use Rattle.xet_records.specs.Version.{IsVersion, version_of}
+use Rattle.xet_records.proofs.RecordKinds.{version_known}
 use Rattle.xet_shards.proofs.Readback.{layout_from_48, file_section_in, handed_same, why_not}
-use Rattle.xet_shards.proofs.Sections.{FitsSection, files_fit}
+use Rattle.xet_shards.proofs.Sections.{FitsSection, files_fit, files_laws}
 use Rattle.xet_shards.proofs.SectionWalks.{keeps_known}
 
 -- such a layout from the source's offset on
-module _ (old new : Source) (files : List MDBFileInfo) (xorbs : List MDBXorbInfo) (form : Form) (fits : FitsSection file_records files) (are : bytes_left old ≡ layout_of files xorbs form) where
+module _ (old new : Source) (files : List MDBFileInfo) (xorbs : List MDBXorbInfo) (form : Form) (fits : FitsSection (file_records_in form.version) files) (are : bytes_left old ≡ layout_of files xorbs form) where
   has_header : HasHeader (bytes_left old)
-  has_header = header_of (bytes_left old) _ header_value (are ∙ layout_from_48 files xorbs form) refl
+  has_header = header_of (bytes_left old) _ (header_value form.version) (are ∙ layout_from_48 files xorbs form) (form.version, refl)
 
-  section : (header : MDBShardFileHeader) (mid : Source) → Takes old mid (shard_header_bytes header) → IsSection file_records (bytes_left mid) files
-  section header mid taken =
+  section_there : (header : MDBShardFileHeader) (mid : Source) → Takes old mid (shard_header_bytes header) → IsSection (file_records_in form.version) (bytes_left mid) files
+  section_there header mid taken =
       let rest : drop 48 (bytes_left old) ≡ bytes_left mid =
       rest_is 48 (bytes_left old) (shard_header_bytes header) (bytes_left mid) (length-shard_header_bytes header) (Takes-consumes old mid (shard_header_bytes header) taken) in
-      subst (λ bytes. IsSection file_records bytes files) (sym (ap (drop 48) are) ∙ rest) (file_section_in files xorbs form fits)
+      subst (λ bytes. IsSection (file_records_in form.version) bytes files) (sym (ap (drop 48) are) ∙ rest) (file_section_in files xorbs form fits)
+
+  section : (header : MDBShardFileHeader) (mid : Source) → IsVersion header.version → Takes old mid (shard_header_bytes header)
+      → IsSection (file_records_in (version_of header.version)) (bytes_left mid) files
+  unfolding has_header
+  section header mid known taken =
+      let read = header_of (bytes_left old) (bytes_left mid) header (Takes-consumes old mid (shard_header_bytes header) taken) known in
+      subst (λ v. IsSection (file_records_in v) (bytes_left mid) files) (sym (one_version (bytes_left old) read has_header ∙ version_known form.version)) (section_there header mid taken)
 
   why_no_ranges : (e : CoreError) → FileRangesFail old new e → DeviceFailure old new e ⊎ (e ≡ OutOfMemory)
   why_no_ranges e (inl part) = search (rules, has_header)
   why_no_ranges e (inr (header, mid, known, taken, fails)) =
-      search (rules, taken.after, why_not file_records file_laws mid new files (section header mid taken) e fails.cause)
+      search (rules, taken.after, why_not (file_records_in (version_of header.version)) (files_laws (version_of header.version)) mid new files (section header mid known taken) e fails.cause)
 
   -- is read so, unless the device fails or an allocation does
   pub ranges_in_layout : {Z : Type 0} (r : Result (Vec FileRanges Z) CoreError) → map file_records.handed_out files ≡ files → MatchResult r (λ found. ReadsFileRanges old new found.items) (FileRangesFail old new)
@@ -48,7 +56,8 @@ module _ (old new : Source) (files : List MDBFileInfo) (xorbs : List MDBXorbInfo
   ranges_in_layout (Ok found) same read =
       let mid = read.after_header in
       let at : mid.at ≡ old.at + 48 = ap (λ (s : Source). s.at) read.header_taken.after ∙ ap (λ n. old.at + n) (length-shard_header_bytes read.header) in
-      keeps_known file_records file_laws ranges_at mid new files (Ok found) (section read.header mid read.header_taken) same read.ranges ∙ ap (λ n. file_ranges n files) at
+      keeps_known (file_records_in (version_of read.header.version)) (files_laws (version_of read.header.version)) ranges_at mid new files (Ok found)
+      (section read.header mid read.version read.header_taken) same read.ranges ∙ ap (λ n. file_ranges n files) at
   ranges_in_layout (Err e) same fails = why_no_ranges e fails
 
 pub ranges_written : (old new : Source) (s : Shard) (expiry : Option ℕ) → IsShard s → bytes_left old ≡ layout s expiry → {Z : Type 0} (r : Result (Vec FileRanges Z) CoreError)

@@ -10,20 +10,22 @@ use Rattle.xet_base.specs.Source.{Source}
 use Rattle.xet_records.specs.declared.file_structs.MDBFileInfo.{MDBFileInfo}
 use Rattle.xet_records.specs.declared.xorb_structs.MDBXorbInfo.{MDBXorbInfo}
 use Rattle.xet_records.specs.RecordKind.{RecordKind}
-use Rattle.xet_records.specs.FileRecord.{file_records, file_bookend, FitsRecord}
+use Rattle.xet_records.specs.FileRecord.{file_records, file_records_in, file_bookend, FitsRecord}
+use Rattle.xet_records.specs.Version.{version_of}
+use Rattle.xet_records.proofs.RecordKinds.{stored_ever, version_known}
 use Rattle.xet_records.specs.XorbRecord.{xorb_records, xorb_bookend}
 use Rattle.xet_shards.specs.declared.shard_format.footer.MDBShardFileFooter.{MDBShardFileFooter}
 use Rattle.xet_shards.specs.declared.shard_format.info.MDBShardInfo.{MDBShardInfo}
 use Rattle.xet_shards.specs.Shard.{Shard, IsShard}
 use Rattle.xet_shards.specs.Tables.{hash_in, starts, start_row, table_bytes}
-use Rattle.xet_shards.specs.Layout.{Form, if_in, footer_value, plain_form}
+use Rattle.xet_shards.specs.Layout.{Form, if_in, footer_value, plain_form_in}
 use Rattle.xet_shards.specs.InForm.{Ascends, IsInForm, HasFileTable}
 use Rattle.xet_shards.specs.WrittenShard.{IsWritten}
 use Rattle.xet_shards.proofs.Files.{length-le-rows}
 use Rattle.xet_shards.proofs.Found.{first_words_ascend}
 use Rattle.xet_shards.proofs.Layouts.{length-file_section, length-xorb_section}
 use Rattle.xet_shards.proofs.Readback.{after_section, section_at_48, after_xorbs, xorbs_at}
-use Rattle.xet_shards.proofs.Sections.{files_fit, xorbs_fit}
+use Rattle.xet_shards.proofs.Sections.{files_fit_in, xorbs_fit}
 use Rattle.xet_shards.proofs.StoredRecords.{AreStoredAt}
 use Rattle.xet_shards.proofs.TableLookups.{IsLookedUp}
 use Rattle.xet_shards.proofs.TableOrder.{hashes_ascend}
@@ -33,7 +35,7 @@ use Rattle.xet_shards.proofs.XorbLayouts.{xorb_rows-chunks}
 
 -- records for where a list has none
 abbrev pub no_file : MDBFileInfo
-no_file = record { metadata = file_bookend; segments = []; verification = []; metadata_ext = None }
+no_file = record { metadata = file_bookend; segments = []; verification = []; metadata_ext = None; aux_ext = None }
 
 abbrev pub no_xorb : MDBXorbInfo
 no_xorb = record { metadata = xorb_bookend; chunks = [] }
@@ -59,7 +61,7 @@ module _ (files : List MDBFileInfo) (xorbs : List MDBXorbInfo) (form : Form) (ol
   known = footer_value files xorbs form
 
   file_widths : All FitsRecord files
-  file_widths = λ k r below. (is.files_fit.stored k r below).widths
+  file_widths = λ k r below. (stored_ever file_records form.version _ (is.files_fit.stored k r below)).widths
 
   -- the tables start within 48 bits
   file_table_fits : known.file_lookup_offset ≤ 2 ^ 44
@@ -74,9 +76,9 @@ module _ (files : List MDBFileInfo) (xorbs : List MDBXorbInfo) (form : Form) (ol
       omega (arith, xorb_table_fits, in_size form.xorb_table (table_bytes xorb_records xorbs), length-table_bytes xorb_records xorbs, xorb_rows-chunks xorbs, is.xorbs_fit.rows)
 
   -- the sections are there, whatever tables are in
-  pub files_stored : AreStoredAt file_records files footer.file_info_offset old.bytes
+  pub files_stored : AreStoredAt (file_records_in form.version) files footer.file_info_offset old.bytes
   files_stored =
-      subst (λ (f : MDBShardFileFooter). AreStoredAt file_records files f.file_info_offset old.bytes) (sym is.footer_is) (record {
+      subst (λ (f : MDBShardFileFooter). AreStoredAt (file_records_in form.version) files f.file_info_offset old.bytes) (sym is.footer_is) (record {
         fits = is.files_fit;
         offset_fits = omega arith;
         rest = after_section files xorbs form;
@@ -92,12 +94,12 @@ module _ (files : List MDBFileInfo) (xorbs : List MDBXorbInfo) (form : Form) (ol
         records_are = ap (drop known.xorb_info_offset) is.bytes_are ∙ xorbs_at files xorbs form;
       })
 
-  pub files_in : Ascends file_records files → form.file_table ≡ true → IsLookedUp file_records no_file files footer.file_info_offset footer.file_lookup_offset footer.file_lookup_num_entry old
+  pub files_in : Ascends file_records files → form.file_table ≡ true → IsLookedUp (file_records_in form.version) no_file files footer.file_info_offset footer.file_lookup_offset footer.file_lookup_num_entry old
   files_in ascends with_table =
-      subst (λ (f : MDBShardFileFooter). IsLookedUp file_records no_file files f.file_info_offset f.file_lookup_offset f.file_lookup_num_entry old) (sym is.footer_is) (record {
-        section = subst (λ (f : MDBShardFileFooter). AreStoredAt file_records files f.file_info_offset old.bytes) is.footer_is files_stored;
+      subst (λ (f : MDBShardFileFooter). IsLookedUp (file_records_in form.version) no_file files f.file_info_offset f.file_lookup_offset f.file_lookup_num_entry old) (sym is.footer_is) (record {
+        section = subst (λ (f : MDBShardFileFooter). AreStoredAt (file_records_in form.version) files f.file_info_offset old.bytes) is.footer_is files_stored;
         few = length-le-rows files;
-        words = λ k r below. (is.files_fit.stored k r below).widths.metadata.file_hash.word0;
+        words = λ k r below. (file_widths k r below).metadata.file_hash.word0;
         ascend = words_ascend file_records no_file files ascends;
         count_is = ap (λ b. length (if_in b (starts file_records files))) with_table ∙ length-starts file_records files;
         start_fits = omega (arith, file_table_fits);
@@ -123,10 +125,10 @@ module _ (files : List MDBFileInfo) (xorbs : List MDBXorbInfo) (form : Form) (ol
       })
 
 -- the bytes of a shard
-pub shard_in_form : {s : Shard} {expiry : Option ℕ} {bytes : List ℕ} {info : MDBShardInfo} → IsWritten s expiry bytes info
-    → IsInForm (values s.files) (values s.xorbs) (plain_form expiry) bytes info.metadata
+pub shard_in_form : {s : Shard} {expiry : Option ℕ} {bytes : List ℕ} {info : MDBShardInfo}
+    → (is : IsWritten s expiry bytes info) → IsInForm (values s.files) (values s.xorbs) (plain_form_in is.version expiry) bytes info.metadata
 shard_in_form {s} is = record {
-  files_fit = files_fit s is.shard;
+  files_fit = files_fit_in is.version s is.shard is.files;
   xorbs_fit = xorbs_fit s is.shard;
   bytes_are = is.same_bytes;
   footer_is = ap (λ (i : MDBShardInfo). i.metadata) is.same_info;
@@ -139,6 +141,11 @@ module _ (s : Shard) (shard : IsShard s) where
   pub xorbs_ascend : Ascends xorb_records (values s.xorbs)
   xorbs_ascend = hashes_ascend (hash_in xorb_records) s.xorbs shard.xorbs.keyed
 
-pub files_of_shard : {s : Shard} {expiry : Option ℕ} {bytes : List ℕ} {info : MDBShardInfo} → IsWritten s expiry bytes info
-    → HasFileTable (values s.files) (values s.xorbs) (plain_form expiry) bytes info.metadata
-files_of_shard {s} is = record { in_form = shard_in_form is; ascends = files_ascend s is.shard; table = refl }
+pub files_of_shard : {s : Shard} {expiry : Option ℕ} {bytes : List ℕ} {info : MDBShardInfo}
+    → (is : IsWritten s expiry bytes info) → HasFileTable (values s.files) (values s.xorbs) (plain_form_in is.version expiry) bytes info
+files_of_shard {s} is = record {
+  in_form = shard_in_form is;
+  version = ap (λ (i : MDBShardInfo). version_of i.header.version) is.same_info ∙ version_known is.version;
+  ascends = files_ascend s is.shard;
+  table = refl;
+}

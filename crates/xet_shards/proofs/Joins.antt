@@ -10,14 +10,15 @@ use Rattle.xet_base.specs.Hash.{hash_cmp}
 use Rattle.xet_records.specs.declared.file_structs.rows.FileDataSequenceEntry.{FileDataSequenceEntry}
 use Rattle.xet_records.specs.declared.file_structs.rows.FileVerificationEntry.{FileVerificationEntry}
 use Rattle.xet_records.specs.declared.file_structs.rows.FileMetadataExt.{FileMetadataExt}
+use Rattle.xet_records.specs.declared.file_structs.rows.FileAuxExt.{FileAuxExt}
 use Rattle.xet_records.specs.declared.file_structs.MDBFileInfo.{MDBFileInfo}
 use Rattle.xet_records.specs.FileRecord.{flags_of}
-use Rattle.xet_records.specs.Merging.{Agree, verified, described, merged}
-use Rattle.xet_records.proofs.Merging.{flags_are_parts, flags_added, metadata_ext_injective, verification_absent, verified-merged, described-merged}
+use Rattle.xet_records.specs.Merging.{Agree, verified, described, extended, merged}
+use Rattle.xet_records.proofs.Merging.{flags_are_parts, flags_added, metadata_ext_injective, aux_ext_injective, verification_absent, verified-merged, described-merged, extended-merged}
 use Rattle.xet_shards.specs.Shard.{Shard, IsShard, empty_shard, file_hash_of}
 use Rattle.xet_shards.specs.Joining.{either_file}
 use Rattle.xet_shards.specs.SetOperations.{IsUnion, ShardsAgree}
-use Rattle.xet_shards.specs.Joins.{verification_of, segments_under, verification_under, metadata_under, file_with, HasWhatAnyHas, FollowsParts, IsJoinOf}
+use Rattle.xet_shards.specs.Joins.{verification_of, segments_under, verification_under, metadata_under, aux_under, file_with, HasWhatAnyHas, FollowsParts, IsJoinOf}
 use Rattle.xet_shards.proofs.Joining.{or_none}
 use Rattle.xet_shards.proofs.Unions.{IsKnown, known, same_shard, same_either}
 
@@ -30,21 +31,22 @@ either_part o p same x = (λ is. grind arith, λ (either : (o ≡ Some x) ⊎ (p
 verification-merged : (a b : MDBFileInfo) → verification_of (merged a b) ≡ option_or (verification_of a) (verification_of b)
 verification-merged a b = grind (arith, verified-merged a b)
 
-metadata_either : (m l : Bool) (o p : Option FileMetadataExt) → is_some o ≡ m → is_some p ≡ l → (if l && not m then p else o) ≡ option_or o p
-metadata_either m l o p there other = grind arith
+row_either : {X : Type 0} (m l : Bool) (o p : Option X) → is_some o ≡ m → is_some p ≡ l → (if l && not m then p else o) ≡ option_or o p
+row_either m l o p there other = grind arith
 
 -- a file that its parts determine
 module _ (q : DataHash) where
   abbrev pub IsPlain : MDBFileInfo → Type 0
-  IsPlain r = r ≡ file_with q r.segments (verification_of r) r.metadata_ext
+  IsPlain r = r ≡ file_with q r.segments (verification_of r) r.metadata_ext r.aux_ext
 
   pub record HasPlainHeader (r : MDBFileInfo) : Type 0 where
     pub keyed : q ≡ file_hash_of r
     pub reserved : r.metadata._unused ≡ 0
-    pub flags : r.metadata.file_flags ≡ flags_of (verified r) (described r)
+    pub flags : r.metadata.file_flags ≡ flags_of (verified r) (described r) (extended r)
     pub segments : length r.segments ≡ r.metadata.num_entries
     pub absent : verified r ≡ false → r.verification ≡ []
     pub present : is_some r.metadata_ext ≡ described r
+    pub aux_present : is_some r.aux_ext ≡ extended r
 
   announced : (v : Bool) (xs : List FileVerificationEntry) → v ≡ is_some (if v then Some xs else None)
   announced v xs = grind arith
@@ -54,26 +56,29 @@ module _ (q : DataHash) where
 
   pub plain : (r : MDBFileInfo) → HasPlainHeader r → IsPlain r
   plain r has =
-      let flags : r.metadata.file_flags ≡ flags_of (is_some (verification_of r)) (is_some r.metadata_ext) =
-      has.flags ∙ (λ i. flags_of (announced (verified r) r.verification i) (sym has.present i)) in
+      let flags : r.metadata.file_flags ≡ flags_of (is_some (verification_of r)) (is_some r.metadata_ext) (is_some r.aux_ext) =
+      has.flags ∙ (λ i. flags_of (announced (verified r) r.verification i) (sym has.present i) (sym has.aux_present i)) in
       let rows = rows_there (verified r) r.verification has.absent in
       λ i. record {
         metadata = record { file_hash = sym has.keyed i; file_flags = flags i; num_entries = sym has.segments i; _unused = has.reserved i };
         segments = r.segments;
         verification = rows i;
         metadata_ext = r.metadata_ext;
+        aux_ext = r.aux_ext;
       }
 
   pub plain_header : (r : MDBFileInfo) → IsPlain r → HasPlainHeader r
   plain_header r is =
-      let present : is_some r.metadata_ext ≡ described r = sym (ap described is ∙ metadata_ext_injective (is_some (verification_of r)) (is_some r.metadata_ext)) in
+      let present : is_some r.metadata_ext ≡ described r = sym (ap described is ∙ metadata_ext_injective (is_some (verification_of r)) (is_some r.metadata_ext) (is_some r.aux_ext)) in
+      let aux_present : is_some r.aux_ext ≡ extended r = sym (ap extended is ∙ aux_ext_injective (is_some (verification_of r)) (is_some r.metadata_ext) (is_some r.aux_ext)) in
       record {
         keyed = sym (ap file_hash_of is);
         reserved = ap (λ (s : MDBFileInfo). s.metadata._unused) is;
-        flags = ap (λ (s : MDBFileInfo). s.metadata.file_flags) is ∙ (λ i. flags_of (sym (announced (verified r) r.verification) i) (present i));
+        flags = ap (λ (s : MDBFileInfo). s.metadata.file_flags) is ∙ (λ i. flags_of (sym (announced (verified r) r.verification) i) (present i) (aux_present i));
         segments = sym (ap (λ (s : MDBFileInfo). s.metadata.num_entries) is);
         absent = λ none. ap (λ (s : MDBFileInfo). s.verification) is ∙ ap (λ (v : Bool). unwrap_or (if v then Some r.verification else None) []) none;
         present = present;
+        aux_present = aux_present;
       }
 
   pub known_header : (r : MDBFileInfo) → IsKnown q r → HasPlainHeader r
@@ -86,17 +91,20 @@ module _ (q : DataHash) where
         segments = formed.whole.segments;
         absent = verification_absent r formed.whole;
         present = formed.whole.metadata_ext;
+        aux_present = formed.whole.aux_ext;
       }
 
   merged_header : (r s : MDBFileInfo) → HasPlainHeader r → HasPlainHeader s → HasPlainHeader (merged r s)
   merged_header r s one other = record {
     keyed = one.keyed;
     reserved = one.reserved;
-    flags = ap (λ n. n + flags_of (verified s && not (verified r)) (described s && not (described r))) one.flags ∙ flags_added (verified r) (described r) (verified s) (described s)
-        ∙ (λ i. flags_of (sym (verified-merged r s) i) (sym (described-merged r s) i));
+    flags = ap (λ n. n + flags_of (verified s && not (verified r)) (described s && not (described r)) (extended s && not (extended r))) one.flags
+        ∙ flags_added (verified r) (described r) (extended r) (verified s) (described s) (extended s)
+        ∙ (λ i. flags_of (sym (verified-merged r s) i) (sym (described-merged r s) i) (sym (extended-merged r s) i));
     segments = one.segments;
     absent = λ none. grind (arith, one.absent, verified-merged r s);
     present = grind (arith, one.present, other.present, described-merged r s);
+    aux_present = grind (arith, one.aux_present, other.aux_present, extended-merged r s);
   }
 
   -- the parts of the file of a union
@@ -114,7 +122,13 @@ module _ (q : DataHash) where
   metadata_of_either None p first second = refl
   metadata_of_either (Some r) None first second = sym (or_none r.metadata_ext)
   metadata_of_either (Some r) (Some s) first second =
-      metadata_either (described r) (described s) r.metadata_ext s.metadata_ext (first r refl).present (second s refl).present
+      row_either (described r) (described s) r.metadata_ext s.metadata_ext (first r refl).present (second s refl).present
+
+  aux_of_either : (o p : Option MDBFileInfo) → IsPlainFile o → IsPlainFile p
+      → option_and_then (λ (r : MDBFileInfo). r.aux_ext) (either_file o p) ≡ option_or (option_and_then (λ r. r.aux_ext) o) (option_and_then (λ r. r.aux_ext) p)
+  aux_of_either None p first second = refl
+  aux_of_either (Some r) None first second = sym (or_none r.aux_ext)
+  aux_of_either (Some r) (Some s) first second = row_either (extended r) (extended s) r.aux_ext s.aux_ext (first r refl).aux_present (second s refl).aux_present
 
   plain_either : (o p : Option MDBFileInfo) → IsPlainFile o → IsPlainFile p → IsPlainFile (either_file o p)
   plain_either None p first second t is = second t is
@@ -143,6 +157,13 @@ module _ (q : DataHash) where
   same_metadata o p first second agree x y one other =
       option_and_then_some (λ r. r.metadata_ext) o x one (λ r at mine. option_and_then_some (λ s. s.metadata_ext) p y other (λ s there others.
       same_Some x y (sym mine ∙ (agree r s at there).metadata_ext (sym (first r at).present ∙ ap is_some mine) (sym (second s there).present ∙ ap is_some others) ∙ others)))
+
+  pub same_aux : (o p : Option MDBFileInfo) → IsPlainFile o → IsPlainFile p
+      → ((r s : MDBFileInfo) → o ≡ Some r → p ≡ Some s → Agree r s) → (x y : FileAuxExt)
+      → option_and_then (λ (r : MDBFileInfo). r.aux_ext) o ≡ Some x → option_and_then (λ (r : MDBFileInfo). r.aux_ext) p ≡ Some y → x ≡ y
+  same_aux o p first second agree x y one other =
+      option_and_then_some (λ r. r.aux_ext) o x one (λ r at mine. option_and_then_some (λ s. s.aux_ext) p y other (λ s there others.
+      same_Some x y (sym mine ∙ (agree r s at there).aux_ext (sym (first r at).aux_present ∙ ap is_some mine) (sym (second s there).aux_present ∙ ap is_some others) ∙ others)))
 
 -- each file of a shard is determined by its parts
 pub follows_parts : (s : Shard) → IsShard s → FollowsParts s
@@ -177,6 +198,9 @@ module _ (xs ys : List Shard) (a b c : Shard) (first : IsJoinOf (Contains xs) a)
     metadata_ext = λ q. of_either (metadata_under q)
         (ap (option_and_then (λ r. r.metadata_ext)) (union.files q) ∙ metadata_of_either q (get a.files q) (get b.files q) (plain_file a first.follows q) (plain_file b second.follows q))
         (same_metadata q (get a.files q) (get b.files q) (plain_file a first.follows q) (plain_file b second.follows q) (agree.files q)) (first.metadata_ext q) (second.metadata_ext q);
+    aux_ext = λ q. of_either (aux_under q)
+        (ap (option_and_then (λ r. r.aux_ext)) (union.files q) ∙ aux_of_either q (get a.files q) (get b.files q) (plain_file a first.follows q) (plain_file b second.follows q))
+        (same_aux q (get a.files q) (get b.files q) (plain_file a first.follows q) (plain_file b second.follows q) (agree.files q)) (first.aux_ext q) (second.aux_ext q);
     follows = λ q t at. plain q t (plain_either q (get a.files q) (get b.files q) (plain_file a first.follows q) (plain_file b second.follows q) t (sym (union.files q) ∙ at));
   }
 
@@ -185,12 +209,13 @@ same_part o p to from = grind arith
 
 file_unique : (q : DataHash) (o p : Option MDBFileInfo) → ((r : MDBFileInfo) → o ≡ Some r → IsPlain q r) → ((s : MDBFileInfo) → p ≡ Some s → IsPlain q s)
     → option_map (λ (r : MDBFileInfo). r.segments) o ≡ option_map (λ r. r.segments) p → option_and_then verification_of o ≡ option_and_then verification_of p
-    → option_and_then (λ (r : MDBFileInfo). r.metadata_ext) o ≡ option_and_then (λ r. r.metadata_ext) p → o ≡ p
-file_unique q None None first second segments verification metadata_ext = refl
-file_unique q None (Some s) first second segments verification metadata_ext = absurd (none-some s.segments segments)
-file_unique q (Some r) None first second segments verification metadata_ext = absurd (none-some r.segments (sym segments))
-file_unique q (Some r) (Some s) first second segments verification metadata_ext =
-    ap Some (first r refl ∙ (λ i. file_with q (same_Some r.segments s.segments segments i) (verification i) (metadata_ext i)) ∙ sym (second s refl))
+    → option_and_then (λ (r : MDBFileInfo). r.metadata_ext) o ≡ option_and_then (λ r. r.metadata_ext) p
+    → option_and_then (λ (r : MDBFileInfo). r.aux_ext) o ≡ option_and_then (λ r. r.aux_ext) p → o ≡ p
+file_unique q None None first second segments verification metadata_ext aux_ext = refl
+file_unique q None (Some s) first second segments verification metadata_ext aux_ext = absurd (none-some s.segments segments)
+file_unique q (Some r) None first second segments verification metadata_ext aux_ext = absurd (none-some r.segments (sym segments))
+file_unique q (Some r) (Some s) first second segments verification metadata_ext aux_ext =
+    ap Some (first r refl ∙ (λ i. file_with q (same_Some r.segments s.segments segments i) (verification i) (metadata_ext i) (aux_ext i)) ∙ sym (second s refl))
 
 -- a set of shards has at most one join
 module _ (IsOne : Shard → Type 0) (c d : Shard) where
@@ -201,7 +226,8 @@ module _ (IsOne : Shard → Type 0) (c d : Shard) where
   join-unique one other = same_shard c d (λ q. file_unique q (get c.files q) (get d.files q) (one.follows q) (other.follows q)
       (part_unique (segments_under q) (one.segments q) (other.segments q))
       (part_unique (verification_under q) (one.verification q) (other.verification q))
-      (part_unique (metadata_under q) (one.metadata_ext q) (other.metadata_ext q)))
+      (part_unique (metadata_under q) (one.metadata_ext q) (other.metadata_ext q))
+      (part_unique (aux_under q) (one.aux_ext q) (other.aux_ext q)))
       (λ q. part_unique (λ s. get s.xorbs q) (one.xorbs q) (other.xorbs q))
 
 -- the join of one shard is this shard
@@ -222,6 +248,7 @@ module _ (c : Shard) where
     segments = λ q. has_of_one (segments_under q);
     verification = λ q. has_of_one (verification_under q);
     metadata_ext = λ q. has_of_one (metadata_under q);
+    aux_ext = λ q. has_of_one (aux_under q);
     follows = follows;
   }
 
@@ -238,6 +265,7 @@ join-none = record {
   segments = λ q. has_of_none (segments_under q) (ap (option_map (λ r. r.segments)) (get-empty hash_cmp q));
   verification = λ q. has_of_none (verification_under q) (ap (option_and_then verification_of) (get-empty hash_cmp q));
   metadata_ext = λ q. has_of_none (metadata_under q) (ap (option_and_then (λ r. r.metadata_ext)) (get-empty hash_cmp q));
+  aux_ext = λ q. has_of_none (aux_under q) (ap (option_and_then (λ r. r.aux_ext)) (get-empty hash_cmp q));
   follows = λ q r at. absurd (none-some r (sym (get-empty hash_cmp q) ∙ at));
 }
 

@@ -17,11 +17,15 @@ use Rattle.xet_base.specs.InputLaws.{failed_after, advanced-advanced}
 use Rattle.xet_base.proofs.Reading.{Takes-consumes}
 use Rattle.xet_records.specs.declared.file_structs.MDBFileInfo.{MDBFileInfo}
 use Rattle.xet_records.specs.declared.xorb_structs.MDBXorbInfo.{MDBXorbInfo}
-use Rattle.xet_records.specs.RecordKind.{RecordKind, KindLaws}
+use Rattle.xet_records.specs.RecordKind.{RecordKind, in_version, KindLaws}
 use Rattle.xet_records.specs.Reading.{ReadsBookend, CountsRecord, ReadsNextRecord, HasRead}
 use Rattle.xet_records.specs.ViewReading.{CountsStored, ReadsNextView}
-use Rattle.xet_records.specs.FileRecord.{file_records, FitsRecord}
-use Rattle.xet_records.specs.XorbRecord.{xorb_records, xorb_record_bytes, IsStoredXorb}
+use Rattle.xet_records.specs.FileRecord.{file_records, file_records_in, FitsRecord}
+use Rattle.xet_records.specs.declared.record_reader.FormatVersion.{FormatVersion}
+use Rattle.xet_records.specs.declared.record_reader.FormatVersion.TheVariants.{V3}
+use Rattle.xet_records.specs.Version.{IsVersion, version_of}
+use Rattle.xet_shards.proofs.Sections.{fits_ever}
+use Rattle.xet_records.specs.XorbRecord.{xorb_records, xorb_record_bytes}
 use Rattle.xet_shards.specs.declared.shard_format.footer.MDBShardFileFooter.{MDBShardFileFooter}
 use Rattle.xet_shards.specs.declared.shard_format.header.MDBShardFileHeader.{MDBShardFileHeader}
 use Rattle.xet_shards.specs.declared.shard_format.info.MDBShardInfo.{MDBShardInfo}
@@ -83,9 +87,10 @@ pub xorbs_exported : (form : Form) (xorbs : List MDBXorbInfo) → flat_map (expo
 xorbs_exported form xorbs = flat_map_single (keyed_xorb form.key) xorbs
 
 -- a xorb that was read is as it is stored
-xorb_as_stored : (Took : List ℕ → Type 0) (left after : ℕ) (r : MDBXorbInfo) → CountsRecord xorb_records Took left after r → CountsStored xorb_records Took left after r
-xorb_as_stored Took left after r next = record {
-  is_stored = subst IsStoredXorb next.reads.handed next.reads.is_stored;
+xorb_as_stored : (version : FormatVersion) (Took : List ℕ → Type 0) (left after : ℕ) (r : MDBXorbInfo)
+    → CountsRecord (in_version xorb_records version) Took left after r → CountsStored (in_version xorb_records version) Took left after r
+xorb_as_stored version Took left after r next = record {
+  is_stored = subst (in_version xorb_records version).IsStored next.reads.handed next.reads.is_stored;
   taken = subst (λ (x : MDBXorbInfo). Took (xorb_record_bytes x)) next.reads.handed next.reads.taken;
   rows = next.rows;
 }
@@ -95,10 +100,11 @@ pub result_as : {T E : Type 0} (r : Result T E) (P Q : T → Type 0) (F G : E �
 result_as (Ok v) P Q F G ok err holds = ok v holds
 result_as (Err e) P Q F G ok err holds = err e holds
 
-pub next_xorb : (Took : List ℕ → Type 0) (left after : ℕ) (next : Option MDBXorbInfo) → ReadsNextRecord xorb_records Took left after next
-    → ReadsNextView xorb_records (λ (r : MDBXorbInfo). r) Took left after next
-next_xorb Took left after None read = read
-next_xorb Took left after (Some r) read = xorb_as_stored Took left after r read
+pub next_xorb : (version : FormatVersion) (Took : List ℕ → Type 0) (left after : ℕ) (next : Option MDBXorbInfo)
+    → ReadsNextRecord (in_version xorb_records version) Took left after next
+    → ReadsNextView (in_version xorb_records version) (λ (r : MDBXorbInfo). r) Took left after next
+next_xorb version Took left after None read = read
+next_xorb version Took left after (Some r) read = xorb_as_stored version Took left after r read
 
 -- what was written of the records that were read: no more rows than these have, and one record more
 module _ {H R : Type 0} (K : RecordKind H R) (exports : R → List R) where
@@ -117,10 +123,10 @@ module _ {H R : Type 0} (K : RecordKind H R) (exports : R → List R) where
       })
 
 -- a section that was exported, where what becomes of its records has another name
-pub section_exported : {H R : Type 0} (K : RecordKind H R) (exports : R → List R) (out : List R → List R) → ((rs : List R) → flat_map exports rs ≡ out rs)
-    → (Collected : List R → Type 0) (old new : Source) (before after : Option (List ℕ)) → ExportsSection K exports Collected old new before after
-    → (stored : List R) × PassesSection K old new stored × Collected (out stored) × Appends before after (section_bytes K (out stored))
-section_exported K exports out same Collected old new before after e =
+pub section_exported : {H R : Type 0} (K : RecordKind H R) (version : FormatVersion) (exports : R → List R) (out : List R → List R) → ((rs : List R) → flat_map exports rs ≡ out rs)
+    → (Collected : List R → Type 0) (old new : Source) (before after : Option (List ℕ)) → ExportsSection K version exports Collected old new before after
+    → (stored : List R) × PassesSection (in_version K version) old new stored × Collected (out stored) × Appends before after (section_bytes K (out stored))
+section_exported K version exports out same Collected old new before after e =
     (e.stored, e.passed, subst Collected (same e.stored) e.collected, subst (λ rs. Appends before after (section_bytes K rs)) (same e.stored) e.written)
 
 module _ {H R : Type 0} (K : RecordKind H R) (laws : KindLaws K) where
@@ -174,7 +180,7 @@ section_not_exported K old mid new n e at header bad (inr fails) = record {
 footer_last : (files : List MDBFileInfo) (xorbs : List MDBXorbInfo) (form : Form) → length (layout_of files xorbs form) ≡ (footer_value files xorbs form).footer_offset + 200
 unfolding layout_of
 footer_last files xorbs form =
-    let header = shard_header_bytes header_value in
+    let header = shard_header_bytes (header_value form.version) in
     let footer = footer_value files xorbs form in
     let sections = (header ++ section_bytes file_records files) ++ section_bytes xorb_records xorbs in
     let file_table = if_in form.file_table (table_bytes file_records files) in
@@ -188,7 +194,7 @@ footer_last files xorbs form =
       length-append sections file_table,
       length-append (header ++ section_bytes file_records files) (section_bytes xorb_records xorbs),
       length-append header (section_bytes file_records files),
-      length-shard_header_bytes header_value,
+      length-shard_header_bytes (header_value form.version),
       length-shard_footer_bytes footer refl,
     )
 
@@ -208,8 +214,8 @@ layout_small files xorbs form files_fit xorbs_fit = omega (
 )
 
 -- after the header
-module _ (old s1 : Source) (h : MDBShardFileHeader) (taken : Takes old s1 (shard_header_bytes h)) (two : h.version ≡ 2) where
-  header_there : HasHeader (bytes_left old)
+module _ (old s1 : Source) (h : MDBShardFileHeader) (taken : Takes old s1 (shard_header_bytes h)) (two : IsVersion h.version) where
+  abbrev header_there : HasHeader (bytes_left old)
   header_there = header_of (bytes_left old) (bytes_left s1) h (Takes-consumes old s1 (shard_header_bytes h) taken) two
 
   pub at_files : s1 ≡ advanced old 48
@@ -218,17 +224,17 @@ module _ (old s1 : Source) (h : MDBShardFileHeader) (taken : Takes old s1 (shard
   files_left : bytes_left s1 ≡ drop 48 (bytes_left old)
   files_left = ap bytes_left at_files ∙ left_after old 48
 
-  pub files_not_exported : (new : Source) (e : CoreError) → TakesNoSection file_records s1 new e ⊎ WritingFails s1 new e → ExportFails old new e
+  pub files_not_exported : (new : Source) (e : CoreError) → TakesNoSection (file_records_in (version_of h.version)) s1 new e ⊎ WritingFails s1 new e → ExportFails old new e
   files_not_exported new e why =
-      section_not_exported file_records old s1 new 48 e at_files header_there (λ bad. bad_files header_there (subst (λ bs. BadSection file_records bs e) files_left bad)) why
+      section_not_exported (file_records_in (version_of h.version)) old s1 new 48 e at_files header_there (λ bad. bad_files header_there (subst (λ bs. BadSection (file_records_in (version_of h.version)) bs e) files_left bad)) why
 
   pub header_not_written : (e : CoreError) → IsDeviceError e → ExportFails old s1 e
   header_not_written e cause = files_not_exported s1 e (inr (record { bytes = refl; seeks = refl; failures = refl; cause = cause }))
 
   -- after the files
-  module _ (s2 : Source) (files : List MDBFileInfo) (passed : PassesSection file_records s1 s2 files) where
-    file_section : IsSection file_records (drop 48 (bytes_left old)) files
-    file_section = subst (λ bs. IsSection file_records bs files) files_left passed.section
+  module _ (s2 : Source) (files : List MDBFileInfo) (passed : PassesSection (file_records_in (version_of h.version)) s1 s2 files) where
+    file_section : IsSection (file_records_in (version_of h.version)) (drop 48 (bytes_left old)) files
+    file_section = subst (λ bs. IsSection (file_records_in (version_of h.version)) bs files) files_left passed.section
 
     pub at_xorbs : s2 ≡ advanced old (xorbs_after files)
     at_xorbs =
@@ -266,7 +272,8 @@ module _ (old s1 : Source) (h : MDBShardFileHeader) (taken : Takes old s1 (shard
       }))
 
       files_fit : FitsSection file_records files_out
-      files_fit = if_in-section form.file_table files (record { stored = file_section.records.are_stored; rows = file_section.records.rows })
+      files_fit = if_in-section form.file_table files
+          (fits_ever file_records (version_of h.version) files (record { stored = file_section.records.are_stored; rows = file_section.records.rows }))
 
       xorbs_fit : FitsSection xorb_records xorbs_out
       xorbs_fit = keyed_section form.key xorbs (record { stored = rest.section.records.are_stored; rows = rest.section.records.rows })
@@ -278,12 +285,12 @@ module _ (old s1 : Source) (h : MDBShardFileHeader) (taken : Takes old s1 (shard
       export_small footer is =
           omega (arith, footer_last files_out xorbs_out form, layout_small files_out xorbs_out form files_fit xorbs_fit, ap (λ (f : MDBShardFileFooter). f.footer_offset) is)
 
-      pub all_exported : (footer : MDBShardFileFooter) (start after_header after_files after_xorbs end : Option (List ℕ)) (n : ℕ)
+      pub all_exported : form.version ≡ V3 → (footer : MDBShardFileFooter) (start after_header after_files after_xorbs end : Option (List ℕ)) (n : ℕ)
           → footer ≡ footer_value files_out xorbs_out form → FitsFooter footer → n ≡ footer.footer_offset + 200
-          → Appends start after_header (shard_header_bytes header_value) → Appends after_header after_files (section_bytes file_records files_out)
+          → Appends start after_header (shard_header_bytes (header_value form.version)) → Appends after_header after_files (section_bytes file_records files_out)
           → Appends after_files after_xorbs (section_bytes xorb_records xorbs_out) → Appends after_xorbs end (end_of_layout files_out xorbs_out form)
           → Exports form old s3 start end n
-      all_exported footer start after_header after_files after_xorbs end n is fits count header_out files_bytes xorbs_bytes end_bytes = record {
+      all_exported is_3 footer start after_header after_files after_xorbs end n is fits count header_out files_bytes xorbs_bytes end_bytes = record {
         files = files;
         xorbs = xorbs;
         header = header_there;
@@ -293,5 +300,5 @@ module _ (old s1 : Source) (h : MDBShardFileHeader) (taken : Takes old s1 (shard
         written = whole_layout start after_header after_files after_xorbs end files_out xorbs_out form header_out files_bytes xorbs_bytes end_bytes;
         count = count ∙ ap (λ (f : MDBShardFileFooter). f.footer_offset + 200) is ∙ sym (footer_last files_out xorbs_out form);
         ends = ends_of_layout files_out xorbs_out form (subst FitsFooter is fits);
-        in_form = record { files_fit = files_fit; xorbs_fit = xorbs_fit; bytes_are = refl; footer_is = refl };
+        in_form = record { files_fit = subst (λ v. FitsSection (file_records_in v) files_out) (sym is_3) files_fit; xorbs_fit = xorbs_fit; bytes_are = refl; footer_is = refl };
       }

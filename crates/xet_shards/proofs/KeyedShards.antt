@@ -171,6 +171,7 @@ module _ (key : DataHash) (shards : List Shard) (c : Shard) where
     segments = λ q. kept _ (λ s. refl) (join.segments q);
     verification = λ q. kept _ (λ s. refl) (join.verification q);
     metadata_ext = λ q. kept _ (λ s. refl) (join.metadata_ext q);
+    aux_ext = λ q. kept _ (λ s. refl) (join.aux_ext q);
     follows = join.follows;
   }
 

@@ -7,10 +7,14 @@ use Rattle.xet_base.specs.declared.error.CoreError.{CoreError}
 use Rattle.xet_base.specs.Bytes.{u64_bytes}
 use Rattle.xet_base.specs.Errors.{IsEndOfInput, IsBareShardVersion, FromDevice}
 use Rattle.xet_base.specs.Source.{Source, Takes, Fails, moved, bytes_left}
-use Rattle.xet_base.proofs.Bytes.{length-u64_bytes}
+use Rattle.xet_base.proofs.Bytes.{length-u64_bytes, u64_bytes-injective}
 use Rattle.xet_base.proofs.Lists.{front_is}
 use Rattle.xet_base.specs.InputLaws.{Takes-trans}
 use Rattle.xet_base.proofs.Reading.{Takes-consumes}
+use Rattle.xet_records.specs.declared.record_reader.FormatVersion.{FormatVersion}
+use Rattle.xet_shards.proofs.Versions.{number_fits}
+use Rattle.xet_records.specs.Version.{number_of, IsVersion, version_of}
+use Rattle.xet_records.proofs.RecordKinds.{version_known, known_number}
 use Rattle.xet_shards.specs.declared.shard_format.header.MDBShardFileHeader.{MDBShardFileHeader}
 use Rattle.xet_shards.specs.declared.shard_format.footer.MDBShardFileFooter.{MDBShardFileFooter}
 use Rattle.xet_shards.specs.Layout.{header_tag, shard_header_bytes, shard_footer_bytes}
@@ -27,14 +31,14 @@ refusal_of Unsupported Short Unsupported' Short' bytes bytes' old mid new e same
     search rules
 
 -- a header in two steps
-pub read_in_two : (a b c : Source) (tag rest : List ℕ) (h : MDBShardFileHeader) → tag ≡ header_tag → rest ≡ u64_bytes 2 ++ u64_bytes h.footer_size → h.version ≡ 2
+pub read_in_two : (a b c : Source) (tag rest : List ℕ) (h : MDBShardFileHeader) → tag ≡ header_tag → rest ≡ u64_bytes h.version ++ u64_bytes h.footer_size
     → Takes a b tag → Takes b c rest → Takes a c (shard_header_bytes h)
 unfolding shard_header_bytes
-read_in_two a b c tag rest h is_tag rest_is two first last =
-    subst (Takes a c) ((λ i. is_tag i ++ rest_is i) ∙ ap (λ n. (header_tag ++ u64_bytes n) ++ u64_bytes h.footer_size) (sym two)) (Takes-trans a b c tag rest first last)
+read_in_two a b c tag rest h is_tag rest_is first last =
+    subst (Takes a c) (λ i. is_tag i ++ rest_is i) (Takes-trans a b c tag rest first last)
 
 pub other_version_read : (a b c : Source) (tag rest : List ℕ) (e : CoreError) → length tag ≡ 32 → length rest ≡ 16 → Takes a b tag → Takes b c rest → IsBareShardVersion e
-    → take 8 rest ≢ u64_bytes 2 → PartFails HasUnsupportedHeader EndsInHeader 48 a c e
+    → ((version : FormatVersion) → take 8 rest ≢ u64_bytes (number_of version)) → PartFails HasUnsupportedHeader EndsInHeader 48 a c e
 other_version_read a b c tag rest e tag_len len first last is differs = record {
   bytes = ap (λ (s : Source). s.bytes) last.after ∙ ap (λ (s : Source). s.bytes) first.after;
   seeks = ap (λ (s : Source). s.seeks) last.after ∙ ap (λ (s : Source). s.seeks) first.after;
@@ -50,17 +54,32 @@ other_version_read a b c tag rest e tag_len len first last is differs = record {
 has_room : (bytes : List ℕ) → length bytes ≡ 200 → ¬ EndsInFooter bytes
 has_room bytes len ends = search rules
 
--- bytes that begin with a header of version 2
-pub header_of : (bytes rest : List ℕ) (h : MDBShardFileHeader) → bytes ≡ shard_header_bytes h ++ rest → h.version ≡ 2 → HasHeader bytes
+-- bytes that begin with a header of a version that is read
+pub header_begins : (bytes rest : List ℕ) (h : MDBShardFileHeader) → bytes ≡ shard_header_bytes h ++ rest
+    → (48 ≤ length bytes) × (take 32 bytes ≡ header_tag) × (take 8 (drop 32 bytes) ≡ u64_bytes h.version)
 unfolding shard_header_bytes
-header_of bytes rest h are two =
+header_begins bytes rest h are =
     let whole = (header_tag ++ u64_bytes h.version) ++ u64_bytes h.footer_size in
-    let len : length whole ≡ 48 = simp (length-append, length-u64_bytes) in
-    record {
-      size = omega (arith, ap length are ∙ length-append whole rest, len);
-      tag = ap (take 32) are;
-      version = ap (λ bs. take 8 (drop 32 bs)) are ∙ front_is 8 _ (u64_bytes h.version) (u64_bytes h.footer_size ++ rest) (length-u64_bytes h.version) (simp (append_assoc)) ∙ ap u64_bytes two;
-    }
+    let len : length whole ≡ 48 = simp (length-append, length-u64_bytes) in (
+      omega (arith, ap length are ∙ length-append whole rest, len),
+      ap (take 32) are,
+      ap (λ bs. take 8 (drop 32 bs)) are ∙ front_is 8 _ (u64_bytes h.version) (u64_bytes h.footer_size ++ rest) (length-u64_bytes h.version) (simp (append_assoc)),
+    )
+
+abbrev pub header_of : (bytes rest : List ℕ) (h : MDBShardFileHeader) → bytes ≡ shard_header_bytes h ++ rest → IsVersion h.version → HasHeader bytes
+header_of bytes rest h are known = record {
+  size = (header_begins bytes rest h are).0;
+  tag = (header_begins bytes rest h are).1;
+  version = version_of h.version;
+  version_is = (header_begins bytes rest h are).2 ∙ ap u64_bytes (known_number h.version known);
+}
+
+-- bytes have one version
+pub one_version : (bytes : List ℕ) (a b : HasHeader bytes) → a.version ≡ b.version
+one_version bytes a b =
+    sym (version_known a.version)
+    ∙ ap version_of (u64_bytes-injective (number_of a.version) (number_of b.version) (number_fits a.version) (number_fits b.version) (sym a.version_is ∙ b.version_is))
+    ∙ version_known b.version
 
 -- the first 48 bytes were read, as a header
 module _ (old start mid : Source) (h : MDBShardFileHeader) (first : start ≡ moved old 0) (read : Takes start mid (shard_header_bytes h)) where
@@ -76,7 +95,7 @@ module _ (old start mid : Source) (h : MDBShardFileHeader) (first : start ≡ mo
   front_is_header : take 48 old.bytes ≡ shard_header_bytes h
   front_is_header = front_is 48 old.bytes (shard_header_bytes h) (bytes_left mid) (length-shard_header_bytes h) begins
 
-  header_there : h.version ≡ 2 → HasHeader old.bytes
+  header_there : IsVersion h.version → HasHeader old.bytes
   header_there two = header_of old.bytes (bytes_left mid) h begins two
 
   device_failed : (new : Source) (made : ℕ) (f : Error) (e : CoreError) → made ≤ 1 → Fails mid new made f → FromDevice f e → LoadFails old new e
@@ -87,7 +106,7 @@ module _ (old start mid : Source) (h : MDBShardFileHeader) (first : start ≡ mo
   no_length new f e fails from = device_failed new 0 f e (omega arith) fails from
 
   -- the length is known
-  module _ (n : ℕ) (asked : Source) (known : (n ≡ length mid.bytes) × (asked ≡ mid)) (two : h.version ≡ 2) where
+  module _ (n : ℕ) (asked : Source) (known : (n ≡ length mid.bytes) × (asked ≡ mid)) (two : IsVersion h.version) where
     pub short_of_footer : (e : CoreError) → IsEndOfInput e → n < 200 → LoadFails old asked e
     short_of_footer e ended short =
         search (rules, taken, length-shard_header_bytes h, header_there)

@@ -8,7 +8,8 @@ use Rattle.xet_base.specs.declared.merklehash.DataHash.{DataHash}
 use Rattle.xet_records.specs.declared.file_structs.MDBFileInfo.{MDBFileInfo}
 use Rattle.xet_records.specs.declared.xorb_structs.XorbChunkSequenceEntry.{XorbChunkSequenceEntry}
 use Rattle.xet_records.specs.declared.xorb_structs.MDBXorbInfo.{MDBXorbInfo}
-use Rattle.xet_records.specs.FileRecord.{has_verification, has_metadata_ext, flags_of}
+use Rattle.xet_records.specs.FileRecord.{has_verification, has_metadata_ext, has_aux_ext}
+use Rattle.xet_records.proofs.Merging.{verification_injective}
 use Rattle.xet_records.specs.XorbRow.{is_marked, with_mark}
 use Rattle.xet_records.specs.View.{as_wanted, without_verification}
 use Rattle.xet_shards.specs.declared.streaming_shard.file_start.FileStart.{FileStart}
@@ -77,17 +78,13 @@ all_wanted r = ap (λ b. if b then without_verification r else r) (and_false (ha
 none_left : (r : MDBFileInfo) → has_verification r.metadata.file_flags ≡ false → as_wanted false r ≡ r
 none_left r none = ap (λ b. if b && true then without_verification r else r) none
 
-no_bit : (b : Bool) → has_verification (flags_of false b) ≡ false
-no_bit true = refl
-no_bit false = refl
-
 wanted_again : (wanted : Bool) (r : MDBFileInfo) → as_wanted wanted (as_wanted wanted r) ≡ as_wanted wanted r
 wanted_again true r = all_wanted (as_wanted true r)
 wanted_again false r = again (has_verification r.metadata.file_flags) refl
   where
     again : (b : Bool) → has_verification r.metadata.file_flags ≡ b
         → as_wanted false (if b && true then without_verification r else r) ≡ (if b && true then without_verification r else r)
-    again true is = none_left (without_verification r) (no_bit (has_metadata_ext r.metadata.file_flags))
+    again true is = none_left (without_verification r) (verification_injective false (has_metadata_ext r.metadata.file_flags) (has_aux_ext r.metadata.file_flags))
     again false is = none_left r is
 
 all_wanted_again : (wanted : Bool) (files : List MDBFileInfo) → map (as_wanted wanted) (map (as_wanted wanted) files) ≡ map (as_wanted wanted) files

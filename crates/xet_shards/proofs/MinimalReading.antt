@@ -10,9 +10,11 @@ use Rattle.xet_base.specs.declared.error.CoreError.TheVariants.{OutOfMemory}
 use Rattle.xet_base.specs.declared.merklehash.DataHash.{DataHash}
 use Rattle.xet_base.specs.Errors.{CoreResult}
 use Rattle.xet_base.specs.Source.{Source, Takes}
+use Rattle.xet_records.specs.declared.record_reader.FormatVersion.{FormatVersion}
+use Rattle.xet_records.specs.Version.{version_of}
 use Rattle.xet_records.specs.RecordKind.{RecordKind, KindLaws}
 use Rattle.xet_records.specs.Reading.{Stops}
-use Rattle.xet_records.specs.Reading.Stops.{no_header, too_many_rows, no_rows}
+use Rattle.xet_records.specs.Reading.Stops.{no_header, refused_header, no_rows}
 use Rattle.xet_records.specs.ViewReading.{CountsStored}
 use Rattle.xet_shards.specs.InForm.{FitsSection}
 use Rattle.xet_shards.specs.MinimalShard.{MinimalShard, eligible_hashes}
@@ -53,7 +55,7 @@ module _ {I J : Type 0} (view : I → J) (reads : J → J → List ℕ → Type 
   xorbs_seen true old new xorbs read = views_seen _ old new xorbs read
   xorbs_seen false old new xorbs none = (ap view none.0, none.1)
 
-  header_seen : (old new : I) → ReadsShardHeader (λ a b xs. reads (view a) (view b) xs) old new → ReadsShardHeader reads (view old) (view new)
+  abbrev header_seen : (old new : I) → ReadsShardHeader (λ a b xs. reads (view a) (view b) xs) old new → ReadsShardHeader reads (view old) (view new)
   header_seen old new read = record { header = read.header; tag = read.tag; version = read.version; taken = read.taken }
 
   pub minimal_seen : (with_files with_xorbs : Bool) (old new : I) (m : MinimalShard) → ReadsMinimal (λ a b xs. reads (view a) (view b) xs) with_files with_xorbs old new m
@@ -74,7 +76,7 @@ module _ {I J : Type 0} (view : I → J) (reads : J → J → List ℕ → Type 
     next_seen : {H R : Type 0} (K : RecordKind H R) (left : ℕ) (old new : I) (e : CoreError)
         → Stops K (λ a b xs. reads (view a) (view b) xs) (λ a b n f. fails (view a) (view b) n f) left old new e → Stops K reads fails left (view old) (view new) e
     next_seen K left old new e (no_header failed) = no_header failed
-    next_seen K left old new e (too_many_rows h read past bare) = too_many_rows h read past bare
+    next_seen K left old new e (refused_header h read refused bare) = refused_header h read refused bare
     next_seen K left old new e (no_rows h mid after begun failed) = no_rows h (view mid) after begun failed
 
     stops_seen : {H R : Type 0} (K : RecordKind H R) (old new : I) (e : CoreError)
@@ -83,22 +85,23 @@ module _ {I J : Type 0} (view : I → J) (reads : J → J → List ℕ → Type 
     stops_seen K old new e stops =
         record { mid = view stops.mid; views = stops.views; left = stops.left; records = stops.records; stops = next_seen K stops.left stops.mid new e stops.stops }
 
-    sections_seen : (with_xorbs : Bool) (old new : I) (e : CoreError) → SectionsFail (λ a b xs. reads (view a) (view b) xs) (λ a b n f. fails (view a) (view b) n f) with_xorbs old new e
-        → SectionsFail reads fails with_xorbs (view old) (view new) e
-    sections_seen with_xorbs old new e (no_files stops) = no_files (stops_seen _ old new e stops)
-    sections_seen with_xorbs old new e (no_xorbs wanted mid files read stops) = no_xorbs wanted (view mid) files (views_seen _ old mid files read) (stops_seen _ mid new e stops)
+    sections_seen : (version : FormatVersion) (with_xorbs : Bool) (old new : I) (e : CoreError)
+        → SectionsFail (λ a b xs. reads (view a) (view b) xs) (λ a b n f. fails (view a) (view b) n f) version with_xorbs old new e
+        → SectionsFail reads fails version with_xorbs (view old) (view new) e
+    sections_seen version with_xorbs old new e (no_files stops) = no_files (stops_seen _ old new e stops)
+    sections_seen version with_xorbs old new e (no_xorbs wanted mid files read stops) = no_xorbs wanted (view mid) files (views_seen _ old mid files read) (stops_seen _ mid new e stops)
 
     pub failure_seen : (header_fails : J → J → CoreError → Type 0) (with_xorbs : Bool) (old new mid : I) (e : CoreError)
-        → ReadsShardHeader (λ a b xs. reads (view a) (view b) xs) old mid
-        → SectionsFail (λ a b xs. reads (view a) (view b) xs) (λ a b n f. fails (view a) (view b) n f) with_xorbs mid new e
+        → (header : ReadsShardHeader (λ a b xs. reads (view a) (view b) xs) old mid)
+        → SectionsFail (λ a b xs. reads (view a) (view b) xs) (λ a b n f. fails (view a) (view b) n f) (version_of header.header.version) with_xorbs mid new e
         → MinimalFails reads fails header_fails with_xorbs (view old) (view new) e
-    failure_seen header_fails with_xorbs old new mid e header failed = inr (view mid, header_seen old mid header, sections_seen with_xorbs mid new e failed)
+    failure_seen header_fails with_xorbs old new mid e header failed = inr (view mid, header_seen old mid header, sections_seen (version_of header.header.version) with_xorbs mid new e failed)
 
     -- the sections were read after the header, or they were not
     pub after_header : (header_fails : J → J → CoreError → Type 0) (with_files with_xorbs : Bool) (old mid new : I) (r : CoreResult MinimalShard)
-        → ReadsShardHeader (λ a b xs. reads (view a) (view b) xs) old mid
-        → MatchResult r (ReadsSections (λ a b xs. reads (view a) (view b) xs) with_files with_xorbs mid new)
-        (SectionsFail (λ a b xs. reads (view a) (view b) xs) (λ a b n f. fails (view a) (view b) n f) with_xorbs mid new)
+        → (header : ReadsShardHeader (λ a b xs. reads (view a) (view b) xs) old mid)
+        → MatchResult r (ReadsSections (λ a b xs. reads (view a) (view b) xs) (version_of header.header.version) with_files with_xorbs mid new)
+        (SectionsFail (λ a b xs. reads (view a) (view b) xs) (λ a b n f. fails (view a) (view b) n f) (version_of header.header.version) with_xorbs mid new)
         → MatchResult r (ReadsMinimal reads with_files with_xorbs (view old) (view new)) (MinimalFails reads fails header_fails with_xorbs (view old) (view new))
     after_header header_fails with_files with_xorbs old mid new (Ok m) header sections = minimal_seen with_files with_xorbs old new m (mid, header, sections)
     after_header header_fails with_files with_xorbs old mid new (Err e) header failed = failure_seen header_fails with_xorbs old new mid e header failed

@@ -1,5 +1,5 @@
 -- The xorbs and files that a minimal shard writes.
-use Rattle.std.proofs.Common.{◌≡◌, Ok, Err, None, ℕ, ◌+◌, ◌*◌, ◌^◌, ◌<◌, ◌≤◌, Bool, true, false, List, [], ◌∷◌, ◌++◌, length, map, Option, refl, sym, ap, ◌∙◌, subst, arith}
+use Rattle.std.proofs.Common.{◌≡◌, Ok, Err, None, ℕ, ◌+◌, ◌*◌, ◌≤◌, Bool, true, false, List, [], ◌∷◌, ◌++◌, length, map, Option, refl, sym, ap, ◌∙◌, subst, arith}
 use Rattle.std.specs.Prelude.{All, IfOk, sum_by, not, ◌&&◌, if◌then◌else◌}
 use Rattle.std.specs.Borrow.{Bor}
 use Rattle.std.specs.Fn.{Shared, FnReturnsAt}
@@ -12,7 +12,8 @@ use Rattle.xet_base.specs.Errors.{CoreResult}
 use Rattle.xet_records.specs.declared.file_structs.MDBFileInfo.{MDBFileInfo}
 use Rattle.xet_records.specs.declared.xorb_structs.MDBXorbInfo.{MDBXorbInfo}
 use Rattle.xet_records.specs.declared.xorb_structs.XorbChunkSequenceEntry.{XorbChunkSequenceEntry}
-use Rattle.xet_records.specs.FileRecord.{file_records, row_count, has_verification, has_metadata_ext, flags_of, FitsRecord, IsStored}
+use Rattle.xet_records.proofs.Merging.{flags_fit}
+use Rattle.xet_records.specs.FileRecord.{file_records, row_count, has_verification, has_metadata_ext, has_aux_ext, FitsRecord, IsStored}
 use Rattle.xet_records.specs.XorbRecord.{xorb_records, xorb_row_count, HasItsChunks}
 use Rattle.xet_records.specs.View.{as_wanted, without_verification}
 use Rattle.xet_shards.specs.declared.streaming_shard.file_start.FileStart.{FileStart}
@@ -79,10 +80,6 @@ rows_kept answers starts (x ∷ xs) kept (false, answer, rest, before, is) =
     omega (arith, ap (λ ks. total_rows xorb_records (map (mark_starts starts) ks)) is, sum_by-cons xorb_row_count x xs, rows_kept answers starts xs rest before)
 
 -- without verification rows a record has no more rows, and its numbers fit
-small_flags : (b : Bool) → flags_of false b < 2 ^ 32
-small_flags true = omega arith
-small_flags false = omega arith
-
 pub as_wanted-fits : (wanted : Bool) (r : MDBFileInfo) → FitsRecord r → FitsRecord (as_wanted wanted r)
 as_wanted-fits wanted r fits = either (has_verification r.metadata.file_flags && not wanted)
   where
@@ -90,13 +87,14 @@ as_wanted-fits wanted r fits = either (has_verification r.metadata.file_flags &&
     either true = record {
       metadata = record {
         file_hash = fits.metadata.file_hash;
-        file_flags = small_flags (has_metadata_ext r.metadata.file_flags);
+        file_flags = flags_fit false (has_metadata_ext r.metadata.file_flags) (has_aux_ext r.metadata.file_flags);
         num_entries = fits.metadata.num_entries;
         unused = omega arith;
       };
       segments = fits.segments;
       verification = All-nil _;
       metadata_ext = fits.metadata_ext;
+      aux_ext = fits.aux_ext;
     }
     either false = fits
 
@@ -137,7 +135,7 @@ length-without_tables files xorbs form tables fit =
     simp (length-append)
     (omega (
       arith,
-      length-shard_header_bytes header_value,
+      length-shard_header_bytes (header_value form.version),
       length-file_section files fit,
       length-xorb_section xorbs,
       none_in form.file_table (table_bytes file_records files) tables.0,
@@ -150,7 +148,7 @@ length-without_tables files xorbs form tables fit =
 pub shard_written : (answers : MDBXorbInfo → Bool → Type 0) (m : MinimalShard) (files : List MDBFileInfo) (form : Form) (start after_header after_files after_xorbs end : Option (List ℕ))
     (wf : WrittenFiles) (wx : WrittenXorbs) (starts : FileStart → Bool) (xorbs : List MDBXorbInfo) (n : ℕ)
     → HasNoTables form → All FitsRecord files → starts ≡ is_start m.files → xorbs ≡ m.xorbs
-    → Appends start after_header (shard_header_bytes header_value) → Appends after_header after_files (section_bytes file_records files) → HasWritten wf files
+    → Appends start after_header (shard_header_bytes (header_value form.version)) → Appends after_header after_files (section_bytes file_records files) → HasWritten wf files
     → WritesMarked answers starts after_files after_xorbs xorbs wx
     → ((rs : List MDBFileInfo) (xs : List MDBXorbInfo) → All FitsRecord rs → HasWritten wf rs → HasWrittenXorbs wx xs → Appends after_xorbs end (end_of_layout rs xs form))
     → n ≡ 344 + 48 * wf.table.rows + 48 * wx.table.rows → WritesKept answers start end files m form n

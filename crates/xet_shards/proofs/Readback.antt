@@ -1,5 +1,5 @@
 -- What is read from the bytes of a shard.
-use Rattle.std.proofs.Common.{◌≡◌, ◌⊎◌, Ok, Err, ℕ, List, [], ◌∷◌, ◌++◌, ◌+◌, length, map, flat_map, drop, Option, None, Some, refl, sym, ap, ◌∙◌, arith, rules}
+use Rattle.std.proofs.Common.{◌≡◌, ◌⊎◌, Ok, Err, ℕ, List, [], ◌∷◌, ◌++◌, ◌+◌, length, map, flat_map, drop, Option, None, Some, refl, sym, ap, ◌∙◌, subst, arith, rules}
 use Rattle.std.specs.Prelude.{All, IfSome, MatchResult, option_map}
 use Rattle.std.specs.FinMap.{values}
 use Rattle.std.specs.declared.result.Result.{Result}
@@ -12,20 +12,24 @@ use Rattle.xet_base.specs.Source.{Source, DeviceFailure, bytes_left}
 use Rattle.xet_base.proofs.Lists.{rest_is}
 use Rattle.xet_records.specs.declared.file_structs.rows.FileVerificationEntry.{FileVerificationEntry}
 use Rattle.xet_records.specs.declared.file_structs.rows.FileMetadataExt.{FileMetadataExt}
+use Rattle.xet_records.specs.declared.file_structs.rows.FileAuxExt.{FileAuxExt}
+use Rattle.xet_records.specs.declared.record_reader.FormatVersion.{FormatVersion}
 use Rattle.xet_records.specs.declared.file_structs.MDBFileInfo.{MDBFileInfo}
 use Rattle.xet_records.specs.declared.xorb_structs.MDBXorbInfo.{MDBXorbInfo}
 use Rattle.xet_records.specs.RecordKind.{RecordKind}
-use Rattle.xet_records.proofs.RecordKinds.{KindLaws, file_laws, xorb_laws}
-use Rattle.xet_records.specs.FileRow.{header_row, clear_verification, clear_metadata}
-use Rattle.xet_records.specs.FileRecord.{file_record_bytes, file_bookend, handed_out, IsWellFormed, file_records}
+use Rattle.xet_records.proofs.RecordKinds.{KindLaws, xorb_laws, version_known}
+use Rattle.xet_shards.specs.declared.shard_format.info.MDBShardInfo.{MDBShardInfo}
+use Rattle.xet_shards.specs.WrittenShard.{IsWritten}
+use Rattle.xet_records.specs.FileRow.{header_row, clear_verification, clear_metadata, clear_aux}
+use Rattle.xet_records.specs.FileRecord.{file_record_bytes, file_bookend, handed_out, IsWellFormed, file_records, file_records_in}
 use Rattle.xet_records.specs.XorbRow.{xorb_header_row}
 use Rattle.xet_records.specs.XorbRecord.{xorb_record_bytes, xorb_bookend, xorb_records}
 use Rattle.xet_shards.specs.Shard.{Shard, IsShard}
 use Rattle.xet_shards.specs.Section.{section_bytes}
 use Rattle.xet_shards.specs.Tables.{table_bytes, chunk_table_bytes}
-use Rattle.xet_shards.specs.Layout.{Form, if_in, shard_header_bytes, header_value, shard_footer_bytes, footer_value, layout_of, layout, plain_form}
-use Rattle.xet_shards.specs.SectionReading.{IsSection, TakesSection, TakesNoSection, SectionFailure, PassesRows, IsCutSection}
-use Rattle.xet_shards.proofs.Sections.{FitsSection, section_there, files_fit, xorbs_fit}
+use Rattle.xet_shards.specs.Layout.{Form, if_in, shard_header_bytes, header_value, shard_footer_bytes, footer_value, layout_of, layout_in, plain_form_in}
+use Rattle.xet_shards.specs.SectionReading.{files_of, IsSection, TakesSection, TakesNoSection, SectionFailure, PassesRows, IsCutSection}
+use Rattle.xet_shards.proofs.Sections.{FitsSection, files_laws, section_there, files_fit_in, xorbs_fit}
 use Rattle.xet_shards.proofs.Layouts.{length-shard_header_bytes}
 use Rattle.xet_shards.proofs.SectionUnique.{only_list, section_or_passes, section_or_cut}
 
@@ -40,9 +44,13 @@ clear_ext : (o : Option FileMetadataExt) → IfSome o (λ m. m._unused ≡ 0 ∷
 clear_ext None clear = refl
 clear_ext (Some m) clear = λ i. Some (record { sha256 = m.sha256; _unused = sym clear i })
 
+clear_aux_ext : (o : Option FileAuxExt) → IfSome o (λ a. a._unused ≡ 0 ∷ 0 ∷ []) → option_map clear_aux o ≡ o
+clear_aux_ext None clear = refl
+clear_aux_ext (Some a) clear = λ i. Some (record { aux_hash = a.aux_hash; _unused = sym clear i })
+
 -- so a well-formed record is handed out as it is
 pub handed_one : (r : MDBFileInfo) → IsWellFormed r → handed_out r ≡ r
-handed_one r good = search (rules, clear_verifications, clear_ext)
+handed_one r good = search (rules, clear_verifications, clear_ext, clear_aux_ext)
 
 pub handed_same : (rs : List MDBFileInfo) → All IsWellFormed rs → map handed_out rs ≡ rs
 handed_same [] good = refl
@@ -58,37 +66,47 @@ module _ (files : List MDBFileInfo) (xorbs : List MDBXorbInfo) (form : Form) whe
   abbrev pub after_section : List ℕ
   after_section = section_bytes xorb_records xorbs ++ after_xorbs
 
-  pub layout_from_48 : layout_of files xorbs form ≡ shard_header_bytes header_value ++ (section_bytes file_records files ++ after_section)
+  pub layout_from_48 : layout_of files xorbs form ≡ shard_header_bytes (header_value form.version) ++ (section_bytes file_records files ++ after_section)
   unfolding layout_of
   layout_from_48 = simp (append_assoc)
 
   pub section_at_48 : drop 48 (layout_of files xorbs form) ≡ flat_map file_record_bytes files ++ (header_row file_bookend ++ after_section)
   unfolding section_bytes
   section_at_48 =
-      rest_is 48 (layout_of files xorbs form) (shard_header_bytes header_value) (section_bytes file_records files ++ after_section) (length-shard_header_bytes header_value) layout_from_48
+      rest_is 48 (layout_of files xorbs form) (shard_header_bytes (header_value form.version)) (section_bytes file_records files ++ after_section) (length-shard_header_bytes (header_value form.version)) layout_from_48
       ∙ append_assoc (flat_map file_record_bytes files) (header_row file_bookend) after_section
 
   pub xorbs_at : drop (48 + length (section_bytes file_records files)) (layout_of files xorbs form) ≡ flat_map xorb_record_bytes xorbs ++ (xorb_header_row xorb_bookend ++ after_xorbs)
   unfolding section_bytes
   xorbs_at =
-      rest_is (48 + length (section_bytes file_records files)) (layout_of files xorbs form) (shard_header_bytes header_value ++ section_bytes file_records files) after_section
-      (length-append (shard_header_bytes header_value) (section_bytes file_records files) ∙ ap (λ n. n + length (section_bytes file_records files)) (length-shard_header_bytes header_value))
-      (layout_from_48 ∙ sym (append_assoc (shard_header_bytes header_value) (section_bytes file_records files) after_section))
+      rest_is (48 + length (section_bytes file_records files)) (layout_of files xorbs form) (shard_header_bytes (header_value form.version) ++ section_bytes file_records files) after_section
+      (length-append (shard_header_bytes (header_value form.version)) (section_bytes file_records files) ∙ ap (λ n. n + length (section_bytes file_records files)) (length-shard_header_bytes (header_value form.version)))
+      (layout_from_48 ∙ sym (append_assoc (shard_header_bytes (header_value form.version)) (section_bytes file_records files) after_section))
       ∙ append_assoc (flat_map xorb_record_bytes xorbs) (xorb_header_row xorb_bookend) after_xorbs
 
   -- both sections are in the bytes, whatever the form
-  pub file_section_in : FitsSection file_records files → IsSection file_records (drop 48 (layout_of files xorbs form)) files
-  file_section_in fits = section_there file_records file_laws files fits (drop 48 (layout_of files xorbs form)) after_section section_at_48
+  pub file_section_in : FitsSection (file_records_in form.version) files → IsSection (file_records_in form.version) (drop 48 (layout_of files xorbs form)) files
+  file_section_in fits = section_there (file_records_in form.version) (files_laws form.version) files fits (drop 48 (layout_of files xorbs form)) after_section section_at_48
 
   pub xorb_section_in : FitsSection xorb_records xorbs → IsSection xorb_records (drop (48 + length (section_bytes file_records files)) (layout_of files xorbs form)) xorbs
   xorb_section_in fits = section_there xorb_records xorb_laws xorbs fits (drop (48 + length (section_bytes file_records files)) (layout_of files xorbs form)) after_xorbs xorbs_at
 
-pub section_of_shard : (s : Shard) (expiry : Option ℕ) → IsShard s → IsSection file_records (drop 48 (layout s expiry)) (values s.files)
-section_of_shard s expiry shard = file_section_in (values s.files) (values s.xorbs) (plain_form expiry) (files_fit s shard)
+pub section_of_shard : (version : FormatVersion) (s : Shard) (expiry : Option ℕ) → FitsSection (file_records_in version) (values s.files)
+    → IsSection (file_records_in version) (drop 48 (layout_in version s expiry)) (values s.files)
+section_of_shard version s expiry fits = file_section_in (values s.files) (values s.xorbs) (plain_form_in version expiry) fits
 
-pub xorb_section_of_shard : (s : Shard) (expiry : Option ℕ) → IsShard s
-    → IsSection xorb_records (drop (48 + length (section_bytes file_records (values s.files))) (layout s expiry)) (values s.xorbs)
-xorb_section_of_shard s expiry shard = xorb_section_in (values s.files) (values s.xorbs) (plain_form expiry) (xorbs_fit s shard)
+pub xorb_section_of_shard : (version : FormatVersion) (s : Shard) (expiry : Option ℕ) → IsShard s
+    → IsSection xorb_records (drop (48 + length (section_bytes file_records (values s.files))) (layout_in version s expiry)) (values s.xorbs)
+xorb_section_of_shard version s expiry shard = xorb_section_in (values s.files) (values s.xorbs) (plain_form_in version expiry) (xorbs_fit s shard)
+
+-- the file section in the bytes of a shard, read in the version of their header
+pub section_written : {s : Shard} {expiry : Option ℕ} {bytes : List ℕ} {info : MDBShardInfo} → IsWritten s expiry bytes info
+    → IsSection (files_of info) (drop info.metadata.file_info_offset bytes) (values s.files)
+section_written {s} {expiry} {bytes} is =
+    let there = section_of_shard is.version s expiry (files_fit_in is.version s is.shard is.files) in
+    let in_bytes = subst (λ bs. IsSection (file_records_in is.version) (drop 48 bs) (values s.files)) (sym is.same_bytes) there in
+    let known = subst (λ v. IsSection (file_records_in v) (drop 48 bytes) (values s.files)) (sym (version_known is.version)) in_bytes in
+    subst (λ (i : MDBShardInfo). IsSection (files_of i) (drop i.metadata.file_info_offset bytes) (values s.files)) (sym is.same_info) known
 
 -- bytes that are a section of records are read as these, unless the device fails or an allocation does
 module _ {H R : Type 0} (K : RecordKind H R) (laws : KindLaws K) (old new : Source) (rs : List R) (section : IsSection K (bytes_left old) rs) where

@@ -5,6 +5,8 @@ use Rattle.std.specs.FinMap.{FinMap, entries, values, same_entries_map}
 use Rattle.std.proofs.lemmas.List.Elements.{All-drop}
 use Rattle.xet_base.specs.declared.merklehash.DataHash.{DataHash}
 use Rattle.xet_base.specs.Hash.{hash_cmp}
+use Rattle.xet_records.specs.declared.record_reader.FormatVersion.TheVariants.{V3}
+use Rattle.xet_shards.proofs.Sections.{files_fit}
 use Rattle.xet_records.specs.FileRecord.{file_records}
 use Rattle.xet_records.specs.XorbRecord.{xorb_records}
 use Rattle.xet_records.proofs.RecordKinds.{file_laws, xorb_laws}
@@ -36,13 +38,13 @@ module _ (s t : Shard) (e f : Option ℕ) (s_shard : IsShard s) (t_shard : IsSha
   files_same : values s.files ≡ values t.files
   files_same =
       only_list file_records file_laws (drop 48 (layout t f)) (values s.files) (values t.files)
-      (subst (λ bs. IsSection file_records (drop 48 bs) (values s.files)) same (section_of_shard s e s_shard)) (section_of_shard t f t_shard)
+      (subst (λ bs. IsSection file_records (drop 48 bs) (values s.files)) same (section_of_shard V3 s e (files_fit s s_shard))) (section_of_shard V3 t f (files_fit t t_shard))
 
   xorbs_same : values s.xorbs ≡ values t.xorbs
   xorbs_same =
       let at : 48 + length (section_bytes file_records (values s.files)) ≡ 48 + length (section_bytes file_records (values t.files)) = ap (λ rs. 48 + length (section_bytes file_records rs)) files_same in
       only_list xorb_records xorb_laws (drop (48 + length (section_bytes file_records (values t.files))) (layout t f)) (values s.xorbs) (values t.xorbs)
-      (subst (λ bs. IsSection xorb_records bs (values s.xorbs)) (λ i. drop (at i) (same i)) (xorb_section_of_shard s e s_shard)) (xorb_section_of_shard t f t_shard)
+      (subst (λ bs. IsSection xorb_records bs (values s.xorbs)) (λ i. drop (at i) (same i)) (xorb_section_of_shard V3 s e s_shard)) (xorb_section_of_shard V3 t f t_shard)
 
   pub same_bytes : s ≡ t
   same_bytes =

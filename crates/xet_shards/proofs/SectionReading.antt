@@ -9,8 +9,8 @@ use Rattle.xet_base.specs.Source.{Source, Takes, Fails, FailedBy, ReadCase, Read
 use Rattle.xet_base.specs.InputLaws.{Takes-trans}
 use Rattle.xet_base.proofs.Reading.{Takes-consumes, lacks_left}
 use Rattle.xet_records.specs.RecordKind.{RecordKind}
-use Rattle.xet_records.specs.Reading.{ReadsBookend, ReadsHeader, BeginsWithHeader, PassesLimit, EndsEarly, HasRead, Stops, ReadsRecords, StopsAfter}
-use Rattle.xet_records.specs.Reading.Stops.{no_header, too_many_rows, no_rows}
+use Rattle.xet_records.specs.Reading.{ReadsBookend, ReadsHeader, BeginsWithHeader, IsTaken, PassesLimit, EndsEarly, HasRead, Stops, ReadsRecords, StopsAfter}
+use Rattle.xet_records.specs.Reading.Stops.{no_header, refused_header, no_rows}
 use Rattle.xet_records.proofs.Lengths.{length-all_record_bytes}
 use Rattle.xet_records.proofs.RecordKinds.{KindLaws, length-record_bytes, stored_begins}
 use Rattle.xet_shards.specs.SectionReading.SectionCase.{passes_limit}
@@ -52,7 +52,7 @@ module _ {H R : Type 0} (K : RecordKind H R) (laws : KindLaws K) where
           may_take = inl (omega arith);
           cause = refused_as (PassesLimit K left) (EndsEarly K left) (bytes_left old) old old (meaning t) 48 e refl (λ short. inl (lacks_left old 48 (omega arith) short)) fails.cause;
         }
-    record_fails left s t e (too_many_rows h read past is) =
+    record_fails left s t e (refused_header h read refused is) =
         let taken = read.taken in
         record {
           bytes = ap (λ (u : Source). u.bytes) taken.after;
@@ -60,7 +60,7 @@ module _ {H R : Type 0} (K : RecordKind H R) (laws : KindLaws K) where
           taken = 48;
           read = omega (arith, ap (λ (u : Source). u.read) taken.after, laws.header_size h);
           may_take = inl (omega arith);
-          cause = inr (ap (λ (u : Source). u.failures) taken.after, passes_limit is (h, bytes_left (meaning t), begins_with (meaning s) (meaning t) h read, past));
+          cause = inr (ap (λ (u : Source). u.failures) taken.after, passes_limit is (h, bytes_left (meaning t), begins_with (meaning s) (meaning t) h read, refused));
         }
     record_fails left s t e (no_rows h m after begun fails) =
         let old = meaning s in
@@ -71,7 +71,7 @@ module _ {H R : Type 0} (K : RecordKind H R) (laws : KindLaws K) where
         let at : mid.at ≡ old.at + length (K.header_bytes h) = ap (λ (u : Source). u.at) taken.after in
         let inside : mid.at ≤ length mid.bytes = omega (arith, at, taken.within some, ap length bytes) in
         let begins = begins_with old mid h begun.read in
-        let within : 1 + K.rows_after h ≤ left = omega (arith, begun.rows) in
+        let within : IsTaken K left h = record { allowed = begun.allowed; rows = omega (arith, begun.rows) } in
         record {
           bytes = fails.bytes ∙ bytes;
           seeks = fails.seeks ∙ ap (λ (u : Source). u.seeks) taken.after;

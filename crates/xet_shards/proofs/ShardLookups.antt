@@ -1,6 +1,6 @@
 -- File lookups on the bytes of a shard answer as its map does.
-use Rattle.std.proofs.Common.{◌≡◌, ◌∙◌, Ok, Err, ℕ, List, get_or, Option, None, Some, sym, ap, subst}
-use Rattle.std.specs.Prelude.{◌≢◌, MatchResult}
+use Rattle.std.proofs.Common.{◌≡◌, ◌∙◌, Ok, Err, ℕ, List, map, get_or, Option, None, Some, sym, ap, subst}
+use Rattle.std.specs.Prelude.{◌≢◌, IfOk, IfSome, MatchResult}
 use Rattle.std.specs.FinMap.{entries, values, get}
 use Rattle.std.specs.declared.result.Result.{Result}
 use Rattle.std.proofs.lemmas.List.{get_or_default}
@@ -8,13 +8,15 @@ use Rattle.std.proofs.lemmas.List.Elements.{Contains-get_or}
 use Rattle.xet_base.specs.declared.error.CoreError.{CoreError}
 use Rattle.xet_base.specs.declared.merklehash.DataHash.{DataHash}
 use Rattle.xet_base.specs.Source.{Source}
-use Rattle.xet_base.specs.Table.{table_at}
+use Rattle.xet_base.specs.Table.{Table, table_at}
 use Rattle.xet_records.specs.declared.file_structs.MDBFileInfo.{MDBFileInfo}
-use Rattle.xet_records.specs.RecordKind.{RecordKind}
-use Rattle.xet_records.specs.FileRecord.{file_records}
-use Rattle.xet_records.proofs.RecordKinds.{KindLaws, file_laws}
+use Rattle.xet_records.specs.RecordKind.{RecordKind, in_version}
+use Rattle.xet_records.specs.FileRecord.{file_records, file_records_in, FitsItsHeader}
+use Rattle.xet_records.specs.declared.record_reader.FormatVersion.{FormatVersion}
+use Rattle.xet_shards.proofs.Sections.{files_laws}
+use Rattle.xet_records.proofs.RecordKinds.{KindLaws, file_laws, stored_ever}
 use Rattle.xet_shards.specs.Shard.{Shard, IsShard}
-use Rattle.xet_shards.specs.Lookup.{LooksUpRecord, IsOneOf, FoundAmong, FoundInShard, LookupFailsAmong}
+use Rattle.xet_shards.specs.Lookup.{LooksUpRecord, LookupAnswer, IsOneOf, FoundAmong, FoundInShard, LookupFailsAmong, WithinBounds}
 use Rattle.xet_shards.specs.Tables.{hash_in}
 use Rattle.xet_shards.proofs.Files.{well_formed_values}
 use Rattle.xet_shards.proofs.InForm.{no_file}
@@ -42,16 +44,35 @@ module _ {H R : Type 0} (K : RecordKind H R) (laws : KindLaws K) (d : R) (record
       (found.0, one_of K laws d records hash answer found.1)
   lookup_in_form new hash (Err e) looks = not_answered K laws d records offset start count old is hash new e looks.read
 
-module _ (s : Shard) (shard : IsShard s) where
-  -- the answer among the files is that of the map
-  answers : (hash : DataHash) (answer : Option MDBFileInfo) → IsAnswer file_records no_file (values s.files) hash answer → answer ≡ get s.files hash
-  answers = map_answers file_records no_file s.files shard.files.keyed (λ i d within. handed_one (get_or (values s.files) i d) (well_formed_values (entries s.files) shard.files i d within))
+-- a file that a lookup hands out fits its header
+found_fits : (version : FormatVersion) (bytes : List ℕ) (offset : ℕ) (hash : DataHash) (answer : Option MDBFileInfo) (rows : List ℕ)
+    → LookupAnswer (file_records_in version) bytes offset hash answer rows → IfSome answer FitsItsHeader
+found_fits version bytes offset hash None rows is = tt
+found_fits version bytes offset hash (Some found) rows (same, row, among, at) =
+    subst FitsItsHeader at.handed (file_laws.handed_stored at.stored (stored_ever file_records version at.stored at.is_stored)).whole
 
-  pub lookup_written : (offset start count : ℕ) (old : Source) → IsLookedUp file_records no_file (values s.files) offset start count old
+pub lookup_fits : (version : FormatVersion) (t : Table) (offset : ℕ) (hash : DataHash) (old new : Source) (r : Result (Option MDBFileInfo) CoreError)
+    → LooksUpRecord (file_records_in version) t offset hash old new r → IfOk r (λ found. IfSome found FitsItsHeader)
+lookup_fits version t offset hash old new (Err e) looks = tt
+lookup_fits version t offset hash old new (Ok answer) looks =
+    found_fits version old.bytes offset hash answer (map (λ hit. hit.value) looks.read.found) looks.read.answer
+
+-- the bounds of a lookup are those of the kind
+pub bounds_ever : {H R : Type 0} (K : RecordKind H R) (version : FormatVersion) (records : List R) (word : ℕ) (old new : Source)
+    → WithinBounds (in_version K version) records word old new → WithinBounds K records word old new
+bounds_ever K version records word old new bounds =
+    record { made = bounds.made; more = bounds.more; few = bounds.few; few_more = bounds.few_more; seeks = bounds.seeks; read = bounds.read }
+
+module _ (s : Shard) (shard : IsShard s) (version : FormatVersion) where
+  -- the answer among the files is that of the map
+  answers : (hash : DataHash) (answer : Option MDBFileInfo) → IsAnswer (file_records_in version) no_file (values s.files) hash answer → answer ≡ get s.files hash
+  answers = map_answers (file_records_in version) no_file s.files shard.files.keyed (λ i d within. handed_one (get_or (values s.files) i d) (well_formed_values (entries s.files) shard.files i d within))
+
+  pub lookup_written : (offset start count : ℕ) (old : Source) → IsLookedUp (file_records_in version) no_file (values s.files) offset start count old
       → (new : Source) (hash : DataHash) (r : Result (Option MDBFileInfo) CoreError)
-      → LooksUpRecord file_records (table_at old start count 4) offset hash old new r
+      → LooksUpRecord (file_records_in version) (table_at old start count 4) offset hash old new r
       → MatchResult r (FoundInShard s hash) (LookupFailsAmong file_records (values s.files) hash old new)
   lookup_written offset start count old is new hash (Ok answer) looks =
-      let found = answered file_records file_laws no_file (values s.files) offset start count old is hash new answer looks.read in
+      let found = answered (file_records_in version) (files_laws version) no_file (values s.files) offset start count old is hash new answer looks.read in
       (found.0, answers hash answer found.1)
-  lookup_written offset start count old is new hash (Err e) looks = not_answered file_records file_laws no_file (values s.files) offset start count old is hash new e looks.read
+  lookup_written offset start count old is new hash (Err e) looks = not_answered (file_records_in version) (files_laws version) no_file (values s.files) offset start count old is hash new e looks.read

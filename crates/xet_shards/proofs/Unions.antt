@@ -56,10 +56,17 @@ union-comm a b c d first second agree one other = same_shard c d (λ q.
     one.files q ∙ files_turned q (get a.files q) (get b.files q) (λ r. known a q r first) (λ s. known b q s second) (agree.files q) ∙ sym (other.files q))
     (λ q. one.xorbs q ∙ same_either (get a.xorbs q) (get b.xorbs q) (agree.xorbs q) ∙ sym (other.xorbs q))
 
+files_grouped : (o p r : Option MDBFileInfo) → either_file (either_file o p) r ≡ either_file o (either_file p r)
+files_grouped None p r = refl
+files_grouped (Some x) None r = refl
+files_grouped (Some x) (Some y) None = refl
+files_grouped (Some x) (Some y) (Some z) = ap Some (merged-assoc x y z)
+
 -- in either grouping
 pub union-assoc : (a b c ab bc left right : Shard) → IsUnion a b ab → IsUnion ab c left → IsUnion b c bc → IsUnion a bc right → left ≡ right
 union-assoc a b c ab bc left right one then_c other then_a = same_shard left right
-    (λ q. grind (arith, one.files q, then_c.files q, other.files q, then_a.files q, merged-assoc))
+    (λ q. then_c.files q ∙ ap (λ o. either_file o (get c.files q)) (one.files q) ∙ files_grouped (get a.files q) (get b.files q) (get c.files q)
+    ∙ ap (either_file (get a.files q)) (sym (other.files q)) ∙ sym (then_a.files q))
     (λ q. grind (arith, one.xorbs q, then_c.xorbs q, other.xorbs q, then_a.xorbs q))
 
 files_repeated : (q : DataHash) (o : Option MDBFileInfo) → ((r : MDBFileInfo) → o ≡ Some r → IsKnown q r) → either_file o o ≡ o

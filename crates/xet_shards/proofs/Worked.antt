@@ -34,6 +34,7 @@ file hash xorb = record {
   segments = record { xorb_hash = small xorb; xorb_flags = 0; unpacked_segment_bytes = 5; chunk_index_start = 0; chunk_index_end = 5 } ∷ [];
   verification = [];
   metadata_ext = None;
+  aux_ext = None;
 }
 
 -- a xorb of one chunk of 5 bytes

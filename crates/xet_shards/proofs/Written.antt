@@ -63,13 +63,13 @@ bytes_of_table K false records = refl
 
 -- header, sections and end are the layout
 pub layout-parts : (files : List MDBFileInfo) (xorbs : List MDBXorbInfo) (form : Form)
-    → ((shard_header_bytes header_value ++ section_bytes file_records files) ++ section_bytes xorb_records xorbs) ++ end_of_layout files xorbs form ≡ layout_of files xorbs form
+    → ((shard_header_bytes (header_value form.version) ++ section_bytes file_records files) ++ section_bytes xorb_records xorbs) ++ end_of_layout files xorbs form ≡ layout_of files xorbs form
 unfolding layout_of
 layout-parts files xorbs form = simp (append_assoc)
 
 -- so are they where they were written one after another
 pub whole_layout : (start after_header after_files after_xorbs end : Option (List ℕ)) (files : List MDBFileInfo) (xorbs : List MDBXorbInfo) (form : Form)
-    → Appends start after_header (shard_header_bytes header_value) → Appends after_header after_files (section_bytes file_records files)
+    → Appends start after_header (shard_header_bytes (header_value form.version)) → Appends after_header after_files (section_bytes file_records files)
     → Appends after_files after_xorbs (section_bytes xorb_records xorbs) → Appends after_xorbs end (end_of_layout files xorbs form)
     → Appends start end (layout_of files xorbs form)
 whole_layout start after_header after_files after_xorbs end files xorbs form header file_section xorb_section rest =

@@ -15,6 +15,7 @@ use Rattle.xet_base.specs.Bytes.{u32_bytes, u64_bytes}
 use Rattle.xet_base.specs.Source.{Source}
 use Rattle.xet_base.proofs.Bytes.{length-u32_bytes, length-u64_bytes, u32_bytes-injective, u32_bytes-front, u64_bytes-front}
 use Rattle.xet_base.proofs.Lists.{rest_is}
+use Rattle.xet_records.specs.declared.record_reader.FormatVersion.{FormatVersion}
 use Rattle.xet_records.specs.declared.file_structs.MDBFileInfo.{MDBFileInfo}
 use Rattle.xet_records.specs.declared.xorb_structs.MDBXorbInfo.{MDBXorbInfo}
 use Rattle.xet_records.specs.declared.xorb_structs.XorbChunkSequenceEntry.{XorbChunkSequenceEntry}
@@ -27,7 +28,7 @@ use Rattle.xet_shards.specs.declared.shard_format.info.MDBShardInfo.{MDBShardInf
 use Rattle.xet_shards.specs.Shard.{Shard, IsShard}
 use Rattle.xet_shards.specs.Section.{total_rows, with_fronts, section_bytes}
 use Rattle.xet_shards.specs.Tables.{ChunkTableRow, hash_in, chunk_table_rows_from, chunk_table_rows, chunk_table, start_of, starts, start_row, chunk_table_row_bytes, table_bytes, chunk_table_bytes}
-use Rattle.xet_shards.specs.Layout.{Form, if_in, shard_header_bytes, header_value, shard_footer_bytes, footer_value, layout_of, layout, info_value, plain_form}
+use Rattle.xet_shards.specs.Layout.{Form, if_in, shard_header_bytes, header_value, shard_footer_bytes, footer_value, layout_of, layout_in, info_value_in, plain_form_in}
 use Rattle.xet_shards.specs.TableReading.{FitsStart, triple_of, triple_row, FitsTriple}
 use Rattle.xet_shards.proofs.ChunkTableRows.{alone, chunk_table_row}
 use Rattle.xet_shards.proofs.Layouts.{length-shard_header_bytes}
@@ -59,7 +60,7 @@ rows_in false row rows = refl
 -- where the tables are
 module _ (files : List MDBFileInfo) (xorbs : List MDBXorbInfo) (form : Form) where
   abbrev before_file_table : List ℕ
-  before_file_table = (shard_header_bytes header_value ++ section_bytes file_records files) ++ section_bytes xorb_records xorbs
+  before_file_table = (shard_header_bytes (header_value form.version) ++ section_bytes file_records files) ++ section_bytes xorb_records xorbs
 
   abbrev before_tables : List ℕ
   before_tables = before_file_table ++ if_in form.file_table (table_bytes file_records files)
@@ -226,17 +227,18 @@ module _ (files : List MDBFileInfo) (xorbs : List MDBXorbInfo) (form : Form) (fi
       )
 
 -- the tables of a shard
-module _ (s : Shard) (shard : IsShard s) (expiry : Option ℕ) (old new : Source) (are : old.bytes ≡ layout s expiry) (info : MDBShardInfo) (is : info ≡ info_value s expiry) where
+module _ (s : Shard) (shard : IsShard s) (version : FormatVersion) (expiry : Option ℕ) (old new : Source) (are : old.bytes ≡ layout_in version s expiry) (info : MDBShardInfo)
+    (is : info ≡ info_value_in version s expiry) where
   pub xorb_table_read : {Z : Type 0} (r : Result (Vec (ℕ × ℕ) Z) CoreError)
       → ReadsOrFails start_row FitsStart 12 old new info.metadata.xorb_lookup_offset info.metadata.xorb_lookup_num_entry r
       → IsReadAs old new (starts xorb_records (values s.xorbs)) r
   xorb_table_read r read =
-      xorb_table_in (values s.files) (values s.xorbs) (plain_form expiry) (xorbs_fit s shard) old new are r
+      xorb_table_in (values s.files) (values s.xorbs) (plain_form_in version expiry) (xorbs_fit s shard) old new are r
       (subst (λ (i : MDBShardInfo). ReadsOrFails start_row FitsStart 12 old new i.metadata.xorb_lookup_offset i.metadata.xorb_lookup_num_entry r) is read)
 
   pub chunk_table_read : {Z : Type 0} (r : Result (Vec (ℕ × (ℕ × ℕ)) Z) CoreError)
       → ReadsOrFails triple_row FitsTriple 16 old new info.metadata.chunk_lookup_offset info.metadata.chunk_lookup_num_entry r
       → IsReadAs old new (map triple_of (chunk_table (values s.xorbs))) r
   chunk_table_read r read =
-      chunk_table_in (values s.files) (values s.xorbs) (plain_form expiry) (xorbs_fit s shard) old new are r
+      chunk_table_in (values s.files) (values s.xorbs) (plain_form_in version expiry) (xorbs_fit s shard) old new are r
       (subst (λ (i : MDBShardInfo). ReadsOrFails triple_row FitsTriple 16 old new i.metadata.chunk_lookup_offset i.metadata.chunk_lookup_num_entry r) is read)

@@ -112,7 +112,7 @@ unfolding layout_of
 length-in_form files xorbs form fit =
     simp length-append (omega (
       arith,
-      length-shard_header_bytes header_value,
+      length-shard_header_bytes (header_value form.version),
       length-file_section files fit,
       length-xorb_section xorbs,
       length-in form.file_table (table_bytes file_records files) files 12 (length-table_bytes file_records files),

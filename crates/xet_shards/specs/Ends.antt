@@ -5,21 +5,25 @@ use Rattle.xet_base.specs.Bytes.{u64_bytes}
 use Rattle.xet_base.specs.Hash.{IsHash}
 use Rattle.xet_base.specs.Errors.{IsShardVersion, IsBareShardVersion, IsEndOfInput}
 use Rattle.xet_base.specs.Source.{Source, FailedBy, bytes_left}
+use Rattle.xet_records.specs.declared.record_reader.FormatVersion.{FormatVersion}
+use Rattle.xet_records.specs.Version.{number_of, IsVersion}
 use Rattle.xet_shards.specs.declared.shard_format.footer.MDBShardFileFooter.{MDBShardFileFooter}
 use Rattle.xet_shards.specs.declared.shard_format.info.MDBShardInfo.{MDBShardInfo}
 use Rattle.xet_shards.specs.Layout.{header_tag, shard_header_bytes, offsets_of, timestamps_of, sums_of, shard_footer_bytes}
 
--- the bytes begin with a valid header: the tag, version 2, and a footer size
+-- the bytes begin with a valid header: the tag, a version that is read, and a footer size
 pub record HasHeader (bytes : List ℕ) : Type 0 where
   pub size : 48 ≤ length bytes
   pub tag : take 32 bytes ≡ header_tag
-  pub version : take 8 (drop 32 bytes) ≡ u64_bytes 2
+  pub version : FormatVersion
+  pub version_is : take 8 (drop 32 bytes) ≡ u64_bytes (number_of version)
 
 -- another tag, which is checked after 32 bytes, or another version, which is checked after 48
 abbrev pub HasUnsupportedHeader : List ℕ → Type 0
 HasUnsupportedHeader bytes =
     ((32 ≤ length bytes) × (take 32 bytes ≢ header_tag))
-    ⊎ ((48 ≤ length bytes) × (take 8 (drop 32 bytes) ≢ u64_bytes 2))
+    ⊎ ((48 ≤ length bytes)
+    × ((version : FormatVersion) → take 8 (drop 32 bytes) ≢ u64_bytes (number_of version)))
 
 -- the bytes end before the tag is complete, or after the tag but before the header is complete
 abbrev pub EndsInHeader : List ℕ → Type 0
@@ -51,7 +55,7 @@ pub record FitsFooter (f : MDBShardFileFooter) : Type 0 where
 pub record HasEnds (bytes : List ℕ) (info : MDBShardInfo) : Type 0 where
   pub size : 200 ≤ length bytes
   pub tag : info.header.tag ≡ header_tag
-  pub header_version : info.header.version ≡ 2
+  pub header_version : IsVersion info.header.version
   pub header : take 48 bytes ≡ shard_header_bytes info.header
   pub footer_size : info.header.footer_size < 2 ^ 64
   pub footer_version : info.metadata.version ≡ 1

@@ -6,7 +6,9 @@ use Rattle.xet_base.specs.Source.{Source, Takes}
 use Rattle.xet_records.specs.declared.file_structs.header.FileDataSequenceHeader.{FileDataSequenceHeader}
 use Rattle.xet_records.specs.declared.file_structs.rows.FileMetadataExt.{FileMetadataExt}
 use Rattle.xet_records.specs.declared.file_structs.MDBFileInfo.{MDBFileInfo}
-use Rattle.xet_records.specs.FileRecord.{has_verification, file_records}
+use Rattle.xet_records.specs.FileRecord.{has_verification, file_records, file_records_in}
+use Rattle.xet_records.specs.declared.record_reader.FormatVersion.{FormatVersion}
+use Rattle.xet_records.specs.Version.{IsVersion, version_of}
 use Rattle.xet_shards.specs.declared.shard_format.header.MDBShardFileHeader.{MDBShardFileHeader}
 use Rattle.xet_shards.specs.Layout.{header_tag, shard_header_bytes}
 use Rattle.xet_shards.specs.Ends.{HasUnsupportedHeader, EndsInHeader, PartFails}
@@ -38,23 +40,23 @@ file_ranges at files = kept_of file_records ranges_at at files
 
 -- the file section was read through from the source's position on, and these are the ranges of its
 -- files
-abbrev pub TakesRanges : Source → Source → List FileRanges → Type 0
-TakesRanges old new found = KeepsSection file_records ranges_at old new found
+abbrev pub TakesRanges : FormatVersion → Source → Source → List FileRanges → Type 0
+TakesRanges version old new found = KeepsSection (file_records_in version) ranges_at old new found
 
 -- a shard's header, and after it the file section, were read from the source's position on
 pub record ReadsFileRanges (old new : Source) (found : List FileRanges) : Type 0 where
   pub header : MDBShardFileHeader
   pub tag : header.tag ≡ header_tag
-  pub version : header.version ≡ 2
+  pub version : IsVersion header.version
   pub footer_size : header.footer_size < 2 ^ 64
   pub after_header : Source
   pub header_taken : Takes old after_header (shard_header_bytes header)
-  pub ranges : TakesRanges after_header new found
+  pub ranges : TakesRanges (version_of header.version) after_header new found
 
 -- the header was not read, or the section after it was not
 abbrev pub FileRangesFail : Source → Source → CoreError → Type 0
 FileRangesFail old new e =
     PartFails HasUnsupportedHeader EndsInHeader 48 old new e
-    ⊎ ((header : MDBShardFileHeader) × (after_header : Source) × (header.version ≡ 2)
+    ⊎ ((header : MDBShardFileHeader) × (after_header : Source) × IsVersion header.version
     × Takes old after_header (shard_header_bytes header)
-    × TakesNoSection file_records after_header new e)
+    × TakesNoSection (file_records_in (version_of header.version)) after_header new e)

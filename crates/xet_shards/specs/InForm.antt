@@ -5,9 +5,11 @@ use Rattle.xet_base.specs.Hash.{hash_cmp}
 use Rattle.xet_records.specs.declared.file_structs.MDBFileInfo.{MDBFileInfo}
 use Rattle.xet_records.specs.declared.xorb_structs.MDBXorbInfo.{MDBXorbInfo}
 use Rattle.xet_records.specs.RecordKind.{RecordKind}
-use Rattle.xet_records.specs.FileRecord.{file_records}
+use Rattle.xet_records.specs.FileRecord.{file_records, file_records_in}
+use Rattle.xet_records.specs.Version.{version_of}
 use Rattle.xet_records.specs.XorbRecord.{xorb_records}
 use Rattle.xet_shards.specs.declared.shard_format.footer.MDBShardFileFooter.{MDBShardFileFooter}
+use Rattle.xet_shards.specs.declared.shard_format.info.MDBShardInfo.{MDBShardInfo}
 use Rattle.xet_shards.specs.Section.{total_rows}
 use Rattle.xet_shards.specs.Tables.{hash_in}
 use Rattle.xet_shards.specs.Layout.{Form, footer_value, layout_of}
@@ -24,14 +26,16 @@ Ascends K records = IsStrictlySortedBy hash_cmp (map (hash_in K) records)
 -- the bytes are those of such files and xorbs in a form, and the footer is theirs
 pub record IsInForm (files : List MDBFileInfo) (xorbs : List MDBXorbInfo) (form : Form)
     (bytes : List ℕ) (footer : MDBShardFileFooter) : Type 0 where
-  pub files_fit : FitsSection file_records files
+  pub files_fit : FitsSection (file_records_in form.version) files
   pub xorbs_fit : FitsSection xorb_records xorbs
   pub bytes_are : bytes ≡ layout_of files xorbs form
   pub footer_is : footer ≡ footer_value files xorbs form
 
--- the same, with the file table, of files whose hashes strictly ascend
+-- the same, with the file table, of files whose hashes strictly ascend; the header has the form's
+-- version
 pub record HasFileTable (files : List MDBFileInfo) (xorbs : List MDBXorbInfo) (form : Form)
-    (bytes : List ℕ) (footer : MDBShardFileFooter) : Type 0 where
-  pub in_form : IsInForm files xorbs form bytes footer
+    (bytes : List ℕ) (info : MDBShardInfo) : Type 0 where
+  pub in_form : IsInForm files xorbs form bytes info.metadata
+  pub version : version_of info.header.version ≡ form.version
   pub ascends : Ascends file_records files
   pub table : form.file_table ≡ true

@@ -5,6 +5,7 @@ use Rattle.xet_base.specs.declared.merklehash.DataHash.{DataHash}
 use Rattle.xet_records.specs.declared.file_structs.rows.FileDataSequenceEntry.{FileDataSequenceEntry}
 use Rattle.xet_records.specs.declared.file_structs.rows.FileVerificationEntry.{FileVerificationEntry}
 use Rattle.xet_records.specs.declared.file_structs.rows.FileMetadataExt.{FileMetadataExt}
+use Rattle.xet_records.specs.declared.file_structs.rows.FileAuxExt.{FileAuxExt}
 use Rattle.xet_records.specs.declared.file_structs.MDBFileInfo.{MDBFileInfo}
 use Rattle.xet_records.specs.FileRecord.{flags_of}
 use Rattle.xet_records.specs.Merging.{verified}
@@ -25,16 +26,24 @@ verification_under q s = option_and_then verification_of (get s.files q)
 abbrev pub metadata_under : DataHash → Shard → Option FileMetadataExt
 metadata_under q s = option_and_then (λ r. r.metadata_ext) (get s.files q)
 
+abbrev pub aux_under : DataHash → Shard → Option FileAuxExt
+aux_under q s = option_and_then (λ r. r.aux_ext) (get s.files q)
+
 -- the file with these parts: its flags say which optional parts are present
 abbrev pub file_with : DataHash → List FileDataSequenceEntry → Option (List FileVerificationEntry)
-    → Option FileMetadataExt → MDBFileInfo
-file_with q segments verification metadata_ext = record {
+    → Option FileMetadataExt → Option FileAuxExt → MDBFileInfo
+file_with q segments verification metadata_ext aux_ext = record {
   metadata =
-      record
-      { file_hash = q; file_flags = flags_of (is_some verification) (is_some metadata_ext); num_entries = length segments; _unused = 0 };
+      record {
+        file_hash = q;
+        file_flags = flags_of (is_some verification) (is_some metadata_ext) (is_some aux_ext);
+        num_entries = length segments;
+        _unused = 0;
+      };
   segments = segments;
   verification = unwrap_or verification [];
   metadata_ext = metadata_ext;
+  aux_ext = aux_ext;
 }
 
 -- the shard has a part exactly if one of the shards has it
@@ -46,7 +55,7 @@ HasWhatAnyHas {X} IsOne c part =
 abbrev pub FollowsParts : Shard → Type 0
 FollowsParts c =
     (q : DataHash) → (r : MDBFileInfo) → get c.files q ≡ Some r
-    → r ≡ file_with q r.segments (verification_of r) r.metadata_ext
+    → r ≡ file_with q r.segments (verification_of r) r.metadata_ext r.aux_ext
 
 -- the join of a set of shards: for each hash exactly the xorb, the segments and the optional parts
 -- that any of them has
@@ -55,6 +64,7 @@ pub record IsJoinOf (IsOne : Shard → Type 0) (c : Shard) : Type 0 where
   pub segments : (q : DataHash) → HasWhatAnyHas IsOne c (segments_under q)
   pub verification : (q : DataHash) → HasWhatAnyHas IsOne c (verification_under q)
   pub metadata_ext : (q : DataHash) → HasWhatAnyHas IsOne c (metadata_under q)
+  pub aux_ext : (q : DataHash) → HasWhatAnyHas IsOne c (aux_under q)
   pub follows : FollowsParts c
 
 -- a set of shards, each two of which agree

@@ -10,8 +10,10 @@ use Rattle.xet_base.specs.Source.{Source, FailedBy, advanced, bytes_left}
 use Rattle.xet_records.specs.declared.file_structs.MDBFileInfo.{MDBFileInfo}
 use Rattle.xet_records.specs.declared.xorb_structs.MDBXorbInfo.{MDBXorbInfo}
 use Rattle.xet_records.specs.declared.xorb_structs.XorbChunkSequenceEntry.{XorbChunkSequenceEntry}
-use Rattle.xet_records.specs.RecordKind.{RecordKind}
-use Rattle.xet_records.specs.FileRecord.{file_records}
+use Rattle.xet_records.specs.RecordKind.{RecordKind, in_version}
+use Rattle.xet_records.specs.FileRecord.{file_records, file_records_in}
+use Rattle.xet_records.specs.declared.record_reader.FormatVersion.{FormatVersion}
+use Rattle.xet_records.specs.declared.record_reader.FormatVersion.TheVariants.{V3}
 use Rattle.xet_records.specs.XorbRecord.{xorb_records}
 use Rattle.xet_shards.specs.declared.shard_format.info.MDBShardInfo.{MDBShardInfo}
 use Rattle.xet_shards.specs.Section.{total_rows, section_bytes}
@@ -42,6 +44,7 @@ exported_xorb form r = keyed_xorb form.key r ∷ []
 abbrev pub export_form : (key : DataHash) (now valid : ℕ) (files xorb_table chunk_table : Bool)
     → Form
 export_form key now valid files xorb_table chunk_table = record {
+  version = V3;
   file_table = files;
   xorb_table = xorb_table;
   chunk_table = chunk_table;
@@ -67,7 +70,7 @@ pub record Exports (form : Form) (old new : Source) (before after : Option (List
   pub files : List MDBFileInfo
   pub xorbs : List MDBXorbInfo
   pub header : HasHeader (bytes_left old)
-  pub file_section : IsSection file_records (drop 48 (bytes_left old)) files
+  pub file_section : IsSection (file_records_in header.version) (drop 48 (bytes_left old)) files
   pub xorb_section : IsSection xorb_records (drop (xorbs_after files) (bytes_left old)) xorbs
   pub read : new ≡ advanced old (xorbs_after files + 48 * (total_rows xorb_records xorbs + 1))
   pub written : Appends before after (exported files xorbs form)
@@ -86,9 +89,10 @@ BadSection K bytes e = SectionCase (PassesRows K) (IsCutSection K) bytes e
 -- not read, or the writer failed or an allocation did
 pub data ExportCase (bytes : List ℕ) (e : CoreError) : Type 0 where
   bad_header : FormatCase HasUnsupportedHeader EndsInHeader bytes e → ExportCase bytes e
-  bad_files : HasHeader bytes → BadSection file_records (drop 48 bytes) e → ExportCase bytes e
-  bad_xorbs : HasHeader bytes → (files : List MDBFileInfo)
-      → IsSection file_records (drop 48 bytes) files
+  bad_files : (header : HasHeader bytes)
+      → BadSection (file_records_in header.version) (drop 48 bytes) e → ExportCase bytes e
+  bad_xorbs : (header : HasHeader bytes) → (files : List MDBFileInfo)
+      → IsSection (file_records_in header.version) (drop 48 bytes) files
       → BadSection xorb_records (drop (xorbs_after files) bytes) e → ExportCase bytes e
   not_written : HasHeader bytes → IsDeviceError e → ExportCase bytes e
 
@@ -113,11 +117,13 @@ pub record PassesSection {H R : Type 0} (K : RecordKind H R) (old new : Source) 
   pub section : IsSection K (bytes_left old) stored
   pub after : new ≡ advanced old (48 * (sum_by K.row_count stored + 1))
 
--- such a section was read, and a section was written of what each record becomes, and collected
-pub record ExportsSection {H R : Type 0} (K : RecordKind H R) (exports : R → List R)
-    (Collected : List R → Type 0) (old new : Source) (before after : Option (List ℕ)) : Type 0 where
+-- such a section, of a version, was read, and a section was written of what each record becomes,
+-- and collected
+pub record ExportsSection {H R : Type 0} (K : RecordKind H R) (version : FormatVersion)
+    (exports : R → List R) (Collected : List R → Type 0) (old new : Source)
+    (before after : Option (List ℕ)) : Type 0 where
   pub stored : List R
-  pub passed : PassesSection K old new stored
+  pub passed : PassesSection (in_version K version) old new stored
   pub collected : Collected (flat_map exports stored)
   pub written : Appends before after (section_bytes K (flat_map exports stored))
 

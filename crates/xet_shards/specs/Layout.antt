@@ -5,13 +5,16 @@ use Rattle.xet_base.specs.Bytes.{u64_bytes}
 use Rattle.xet_base.specs.Hash.{hash_bytes}
 use Rattle.xet_records.specs.declared.file_structs.MDBFileInfo.{MDBFileInfo}
 use Rattle.xet_records.specs.declared.xorb_structs.MDBXorbInfo.{MDBXorbInfo}
+use Rattle.xet_records.specs.declared.record_reader.FormatVersion.{FormatVersion}
+use Rattle.xet_records.specs.declared.record_reader.FormatVersion.TheVariants.{V3}
+use Rattle.xet_records.specs.Version.{number_of}
 use Rattle.xet_records.specs.FileRecord.{file_records, size_of_file}
 use Rattle.xet_records.specs.XorbRecord.{xorb_records}
 use Rattle.xet_shards.specs.declared.shard_format.header.MDBShardFileHeader.{MDBShardFileHeader}
 use Rattle.xet_shards.specs.declared.shard_format.footer.MDBShardFileFooter.{MDBShardFileFooter}
 use Rattle.xet_shards.specs.declared.shard_format.info.MDBShardInfo.{MDBShardInfo}
--- what a writer chooses beside the records: which tables are in, the key of the chunk hashes and
--- two timestamps
+-- what a writer chooses beside the records: the version, which tables are in, the key of the chunk
+-- hashes and two timestamps
 pub use Rattle.xet_shards.specs.declared.shard_format.form.Form.{Form}
 use Rattle.xet_shards.specs.Shard.{Shard}
 use Rattle.xet_shards.specs.Section.{section_bytes}
@@ -74,8 +77,9 @@ default_footer = record {
 abbrev pub if_in : {X : Type 0} → Bool → List X → List X
 if_in is_in xs = if is_in then xs else []
 
-abbrev pub header_value : MDBShardFileHeader
-header_value = record { tag = header_tag; version = 2; footer_size = 200 }
+abbrev pub header_value : FormatVersion → MDBShardFileHeader
+header_value version =
+    record { tag = header_tag; version = number_of version; footer_size = 200 }
 
 -- the footer: offsets are sums of lengths, counts those of the tables that are in, byte counts sums
 -- over the records
@@ -110,7 +114,7 @@ footer_value files xorbs form =
 -- all the bytes of a list of files and a list of xorbs in a form
 unfoldable pub layout_of : List MDBFileInfo → List MDBXorbInfo → Form → List ℕ
 layout_of files xorbs form =
-    (((((shard_header_bytes header_value ++ section_bytes file_records files)
+    (((((shard_header_bytes (header_value form.version) ++ section_bytes file_records files)
     ++ section_bytes xorb_records xorbs)
     ++ if_in form.file_table (table_bytes file_records files))
     ++ if_in form.xorb_table (table_bytes xorb_records xorbs))
@@ -120,11 +124,12 @@ layout_of files xorbs form =
 -- what a reader of these bytes finds in header and footer
 abbrev pub info_of : List MDBFileInfo → List MDBXorbInfo → Form → MDBShardInfo
 info_of files xorbs form =
-    record { header = header_value; metadata = footer_value files xorbs form }
+    record { header = header_value form.version; metadata = footer_value files xorbs form }
 
--- all tables, no key, no creation, and an expiry or none
+-- version 3, all tables, no key, no creation, and an expiry or none
 abbrev pub plain_form : Option ℕ → Form
 plain_form expiry = record {
+  version = V3;
   file_table = true;
   xorb_table = true;
   chunk_table = true;
@@ -140,3 +145,15 @@ layout s expiry = layout_of (values s.files) (values s.xorbs) (plain_form expiry
 -- what a reader of the bytes of a shard finds in header and footer
 abbrev pub info_value : Shard → Option ℕ → MDBShardInfo
 info_value s expiry = info_of (values s.files) (values s.xorbs) (plain_form expiry)
+
+-- the same in a version
+abbrev pub plain_form_in : FormatVersion → Option ℕ → Form
+plain_form_in version expiry = record (plain_form expiry) { version = version }
+
+abbrev pub layout_in : FormatVersion → Shard → Option ℕ → List ℕ
+layout_in version s expiry =
+    layout_of (values s.files) (values s.xorbs) (plain_form_in version expiry)
+
+abbrev pub info_value_in : FormatVersion → Shard → Option ℕ → MDBShardInfo
+info_value_in version s expiry =
+    info_of (values s.files) (values s.xorbs) (plain_form_in version expiry)

@@ -9,7 +9,9 @@ use Rattle.xet_records.specs.declared.file_structs.MDBFileInfo.{MDBFileInfo}
 use Rattle.xet_records.specs.declared.xorb_structs.MDBXorbInfo.{MDBXorbInfo}
 use Rattle.xet_records.specs.RecordKind.{RecordKind}
 use Rattle.xet_records.specs.Reading.{ReadsBookend, Stops}
-use Rattle.xet_records.specs.FileRecord.{file_records}
+use Rattle.xet_records.specs.declared.record_reader.FormatVersion.{FormatVersion}
+use Rattle.xet_records.specs.Version.{IsVersion, version_of}
+use Rattle.xet_records.specs.FileRecord.{file_records_in}
 use Rattle.xet_records.specs.XorbRecord.{xorb_records}
 use Rattle.xet_shards.specs.declared.shard_format.header.MDBShardFileHeader.{MDBShardFileHeader}
 use Rattle.xet_shards.specs.Ends.{HasUnsupportedHeader, EndsInHeader, SaysUnsupported, SaysEnd, PartFails}
@@ -51,11 +53,11 @@ module _ {I : Type 0} (reads : I → I → List ℕ → Type 0) where
 
   -- the file section was read, and its records are kept if they are wanted; then the xorb section
   -- was
-  pub record ReadsSections (with_files with_xorbs : Bool) (old new : I) (m : MinimalShard)
-      : Type 0 where
+  pub record ReadsSections (version : FormatVersion) (with_files with_xorbs : Bool) (old new : I)
+      (m : MinimalShard) : Type 0 where
     pub files : List MDBFileInfo
     pub mid : I
-    pub file_section : ReadsViews file_records (λ r. r) reads old mid files
+    pub file_section : ReadsViews (file_records_in version) (λ r. r) reads old mid files
     pub kept : m.files ≡ if_in with_files files
     pub xorb_section : ReadsWantedXorbs with_xorbs mid new m.xorbs
 
@@ -63,29 +65,32 @@ module _ {I : Type 0} (reads : I → I → List ℕ → Type 0) where
   pub record ReadsShardHeader (old new : I) : Type 0 where
     pub header : MDBShardFileHeader
     pub tag : header.tag ≡ header_tag
-    pub version : header.version ≡ 2
+    pub version : IsVersion header.version
     pub taken : reads old new (shard_header_bytes header)
 
   -- a shard's header and its sections were read
   abbrev pub ReadsMinimal : Bool → Bool → I → I → MinimalShard → Type 0
   ReadsMinimal with_files with_xorbs old new m =
-      (mid : I) × ReadsShardHeader old mid × ReadsSections with_files with_xorbs mid new m
+      (mid : I) × (header : ReadsShardHeader old mid)
+      × ReadsSections (version_of header.header.version) with_files with_xorbs mid new m
 
   module _ (fails : I → I → ℕ → CoreError → Type 0) where
     -- the file section was not read, or the xorb section, which is wanted, was not
-    pub data SectionsFail (with_xorbs : Bool) (old new : I) (e : CoreError) : Type 0 where
-      no_files : StopsAfterViews file_records (λ r. r) reads fails old new e
-          → SectionsFail with_xorbs old new e
+    pub data SectionsFail (version : FormatVersion) (with_xorbs : Bool) (old new : I)
+        (e : CoreError) : Type 0 where
+      no_files : StopsAfterViews (file_records_in version) (λ r. r) reads fails old new e
+          → SectionsFail version with_xorbs old new e
       no_xorbs : with_xorbs ≡ true → (mid : I) (files : List MDBFileInfo)
-          → ReadsViews file_records (λ r. r) reads old mid files
+          → ReadsViews (file_records_in version) (λ r. r) reads old mid files
           → StopsAfterViews xorb_records (λ x. x) reads fails mid new e
-          → SectionsFail with_xorbs old new e
+          → SectionsFail version with_xorbs old new e
 
     -- the header was not read, or the sections after it were not
     abbrev pub MinimalFails : (I → I → CoreError → Type 0) → Bool → I → I → CoreError → Type 0
     MinimalFails header_fails with_xorbs old new e =
         header_fails old new e
-        ⊎ ((mid : I) × ReadsShardHeader old mid × SectionsFail with_xorbs mid new e)
+        ⊎ ((mid : I) × (header : ReadsShardHeader old mid)
+        × SectionsFail (version_of header.header.version) with_xorbs mid new e)
 
 -- a header was not read from a reader that has these bytes left, where they are known
 pub record ReaderHeaderFails (remaining : Option (List ℕ)) (e : CoreError) : Type 0 where

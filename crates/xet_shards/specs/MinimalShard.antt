@@ -13,6 +13,7 @@ use Rattle.xet_records.specs.contracts.file_structs.MDBFileInfo as file
 use Rattle.xet_records.specs.declared.xorb_structs.XorbChunkSequenceEntry.{XorbChunkSequenceEntry}
 use Rattle.xet_records.specs.declared.xorb_structs.MDBXorbInfo.{MDBXorbInfo}
 use Rattle.xet_records.specs.contracts.xorb_structs.MDBXorbInfo as xorb
+use Rattle.xet_records.specs.declared.record_reader.FormatVersion.TheVariants.{V3}
 use Rattle.xet_records.specs.FileRecord.{file_records, has_verification}
 use Rattle.xet_records.specs.XorbRow.{is_marked, with_mark}
 use Rattle.xet_records.specs.XorbRecord.{xorb_records}
@@ -105,6 +106,7 @@ serialized_size wanted m =
 -- no tables, no key, the creation, and an expiry or 0
 abbrev pub minimal_form : ℕ → Option ℕ → Form
 minimal_form now expiry = record {
+  version = V3;
   file_table = false;
   xorb_table = false;
   chunk_table = false;

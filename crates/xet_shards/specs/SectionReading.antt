@@ -1,5 +1,5 @@
 -- What bytes are to a reader of a section, of files or of xorbs: the bytes of a list of records and
--- a bookend, or such bytes and then a record too many, or such bytes and then too few bytes.
+-- a bookend, or such bytes and then a header that is refused, or such bytes and then too few bytes.
 use Rattle.std.specs.Prelude.{◌≡◌, ◌⊎◌, ℕ, ◌+◌, ◌-◌, ◌*◌, ◌≤◌, List, ◌++◌, map, flat_map, sum_by, All, Option, MatchResult}
 use Rattle.std.specs.declared.vec.Vec.{Vec}
 use Rattle.xet_base.specs.declared.error.CoreError.{CoreError}
@@ -9,7 +9,9 @@ use Rattle.xet_base.specs.Table.{IsBareInvalidShard}
 use Rattle.xet_records.specs.declared.file_structs.MDBFileInfo.{MDBFileInfo}
 use Rattle.xet_records.specs.declared.xorb_structs.MDBXorbInfo.{MDBXorbInfo}
 use Rattle.xet_records.specs.RecordKind.{RecordKind}
-use Rattle.xet_records.specs.FileRecord.{file_records}
+use Rattle.xet_records.specs.declared.file_structs.header.FileDataSequenceHeader.{FileDataSequenceHeader}
+use Rattle.xet_records.specs.Version.{version_of}
+use Rattle.xet_records.specs.FileRecord.{file_records_in}
 use Rattle.xet_records.specs.XorbRecord.{xorb_records}
 use Rattle.xet_shards.specs.declared.shard_format.info.MDBShardInfo.{MDBShardInfo}
 use Rattle.xet_records.specs.Reading.{CountsRecord, ReadsNextRecord, BeginsWithHeader}
@@ -34,7 +36,8 @@ module _ {H R : Type 0} (K : RecordKind H R) where
   abbrev pub rows_left : List R → ℕ
   rows_left stored = 4294967295 - sum_by K.row_count stored
 
-  -- the bytes of some records, and then one that is too many
+  -- the bytes of some records, and then a header that is refused: the version does not have it, or
+  -- its record has more rows than are left
   abbrev pub PassesRows : List ℕ → Type 0
   PassesRows bytes =
       (stored : List R) × (rest : List ℕ) × HoldsRecords K bytes stored rest
@@ -112,11 +115,15 @@ abbrev pub ReadsAll : {H R Z : Type 0} → RecordKind H R → Source → Source 
 ReadsAll K old new at result =
     MatchResult result (λ found. ReadsSection K old new at found.items) (SectionFails K old new at)
 
+-- the files of a shard, in the version that its header has
+abbrev pub files_of : MDBShardInfo → RecordKind FileDataSequenceHeader MDBFileInfo
+files_of info = file_records_in (version_of info.header.version)
+
 -- the same of the file section and of the xorb section that a footer names
 abbrev pub ReadsFiles : {Z : Type 0} → MDBShardInfo → Source → Source
     → CoreResult (Vec MDBFileInfo Z) → Type 0
 ReadsFiles info old new result =
-    ReadsAll file_records old new info.metadata.file_info_offset result
+    ReadsAll (files_of info) old new info.metadata.file_info_offset result
 
 abbrev pub ReadsXorbs : {Z : Type 0} → MDBShardInfo → Source → Source
     → CoreResult (Vec MDBXorbInfo Z) → Type 0

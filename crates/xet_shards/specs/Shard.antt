@@ -1,5 +1,7 @@
 -- A shard: two finite maps, from file hash to file record and from xorb hash to xorb record.
-use Rattle.std.specs.Prelude.{◌≡◌, ◌≤◌, List, All, refl}
+use Rattle.std.specs.Prelude.{◌≡◌, ◌≤◌, Bool, List, All, refl}
+use Rattle.std.specs.List.{list_any}
+use Rattle.xet_records.specs.Merging.{extended}
 use Rattle.std.specs.FinMap.{FinMap, empty, insert, entries, values}
 use Rattle.std.specs.FinMap as finite
 use Rattle.std.specs.Coded.{Coded, code_by, coded×}
@@ -76,3 +78,7 @@ pub record CanAddFile (s : Shard) (r : MDBFileInfo) : Type 0 where
 pub record CanAddXorb (s : Shard) (r : MDBXorbInfo) : Type 0 where
   pub well_formed : IsXorb r
   pub rows : total_rows xorb_records (values (add_xorb s r).xorbs) ≤ 4294967295
+
+-- a file of the shard has an auxiliary row, which version 2 does not have
+abbrev pub has_aux_rows : Shard → Bool
+has_aux_rows s = list_any extended (values s.files)

@@ -1,19 +1,35 @@
 -- Bytes that were written for a shard.
-use Rattle.std.specs.Prelude.{◌≡◌, ◌⊎◌, ℕ, List, Option, MatchResult}
+use Rattle.std.specs.Prelude.{◌≡◌, ◌⊎◌, ⊤, ℕ, false, List, Option, MatchResult}
 use Rattle.std.specs.declared.vec.Vec.{Vec}
 use Rattle.xet_base.specs.declared.error.CoreError.TheVariants.{OutOfMemory}
 use Rattle.xet_base.specs.Errors.{CoreResult}
 use Rattle.xet_base.specs.Source.{Source, DeviceFailure}
+use Rattle.xet_records.specs.declared.record_reader.FormatVersion.{FormatVersion}
+use Rattle.xet_records.specs.declared.record_reader.FormatVersion.TheVariants.{V2, V3}
 use Rattle.xet_shards.specs.declared.shard_format.info.MDBShardInfo.{MDBShardInfo}
-use Rattle.xet_shards.specs.Shard.{Shard, IsShard}
-use Rattle.xet_shards.specs.Layout.{layout, info_value}
+use Rattle.xet_shards.specs.Shard.{Shard, IsShard, has_aux_rows}
+use Rattle.xet_shards.specs.Layout.{layout_in, info_value_in}
 
--- the bytes are the layout of the shard, and `info` is its header and footer
+-- a version has the files of a shard: version 2 has no auxiliary rows
+abbrev pub HasFilesIn : FormatVersion → Shard → Type 0
+HasFilesIn V2 s = has_aux_rows s ≡ false
+HasFilesIn V3 s = ⊤
+
+-- bytes are those of a shard, in a version that has its files, with an expiry or none
+pub record AreBytesOf (s : Shard) (expiry : Option ℕ) (bytes : List ℕ) : Type 0 where
+  pub version : FormatVersion
+  pub files : HasFilesIn version s
+  pub bytes_are : bytes ≡ layout_in version s expiry
+
+-- the bytes are the layout of the shard in a version that has its files, and `info` is its header
+-- and footer
 pub record IsWritten (s : Shard) (expiry : Option ℕ) (bytes : List ℕ) (info : MDBShardInfo)
     : Type 0 where
   pub shard : IsShard s
-  pub same_bytes : bytes ≡ layout s expiry
-  pub same_info : info ≡ info_value s expiry
+  pub version : FormatVersion
+  pub files : HasFilesIn version s
+  pub same_bytes : bytes ≡ layout_in version s expiry
+  pub same_info : info ≡ info_value_in version s expiry
 
 -- these items were read, unless the device failed or an allocation
 abbrev pub ReadsBack : {T Z : Type 0} → List T → Source → Source → CoreResult (Vec T Z) → Type 0

@@ -7,7 +7,7 @@ ghost use Rattle.xet_base.specs.Errors.{Admits};
 ghost use Rattle.xet_records.specs.FileRecord.{file_records, size_of_file, IsWellFormed};
 ghost use Rattle.xet_records.specs.XorbRecord.{xorb_records, IsXorb};
 ghost use Rattle.xet_shards.specs.Section.{total_rows};
-ghost use Rattle.xet_shards.specs.Shard.{IsShard, empty_shard, AreFiles, AreXorbs, add_file, add_xorb, CanAddFile, CanAddXorb};
+ghost use Rattle.xet_shards.specs.Shard.{IsShard, has_aux_rows, empty_shard, AreFiles, AreXorbs, add_file, add_xorb, CanAddFile, CanAddXorb};
 ghost use Rattle.xet_shards.specs.ChunkLookup.{IsChunkLookup};
 ghost use Rattle.xet_shards.specs.XorbStore.{shown_xorbs, location_in};
 ghost use Rattle.xet_shards.specs.SetOperations.{IsUnion, IsDifference, HasFewRows, CanUnite, ShardsAgree};
@@ -27,7 +27,9 @@ use std::alloc::Global;
 use std::collections::{BTreeMap, HashMap};
 use std::marker::Model;
 use std::rc::Rc;
-use sums::{file_rows, materialized_bytes, stored_bytes, stored_bytes_on_disk, xorb_rows};
+use sums::{
+    file_rows, have_aux_rows, materialized_bytes, stored_bytes, stored_bytes_on_disk, xorb_rows,
+};
 use union_rows::{united_file_rows, united_xorb_rows};
 use xet_base::error::{CoreError, Result};
 use xet_base::merklehash::MerkleHash;
@@ -155,6 +157,13 @@ impl MDBInMemoryShard {
         // The count is named so that the proof has its bound.
         let _rows = self.file_rows;
         self.files.content()
+    }
+
+    /// Whether a file has an auxiliary row, which version 2 does not have.
+    pub(crate) fn has_aux_rows(&self) -> bool
+        ensures { result ≡ has_aux_rows self.now.content }
+    {
+        have_aux_rows(self.file_content())
     }
 
     /// Does nothing. Its contract says that each record is well-formed and is under its hash, and

@@ -14,14 +14,15 @@ use crate::merge::merge_buffers;
 use crate::minimal::{Subset, minimal_bytes, subset_bytes};
 use crate::stop::Stop;
 use crate::tree::NameTree;
+use crate::write::{Version, written_bytes};
 use std::alloc::Global;
-use xet_core_structures::shard_format::MDBShardInfo;
 
 impl Workspace {
     // The buffer is replaced only after the shard is written, so an error leaves it unchanged.
     pub(super) fn write_shard(
         &mut self,
         alloc: Global,
+        version: Version,
         shard: &str,
         buffer: &str,
         expiry: Option<u64>,
@@ -34,8 +35,7 @@ impl Workspace {
         let Some(shard) = self.shards.get(shard) else {
             return Err(Stop::Unreadable);
         };
-        let mut bytes = Vec::new(alloc);
-        MDBShardInfo::serialize_from(alloc, &mut bytes, shard, expiry)?;
+        let bytes = written_bytes(alloc, version, shard, expiry)?;
         self.keep(alloc, buffer, bytes)
     }
 

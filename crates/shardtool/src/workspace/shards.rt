@@ -85,6 +85,7 @@ fn record_of(alloc: Global, file: FileLine) -> Result<MDBFileInfo, CoreError> {
         hash,
         verification,
         metadata_ext,
+        aux_ext,
         segments,
     } = file;
     let Ok(count) = u32::try_from(segments.len()) else {
@@ -92,11 +93,13 @@ fn record_of(alloc: Global, file: FileLine) -> Result<MDBFileInfo, CoreError> {
     };
     let has_verification = verification.is_some();
     let has_metadata_ext = metadata_ext.is_some();
-    let metadata = FileDataSequenceHeader::new(hash, count, has_verification, has_metadata_ext);
+    let header = FileDataSequenceHeader::new(hash, count, has_verification, has_metadata_ext);
+    let metadata = header.with_aux_ext(aux_ext.is_some());
     Ok(MDBFileInfo {
         metadata,
         segments: Rows::from(segments),
         verification: Rows::from(verification.unwrap_or_else(|| Vec::new(alloc))),
         metadata_ext,
+        aux_ext,
     })
 }

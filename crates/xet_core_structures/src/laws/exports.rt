@@ -24,6 +24,7 @@ ghost use Rattle.xet_shards.specs.Layout.{if_in, layout, layout_of};
 ghost use Rattle.xet_shards.specs.SetOperations.{IsUnion, ShardsAgree, HasFewRows};
 ghost use Rattle.xet_shards.specs.Shard.{Shard, IsShard};
 ghost use Rattle.xet_shards.specs.WrittenQueries.{HasChunkAt, RunAmong};
+ghost use Rattle.xet_shards.specs.WrittenShard.{AreBytesOf};
 ghost use Rattle.xet_core_structures.specs.declared.set_operations.MergePlan.{MergePlan};
 ghost use Rattle.xet_core_structures.specs.ByteResults.{keyed_layout};
 ghost use Rattle.xet_core_structures.specs.ExportTrees.{AreExported, JoinsLeaves, run_under};
@@ -61,12 +62,17 @@ pub fn joins_keep_runs()
         → run_length no_key hashes chunks ≤ run_length key hashes (map (keyed_chunk key) chunks) }
 {}
 
-/// Exports of shards that agree, under one key and with their files, merge to the export of their
+/// An export of the bytes of a shard, in either version, writes the shard under the key, in version
+/// 3. Exports of shards that agree, under one key and with their files, merge to the export of their
 /// join under this key with all tables, created at 0 and without expiry. Exports of one shard with
 /// all tables under one key differ in the two timestamps of the footer alone, so merging and
 /// exporting can be exchanged but for these. Nothing is written only if an allocation fails or the
 /// join has too many rows.
 pub fn exports_merge_to_the_export_of_the_join()
+    ensures exports { (s : Shard) → (expiry : Option ℕ) → (form : Form) → (old new : Source)
+        → (before after : Option (List ℕ)) → (size : ℕ) → IsShard s
+        → AreBytesOf s expiry (bytes_left old) → Exports form old new before after size
+        → Appends before after (exported (values s.files) (values s.xorbs) form) }
     ensures bytes { (inputs : List (List ℕ)) → (plan : MergePlan) → (key : DataHash)
         → (shard_at : ℕ → Shard) → (form_at : ℕ → Form) → (join : Shard) → (out : List ℕ)
         → JoinsLeaves plan shard_at join → AreExported inputs plan key shard_at form_at

@@ -4,7 +4,7 @@ ghost use Rattle.std.specs.Prelude.{◌≡◌, Some, MatchResult};
 ghost use Rattle.xet_records.specs.FileRecord.{file_records};
 ghost use Rattle.xet_shards.specs.Written.{HasWritten};
 ghost use Rattle.xet_core_structures.specs.SideBySide.{IsRecordHeader, PairFails};
-ghost use Rattle.xet_core_structures.specs.MixedFiles.{MixesFiles, MixHasNoRoom, mixed_header, CopiesEither, EitherFails};
+ghost use Rattle.xet_core_structures.specs.MixedFiles.{MixesFiles, MixHasNoRoom, CopiesEither, EitherFails};
 
 use super::record_operation::refuse;
 use std::alloc::Global;
@@ -13,8 +13,8 @@ use xet_base::input::OfSource;
 use xet_base::source::ShardSource;
 use xet_records::file_copier::copy_segments;
 use xet_records::file_structs::{
-    FileDataSequenceEntry, FileDataSequenceHeader, FileMetadataExt, FileVerificationEntry,
-    MDBFileInfo,
+    FileAuxExt, FileDataSequenceEntry, FileDataSequenceHeader, FileMetadataExt,
+    FileVerificationEntry, MDBFileInfo,
 };
 use xet_records::input_rows::skip_rows;
 use xet_records::row_copier::{CopyFailure, CopyResult, copy_rows, write_row};
@@ -43,7 +43,7 @@ pub fn mix<S: ShardSource, T: ShardSource, W: Write>(
         (PairFails file_records (Some first) (Some second) (S.meaning r1.old) (S.meaning r1.new)
         (T.meaning r2.old) (T.meaning r2.new) (MixHasNoRoom written.old.table.rows)) }
 {
-    let header = header_of_mix(&first, &second);
+    let header = first.mixed(&second);
     let rows = 1 + header.rows_after();
     if !written.has_room(rows) {
         return refuse::<MDBFileInfo, S, T>(alloc, Some(first), r1, Some(second), r2);
@@ -65,25 +65,11 @@ pub fn mix<S: ShardSource, T: ShardSource, W: Write>(
         second.metadata_rows(),
         out,
     )?;
+    copy_either::<FileAuxExt, S, T, W>(r1, first.aux_rows(), r2, second.aux_rows(), out)?;
     match written.add(first.file_hash.word0, rows, size) {
         Ok(()) => Ok(()),
         Err(error) => Err(CopyFailure::Output(error)),
     }
-}
-
-// The header of a mix: the two known flags where either has them.
-fn header_of_mix(
-    first: &FileDataSequenceHeader,
-    second: &FileDataSequenceHeader,
-) -> FileDataSequenceHeader
-    ensures { result ≡ mixed_header first.now second.now }
-{
-    FileDataSequenceHeader::new(
-        first.file_hash,
-        first.num_entries,
-        first.contains_verification() || second.contains_verification(),
-        first.contains_metadata_ext() || second.contains_metadata_ext(),
-    )
 }
 
 // Copies the rows of the first, or if it has none, those of the second, and reads past the others.

@@ -5,6 +5,8 @@ ghost use Rattle.std.specs.Io.KnownBytes.{Appends};
 ghost use Rattle.xet_base.specs.declared.error.CoreError.{CoreError};
 ghost use Rattle.xet_base.specs.Source.{moved, DeviceFailure};
 ghost use Rattle.xet_base.specs.Table.{Serves};
+ghost use Rattle.xet_records.specs.declared.record_reader.FormatVersion.TheVariants.{V3};
+ghost use Rattle.xet_records.specs.Version.{version_of};
 ghost use Rattle.xet_records.specs.declared.row_copier.CopyFailure.TheVariants.{Input};
 ghost use Rattle.xet_records.specs.Copying.{IsOutputFailure};
 ghost use Rattle.xet_shards.specs.declared.shard_format.info.MDBShardInfo.{MDBShardInfo};
@@ -23,6 +25,7 @@ use std::alloc::Global;
 use std::io::Write;
 use xet_base::error::{CoreError, Result};
 use xet_base::source::ShardSource;
+use xet_records::record_reader::FormatVersion;
 use xet_records::row_copier::{CopyFailure, CopyResult};
 use xet_shards::shard_format::{MDBShardFileHeader, MDBShardInfo};
 use xet_shards::shard_writer::{Form, WrittenFiles, WrittenSection, WrittenXorbs, write_end};
@@ -107,12 +110,16 @@ pub fn operate<O: SetOperation, S: ShardSource, T: ShardSource, W: Write>(
         return Err(CopyFailure::Input(CoreError::InvalidArguments));
     }
     write_header(out)?;
-    let at_1 = s1.metadata.file_info_offset;
-    let at_2 = s2.metadata.file_info_offset;
-    let files = combine_at::<O::Files, WrittenFiles, S, T, W>(alloc, r1, at_1, r2, at_2, out)?;
-    let at_1 = s1.metadata.xorb_info_offset;
-    let at_2 = s2.metadata.xorb_info_offset;
-    let xorbs = combine_at::<O::Xorbs, WrittenXorbs, S, T, W>(alloc, r1, at_1, r2, at_2, out)?;
+    let files_1 = SectionAt::of_files(s1);
+    let files_2 = SectionAt::of_files(s2);
+    let files = combine_at::<O::Files, WrittenFiles, S, T, W>(
+        alloc, r1, files_1, r2, files_2, out,
+    )?;
+    let xorbs_1 = SectionAt::of_xorbs(s1);
+    let xorbs_2 = SectionAt::of_xorbs(s2);
+    let xorbs = combine_at::<O::Xorbs, WrittenXorbs, S, T, W>(
+        alloc, r1, xorbs_1, r2, xorbs_2, out,
+    )?;
     let form = Form {
         key,
         ..Form::plain(None)
@@ -120,24 +127,65 @@ pub fn operate<O: SetOperation, S: ShardSource, T: ShardSource, W: Write>(
     write_tables(out, &files, &xorbs, &form)
 }
 
-// Combines the sections at two offsets.
+// Where a section is in a source, and the version in which it is read.
+#[derive(Clone, Copy)]
+struct SectionAt {
+    offset: u64,
+    version: FormatVersion,
+}
+
+impl SectionAt {
+    // The file section of a shard.
+    fn of_files(info: &MDBShardInfo) -> Self
+        ensures { result ≡ record {
+          offset = info.now.metadata.file_info_offset;
+          version = version_of info.now.header.version;
+        } }
+    {
+        SectionAt {
+            offset: info.metadata.file_info_offset,
+            version: FormatVersion::of_header(info.header.version),
+        }
+    }
+
+    // Its xorb section, which is alike in both versions.
+    fn of_xorbs(info: &MDBShardInfo) -> Self
+        ensures { result ≡ record { offset = info.now.metadata.xorb_info_offset; version = V3 } }
+    {
+        SectionAt {
+            offset: info.metadata.xorb_info_offset,
+            version: FormatVersion::V3,
+        }
+    }
+}
+
+// Combines two sections.
 fn combine_at<
     Op: RecordOperation<Sec>,
     Sec: WrittenSection + Drop,
     S: ShardSource,
     T: ShardSource,
     W: Write,
->(alloc: Global, r1: &mut S, at_1: u64, r2: &mut T, at_2: u64, out: &mut W) -> CopyResult<Sec>
+>(
+    alloc: Global,
+    r1: &mut S,
+    at_1: SectionAt,
+    r2: &mut T,
+    at_2: SectionAt,
+    out: &mut W,
+) -> CopyResult<Sec>
     ensures { MatchResult result
-        (λ written. CombinesSections Sec.Record.kind Op.makes (moved (S.meaning r1.old) at_1)
-        (S.meaning r1.new) (moved (T.meaning r2.old) at_2) (T.meaning r2.new)
-        (Sec.has_written written) (W.contents out.old) (W.contents out.new))
-        (SectionsFail Sec.Record.kind Op.makes (moved (S.meaning r1.old) at_1) (S.meaning r1.new)
-        (moved (T.meaning r2.old) at_2) (T.meaning r2.new)) }
+        (λ written. CombinesSections Sec.Record.kind at_1.version at_2.version Op.makes
+        (moved (S.meaning r1.old) at_1.offset) (S.meaning r1.new)
+        (moved (T.meaning r2.old) at_2.offset) (T.meaning r2.new) (Sec.has_written written)
+        (W.contents out.old) (W.contents out.new))
+        (SectionsFail Sec.Record.kind at_1.version at_2.version Op.makes
+        (moved (S.meaning r1.old) at_1.offset) (S.meaning r1.new)
+        (moved (T.meaning r2.old) at_2.offset) (T.meaning r2.new)) }
 {
-    seek(r1, at_1)?;
-    seek(r2, at_2)?;
-    combine_sections::<Op, Sec, S, T, W>(alloc, r1, r2, out)
+    seek(r1, at_1.offset)?;
+    seek(r2, at_2.offset)?;
+    combine_sections::<Op, Sec, S, T, W>(alloc, r1, at_1.version, r2, at_2.version, out)
 }
 
 // Moves a source to an offset.
@@ -152,7 +200,7 @@ fn seek<S: ShardSource>(source: &mut S, offset: u64) -> Result<()>
 // Writes the header of a shard. The failure is the output's.
 fn write_header<W: Write>(out: &mut W) -> CopyResult<()>
     ensures appended { OnOk result
-        (Appends (W.contents out.old) (W.contents out.new) (shard_header_bytes header_value)) }
+        (Appends (W.contents out.old) (W.contents out.new) (shard_header_bytes (header_value V3))) }
     ensures causes { IfErr result IsOutputFailure }
 {
     match MDBShardFileHeader::default().serialize(out) {
@@ -176,7 +224,7 @@ fn write_tables<W: Write>(
 {
     match write_end(out, files, xorbs, form) {
         Ok(metadata) => Ok(MDBShardInfo {
-            header: MDBShardFileHeader::default(),
+            header: MDBShardFileHeader::of_version(form.version),
             metadata,
         }),
         Err(error) => Err(CopyFailure::Output(error)),

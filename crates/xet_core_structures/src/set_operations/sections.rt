@@ -4,6 +4,7 @@
 ghost use Rattle.std.specs.Prelude.{◌≡◌, ◌≤◌, ◌⊎◌, ◌↔◌, IsTrue, IfSome, is_some, Option, MatchResult, IfErr, OnOk};
 ghost use Rattle.std.specs.Io.KnownBytes.{Appends};
 ghost use Rattle.xet_base.specs.Source.{Takes};
+ghost use Rattle.xet_records.specs.RecordKind.{in_version};
 ghost use Rattle.xet_records.specs.Copying.{IsOutputFailure};
 ghost use Rattle.xet_core_structures.specs.Combining.{IsNextPair};
 ghost use Rattle.xet_core_structures.specs.SideBySide.{Follows, ReadsFollowing, FollowingFails, Advances, AdvanceFails, CombinesSections, SectionsFail};
@@ -15,40 +16,48 @@ use std::io::Write;
 use xet_base::error::{CoreError, Result};
 use xet_base::input::OfSource;
 use xet_base::source::ShardSource;
-use xet_records::record_reader::{SectionRecord, read_header};
+use xet_records::record_reader::{FormatVersion, SectionRecord, read_header};
 use xet_records::row_copier::{CopyFailure, CopyResult};
 use xet_shards::shard_writer::WrittenSection;
 
 /// Reads two sections from the positions of their sources on, and writes a section of what the
 /// operation makes of the records with one hash.
 ///
-/// `UnexpectedEof` if a source ends before the bookend, `InvalidShard` if the rows of a section pass
-/// 4294967295, if its hashes do not strictly ascend, or if nothing can be made of two records.
+/// `UnexpectedEof` if a source ends before the bookend, `InvalidShard` if a section's version does
+/// not have a header, if its rows pass 4294967295, if its hashes do not strictly ascend, or if
+/// nothing can be made of two records.
 pub fn combine_sections<
     Op: RecordOperation<Sec>,
     Sec: WrittenSection + Drop,
     S: ShardSource,
     T: ShardSource,
     W: Write,
->(alloc: Global, r1: &mut S, r2: &mut T, out: &mut W) -> CopyResult<Sec>
+>(
+    alloc: Global,
+    r1: &mut S,
+    version_1: FormatVersion,
+    r2: &mut T,
+    version_2: FormatVersion,
+    out: &mut W,
+) -> CopyResult<Sec>
     ensures { MatchResult result
-        (λ written. CombinesSections Sec.Record.kind Op.makes (S.meaning r1.old) (S.meaning r1.new)
-        (T.meaning r2.old) (T.meaning r2.new) (Sec.has_written written) (W.contents out.old)
-        (W.contents out.new))
-        (SectionsFail Sec.Record.kind Op.makes (S.meaning r1.old) (S.meaning r1.new)
-        (T.meaning r2.old) (T.meaning r2.new)) }
+        (λ written. CombinesSections Sec.Record.kind version_1 version_2 Op.makes
+        (S.meaning r1.old) (S.meaning r1.new) (T.meaning r2.old) (T.meaning r2.new)
+        (Sec.has_written written) (W.contents out.old) (W.contents out.new))
+        (SectionsFail Sec.Record.kind version_1 version_2 Op.makes (S.meaning r1.old)
+        (S.meaning r1.new) (T.meaning r2.old) (T.meaning r2.new)) }
 {
     Sec::Record::laws();
     let mut written = Sec::new(alloc);
     let mut left_1 = u64::from(u32::MAX);
     let mut left_2 = u64::from(u32::MAX);
-    let mut first = next_header::<Sec::Record, S>(alloc, r1, &mut left_1, None)?;
-    let mut second = next_header::<Sec::Record, T>(alloc, r2, &mut left_2, None)?;
+    let mut first = next_header::<Sec::Record, S>(alloc, r1, version_1, &mut left_1, None)?;
+    let mut second = next_header::<Sec::Record, T>(alloc, r2, version_2, &mut left_2, None)?;
     while goes_on(first, second) {
         let (one, other) = next_pair::<Sec::Record>(first, second);
         Op::write(alloc, one, r1, other, r2, &mut written, out)?;
-        first = advance::<Sec::Record, S>(alloc, r1, &mut left_1, first, one)?;
-        second = advance::<Sec::Record, T>(alloc, r2, &mut left_2, second, other)?;
+        first = advance::<Sec::Record, S>(alloc, r1, version_1, &mut left_1, first, one)?;
+        second = advance::<Sec::Record, T>(alloc, r2, version_2, &mut left_2, second, other)?;
     }
     write_bookend::<Sec, W>(out)?;
     Ok(written)
@@ -82,39 +91,43 @@ fn next_pair<R: SectionRecord>(
 fn advance<R: SectionRecord, S: ShardSource>(
     alloc: Global,
     source: &mut S,
+    version: FormatVersion,
     rows_left: &mut u64,
     next: Option<R::Header>,
     passed: Option<R::Header>,
 ) -> Result<Option<R::Header>>
     requires { IfSome passed (λ _. rows_left.old ≤ 4294967296) }
     ensures { MatchResult result
-        (Advances R.kind next passed (S.meaning source.old) (S.meaning source.new) rows_left.old
-        rows_left.new)
-        (AdvanceFails R.kind passed rows_left.old (S.meaning source.old) (S.meaning source.new)) }
+        (Advances (in_version R.kind version) next passed (S.meaning source.old)
+        (S.meaning source.new) rows_left.old rows_left.new)
+        (AdvanceFails (in_version R.kind version) passed rows_left.old (S.meaning source.old)
+        (S.meaning source.new)) }
 {
     match passed {
-        Some(_) => next_header::<R, S>(alloc, source, rows_left, passed),
+        Some(_) => next_header::<R, S>(alloc, source, version, rows_left, passed),
         None => Ok(next),
     }
 }
 
 // Reads the next header of a section, or `None` at its bookend, and counts the record's rows down
-// from `rows_left`. `InvalidShard` if its hash is not greater than that of the header before it, and
-// then its rows are read, so that an input that is cut there is `UnexpectedEof`.
+// from `rows_left`. `InvalidShard` if its hash is not greater than that of the header before it,
+// and then its rows are read, so that an input that is cut there is `UnexpectedEof`.
 fn next_header<R: SectionRecord, S: ShardSource>(
     alloc: Global,
     source: &mut S,
+    version: FormatVersion,
     rows_left: &mut u64,
     before: Option<R::Header>,
 ) -> Result<Option<R::Header>>
     requires { rows_left.old ≤ 4294967296 }
     ensures { MatchResult result
-        (ReadsFollowing R.kind before (S.meaning source.old) (S.meaning source.new) rows_left.old
-        rows_left.new)
-        (FollowingFails R.kind before rows_left.old (S.meaning source.old) (S.meaning source.new)) }
+        (ReadsFollowing (in_version R.kind version) before (S.meaning source.old)
+        (S.meaning source.new) rows_left.old rows_left.new)
+        (FollowingFails (in_version R.kind version) before rows_left.old (S.meaning source.old)
+        (S.meaning source.new)) }
 {
     R::laws();
-    let Some(header) = read_header::<R, OfSource, S>(alloc, source, rows_left)? else {
+    let Some(header) = read_header::<R, OfSource, S>(alloc, source, version, rows_left)? else {
         return Ok(None);
     };
     if !follows::<R>(before, &header) {

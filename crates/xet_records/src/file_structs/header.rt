@@ -1,15 +1,16 @@
 //! The header row of a file record.
 
-ghost use Rattle.std.specs.Prelude.{◌≡◌, ◌^◌, ◌<◌, ◌↔◌, if◌then◌else◌, IsTrue, IfOk, MatchResult};
+ghost use Rattle.std.specs.Prelude.{◌≡◌, false, ◌^◌, ◌<◌, ◌≤◌, ◌↔◌, if◌then◌else◌, IsTrue, IfOk, MatchResult};
 ghost use Rattle.xet_base.specs.Hash.{all_ones};
 ghost use Rattle.xet_records.specs.FileRow.{header_row, FitsHeader};
-ghost use Rattle.xet_records.specs.FileRecord.{has_verification, has_metadata_ext, flags_of, file_bookend, rows_after};
+ghost use Rattle.xet_records.specs.FileRecord.{has_verification, has_metadata_ext, has_aux_ext, flags_of, with_aux_flag, file_bookend, rows_after};
 ghost use Rattle.xet_records.specs.Rows.{WritesRow, ReadsWhole, LacksRow};
-ghost use Rattle.xet_records.specs.Merging.{Compares, IsSameFile};
+ghost use Rattle.xet_records.specs.Merging.{Compares, IsSameFile, mixed_header};
 
 use super::{
-    MDB_DEFAULT_FILE_FLAG, MDB_FILE_FLAG_METADATA_EXT_MASK, MDB_FILE_FLAG_VERIFICATION_MASK,
-    MDB_FILE_FLAG_WITH_METADATA_EXT, MDB_FILE_FLAG_WITH_VERIFICATION, MDB_FILE_INFO_ENTRY_SIZE,
+    MDB_DEFAULT_FILE_FLAG, MDB_FILE_FLAG_AUX_EXT_MASK, MDB_FILE_FLAG_METADATA_EXT_MASK,
+    MDB_FILE_FLAG_VERIFICATION_MASK, MDB_FILE_FLAG_WITH_AUX_EXT, MDB_FILE_FLAG_WITH_METADATA_EXT,
+    MDB_FILE_FLAG_WITH_VERIFICATION, MDB_FILE_INFO_ENTRY_SIZE,
 };
 use crate::rows::{Row, read_row, write_row};
 use std::io;
@@ -36,7 +37,7 @@ impl FileDataSequenceHeader {
     ) -> Self
         ensures { result ≡ record {
           file_hash = file_hash;
-          file_flags = flags_of contains_verification contains_metadata_ext;
+          file_flags = flags_of contains_verification contains_metadata_ext false;
           num_entries = num_entries;
           _unused = 0;
         } }
@@ -56,6 +57,27 @@ impl FileDataSequenceHeader {
             file_flags: MDB_DEFAULT_FILE_FLAG + verification + metadata_ext,
             num_entries,
             _unused: 0,
+        }
+    }
+
+    /// The header with the flag of an auxiliary row set or cleared, and all else as it is.
+    pub fn with_aux_ext(self, contains_aux_ext: bool) -> Self
+        ensures { result
+            ≡ record self { file_flags = with_aux_flag contains_aux_ext self.file_flags } }
+    {
+        let others = if self.contains_aux_ext() {
+            self.file_flags - MDB_FILE_FLAG_WITH_AUX_EXT
+        } else {
+            self.file_flags
+        };
+        let aux_ext = if contains_aux_ext {
+            MDB_FILE_FLAG_WITH_AUX_EXT
+        } else {
+            0
+        };
+        FileDataSequenceHeader {
+            file_flags: others + aux_ext,
+            ..self
         }
     }
 
@@ -86,12 +108,20 @@ impl FileDataSequenceHeader {
         self.file_flags & MDB_FILE_FLAG_VERIFICATION_MASK != 0
     }
 
-    /// Whether the record ends in a metadata row.
+    /// Whether the record has a metadata row.
     #[tactic(auto, using(crate::proofs::Flags::metadata_ext_masked))]
     pub fn contains_metadata_ext(&self) -> bool
         ensures { result ≡ has_metadata_ext self.now.file_flags }
     {
         self.file_flags & MDB_FILE_FLAG_METADATA_EXT_MASK != 0
+    }
+
+    /// Whether the record ends in an auxiliary row.
+    #[tactic(auto, using(crate::proofs::Flags::aux_ext_masked))]
+    pub fn contains_aux_ext(&self) -> bool
+        ensures { result ≡ has_aux_ext self.now.file_flags }
+    {
+        self.file_flags & MDB_FILE_FLAG_AUX_EXT_MASK != 0
     }
 
     /// Appends the row and returns 48, the number of bytes. The error is the writer's.
@@ -117,17 +147,17 @@ impl FileDataSequenceHeader {
         requires { rows_after self.now < 2 ^ 32 }
         ensures { result ≡ rows_after self.now }
     {
-        let metadata_ext = if self.contains_metadata_ext() { 1 } else { 0 };
-        self.num_entries + self.verification_rows() + metadata_ext
+        self.num_entries + self.verification_rows() + self.metadata_rows() + self.aux_rows()
     }
 
     /// The number of rows after the header, which may not fit `u32`.
     pub fn rows_after(&self) -> u64
         ensures rows { result ≡ rows_after self.now }
-        ensures bound { result < 2 ^ 33 }
+        ensures bound { result ≤ 2 ^ 33 }
     {
-        let metadata_ext = if self.contains_metadata_ext() { 1 } else { 0 };
-        u64::from(self.num_entries) + u64::from(self.verification_rows()) + metadata_ext
+        u64::from(self.num_entries)
+            + u64::from(self.verification_rows())
+            + u64::from(self.metadata_rows() + self.aux_rows())
     }
 
     /// The number of verification rows that the header announces.
@@ -147,6 +177,28 @@ impl FileDataSequenceHeader {
         ensures { result ≡ (if has_metadata_ext self.now.file_flags then 1 else 0) }
     {
         if self.contains_metadata_ext() { 1 } else { 0 }
+    }
+
+    /// The number of auxiliary rows that the header announces, 1 or 0.
+    pub fn aux_rows(&self) -> u32
+        ensures { result ≡ (if has_aux_ext self.now.file_flags then 1 else 0) }
+    {
+        if self.contains_aux_ext() { 1 } else { 0 }
+    }
+
+    /// The header of a mix of two records of one file: the flags of the parts that either
+    /// announces, no others, and a zero reserved word.
+    #[tactic(auto, using(crate::proofs::Merging::aux_flag_added))]
+    pub fn mixed(&self, other: &Self) -> Self
+        ensures { result ≡ mixed_header self.now other.now }
+    {
+        FileDataSequenceHeader::new(
+            self.file_hash,
+            self.num_entries,
+            self.contains_verification() | other.contains_verification(),
+            self.contains_metadata_ext() | other.contains_metadata_ext(),
+        )
+        .with_aux_ext(self.contains_aux_ext() | other.contains_aux_ext())
     }
 
     /// Whether both headers have the same hash and the same number of segments.

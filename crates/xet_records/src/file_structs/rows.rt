@@ -1,7 +1,7 @@
 //! The rows of a file record after its header.
 
 ghost use Rattle.std.specs.Prelude.{◌≡◌, ◌^◌, ◌<◌, [], ◌∷◌, length, IfOk, MatchResult};
-ghost use Rattle.xet_records.specs.FileRow.{segment_row, verification_row, metadata_row, FitsSegment, FitsVerification, FitsMetadata, clear_verification, clear_metadata};
+ghost use Rattle.xet_records.specs.FileRow.{segment_row, verification_row, metadata_row, aux_row, FitsSegment, FitsVerification, FitsMetadata, FitsAux, clear_verification, clear_metadata, clear_aux};
 ghost use Rattle.xet_records.specs.XorbRecord.{total_bytes, segment_of};
 ghost use Rattle.xet_records.specs.Rows.{WritesRow, ReadsWhole, ReadsCleared, LacksRow};
 
@@ -274,6 +274,74 @@ impl Row for FileMetadataExt {
         let (_first, rest) = split_u64(rest);
         let (_second, _) = split_u64(rest);
         FileMetadataExt::new(sha256)
+    }
+
+    fn widths(self) {
+        two_words(&self._unused);
+    }
+}
+
+/// The auxiliary row: a further hash of the file. Version 2 of the format does not have it.
+#[derive(Clone, Copy, Default, Debug, PartialEq, Eq)]
+pub struct FileAuxExt {
+    pub aux_hash: MerkleHash,
+    pub _unused: [u64; 2],
+}
+
+impl FileAuxExt {
+    /// A row of this hash, with zero reserved words.
+    pub fn new(aux_hash: MerkleHash) -> Self
+        ensures { result ≡ record { aux_hash = aux_hash; _unused = 0 ∷ 0 ∷ [] } }
+    {
+        FileAuxExt {
+            aux_hash,
+            _unused: [0; 2],
+        }
+    }
+
+    /// Appends the row and returns 48, the number of bytes. The error is the writer's.
+    pub fn serialize<W: Write>(&self, writer: &mut W) -> io::Result<usize>
+        ensures { IfOk result
+            (WritesRow (W.contents writer.old) (W.contents writer.new) (aux_row self.now)) }
+    {
+        write_row(self, writer)?;
+        Ok(MDB_FILE_INFO_ENTRY_SIZE)
+    }
+
+    /// Reads the row, and sets its reserved words to zero. `UnexpectedEof` if fewer than 48 bytes
+    /// are left.
+    pub fn deserialize<R: Read>(reader: &mut R) -> io::Result<Self>
+        ensures { MatchResult result
+            (ReadsCleared aux_row FitsAux clear_aux (R.remaining reader.old)
+            (R.remaining reader.new))
+            (LacksRow (R.remaining reader.old)) }
+    {
+        read_row(reader)
+    }
+}
+
+impl Row for FileAuxExt {
+    ghost row_bytes = { aux_row };
+
+    ghost Fits = { FitsAux };
+
+    ghost handed_out = { clear_aux };
+
+    #[tactic(auto, unfolding(crate::specs::FileRow::aux_row))]
+    fn to_bytes(&self) -> [u8; 48] {
+        let mut row = [0u8; 48];
+        let at = put_hash(&mut row, 0, &self.aux_hash);
+        let at = put_u64(&mut row, at, self._unused[0]);
+        put_u64(&mut row, at, self._unused[1]);
+        row
+    }
+
+    #[tactic(auto, unfolding(crate::specs::FileRow::aux_row))]
+    fn from_bytes(bytes: &[u8; 48]) -> Self {
+        let (aux_hash, rest) = split_hash(bytes);
+        let (_first, rest) = split_u64(rest);
+        let (_second, _) = split_u64(rest);
+        FileAuxExt::new(aux_hash)
     }
 
     fn widths(self) {

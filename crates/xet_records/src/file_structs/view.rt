@@ -6,13 +6,13 @@ ghost use Rattle.std.specs.Cmp.Lexicographic.{pointwise, on_texts_equal};
 ghost use Rattle.std.specs.Ordering.{on};
 ghost use Rattle.std.specs.Io.KnownBytes.{Appends};
 ghost use Rattle.xet_base.specs.Errors.{IsDeviceError};
-ghost use Rattle.xet_records.specs.FileRow.{header_row, clear_verification, clear_metadata};
-ghost use Rattle.xet_records.specs.FileRecord.{has_verification, has_metadata_ext, row_count, file_record_bytes, handed_out, file_records};
+ghost use Rattle.xet_records.specs.FileRow.{header_row, clear_verification, clear_metadata, clear_aux};
+ghost use Rattle.xet_records.specs.FileRecord.{has_verification, has_metadata_ext, has_aux_ext, row_count, file_record_bytes, handed_out, file_records};
 ghost use Rattle.xet_records.specs.View.{BeginsWithHeaderRow, BeginsWithFile, NoView, without_verification, as_wanted, LacksVerification, IsIoOther};
 
 use super::{
-    FileDataSequenceEntry, FileDataSequenceHeader, FileMetadataExt, FileVerificationEntry,
-    MDB_FILE_INFO_ENTRY_SIZE, MDBFileInfo,
+    FileAuxExt, FileDataSequenceEntry, FileDataSequenceHeader, FileMetadataExt,
+    FileVerificationEntry, MDB_FILE_INFO_ENTRY_SIZE, MDBFileInfo,
 };
 use crate::record_bytes;
 use crate::rows::{Row, write_row};
@@ -133,11 +133,18 @@ impl MDBFileInfoView {
         self.header.contains_verification()
     }
 
-    /// Whether the record ends in a metadata row.
+    /// Whether the record has a metadata row.
     pub fn contains_metadata_ext(&self) -> bool
         ensures { result ≡ has_metadata_ext self.now.metadata.file_flags }
     {
         self.header.contains_metadata_ext()
+    }
+
+    /// Whether the record ends in an auxiliary row.
+    pub fn contains_aux_ext(&self) -> bool
+        ensures { result ≡ has_aux_ext self.now.metadata.file_flags }
+    {
+        self.header.contains_aux_ext()
     }
 
     /// The segment at an index. Requires that there is one.
@@ -170,6 +177,20 @@ impl MDBFileInfoView {
         Some(record_bytes::row(bytes, index))
     }
 
+    /// The auxiliary row, if there is one, with zero reserved words.
+    pub fn aux_ext(&self) -> Option<FileAuxExt>
+        ensures { result ≡ option_map clear_aux self.now.aux_ext }
+    {
+        let bytes = self.bytes.as_slice();
+        if !self.header.contains_aux_ext() {
+            return None;
+        }
+        let verification = self.header.verification_rows() as usize;
+        let metadata = self.header.metadata_rows() as usize;
+        let index = 1 + self.num_entries() + verification + metadata;
+        Some(record_bytes::row(bytes, index))
+    }
+
     /// The size in bytes of the record as `serialize` writes it.
     pub fn byte_size(&self, with_verification: bool) -> usize
         ensures { result ≡ 48 * row_count (as_wanted with_verification self.now) }
@@ -179,13 +200,13 @@ impl MDBFileInfoView {
         } else {
             0
         };
-        let metadata_ext = usize::from(self.contains_metadata_ext());
-        (1 + self.num_entries() + verification + metadata_ext) * MDB_FILE_INFO_ENTRY_SIZE
+        let extensions = self.header.metadata_rows() + self.header.aux_rows();
+        (1 + self.num_entries() + verification + extensions as usize) * MDB_FILE_INFO_ENTRY_SIZE
     }
 
     /// Appends the record and returns its size in bytes. If verification rows are not wanted, a
-    /// record that has them is written without them, under a header with the flag of a metadata row
-    /// alone.
+    /// record that has them is written without them, under a header with the flags of a metadata
+    /// row and of an auxiliary row alone.
     ///
     /// `Io` of kind `Other` if they are wanted and missing, and then nothing is written. Any other
     /// error is the writer's.
@@ -217,23 +238,31 @@ impl MDBFileInfoView {
             (Appends (W.contents writer.old) (W.contents writer.new)
             (file_record_bytes (without_verification self.now))) }
     {
-        let metadata_ext = self.header.contains_metadata_ext();
-        let header = FileDataSequenceHeader::new(
-            self.header.file_hash,
-            self.header.num_entries,
-            false,
-            metadata_ext,
-        );
+        let header = self.header_without_verification();
         write_row(&header, writer)?;
         let bytes = self.bytes.as_slice();
         let segments = self.num_entries();
         write_bytes(writer, record_bytes::part(bytes, 1, segments))?;
         let after = 1 + segments + self.header.verification_rows() as usize;
+        let extensions = self.header.metadata_rows() + self.header.aux_rows();
         write_bytes(
             writer,
-            record_bytes::part(bytes, after, usize::from(metadata_ext)),
+            record_bytes::part(bytes, after, extensions as usize),
         )?;
         Ok(())
+    }
+
+    // The header with the flags of a metadata row and of an auxiliary row alone.
+    fn header_without_verification(&self) -> FileDataSequenceHeader
+        ensures { result ≡ (without_verification self.now).metadata }
+    {
+        FileDataSequenceHeader::new(
+            self.header.file_hash,
+            self.header.num_entries,
+            false,
+            self.header.contains_metadata_ext(),
+        )
+        .with_aux_ext(self.header.contains_aux_ext())
     }
 
     /// The bytes of the record. `OutOfMemory` is the only error.
@@ -244,7 +273,7 @@ impl MDBFileInfoView {
         Ok(self.bytes.clone()?)
     }
 
-    /// The record, with zero reserved words in verification and metadata rows. `OutOfMemory` is the
+    /// The record, with zero reserved words in the rows of its optional parts. `OutOfMemory` is the
     /// only error.
     pub fn to_info(&self, alloc: Global) -> Result<MDBFileInfo>
         ensures ok { IfOk result (λ info. info ≡ handed_out self.now) }
@@ -258,6 +287,7 @@ impl MDBFileInfoView {
             segments: record_bytes::rows(alloc, bytes, 1, segments)?,
             verification: record_bytes::rows(alloc, bytes, 1 + segments, verification)?,
             metadata_ext: self.metadata_ext(),
+            aux_ext: self.aux_ext(),
         })
     }
 

@@ -1,11 +1,12 @@
 //! Lookup of one file on the bytes of a shard.
 
-ghost use Rattle.std.specs.Prelude.{◌≡◌, ℕ, List, Option, MatchResult, OnOk, IfOk, IfErr};
+ghost use Rattle.std.specs.Prelude.{◌≡◌, ℕ, List, Option, MatchResult, OnOk, IfOk, IfErr, IfSome};
 ghost use Rattle.std.specs.FinMap as finite;
 ghost use Rattle.xet_base.specs.Table.{Serves};
 ghost use Rattle.xet_records.specs.declared.file_structs.MDBFileInfo.{MDBFileInfo};
 ghost use Rattle.xet_records.specs.declared.xorb_structs.MDBXorbInfo.{MDBXorbInfo};
-ghost use Rattle.xet_records.specs.FileRecord.{file_records};
+ghost use Rattle.xet_records.specs.FileRecord.{file_records, FitsItsHeader};
+ghost use Rattle.xet_shards.specs.SectionReading.{files_of};
 ghost use Rattle.xet_shards.specs.Shard.{Shard};
 ghost use Rattle.xet_shards.specs.Layout.{Form};
 ghost use Rattle.xet_shards.specs.InForm.{HasFileTable};
@@ -57,10 +58,10 @@ impl MDBShardInfo {
 
     /// Reads the record at a row of the file section.
     ///
-    /// `InvalidShard` if the row's offset does not fit `u64`, or the rows after the record's header
-    /// do not fit `u32`; `InternalError` if there is a bookend at the row, `UnexpectedEof` if the
-    /// source ends before the record does, `OutOfMemory` if an allocation fails. Any other error is
-    /// the source's.
+    /// `InvalidShard` if the row's offset does not fit `u64`, the shard's version does not have the
+    /// record's header, or the rows after it do not fit `u32`; `InternalError` if there is a bookend
+    /// at the row, `UnexpectedEof` if the source ends before the record does, `OutOfMemory` if an
+    /// allocation fails. Any other error is the source's.
     pub fn read_file_info<S: ShardSource>(
         &self,
         alloc: Global,
@@ -68,12 +69,13 @@ impl MDBShardInfo {
         row: u32,
     ) -> Result<MDBFileInfo>
         ensures { MatchResult result
-            (ReadsInfo file_records self.now.metadata.file_info_offset row (S.meaning source.old)
-            (S.meaning source.new))
-            (ReadInfoFails file_records self.now.metadata.file_info_offset row
+            (ReadsInfo (files_of self.now) self.now.metadata.file_info_offset row
+            (S.meaning source.old) (S.meaning source.new))
+            (ReadInfoFails (files_of self.now) self.now.metadata.file_info_offset row
             (S.meaning source.old) (S.meaning source.new)) }
     {
-        read_record_at(alloc, source, self.metadata.file_info_offset, row)
+        let version = self.header.format_version();
+        read_record_at(alloc, source, version, self.metadata.file_info_offset, row)
     }
 
     /// Looks for the file with this hash: the record, or `None`.
@@ -87,22 +89,23 @@ impl MDBShardInfo {
         source: &mut S,
         hash: &MerkleHash,
     ) -> Result<Option<MDBFileInfo>>
-        ensures looks { LooksUpRecord file_records
+        ensures looks { LooksUpRecord (files_of self.now)
             (file_table self.now.metadata (S.meaning source.old)) self.now.metadata.file_info_offset
             hash.now (S.meaning source.old) (S.meaning source.new) result }
+        ensures fits { IfOk result (λ found. IfSome found FitsItsHeader) }
         ensures in_form { (files : List MDBFileInfo) → (xorbs : List MDBXorbInfo) → (form : Form)
-            → HasFileTable files xorbs form (S.meaning source.old).bytes self.now.metadata
+            → HasFileTable files xorbs form (S.meaning source.old).bytes self.now
             → MatchResult result (FoundAmong file_records files hash.now)
             (LookupFailsAmong file_records files hash.now (S.meaning source.old)
             (S.meaning source.new)) }
         ensures in_form_costs { (files : List MDBFileInfo) → (xorbs : List MDBXorbInfo)
             → (form : Form)
-            → HasFileTable files xorbs form (S.meaning source.old).bytes self.now.metadata
+            → HasFileTable files xorbs form (S.meaning source.old).bytes self.now
             → WithinBounds file_records files hash.now.word0 (S.meaning source.old)
             (S.meaning source.new) }
         ensures in_form_collision { (files : List MDBFileInfo) → (xorbs : List MDBXorbInfo)
             → (form : Form)
-            → HasFileTable files xorbs form (S.meaning source.old).bytes self.now.metadata
+            → HasFileTable files xorbs form (S.meaning source.old).bytes self.now
             → IfErr result (λ e. e ≡ CoreError.TruncatedHashCollision hash.now.word0
             → SearchWithinBounds file_records files hash.now.word0 (S.meaning source.old)
             (S.meaning source.new)) }
@@ -133,10 +136,10 @@ impl MDBShardInfo {
         hash: &MerkleHash,
     ) -> Result<Option<MDBFileInfo>>
         ensures read { MatchResult result
-            (Finding file_records (file_table self.now.metadata (S.meaning source.old))
+            (Finding (files_of self.now) (file_table self.now.metadata (S.meaning source.old))
             self.now.metadata.file_info_offset hash.now (S.meaning source.old)
             (S.meaning source.new))
-            (FindingFails file_records (file_table self.now.metadata (S.meaning source.old))
+            (FindingFails (files_of self.now) (file_table self.now.metadata (S.meaning source.old))
             self.now.metadata.file_info_offset hash.now (S.meaning source.old)
             (S.meaning source.new)) }
         ensures serves { OnOk result (Serves (S.meaning source.old) (S.meaning source.new)) }
@@ -156,14 +159,14 @@ impl MDBShardInfo {
         rows: &[u32],
     ) -> Result<Option<MDBFileInfo>>
         ensures answer { IfOk result
-            (λ answer. LookupAnswer file_records (S.meaning source.old).bytes
+            (λ answer. LookupAnswer (files_of self.now) (S.meaning source.old).bytes
             self.now.metadata.file_info_offset hash.now answer rows.now) }
         ensures refused { IfErr result
-            (λ e. LookupRefused file_records self.now.metadata.file_info_offset
+            (λ e. LookupRefused (files_of self.now) self.now.metadata.file_info_offset
             (S.meaning source.old) (S.meaning source.new) e rows.now) }
         ensures serves { OnOk result (Serves (S.meaning source.old) (S.meaning source.new)) }
-        ensures visits { VisitsSome file_records 1 self.now.metadata.file_info_offset rows.now
-            (S.meaning source.old) (S.meaning source.new) }
+        ensures visits { VisitsSome (files_of self.now) 1 self.now.metadata.file_info_offset
+            rows.now (S.meaning source.old) (S.meaning source.new) }
     {
         for row in rows {
             let file_info = self.read_file_info(alloc, source, *row)?;

@@ -31,8 +31,9 @@ impl MDBShardInfo {
     /// where its verification rows are, and its SHA-256.
     ///
     /// `ShardVersion` if the header's tag or version is unsupported, `UnexpectedEof` if the source
-    /// ends before the bookend, `InvalidShard` if the rows pass 4294967295, `OutOfMemory` if an
-    /// allocation fails. Any other error is the source's.
+    /// ends before the bookend, `InvalidShard` if the version does not have the header of a file or
+    /// the rows pass 4294967295, `OutOfMemory` if an allocation fails. Any other error is the
+    /// source's.
     pub fn read_file_info_ranges<S: ShardSource>(
         alloc: Global,
         source: &mut S,
@@ -58,8 +59,8 @@ fn read_header_and_ranges<S: ShardSource>(alloc: Global, source: &mut S) -> Resu
         (λ found. ReadsFileRanges (S.meaning source.old) (S.meaning source.new) found.items)
         (FileRangesFail (S.meaning source.old) (S.meaning source.new)) }
 {
-    read_header(alloc, source)?;
-    walk_section::<MDBFileInfo, FileRanges, S>(alloc, source)
+    let header = read_header(alloc, source)?;
+    walk_section::<MDBFileInfo, FileRanges, S>(alloc, source, header.format_version())
 }
 
 impl Kept<MDBFileInfo> for FileRanges {

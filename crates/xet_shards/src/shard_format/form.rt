@@ -4,10 +4,13 @@ ghost use Rattle.std.specs.Prelude.{◌≡◌};
 ghost use Rattle.xet_shards.specs.Layout.{plain_form};
 
 use xet_base::merklehash::HMACKey;
+use xet_records::record_reader::FormatVersion;
 
-/// The lookup tables that are written, the key of the chunk hashes, and two timestamps in seconds.
+/// The version, the lookup tables that are written, the key of the chunk hashes, and two timestamps
+/// in seconds.
 #[derive(Clone, Copy, Debug, PartialEq, Eq)]
 pub struct Form {
+    pub version: FormatVersion,
     pub file_table: bool,
     pub xorb_table: bool,
     pub chunk_table: bool,
@@ -19,11 +22,12 @@ pub struct Form {
 }
 
 impl Form {
-    /// All tables, no key, creation 0, and an expiry, or `u64::MAX` if there is none.
+    /// Version 3, all tables, no key, creation 0, and an expiry, or `u64::MAX` if there is none.
     pub fn plain(expiry: Option<u64>) -> Form
         ensures { result ≡ plain_form expiry }
     {
         Form {
+            version: FormatVersion::V3,
             file_table: true,
             xorb_table: true,
             chunk_table: true,

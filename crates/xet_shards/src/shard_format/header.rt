@@ -5,6 +5,8 @@ ghost use Rattle.std.specs.Io.KnownBytes.{Appends, Consumes};
 ghost use Rattle.xet_base.specs.Bytes.{u64_bytes};
 ghost use Rattle.xet_base.specs.Errors.{IsBareShardVersion, IsDeviceError};
 ghost use Rattle.xet_shards.specs.Ends.{HasUnsupportedHeader, EndsInHeader, SaysUnsupported, SaysEnd};
+ghost use Rattle.xet_records.specs.declared.record_reader.FormatVersion.{FormatVersion};
+ghost use Rattle.xet_records.specs.Version.{number_of, IsVersion, version_of};
 ghost use Rattle.xet_shards.specs.Layout.{header_tag, shard_header_bytes, header_value};
 
 use super::footer::FOOTER_SIZE;
@@ -13,14 +15,13 @@ use std::io::{Read, Write};
 use xet_base::error::{CoreError, Result};
 use xet_base::row::split_u64;
 use xet_base::serialization_utils::{read_bytes, write_bytes, write_u64};
+use xet_records::record_reader::FormatVersion;
 
 /// The tag at the front of every shard: a text and a magic number.
 const MDB_SHARD_HEADER_TAG: [u8; 32] = [
     b'H', b'F', b'R', b'e', b'p', b'o', b'M', b'e', b't', b'a', b'D', b'a', b't', b'a', 0, 85, 105,
     103, 69, 106, 123, 129, 87, 131, 165, 189, 217, 92, 205, 209, 74, 169,
 ];
-
-const MDB_SHARD_HEADER_VERSION: u64 = 2;
 
 /// The size of a header, in bytes.
 pub(super) const HEADER_SIZE: u64 = 48;
@@ -35,18 +36,32 @@ pub struct MDBShardFileHeader {
 }
 
 impl Default for MDBShardFileHeader {
-    ghost is_default = { λ h. h ≡ header_value };
+    ghost is_default = { λ h. h ≡ header_value FormatVersion.V3 };
 
     fn default() -> Self {
-        MDBShardFileHeader {
-            tag: MDB_SHARD_HEADER_TAG,
-            version: MDB_SHARD_HEADER_VERSION,
-            footer_size: FOOTER_SIZE,
-        }
+        MDBShardFileHeader::of_version(FormatVersion::V3)
     }
 }
 
 impl MDBShardFileHeader {
+    /// The header of a shard of this version.
+    pub fn of_version(version: FormatVersion) -> Self
+        ensures { result ≡ header_value version }
+    {
+        MDBShardFileHeader {
+            tag: MDB_SHARD_HEADER_TAG,
+            version: version.number(),
+            footer_size: FOOTER_SIZE,
+        }
+    }
+
+    /// The version in which the shard's sections are read.
+    pub(crate) fn format_version(&self) -> FormatVersion
+        ensures { result ≡ version_of self.now.version }
+    {
+        FormatVersion::of_header(self.version)
+    }
+
     /// Writes the tag of every shard, then this value's version and footer size, and returns 48,
     /// the number of bytes. The error is the writer's.
     #[tactic(auto, unfolding(crate::specs::Layout::shard_header_bytes))]
@@ -65,14 +80,14 @@ impl MDBShardFileHeader {
 
     /// Reads the header.
     ///
-    /// `ShardVersion` if the tag differs, which is checked after 32 bytes, or the version is not 2;
-    /// `UnexpectedEof` if the bytes end before that.
+    /// `ShardVersion` if the tag differs, which is checked after 32 bytes, or the version is neither
+    /// 2 nor 3; `UnexpectedEof` if the bytes end before that.
     #[tactic(auto, unfolding(crate::specs::Layout::shard_header_bytes))]
     pub fn deserialize<R: Read>(alloc: Global, reader: &mut R) -> Result<Self>
         ensures bytes { IfOk result
             (λ h. Consumes (R.remaining reader.old) (R.remaining reader.new)
             (shard_header_bytes h)) }
-        ensures tag { IfOk result (λ h. (h.tag ≡ header_tag) × (h.version ≡ 2)) }
+        ensures tag { IfOk result (λ h. (h.tag ≡ header_tag) × IsVersion h.version) }
         ensures unsupported { IfErr result
             (SaysUnsupported HasUnsupportedHeader (R.remaining reader.old)) }
         ensures end { IfErr result (SaysEnd EndsInHeader (R.remaining reader.old)) }
@@ -89,16 +104,18 @@ impl MDBShardFileHeader {
     // The header whose tag has been read, from the 16 bytes after it.
     pub(super) fn after_tag(alloc: Global, rest: &[u8; 16]) -> Result<Self>
         ensures ok { IfOk result
-            (λ h. (h.tag ≡ header_tag) × (h.version ≡ 2)
-            × (rest.now ≡ u64_bytes 2 ++ u64_bytes h.footer_size)) }
+            (λ h. (h.tag ≡ header_tag) × IsVersion h.version
+            × (rest.now ≡ u64_bytes h.version ++ u64_bytes h.footer_size)) }
         ensures width { IfOk result (λ h. h.footer_size < 2 ^ 64) }
-        ensures err { IfErr result (λ e. IsBareShardVersion e × (take 8 rest.now ≢ u64_bytes 2)) }
+        ensures err { IfErr result
+            (λ e. IsBareShardVersion e
+            × ((version : FormatVersion) → take 8 rest.now ≢ u64_bytes (number_of version))) }
     {
         let (version, rest) = split_u64(rest);
         let (footer_size, _) = split_u64(rest);
-        if version != MDB_SHARD_HEADER_VERSION {
+        let Some(_known) = FormatVersion::of_number(version) else {
             return Err(CoreError::ShardVersion(String::new(alloc)));
-        }
+        };
         Ok(MDBShardFileHeader {
             tag: MDB_SHARD_HEADER_TAG,
             version,

@@ -1,15 +1,16 @@
 //! Header and footer of a shard, writing a shard, and reading its sections.
 
-ghost use Rattle.std.specs.Prelude.{◌≡◌, ◌⊎◌, ℕ, Option, ◌+◌, ◌*◌, ◌^◌, ◌<◌, ◌≤◌, ◌++◌, length, List, [], All, MatchResult, OnOk, IfOk, IfErr, IfSome};
+ghost use Rattle.std.specs.Prelude.{◌≡◌, ◌⊎◌, ℕ, Option, ◌+◌, ◌*◌, ◌^◌, ◌<◌, ◌≤◌, ◌++◌, length, List, [], IsTrue, IsErrAnd, false, All, MatchResult, OnOk, IfOk, IfErr, IfSome};
 ghost use Rattle.std.specs.FinMap as finite;
 ghost use Rattle.std.specs.Io.KnownBytes.{Appends};
 ghost use Rattle.xet_base.specs.Errors.{IsDeviceError};
 ghost use Rattle.xet_base.specs.Table.{IsBareInvalidShard};
-ghost use Rattle.xet_shards.specs.Shard.{Shard, IsShard};
-ghost use Rattle.xet_shards.specs.Layout.{layout, info_value, header_tag, shard_header_bytes, shard_footer_bytes};
+ghost use Rattle.xet_shards.specs.Shard.{Shard, IsShard, has_aux_rows};
+ghost use Rattle.xet_shards.specs.Layout.{layout, layout_in, layout_of, info_of, info_value, info_value_in, header_tag, shard_header_bytes, shard_footer_bytes};
 ghost use Rattle.xet_shards.specs.WrittenShard.{IsWritten, ReadsBack, ReadsOfShard};
 ghost use Rattle.xet_base.specs.Source.{Takes, DeviceFailure};
-ghost use Rattle.xet_records.specs.FileRecord.{file_records};
+ghost use Rattle.xet_records.specs.Version.{IsVersion};
+ghost use Rattle.xet_records.specs.declared.record_reader.FormatVersion.{FormatVersion};
 ghost use Rattle.xet_records.specs.XorbRecord.{xorb_records};
 ghost use Rattle.xet_shards.specs.SectionReading.{ReadsFiles, ReadsXorbs, SectionFails};
 ghost use Rattle.xet_shards.specs.XorbHeaders.{xorb_headers, ReadsXorbHeaders};
@@ -28,9 +29,13 @@ use std::io::{ErrorKind, Write};
 use xet_base::error::{CoreError, Result};
 use xet_base::source::{ShardSource, read_full};
 use xet_records::file_structs::MDBFileInfo;
+use xet_records::record_reader::FormatVersion;
 use xet_records::xorb_structs::{MDBXorbInfo, XorbChunkSequenceHeader};
 
 /// The header and the footer of a shard.
+///
+/// Calls that read file sections take the version from the header. One that was read has version 2
+/// or 3; one that was made by hand with any other number is taken for version 3.
 #[derive(Clone, Copy, Default, Debug, PartialEq, Eq)]
 pub struct MDBShardInfo {
     pub header: MDBShardFileHeader,
@@ -41,25 +46,26 @@ impl MDBShardInfo {
     /// Reads the header at the front of the source and the footer in its last 200 bytes. Does not
     /// allocate.
     ///
-    /// `ShardVersion` if the tag differs, the header's version is not 2 or the footer's is not 1,
-    /// `UnexpectedEof` if the source has too few bytes. Any other error is the source's.
+    /// `ShardVersion` if the tag differs, the header's version is neither 2 nor 3 or the footer's is
+    /// not 1, `UnexpectedEof` if the source has too few bytes. Any other error is the source's.
     pub fn load_from_reader<S: ShardSource>(alloc: Global, source: &mut S) -> Result<Self>
         ensures read { MatchResult result (Loads (S.meaning source.old) (S.meaning source.new))
             (LoadFails (S.meaning source.old) (S.meaning source.new)) }
         ensures ends { (info : MDBShardInfo) → HasEnds (S.meaning source.old).bytes info
             → MatchResult result (λ found. found ≡ info)
             (DeviceFailure (S.meaning source.old) (S.meaning source.new)) }
-        ensures written { (s : Shard) → (expiry : Option ℕ) → IsShard s
-            → IfSome expiry (λ e. e < 2 ^ 64) → (S.meaning source.old).bytes ≡ layout s expiry
-            → MatchResult result (λ info. info ≡ info_value s expiry)
+        ensures written { (version : FormatVersion) → (s : Shard) → (expiry : Option ℕ) → IsShard s
+            → IfSome expiry (λ e. e < 2 ^ 64)
+            → (S.meaning source.old).bytes ≡ layout_in version s expiry
+            → MatchResult result (λ info. info ≡ info_value_in version s expiry)
             (DeviceFailure (S.meaning source.old) (S.meaning source.new)) }
     {
         read_ends(alloc, source)
     }
 
-    /// Writes a shard: header, sections, tables and footer. The expiry is a timestamp in seconds,
-    /// or none. Returns the header and the footer, as `load_from_reader` reads them from these
-    /// bytes.
+    /// Writes a shard in version 3: header, sections, tables and footer. The expiry is a timestamp
+    /// in seconds, or none. Returns the header and the footer, as `load_from_reader` reads them from
+    /// these bytes.
     ///
     /// The error is the writer's, or `OutOfMemory` if an allocation fails.
     pub fn serialize_from<W: Write>(
@@ -76,12 +82,41 @@ impl MDBShardInfo {
         ensures shard { IfOk result (λ _. IsShard shard.now.content) }
         ensures causes { IfErr result IsDeviceError }
     {
-        let header = MDBShardFileHeader::default();
-        header.serialize(writer)?;
-        let files: WrittenFiles = write_values(alloc, writer, shard.file_content())?;
-        let xorbs: WrittenXorbs = write_values(alloc, writer, shard.xorb_content())?;
-        let metadata = write_end(writer, &files, &xorbs, &Form::plain(expiry))?;
-        Ok(MDBShardInfo { header, metadata })
+        write_shard(alloc, writer, shard, &Form::plain(expiry))
+    }
+
+    /// Writes a shard as `serialize_from` does, but in version 2, which has no auxiliary rows.
+    ///
+    /// `InvalidArguments` if a file has one, and then nothing is written. Else the error is the
+    /// writer's, or `OutOfMemory` if an allocation fails.
+    pub fn serialize_from_v2<W: Write>(
+        alloc: Global,
+        writer: &mut W,
+        shard: &MDBInMemoryShard,
+        expiry: Option<u64>,
+    ) -> Result<Self>
+        ensures bytes { OnOk result
+            (Appends (W.contents writer.old) (W.contents writer.new)
+            (layout_in FormatVersion.V2 shard.now.content expiry)) }
+        ensures info { IfOk result
+            (λ info. info ≡ info_value_in FormatVersion.V2 shard.now.content expiry) }
+        ensures widths { IfOk result (λ info. FitsFooter info.metadata) }
+        ensures shard { IfOk result (λ _. IsShard shard.now.content) }
+        ensures files { IfOk result (λ _. has_aux_rows shard.now.content ≡ false) }
+        ensures refused { IsTrue (has_aux_rows shard.now.content)
+            → IsErrAnd result (λ e. e ≡ CoreError.InvalidArguments) × (writer.new ≡ writer.old) }
+        ensures causes { IfErr result
+            (λ e. IsDeviceError e
+            ⊎ ((e ≡ CoreError.InvalidArguments) × IsTrue (has_aux_rows shard.now.content))) }
+    {
+        if shard.has_aux_rows() {
+            return Err(CoreError::InvalidArguments);
+        }
+        let form = Form {
+            version: FormatVersion::V2,
+            ..Form::plain(expiry)
+        };
+        write_shard(alloc, writer, shard, &form)
     }
 
     /// The number of rows of the file table, 0 if the shard has none.
@@ -105,8 +140,9 @@ impl MDBShardInfo {
 
     /// Reads all records of the file section, in order.
     ///
-    /// `UnexpectedEof` if the source ends before the bookend, `InvalidShard` if the rows pass
-    /// 4294967295, `OutOfMemory` if an allocation fails. Any other error is the source's.
+    /// `UnexpectedEof` if the source ends before the bookend, `InvalidShard` if the shard's version
+    /// does not have a record's header or the rows pass 4294967295, `OutOfMemory` if an allocation
+    /// fails. Any other error is the source's.
     pub fn read_all_file_info_sections<S: ShardSource>(
         &self,
         alloc: Global,
@@ -116,7 +152,8 @@ impl MDBShardInfo {
         ensures written { ReadsOfShard (λ s. finite.values s.files) (S.meaning source.old)
             (S.meaning source.new) self.now result }
     {
-        read_section_at(alloc, source, self.metadata.file_info_offset)
+        let version = self.header.format_version();
+        read_section_at(alloc, source, version, self.metadata.file_info_offset)
     }
 
     /// Reads all headers of the xorb section, in order, each with its offset in the source, and no
@@ -157,8 +194,35 @@ impl MDBShardInfo {
         ensures written { ReadsOfShard (λ s. finite.values s.xorbs) (S.meaning source.old)
             (S.meaning source.new) self.now result }
     {
-        read_section_at(alloc, source, self.metadata.xorb_info_offset)
+        let offset = self.metadata.xorb_info_offset;
+        read_section_at(alloc, source, FormatVersion::V3, offset)
     }
+}
+
+// Writes a shard in a form: header, sections, tables and footer.
+fn write_shard<W: Write>(
+    alloc: Global,
+    writer: &mut W,
+    shard: &MDBInMemoryShard,
+    form: &Form,
+) -> Result<MDBShardInfo>
+    ensures bytes { OnOk result
+        (Appends (W.contents writer.old) (W.contents writer.new)
+        (layout_of (finite.values shard.now.content.files)
+        (finite.values shard.now.content.xorbs) form.now)) }
+    ensures info { IfOk result
+        (λ info. info ≡ info_of (finite.values shard.now.content.files)
+        (finite.values shard.now.content.xorbs) form.now) }
+    ensures widths { IfOk result (λ info. FitsFooter info.metadata) }
+    ensures shard { IfOk result (λ _. IsShard shard.now.content) }
+    ensures causes { IfErr result IsDeviceError }
+{
+    let header = MDBShardFileHeader::of_version(form.version);
+    header.serialize(writer)?;
+    let files: WrittenFiles = write_values(alloc, writer, shard.file_content())?;
+    let xorbs: WrittenXorbs = write_values(alloc, writer, shard.xorb_content())?;
+    let metadata = write_end(writer, &files, &xorbs, form)?;
+    Ok(MDBShardInfo { header, metadata })
 }
 
 // Reads the header at the front and the footer at the end.
@@ -186,7 +250,7 @@ pub(crate) fn read_header<S: ShardSource>(
     ensures read { IfOk result
         (λ h. Takes (S.meaning source.old) (S.meaning source.new) (shard_header_bytes h)) }
     ensures known { IfOk result
-        (λ h. (h.tag ≡ header_tag) × (h.version ≡ 2) × (h.footer_size < 2 ^ 64)) }
+        (λ h. (h.tag ≡ header_tag) × IsVersion h.version × (h.footer_size < 2 ^ 64)) }
     ensures refused { IfErr result
         (PartFails HasUnsupportedHeader EndsInHeader 48 (S.meaning source.old)
         (S.meaning source.new)) }

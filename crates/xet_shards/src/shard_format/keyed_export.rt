@@ -6,7 +6,7 @@ ghost use Rattle.std.specs.Io.KnownBytes.{Appends};
 ghost use Rattle.xet_base.specs.Errors.{IsDeviceError};
 ghost use Rattle.xet_base.specs.KeyedHash.{no_key};
 ghost use Rattle.xet_base.specs.Source.{Takes};
-ghost use Rattle.xet_records.specs.RecordKind.{KindLaws};
+ghost use Rattle.xet_records.specs.RecordKind.{KindLaws, in_version};
 ghost use Rattle.xet_records.specs.ViewReading.{ReadsNextView};
 ghost use Rattle.xet_records.proofs.RecordKinds.{file_laws, xorb_laws};
 ghost use Rattle.xet_shards.specs.declared.shard_format.form.Form.{Form};
@@ -30,15 +30,15 @@ use xet_base::input::OfSource;
 use xet_base::merklehash::HMACKey;
 use xet_base::source::ShardSource;
 use xet_records::file_structs::{MDBFileInfo, MDBFileInfoView};
-use xet_records::record_reader::read_record;
+use xet_records::record_reader::{FormatVersion, read_record};
 use xet_records::rows::Rows;
 use xet_records::view_reader::read_view;
 use xet_records::xorb_structs::MDBXorbInfo;
 
 impl MDBShardInfo {
-    /// Writes the shard from the source's position on with each chunk hash replaced by its keyed
-    /// hash, or kept if the key is zero, and returns the number of bytes. Everything else of a
-    /// record is copied as it is stored. The creation time is `now` and the expiry is
+    /// Writes the shard from the source's position on, in version 3, with each chunk hash replaced
+    /// by its keyed hash, or kept if the key is zero, and returns the number of bytes. Everything
+    /// else of a record is copied as it is stored. The creation time is `now` and the expiry is
     /// `valid_seconds` later, both in seconds. Without files the file section and its table are
     /// empty; the other tables are written if asked for. Header and sections are read in sequence,
     /// the footer is not.
@@ -46,8 +46,8 @@ impl MDBShardInfo {
     /// `InvalidArguments` if the chunk hashes of this shard are keyed or the expiry does not fit
     /// `u64`, and then nothing is read or written. `ShardVersion` if the source's header is
     /// unsupported, `UnexpectedEof` if the source ends before both sections do, `InvalidShard` if
-    /// the rows of either pass 4294967295. May fail with `OutOfMemory`. Any other error is the
-    /// source's or the writer's.
+    /// its version does not have the header of a file or the rows of a section pass 4294967295. May
+    /// fail with `OutOfMemory`. Any other error is the source's or the writer's.
     pub fn export_as_keyed_shard<S: ShardSource, W: Write>(
         &self,
         alloc: Global,
@@ -117,6 +117,7 @@ impl MDBShardInfo {
             return Err(CoreError::InvalidArguments);
         };
         let form = Form {
+            version: FormatVersion::V3,
             file_table: include_file_info,
             xorb_table: include_xorb_lookup_table,
             chunk_table: include_chunk_lookup_table,
@@ -128,22 +129,25 @@ impl MDBShardInfo {
     }
 }
 
-// Reads header and sections, and writes the shard in a form.
+// Reads header and sections, and writes the shard in a form, which is of version 3: files of either
+// version can be stored in that.
 fn export<S: ShardSource, W: Write>(
     alloc: Global,
     source: &mut S,
     writer: &mut W,
     form: &Form,
 ) -> Result<usize>
+    requires { form.now.version ≡ FormatVersion.V3 }
     ensures { MatchResult result
         (Exports form.now (S.meaning source.old) (S.meaning source.new) (W.contents writer.old)
         (W.contents writer.new))
         (ExportFails (S.meaning source.old) (S.meaning source.new)) }
 {
-    read_header(alloc, source)?;
-    MDBShardFileHeader::default().serialize(writer)?;
-    let files = export_section::<MDBFileInfoView, S, W>(alloc, source, writer, form)?;
-    let xorbs = export_section::<MDBXorbInfo, S, W>(alloc, source, writer, form)?;
+    let version = read_header(alloc, source)?.format_version();
+    MDBShardFileHeader::of_version(form.version).serialize(writer)?;
+    let files = export_section::<MDBFileInfoView, S, W>(alloc, source, version, writer, form)?;
+    let newest = FormatVersion::V3;
+    let xorbs = export_section::<MDBXorbInfo, S, W>(alloc, source, newest, writer, form)?;
     let footer = write_end(writer, &files, &xorbs, form)?;
     let size = footer.footer_offset + FOOTER_SIZE;
     Ok(size as usize)
@@ -160,13 +164,18 @@ trait ExportedRecord {
     ghost exports: { Form → Self.Section.Record → List Self.Section.Record };
 
     // Reads the next record, or `None` at the bookend, and counts its rows down from those left.
-    fn read<S: ShardSource>(alloc: Global, source: &mut S, left: &mut u64) -> Result<Option<Self>>
+    fn read<S: ShardSource>(
+        alloc: Global,
+        source: &mut S,
+        version: FormatVersion,
+        left: &mut u64,
+    ) -> Result<Option<Self>>
         requires { left.old ≤ 4294967296 }
         ensures { MatchResult result
-            (ReadsNextView Self.Section.Record.kind stored
+            (ReadsNextView (in_version Self.Section.Record.kind version) stored
             (Takes (S.meaning source.old) (S.meaning source.new)) left.old left.new)
-            (RecordFails Self.Section.Record.kind left.old (S.meaning source.old)
-            (S.meaning source.new)) };
+            (RecordFails (in_version Self.Section.Record.kind version) left.old
+            (S.meaning source.old) (S.meaning source.new)) };
 
     // Adds and writes what the form has of the record.
     fn export<W: Write>(
@@ -206,8 +215,13 @@ impl ExportedRecord for MDBFileInfoView {
 
     ghost no_more_rows = { file_rows };
 
-    fn read<S: ShardSource>(alloc: Global, source: &mut S, left: &mut u64) -> Result<Option<Self>> {
-        read_view::<MDBFileInfo, MDBFileInfoView, OfSource, S>(alloc, source, left)
+    fn read<S: ShardSource>(
+        alloc: Global,
+        source: &mut S,
+        version: FormatVersion,
+        left: &mut u64,
+    ) -> Result<Option<Self>> {
+        read_view::<MDBFileInfo, MDBFileInfoView, OfSource, S>(alloc, source, version, left)
     }
 
     fn export<W: Write>(
@@ -235,8 +249,13 @@ impl ExportedRecord for MDBXorbInfo {
 
     ghost no_more_rows = { xorb_rows };
 
-    fn read<S: ShardSource>(alloc: Global, source: &mut S, left: &mut u64) -> Result<Option<Self>> {
-        read_record::<MDBXorbInfo, OfSource, S>(alloc, source, left)
+    fn read<S: ShardSource>(
+        alloc: Global,
+        source: &mut S,
+        version: FormatVersion,
+        left: &mut u64,
+    ) -> Result<Option<Self>> {
+        read_record::<MDBXorbInfo, OfSource, S>(alloc, source, version, left)
     }
 
     fn export<W: Write>(
@@ -255,19 +274,21 @@ impl ExportedRecord for MDBXorbInfo {
 fn export_section<E: ExportedRecord + Drop, S: ShardSource, W: Write>(
     alloc: Global,
     source: &mut S,
+    version: FormatVersion,
     writer: &mut W,
     form: &Form,
 ) -> Result<E::Section>
     ensures { MatchResult result
-        (λ written. ExportsSection E.Section.Record.kind (E.exports form.now)
+        (λ written. ExportsSection E.Section.Record.kind version (E.exports form.now)
         (E.Section.has_written written) (S.meaning source.old) (S.meaning source.new)
         (W.contents writer.old) (W.contents writer.new))
-        (λ e. TakesNoSection E.Section.Record.kind (S.meaning source.old) (S.meaning source.new) e
+        (λ e. TakesNoSection (in_version E.Section.Record.kind version) (S.meaning source.old)
+        (S.meaning source.new) e
         ⊎ WritingFails (S.meaning source.old) (S.meaning source.new) e) }
 {
     let mut written = E::Section::new(alloc);
     let mut rows_left = u64::from(u32::MAX);
-    while let Some(next) = E::read(alloc, source, &mut rows_left)? {
+    while let Some(next) = E::read(alloc, source, version, &mut rows_left)? {
         next.export(writer, &mut written, form)?;
     }
     E::Section::write_bookend(writer)?;

@@ -1,6 +1,7 @@
 //! Reading the sections of a shard from a source.
 
 ghost use Rattle.std.specs.Prelude.{MatchResult};
+ghost use Rattle.xet_records.specs.RecordKind.{in_version};
 ghost use Rattle.xet_records.specs.XorbRecord.{xorb_records};
 ghost use Rattle.xet_shards.specs.SectionReading.{ReadsSection, SectionFails};
 ghost use Rattle.xet_shards.specs.Lookup.{ReadsInfo, ReadInfoFails};
@@ -11,35 +12,42 @@ use std::alloc::Global;
 use xet_base::error::{CoreError, Result};
 use xet_base::input::OfSource;
 use xet_base::source::ShardSource;
-use xet_records::record_reader::{MAX_ROWS_OF_RECORD, SectionRecord, read_record, read_section};
+use xet_records::record_reader::{
+    FormatVersion, MAX_ROWS_OF_RECORD, SectionRecord, read_record, read_section,
+};
 use xet_records::xorb_structs::{MDBXorbInfo, XorbChunkSequenceHeader};
 
 /// Reads the records of the section at an offset.
 pub(super) fn read_section_at<R: SectionRecord + Drop, S: ShardSource>(
     alloc: Global,
     source: &mut S,
+    version: FormatVersion,
     offset: u64,
 ) -> Result<Vec<R>>
     ensures { MatchResult result
-        (λ found. ReadsSection R.kind (S.meaning source.old) (S.meaning source.new) offset
-        found.items)
-        (SectionFails R.kind (S.meaning source.old) (S.meaning source.new) offset) }
+        (λ found. ReadsSection (in_version R.kind version) (S.meaning source.old)
+        (S.meaning source.new) offset found.items)
+        (SectionFails (in_version R.kind version) (S.meaning source.old) (S.meaning source.new)
+        offset) }
 {
     R::laws();
     source.seek_to(offset)?;
-    read_section::<R, OfSource, S>(alloc, source)
+    read_section::<R, OfSource, S>(alloc, source, version)
 }
 
 /// Reads the record at a row of the section at an offset.
 pub(super) fn read_record_at<R: SectionRecord + Drop, S: ShardSource>(
     alloc: Global,
     source: &mut S,
+    version: FormatVersion,
     offset: u64,
     row: u32,
 ) -> Result<R>
     ensures { MatchResult result
-        (ReadsInfo R.kind offset row (S.meaning source.old) (S.meaning source.new))
-        (ReadInfoFails R.kind offset row (S.meaning source.old) (S.meaning source.new)) }
+        (ReadsInfo (in_version R.kind version) offset row (S.meaning source.old)
+        (S.meaning source.new))
+        (ReadInfoFails (in_version R.kind version) offset row (S.meaning source.old)
+        (S.meaning source.new)) }
 {
     R::laws();
     let distance = 48 * u64::from(row);
@@ -48,7 +56,7 @@ pub(super) fn read_record_at<R: SectionRecord + Drop, S: ShardSource>(
     };
     source.seek_to(row_offset)?;
     let mut rows_left = MAX_ROWS_OF_RECORD;
-    match read_record::<R, OfSource, S>(alloc, source, &mut rows_left)? {
+    match read_record::<R, OfSource, S>(alloc, source, version, &mut rows_left)? {
         Some(found) => Ok(found),
         None => Err(CoreError::InternalError(String::new(alloc))),
     }
@@ -66,7 +74,7 @@ pub(super) fn read_xorb_headers<S: ShardSource>(
         (SectionFails xorb_records (S.meaning source.old) (S.meaning source.new) offset) }
 {
     source.seek_to(offset)?;
-    walk_section::<MDBXorbInfo, (XorbChunkSequenceHeader, u64), S>(alloc, source)
+    walk_section::<MDBXorbInfo, (XorbChunkSequenceHeader, u64), S>(alloc, source, FormatVersion::V3)
 }
 
 impl Kept<MDBXorbInfo> for (XorbChunkSequenceHeader, u64) {

@@ -2,6 +2,7 @@
 //! read past.
 
 ghost use Rattle.std.specs.Prelude.{◌≡◌, ℕ, ◌+◌, ◌*◌, ◌^◌, ◌<◌, ◌≤◌, MatchResult};
+ghost use Rattle.xet_records.specs.RecordKind.{in_version};
 ghost use Rattle.xet_shards.specs.SectionReading.{TakesNoSection, RecordFails};
 ghost use Rattle.xet_shards.specs.SectionWalk.{KeepsSection, KeepsNext};
 
@@ -9,7 +10,7 @@ use std::alloc::Global;
 use xet_base::error::Result;
 use xet_base::input::OfSource;
 use xet_base::source::ShardSource;
-use xet_records::record_reader::{SectionRecord, read_header};
+use xet_records::record_reader::{FormatVersion, SectionRecord, read_header};
 
 /// What a walk keeps of a record.
 pub(super) trait Kept<R: SectionRecord> {
@@ -27,16 +28,17 @@ pub(super) trait Kept<R: SectionRecord> {
 pub(super) fn walk_section<R: SectionRecord, T: Kept<R> + Drop, S: ShardSource>(
     alloc: Global,
     source: &mut S,
+    version: FormatVersion,
 ) -> Result<Vec<T>>
     ensures { MatchResult result
-        (λ found. KeepsSection R.kind T.keep (S.meaning source.old) (S.meaning source.new)
-        found.items)
-        (TakesNoSection R.kind (S.meaning source.old) (S.meaning source.new)) }
+        (λ found. KeepsSection (in_version R.kind version) T.keep (S.meaning source.old)
+        (S.meaning source.new) found.items)
+        (TakesNoSection (in_version R.kind version) (S.meaning source.old) (S.meaning source.new)) }
 {
     R::laws();
     let mut found = Vec::new(alloc);
     let mut rows_left = u64::from(u32::MAX);
-    while let Some(kept) = keep_next::<R, T, S>(alloc, source, &mut rows_left)? {
+    while let Some(kept) = keep_next::<R, T, S>(alloc, source, version, &mut rows_left)? {
         found.push(kept)?;
     }
     Ok(found)
@@ -46,17 +48,19 @@ pub(super) fn walk_section<R: SectionRecord, T: Kept<R> + Drop, S: ShardSource>(
 fn keep_next<R: SectionRecord, T: Kept<R> + Drop, S: ShardSource>(
     alloc: Global,
     source: &mut S,
+    version: FormatVersion,
     rows_left: &mut u64,
 ) -> Result<Option<T>>
     requires { rows_left.old ≤ 4294967296 }
     ensures { MatchResult result
-        (KeepsNext R.kind T.keep (S.meaning source.old) (S.meaning source.new) rows_left.old
-        rows_left.new)
-        (RecordFails R.kind rows_left.old (S.meaning source.old) (S.meaning source.new)) }
+        (KeepsNext (in_version R.kind version) T.keep (S.meaning source.old) (S.meaning source.new)
+        rows_left.old rows_left.new)
+        (RecordFails (in_version R.kind version) rows_left.old (S.meaning source.old)
+        (S.meaning source.new)) }
 {
     R::laws();
     let offset = source.position()?;
-    let Some(header) = read_header::<R, OfSource, S>(alloc, source, rows_left)? else {
+    let Some(header) = read_header::<R, OfSource, S>(alloc, source, version, rows_left)? else {
         return Ok(None);
     };
     let rest = R::skip_rows_after::<OfSource, S>(source, header)?;

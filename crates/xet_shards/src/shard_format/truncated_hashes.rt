@@ -16,7 +16,7 @@ use std::alloc::Global;
 use xet_base::error::{CoreError, Result};
 use xet_base::input::OfSource;
 use xet_base::source::ShardSource;
-use xet_records::record_reader::read_record;
+use xet_records::record_reader::{FormatVersion, read_record};
 use xet_records::xorb_structs::{MDBXorbInfo, XorbChunkSequenceEntry};
 
 impl MDBShardInfo {
@@ -101,7 +101,13 @@ fn read_xorb_before<S: ShardSource>(
         return Ok(None);
     }
     let start = (u64::from(u32::MAX) - *rows_left) as u32;
-    let Some(xorb) = read_record::<MDBXorbInfo, OfSource, S>(alloc, source, rows_left)? else {
+    let Some(xorb) = read_record::<MDBXorbInfo, OfSource, S>(
+        alloc,
+        source,
+        FormatVersion::V3,
+        rows_left,
+    )?
+    else {
         return Ok(None);
     };
     Ok(Some((start, xorb)))

@@ -16,7 +16,7 @@ use std::collections::BTreeMap;
 use std::marker::Model;
 use xet_base::error::{CoreError, Result};
 use xet_base::merklehash::MerkleHash;
-use xet_records::file_structs::{FileDataSequenceHeader, FileMetadataExt, MDBFileInfo};
+use xet_records::file_structs::{FileAuxExt, FileDataSequenceHeader, FileMetadataExt, MDBFileInfo};
 use xet_records::rows::{Row, all_widths};
 
 /// Well-formed files, each under its hash. Contracts see the finite map.
@@ -187,13 +187,7 @@ pub fn joined_rows(file_info: &MDBFileInfo, twin: &MDBFileInfo) -> u64
     requires same { IsSameFile file_info.now.metadata twin.now.metadata }
     ensures { result ≡ row_count (merged file_info.now twin.now) }
 {
-    let joined = FileDataSequenceHeader::new(
-        file_info.metadata.file_hash,
-        file_info.metadata.num_entries,
-        file_info.contains_verification() || twin.contains_verification(),
-        file_info.contains_metadata_ext() || twin.contains_metadata_ext(),
-    );
-    1 + joined.rows_after()
+    1 + file_info.metadata.mixed(&twin.metadata).rows_after()
 }
 
 // These files, each with the optional parts that only `other` has for it.
@@ -227,17 +221,19 @@ pub fn is_well_formed(file_info: &MDBFileInfo) -> bool
     record_widths(file_info);
     let metadata = file_info.metadata;
     !metadata.is_bookend()
-        && metadata.file_flags % (1 << 30) == 0
+        && metadata.file_flags % (1 << 29) == 0
         && metadata._unused == 0
         && file_info.segments.len() as u64 == u64::from(metadata.num_entries)
         && file_info.verification.len() as u64 == u64::from(metadata.verification_rows())
         && file_info.metadata_ext.is_some() == metadata.contains_metadata_ext()
+        && file_info.aux_ext.is_some() == metadata.contains_aux_ext()
         && file_info
             .verification
             .as_slice()
             .iter()
             .all(|row| row._unused == [0; 2])
         && is_clear(&file_info.metadata_ext)
+        && is_clear_aux(&file_info.aux_ext)
         && metadata.rows_after() < u64::from(u32::MAX)
 }
 
@@ -245,6 +241,15 @@ fn is_clear(metadata_ext: &Option<FileMetadataExt>) -> bool
     ensures { IsTrue result ↔ IfSome metadata_ext.now (λ m. m._unused ≡ 0 ∷ 0 ∷ []) }
 {
     match metadata_ext {
+        Some(row) => row._unused == [0; 2],
+        None => true,
+    }
+}
+
+fn is_clear_aux(aux_ext: &Option<FileAuxExt>) -> bool
+    ensures { IsTrue result ↔ IfSome aux_ext.now (λ a. a._unused ≡ 0 ∷ 0 ∷ []) }
+{
+    match aux_ext {
         Some(row) => row._unused == [0; 2],
         None => true,
     }
@@ -259,6 +264,9 @@ fn record_widths(file_info: &MDBFileInfo)
     all_widths(&file_info.segments);
     all_widths(&file_info.verification);
     if let Some(row) = &file_info.metadata_ext {
+        (*row).widths();
+    }
+    if let Some(row) = &file_info.aux_ext {
         (*row).widths();
     }
 }

@@ -2,6 +2,8 @@
 
 ghost use Rattle.std.specs.Prelude.{◌≡◌, ◌≤◌, sum_by};
 ghost use Rattle.std.specs.BTreeMap.{values};
+ghost use Rattle.std.specs.List.{list_any};
+ghost use Rattle.xet_records.specs.Merging.{extended};
 ghost use Rattle.xet_records.specs.FileRecord.{file_records, size_of_file};
 ghost use Rattle.xet_records.specs.XorbRecord.{xorb_records};
 ghost use Rattle.xet_shards.specs.Section.{total_rows};
@@ -25,6 +27,13 @@ pub fn file_rows(files: &BTreeMap<MerkleHash, MDBFileInfo>) -> u64
         rows += 1 + file_info.metadata.rows_after();
     }
     rows
+}
+
+/// Whether a file has an auxiliary row.
+pub fn have_aux_rows(files: &BTreeMap<MerkleHash, MDBFileInfo>) -> bool
+    ensures { result ≡ list_any extended (values files.now) }
+{
+    files.values().any(|file_info| file_info.contains_aux_ext())
 }
 
 /// The rows of xorbs, which fit `u32`.

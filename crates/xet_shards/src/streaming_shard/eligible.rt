@@ -46,8 +46,9 @@ impl MDBShardInfo {
     /// `MDBMinimalShard::global_dedup_eligible_chunks` does.
     ///
     /// `ShardVersion` if the header's tag or version is unsupported, `UnexpectedEof` if the source
-    /// ends before a bookend, `InvalidShard` if the rows of a section pass 4294967295,
-    /// `OutOfMemory` if an allocation fails. Any other error is the source's.
+    /// ends before a bookend, `InvalidShard` if the version does not have the header of a file or
+    /// the rows of a section pass 4294967295, `OutOfMemory` if an allocation fails. Any other error
+    /// is the source's.
     pub fn filter_cas_chunks_for_global_dedup<S: ShardSource>(
         alloc: Global,
         source: &mut S,
@@ -56,8 +57,9 @@ impl MDBShardInfo {
             (λ hashes. ReadsEligible (S.meaning source.old) (S.meaning source.new) hashes.items)
             (EligibleFails (S.meaning source.old) (S.meaning source.new)) }
     {
-        read_header(alloc, source)?;
-        let shard = read_sections::<OfSource, S>(alloc, source, true, true)?;
+        let header = read_header(alloc, source)?;
+        let version = header.format_version();
+        let shard = read_sections::<OfSource, S>(alloc, source, version, true, true)?;
         shard.global_dedup_eligible_chunks(alloc)
     }
 }

@@ -1,6 +1,7 @@
 //! Reading the sections of a minimal shard from any input, reader or source.
 
 ghost use Rattle.std.specs.Prelude.{◌≡◌, List, [], ◌∷◌, ◌++◌, MatchResult, OnOk, IfErr, if◌then◌else◌};
+ghost use Rattle.xet_records.specs.RecordKind.{in_version};
 ghost use Rattle.xet_shards.specs.Layout.{if_in};
 ghost use Rattle.xet_shards.specs.MinimalReading.{ReadsViews, StopsAfterViews, ReadsSections, SectionsFail};
 
@@ -9,7 +10,7 @@ use std::alloc::Global;
 use xet_base::error::{CoreError, Result};
 use xet_base::input::ByteInput;
 use xet_records::file_structs::{MDBFileInfo, MDBFileInfoView};
-use xet_records::record_reader::SectionRecord;
+use xet_records::record_reader::{FormatVersion, SectionRecord};
 use xet_records::view_reader::{RecordView, read_view};
 use xet_records::xorb_structs::{MDBXorbInfo, MDBXorbInfoView};
 
@@ -18,18 +19,22 @@ use xet_records::xorb_structs::{MDBXorbInfo, MDBXorbInfoView};
 pub(super) fn read_sections<M, I: ByteInput<M>>(
     alloc: Global,
     input: &mut I,
+    version: FormatVersion,
     with_files: bool,
     with_xorbs: bool,
 ) -> Result<MDBMinimalShard>
     ensures { MatchResult result
-        (ReadsSections I.reads with_files with_xorbs input.old input.new)
-        (SectionsFail I.reads I.fails with_xorbs input.old input.new) }
+        (ReadsSections I.reads version with_files with_xorbs input.old input.new)
+        (SectionsFail I.reads I.fails version with_xorbs input.old input.new) }
 {
-    let files = read_views::<MDBFileInfo, MDBFileInfoView, M, I>(alloc, input, with_files)?;
+    let files = read_views::<MDBFileInfo, MDBFileInfoView, M, I>(
+        alloc, input, version, with_files,
+    )?;
     if !with_xorbs {
         return Ok(MDBMinimalShard::of_views(files, Vec::new(alloc)));
     }
-    let xorbs = read_views::<MDBXorbInfo, MDBXorbInfoView, M, I>(alloc, input, true)?;
+    let newest = FormatVersion::V3;
+    let xorbs = read_views::<MDBXorbInfo, MDBXorbInfoView, M, I>(alloc, input, newest, true)?;
     Ok(MDBMinimalShard::of_views(files, xorbs))
 }
 
@@ -37,17 +42,19 @@ pub(super) fn read_sections<M, I: ByteInput<M>>(
 fn read_views<R: SectionRecord, V: RecordView<R> + Drop, M, I: ByteInput<M>>(
     alloc: Global,
     input: &mut I,
+    version: FormatVersion,
     is_kept: bool,
 ) -> Result<Vec<V>>
     ensures { MatchResult result
-        (λ kept. (views : List V) × ReadsViews R.kind V.shown I.reads input.old input.new views
+        (λ kept. (views : List V)
+        × ReadsViews (in_version R.kind version) V.shown I.reads input.old input.new views
         × (kept.items ≡ if_in is_kept views))
-        (StopsAfterViews R.kind V.shown I.reads I.fails input.old input.new) }
+        (StopsAfterViews (in_version R.kind version) V.shown I.reads I.fails input.old input.new) }
 {
     R::laws();
     let mut views = Vec::new(alloc);
     let mut rows_left = u64::from(u32::MAX);
-    while let Some(view) = read_view::<R, V, M, I>(alloc, input, &mut rows_left)? {
+    while let Some(view) = read_view::<R, V, M, I>(alloc, input, version, &mut rows_left)? {
         push_if(is_kept, &mut views, view)?;
     }
     Ok(views)

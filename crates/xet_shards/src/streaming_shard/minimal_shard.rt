@@ -51,8 +51,9 @@ impl MDBMinimalShard {
     /// and then, if `include_xorb`, its xorb section. What comes after is not read.
     ///
     /// `ShardVersion` if the header's tag or version is unsupported, `UnexpectedEof` if the reader
-    /// ends before a bookend, `InvalidShard` if the rows of a section pass 4294967295,
-    /// `OutOfMemory` if an allocation fails. Any other error is the reader's.
+    /// ends before a bookend, `InvalidShard` if the version does not have the header of a file or
+    /// the rows of a section pass 4294967295, `OutOfMemory` if an allocation fails. Any other error
+    /// is the reader's.
     pub fn from_reader<R: Read>(
         alloc: Global,
         reader: &mut R,
@@ -66,8 +67,9 @@ impl MDBMinimalShard {
             (λ before after e. ReaderHeaderFails before e) include_xorb (R.remaining reader.old)
             (R.remaining reader.new)) }
     {
-        MDBShardFileHeader::deserialize(alloc, reader)?;
-        read_sections::<OfReader, R>(alloc, reader, include_files, include_xorb)
+        let header = MDBShardFileHeader::deserialize(alloc, reader)?;
+        let version = header.format_version();
+        read_sections::<OfReader, R>(alloc, reader, version, include_files, include_xorb)
     }
 
     pub(super) fn of_views(files: Vec<MDBFileInfoView>, xorbs: Vec<MDBXorbInfoView>) -> Self

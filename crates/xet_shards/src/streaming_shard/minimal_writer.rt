@@ -29,6 +29,7 @@ use std::io::{ErrorKind, Write};
 use xet_base::error::{CoreError, Result};
 use xet_base::merklehash::HMACKey;
 use xet_records::file_structs::MDBFileInfoView;
+use xet_records::record_reader::FormatVersion;
 use xet_records::rows::ROW_SIZE;
 use xet_records::xorb_structs::MDBXorbInfoView;
 
@@ -123,7 +124,7 @@ impl MDBMinimalShard {
         ensures causes { IfErr result IsDeviceError }
     {
         let starts = starts_of(alloc, self.files())?;
-        MDBShardFileHeader::default().serialize(writer)?;
+        MDBShardFileHeader::of_version(form.version).serialize(writer)?;
         let files = write_files(alloc, writer, files, with_verification)?;
         let xorbs = write_xorbs(alloc, writer, self.xorbs(), &starts, filter)?;
         write_end(writer, &files, &xorbs, form)?;
@@ -143,11 +144,12 @@ fn all_have_verification(files: &[MDBFileInfoView]) -> bool
     true
 }
 
-// No tables, no key, the creation, and an expiry or 0.
+// Version 3, no tables, no key, the creation, and an expiry or 0.
 fn minimal_form(now: u64, expiry: Option<u64>) -> Form
     ensures { result ≡ minimal_form now expiry }
 {
     Form {
+        version: FormatVersion::V3,
         file_table: false,
         xorb_table: false,
         chunk_table: false,

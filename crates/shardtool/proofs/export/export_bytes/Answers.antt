@@ -2,7 +2,7 @@ use Rattle.std.proofs.Common.{◌≡◌, ap, ◌∙◌, subst}
 use Rattle.std.proofs.lemmas.Result.{err_from_is_err_and}
 use Rattle.xet_core_structures.specs.Source.{Source}
 use Rattle.xet_core_structures.specs.Ends.{HasEnds}
-use Rattle.shardtool.proofs.Exporting.{export_refused}
+use Rattle.shardtool.proofs.Exporting.{export_refused, export_made}
 use Rattle.shardtool.proofs.export.export_bytes.Goals as goal
 
 pub returns-in_err-export_as_keyed_shard : goal.returns-in_err-export_as_keyed_shard
@@ -12,3 +12,9 @@ returns-in_err-export_as_keyed_shard c =
     rw (p.1, p.2) (export_refused c.args.export.now c.args.bytes.now c.in_ok-info.info c.load_from_reader.new.source c.seek_to.new.self c.export_as_keyed_shard.new.source
     c.in_err-export_as_keyed_shard.field-0.0 (subst (λ bytes. HasEnds bytes c.in_ok-info.info) x c.in_ok-info.ensures.read.ends) (c.in_ok-info.ensures.read.bytes ∙ x)
     c.in_ok-seek_to.ensures c.in_err-export_as_keyed_shard.ensures.written)
+
+pub returns : goal.returns
+returns c =
+    let x : c.new-source.result.bytes.now ≡ c.args.bytes.now = ap (λ (s : Source). s.bytes) c.new-source.ensures in
+    export_made c.args.export.now c.args.bytes.now c.load_from_reader.new.source c.seek_to.new.self c.export_as_keyed_shard.new.source c.new-exported.result.items c.export_as_keyed_shard.new.writer.items c.in_ok-export_as_keyed_shard.field-0
+    (c.in_ok-info.ensures.read.bytes ∙ x) c.in_ok-seek_to.ensures c.new-exported.ensures.items c.in_ok-export_as_keyed_shard.ensures.written

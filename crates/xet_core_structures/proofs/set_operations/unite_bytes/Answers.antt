@@ -1,8 +1,14 @@
-use Rattle.std.proofs.Common.{◌≡◌, ap, ◌∙◌, subst}
+use Rattle.std.proofs.Common.{◌≡◌, inl, inr, ap, ◌∙◌, subst}
+use Rattle.std.proofs.lemmas.Result.{err_from_is_err_and}
 use Rattle.xet_base.specs.Source.{Source}
 use Rattle.xet_shards.specs.Ends.{HasEnds}
-use Rattle.xet_core_structures.proofs.Uniting.{bytes_united, bytes_refused}
+use Rattle.xet_core_structures.proofs.Uniting.{not_loaded, bytes_united, bytes_refused}
 use Rattle.xet_core_structures.proofs.set_operations.unite_bytes.Goals as goal
+
+pub returns-in_err-s2 : goal.returns-in_err-s2
+returns-in_err-s2 c =
+    let p = err_from_is_err_and c.from_residual-in_err-s2.result c.from_residual-in_err-s2.ensures.1 in
+    rw (p.1, p.2) (inr (inl (not_loaded c.args.second.now c.new-r2.result c.load_from_reader-2.new.source _ (ap (λ (s : Source). s.bytes) c.new-r2.ensures) c.in_err-s2.ensures.read)))
 
 pub returns-in-Ok : goal.returns-in-Ok
 returns-in-Ok c =

@@ -1,5 +1,8 @@
-use Rattle.xet_core_structures.proofs.ExportTrees.{export_of_join, exports_refused, before_timestamps, after_timestamps, split_at_timestamps, after_timestamps_size}
+use Rattle.xet_core_structures.proofs.ExportTrees.{export_of_bytes, export_of_join, exports_refused, before_timestamps, after_timestamps, split_at_timestamps, after_timestamps_size}
 use Rattle.xet_core_structures.proofs.laws.exports.exports_merge_to_the_export_of_the_join.Goals as goal
+
+pub returns-clause-exports : goal.returns-clause-exports
+returns-clause-exports c = λ s expiry form old new before after size shard are exports. export_of_bytes s expiry shard form old new before after size are exports
 
 pub returns-clause-bytes : goal.returns-clause-bytes
 returns-clause-bytes c = λ inputs plan key shard_at form_at join out joins exports writes. export_of_join plan key shard_at join joins inputs form_at exports out writes

@@ -1,6 +1,7 @@
 use Rattle.std.proofs.Common.{None, ◌∙◌}
 use Rattle.xet_base.specs.KeyedHash.{no_key}
 use Rattle.xet_core_structures.proofs.ExportTrees.{tree_of_exports, keyed_leaves, run_kept, run_from, same_chunks, answer_from, longer_run, longer_under, export_written}
+use Rattle.xet_records.specs.declared.record_reader.FormatVersion.TheVariants.{V3}
 use Rattle.xet_core_structures.proofs.MergeTrees.{one_layout}
 use Rattle.xet_core_structures.proofs.laws.exports.merges_keep_runs.Goals as goal
 
@@ -28,7 +29,7 @@ returns-clause-keyed c = λ inputs plan key shard_at form_at join out i q index 
 pub returns-clause-exported : goal.returns-clause-exported
 returns-clause-exported c = λ inputs plan shard_at expiry_at join out form old new before after size joins written writes left exports.
     let joined = one_layout inputs shard_at expiry_at plan join out joins.union written joins.agree joins.is_join writes in
-    export_written join None joined.1 form old new before after size (left ∙ joined.0) exports
+    export_written join None joined.1 form old new before after size (record { version = V3; files = tt; bytes_are = left ∙ joined.0 }) exports
 
 pub returns-clause-exported_runs : goal.returns-clause-exported_runs
 returns-clause-exported_runs c = longer_under

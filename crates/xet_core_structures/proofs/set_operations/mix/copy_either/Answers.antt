@@ -2,7 +2,7 @@ use Rattle.std.proofs.Common.{refl}
 use Rattle.std.proofs.lemmas.Result.{err_from_is_err_and}
 use Rattle.xet_core_structures.specs.MixedFiles.EitherFails.{second_fails}
 use Rattle.xet_core_structures.proofs.Mixing.{first_copied, second_copied, first_not_copied, second_not_copied}
-use Rattle.xet_core_structures.proofs.SideBySide.{taken_serves}
+use Rattle.xet_core_structures.proofs.OneSection.{taken_serves}
 use Rattle.xet_core_structures.proofs.set_operations.mix.copy_either.Goals as goal
 
 pub returns-in_err-copy_rows : goal.returns-in_err-copy_rows

@@ -5,12 +5,12 @@ use Rattle.std.proofs.lemmas.List.{length-append}
 use Rattle.std.proofs.lemmas.Result.{err_from_is_err_and}
 use Rattle.xet_base.specs.InputLaws.{Takes-nil, Takes-trans}
 use Rattle.xet_records.specs.FileRecord.{file_records, rows_after}
-use Rattle.xet_records.specs.FileRow.{header_row, segment_row, verification_row}
+use Rattle.xet_records.specs.FileRow.{header_row, segment_row, verification_row, metadata_row}
 use Rattle.xet_core_structures.specs.MixedFiles.EitherFails.{second_fails}
 use Rattle.xet_core_structures.proofs.Mixing.{first_not_copied}
 use Rattle.xet_core_structures.proofs.MixWriting.{part_fails, no_output, not_added, mix_written}
 use Rattle.xet_core_structures.proofs.Pairs.{refused_so}
-use Rattle.xet_core_structures.proofs.SideBySide.{taken_serves, serves_on, serves_same}
+use Rattle.xet_core_structures.proofs.OneSection.{taken_serves, serves_on, serves_same}
 use Rattle.xet_core_structures.proofs.UnitedFiles.{mix_rows}
 use Rattle.xet_core_structures.proofs.set_operations.mix.mix.Goals as goal
 
@@ -57,17 +57,58 @@ returns-in_err-copy_either-2 g c =
     (omega (arith, length-append (flat_map segment_row t.stored) (flat_map verification_row v.second.stored), t.size, v.second.size, c.verification_rows-2.ensures, c.metadata_rows-2.ensures))
     c.in_err-copy_either-2.ensures)
 
-pub returns-in-Err : goal.returns-in-Err
-returns-in-Err g c =
+pub returns-in_err-copy_either-3 : goal.returns-in_err-copy_either-3
+returns-in_err-copy_either-3 g c =
     let s = c.in_ok-size.ensures.copied.1.read in
     let t = c.in_ok-skip_rows.ensures.1 in
     let v = c.in_ok-copy_either.ensures in
     let m = c.in_ok-copy_either-2.ensures in
     let one = g.S.ShardSource.meaning in
     let two = g.T.ShardSource.meaning in
-    not_added c.args.first c.args.second _ _ (one c.copy_either-2.new.r1) _ (two c.copy_either-2.new.r2) _
-    (serves_on _ (one c.copy_segments.new.input) _ (taken_serves _ _ _ s.taken) (serves_on _ (one c.copy_either.new.r1) _ (taken_serves _ _ _ v.first.taken) (taken_serves _ _ _ m.first.taken)))
-    (serves_on _ (two c.skip_rows.new.input) _ (taken_serves _ _ _ t.taken) (serves_on _ (two c.copy_either.new.r2) _ (taken_serves _ _ _ v.second.taken) (taken_serves _ _ _ m.second.taken)))
+    let p = err_from_is_err_and c.from_residual-in_err-copy_either-3.result c.from_residual-in_err-copy_either-3.ensures.1 in
+    rw (p.1, p.2) (part_fails c.args.first c.args.second _ _ (one c.copy_either-2.new.r1) _ _ (two c.copy_either-2.new.r2) _
+    ((flat_map segment_row s.stored ++ flat_map verification_row v.first.stored) ++ flat_map metadata_row m.first.stored)
+    ((flat_map segment_row t.stored ++ flat_map verification_row v.second.stored) ++ flat_map metadata_row m.second.stored) _ _ _
+    (Takes-trans _ (one c.copy_either.new.r1) _ _ _ (Takes-trans _ (one c.copy_segments.new.input) _ _ _ s.taken v.first.taken) m.first.taken)
+    (Takes-trans _ (two c.copy_either.new.r2) _ _ _ (Takes-trans _ (two c.skip_rows.new.input) _ _ _ t.taken v.second.taken) m.second.taken)
+    (omega (
+      arith,
+      length-append (flat_map segment_row s.stored ++ flat_map verification_row v.first.stored) (flat_map metadata_row m.first.stored),
+      length-append (flat_map segment_row s.stored) (flat_map verification_row v.first.stored),
+      s.size,
+      v.first.size,
+      m.first.size,
+      c.verification_rows.ensures,
+      c.metadata_rows.ensures,
+      c.aux_rows.ensures,
+    ))
+    (omega (
+      arith,
+      length-append (flat_map segment_row t.stored ++ flat_map verification_row v.second.stored) (flat_map metadata_row m.second.stored),
+      length-append (flat_map segment_row t.stored) (flat_map verification_row v.second.stored),
+      t.size,
+      v.second.size,
+      m.second.size,
+      c.verification_rows-2.ensures,
+      c.metadata_rows-2.ensures,
+      c.aux_rows-2.ensures,
+    ))
+    c.in_err-copy_either-3.ensures)
+
+pub returns-in-Err : goal.returns-in-Err
+returns-in-Err g c =
+    let s = c.in_ok-size.ensures.copied.1.read in
+    let t = c.in_ok-skip_rows.ensures.1 in
+    let v = c.in_ok-copy_either.ensures in
+    let m = c.in_ok-copy_either-2.ensures in
+    let x = c.in_ok-copy_either-3.ensures in
+    let one = g.S.ShardSource.meaning in
+    let two = g.T.ShardSource.meaning in
+    not_added c.args.first c.args.second _ _ (one c.copy_either-3.new.r1) _ (two c.copy_either-3.new.r2) _
+    (serves_on _ (one c.copy_segments.new.input) _ (taken_serves _ _ _ s.taken) (serves_on _ (one c.copy_either.new.r1) _ (taken_serves _ _ _ v.first.taken)
+    (serves_on _ (one c.copy_either-2.new.r1) _ (taken_serves _ _ _ m.first.taken) (taken_serves _ _ _ x.first.taken))))
+    (serves_on _ (two c.skip_rows.new.input) _ (taken_serves _ _ _ t.taken) (serves_on _ (two c.copy_either.new.r2) _ (taken_serves _ _ _ v.second.taken)
+    (serves_on _ (two c.copy_either-2.new.r2) _ (taken_serves _ _ _ m.second.taken) (taken_serves _ _ _ x.second.taken))))
     c.in-Err.ensures.causes
 
 pub returns-then-not-has_room : goal.returns-then-not-has_room
@@ -76,7 +117,7 @@ returns-then-not-has_room g c =
     let full : 4294967295 < rows + (1 + c.rows_after-rows.result) = lt_of_not-le (λ fits. true≢false (sym (c.has_room.ensures.1 fits) ∙ c.if-not-has_room.true)) in
     refused_so file_records (Some c.args.first) (Some c.args.second) _ _ _ _ _ _
     (mix_rows c.args.first c.args.second _ _ _ _ c.requires.first c.requires.second c.requires.hash c.requires.count rows (1 + c.rows_after-rows.result)
-    (ap (λ n. 1 + n) (c.rows_after-rows.ensures.rows ∙ ap rows_after c.header_of_mix-header.ensures)) full) c.refuse.result c.refuse.ensures
+    (ap (λ n. 1 + n) (c.rows_after-rows.ensures.rows ∙ ap rows_after c.mixed-header.ensures)) full) c.refuse.result c.refuse.ensures
 
 pub returns-in-Ok : goal.returns-in-Ok
 returns-in-Ok g c =
@@ -84,11 +125,11 @@ returns-in-Ok g c =
     let two = g.T.ShardSource.meaning in
     let contents = g.W.Write.contents in
     let room = c.has_room.ensures.0 c.if-not-has_room.false in
-    mix_written c.args.first c.args.second (one c.args.r1.now) (one c.copy_segments.new.input) (one c.copy_either.new.r1) (one c.copy_either-2.new.r1)
-    (two c.args.r2.now) (two c.skip_rows.new.input) (two c.copy_either.new.r2) (two c.copy_either-2.new.r2)
-    (contents c.args.out.now) (contents c.write_row.new.writer) (contents c.copy_segments.new.writer) (contents c.copy_either.new.out) (contents c.copy_either-2.new.out)
-    c.in_ok-size.ensures.copied.0 c.in_ok-skip_rows.ensures.0 c.in_ok-size.size c.args.written.now.table.rows (1 + c.rows_after-rows.result) _ _ _ _ c.args.written.now c.add.new.self
-    c.requires.first c.requires.second c.requires.hash c.requires.count (ap (λ n. 1 + n) (c.rows_after-rows.ensures.rows ∙ ap rows_after c.header_of_mix-header.ensures)) room
-    (subst (λ h. Appends (contents c.args.out.now) (contents c.write_row.new.writer) (header_row h)) c.header_of_mix-header.ensures c.in_ok-write_row.ensures.appended)
+    mix_written c.args.first c.args.second (one c.args.r1.now) (one c.copy_segments.new.input) (one c.copy_either.new.r1) (one c.copy_either-2.new.r1) (one c.copy_either-3.new.r1)
+    (two c.args.r2.now) (two c.skip_rows.new.input) (two c.copy_either.new.r2) (two c.copy_either-2.new.r2) (two c.copy_either-3.new.r2)
+    (contents c.args.out.now) (contents c.write_row.new.writer) (contents c.copy_segments.new.writer) (contents c.copy_either.new.out) (contents c.copy_either-2.new.out) (contents c.copy_either-3.new.out)
+    c.in_ok-size.ensures.copied.0 c.in_ok-skip_rows.ensures.0 c.in_ok-size.size c.args.written.now.table.rows (1 + c.rows_after-rows.result) _ _ _ _ _ _ c.args.written.now c.add.new.self
+    c.requires.first c.requires.second c.requires.hash c.requires.count (ap (λ n. 1 + n) (c.rows_after-rows.ensures.rows ∙ ap rows_after c.mixed-header.ensures)) room
+    (subst (λ h. Appends (contents c.args.out.now) (contents c.write_row.new.writer) (header_row h)) c.mixed-header.ensures c.in_ok-write_row.ensures.appended)
     c.in_ok-size.ensures.copied.1 c.in_ok-size.ensures.copied.2 c.in_ok-skip_rows.ensures.1 c.verification_rows.ensures c.verification_rows-2.ensures c.in_ok-copy_either.ensures
-    c.metadata_rows.ensures c.metadata_rows-2.ensures c.in_ok-copy_either-2.ensures c.in-Ok.ensures.written
+    c.metadata_rows.ensures c.metadata_rows-2.ensures c.in_ok-copy_either-2.ensures c.aux_rows.ensures c.aux_rows-2.ensures c.in_ok-copy_either-3.ensures c.in-Ok.ensures.written

@@ -2,7 +2,7 @@ use Rattle.std.proofs.Common.{Some, ◌+◌, ◌<◌, true≢false, sym, ◌∙�
 use Rattle.std.proofs.Math.Nat.{lt_of_not-le}
 use Rattle.std.proofs.lemmas.Result.{err_from_is_err_and}
 use Rattle.xet_core_structures.proofs.Pairs.{refused_so, refused_rows, copy_failed, second_not_past}
-use Rattle.xet_core_structures.proofs.SideBySide.{taken_serves}
+use Rattle.xet_core_structures.proofs.OneSection.{taken_serves}
 use Rattle.xet_core_structures.proofs.set_operations.record_operation.keep.Goals as goal
 
 pub returns-then-not-has_room : goal.returns-then-not-has_room

@@ -1,6 +1,6 @@
 use Rattle.std.proofs.lemmas.Result.{err_from_is_err_and}
 use Rattle.xet_core_structures.proofs.Pairs.{first_not_past, second_not_past}
-use Rattle.xet_core_structures.proofs.SideBySide.{passed_serves}
+use Rattle.xet_core_structures.proofs.OneSection.{passed_serves}
 use Rattle.xet_core_structures.proofs.set_operations.record_operation.pass_both.Goals as goal
 
 pub returns-in_err-pass : goal.returns-in_err-pass

@@ -9,7 +9,7 @@ pub returns-in_err-seek : goal.returns-in_err-seek
 returns-in_err-seek g c =
     let one = g.S.ShardSource.meaning in
     let p = err_from_is_err_and c.from_residual.result c.from_residual.ensures.1 in
-    rw (p.1, p.2) (first_not_moved g.Sec.Record.SectionRecord.kind g.Op.RecordOperation.makes (one c.args.r1.now) (g.T.ShardSource.meaning c.args.r2.now) (one c.seek.new.source) c.args.at_1 c.args.at_2 _
+    rw (p.1, p.2) (first_not_moved g.Sec.Record.SectionRecord.kind c.args.at_1.version c.args.at_2.version g.Op.RecordOperation.makes (one c.args.r1.now) (g.T.ShardSource.meaning c.args.r2.now) (one c.seek.new.source) c.args.at_1.offset c.args.at_2.offset _
     c.in_err-seek.ensures.bytes c.in_err-seek.ensures.causes)
 
 pub returns-in_err-seek-2 : goal.returns-in_err-seek-2
@@ -17,7 +17,7 @@ returns-in_err-seek-2 g c =
     let one = g.S.ShardSource.meaning in
     let two = g.T.ShardSource.meaning in
     let p = err_from_is_err_and c.from_residual-in_err-seek-2.result c.from_residual-in_err-seek-2.ensures.1 in
-    rw (p.1, p.2) (second_not_moved g.Sec.Record.SectionRecord.kind g.Op.RecordOperation.makes (one c.args.r1.now) (two c.args.r2.now) (two c.seek-2.new.source) c.args.at_1 c.args.at_2 _ (one c.seek.new.source)
+    rw (p.1, p.2) (second_not_moved g.Sec.Record.SectionRecord.kind c.args.at_1.version c.args.at_2.version g.Op.RecordOperation.makes (one c.args.r1.now) (two c.args.r2.now) (two c.seek-2.new.source) c.args.at_1.offset c.args.at_2.offset _ (one c.seek.new.source)
     c.in_ok-seek.ensures.moved c.in_err-seek-2.ensures.bytes c.in_err-seek-2.ensures.causes)
 
 pub returns : goal.returns
@@ -27,6 +27,6 @@ returns g c =
     let new_1 = g.S.ShardSource.meaning c.combine_sections.new.r1 in
     let new_2 = g.T.ShardSource.meaning c.combine_sections.new.r2 in
     subst (λ p. p) (λ i. MatchResult c.combine_sections.result
-    (λ written. CombinesSections K makes (c.in_ok-seek.ensures.moved i) new_1 (c.in_ok-seek-2.ensures.moved i) new_2 (g.Sec.WrittenSection.has_written written) (g.W.Write.contents c.args.out.now)
+    (λ written. CombinesSections K c.args.at_1.version c.args.at_2.version makes (c.in_ok-seek.ensures.moved i) new_1 (c.in_ok-seek-2.ensures.moved i) new_2 (g.Sec.WrittenSection.has_written written) (g.W.Write.contents c.args.out.now)
     (g.W.Write.contents c.combine_sections.new.out))
-    (SectionsFail K makes (c.in_ok-seek.ensures.moved i) new_1 (c.in_ok-seek-2.ensures.moved i) new_2)) c.combine_sections.ensures
+    (SectionsFail K c.args.at_1.version c.args.at_2.version makes (c.in_ok-seek.ensures.moved i) new_1 (c.in_ok-seek-2.ensures.moved i) new_2)) c.combine_sections.ensures

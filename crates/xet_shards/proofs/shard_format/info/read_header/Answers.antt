@@ -6,7 +6,7 @@ use Rattle.xet_shards.proofs.shard_format.info.read_header.Goals as goal
 pub returns-clause-read : goal.returns-clause-read
 returns-clause-read g c =
     IfOk-weaker c.after_tag.result _ _
-    (λ h known. read_in_two _ (g.S.ShardSource.meaning c.read_full.new.source) _ _ _ h c.in_ok-check_tag.ensures.ok known.2 known.1 c.in_ok-read_full.ensures c.in_ok-read_full-2.ensures)
+    (λ h known. read_in_two _ (g.S.ShardSource.meaning c.read_full.new.source) _ _ _ h c.in_ok-check_tag.ensures.ok known.2 c.in_ok-read_full.ensures c.in_ok-read_full-2.ensures)
     c.after_tag.ensures.ok
 
 pub returns-clause-refused : goal.returns-clause-refused

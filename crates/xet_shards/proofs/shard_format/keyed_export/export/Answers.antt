@@ -1,6 +1,8 @@
 use Rattle.std.proofs.Common.{refl, subst, arith}
 use Rattle.std.proofs.lemmas.Result.{err_from_is_err_and}
 use Rattle.std.specs.Io.KnownBytes.{Appends}
+use Rattle.xet_records.specs.Version.{version_of}
+use Rattle.xet_records.specs.declared.record_reader.FormatVersion.TheVariants.{V3}
 use Rattle.xet_records.specs.FileRecord.{file_records}
 use Rattle.xet_records.specs.XorbRecord.{xorb_records}
 use Rattle.xet_shards.specs.Layout.{if_in, shard_header_bytes}
@@ -20,14 +22,15 @@ returns-in_err-files g c =
     let source = g.S.ShardSource.meaning in
     let read = c.in_ok-read_header.ensures in
     let p = err_from_is_err_and c.from_residual-in_err-files.result c.from_residual-in_err-files.ensures.1 in
-    rw (p.1, p.2) (files_not_exported (source c.args.source.now) (source c.read_header.new.source) c.in_ok-read_header.field-0 read.read read.known.1 _ _ c.in_err-files.ensures)
+    rw (p.1, p.2) (files_not_exported (source c.args.source.now) (source c.read_header.new.source) c.in_ok-read_header.field-0 read.read read.known.1 _ _ (rw c.format_version-version.ensures at c.in_err-files.ensures))
 
 pub returns-in_err-xorbs : goal.returns-in_err-xorbs
 returns-in_err-xorbs g c =
     let source = g.S.ShardSource.meaning in
     let read = c.in_ok-read_header.ensures in
     let form = c.args.form.now in
-    let files = section_exported file_records (exported_file form) (if_in form.file_table) (files_exported form) _ _ _ _ _ c.in_ok-files.ensures in
+    let files = section_exported file_records (version_of c.in_ok-read_header.field-0.version) (exported_file form) (if_in form.file_table) (files_exported form) _ _ _ _ _
+    (rw c.format_version-version.ensures at c.in_ok-files.ensures) in
     let p = err_from_is_err_and c.from_residual-in_err-xorbs.result c.from_residual-in_err-xorbs.ensures.1 in
     rw (p.1, p.2) (xorbs_not_exported (source c.args.source.now) (source c.read_header.new.source) c.in_ok-read_header.field-0 read.read read.known.1
     (source c.export_section.new.source) files.0 files.1 _ _ c.in_err-xorbs.ensures)
@@ -37,8 +40,9 @@ returns-in_err-footer g c =
     let source = g.S.ShardSource.meaning in
     let read = c.in_ok-read_header.ensures in
     let form = c.args.form.now in
-    let files = section_exported file_records (exported_file form) (if_in form.file_table) (files_exported form) _ _ _ _ _ c.in_ok-files.ensures in
-    let xorbs = section_exported xorb_records (exported_xorb form) (keyed_xorbs form.key) (xorbs_exported form) _ _ _ _ _ c.in_ok-xorbs.ensures in
+    let files = section_exported file_records (version_of c.in_ok-read_header.field-0.version) (exported_file form) (if_in form.file_table) (files_exported form) _ _ _ _ _
+    (rw c.format_version-version.ensures at c.in_ok-files.ensures) in
+    let xorbs = section_exported xorb_records V3 (exported_xorb form) (keyed_xorbs form.key) (xorbs_exported form) _ _ _ _ _ c.in_ok-xorbs.ensures in
     let p = err_from_is_err_and c.from_residual-in_err-footer.result c.from_residual-in_err-footer.ensures.1 in
     rw (p.1, p.2) (end_not_written (source c.args.source.now) (source c.read_header.new.source) c.in_ok-read_header.field-0 read.read read.known.1
     (source c.export_section.new.source) files.0 files.1 (source c.export_section-2.new.source) xorbs.0 xorbs.1 form _ c.in_err-footer.ensures.causes)
@@ -48,8 +52,9 @@ overflow_add-size g c =
     let source = g.S.ShardSource.meaning in
     let read = c.in_ok-read_header.ensures in
     let form = c.args.form.now in
-    let files = section_exported file_records (exported_file form) (if_in form.file_table) (files_exported form) _ _ _ _ _ c.in_ok-files.ensures in
-    let xorbs = section_exported xorb_records (exported_xorb form) (keyed_xorbs form.key) (xorbs_exported form) _ _ _ _ _ c.in_ok-xorbs.ensures in
+    let files = section_exported file_records (version_of c.in_ok-read_header.field-0.version) (exported_file form) (if_in form.file_table) (files_exported form) _ _ _ _ _
+    (rw c.format_version-version.ensures at c.in_ok-files.ensures) in
+    let xorbs = section_exported xorb_records V3 (exported_xorb form) (keyed_xorbs form.key) (xorbs_exported form) _ _ _ _ _ c.in_ok-xorbs.ensures in
     let fit = widths_out (source c.args.source.now) (source c.read_header.new.source) c.in_ok-read_header.field-0 read.read read.known.1
     (source c.export_section.new.source) files.0 files.1 (source c.export_section-2.new.source) xorbs.0 xorbs.1 form in
     let footer = c.in_ok-footer.ensures.footer (if_in form.file_table files.0) (keyed_xorbs form.key xorbs.0) fit files.2 xorbs.2 in
@@ -63,12 +68,13 @@ returns g c =
     let contents = g.W.Write.contents in
     let read = c.in_ok-read_header.ensures in
     let form = c.args.form.now in
-    let files = section_exported file_records (exported_file form) (if_in form.file_table) (files_exported form) _ _ _ _ _ c.in_ok-files.ensures in
-    let xorbs = section_exported xorb_records (exported_xorb form) (keyed_xorbs form.key) (xorbs_exported form) _ _ _ _ _ c.in_ok-xorbs.ensures in
+    let files = section_exported file_records (version_of c.in_ok-read_header.field-0.version) (exported_file form) (if_in form.file_table) (files_exported form) _ _ _ _ _
+    (rw c.format_version-version.ensures at c.in_ok-files.ensures) in
+    let xorbs = section_exported xorb_records V3 (exported_xorb form) (keyed_xorbs form.key) (xorbs_exported form) _ _ _ _ _ c.in_ok-xorbs.ensures in
     let fit = widths_out (source c.args.source.now) (source c.read_header.new.source) c.in_ok-read_header.field-0 read.read read.known.1
     (source c.export_section.new.source) files.0 files.1 (source c.export_section-2.new.source) xorbs.0 xorbs.1 form in
     let footer = c.in_ok-footer.ensures.footer (if_in form.file_table files.0) (keyed_xorbs form.key xorbs.0) fit files.2 xorbs.2 in
-    let header = subst (λ h. Appends (contents c.args.writer.now) (contents c.serialize.new.writer) (shard_header_bytes h)) c.default.ensures c.in_ok-serialize.ensures.bytes in
+    let header = subst (λ h. Appends (contents c.args.writer.now) (contents c.serialize.new.writer) (shard_header_bytes h)) c.of_version.ensures c.in_ok-serialize.ensures.bytes in
     all_exported (source c.args.source.now) (source c.read_header.new.source) c.in_ok-read_header.field-0 read.read read.known.1
-    (source c.export_section.new.source) files.0 files.1 (source c.export_section-2.new.source) xorbs.0 xorbs.1 form c.in_ok-footer.footer _ (contents c.serialize.new.writer) (contents c.export_section.new.writer)
+    (source c.export_section.new.source) files.0 files.1 (source c.export_section-2.new.source) xorbs.0 xorbs.1 form c.requires c.in_ok-footer.footer _ (contents c.serialize.new.writer) (contents c.export_section.new.writer)
     (contents c.export_section-2.new.writer) _ _ footer c.in_ok-footer.ensures.widths refl header files.3 xorbs.3 (c.in_ok-footer.ensures.bytes (if_in form.file_table files.0) (keyed_xorbs form.key xorbs.0) fit files.2 xorbs.2)

@@ -1,7 +1,10 @@
-use Rattle.std.proofs.Common.{rules, subst, arith}
-use Rattle.std.proofs.KnownBytes.{Appends-trans}
+use Rattle.std.proofs.Common.{[], rules, subst, arith}
+use Rattle.std.proofs.lemmas.List.Elements.{All-nil}
+use Rattle.std.proofs.KnownBytes.{Appends-nil, Appends-trans}
+use Rattle.xet_records.specs.RecordKind.{in_version}
+use Rattle.xet_records.proofs.RecordKinds.{laws_in, stored_ever}
 use Rattle.xet_base.specs.Source.{Takes}
-use Rattle.xet_base.specs.InputLaws.{Takes-trans}
+use Rattle.xet_base.specs.InputLaws.{Takes-nil, Takes-trans}
 use Rattle.xet_records.specs.Reading.{ReadsBookend}
 use Rattle.xet_records.specs.ViewReading.{ReadsNextView}
 use Rattle.xet_shards.specs.Section.{section_bytes}
@@ -14,16 +17,25 @@ export-requires g c =
     let now = g.S.ShardSource.meaning c.loop-written.source in
     let new = g.S.ShardSource.meaning c.read.new.source in
     let before = c.loop-written.invariant in
-    let next = subst (ReadsNextView kind g.E.ExportedRecord.stored (Takes now new) c.loop-written.rows_left c.read.new.left) c.in-Some.is c.in_ok-next.ensures in
+    let next = subst (ReadsNextView (in_version kind c.args.version) g.E.ExportedRecord.stored (Takes now new) c.loop-written.rows_left c.read.new.left) c.in-Some.is c.in_ok-next.ensures in
     record {
-      stored = next.is_stored;
+      stored = stored_ever kind c.args.version _ next.is_stored;
       rows = omega (
         arith,
-        next_fits kind g.met.E.ExportedRecord.laws _ _ _ _ _ (g.E.ExportedRecord.stored c.in-Some.next) before next,
+        next_fits (in_version kind c.args.version) (laws_in kind g.met.E.ExportedRecord.laws c.args.version) _ _ _ _ _ (g.E.ExportedRecord.stored c.in-Some.next) before next,
         g.met.E.Section.WrittenSection.counts_rows _ _ before.made.collected,
         fewer_rows kind (g.E.ExportedRecord.exports c.args.form.now) (g.met.E.ExportedRecord.no_more_rows c.args.form.now) before.stored,
       );
     }
+
+pub loop-written-init : goal.loop-written-init
+loop-written-init g c = record {
+  stored = [];
+  are_stored = All-nil _;
+  taken = Takes-nil _;
+  rows = omega (arith, c.from-rows_left.ensures);
+  made = record { collected = c.new-written.ensures; bytes = Appends-nil _ };
+}
 
 pub loop-written-preserved : goal.loop-written-preserved
 loop-written-preserved g c =
@@ -31,15 +43,15 @@ loop-written-preserved g c =
     let now = g.S.ShardSource.meaning c.loop-written.source in
     let new = g.S.ShardSource.meaning c.read.new.source in
     let before = c.loop-written.invariant in
-    let next = subst (ReadsNextView kind g.E.ExportedRecord.stored (Takes now new) c.loop-written.rows_left c.read.new.left) c.in-Some.is c.in_ok-next.ensures in
+    let next = subst (ReadsNextView (in_version kind c.args.version) g.E.ExportedRecord.stored (Takes now new) c.loop-written.rows_left c.read.new.left) c.in-Some.is c.in_ok-next.ensures in
     let wrote = c.in_ok-export.ensures in
-    one_exported kind g.met.E.ExportedRecord.laws _ _ _ _ _ _ _ (g.E.ExportedRecord.stored c.in-Some.next) (Takes-trans (g.S.ShardSource.meaning c.args.source.now) now new) before next
+    one_exported (in_version kind c.args.version) (laws_in kind g.met.E.ExportedRecord.laws c.args.version) _ _ _ _ _ _ _ (g.E.ExportedRecord.stored c.in-Some.next) (Takes-trans (g.S.ShardSource.meaning c.args.source.now) now new) before next
     (more_written kind (g.E.ExportedRecord.exports c.args.form.now) _ _ _ (g.W.Write.contents c.loop-written.writer) _ before.stored _ before.made wrote.written wrote.appended)
 
 pub returns-in_err-next : goal.returns-in_err-next
 returns-in_err-next g c =
     let source = g.S.ShardSource.meaning in
-    search (rules, not_passed g.E.Section.Record.SectionRecord.kind g.met.E.ExportedRecord.laws _ (source c.loop-written.source) _ _ c.loop-written.invariant _ _ c.in_err-next.ensures)
+    search (rules, not_passed (in_version g.E.Section.Record.SectionRecord.kind c.args.version) (laws_in g.E.Section.Record.SectionRecord.kind g.met.E.ExportedRecord.laws c.args.version) _ (source c.loop-written.source) _ _ c.loop-written.invariant _ _ c.in_err-next.ensures)
 
 pub returns : goal.returns
 unfolding section_bytes
@@ -48,10 +60,10 @@ returns g c =
     let now = g.S.ShardSource.meaning c.loop-written.source in
     let new = g.S.ShardSource.meaning c.read.new.source in
     let before = c.loop-written.invariant in
-    let last : ReadsBookend kind (Takes now new) = search rules in
+    let last : ReadsBookend (in_version kind c.args.version) (Takes now new) = search rules in
     record {
       stored = before.stored;
-      passed = all_passed kind g.met.E.ExportedRecord.laws _ now _ _ before new last;
+      passed = all_passed (in_version kind c.args.version) (laws_in kind g.met.E.ExportedRecord.laws c.args.version) _ now _ _ before new last;
       collected = before.made.collected;
       written = Appends-trans _ (g.W.Write.contents c.loop-written.writer) _ _ _ before.made.bytes c.in_ok-write_bookend.ensures.bytes;
     }

@@ -1,4 +1,5 @@
 use Rattle.std.proofs.Common.{flat_map}
+use Rattle.xet_records.specs.RecordKind.{in_version}
 use Rattle.xet_base.specs.Source.{Takes}
 use Rattle.xet_shards.specs.KeyedExport.{HasExported}
 use Rattle.xet_shards.proofs.KeyedExport.{SectionWritten}
@@ -7,7 +8,7 @@ use Rattle.xet_shards.proofs.shard_format.keyed_export.export_section.Given as g
 abbrev pub invariant-loop-written : goal.invariant-loop-written
 invariant-loop-written g l =
     let kind = g.E.Section.Record.SectionRecord.kind in
-    HasExported kind (Takes (g.S.ShardSource.meaning l.fn.source) (g.S.ShardSource.meaning l.source))
+    HasExported (in_version kind l.version) (Takes (g.S.ShardSource.meaning l.fn.source) (g.S.ShardSource.meaning l.source))
     (λ stored. SectionWritten kind (g.E.Section.WrittenSection.has_written l.written) (g.W.Write.contents l.fn.writer) (g.W.Write.contents l.writer) (flat_map (g.E.ExportedRecord.exports l.form) stored))
     l.rows_left
 

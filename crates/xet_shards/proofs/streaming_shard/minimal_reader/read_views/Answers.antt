@@ -1,5 +1,7 @@
 use Rattle.std.proofs.Common.{[], ◌∷◌, ◌++◌, subst, arith}
 use Rattle.std.proofs.lemmas.Result.{err_from_is_err_and}
+use Rattle.xet_records.specs.RecordKind.{in_version}
+use Rattle.xet_records.proofs.RecordKinds.{laws_in}
 use Rattle.xet_records.specs.Reading.Stops.{no_header}
 use Rattle.xet_records.specs.ViewReading.{ReadsNextView}
 use Rattle.xet_shards.proofs.MinimalReading.{more_views, kept_more}
@@ -8,10 +10,10 @@ use Rattle.xet_shards.proofs.streaming_shard.minimal_reader.read_views.Goals as 
 pub loop-views-preserved : goal.loop-views-preserved
 loop-views-preserved g c =
     let reads = g.I.ByteInput.reads c.loop-views.input c.read_view.new.input in
-    let next = subst (ReadsNextView g.R.SectionRecord.kind g.V.RecordView.shown reads c.loop-views.rows_left c.read_view.new.rows_left) c.in-Some.is c.in_ok-view.ensures in
+    let next = subst (ReadsNextView (in_version g.R.SectionRecord.kind c.args.version) g.V.RecordView.shown reads c.loop-views.rows_left c.read_view.new.rows_left) c.in-Some.is c.in_ok-view.ensures in
     let inv = c.loop-views.invariant in (
       inv.0 ++ c.in-Some.view ∷ [],
-      more_views g.R.SectionRecord.kind c.laws.ensures g.V.RecordView.shown _ _ _ _ _ _ c.in-Some.view (g.met.I.ByteInput.joins _ c.loop-views.input _) inv.1 next,
+      more_views (in_version g.R.SectionRecord.kind c.args.version) (laws_in g.R.SectionRecord.kind c.laws.ensures c.args.version) g.V.RecordView.shown _ _ _ _ _ _ c.in-Some.view (g.met.I.ByteInput.joins _ c.loop-views.input _) inv.1 next,
       kept_more c.args.is_kept inv.0 c.in-Some.view _ _ inv.2 c.in_ok-push_if.ensures.ok,
     )
 
@@ -24,13 +26,13 @@ returns-in_err-view g c =
 pub returns-in_err-push_if : goal.returns-in_err-push_if
 returns-in_err-push_if g c =
     let reads = g.I.ByteInput.reads c.loop-views.input c.read_view.new.input in
-    let next = subst (ReadsNextView g.R.SectionRecord.kind g.V.RecordView.shown reads c.loop-views.rows_left c.read_view.new.rows_left) c.in-Some.is c.in_ok-view.ensures in
+    let next = subst (ReadsNextView (in_version g.R.SectionRecord.kind c.args.version) g.V.RecordView.shown reads c.loop-views.rows_left c.read_view.new.rows_left) c.in-Some.is c.in_ok-view.ensures in
     let inv = c.loop-views.invariant in
     let p = err_from_is_err_and c.from_residual-in_err-push_if.result c.from_residual-in_err-push_if.ensures.1 in
     rw (p.1, p.2) (record {
       mid = c.read_view.new.input;
       views = inv.0 ++ c.in-Some.view ∷ [];
       left = c.read_view.new.rows_left;
-      records = more_views g.R.SectionRecord.kind c.laws.ensures g.V.RecordView.shown _ _ _ _ _ _ c.in-Some.view (g.met.I.ByteInput.joins _ c.loop-views.input _) inv.1 next;
+      records = more_views (in_version g.R.SectionRecord.kind c.args.version) (laws_in g.R.SectionRecord.kind c.laws.ensures c.args.version) g.V.RecordView.shown _ _ _ _ _ _ c.in-Some.view (g.met.I.ByteInput.joins _ c.loop-views.input _) inv.1 next;
       stops = no_header (g.met.I.ByteInput.lacks_memory _ _ [] 48 _ (g.met.I.ByteInput.reads_nothing _) (omega arith) (omega arith) c.in_err-push_if.ensures.causes);
     })

@@ -34,4 +34,5 @@ returns-clause-ok c =
       segments = (segments ∙ map-id _) i;
       verification = verification i;
       metadata_ext = c.metadata_ext.ensures i;
+      aux_ext = c.aux_ext.ensures i;
     }

@@ -1,6 +1,6 @@
 use Rattle.std.proofs.Common.{refl}
 use Rattle.std.specs.FinMap.{entries, values}
-use Rattle.xet_shards.specs.Layout.{plain_form}
+use Rattle.xet_shards.specs.Layout.{plain_form_in}
 use Rattle.xet_shards.proofs.InForm.{shard_in_form}
 use Rattle.xet_shards.proofs.WrittenQueries.{query_in_form, query_costs_in_form}
 use Rattle.xet_shards.proofs.Xorbs.{xorb_values}
@@ -20,10 +20,10 @@ returns-clause-in_form_costs g c files xorbs form is with_table =
 
 pub returns-clause-written : goal.returns-clause-written
 returns-clause-written g c s expiry written =
-    returns-clause-in_form g c (values s.files) (values s.xorbs) (plain_form expiry)
+    returns-clause-in_form g c (values s.files) (values s.xorbs) (plain_form_in written.version expiry)
     (shard_in_form written) refl (xorb_values (entries s.xorbs) written.shard.xorbs)
 
 pub returns-clause-costs : goal.returns-clause-costs
 returns-clause-costs g c s expiry written =
-    returns-clause-in_form_costs g c (values s.files) (values s.xorbs) (plain_form expiry)
+    returns-clause-in_form_costs g c (values s.files) (values s.xorbs) (plain_form_in written.version expiry)
     (shard_in_form written) refl

@@ -1,5 +1,5 @@
 use Rattle.std.specs.FinMap.{values}
-use Rattle.xet_shards.specs.Layout.{plain_form}
+use Rattle.xet_shards.specs.Layout.{plain_form_in}
 use Rattle.xet_shards.proofs.InForm.{shard_in_form}
 use Rattle.xet_shards.proofs.WrittenRuns.{direct_in_form, direct_at_bookend, xorb_of_shard}
 use Rattle.xet_shards.proofs.shard_format.info.MDBShardInfo.chunk_hash_dedup_query_direct.Goals as goal
@@ -20,5 +20,5 @@ returns-clause-bookend g c files xorbs form is at =
 
 pub returns-clause-written : goal.returns-clause-written
 returns-clause-written g c s expiry xorb written at =
-    returns-clause-in_form g c (values s.files) (values s.xorbs) (plain_form expiry) xorb
+    returns-clause-in_form g c (values s.files) (values s.xorbs) (plain_form_in written.version expiry) xorb
     (shard_in_form written) at (xorb_of_shard s written.shard c.args.xorb_row xorb at)

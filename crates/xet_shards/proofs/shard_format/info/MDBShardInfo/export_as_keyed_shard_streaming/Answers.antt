@@ -2,6 +2,7 @@ use Rattle.std.proofs.Common.{rules, ◌≡◌, ◌+◌, subst}
 use Rattle.std.specs.Prelude.{MatchResult}
 use Rattle.xet_base.specs.declared.error.CoreError.{CoreError}
 use Rattle.xet_base.specs.declared.error.CoreError.TheVariants.{InvalidArguments}
+use Rattle.xet_records.specs.declared.record_reader.FormatVersion.TheVariants.{V3}
 use Rattle.xet_shards.specs.KeyedExport.{Exports, ExportFails, ExpiresTooLate}
 use Rattle.xet_shards.proofs.KeyedExport.{or_fails}
 use Rattle.xet_shards.proofs.shard_format.info.MDBShardInfo.export_as_keyed_shard_streaming.Goals as goal
@@ -17,6 +18,7 @@ returns-clause-written g c =
     (λ expiry. MatchResult c.export.result
     (Exports
     (record {
+      version = V3;
       file_table = c.args.include_file_info;
       xorb_table = c.args.include_xorb_lookup_table;
       chunk_table = c.args.include_chunk_lookup_table;

@@ -7,17 +7,17 @@ use Rattle.xet_shards.proofs.shard_format.info.MDBShardInfo.filter_cas_chunks_fo
 
 pub returns-in_err-shard : goal.returns-in_err-shard
 returns-in_err-shard g c =
-    let known = c.in_ok-read_header.ensures in
+    let known = c.in_ok-header.ensures in
     let p = err_from_is_err_and c.from_residual-in_err-shard.result c.from_residual-in_err-shard.ensures.1 in
     rw (p.1, p.2) (inl (failure_seen g.S.ShardSource.meaning Takes ReadFails (PartFails HasUnsupportedHeader EndsInHeader 48) true c.args.source.now c.read_sections.new.input
-    c.read_header.new.source _ (record { header = c.in_ok-read_header.field-0; tag = known.known.0; version = known.known.1; taken = known.read }) c.in_err-shard.ensures))
+    c.read_header.new.source _ (record { header = c.in_ok-header.header; tag = known.known.0; version = known.known.1; taken = known.read }) (rw c.format_version-version.ensures at c.in_err-shard.ensures)))
 
 pub returns : goal.returns
 returns g c =
-    let known = c.in_ok-read_header.ensures in
+    let known = c.in_ok-header.ensures in
     let meaning = g.S.ShardSource.meaning in
     let m = c.in_ok-shard.shard in
     eligible_read (meaning c.args.source.now) (meaning c.read_sections.new.input) m c.global_dedup_eligible_chunks.result
     (minimal_seen meaning Takes true true c.args.source.now c.read_sections.new.input m
-    (c.read_header.new.source, record { header = c.in_ok-read_header.field-0; tag = known.known.0; version = known.known.1; taken = known.read }, c.in_ok-shard.ensures))
+    (c.read_header.new.source, record { header = c.in_ok-header.header; tag = known.known.0; version = known.known.1; taken = known.read }, rw c.format_version-version.ensures at c.in_ok-shard.ensures))
     c.global_dedup_eligible_chunks.ensures.ok c.global_dedup_eligible_chunks.ensures.causes

@@ -3,8 +3,9 @@ use Rattle.std.proofs.lemmas.List.{take_more, take_all}
 use Rattle.std.proofs.lemmas.List.Elements.{Contains-get_or}
 use Rattle.std.proofs.lemmas.Bool.{both_ways}
 use Rattle.xet_base.proofs.HashOrder.{same_hash}
-use Rattle.xet_records.specs.FileRecord.{file_records}
-use Rattle.xet_records.proofs.RecordKinds.{file_laws}
+use Rattle.xet_records.specs.Version.{version_of}
+use Rattle.xet_shards.specs.SectionReading.{files_of}
+use Rattle.xet_shards.proofs.Sections.{files_laws}
 use Rattle.xet_shards.specs.Lookup.{Visits, Missed, LookupAnswer}
 use Rattle.xet_shards.proofs.Lookups.{visits_read, visits_read_not, missed_more, refusal_after}
 use Rattle.xet_shards.proofs.shard_format.info.MDBShardInfo.first_with_hash.Goals as goal
@@ -17,7 +18,7 @@ returns-in_err-file_info-clause-refused g c =
       rules,
       get_or rows i 0,
       Contains-get_or rows i 0 c.loop-row-test.true,
-      refusal_after file_records file_laws c.args.self.now.metadata.file_info_offset (get_or rows i 0) (g.S.ShardSource.meaning c.args.source.now) (g.S.ShardSource.meaning c.loop-row.source)
+      refusal_after (files_of c.args.self.now) (files_laws (version_of c.args.self.now.header.version)) c.args.self.now.metadata.file_info_offset (get_or rows i 0) (g.S.ShardSource.meaning c.args.source.now) (g.S.ShardSource.meaning c.loop-row.source)
           (g.S.ShardSource.meaning c.read_file_info.new.source) _ c.loop-row.invariant.visits.bytes c.loop-row.invariant.serves.failures c.in_err-file_info.ensures.cause,
     )
 
@@ -27,8 +28,8 @@ returns-in_err-file_info-clause-visits g c =
     let i = c.loop-row.row-index in
     let offset = c.args.self.now.metadata.file_info_offset in (
       i + 1,
-      subst (λ rs. Visits file_records 1 offset rs (g.S.ShardSource.meaning c.args.source.now) (g.S.ShardSource.meaning c.read_file_info.new.source)) (sym (take_more rows i 0 c.loop-row-test.true))
-          (visits_read_not file_records file_laws offset (get_or rows i 0) (take i rows) _ (g.S.ShardSource.meaning c.loop-row.source) _ _ c.loop-row.invariant.visits c.in_err-file_info.ensures),
+      subst (λ rs. Visits (files_of c.args.self.now) 1 offset rs (g.S.ShardSource.meaning c.args.source.now) (g.S.ShardSource.meaning c.read_file_info.new.source)) (sym (take_more rows i 0 c.loop-row-test.true))
+          (visits_read_not (files_of c.args.self.now) (files_laws (version_of c.args.self.now.header.version)) offset (get_or rows i 0) (take i rows) _ (g.S.ShardSource.meaning c.loop-row.source) _ _ c.loop-row.invariant.visits c.in_err-file_info.ensures),
     )
 
 pub returns-then-eq-clause-visits : goal.returns-then-eq-clause-visits
@@ -37,8 +38,8 @@ returns-then-eq-clause-visits g c =
     let i = c.loop-row.row-index in
     let offset = c.args.self.now.metadata.file_info_offset in (
       i + 1,
-      subst (λ rs. Visits file_records 1 offset rs (g.S.ShardSource.meaning c.args.source.now) (g.S.ShardSource.meaning c.read_file_info.new.source)) (sym (take_more rows i 0 c.loop-row-test.true))
-          (visits_read file_records file_laws offset (get_or rows i 0) (take i rows) _ (g.S.ShardSource.meaning c.loop-row.source) _ _ c.loop-row.invariant.visits c.in_ok-file_info.ensures),
+      subst (λ rs. Visits (files_of c.args.self.now) 1 offset rs (g.S.ShardSource.meaning c.args.source.now) (g.S.ShardSource.meaning c.read_file_info.new.source)) (sym (take_more rows i 0 c.loop-row-test.true))
+          (visits_read (files_of c.args.self.now) (files_laws (version_of c.args.self.now.header.version)) offset (get_or rows i 0) (take i rows) _ (g.S.ShardSource.meaning c.loop-row.source) _ _ c.loop-row.invariant.visits c.in_ok-file_info.ensures),
     )
 
 pub loop-row-preserved : goal.loop-row-preserved
@@ -46,13 +47,13 @@ loop-row-preserved g c =
     let rows = c.args.rows.now in
     let i = c.loop-row.row-index in
     let offset = c.args.self.now.metadata.file_info_offset in
-    subst (λ rs. Missed file_records offset c.args.hash.now rs (g.S.ShardSource.meaning c.args.source.now) (g.S.ShardSource.meaning c.read_file_info.new.source)) (sym (take_more rows i 0 c.loop-row-test.true))
-    (missed_more file_records file_laws offset (get_or rows i 0) c.args.hash.now (take i rows) _ (g.S.ShardSource.meaning c.loop-row.source) _ _ c.loop-row.invariant c.in_ok-file_info.ensures
+    subst (λ rs. Missed (files_of c.args.self.now) offset c.args.hash.now rs (g.S.ShardSource.meaning c.args.source.now) (g.S.ShardSource.meaning c.read_file_info.new.source)) (sym (take_more rows i 0 c.loop-row-test.true))
+    (missed_more (files_of c.args.self.now) (files_laws (version_of c.args.self.now.header.version)) offset (get_or rows i 0) c.args.hash.now (take i rows) _ (g.S.ShardSource.meaning c.loop-row.source) _ _ c.loop-row.invariant c.in_ok-file_info.ensures
     (λ same. both_ways c.eq.result c.if-eq.false (c.eq.ensures ∙ (same_hash _ _).1 same)))
 
 pub returns-clause-answer : goal.returns-clause-answer
 returns-clause-answer g c =
     let rows = c.args.rows.now in
     let i = c.loop-row.row-index in
-    subst (LookupAnswer file_records (g.S.ShardSource.meaning c.args.source.now).bytes c.args.self.now.metadata.file_info_offset c.args.hash.now None)
+    subst (LookupAnswer (files_of c.args.self.now) (g.S.ShardSource.meaning c.args.source.now).bytes c.args.self.now.metadata.file_info_offset c.args.hash.now None)
     (take_all i rows (omega (arith, c.loop-row-test.false))) c.loop-row.invariant.others

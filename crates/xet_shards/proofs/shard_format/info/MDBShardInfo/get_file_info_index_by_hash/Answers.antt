@@ -1,8 +1,8 @@
 use Rattle.std.proofs.Common.{refl, subst}
 use Rattle.std.specs.FinMap.{values}
-use Rattle.xet_records.specs.FileRecord.{file_records}
-use Rattle.xet_records.proofs.RecordKinds.{file_laws}
-use Rattle.xet_shards.specs.Layout.{plain_form}
+use Rattle.xet_records.specs.FileRecord.{file_records_in}
+use Rattle.xet_shards.proofs.Sections.{files_laws}
+use Rattle.xet_shards.specs.Layout.{plain_form_in}
 use Rattle.xet_shards.specs.Lookup.{file_table, LooksUpIndex}
 use Rattle.xet_shards.proofs.InForm.{no_file, files_in, shard_in_form, files_ascend}
 use Rattle.xet_shards.proofs.TableLookups.{index_written, index_bounded}
@@ -20,12 +20,12 @@ pub returns-clause-written : goal.returns-clause-written
 returns-clause-written g c s expiry written =
     let old = g.S.ShardSource.meaning c.args.source.now in
     let footer = c.args.self.now.metadata in
-    let looked = files_in (values s.files) (values s.xorbs) (plain_form expiry) old footer (shard_in_form written) (files_ascend s written.shard) refl in
-    index_written file_records file_laws no_file (values s.files) footer.file_info_offset footer.file_lookup_offset footer.file_lookup_num_entry old looked _ _ _ _ c.find_rows.result (returns-clause-looks g c)
+    let looked = files_in (values s.files) (values s.xorbs) (plain_form_in written.version expiry) old footer (shard_in_form written) (files_ascend s written.shard) refl in
+    index_written (file_records_in written.version) (files_laws written.version) no_file (values s.files) footer.file_info_offset footer.file_lookup_offset footer.file_lookup_num_entry old looked _ _ _ _ c.find_rows.result (returns-clause-looks g c)
 
 pub returns-clause-costs : goal.returns-clause-costs
 returns-clause-costs g c s expiry written =
     let old = g.S.ShardSource.meaning c.args.source.now in
     let footer = c.args.self.now.metadata in
-    let looked = files_in (values s.files) (values s.xorbs) (plain_form expiry) old footer (shard_in_form written) (files_ascend s written.shard) refl in
-    index_bounded file_records file_laws no_file (values s.files) footer.file_info_offset footer.file_lookup_offset footer.file_lookup_num_entry old looked _ _ _ _ c.find_rows.result (returns-clause-looks g c)
+    let looked = files_in (values s.files) (values s.xorbs) (plain_form_in written.version expiry) old footer (shard_in_form written) (files_ascend s written.shard) refl in
+    index_bounded (file_records_in written.version) (files_laws written.version) no_file (values s.files) footer.file_info_offset footer.file_lookup_offset footer.file_lookup_num_entry old looked _ _ _ _ c.find_rows.result (returns-clause-looks g c)

@@ -6,7 +6,7 @@ use Rattle.xet_base.specs.KeyedHash.{under_key}
 use Rattle.xet_base.specs.Source.{DeviceFailure}
 use Rattle.xet_base.specs.Table.{Finds, hits, IsSorted, Bounded}
 use Rattle.xet_shards.specs.declared.shard_format.footer.MDBShardFileFooter.{MDBShardFileFooter}
-use Rattle.xet_shards.specs.Layout.{plain_form}
+use Rattle.xet_shards.specs.Layout.{plain_form_in}
 use Rattle.xet_shards.specs.Lookup.{chunk_lookup_table, IsPair}
 use Rattle.xet_shards.specs.WrittenChunks.{RowsAmong, ChunkSearchCosts}
 use Rattle.xet_shards.proofs.ChunkTables.{chunk_index_written, chunk_search_costs}
@@ -59,10 +59,10 @@ returns-clause-in_form_costs g c files xorbs form is with_table =
 
 pub returns-clause-written : goal.returns-clause-written
 returns-clause-written g c s expiry written =
-    returns-clause-in_form g c (values s.files) (values s.xorbs) (plain_form expiry)
+    returns-clause-in_form g c (values s.files) (values s.xorbs) (plain_form_in written.version expiry)
     (shard_in_form written) refl
 
 pub returns-clause-costs : goal.returns-clause-costs
 returns-clause-costs g c s expiry written =
-    returns-clause-in_form_costs g c (values s.files) (values s.xorbs) (plain_form expiry)
+    returns-clause-in_form_costs g c (values s.files) (values s.xorbs) (plain_form_in written.version expiry)
     (shard_in_form written) refl

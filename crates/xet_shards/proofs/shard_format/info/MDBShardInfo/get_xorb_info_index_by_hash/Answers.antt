@@ -2,7 +2,7 @@ use Rattle.std.proofs.Common.{refl, subst}
 use Rattle.std.specs.FinMap.{values}
 use Rattle.xet_records.specs.XorbRecord.{xorb_records}
 use Rattle.xet_records.proofs.RecordKinds.{xorb_laws}
-use Rattle.xet_shards.specs.Layout.{plain_form}
+use Rattle.xet_shards.specs.Layout.{plain_form_in}
 use Rattle.xet_shards.specs.Lookup.{xorb_table, LooksUpIndex}
 use Rattle.xet_shards.proofs.InForm.{no_xorb, xorbs_in, shard_in_form, xorbs_ascend}
 use Rattle.xet_shards.proofs.TableLookups.{index_written, index_bounded}
@@ -32,10 +32,10 @@ returns-clause-in_form_costs g c files xorbs form is ascends with_table =
 
 pub returns-clause-written : goal.returns-clause-written
 returns-clause-written g c s expiry written =
-    returns-clause-in_form g c (values s.files) (values s.xorbs) (plain_form expiry)
+    returns-clause-in_form g c (values s.files) (values s.xorbs) (plain_form_in written.version expiry)
     (shard_in_form written) (xorbs_ascend s written.shard) refl
 
 pub returns-clause-costs : goal.returns-clause-costs
 returns-clause-costs g c s expiry written =
-    returns-clause-in_form_costs g c (values s.files) (values s.xorbs) (plain_form expiry)
+    returns-clause-in_form_costs g c (values s.files) (values s.xorbs) (plain_form_in written.version expiry)
     (shard_in_form written) (xorbs_ascend s written.shard) refl

@@ -8,5 +8,5 @@ returns-clause-ends g c = λ info ends.
 
 pub returns-clause-written : goal.returns-clause-written
 returns-clause-written g c =
-    λ s expiry shard fits are.
-    loads_written (g.S.ShardSource.meaning c.args.source.now) (g.S.ShardSource.meaning c.read_ends.new.source) s expiry c.read_ends.result are (fits_written s expiry shard fits) c.read_ends.ensures
+    λ version s expiry shard fits are.
+    loads_written (g.S.ShardSource.meaning c.args.source.now) (g.S.ShardSource.meaning c.read_ends.new.source) version s expiry c.read_ends.result are (fits_written s expiry shard fits) c.read_ends.ensures

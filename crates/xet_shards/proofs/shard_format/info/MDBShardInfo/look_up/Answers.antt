@@ -1,6 +1,7 @@
 use Rattle.std.proofs.lemmas.Result.{MatchResult-from_both, IfOk-weaker, IfErr-weaker}
-use Rattle.xet_records.specs.FileRecord.{file_records}
-use Rattle.xet_records.proofs.RecordKinds.{file_laws}
+use Rattle.xet_records.specs.Version.{version_of}
+use Rattle.xet_shards.specs.SectionReading.{files_of}
+use Rattle.xet_shards.proofs.Sections.{files_laws}
 use Rattle.xet_shards.specs.Lookup.{file_table}
 use Rattle.xet_shards.proofs.Lookups.{finding, finding_not}
 use Rattle.xet_shards.proofs.shard_format.info.MDBShardInfo.look_up.Goals as goal
@@ -16,5 +17,5 @@ returns-clause-read g c =
     let found = c.in_ok-found.ensures.looks in
     let visits = c.first_with_hash.ensures.visits in
     MatchResult-from_both c.first_with_hash.result _ _
-    (IfOk-weaker c.first_with_hash.result _ _ (finding file_records file_laws t offset c.in_ok-found.found hash old mid new _ _ found.found found.serves found.bounds visits) c.first_with_hash.ensures.answer)
-    (IfErr-weaker c.first_with_hash.result _ _ (finding_not file_records file_laws t offset c.in_ok-found.found hash old mid new _ _ found.found found.serves found.bounds visits) c.first_with_hash.ensures.refused)
+    (IfOk-weaker c.first_with_hash.result _ _ (finding (files_of c.args.self.now) (files_laws (version_of c.args.self.now.header.version)) t offset c.in_ok-found.found hash old mid new _ _ found.found found.serves found.bounds visits) c.first_with_hash.ensures.answer)
+    (IfErr-weaker c.first_with_hash.result _ _ (finding_not (files_of c.args.self.now) (files_laws (version_of c.args.self.now.header.version)) t offset c.in_ok-found.found hash old mid new _ _ found.found found.serves found.bounds visits) c.first_with_hash.ensures.refused)

@@ -10,4 +10,4 @@ use Rattle.xet_shards.proofs.shard_format.info.MDBShardInfo.read_all_xorb_blocks
 pub returns-clause-written : goal.returns-clause-written
 returns-clause-written g c = λ s expiry written.
     keeps_known xorb_records xorb_laws header_at _ (g.S.ShardSource.meaning c.read_xorb_headers.new.source) (values s.xorbs) c.read_xorb_headers.result
-    (rw written.same_bytes (xorb_section_of_shard s expiry written.shard)) (map-id (values s.xorbs)) (rw written.same_info at c.read_xorb_headers.ensures)
+    (rw written.same_bytes (xorb_section_of_shard written.version s expiry written.shard)) (map-id (values s.xorbs)) (rw written.same_info at c.read_xorb_headers.ensures)

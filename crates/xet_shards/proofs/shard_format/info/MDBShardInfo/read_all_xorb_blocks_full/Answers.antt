@@ -8,5 +8,5 @@ use Rattle.xet_shards.proofs.shard_format.info.MDBShardInfo.read_all_xorb_blocks
 pub returns-clause-written : goal.returns-clause-written
 returns-clause-written g c = λ s expiry written.
     whole_read xorb_records xorb_laws _ (g.S.ShardSource.meaning c.read_section_at.new.source) (values s.xorbs)
-    (rw written.same_bytes (xorb_section_of_shard s expiry written.shard)) c.read_section_at.result (map-id (values s.xorbs))
+    (rw written.same_bytes (xorb_section_of_shard written.version s expiry written.shard)) c.read_section_at.result (map-id (values s.xorbs))
     (rw written.same_info at c.read_section_at.ensures)

@@ -9,7 +9,7 @@ use Rattle.xet_shards.specs.Layout.{shard_header_bytes, footer_value, layout_of}
 use Rattle.xet_shards.proofs.Files.{well_formed_values, widths_of_values}
 use Rattle.xet_shards.proofs.Xorbs.{xorb_values, owned-values}
 use Rattle.xet_shards.proofs.Written.{whole_layout}
-use Rattle.xet_shards.proofs.shard_format.info.MDBShardInfo.serialize_from.Goals as goal
+use Rattle.xet_shards.proofs.shard_format.info.write_shard.Goals as goal
 
 pub write_values-requires-clause-whole : goal.write_values-requires-clause-whole
 write_values-requires-clause-whole g c =
@@ -25,11 +25,11 @@ returns-clause-bytes g c =
     let old = contents c.args.writer.now in
     let new = contents c.write_end.new.writer in
     let files = c.file_content.ensures in
-    let header = subst (λ h. Appends old (contents c.serialize.new.writer) (shard_header_bytes h)) c.default-header.ensures c.in_ok-serialize.ensures.bytes in
+    let header = subst (λ h. Appends old (contents c.serialize.new.writer) (shard_header_bytes h)) c.of_version-header.ensures c.in_ok-serialize.ensures.bytes in
     let rs_are = map-id (values_of c.file_content.result.now.entries) in
     let xs_are = owned-values c.xorb_content.result.now.entries in
     let end = c.in_ok-metadata.ensures.bytes _ _ (subst (All FitsRecord) (sym rs_are) (widths_of_values _ files.files)) c.in_ok-files.ensures.written c.in_ok-xorbs.ensures.written in
-    subst (Appends old new) (λ i. layout_of ((rs_are ∙ ap values_of files.entries) i) ((xs_are ∙ ap values_of c.xorb_content.ensures.entries) i) (c.plain.ensures i))
+    subst (Appends old new) (λ i. layout_of ((rs_are ∙ ap values_of files.entries) i) ((xs_are ∙ ap values_of c.xorb_content.ensures.entries) i) c.args.form.now)
     (whole_layout _ _ _ _ _ _ _ _ header c.in_ok-files.ensures.bytes c.in_ok-xorbs.ensures.bytes end)
 
 pub returns-clause-info : goal.returns-clause-info
@@ -38,5 +38,5 @@ returns-clause-info g c =
     let rs_are = map-id (values_of c.file_content.result.now.entries) in
     let xs_are = owned-values c.xorb_content.result.now.entries in
     let footer = c.in_ok-metadata.ensures.footer _ _ (subst (All FitsRecord) (sym rs_are) (widths_of_values _ files.files)) c.in_ok-files.ensures.written c.in_ok-xorbs.ensures.written
-    ∙ (λ i. footer_value ((rs_are ∙ ap values_of files.entries) i) ((xs_are ∙ ap values_of c.xorb_content.ensures.entries) i) (c.plain.ensures i)) in
-    λ i. record { header = c.default-header.ensures i; metadata = footer i }
+    ∙ (λ i. footer_value ((rs_are ∙ ap values_of files.entries) i) ((xs_are ∙ ap values_of c.xorb_content.ensures.entries) i) c.args.form.now) in
+    λ i. record { header = c.of_version-header.ensures i; metadata = footer i }

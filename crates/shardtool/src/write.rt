@@ -1,0 +1,44 @@
+//! The bytes of a shard, in a version of the format.
+
+ghost use Rattle.std.specs.Prelude.{◌≡◌, ◌⊎◌, IfOk, IfErr, IsErrOf};
+ghost use Rattle.xet_core_structures.specs.Errors.{IsDeviceError};
+ghost use Rattle.shardtool.specs.Writing.{layout_for, HasNoLayout};
+
+use std::alloc::Global;
+use xet_core_structures::error::{CoreError, Result};
+use xet_core_structures::shard_format::MDBShardInfo;
+use xet_core_structures::shard_in_memory::MDBInMemoryShard;
+
+/// The version of the format that a shard is written in.
+#[derive(Clone, Copy)]
+pub enum Version {
+    /// It has no auxiliary rows.
+    V2,
+    V3,
+}
+
+/// The bytes of a shard in a version. The expiry is a timestamp in seconds, or none.
+///
+/// `InvalidArguments` if a file has a row that the version does not have. The other errors are
+/// those of [`MDBShardInfo::serialize_from`].
+pub fn written_bytes(
+    alloc: Global,
+    version: Version,
+    shard: &MDBInMemoryShard,
+    expiry: Option<u64>,
+) -> Result<Vec<u8>>
+    ensures bytes { IfOk result
+        (λ bytes. bytes.items ≡ layout_for version shard.now.content expiry) }
+    ensures refused { HasNoLayout version shard.now.content
+        → IsErrOf result CoreError.InvalidArguments }
+    ensures causes { IfErr result
+        (λ e. IsDeviceError e
+        ⊎ ((e ≡ CoreError.InvalidArguments) × HasNoLayout version shard.now.content)) }
+{
+    let mut bytes = Vec::new(alloc);
+    match version {
+        Version::V2 => MDBShardInfo::serialize_from_v2(alloc, &mut bytes, shard, expiry)?,
+        Version::V3 => MDBShardInfo::serialize_from(alloc, &mut bytes, shard, expiry)?,
+    };
+    Ok(bytes)
+}
