@@ -23,9 +23,9 @@ struct Options {
     chunk_table: bool,
 }
 
-/// Runs `export B1 B KEY NOW VALID PARTS` or `export_streaming ..` on the source of B1, and prints
-/// the number that the call returns. The header and the footer for `export` are read before, from
-/// the bytes of B1.
+/// Runs `export B1 B KEY NOW VALID PARTS`, or `drop ..` without auxiliary rows, on the source of B1,
+/// and prints the number that the call returns. The header and the footer are read before, from the
+/// bytes of B1, but not for `export_streaming ..` and `drop_streaming ..`.
 pub fn export(
     workspace: &Workspace,
     alloc: Global,
@@ -43,6 +43,11 @@ pub fn export(
             let info = info_of(alloc, workspace.buffer(from)?)?;
             export_known(alloc, &info, source, output, options)
         }
+        "drop" => {
+            let info = info_of(alloc, workspace.buffer(from)?)?;
+            export_known_without_aux(alloc, &info, source, output, options)
+        }
+        "drop_streaming" => export_streaming_without_aux(alloc, source, output, options),
         _ => export_streaming(alloc, source, output, options),
     };
     let size = answer?;
@@ -70,6 +75,26 @@ fn export_known(
     )
 }
 
+fn export_known_without_aux(
+    alloc: Global,
+    info: &MDBShardInfo,
+    source: &mut Device<'_>,
+    output: &mut Output,
+    options: Options,
+) -> CoreResult<usize> {
+    info.export_as_keyed_shard_without_aux(
+        alloc,
+        source,
+        output,
+        options.key,
+        options.now,
+        options.valid_seconds,
+        options.files,
+        options.xorb_table,
+        options.chunk_table,
+    )
+}
+
 fn export_streaming(
     alloc: Global,
     source: &mut Device<'_>,
@@ -77,6 +102,25 @@ fn export_streaming(
     options: Options,
 ) -> CoreResult<usize> {
     MDBShardInfo::export_as_keyed_shard_streaming(
+        alloc,
+        source,
+        output,
+        options.key,
+        options.now,
+        options.valid_seconds,
+        options.files,
+        options.xorb_table,
+        options.chunk_table,
+    )
+}
+
+fn export_streaming_without_aux(
+    alloc: Global,
+    source: &mut Device<'_>,
+    output: &mut Output,
+    options: Options,
+) -> CoreResult<usize> {
+    MDBShardInfo::export_as_keyed_shard_streaming_without_aux(
         alloc,
         source,
         output,

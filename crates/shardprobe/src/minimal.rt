@@ -14,8 +14,9 @@ use xet_core_structures::merklehash::MerkleHash;
 use xet_core_structures::streaming_shard::MDBMinimalShard;
 use xet_core_structures::xorb_structs::MDBXorbInfoView;
 
-/// Runs `minimal B1 B NOW ROWS`, `subset B1 B NOW EXPIRY LIST` or `subset_only B1 B NOW LIST` on the
-/// minimal shard that is read from the source of B1, and prints the number that the call returns.
+/// Runs `minimal B1 B NOW ROWS`, or `dropmin ..` without auxiliary rows, `subset B1 B NOW EXPIRY LIST`
+/// or `subset_only B1 B NOW LIST` on the minimal shard that is read from the source of B1, and prints
+/// the number that the call returns.
 pub fn write_minimal(
     alloc: Global,
     words: &[&str],
@@ -28,7 +29,8 @@ pub fn write_minimal(
     };
     let shard = minimal_shard(alloc, source, "fx")?;
     let size = match *command {
-        "minimal" => write_whole(&shard, alloc, options, output)?,
+        "minimal" => write_whole(&shard, alloc, true, options, output)?,
+        "dropmin" => write_whole(&shard, alloc, false, options, output)?,
         "subset" => write_subset(&shard, alloc, options, output)?,
         _ => write_subset_only(&shard, alloc, options, output)?,
     };
@@ -36,10 +38,11 @@ pub fn write_minimal(
     Ok(())
 }
 
-// Writes by options `NOW ROWS`.
+// Writes by options `NOW ROWS`, with auxiliary rows or without.
 fn write_whole(
     shard: &MDBMinimalShard,
     alloc: Global,
+    aux_ext: bool,
     options: &[&str],
     output: &mut Output,
 ) -> Result<usize, Stop> {
@@ -48,7 +51,11 @@ fn write_whole(
     };
     let now = parse_u64(now)?;
     let with_verification = parse_rows(rows)?;
-    Ok(shard.serialize(alloc, output, now, with_verification)?)
+    if aux_ext {
+        Ok(shard.serialize(alloc, output, now, with_verification)?)
+    } else {
+        Ok(shard.serialize_without_aux(alloc, output, now, with_verification)?)
+    }
 }
 
 // Writes by options `NOW EXPIRY LIST`.
@@ -171,6 +178,7 @@ pub fn print_minimal(
     let shard = minimal_shard(alloc, source, parts)?;
     match command {
         "minimal_sums" => Ok(print_sums(&shard, out)?),
+        "dropmin_sizes" => Ok(print_sizes_without_aux(&shard, out)?),
         "minimal_records" => print_copy(&shard, alloc, out),
         _ => print_eligible(&shard, alloc, out),
     }
@@ -214,6 +222,12 @@ fn print_sums(shard: &MDBMinimalShard, out: &mut Vec<u8>) -> io::Result<()> {
     )?;
     let with = shard.serialized_size(true);
     let without = shard.serialized_size(false);
+    writeln!(out, "bytes {with} {without}")
+}
+
+fn print_sizes_without_aux(shard: &MDBMinimalShard, out: &mut Vec<u8>) -> io::Result<()> {
+    let with = shard.serialized_size_without_aux(true);
+    let without = shard.serialized_size_without_aux(false);
     writeln!(out, "bytes {with} {without}")
 }
 

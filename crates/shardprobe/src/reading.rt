@@ -65,10 +65,14 @@ pub fn set_back(command: &str, source: &mut Device<'_>) -> io::Result<()> {
         "eligible_chunks"
         | "export"
         | "export_streaming"
+        | "drop"
+        | "drop_streaming"
         | "minimal"
+        | "dropmin"
         | "subset"
         | "subset_only"
         | "minimal_sums"
+        | "dropmin_sizes"
         | "minimal_records"
         | "minimal_eligible" => { source.seek_to(0) }
         _ => Ok(()),
@@ -88,7 +92,7 @@ fn call(
     match command {
         "load" => return load(alloc, source, rest, out),
         "eligible_chunks" => return print_eligible(alloc, source, rest, out),
-        "minimal_sums" | "minimal_records" | "minimal_eligible" => {
+        "minimal_sums" | "dropmin_sizes" | "minimal_records" | "minimal_eligible" => {
             return print_minimal(alloc, command, source, rest, out);
         }
         "read_file_ranges" => return read_file_ranges(alloc, source, rest, out),

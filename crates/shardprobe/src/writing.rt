@@ -21,7 +21,8 @@ pub fn output_of<'a>(words: &[&'a str]) -> Option<&'a str> {
     match words {
         ["set_union", _, _, name, ..] | ["set_difference", _, _, name, ..] => Some(*name),
         ["export", _, name, ..] | ["export_streaming", _, name, ..] => Some(*name),
-        ["minimal", _, name, ..] => Some(*name),
+        ["drop", _, name, ..] | ["drop_streaming", _, name, ..] => Some(*name),
+        ["minimal", _, name, ..] | ["dropmin", _, name, ..] => Some(*name),
         ["subset", _, name, ..] | ["subset_only", _, name, ..] => Some(*name),
         _ => None,
     }
@@ -82,7 +83,7 @@ fn write(
         ["set_union", ..] | ["set_difference", ..] => {
             combine(workspace, alloc, words, r1, r2, output, out)
         }
-        ["export", ..] | ["export_streaming", ..] => {
+        ["export", ..] | ["export_streaming", ..] | ["drop", ..] | ["drop_streaming", ..] => {
             export(workspace, alloc, words, r1, output, out)
         }
         _ => write_minimal(alloc, words, r1, output, out),

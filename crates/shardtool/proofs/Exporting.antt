@@ -5,10 +5,11 @@ use Rattle.xet_core_structures.specs.declared.error.CoreError.TheVariants.{Inval
 use Rattle.xet_core_structures.specs.declared.shard_format.MDBShardInfo.{MDBShardInfo}
 use Rattle.xet_core_structures.specs.declared.source.MemorySource.{MemorySource}
 use Rattle.xet_core_structures.specs.Ends.{HasEnds}
-use Rattle.xet_core_structures.specs.KeyedExport.{Exports, ExportCase, ExportFails, CannotExport, export_form, exported}
+use Rattle.xet_core_structures.specs.KeyedExport.{ExportCase, ExportFails, CannotExport, export_form, exported}
+use Rattle.xet_core_structures.specs.View.{auxes_as_wanted}
 use Rattle.xet_core_structures.specs.Source.{FailedBy, bytes_left, moved}
 use Rattle.shardtool.specs.declared.export.Export.{Export}
-use Rattle.shardtool.specs.Exporting.{ExportsBytes, RefusesExport}
+use Rattle.shardtool.specs.Exporting.{WritesExport, ExportsBytes, RefusesExport}
 use Rattle.shardtool.proofs.Combining.{in_memory}
 
 -- the source was read from its start on, and its device does not fail
@@ -24,7 +25,7 @@ export_refused x bytes i loaded start end e ends are start_is (inr fails) = go f
 
 -- the bytes are those of the export, since the output was empty
 pub export_made : (x : Export) (bytes : List ℕ) (loaded start end : MemorySource) (empty out : List ℕ) (n : ℕ) → loaded.bytes.now ≡ bytes → in_memory start ≡ moved (in_memory loaded) 0 → empty ≡ []
-    → Exports (export_form x.key x.now x.valid_seconds x.parts.files x.parts.xorb_table x.parts.chunk_table) (in_memory start) (in_memory end) (Some empty) (Some out) n → ExportsBytes x bytes out
+    → WritesExport x (in_memory start) (in_memory end) (Some empty) (Some out) n → ExportsBytes x bytes out
 export_made x bytes loaded start end empty out n are start_is none e =
     subst (λ left. ExportsBytes x left out) (ap bytes_left start_is ∙ are) (record {
       files = e.files;
@@ -32,5 +33,5 @@ export_made x bytes loaded start end empty out n are start_is none e =
       header = e.header;
       file_section = e.file_section;
       xorb_section = e.xorb_section;
-      written = e.written ∙ ap (λ zs. zs ++ exported e.files e.xorbs (export_form x.key x.now x.valid_seconds x.parts.files x.parts.xorb_table x.parts.chunk_table)) none;
+      written = e.written ∙ ap (λ zs. zs ++ exported (auxes_as_wanted x.parts.aux_ext e.files) e.xorbs (export_form x.key x.now x.valid_seconds x.parts.files x.parts.xorb_table x.parts.chunk_table)) none;
     })

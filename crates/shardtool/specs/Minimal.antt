@@ -1,9 +1,10 @@
 -- Minimal shards of a shard's bytes.
-use Rattle.std.specs.Prelude.{◌≡◌, ◌⊎◌, ◌↔◌, ⊤, ℕ, Bool, true, List, [], map, Contains, IsTrue, Option, None, Some}
+use Rattle.std.specs.Prelude.{◌≡◌, ◌⊎◌, ◌↔◌, ⊤, ℕ, true, List, [], map, Contains, IsTrue, Option, None, Some}
 use Rattle.std.specs.Io.KnownBytes.{Consumes}
 use Rattle.xet_core_structures.specs.declared.error.CoreError.{CoreError}
 use Rattle.xet_core_structures.specs.declared.error.CoreError.TheVariants.{OutOfMemory}
 use Rattle.xet_core_structures.specs.declared.merklehash.DataHash.{DataHash}
+use Rattle.xet_core_structures.specs.declared.file_structs.KeptParts.{KeptParts}
 use Rattle.xet_core_structures.specs.declared.xorb_structs.MDBXorbInfo.{MDBXorbInfo}
 use Rattle.xet_core_structures.specs.Errors.{IsDeviceError}
 use Rattle.xet_core_structures.specs.Input.{ReaderFails}
@@ -11,7 +12,7 @@ use Rattle.xet_core_structures.specs.Layout.{layout_of}
 use Rattle.xet_core_structures.specs.MinimalReading.{ReadsMinimal, MinimalFails, ReaderHeaderFails}
 use Rattle.xet_core_structures.specs.MinimalShard.{MinimalShard, mark_starts, is_start, minimal_form, eligible_hashes, IsKept}
 use Rattle.xet_core_structures.specs.Shard.{xorb_hash_of}
-use Rattle.xet_core_structures.specs.View.{as_wanted}
+use Rattle.xet_core_structures.specs.View.{as_kept}
 use Rattle.shardtool.specs.declared.minimal.KeptXorbs.{KeptXorbs}
 use Rattle.shardtool.specs.declared.minimal.KeptXorbs.TheVariants.{All as all_xorbs, Listed}
 use Rattle.shardtool.specs.declared.minimal.Subset.{Subset}
@@ -29,11 +30,11 @@ RefusesMinimal bytes e =
     × MinimalFails Consumes (λ before after n e. ReaderFails before n e)
     (λ before after e. ReaderHeaderFails before e) true (Some bytes) left e
 
--- the minimal shard, with verification rows only if they are wanted
-abbrev pub MinimalBytes : Bool → ℕ → List ℕ → List ℕ → Type 0
-MinimalBytes with_verification now bytes out =
+-- the minimal shard, with these parts of its files
+abbrev pub MinimalBytes : KeptParts → ℕ → List ℕ → List ℕ → Type 0
+MinimalBytes kept now bytes out =
     (m : MinimalShard) × HoldsMinimal bytes m
-    × (out ≡ layout_of (map (as_wanted with_verification) m.files)
+    × (out ≡ layout_of (map (as_kept kept) m.files)
     (map (mark_starts (is_start m.files)) m.xorbs) (minimal_form now None))
 
 -- whether a subset keeps a xorb of this hash

@@ -18,7 +18,7 @@ use script_lines::words::{
 };
 use std::alloc::Global;
 use xet_core_structures::file_structs::{
-    FileAuxExt, FileDataSequenceEntry, FileMetadataExt, FileVerificationEntry,
+    FileAuxExt, FileDataSequenceEntry, FileMetadataExt, FileVerificationEntry, KeptParts,
 };
 use xet_core_structures::merklehash::MerkleHash;
 
@@ -60,18 +60,20 @@ pub enum Command<'a> {
         buffer: &'a str,
         tree: NameTree<'a>,
     },
-    /// `export B1 B2 KEY NOW VALID OPT`: a keyed export of the shard in a buffer, into another.
+    /// `export B1 B2 KEY NOW VALID OPT`: a keyed export of the shard in a buffer, into another;
+    /// with `drop` for `export`, without auxiliary rows.
     Export {
         from: &'a str,
         buffer: &'a str,
         export: Export,
     },
-    /// `minimal B1 B2 NOW OPT`: the minimal shard of the shard in a buffer, into another.
+    /// `minimal B1 B2 NOW OPT`: the minimal shard of the shard in a buffer, into another; with
+    /// `dropmin` for `minimal`, without auxiliary rows.
     Minimal {
         from: &'a str,
         buffer: &'a str,
         now: u64,
-        with_verification: bool,
+        kept: KeptParts,
     },
     /// `subset B1 B2 NOW EXPIRY LIST`: some xorbs of the shard in a buffer, into another.
     Subset {
@@ -157,8 +159,10 @@ fn parse_words<'a>(alloc: Global, words: &[&'a str]) -> Result<Command<'a>, Pars
         "union" => parse_combine(Operation::Union, arguments),
         "diff" => parse_combine(Operation::Difference, arguments),
         "merge" => parse_merge(alloc, arguments),
-        "export" => parse_export(arguments),
-        "minimal" => parse_minimal(arguments),
+        "export" => parse_export(true, arguments),
+        "drop" => parse_export(false, arguments),
+        "minimal" => parse_minimal(true, arguments),
+        "dropmin" => parse_minimal(false, arguments),
         "subset" => parse_subset(alloc, arguments),
         "eligible" => parse_eligible(arguments),
         "find" => parse_find(arguments),
@@ -258,7 +262,7 @@ fn parse_merge<'a>(alloc: Global, arguments: &[&'a str]) -> Result<Command<'a>, 
     Ok(Command::Merge { buffer, tree })
 }
 
-fn parse_export<'a>(arguments: &[&'a str]) -> Result<Command<'a>, ParseError> {
+fn parse_export<'a>(aux_ext: bool, arguments: &[&'a str]) -> Result<Command<'a>, ParseError> {
     let [from, buffer, key, now, valid, parts] = arguments else {
         return Err(ParseError::Unreadable);
     };
@@ -268,7 +272,7 @@ fn parse_export<'a>(arguments: &[&'a str]) -> Result<Command<'a>, ParseError> {
         key: parse_key(key)?,
         now: parse_u64(now)?,
         valid_seconds: parse_u64(valid)?,
-        parts: parse_parts(parts)?,
+        parts: parse_parts(aux_ext, parts)?,
     };
     Ok(Command::Export {
         from,
@@ -277,18 +281,19 @@ fn parse_export<'a>(arguments: &[&'a str]) -> Result<Command<'a>, ParseError> {
     })
 }
 
-fn parse_parts(word: &str) -> Result<ExportParts, ParseError> {
+fn parse_parts(aux_ext: bool, word: &str) -> Result<ExportParts, ParseError> {
     let [files, xorb_table, chunk_table] = word.as_bytes() else {
         return Err(ParseError::Unreadable);
     };
     Ok(ExportParts {
         files: parse_flag(*files, b'f')?,
+        aux_ext,
         xorb_table: parse_flag(*xorb_table, b'x')?,
         chunk_table: parse_flag(*chunk_table, b'c')?,
     })
 }
 
-fn parse_minimal<'a>(arguments: &[&'a str]) -> Result<Command<'a>, ParseError> {
+fn parse_minimal<'a>(aux_ext: bool, arguments: &[&'a str]) -> Result<Command<'a>, ParseError> {
     let [from, buffer, now, option] = arguments else {
         return Err(ParseError::Unreadable);
     };
@@ -299,7 +304,10 @@ fn parse_minimal<'a>(arguments: &[&'a str]) -> Result<Command<'a>, ParseError> {
         from: parse_name(from)?,
         buffer: parse_name(buffer)?,
         now: parse_u64(now)?,
-        with_verification: parse_flag(*verification, b'v')?,
+        kept: KeptParts {
+            verification: parse_flag(*verification, b'v')?,
+            aux_ext,
+        },
     })
 }
 

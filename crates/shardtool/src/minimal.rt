@@ -6,6 +6,7 @@ ghost use Rattle.shardtool.specs.Minimal.{HoldsMinimal, RefusesMinimal, MinimalB
 
 use std::alloc::Global;
 use xet_core_structures::error::Result;
+use xet_core_structures::file_structs::KeptParts;
 use xet_core_structures::merklehash::MerkleHash;
 use xet_core_structures::streaming_shard::MDBMinimalShard;
 use xet_core_structures::xorb_structs::MDBXorbInfoView;
@@ -36,22 +37,21 @@ pub struct Subset {
     pub kept: KeptXorbs,
 }
 
-/// The bytes of the minimal shard of a shard, from its bytes.
+/// The bytes of the minimal shard of a shard, with these parts of its files, from its bytes.
 ///
-/// The errors are those of [`MDBMinimalShard::from_reader`] and [`MDBMinimalShard::serialize`].
-pub fn minimal_bytes(
-    alloc: Global,
-    bytes: &[u8],
-    now: u64,
-    with_verification: bool,
-) -> Result<Vec<u8>>
-    ensures { MatchResult result
-        (λ minimal. MinimalBytes with_verification now bytes.now minimal.items)
+/// The errors are those of [`MDBMinimalShard::from_reader`], and of [`MDBMinimalShard::serialize`]
+/// or [`MDBMinimalShard::serialize_without_aux`].
+pub fn minimal_bytes(alloc: Global, bytes: &[u8], now: u64, kept: KeptParts) -> Result<Vec<u8>>
+    ensures { MatchResult result (λ minimal. MinimalBytes kept now bytes.now minimal.items)
         (WritesNone bytes.now) }
 {
     let shard = read_minimal(alloc, bytes)?;
     let mut minimal = Vec::new(alloc);
-    shard.serialize(alloc, &mut minimal, now, with_verification)?;
+    if kept.aux_ext {
+        shard.serialize(alloc, &mut minimal, now, kept.verification)?;
+    } else {
+        shard.serialize_without_aux(alloc, &mut minimal, now, kept.verification)?;
+    }
     Ok(minimal)
 }
 

@@ -82,8 +82,8 @@ impl Workspace {
                 from,
                 buffer,
                 now,
-                with_verification,
-            } => self.write_minimal(alloc, from, buffer, now, with_verification),
+                kept,
+            } => self.write_minimal(alloc, from, buffer, now, kept),
             Command::Subset {
                 from,
                 buffer,

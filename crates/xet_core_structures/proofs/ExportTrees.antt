@@ -1,5 +1,5 @@
 -- Trees of unions over exports of shards write the export of their join, and keep runs of chunks.
-use Rattle.std.proofs.Common.{◌≡◌, ◌⊎◌, inl, inr, ℕ, zero, suc, ◌<◌, ◌≤◌, true, List, [], ◌∷◌, ◌++◌, ◌+◌, length, map, flat_map, get_or, drop, Option, None, Some, refl, sym, ap, ◌∙◌, subst, arith, append-nil}
+use Rattle.std.proofs.Common.{◌≡◌, ◌⊎◌, inl, inr, ℕ, zero, suc, ◌<◌, ◌≤◌, Bool, true, List, [], ◌∷◌, ◌++◌, ◌+◌, length, map, flat_map, get_or, drop, Option, None, Some, refl, sym, ap, ◌∙◌, subst, arith, append-nil}
 use Rattle.xet_shards.specs.InForm.{FitsSection}
 use Rattle.xet_shards.proofs.Loading.{header_of, one_version}
 use Rattle.xet_shards.specs.Ends.{HasHeader}
@@ -23,8 +23,10 @@ use Rattle.xet_base.specs.Source.{Source, bytes_left}
 use Rattle.xet_base.proofs.Bytes.{length-u64_bytes}
 use Rattle.xet_base.proofs.HashOrder.{hash_cmp-IsTotalOrder, hash_cmp-IsAntisymmetric}
 use Rattle.xet_records.specs.declared.file_structs.rows.FileDataSequenceEntry.{FileDataSequenceEntry}
+use Rattle.xet_records.specs.declared.file_structs.MDBFileInfo.{MDBFileInfo}
 use Rattle.xet_records.specs.declared.xorb_structs.MDBXorbInfo.{MDBXorbInfo}
 use Rattle.xet_records.specs.FileRecord.{file_records, file_records_in}
+use Rattle.xet_records.specs.View.{auxes_as_wanted}
 use Rattle.xet_records.specs.XorbRecord.{xorb_records}
 use Rattle.xet_records.proofs.RecordKinds.{xorb_laws, version_known}
 use Rattle.xet_shards.specs.declared.shard_format.footer.MDBShardFileFooter.{MDBShardFileFooter}
@@ -34,7 +36,7 @@ use Rattle.xet_shards.specs.ChunkQuery.{run_at, run_length}
 use Rattle.xet_shards.specs.Layout.{if_in, layout_of, header_value, shard_header_bytes, shard_footer_bytes, offsets_of, sums_of, footer_value, plain_form_in, layout_in as layout_in_version}
 use Rattle.xet_shards.specs.WrittenShard.{AreBytesOf}
 use Rattle.xet_shards.specs.Joins.{IsJoinOf, AgreePairwise}
-use Rattle.xet_shards.specs.KeyedExport.{exported, Exports, export_form, xorbs_after, keyed_chunk, keyed_xorb, keyed_xorbs}
+use Rattle.xet_shards.specs.KeyedExport.{exported, Exports, ExportsWith, export_form, xorbs_after, keyed_chunk, keyed_xorb, keyed_xorbs}
 use Rattle.xet_shards.specs.KeyedShards.{keyed_shard}
 use Rattle.xet_shards.specs.Section.{section_bytes, total_rows}
 use Rattle.xet_shards.specs.SectionReading.{IsSection}
@@ -46,6 +48,8 @@ use Rattle.xet_shards.proofs.FileUnions.{entry-holds}
 use Rattle.xet_shards.proofs.KeyedHashes.{keyed_total}
 use Rattle.xet_shards.proofs.KeyedShards.{keyed_is_shard, keyed_agree, keyed_join, exported_is, values-keyed, get-keyed, run_no_shorter}
 use Rattle.xet_shards.proofs.Layouts.{length-file_section}
+use Rattle.xet_shards.proofs.MappedMaps.{mapped_some}
+use Rattle.xet_shards.proofs.MappedShards.{mapped_member, unmapped_member}
 use Rattle.xet_shards.proofs.Readback.{section_of_shard, xorb_section_of_shard, layout_from_48}
 use Rattle.xet_shards.proofs.Sections.{files_laws, files_fit, files_fit_in}
 use Rattle.xet_shards.proofs.SectionUnique.{only_list}
@@ -56,15 +60,8 @@ use Rattle.xet_core_structures.specs.ByteResults.{keyed_form, keyed_layout}
 use Rattle.xet_core_structures.specs.ExportTrees.{AreExported, JoinsLeaves, run_under}
 use Rattle.xet_core_structures.specs.MergeTrees.{leaves, TreeWrites, TreeRefusal}
 use Rattle.xet_core_structures.proofs.ByteUnions.{layout_in}
-use Rattle.xet_core_structures.proofs.MergeTrees.{mapped_member, AreInputs, keyed_tree, tree_refused}
-
--- a member of a list that is mapped comes from one of the list
-unmapped_member : {X Y : Type 0} (f : X → Y) (xs : List X) (y : Y) → Contains (map f xs) y → (x : X) × Contains xs x × (f x ≡ y)
-unmapped_member f [] y (k, within, is) = absurd (omega (arith, within))
-unmapped_member f (x ∷ xs) y (zero, within, is) = (x, (0, omega arith, refl), is)
-unmapped_member f (x ∷ xs) y (suc k, within, is) =
-    let found = unmapped_member f xs y (k, omega (arith, within), is) in
-    (found.0, (suc found.1.0, omega (arith, found.1.1), found.1.2), found.2)
+use Rattle.xet_core_structures.proofs.MappedLeaves.{mapped_leaves}
+use Rattle.xet_core_structures.proofs.MergeTrees.{AreInputs, keyed_tree, tree_refused}
 
 -- the values of a map are what it has under its keys
 at_value : {X : Type 0} (m : FinMap hash_cmp X) (q : DataHash) (x : X) → get m q ≡ Some x → Contains (values m) x
@@ -94,31 +91,8 @@ module _ (plan : MergePlan) (key : DataHash) (shard_at : ℕ → Shard) (join : 
   abbrev keyed_at : ℕ → Shard
   keyed_at i = keyed_shard key (shard_at i)
 
-  -- the shards at the leaves under the key agree pairwise, and their join is the join under the key
-  one_agrees : (s : Shard) → Contains (map keyed_at (leaves plan)) s → (i : ℕ) × Contains (map shard_at (leaves plan)) (shard_at i) × (keyed_at i ≡ s)
-  one_agrees s member =
-      let from = unmapped_member keyed_at (leaves plan) s member in
-      (from.0, mapped_member shard_at (leaves plan) from.0 from.1, from.2)
-
-  agree_keyed : AgreePairwise (Contains (map keyed_at (leaves plan)))
-  agree_keyed = record {
-    shards = λ s member.
-        let from = one_agrees s member in
-        subst IsShard from.2 (keyed_is_shard key (shard_at from.0) (joins.agree.shards (shard_at from.0) from.1));
-    pairs = λ s t s_member t_member.
-        let one = one_agrees s s_member in
-        let other = one_agrees t t_member in
-        subst (λ p. p) (λ k. ShardsAgree (one.2 k) (other.2 k))
-        (keyed_agree key (shard_at one.0) (shard_at other.0) (joins.agree.pairs (shard_at one.0) (shard_at other.0) one.1 other.1));
-  }
-
-  join_keyed : IsJoinOf (Contains (map keyed_at (leaves plan))) (keyed_shard key join)
-  join_keyed =
-      subst (λ ss. IsJoinOf (Contains ss) (keyed_shard key join)) (map-map (keyed_shard key) shard_at (leaves plan))
-      (keyed_join key (map shard_at (leaves plan)) join joins.is_join)
-
   pub keyed_leaves : JoinsLeaves plan keyed_at (keyed_shard key join)
-  keyed_leaves = record { union = joins.union; agree = agree_keyed; is_join = join_keyed }
+  keyed_leaves = mapped_leaves (keyed_shard key) (record { shards = keyed_is_shard key; agree = keyed_agree key; join = keyed_join key }) plan shard_at join joins
 
   few_keyed : HasFewRows join → HasFewRows (keyed_shard key join)
   few_keyed few = record {
@@ -139,19 +113,19 @@ module _ (plan : MergePlan) (key : DataHash) (shard_at : ℕ → Shard) (join : 
         record {
           form = form_at i;
           under = export.under;
-          files = subst (λ v. FitsSection (file_records_in v) (values (keyed_at i).files)) (sym export.version) (files_fit (keyed_at i) (agree_keyed.shards (keyed_at i) (mapped_member keyed_at (leaves plan) i member)));
+          files = subst (λ v. FitsSection (file_records_in v) (values (keyed_at i).files)) (sym export.version) (files_fit (keyed_at i) (keyed_leaves.agree.shards (keyed_at i) (mapped_member keyed_at (leaves plan) i member)));
           fits = export.fits;
           bytes = export.bytes ∙ ap Some (exported_is (shard_at i) (form_at i) export.files ∙ (λ k. layout_in (keyed_shard (export.under k) (shard_at i)) (form_at i)));
         }
 
     pub tree_of_exports : (out : List ℕ) → TreeWrites inputs plan out → out ≡ keyed_layout (keyed_shard key join) key
-    tree_of_exports out writes = (keyed_tree inputs key key_fits keyed_at plan (keyed_shard key join) out joins.union inputs_are agree_keyed join_keyed writes).0
+    tree_of_exports out writes = (keyed_tree inputs key key_fits keyed_at plan (keyed_shard key join) out joins.union inputs_are keyed_leaves.agree keyed_leaves.is_join writes).0
 
     pub export_of_join : (out : List ℕ) → TreeWrites inputs plan out → out ≡ exported (values join.files) (values join.xorbs) (export_form key 0 18446744073709551615 true true true)
     export_of_join out writes = tree_of_exports out writes ∙ sym (exported_is join (keyed_form key) refl)
 
     pub exports_refused : (e : CoreError) → TreeRefusal inputs plan e → (e ≡ OutOfMemory) ⊎ (IsInvalidShard e × (¬ HasFewRows join))
-    exports_refused e refusal = elim (tree_refused inputs key key_fits keyed_at plan (keyed_shard key join) e inputs_are agree_keyed join_keyed refusal) [
+    exports_refused e refusal = elim (tree_refused inputs key key_fits keyed_at plan (keyed_shard key join) e inputs_are keyed_leaves.agree keyed_leaves.is_join refusal) [
       | inl no_memory ↦ inl no_memory
       | inr many ↦ inr (many.0, λ few. many.1 (few_keyed few))
     ]
@@ -160,9 +134,9 @@ module _ (plan : MergePlan) (key : DataHash) (shard_at : ℕ → Shard) (join : 
 exported_in : (s : Shard) (form : Form) → exported (values s.files) (values s.xorbs) form ≡ layout_of (if_in form.file_table (values s.files)) (values (keyed_shard form.key s).xorbs) form
 exported_in s form = λ i. layout_of (if_in form.file_table (values s.files)) (sym (values-keyed form.key s) i) form
 
--- and that is what an export of the shard's bytes writes, in whichever version they are
-module _ (s : Shard) (expiry : Option ℕ) (shard : IsShard s) (form : Form) (old new : Source) (before after : Option (List ℕ)) (n : ℕ) (are : AreBytesOf s expiry (bytes_left old))
-    (exports : Exports form old new before after n) where
+-- what an export of the shard's bytes writes, in whichever version they are, with auxiliary rows or without
+module _ (aux : Bool) (s : Shard) (expiry : Option ℕ) (shard : IsShard s) (form : Form) (old new : Source) (before after : Option (List ℕ)) (n : ℕ) (are : AreBytesOf s expiry (bytes_left old))
+    (exports : ExportsWith aux form old new before after n) where
   abbrev own_header : HasHeader (bytes_left old)
   own_header = header_of (bytes_left old) _ (header_value are.version) (are.bytes_are ∙ layout_from_48 (values s.files) (values s.xorbs) (plain_form_in are.version expiry)) (are.version, refl)
 
@@ -184,16 +158,13 @@ module _ (s : Shard) (expiry : Option ℕ) (shard : IsShard s) (form : Form) (ol
       only_list xorb_records xorb_laws (drop (48 + length (section_bytes file_records (values s.files))) (layout_in_version are.version s expiry)) exports.xorbs (values s.xorbs)
       (subst (λ bytes. IsSection xorb_records bytes exports.xorbs) (λ i. drop (after_files i) (are.bytes_are i)) exports.xorb_section) (xorb_section_of_shard are.version s expiry shard)
 
-  pub export_of_bytes : Appends before after (exported (values s.files) (values s.xorbs) form)
-  export_of_bytes = subst (Appends before after) (λ i. exported (files_read i) (xorbs_read i) form) exports.written
+  pub export_of_bytes : Appends before after (exported (auxes_as_wanted aux (values s.files)) (values s.xorbs) form)
+  export_of_bytes = subst (Appends before after) (λ i. exported (auxes_as_wanted aux (files_read i)) (xorbs_read i) form) exports.written
 
-  pub export_written : Appends before after (layout_of (if_in form.file_table (values s.files)) (values (keyed_shard form.key s).xorbs) form)
-  export_written = subst (Appends before after) (exported_in s form) export_of_bytes
-
--- what an option that is mapped has
-mapped_some : {X Y : Type 0} (f : X → Y) (o : Option X) (y : Y) → option_map f o ≡ Some y → (x : X) × (o ≡ Some x) × (f x ≡ y)
-mapped_some f None y is = absurd (none-some y is)
-mapped_some f (Some x) y is = (x, refl, same_Some (f x) y is)
+pub export_written : (s : Shard) (expiry : Option ℕ) → IsShard s → (form : Form) (old new : Source) (before after : Option (List ℕ)) (n : ℕ) → AreBytesOf s expiry (bytes_left old)
+    → Exports form old new before after n → Appends before after (layout_of (if_in form.file_table (values s.files)) (values (keyed_shard form.key s).xorbs) form)
+export_written s expiry shard form old new before after n are exports =
+    subst (Appends before after) (exported_in s form) (export_of_bytes true s expiry shard form old new before after n are exports)
 
 -- under a key a run is at least as long
 pub longer_under : (key : DataHash) (s : Shard) (q : DataHash) (index : ℕ) (qs : List DataHash) (run : ℕ × FileDataSequenceEntry) → run_under no_key s q index qs ≡ Some run
@@ -260,8 +231,8 @@ module _ (plan : MergePlan) (shard_at : ℕ → Shard) (join : Shard) (joins : J
       → (longer : ℕ × FileDataSequenceEntry) × (run_under key (keyed_shard key join) q index qs ≡ Some longer) × (run.0 ≤ longer.0)
   longer_run key i q index qs run member is = longer_under key join q index qs run (run_kept no_key i q index qs run member is)
 
--- two exports of one shard differ in the two timestamps of the footer alone
-module _ (s : Shard) (key : DataHash) where
+-- two exports of the same records differ in the two timestamps of the footer alone
+module _ (files : List MDBFileInfo) (xorbs : List MDBXorbInfo) (key : DataHash) where
   abbrev full_form : ℕ → ℕ → Form
   full_form now valid = export_form key now valid true true true
 
@@ -275,14 +246,14 @@ module _ (s : Shard) (key : DataHash) where
   regrouped b o t u m n = simp (append_assoc, append-nil)
 
   abbrev export_footer : ℕ → ℕ → MDBShardFileFooter
-  export_footer now valid = footer_value (values s.files) (keyed_xorbs key (values s.xorbs)) (full_form now valid)
+  export_footer now valid = footer_value files (keyed_xorbs key xorbs) (full_form now valid)
 
   abbrev before_footer : List ℕ
   before_footer =
-      let xorbs = keyed_xorbs key (values s.xorbs) in
-      ((((shard_header_bytes (header_value V3) ++ section_bytes file_records (values s.files)) ++ section_bytes xorb_records xorbs) ++ table_bytes file_records (values s.files))
-      ++ table_bytes xorb_records xorbs)
-      ++ chunk_table_bytes xorbs
+      let keyed = keyed_xorbs key xorbs in
+      ((((shard_header_bytes (header_value V3) ++ section_bytes file_records files) ++ section_bytes xorb_records keyed) ++ table_bytes file_records files)
+      ++ table_bytes xorb_records keyed)
+      ++ chunk_table_bytes keyed
 
   abbrev pub before_timestamps : List ℕ
   before_timestamps = before_footer ++ front_of (export_footer 0 0)
@@ -291,7 +262,7 @@ module _ (s : Shard) (key : DataHash) where
   after_timestamps = rest_of (export_footer 0 0)
 
   pub split_at_timestamps : (now valid : ℕ)
-      → exported (values s.files) (values s.xorbs) (full_form now valid) ≡ before_timestamps ++ u64_bytes now ++ u64_bytes (now + valid) ++ after_timestamps
+      → exported files xorbs (full_form now valid) ≡ before_timestamps ++ u64_bytes now ++ u64_bytes (now + valid) ++ after_timestamps
   unfolding layout_of shard_footer_bytes
   split_at_timestamps now valid =
       let f = export_footer now valid in

@@ -7,6 +7,7 @@ pub mod Held
 pub mod ListMaps
 pub mod Lists
 pub mod LookupsFound
+pub mod MappedLeaves
 pub mod MergeTrees
 pub mod MinimalAgain
 pub mod MixWriting
@@ -19,5 +20,6 @@ pub mod Readable
 pub mod Refusing
 pub mod Results
 pub mod SideBySide
+pub mod TreesOfExports
 pub mod UnitedFiles
 pub mod Uniting

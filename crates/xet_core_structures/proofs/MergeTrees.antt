@@ -24,16 +24,13 @@ use Rattle.xet_shards.specs.SetOperations.{HasFewRows}
 use Rattle.xet_shards.specs.Shard.{Shard, IsShard}
 use Rattle.xet_shards.proofs.Joins.{join-unique, join-one, follows_parts}
 use Rattle.xet_shards.proofs.AgreeingJoins.{joins_exist, lists_agree, union-of_joins, agree_left, agree_right, union_is_shard, fewer_if_more}
+use Rattle.xet_shards.proofs.MappedShards.{mapped_member}
 use Rattle.xet_core_structures.specs.declared.set_operations.MergePlan.{MergePlan}
 use Rattle.xet_core_structures.specs.declared.set_operations.MergePlan.TheVariants.{Leaf, Both'}
 use Rattle.xet_core_structures.specs.ByteResults.{keyed_form, keyed_layout, UnitesBytes, BytesRefusal}
 use Rattle.xet_core_structures.specs.ExportTrees.{FitsForm}
 use Rattle.xet_core_structures.specs.MergeTrees.{leaves, HasUnion, TreeWrites, TreeRefusal, AtLeaves, AreWritten}
 use Rattle.xet_core_structures.proofs.ByteUnions.{layout_in, form_union, refused_union, plain_fits}
-
--- a member of a list is one of the list that is mapped
-pub mapped_member : {X Y : Type 0} (f : X → Y) (xs : List X) (x : X) → Contains xs x → Contains (map f xs) (f x)
-mapped_member f xs x (k, within, is) = (k, omega (arith, within, length-map xs f), get_or-map f xs k x (f x) within ∙ ap f is)
 
 -- the bytes of a shard in a form with this key
 record IsLayout (key : DataHash) (out : List ℕ) (c : Shard) (form : Form) : Type 0 where

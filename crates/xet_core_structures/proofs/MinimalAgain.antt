@@ -6,7 +6,7 @@ use Rattle.std.specs.Prelude.{All, ◌&&◌, not, if◌then◌else◌}
 use Rattle.std.specs.Io.KnownBytes.{Consumes}
 use Rattle.std.specs.List.{enumerate_from}
 use Rattle.std.proofs.lemmas.List.{append_assoc}
-use Rattle.std.proofs.lemmas.List.Elements.{All-nil, All-cons, All-drop}
+use Rattle.std.proofs.lemmas.List.Elements.{All-nil, All-cons, All-drop, All-map, All-weaker}
 use Rattle.xet_base.specs.declared.merklehash.DataHash.{DataHash}
 use Rattle.xet_base.specs.Hash.{all_ones}
 use Rattle.xet_base.specs.Source.{Source, Takes, bytes_left}
@@ -19,7 +19,9 @@ use Rattle.xet_records.specs.RecordKind.{RecordKind, KindLaws}
 use Rattle.xet_records.specs.FileRecord.{file_records, has_verification, has_metadata_ext, FitsItsHeader, IsStored, file_records_in, has_aux_ext}
 use Rattle.xet_records.specs.XorbRow.{FitsChunk}
 use Rattle.xet_records.specs.XorbRecord.{xorb_records, IsStoredXorb}
-use Rattle.xet_records.specs.View.{as_wanted, without_verification}
+use Rattle.xet_records.specs.declared.file_structs.view.KeptParts.{KeptParts}
+use Rattle.xet_records.specs.View.{as_wanted, without_verification, aux_as_wanted, as_kept}
+use Rattle.xet_records.proofs.KeptParts.{without_aux-stored}
 use Rattle.xet_records.proofs.Merging.{verification_injective, metadata_ext_injective, aux_ext_injective}
 use Rattle.xet_records.proofs.RecordKinds.{xorb_laws, version_known}
 use Rattle.xet_shards.specs.declared.streaming_shard.file_start.FileStart.{FileStart}
@@ -27,13 +29,13 @@ use Rattle.xet_shards.specs.InForm.{FitsSection}
 use Rattle.xet_shards.specs.declared.shard_format.form.Form.{Form}
 use Rattle.xet_shards.specs.Layout.{if_in, layout_of, header_value, shard_header_bytes}
 use Rattle.xet_shards.specs.MinimalReading.{ReadsViews, ReadsWantedXorbs, ReadsMinimal, ReadsEligible}
-use Rattle.xet_shards.specs.MinimalShard.{MinimalShard, FitsSections, IsKept, is_start, chunk_of, marked_if, mark_starts, eligible_in, eligible_hashes, ascending_hashes, minimal_form, WritesMinimal, WritesKept}
+use Rattle.xet_shards.specs.MinimalShard.{MinimalShard, FitsSections, IsKept, is_start, chunk_of, marked_if, mark_starts, eligible_in, eligible_hashes, ascending_hashes, minimal_form, WritesMinimalKept, WritesKept}
 use Rattle.xet_shards.specs.Section.{section_bytes}
 use Rattle.xet_shards.specs.SectionReading.{IsSection}
 use Rattle.xet_shards.proofs.Layouts.{length-shard_header_bytes}
 use Rattle.xet_shards.proofs.MinimalLaws.{subset_again, written_again}
 use Rattle.xet_shards.proofs.MinimalReading.{reads_fit, none_fit, kept_fit}
-use Rattle.xet_shards.proofs.MinimalWriting.{marked_whole, as_wanted-fits, rows_as_wanted, rows_kept}
+use Rattle.xet_shards.proofs.MinimalWriting.{marked_whole, as_wanted-fits, rows_as_kept, rows_kept}
 use Rattle.xet_shards.proofs.Readback.{after_section, after_xorbs, layout_from_48}
 use Rattle.xet_shards.proofs.Sections.{section_there, files_laws, fits_ever, section_bytes_in}
 use Rattle.xet_shards.proofs.SectionUnique.{only_list}
@@ -119,13 +121,18 @@ file_as_wanted wanted r stored =
         }
     still_whole false = stored.whole
 
-all_as_wanted : (wanted : Bool) (files : List MDBFileInfo) → All IsStored files → All IsStored (map (as_wanted wanted) files)
-all_as_wanted wanted [] stored = All-nil IsStored
-all_as_wanted wanted (r ∷ files) stored =
-    All-cons IsStored (as_wanted wanted r) (map (as_wanted wanted) files) (file_as_wanted wanted r (stored 0 r (omega arith))) (all_as_wanted wanted files (All-drop IsStored 1 (r ∷ files) stored))
+file_as_kept : (kept : KeptParts) (r : MDBFileInfo) → IsStored r → IsStored (as_kept kept r)
+file_as_kept kept r stored = either kept.aux_ext
+  where
+    either : (b : Bool) → IsStored (aux_as_wanted b (as_wanted kept.verification r))
+    either true = file_as_wanted kept.verification r stored
+    either false = without_aux-stored (as_wanted kept.verification r) (file_as_wanted kept.verification r stored)
 
-files_as_wanted : (wanted : Bool) (files : List MDBFileInfo) → FitsSection file_records files → FitsSection file_records (map (as_wanted wanted) files)
-files_as_wanted wanted files fits = record { stored = all_as_wanted wanted files fits.stored; rows = omega (arith, rows_as_wanted wanted files, fits.rows) }
+files_as_kept : (kept : KeptParts) (files : List MDBFileInfo) → FitsSection file_records files → FitsSection file_records (map (as_kept kept) files)
+files_as_kept kept files fits = record {
+  stored = All-map IsStored (as_kept kept) files (All-weaker IsStored (λ r. IsStored (as_kept kept r)) (file_as_kept kept) files fits.stored);
+  rows = omega (arith, rows_as_kept kept files, fits.rows);
+}
 
 -- so is a xorb with marks
 mark_fits : (b : Bool) (c : XorbChunkSequenceEntry) → FitsChunk c → FitsChunk (marked_if b c)
@@ -214,19 +221,19 @@ each_kept [] = refl
 each_kept (x ∷ xs) = (true, tt, xs, each_kept xs, refl)
 
 -- a shard that is read again, and written again
-pub shard_read : (wanted : Bool) (now : ℕ) (m n : MinimalShard) (y : List ℕ) (new : Option (List ℕ)) (k : ℕ) → FitsSections m
-    → WritesMinimal (Some []) (Some y) wanted now m k → ReadsMinimal Consumes true true (Some y) new n
-    → (n.files ≡ map (as_wanted wanted) m.files) × (n.xorbs ≡ map (mark_starts (is_start m.files)) m.xorbs)
-shard_read wanted now m n y new k fits written read =
-    layout_read (map (as_wanted wanted) m.files) (map (mark_starts (is_start m.files)) m.xorbs) (minimal_form now None) y new true n (files_as_wanted wanted m.files fits.files)
+pub shard_read : (kept : KeptParts) (now : ℕ) (m n : MinimalShard) (y : List ℕ) (new : Option (List ℕ)) (k : ℕ) → FitsSections m
+    → WritesMinimalKept (Some []) (Some y) kept now m k → ReadsMinimal Consumes true true (Some y) new n
+    → (n.files ≡ map (as_kept kept) m.files) × (n.xorbs ≡ map (mark_starts (is_start m.files)) m.xorbs)
+shard_read kept now m n y new k fits written read =
+    layout_read (map (as_kept kept) m.files) (map (mark_starts (is_start m.files)) m.xorbs) (minimal_form now None) y new true n (files_as_kept kept m.files fits.files)
     (xorbs_marked (is_start m.files) (λ x b. Unit {0}) m.xorbs m.xorbs (each_kept m.xorbs) fits.xorbs) written.appended read
 
-pub shard_again : (wanted : Bool) (now : ℕ) (m n : MinimalShard) (y z : List ℕ) (new : Option (List ℕ)) (k l : ℕ) → FitsSections m
-    → WritesMinimal (Some []) (Some y) wanted now m k → ReadsMinimal Consumes true true (Some y) new n → WritesMinimal (Some []) (Some z) wanted now n l → z ≡ y
-shard_again wanted now m n y z new k l fits written read again =
-    let back = shard_read wanted now m n y new k fits written read in
-    let same = written_again wanted m.files m.xorbs in
+pub shard_again : (kept : KeptParts) (now : ℕ) (m n : MinimalShard) (y z : List ℕ) (new : Option (List ℕ)) (k l : ℕ) → FitsSections m
+    → WritesMinimalKept (Some []) (Some y) kept now m k → ReadsMinimal Consumes true true (Some y) new n → WritesMinimalKept (Some []) (Some z) kept now n l → z ≡ y
+shard_again kept now m n y z new k l fits written read again =
+    let back = shard_read kept now m n y new k fits written read in
+    let same = written_again kept m.files m.xorbs in
     again.appended
-    ∙ (λ i. layout_of (map (as_wanted wanted) (back.0 i)) (map (mark_starts (is_start (back.0 i))) (back.1 i)) (minimal_form now None))
+    ∙ (λ i. layout_of (map (as_kept kept) (back.0 i)) (map (mark_starts (is_start (back.0 i))) (back.1 i)) (minimal_form now None))
     ∙ (λ i. layout_of (same.0 i) (same.1 i) (minimal_form now None))
     ∙ sym written.appended

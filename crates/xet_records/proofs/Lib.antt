@@ -15,3 +15,4 @@ pub mod SectionRecords
 pub mod XorbViews
 pub mod XorbUnique
 pub mod Merging
+pub mod KeptParts

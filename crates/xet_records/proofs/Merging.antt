@@ -43,11 +43,11 @@ weight : (v : Bool) (n : ℕ) → (if v then n else 0) ≡ one v * n
 weight true n = omega arith
 weight false n = omega arith
 
-bit_injective : (flags k : ℕ) (v : Bool) → (bit_at flags k == 1) ≡ v → bit_at flags k ≡ one v
+pub bit_injective : (flags k : ℕ) (v : Bool) → (bit_at flags k == 1) ≡ v → bit_at flags k ≡ one v
 bit_injective flags k true is = grind (arith, nat_tests, is)
 bit_injective flags k false is = grind (arith, nat_tests, is, bit_at-lt flags k)
 
-bit_shows : (flags k : ℕ) (v : Bool) → bit_at flags k ≡ one v → (bit_at flags k == 1) ≡ v
+pub bit_shows : (flags k : ℕ) (v : Bool) → bit_at flags k ≡ one v → (bit_at flags k == 1) ≡ v
 bit_shows flags k true is = ap (λ b. b == 1) is
 bit_shows flags k false is = ap (λ b. b == 1) is
 
@@ -90,6 +90,10 @@ flags_fit v m x = omega (arith, flags_weigh v m x, one_small v, one_small m, one
 pub aux_flag_added : (v m w : Bool) → with_aux_flag w (flags_of v m false) ≡ flags_of v m w
 aux_flag_added v m w =
     omega (arith, weight (has_aux_ext (flags_of v m false)) 536870912, ap one (aux_ext_injective v m false))
+
+pub aux_flag_cleared : (v m x : Bool) → with_aux_flag false (flags_of v m x) ≡ flags_of v m false
+aux_flag_cleared v m x =
+    omega (arith, flags_weigh v m x, weight m 1073741824, weight v 2147483648, weight (has_aux_ext (flags_of v m x)) 536870912, ap one (aux_ext_injective v m x))
 
 flags_known : (v m x : Bool) → flags_of v m x % 2 ^ 29 ≡ 0
 flags_known v m x = omega (arith, flags_weigh v m x)

@@ -14,7 +14,7 @@ use Rattle.xet_records.specs.XorbRow.{xorb_header_row, chunk_row, FitsXorbHeader
 use Rattle.xet_records.specs.XorbRecord.{xorb_record_bytes, xorb_records}
 use Rattle.xet_records.specs.Decoding.{segment_at, verification_at, metadata_at, aux_at, chunk_at, rows_at, optional_at, file_at, xorb_at}
 use Rattle.xet_records.specs.RecordKind.{RecordKind}
-use Rattle.xet_records.specs.View.{IsWholeFile, IsWholeXorb, BeginsWithHeaderRow, BeginsWithRecord, Shows, ShowsRecord, without_verification}
+use Rattle.xet_records.specs.View.{IsWholeFile, IsWholeXorb, BeginsWithHeaderRow, BeginsWithRecord, Shows, ShowsRecord}
 use Rattle.xet_records.proofs.Lengths.{length-header_row, length-segment_rows, length-verification_rows, length-metadata_row, length-aux_row, length-optional_row, length-xorb_header_row}
 use Rattle.xet_records.proofs.Record.{optional_rows}
 use Rattle.xet_records.proofs.Unique.{optional_fits}
@@ -157,18 +157,9 @@ module _ (header : FileDataSequenceHeader) (bytes : List ℕ) (r : MDBFileInfo) 
       optional_rows r.aux_ext ∙ ap (λ (b : Bool). if b then 1 else 0) (shown.whole.parts.aux_ext
       ∙ ap (λ (h : FileDataSequenceHeader). has_aux_ext h.file_flags) shown.same_header)
 
-  -- the record without its verification rows has the bytes of the other parts
+  -- the bytes of the last two parts
   abbrev pub last_parts : List ℕ
   last_parts = flat_map metadata_row (option_to_list r.metadata_ext) ++ flat_map aux_row (option_to_list r.aux_ext)
-
-  pub parts_without_verification : (header_bytes segment_bytes last_bytes : List ℕ) → header_bytes ≡ header_row (without_verification r).metadata
-      → segment_bytes ≡ flat_map segment_row r.segments → last_bytes ≡ last_parts
-      → (header_bytes ++ segment_bytes) ++ last_bytes ≡ file_record_bytes (without_verification r)
-  unfolding file_record_bytes file_rows_bytes
-  parts_without_verification header_bytes segment_bytes last_bytes header_is segments_are last_is =
-      (λ i. (header_is i ++ segments_are i) ++ last_is i)
-      ∙ append_assoc (header_row (without_verification r).metadata) (flat_map segment_row r.segments) last_parts
-      ∙ ap (λ bs. header_row (without_verification r).metadata ++ (bs ++ last_parts)) (sym (append-nil (flat_map segment_row r.segments)))
 
   pub has_segments : HasRows segment_row FitsSegment bytes 1 r.segments
   unfolding file_record_bytes file_rows_bytes

@@ -1,6 +1,6 @@
 -- What some bytes are to a view: the record that they begin with, whatever follows it, or why they
 -- begin with none.
-use Rattle.std.specs.Prelude.{◌≡◌, ◌≢◌, ◌⊎◌, ℕ, ◌+◌, ◌*◌, ◌<◌, ◌≤◌, Bool, false, not, ◌&&◌, IsTrue, List, [], ◌∷◌, ◌++◌, length, slice_get, Some, if◌then◌else◌}
+use Rattle.std.specs.Prelude.{◌≡◌, ◌≢◌, ◌⊎◌, ℕ, ◌+◌, ◌*◌, ◌<◌, ◌≤◌, Bool, false, not, ◌&&◌, IsTrue, List, [], ◌∷◌, ◌++◌, length, map, slice_get, None, Some, if◌then◌else◌}
 use Rattle.std.specs.IoError.{error_kind}
 use Rattle.std.specs.declared.io.ErrorKind.TheVariants.{Other}
 use Rattle.xet_base.specs.declared.error.CoreError.{CoreError}
@@ -9,10 +9,12 @@ use Rattle.xet_base.specs.Errors.{IsEndOfInput}
 use Rattle.xet_base.specs.Hash.{all_ones}
 use Rattle.xet_base.specs.Table.{IsBareInvalidShard}
 use Rattle.xet_records.specs.declared.file_structs.MDBFileInfo.{MDBFileInfo}
+-- which of a record's verification rows and auxiliary row are written
+pub use Rattle.xet_records.specs.declared.file_structs.view.KeptParts.{KeptParts}
 use Rattle.xet_records.specs.declared.xorb_structs.XorbChunkSequenceEntry.{XorbChunkSequenceEntry}
 use Rattle.xet_records.specs.declared.xorb_structs.MDBXorbInfo.{MDBXorbInfo}
 use Rattle.xet_records.specs.RecordKind.{RecordKind}
-use Rattle.xet_records.specs.FileRecord.{has_verification, has_metadata_ext, has_aux_ext, flags_of, FitsItsHeader, FitsRecord, file_records}
+use Rattle.xet_records.specs.FileRecord.{has_verification, has_metadata_ext, has_aux_ext, flags_of, with_aux_flag, FitsItsHeader, FitsRecord, file_records}
 use Rattle.xet_records.specs.XorbRecord.{end_of_chunk, HasItsChunks, FitsXorb, xorb_records}
 
 -- a record that has the parts that its header announces, with its numbers within their widths; its
@@ -103,6 +105,27 @@ without_verification r = record {
 abbrev pub as_wanted : Bool → MDBFileInfo → MDBFileInfo
 as_wanted wanted r =
     if has_verification r.metadata.file_flags && not wanted then without_verification r else r
+
+-- a record without its auxiliary row: its header has bit 29 cleared, and all else is as it is
+abbrev pub without_aux : MDBFileInfo → MDBFileInfo
+without_aux r =
+    record r {
+      metadata =
+          record r.metadata { file_flags = with_aux_flag false r.metadata.file_flags };
+      aux_ext = None;
+    }
+
+-- the record, without its auxiliary row unless that is wanted
+abbrev pub aux_as_wanted : Bool → MDBFileInfo → MDBFileInfo
+aux_as_wanted wanted r = if wanted then r else without_aux r
+
+-- the same of a list
+abbrev pub auxes_as_wanted : Bool → List MDBFileInfo → List MDBFileInfo
+auxes_as_wanted wanted rs = if wanted then rs else map without_aux rs
+
+-- the record that is written where these parts are kept
+abbrev pub as_kept : KeptParts → MDBFileInfo → MDBFileInfo
+as_kept kept r = aux_as_wanted kept.aux_ext (as_wanted kept.verification r)
 
 -- verification rows are wanted, and the record has none
 abbrev pub LacksVerification : Bool → MDBFileInfo → Type 0

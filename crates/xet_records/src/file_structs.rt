@@ -19,7 +19,7 @@ pub use header::{FileDataSequenceHeader, SupersetResult};
 pub use rows::{FileAuxExt, FileDataSequenceEntry, FileMetadataExt, FileVerificationEntry};
 use std::alloc::Global;
 use std::io::{Read, Write};
-pub use view::MDBFileInfoView;
+pub use view::{KeptParts, MDBFileInfoView};
 use xet_base::error::{CoreError, Result};
 use xet_base::input::{ByteInput, OfReader};
 use xet_base::merklehash::MerkleHash;

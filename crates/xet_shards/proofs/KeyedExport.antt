@@ -4,7 +4,7 @@ use Rattle.std.specs.Prelude.{◌⊎◌, All, MatchResult}
 use Rattle.std.specs.declared.result.Result.{Result}
 use Rattle.std.specs.Io.KnownBytes.{Appends}
 use Rattle.std.proofs.KnownBytes.{Appends-trans}
-use Rattle.std.proofs.lemmas.List.{drop-drop, length-append}
+use Rattle.std.proofs.lemmas.List.{drop-drop, length-append, map-id}
 use Rattle.std.proofs.lemmas.List.Elements.{All-append, All-cons, All-nil}
 use Rattle.std.proofs.lemmas.List.Sums.{sum_by-append, sum_by-cons, sum_by_push}
 use Rattle.std.proofs.lemmas.List.Concat.{flat_map_single}
@@ -21,6 +21,7 @@ use Rattle.xet_records.specs.RecordKind.{RecordKind, in_version, KindLaws}
 use Rattle.xet_records.specs.Reading.{ReadsBookend, CountsRecord, ReadsNextRecord, HasRead}
 use Rattle.xet_records.specs.ViewReading.{CountsStored, ReadsNextView}
 use Rattle.xet_records.specs.FileRecord.{file_records, file_records_in, FitsRecord}
+use Rattle.xet_records.specs.View.{aux_as_wanted, auxes_as_wanted}
 use Rattle.xet_records.specs.declared.record_reader.FormatVersion.{FormatVersion}
 use Rattle.xet_records.specs.declared.record_reader.FormatVersion.TheVariants.{V3}
 use Rattle.xet_records.specs.Version.{IsVersion, version_of}
@@ -36,11 +37,12 @@ use Rattle.xet_shards.specs.Written.{end_of_layout}
 use Rattle.xet_shards.specs.InForm.{FitsSection}
 use Rattle.xet_shards.specs.Ends.{HasHeader, FitsFooter}
 use Rattle.xet_shards.specs.SectionReading.{IsSection, TakesNoSection, RecordFails}
-use Rattle.xet_shards.specs.KeyedExport.{Exports, ExportFails, ExportCase, CannotExport, ExpiresTooLate, BadSection, PassesSection, ExportsSection, WritingFails, HasExported, exported_file, exported_xorb, xorbs_after, keyed_xorb, keyed_xorbs}
+use Rattle.xet_shards.specs.KeyedExport.{ExportsWith, ExportFails, ExportCase, CannotExport, ExpiresTooLate, BadSection, PassesSection, ExportsSection, WritingFails, HasExported, exported_file, exported_xorb, xorbs_after, keyed_xorb, keyed_xorbs}
 use Rattle.xet_shards.specs.KeyedExport.ExportCase.{bad_files, bad_xorbs, not_written}
 use Rattle.xet_shards.proofs.EndsUnique.{ends_of_layout}
 use Rattle.xet_shards.proofs.Files.{length-le-rows}
 use Rattle.xet_shards.proofs.KeyedHashes.{keyed_section}
+use Rattle.xet_shards.proofs.FilesWithoutAux.{section-aux_as_wanted}
 use Rattle.xet_shards.proofs.Layouts.{length-shard_header_bytes, length-shard_footer_bytes}
 use Rattle.xet_shards.proofs.Loading.{header_of}
 use Rattle.xet_shards.proofs.SectionReading.{section_passed, section_fails}
@@ -74,17 +76,21 @@ if_in-section true files fits = fits
 if_in-section false files fits = record { stored = All-nil file_records.IsStored; rows = omega arith }
 
 -- what an export writes of files is all of them or none, and of xorbs all, under the key
-pub files_exported : (form : Form) (files : List MDBFileInfo) → flat_map (exported_file form) files ≡ if_in form.file_table files
-files_exported form files = by_table form.file_table files
+pub files_exported : (aux : Bool) (form : Form) (files : List MDBFileInfo) → flat_map (exported_file aux form) files ≡ if_in form.file_table (auxes_as_wanted aux files)
+files_exported aux form files = by_table form.file_table files ∙ ap (if_in form.file_table) (each aux files)
   where
-    by_table : (b : Bool) (rs : List MDBFileInfo) → flat_map (λ r. if_in b (r ∷ [])) rs ≡ if_in b rs
+    by_table : (b : Bool) (rs : List MDBFileInfo) → flat_map (λ r. if_in b (aux_as_wanted aux r ∷ [])) rs ≡ if_in b (map (aux_as_wanted aux) rs)
     by_table true [] = refl
-    by_table true (r ∷ rs) = ap (λ xs. r ∷ xs) (by_table true rs)
+    by_table true (r ∷ rs) = ap (λ xs. aux_as_wanted aux r ∷ xs) (by_table true rs)
     by_table false [] = refl
     by_table false (r ∷ rs) = by_table false rs
 
-pub xorbs_exported : (form : Form) (xorbs : List MDBXorbInfo) → flat_map (exported_xorb form) xorbs ≡ keyed_xorbs form.key xorbs
-xorbs_exported form xorbs = flat_map_single (keyed_xorb form.key) xorbs
+    each : (b : Bool) (rs : List MDBFileInfo) → map (aux_as_wanted b) rs ≡ auxes_as_wanted b rs
+    each true rs = map-id rs
+    each false rs = refl
+
+pub xorbs_exported : (aux : Bool) (form : Form) (xorbs : List MDBXorbInfo) → flat_map (exported_xorb aux form) xorbs ≡ keyed_xorbs form.key xorbs
+xorbs_exported aux form xorbs = flat_map_single (keyed_xorb form.key) xorbs
 
 -- a xorb that was read is as it is stored
 xorb_as_stored : (version : FormatVersion) (Took : List ℕ → Type 0) (left after : ℕ) (r : MDBXorbInfo)
@@ -251,9 +257,9 @@ module _ (old s1 : Source) (h : MDBShardFileHeader) (taken : Takes old s1 (shard
         (λ bad. bad_xorbs header_there files file_section (subst (λ bs. BadSection xorb_records bs e) xorbs_left bad)) why
 
     -- after the xorbs
-    module _ (s3 : Source) (xorbs : List MDBXorbInfo) (rest : PassesSection xorb_records s2 s3 xorbs) (form : Form) where
+    module _ (s3 : Source) (xorbs : List MDBXorbInfo) (rest : PassesSection xorb_records s2 s3 xorbs) (aux : Bool) (form : Form) where
       abbrev pub files_out : List MDBFileInfo
-      files_out = if_in form.file_table files
+      files_out = if_in form.file_table (auxes_as_wanted aux files)
 
       abbrev pub xorbs_out : List MDBXorbInfo
       xorbs_out = keyed_xorbs form.key xorbs
@@ -272,8 +278,8 @@ module _ (old s1 : Source) (h : MDBShardFileHeader) (taken : Takes old s1 (shard
       }))
 
       files_fit : FitsSection file_records files_out
-      files_fit = if_in-section form.file_table files
-          (fits_ever file_records (version_of h.version) files (record { stored = file_section.records.are_stored; rows = file_section.records.rows }))
+      files_fit = if_in-section form.file_table (auxes_as_wanted aux files)
+          (section-aux_as_wanted aux files (fits_ever file_records (version_of h.version) files (record { stored = file_section.records.are_stored; rows = file_section.records.rows })))
 
       xorbs_fit : FitsSection xorb_records xorbs_out
       xorbs_fit = keyed_section form.key xorbs (record { stored = rest.section.records.are_stored; rows = rest.section.records.rows })
@@ -289,7 +295,7 @@ module _ (old s1 : Source) (h : MDBShardFileHeader) (taken : Takes old s1 (shard
           → footer ≡ footer_value files_out xorbs_out form → FitsFooter footer → n ≡ footer.footer_offset + 200
           → Appends start after_header (shard_header_bytes (header_value form.version)) → Appends after_header after_files (section_bytes file_records files_out)
           → Appends after_files after_xorbs (section_bytes xorb_records xorbs_out) → Appends after_xorbs end (end_of_layout files_out xorbs_out form)
-          → Exports form old s3 start end n
+          → ExportsWith aux form old s3 start end n
       all_exported is_3 footer start after_header after_files after_xorbs end n is fits count header_out files_bytes xorbs_bytes end_bytes = record {
         files = files;
         xorbs = xorbs;

@@ -20,53 +20,24 @@ use Rattle.xet_records.specs.XorbRecord.{xorb_records, IsXorb, total_bytes}
 use Rattle.xet_shards.specs.Section.{total_rows}
 use Rattle.xet_shards.specs.Shard.{Shard, IsShard, AreXorbs, xorb_hash_of}
 use Rattle.xet_shards.specs.SetOperations.{IsUnion, ShardsAgree}
-use Rattle.xet_shards.specs.Joins.{IsJoinOf, HasWhatAnyHas}
+use Rattle.xet_shards.specs.Joins.{IsJoinOf}
 use Rattle.xet_shards.specs.ChunkQuery.{run_length}
 use Rattle.xet_shards.specs.Layout.{Form, if_in, layout_of}
 use Rattle.xet_shards.specs.KeyedExport.{keyed_chunk, keyed_xorb, keyed_xorbs, exported}
 use Rattle.xet_shards.specs.KeyedShards.{keyed_entries, keyed_shard}
 use Rattle.xet_shards.proofs.KeyedHashes.{keyed_stored, keyed_rows, keyed_total}
-
--- entries whose values are mapped
-module _ {X : Type 0} (f : X → X) where
-  abbrev mapped : List (DataHash × X) → List (DataHash × X)
-  mapped es = map (λ e. (e.0, f e.1)) es
-
-  below-mapped : (q : DataHash) (es : List (DataHash × X)) → below_all hash_cmp q (mapped es) ≡ below_all hash_cmp q es
-  below-mapped q [] = refl
-  below-mapped q (e ∷ es) = ap (λ b. is_lt (hash_cmp q e.0) && b) (below-mapped q es)
-
-  sorted-mapped : (es : List (DataHash × X)) → is_sorted hash_cmp (mapped es) ≡ is_sorted hash_cmp es
-  sorted-mapped [] = refl
-  sorted-mapped (e ∷ es) = λ i. below-mapped e.0 es i && sorted-mapped es i
-
-  find-mapped : (q : DataHash) (es : List (DataHash × X)) → find hash_cmp q (mapped es) ≡ option_map f (find hash_cmp q es)
-  find-mapped q [] = refl
-  find-mapped q (e ∷ es) = by_key (eq_by_cmp hash_cmp q e.0) (find-mapped q es)
-    where
-      by_key : (b : Bool) → find hash_cmp q (mapped es) ≡ option_map f (find hash_cmp q es)
-          → cond b (Some (f e.1)) (find hash_cmp q (mapped es)) ≡ option_map f (cond b (Some e.1) (find hash_cmp q es))
-      by_key true rest = refl
-      by_key false rest = rest
-
-  values-mapped : (es : List (DataHash × X)) → map (λ e. e.1) (mapped es) ≡ map f (map (λ e. e.1) es)
-  values-mapped [] = refl
-  values-mapped (e ∷ es) = ap (λ vs. f e.1 ∷ vs) (values-mapped es)
+use Rattle.xet_shards.proofs.MappedMaps.{entries-mapped, values-mapped, get-mapped, mapped_some}
+use Rattle.xet_shards.proofs.MappedShards.{mapped_member, unmapped_member, part_kept}
 
 module _ (key : DataHash) (s : Shard) where
-  sorted-keyed : T (is_sorted hash_cmp (keyed_entries key (entries s.xorbs)))
-  sorted-keyed = subst T (sym (sorted-mapped (keyed_xorb key) (entries s.xorbs))) (entries_sorted s.xorbs)
-
-  pub entries-keyed : entries (keyed_shard key s).xorbs ≡ keyed_entries key (entries s.xorbs)
-  entries-keyed = entries-from_sorted hash_cmp (keyed_entries key (entries s.xorbs)) sorted-keyed
+  entries-keyed : entries (keyed_shard key s).xorbs ≡ keyed_entries key (entries s.xorbs)
+  entries-keyed = entries-mapped (keyed_xorb key) s.xorbs
 
   pub values-keyed : values (keyed_shard key s).xorbs ≡ keyed_xorbs key (values s.xorbs)
-  values-keyed = ap (map (λ (e : DataHash × MDBXorbInfo). e.1)) entries-keyed ∙ values-mapped (keyed_xorb key) (entries s.xorbs)
+  values-keyed = values-mapped (keyed_xorb key) s.xorbs
 
   pub get-keyed : (q : DataHash) → get (keyed_shard key s).xorbs q ≡ option_map (keyed_xorb key) (get s.xorbs q)
-  get-keyed q =
-      get-from_sorted hash_cmp (keyed_entries key (entries s.xorbs)) q sorted-keyed ∙ find-mapped (keyed_xorb key) q (entries s.xorbs)
-      ∙ ap (option_map (keyed_xorb key)) (sym (get-entries s.xorbs q))
+  get-keyed = get-mapped (keyed_xorb key) s.xorbs
 
 -- sizes of chunks stay
 keyed_bytes : (key : DataHash) (cs : List XorbChunkSequenceEntry) → total_bytes (map (keyed_chunk key) cs) ≡ total_bytes cs
@@ -103,14 +74,10 @@ keyed_is_shard key s shard = record {
   xorb_rows = omega (arith, ap (total_rows xorb_records) (values-keyed key s), keyed_total key (values s.xorbs), shard.xorb_rows);
 }
 
--- what both sides of an equation of options become
+-- what the first of two options becomes
 map-either : {X Y : Type 0} (f : X → Y) (a b : Option X) → option_map f (option_or a b) ≡ option_or (option_map f a) (option_map f b)
 map-either f None b = refl
 map-either f (Some a) b = refl
-
-map-some : {X Y : Type 0} (f : X → Y) (a : Option X) (y : Y) → option_map f a ≡ Some y → (x : X) × (a ≡ Some x) × (f x ≡ y)
-map-some f None y is = absurd (none-some y is)
-map-some f (Some x) y is = (x, refl, same_Some (f x) y is)
 
 -- unions and agreement pass to the shards under one key
 pub keyed_union : (key : DataHash) (a b c : Shard) → IsUnion a b c → IsUnion (keyed_shard key a) (keyed_shard key b) (keyed_shard key c)
@@ -124,54 +91,31 @@ pub keyed_agree : (key : DataHash) (a b : Shard) → ShardsAgree a b → ShardsA
 keyed_agree key a b agree = record {
   files = agree.files;
   xorbs = λ q r s own other.
-      let mine = map-some (keyed_xorb key) (get a.xorbs q) r (sym (get-keyed key a q) ∙ own) in
-      let others = map-some (keyed_xorb key) (get b.xorbs q) s (sym (get-keyed key b q) ∙ other) in
+      let mine = mapped_some (keyed_xorb key) (get a.xorbs q) r (sym (get-keyed key a q) ∙ own) in
+      let others = mapped_some (keyed_xorb key) (get b.xorbs q) s (sym (get-keyed key b q) ∙ other) in
       sym mine.2 ∙ ap (keyed_xorb key) (agree.xorbs q mine.0 others.0 mine.1 others.1) ∙ others.2;
 }
 
--- members of a list of shards, and of these under a key
-member-keyed : (key : DataHash) (shards : List Shard) (s : Shard) → Contains shards s → Contains (map (keyed_shard key) shards) (keyed_shard key s)
-member-keyed key shards s (k, within, is) = (k, omega (arith, within, length-map shards (keyed_shard key)), get_or-map (keyed_shard key) shards k s (keyed_shard key s) within ∙ ap (keyed_shard key) is)
-
-member-unkeyed : (key : DataHash) (shards : List Shard) (t : Shard) → Contains (map (keyed_shard key) shards) t → (s : Shard) × Contains shards s × (keyed_shard key s ≡ t)
-member-unkeyed key [] t (k, within, is) = absurd (omega (arith, within))
-member-unkeyed key (s ∷ shards) t (zero, within, is) = (s, (0, omega arith, refl), is)
-member-unkeyed key (s ∷ shards) t (suc k, within, is) =
-    let found = member-unkeyed key shards t (k, omega (arith, within), is) in
-    (found.0, (suc found.1.0, omega (arith, found.1.1), found.1.2), found.2)
-
 module _ (key : DataHash) (shards : List Shard) (c : Shard) where
-  -- what files any has stays
-  kept : {X : Type 0} (part : Shard → Option X) → ((s : Shard) → part (keyed_shard key s) ≡ part s) → HasWhatAnyHas (Contains shards) c part
-      → HasWhatAnyHas (Contains (map (keyed_shard key) shards)) (keyed_shard key c) part
-  kept part same has = λ x. (
-    λ is.
-        let found = (has x).0 (sym (same c) ∙ is) in
-        (keyed_shard key found.0, member-keyed key shards found.0 found.1, same found.0 ∙ found.2),
-    λ found.
-        let from = member-unkeyed key shards found.0 found.1 in
-        same c ∙ (has x).1 (from.0, from.1, sym (same from.0) ∙ ap part from.2 ∙ found.2),
-  )
-
   pub keyed_join : IsJoinOf (Contains shards) c → IsJoinOf (Contains (map (keyed_shard key) shards)) (keyed_shard key c)
   keyed_join join = record {
     xorbs = λ q x. (
       λ is.
-          let mine = map-some (keyed_xorb key) (get c.xorbs q) x (sym (get-keyed key c q) ∙ is) in
+          let mine = mapped_some (keyed_xorb key) (get c.xorbs q) x (sym (get-keyed key c q) ∙ is) in
           let found = (join.xorbs q mine.0).0 mine.1 in (
             keyed_shard key found.0,
-            member-keyed key shards found.0 found.1,
+            mapped_member (keyed_shard key) shards found.0 found.1,
             get-keyed key found.0 q ∙ ap (option_map (keyed_xorb key)) found.2 ∙ ap Some mine.2,
           ),
       λ found.
-          let from = member-unkeyed key shards found.0 found.1 in
-          let mine = map-some (keyed_xorb key) (get from.0.xorbs q) x (sym (get-keyed key from.0 q) ∙ ap (λ (t : Shard). get t.xorbs q) from.2 ∙ found.2) in
+          let from = unmapped_member (keyed_shard key) shards found.0 found.1 in
+          let mine = mapped_some (keyed_xorb key) (get from.0.xorbs q) x (sym (get-keyed key from.0 q) ∙ ap (λ (t : Shard). get t.xorbs q) from.2 ∙ found.2) in
           get-keyed key c q ∙ ap (option_map (keyed_xorb key)) ((join.xorbs q mine.0).1 (from.0, from.1, mine.1)) ∙ ap Some mine.2,
     );
-    segments = λ q. kept _ (λ s. refl) (join.segments q);
-    verification = λ q. kept _ (λ s. refl) (join.verification q);
-    metadata_ext = λ q. kept _ (λ s. refl) (join.metadata_ext q);
-    aux_ext = λ q. kept _ (λ s. refl) (join.aux_ext q);
+    segments = λ q. part_kept (keyed_shard key) shards c _ (λ s. refl) (join.segments q);
+    verification = λ q. part_kept (keyed_shard key) shards c _ (λ s. refl) (join.verification q);
+    metadata_ext = λ q. part_kept (keyed_shard key) shards c _ (λ s. refl) (join.metadata_ext q);
+    aux_ext = λ q. part_kept (keyed_shard key) shards c _ (λ s. refl) (join.aux_ext q);
     follows = join.follows;
   }
 

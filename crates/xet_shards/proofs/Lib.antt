@@ -9,6 +9,7 @@ pub mod Ends
 pub mod EndsUnique
 pub mod FileUnions
 pub mod Files
+pub mod FilesWithoutAux
 pub mod Found
 pub mod ChunkLookups
 pub mod InForm
@@ -23,6 +24,8 @@ pub mod Loading
 pub mod Lookups
 pub mod MapAnswers
 pub mod Maps
+pub mod MappedMaps
+pub mod MappedShards
 pub mod MinimalLaws
 pub mod MinimalReading
 pub mod MinimalShard
@@ -36,6 +39,7 @@ pub mod RunsAt
 pub mod SameBytes
 pub mod SectionReading
 pub mod SectionUnique
+pub mod ShardsWithoutAux
 pub mod SectionWalks
 pub mod Sections
 pub mod ShardLookups

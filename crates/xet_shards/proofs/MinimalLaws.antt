@@ -1,5 +1,5 @@
 -- A subset of a minimal shard that is read again, and a minimal shard that is written again.
-use Rattle.std.proofs.Common.{◌≡◌, true≢false, ℕ, ◌+◌, ◌%◌, Bool, true, false, List, [], ◌∷◌, ◌++◌, map, flat_map, refl, sym, ap, ◌∙◌, arith}
+use Rattle.std.proofs.Common.{◌≡◌, true≢false, ℕ, ◌+◌, ◌-◌, ◌%◌, Bool, true, false, List, [], ◌∷◌, ◌++◌, map, flat_map, take, refl, sym, ap, ◌∙◌, arith}
 use Rattle.std.specs.Prelude.{◌||◌, ◌&&◌, ◌==◌, not, filter, if◌then◌else◌}
 use Rattle.std.specs.List.{enumerate_from, list_any}
 use Rattle.std.specs.Ordering.{eq_by_cmp}
@@ -8,10 +8,13 @@ use Rattle.xet_base.specs.declared.merklehash.DataHash.{DataHash}
 use Rattle.xet_records.specs.declared.file_structs.MDBFileInfo.{MDBFileInfo}
 use Rattle.xet_records.specs.declared.xorb_structs.XorbChunkSequenceEntry.{XorbChunkSequenceEntry}
 use Rattle.xet_records.specs.declared.xorb_structs.MDBXorbInfo.{MDBXorbInfo}
-use Rattle.xet_records.specs.FileRecord.{has_verification, has_metadata_ext, has_aux_ext}
+use Rattle.xet_records.specs.FileRecord.{has_verification, has_metadata_ext, has_aux_ext, with_aux_flag}
 use Rattle.xet_records.proofs.Merging.{verification_injective}
 use Rattle.xet_records.specs.XorbRow.{is_marked, with_mark}
-use Rattle.xet_records.specs.View.{as_wanted, without_verification}
+use Rattle.xet_records.specs.declared.file_structs.view.KeptParts.{KeptParts}
+use Rattle.xet_records.specs.declared.file_structs.rows.FileDataSequenceEntry.{FileDataSequenceEntry}
+use Rattle.xet_records.specs.View.{as_wanted, without_verification, without_aux, aux_as_wanted, as_kept}
+use Rattle.xet_records.proofs.KeptParts.{cleared, parts_kept}
 use Rattle.xet_shards.specs.declared.streaming_shard.file_start.FileStart.{FileStart}
 use Rattle.xet_shards.specs.MinimalShard.{start_cmp, start_of_file, is_start, chunk_of, marked_if, mark_starts, is_eligible, eligible_in, ascending_hashes, eligible_hashes}
 
@@ -78,33 +81,49 @@ all_wanted r = ap (λ b. if b then without_verification r else r) (and_false (ha
 none_left : (r : MDBFileInfo) → has_verification r.metadata.file_flags ≡ false → as_wanted false r ≡ r
 none_left r none = ap (λ b. if b && true then without_verification r else r) none
 
-wanted_again : (wanted : Bool) (r : MDBFileInfo) → as_wanted wanted (as_wanted wanted r) ≡ as_wanted wanted r
-wanted_again true r = all_wanted (as_wanted true r)
-wanted_again false r = again (has_verification r.metadata.file_flags) refl
-  where
-    again : (b : Bool) → has_verification r.metadata.file_flags ≡ b
-        → as_wanted false (if b && true then without_verification r else r) ≡ (if b && true then without_verification r else r)
-    again true is = none_left (without_verification r) (verification_injective false (has_metadata_ext r.metadata.file_flags) (has_aux_ext r.metadata.file_flags))
-    again false is = none_left r is
+-- so are auxiliary rows
+without_aux-again : (r : MDBFileInfo) → without_aux (without_aux r) ≡ without_aux r
+without_aux-again r =
+    let flags = with_aux_flag false r.metadata.file_flags in
+    let same : with_aux_flag false flags ≡ flags = ap (λ (b : Bool). flags - (if b then 536870912 else 0) + 0) (cleared r.metadata.file_flags).aux_ext ∙ omega arith in
+    ap (λ n. record (without_aux r) { metadata = record (without_aux r).metadata { file_flags = n } }) same
 
-all_wanted_again : (wanted : Bool) (files : List MDBFileInfo) → map (as_wanted wanted) (map (as_wanted wanted) files) ≡ map (as_wanted wanted) files
-all_wanted_again wanted [] = refl
-all_wanted_again wanted (r ∷ files) = λ i. wanted_again wanted r i ∷ all_wanted_again wanted files i
+none_verified : (r : MDBFileInfo) → has_verification (as_wanted false r).metadata.file_flags ≡ false
+none_verified r = either (has_verification r.metadata.file_flags) refl
+  where
+    either : (b : Bool) → has_verification r.metadata.file_flags ≡ b → has_verification (if b && true then without_verification r else r).metadata.file_flags ≡ false
+    either true is = verification_injective false (has_metadata_ext r.metadata.file_flags) (has_aux_ext r.metadata.file_flags)
+    either false is = is
+
+wanted_again : (wanted aux : Bool) (r : MDBFileInfo) → as_wanted wanted (aux_as_wanted aux (as_wanted wanted r)) ≡ aux_as_wanted aux (as_wanted wanted r)
+wanted_again true aux r = all_wanted (aux_as_wanted aux (as_wanted true r))
+wanted_again false true r = none_left (as_wanted false r) (none_verified r)
+wanted_again false false r = none_left (without_aux (as_wanted false r)) ((cleared (as_wanted false r).metadata.file_flags).verification ∙ none_verified r)
+
+kept_again : (kept : KeptParts) (r : MDBFileInfo) → as_kept kept (as_kept kept r) ≡ as_kept kept r
+kept_again kept r = ap (aux_as_wanted kept.aux_ext) (wanted_again kept.verification kept.aux_ext r) ∙ either kept.aux_ext
+  where
+    either : (b : Bool) → aux_as_wanted b (aux_as_wanted b (as_wanted kept.verification r)) ≡ aux_as_wanted b (as_wanted kept.verification r)
+    either true = refl
+    either false = without_aux-again (as_wanted kept.verification r)
+
+all_kept_again : (kept : KeptParts) (files : List MDBFileInfo) → map (as_kept kept) (map (as_kept kept) files) ≡ map (as_kept kept) files
+all_kept_again kept [] = refl
+all_kept_again kept (r ∷ files) = λ i. kept_again kept r i ∷ all_kept_again kept files i
 
 -- and change no start
-same_start : (wanted : Bool) (r : MDBFileInfo) → start_of_file (as_wanted wanted r) ≡ start_of_file r
-same_start wanted r = either (has_verification r.metadata.file_flags && not wanted)
+same_start : (kept : KeptParts) (r : MDBFileInfo) → start_of_file (as_kept kept r) ≡ start_of_file r
+same_start kept r = ap starts_in (parts_kept kept r).segments
   where
-    either : (b : Bool) → start_of_file (if b then without_verification r else r) ≡ start_of_file r
-    either true = refl
-    either false = refl
+    starts_in : List FileDataSequenceEntry → List FileStart
+    starts_in segments = map (λ s. record { xorb_hash = s.xorb_hash; chunk_index = s.chunk_index_start }) (take 1 segments)
 
-same_starts : (wanted : Bool) (files : List MDBFileInfo) → flat_map start_of_file (map (as_wanted wanted) files) ≡ flat_map start_of_file files
-same_starts wanted [] = refl
-same_starts wanted (r ∷ files) = λ i. same_start wanted r i ++ same_starts wanted files i
+same_starts : (kept : KeptParts) (files : List MDBFileInfo) → flat_map start_of_file (map (as_kept kept) files) ≡ flat_map start_of_file files
+same_starts kept [] = refl
+same_starts kept (r ∷ files) = λ i. same_start kept r i ++ same_starts kept files i
 
-pub is_start-as_wanted : (wanted : Bool) (files : List MDBFileInfo) → is_start (map (as_wanted wanted) files) ≡ is_start files
-is_start-as_wanted wanted files = λ i at. list_any (eq_by_cmp start_cmp at) (same_starts wanted files i)
+pub is_start-as_kept : (kept : KeptParts) (files : List MDBFileInfo) → is_start (map (as_kept kept) files) ≡ is_start files
+is_start-as_kept kept files = λ i at. list_any (eq_by_cmp start_cmp at) (same_starts kept files i)
 
 -- marks that are set are set once
 set_again : (flags : ℕ) → with_mark true (with_mark true flags) ≡ with_mark true flags
@@ -127,10 +146,10 @@ all_marks_again starts [] = refl
 all_marks_again starts (x ∷ xorbs) = λ i. marks_again starts x i ∷ all_marks_again starts xorbs i
 
 -- what was written, read and written again, has the same files and the same xorbs
-pub written_again : (wanted : Bool) (files : List MDBFileInfo) (xorbs : List MDBXorbInfo)
-    → (map (as_wanted wanted) (map (as_wanted wanted) files) ≡ map (as_wanted wanted) files)
-    × (map (mark_starts (is_start (map (as_wanted wanted) files))) (map (mark_starts (is_start files)) xorbs) ≡ map (mark_starts (is_start files)) xorbs)
-written_again wanted files xorbs = (
-  all_wanted_again wanted files,
-  ap (λ s. map (mark_starts s) (map (mark_starts (is_start files)) xorbs)) (is_start-as_wanted wanted files) ∙ all_marks_again (is_start files) xorbs,
+pub written_again : (kept : KeptParts) (files : List MDBFileInfo) (xorbs : List MDBXorbInfo)
+    → (map (as_kept kept) (map (as_kept kept) files) ≡ map (as_kept kept) files)
+    × (map (mark_starts (is_start (map (as_kept kept) files))) (map (mark_starts (is_start files)) xorbs) ≡ map (mark_starts (is_start files)) xorbs)
+written_again kept files xorbs = (
+  all_kept_again kept files,
+  ap (λ s. map (mark_starts s) (map (mark_starts (is_start files)) xorbs)) (is_start-as_kept kept files) ∙ all_marks_again (is_start files) xorbs,
 )

@@ -15,7 +15,9 @@ use Rattle.xet_records.specs.declared.xorb_structs.XorbChunkSequenceEntry.{XorbC
 use Rattle.xet_records.proofs.Merging.{flags_fit}
 use Rattle.xet_records.specs.FileRecord.{file_records, row_count, has_verification, has_metadata_ext, has_aux_ext, FitsRecord, IsStored}
 use Rattle.xet_records.specs.XorbRecord.{xorb_records, xorb_row_count, HasItsChunks}
-use Rattle.xet_records.specs.View.{as_wanted, without_verification}
+use Rattle.xet_records.specs.declared.file_structs.view.KeptParts.{KeptParts}
+use Rattle.xet_records.specs.View.{as_wanted, without_verification, without_aux, aux_as_wanted, as_kept}
+use Rattle.xet_records.proofs.KeptParts.{parts_kept, parts-rows, without_aux-fits}
 use Rattle.xet_shards.specs.declared.streaming_shard.file_start.FileStart.{FileStart}
 use Rattle.std.specs.Io.KnownBytes.{Appends}
 use Rattle.xet_shards.specs.declared.shard_format.written.WrittenFiles.{WrittenFiles}
@@ -27,8 +29,9 @@ use Rattle.xet_shards.specs.MinimalWriting.{WritesMarked}
 use Rattle.xet_shards.proofs.Written.{whole_layout}
 use Rattle.xet_shards.specs.InForm.{FitsSection}
 use Rattle.xet_shards.specs.Layout.{Form, if_in, layout_of, header_value, footer_value, shard_header_bytes}
-use Rattle.xet_shards.specs.MinimalShard.{MinimalShard, is_start, chunk_of, marked_if, mark_starts, minimal_form, HasNoTables, IsKept, WritesBytes, WritesKept, WritesMinimal}
+use Rattle.xet_shards.specs.MinimalShard.{MinimalShard, is_start, chunk_of, marked_if, mark_starts, minimal_form, HasNoTables, IsKept, WritesBytes, WritesKept, WritesMinimalKept}
 use Rattle.xet_shards.proofs.Layouts.{length-file_section, length-xorb_section, length-shard_header_bytes, length-shard_footer_bytes}
+use Rattle.xet_shards.proofs.Sums.{sum-mapped}
 
 -- marks change no number of rows
 pub rows_marked : (starts : FileStart → Bool) (x : MDBXorbInfo) → xorb_row_count (mark_starts starts x) ≡ xorb_row_count x
@@ -98,31 +101,33 @@ as_wanted-fits wanted r fits = either (has_verification r.metadata.file_flags &&
     }
     either false = fits
 
-pub as_wanted-rows : (wanted : Bool) (r : MDBFileInfo) → row_count (as_wanted wanted r) ≤ row_count r
-as_wanted-rows wanted r = either (has_verification r.metadata.file_flags && not wanted)
+-- nor do the parts that are kept, and theirs fit
+pub as_kept-fits : (kept : KeptParts) (r : MDBFileInfo) → FitsRecord r → FitsRecord (as_kept kept r)
+as_kept-fits kept r fits = either kept.aux_ext
   where
-    either : (b : Bool) → row_count (if b then without_verification r else r) ≤ row_count r
-    either true = omega arith
-    either false = omega arith
+    either : (b : Bool) → FitsRecord (aux_as_wanted b (as_wanted kept.verification r))
+    either true = as_wanted-fits kept.verification r fits
+    either false = without_aux-fits (as_wanted kept.verification r) (as_wanted-fits kept.verification r fits)
 
-pub rows_as_wanted : (wanted : Bool) (files : List MDBFileInfo) → total_rows file_records (map (as_wanted wanted) files) ≤ total_rows file_records files
-rows_as_wanted wanted [] = omega arith
-rows_as_wanted wanted (r ∷ files) =
-    omega (arith, sum_by-cons row_count (as_wanted wanted r) (map (as_wanted wanted) files), sum_by-cons row_count r files, as_wanted-rows wanted r, rows_as_wanted wanted files)
+pub as_kept-rows : (kept : KeptParts) (r : MDBFileInfo) → row_count (as_kept kept r) ≤ row_count r
+as_kept-rows kept r = parts-rows r (as_kept kept r) (parts_kept kept r)
 
-pub sum_as_wanted : (wanted : Bool) (files : List MDBFileInfo) → total_rows file_records (map (as_wanted wanted) files) ≡ sum_by (λ r. row_count (as_wanted wanted r)) files
-sum_as_wanted wanted [] = refl
-sum_as_wanted wanted (r ∷ files) =
-    sum_by-cons row_count (as_wanted wanted r) (map (as_wanted wanted) files) ∙ ap (λ n. row_count (as_wanted wanted r) + n) (sum_as_wanted wanted files)
-    ∙ sym (sum_by-cons (λ (s : MDBFileInfo). row_count (as_wanted wanted s)) r files)
+pub rows_as_kept : (kept : KeptParts) (files : List MDBFileInfo) → total_rows file_records (map (as_kept kept) files) ≤ total_rows file_records files
+rows_as_kept kept files = sum-mapped (as_kept kept) row_count (as_kept-rows kept) files
+
+pub sum_as_kept : (kept : KeptParts) (files : List MDBFileInfo) → total_rows file_records (map (as_kept kept) files) ≡ sum_by (λ r. row_count (as_kept kept r)) files
+sum_as_kept kept [] = refl
+sum_as_kept kept (r ∷ files) =
+    sum_by-cons row_count (as_kept kept r) (map (as_kept kept) files) ∙ ap (λ n. row_count (as_kept kept r) + n) (sum_as_kept kept files)
+    ∙ sym (sum_by-cons (λ (s : MDBFileInfo). row_count (as_kept kept s)) r files)
 
 -- no more than those of the whole records
-pub few_as_wanted : (wanted : Bool) (files : List MDBFileInfo) → FitsSection file_records files → sum_by (λ r. row_count (as_wanted wanted r)) files ≤ 4294967295
-few_as_wanted wanted files fit = omega (arith, sum_as_wanted wanted files, rows_as_wanted wanted files, fit.rows)
+pub few_as_kept : (kept : KeptParts) (files : List MDBFileInfo) → FitsSection file_records files → sum_by (λ r. row_count (as_kept kept r)) files ≤ 4294967295
+few_as_kept kept files fit = omega (arith, sum_as_kept kept files, rows_as_kept kept files, fit.rows)
 
-pub fit_as_wanted : (wanted : Bool) (files : List MDBFileInfo) → All IsStored files → All FitsRecord (map (as_wanted wanted) files)
-fit_as_wanted wanted files stored =
-    All-map FitsRecord (as_wanted wanted) files (All-weaker IsStored (λ r. FitsRecord (as_wanted wanted r)) (λ r s. as_wanted-fits wanted r s.widths) files stored)
+pub fit_as_kept : (kept : KeptParts) (files : List MDBFileInfo) → All IsStored files → All FitsRecord (map (as_kept kept) files)
+fit_as_kept kept files stored =
+    All-map FitsRecord (as_kept kept) files (All-weaker IsStored (λ r. FitsRecord (as_kept kept r)) (λ r s. as_kept-fits kept r s.widths) files stored)
 
 -- the length of a layout without tables
 none_in : {X : Type 0} (is_in : Bool) (xs : List X) → is_in ≡ false → length (if_in is_in xs) ≡ 0
@@ -167,9 +172,9 @@ shard_written answers m files form start after_header after_files after_xorbs en
     }
 
 -- a filter that accepts each xorb writes the whole shard
-pub all_written : (answers : MDBXorbInfo → Bool → Type 0) → ((x : MDBXorbInfo) (b : Bool) → answers x b → b ≡ true) → (old new : Option (List ℕ)) (wanted : Bool) (now : ℕ) (m : MinimalShard)
-    (r : CoreResult ℕ) → IfOk r (WritesKept answers old new (map (as_wanted wanted) m.files) m (minimal_form now None)) → IfOk r (WritesMinimal old new wanted now m)
-all_written answers each old new wanted now m (Ok n) kept =
-    subst (λ xs. WritesBytes old new (layout_of (map (as_wanted wanted) m.files) (map (mark_starts (is_start m.files)) xs) (minimal_form now None)) n)
-    (all_kept answers each m.xorbs kept.kept kept.is_kept) kept.written
-all_written answers each old new wanted now m (Err e) kept = tt
+pub all_written : (answers : MDBXorbInfo → Bool → Type 0) → ((x : MDBXorbInfo) (b : Bool) → answers x b → b ≡ true) → (old new : Option (List ℕ)) (kept : KeptParts) (now : ℕ) (m : MinimalShard)
+    (r : CoreResult ℕ) → IfOk r (WritesKept answers old new (map (as_kept kept) m.files) m (minimal_form now None)) → IfOk r (WritesMinimalKept old new kept now m)
+all_written answers each old new kept now m (Ok n) written =
+    subst (λ xs. WritesBytes old new (layout_of (map (as_kept kept) m.files) (map (mark_starts (is_start m.files)) xs) (minimal_form now None)) n)
+    (all_kept answers each m.xorbs written.kept written.is_kept) written.written
+all_written answers each old new kept now m (Err e) written = tt

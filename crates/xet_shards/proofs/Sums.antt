@@ -1,5 +1,5 @@
--- Sums over a map, and over a map with some of its entries.
-use Rattle.std.proofs.Common.{◌≡◌, ℕ, ◌+◌, ◌≤◌, false, List, [], ◌∷◌, Some, None, T, ap, ◌∙◌, arith, cond}
+-- Sums over a map, over a map with some of its entries, and over a list whose elements are mapped.
+use Rattle.std.proofs.Common.{◌≡◌, ℕ, ◌+◌, ◌≤◌, false, List, [], ◌∷◌, map, Some, None, T, ap, ◌∙◌, arith, cond}
 use Rattle.std.specs.Prelude.{All, sum_by}
 use Rattle.std.specs.Ordering.{eq_by_cmp}
 use Rattle.std.specs.declared.cmp.Ordering.{Ordering}
@@ -72,3 +72,8 @@ module _ {K X : Type 0} {R : K → K → Ordering} (total : IsTotalOrder R) (exa
   -- or with all its entries
   pub sub-sum : (f : X → ℕ) (a b : FinMap R X) → ((q : K) (v : X) → get a q ≡ Some v → get b q ≡ Some v) → sum_by f (values a) ≤ sum_by f (values b)
   sub-sum f a b all = sum-below f a b (λ q v at. (v, all q v at, omega arith))
+
+-- elements that are mapped to some which count no more have no greater sum
+pub sum-mapped : {X : Type 0} (f : X → X) (count : X → ℕ) → ((x : X) → count (f x) ≤ count x) → (xs : List X) → sum_by count (map f xs) ≤ sum_by count xs
+sum-mapped f count each [] = omega arith
+sum-mapped f count each (x ∷ xs) = omega (arith, sum_by-cons count (f x) (map f xs), sum_by-cons count x xs, each x, sum-mapped f count each xs)

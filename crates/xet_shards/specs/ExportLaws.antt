@@ -4,19 +4,22 @@ use Rattle.std.proofs.lemmas.List.{length-map}
 use Rattle.xet_records.specs.declared.file_structs.MDBFileInfo.{MDBFileInfo}
 use Rattle.xet_records.specs.declared.xorb_structs.MDBXorbInfo.{MDBXorbInfo}
 use Rattle.xet_records.specs.FileRecord.{file_records, row_count}
+use Rattle.xet_records.specs.View.{without_aux, aux_as_wanted}
 use Rattle.xet_records.specs.XorbRecord.{xorb_records, xorb_row_count}
 use Rattle.xet_shards.specs.Section.{total_rows}
 use Rattle.xet_shards.specs.Layout.{Form, if_in}
 use Rattle.xet_shards.specs.KeyedExport.{exported_file, exported_xorb, keyed_chunk}
 
-pub file_rows : (form : Form) (r : MDBFileInfo)
-    → total_rows file_records (exported_file form r) ≤ row_count r
-file_rows form r = by_table form.file_table
+pub file_rows : (aux : Bool) (form : Form) (r : MDBFileInfo)
+    → total_rows file_records (exported_file aux form r) ≤ row_count r
+file_rows aux form r = by_table form.file_table aux
   where
-    by_table : (b : Bool) → total_rows file_records (if_in b (r ∷ [])) ≤ row_count r
-    by_table true = omega arith
-    by_table false = omega arith
+    by_table : (b aux : Bool)
+        → total_rows file_records (if_in b (aux_as_wanted aux r ∷ [])) ≤ row_count r
+    by_table true true = omega arith
+    by_table true false = omega arith
+    by_table false aux = omega arith
 
-pub xorb_rows : (form : Form) (r : MDBXorbInfo)
-    → total_rows xorb_records (exported_xorb form r) ≤ xorb_row_count r
-xorb_rows form r = omega (arith, length-map r.chunks (keyed_chunk form.key))
+pub xorb_rows : (aux : Bool) (form : Form) (r : MDBXorbInfo)
+    → total_rows xorb_records (exported_xorb aux form r) ≤ xorb_row_count r
+xorb_rows aux form r = omega (arith, length-map r.chunks (keyed_chunk form.key))

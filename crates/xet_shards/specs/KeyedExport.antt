@@ -1,6 +1,6 @@
 -- Keyed exports: a shard is written again, with its chunk hashes under a key, and without its files
 -- if they are not asked for.
-use Rattle.std.specs.Prelude.{◌≡◌, ◌≢◌, ◌⊎◌, ℕ, ◌+◌, ◌*◌, ◌^◌, ◌≤◌, Bool, List, [], ◌∷◌, length, map, flat_map, drop, sum_by, All, Option}
+use Rattle.std.specs.Prelude.{◌≡◌, ◌≢◌, ◌⊎◌, ℕ, ◌+◌, ◌*◌, ◌^◌, ◌≤◌, Bool, true, List, [], ◌∷◌, length, map, flat_map, drop, sum_by, All, Option}
 use Rattle.std.specs.Io.KnownBytes.{Appends}
 use Rattle.xet_base.specs.declared.error.CoreError.{CoreError}
 use Rattle.xet_base.specs.declared.merklehash.DataHash.{DataHash}
@@ -12,6 +12,7 @@ use Rattle.xet_records.specs.declared.xorb_structs.MDBXorbInfo.{MDBXorbInfo}
 use Rattle.xet_records.specs.declared.xorb_structs.XorbChunkSequenceEntry.{XorbChunkSequenceEntry}
 use Rattle.xet_records.specs.RecordKind.{RecordKind, in_version}
 use Rattle.xet_records.specs.FileRecord.{file_records, file_records_in}
+use Rattle.xet_records.specs.View.{aux_as_wanted, auxes_as_wanted}
 use Rattle.xet_records.specs.declared.record_reader.FormatVersion.{FormatVersion}
 use Rattle.xet_records.specs.declared.record_reader.FormatVersion.TheVariants.{V3}
 use Rattle.xet_records.specs.XorbRecord.{xorb_records}
@@ -32,12 +33,13 @@ keyed_xorb key r = record r { chunks = map (keyed_chunk key) r.chunks }
 abbrev pub keyed_xorbs : DataHash → List MDBXorbInfo → List MDBXorbInfo
 keyed_xorbs key xorbs = map (keyed_xorb key) xorbs
 
--- what an export in a form writes for a file, as it is stored or not at all, and for a xorb
-abbrev pub exported_file : Form → MDBFileInfo → List MDBFileInfo
-exported_file form r = if_in form.file_table (r ∷ [])
+-- what an export in a form writes for a file, with or without its auxiliary row or not at all, and
+-- for a xorb
+abbrev pub exported_file : Bool → Form → MDBFileInfo → List MDBFileInfo
+exported_file aux form r = if_in form.file_table (aux_as_wanted aux r ∷ [])
 
-abbrev pub exported_xorb : Form → MDBXorbInfo → List MDBXorbInfo
-exported_xorb form r = keyed_xorb form.key r ∷ []
+abbrev pub exported_xorb : Bool → Form → MDBXorbInfo → List MDBXorbInfo
+exported_xorb aux form r = keyed_xorb form.key r ∷ []
 
 -- the form of an export: the tables asked for, the key, now, and the expiry so many seconds later;
 -- the file table is in if the files are
@@ -62,24 +64,31 @@ exported files xorbs form =
 abbrev pub xorbs_after : List MDBFileInfo → ℕ
 xorbs_after files = 48 * (total_rows file_records files + 2)
 
--- a shard was exported: header and sections were read from the source's position on, without a seek
--- and without a byte past the xorb section, and what they hold was written in the form; these bytes
--- have a header and a footer, and are in that form, as reading and lookups require
-pub record Exports (form : Form) (old new : Source) (before after : Option (List ℕ)) (n : ℕ)
-    : Type 0 where
+-- a shard was exported, with auxiliary rows or without: header and sections were read from the
+-- source's position on, without a seek and without a byte past the xorb section, and what they hold
+-- was written in the form; these bytes have a header and a footer, and are in that form, as reading
+-- and lookups require
+pub record ExportsWith (aux : Bool) (form : Form) (old new : Source)
+    (before after : Option (List ℕ)) (n : ℕ) : Type 0 where
   pub files : List MDBFileInfo
   pub xorbs : List MDBXorbInfo
   pub header : HasHeader (bytes_left old)
   pub file_section : IsSection (file_records_in header.version) (drop 48 (bytes_left old)) files
   pub xorb_section : IsSection xorb_records (drop (xorbs_after files) (bytes_left old)) xorbs
   pub read : new ≡ advanced old (xorbs_after files + 48 * (total_rows xorb_records xorbs + 1))
-  pub written : Appends before after (exported files xorbs form)
-  pub count : n ≡ length (exported files xorbs form)
-  pub ends : HasEnds (exported files xorbs form)
-      (info_of (if_in form.file_table files) (keyed_xorbs form.key xorbs) form)
-  pub in_form : IsInForm (if_in form.file_table files) (keyed_xorbs form.key xorbs) form
-      (exported files xorbs form)
-      (footer_value (if_in form.file_table files) (keyed_xorbs form.key xorbs) form)
+  pub written : Appends before after (exported (auxes_as_wanted aux files) xorbs form)
+  pub count : n ≡ length (exported (auxes_as_wanted aux files) xorbs form)
+  pub ends : HasEnds (exported (auxes_as_wanted aux files) xorbs form)
+      (info_of (if_in form.file_table (auxes_as_wanted aux files)) (keyed_xorbs form.key xorbs)
+      form)
+  pub in_form : IsInForm (if_in form.file_table (auxes_as_wanted aux files))
+      (keyed_xorbs form.key xorbs) form (exported (auxes_as_wanted aux files) xorbs form)
+      (footer_value (if_in form.file_table (auxes_as_wanted aux files))
+      (keyed_xorbs form.key xorbs) form)
+
+-- a shard was exported with all rows
+abbrev pub Exports : Form → Source → Source → Option (List ℕ) → Option (List ℕ) → ℕ → Type 0
+Exports form = ExportsWith true form
 
 -- why a section was not read, if the device did not fail
 abbrev pub BadSection : {H R : Type 0} → RecordKind H R → List ℕ → CoreError → Type 0

@@ -24,6 +24,7 @@ pub mod SectionReading
 pub mod SectionWalk
 pub mod SetOperations
 pub mod Shard
+pub mod ShardsWithoutAux
 pub mod TableReading
 pub mod Tables
 pub mod TruncatedHashes

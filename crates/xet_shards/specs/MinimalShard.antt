@@ -18,7 +18,8 @@ use Rattle.xet_records.specs.FileRecord.{file_records, has_verification}
 use Rattle.xet_records.specs.XorbRow.{is_marked, with_mark}
 use Rattle.xet_records.specs.XorbRecord.{xorb_records}
 use Rattle.std.specs.Io.KnownBytes.{Appends}
-use Rattle.xet_records.specs.View.{as_wanted}
+use Rattle.xet_records.specs.declared.file_structs.view.KeptParts.{KeptParts}
+use Rattle.xet_records.specs.View.{as_kept}
 use Rattle.xet_shards.specs.declared.streaming_shard.file_start.FileStart.{FileStart}
 use Rattle.xet_shards.specs.InForm.{FitsSection}
 use Rattle.xet_shards.specs.Layout.{Form, layout_of}
@@ -95,13 +96,17 @@ abbrev pub has_file_verification : List MDBFileInfo → Bool
 has_file_verification [] = false
 has_file_verification (r ∷ _) = has_verification r.metadata.file_flags
 
--- the number of bytes of header, sections and footer; 0 if verification rows are wanted and there
--- is no file or the first one has none
-abbrev pub serialized_size : Bool → MinimalShard → ℕ
-serialized_size wanted m =
-    if wanted && not (has_file_verification m.files) then 0 else 344
-    + 48 * total_rows file_records (map (as_wanted wanted) m.files)
+-- the number of bytes of header, sections and footer, with these parts of the files; 0 if
+-- verification rows are wanted and there is no file or the first one has none
+abbrev pub size_of_kept : KeptParts → MinimalShard → ℕ
+size_of_kept kept m =
+    if kept.verification && not (has_file_verification m.files) then 0 else 344
+    + 48 * total_rows file_records (map (as_kept kept) m.files)
     + 48 * total_rows xorb_records m.xorbs
+
+-- the same with auxiliary rows
+abbrev pub serialized_size : Bool → MinimalShard → ℕ
+serialized_size wanted m = size_of_kept (record { verification = wanted; aux_ext = true }) m
 
 -- no tables, no key, the creation, and an expiry or 0
 abbrev pub minimal_form : ℕ → Option ℕ → Form
@@ -124,14 +129,19 @@ pub record WritesBytes (old new : Option (List ℕ)) (bytes : List ℕ) (n : ℕ
   pub appended : Appends old new bytes
   pub count : n ≡ length bytes
 
--- the shard was written: with verification rows only if they are wanted, and marks at the starts of
--- its files
-abbrev pub WritesMinimal : Option (List ℕ) → Option (List ℕ) → Bool → ℕ → MinimalShard → ℕ → Type 0
-WritesMinimal old new wanted now m n =
+-- the shard was written: these parts of its files, and marks at the starts of its files
+abbrev pub WritesMinimalKept : Option (List ℕ) → Option (List ℕ) → KeptParts → ℕ → MinimalShard → ℕ
+    → Type 0
+WritesMinimalKept old new kept now m n =
     WritesBytes old new
-    (layout_of (map (as_wanted wanted) m.files) (map (mark_starts (is_start m.files)) m.xorbs)
+    (layout_of (map (as_kept kept) m.files) (map (mark_starts (is_start m.files)) m.xorbs)
     (minimal_form now None))
     n
+
+-- the same with auxiliary rows, and with verification rows only if they are wanted
+abbrev pub WritesMinimal : Option (List ℕ) → Option (List ℕ) → Bool → ℕ → MinimalShard → ℕ → Type 0
+WritesMinimal old new wanted now m n =
+    WritesMinimalKept old new (record { verification = wanted; aux_ext = true }) now m n
 
 -- what a filter, called once with each element in order, accepts: `answers` says what it may return
 abbrev pub IsKept : {X : Type 0} → (X → Bool → Type 0) → List X → List X → Type 0

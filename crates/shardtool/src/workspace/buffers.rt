@@ -16,6 +16,7 @@ use crate::stop::Stop;
 use crate::tree::NameTree;
 use crate::write::{Version, written_bytes};
 use std::alloc::Global;
+use xet_core_structures::file_structs::KeptParts;
 
 impl Workspace {
     // The buffer is replaced only after the shard is written, so an error leaves it unchanged.
@@ -103,14 +104,14 @@ impl Workspace {
         from: &str,
         buffer: &str,
         now: u64,
-        with_verification: bool,
+        kept: KeptParts,
     ) -> Result<(), Stop>
         ensures unknown { IsErrOf result Stop.Unreadable ↔ IsUnknown self.old.buffers from.now }
         ensures made { OnOk result (IsKnown self.new.buffers buffer.now) }
         ensures err { OnErr result (IsUnchanged self.old.buffers self.new.buffers) }
         ensures shards { self.new.shards ≡ self.old.shards }
     {
-        let bytes = minimal_bytes(alloc, self.bytes_of(from)?, now, with_verification)?;
+        let bytes = minimal_bytes(alloc, self.bytes_of(from)?, now, kept)?;
         self.keep(alloc, buffer, bytes)
     }
 

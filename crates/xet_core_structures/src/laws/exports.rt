@@ -1,7 +1,7 @@
 //! Laws of shards whose chunk hashes are under a key. Each is a function that does nothing; its
 //! contract is the law.
 
-ghost use Rattle.std.specs.Prelude.{◌≡◌, ◌↔◌, ◌⊎◌, ◌+◌, ◌++◌, ◌≤◌, ℕ, List, length, map, Contains, Option, None, Some, true};
+ghost use Rattle.std.specs.Prelude.{◌≡◌, ◌↔◌, ◌⊎◌, ◌+◌, ◌++◌, ◌≤◌, ℕ, Bool, List, [], length, map, Contains, Option, None, Some, true, false};
 ghost use Rattle.std.specs.FinMap.{get, values};
 ghost use Rattle.std.specs.Io.KnownBytes.{Appends};
 ghost use Rattle.xet_base.specs.declared.error.CoreError.{CoreError};
@@ -12,12 +12,14 @@ ghost use Rattle.xet_base.specs.Errors.{IsInvalidShard};
 ghost use Rattle.xet_base.specs.KeyedHash.{no_key};
 ghost use Rattle.xet_base.specs.Source.{Source, bytes_left};
 ghost use Rattle.xet_records.specs.declared.file_structs.rows.FileDataSequenceEntry.{FileDataSequenceEntry};
+ghost use Rattle.xet_records.specs.View.{without_aux, auxes_as_wanted};
 ghost use Rattle.xet_records.specs.declared.xorb_structs.MDBXorbInfo.{MDBXorbInfo};
 ghost use Rattle.xet_records.specs.declared.xorb_structs.XorbChunkSequenceEntry.{XorbChunkSequenceEntry};
 ghost use Rattle.xet_shards.specs.ChunkLookup.{ChunkLocation};
 ghost use Rattle.xet_shards.specs.ChunkQuery.{run_length};
 ghost use Rattle.xet_shards.specs.Joins.{IsJoinOf};
-ghost use Rattle.xet_shards.specs.KeyedExport.{keyed_chunk, exported, export_form, Exports};
+ghost use Rattle.xet_shards.specs.ShardsWithoutAux.{shard_without_aux};
+ghost use Rattle.xet_shards.specs.KeyedExport.{keyed_chunk, exported, export_form, Exports, ExportsWith};
 ghost use Rattle.xet_shards.specs.KeyedShards.{keyed_shard};
 ghost use Rattle.xet_shards.specs.declared.shard_format.form.Form.{Form};
 ghost use Rattle.xet_shards.specs.Layout.{if_in, layout, layout_of};
@@ -27,7 +29,7 @@ ghost use Rattle.xet_shards.specs.WrittenQueries.{HasChunkAt, RunAmong};
 ghost use Rattle.xet_shards.specs.WrittenShard.{AreBytesOf};
 ghost use Rattle.xet_core_structures.specs.declared.set_operations.MergePlan.{MergePlan};
 ghost use Rattle.xet_core_structures.specs.ByteResults.{keyed_layout};
-ghost use Rattle.xet_core_structures.specs.ExportTrees.{AreExported, JoinsLeaves, run_under};
+ghost use Rattle.xet_core_structures.specs.ExportTrees.{AreExported, AreExportedWith, IsExportedAt, JoinsLeaves, run_under};
 ghost use Rattle.xet_core_structures.specs.MergeTrees.{leaves, TreeWrites, TreeRefusal, AreWritten};
 
 /// A shard with its chunk hashes under a key is a shard, and an export with files is its layout.
@@ -63,32 +65,48 @@ pub fn joins_keep_runs()
 {}
 
 /// An export of the bytes of a shard, in either version, writes the shard under the key, in version
-/// 3. Exports of shards that agree, under one key and with their files, merge to the export of their
-/// join under this key with all tables, created at 0 and without expiry. Exports of one shard with
-/// all tables under one key differ in the two timestamps of the footer alone, so merging and
-/// exporting can be exchanged but for these. Nothing is written only if an allocation fails or the
-/// join has too many rows.
+/// 3, with auxiliary rows or without (`exports`). Such exports of shards that agree, under one key
+/// and with their files, merge to such an export of their join under this key with all tables,
+/// created at 0 and without expiry (`bytes`). Exports of one shard with all tables under one key
+/// differ in the two timestamps of the footer alone (`timestamps`). So the union of exports and the
+/// export of the union are the same bytes but for these (`exchanged`). Nothing is written only if an
+/// allocation fails or the join has too many rows (`refusals`).
 pub fn exports_merge_to_the_export_of_the_join()
-    ensures exports { (s : Shard) → (expiry : Option ℕ) → (form : Form) → (old new : Source)
-        → (before after : Option (List ℕ)) → (size : ℕ) → IsShard s
-        → AreBytesOf s expiry (bytes_left old) → Exports form old new before after size
-        → Appends before after (exported (values s.files) (values s.xorbs) form) }
-    ensures bytes { (inputs : List (List ℕ)) → (plan : MergePlan) → (key : DataHash)
-        → (shard_at : ℕ → Shard) → (form_at : ℕ → Form) → (join : Shard) → (out : List ℕ)
-        → JoinsLeaves plan shard_at join → AreExported inputs plan key shard_at form_at
-        → TreeWrites inputs plan out
-        → out ≡ exported (values join.files) (values join.xorbs)
+    ensures exports { (aux : Bool) → (s : Shard) → (expiry : Option ℕ) → (form : Form)
+        → (old new : Source) → (before after : Option (List ℕ)) → (size : ℕ) → IsShard s
+        → AreBytesOf s expiry (bytes_left old) → ExportsWith aux form old new before after size
+        → Appends before after
+        (exported (auxes_as_wanted aux (values s.files)) (values s.xorbs) form) }
+    ensures bytes { (aux : Bool) → (inputs : List (List ℕ)) → (plan : MergePlan)
+        → (key : DataHash) → (shard_at : ℕ → Shard) → (form_at : ℕ → Form) → (join : Shard)
+        → (out : List ℕ) → JoinsLeaves plan shard_at join
+        → AreExportedWith aux inputs plan key shard_at form_at → TreeWrites inputs plan out
+        → out ≡ exported (auxes_as_wanted aux (values join.files)) (values join.xorbs)
         (export_form key 0 18446744073709551615 true true true) }
-    ensures timestamps { (s : Shard) → (key : DataHash)
+    ensures timestamps { (aux : Bool) → (s : Shard) → (key : DataHash)
         → (before after : List ℕ) × (length after ≡ 80)
         × ((now valid : ℕ)
-        → exported (values s.files) (values s.xorbs)
+        → exported (auxes_as_wanted aux (values s.files)) (values s.xorbs)
         (export_form key now valid true true true)
         ≡ before ++ u64_bytes now ++ u64_bytes (now + valid) ++ after) }
-    ensures refusals { (inputs : List (List ℕ)) → (plan : MergePlan) → (key : DataHash)
-        → (shard_at : ℕ → Shard) → (form_at : ℕ → Form) → (join : Shard) → (e : CoreError)
-        → JoinsLeaves plan shard_at join → AreExported inputs plan key shard_at form_at
-        → TreeRefusal inputs plan e → (e ≡ OutOfMemory) ⊎ (IsInvalidShard e × (¬ HasFewRows join)) }
+    ensures exchanged { (aux : Bool) → (inputs outs : List (List ℕ)) → (plan : MergePlan)
+        → (key : DataHash) → (shard_at : ℕ → Shard) → (expiry_at : ℕ → Option ℕ)
+        → (form_at : ℕ → Form) → (join : Shard) → (united out bytes : List ℕ)
+        → (now valid size : ℕ) → (old new : Source) → JoinsLeaves plan shard_at join
+        → AreWritten inputs plan shard_at expiry_at → TreeWrites inputs plan united
+        → ((i : ℕ) → Contains (leaves plan) i
+        → IsExportedAt aux inputs outs key i (form_at i))
+        → TreeWrites outs plan out → bytes_left old ≡ united
+        → ExportsWith aux (export_form key now valid true true true) old new (Some [])
+        (Some bytes) size
+        → (before after : List ℕ) × (length after ≡ 80)
+        × (bytes ≡ before ++ u64_bytes now ++ u64_bytes (now + valid) ++ after)
+        × (out ≡ before ++ u64_bytes 0 ++ u64_bytes 18446744073709551615 ++ after) }
+    ensures refusals { (aux : Bool) → (inputs : List (List ℕ)) → (plan : MergePlan)
+        → (key : DataHash) → (shard_at : ℕ → Shard) → (form_at : ℕ → Form) → (join : Shard)
+        → (e : CoreError) → JoinsLeaves plan shard_at join
+        → AreExportedWith aux inputs plan key shard_at form_at → TreeRefusal inputs plan e
+        → (e ≡ OutOfMemory) ⊎ (IsInvalidShard e × (¬ HasFewRows join)) }
 {}
 
 /// The bytes that a tree writes for shards that agree have the runs of chunks of these shards, and
@@ -146,4 +164,16 @@ pub fn merges_keep_runs()
     ensures keyed_leaves { (plan : MergePlan) → (key : DataHash) → (shard_at : ℕ → Shard)
         → (join : Shard) → JoinsLeaves plan shard_at join
         → JoinsLeaves plan (λ i. keyed_shard key (shard_at i)) (keyed_shard key join) }
+{}
+
+/// Auxiliary rows can be dropped before shards are merged or after: agreement and joins of shards
+/// pass to the shards without these rows.
+pub fn joins_without_auxiliary_rows()
+    ensures shards { (s : Shard) → IsShard s → IsShard (shard_without_aux s) }
+    ensures files { (s : Shard)
+        → values (shard_without_aux s).files ≡ map without_aux (values s.files) }
+    ensures agree { (a b : Shard) → ShardsAgree a b
+        → ShardsAgree (shard_without_aux a) (shard_without_aux b) }
+    ensures join { (shards : List Shard) → (c : Shard) → IsJoinOf (Contains shards) c
+        → IsJoinOf (Contains (map shard_without_aux shards)) (shard_without_aux c) }
 {}

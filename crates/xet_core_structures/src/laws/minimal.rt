@@ -6,9 +6,10 @@ ghost use Rattle.std.specs.Fn.{FnReturnsAt};
 ghost use Rattle.std.specs.Io.KnownBytes.{Consumes};
 ghost use Rattle.xet_base.specs.declared.merklehash.DataHash.{DataHash};
 ghost use Rattle.xet_base.specs.Source.{Source, bytes_left};
-ghost use Rattle.xet_records.specs.View.{as_wanted};
+ghost use Rattle.xet_records.specs.declared.file_structs.view.KeptParts.{KeptParts};
+ghost use Rattle.xet_records.specs.View.{as_kept};
 ghost use Rattle.xet_shards.specs.MinimalReading.{ReadsMinimal, ReadsEligible};
-ghost use Rattle.xet_shards.specs.MinimalShard.{MinimalShard, is_start, mark_starts, eligible_in, eligible_hashes, ascending_hashes, minimal_form, WritesMinimal, WritesKept};
+ghost use Rattle.xet_shards.specs.MinimalShard.{MinimalShard, is_start, mark_starts, eligible_in, eligible_hashes, ascending_hashes, minimal_form, WritesMinimalKept, WritesKept};
 
 use xet_records::xorb_structs::MDBXorbInfoView;
 
@@ -38,21 +39,20 @@ pub fn subsets_keep_eligible_chunks<F: Fn(&MDBXorbInfoView) -> bool>()
 {}
 
 /// A shard that is read, written, read and written again, with the same choice of verification rows
-/// and the same timestamp, gives the same bytes. What is read in between is what was written: the
-/// files with the verification rows that were wanted, and the xorbs with marks at the files'
-/// starts.
+/// and auxiliary rows and the same timestamp, gives the same bytes. What is read in between is what
+/// was written: these parts of the files, and the xorbs with marks at the files' starts.
 pub fn minimal_shards_are_written_again()
-    ensures read { (with_files with_xorbs with_verification : Bool) → (m n : MinimalShard)
+    ensures read { (with_files with_xorbs : Bool) → (kept : KeptParts) → (m n : MinimalShard)
         → (now size : ℕ) → (first rest left : Option (List ℕ)) → (bytes : List ℕ)
         → ReadsMinimal Consumes with_files with_xorbs first rest m
-        → WritesMinimal (Some []) (Some bytes) with_verification now m size
+        → WritesMinimalKept (Some []) (Some bytes) kept now m size
         → ReadsMinimal Consumes true true (Some bytes) left n
-        → (n.files ≡ map (as_wanted with_verification) m.files)
+        → (n.files ≡ map (as_kept kept) m.files)
         × (n.xorbs ≡ map (mark_starts (is_start m.files)) m.xorbs) }
-    ensures bytes { (with_files with_xorbs with_verification : Bool) → (m n : MinimalShard)
+    ensures bytes { (with_files with_xorbs : Bool) → (kept : KeptParts) → (m n : MinimalShard)
         → (now size size_again : ℕ) → (first rest left : Option (List ℕ)) → (bytes again : List ℕ)
         → ReadsMinimal Consumes with_files with_xorbs first rest m
-        → WritesMinimal (Some []) (Some bytes) with_verification now m size
+        → WritesMinimalKept (Some []) (Some bytes) kept now m size
         → ReadsMinimal Consumes true true (Some bytes) left n
-        → WritesMinimal (Some []) (Some again) with_verification now n size_again → again ≡ bytes }
+        → WritesMinimalKept (Some []) (Some again) kept now n size_again → again ≡ bytes }
 {}

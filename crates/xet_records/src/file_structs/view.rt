@@ -1,6 +1,6 @@
 //! A file record as a view of its bytes.
 
-ghost use Rattle.std.specs.Prelude.{◌≡◌, ◌≢◌, ◌⊎◌, ◌+◌, ◌*◌, ◌<◌, ◌≤◌, nat_eq, slice_get, option_map, Some, length, take, MatchResult, OnOk, IfOk, IfErr, IsErrAnd};
+ghost use Rattle.std.specs.Prelude.{◌≡◌, ◌≢◌, ◌⊎◌, ◌+◌, ◌*◌, ◌^◌, ◌<◌, ◌≤◌, nat_eq, slice_get, option_map, option_to_list, Some, IsTrue, length, take, MatchResult, OnOk, IfOk, IfErr, IsErrAnd};
 ghost use Rattle.std.specs.Cmp.{partial_equiv_from_equiv};
 ghost use Rattle.std.specs.Cmp.Lexicographic.{pointwise, on_texts_equal};
 ghost use Rattle.std.specs.Ordering.{on};
@@ -8,7 +8,7 @@ ghost use Rattle.std.specs.Io.KnownBytes.{Appends};
 ghost use Rattle.xet_base.specs.Errors.{IsDeviceError};
 ghost use Rattle.xet_records.specs.FileRow.{header_row, clear_verification, clear_metadata, clear_aux};
 ghost use Rattle.xet_records.specs.FileRecord.{has_verification, has_metadata_ext, has_aux_ext, row_count, file_record_bytes, handed_out, file_records};
-ghost use Rattle.xet_records.specs.View.{BeginsWithHeaderRow, BeginsWithFile, NoView, without_verification, as_wanted, LacksVerification, IsIoOther};
+ghost use Rattle.xet_records.specs.View.{BeginsWithHeaderRow, BeginsWithFile, NoView, without_verification, as_wanted, as_kept, LacksVerification, IsIoOther};
 
 use super::{
     FileAuxExt, FileDataSequenceEntry, FileDataSequenceHeader, FileMetadataExt,
@@ -25,6 +25,13 @@ use std::marker::Model;
 use xet_base::error::{CoreError, Result};
 use xet_base::merklehash::MerkleHash;
 use xet_base::serialization_utils::write_bytes;
+
+/// Which of a record's verification rows and auxiliary row are written; all else always is.
+#[derive(Clone, Copy, Debug, PartialEq, Eq)]
+pub struct KeptParts {
+    pub verification: bool,
+    pub aux_ext: bool,
+}
 
 /// A file record as its bytes. Contracts see the record that the bytes are, its reserved words as
 /// they are stored.
@@ -195,13 +202,46 @@ impl MDBFileInfoView {
     pub fn byte_size(&self, with_verification: bool) -> usize
         ensures { result ≡ 48 * row_count (as_wanted with_verification self.now) }
     {
-        let verification = if with_verification {
+        self.byte_size_of_kept(KeptParts {
+            verification: with_verification,
+            aux_ext: true,
+        })
+    }
+
+    /// The size in bytes of the record as `serialize_kept` writes it.
+    pub fn byte_size_of_kept(&self, kept: KeptParts) -> usize
+        ensures { result ≡ 48 * row_count (as_kept kept self.now) }
+    {
+        let segments = self.header.num_entries as usize;
+        let rows = 1 + segments + self.verification_rows(kept) + self.last_rows(kept);
+        rows * MDB_FILE_INFO_ENTRY_SIZE
+    }
+
+    // The number of verification rows that are kept.
+    fn verification_rows(&self, kept: KeptParts) -> usize
+        ensures rows { result ≡ length (as_kept kept self.now).verification }
+        ensures bound { result < 2 ^ 32 }
+    {
+        if kept.verification {
             self.header.verification_rows() as usize
         } else {
             0
+        }
+    }
+
+    // The number of metadata and auxiliary rows that are kept, at most 2.
+    fn last_rows(&self, kept: KeptParts) -> usize
+        ensures rows { result
+            ≡ length (option_to_list self.now.metadata_ext)
+            + length (option_to_list (as_kept kept self.now).aux_ext) }
+        ensures bound { result ≤ 2 }
+    {
+        let aux = if kept.aux_ext {
+            self.header.aux_rows()
+        } else {
+            0
         };
-        let extensions = self.header.metadata_rows() + self.header.aux_rows();
-        (1 + self.num_entries() + verification + extensions as usize) * MDB_FILE_INFO_ENTRY_SIZE
+        (self.header.metadata_rows() + aux) as usize
     }
 
     /// Appends the record and returns its size in bytes. If verification rows are not wanted, a
@@ -220,36 +260,76 @@ impl MDBFileInfoView {
             → IsErrAnd result IsIoOther × (writer.new ≡ writer.old) }
         ensures causes { IfErr result IsDeviceError }
     {
-        let contains_verification = self.contains_verification();
-        if with_verification && !contains_verification {
-            return Err(CoreError::Io(io::Error::from(ErrorKind::Other)));
-        }
-        if with_verification == contains_verification {
-            write_bytes(writer, self.bytes.as_slice())?;
-        } else {
-            self.write_without_verification(writer)?;
-        }
-        Ok(self.byte_size(with_verification))
+        let kept = KeptParts {
+            verification: with_verification,
+            aux_ext: true,
+        };
+        self.serialize_kept(writer, kept)
     }
 
-    // Appends the record without its verification rows.
-    fn write_without_verification<W: Write>(&self, writer: &mut W) -> io::Result<()>
+    /// The same of these parts of the record. Without its auxiliary row, a record that has one is
+    /// written under a header with bit 29 cleared and all else as it is.
+    pub fn serialize_kept<W: Write>(&self, writer: &mut W, kept: KeptParts) -> Result<usize>
+        ensures bytes { OnOk result
+            (Appends (W.contents writer.old) (W.contents writer.new)
+            (file_record_bytes (as_kept kept self.now))) }
+        ensures count { IfOk result (λ n. n ≡ 48 * row_count (as_kept kept self.now)) }
+        ensures missing { LacksVerification kept.verification self.now
+            → IsErrAnd result IsIoOther × (writer.new ≡ writer.old) }
+        ensures causes { IfErr result IsDeviceError }
+    {
+        if kept.verification && !self.contains_verification() {
+            return Err(CoreError::Io(io::Error::from(ErrorKind::Other)));
+        }
+        if self.is_all(kept) {
+            write_bytes(writer, self.bytes.as_slice())?;
+        } else {
+            self.write_kept(writer, kept)?;
+        }
+        Ok(self.byte_size_of_kept(kept))
+    }
+
+    // Whether the record has no other parts.
+    fn is_all(&self, kept: KeptParts) -> bool
+        ensures { IsTrue result → as_kept kept self.now ≡ self.now }
+    {
+        let all_verification = kept.verification | !self.header.contains_verification();
+        let all_aux_ext = kept.aux_ext | !self.header.contains_aux_ext();
+        all_verification & all_aux_ext
+    }
+
+    // Appends the parts of the record that are kept.
+    fn write_kept<W: Write>(&self, writer: &mut W, kept: KeptParts) -> io::Result<()>
         ensures { OnOk result
             (Appends (W.contents writer.old) (W.contents writer.new)
-            (file_record_bytes (without_verification self.now))) }
+            (file_record_bytes (as_kept kept self.now))) }
     {
-        let header = self.header_without_verification();
+        let header = self.kept_header(kept);
         write_row(&header, writer)?;
         let bytes = self.bytes.as_slice();
         let segments = self.num_entries();
-        write_bytes(writer, record_bytes::part(bytes, 1, segments))?;
+        let first = segments + self.verification_rows(kept);
+        write_bytes(writer, record_bytes::part(bytes, 1, first))?;
         let after = 1 + segments + self.header.verification_rows() as usize;
-        let extensions = self.header.metadata_rows() + self.header.aux_rows();
-        write_bytes(
-            writer,
-            record_bytes::part(bytes, after, extensions as usize),
-        )?;
+        let last = self.last_rows(kept);
+        write_bytes(writer, record_bytes::part(bytes, after, last))?;
         Ok(())
+    }
+
+    // The header of the record that is written.
+    fn kept_header(&self, kept: KeptParts) -> FileDataSequenceHeader
+        ensures { result ≡ (as_kept kept self.now).metadata }
+    {
+        let header = if self.contains_verification() & !kept.verification {
+            self.header_without_verification()
+        } else {
+            self.header
+        };
+        if kept.aux_ext {
+            header
+        } else {
+            header.with_aux_ext(false)
+        }
     }
 
     // The header with the flags of a metadata row and of an auxiliary row alone.

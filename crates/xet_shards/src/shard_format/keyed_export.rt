@@ -1,7 +1,7 @@
 //! Keyed exports: a shard is written again, record by record as it is read, with its chunk hashes
 //! under a key.
 
-ghost use Rattle.std.specs.Prelude.{◌≡◌, ◌⊎◌, ◌+◌, ◌*◌, ◌^◌, ◌≤◌, ◌++◌, List, flat_map, MatchResult, OnOk, IfErr, IsErrAnd};
+ghost use Rattle.std.specs.Prelude.{◌≡◌, ◌⊎◌, ◌+◌, ◌*◌, ◌^◌, ◌≤◌, ◌++◌, Bool, true, false, List, flat_map, MatchOption, MatchResult, OnOk, IfErr, IsErrAnd};
 ghost use Rattle.std.specs.Io.KnownBytes.{Appends};
 ghost use Rattle.xet_base.specs.Errors.{IsDeviceError};
 ghost use Rattle.xet_base.specs.KeyedHash.{no_key};
@@ -12,7 +12,7 @@ ghost use Rattle.xet_records.proofs.RecordKinds.{file_laws, xorb_laws};
 ghost use Rattle.xet_shards.specs.declared.shard_format.form.Form.{Form};
 ghost use Rattle.xet_shards.specs.Section.{section_bytes, total_rows};
 ghost use Rattle.xet_shards.specs.SectionReading.{TakesNoSection, RecordFails};
-ghost use Rattle.xet_shards.specs.KeyedExport.{Exports, ExportFails, ExportsSection, CannotExport, ExpiresTooLate, WritingFails, export_form, exported_file, exported_xorb, keyed_xorb};
+ghost use Rattle.xet_shards.specs.KeyedExport.{Exports, ExportsWith, ExportFails, ExportsSection, CannotExport, ExpiresTooLate, WritingFails, export_form, exported_file, exported_xorb, keyed_xorb};
 ghost use Rattle.xet_shards.specs.ExportLaws.{file_rows, xorb_rows};
 
 use super::footer::FOOTER_SIZE;
@@ -29,7 +29,7 @@ use xet_base::error::{CoreError, Result};
 use xet_base::input::OfSource;
 use xet_base::merklehash::HMACKey;
 use xet_base::source::ShardSource;
-use xet_records::file_structs::{MDBFileInfo, MDBFileInfoView};
+use xet_records::file_structs::{KeptParts, MDBFileInfo, MDBFileInfoView};
 use xet_records::record_reader::{FormatVersion, read_record};
 use xet_records::rows::Rows;
 use xet_records::view_reader::read_view;
@@ -113,41 +113,147 @@ impl MDBShardInfo {
             → IsErrAnd result (λ e. e ≡ CoreError.InvalidArguments) × (source.new ≡ source.old)
             × (writer.new ≡ writer.old) }
     {
-        let Some(expiry) = now.checked_add(valid_seconds) else {
+        let Some(form) = export_form(
+            key,
+            now,
+            valid_seconds,
+            include_file_info,
+            include_xorb_lookup_table,
+            include_chunk_lookup_table,
+        ) else {
             return Err(CoreError::InvalidArguments);
         };
-        let form = Form {
-            version: FormatVersion::V3,
-            file_table: include_file_info,
-            xorb_table: include_xorb_lookup_table,
-            chunk_table: include_chunk_lookup_table,
+        export(alloc, source, writer, true, &form)
+    }
+
+    /// The same as `export_as_keyed_shard`, but without auxiliary rows: a file that has one is
+    /// written under a header with bit 29 cleared and all else as it is.
+    pub fn export_as_keyed_shard_without_aux<S: ShardSource, W: Write>(
+        &self,
+        alloc: Global,
+        source: &mut S,
+        writer: &mut W,
+        key: HMACKey,
+        now: u64,
+        valid_seconds: u64,
+        include_file_info: bool,
+        include_xorb_lookup_table: bool,
+        include_chunk_lookup_table: bool,
+    ) -> Result<usize>
+        ensures written { MatchResult result
+            (ExportsWith false
+            (export_form key now valid_seconds include_file_info include_xorb_lookup_table
+            include_chunk_lookup_table)
+            (S.meaning source.old) (S.meaning source.new) (W.contents writer.old)
+            (W.contents writer.new))
+            (λ e. ((e ≡ CoreError.InvalidArguments) × CannotExport self.now now valid_seconds)
+            ⊎ ExportFails (S.meaning source.old) (S.meaning source.new) e) }
+        ensures untouched { CannotExport self.now now valid_seconds
+            → IsErrAnd result (λ e. e ≡ CoreError.InvalidArguments) × (source.new ≡ source.old)
+            × (writer.new ≡ writer.old) }
+    {
+        let keyed = self.chunk_hashes_protected();
+        if keyed {
+            return Err(CoreError::InvalidArguments);
+        }
+        MDBShardInfo::export_as_keyed_shard_streaming_without_aux(
+            alloc,
+            source,
+            writer,
             key,
-            creation: now,
-            expiry,
+            now,
+            valid_seconds,
+            include_file_info,
+            include_xorb_lookup_table,
+            include_chunk_lookup_table,
+        )
+    }
+
+    /// The same of a shard whose footer is not known, as `export_as_keyed_shard_streaming`.
+    pub fn export_as_keyed_shard_streaming_without_aux<S: ShardSource, W: Write>(
+        alloc: Global,
+        source: &mut S,
+        writer: &mut W,
+        key: HMACKey,
+        now: u64,
+        valid_seconds: u64,
+        include_file_info: bool,
+        include_xorb_lookup_table: bool,
+        include_chunk_lookup_table: bool,
+    ) -> Result<usize>
+        ensures written { MatchResult result
+            (ExportsWith false
+            (export_form key now valid_seconds include_file_info include_xorb_lookup_table
+            include_chunk_lookup_table)
+            (S.meaning source.old) (S.meaning source.new) (W.contents writer.old)
+            (W.contents writer.new))
+            (λ e. ((e ≡ CoreError.InvalidArguments) × ExpiresTooLate now valid_seconds)
+            ⊎ ExportFails (S.meaning source.old) (S.meaning source.new) e) }
+        ensures untouched { ExpiresTooLate now valid_seconds
+            → IsErrAnd result (λ e. e ≡ CoreError.InvalidArguments) × (source.new ≡ source.old)
+            × (writer.new ≡ writer.old) }
+    {
+        let Some(form) = export_form(
+            key,
+            now,
+            valid_seconds,
+            include_file_info,
+            include_xorb_lookup_table,
+            include_chunk_lookup_table,
+        ) else {
+            return Err(CoreError::InvalidArguments);
         };
-        export(alloc, source, writer, &form)
+        export(alloc, source, writer, false, &form)
     }
 }
 
-// Reads header and sections, and writes the shard in a form, which is of version 3: files of either
-// version can be stored in that.
+// The form of an export, or `None` if its expiry does not fit `u64`.
+fn export_form(
+    key: HMACKey,
+    now: u64,
+    valid_seconds: u64,
+    file_table: bool,
+    xorb_table: bool,
+    chunk_table: bool,
+) -> Option<Form>
+    ensures { MatchOption result (ExpiresTooLate now valid_seconds)
+        (λ form. (form ≡ export_form key now valid_seconds file_table xorb_table chunk_table)
+        × (¬ ExpiresTooLate now valid_seconds)) }
+{
+    let expiry = now.checked_add(valid_seconds)?;
+    Some(Form {
+        version: FormatVersion::V3,
+        file_table,
+        xorb_table,
+        chunk_table,
+        key,
+        creation: now,
+        expiry,
+    })
+}
+
+// Reads header and sections, and writes the shard with auxiliary rows or without, in a form. That is
+// of version 3, in which files of either version can be stored.
 fn export<S: ShardSource, W: Write>(
     alloc: Global,
     source: &mut S,
     writer: &mut W,
+    aux_ext: bool,
     form: &Form,
 ) -> Result<usize>
     requires { form.now.version ≡ FormatVersion.V3 }
     ensures { MatchResult result
-        (Exports form.now (S.meaning source.old) (S.meaning source.new) (W.contents writer.old)
-        (W.contents writer.new))
+        (ExportsWith aux_ext form.now (S.meaning source.old) (S.meaning source.new)
+        (W.contents writer.old) (W.contents writer.new))
         (ExportFails (S.meaning source.old) (S.meaning source.new)) }
 {
     let version = read_header(alloc, source)?.format_version();
     MDBShardFileHeader::of_version(form.version).serialize(writer)?;
-    let files = export_section::<MDBFileInfoView, S, W>(alloc, source, version, writer, form)?;
+    let files = export_section::<MDBFileInfoView, S, W>(
+        alloc, source, version, writer, aux_ext, form,
+    )?;
     let newest = FormatVersion::V3;
-    let xorbs = export_section::<MDBXorbInfo, S, W>(alloc, source, newest, writer, form)?;
+    let xorbs = export_section::<MDBXorbInfo, S, W>(alloc, source, newest, writer, aux_ext, form)?;
     let footer = write_end(writer, &files, &xorbs, form)?;
     let size = footer.footer_offset + FOOTER_SIZE;
     Ok(size as usize)
@@ -160,8 +266,8 @@ trait ExportedRecord {
     // the stored record that was read
     ghost stored: { Self → Self.Section.Record };
 
-    // what is written for it in a form: a record, or none
-    ghost exports: { Form → Self.Section.Record → List Self.Section.Record };
+    // what is written for it in a form, with auxiliary rows or without: a record, or none
+    ghost exports: { Bool → Form → Self.Section.Record → List Self.Section.Record };
 
     // Reads the next record, or `None` at the bookend, and counts its rows down from those left.
     fn read<S: ShardSource>(
@@ -182,6 +288,7 @@ trait ExportedRecord {
         self,
         writer: &mut W,
         written: &mut Self::Section,
+        aux_ext: bool,
         form: &Form,
     ) -> Result<()>
         requires stored { Self.Section.Record.kind.IsStored (stored self) }
@@ -190,20 +297,22 @@ trait ExportedRecord {
             ≤ 4294967295 }
         ensures appended { OnOk result
             (Appends (W.contents writer.old) (W.contents writer.new)
-            (flat_map Self.Section.Record.kind.record_bytes (exports form.now (stored self)))) }
+            (flat_map Self.Section.Record.kind.record_bytes
+            (exports aux_ext form.now (stored self)))) }
         ensures written { OnOk result
             ((before : List Self.Section.Record) → Self.Section.has_written written.old before
-            → Self.Section.has_written written.new (before ++ exports form.now (stored self))) }
+            → Self.Section.has_written written.new
+            (before ++ exports aux_ext form.now (stored self))) }
         ensures causes { IfErr result IsDeviceError };
 
     ghost laws: { KindLaws Self.Section.Record.kind };
 
-    ghost no_more_rows: { (form : Form) (r : Self.Section.Record)
-        → total_rows Self.Section.Record.kind (exports form r)
+    ghost no_more_rows: { (aux : Bool) (form : Form) (r : Self.Section.Record)
+        → total_rows Self.Section.Record.kind (exports aux form r)
         ≤ Self.Section.Record.kind.row_count r };
 }
 
-// A file is written as it is stored, if the form has files.
+// A file is written as it is stored, or without its auxiliary row, if the form has files.
 impl ExportedRecord for MDBFileInfoView {
     type Section = WrittenFiles;
 
@@ -228,12 +337,17 @@ impl ExportedRecord for MDBFileInfoView {
         self,
         writer: &mut W,
         written: &mut WrittenFiles,
+        aux_ext: bool,
         form: &Form,
     ) -> Result<()> {
         if !form.file_table {
             return Ok(());
         }
-        write_file_view(writer, written, &self, true)
+        let kept = KeptParts {
+            verification: true,
+            aux_ext,
+        };
+        write_file_view(writer, written, &self, kept)
     }
 }
 
@@ -262,6 +376,7 @@ impl ExportedRecord for MDBXorbInfo {
         self,
         writer: &mut W,
         written: &mut WrittenXorbs,
+        _aux_ext: bool,
         form: &Form,
     ) -> Result<()> {
         let xorb = with_keyed_hashes(self, form.key);
@@ -276,10 +391,11 @@ fn export_section<E: ExportedRecord + Drop, S: ShardSource, W: Write>(
     source: &mut S,
     version: FormatVersion,
     writer: &mut W,
+    aux_ext: bool,
     form: &Form,
 ) -> Result<E::Section>
     ensures { MatchResult result
-        (λ written. ExportsSection E.Section.Record.kind version (E.exports form.now)
+        (λ written. ExportsSection E.Section.Record.kind version (E.exports aux_ext form.now)
         (E.Section.has_written written) (S.meaning source.old) (S.meaning source.new)
         (W.contents writer.old) (W.contents writer.new))
         (λ e. TakesNoSection (in_version E.Section.Record.kind version) (S.meaning source.old)
@@ -289,7 +405,7 @@ fn export_section<E: ExportedRecord + Drop, S: ShardSource, W: Write>(
     let mut written = E::Section::new(alloc);
     let mut rows_left = u64::from(u32::MAX);
     while let Some(next) = E::read(alloc, source, version, &mut rows_left)? {
-        next.export(writer, &mut written, form)?;
+        next.export(writer, &mut written, aux_ext, form)?;
     }
     E::Section::write_bookend(writer)?;
     Ok(written)

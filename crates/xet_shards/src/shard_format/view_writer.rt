@@ -5,39 +5,41 @@ ghost use Rattle.std.specs.Io.KnownBytes.{Appends};
 ghost use Rattle.xet_base.specs.Errors.{IsDeviceError};
 ghost use Rattle.xet_records.specs.declared.file_structs.MDBFileInfo.{MDBFileInfo};
 ghost use Rattle.xet_records.specs.FileRecord.{file_record_bytes, row_count, size_of_file};
-ghost use Rattle.xet_records.specs.View.{as_wanted};
+ghost use Rattle.xet_records.specs.View.{as_kept};
 ghost use Rattle.xet_shards.specs.Written.{HasWritten};
 
 use super::written::WrittenFiles;
 use std::io::Write;
 use xet_base::error::Result;
-use xet_records::file_structs::MDBFileInfoView;
+use xet_records::file_structs::{KeptParts, MDBFileInfoView};
 use xet_records::rows::ROW_SIZE;
 
-/// Adds and writes the next file, as it is stored, but without verification rows if they are not
-/// wanted. Missing verification rows are no error. The error is the writer's, or `OutOfMemory` if
-/// an allocation fails.
+/// Adds and writes these parts of the next file, as they are stored. Missing verification rows are
+/// no error. The error is the writer's, or `OutOfMemory` if an allocation fails.
 pub fn write_file_view<W: Write>(
     writer: &mut W,
     written: &mut WrittenFiles,
     view: &MDBFileInfoView,
-    with_verification: bool,
+    kept: KeptParts,
 ) -> Result<()>
-    requires rows { written.old.table.rows + row_count (as_wanted with_verification view.now)
+    requires rows { written.old.table.rows + row_count (as_kept kept view.now)
         ≤ 4294967295 }
     ensures appended { OnOk result
         (Appends (W.contents writer.old) (W.contents writer.new)
-        (file_record_bytes (as_wanted with_verification view.now))) }
+        (file_record_bytes (as_kept kept view.now))) }
     ensures written { OnOk result
         ((before : List MDBFileInfo) → HasWritten written.old before
-        → HasWritten written.new (before ++ as_wanted with_verification view.now ∷ [])) }
+        → HasWritten written.new (before ++ as_kept kept view.now ∷ [])) }
     ensures causes { IfErr result IsDeviceError }
 {
-    let with_verification = with_verification && view.contains_verification();
-    let rows = (view.byte_size(with_verification) / ROW_SIZE) as u64;
+    let kept = KeptParts {
+        verification: kept.verification && view.contains_verification(),
+        aux_ext: kept.aux_ext,
+    };
+    let rows = (view.byte_size_of_kept(kept) / ROW_SIZE) as u64;
     let bytes = file_size(view);
     written.add(view.file_hash().word0, rows, bytes)?;
-    view.serialize(writer, with_verification)?;
+    view.serialize_kept(writer, kept)?;
     Ok(())
 }
 

@@ -1,16 +1,17 @@
 //! A shard without its tables, kept as views of its records.
 
 ghost use Rattle.std.proofs.Common.{rules};
-ghost use Rattle.std.specs.Prelude.{◌≡◌, ℕ, ◌*◌, ◌≤◌, Bool, length, nat_eq, slice_get, sum_by, MatchResult, IfOk, IfErr};
+ghost use Rattle.std.specs.Prelude.{◌≡◌, ℕ, ◌*◌, ◌≤◌, false, length, nat_eq, slice_get, sum_by, MatchResult, IfOk, IfErr};
 ghost use Rattle.std.specs.Cmp.Lexicographic.{pointwise};
 ghost use Rattle.std.specs.Cmp.Rules.{comparing};
 ghost use Rattle.std.specs.Ordering.{on, eq_of_both};
-ghost use Rattle.xet_records.specs.View.{as_wanted};
+ghost use Rattle.xet_records.specs.declared.file_structs.view.KeptParts.{KeptParts};
+ghost use Rattle.xet_records.specs.View.{as_kept};
 ghost use Rattle.std.specs.Option.{option_copied};
 ghost use Rattle.xet_base.specs.Input.{ReaderFails};
 ghost use Rattle.std.specs.Io.KnownBytes.{Consumes};
 ghost use Rattle.xet_shards.specs.InForm.{FitsSection};
-ghost use Rattle.xet_shards.specs.MinimalShard.{FitsSections, has_file_verification, serialized_size};
+ghost use Rattle.xet_shards.specs.MinimalShard.{FitsSections, has_file_verification, serialized_size, size_of_kept};
 ghost use Rattle.xet_shards.specs.MinimalReading.{ReadsMinimal, MinimalFails, ReaderHeaderFails};
 ghost use Rattle.xet_records.specs.FileRecord.{file_records, file_record_bytes, row_count};
 ghost use Rattle.xet_records.specs.XorbRecord.{xorb_records, xorb_record_bytes, xorb_row_count};
@@ -22,7 +23,7 @@ use std::io::Read;
 use std::marker::Model;
 use xet_base::error::{CoreError, Result};
 use xet_base::input::OfReader;
-use xet_records::file_structs::MDBFileInfoView;
+use xet_records::file_structs::{KeptParts, MDBFileInfoView};
 use xet_records::xorb_structs::MDBXorbInfoView;
 
 /// The records of a shard's sections, as views. Contracts see both lists of records, as they are
@@ -138,11 +139,32 @@ impl MDBMinimalShard {
     pub fn serialized_size(&self, with_verification: bool) -> u64
         ensures { result ≡ serialized_size with_verification self.now }
     {
-        if with_verification && !self.has_file_verification() {
+        self.size_of_kept(KeptParts {
+            verification: with_verification,
+            aux_ext: true,
+        })
+    }
+
+    /// The same of what `serialize_without_aux` writes.
+    pub fn serialized_size_without_aux(&self, with_verification: bool) -> u64
+        ensures { result
+            ≡ size_of_kept (record { verification = with_verification; aux_ext = false })
+            self.now }
+    {
+        self.size_of_kept(KeptParts {
+            verification: with_verification,
+            aux_ext: false,
+        })
+    }
+
+    fn size_of_kept(&self, kept: KeptParts) -> u64
+        ensures { result ≡ size_of_kept kept self.now }
+    {
+        if kept.verification && !self.has_file_verification() {
             return 0;
         }
-        let files = bytes_of(self.files(), with_verification);
-        let records = files + bytes_of(self.xorbs(), with_verification);
+        let files = bytes_of(self.files(), kept);
+        let records = files + bytes_of(self.xorbs(), kept);
         MDBShardInfo::non_content_byte_size() + records
     }
 
@@ -172,37 +194,37 @@ impl PartialEq for MDBMinimalShard {
 
 // A view of a record that a shard keeps.
 trait KeptView {
-    // the rows of its record, with or without verification rows
-    ghost rows: { Bool → Self → ℕ };
+    // the rows of these parts of its record
+    ghost rows: { KeptParts → Self → ℕ };
 
     fn copy(&self) -> Result<Self>
         ensures ok { IfOk result (λ copy. copy ≡ self.now) }
         ensures causes { IfErr result (λ e. e ≡ CoreError.OutOfMemory) };
 
-    fn bytes(&self, with_verification: bool) -> u64
-        ensures { result ≡ 48 * rows with_verification self.now };
+    fn bytes(&self, kept: KeptParts) -> u64
+        ensures { result ≡ 48 * rows kept self.now };
 }
 
 impl KeptView for MDBFileInfoView {
-    ghost rows = { λ wanted view. row_count (as_wanted wanted view) };
+    ghost rows = { λ kept view. row_count (as_kept kept view) };
 
     fn copy(&self) -> Result<Self> {
         self.try_clone()
     }
 
-    fn bytes(&self, with_verification: bool) -> u64 {
-        self.byte_size(with_verification) as u64
+    fn bytes(&self, kept: KeptParts) -> u64 {
+        self.byte_size_of_kept(kept) as u64
     }
 }
 
 impl KeptView for MDBXorbInfoView {
-    ghost rows = { λ wanted view. xorb_row_count view };
+    ghost rows = { λ kept view. xorb_row_count view };
 
     fn copy(&self) -> Result<Self> {
         self.try_clone()
     }
 
-    fn bytes(&self, _with_verification: bool) -> u64 {
+    fn bytes(&self, _kept: KeptParts) -> u64 {
         self.byte_size() as u64
     }
 }
@@ -218,14 +240,14 @@ fn copies<V: KeptView + Drop>(alloc: Global, views: &[V]) -> Result<Vec<V>>
     Ok(copies)
 }
 
-// The bytes of the records of these views, with or without verification rows.
-fn bytes_of<V: KeptView>(views: &[V], with_verification: bool) -> u64
-    requires { sum_by (V.rows with_verification) views.now ≤ 4294967295 }
-    ensures { result ≡ 48 * sum_by (V.rows with_verification) views.now }
+// The bytes of these parts of the records of views.
+fn bytes_of<V: KeptView>(views: &[V], kept: KeptParts) -> u64
+    requires { sum_by (V.rows kept) views.now ≤ 4294967295 }
+    ensures { result ≡ 48 * sum_by (V.rows kept) views.now }
 {
     let mut bytes = 0;
     for view in views {
-        bytes += view.bytes(with_verification);
+        bytes += view.bytes(kept);
     }
     bytes
 }

@@ -1,6 +1,6 @@
 //! Writing a minimal shard: all of it, or some of its xorbs.
 
-ghost use Rattle.std.specs.Prelude.{◌≡◌, ◌+◌, ◌*◌, [], map, None, IsTrue, IsErrAnd, OnOk, IfOk, IfErr};
+ghost use Rattle.std.specs.Prelude.{◌≡◌, ◌+◌, ◌*◌, false, [], map, None, IsTrue, IsErrAnd, OnOk, IfOk, IfErr};
 ghost use Rattle.std.specs.BTreeSet.{contains};
 ghost use Rattle.std.specs.Fn.{FnReturnsAt};
 ghost use Rattle.std.specs.Io.KnownBytes.{Appends};
@@ -8,11 +8,11 @@ ghost use Rattle.std.specs.List.{Any, list_all};
 ghost use Rattle.xet_base.specs.Errors.{IsDeviceError};
 ghost use Rattle.xet_records.specs.FileRecord.{file_records, has_verification};
 ghost use Rattle.xet_records.specs.XorbRecord.{xorb_records};
-ghost use Rattle.xet_records.specs.View.{as_wanted, LacksVerification, IsIoOther};
+ghost use Rattle.xet_records.specs.View.{as_kept, LacksVerification, IsIoOther};
 ghost use Rattle.xet_shards.specs.InForm.{FitsSection};
 ghost use Rattle.xet_shards.specs.Section.{section_bytes};
 ghost use Rattle.xet_shards.specs.Written.{HasWritten};
-ghost use Rattle.xet_shards.specs.MinimalShard.{start_cmp, minimal_form, HasNoTables, WritesMinimal, WritesKept};
+ghost use Rattle.xet_shards.specs.MinimalShard.{start_cmp, minimal_form, HasNoTables, WritesMinimal, WritesMinimalKept, WritesKept};
 ghost use Rattle.xet_shards.specs.MinimalWriting.{WritesMarked};
 
 use super::file_start::{FileStart, mark_starts, starts_of};
@@ -28,7 +28,7 @@ use std::io;
 use std::io::{ErrorKind, Write};
 use xet_base::error::{CoreError, Result};
 use xet_base::merklehash::HMACKey;
-use xet_records::file_structs::MDBFileInfoView;
+use xet_records::file_structs::{KeptParts, MDBFileInfoView};
 use xet_records::record_reader::FormatVersion;
 use xet_records::rows::ROW_SIZE;
 use xet_records::xorb_structs::MDBXorbInfoView;
@@ -54,15 +54,60 @@ impl MDBMinimalShard {
             → IsErrAnd result IsIoOther × (writer.new ≡ writer.old) }
         ensures causes { IfErr result IsDeviceError }
     {
+        let kept = KeptParts {
+            verification: with_verification,
+            aux_ext: true,
+        };
+        self.serialize_kept(alloc, writer, now, kept)
+    }
+
+    /// The same without auxiliary rows. A file that has one is written under a header with bit 29
+    /// cleared and all else as it is; where its verification rows are left out too, with the flag of
+    /// a metadata row alone.
+    pub fn serialize_without_aux<W: Write>(
+        &self,
+        alloc: Global,
+        writer: &mut W,
+        now: u64,
+        with_verification: bool,
+    ) -> Result<usize>
+        ensures written { IfOk result
+            (WritesMinimalKept (W.contents writer.old) (W.contents writer.new)
+            (record { verification = with_verification; aux_ext = false }) now self.now) }
+        ensures missing { Any (LacksVerification with_verification) self.now.files
+            → IsErrAnd result IsIoOther × (writer.new ≡ writer.old) }
+        ensures causes { IfErr result IsDeviceError }
+    {
+        let kept = KeptParts {
+            verification: with_verification,
+            aux_ext: false,
+        };
+        self.serialize_kept(alloc, writer, now, kept)
+    }
+
+    // Writes the shard with these parts of its files.
+    fn serialize_kept<W: Write>(
+        &self,
+        alloc: Global,
+        writer: &mut W,
+        now: u64,
+        kept: KeptParts,
+    ) -> Result<usize>
+        ensures written { IfOk result
+            (WritesMinimalKept (W.contents writer.old) (W.contents writer.new) kept now self.now) }
+        ensures missing { Any (LacksVerification kept.verification) self.now.files
+            → IsErrAnd result IsIoOther × (writer.new ≡ writer.old) }
+        ensures causes { IfErr result IsDeviceError }
+    {
         let files = self.files();
-        if with_verification && !all_have_verification(files) {
+        if kept.verification && !all_have_verification(files) {
             return Err(CoreError::Io(io::Error::from(ErrorKind::Other)));
         }
         let form = minimal_form(now, None);
         let all = |_xorb: &MDBXorbInfoView| -> bool
             ensures { IsTrue result }
         { true };
-        self.write(alloc, writer, files, with_verification, &form, all)
+        self.write(alloc, writer, files, kept, &form, all)
     }
 
     /// Writes the xorbs that `filter`, called once with each in order, accepts, and no files, with
@@ -101,17 +146,21 @@ impl MDBMinimalShard {
         ensures causes { IfErr result IsDeviceError }
     {
         let form = minimal_form(now, expiry);
-        self.write(alloc, writer, &[], false, &form, filter)
+        let kept = KeptParts {
+            verification: false,
+            aux_ext: true,
+        };
+        self.write(alloc, writer, &[], kept, &form, filter)
     }
 
-    // Writes these files, and the xorbs that a filter accepts, with marks at the starts of all
-    // files.
+    // Writes these parts of files, and the xorbs that a filter accepts, with marks at the starts of
+    // all files.
     fn write<W: Write, F: Fn(&MDBXorbInfoView) -> bool>(
         &self,
         alloc: Global,
         writer: &mut W,
         files: &[MDBFileInfoView],
-        with_verification: bool,
+        kept: KeptParts,
         form: &Form,
         filter: F,
     ) -> Result<usize>
@@ -120,12 +169,12 @@ impl MDBMinimalShard {
         requires form { HasNoTables form.now }
         ensures written { IfOk result
             (WritesKept (FnReturnsAt F.Fn filter) (W.contents writer.old) (W.contents writer.new)
-            (map (as_wanted with_verification) files.now) self.now form.now) }
+            (map (as_kept kept) files.now) self.now form.now) }
         ensures causes { IfErr result IsDeviceError }
     {
         let starts = starts_of(alloc, self.files())?;
         MDBShardFileHeader::of_version(form.version).serialize(writer)?;
-        let files = write_files(alloc, writer, files, with_verification)?;
+        let files = write_files(alloc, writer, files, kept)?;
         let xorbs = write_xorbs(alloc, writer, self.xorbs(), &starts, filter)?;
         write_end(writer, &files, &xorbs, form)?;
         Ok(size_of(&files, &xorbs))
@@ -159,25 +208,25 @@ fn minimal_form(now: u64, expiry: Option<u64>) -> Form
     }
 }
 
-// Writes the file section, with verification rows only if they are wanted.
+// Writes the file section, with these parts of each file.
 #[tactic(auto, unfolding(crate::specs::Section::section_bytes))]
 fn write_files<W: Write>(
     alloc: Global,
     writer: &mut W,
     files: &[MDBFileInfoView],
-    with_verification: bool,
+    kept: KeptParts,
 ) -> Result<WrittenFiles>
     requires { FitsSection file_records files.now }
     ensures bytes { OnOk result
         (Appends (W.contents writer.old) (W.contents writer.new)
-        (section_bytes file_records (map (as_wanted with_verification) files.now))) }
+        (section_bytes file_records (map (as_kept kept) files.now))) }
     ensures written { IfOk result
-        (λ written. HasWritten written (map (as_wanted with_verification) files.now)) }
+        (λ written. HasWritten written (map (as_kept kept) files.now)) }
     ensures causes { IfErr result IsDeviceError }
 {
     let mut written = WrittenFiles::new(alloc);
     for file in files {
-        write_file_view(writer, &mut written, file, with_verification)?;
+        write_file_view(writer, &mut written, file, kept)?;
     }
     WrittenFiles::write_bookend(writer)?;
     Ok(written)

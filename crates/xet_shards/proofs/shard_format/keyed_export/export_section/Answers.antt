@@ -24,7 +24,7 @@ export-requires g c =
         arith,
         next_fits (in_version kind c.args.version) (laws_in kind g.met.E.ExportedRecord.laws c.args.version) _ _ _ _ _ (g.E.ExportedRecord.stored c.in-Some.next) before next,
         g.met.E.Section.WrittenSection.counts_rows _ _ before.made.collected,
-        fewer_rows kind (g.E.ExportedRecord.exports c.args.form.now) (g.met.E.ExportedRecord.no_more_rows c.args.form.now) before.stored,
+        fewer_rows kind (g.E.ExportedRecord.exports c.args.aux_ext c.args.form.now) (g.met.E.ExportedRecord.no_more_rows c.args.aux_ext c.args.form.now) before.stored,
       );
     }
 
@@ -46,7 +46,7 @@ loop-written-preserved g c =
     let next = subst (ReadsNextView (in_version kind c.args.version) g.E.ExportedRecord.stored (Takes now new) c.loop-written.rows_left c.read.new.left) c.in-Some.is c.in_ok-next.ensures in
     let wrote = c.in_ok-export.ensures in
     one_exported (in_version kind c.args.version) (laws_in kind g.met.E.ExportedRecord.laws c.args.version) _ _ _ _ _ _ _ (g.E.ExportedRecord.stored c.in-Some.next) (Takes-trans (g.S.ShardSource.meaning c.args.source.now) now new) before next
-    (more_written kind (g.E.ExportedRecord.exports c.args.form.now) _ _ _ (g.W.Write.contents c.loop-written.writer) _ before.stored _ before.made wrote.written wrote.appended)
+    (more_written kind (g.E.ExportedRecord.exports c.args.aux_ext c.args.form.now) _ _ _ (g.W.Write.contents c.loop-written.writer) _ before.stored _ before.made wrote.written wrote.appended)
 
 pub returns-in_err-next : goal.returns-in_err-next
 returns-in_err-next g c =
