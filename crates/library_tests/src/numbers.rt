@@ -126,6 +126,8 @@ fn writes_fail_with_the_device_s_error(rt: HostRuntime) {
             assert_eq!(rt; broken, Some(ErrorKind::BrokenPipe));
             let interrupted = write_with(item, left, Fault::Fails(ErrorKind::Interrupted));
             assert_eq!(rt; interrupted, None);
+            let ended = write_with(item, left, Fault::Fails(ErrorKind::UnexpectedEof));
+            assert_eq!(rt; ended, Some(ErrorKind::Other));
             let stopped = write_with(item, left, Fault::Stops);
             assert_eq!(rt; stopped, Some(ErrorKind::WriteZero));
         }

@@ -3,7 +3,7 @@ use Rattle.std.proofs.Common.{◌≡◌, ◌⊎◌, inl, inr, ℕ, List, [], ◌
 use Rattle.xet_core_structures.specs.declared.error.CoreError.{CoreError}
 use Rattle.xet_core_structures.specs.declared.shard_format.MDBShardInfo.{MDBShardInfo}
 use Rattle.xet_core_structures.specs.declared.source.MemorySource.{MemorySource}
-use Rattle.xet_core_structures.specs.Errors.{IsDeviceError}
+use Rattle.xet_core_structures.specs.Errors.{IsWriteError}
 use Rattle.xet_core_structures.specs.Source.{Source}
 use Rattle.xet_core_structures.specs.Ends.{HasEnds}
 use Rattle.xet_core_structures.specs.Shard.{Shard}
@@ -29,7 +29,7 @@ module _ (x y x_read y_read : List ℕ) (i j : MDBShardInfo) (x_is : x_read ≡ 
 
   -- sources in memory do not fail
   pub combining_refused : (Refusal : List ℕ → MDBShardInfo → List ℕ → MDBShardInfo → CoreError → Type 0) (old_1 new_1 old_2 new_2 : MemorySource) (e : CoreError)
-      → (IsDeviceError e ⊎ InputsFail (in_memory old_1) (in_memory new_1) (in_memory old_2) (in_memory new_2) (Refusal x_read i y_read j) e) → CombiningRefusal Refusal x y e
+      → (IsWriteError e ⊎ InputsFail (in_memory old_1) (in_memory new_1) (in_memory old_2) (in_memory new_2) (Refusal x_read i y_read j) e) → CombiningRefusal Refusal x y e
   combining_refused Refusal old_1 new_1 old_2 new_2 e (inl failed) = inr (inr (inl failed))
   combining_refused Refusal old_1 new_1 old_2 new_2 e (inr (inl failed)) = absurd (omega (arith, failed.0))
   combining_refused Refusal old_1 new_1 old_2 new_2 e (inr (inr (inl failed))) = absurd (omega (arith, failed.0))

@@ -2,7 +2,7 @@
 use Rattle.std.specs.Prelude.{◌≡◌, ◌⊎◌, ℕ, List}
 use Rattle.xet_core_structures.specs.declared.error.CoreError.{CoreError}
 use Rattle.xet_core_structures.specs.declared.shard_format.MDBShardInfo.{MDBShardInfo}
-use Rattle.xet_core_structures.specs.Errors.{IsDeviceError}
+use Rattle.xet_core_structures.specs.Errors.{IsWriteError}
 use Rattle.xet_core_structures.specs.Ends.{HasEnds}
 use Rattle.xet_core_structures.specs.Shard.{Shard}
 use Rattle.xet_core_structures.specs.SetOperations.{IsDifference}
@@ -31,5 +31,5 @@ CombinesBytes IsResult x y out =
 abbrev pub CombiningRefusal : (List ℕ → MDBShardInfo → List ℕ → MDBShardInfo → CoreError → Type 0)
     → List ℕ → List ℕ → CoreError → Type 0
 CombiningRefusal Refusal x y e =
-    LoadRefusal x e ⊎ LoadRefusal y e ⊎ IsDeviceError e
+    LoadRefusal x e ⊎ LoadRefusal y e ⊎ IsWriteError e
     ⊎ ((i j : MDBShardInfo) × HasEnds x i × HasEnds y j × Refusal x i y j e)

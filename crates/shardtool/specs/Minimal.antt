@@ -6,7 +6,7 @@ use Rattle.xet_core_structures.specs.declared.error.CoreError.TheVariants.{OutOf
 use Rattle.xet_core_structures.specs.declared.merklehash.DataHash.{DataHash}
 use Rattle.xet_core_structures.specs.declared.file_structs.KeptParts.{KeptParts}
 use Rattle.xet_core_structures.specs.declared.xorb_structs.MDBXorbInfo.{MDBXorbInfo}
-use Rattle.xet_core_structures.specs.Errors.{IsDeviceError}
+use Rattle.xet_core_structures.specs.Errors.{IsWriteError}
 use Rattle.xet_core_structures.specs.Input.{ReaderFails}
 use Rattle.xet_core_structures.specs.Layout.{layout_of}
 use Rattle.xet_core_structures.specs.MinimalReading.{ReadsMinimal, MinimalFails, ReaderHeaderFails}
@@ -57,7 +57,7 @@ EligibleIn bytes hashes =
 
 -- why nothing is written: the bytes are not read, or writing fails
 abbrev pub WritesNone : List ℕ → CoreError → Type 0
-WritesNone bytes e = RefusesMinimal bytes e ⊎ IsDeviceError e
+WritesNone bytes e = RefusesMinimal bytes e ⊎ IsWriteError e
 
 -- why there are no such hashes: the bytes are not read, or an allocation failed
 abbrev pub EligibleRefusal : List ℕ → CoreError → Type 0

@@ -1,7 +1,7 @@
 //! Union and difference of shards in buffers.
 
 ghost use Rattle.std.specs.Prelude.{◌⊎◌, MatchResult};
-ghost use Rattle.xet_core_structures.specs.Errors.{IsDeviceError};
+ghost use Rattle.xet_core_structures.specs.Errors.{IsWriteError};
 ghost use Rattle.xet_core_structures.specs.ByteResults.{WritesResult, InputsFail};
 ghost use Rattle.shardtool.specs.Combining.{IsResultOf, RefusalOf, CombinesBytes, CombiningRefusal};
 
@@ -55,7 +55,7 @@ fn combine<S: ShardSource, T: ShardSource, W: Write>(
     ensures { MatchResult result
         (WritesResult (IsResultOf operation) (S.meaning r1.old).bytes s1.now
         (T.meaning r2.old).bytes s2.now (W.contents out.old) (W.contents out.new))
-        (λ e. IsDeviceError e
+        (λ e. IsWriteError e
         ⊎ InputsFail (S.meaning r1.old) (S.meaning r1.new) (T.meaning r2.old) (T.meaning r2.new)
         (RefusalOf operation (S.meaning r1.old).bytes s1.now (T.meaning r2.old).bytes
         s2.now)

@@ -45,6 +45,14 @@ abbrev pub IsEndOfInput : CoreError → Type 0
 IsEndOfInput (Io e) = error_kind e ≡ UnexpectedEof
 IsEndOfInput _ = ⊥
 
+-- an error that does not say that the input ended
+abbrev pub IsNoEnd : Error → Type 0
+IsNoEnd e = error_kind e ≢ UnexpectedEof
+
+-- an error of a writer, which never says so, or a failed allocation
+abbrev pub IsWriteError : CoreError → Type 0
+IsWriteError e = IsDeviceError e × (¬ IsEndOfInput e)
+
 -- the bytes are not a valid shard
 abbrev pub IsInvalidShard : CoreError → Type 0
 IsInvalidShard (InvalidShard _) = ⊤

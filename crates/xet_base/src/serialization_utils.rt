@@ -1,12 +1,14 @@
 //! Little-endian codecs of numbers and hashes over readers and writers.
 //!
-//! Reading fails with `UnexpectedEof` only if fewer bytes are left than the call reads; a reader's
-//! own `UnexpectedEof` becomes `Other`. A read that is interrupted is tried again; after 2^64 - 1
-//! reads for one value or slice the error is `TimedOut`. Any other error is the reader's.
+//! Reading fails with `UnexpectedEof` only if fewer bytes are left than the call reads, and writing
+//! never does; a reader's or a writer's own `UnexpectedEof` becomes `Other`. A read that is
+//! interrupted is tried again; after 2^64 - 1 reads for one value or slice the error is `TimedOut`.
+//! Any other error is the reader's.
 
 ghost use Rattle.std.specs.Prelude.{◌≡◌, ◌*◌, ◌∷◌, [], length, take, flat_map, OnOk, IfOk, IfErr, ◌≢◌};
 ghost use Rattle.std.specs.Io.KnownBytes.{Appends, Consumes};
 ghost use Rattle.std.specs.IoError.{error_kind};
+ghost use Rattle.xet_base.specs.Errors.{IsNoEnd};
 ghost use Rattle.xet_base.specs.Bytes.{u32_bytes, u64_bytes, HasBytes};
 ghost use Rattle.xet_base.specs.Input.{ReaderLacks};
 ghost use Rattle.xet_base.specs.Hash.{hash_bytes};
@@ -18,48 +20,57 @@ use std::io::{ErrorKind, Read, Write};
 
 /// Appends the 32 bytes of a hash. The error is the writer's.
 pub fn write_hash<W: Write>(writer: &mut W, hash: &MerkleHash) -> io::Result<()>
-    ensures { OnOk result
+    ensures bytes { OnOk result
         (Appends (W.contents writer.old) (W.contents writer.new) (hash_bytes hash.now)) }
+    ensures causes { IfErr result IsNoEnd }
 {
-    writer.write_all(&hash.as_bytes())
+    write_bytes(writer, &hash.as_bytes())
 }
 
 /// Appends one byte. The error is the writer's.
 pub fn write_u8<W: Write>(writer: &mut W, value: u8) -> io::Result<()>
-    ensures { OnOk result (Appends (W.contents writer.old) (W.contents writer.new) (value ∷ [])) }
+    ensures bytes { OnOk result (Appends (W.contents writer.old) (W.contents writer.new) (value ∷ [])) }
+    ensures causes { IfErr result IsNoEnd }
 {
-    writer.write_all(&[value])
+    write_bytes(writer, &[value])
 }
 
 /// Appends four bytes, lowest first. The error is the writer's.
 #[tactic(auto, unfolding(crate::specs::Bytes::u32_bytes))]
 pub fn write_u32<W: Write>(writer: &mut W, value: u32) -> io::Result<()>
-    ensures { OnOk result
+    ensures bytes { OnOk result
         (Appends (W.contents writer.old) (W.contents writer.new) (u32_bytes value)) }
+    ensures causes { IfErr result IsNoEnd }
 {
-    writer.write_all(&value.to_le_bytes())
+    write_bytes(writer, &value.to_le_bytes())
 }
 
 /// Appends eight bytes, lowest first. The error is the writer's.
 #[tactic(auto, unfolding(crate::specs::Bytes::u64_bytes))]
 pub fn write_u64<W: Write>(writer: &mut W, value: u64) -> io::Result<()>
-    ensures { OnOk result
+    ensures bytes { OnOk result
         (Appends (W.contents writer.old) (W.contents writer.new) (u64_bytes value)) }
+    ensures causes { IfErr result IsNoEnd }
 {
-    writer.write_all(&value.to_le_bytes())
+    write_bytes(writer, &value.to_le_bytes())
 }
 
 /// Appends the bytes. The error is the writer's.
 pub fn write_bytes<W: Write>(writer: &mut W, bytes: &[u8]) -> io::Result<()>
-    ensures { OnOk result (Appends (W.contents writer.old) (W.contents writer.new) bytes.now) }
+    ensures bytes { OnOk result (Appends (W.contents writer.old) (W.contents writer.new) bytes.now) }
+    ensures causes { IfErr result IsNoEnd }
 {
-    writer.write_all(bytes)
+    match writer.write_all(bytes) {
+        Ok(()) => Ok(()),
+        Err(error) => Err(device_error(error)),
+    }
 }
 
 /// Appends each number as four bytes, lowest first. The error is the writer's.
 pub fn write_u32s<W: Write>(writer: &mut W, values: &[u32]) -> io::Result<()>
-    ensures { OnOk result
+    ensures bytes { OnOk result
         (Appends (W.contents writer.old) (W.contents writer.new) (flat_map u32_bytes values.now)) }
+    ensures causes { IfErr result IsNoEnd }
 {
     for value in values {
         write_u32(writer, *value)?;
@@ -69,8 +80,9 @@ pub fn write_u32s<W: Write>(writer: &mut W, values: &[u32]) -> io::Result<()>
 
 /// Appends each number as eight bytes, lowest first. The error is the writer's.
 pub fn write_u64s<W: Write>(writer: &mut W, values: &[u64]) -> io::Result<()>
-    ensures { OnOk result
+    ensures bytes { OnOk result
         (Appends (W.contents writer.old) (W.contents writer.new) (flat_map u64_bytes values.now)) }
+    ensures causes { IfErr result IsNoEnd }
 {
     for value in values {
         write_u64(writer, *value)?;
@@ -183,8 +195,8 @@ pub fn read_u64s<R: Read>(reader: &mut R, values: &mut [u64]) -> io::Result<()>
     Ok(())
 }
 
-// A device that calls its own failure an end of the input is not believed: `UnexpectedEof` is kept
-// for the end that a read of no bytes shows.
+// A reader or a writer that calls its own failure an end of the input is not believed:
+// `UnexpectedEof` is kept for the end that a read of no bytes shows.
 fn device_error(error: io::Error) -> io::Error
     ensures { error_kind result ≢ ErrorKind.UnexpectedEof }
 {

@@ -6,7 +6,7 @@ use Rattle.std.proofs.KnownBytes.{Appends-trans}
 use Rattle.std.proofs.lemmas.List.{length-map}
 use Rattle.xet_base.specs.declared.error.CoreError.{CoreError}
 use Rattle.xet_base.specs.declared.error.CoreError.TheVariants.{OutOfMemory}
-use Rattle.xet_base.specs.Errors.{IsDeviceError}
+use Rattle.xet_base.specs.Errors.{IsWriteError}
 use Rattle.xet_base.specs.InputLaws.{Takes-trans, source_fails_later}
 use Rattle.xet_base.specs.Source.{Source, Takes}
 use Rattle.xet_base.specs.Table.{Serves}
@@ -50,7 +50,7 @@ module _ (g h : FileDataSequenceHeader) (Refused : Option MDBFileInfo → Option
   no_output one two (Output e) is = output_fails e refl is refl refl
 
   pub not_added : (old_1 new_1 old_2 new_2 : Source) (e : CoreError) → Serves old_1 new_1 → Serves old_2 new_2 → e ≡ OutOfMemory → PairFails file_records (Some g) (Some h) old_1 new_1 old_2 new_2 Refused (Output e)
-  not_added old_1 new_1 old_2 new_2 e first second is = output_fails e refl (subst IsDeviceError (sym is) tt) first.bytes second.bytes
+  not_added old_1 new_1 old_2 new_2 e first second is = output_fails e refl (subst IsWriteError (sym is) (tt, λ none. none)) first.bytes second.bytes
 
 -- the number of rows that were read
 len_read : {T : Type 0} (row_bytes : T → List ℕ) (Fits : T → Type 0) (handed : T → T) (Took : List ℕ → Type 0) (count : ℕ) (rows : List T) → ReadsRows row_bytes Fits handed Took count rows → length rows ≡ count

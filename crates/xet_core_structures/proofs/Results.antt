@@ -2,7 +2,7 @@
 use Rattle.std.proofs.Common.{◌≡◌, ◌⊎◌, inl, inr, ℕ, ◌+◌, List, Option, None, Some, sym, ap, ◌∙◌, subst, arith}
 use Rattle.std.specs.Io.KnownBytes.{Appends}
 use Rattle.xet_base.specs.declared.error.CoreError.{CoreError}
-use Rattle.xet_base.specs.Errors.{IsDeviceError, IsInvalidShard}
+use Rattle.xet_base.specs.Errors.{IsWriteError, IsInvalidShard}
 use Rattle.xet_base.specs.Source.{Source, FailedBy, bytes_left}
 use Rattle.xet_base.specs.Table.{Serves}
 use Rattle.xet_records.specs.declared.file_structs.MDBFileInfo.{MDBFileInfo}
@@ -53,9 +53,9 @@ pub xorbs_unique : (o p a b : Option MDBXorbInfo) → IsEitherXorb o p a → IsE
 xorbs_unique o p a b is also = is ∙ sym also
 
 -- the error of a failure is the output's, or has the inputs' cause
-pub failed_by : (Cause : CoreError → Type 0) (failure : CopyFailure) (e : CoreError) → e ≡ error_of failure → FailsBy Cause failure → IsDeviceError e ⊎ Cause e
+pub failed_by : (Cause : CoreError → Type 0) (failure : CopyFailure) (e : CoreError) → e ≡ error_of failure → FailsBy Cause failure → IsWriteError e ⊎ Cause e
 failed_by Cause (Input f) e is failed = inr (subst Cause (sym is) failed)
-failed_by Cause (Output f) e is failed = inl (subst IsDeviceError (sym is) failed)
+failed_by Cause (Output f) e is failed = inl (subst IsWriteError (sym is) failed)
 
 -- why two sections were not combined, after calls that did not fail
 module _ {H R : Type 0} (K : RecordKind H R) (v w : FormatVersion) (makes : Option R → Option R → Option R → Type 0) (mid_1 new_1 mid_2 new_2 : Source) where

@@ -5,7 +5,7 @@ use Rattle.std.specs.Io.KnownBytes.{Appends}
 use Rattle.xet_base.specs.declared.error.CoreError.{CoreError}
 use Rattle.xet_base.specs.declared.error.CoreError.TheVariants.{InvalidArguments, OutOfMemory}
 use Rattle.xet_base.specs.declared.merklehash.DataHash.{DataHash}
-use Rattle.xet_base.specs.Errors.{IsDeviceError, IsEndOfInput, IsInvalidShard, IsShardVersion}
+use Rattle.xet_base.specs.Errors.{IsWriteError, IsEndOfInput, IsInvalidShard, IsShardVersion}
 use Rattle.xet_base.specs.Hash.{hash_cmp}
 use Rattle.xet_base.specs.Source.{Source, DeviceFailure}
 use Rattle.xet_records.specs.declared.file_structs.MDBFileInfo.{MDBFileInfo}
@@ -139,7 +139,7 @@ InputsFail old_1 new_1 old_2 new_2 Refusal e =
 -- such a failure has this cause, or is that of the output's device
 abbrev pub FailsBy : (CoreError → Type 0) → CopyFailure → Type 0
 FailsBy Cause (Input e) = Cause e
-FailsBy Cause (Output e) = IsDeviceError e
+FailsBy Cause (Output e) = IsWriteError e
 
 -- the failure is the output's
 abbrev pub IsOutput : CopyFailure → Type 0

@@ -2,7 +2,7 @@
 use Rattle.std.specs.Prelude.{◌≡◌, ℕ, ◌+◌, ◌*◌, ◌<◌, ◌≤◌, ◌==◌, List, [], ◌∷◌, ◌++◌, flat_map, Option, Some, if◌then◌else◌}
 use Rattle.std.specs.Io.KnownBytes.{Appends}
 use Rattle.xet_base.specs.declared.error.CoreError.{CoreError}
-use Rattle.xet_base.specs.Errors.{IsDeviceError}
+use Rattle.xet_base.specs.Errors.{IsWriteError}
 use Rattle.xet_base.specs.Source.{Source, Takes, ReadFails}
 use Rattle.xet_base.specs.Table.{Serves}
 use Rattle.xet_records.specs.declared.file_structs.header.FileDataSequenceHeader.{FileDataSequenceHeader}
@@ -45,7 +45,7 @@ pub record CopiesEither {T : Type 0} (row_bytes : T → List ℕ) (Fits : T → 
 -- why they were not: the output failed, or an input
 pub data EitherFails (old_1 new_1 old_2 new_2 : Source) (count_1 count_2 : ℕ)
     (failure : CopyFailure) : Type 0 where
-  output_fails : (e : CoreError) → failure ≡ Output e → IsDeviceError e
+  output_fails : (e : CoreError) → failure ≡ Output e → IsWriteError e
       → new_1.bytes ≡ old_1.bytes → new_2.bytes ≡ old_2.bytes
       → EitherFails old_1 new_1 old_2 new_2 count_1 count_2 failure
   first_fails : (e : CoreError) → failure ≡ Input e → ReadFails old_1 new_1 (48 * count_1) e

@@ -6,7 +6,7 @@ use Rattle.std.specs.declared.cmp.Ordering.TheVariants.{Less}
 use Rattle.xet_base.specs.declared.error.CoreError.{CoreError}
 use Rattle.xet_base.specs.declared.error.CoreError.TheVariants.{OutOfMemory}
 use Rattle.xet_base.specs.declared.merklehash.DataHash.{DataHash}
-use Rattle.xet_base.specs.Errors.{IsDeviceError, IsEndOfInput, IsInvalidShard}
+use Rattle.xet_base.specs.Errors.{IsWriteError, IsEndOfInput, IsInvalidShard}
 use Rattle.xet_base.specs.Hash.{all_ones, hash_cmp}
 use Rattle.xet_base.specs.Source.{Source, Takes, FailedBy, ReadFails, bytes_left}
 use Rattle.xet_base.specs.Table.{Serves}
@@ -112,7 +112,7 @@ module _ {H R : Type 0} (K : RecordKind H R) where
   -- both records were read and are refused
   pub data PairFails (first second : Option H) (old_1 new_1 old_2 new_2 : Source)
       (Refused : Option R → Option R → Type 0) (failure : CopyFailure) : Type 0 where
-    output_fails : (e : CoreError) → failure ≡ Output e → IsDeviceError e
+    output_fails : (e : CoreError) → failure ≡ Output e → IsWriteError e
         → new_1.bytes ≡ old_1.bytes → new_2.bytes ≡ old_2.bytes
         → PairFails first second old_1 new_1 old_2 new_2 Refused failure
     first_fails : (e : CoreError) → failure ≡ Input e → (h : H) → first ≡ Some h
@@ -196,7 +196,7 @@ module _ {H R : Type 0} (K : RecordKind H R) where
   pub data SectionsFail (version_1 version_2 : FormatVersion)
       (makes : Option R → Option R → Option R → Type 0) (old_1 new_1 old_2 new_2 : Source)
       (failure : CopyFailure) : Type 0 where
-    output_fails : (e : CoreError) → failure ≡ Output e → IsDeviceError e
+    output_fails : (e : CoreError) → failure ≡ Output e → IsWriteError e
         → new_1.bytes ≡ old_1.bytes → new_2.bytes ≡ old_2.bytes
         → SectionsFail version_1 version_2 makes old_1 new_1 old_2 new_2 failure
     first_fails : (e : CoreError) → failure ≡ Input e → TakesNoAscending version_1 old_1 new_1 e

@@ -1,7 +1,7 @@
 //! Union and difference of shards as bytes, and trees of unions.
 
 ghost use Rattle.std.specs.Prelude.{◌≡◌, ◌≢◌, ◌⊎◌, ℕ, ◌<◌, ◌≤◌, Option, None, Some, length, map, slice_get, IfOk, OnOk, IsErrAnd, MatchResult};
-ghost use Rattle.xet_base.specs.Errors.{IsDeviceError, IsInvalidShard};
+ghost use Rattle.xet_base.specs.Errors.{IsWriteError, IsInvalidShard};
 ghost use Rattle.xet_base.specs.Table.{Serves};
 ghost use Rattle.xet_shards.specs.Ends.{FitsFooter};
 ghost use Rattle.xet_shards.specs.Joins.{IsJoinOf, AgreePairwise};
@@ -55,7 +55,7 @@ pub fn shard_set_union<S: ShardSource, T: ShardSource, W: Write>(
     ensures written { MatchResult result
         (WritesResult IsByteUnion (S.meaning r1.old).bytes s1.now (T.meaning r2.old).bytes s2.now
         (W.contents out.old) (W.contents out.new))
-        (λ e. IsDeviceError e
+        (λ e. IsWriteError e
         ⊎ InputsFail (S.meaning r1.old) (S.meaning r1.new) (T.meaning r2.old) (T.meaning r2.new)
         (UnionRefusal (S.meaning r1.old).bytes s1.now (T.meaning r2.old).bytes s2.now) e) }
     ensures untouched { key_of s1.now ≢ key_of s2.now
@@ -93,7 +93,7 @@ pub fn shard_set_difference<S: ShardSource, T: ShardSource, W: Write>(
     ensures written { MatchResult result
         (WritesResult IsDifference (S.meaning r1.old).bytes s1.now (T.meaning r2.old).bytes s2.now
         (W.contents out.old) (W.contents out.new))
-        (λ e. IsDeviceError e
+        (λ e. IsWriteError e
         ⊎ InputsFail (S.meaning r1.old) (S.meaning r1.new) (T.meaning r2.old) (T.meaning r2.new)
         (DifferenceRefusal (S.meaning r1.old).bytes s1.now (T.meaning r2.old).bytes s2.now)
         e) }

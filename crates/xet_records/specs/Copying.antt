@@ -2,7 +2,7 @@
 use Rattle.std.specs.Prelude.{◌≡◌, ℕ, List, Option, flat_map}
 use Rattle.std.specs.Io.KnownBytes.{Appends}
 use Rattle.xet_base.specs.declared.error.CoreError.{CoreError}
-use Rattle.xet_base.specs.Errors.{IsDeviceError}
+use Rattle.xet_base.specs.Errors.{IsWriteError}
 use Rattle.xet_records.specs.declared.file_structs.header.FileDataSequenceHeader.{FileDataSequenceHeader}
 use Rattle.xet_records.specs.declared.file_structs.MDBFileInfo.{MDBFileInfo}
 use Rattle.xet_records.specs.declared.row_copier.CopyFailure.{CopyFailure}
@@ -33,12 +33,12 @@ error_of (Output e) = e
 abbrev pub CopyFails : {I : Type 0} → (I → I → List ℕ → Type 0) → (I → I → ℕ → CoreError → Type 0)
     → I → I → ℕ → CopyFailure → Type 0
 CopyFails reads fails old new n (Input e) = fails old new n e
-CopyFails reads fails old new n (Output e) = IsDeviceError e × (taken : List ℕ) × reads old new taken
+CopyFails reads fails old new n (Output e) = IsWriteError e × (taken : List ℕ) × reads old new taken
 
 -- the failure is that of the output's device, or of an allocation
 abbrev pub IsOutputFailure : CopyFailure → Type 0
 IsOutputFailure (Input e) = ⊥
-IsOutputFailure (Output e) = IsDeviceError e
+IsOutputFailure (Output e) = IsWriteError e
 
 -- the rows after a file's header were read, and written as they are returned; the file has so many
 -- bytes

@@ -10,7 +10,7 @@ ghost use Rattle.xet_records.specs.FileRecord.{has_verification, has_metadata_ex
 ghost use Rattle.xet_records.specs.Merging.{IsSameFile, merged};
 ghost use Rattle.xet_records.specs.Reading.{ReadsOrEnds, ReadsRowsAfter, IsCutShort, HasTooManyRows};
 ghost use Rattle.xet_base.specs.Table.{IsBareInvalidShard};
-ghost use Rattle.xet_base.specs.Errors.{IsEndOfInput, IsDeviceError, IsInvalidShard};
+ghost use Rattle.xet_base.specs.Errors.{IsEndOfInput, IsDeviceError, IsWriteError, IsInvalidShard};
 
 use crate::input_rows;
 use crate::record_reader::{FormatVersion, MAX_ROWS_OF_RECORD, SectionRecord, read_record};
@@ -105,7 +105,7 @@ impl MDBFileInfo {
         ensures bytes { OnOk result
             (Appends (W.contents writer.old) (W.contents writer.new) (file_record_bytes self.now)) }
         ensures count { IfOk result (λ n. n ≡ 48 * row_count self.now) }
-        ensures causes { IfErr result IsDeviceError }
+        ensures causes { IfErr result IsWriteError }
     {
         write_row(&self.metadata, writer)?;
         write_rows(&self.segments, writer)?;

@@ -5,7 +5,7 @@ ghost use Rattle.std.specs.Io.KnownBytes.{Appends, Consumes};
 ghost use Rattle.xet_records.specs.Rows.{ReadsRow, ReadsRows, ReadsOptional};
 ghost use Rattle.xet_base.specs.Bytes.{HasBytes, LacksBytes};
 ghost use Rattle.xet_base.specs.Input.{ReaderLacks};
-ghost use Rattle.xet_base.specs.Errors.{IsEndOfInput, IsDeviceError};
+ghost use Rattle.xet_base.specs.Errors.{IsEndOfInput, IsDeviceError, IsNoEnd};
 
 use crate::input_rows;
 use std::alloc::{AllocError, AllocFailed, Global};
@@ -148,16 +148,18 @@ pub fn all_widths<T: Row>(rows: &Rows<T>)
 
 /// Appends a row. The error is the writer's.
 pub fn write_row<T: Row, W: Write>(row: &T, writer: &mut W) -> io::Result<()>
-    ensures { OnOk result
+    ensures bytes { OnOk result
         (Appends (W.contents writer.old) (W.contents writer.new) (T.row_bytes row.now)) }
+    ensures causes { IfErr result IsNoEnd }
 {
     write_bytes(writer, &row.to_bytes())
 }
 
 /// Appends rows in order. The error is the writer's.
 pub fn write_rows<T: Row, W: Write>(rows: &Rows<T>, writer: &mut W) -> io::Result<()>
-    ensures { OnOk result
+    ensures bytes { OnOk result
         (Appends (W.contents writer.old) (W.contents writer.new) (flat_map T.row_bytes rows.now)) }
+    ensures causes { IfErr result IsNoEnd }
 {
     for row in rows.as_slice() {
         write_row(row, writer)?;
@@ -171,6 +173,7 @@ pub fn write_optional<T: Row, W: Write>(row: &Option<T>, writer: &mut W) -> io::
         (Appends (W.contents writer.old) (W.contents writer.new)
         (flat_map T.row_bytes (option_to_list row.now))) }
     ensures touched { IfErr result (λ _. IsTrue (is_some row.now)) }
+    ensures causes { IfErr result IsNoEnd }
 {
     if let Some(row) = row {
         write_row(row, writer)?;

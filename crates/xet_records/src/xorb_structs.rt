@@ -5,7 +5,7 @@ mod view;
 ghost use Rattle.std.specs.Prelude.{◌≡◌, ◌+◌, ◌*◌, ◌^◌, ◌<◌, ℕ, List, Some, ◌++◌, All, MatchResult, IfSome, OnOk, IfOk, IfErr, IsTrue, ◌↔◌};
 ghost use Rattle.std.specs.Io.KnownBytes.{Appends, Consumes};
 ghost use Rattle.xet_base.specs.Hash.{all_ones};
-ghost use Rattle.xet_base.specs.Errors.{IsEndOfInput, IsDeviceError};
+ghost use Rattle.xet_base.specs.Errors.{IsEndOfInput, IsDeviceError, IsWriteError, IsNoEnd};
 ghost use Rattle.xet_records.specs.XorbRow.{xorb_header_row, chunk_row, FitsXorbHeader, FitsChunk, with_mark, IsEligibleChunk};
 ghost use Rattle.xet_records.specs.XorbRecord.{xorb_bookend, xorb_row_count, xorb_record_bytes, end_of_chunk, boundaries, HasItsChunks, IsStoredXorb, xorb_records};
 ghost use Rattle.xet_records.specs.Rows.{WritesRow, ReadsWhole, LacksRow};
@@ -76,8 +76,9 @@ impl XorbChunkSequenceHeader {
 
     /// Appends the row and returns 48, the number of bytes. The error is the writer's.
     pub fn serialize<W: Write>(&self, writer: &mut W) -> io::Result<usize>
-        ensures { IfOk result
+        ensures bytes { IfOk result
             (WritesRow (W.contents writer.old) (W.contents writer.new) (xorb_header_row self.now)) }
+        ensures causes { IfErr result IsNoEnd }
     {
         write_row(self, writer)?;
         Ok(ROW_SIZE)
@@ -193,8 +194,9 @@ impl XorbChunkSequenceEntry {
 
     /// Appends the row and returns 48, the number of bytes. The error is the writer's.
     pub fn serialize<W: Write>(&self, writer: &mut W) -> io::Result<usize>
-        ensures { IfOk result
+        ensures bytes { IfOk result
             (WritesRow (W.contents writer.old) (W.contents writer.new) (chunk_row self.now)) }
+        ensures causes { IfErr result IsNoEnd }
     {
         write_row(self, writer)?;
         Ok(ROW_SIZE)
@@ -273,7 +275,7 @@ impl MDBXorbInfo {
         ensures bytes { OnOk result
             (Appends (W.contents writer.old) (W.contents writer.new) (xorb_record_bytes self.now)) }
         ensures count { IfOk result (λ n. n ≡ 48 * xorb_row_count self.now) }
-        ensures causes { IfErr result IsDeviceError }
+        ensures causes { IfErr result IsWriteError }
     {
         write_row(&self.metadata, writer)?;
         write_rows(&self.chunks, writer)?;

@@ -10,7 +10,7 @@ use Rattle.std.proofs.lemmas.List.Sums.{sum_by-append, sum_by-cons, sum_by_push}
 use Rattle.std.proofs.lemmas.List.Concat.{flat_map_single}
 use Rattle.std.proofs.lemmas.Grind.{flat_map-append}
 use Rattle.xet_base.specs.declared.error.CoreError.{CoreError}
-use Rattle.xet_base.specs.Errors.{IsDeviceError}
+use Rattle.xet_base.specs.Errors.{IsWriteError}
 use Rattle.xet_base.specs.declared.error.CoreError.TheVariants.{InvalidArguments}
 use Rattle.xet_base.specs.Source.{Source, Takes, advanced, bytes_left}
 use Rattle.xet_base.specs.InputLaws.{failed_after, advanced-advanced}
@@ -164,6 +164,15 @@ module _ {H R : Type 0} (K : RecordKind H R) (laws : KindLaws K) where
     pub not_passed : (new : Source) (e : CoreError) → RecordFails K left now new e → TakesNoSection K start new e
     not_passed new e fails = section_fails K laws start now (map K.handed_out before.stored) left (read_of (Takes start now) Made left before) new e fails
 
+-- the writer failed after bytes that were read
+pub writing_failed : (old new : Source) (taken : List ℕ) (e : CoreError) → Takes old new taken → IsWriteError e → WritingFails old new e
+writing_failed old new taken e read cause = record {
+  bytes = ap (λ (s : Source). s.bytes) read.after;
+  seeks = ap (λ (s : Source). s.seeks) read.after;
+  failures = ap (λ (s : Source). s.failures) read.after;
+  cause = cause;
+}
+
 -- what is left after some bytes
 left_after : (s : Source) (n : ℕ) → bytes_left (advanced s n) ≡ drop n (bytes_left s)
 left_after s n = sym (drop-drop n s.at s.bytes)
@@ -234,7 +243,7 @@ module _ (old s1 : Source) (h : MDBShardFileHeader) (taken : Takes old s1 (shard
   files_not_exported new e why =
       section_not_exported (file_records_in (version_of h.version)) old s1 new 48 e at_files header_there (λ bad. bad_files header_there (subst (λ bs. BadSection (file_records_in (version_of h.version)) bs e) files_left bad)) why
 
-  pub header_not_written : (e : CoreError) → IsDeviceError e → ExportFails old s1 e
+  pub header_not_written : (e : CoreError) → IsWriteError e → ExportFails old s1 e
   header_not_written e cause = files_not_exported s1 e (inr (record { bytes = refl; seeks = refl; failures = refl; cause = cause }))
 
   -- after the files
@@ -269,7 +278,7 @@ module _ (old s1 : Source) (h : MDBShardFileHeader) (taken : Takes old s1 (shard
           let n = 48 * (total_rows xorb_records xorbs + 1) in
           rest.after ∙ ap (λ s. advanced s n) at_xorbs ∙ advanced-advanced old (xorbs_after files) n
 
-      pub end_not_written : (e : CoreError) → IsDeviceError e → ExportFails old s3 e
+      pub end_not_written : (e : CoreError) → IsWriteError e → ExportFails old s3 e
       end_not_written e cause = xorbs_not_exported s3 e (inr (record {
         bytes = ap (λ (s : Source). s.bytes) rest.after;
         seeks = ap (λ (s : Source). s.seeks) rest.after;

@@ -4,7 +4,7 @@ use Rattle.std.specs.Prelude.{◌≡◌, ◌≢◌, ◌⊎◌, ℕ, ◌+◌, ◌
 use Rattle.std.specs.Io.KnownBytes.{Appends}
 use Rattle.xet_base.specs.declared.error.CoreError.{CoreError}
 use Rattle.xet_base.specs.declared.merklehash.DataHash.{DataHash}
-use Rattle.xet_base.specs.Errors.{IsDeviceError}
+use Rattle.xet_base.specs.Errors.{IsWriteError}
 use Rattle.xet_base.specs.KeyedHash.{no_key, under_key}
 use Rattle.xet_base.specs.Source.{Source, FailedBy, advanced, bytes_left}
 use Rattle.xet_records.specs.declared.file_structs.MDBFileInfo.{MDBFileInfo}
@@ -103,7 +103,7 @@ pub data ExportCase (bytes : List ℕ) (e : CoreError) : Type 0 where
   bad_xorbs : (header : HasHeader bytes) → (files : List MDBFileInfo)
       → IsSection (file_records_in header.version) (drop 48 bytes) files
       → BadSection xorb_records (drop (xorbs_after files) bytes) e → ExportCase bytes e
-  not_written : HasHeader bytes → IsDeviceError e → ExportCase bytes e
+  not_written : HasHeader bytes → IsWriteError e → ExportCase bytes e
 
 -- it was not, without a seek; the position is unspecified
 pub record ExportFails (old new : Source) (e : CoreError) : Type 0 where
@@ -141,7 +141,7 @@ pub record WritingFails (old new : Source) (e : CoreError) : Type 0 where
   pub bytes : new.bytes ≡ old.bytes
   pub seeks : new.seeks ≡ old.seeks
   pub failures : new.failures ≡ old.failures
-  pub cause : IsDeviceError e
+  pub cause : IsWriteError e
 
 -- records were read from the source, their rows counted down from 4294967295, and this was made of
 -- them

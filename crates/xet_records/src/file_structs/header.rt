@@ -1,6 +1,7 @@
 //! The header row of a file record.
 
-ghost use Rattle.std.specs.Prelude.{◌≡◌, false, ◌^◌, ◌<◌, ◌≤◌, ◌↔◌, if◌then◌else◌, IsTrue, IfOk, MatchResult};
+ghost use Rattle.std.specs.Prelude.{◌≡◌, false, ◌^◌, ◌<◌, ◌≤◌, ◌↔◌, if◌then◌else◌, IsTrue, IfOk, MatchResult, IfErr};
+ghost use Rattle.xet_base.specs.Errors.{IsNoEnd};
 ghost use Rattle.xet_base.specs.Hash.{all_ones};
 ghost use Rattle.xet_records.specs.FileRow.{header_row, FitsHeader};
 ghost use Rattle.xet_records.specs.FileRecord.{has_verification, has_metadata_ext, has_aux_ext, flags_of, with_aux_flag, file_bookend, rows_after};
@@ -126,8 +127,9 @@ impl FileDataSequenceHeader {
 
     /// Appends the row and returns 48, the number of bytes. The error is the writer's.
     pub fn serialize<W: Write>(&self, writer: &mut W) -> io::Result<usize>
-        ensures { IfOk result
+        ensures bytes { IfOk result
             (WritesRow (W.contents writer.old) (W.contents writer.new) (header_row self.now)) }
+        ensures causes { IfErr result IsNoEnd }
     {
         write_row(self, writer)?;
         Ok(MDB_FILE_INFO_ENTRY_SIZE)

@@ -1,6 +1,7 @@
 //! The rows of a file record after its header.
 
-ghost use Rattle.std.specs.Prelude.{◌≡◌, ◌^◌, ◌<◌, [], ◌∷◌, length, IfOk, MatchResult};
+ghost use Rattle.std.specs.Prelude.{◌≡◌, ◌^◌, ◌<◌, [], ◌∷◌, length, IfOk, MatchResult, IfErr};
+ghost use Rattle.xet_base.specs.Errors.{IsNoEnd};
 ghost use Rattle.xet_records.specs.FileRow.{segment_row, verification_row, metadata_row, aux_row, FitsSegment, FitsVerification, FitsMetadata, FitsAux, clear_verification, clear_metadata, clear_aux};
 ghost use Rattle.xet_records.specs.XorbRecord.{total_bytes, segment_of};
 ghost use Rattle.xet_records.specs.Rows.{WritesRow, ReadsWhole, ReadsCleared, LacksRow};
@@ -81,8 +82,9 @@ impl FileDataSequenceEntry {
 
     /// Appends the row and returns 48, the number of bytes. The error is the writer's.
     pub fn serialize<W: Write>(&self, writer: &mut W) -> io::Result<usize>
-        ensures { IfOk result
+        ensures bytes { IfOk result
             (WritesRow (W.contents writer.old) (W.contents writer.new) (segment_row self.now)) }
+        ensures causes { IfErr result IsNoEnd }
     {
         write_row(self, writer)?;
         Ok(MDB_FILE_INFO_ENTRY_SIZE)
@@ -155,9 +157,10 @@ impl FileVerificationEntry {
 
     /// Appends the row and returns 48, the number of bytes. The error is the writer's.
     pub fn serialize<W: Write>(&self, writer: &mut W) -> io::Result<usize>
-        ensures { IfOk result
+        ensures bytes { IfOk result
             (WritesRow (W.contents writer.old) (W.contents writer.new)
             (verification_row self.now)) }
+        ensures causes { IfErr result IsNoEnd }
     {
         write_row(self, writer)?;
         Ok(MDB_FILE_INFO_ENTRY_SIZE)
@@ -233,8 +236,9 @@ impl FileMetadataExt {
 
     /// Appends the row and returns 48, the number of bytes. The error is the writer's.
     pub fn serialize<W: Write>(&self, writer: &mut W) -> io::Result<usize>
-        ensures { IfOk result
+        ensures bytes { IfOk result
             (WritesRow (W.contents writer.old) (W.contents writer.new) (metadata_row self.now)) }
+        ensures causes { IfErr result IsNoEnd }
     {
         write_row(self, writer)?;
         Ok(MDB_FILE_INFO_ENTRY_SIZE)
@@ -301,8 +305,9 @@ impl FileAuxExt {
 
     /// Appends the row and returns 48, the number of bytes. The error is the writer's.
     pub fn serialize<W: Write>(&self, writer: &mut W) -> io::Result<usize>
-        ensures { IfOk result
+        ensures bytes { IfOk result
             (WritesRow (W.contents writer.old) (W.contents writer.new) (aux_row self.now)) }
+        ensures causes { IfErr result IsNoEnd }
     {
         write_row(self, writer)?;
         Ok(MDB_FILE_INFO_ENTRY_SIZE)

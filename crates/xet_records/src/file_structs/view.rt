@@ -5,7 +5,7 @@ ghost use Rattle.std.specs.Cmp.{partial_equiv_from_equiv};
 ghost use Rattle.std.specs.Cmp.Lexicographic.{pointwise, on_texts_equal};
 ghost use Rattle.std.specs.Ordering.{on};
 ghost use Rattle.std.specs.Io.KnownBytes.{Appends};
-ghost use Rattle.xet_base.specs.Errors.{IsDeviceError};
+ghost use Rattle.xet_base.specs.Errors.{IsWriteError, IsNoEnd};
 ghost use Rattle.xet_records.specs.FileRow.{header_row, clear_verification, clear_metadata, clear_aux};
 ghost use Rattle.xet_records.specs.FileRecord.{has_verification, has_metadata_ext, has_aux_ext, row_count, file_record_bytes, handed_out, file_records};
 ghost use Rattle.xet_records.specs.View.{BeginsWithHeaderRow, BeginsWithFile, NoView, without_verification, as_wanted, as_kept, LacksVerification, IsIoOther};
@@ -258,7 +258,7 @@ impl MDBFileInfoView {
             (λ n. n ≡ 48 * row_count (as_wanted with_verification self.now)) }
         ensures missing { LacksVerification with_verification self.now
             → IsErrAnd result IsIoOther × (writer.new ≡ writer.old) }
-        ensures causes { IfErr result IsDeviceError }
+        ensures causes { IfErr result IsWriteError }
     {
         let kept = KeptParts {
             verification: with_verification,
@@ -276,7 +276,7 @@ impl MDBFileInfoView {
         ensures count { IfOk result (λ n. n ≡ 48 * row_count (as_kept kept self.now)) }
         ensures missing { LacksVerification kept.verification self.now
             → IsErrAnd result IsIoOther × (writer.new ≡ writer.old) }
-        ensures causes { IfErr result IsDeviceError }
+        ensures causes { IfErr result IsWriteError }
     {
         if kept.verification && !self.contains_verification() {
             return Err(CoreError::Io(io::Error::from(ErrorKind::Other)));
@@ -300,9 +300,10 @@ impl MDBFileInfoView {
 
     // Appends the parts of the record that are kept.
     fn write_kept<W: Write>(&self, writer: &mut W, kept: KeptParts) -> io::Result<()>
-        ensures { OnOk result
+        ensures bytes { OnOk result
             (Appends (W.contents writer.old) (W.contents writer.new)
             (file_record_bytes (as_kept kept self.now))) }
+        ensures causes { IfErr result IsNoEnd }
     {
         let header = self.kept_header(kept);
         write_row(&header, writer)?;

@@ -5,7 +5,7 @@ ghost use Rattle.std.specs.Cmp.{partial_equiv_from_equiv};
 ghost use Rattle.std.specs.Cmp.Lexicographic.{pointwise, on_texts_equal};
 ghost use Rattle.std.specs.Ordering.{on};
 ghost use Rattle.std.specs.Io.KnownBytes.{Appends};
-ghost use Rattle.xet_base.specs.Errors.{IsDeviceError};
+ghost use Rattle.xet_base.specs.Errors.{IsWriteError};
 ghost use Rattle.xet_base.specs.Table.{IsBareInvalidShard};
 ghost use Rattle.xet_records.specs.declared.xorb_structs.XorbChunkSequenceEntry.{XorbChunkSequenceEntry as chunk_type};
 ghost use Rattle.xet_records.specs.XorbRow.{xorb_header_row, chunk_row};
@@ -128,7 +128,7 @@ impl MDBXorbInfoView {
         ensures bytes { OnOk result
             (Appends (W.contents writer.old) (W.contents writer.new) (xorb_record_bytes self.now)) }
         ensures count { IfOk result (λ n. n ≡ 48 * xorb_row_count self.now) }
-        ensures causes { IfErr result IsDeviceError }
+        ensures causes { IfErr result IsWriteError }
     {
         write_bytes(writer, self.bytes.as_slice())?;
         Ok(self.byte_size())
@@ -147,7 +147,7 @@ impl MDBXorbInfoView {
             × Appends (W.contents writer.old) (W.contents writer.new)
             (xorb_header_row self.now.metadata ++ flat_map chunk_row rewritten)) }
         ensures count { IfOk result (λ n. n ≡ 48 * xorb_row_count self.now) }
-        ensures causes { IfErr result IsDeviceError }
+        ensures causes { IfErr result IsWriteError }
     {
         write_row(&self.header, writer)?;
         for index in 0..self.num_entries() {

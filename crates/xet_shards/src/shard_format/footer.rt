@@ -3,7 +3,7 @@
 ghost use Rattle.std.specs.Prelude.{◌≡◌, ◌≢◌, ◌⊎◌, [], ◌∷◌, ◌++◌, OnOk, IfOk, IfErr};
 ghost use Rattle.std.specs.Io.KnownBytes.{Appends, Consumes};
 ghost use Rattle.xet_base.specs.Bytes.{u64_bytes};
-ghost use Rattle.xet_base.specs.Errors.{IsBareShardVersion, IsDeviceError};
+ghost use Rattle.xet_base.specs.Errors.{IsBareShardVersion, IsDeviceError, IsWriteError};
 ghost use Rattle.xet_shards.specs.Ends.{HasUnsupportedFooter, EndsInFooter, FitsFooter, SaysUnsupported, SaysEnd};
 ghost use Rattle.xet_shards.specs.Layout.{shard_footer_bytes, default_footer};
 
@@ -79,7 +79,7 @@ impl MDBShardFileFooter {
             (Appends (W.contents writer.old) (W.contents writer.new)
             (shard_footer_bytes self.now)) }
         ensures count { IfOk result (λ n. n ≡ 200) }
-        ensures causes { IfErr result IsDeviceError }
+        ensures causes { IfErr result IsWriteError }
     {
         let offsets = [
             self.version,

@@ -3,7 +3,7 @@
 ghost use Rattle.std.specs.Prelude.{◌≡◌, ◌≢◌, ◌⊎◌, ◌^◌, ◌<◌, ◌++◌, take, OnOk, IfOk, IfErr};
 ghost use Rattle.std.specs.Io.KnownBytes.{Appends, Consumes};
 ghost use Rattle.xet_base.specs.Bytes.{u64_bytes};
-ghost use Rattle.xet_base.specs.Errors.{IsBareShardVersion, IsDeviceError};
+ghost use Rattle.xet_base.specs.Errors.{IsBareShardVersion, IsDeviceError, IsWriteError};
 ghost use Rattle.xet_shards.specs.Ends.{HasUnsupportedHeader, EndsInHeader, SaysUnsupported, SaysEnd};
 ghost use Rattle.xet_records.specs.declared.record_reader.FormatVersion.{FormatVersion};
 ghost use Rattle.xet_records.specs.Version.{number_of, IsVersion, version_of};
@@ -70,7 +70,7 @@ impl MDBShardFileHeader {
             (Appends (W.contents writer.old) (W.contents writer.new)
             (shard_header_bytes self.now)) }
         ensures count { IfOk result (λ n. n ≡ 48) }
-        ensures causes { IfErr result IsDeviceError }
+        ensures causes { IfErr result IsWriteError }
     {
         write_bytes(writer, &MDB_SHARD_HEADER_TAG)?;
         write_u64(writer, self.version)?;

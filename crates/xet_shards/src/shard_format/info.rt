@@ -3,7 +3,7 @@
 ghost use Rattle.std.specs.Prelude.{◌≡◌, ◌⊎◌, ℕ, Option, ◌+◌, ◌*◌, ◌^◌, ◌<◌, ◌≤◌, ◌++◌, length, List, [], IsTrue, IsErrAnd, false, All, MatchResult, OnOk, IfOk, IfErr, IfSome};
 ghost use Rattle.std.specs.FinMap as finite;
 ghost use Rattle.std.specs.Io.KnownBytes.{Appends};
-ghost use Rattle.xet_base.specs.Errors.{IsDeviceError};
+ghost use Rattle.xet_base.specs.Errors.{IsWriteError};
 ghost use Rattle.xet_base.specs.Table.{IsBareInvalidShard};
 ghost use Rattle.xet_shards.specs.Shard.{Shard, IsShard, has_aux_rows};
 ghost use Rattle.xet_shards.specs.Layout.{layout, layout_in, layout_of, info_of, info_value, info_value_in, header_tag, shard_header_bytes, shard_footer_bytes};
@@ -80,7 +80,7 @@ impl MDBShardInfo {
         ensures info { IfOk result (λ info. info ≡ info_value shard.now.content expiry) }
         ensures widths { IfOk result (λ info. FitsFooter info.metadata) }
         ensures shard { IfOk result (λ _. IsShard shard.now.content) }
-        ensures causes { IfErr result IsDeviceError }
+        ensures causes { IfErr result IsWriteError }
     {
         write_shard(alloc, writer, shard, &Form::plain(expiry))
     }
@@ -106,7 +106,7 @@ impl MDBShardInfo {
         ensures refused { IsTrue (has_aux_rows shard.now.content)
             → IsErrAnd result (λ e. e ≡ CoreError.InvalidArguments) × (writer.new ≡ writer.old) }
         ensures causes { IfErr result
-            (λ e. IsDeviceError e
+            (λ e. IsWriteError e
             ⊎ ((e ≡ CoreError.InvalidArguments) × IsTrue (has_aux_rows shard.now.content))) }
     {
         if shard.has_aux_rows() {
@@ -215,7 +215,7 @@ fn write_shard<W: Write>(
         (finite.values shard.now.content.xorbs) form.now) }
     ensures widths { IfOk result (λ info. FitsFooter info.metadata) }
     ensures shard { IfOk result (λ _. IsShard shard.now.content) }
-    ensures causes { IfErr result IsDeviceError }
+    ensures causes { IfErr result IsWriteError }
 {
     let header = MDBShardFileHeader::of_version(form.version);
     header.serialize(writer)?;

@@ -3,7 +3,7 @@
 
 ghost use Rattle.std.specs.Prelude.{◌≡◌, ◌⊎◌, ◌+◌, ◌*◌, ◌^◌, ◌≤◌, ◌++◌, Bool, true, false, List, flat_map, MatchOption, MatchResult, OnOk, IfErr, IsErrAnd};
 ghost use Rattle.std.specs.Io.KnownBytes.{Appends};
-ghost use Rattle.xet_base.specs.Errors.{IsDeviceError};
+ghost use Rattle.xet_base.specs.Errors.{IsWriteError};
 ghost use Rattle.xet_base.specs.KeyedHash.{no_key};
 ghost use Rattle.xet_base.specs.Source.{Takes};
 ghost use Rattle.xet_records.specs.RecordKind.{KindLaws, in_version};
@@ -303,7 +303,7 @@ trait ExportedRecord {
             ((before : List Self.Section.Record) → Self.Section.has_written written.old before
             → Self.Section.has_written written.new
             (before ++ exports aux_ext form.now (stored self))) }
-        ensures causes { IfErr result IsDeviceError };
+        ensures causes { IfErr result IsWriteError };
 
     ghost laws: { KindLaws Self.Section.Record.kind };
 

@@ -2,7 +2,7 @@
 
 ghost use Rattle.std.specs.Prelude.{◌≡◌, ◌+◌, ◌*◌, ◌≤◌, ◌++◌, [], ◌∷◌, List, length, OnOk, IfErr};
 ghost use Rattle.std.specs.Io.KnownBytes.{Appends};
-ghost use Rattle.xet_base.specs.Errors.{IsDeviceError};
+ghost use Rattle.xet_base.specs.Errors.{IsWriteError};
 ghost use Rattle.xet_records.specs.declared.file_structs.MDBFileInfo.{MDBFileInfo};
 ghost use Rattle.xet_records.specs.FileRecord.{file_record_bytes, row_count, size_of_file};
 ghost use Rattle.xet_records.specs.View.{as_kept};
@@ -30,7 +30,7 @@ pub fn write_file_view<W: Write>(
     ensures written { OnOk result
         ((before : List MDBFileInfo) → HasWritten written.old before
         → HasWritten written.new (before ++ as_kept kept view.now ∷ [])) }
-    ensures causes { IfErr result IsDeviceError }
+    ensures causes { IfErr result IsWriteError }
 {
     let kept = KeptParts {
         verification: kept.verification && view.contains_verification(),

@@ -3,7 +3,7 @@
 ghost use Rattle.std.specs.Prelude.{◌≡◌, ◌≤◌, None, List, All, OnOk, IfOk, IfErr, map, flat_map, if◌then◌else◌};
 ghost use Rattle.std.specs.Io.KnownBytes.{Appends};
 ghost use Rattle.std.specs.BTreeMap.{values};
-ghost use Rattle.xet_base.specs.Errors.{IsDeviceError};
+ghost use Rattle.xet_base.specs.Errors.{IsWriteError};
 ghost use Rattle.xet_records.specs.declared.file_structs.MDBFileInfo.{MDBFileInfo};
 ghost use Rattle.xet_records.specs.declared.xorb_structs.MDBXorbInfo.{MDBXorbInfo};
 ghost use Rattle.xet_records.specs.FileRecord.{FitsRecord};
@@ -88,7 +88,7 @@ pub fn write_values<S: WrittenSection + Drop, V: HoldsRecord<S::Record>, W: Writ
         (section_bytes S.Record.kind (map V.held (values records.now)))) }
     ensures written { IfOk result
         (λ written. S.has_written written (map V.held (values records.now))) }
-    ensures causes { IfErr result IsDeviceError }
+    ensures causes { IfErr result IsWriteError }
 {
     let mut written = S::new(alloc);
     for value in records.values() {
@@ -113,7 +113,7 @@ pub fn write_end<W: Write>(
         → All FitsRecord rs → HasWritten files.now rs → HasWrittenXorbs xorbs.now xs
         → footer ≡ footer_value rs xs form.now) }
     ensures widths { IfOk result FitsFooter }
-    ensures causes { IfErr result IsDeviceError }
+    ensures causes { IfErr result IsWriteError }
 {
     write_table(writer, form.file_table, &files.table)?;
     write_table(writer, form.xorb_table, &xorbs.table)?;
@@ -128,7 +128,7 @@ fn write_table<W: Write>(writer: &mut W, is_in: bool, table: &RecordTable) -> Re
     ensures bytes { OnOk result
         (Appends (W.contents writer.old) (W.contents writer.new)
         (if_in is_in table.now.bytes.items)) }
-    ensures causes { IfErr result IsDeviceError }
+    ensures causes { IfErr result IsWriteError }
 {
     if is_in {
         write_bytes(writer, table.bytes.as_slice())?;
@@ -145,7 +145,7 @@ fn write_chunk_table<W: Write>(
     ensures bytes { OnOk result
         (Appends (W.contents writer.old) (W.contents writer.new)
         (if_in is_in (flat_map chunk_table_row_bytes rows.now.keys))) }
-    ensures causes { IfErr result IsDeviceError }
+    ensures causes { IfErr result IsWriteError }
 {
     if is_in {
         write_chunk_rows(writer, rows)?;
@@ -158,7 +158,7 @@ fn write_chunk_rows<W: Write>(writer: &mut W, rows: &BTreeSet<ChunkTableRow>) ->
     ensures bytes { OnOk result
         (Appends (W.contents writer.old) (W.contents writer.new)
         (flat_map chunk_table_row_bytes rows.now.keys)) }
-    ensures causes { IfErr result IsDeviceError }
+    ensures causes { IfErr result IsWriteError }
 {
     for row in rows {
         write_bytes(writer, &row.to_bytes())?;

@@ -2,7 +2,7 @@
 
 ghost use Rattle.std.specs.Prelude.{◌≡◌, ◌≢◌, ℕ, ◌+◌, ◌*◌, ◌≤◌, List, [], ◌∷◌, ◌++◌, OnOk, IfErr, MatchResult, IsTrue, ◌↔◌};
 ghost use Rattle.std.specs.Io.KnownBytes.{Appends};
-ghost use Rattle.xet_base.specs.Errors.{IsDeviceError};
+ghost use Rattle.xet_base.specs.Errors.{IsWriteError};
 ghost use Rattle.xet_base.specs.Hash.{all_ones};
 ghost use Rattle.xet_records.specs.Copying.{CopyFails};
 ghost use Rattle.xet_shards.specs.Section.{total_rows};
@@ -49,7 +49,7 @@ pub trait WrittenSection {
         ensures written { OnOk result
             ((before : List Self.Record) → has_written self.old before
             → has_written self.new (before ++ next.now ∷ [])) }
-        ensures causes { IfErr result IsDeviceError };
+        ensures causes { IfErr result IsWriteError };
 
     /// Adds and writes the record of a header that was read, each row after it as it is read, as
     /// reading returns it. The failure is the input's, `UnexpectedEof` if fewer rows are left; or the
@@ -75,7 +75,7 @@ pub trait WrittenSection {
         ensures bytes { OnOk result
             (Appends (W.contents writer.old) (W.contents writer.new)
             (Self.Record.kind.header_bytes Self.Record.kind.bookend)) }
-        ensures causes { IfErr result IsDeviceError };
+        ensures causes { IfErr result IsWriteError };
 
     ghost counts_rows: { (written : Self) (records : List Self.Record)
         → has_written written records → rows written ≡ total_rows Self.Record.kind records };

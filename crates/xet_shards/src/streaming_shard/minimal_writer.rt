@@ -5,7 +5,7 @@ ghost use Rattle.std.specs.BTreeSet.{contains};
 ghost use Rattle.std.specs.Fn.{FnReturnsAt};
 ghost use Rattle.std.specs.Io.KnownBytes.{Appends};
 ghost use Rattle.std.specs.List.{Any, list_all};
-ghost use Rattle.xet_base.specs.Errors.{IsDeviceError};
+ghost use Rattle.xet_base.specs.Errors.{IsWriteError};
 ghost use Rattle.xet_records.specs.FileRecord.{file_records, has_verification};
 ghost use Rattle.xet_records.specs.XorbRecord.{xorb_records};
 ghost use Rattle.xet_records.specs.View.{as_kept, LacksVerification, IsIoOther};
@@ -52,7 +52,7 @@ impl MDBMinimalShard {
             self.now) }
         ensures missing { Any (LacksVerification with_verification) self.now.files
             → IsErrAnd result IsIoOther × (writer.new ≡ writer.old) }
-        ensures causes { IfErr result IsDeviceError }
+        ensures causes { IfErr result IsWriteError }
     {
         let kept = KeptParts {
             verification: with_verification,
@@ -76,7 +76,7 @@ impl MDBMinimalShard {
             (record { verification = with_verification; aux_ext = false }) now self.now) }
         ensures missing { Any (LacksVerification with_verification) self.now.files
             → IsErrAnd result IsIoOther × (writer.new ≡ writer.old) }
-        ensures causes { IfErr result IsDeviceError }
+        ensures causes { IfErr result IsWriteError }
     {
         let kept = KeptParts {
             verification: with_verification,
@@ -97,7 +97,7 @@ impl MDBMinimalShard {
             (WritesMinimalKept (W.contents writer.old) (W.contents writer.new) kept now self.now) }
         ensures missing { Any (LacksVerification kept.verification) self.now.files
             → IsErrAnd result IsIoOther × (writer.new ≡ writer.old) }
-        ensures causes { IfErr result IsDeviceError }
+        ensures causes { IfErr result IsWriteError }
     {
         let files = self.files();
         if kept.verification && !all_have_verification(files) {
@@ -125,7 +125,7 @@ impl MDBMinimalShard {
         ensures written { IfOk result
             (WritesKept (FnReturnsAt F.Fn filter) (W.contents writer.old) (W.contents writer.new) []
             self.now (minimal_form now None)) }
-        ensures causes { IfErr result IsDeviceError }
+        ensures causes { IfErr result IsWriteError }
     {
         self.serialize_xorb_subset_with_expiry(alloc, writer, now, None, filter)
     }
@@ -143,7 +143,7 @@ impl MDBMinimalShard {
         ensures written { IfOk result
             (WritesKept (FnReturnsAt F.Fn filter) (W.contents writer.old) (W.contents writer.new) []
             self.now (minimal_form now expiry)) }
-        ensures causes { IfErr result IsDeviceError }
+        ensures causes { IfErr result IsWriteError }
     {
         let form = minimal_form(now, expiry);
         let kept = KeptParts {
@@ -170,7 +170,7 @@ impl MDBMinimalShard {
         ensures written { IfOk result
             (WritesKept (FnReturnsAt F.Fn filter) (W.contents writer.old) (W.contents writer.new)
             (map (as_kept kept) files.now) self.now form.now) }
-        ensures causes { IfErr result IsDeviceError }
+        ensures causes { IfErr result IsWriteError }
     {
         let starts = starts_of(alloc, self.files())?;
         MDBShardFileHeader::of_version(form.version).serialize(writer)?;
@@ -222,7 +222,7 @@ fn write_files<W: Write>(
         (section_bytes file_records (map (as_kept kept) files.now))) }
     ensures written { IfOk result
         (λ written. HasWritten written (map (as_kept kept) files.now)) }
-    ensures causes { IfErr result IsDeviceError }
+    ensures causes { IfErr result IsWriteError }
 {
     let mut written = WrittenFiles::new(alloc);
     for file in files {
@@ -245,7 +245,7 @@ fn write_xorbs<W: Write, F: Fn(&MDBXorbInfoView) -> bool>(
     ensures written { IfOk result
         (WritesMarked (FnReturnsAt F.Fn filter) (contains start_cmp starts.now)
         (W.contents writer.old) (W.contents writer.new) xorbs.now) }
-    ensures causes { IfErr result IsDeviceError }
+    ensures causes { IfErr result IsWriteError }
 {
     let mut written = WrittenXorbs::new(alloc);
     for xorb in xorbs {

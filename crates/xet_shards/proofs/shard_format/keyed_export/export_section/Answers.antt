@@ -1,5 +1,6 @@
-use Rattle.std.proofs.Common.{[], rules, subst, arith}
+use Rattle.std.proofs.Common.{[], inr, rules, subst, arith}
 use Rattle.std.proofs.lemmas.List.Elements.{All-nil}
+use Rattle.std.proofs.lemmas.Result.{err_from_is_err_and}
 use Rattle.std.proofs.KnownBytes.{Appends-nil, Appends-trans}
 use Rattle.xet_records.specs.RecordKind.{in_version}
 use Rattle.xet_records.proofs.RecordKinds.{laws_in, stored_ever}
@@ -8,7 +9,7 @@ use Rattle.xet_base.specs.InputLaws.{Takes-nil, Takes-trans}
 use Rattle.xet_records.specs.Reading.{ReadsBookend}
 use Rattle.xet_records.specs.ViewReading.{ReadsNextView}
 use Rattle.xet_shards.specs.Section.{section_bytes}
-use Rattle.xet_shards.proofs.KeyedExport.{more_written, fewer_rows, one_exported, next_fits, all_passed, not_passed}
+use Rattle.xet_shards.proofs.KeyedExport.{more_written, fewer_rows, one_exported, next_fits, all_passed, not_passed, writing_failed}
 use Rattle.xet_shards.proofs.shard_format.keyed_export.export_section.Goals as goal
 
 pub export-requires : goal.export-requires
@@ -52,6 +53,26 @@ pub returns-in_err-next : goal.returns-in_err-next
 returns-in_err-next g c =
     let source = g.S.ShardSource.meaning in
     search (rules, not_passed (in_version g.E.Section.Record.SectionRecord.kind c.args.version) (laws_in g.E.Section.Record.SectionRecord.kind g.met.E.ExportedRecord.laws c.args.version) _ (source c.loop-written.source) _ _ c.loop-written.invariant _ _ c.in_err-next.ensures)
+
+pub returns-in_err-export : goal.returns-in_err-export
+returns-in_err-export g c =
+    let kind = g.E.Section.Record.SectionRecord.kind in
+    let now = g.S.ShardSource.meaning c.loop-written.source in
+    let new = g.S.ShardSource.meaning c.read.new.source in
+    let next = subst (ReadsNextView (in_version kind c.args.version) g.E.ExportedRecord.stored (Takes now new) c.loop-written.rows_left c.read.new.left) c.in-Some.is c.in_ok-next.ensures in
+    let p = err_from_is_err_and c.from_residual-in_err-export.result c.from_residual-in_err-export.ensures.1 in
+    rw (p.1, p.2) (inr (writing_failed (g.S.ShardSource.meaning c.args.source.now) new _ _
+    (Takes-trans (g.S.ShardSource.meaning c.args.source.now) now new _ _ c.loop-written.invariant.taken next.taken) c.in_err-export.ensures.causes))
+
+pub returns-in_err-write_bookend : goal.returns-in_err-write_bookend
+returns-in_err-write_bookend g c =
+    let kind = g.E.Section.Record.SectionRecord.kind in
+    let now = g.S.ShardSource.meaning c.loop-written.source in
+    let new = g.S.ShardSource.meaning c.read.new.source in
+    let last : ReadsBookend (in_version kind c.args.version) (Takes now new) = search rules in
+    let p = err_from_is_err_and c.from_residual-in_err-write_bookend.result c.from_residual-in_err-write_bookend.ensures.1 in
+    rw (p.1, p.2) (inr (writing_failed (g.S.ShardSource.meaning c.args.source.now) new _ _
+    (Takes-trans (g.S.ShardSource.meaning c.args.source.now) now new _ _ c.loop-written.invariant.taken last.taken) c.in_err-write_bookend.ensures.causes))
 
 pub returns : goal.returns
 unfolding section_bytes

@@ -20,5 +20,5 @@ loop-row-preserved g c =
       all = entry_turned deref _ c.loop-row.yielded _ c.in-Some.row whole;
       bytes = subst (Appends (contents c.args.writer.now) (contents c.write_bytes.new.writer)) next
           (Appends-trans _ (contents c.loop-row.writer) _ _ _ c.loop-row.invariant.bytes
-          (subst (Appends (contents c.loop-row.writer) (contents c.write_bytes.new.writer)) c.to_bytes.ensures c.in_ok-write_bytes.ensures));
+          (subst (Appends (contents c.loop-row.writer) (contents c.write_bytes.new.writer)) c.to_bytes.ensures c.in_ok-write_bytes.ensures.bytes));
     }

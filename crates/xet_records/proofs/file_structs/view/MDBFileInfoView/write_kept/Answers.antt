@@ -28,8 +28,8 @@ part-requires-2 g c =
       c.last_rows-last.ensures.rows,
     )
 
-pub returns : goal.returns
-returns g c =
+pub returns-clause-bytes : goal.returns-clause-bytes
+returns-clause-bytes g c =
     let shown = shown_as file_records IsWholeFile c.self.inside.header _ c.as_slice-bytes.result.now _ _ (sym c.as_slice-bytes.ensures) c.self.view_is c.self.invariant in
     let s = as_kept c.args.kept c.args.self.now in
     let parts = parts_kept c.args.kept c.args.self.now in
@@ -41,5 +41,5 @@ returns g c =
     subst (Appends (contents c.args.writer.now) (contents c.write_bytes-2.new.writer))
     (parts_joined s _ _ _ (ap header_row c.kept_header-header.ensures) (c.part.ensures.bytes ∙ first_part _ _ _ shown s parts _ first)
     (c.part-2.ensures.bytes ∙ last_part _ _ _ shown s parts _ _ after c.last_rows-last.ensures.rows))
-    (Appends-trans _ (contents c.write_bytes.new.writer) _ _ _ (Appends-trans _ (contents c.write_row.new.writer) _ _ _ c.in_ok-write_row.ensures c.in_ok-write_bytes.ensures)
-    c.in_ok-write_bytes-2.ensures)
+    (Appends-trans _ (contents c.write_bytes.new.writer) _ _ _ (Appends-trans _ (contents c.write_row.new.writer) _ _ _ c.in_ok-write_row.ensures.bytes c.in_ok-write_bytes.ensures.bytes)
+    c.in_ok-write_bytes-2.ensures.bytes)

@@ -15,7 +15,7 @@ loop-index-init g c = (
   none_rewritten _,
   subst (Appends (g.W.Write.contents c.args.writer.now) (g.W.Write.contents c.write_row.new.writer))
       (ap xorb_header_row (sym c.self.invariant.same_header) ∙ ap (λ (r : MDBXorbInfo). xorb_header_row r.metadata) c.self.view_is
-      ∙ sym (append-nil (xorb_header_row c.args.self.now.metadata))) c.in_ok-write_row.ensures,
+      ∙ sym (append-nil (xorb_header_row c.args.self.now.metadata))) c.in_ok-write_row.ensures.bytes,
 )
 
 pub loop-index-preserved : goal.loop-index-preserved
@@ -28,7 +28,7 @@ loop-index-preserved g c =
       subst (Appends (g.W.Write.contents c.args.writer.now) (g.W.Write.contents c.write_row-in-loop-index.new.writer))
           (append_assoc header (flat_map chunk_row before.0) row ∙ ap (λ bs. header ++ (flat_map chunk_row before.0 ++ bs)) (sym (append-nil row))
           ∙ ap (λ bs. header ++ bs) (sym (flat_map-append chunk_row before.0 (c.rewrite-chunk.result ∷ []))))
-          (Appends-trans _ (g.W.Write.contents c.loop-index.writer) _ _ _ before.2 c.in_ok-write_row-2.ensures),
+          (Appends-trans _ (g.W.Write.contents c.loop-index.writer) _ _ _ before.2 c.in_ok-write_row-2.ensures.bytes),
     )
 
 pub returns-clause-bytes : goal.returns-clause-bytes
