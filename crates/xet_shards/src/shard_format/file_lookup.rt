@@ -40,6 +40,16 @@ impl MDBShardInfo {
     ) -> Result<usize>
         ensures looks { LooksUpIndex (file_table self.now.metadata (S.meaning source.old))
             hash.now.word0 dest.old dest.new (S.meaning source.old) (S.meaning source.new) result }
+        ensures in_form { (files : List MDBFileInfo) → (xorbs : List MDBXorbInfo) → (form : Form)
+            → HasFileTable files xorbs form (S.meaning source.old).bytes self.now
+            → MatchResult result (StartsAmong file_records files hash.now.word0 dest.new)
+            (IndexFailsAmong file_records files hash.now.word0 (S.meaning source.old)
+            (S.meaning source.new)) }
+        ensures in_form_costs { (files : List MDBFileInfo) → (xorbs : List MDBXorbInfo)
+            → (form : Form)
+            → HasFileTable files xorbs form (S.meaning source.old).bytes self.now
+            → SearchWithinBounds file_records files hash.now.word0 (S.meaning source.old)
+            (S.meaning source.new) }
         ensures written { (s : Shard) → (expiry : Option ℕ)
             → IsWritten s expiry (S.meaning source.old).bytes self.now
             → MatchResult result

@@ -1,10 +1,10 @@
-use Rattle.std.proofs.Common.{refl, subst}
+use Rattle.std.proofs.Common.{subst}
 use Rattle.std.specs.FinMap.{values}
 use Rattle.xet_records.specs.FileRecord.{file_records_in}
 use Rattle.xet_shards.proofs.Sections.{files_laws}
 use Rattle.xet_shards.specs.Layout.{plain_form_in}
 use Rattle.xet_shards.specs.Lookup.{file_table, LooksUpIndex}
-use Rattle.xet_shards.proofs.InForm.{no_file, files_in, shard_in_form, files_ascend}
+use Rattle.xet_shards.proofs.InForm.{no_file, files_in, files_of_shard}
 use Rattle.xet_shards.proofs.TableLookups.{index_written, index_bounded}
 use Rattle.xet_shards.proofs.shard_format.info.MDBShardInfo.get_file_info_index_by_hash.Goals as goal
 
@@ -16,16 +16,24 @@ returns-clause-looks g c =
     subst (λ w. LooksUpIndex (file_table c.args.self.now.metadata old) w c.args.dest.now c.find_rows.new.dest old new c.find_rows.result) c.truncate_hash.ensures
     (record { found = found.found; serves = found.serves; refused = found.refused; kept = found.kept; bounds = found.bounds; even = found.even })
 
-pub returns-clause-written : goal.returns-clause-written
-returns-clause-written g c s expiry written =
+pub returns-clause-in_form : goal.returns-clause-in_form
+returns-clause-in_form g c files xorbs form is =
     let old = g.S.ShardSource.meaning c.args.source.now in
     let footer = c.args.self.now.metadata in
-    let looked = files_in (values s.files) (values s.xorbs) (plain_form_in written.version expiry) old footer (shard_in_form written) (files_ascend s written.shard) refl in
-    index_written (file_records_in written.version) (files_laws written.version) no_file (values s.files) footer.file_info_offset footer.file_lookup_offset footer.file_lookup_num_entry old looked _ _ _ _ c.find_rows.result (returns-clause-looks g c)
+    index_written (file_records_in form.version) (files_laws form.version) no_file files footer.file_info_offset footer.file_lookup_offset footer.file_lookup_num_entry old
+    (files_in files xorbs form old footer is.in_form is.ascends is.table) _ _ _ _ c.find_rows.result (returns-clause-looks g c)
+
+pub returns-clause-in_form_costs : goal.returns-clause-in_form_costs
+returns-clause-in_form_costs g c files xorbs form is =
+    let old = g.S.ShardSource.meaning c.args.source.now in
+    let footer = c.args.self.now.metadata in
+    index_bounded (file_records_in form.version) (files_laws form.version) no_file files footer.file_info_offset footer.file_lookup_offset footer.file_lookup_num_entry old
+    (files_in files xorbs form old footer is.in_form is.ascends is.table) _ _ _ _ c.find_rows.result (returns-clause-looks g c)
+
+pub returns-clause-written : goal.returns-clause-written
+returns-clause-written g c s expiry written =
+    returns-clause-in_form g c (values s.files) (values s.xorbs) (plain_form_in written.version expiry) (files_of_shard written)
 
 pub returns-clause-costs : goal.returns-clause-costs
 returns-clause-costs g c s expiry written =
-    let old = g.S.ShardSource.meaning c.args.source.now in
-    let footer = c.args.self.now.metadata in
-    let looked = files_in (values s.files) (values s.xorbs) (plain_form_in written.version expiry) old footer (shard_in_form written) (files_ascend s written.shard) refl in
-    index_bounded (file_records_in written.version) (files_laws written.version) no_file (values s.files) footer.file_info_offset footer.file_lookup_offset footer.file_lookup_num_entry old looked _ _ _ _ c.find_rows.result (returns-clause-looks g c)
+    returns-clause-in_form_costs g c (values s.files) (values s.xorbs) (plain_form_in written.version expiry) (files_of_shard written)
