@@ -27,9 +27,10 @@ CombinesBytes IsResult x y out =
     (i j : MDBShardInfo) × (c : Shard) × HasEnds x i × HasEnds y j × HaveResult IsResult x i y j c
     × (out ≡ keyed_layout c (key_of i))
 
--- a header or a footer is not read, the result is not written, or there is none
+-- a header or a footer is not read, those of the second after those of the first, the result is
+-- not written, or there is none
 abbrev pub CombiningRefusal : (List ℕ → MDBShardInfo → List ℕ → MDBShardInfo → CoreError → Type 0)
     → List ℕ → List ℕ → CoreError → Type 0
 CombiningRefusal Refusal x y e =
-    LoadRefusal x e ⊎ LoadRefusal y e ⊎ IsWriteError e
+    LoadRefusal x e ⊎ ((i : MDBShardInfo) × HasEnds x i × LoadRefusal y e) ⊎ IsWriteError e
     ⊎ ((i j : MDBShardInfo) × HasEnds x i × HasEnds y j × Refusal x i y j e)

@@ -214,7 +214,7 @@ module _ (a b c : Shard) (f g : Form) (first : IsShard a) (second : IsShard b) (
 
   pub refused_union : (err : CoreError) → BytesRefusal (layout_in a f) (layout_in b g) err → (err ≡ OutOfMemory) ⊎ (IsInvalidShard err × (¬ HasFewRows c))
   refused_union err (inl load) = absurd (loads_well a f first f_fits err load)
-  refused_union err (inr (inl load)) = absurd (loads_well b g second g_fits err load)
+  refused_union err (inr (inl (i, i_ends, load))) = absurd (loads_well b g second g_fits err load)
   refused_union err (inr (inr (i, j, i_ends, j_ends, why))) =
       refused err (subst (λ p. p) (λ k. UnionRefusal (layout_in a f) (info_found a f first f_fits i i_ends k) (layout_in b g) (info_found b g second g_fits j j_ends k) err) why)
 

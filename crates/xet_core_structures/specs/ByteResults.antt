@@ -122,10 +122,11 @@ UnitesBytes x y out =
 abbrev pub LoadRefusal : List ℕ → CoreError → Type 0
 LoadRefusal x e = (IsShardVersion e × IsUnsupported x) ⊎ (IsEndOfInput e × IsTooShort x)
 
--- why two byte strings have no union
+-- why two byte strings have no union: the ends of the first are not read, or they are and those of
+-- the second are not, or both are and their shards have no union
 abbrev pub BytesRefusal : List ℕ → List ℕ → CoreError → Type 0
 BytesRefusal x y e =
-    LoadRefusal x e ⊎ LoadRefusal y e
+    LoadRefusal x e ⊎ ((i : MDBShardInfo) × HasEnds x i × LoadRefusal y e)
     ⊎ ((i j : MDBShardInfo) × HasEnds x i × HasEnds y j × UnionRefusal x i y j e)
 
 -- why an operation on two sources fails: the device of either did, or neither did and there is

@@ -1,10 +1,22 @@
-use Rattle.std.proofs.Common.{◌≡◌, ap, ◌∙◌, subst}
+use Rattle.std.proofs.Common.{◌≡◌, inl, inr, ap, ◌∙◌, subst}
 use Rattle.std.proofs.lemmas.Result.{err_from_is_err_and}
 use Rattle.xet_core_structures.specs.Source.{Source}
 use Rattle.xet_core_structures.specs.Ends.{HasEnds}
+use Rattle.xet_core_structures.proofs.Uniting.{not_loaded}
 use Rattle.shardtool.specs.Combining.{IsResultOf, RefusalOf}
 use Rattle.shardtool.proofs.Combining.{bytes_combined, combining_refused}
 use Rattle.shardtool.proofs.combine.combine_bytes.Goals as goal
+
+pub returns-in_err-s2 : goal.returns-in_err-s2
+returns-in_err-s2 c =
+    let x : c.new-r1.result.bytes.now ≡ c.args.first.now = ap (λ (s : Source). s.bytes) c.new-r1.ensures in
+    let y : c.new-r2.result.bytes.now ≡ c.args.second.now = ap (λ (s : Source). s.bytes) c.new-r2.ensures in
+    let p = err_from_is_err_and c.from_residual-in_err-s2.result c.from_residual-in_err-s2.ensures.1 in
+    rw (p.1, p.2) (inr (inl (
+      c.in_ok-s1.s1,
+      subst (λ bytes. HasEnds bytes c.in_ok-s1.s1) x c.in_ok-s1.ensures.read.ends,
+      not_loaded c.args.second.now c.new-r2.result c.load_from_reader-2.new.source _ y c.in_err-s2.ensures.read,
+    )))
 
 pub returns-in_err-combine : goal.returns-in_err-combine
 returns-in_err-combine c =

@@ -7,8 +7,14 @@ use Rattle.xet_core_structures.proofs.set_operations.unite_bytes.Goals as goal
 
 pub returns-in_err-s2 : goal.returns-in_err-s2
 returns-in_err-s2 c =
+    let x : c.new-r1.result.bytes.now ≡ c.args.first.now = ap (λ (s : Source). s.bytes) c.new-r1.ensures in
+    let y : c.new-r2.result.bytes.now ≡ c.args.second.now = ap (λ (s : Source). s.bytes) c.new-r2.ensures in
     let p = err_from_is_err_and c.from_residual-in_err-s2.result c.from_residual-in_err-s2.ensures.1 in
-    rw (p.1, p.2) (inr (inl (not_loaded c.args.second.now c.new-r2.result c.load_from_reader-2.new.source _ (ap (λ (s : Source). s.bytes) c.new-r2.ensures) c.in_err-s2.ensures.read)))
+    rw (p.1, p.2) (inr (inl (
+      c.in_ok-s1.s1,
+      subst (λ bytes. HasEnds bytes c.in_ok-s1.s1) x c.in_ok-s1.ensures.read.ends,
+      not_loaded c.args.second.now c.new-r2.result c.load_from_reader-2.new.source _ y c.in_err-s2.ensures.read,
+    )))
 
 pub returns-in-Ok : goal.returns-in-Ok
 returns-in-Ok c =
