@@ -147,6 +147,14 @@ module _ {H R : Type 0} (K : RecordKind H R) (laws : KindLaws K) where
     at_second : (b : FinMap hash_cmp R) → IsSectionOf (in_version K w) y b → (q : DataHash) → (hash_cmp q none.hash ≡ Less) ⊎ (q ≡ none.hash) → get b q ≡ with_hash K (none.seconds ++ option_to_list none.other) q
     at_second b b_is = get_up_to w y none.stored_2 none.rest_2 none.seconds none.other none.hash none.holds_2 none.second_is none.other_hash none.next_2 b b_is
 
+    -- what is made of both is under their hash
+    made_under : (z : R) (o p : Option R) → IfSome o (λ r. key_of_record K r ≡ none.hash) → IfSome p (λ r. key_of_record K r ≡ none.hash) → IsMadeOf K o p z → IsUnder K none.hash (Some z)
+    made_under z (Some r) p first second made = (made.hash r (inl refl) ∙ first, made.stored)
+    made_under z None (Some s) first second made = (made.hash s (inr refl) ∙ second, made.stored)
+    made_under z None None first second made = absurd (omega (arith, made.rows, some_rows z made.stored)) where
+      some_rows : (r : R) → K.IsStored r → 1 ≤ K.row_count r
+      some_rows r stored = omega (arith, laws.rows r stored)
+
     -- sections of maps with a union within the rows of a section do not begin so
     module _ (a b c : FinMap hash_cmp R) (a_is : IsSectionOf (in_version K v) x a) (b_is : IsSectionOf (in_version K w) y b) (each : (q : DataHash) → makes (get a q) (get b q) (get c q)) where
       here : (q : DataHash) → (hash_cmp q none.hash ≡ Less) ⊎ (q ≡ none.hash)
@@ -168,20 +176,13 @@ module _ {H R : Type 0} (K : RecordKind H R) (laws : KindLaws K) where
 
       not_within : (z : R) → makes none.one none.other (Some z) → IsMadeOf K none.one none.other z → 4294967295 < total_rows K none.made + K.row_count z → ¬ (total_rows K (values c) ≤ 4294967295)
       not_within z is_made made_of many fits =
-          let z_under = made_under none.one none.other none.one_hash none.other_hash made_of in
+          let z_under = made_under z none.one none.other none.one_hash none.other_hash made_of in
           let zs = none.made ++ z ∷ [] in
           let whole = more_combined K makes none.hash none.one none.other (Some z) none.one_hash none.other_hash z_under is_made none.firsts none.seconds none.made none.passed none.combined in
           let fewer = sub-sum hash_cmp-IsTotalOrder hash_cmp-IsAntisymmetric K.row_count (list_map K zs) c (λ q v at.
           let found = sym (get-list_map K zs whole.ascends q) ∙ at in
           unique _ _ (get c q) (with_hash K zs q) (here q (up_to K none.hash none.made (Some z) none.passed.combined (hash_under K none.hash (Some z) z_under) q v found)) (whole.each q) ∙ found) in
           omega (arith, many, fits, fewer, ap (total_rows K) (values-list_map K zs whole.ascends), sum_by-append K.row_count none.made (z ∷ []), sum_by-cons K.row_count z [])
-        where
-          made_under : (o p : Option R) → IfSome o (λ r. key_of_record K r ≡ none.hash) → IfSome p (λ r. key_of_record K r ≡ none.hash) → IsMadeOf K o p z → IsUnder K none.hash (Some z)
-          made_under (Some r) p first second made = (made.hash r (inl refl) ∙ first, made.stored)
-          made_under None (Some s) first second made = (made.hash s (inr refl) ∙ second, made.stored)
-          made_under None None first second made = absurd (omega (arith, made.rows, some_rows z made.stored)) where
-            some_rows : (r : R) → K.IsStored r → 1 ≤ K.row_count r
-            some_rows r stored = omega (arith, laws.rows r stored)
 
     pub no_union : HaveNoUnionOf K v w makes x y
     no_union = record {
@@ -195,7 +196,7 @@ module _ {H R : Type 0} (K : RecordKind H R) (laws : KindLaws K) where
       none = refused none.cannot;
     } where
       clash : CannotMake K makes (total_rows K none.made) none.one none.other
-          → (4294967295 < total_rows K none.stored_1 + total_rows K none.stored_2)
+          → ((made : List R) × Combines K makes (map K.handed_out none.stored_1) (map K.handed_out none.stored_2) made × (4294967295 < total_rows K made))
           ⊎ ((r s : R) × Contains none.stored_1 r × Contains none.stored_2 s × (K.hash_of (K.header_of r) ≡ K.hash_of (K.header_of s))
           × ((t : Option R) → ¬ makes (Some (K.handed_out r)) (Some (K.handed_out s)) t))
       clash (nothing_made r s one other never) =
@@ -210,14 +211,14 @@ module _ {H R : Type 0} (K : RecordKind H R) (laws : KindLaws K) where
                 ∙ sym (ap K.hash_of (sym (laws.same_header second.0)) ∙ ap (key_of_record K) second.2 ∙ subst (λ o. IfSome o (λ t. key_of_record K t ≡ none.hash)) other none.other_hash),
             λ t either. never t (subst (λ p. p) (λ i. makes (Some (first.2 i)) (Some (second.2 i)) t) either),
           )
-      clash (too_many_rows z is_made made_of many) = inl (omega (
-        arith,
-        many,
-        made_of.rows,
-        none.rows,
-        rows_front none.stored_1 none.firsts none.one none.first_is,
-        rows_front none.stored_2 none.seconds none.other none.second_is,
-      ))
+      clash (too_many_rows z is_made made_of many) =
+          let whole = more_combined K makes none.hash none.one none.other (Some z) none.one_hash none.other_hash (made_under z none.one none.other none.one_hash none.other_hash made_of) is_made
+          none.firsts none.seconds none.made none.passed none.combined in
+          inl (
+            none.made ++ z ∷ [],
+            subst (λ p. p) (λ i. Combines K makes (sym none.first_is i) (sym none.second_is i) (none.made ++ z ∷ [])) whole,
+            omega (arith, many, sum_by-append K.row_count none.made (z ∷ []), sum_by-cons K.row_count z []),
+          )
 
       refused : CannotMake K makes (total_rows K none.made) none.one none.other → (a b c : FinMap hash_cmp R) → IsSectionOf (in_version K v) x a → IsSectionOf (in_version K w) y b
           → ((q : DataHash) → makes (get a q) (get b q) (get c q)) → ¬ (total_rows K (values c) ≤ 4294967295)

@@ -1,5 +1,5 @@
 -- What one union or one difference of bytes writes, and why it fails.
-use Rattle.std.specs.Prelude.{◌≡◌, ◌≢◌, ◌⊎◌, ⊤, ℕ, ◌+◌, ◌<◌, ◌≤◌, List, All, Contains, Option, None, Some}
+use Rattle.std.specs.Prelude.{◌≡◌, ◌≢◌, ◌⊎◌, ⊤, ℕ, ◌+◌, ◌<◌, ◌≤◌, List, map, All, Contains, Option, None, Some}
 use Rattle.std.specs.FinMap.{FinMap, get, values}
 use Rattle.std.specs.Io.KnownBytes.{Appends}
 use Rattle.xet_base.specs.declared.error.CoreError.{CoreError}
@@ -67,7 +67,7 @@ WritesResult IsResult x i y j old new info =
     × Appends old new (keyed_layout c (key_of i))
 
 -- two sections, each in its version, have no union within the rows of a section: they begin with
--- records that have more rows together, or one of each that have no union under one hash
+-- records whose union has more rows, or one of each that have no union under one hash
 pub record HaveNoUnionOf {H R : Type 0} (K : RecordKind H R) (version_1 version_2 : FormatVersion)
     (IsEither : Option R → Option R → Option R → Type 0) (x y : List ℕ) : Type 0 where
   pub firsts : List R
@@ -76,7 +76,9 @@ pub record HaveNoUnionOf {H R : Type 0} (K : RecordKind H R) (version_1 version_
   pub after_seconds : List ℕ
   pub first : HoldsRecords (in_version K version_1) x firsts after_firsts
   pub second : HoldsRecords (in_version K version_2) y seconds after_seconds
-  pub clash : (4294967295 < total_rows K firsts + total_rows K seconds)
+  pub clash : ((made : List R)
+      × Combines K IsEither (map K.handed_out firsts) (map K.handed_out seconds) made
+      × (4294967295 < total_rows K made))
       ⊎ ((r s : R) × Contains firsts r × Contains seconds s
       × (K.hash_of (K.header_of r) ≡ K.hash_of (K.header_of s))
       × ((t : Option R) → ¬ IsEither (Some (K.handed_out r)) (Some (K.handed_out s)) t))
