@@ -85,7 +85,7 @@ module _ {H R : Type 0} (K : RecordKind H R) where
       at true is = ap (λ o. option_or o (Some r)) (ap (with_hash K rs) ((same_key q k).0 is) ∙ none_before k rs before)
       at false is = or_none (with_hash K rs q)
 
-  ascends_push : (k : DataHash) (rs : List R) (o : Option R) → HasHash k o → Before k rs → Ascends K rs → Ascends K (rs ++ option_to_list o)
+  pub ascends_push : (k : DataHash) (rs : List R) (o : Option R) → HasHash k o → Before k rs → Ascends K rs → Ascends K (rs ++ option_to_list o)
   unfolding IsStrictlySortedBy
   ascends_push k [] None under before ascends = tt
   ascends_push k [] (Some r) under before ascends = (tt, tt)

@@ -20,7 +20,7 @@ use Rattle.xet_shards.specs.InForm.{FitsSection, Ascends}
 use Rattle.xet_shards.specs.declared.shard_format.form.Form.{Form}
 use Rattle.xet_shards.specs.Layout.{layout_of, info_of}
 use Rattle.xet_shards.specs.Section.{total_rows}
-use Rattle.xet_shards.specs.SectionReading.{files_of, PassesRows, IsCutSection}
+use Rattle.xet_shards.specs.SectionReading.{files_of}
 use Rattle.xet_shards.specs.Shard.{Shard, IsShard}
 use Rattle.xet_shards.proofs.Files.{well_formed_values}
 use Rattle.xet_shards.proofs.Maps.{rising_keys}
@@ -28,7 +28,7 @@ use Rattle.xet_shards.proofs.Readback.{handed_same, file_section_in, xorb_sectio
 use Rattle.xet_shards.proofs.SameBytes.{same_values}
 use Rattle.xet_shards.proofs.Sections.{xorbs_fit, files_laws}
 use Rattle.xet_shards.proofs.SectionUnique.{only_list, first_of_section, section_or_passes, section_or_cut}
-use Rattle.xet_core_structures.specs.Held.{FrontFalls, IsSectionOf, files_at, xorbs_at, Holds, IsCut, IsBad}
+use Rattle.xet_core_structures.specs.Held.{IsCutInOrder, IsBadSection, IsSectionOf, files_at, xorbs_at, Holds, IsCut, IsBad}
 
 -- the first of strictly ascending keys strictly ascend
 all_front : {X : Type 0} (P : X → Type 0) (xs ys : List X) → AllByRecursion P (xs ++ ys) → AllByRecursion P xs
@@ -51,6 +51,10 @@ module _ {H R : Type 0} (K : RecordKind H R) (laws : KindLaws K) where
   pub rows_handed : (rs : List R) → total_rows K (map K.handed_out rs) ≡ total_rows K rs
   rows_handed [] = refl
   rows_handed (r ∷ rs) = omega (arith, sum_by-cons K.row_count (K.handed_out r) (map K.handed_out rs), sum_by-cons K.row_count r rs, laws.same_rows r, rows_handed rs)
+
+  -- records as they are stored ascend if those that were handed out do
+  pub stored_ascend : (stored found : List R) → map K.handed_out stored ≡ found → Ascends K found → Ascends K stored
+  stored_ascend stored found handed ascends = subst (IsStrictlySortedBy hash_cmp) (sym (ap (map hash_of_record) handed) ∙ hashes_handed stored) ascends
 
   keys_are : (es : List (DataHash × R)) → All (λ e. e.0 ≡ hash_of_record e.1) es → map hash_of_record (map (λ e. e.1) es) ≡ keys_of es
   keys_are [] keyed = refl
@@ -76,16 +80,15 @@ module _ {H R : Type 0} (K : RecordKind H R) (laws : KindLaws K) where
         same_values hash_of_record n m other.keyed is.keyed
         (sym other.handed ∙ ap (map K.handed_out) (only_list K laws bytes other.stored is.stored other.section is.section) ∙ is.handed)
 
-    pub not_cut : ¬ IsCutSection K bytes
-    not_cut = section_or_cut K laws bytes is.stored is.section
+    pub not_cut : ¬ IsCutInOrder K bytes
+    not_cut (xs, rest, front, ends) = section_or_cut K laws bytes is.stored is.section (xs, rest, front.records, ends)
 
-    pub not_passing : ¬ PassesRows K bytes
-    not_passing = section_or_passes K laws bytes is.stored is.section
-
-    pub not_falling : ¬ FrontFalls K bytes
-    not_falling (xs, rest, holds, falls) =
-        let whole = first_of_section K laws bytes xs is.stored rest holds is.section in
-        falls (sorted_front hash_cmp (map hash_of_record xs) (map hash_of_record whole.0)
+    pub not_bad : ¬ IsBadSection K bytes
+    not_bad (inl (xs, rest, front, passes)) = section_or_passes K laws bytes is.stored is.section (xs, rest, front.records, passes)
+    not_bad (inr front) =
+        let xs = front.stored ++ front.last ∷ [] in
+        let whole = first_of_section K laws bytes xs is.stored front.rest front.records is.section in
+        front.falls (sorted_front hash_cmp (map hash_of_record xs) (map hash_of_record whole.0)
         (subst (IsStrictlySortedBy hash_cmp) (ap (map hash_of_record) whole.1 ∙ hashes_append xs whole.0) section_ascends))
 
 -- the same of both sections
@@ -98,13 +101,11 @@ module _ (bytes : List ℕ) (info : MDBShardInfo) (s : Shard) (holds : Holds byt
 
   pub held_whole : ¬ IsCut bytes info
   held_whole (inl files) = not_cut (files_of info) (files_laws (version_of info.header.version)) (files_at bytes info) s.files holds.files files
-  held_whole (inr xorbs) = not_cut xorb_records xorb_laws (xorbs_at bytes info) s.xorbs holds.xorbs xorbs
+  held_whole (inr (whole, xorbs)) = not_cut xorb_records xorb_laws (xorbs_at bytes info) s.xorbs holds.xorbs xorbs
 
   pub held_well : ¬ IsBad bytes info
-  held_well (inl files) = not_passing (files_of info) (files_laws (version_of info.header.version)) (files_at bytes info) s.files holds.files files
-  held_well (inr (inl xorbs)) = not_passing xorb_records xorb_laws (xorbs_at bytes info) s.xorbs holds.xorbs xorbs
-  held_well (inr (inr (inl files))) = not_falling (files_of info) (files_laws (version_of info.header.version)) (files_at bytes info) s.files holds.files files
-  held_well (inr (inr (inr xorbs))) = not_falling xorb_records xorb_laws (xorbs_at bytes info) s.xorbs holds.xorbs xorbs
+  held_well (inl files) = not_bad (files_of info) (files_laws (version_of info.header.version)) (files_at bytes info) s.files holds.files files
+  held_well (inr (whole, xorbs)) = not_bad xorb_records xorb_laws (xorbs_at bytes info) s.xorbs holds.xorbs xorbs
 
 -- the bytes of a shard hold it
 same_xorbs : {X : Type 0} (xs : List X) → map (λ x. x) xs ≡ xs

@@ -1,5 +1,5 @@
 -- One of two sections that are read side by side: the header of its next record was read, after others.
-use Rattle.std.proofs.Common.{◌≡◌, inl, inr, ℕ, ◌+◌, ◌*◌, ◌≤◌, if◌then◌else◌, List, [], ◌∷◌, ◌++◌, map, Option, None, Some, IfSome, is_some, refl, sym, ap, ◌∙◌, subst, arith, append-nil, append_assoc}
+use Rattle.std.proofs.Common.{◌≡◌, inl, inr, ℕ, ◌+◌, ◌*◌, ◌≤◌, if◌then◌else◌, List, [], ◌∷◌, ◌++◌, length, get_or, map, drop, Option, None, Some, IfSome, is_some, refl, sym, ap, ◌∙◌, subst, arith, append-nil, append_assoc}
 use Rattle.std.specs.Prelude.{option_to_list}
 use Rattle.std.specs.List.Sorted.{IsStrictlySortedBy}
 use Rattle.std.specs.declared.cmp.Ordering.TheVariants.{Less}
@@ -21,14 +21,15 @@ use Rattle.xet_records.specs.Reading.Stops.{no_rows}
 use Rattle.xet_records.proofs.RecordKinds.{laws_in}
 use Rattle.xet_records.proofs.SectionRecords.{nothing_read, more_read, rows_after_header}
 use Rattle.xet_shards.specs.InForm.{Ascends}
-use Rattle.xet_shards.specs.SectionReading.{HoldsRecords, PassesRows, IsCutSection, SectionCase, TakesNoSection}
+use Rattle.xet_shards.specs.SectionReading.{HoldsRecords, PassesLimit, EndsEarly, rows_left, SectionCase, RecordFails}
 use Rattle.xet_shards.specs.SectionReading.SectionCase.{not_read, passes_limit}
-use Rattle.xet_shards.proofs.SectionReading.{holds, section_fails, record_fails}
-use Rattle.xet_core_structures.specs.Combining.{key_of_record}
+use Rattle.xet_shards.proofs.SectionReading.{holds, section_failure, record_fails}
+use Rattle.xet_core_structures.specs.Combining.{key_of_record, ComeBefore}
+use Rattle.xet_core_structures.specs.Held.{BeginsInOrder, IsCutInOrder, PassesInOrder}
 use Rattle.xet_core_structures.specs.SideBySide.{IsRecordHeader, ReadsFollowing, FollowingFails, Advances, PassesRecord, SectionRefusal, TakesNoAscending, GoesOnAfter}
 use Rattle.xet_core_structures.specs.SideBySide.FollowingFails.{not_read as next_not_read, falls}
-use Rattle.xet_core_structures.proofs.Combining.{IsUnder}
-use Rattle.xet_core_structures.proofs.Held.{hashes_handed}
+use Rattle.xet_core_structures.proofs.Combining.{ascends_push, IsUnder}
+use Rattle.xet_core_structures.proofs.Held.{hashes_handed, stored_ascend}
 
 -- what is known of sources after calls that did not fail
 pub serves_on : (a b c : Source) → Serves a b → Serves b c → Serves a c
@@ -47,6 +48,13 @@ taken_serves a b xs taken = record {
   failures = ap (λ (s : Source). s.failures) taken.after;
   last_failure = ap (λ (s : Source). s.last_failure) taken.after;
 }
+
+-- lists that begin alike
+none_first : {X : Type 0} (x : X) (xs : List X) → ¬ ([] ≡ x ∷ xs)
+none_first x xs same = omega (arith, ap length same)
+
+first_same : {X : Type 0} (x y : X) (xs ys : List X) → x ∷ xs ≡ y ∷ ys → x ≡ y
+first_same x y xs ys same = ap (λ zs. get_or zs 0 x) same
 
 bare_invalid : (e : CoreError) → IsBareInvalidShard e → IsInvalidShard e
 bare_invalid (InvalidShard text) is = tt
@@ -190,16 +198,31 @@ module _ {H R : Type 0} (K : RecordKind H R) (laws : KindLaws K) (version : Form
     fewer (Some g) header = omega (arith, header.rows)
 
   -- why a section was not read on
-  refused_section : (bytes : List ℕ) (e : CoreError) → SectionCase (PassesRows (in_version K version)) (IsCutSection (in_version K version)) bytes e → SectionRefusal K version bytes e
+  refused_section : (bytes : List ℕ) (e : CoreError) → SectionCase (PassesInOrder (in_version K version)) (IsCutInOrder (in_version K version)) bytes e → SectionRefusal K version bytes e
   refused_section bytes e (not_read (out_of_memory is)) = inl is
   refused_section bytes e (not_read (out_of_bytes is cut)) = inr (inl (is, cut))
   refused_section bytes e (passes_limit is passes) = inr (inr (bare_invalid e is, inl passes))
 
-  not_taken : (start new : Source) (e : CoreError) → TakesNoSection (in_version K version) start new e → TakesNoAscending K version start new e
-  not_taken start new e fails = record { bytes = fails.bytes; cause = failed_after (SectionCase (PassesRows (in_version K version)) (IsCutSection (in_version K version)) (bytes_left start)) (SectionRefusal K version (bytes_left start)) start start new e refl (refused_section (bytes_left start) e) fails.cause }
+  not_taken : (start now : Source) (found : List R) (left : ℕ) → HasRead (in_version K version) (Takes start now) found left → Ascends K found → (new : Source) (e : CoreError)
+      → RecordFails (in_version K version) left now new e → TakesNoAscending K version start new e
+  not_taken start now found left read ascends new e fails =
+      let front : BeginsInOrder (in_version K version) (bytes_left start) read.stored (bytes_left now) =
+      record { records = holds (in_version K version) (laws_in K laws version) start now found left read; ascends = stored_ascend K laws read.stored found read.handed ascends } in
+      let served = taken_serves start now _ read.taken in
+      let left_is : left ≡ rows_left (in_version K version) read.stored = omega (arith, read.rows) in
+      record {
+        bytes = fails.bytes ∙ served.bytes;
+        cause = failed_after (SectionCase (PassesInOrder (in_version K version)) (IsCutInOrder (in_version K version)) (bytes_left start)) (SectionRefusal K version (bytes_left start)) start start new e refl
+            (refused_section (bytes_left start) e)
+            (section_failure (PassesLimit (in_version K version) left) (EndsEarly (in_version K version) left) (PassesInOrder (in_version K version)) (IsCutInOrder (in_version K version)) (bytes_left now) (bytes_left start)
+            start now new e served.failures
+            (λ passes. (read.stored, bytes_left now, front, subst (λ n. PassesLimit (in_version K version) n (bytes_left now)) left_is passes))
+            (λ ends. (read.stored, bytes_left now, front, subst (λ n. EndsEarly (in_version K version) n (bytes_left now)) left_is ends)) fails.cause);
+      }
 
   pub no_first : (start new : Source) (e : CoreError) → FollowingFails (in_version K version) None 4294967295 start new e → TakesNoAscending K version start new e
-  no_first start new e (next_not_read fails) = not_taken start new e (section_fails (in_version K version) (laws_in K laws version) start start [] 4294967295 (nothing_read (in_version K version) (laws_in K laws version) (Takes start start) (Takes-nil start)) new e fails)
+  unfolding IsStrictlySortedBy
+  no_first start new e (next_not_read fails) = not_taken start start [] 4294967295 (nothing_read (in_version K version) (laws_in K laws version) (Takes start start) (Takes-nil start)) tt new e fails
   no_first start new e (falls is after found read after_none) = absurd (after_none tt)
 
   -- two neighbours of a list whose hashes strictly ascend
@@ -208,39 +231,56 @@ module _ {H R : Type 0} (K : RecordKind H R) (laws : KindLaws K) (version : Form
   neighbours [] r s ascends = ascends.0.0
   neighbours (x ∷ rs) r s ascends = neighbours rs r s ascends.1
 
-  module _ (start now : Source) (left : ℕ) (next : Option H) (found : List R) (pending : HasPending (in_version K version) start now left next found) where
+  -- the last of records that were handed out
+  split_last : (stored xs : List R) (y : R) → map K.handed_out stored ≡ xs ++ y ∷ [] → (front : List R) × (last : R) × (stored ≡ front ++ last ∷ []) × (map K.handed_out front ≡ xs)
+  split_last [] [] y same = absurd (none_first y [] same)
+  split_last [] (x ∷ xs) y same = absurd (none_first x (xs ++ y ∷ []) same)
+  split_last (s ∷ []) [] y same = ([], s, refl, refl)
+  split_last (s ∷ t ∷ rest) [] y same = absurd (none_first (K.handed_out t) (map K.handed_out rest) (sym (ap (drop 1) same)))
+  split_last (s ∷ rest) (x ∷ xs) y same =
+      let parts = split_last rest xs y (ap (drop 1) same) in
+      (s ∷ parts.0, parts.1, ap (λ rs. s ∷ rs) parts.2, λ i. first_same (K.handed_out s) x (map K.handed_out rest) (xs ++ y ∷ []) same i ∷ parts.3 i)
+
+  module _ (start now : Source) (left : ℕ) (next : Option H) (found : List R) (pending : HasPending (in_version K version) start now left next found) (found_ascends : Ascends K found) where
     -- the rows of the next record were not
     pub rows_not_read : (h : H) (new : Source) (e : CoreError) → next ≡ Some h → ReadFails now new (48 * K.rows_after h) e → TakesNoAscending K version start new e
     rows_not_read h new e is fails =
         let header = begun start now left next found pending h is in
-        not_taken start new e (section_fails (in_version K version) (laws_in K laws version) start pending.mid found pending.before pending.records new e
-        (record_fails (in_version K version) (laws_in K laws version) (λ (s : Source). s) pending.before pending.mid new e (no_rows h now left header fails)))
+        not_taken start pending.mid found pending.before pending.records found_ascends new e
+        (record_fails (in_version K version) (laws_in K laws version) (λ (s : Source). s) pending.before pending.mid new e (no_rows h now left header fails))
+
+    key_read : (h : H) (mid : Source) (r s : R) → Some r ≡ Some s → ReadsRowsAfter K h (Takes now mid) s → key_of_record K r ≡ K.hash_of h
+    key_read h mid r s same rows = ap (key_of_record K) (same_Some r s same) ∙ ap K.hash_of (ap K.header_of (sym rows.handed) ∙ laws.same_header rows.stored ∙ rows.same_header)
 
     -- nor was the header after it, or it does not follow
-    pub no_next : (h : H) (mid new : Source) (r : R) (e : CoreError) → next ≡ Some h → PassesRecord K (Some h) now mid (Some r) → FollowingFails (in_version K version) (Some h) left mid new e
-        → TakesNoAscending K version start new e
-    no_next h mid new r e is passed (next_not_read fails) =
-        not_taken start new e (section_fails (in_version K version) (laws_in K laws version) start mid (found ++ r ∷ []) left (read_on start now left next found pending h mid r is passed) new e fails)
-    no_next h mid new r e is (s, same, rows) (falls invalid after last read not_after) =
+    pub no_next : (h : H) (mid new : Source) (r : R) (e : CoreError) → next ≡ Some h → ComeBefore K (K.hash_of h) found → PassesRecord K (Some h) now mid (Some r)
+        → FollowingFails (in_version K version) (Some h) left mid new e → TakesNoAscending K version start new e
+    no_next h mid new r e is below (s, same, rows) (next_not_read fails) =
+        not_taken start mid (found ++ r ∷ []) left (read_on start now left next found pending h mid r is (s, same, rows))
+        (ascends_push K (K.hash_of h) found (Some r) (key_read h mid r s same rows) below found_ascends) new e fails
+    no_next h mid new r e is below (s, same, rows) (falls invalid after last read not_after) =
         let whole = read_on start now left next found pending h mid r is (s, same, rows) in
         let more = more_read (in_version K version) (laws_in K laws version) (Takes start mid) (Takes mid new) (Takes start new) (found ++ r ∷ []) left after last (Takes-trans start mid new) whole read in
         let served = serves_on start mid new (taken_serves start mid _ whole.taken) (taken_serves mid new _ read.reads.taken) in
         let handed = more.handed in
-        let key : key_of_record K r ≡ K.hash_of h = ap (key_of_record K) (same_Some r s same) ∙ ap K.hash_of (ap K.header_of (sym rows.handed) ∙ laws.same_header rows.stored ∙ rows.same_header) in
+        let key = key_read h mid r s same rows in
+        let parts = split_last more.stored (found ++ r ∷ []) last handed in
         record {
           bytes = served.bytes;
           cause = inr (
             served.failures,
             inr (inr (
               invalid,
-              inr (
-                more.stored,
-                bytes_left new,
-                holds (in_version K version) (laws_in K laws version) start new ((found ++ r ∷ []) ++ last ∷ []) after more,
-                λ ascends. not_after (subst (λ j. hash_cmp j (K.hash_of (K.header_of last)) ≡ Less) key
+              inr (record {
+                stored = parts.0;
+                last = parts.1;
+                rest = bytes_left new;
+                records = subst (λ rs. HoldsRecords (in_version K version) (bytes_left start) rs (bytes_left new)) parts.2 (holds (in_version K version) (laws_in K laws version) start new ((found ++ r ∷ []) ++ last ∷ []) after more);
+                ascends = stored_ascend K laws parts.0 (found ++ r ∷ []) parts.3 (ascends_push K (K.hash_of h) found (Some r) key below found_ascends);
+                falls = λ ascends. not_after (subst (λ j. hash_cmp j (K.hash_of (K.header_of last)) ≡ Less) key
                     (neighbours found r last (subst (Ascends K) (append_assoc found (r ∷ []) (last ∷ []))
-                    (subst (IsStrictlySortedBy hash_cmp) (sym (hashes_handed K laws more.stored) ∙ ap (map (λ s. K.hash_of (K.header_of s))) handed) ascends)))),
-              ),
+                    (subst (IsStrictlySortedBy hash_cmp) (sym (hashes_handed K laws more.stored) ∙ ap (map (λ s. K.hash_of (K.header_of s))) handed) (subst (Ascends K) (sym parts.2) ascends)))));
+              }),
             )),
           );
         }

@@ -1,5 +1,5 @@
 -- One union or difference of two inputs, section by section.
-use Rattle.std.proofs.Common.{◌≡◌, inl, inr, ℕ, List, Option, Ok, Err, refl, subst}
+use Rattle.std.proofs.Common.{◌≡◌, inl, inr, ℕ, List, drop, Option, Ok, Err, refl, subst}
 use Rattle.std.specs.Prelude.{IfOk, IfErr, MatchResult}
 use Rattle.std.specs.declared.result.Result.{Result}
 use Rattle.std.specs.Io.KnownBytes.{Appends}
@@ -15,20 +15,23 @@ use Rattle.xet_records.specs.declared.record_reader.FormatVersion.{FormatVersion
 use Rattle.xet_records.specs.declared.record_reader.FormatVersion.TheVariants.{V3}
 use Rattle.xet_records.specs.Version.{version_of}
 use Rattle.xet_records.specs.RecordKind.{RecordKind}
-use Rattle.xet_records.specs.FileRecord.{file_records}
+use Rattle.xet_records.specs.FileRecord.{file_records, file_records_in}
 use Rattle.xet_records.specs.XorbRecord.{xorb_records}
+use Rattle.xet_records.proofs.RecordKinds.{file_laws}
 use Rattle.xet_shards.specs.declared.shard_format.info.MDBShardInfo.{MDBShardInfo}
 use Rattle.xet_shards.specs.declared.shard_format.written.WrittenFiles.{WrittenFiles}
 use Rattle.xet_shards.specs.declared.shard_format.written.WrittenXorbs.{WrittenXorbs}
+use Rattle.xet_shards.specs.InForm.{Ascends}
 use Rattle.xet_shards.specs.Layout.{shard_header_bytes, header_value}
-use Rattle.xet_shards.specs.SectionReading.{files_of}
+use Rattle.xet_shards.specs.SectionReading.{files_of, IsSection, TakesSection}
 use Rattle.xet_shards.specs.Shard.{Shard}
 use Rattle.xet_shards.specs.Written.{HasWritten, HasWrittenXorbs}
 use Rattle.xet_shards.proofs.Written.{whole_layout}
 use Rattle.xet_core_structures.specs.ByteResults.{keyed_form, key_of, WritesResult, InputsFail, FailsBy, Records, HaveInputs, AreCombined, WritesEnd, OperationLaws}
-use Rattle.xet_core_structures.specs.Held.{xorbs_at}
+use Rattle.xet_core_structures.specs.Held.{HasFiles, xorbs_at}
 use Rattle.xet_core_structures.specs.SideBySide.{SectionRefusal, NoneMade, CombinesSections, SectionsFail}
 use Rattle.xet_core_structures.specs.SideBySide.SectionsFail.{first_fails, second_fails}
+use Rattle.xet_core_structures.proofs.Held.{stored_ascend}
 use Rattle.xet_core_structures.proofs.Lists.{lists_read}
 use Rattle.xet_core_structures.proofs.Results.{sections_failed, section_serves, files_of_first, files_of_second, xorbs_of_first, xorbs_of_second}
 use Rattle.xet_core_structures.proofs.OneSection.{serves_same}
@@ -77,12 +80,23 @@ module _ (old_1 old_2 : Source) (i j : MDBShardInfo) (same : key_of i ≡ key_of
     served_2 : Serves old_2 mid_2
     served_2 = unmoved old_2 mid_2 j.metadata.file_info_offset (section_serves (files_of j) (moved old_2 j.metadata.file_info_offset) mid_2 combined.seconds combined.second)
 
+    -- the file sections that were read
+    files_read : (version : FormatVersion) (old new : Source) (at : ℕ) (found : List MDBFileInfo) → TakesSection (file_records_in version) (moved old at) new found → Ascends file_records found
+        → (files : List MDBFileInfo) × IsSection (file_records_in version) (drop at old.bytes) files × Ascends file_records files
+    files_read version old new at found read ascends = (read.stored, read.section, stored_ascend file_records file_laws read.stored found read.handed ascends)
+
+    files_1 : HasFiles old_1.bytes i
+    files_1 = files_read (version_of i.header.version) old_1 mid_1 i.metadata.file_info_offset combined.firsts combined.first combined.first_ascends
+
+    files_2 : HasFiles old_2.bytes j
+    files_2 = files_read (version_of j.header.version) old_2 mid_2 j.metadata.file_info_offset combined.seconds combined.second combined.second_ascends
+
     pub xorbs_failed : (new_1 new_2 : Source) (failure : CopyFailure)
         → SectionsFail xorb_records V3 V3 IsXorb (moved mid_1 i.metadata.xorb_info_offset) new_1 (moved mid_2 j.metadata.xorb_info_offset) new_2 failure → FailsBy (InputsFail old_1 new_1 old_2 new_2 Cause) failure
     xorbs_failed new_1 new_2 failure fails =
         sections_failed xorb_records V3 V3 IsXorb (moved mid_1 i.metadata.xorb_info_offset) new_1 (moved mid_2 j.metadata.xorb_info_offset) new_2 old_1 old_2 Cause served_1.failures served_2.failures
-        (λ e refusal. laws.not_read old_1.bytes i old_2.bytes j e (inr (same, xorbs_of_first old_1.bytes i old_2.bytes j e (subst (λ bytes. SectionRefusal xorb_records V3 (xorbs_at bytes i) e) served_1.bytes refusal))))
-        (λ e refusal. laws.not_read old_1.bytes i old_2.bytes j e (inr (same, xorbs_of_second old_1.bytes i old_2.bytes j e (subst (λ bytes. SectionRefusal xorb_records V3 (xorbs_at bytes j) e) served_2.bytes refusal))))
+        (λ e refusal. laws.not_read old_1.bytes i old_2.bytes j e (inr (same, xorbs_of_first old_1.bytes i old_2.bytes j e files_1 (subst (λ bytes. SectionRefusal xorb_records V3 (xorbs_at bytes i) e) served_1.bytes refusal))))
+        (λ e refusal. laws.not_read old_1.bytes i old_2.bytes j e (inr (same, xorbs_of_second old_1.bytes i old_2.bytes j e files_2 (subst (λ bytes. SectionRefusal xorb_records V3 (xorbs_at bytes j) e) served_2.bytes refusal))))
         (λ e invalid none. laws.no_xorbs old_1.bytes i old_2.bytes j e same invalid
         (subst (λ p. p) (λ k. NoneMade xorb_records V3 V3 IsXorb (xorbs_at (served_1.bytes k) i) (xorbs_at (served_2.bytes k) j)) none)) failure fails
 

@@ -26,7 +26,7 @@ use Rattle.xet_shards.specs.Shard.{Shard}
 use Rattle.xet_core_structures.specs.ByteUnion.{IsUnitedFile, IsEitherFile, IsEitherXorb, IsByteUnion}
 use Rattle.xet_core_structures.specs.ByteResults.{keyed_form, key_of, InputRefusal, DifferenceRefusal, UnionRefusal, InputsFail, FailsBy, WritesResult, Records, HaveInputs, AreCombined, WritesRecords, OperationLaws}
 use Rattle.xet_core_structures.specs.Combining.{IsRest}
-use Rattle.xet_core_structures.specs.Held.{IsListOf, IsSectionOf, files_at, xorbs_at, Holds, HoldsLists}
+use Rattle.xet_core_structures.specs.Held.{HasFiles, IsListOf, IsSectionOf, files_at, xorbs_at, Holds, HoldsLists}
 use Rattle.xet_core_structures.specs.SideBySide.{SectionRefusal, NoneMade, SectionsFail}
 use Rattle.xet_core_structures.specs.SideBySide.SectionsFail.{output_fails, first_fails, second_fails, refused}
 use Rattle.xet_core_structures.proofs.ListMaps.{list_map, values-list_map, section_of_list, combined_maps}
@@ -98,26 +98,22 @@ module _ (x : List ℕ) (i : MDBShardInfo) (y : List ℕ) (j : MDBShardInfo) (e 
   pub files_of_first : SectionRefusal file_records (version_of i.header.version) (files_at x i) e → InputRefusal x i y j e
   files_of_first (inl no_memory) = inl no_memory
   files_of_first (inr (inl (end, cut))) = inr (inl (end, inl (inl cut)))
-  files_of_first (inr (inr (invalid, inl passes))) = inr (inr (invalid, inl (inl passes)))
-  files_of_first (inr (inr (invalid, inr falls))) = inr (inr (invalid, inl (inr (inr (inl falls)))))
+  files_of_first (inr (inr (invalid, bad))) = inr (inr (invalid, inl (inl bad)))
 
   pub files_of_second : SectionRefusal file_records (version_of j.header.version) (files_at y j) e → InputRefusal x i y j e
   files_of_second (inl no_memory) = inl no_memory
   files_of_second (inr (inl (end, cut))) = inr (inl (end, inr (inl cut)))
-  files_of_second (inr (inr (invalid, inl passes))) = inr (inr (invalid, inr (inl passes)))
-  files_of_second (inr (inr (invalid, inr falls))) = inr (inr (invalid, inr (inr (inr (inl falls)))))
+  files_of_second (inr (inr (invalid, bad))) = inr (inr (invalid, inr (inl bad)))
 
-  pub xorbs_of_first : SectionRefusal xorb_records V3 (xorbs_at x i) e → InputRefusal x i y j e
-  xorbs_of_first (inl no_memory) = inl no_memory
-  xorbs_of_first (inr (inl (end, cut))) = inr (inl (end, inl (inr cut)))
-  xorbs_of_first (inr (inr (invalid, inl passes))) = inr (inr (invalid, inl (inr (inl passes))))
-  xorbs_of_first (inr (inr (invalid, inr falls))) = inr (inr (invalid, inl (inr (inr (inr falls)))))
+  pub xorbs_of_first : HasFiles x i → SectionRefusal xorb_records V3 (xorbs_at x i) e → InputRefusal x i y j e
+  xorbs_of_first files (inl no_memory) = inl no_memory
+  xorbs_of_first files (inr (inl (end, cut))) = inr (inl (end, inl (inr (files, cut))))
+  xorbs_of_first files (inr (inr (invalid, bad))) = inr (inr (invalid, inl (inr (files, bad))))
 
-  pub xorbs_of_second : SectionRefusal xorb_records V3 (xorbs_at y j) e → InputRefusal x i y j e
-  xorbs_of_second (inl no_memory) = inl no_memory
-  xorbs_of_second (inr (inl (end, cut))) = inr (inl (end, inr (inr cut)))
-  xorbs_of_second (inr (inr (invalid, inl passes))) = inr (inr (invalid, inr (inr (inl passes))))
-  xorbs_of_second (inr (inr (invalid, inr falls))) = inr (inr (invalid, inr (inr (inr (inr falls)))))
+  pub xorbs_of_second : HasFiles y j → SectionRefusal xorb_records V3 (xorbs_at y j) e → InputRefusal x i y j e
+  xorbs_of_second files (inl no_memory) = inl no_memory
+  xorbs_of_second files (inr (inl (end, cut))) = inr (inl (end, inr (inr (files, cut))))
+  xorbs_of_second files (inr (inr (invalid, bad))) = inr (inr (invalid, inr (inr (files, bad))))
 
 -- why there is no union
 not_read : (x : List ℕ) (i : MDBShardInfo) (y : List ℕ) (j : MDBShardInfo) (e : CoreError) → DifferenceRefusal x i y j e → UnionRefusal x i y j e

@@ -24,7 +24,7 @@ use Rattle.xet_shards.specs.InForm.{Ascends}
 use Rattle.xet_shards.specs.Section.{total_rows, section_bytes}
 use Rattle.xet_shards.specs.SectionReading.{TakesSection}
 use Rattle.xet_shards.proofs.SectionReading.{section_ends}
-use Rattle.xet_core_structures.specs.Combining.{key_of_record, IsNextPair, AreOfOneHash, ArePassed, Combines, IsMadeOf, rows_in}
+use Rattle.xet_core_structures.specs.Combining.{key_of_record, IsNextPair, AreOfOneHash, ComeBefore, ArePassed, Combines, IsMadeOf, rows_in}
 use Rattle.xet_core_structures.specs.SideBySide.{Follows, ReadsFollowing, Advances, AdvanceFails, PassesRecord, WritesMade, CannotMake, PairFails, CombinesSections, TakesNoAscending, NoneMade, SectionsFail}
 use Rattle.xet_core_structures.specs.SideBySide.PairFails.{output_fails as pair_output_fails, first_fails as pair_first_fails, second_fails as pair_second_fails, refused as pair_refused}
 use Rattle.xet_core_structures.specs.SideBySide.SectionsFail.{output_fails, first_fails, second_fails, refused}
@@ -307,6 +307,9 @@ module _ {H R : Type 0} (K : RecordKind H R) (laws : KindLaws K) (v w : FormatVe
   -- so no section was written
   module _ (makes : Option R → Option R → Option R → Type 0) (start_1 now_1 start_2 now_2 : Source) (left_1 left_2 : ℕ) (next_1 next_2 : Option H) (Before : List R → Type 0) (start now : Option (List ℕ))
       (merging : IsMerging K v w makes start_1 now_1 start_2 now_2 left_1 left_2 next_1 next_2 Before start now) (one two : Option H) (k : DataHash) (pair : IsPair K next_1 next_2 one two k) where
+    all_passed : ArePassed K merging.firsts merging.seconds merging.made k
+    all_passed = passed_at makes start_1 now_1 start_2 now_2 left_1 left_2 next_1 next_2 Before start now merging one two k pair
+
     served_1 : Serves start_1 now_1
     served_1 = pending_serves K laws v start_1 now_1 left_1 next_1 merging.firsts merging.first
 
@@ -317,9 +320,9 @@ module _ {H R : Type 0} (K : RecordKind H R) (laws : KindLaws K) (v w : FormatVe
         → SectionsFail K v w makes start_1 new_1 start_2 new_2 failure
     pair_failed new_1 new_2 rows failure counted (pair_output_fails e is device first second) = output_fails e is device (first ∙ served_1.bytes) (second ∙ served_2.bytes)
     pair_failed new_1 new_2 rows failure counted (pair_first_fails e is h at fails serves) =
-        first_fails e is (rows_not_read K laws v start_1 now_1 left_1 next_1 merging.firsts merging.first h new_1 e (pair.first h at).0 fails) (serves_on start_2 now_2 new_2 served_2 serves)
+        first_fails e is (rows_not_read K laws v start_1 now_1 left_1 next_1 merging.firsts merging.first merging.first_ascends h new_1 e (pair.first h at).0 fails) (serves_on start_2 now_2 new_2 served_2 serves)
     pair_failed new_1 new_2 rows failure counted (pair_second_fails e is h at fails serves) =
-        second_fails e is (rows_not_read K laws w start_2 now_2 left_2 next_2 merging.seconds merging.second h new_2 e (pair.second h at).0 fails) (serves_on start_1 now_1 new_1 served_1 serves)
+        second_fails e is (rows_not_read K laws w start_2 now_2 left_2 next_2 merging.seconds merging.second merging.second_ascends h new_2 e (pair.second h at).0 fails) (serves_on start_1 now_1 new_1 served_1 serves)
     pair_failed new_1 new_2 rows failure counted (pair_refused e is invalid x y first second cannot) =
         refused e is invalid (serves_on start_1 now_1 new_1 served_1 (passed_serves K one now_1 new_1 x first)) (serves_on start_2 now_2 new_2 served_2 (passed_serves K two now_2 new_2 y second))
         (none_made makes start_1 now_1 start_2 now_2 left_1 left_2 next_1 next_2 Before start now merging one two k pair new_1 new_2 rows x y counted first second cannot)
@@ -327,18 +330,22 @@ module _ {H R : Type 0} (K : RecordKind H R) (laws : KindLaws K) (v w : FormatVe
     pub first_not_next : (mid_1 new_1 mid_2 : Source) (x y : Option R) (e : CoreError) → PassesRecord K one now_1 mid_1 x → PassesRecord K two now_2 mid_2 y → AdvanceFails (in_version K v) one left_1 mid_1 new_1 e
         → SectionsFail K v w makes start_1 new_1 start_2 mid_2 (Input e)
     first_not_next mid_1 new_1 mid_2 x y e first second fails =
-        first_fails e refl (of_header one (λ h is. (pair.first h is).0) x first fails) (serves_on start_2 now_2 mid_2 served_2 (passed_serves K two now_2 mid_2 y second))
+        first_fails e refl (of_header one (λ h is. pair.first h is) x first fails) (serves_on start_2 now_2 mid_2 served_2 (passed_serves K two now_2 mid_2 y second))
       where
-        of_header : (a : Option H) → ((h : H) → a ≡ Some h → next_1 ≡ Some h) → (x : Option R) → PassesRecord K a now_1 mid_1 x → AdvanceFails (in_version K v) a left_1 mid_1 new_1 e → TakesNoAscending K v start_1 new_1 e
+        of_header : (a : Option H) → ((h : H) → a ≡ Some h → (next_1 ≡ Some h) × (K.hash_of h ≡ k)) → (x : Option R) → PassesRecord K a now_1 mid_1 x → AdvanceFails (in_version K v) a left_1 mid_1 new_1 e → TakesNoAscending K v start_1 new_1 e
         of_header None is x passed fails = absurd fails
-        of_header (Some h) is x (r, same, read) fails = no_next K laws v start_1 now_1 left_1 next_1 merging.firsts merging.first h mid_1 new_1 r e (is h refl) (r, refl, read) fails
+        of_header (Some h) is x (r, same, read) fails =
+            no_next K laws v start_1 now_1 left_1 next_1 merging.firsts merging.first merging.first_ascends h mid_1 new_1 r e (is h refl).0
+            (subst (λ j. ComeBefore K j merging.firsts) (sym (is h refl).1) all_passed.first) (r, refl, read) fails
 
     pub second_not_next : (new_1 mid_2 new_2 : Source) (y : Option R) (e : CoreError) → Serves start_1 new_1 → PassesRecord K two now_2 mid_2 y → AdvanceFails (in_version K w) two left_2 mid_2 new_2 e
         → SectionsFail K v w makes start_1 new_1 start_2 new_2 (Input e)
-    second_not_next new_1 mid_2 new_2 y e serves second fails = second_fails e refl (of_header two (λ h is. (pair.second h is).0) y second fails) serves where
-      of_header : (a : Option H) → ((h : H) → a ≡ Some h → next_2 ≡ Some h) → (y : Option R) → PassesRecord K a now_2 mid_2 y → AdvanceFails (in_version K w) a left_2 mid_2 new_2 e → TakesNoAscending K w start_2 new_2 e
+    second_not_next new_1 mid_2 new_2 y e serves second fails = second_fails e refl (of_header two (λ h is. pair.second h is) y second fails) serves where
+      of_header : (a : Option H) → ((h : H) → a ≡ Some h → (next_2 ≡ Some h) × (K.hash_of h ≡ k)) → (y : Option R) → PassesRecord K a now_2 mid_2 y → AdvanceFails (in_version K w) a left_2 mid_2 new_2 e → TakesNoAscending K w start_2 new_2 e
       of_header None is y passed fails = absurd fails
-      of_header (Some h) is y (r, same, read) fails = no_next K laws w start_2 now_2 left_2 next_2 merging.seconds merging.second h mid_2 new_2 r e (is h refl) (r, refl, read) fails
+      of_header (Some h) is y (r, same, read) fails =
+          no_next K laws w start_2 now_2 left_2 next_2 merging.seconds merging.second merging.second_ascends h mid_2 new_2 r e (is h refl).0
+          (subst (λ j. ComeBefore K j merging.seconds) (sym (is h refl).1) all_passed.second) (r, refl, read) fails
 
     -- the sources after the turn
     pub served_on : (mid_1 new_1 : Source) (after_1 : ℕ) (x : Option R) (next_1' : Option H) → PassesRecord K one now_1 mid_1 x → Advances (in_version K v) next_1 one mid_1 new_1 left_1 after_1 next_1' → Serves start_1 new_1

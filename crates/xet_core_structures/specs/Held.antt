@@ -1,5 +1,5 @@
 -- What bytes hold, to an operation that reads both sections of a shard at the offsets of a footer.
-use Rattle.std.specs.Prelude.{◌≡◌, ◌⊎◌, ℕ, ◌+◌, ◌*◌, ◌≤◌, List, map, drop, All}
+use Rattle.std.specs.Prelude.{◌≡◌, ◌⊎◌, ℕ, ◌+◌, ◌*◌, ◌≤◌, List, [], ◌∷◌, ◌++◌, map, drop, All}
 use Rattle.std.specs.FinMap.{FinMap, entries, values}
 use Rattle.xet_base.specs.Hash.{hash_cmp}
 use Rattle.xet_base.specs.Source.{Source}
@@ -12,7 +12,7 @@ use Rattle.xet_shards.specs.declared.shard_format.info.MDBShardInfo.{MDBShardInf
 use Rattle.xet_shards.specs.InForm.{Ascends}
 use Rattle.xet_shards.specs.Section.{total_rows}
 use Rattle.xet_shards.specs.Shard.{Shard}
-use Rattle.xet_shards.specs.SectionReading.{files_of, HoldsRecords, IsSection, PassesRows, IsCutSection}
+use Rattle.xet_shards.specs.SectionReading.{files_of, HoldsRecords, IsSection, PassesRows, IsCutSection, PassesLimit, EndsEarly, rows_left}
 
 module _ {H R : Type 0} (K : RecordKind H R) where
   -- the records may be written as a section whose hashes strictly ascend
@@ -21,10 +21,35 @@ module _ {H R : Type 0} (K : RecordKind H R) where
     pub ascends : Ascends K rs
     pub rows : total_rows K rs ≤ 4294967295
 
-  -- the bytes begin with records whose hashes do not strictly ascend
-  abbrev pub FrontFalls : List ℕ → Type 0
-  FrontFalls bytes =
-      (stored : List R) × (rest : List ℕ) × HoldsRecords K bytes stored rest × (¬ Ascends K stored)
+  -- the bytes begin with those of records whose hashes strictly ascend, and then come others
+  pub record BeginsInOrder (bytes : List ℕ) (stored : List R) (rest : List ℕ) : Type 0 where
+    pub records : HoldsRecords K bytes stored rest
+    pub ascends : Ascends K stored
+
+  -- such records, and then too few bytes
+  abbrev pub IsCutInOrder : List ℕ → Type 0
+  IsCutInOrder bytes =
+      (stored : List R) × (rest : List ℕ) × BeginsInOrder bytes stored rest
+      × EndsEarly K (rows_left K stored) rest
+
+  -- such records, and then a header that is refused
+  abbrev pub PassesInOrder : List ℕ → Type 0
+  PassesInOrder bytes =
+      (stored : List R) × (rest : List ℕ) × BeginsInOrder bytes stored rest
+      × PassesLimit K (rows_left K stored) rest
+
+  -- such records, and then a whole one whose hash is not greater
+  pub record FallsInOrder (bytes : List ℕ) : Type 0 where
+    pub stored : List R
+    pub last : R
+    pub rest : List ℕ
+    pub records : HoldsRecords K bytes (stored ++ last ∷ []) rest
+    pub ascends : Ascends K stored
+    pub falls : ¬ Ascends K (stored ++ last ∷ [])
+
+  -- a header is refused, or hashes do not strictly ascend
+  abbrev pub IsBadSection : List ℕ → Type 0
+  IsBadSection bytes = PassesInOrder bytes ⊎ FallsInOrder bytes
 
 -- the bytes are a section whose hashes strictly ascend: this is the map of its records, as reading
 -- returns them
@@ -55,19 +80,25 @@ pub record Holds (bytes : List ℕ) (info : MDBShardInfo) (s : Shard) : Type 0 w
   pub files : IsSectionOf (files_of info) (files_at bytes info) s.files
   pub xorbs : IsSectionOf xorb_records (xorbs_at bytes info) s.xorbs
 
--- the bytes end before the bookend of a section
+-- the file section is whole, and its hashes strictly ascend
+abbrev pub HasFiles : List ℕ → MDBShardInfo → Type 0
+HasFiles bytes info =
+    (files : List MDBFileInfo) × IsSection (files_of info) (files_at bytes info) files
+    × Ascends file_records files
+
+-- of all that is wrong with the bytes, what reading meets first is that they end before the bookend
+-- of a section
 abbrev pub IsCut : List ℕ → MDBShardInfo → Type 0
 IsCut bytes info =
-    IsCutSection (files_of info) (files_at bytes info)
-    ⊎ IsCutSection xorb_records (xorbs_at bytes info)
+    IsCutInOrder (files_of info) (files_at bytes info)
+    ⊎ (HasFiles bytes info × IsCutInOrder xorb_records (xorbs_at bytes info))
 
--- a section has too many rows, a header that its version does not have, or hashes that do not
--- strictly ascend
+-- or it is that a section has too many rows, a header that its version does not have, or hashes that
+-- do not strictly ascend
 abbrev pub IsBad : List ℕ → MDBShardInfo → Type 0
 IsBad bytes info =
-    PassesRows (files_of info) (files_at bytes info) ⊎ PassesRows xorb_records (xorbs_at bytes info)
-    ⊎ FrontFalls (files_of info) (files_at bytes info)
-    ⊎ FrontFalls xorb_records (xorbs_at bytes info)
+    IsBadSection (files_of info) (files_at bytes info)
+    ⊎ (HasFiles bytes info × IsBadSection xorb_records (xorbs_at bytes info))
 
 -- the bytes have both sections, with the records of these lists
 pub record HoldsLists (bytes : List ℕ) (info : MDBShardInfo) (fs : List MDBFileInfo)

@@ -18,9 +18,9 @@ use Rattle.xet_records.specs.Reading.{ReadsNextHeader, ReadsRowsAfter, BeginsWit
 use Rattle.xet_shards.specs.InForm.{Ascends}
 use Rattle.xet_shards.specs.Section.{total_rows, section_bytes}
 use Rattle.xet_shards.specs.Copying.{CopiesRecord}
-use Rattle.xet_shards.specs.SectionReading.{HoldsRecords, BeginsWithBookend, PassesRows, IsCutSection, ReadsNext, RecordFails, TakesSection}
+use Rattle.xet_shards.specs.SectionReading.{HoldsRecords, BeginsWithBookend, ReadsNext, RecordFails, TakesSection}
 use Rattle.xet_core_structures.specs.Combining.{key_of_record, Combines, IsMadeOf, ArePassed}
-use Rattle.xet_core_structures.specs.Held.{FrontFalls}
+use Rattle.xet_core_structures.specs.Held.{IsCutInOrder, IsBadSection}
 
 module _ {H R : Type 0} (K : RecordKind H R) where
   -- a header of a record, and not a bookend
@@ -145,9 +145,8 @@ module _ {H R : Type 0} (K : RecordKind H R) where
   -- why a section is not read as records whose hashes strictly ascend, if the device does not fail
   abbrev pub SectionRefusal : FormatVersion → List ℕ → CoreError → Type 0
   SectionRefusal version bytes e =
-      (e ≡ OutOfMemory) ⊎ (IsEndOfInput e × IsCutSection (in_version K version) bytes)
-      ⊎ (IsInvalidShard e
-      × (PassesRows (in_version K version) bytes ⊎ FrontFalls (in_version K version) bytes))
+      (e ≡ OutOfMemory) ⊎ (IsEndOfInput e × IsCutInOrder (in_version K version) bytes)
+      ⊎ (IsInvalidShard e × IsBadSection (in_version K version) bytes)
 
   -- it was not read from the source's position on
   pub record TakesNoAscending (version : FormatVersion) (old new : Source) (e : CoreError)
