@@ -21,5 +21,6 @@ pub mod Refusing
 pub mod Results
 pub mod SideBySide
 pub mod TreesOfExports
+pub mod TreeXorbs
 pub mod UnitedFiles
 pub mod Uniting

@@ -99,14 +99,20 @@ module _ (x : List ℕ) (i : MDBShardInfo) (y : List ℕ) (j : MDBShardInfo) (ol
   pub difference_in_form : WritesResult IsDifference x i y j old new info → WritesInForm IsDifference x i y j old new info
   difference_in_form = in_form IsDifference (difference_readable x i y j)
 
+-- what a union of bytes writes
+pub union_under : (x : List ℕ) (i : MDBShardInfo) (y : List ℕ) (j : MDBShardInfo) (c : Shard) → HasEnds x i → HaveResult IsByteUnion x i y j c
+    → IsWrittenUnder (key_of i) c (keyed_layout c (key_of i)) (keyed_info c (key_of i))
+union_under x i y j c x_ends have =
+    let readable = union_readable x i y j c have in
+    let fits = fits_in_form (values c.files) (values c.xorbs) (keyed_form (key_of i)) readable.files.fits readable.xorbs.fits x_ends.footer_widths.key (omega arith) (omega arith) in
+    written_under (key_of i) c readable fits
+
 -- what a tree with a union writes, whatever its inputs
 pub tree_under : (inputs : List (List ℕ)) (plan : MergePlan) (out : List ℕ) → HasUnion plan → TreeWrites inputs plan out
     → (key : DataHash) × (c : Shard) × IsWrittenUnder key c out (keyed_info c key)
 tree_under inputs (Leaf i) out none writes = absurd none
 tree_under inputs (Both' p left q right) out union (x, y, x_written, y_written, (i, j, c, x_ends, y_ends, have, is)) =
-    let readable = union_readable x i y j c have in
-    let fits = fits_in_form (values c.files) (values c.xorbs) (keyed_form (key_of i)) readable.files.fits readable.xorbs.fits x_ends.footer_widths.key (omega arith) (omega arith) in
-    (key_of i, c, subst (λ bytes. IsWrittenUnder (key_of i) c bytes (keyed_info c (key_of i))) (sym is) (written_under (key_of i) c readable fits))
+    (key_of i, c, subst (λ bytes. IsWrittenUnder (key_of i) c bytes (keyed_info c (key_of i))) (sym is) (union_under x i y j c x_ends have))
 
 -- the bytes of a shard without a key
 module _ (s : Shard) (expiry : Option ℕ) (old : Source) (info : MDBShardInfo) (written : IsWritten s expiry old.bytes info) where

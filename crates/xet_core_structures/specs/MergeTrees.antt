@@ -1,12 +1,17 @@
 -- Trees of unions of bytes: what they write on any inputs, and what their leaves are.
-use Rattle.std.specs.Prelude.{◌≡◌, ◌⊎◌, ⊤, ℕ, ◌^◌, ◌<◌, ◌≤◌, List, [], ◌∷◌, ◌++◌, length, map, Contains, Option, Some, IfSome, slice_get}
+use Rattle.std.specs.Prelude.{◌≡◌, ◌⊎◌, ⊤, ℕ, ◌^◌, ◌<◌, ◌≤◌, List, [], ◌∷◌, ◌++◌, length, map, All, Contains, Option, Some, IfSome, slice_get}
+use Rattle.std.specs.FinMap.{values}
 use Rattle.xet_base.specs.declared.error.CoreError.{CoreError}
 use Rattle.xet_base.specs.declared.error.CoreError.TheVariants.{InvalidArguments, OutOfMemory}
+use Rattle.xet_records.specs.XorbRecord.{IsXorb}
+use Rattle.xet_shards.specs.declared.shard_format.info.MDBShardInfo.{MDBShardInfo}
+use Rattle.xet_shards.specs.Ends.{HasEnds}
 use Rattle.xet_shards.specs.Shard.{Shard}
 use Rattle.xet_shards.specs.WrittenShard.{AreBytesOf}
 use Rattle.xet_core_structures.specs.declared.set_operations.MergePlan.{MergePlan}
 use Rattle.xet_core_structures.specs.declared.set_operations.MergePlan.TheVariants.{Leaf, Both'}
 use Rattle.xet_core_structures.specs.ByteResults.{UnitesBytes, BytesRefusal}
+use Rattle.xet_core_structures.specs.Held.{Holds}
 
 -- the inputs at the leaves, from left to right
 abbrev pub leaves : MergePlan → List ℕ
@@ -35,6 +40,14 @@ TreeRefusal inputs (Both' p left q right) e =
     ⊎ ((x : List ℕ) × TreeWrites inputs left x
     × (TreeRefusal inputs right e
     ⊎ ((y : List ℕ) × TreeWrites inputs right y × BytesRefusal x y e)))
+
+-- the xorbs of each shard that the input at a leaf holds, at the offsets of its footer, are
+-- well-formed
+abbrev pub HaveXorbs : List (List ℕ) → MergePlan → Type 0
+HaveXorbs inputs plan =
+    (i : ℕ) (bytes : List ℕ) (info : MDBShardInfo) (s : Shard) → Contains (leaves plan) i
+    → slice_get inputs i ≡ Some bytes → HasEnds bytes info → Holds bytes info s
+    → All IsXorb (values s.xorbs)
 
 -- the shards at the leaves
 abbrev pub AtLeaves : MergePlan → (ℕ → Shard) → Shard → Type 0

@@ -20,7 +20,8 @@ ghost use Rattle.xet_core_structures.specs.declared.set_operations.MergePlan.{Me
 ghost use Rattle.xet_core_structures.specs.ByteResults.{keyed_info, HaveResult, UnitesBytes};
 ghost use Rattle.xet_core_structures.specs.ByteUnion.{IsByteUnion, HasPartsOf};
 ghost use Rattle.xet_core_structures.specs.Equality.{error_eq, derived_eq, derived_partial_cmp, derived_cmp, derived_input};
-ghost use Rattle.xet_core_structures.specs.MergeTrees.{HasUnion, TreeWrites, AtLeaves, AreSomeBytesOf, AreWritten};
+ghost use Rattle.xet_core_structures.specs.Held.{Holds};
+ghost use Rattle.xet_core_structures.specs.MergeTrees.{HasUnion, TreeWrites, HaveXorbs, AtLeaves, AreSomeBytesOf, AreWritten};
 ghost use Rattle.xet_core_structures.specs.Readable.{IsWrittenUnder, LooksUpFile, FindsInShard};
 ghost use Rattle.xet_records.specs.declared.file_structs.MDBFileInfo.{MDBFileInfo};
 ghost use Rattle.xet_shards.specs.declared.shard_format.info.MDBShardInfo.{MDBShardInfo};
@@ -188,7 +189,7 @@ pub fn errors_are_equal_by_variant()
 /// whether their inputs agree or not. From such bytes `load_from_reader` reads the header and the
 /// footer that were returned, and a file lookup finds what the shard has, within bounds. The xorbs
 /// of a union are well-formed, as queries for chunks require, if those of both inputs are; those of
-/// a difference, if the second's are.
+/// a difference, if the second's are; and those of a tree, if those of the inputs at its leaves are.
 pub fn lookups_on_results()
     ensures trees { (inputs : List (List ℕ)) → (plan : MergePlan) → (bytes : List ℕ) → HasUnion plan
         → TreeWrites inputs plan bytes
@@ -206,6 +207,12 @@ pub fn lookups_on_results()
     ensures difference_xorbs { (x y : List ℕ) → (i j : MDBShardInfo) → (c : Shard)
         → (have : HaveResult IsDifference x i y j c) → All IsXorb (values have.second.xorbs)
         → All IsXorb (values c.xorbs) }
+    ensures tree_xorbs { (inputs : List (List ℕ)) → (plan : MergePlan) → (key : DataHash)
+        → (c : Shard) → (bytes : List ℕ) → (info : MDBShardInfo) → HaveXorbs inputs plan
+        → TreeWrites inputs plan bytes → IsWrittenUnder key c bytes info
+        → All IsXorb (values c.xorbs) }
+    ensures held { (key : DataHash) → (c : Shard) → (bytes : List ℕ) → (info : MDBShardInfo)
+        → IsWrittenUnder key c bytes info → Holds bytes info c }
 {}
 
 /// The inputs at the leaves of a tree with a union are the bytes of shards that agree pairwise.

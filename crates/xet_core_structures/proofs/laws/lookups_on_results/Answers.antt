@@ -1,5 +1,6 @@
 use Rattle.xet_core_structures.proofs.LookupsFound.{tree_under, loaded_under, found_under}
 use Rattle.xet_core_structures.proofs.Readable.{united_xorbs, left_xorbs}
+use Rattle.xet_core_structures.proofs.TreeXorbs.{held_under, tree_xorbs}
 use Rattle.xet_core_structures.proofs.laws.lookups_on_results.Goals as goal
 
 pub returns-clause-trees : goal.returns-clause-trees
@@ -16,3 +17,9 @@ returns-clause-union_xorbs c = λ x y i j s. united_xorbs x i y j s
 
 pub returns-clause-difference_xorbs : goal.returns-clause-difference_xorbs
 returns-clause-difference_xorbs c = λ x y i j s. left_xorbs x i y j s
+
+pub returns-clause-tree_xorbs : goal.returns-clause-tree_xorbs
+returns-clause-tree_xorbs c = tree_xorbs
+
+pub returns-clause-held : goal.returns-clause-held
+returns-clause-held c = held_under
