@@ -19,6 +19,7 @@ pub mod Pairs
 pub mod Readable
 pub mod Refusing
 pub mod Results
+pub mod SectionWays
 pub mod SideBySide
 pub mod TreesOfExports
 pub mod TreeXorbs

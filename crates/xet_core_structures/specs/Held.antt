@@ -15,6 +15,14 @@ use Rattle.xet_shards.specs.Shard.{Shard}
 use Rattle.xet_shards.specs.SectionReading.{files_of, HoldsRecords, IsSection, PassesRows, IsCutSection, PassesLimit, EndsEarly, rows_left}
 
 module _ {H R : Type 0} (K : RecordKind H R) where
+  -- what bytes are to a reader of a section, they are in one way: one list of records at most, and
+  -- none where they are cut short or have a header that is refused, which exclude each other
+  pub record IsReadInOneWay (bytes : List ℕ) : Type 0 where
+    pub list : (xs ys : List R) → IsSection K bytes xs → IsSection K bytes ys → xs ≡ ys
+    pub cut : (xs : List R) → IsSection K bytes xs → ¬ IsCutSection K bytes
+    pub passes : (xs : List R) → IsSection K bytes xs → ¬ PassesRows K bytes
+    pub either : IsCutSection K bytes → ¬ PassesRows K bytes
+
   -- the records may be written as a section whose hashes strictly ascend
   pub record AreWritable (rs : List R) : Type 0 where
     pub stored : All K.IsStored rs

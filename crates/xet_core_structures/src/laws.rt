@@ -2,7 +2,8 @@
 //! a function that does nothing; its contract is the law.
 
 ghost use Rattle.xet_records.specs.XorbRecord.{xorb_records, IsXorb};
-ghost use Rattle.xet_records.specs.FileRecord.{file_records};
+ghost use Rattle.xet_records.specs.declared.record_reader.FormatVersion.{FormatVersion};
+ghost use Rattle.xet_records.specs.FileRecord.{file_records, file_records_in};
 ghost use Rattle.std.specs.Prelude.{◌≡◌, ◌↔◌, ◌<◌, ◌^◌, ℕ, List, [], ◌∷◌, ◌++◌, flat_map, map, All, Contains, Option, None, Some, IfSome, IsTrue, unwrap_or};
 ghost use Rattle.std.specs.Cmp.{IsTotalOrder};
 ghost use Rattle.std.specs.declared.cmp.Ordering.TheVariants.{Equal};
@@ -20,7 +21,7 @@ ghost use Rattle.xet_core_structures.specs.declared.set_operations.MergePlan.{Me
 ghost use Rattle.xet_core_structures.specs.ByteResults.{keyed_info, HaveResult, UnitesBytes};
 ghost use Rattle.xet_core_structures.specs.ByteUnion.{IsByteUnion, HasPartsOf};
 ghost use Rattle.xet_core_structures.specs.Equality.{error_eq, derived_eq, derived_partial_cmp, derived_cmp, derived_input};
-ghost use Rattle.xet_core_structures.specs.Held.{Holds};
+ghost use Rattle.xet_core_structures.specs.Held.{Holds, IsReadInOneWay, IsCut, IsBad};
 ghost use Rattle.xet_core_structures.specs.MergeTrees.{HasUnion, TreeWrites, HaveXorbs, AtLeaves, AreSomeBytesOf, AreWritten};
 ghost use Rattle.xet_core_structures.specs.Readable.{IsWrittenUnder, LooksUpFile, FindsInShard};
 ghost use Rattle.xet_records.specs.declared.file_structs.MDBFileInfo.{MDBFileInfo};
@@ -233,6 +234,22 @@ pub fn lookups_on_trees()
         → IsJoinOf (AtLeaves plan shard_at) join → TreeWrites inputs plan old.bytes
         → Loads old loaded info → LooksUpFile info hash loaded new found
         → FindsInShard join hash loaded new found }
+{}
+
+/// To a reader of a section bytes are one thing: they begin with one list of records and a bookend,
+/// or end before that, or have a record too many or, in version 2, one with an auxiliary row. So
+/// they hold one shard at most, whose sections a set operation does not refuse, and of those that it
+/// does refuse either an end or what is invalid comes first.
+pub fn sections_are_read_in_one_way()
+    ensures files { (version : FormatVersion) → (bytes : List ℕ)
+        → IsReadInOneWay (file_records_in version) bytes }
+    ensures xorbs { (bytes : List ℕ) → IsReadInOneWay xorb_records bytes }
+    ensures holds { (bytes : List ℕ) → (info : MDBShardInfo) → (s t : Shard)
+        → Holds bytes info s → Holds bytes info t → s ≡ t }
+    ensures whole { (bytes : List ℕ) → (info : MDBShardInfo) → (s : Shard) → Holds bytes info s
+        → (¬ IsCut bytes info) × (¬ IsBad bytes info) }
+    ensures first { (bytes : List ℕ) → (info : MDBShardInfo) → IsCut bytes info
+        → ¬ IsBad bytes info }
 {}
 
 /// Two shards have at most one union of the kind that `shard_set_union` writes and at most one

@@ -35,7 +35,7 @@ module _ {H R : Type 0} (K : RecordKind H R) (laws : KindLaws K) where
       (subst (λ n. StopsAt K n a) x_rest x_stop) (subst (λ n. StopsAt K n b) y_rest y_stop) first.1 in
       ((λ i. first.0 i ∷ rest.0 i), rest.1)
 
-  same_reading : (bytes : List ℕ) (xs ys : List R) (a b : List ℕ) → HoldsRecords K bytes xs a → HoldsRecords K bytes ys b → StopsAt K (rows_left K xs) a → StopsAt K (rows_left K ys) b
+  pub same_reading : (bytes : List ℕ) (xs ys : List R) (a b : List ℕ) → HoldsRecords K bytes xs a → HoldsRecords K bytes ys b → StopsAt K (rows_left K xs) a → StopsAt K (rows_left K ys) b
       → (xs ≡ ys) × (a ≡ b)
   same_reading bytes xs ys a b x y x_stop y_stop =
       same_records 4294967295 xs ys a b x.are_stored y.are_stored x.rows y.rows x_stop y_stop (sym x.bytes_are ∙ y.bytes_are)
