@@ -156,6 +156,10 @@ under_own_header r = record {
   chunks = r.chunks;
 }
 
+-- a function may be called with each index of a list and the element there
+abbrev pub TakesEach : {X : Type 0} → (ℕ → X → Type 0) → List X → Type 0
+TakesEach {X} takes xs = (i : ℕ) → (x : X) → slice_get xs i ≡ Some x → takes i x
+
 -- at each index, the element that a function answers for the index and the element there
 pub record Rewrites {X : Type 0} (answers : ℕ → X → X → Type 0) (xs ys : List X) : Type 0 where
   pub len : length ys ≡ length xs

@@ -6,6 +6,8 @@ use Rattle.std.specs.Ordering.{nat_cmp, ordering_then, eq_by_cmp}
 use Rattle.std.specs.declared.cmp.Ordering.{Ordering}
 use Rattle.std.specs.Coded.{Coded, code_by, coded×, coded_list}
 use Rattle.std.specs.FinMap as finite
+use Rattle.std.specs.Fn.{Shared}
+use denote.Ref.{Bor}
 use Rattle.xet_base.specs.declared.merklehash.DataHash.{DataHash}
 use Rattle.xet_base.specs.Hash.{hash_cmp}
 use Rattle.xet_records.specs.declared.file_structs.MDBFileInfo.{MDBFileInfo}
@@ -142,6 +144,10 @@ WritesMinimalKept old new kept now m n =
 abbrev pub WritesMinimal : Option (List ℕ) → Option (List ℕ) → Bool → ℕ → MinimalShard → ℕ → Type 0
 WritesMinimal old new wanted now m n =
     WritesMinimalKept old new (record { verification = wanted; aux_ext = true }) now m n
+
+-- a filter may be called with a reference to this element
+abbrev pub FiltersAt : {F X : Type 0} → Shared F (Bor X × Unit {0}) Bool → F → X → Type 0
+FiltersAt {F} {X} filter f x = (shown : Bor X) → shown.now ≡ x → filter.pre f (shown, tt)
 
 -- what a filter, called once with each element in order, accepts: `answers` says what it may return
 abbrev pub IsKept : {X : Type 0} → (X → Bool → Type 0) → List X → List X → Type 0

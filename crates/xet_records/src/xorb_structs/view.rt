@@ -10,7 +10,7 @@ ghost use Rattle.xet_base.specs.Table.{IsBareInvalidShard};
 ghost use Rattle.xet_records.specs.declared.xorb_structs.XorbChunkSequenceEntry.{XorbChunkSequenceEntry as chunk_type};
 ghost use Rattle.xet_records.specs.XorbRow.{xorb_header_row, chunk_row};
 ghost use Rattle.xet_records.specs.XorbRecord.{xorb_row_count, xorb_record_bytes, xorb_records};
-ghost use Rattle.xet_records.specs.View.{BeginsWithHeaderRow, BeginsWithXorb, NoView, end_of_chunks, under_own_header, Rewrites};
+ghost use Rattle.xet_records.specs.View.{BeginsWithHeaderRow, BeginsWithXorb, NoView, end_of_chunks, under_own_header, Rewrites, TakesEach};
 
 use super::{MDBXorbInfo, XorbChunkSequenceEntry, XorbChunkSequenceHeader};
 use crate::record_bytes;
@@ -135,13 +135,14 @@ impl MDBXorbInfoView {
     }
 
     /// Appends the record with the chunk at each index replaced by what `rewrite` returns for the
-    /// index and the chunk, and returns its size in bytes. The error is the writer's.
+    /// index and the chunk, and returns its size in bytes. `rewrite` is called with these alone. The
+    /// error is the writer's.
     #[tactic(auto, unfolding(crate::specs::XorbRecord::xorb_record_bytes))]
     pub fn serialize_with_chunk_rewrite<
         W: Write,
         F: Fn(usize, XorbChunkSequenceEntry) -> XorbChunkSequenceEntry,
     >(&self, writer: &mut W, rewrite: F) -> Result<usize>
-        requires { F.IsAlwaysCallable rewrite }
+        requires { TakesEach (F.pre rewrite) self.now.chunks }
         ensures bytes { OnOk result
             ((rewritten : List chunk_type) × Rewrites (F.post rewrite) self.now.chunks rewritten
             × Appends (W.contents writer.old) (W.contents writer.new)

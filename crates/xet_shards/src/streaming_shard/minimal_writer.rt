@@ -4,7 +4,7 @@ ghost use Rattle.std.specs.Prelude.{◌≡◌, ◌+◌, ◌*◌, false, [], map,
 ghost use Rattle.std.specs.BTreeSet.{contains};
 ghost use Rattle.std.specs.Fn.{FnReturnsAt};
 ghost use Rattle.std.specs.Io.KnownBytes.{Appends};
-ghost use Rattle.std.specs.List.{Any, list_all};
+ghost use Rattle.std.specs.List.{Any, All, list_all};
 ghost use Rattle.xet_base.specs.Errors.{IsWriteError};
 ghost use Rattle.xet_records.specs.FileRecord.{file_records, has_verification};
 ghost use Rattle.xet_records.specs.XorbRecord.{xorb_records};
@@ -12,7 +12,7 @@ ghost use Rattle.xet_records.specs.View.{as_kept, LacksVerification, IsIoOther};
 ghost use Rattle.xet_shards.specs.InForm.{FitsSection};
 ghost use Rattle.xet_shards.specs.Section.{section_bytes};
 ghost use Rattle.xet_shards.specs.Written.{HasWritten};
-ghost use Rattle.xet_shards.specs.MinimalShard.{start_cmp, minimal_form, HasNoTables, WritesMinimal, WritesMinimalKept, WritesKept};
+ghost use Rattle.xet_shards.specs.MinimalShard.{start_cmp, minimal_form, HasNoTables, WritesMinimal, WritesMinimalKept, WritesKept, FiltersAt};
 ghost use Rattle.xet_shards.specs.MinimalWriting.{WritesMarked};
 
 use super::file_start::{FileStart, mark_starts, starts_of};
@@ -121,7 +121,7 @@ impl MDBMinimalShard {
         now: u64,
         filter: F,
     ) -> Result<usize>
-        requires { F.IsAlwaysCallable filter }
+        requires { All (FiltersAt F.Fn filter) self.now.xorbs }
         ensures written { IfOk result
             (WritesKept (FnReturnsAt F.Fn filter) (W.contents writer.old) (W.contents writer.new) []
             self.now (minimal_form now None)) }
@@ -139,7 +139,7 @@ impl MDBMinimalShard {
         expiry: Option<u64>,
         filter: F,
     ) -> Result<usize>
-        requires { F.IsAlwaysCallable filter }
+        requires { All (FiltersAt F.Fn filter) self.now.xorbs }
         ensures written { IfOk result
             (WritesKept (FnReturnsAt F.Fn filter) (W.contents writer.old) (W.contents writer.new) []
             self.now (minimal_form now expiry)) }
@@ -164,7 +164,7 @@ impl MDBMinimalShard {
         form: &Form,
         filter: F,
     ) -> Result<usize>
-        requires callable { F.IsAlwaysCallable filter }
+        requires callable { All (FiltersAt F.Fn filter) self.now.xorbs }
         requires files { FitsSection file_records files.now }
         requires form { HasNoTables form.now }
         ensures written { IfOk result
@@ -240,7 +240,7 @@ fn write_xorbs<W: Write, F: Fn(&MDBXorbInfoView) -> bool>(
     starts: &BTreeSet<FileStart>,
     filter: F,
 ) -> Result<WrittenXorbs>
-    requires callable { F.IsAlwaysCallable filter }
+    requires callable { All (FiltersAt F.Fn filter) xorbs.now }
     requires fit { FitsSection xorb_records xorbs.now }
     ensures written { IfOk result
         (WritesMarked (FnReturnsAt F.Fn filter) (contains start_cmp starts.now)
