@@ -1,6 +1,5 @@
-//! Metadata shards of Xet storage: the public modules of the crates below. Those that serve these
-//! crates alone are left out: `row`, `input`, `input_rows`, `record_bytes`, `record_reader`,
-//! `view_reader` and `shard_writer`.
+//! Metadata shards of Xet storage: the public modules of the crates below, but for those that serve
+//! these crates alone. `docs/DECISIONS.md` says which these are, and why.
 #![tactic(auto)]
 
 pub mod laws;
