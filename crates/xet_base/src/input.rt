@@ -72,6 +72,7 @@ impl<R: Read> ByteInput<OfReader> for R {
 
     ghost lacks_memory = { λ a b xs most f p q r s. reader_lacks_memory (R.remaining a) most f s };
 
+    #[inline(always)]
     fn fill(&mut self, slice: &mut [u8]) -> io::Result<()> {
         read_bytes(self, slice)
     }
@@ -97,6 +98,7 @@ impl<S: ShardSource> ByteInput<OfSource> for S {
     ghost lacks_memory = { λ a b xs most f p q r s. source_lacks_memory (S.meaning a) (S.meaning b)
         xs most f p q r s };
 
+    #[inline(always)]
     fn fill(&mut self, slice: &mut [u8]) -> io::Result<()> {
         read_full(self, slice)
     }

@@ -205,6 +205,7 @@ fn collect<S: ShardSource, V: Copy, F: Fn(&mut S) -> io::Result<V>>(
 }
 
 // Stores a value behind the first `count` results, where there is room.
+#[inline]
 fn keep<V: Copy>(results: &mut [V], count: usize, value: V) -> usize
     ensures { Kept results.old results.new count value result }
 {
@@ -230,6 +231,7 @@ fn read_key_of<S: ShardSource>(source: &mut S, range: TableRange, row: u64) -> i
 
 // Reads a key at the source's position.
 #[tactic(auto, unfolding(crate::specs::Bytes::spelled_u64))]
+#[inline(always)]
 fn read_key<S: ShardSource>(source: &mut S) -> io::Result<u64>
     ensures { MatchResult result
         (λ key. ReadsOn (S.meaning source.old) (S.meaning source.new) 8

@@ -106,6 +106,7 @@ impl fmt::Display for DataHash {
 impl DataHash {
     /// The words in order, each lowest byte first.
     #[tactic(auto, unfolding(crate::specs::Hash::hash_bytes, crate::specs::Bytes::u64_bytes))]
+    #[inline(always)]
     pub fn as_bytes(&self) -> [u8; 32]
         ensures { result ≡ hash_bytes self.now }
     {
@@ -139,6 +140,7 @@ impl DataHash {
     }
 
     #[tactic(auto, unfolding(crate::specs::Hash::hash_bytes))]
+    #[inline(always)]
     pub(crate) fn from_32(bytes: &[u8]) -> DataHash
         requires { length bytes.now ≡ 32 }
         ensures { hash_bytes result ≡ bytes.now }

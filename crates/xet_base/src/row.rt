@@ -7,6 +7,7 @@ ghost use Rattle.xet_base.specs.Hash.{hash_bytes};
 use crate::merklehash::MerkleHash;
 
 /// Writes `bytes` into `row` at `at`, and returns the offset after them.
+#[inline(always)]
 pub fn put(row: &mut [u8], at: usize, bytes: &[u8]) -> usize
     requires { at + length bytes.now ≤ length row.old }
     ensures end { result ≡ at + length bytes.now }
@@ -18,6 +19,7 @@ pub fn put(row: &mut [u8], at: usize, bytes: &[u8]) -> usize
 }
 
 /// Writes the 32 bytes of `hash` into `row` at `at`, and returns the offset after them.
+#[inline(always)]
 pub fn put_hash(row: &mut [u8], at: usize, hash: &MerkleHash) -> usize
     requires { at + 32 ≤ length row.old }
     ensures end { result ≡ at + 32 }
@@ -29,6 +31,7 @@ pub fn put_hash(row: &mut [u8], at: usize, hash: &MerkleHash) -> usize
 /// Writes four bytes of `value` into `row` at `at`, lowest first, and returns the offset after
 /// them.
 #[tactic(auto, unfolding(crate::specs::Bytes::u32_bytes))]
+#[inline(always)]
 pub fn put_u32(row: &mut [u8], at: usize, value: u32) -> usize
     requires { at + 4 ≤ length row.old }
     ensures end { result ≡ at + 4 }
@@ -40,6 +43,7 @@ pub fn put_u32(row: &mut [u8], at: usize, value: u32) -> usize
 /// Writes eight bytes of `value` into `row` at `at`, lowest first, and returns the offset after
 /// them.
 #[tactic(auto, unfolding(crate::specs::Bytes::u64_bytes))]
+#[inline(always)]
 pub fn put_u64(row: &mut [u8], at: usize, value: u64) -> usize
     requires { at + 8 ≤ length row.old }
     ensures end { result ≡ at + 8 }
@@ -49,6 +53,7 @@ pub fn put_u64(row: &mut [u8], at: usize, value: u64) -> usize
 }
 
 /// The hash at the front of `bytes`, and what follows it.
+#[inline(always)]
 pub fn split_hash(bytes: &[u8]) -> (MerkleHash, &[u8])
     requires { 32 ≤ length bytes.now }
     ensures bytes { bytes.now ≡ hash_bytes result.0 ++ result.1.now }
@@ -59,6 +64,7 @@ pub fn split_hash(bytes: &[u8]) -> (MerkleHash, &[u8])
 }
 
 /// The number in the first four bytes, lowest byte first, and what follows them.
+#[inline(always)]
 pub fn split_u32(bytes: &[u8]) -> (u32, &[u8])
     requires { 4 ≤ length bytes.now }
     ensures bytes { bytes.now ≡ u32_bytes result.0 ++ result.1.now }
@@ -69,6 +75,7 @@ pub fn split_u32(bytes: &[u8]) -> (u32, &[u8])
 }
 
 /// The number in the first eight bytes, lowest byte first, and what follows them.
+#[inline(always)]
 pub fn split_u64(bytes: &[u8]) -> (u64, &[u8])
     requires { 8 ≤ length bytes.now }
     ensures bytes { bytes.now ≡ u64_bytes result.0 ++ result.1.now }
@@ -98,6 +105,7 @@ pub fn split_u64s<'a>(bytes: &'a [u8], values: &mut [u64]) -> &'a [u8]
 }
 
 #[tactic(auto, unfolding(crate::specs::Bytes::u32_bytes))]
+#[inline(always)]
 pub(crate) fn u32_of(bytes: [u8; 4]) -> u32
     ensures { u32_bytes result ≡ bytes }
 {
@@ -105,6 +113,7 @@ pub(crate) fn u32_of(bytes: [u8; 4]) -> u32
 }
 
 #[tactic(auto, unfolding(crate::specs::Bytes::u64_bytes))]
+#[inline(always)]
 pub(crate) fn u64_of(bytes: [u8; 8]) -> u64
     ensures { u64_bytes result ≡ bytes }
 {

@@ -56,6 +56,7 @@ pub fn write_u64<W: Write>(writer: &mut W, value: u64) -> io::Result<()>
 }
 
 /// Appends the bytes. The error is the writer's.
+#[inline(always)]
 pub fn write_bytes<W: Write>(writer: &mut W, bytes: &[u8]) -> io::Result<()>
     ensures bytes { OnOk result (Appends (W.contents writer.old) (W.contents writer.new) bytes.now) }
     ensures causes { IfErr result IsNoEnd }

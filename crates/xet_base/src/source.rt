@@ -40,12 +40,20 @@ pub trait ShardSource {
 
 /// Fills `slice` from the source's position on. `UnexpectedEof` if fewer bytes are left; the
 /// device's own error at its first failure, even if that is `Interrupted`. Makes no seek.
+#[inline(always)]
 pub fn read_full<S: ShardSource>(source: &mut S, slice: &mut [u8]) -> io::Result<()>
     ensures { MatchResult result
         (λ _. Takes (S.meaning source.old) (S.meaning source.new) slice.new)
         (FillFails (S.meaning source.old) (S.meaning source.new) (length slice.old)) }
 {
-    let mut filled = 0;
+    if slice.is_empty() {
+        return Ok(());
+    }
+    // Apart from the loop, so that the length of a read that is filled at once is known.
+    let mut filled = source.read_some(slice)?;
+    if filled == 0 {
+        return Err(io::Error::from(ErrorKind::UnexpectedEof));
+    }
     while filled < slice.len() {
         let n = source.read_some(&mut slice[filled..])?;
         if n == 0 {
@@ -96,17 +104,25 @@ impl<'a> ShardSource for MemorySource<'a> {
       last_failure = None;
     } };
 
+    #[inline(always)]
     fn read_some(&mut self, slice: &mut [u8]) -> io::Result<usize> {
         let length = self.bytes.len() as u64;
         if self.at >= length {
             return Ok(0);
         }
         let start = self.at as usize;
-        let n = slice.len().min(self.bytes.len() - start);
-        slice[..n].copy_from_slice(&self.bytes[start..start + n]);
-        self.at += n as u64;
-        self.read.add(n as u64);
-        Ok(n)
+        let left = self.bytes.len() - start;
+        if slice.len() <= left {
+            let n = slice.len();
+            slice.copy_from_slice(&self.bytes[start..start + n]);
+            self.at += n as u64;
+            self.read.add(n as u64);
+            return Ok(n);
+        }
+        slice[..left].copy_from_slice(&self.bytes[start..]);
+        self.at += left as u64;
+        self.read.add(left as u64);
+        Ok(left)
     }
 
     fn length(&mut self) -> io::Result<u64> {

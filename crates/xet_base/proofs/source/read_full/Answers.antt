@@ -17,8 +17,8 @@ loop-filled-preserved g c =
       within = grind (arith, common_steps);
       there = λ _. grind (arith, common_steps);
       source = got.after ∙ ap (λ s. advanced s n) turn.source ∙ advanced-advanced start filled n;
-      front = take-put_mid_part filled _ n c.loop-filled.slice c.read_some.new.slice turn.within (grind (arith, common_steps))
-          ∙ ap (λ xs. xs ++ take n c.read_some.new.slice) turn.front
+      front = take-put_mid_part filled _ n c.loop-filled.slice c.read_some-in-loop-filled.new.slice turn.within (grind (arith, common_steps))
+          ∙ ap (λ xs. xs ++ take n c.read_some-in-loop-filled.new.slice) turn.front
           ∙ ap (λ xs. next_bytes start filled ++ xs) (got.filled ∙ ap (λ s. next_bytes s n) turn.source)
           ∙ sym (next_bytes-add start filled n);
     }
