@@ -50,6 +50,7 @@ impl From<CopyFailure> for CoreError {
 
 /// Copies a row, and returns it as reading does. Reserved words that reading clears are written as
 /// zero. `UnexpectedEof` of the input if fewer than 48 bytes are left.
+#[inline(always)]
 pub fn copy_row<T: Row, M, I: ByteInput<M>, W: Write>(
     input: &mut I,
     writer: &mut W,
@@ -65,6 +66,7 @@ pub fn copy_row<T: Row, M, I: ByteInput<M>, W: Write>(
 }
 
 // Reads a row, with the error of reading rows.
+#[inline(always)]
 fn read_row<T: Row, M, I: ByteInput<M>>(input: &mut I) -> Result<T>
     ensures { MatchResult result
         (ReadsRow T.row_bytes T.Fits T.handed_out (I.reads input.old input.new))
@@ -74,6 +76,7 @@ fn read_row<T: Row, M, I: ByteInput<M>>(input: &mut I) -> Result<T>
 }
 
 /// Writes a row. The failure is the output's.
+#[inline(always)]
 pub fn write_row<T: Row, W: Write>(row: &T, writer: &mut W) -> CopyResult<()>
     ensures appended { OnOk result
         (Appends (W.contents writer.old) (W.contents writer.new) (T.row_bytes row.now)) }

@@ -1,6 +1,6 @@
 //! Lists of rows, and what all rows share: 48 bytes, written and read as a whole.
 
-ghost use Rattle.std.specs.Prelude.{◌≡◌, ℕ, ◌+◌, ◌*◌, List, [], ◌∷◌, ◌++◌, length, map, flat_map, All, OnOk, OnErr, IfOk, IfErr, IsTrue, ◌↔◌, Option, is_some, IfSome, option_map, option_to_list, if◌then◌else◌};
+ghost use Rattle.std.specs.Prelude.{◌≡◌, ℕ, ◌+◌, ◌*◌, ◌<◌, List, [], ◌∷◌, ◌++◌, length, map, flat_map, All, OnOk, OnErr, IfOk, IfErr, IsTrue, ◌↔◌, Option, is_some, IfSome, option_map, option_to_list, if◌then◌else◌};
 ghost use Rattle.std.specs.Io.KnownBytes.{Appends, Consumes};
 ghost use Rattle.xet_records.specs.Rows.{ReadsRow, ReadsRows, ReadsOptional};
 ghost use Rattle.xet_base.specs.Bytes.{HasBytes, LacksBytes};
@@ -18,6 +18,9 @@ use xet_base::serialization_utils::write_bytes;
 
 /// The size of a row in bytes.
 pub const ROW_SIZE: usize = 48;
+
+// The most rows that memory is reserved for before they are read, however many the bytes announce.
+pub(crate) const ROWS_AT_ONCE: u32 = 1024;
 
 /// A list of rows, which contracts see as a list. Converting from and into a `Vec` does not
 /// allocate.
@@ -53,6 +56,18 @@ impl<T> Rows<T> {
         Rows {
             items: Vec::new(alloc),
         }
+    }
+
+    // The empty list, with memory for so many rows. An allocation fails only if there are any.
+    pub(crate) fn with_capacity(
+        alloc: Global,
+        rows: usize,
+    ) -> std::result::Result<Rows<T>, AllocError>
+        ensures empty { IfOk result (λ made. made ≡ []) }
+        ensures some { IfErr result (λ _. 0 < rows) }
+    {
+        let items = Vec::with_capacity(alloc, rows)?;
+        Ok(Rows { items })
     }
 
     /// The number of rows.
@@ -147,6 +162,7 @@ pub fn all_widths<T: Row>(rows: &Rows<T>)
 }
 
 /// Appends a row. The error is the writer's.
+#[inline(always)]
 pub fn write_row<T: Row, W: Write>(row: &T, writer: &mut W) -> io::Result<()>
     ensures bytes { OnOk result
         (Appends (W.contents writer.old) (W.contents writer.new) (T.row_bytes row.now)) }

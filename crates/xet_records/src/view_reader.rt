@@ -9,7 +9,7 @@ ghost use Rattle.xet_records.specs.View.{BeginsWithHeaderRow, ShowsRecord};
 ghost use Rattle.xet_records.specs.ViewReading.{ReadsNextView, AddsRows, LacksMemory};
 
 use crate::record_reader::{FormatVersion, SectionRecord, read_header};
-use crate::rows::{ROW_SIZE, Row};
+use crate::rows::{ROW_SIZE, ROWS_AT_ONCE, Row};
 use bytes::Bytes;
 use std::alloc::Global;
 use xet_base::error::Result;
@@ -64,13 +64,30 @@ fn read_row_bytes<M, I: ByteInput<M>>(
         (λ e. I.fails input.old input.new (48 * count) e
         ⊎ LacksMemory (I.reads input.old input.new) count e) }
 {
-    let mut bytes = Vec::from_slice(alloc, first)?;
-    for _row in 0..count {
-        let mut row = [0u8; ROW_SIZE];
-        input.fill(&mut row)?;
-        bytes.extend_from_slice(&row)?;
+    let most = u64::from(ROWS_AT_ONCE);
+    let mut bytes = Vec::with_capacity(alloc, ROW_SIZE + ROW_SIZE * count.min(most) as usize)?;
+    bytes.extend_from_slice(first)?;
+    let mut done = 0;
+    while done < count {
+        let rows = (count - done).min(most);
+        append_rows(&mut bytes, input, rows)?;
+        done += rows;
     }
     Ok(bytes)
+}
+
+// Appends the bytes of rows that are read at once. Memory is reserved before they are read.
+fn append_rows<M, I: ByteInput<M>>(bytes: &mut Vec<u8>, input: &mut I, rows: u64) -> Result<()>
+    requires { rows ≤ 1024 }
+    ensures { MatchResult result
+        (λ _. AddsRows (I.reads input.old input.new) rows bytes.old.items bytes.new.items)
+        (λ e. I.fails input.old input.new (48 * rows) e
+        ⊎ LacksMemory (I.reads input.old input.new) rows e) }
+{
+    let start = bytes.len();
+    bytes.resize(start + ROW_SIZE * rows as usize, 0)?;
+    input.fill(&mut bytes[start..])?;
+    Ok(())
 }
 
 /// Calls `callback` with a view of each record of a section, in order, until a call fails or the

@@ -103,6 +103,7 @@ impl Row for XorbChunkSequenceHeader {
     ghost handed_out = { λ h. h };
 
     #[tactic(auto, unfolding(crate::specs::XorbRow::xorb_header_row))]
+    #[inline(always)]
     fn to_bytes(&self) -> [u8; 48] {
         let mut row = [0u8; 48];
         let at = put_hash(&mut row, 0, &self.xorb_hash);
@@ -114,6 +115,7 @@ impl Row for XorbChunkSequenceHeader {
     }
 
     #[tactic(auto, unfolding(crate::specs::XorbRow::xorb_header_row))]
+    #[inline(always)]
     fn from_bytes(bytes: &[u8; 48]) -> Self {
         let (xorb_hash, rest) = split_hash(bytes);
         let (xorb_flags, rest) = split_u32(rest);
@@ -220,6 +222,7 @@ impl Row for XorbChunkSequenceEntry {
     ghost handed_out = { λ c. c };
 
     #[tactic(auto, unfolding(crate::specs::XorbRow::chunk_row))]
+    #[inline(always)]
     fn to_bytes(&self) -> [u8; 48] {
         let mut row = [0u8; 48];
         let at = put_hash(&mut row, 0, &self.chunk_hash);
@@ -231,6 +234,7 @@ impl Row for XorbChunkSequenceEntry {
     }
 
     #[tactic(auto, unfolding(crate::specs::XorbRow::chunk_row))]
+    #[inline(always)]
     fn from_bytes(bytes: &[u8; 48]) -> Self {
         let (chunk_hash, rest) = split_hash(bytes);
         let (chunk_byte_range_start, rest) = split_u32(rest);

@@ -247,6 +247,7 @@ impl Row for FileDataSequenceHeader {
     ghost handed_out = { λ h. h };
 
     #[tactic(auto, unfolding(crate::specs::FileRow::header_row))]
+    #[inline(always)]
     fn to_bytes(&self) -> [u8; 48] {
         let mut row = [0u8; 48];
         let at = put_hash(&mut row, 0, &self.file_hash);
@@ -257,6 +258,7 @@ impl Row for FileDataSequenceHeader {
     }
 
     #[tactic(auto, unfolding(crate::specs::FileRow::header_row))]
+    #[inline(always)]
     fn from_bytes(bytes: &[u8; 48]) -> Self {
         let (file_hash, rest) = split_hash(bytes);
         let (file_flags, rest) = split_u32(rest);

@@ -108,6 +108,7 @@ impl Row for FileDataSequenceEntry {
     ghost handed_out = { λ s. s };
 
     #[tactic(auto, unfolding(crate::specs::FileRow::segment_row))]
+    #[inline(always)]
     fn to_bytes(&self) -> [u8; 48] {
         let mut row = [0u8; 48];
         let at = put_hash(&mut row, 0, &self.xorb_hash);
@@ -119,6 +120,7 @@ impl Row for FileDataSequenceEntry {
     }
 
     #[tactic(auto, unfolding(crate::specs::FileRow::segment_row))]
+    #[inline(always)]
     fn from_bytes(bytes: &[u8; 48]) -> Self {
         let (xorb_hash, rest) = split_hash(bytes);
         let (xorb_flags, rest) = split_u32(rest);
@@ -186,6 +188,7 @@ impl Row for FileVerificationEntry {
     ghost handed_out = { clear_verification };
 
     #[tactic(auto, unfolding(crate::specs::FileRow::verification_row))]
+    #[inline(always)]
     fn to_bytes(&self) -> [u8; 48] {
         let mut row = [0u8; 48];
         let at = put_hash(&mut row, 0, &self.range_hash);
@@ -195,6 +198,7 @@ impl Row for FileVerificationEntry {
     }
 
     #[tactic(auto, unfolding(crate::specs::FileRow::verification_row))]
+    #[inline(always)]
     fn from_bytes(bytes: &[u8; 48]) -> Self {
         let (range_hash, rest) = split_hash(bytes);
         let (_first, rest) = split_u64(rest);
@@ -264,6 +268,7 @@ impl Row for FileMetadataExt {
     ghost handed_out = { clear_metadata };
 
     #[tactic(auto, unfolding(crate::specs::FileRow::metadata_row))]
+    #[inline(always)]
     fn to_bytes(&self) -> [u8; 48] {
         let mut row = [0u8; 48];
         let at = put_hash(&mut row, 0, &self.sha256);
@@ -273,6 +278,7 @@ impl Row for FileMetadataExt {
     }
 
     #[tactic(auto, unfolding(crate::specs::FileRow::metadata_row))]
+    #[inline(always)]
     fn from_bytes(bytes: &[u8; 48]) -> Self {
         let (sha256, rest) = split_hash(bytes);
         let (_first, rest) = split_u64(rest);
@@ -333,6 +339,7 @@ impl Row for FileAuxExt {
     ghost handed_out = { clear_aux };
 
     #[tactic(auto, unfolding(crate::specs::FileRow::aux_row))]
+    #[inline(always)]
     fn to_bytes(&self) -> [u8; 48] {
         let mut row = [0u8; 48];
         let at = put_hash(&mut row, 0, &self.aux_hash);
@@ -342,6 +349,7 @@ impl Row for FileAuxExt {
     }
 
     #[tactic(auto, unfolding(crate::specs::FileRow::aux_row))]
+    #[inline(always)]
     fn from_bytes(bytes: &[u8; 48]) -> Self {
         let (aux_hash, rest) = split_hash(bytes);
         let (_first, rest) = split_u64(rest);

@@ -5,7 +5,7 @@ use Rattle.xet_records.proofs.Reading.{no_rows, more_rows}
 use Rattle.xet_records.proofs.input_rows.read_rows.Goals as goal
 
 pub loop-row-init : goal.loop-row-init
-loop-row-init g c = rw c.new-rows.ensures (no_rows _ _ _ _ (g.met.I.ByteInput.reads_nothing _))
+loop-row-init g c = rw c.in_ok-rows.ensures.empty (no_rows _ _ _ _ (g.met.I.ByteInput.reads_nothing _))
 
 pub loop-row-preserved : goal.loop-row-preserved
 loop-row-preserved g c =
@@ -15,7 +15,7 @@ pub returns-in_err-read_row : goal.returns-in_err-read_row
 returns-in_err-read_row g c =
     let before = c.loop-row.invariant in
     let within : length (flat_map g.T.Row.row_bytes before.stored) + 48 ≤ 48 * c.args.count = omega (arith, before.size) in
-    let p = err_from_is_err_and c.from_residual.result c.from_residual.ensures.1 in
+    let p = err_from_is_err_and c.from_residual-in_err-read_row.result c.from_residual-in_err-read_row.ensures.1 in
     rw (p.1) (g.met.I.ByteInput.fails_later _ c.loop-row.input _ (flat_map g.T.Row.row_bytes before.stored) 48 _ _ before.taken
     (g.met.I.ByteInput.fails_once _ _ 48 _ _ c.in_err-read_row.ensures p.2) within)
 
