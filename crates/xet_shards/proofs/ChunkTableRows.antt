@@ -1,5 +1,5 @@
 -- Rows of the chunk table, inserted into a set one after another.
-use Rattle.std.proofs.Common.{◌≡◌, ℕ, suc, ◌+◌, ◌<◌, cond, List, [], ◌∷◌, ◌++◌, map, length, flat_map, take, get_or, Some, refl, sym, ap, ◌∙◌, arith, append_assoc}
+use Rattle.std.proofs.Common.{◌≡◌, ℕ, suc, ◌+◌, ◌<◌, cond, List, [], ◌∷◌, ◌++◌, map, length, flat_map, take, get_or, Some, refl, sym, ap, ◌∙◌, arith}
 use Rattle.std.specs.List.{enumerate_from}
 use Rattle.std.specs.Ordering.{eq_by_cmp}
 use Rattle.std.specs.declared.cmp.Ordering.{Ordering}
@@ -16,7 +16,7 @@ use Rattle.xet_records.specs.XorbRecord.{xorb_records}
 use Rattle.xet_shards.specs.Section.{total_rows, with_fronts}
 use Rattle.xet_shards.specs.Tables.{ChunkTableRow, chunk_table_row_cmp, ascending, chunk_table_rows_from, chunk_table_rows}
 use Rattle.xet_shards.proofs.Maps.{entries-inserted, entries-empty}
-use Rattle.xet_shards.proofs.Tables.{chunk_table_row_total, chunk_table_row_exact, with_fronts-push}
+use Rattle.xet_shards.proofs.Tables.{with_fronts-push}
 use Rattle.xet_shards.proofs.Walks.{flat_map-push}
 
 -- a key among the keys of a map
@@ -47,9 +47,6 @@ module _ {K : Type 0} (R : K → K → Ordering) (total : IsTotalOrder R) (exact
       ∙ sym (get-insert total m p tt q ∙ ap (cond (eq_by_cmp R q p) (Some (tt {0}))) (get-from_entries total (map keyed ps) q))) in
       sym (ap keys same ∙ ap keys_of (entries-inserted total m p tt) ∙ keys-insert_entry R p tt (entries m))
 
-pub ascending-push : (ps : List ChunkTableRow) (p : ChunkTableRow) → insert_key chunk_table_row_cmp (ascending ps) p ≡ ascending (ps ++ p ∷ [])
-ascending-push = keys-push chunk_table_row_cmp chunk_table_row_total chunk_table_row_exact
-
 -- the row of one more chunk
 pub enumerate_from-push : {X : Type 0} (n : ℕ) (xs : List X) (x : X) → enumerate_from n (xs ++ x ∷ []) ≡ enumerate_from n xs ++ (n + length xs, x) ∷ []
 enumerate_from-push n [] x = let same : n ≡ n + 0 = omega arith in ap (λ k. (k, x) ∷ []) same
@@ -78,9 +75,6 @@ chunk_table_rows_from-more row i cs d below =
     let count : length (take i cs) ≡ i = omega (arith, length-take i cs, below) in
     ap (λ n. chunk_table_rows_from row (take n cs)) next ∙ ap (chunk_table_rows_from row) (take-suc cs i d below) ∙ chunk_table_rows_from-push row (take i cs) (get_or cs i d)
     ∙ ap (λ n. chunk_table_rows_from row (take i cs) ++ chunk_table_row row n (get_or cs i d) ∷ []) count
-
-pub ascending-more : (before ps : List ChunkTableRow) (p : ChunkTableRow) → insert_key chunk_table_row_cmp (ascending (before ++ ps)) p ≡ ascending (before ++ (ps ++ p ∷ []))
-ascending-more before ps p = ascending-push (before ++ ps) p ∙ ap ascending (append_assoc before ps (p ∷ []))
 
 pub ascending-nil : ascending [] ≡ []
 ascending-nil = ap (map (λ e. e.0)) (entries-empty (Unit {0}) chunk_table_row_cmp)

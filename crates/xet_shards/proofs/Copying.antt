@@ -1,6 +1,5 @@
 -- A record whose rows were copied is one that was read, and added to what was gathered.
-use Rattle.std.proofs.Common.{◌≡◌, ◌≢◌, ℕ, ◌+◌, List, [], ◌∷◌, ◌++◌, length, Option, sym, ap, ◌∙◌, subst, append-nil}
-use Rattle.std.specs.BTreeSet.{insert_key}
+use Rattle.std.proofs.Common.{◌≡◌, ◌≢◌, ℕ, ◌+◌, List, [], ◌∷◌, ◌++◌, length, Option, true, sym, ap, ◌∙◌, subst, append-nil, append_assoc}
 use Rattle.std.specs.Io.KnownBytes.{Appends}
 use Rattle.std.proofs.KnownBytes.{Appends-trans}
 use Rattle.std.proofs.lemmas.List.{length-map}
@@ -20,10 +19,10 @@ use Rattle.xet_records.specs.Rows.{ReadsRows}
 use Rattle.xet_records.proofs.RecordKinds.{KindLaws, file_laws, chunks_after}
 use Rattle.xet_shards.specs.declared.shard_format.written.WrittenFiles.{WrittenFiles}
 use Rattle.xet_shards.specs.declared.shard_format.written.WrittenXorbs.{WrittenXorbs}
-use Rattle.xet_shards.specs.Tables.{ChunkTableRow, chunk_table_row_cmp, chunk_table_rows_from, ascending, AddsChunkRows}
+use Rattle.xet_shards.specs.Tables.{ChunkTableRow, chunk_table_rows_from, AddsChunkRows}
 use Rattle.xet_shards.specs.Copying.{CopiesRecord}
 use Rattle.xet_shards.specs.Written.{AddsRecord, IsFileOf, HasWritten, HasWrittenXorbs}
-use Rattle.xet_shards.proofs.ChunkTableRows.{chunk_table_row, chunk_table_rows_from-push, ascending-more}
+use Rattle.xet_shards.proofs.ChunkTableRows.{chunk_table_row, chunk_table_rows_from-push}
 use Rattle.xet_shards.proofs.Written.{xorb_written}
 
 -- the header and the rows of a record, as reading returns it
@@ -56,7 +55,7 @@ module _ (Took : List ℕ → Type 0) (start mid new : Option (List ℕ)) where
 
   pub xorb_record_copied : (h : XorbChunkSequenceHeader) (chunks : List XorbChunkSequenceEntry) (v w : WrittenXorbs) → Appends start mid (xorb_header_row h)
       → CopiesRows chunk_row FitsChunk (λ c. c) Took mid new h.num_entries chunks → AddsRecord v.table w.table h.xorb_hash.word0 (1 + h.num_entries)
-      → AddsChunkRows v.chunk_rows.keys w.chunk_rows.keys v.table.rows chunks → w.stored_bytes ≡ v.stored_bytes + h.num_bytes_in_xorb
+      → AddsChunkRows v.chunk_rows.items w.chunk_rows.items v.table.rows chunks → w.stored_bytes ≡ v.stored_bytes + h.num_bytes_in_xorb
       → w.stored_bytes_on_disk ≡ v.stored_bytes_on_disk + h.num_bytes_on_disk → CopiesRecord xorb_records h Took start new (HasWrittenXorbs v) (HasWrittenXorbs w)
   unfolding xorb_record_bytes
   xorb_record_copied h chunks v w front copied table chunk_rows bytes bytes_on_disk =
@@ -65,19 +64,19 @@ module _ (Took : List ℕ → Type 0) (start mid new : Option (List ℕ)) where
         found = record { metadata = h; chunks = chunks };
         read = chunks_after Took h chunks copied.read;
         bytes = Appends-trans start mid new _ _ front copied.written;
-        written = λ before have. xorb_written v w before (record { metadata = h; chunks = chunks }) have
-            (subst (λ n. AddsRecord v.table w.table h.xorb_hash.word0 (1 + n)) (sym count) table) chunk_rows bytes bytes_on_disk;
+        written = λ before have. xorb_written true v w before (record { metadata = h; chunks = chunks }) have
+            (subst (λ n. AddsRecord v.table w.table h.xorb_hash.word0 (1 + n)) (sym count) table) (λ _. chunk_rows) bytes bytes_on_disk;
       }
 
 -- the rows of the chunk table that were added
 pub no_chunk_rows : (old : List ChunkTableRow) (row : ℕ) → AddsChunkRows old old row []
-no_chunk_rows old row before is = is ∙ ap ascending (sym (append-nil before))
+no_chunk_rows old row = sym (append-nil old)
 
 pub more_chunk_rows : (Took : List ℕ → Type 0) (old now new : List ChunkTableRow) (row index : ℕ) (chunks : List XorbChunkSequenceEntry) (chunk : XorbChunkSequenceEntry)
     → ReadsRows chunk_row FitsChunk (λ c. c) Took index chunks → AddsChunkRows old now row chunks
-    → new ≡ insert_key chunk_table_row_cmp now (chunk_table_row row index chunk) → AddsChunkRows old new row (chunks ++ chunk ∷ [])
-more_chunk_rows Took old now new row index chunks chunk read so_far one before is =
+    → new ≡ now ++ chunk_table_row row index chunk ∷ [] → AddsChunkRows old new row (chunks ++ chunk ∷ [])
+more_chunk_rows Took old now new row index chunks chunk read so_far one =
     let count : index ≡ length chunks = sym read.len ∙ sym (length-map read.stored (λ c. c)) ∙ ap length read.handed in
-    one ∙ (λ i. insert_key chunk_table_row_cmp (so_far before is i) (chunk_table_row row (count i) chunk))
-    ∙ ascending-more before (chunk_table_rows_from row chunks) (chunk_table_row row (length chunks) chunk)
-    ∙ ap (λ rows. ascending (before ++ rows)) (sym (chunk_table_rows_from-push row chunks chunk))
+    one ∙ (λ i. so_far i ++ chunk_table_row row (count i) chunk ∷ [])
+    ∙ append_assoc old (chunk_table_rows_from row chunks) (chunk_table_row row (length chunks) chunk ∷ [])
+    ∙ ap (λ rows. old ++ rows) (sym (chunk_table_rows_from-push row chunks chunk))

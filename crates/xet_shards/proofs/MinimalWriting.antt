@@ -24,7 +24,7 @@ use Rattle.xet_shards.specs.declared.shard_format.written.WrittenFiles.{WrittenF
 use Rattle.xet_shards.specs.declared.shard_format.written.WrittenXorbs.{WrittenXorbs}
 use Rattle.xet_shards.specs.Section.{total_rows, section_bytes}
 use Rattle.xet_shards.specs.Tables.{table_bytes, chunk_table_bytes}
-use Rattle.xet_shards.specs.Written.{HasWritten, HasWrittenXorbs, end_of_layout}
+use Rattle.xet_shards.specs.Written.{HasWritten, HasWrittenFor, end_of_layout}
 use Rattle.xet_shards.specs.MinimalWriting.{WritesMarked}
 use Rattle.xet_shards.proofs.Written.{whole_layout}
 use Rattle.xet_shards.specs.InForm.{FitsSection}
@@ -155,11 +155,12 @@ pub shard_written : (answers : MDBXorbInfo → Bool → Type 0) (m : MinimalShar
     → HasNoTables form → All FitsRecord files → starts ≡ is_start m.files → xorbs ≡ m.xorbs
     → Appends start after_header (shard_header_bytes (header_value form.version)) → Appends after_header after_files (section_bytes file_records files) → HasWritten wf files
     → WritesMarked answers starts after_files after_xorbs xorbs wx
-    → ((rs : List MDBFileInfo) (xs : List MDBXorbInfo) → All FitsRecord rs → HasWritten wf rs → HasWrittenXorbs wx xs → Appends after_xorbs end (end_of_layout rs xs form))
+    → ((rs : List MDBFileInfo) (xs : List MDBXorbInfo) → All FitsRecord rs → HasWritten wf rs → HasWrittenFor form.chunk_table wx xs → Appends after_xorbs end (end_of_layout rs xs form))
     → n ≡ 344 + 48 * wf.table.rows + 48 * wx.table.rows → WritesKept answers start end files m form n
 shard_written answers m files form start after_header after_files after_xorbs end wf wx starts xorbs n tables fit same_starts same_xorbs header section written marked rest count =
     let xs = map (mark_starts (is_start m.files)) marked.kept in
-    let collected : HasWrittenXorbs wx xs = subst (λ s. HasWrittenXorbs wx (map (mark_starts s) marked.kept)) same_starts marked.collected in
+    let without : HasWrittenFor false wx xs = subst (λ s. HasWrittenFor false wx (map (mark_starts s) marked.kept)) same_starts marked.collected in
+    let collected : HasWrittenFor form.chunk_table wx xs = subst (λ b. HasWrittenFor b wx xs) (sym tables.2) without in
     let bytes : Appends after_files after_xorbs (section_bytes xorb_records xs) =
     subst (λ s. Appends after_files after_xorbs (section_bytes xorb_records (map (mark_starts s) marked.kept))) same_starts marked.bytes in
     record {

@@ -16,9 +16,9 @@ use Rattle.xet_shards.specs.declared.shard_format.written.WrittenFiles.{WrittenF
 use Rattle.xet_shards.specs.declared.shard_format.written.WrittenXorbs.{WrittenXorbs}
 use Rattle.xet_shards.specs.Shard.{xorb_hash_of}
 use Rattle.xet_shards.specs.Section.{section_bytes}
-use Rattle.xet_shards.specs.Tables.{AddsChunkRows, hash_in, starts, table_bytes, chunk_table_rows_from, chunk_table_rows, ascending}
+use Rattle.xet_shards.specs.Tables.{AddsChunkRows, hash_in, starts, table_bytes, chunk_table_rows_from, chunk_table_rows}
 use Rattle.xet_shards.specs.Layout.{Form, if_in, shard_header_bytes, header_value, layout_of}
-use Rattle.xet_shards.specs.Written.{AddsRecord, IsTableOf, IsFileOf, HasWritten, HasWrittenXorbs, end_of_layout}
+use Rattle.xet_shards.specs.Written.{AddsRecord, IsTableOf, IsFileOf, HasWritten, HasWrittenFor, end_of_layout}
 use Rattle.xet_shards.proofs.ChunkTableRows.{chunk_table_rows-push}
 use Rattle.xet_shards.proofs.Tables.{table_bytes-push, table_bytes-nil, length-starts, length-table_bytes}
 
@@ -38,15 +38,15 @@ file_written v w word rows bytes added more files r before is = record {
   bytes = more ∙ ap (λ n. v.materialized_bytes + n) (sym is.bytes) ∙ ap (λ n. n + size_of_file r) before.bytes ∙ sym (sum_by_push size_of_file files r);
 }
 
-pub xorb_written : (v w : WrittenXorbs) (xorbs : List MDBXorbInfo) (r : MDBXorbInfo) → HasWrittenXorbs v xorbs
+pub xorb_written : (wanted : Bool) (v w : WrittenXorbs) (xorbs : List MDBXorbInfo) (r : MDBXorbInfo) → HasWrittenFor wanted v xorbs
     → AddsRecord v.table w.table (xorb_hash_of r).word0 (xorb_row_count r)
-    → AddsChunkRows v.chunk_rows.keys w.chunk_rows.keys v.table.rows r.chunks
+    → (wanted ≡ true → AddsChunkRows v.chunk_rows.items w.chunk_rows.items v.table.rows r.chunks)
     → w.stored_bytes ≡ v.stored_bytes + r.metadata.num_bytes_in_xorb → w.stored_bytes_on_disk ≡ v.stored_bytes_on_disk + r.metadata.num_bytes_on_disk
-    → HasWrittenXorbs w (xorbs ++ r ∷ [])
-xorb_written v w xorbs r before added chunk_rows bytes bytes_on_disk = record {
+    → HasWrittenFor wanted w (xorbs ++ r ∷ [])
+xorb_written wanted v w xorbs r before added chunk_rows bytes bytes_on_disk = record {
   table = table_of_more xorb_records v.table w.table xorbs r before.table added;
-  chunk_rows = chunk_rows (chunk_table_rows xorbs) before.chunk_rows
-      ∙ ap (λ n. ascending (chunk_table_rows xorbs ++ chunk_table_rows_from n r.chunks)) before.table.rows ∙ ap ascending (sym (chunk_table_rows-push xorbs r));
+  chunk_rows = λ is_wanted. chunk_rows is_wanted ∙ ap (λ rows. rows ++ chunk_table_rows_from v.table.rows r.chunks) (before.chunk_rows is_wanted)
+      ∙ ap (λ n. chunk_table_rows xorbs ++ chunk_table_rows_from n r.chunks) before.table.rows ∙ sym (chunk_table_rows-push xorbs r);
   bytes = bytes ∙ ap (λ n. n + r.metadata.num_bytes_in_xorb) before.bytes ∙ sym (sum_by_push (λ (x : MDBXorbInfo). x.metadata.num_bytes_in_xorb) xorbs r);
   bytes_on_disk = bytes_on_disk ∙ ap (λ n. n + r.metadata.num_bytes_on_disk) before.bytes_on_disk
       ∙ sym (sum_by_push (λ (x : MDBXorbInfo). x.metadata.num_bytes_on_disk) xorbs r);

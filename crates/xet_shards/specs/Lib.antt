@@ -29,6 +29,7 @@ pub mod TableReading
 pub mod Tables
 pub mod TruncatedHashes
 pub mod Written
+pub mod WrittenLaws
 pub mod WrittenChunks
 pub mod WrittenQueries
 pub mod WrittenShard

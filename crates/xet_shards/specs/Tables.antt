@@ -56,11 +56,9 @@ abbrev pub ascending : List ChunkTableRow → List ChunkTableRow
 ascending rows =
     finite.keys (finite.from_entries {R = chunk_table_row_cmp} (map (λ row. (row, tt {0})) rows))
 
--- ascending rows got those of the chunks of a xorb that starts at a row
+-- rows got those of the chunks of a xorb that starts at a row
 abbrev pub AddsChunkRows : (old new : List ChunkTableRow) → ℕ → List XorbChunkSequenceEntry → Type 0
-AddsChunkRows old new row chunks =
-    (before : List ChunkTableRow) → old ≡ ascending before
-    → new ≡ ascending (before ++ chunk_table_rows_from row chunks)
+AddsChunkRows old new row chunks = new ≡ old ++ chunk_table_rows_from row chunks
 
 abbrev pub chunk_table : List MDBXorbInfo → List ChunkTableRow
 chunk_table xorbs = ascending (chunk_table_rows xorbs)

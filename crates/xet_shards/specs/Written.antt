@@ -1,5 +1,5 @@
 -- What is gathered while a section is written, and what is written after the sections.
-use Rattle.std.specs.Prelude.{◌≡◌, ℕ, ◌+◌, List, ◌++◌, length, sum_by}
+use Rattle.std.specs.Prelude.{◌≡◌, Bool, true, ℕ, ◌+◌, List, ◌++◌, length, sum_by}
 use Rattle.xet_records.specs.declared.file_structs.MDBFileInfo.{MDBFileInfo}
 use Rattle.xet_records.specs.declared.xorb_structs.MDBXorbInfo.{MDBXorbInfo}
 use Rattle.xet_records.specs.RecordKind.{RecordKind}
@@ -10,7 +10,7 @@ use Rattle.xet_shards.specs.declared.shard_format.written.WrittenFiles.{WrittenF
 use Rattle.xet_shards.specs.declared.shard_format.written.WrittenXorbs.{WrittenXorbs}
 use Rattle.xet_shards.specs.Shard.{file_hash_of}
 use Rattle.xet_shards.specs.Section.{total_rows}
-use Rattle.xet_shards.specs.Tables.{start_row, table_bytes, chunk_table, chunk_table_bytes}
+use Rattle.xet_shards.specs.Tables.{start_row, table_bytes, chunk_table_rows, chunk_table_bytes}
 use Rattle.xet_shards.specs.Layout.{Form, if_in, footer_value, shard_footer_bytes}
 
 -- the second table is the first with the row of one more record, which has this word and so many
@@ -38,12 +38,18 @@ pub record HasWritten (w : WrittenFiles) (files : List MDBFileInfo) : Type 0 whe
   pub table : IsTableOf file_records w.table files
   pub bytes : w.materialized_bytes ≡ sum_by size_of_file files
 
--- the table, the rows of the chunk table and the bytes of these xorbs
-pub record HasWrittenXorbs (w : WrittenXorbs) (xorbs : List MDBXorbInfo) : Type 0 where
+-- the table and the bytes of these xorbs; and the rows of the chunk table, in section order, if it
+-- is to be written
+pub record HasWrittenFor (chunk_table : Bool) (w : WrittenXorbs) (xorbs : List MDBXorbInfo)
+    : Type 0 where
   pub table : IsTableOf xorb_records w.table xorbs
-  pub chunk_rows : w.chunk_rows.keys ≡ chunk_table xorbs
+  pub chunk_rows : chunk_table ≡ true → w.chunk_rows.items ≡ chunk_table_rows xorbs
   pub bytes : w.stored_bytes ≡ sum_by (λ x. x.metadata.num_bytes_in_xorb) xorbs
   pub bytes_on_disk : w.stored_bytes_on_disk ≡ sum_by (λ x. x.metadata.num_bytes_on_disk) xorbs
+
+-- the table, the bytes and the rows of the chunk table of these xorbs
+abbrev pub HasWrittenXorbs : WrittenXorbs → List MDBXorbInfo → Type 0
+HasWrittenXorbs w xorbs = HasWrittenFor true w xorbs
 
 -- the bytes of a layout after its sections: the tables that are in, and the footer
 abbrev pub end_of_layout : List MDBFileInfo → List MDBXorbInfo → Form → List ℕ

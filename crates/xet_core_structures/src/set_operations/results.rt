@@ -124,7 +124,7 @@ pub fn operate<O: SetOperation, S: ShardSource, T: ShardSource, W: Write>(
         key,
         ..Form::plain(None)
     };
-    write_tables(out, &files, &xorbs, &form)
+    write_tables(out, &files, xorbs, &form)
 }
 
 // Where a section is in a source, and the version in which it is read.
@@ -214,11 +214,11 @@ fn write_header<W: Write>(out: &mut W) -> CopyResult<()>
 fn write_tables<W: Write>(
     out: &mut W,
     files: &WrittenFiles,
-    xorbs: &WrittenXorbs,
+    xorbs: WrittenXorbs,
     form: &Form,
 ) -> CopyResult<MDBShardInfo>
     ensures written { IfOk result
-        (WritesEnd files.now xorbs.now form.now (W.contents out.old) (W.contents out.new)) }
+        (WritesEnd files.now xorbs form.now (W.contents out.old) (W.contents out.new)) }
     ensures widths { IfOk result (λ info. FitsFooter info.metadata) }
     ensures causes { IfErr result IsOutputFailure }
 {

@@ -221,7 +221,7 @@ fn write_shard<W: Write>(
     header.serialize(writer)?;
     let files: WrittenFiles = write_values(alloc, writer, shard.file_content())?;
     let xorbs: WrittenXorbs = write_values(alloc, writer, shard.xorb_content())?;
-    let metadata = write_end(writer, &files, &xorbs, form)?;
+    let metadata = write_end(writer, &files, xorbs, form)?;
     Ok(MDBShardInfo { header, metadata })
 }
 

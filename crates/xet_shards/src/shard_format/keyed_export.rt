@@ -1,7 +1,7 @@
 //! Keyed exports: a shard is written again, record by record as it is read, with its chunk hashes
 //! under a key.
 
-ghost use Rattle.std.specs.Prelude.{◌≡◌, ◌⊎◌, ◌+◌, ◌*◌, ◌^◌, ◌≤◌, ◌++◌, Bool, true, false, List, flat_map, MatchOption, MatchResult, OnOk, IfErr, IsErrAnd};
+ghost use Rattle.std.specs.Prelude.{◌≡◌, ◌⊎◌, ◌+◌, ◌*◌, ◌^◌, ◌≤◌, ◌++◌, Bool, true, false, List, [], flat_map, MatchOption, MatchResult, OnOk, IfErr, IsErrAnd};
 ghost use Rattle.std.specs.Io.KnownBytes.{Appends};
 ghost use Rattle.xet_base.specs.Errors.{IsWriteError};
 ghost use Rattle.xet_base.specs.KeyedHash.{no_key};
@@ -11,6 +11,8 @@ ghost use Rattle.xet_records.specs.ViewReading.{ReadsNextView};
 ghost use Rattle.xet_records.proofs.RecordKinds.{file_laws, xorb_laws};
 ghost use Rattle.xet_shards.specs.declared.shard_format.form.Form.{Form};
 ghost use Rattle.xet_shards.specs.Section.{section_bytes, total_rows};
+ghost use Rattle.xet_shards.specs.Written.{HasWritten, HasWrittenFor};
+ghost use Rattle.xet_shards.specs.WrittenLaws.{written_for};
 ghost use Rattle.xet_shards.specs.SectionReading.{TakesNoSection, RecordFails};
 ghost use Rattle.xet_shards.specs.KeyedExport.{Exports, ExportsWith, ExportFails, ExportsSection, CannotExport, ExpiresTooLate, WritingFails, export_form, exported_file, exported_xorb, keyed_xorb};
 ghost use Rattle.xet_shards.specs.ExportLaws.{file_rows, xorb_rows};
@@ -254,7 +256,7 @@ fn export<S: ShardSource, W: Write>(
     )?;
     let newest = FormatVersion::V3;
     let xorbs = export_section::<MDBXorbInfo, S, W>(alloc, source, newest, writer, aux_ext, form)?;
-    let footer = write_end(writer, &files, &xorbs, form)?;
+    let footer = write_end(writer, &files, xorbs, form)?;
     let size = footer.footer_offset + FOOTER_SIZE;
     Ok(size as usize)
 }
@@ -268,6 +270,9 @@ trait ExportedRecord {
 
     // what is written for it in a form, with auxiliary rows or without: a record, or none
     ghost exports: { Bool → Form → Self.Section.Record → List Self.Section.Record };
+
+    // these records were written, and what a form needs of them was collected
+    ghost has_written: { Form → Self.Section → List Self.Section.Record → Type 0 };
 
     // Reads the next record, or `None` at the bookend, and counts its rows down from those left.
     fn read<S: ShardSource>(
@@ -300,8 +305,8 @@ trait ExportedRecord {
             (flat_map Self.Section.Record.kind.record_bytes
             (exports aux_ext form.now (stored self)))) }
         ensures written { OnOk result
-            ((before : List Self.Section.Record) → Self.Section.has_written written.old before
-            → Self.Section.has_written written.new
+            ((before : List Self.Section.Record) → has_written form.now written.old before
+            → has_written form.now written.new
             (before ++ exports aux_ext form.now (stored self))) }
         ensures causes { IfErr result IsWriteError };
 
@@ -310,6 +315,13 @@ trait ExportedRecord {
     ghost no_more_rows: { (aux : Bool) (form : Form) (r : Self.Section.Record)
         → total_rows Self.Section.Record.kind (exports aux form r)
         ≤ Self.Section.Record.kind.row_count r };
+
+    ghost begins: { (form : Form) (written : Self.Section)
+        → Self.Section.has_written written [] → has_written form written [] };
+
+    ghost counts_rows: { (form : Form) (written : Self.Section) (records : List Self.Section.Record)
+        → has_written form written records
+        → Self.Section.rows written ≡ total_rows Self.Section.Record.kind records };
 }
 
 // A file is written as it is stored, or without its auxiliary row, if the form has files.
@@ -320,9 +332,15 @@ impl ExportedRecord for MDBFileInfoView {
 
     ghost exports = { exported_file };
 
+    ghost has_written = { λ form. HasWritten };
+
     ghost laws = { file_laws };
 
     ghost no_more_rows = { file_rows };
+
+    ghost begins = { λ form written have. have };
+
+    ghost counts_rows = { λ form written files have. have.table.rows };
 
     fn read<S: ShardSource>(
         alloc: Global,
@@ -359,9 +377,15 @@ impl ExportedRecord for MDBXorbInfo {
 
     ghost exports = { exported_xorb };
 
+    ghost has_written = { λ form. HasWrittenFor form.chunk_table };
+
     ghost laws = { xorb_laws };
 
     ghost no_more_rows = { xorb_rows };
+
+    ghost begins = { λ form written have. written_for form.chunk_table written [] have };
+
+    ghost counts_rows = { λ form written xorbs have. have.table.rows };
 
     fn read<S: ShardSource>(
         alloc: Global,
@@ -380,7 +404,7 @@ impl ExportedRecord for MDBXorbInfo {
         form: &Form,
     ) -> Result<()> {
         let xorb = with_keyed_hashes(self, form.key);
-        written.write(writer, &xorb)
+        written.write_for(writer, &xorb, form.chunk_table)
     }
 }
 
@@ -396,7 +420,7 @@ fn export_section<E: ExportedRecord + Drop, S: ShardSource, W: Write>(
 ) -> Result<E::Section>
     ensures { MatchResult result
         (λ written. ExportsSection E.Section.Record.kind version (E.exports aux_ext form.now)
-        (E.Section.has_written written) (S.meaning source.old) (S.meaning source.new)
+        (E.has_written form.now written) (S.meaning source.old) (S.meaning source.new)
         (W.contents writer.old) (W.contents writer.new))
         (λ e. TakesNoSection (in_version E.Section.Record.kind version) (S.meaning source.old)
         (S.meaning source.new) e

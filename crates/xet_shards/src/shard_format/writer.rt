@@ -1,6 +1,6 @@
 //! Writing a shard in any form: sections, lookup tables and footer.
 
-ghost use Rattle.std.specs.Prelude.{◌≡◌, ◌≤◌, None, List, All, OnOk, IfOk, IfErr, map, flat_map, if◌then◌else◌};
+ghost use Rattle.std.specs.Prelude.{◌≡◌, ◌≤◌, true, None, List, All, OnOk, IfOk, IfErr, map, flat_map, if◌then◌else◌};
 ghost use Rattle.std.specs.Io.KnownBytes.{Appends};
 ghost use Rattle.std.specs.BTreeMap.{values};
 ghost use Rattle.xet_base.specs.Errors.{IsWriteError};
@@ -9,8 +9,8 @@ ghost use Rattle.xet_records.specs.declared.xorb_structs.MDBXorbInfo.{MDBXorbInf
 ghost use Rattle.xet_records.specs.FileRecord.{FitsRecord};
 ghost use Rattle.xet_shards.specs.Shard.{IsShard};
 ghost use Rattle.xet_shards.specs.Section.{total_rows, section_bytes};
-ghost use Rattle.xet_shards.specs.Tables.{chunk_table_row_bytes};
-ghost use Rattle.xet_shards.specs.Written.{HasWritten, HasWrittenXorbs, end_of_layout};
+ghost use Rattle.xet_shards.specs.Tables.{chunk_table_row_bytes, chunk_table_rows, chunk_table_bytes};
+ghost use Rattle.xet_shards.specs.Written.{HasWritten, HasWrittenFor, end_of_layout};
 ghost use Rattle.xet_shards.specs.Layout.{if_in, layout, footer_value};
 ghost use Rattle.xet_shards.specs.Ends.{FitsFooter};
 
@@ -22,7 +22,7 @@ use super::written::{RecordTable, WrittenFiles, WrittenSection, WrittenXorbs};
 use super::xorb_writer::ChunkTableRow;
 use crate::shard_in_memory::MDBInMemoryShard;
 use std::alloc::Global;
-use std::collections::{BTreeMap, BTreeSet};
+use std::collections::BTreeMap;
 use std::io::Write;
 use std::rc::Rc;
 use xet_base::error::{CoreError, Result};
@@ -99,26 +99,28 @@ pub fn write_values<S: WrittenSection + Drop, V: HoldsRecord<S::Record>, W: Writ
 }
 
 /// Writes the end of a shard, after its sections: the tables that are in, and the footer, which it
-/// returns. The error is the writer's.
+/// returns. The rows of the chunk table are sorted here, if it is in. The error is the writer's.
 pub fn write_end<W: Write>(
     writer: &mut W,
     files: &WrittenFiles,
-    xorbs: &WrittenXorbs,
+    xorbs: WrittenXorbs,
     form: &Form,
 ) -> Result<MDBShardFileFooter>
     ensures bytes { OnOk result ((rs : List MDBFileInfo) → (xs : List MDBXorbInfo)
-        → All FitsRecord rs → HasWritten files.now rs → HasWrittenXorbs xorbs.now xs
+        → All FitsRecord rs → HasWritten files.now rs
+        → HasWrittenFor form.now.chunk_table xorbs xs
         → Appends (W.contents writer.old) (W.contents writer.new) (end_of_layout rs xs form.now)) }
     ensures footer { IfOk result (λ footer. (rs : List MDBFileInfo) → (xs : List MDBXorbInfo)
-        → All FitsRecord rs → HasWritten files.now rs → HasWrittenXorbs xorbs.now xs
+        → All FitsRecord rs → HasWritten files.now rs
+        → HasWrittenFor form.now.chunk_table xorbs xs
         → footer ≡ footer_value rs xs form.now) }
     ensures widths { IfOk result FitsFooter }
     ensures causes { IfErr result IsWriteError }
 {
+    let footer = footer_of(files, &xorbs, form);
     write_table(writer, form.file_table, &files.table)?;
     write_table(writer, form.xorb_table, &xorbs.table)?;
-    write_chunk_table(writer, form.chunk_table, &xorbs.chunk_rows)?;
-    let footer = footer_of(files, xorbs, form);
+    write_chunk_table(writer, form.chunk_table, xorbs.chunk_rows)?;
     footer.serialize(writer)?;
     Ok(footer)
 }
@@ -137,27 +139,35 @@ fn write_table<W: Write>(writer: &mut W, is_in: bool, table: &RecordTable) -> Re
 }
 
 // Writes the chunk table, if it is in.
-fn write_chunk_table<W: Write>(
-    writer: &mut W,
-    is_in: bool,
-    rows: &BTreeSet<ChunkTableRow>,
-) -> Result<()>
-    ensures bytes { OnOk result
-        (Appends (W.contents writer.old) (W.contents writer.new)
-        (if_in is_in (flat_map chunk_table_row_bytes rows.now.keys))) }
+fn write_chunk_table<W: Write>(writer: &mut W, is_in: bool, rows: Vec<ChunkTableRow>) -> Result<()>
+    ensures bytes { OnOk result ((xorbs : List MDBXorbInfo)
+        → (is_in ≡ true → rows.items ≡ chunk_table_rows xorbs)
+        → Appends (W.contents writer.old) (W.contents writer.new)
+        (if_in is_in (chunk_table_bytes xorbs))) }
     ensures causes { IfErr result IsWriteError }
 {
     if is_in {
-        write_chunk_rows(writer, rows)?;
+        write_sorted(writer, rows)?;
     }
     Ok(())
 }
 
-// Writes the rows of the chunk table, in ascending order.
-fn write_chunk_rows<W: Write>(writer: &mut W, rows: &BTreeSet<ChunkTableRow>) -> Result<()>
+// Writes the chunk table: its rows, which are sorted in place.
+fn write_sorted<W: Write>(writer: &mut W, mut rows: Vec<ChunkTableRow>) -> Result<()>
+    ensures bytes { OnOk result ((xorbs : List MDBXorbInfo) → rows.items ≡ chunk_table_rows xorbs
+        → Appends (W.contents writer.old) (W.contents writer.new) (chunk_table_bytes xorbs)) }
+    ensures causes { IfErr result IsWriteError }
+{
+    rows.sort_unstable();
+    write_chunk_rows(writer, rows.as_slice())?;
+    Ok(())
+}
+
+// Writes these rows of the chunk table.
+fn write_chunk_rows<W: Write>(writer: &mut W, rows: &[ChunkTableRow]) -> Result<()>
     ensures bytes { OnOk result
         (Appends (W.contents writer.old) (W.contents writer.new)
-        (flat_map chunk_table_row_bytes rows.now.keys)) }
+        (flat_map chunk_table_row_bytes rows.now)) }
     ensures causes { IfErr result IsWriteError }
 {
     for row in rows {
@@ -170,7 +180,7 @@ fn write_chunk_rows<W: Write>(writer: &mut W, rows: &BTreeSet<ChunkTableRow>) ->
 fn footer_of(files: &WrittenFiles, xorbs: &WrittenXorbs, form: &Form) -> MDBShardFileFooter
     ensures widths { FitsFooter result }
     ensures value { (rs : List MDBFileInfo) → (xs : List MDBXorbInfo) → All FitsRecord rs
-        → HasWritten files.now rs → HasWrittenXorbs xorbs.now xs
+        → HasWritten files.now rs → HasWrittenFor form.now.chunk_table xorbs.now xs
         → result ≡ footer_value rs xs form.now }
 {
     let row_size = ROW_SIZE as u64;

@@ -10,7 +10,6 @@ ghost use Rattle.xet_shards.specs.Copying.{CopiesRecord};
 
 use super::xorb_writer::ChunkTableRow;
 use std::alloc::Global;
-use std::collections::BTreeSet;
 use std::io::Write;
 use xet_base::error::Result;
 use xet_base::input::ByteInput;
@@ -99,12 +98,12 @@ pub struct WrittenFiles {
     ghost bytes_fit: { materialized_bytes ≤ 4294967295 * table.rows },
 }
 
-/// The xorbs written so far: their lookup table, the rows of the chunk table, and the sums of their
-/// sizes, unpacked and on disk, by their headers.
+/// The xorbs written so far: their lookup table, the rows of the chunk table, in the order of the
+/// section, and the sums of their sizes, unpacked and on disk, by their headers.
 #[derive(Drop)]
 pub struct WrittenXorbs {
     pub table: RecordTable,
-    pub chunk_rows: BTreeSet<ChunkTableRow>,
+    pub chunk_rows: Vec<ChunkTableRow>,
     pub stored_bytes: u64,
     pub stored_bytes_on_disk: u64,
     ghost bytes_fit: { stored_bytes ≤ 4294967295 * table.rows },

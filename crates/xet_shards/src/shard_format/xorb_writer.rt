@@ -1,8 +1,7 @@
 //! Writing the xorb section, and collecting the tables by which its records and their chunks are
 //! found.
 
-ghost use Rattle.std.specs.Prelude.{◌≡◌, ◌+◌, ◌*◌, ◌≤◌, ◌++◌, [], ◌∷◌, List, length, MatchResult, OnOk, IfOk, IfErr};
-ghost use Rattle.std.specs.BTreeSet.{insert_key};
+ghost use Rattle.std.specs.Prelude.{◌≡◌, ◌+◌, ◌*◌, ◌≤◌, ◌++◌, [], ◌∷◌, List, length, true, false, MatchResult, OnOk, IfOk, IfErr};
 ghost use Rattle.std.specs.Io.KnownBytes.{Appends};
 ghost use Rattle.xet_base.specs.Errors.{IsWriteError};
 ghost use Rattle.xet_records.specs.declared.xorb_structs.MDBXorbInfo.{MDBXorbInfo};
@@ -10,12 +9,11 @@ ghost use Rattle.xet_records.specs.declared.xorb_structs.XorbChunkSequenceEntry.
 ghost use Rattle.xet_records.specs.Copying.{CopiesRows, CopyFails, IsOutputFailure};
 ghost use Rattle.xet_records.specs.XorbRecord.{xorb_record_bytes, xorb_row_count, HasItsChunks};
 ghost use Rattle.xet_records.specs.XorbRow.{chunk_row, FitsChunk};
-ghost use Rattle.xet_shards.specs.Tables.{chunk_table_row_bytes, chunk_table_row_cmp, AddsChunkRows};
-ghost use Rattle.xet_shards.specs.Written.{AddsRecord, HasWrittenXorbs};
+ghost use Rattle.xet_shards.specs.Tables.{chunk_table_row_bytes, AddsChunkRows};
+ghost use Rattle.xet_shards.specs.Written.{AddsRecord, HasWrittenFor, HasWrittenXorbs};
 
 use super::written::{RecordTable, WrittenSection, WrittenXorbs};
 use std::alloc::Global;
-use std::collections::BTreeSet;
 use std::io::Write;
 use xet_base::error::{CoreError, Result};
 use xet_base::input::ByteInput;
@@ -69,6 +67,35 @@ impl WrittenXorbs {
         self.stored_bytes_on_disk += u64::from(header.num_bytes_on_disk);
         Ok(row)
     }
+
+    /// Adds and writes the next xorb. The rows of its chunks are collected only if a chunk table is
+    /// to be written. The error is the writer's, or `OutOfMemory` if an allocation fails.
+    pub fn write_for<W: Write>(
+        &mut self,
+        writer: &mut W,
+        xorb: &MDBXorbInfo,
+        chunk_table: bool,
+    ) -> Result<()>
+        requires whole { HasItsChunks xorb.now }
+        requires rows { self.old.table.rows + xorb_row_count xorb.now ≤ 4294967295 }
+        ensures appended { OnOk result
+            (Appends (W.contents writer.old) (W.contents writer.new) (xorb_record_bytes xorb.now)) }
+        ensures written { OnOk result ((before : List MDBXorbInfo)
+            → HasWrittenFor chunk_table self.old before
+            → HasWrittenFor chunk_table self.new (before ++ xorb.now ∷ [])) }
+        ensures no_rows { chunk_table ≡ false → self.new.chunk_rows ≡ self.old.chunk_rows }
+        ensures causes { IfErr result IsWriteError }
+    {
+        let row = self.add(&xorb.metadata)?;
+        collect_chunk_rows(
+            &mut self.chunk_rows,
+            chunk_table,
+            row,
+            xorb.chunks.as_slice(),
+        )?;
+        xorb.serialize(writer)?;
+        Ok(())
+    }
 }
 
 impl WrittenSection for WrittenXorbs {
@@ -85,7 +112,7 @@ impl WrittenSection for WrittenXorbs {
     fn new(alloc: Global) -> WrittenXorbs {
         WrittenXorbs {
             table: RecordTable::new(alloc),
-            chunk_rows: BTreeSet::new(alloc),
+            chunk_rows: Vec::new(alloc),
             stored_bytes: 0,
             stored_bytes_on_disk: 0,
         }
@@ -96,10 +123,7 @@ impl WrittenSection for WrittenXorbs {
     }
 
     fn write<W: Write>(&mut self, writer: &mut W, xorb: &MDBXorbInfo) -> Result<()> {
-        let row = self.add(&xorb.metadata)?;
-        insert_chunk_rows(&mut self.chunk_rows, row, xorb.chunks.as_slice())?;
-        xorb.serialize(writer)?;
-        Ok(())
+        self.write_for(writer, xorb, true)
     }
 
     fn copy<M, I: ByteInput<M>, W: Write>(
@@ -123,21 +147,40 @@ impl WrittenSection for WrittenXorbs {
     }
 }
 
-// Adds the rows of the chunks of a xorb that starts at this row.
-fn insert_chunk_rows(
-    chunk_rows: &mut BTreeSet<ChunkTableRow>,
+// Adds the rows of the chunks of a xorb that starts at this row, if they are wanted.
+fn collect_chunk_rows(
+    chunk_rows: &mut Vec<ChunkTableRow>,
+    wanted: bool,
     row: u32,
     chunks: &[XorbChunkSequenceEntry],
 ) -> Result<()>
     requires { length chunks.now ≤ 4294967295 }
     ensures ok { OnOk result
-        (AddsChunkRows chunk_rows.old.keys chunk_rows.new.keys row chunks.now) }
+        (wanted ≡ true → AddsChunkRows chunk_rows.old.items chunk_rows.new.items row chunks.now) }
+    ensures no_rows { wanted ≡ false → chunk_rows.new ≡ chunk_rows.old }
+    ensures causes { IfErr result (λ e. e ≡ CoreError.OutOfMemory) }
+{
+    if wanted {
+        push_chunk_rows(chunk_rows, row, chunks)?;
+    }
+    Ok(())
+}
+
+// Adds the rows of the chunks of a xorb that starts at this row.
+fn push_chunk_rows(
+    chunk_rows: &mut Vec<ChunkTableRow>,
+    row: u32,
+    chunks: &[XorbChunkSequenceEntry],
+) -> Result<()>
+    requires { length chunks.now ≤ 4294967295 }
+    ensures ok { OnOk result
+        (AddsChunkRows chunk_rows.old.items chunk_rows.new.items row chunks.now) }
     ensures causes { IfErr result (λ e. e ≡ CoreError.OutOfMemory) }
 {
     let mut index = 0;
     for chunk in chunks {
         let word = chunk.chunk_hash.word0;
-        chunk_rows.insert(ChunkTableRow { word, row, index })?;
+        chunk_rows.push(ChunkTableRow { word, row, index })?;
         index += 1;
     }
     Ok(())
@@ -145,7 +188,7 @@ fn insert_chunk_rows(
 
 // Copies the chunks of a xorb that starts at this row, and adds their rows.
 fn copy_chunks<M, I: ByteInput<M>, W: Write>(
-    chunk_rows: &mut BTreeSet<ChunkTableRow>,
+    chunk_rows: &mut Vec<ChunkTableRow>,
     row: u32,
     input: &mut I,
     writer: &mut W,
@@ -155,7 +198,7 @@ fn copy_chunks<M, I: ByteInput<M>, W: Write>(
         (λ _. (chunks : List XorbChunkSequenceEntry)
         × CopiesRows chunk_row FitsChunk (λ c. c) (I.reads input.old input.new)
         (W.contents writer.old) (W.contents writer.new) count chunks
-        × AddsChunkRows chunk_rows.old.keys chunk_rows.new.keys row chunks)
+        × AddsChunkRows chunk_rows.old.items chunk_rows.new.items row chunks)
         (CopyFails I.reads I.fails input.old input.new (48 * count)) }
 {
     for index in 0..count {
@@ -167,12 +210,11 @@ fn copy_chunks<M, I: ByteInput<M>, W: Write>(
 }
 
 // Adds a row of the chunk table. `OutOfMemory` of the output if an allocation fails.
-fn add_chunk_row(chunk_rows: &mut BTreeSet<ChunkTableRow>, row: ChunkTableRow) -> CopyResult<()>
-    ensures added { OnOk result
-        (chunk_rows.new.keys ≡ insert_key chunk_table_row_cmp chunk_rows.old.keys row) }
+fn add_chunk_row(chunk_rows: &mut Vec<ChunkTableRow>, row: ChunkTableRow) -> CopyResult<()>
+    ensures added { OnOk result (chunk_rows.new.items ≡ chunk_rows.old.items ++ row ∷ []) }
     ensures causes { IfErr result IsOutputFailure }
 {
-    match chunk_rows.insert(row) {
+    match chunk_rows.push(row) {
         Ok(_) => Ok(()),
         Err(_) => Err(CopyFailure::Output(CoreError::OutOfMemory)),
     }

@@ -176,8 +176,9 @@ impl MDBMinimalShard {
         MDBShardFileHeader::of_version(form.version).serialize(writer)?;
         let files = write_files(alloc, writer, files, kept)?;
         let xorbs = write_xorbs(alloc, writer, self.xorbs(), &starts, filter)?;
-        write_end(writer, &files, &xorbs, form)?;
-        Ok(size_of(&files, &xorbs))
+        let size = size_of(&files, &xorbs);
+        write_end(writer, &files, xorbs, form)?;
+        Ok(size)
     }
 }
 
@@ -251,7 +252,7 @@ fn write_xorbs<W: Write, F: Fn(&MDBXorbInfoView) -> bool>(
     for xorb in xorbs {
         if filter(xorb) {
             let marked = mark_starts(alloc, xorb, starts)?;
-            written.write(writer, &marked)?;
+            written.write_for(writer, &marked, false)?;
         }
     }
     WrittenXorbs::write_bookend(writer)?;

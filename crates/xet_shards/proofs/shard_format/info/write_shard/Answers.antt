@@ -5,6 +5,7 @@ use Rattle.std.specs.Io.KnownBytes.{Appends}
 use Rattle.std.proofs.lemmas.List.{map-id}
 use Rattle.xet_records.specs.FileRecord.{FitsRecord, FitsItsHeader}
 use Rattle.xet_records.specs.XorbRecord.{HasItsChunks}
+use Rattle.xet_shards.specs.WrittenLaws.{written_for}
 use Rattle.xet_shards.specs.Layout.{shard_header_bytes, footer_value, layout_of}
 use Rattle.xet_shards.proofs.Files.{well_formed_values, widths_of_values}
 use Rattle.xet_shards.proofs.Xorbs.{xorb_values, owned-values}
@@ -28,7 +29,7 @@ returns-clause-bytes g c =
     let header = subst (λ h. Appends old (contents c.serialize.new.writer) (shard_header_bytes h)) c.of_version-header.ensures c.in_ok-serialize.ensures.bytes in
     let rs_are = map-id (values_of c.file_content.result.now.entries) in
     let xs_are = owned-values c.xorb_content.result.now.entries in
-    let end = c.in_ok-metadata.ensures.bytes _ _ (subst (All FitsRecord) (sym rs_are) (widths_of_values _ files.files)) c.in_ok-files.ensures.written c.in_ok-xorbs.ensures.written in
+    let end = c.in_ok-metadata.ensures.bytes _ _ (subst (All FitsRecord) (sym rs_are) (widths_of_values _ files.files)) c.in_ok-files.ensures.written (written_for _ _ _ c.in_ok-xorbs.ensures.written) in
     subst (Appends old new) (λ i. layout_of ((rs_are ∙ ap values_of files.entries) i) ((xs_are ∙ ap values_of c.xorb_content.ensures.entries) i) c.args.form.now)
     (whole_layout _ _ _ _ _ _ _ _ header c.in_ok-files.ensures.bytes c.in_ok-xorbs.ensures.bytes end)
 
@@ -37,6 +38,6 @@ returns-clause-info g c =
     let files = c.file_content.ensures in
     let rs_are = map-id (values_of c.file_content.result.now.entries) in
     let xs_are = owned-values c.xorb_content.result.now.entries in
-    let footer = c.in_ok-metadata.ensures.footer _ _ (subst (All FitsRecord) (sym rs_are) (widths_of_values _ files.files)) c.in_ok-files.ensures.written c.in_ok-xorbs.ensures.written
+    let footer = c.in_ok-metadata.ensures.footer _ _ (subst (All FitsRecord) (sym rs_are) (widths_of_values _ files.files)) c.in_ok-files.ensures.written (written_for _ _ _ c.in_ok-xorbs.ensures.written)
     ∙ (λ i. footer_value ((rs_are ∙ ap values_of files.entries) i) ((xs_are ∙ ap values_of c.xorb_content.ensures.entries) i) c.args.form.now) in
     λ i. record { header = c.of_version-header.ensures i; metadata = footer i }

@@ -24,7 +24,7 @@ export-requires g c =
       rows = omega (
         arith,
         next_fits (in_version kind c.args.version) (laws_in kind g.met.E.ExportedRecord.laws c.args.version) _ _ _ _ _ (g.E.ExportedRecord.stored c.in-Some.next) before next,
-        g.met.E.Section.WrittenSection.counts_rows _ _ before.made.collected,
+        g.met.E.ExportedRecord.counts_rows c.args.form.now _ _ before.made.collected,
         fewer_rows kind (g.E.ExportedRecord.exports c.args.aux_ext c.args.form.now) (g.met.E.ExportedRecord.no_more_rows c.args.aux_ext c.args.form.now) before.stored,
       );
     }
@@ -35,7 +35,7 @@ loop-written-init g c = record {
   are_stored = All-nil _;
   taken = Takes-nil _;
   rows = omega (arith, c.from-rows_left.ensures);
-  made = record { collected = c.new-written.ensures; bytes = Appends-nil _ };
+  made = record { collected = g.met.E.ExportedRecord.begins c.args.form.now c.new-written.result c.new-written.ensures; bytes = Appends-nil _ };
 }
 
 pub loop-written-preserved : goal.loop-written-preserved

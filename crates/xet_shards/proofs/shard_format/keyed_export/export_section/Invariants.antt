@@ -9,7 +9,7 @@ abbrev pub invariant-loop-written : goal.invariant-loop-written
 invariant-loop-written g l =
     let kind = g.E.Section.Record.SectionRecord.kind in
     HasExported (in_version kind l.version) (Takes (g.S.ShardSource.meaning l.fn.source) (g.S.ShardSource.meaning l.source))
-    (λ stored. SectionWritten kind (g.E.Section.WrittenSection.has_written l.written) (g.W.Write.contents l.fn.writer) (g.W.Write.contents l.writer) (flat_map (g.E.ExportedRecord.exports l.aux_ext l.form) stored))
+    (λ stored. SectionWritten kind (g.E.ExportedRecord.has_written l.form l.written) (g.W.Write.contents l.fn.writer) (g.W.Write.contents l.writer) (flat_map (g.E.ExportedRecord.exports l.aux_ext l.form) stored))
     l.rows_left
 
 abbrev pub decreases-loop-written : goal.decreases-loop-written

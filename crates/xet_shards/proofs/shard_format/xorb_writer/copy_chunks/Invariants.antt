@@ -9,4 +9,4 @@ abbrev pub invariant-loop-index : goal.invariant-loop-index
 invariant-loop-index g l =
     (chunks : List XorbChunkSequenceEntry)
     × CopiesRows chunk_row FitsChunk (λ c. c) (g.I.ByteInput.reads l.initial.input l.input) (g.W.Write.contents l.initial.writer) (g.W.Write.contents l.writer) l.index chunks
-    × AddsChunkRows l.initial.chunk_rows.keys l.chunk_rows.keys l.row chunks
+    × AddsChunkRows l.initial.chunk_rows.items l.chunk_rows.items l.row chunks

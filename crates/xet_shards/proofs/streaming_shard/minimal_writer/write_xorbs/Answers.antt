@@ -7,22 +7,22 @@ use Rattle.std.proofs.lemmas.List.{map-append}
 use Rattle.std.proofs.lemmas.List.Sums.{sum_by_more_le}
 use Rattle.xet_records.specs.XorbRecord.{xorb_record_bytes, xorb_row_count, IsStoredXorb, HasItsChunks}
 use Rattle.xet_shards.specs.Section.{section_bytes}
-use Rattle.xet_shards.specs.Written.{HasWrittenXorbs}
+use Rattle.xet_shards.specs.Written.{HasWrittenFor}
 use Rattle.xet_shards.specs.MinimalShard.{start_cmp, mark_starts, IsKept}
 use Rattle.xet_shards.proofs.Walks.{flat_map-push}
 use Rattle.xet_shards.proofs.MinimalShard.{one_more_item}
 use Rattle.xet_shards.proofs.MinimalWriting.{rows_marked, marked_whole, one_kept, none_kept, says_at, rows_kept}
 use Rattle.xet_shards.proofs.streaming_shard.minimal_writer.write_xorbs.Goals as goal
-use Rattle.xet_shards.proofs.streaming_shard.minimal_writer.write_xorbs.Goals.{then-filter+in_ok-marked+in_ok-write, else-filter}
+use Rattle.xet_shards.proofs.streaming_shard.minimal_writer.write_xorbs.Goals.{then-filter+in_ok-marked+in_ok-write_for, else-filter}
 
-pub write-requires-clause-whole : goal.write-requires-clause-whole
-write-requires-clause-whole g c =
+pub write_for-requires-clause-whole : goal.write_for-requires-clause-whole
+write_for-requires-clause-whole g c =
     let x = c.xorb-item.result in
     let stored : IsStoredXorb x = subst IsStoredXorb (sym c.xorb-item.is) (c.requires.fit.stored c.loop-xorb.xorb-index x c.loop-xorb-test.true) in
     subst HasItsChunks (sym c.in_ok-marked.ensures.ok) (marked_whole (contains start_cmp c.args.starts.now) x stored.count)
 
-pub write-requires-clause-rows : goal.write-requires-clause-rows
-write-requires-clause-rows g c =
+pub write_for-requires-clause-rows : goal.write_for-requires-clause-rows
+write_for-requires-clause-rows g c =
     let starts = contains start_cmp c.args.starts.now in
     let xorbs = c.args.xorbs.now in
     let i = c.loop-xorb.xorb-index in
@@ -51,21 +51,21 @@ loop-xorb-preserved g c =
     let contents = g.W.Write.contents in
     let first = map (mark_starts starts) kept in
     elim c.if-filter.branch [
-      | then-filter+in_ok-marked+in_ok-write w ↦
+      | then-filter+in_ok-marked+in_ok-write_for w ↦
           let pushed : first ++ w.in_ok-marked.marked ∷ [] ≡ map (mark_starts starts) (kept ++ x ∷ []) =
           ap (λ y. first ++ y ∷ []) w.in_ok-marked.ensures.ok ∙ sym (map-append (mark_starts starts) kept (x ∷ [])) in (
             kept ++ x ∷ [],
             subst (λ ys. IsKept answers ys (kept ++ x ∷ [])) (sym more) (one_kept answers (take i xorbs) kept x inv.1 (says_at g.F.Fn _ _ _ true c.filter.ensures w.if-filter.true)),
-            subst (λ v. HasWrittenXorbs v (map (mark_starts starts) (kept ++ x ∷ []))) (sym w.written-is)
-                (subst (HasWrittenXorbs w.write.new.self) pushed (w.in_ok-write.ensures.written first inv.2)),
+            subst (λ v. HasWrittenFor false v (map (mark_starts starts) (kept ++ x ∷ []))) (sym w.written-is)
+                (subst (HasWrittenFor false w.write_for.new.self) pushed (w.in_ok-write_for.ensures.written first inv.2)),
             subst (λ v. Appends (contents c.args.writer.now) (contents v) (flat_map xorb_record_bytes (map (mark_starts starts) (kept ++ x ∷ [])))) (sym w.writer-is)
-                (subst (λ ys. Appends (contents c.args.writer.now) (contents w.write.new.writer) (flat_map xorb_record_bytes ys)) pushed
-                (rw flat_map-push (Appends-trans _ (contents c.loop-xorb.writer) _ _ _ inv.3 w.in_ok-write.ensures.appended))),
+                (subst (λ ys. Appends (contents c.args.writer.now) (contents w.write_for.new.writer) (flat_map xorb_record_bytes ys)) pushed
+                (rw flat_map-push (Appends-trans _ (contents c.loop-xorb.writer) _ _ _ inv.3 w.in_ok-write_for.ensures.appended))),
           )
       | else-filter w ↦ (
         kept,
         subst (λ ys. IsKept answers ys kept) (sym more) (none_kept answers (take i xorbs) kept x inv.1 (says_at g.F.Fn _ _ _ false c.filter.ensures w.if-filter.false)),
-        subst (λ v. HasWrittenXorbs v first) (sym w.written-is) inv.2,
+        subst (λ v. HasWrittenFor false v first) (sym w.written-is) inv.2,
         subst (λ v. Appends (contents c.args.writer.now) (contents v) (flat_map xorb_record_bytes first)) (sym w.writer-is) inv.3,
       )
     ]
