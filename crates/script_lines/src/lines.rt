@@ -1,7 +1,7 @@
 //! A line: its end, whether it is skipped, and its words.
 
-ghost use Rattle.std.specs.Prelude.{◌≡◌, ◌↔◌, IsTrue};
-ghost use Rattle.script_lines.specs.Words.{IsSkipped, without_last};
+ghost use Rattle.std.specs.Prelude.{◌≡◌, ◌↔◌, ◌⊎◌, [], ◌∷◌, ◌++◌, map, IsTrue, IfNone, IfSome, IfOk};
+ghost use Rattle.script_lines.specs.Words.{AreWordsOf, EndsInSeparator, IsParenthesis, IsSkipped, without_last};
 
 use std::alloc::{AllocError, Global};
 
@@ -27,7 +27,9 @@ pub fn is_skipped(line: &[u8]) -> bool
 
 /// The words of a line, separated by one or more spaces. A parenthesis is a word by itself, with or
 /// without spaces beside it.
-pub fn split_words(alloc: Global, text: &str) -> Result<Vec<&str>, AllocError> {
+pub fn split_words(alloc: Global, text: &str) -> Result<Vec<&str>, AllocError>
+    ensures { IfOk result (λ words. AreWordsOf text.now (map (λ word. word.now) words.items)) }
+{
     let mut words = Vec::new(alloc);
     for part in text.split_inclusive([' ', '(', ')']) {
         let (word, parenthesis) = split_parenthesis(part);
@@ -42,12 +44,20 @@ pub fn split_words(alloc: Global, text: &str) -> Result<Vec<&str>, AllocError> {
 }
 
 // The word before the end of a part of a line, and its end, if that is a parenthesis.
-fn split_parenthesis(part: &str) -> (&str, Option<&'static str>) {
+fn split_parenthesis(part: &str) -> (&str, Option<&'static str>)
+    ensures parenthesis { IfSome result.1
+        (λ end. IsParenthesis end.now × (part.now ≡ result.0.now ++ end.now)) }
+    ensures none { IfNone result.1
+        ((part.now ≡ result.0.now ++ 32 ∷ [])
+        ⊎ ((part.now ≡ result.0.now) × ¬ (EndsInSeparator part.now))) }
+{
     if let Some(word) = part.strip_suffix('(') {
         (word, Some("("))
     } else if let Some(word) = part.strip_suffix(')') {
         (word, Some(")"))
+    } else if let Some(word) = part.strip_suffix(' ') {
+        (word, None)
     } else {
-        (part.strip_suffix(' ').unwrap_or(part), None)
+        (part, None)
     }
 }

@@ -1,6 +1,7 @@
 //! Ranges of bytes, and bytes as hexadecimal digits.
 
-ghost use Rattle.std.specs.Prelude.{◌≡◌, ◌≤◌, ◌+◌, ◌↔◌, length, slice_range, IsOk, IfOk, IfErr};
+ghost use Rattle.std.specs.Prelude.{◌≡◌, ◌≤◌, ◌+◌, ◌↔◌, length, slice_range, string_bytes, IsOk, IfOk, IfErr};
+ghost use Rattle.script_lines.specs.Printed.{hex_text};
 
 use crate::words::ParseError;
 use std::alloc::{AllocError, Global};
@@ -29,7 +30,9 @@ pub fn bytes_in(bytes: &[u8], range: ByteRange) -> Result<&[u8], ParseError>
 }
 
 /// The bytes as lower-case hexadecimal digits, two for each.
-pub fn hex_digits(alloc: Global, bytes: &[u8]) -> Result<String, AllocError> {
+pub fn hex_digits(alloc: Global, bytes: &[u8]) -> Result<String, AllocError>
+    ensures { IfOk result (λ digits. string_bytes digits ≡ hex_text bytes.now) }
+{
     let mut digits = String::new(alloc);
     for byte in bytes {
         write!(digits, "{byte:02x}")?;

@@ -1,6 +1,8 @@
 //! The hashes and the rows of records that the words of a line spell.
 
-ghost use Rattle.std.specs.Prelude.{◌≡◌, length, IfOk, IfErr};
+ghost use Rattle.std.specs.Prelude.{◌≡◌, List, length, IfOk, IfErr, IsErrOf};
+ghost use Rattle.xet_core_structures.specs.declared.merklehash.DataHash.{DataHash};
+ghost use Rattle.script_lines.specs.Words.{ListsHashes, ListsVerification};
 
 use crate::words::{ParseError, parse_hash, parse_u32, split_at_colon};
 use std::alloc::Global;
@@ -83,7 +85,11 @@ pub fn parse_segment(word: &str) -> Result<FileDataSequenceEntry, ParseError>
 pub fn parse_verification(
     alloc: Global,
     list: &str,
-) -> Result<Vec<FileVerificationEntry>, ParseError> {
+) -> Result<Vec<FileVerificationEntry>, ParseError>
+    ensures rows { IfOk result (λ rows. ListsVerification list.now rows.items) }
+    ensures unreadable { IsErrOf result ParseError.Unreadable
+        → (hashes : List DataHash) → ¬ (ListsHashes list.now hashes) }
+{
     let mut rows = Vec::new(alloc);
     if list.is_empty() {
         return Ok(rows);

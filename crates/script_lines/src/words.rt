@@ -1,12 +1,13 @@
 //! The words of a line, and the names, numbers and hashes that they spell.
 
-ghost use Rattle.std.specs.Prelude.{◌≡◌, ◌↔◌, ◌∷◌, ◌++◌, drop, IsTrue, IsOk, IfOk, IsOkAnd, IfErr, MatchOption};
+ghost use Rattle.std.specs.Prelude.{◌≡◌, ◌↔◌, ◌∷◌, ◌++◌, drop, IsTrue, IsOk, IfOk, IsOkAnd, OnErr, IfErr, MatchOption};
 ghost use Rattle.std.specs.Result.{OkIff};
 ghost use Rattle.std.specs.Str.Parse.{digits_value};
 ghost use Rattle.xet_core_structures.specs.Hash.{words_of};
 ghost use Rattle.xet_core_structures.specs.Hex.{IsHexText, Spells};
 ghost use Rattle.script_lines.specs.declared.words.ParseError.TheVariants.{OutOfMemory};
-ghost use Rattle.script_lines.specs.Words.{IsName, IsNameByte, IsNumber, small_words};
+ghost use Rattle.xet_core_structures.specs.declared.merklehash.DataHash.{DataHash};
+ghost use Rattle.script_lines.specs.Words.{IsName, IsNameByte, IsNumber, SpellsHash, small_words};
 
 use std::alloc::{AllocError, AllocFailed};
 use xet_core_structures::merklehash::{DataHash, HMACKey, MerkleHash};
@@ -91,6 +92,8 @@ pub fn parse_hash(word: &str) -> Result<MerkleHash, ParseError>
     ensures number { ¬ (IsHexText word.now) → (IsOk result ↔ IsNumber 64 word.now) }
     ensures small { ¬ (IsHexText word.now) → IfOk result
         (λ hash. words_of hash ≡ small_words (digits_value 10 word.now)) }
+    ensures hash { IfOk result (SpellsHash word.now) }
+    ensures none { OnErr result ((hash : DataHash) → ¬ (SpellsHash word.now hash)) }
     ensures causes { IfErr result (λ e. e ≡ ParseError.Unreadable) }
 {
     match DataHash::from_hex(word) {

@@ -1,0 +1,3 @@
+pub mod HexBytes
+pub mod SpelledHashes
+pub mod Splitting
