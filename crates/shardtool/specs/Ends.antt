@@ -3,6 +3,7 @@ use Rattle.std.specs.Prelude.{◌≡◌, ◌≢◌, ◌⊎◌, ℕ, ⊤}
 use Rattle.std.specs.IoError.{error_kind}
 use Rattle.std.specs.declared.io.Error.{Error}
 use Rattle.std.specs.declared.io.ErrorKind.TheVariants.{OutOfMemory as device_out_of_memory}
+use Rattle.xet_core_structures.specs.declared.error.CoreError.TheVariants.{OutOfMemory}
 use Rattle.script_lines.specs.declared.words.ParseError.{ParseError}
 use Rattle.script_lines.specs.declared.words.ParseError.TheVariants.{Unreadable as unreadable_line, OutOfMemory as line_out_of_memory}
 use Rattle.shardtool.specs.declared.run.Ending.{Ending}
@@ -30,9 +31,13 @@ StopsAtLine line_out_of_memory stop = IsRefused stop
 
 -- the stop at an error of the input or the output: out of memory counts as a failed allocation
 abbrev pub StopsAtFault : Error → Stop → Type 0
-StopsAtFault error (Refused _) = error_kind error ≡ device_out_of_memory
+StopsAtFault error (Refused e) = (error_kind error ≡ device_out_of_memory) × (e ≡ OutOfMemory)
 StopsAtFault error Unreadable = ⊥
 StopsAtFault error Failed = error_kind error ≢ device_out_of_memory
+
+-- the stop of a failed allocation, input or output
+abbrev pub StopsAtFailure : Stop → Type 0
+StopsAtFailure stop = (stop ≡ Refused OutOfMemory) ⊎ (stop ≡ Failed)
 
 -- the ending after a stop, or that of an output that fails while the stop is printed
 abbrev pub EndsAt : Stop → Ending → Type 0

@@ -1,11 +1,13 @@
 //! Looking for a run of chunks in the bytes of a shard.
 
-ghost use Rattle.std.specs.Prelude.{◌<◌, ◌^◌, ℕ, Option, IfSome, IsOkAnd, MatchResult};
+ghost use Rattle.std.specs.Prelude.{◌<◌, ◌^◌, ℕ, Option, IfSome, IsOkAnd, MatchResult, OnOk};
 ghost use Rattle.std.specs.FinMap as finite;
+ghost use Rattle.std.specs.Io.KnownBytes.{Appends};
 ghost use Rattle.xet_core_structures.specs.KeyedHash.{no_key};
 ghost use Rattle.xet_core_structures.specs.Shard.{Shard, IsShard};
 ghost use Rattle.xet_core_structures.specs.WrittenQueries.{RunAmong};
 ghost use Rattle.xet_core_structures.specs.WrittenShard.{AreBytesOf};
+ghost use Rattle.shardtool.specs.Printed.{run_line};
 ghost use Rattle.shardtool.specs.Query.{AnswersQuery, RefusesQuery};
 
 use std::alloc::Global;
@@ -38,12 +40,15 @@ pub fn query_chunks(
     info.chunk_hash_dedup_query(alloc, &mut source, hashes)
 }
 
-/// Prints a run on a line: its number of chunks, and their segment.
+/// Prints a run on a line: its number of chunks, and their segment. The error is the writer's.
 pub fn print_run<W: Write>(
     count: usize,
     segment: &FileDataSequenceEntry,
     output: &mut W,
-) -> io::Result<()> {
+) -> io::Result<()>
+    ensures { OnOk result
+        (Appends (W.contents output.old) (W.contents output.new) (run_line count segment.now)) }
+{
     let xorb = segment.xorb_hash;
     let start = segment.chunk_index_start;
     let end = segment.chunk_index_end;

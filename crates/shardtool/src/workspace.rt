@@ -1,7 +1,13 @@
 //! The named shards and buffers of a script, and its commands on them.
 
-ghost use Rattle.std.specs.Prelude.{OnErr};
-ghost use Rattle.std.specs.BTreeMap.{IsUnchanged};
+ghost use Rattle.std.specs.Prelude.{◌≡◌, ◌⊎◌, ◌↔◌, ◌<◌, length, IfErr, IfOk, IfSome, IsErrAnd, IsTrue, OnErr, OnOk};
+ghost use Rattle.std.specs.Bool.{OnFalse};
+ghost use Rattle.std.specs.BTreeMap.{IsEmpty, IsUnchanged};
+ghost use Rattle.std.specs.Io.BufRead.{DropsThrough};
+ghost use Rattle.std.specs.Str.{IsUtf8};
+ghost use Rattle.script_lines.specs.Words.{IsSkipped};
+ghost use Rattle.shardtool.specs.Ends.{StopsAtFailure};
+ghost use Rattle.shardtool.specs.Lines.{first_line};
 
 mod buffers;
 mod printing;
@@ -23,7 +29,11 @@ pub struct Workspace {
 }
 
 impl Workspace {
-    pub fn new(alloc: Global) -> Workspace {
+    /// A workspace without shards and buffers.
+    pub fn new(alloc: Global) -> Workspace
+        ensures shards { IsEmpty result.shards }
+        ensures buffers { IsEmpty result.buffers }
+    {
         Workspace {
             shards: BTreeMap::new(alloc),
             buffers: BTreeMap::new(alloc),
@@ -31,20 +41,38 @@ impl Workspace {
     }
 
     /// Runs the next line. `false` at the end of the input.
+    ///
+    /// The errors are those of the line, of reading it and of the command. An error leaves all
+    /// buffers as they were.
     pub fn run_next_line<R: BufRead, W: Write>(
         &mut self,
         alloc: Global,
         input: &mut R,
         output: &mut W,
-    ) -> Result<bool, Stop> {
+    ) -> Result<bool, Stop>
+        ensures more { IfOk result (λ more. IfSome (R.remaining input.old)
+            (λ bytes. IsTrue more ↔ (0 < length bytes))) }
+        ensures end { IfOk result (λ more. OnFalse more
+            ((self.new ≡ self.old) × (output.new ≡ output.old))) }
+        ensures read { OnOk result
+            (DropsThrough (R.remaining input.old) (R.remaining input.new) 10) }
+        ensures skipped { IfSome (R.remaining input.old) (λ bytes. IsSkipped (first_line bytes)
+            → (self.new ≡ self.old) × (output.new ≡ output.old) × IfErr result StopsAtFailure) }
+        ensures text { IfSome (R.remaining input.old) (λ bytes. ¬ (IsSkipped (first_line bytes))
+            → ¬ (IsUtf8 (first_line bytes))
+            → (self.new ≡ self.old) × (output.new ≡ output.old)
+            × IsErrAnd result (λ e. (e ≡ Stop.Unreadable) ⊎ StopsAtFailure e)) }
+        ensures err { OnErr result (IsUnchanged self.old.buffers self.new.buffers) }
+    {
         let mut line = Vec::new(alloc);
         if input.read_until(b'\n', &mut line)? == 0 {
             return Ok(false);
         }
         // A line ends with LF or at the end of the input; one CR before that is part of its end.
-        if let Some(command) = parse_line(alloc, without_end(line.as_slice()))? {
-            self.run(alloc, command, output)?;
-        }
+        let Some(command) = parse_line(alloc, without_end(line.as_slice()))? else {
+            return Ok(true);
+        };
+        self.run(alloc, command, output)?;
         Ok(true)
     }
 

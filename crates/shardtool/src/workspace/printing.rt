@@ -1,7 +1,11 @@
 //! The commands that print.
 
-ghost use Rattle.std.specs.Prelude.{◌↔◌, IsErrOf};
+ghost use Rattle.std.specs.Prelude.{◌≡◌, ◌⊎◌, ◌↔◌, [], ◌∷◌, ◌++◌, IfErr, IsErrOf, IsNone, IsSomeAnd, OnOk};
+ghost use Rattle.std.specs.Io.KnownBytes.{Appends};
+ghost use Rattle.script_lines.specs.Printed.{hex_text};
+ghost use Rattle.shardtool.specs.Ends.{StopsAtFailure};
 ghost use Rattle.shardtool.specs.Naming.{IsUnknown};
+ghost use Rattle.shardtool.specs.Printed.{part_under};
 
 use super::Workspace;
 use crate::find::find_file;
@@ -80,7 +84,14 @@ impl Workspace {
         buffer: &str,
         range: Option<ByteRange>,
         output: &mut W,
-    ) -> Result<(), Stop> {
+    ) -> Result<(), Stop>
+        ensures unreadable { IsErrOf result Stop.Unreadable
+            ↔ IsNone (part_under self.now.buffers buffer.now range) }
+        ensures printed { OnOk result (IsSomeAnd (part_under self.now.buffers buffer.now range)
+            (λ bytes. Appends (W.contents output.old) (W.contents output.new)
+            (hex_text bytes ++ 10 ∷ []))) }
+        ensures causes { IfErr result (λ e. (e ≡ Stop.Unreadable) ⊎ StopsAtFailure e) }
+    {
         let bytes = self.bytes_of(buffer)?;
         let bytes = match range {
             Some(range) => bytes_in(bytes, range)?,
