@@ -30,13 +30,13 @@ use Rattle.xet_shards.specs.Section.{total_rows, with_fronts, section_bytes}
 use Rattle.xet_shards.specs.Tables.{ChunkTableRow, hash_in, chunk_table_rows_from, chunk_table_rows, chunk_table, start_of, starts, start_row, chunk_table_row_bytes, table_bytes, chunk_table_bytes}
 use Rattle.xet_shards.specs.Layout.{Form, if_in, shard_header_bytes, header_value, shard_footer_bytes, footer_value, layout_of, layout_in, info_value_in, plain_form_in}
 use Rattle.xet_shards.specs.TableReading.{FitsStart, triple_of, triple_row, FitsTriple}
-use Rattle.xet_shards.proofs.ChunkTableRows.{alone, chunk_table_row}
+use Rattle.xet_shards.proofs.ChunkTableRows.{alone, keys-alone, chunk_table_row}
 use Rattle.xet_shards.proofs.Layouts.{length-shard_header_bytes}
 use Rattle.xet_shards.proofs.Maps.{All-keys-from_entries}
 use Rattle.xet_shards.proofs.Sections.{FitsSection, xorbs_fit}
 use Rattle.xet_shards.proofs.TableReading.{ReadsOrFails, IsReadAs, whole_table}
 use Rattle.xet_shards.proofs.Tables.{length-starts, chunk_table_row_total}
-use Rattle.xet_shards.proofs.XorbLayouts.{keys-alone, length-chunk_table, xorb_rows-chunks}
+use Rattle.xet_shards.proofs.XorbLayouts.{length-chunk_table, xorb_rows-chunks}
 
 -- the bytes of a row determine it
 length-start : (row : ℕ × ℕ) → FitsStart row → length (start_row row) ≡ 12

@@ -2,7 +2,6 @@
 use Rattle.std.proofs.Common.{◌≡◌, Bool, ℕ, ◌+◌, ◌*◌, List, [], ◌∷◌, ◌++◌, map, flat_map, length, Option, refl, sym, ap, ◌∙◌, subst, arith}
 use Rattle.std.specs.Prelude.{All, sum_by}
 use Rattle.std.specs.List.{enumerate_from}
-use Rattle.std.specs.Map.{keys_of}
 use Rattle.std.specs.FinMap.{FinMap, from_entries, entries}
 use Rattle.std.proofs.lemmas.List.{length-append, length-map}
 use Rattle.std.proofs.lemmas.List.FromFn.{length-enumerate_from}
@@ -15,7 +14,7 @@ use Rattle.xet_records.specs.XorbRecord.{xorb_records, xorb_row_count}
 use Rattle.xet_shards.specs.Section.{total_rows, with_fronts}
 use Rattle.xet_shards.specs.Tables.{ChunkTableRow, chunk_table_row_cmp, chunk_table_rows_from, chunk_table_rows, chunk_table, table_bytes, chunk_table_bytes}
 use Rattle.xet_shards.specs.Layout.{Form, if_in, header_value, footer_value, layout_of, plain_form}
-use Rattle.xet_shards.proofs.ChunkTableRows.{alone, chunk_table_row}
+use Rattle.xet_shards.proofs.ChunkTableRows.{alone, keys-alone, chunk_table_row}
 use Rattle.xet_shards.proofs.Maps.{IsRising, rising_lower, length-from_entries}
 use Rattle.xet_shards.proofs.Tables.{length-table_bytes, length-chunk_table_row_bytes, chunk_table_row_total, chunk_table_row_exact}
 use Rattle.xet_shards.proofs.Layouts.{length-shard_header_bytes, length-file_section, length-xorb_section, length-shard_footer_bytes}
@@ -71,10 +70,6 @@ rising_rows front (x ∷ xorbs) =
 -- each chunk has one row
 pub length-chunk_table_rows : (xorbs : List MDBXorbInfo) → length (chunk_table_rows xorbs) ≡ total_chunks xorbs
 length-chunk_table_rows xorbs = length-table_rows_after [] xorbs
-
-pub keys-alone : (ps : List ChunkTableRow) → keys_of (map alone ps) ≡ ps
-keys-alone [] = refl
-keys-alone (p ∷ ps) = ap (λ ks. p ∷ ks) (keys-alone ps)
 
 -- the chunk table has a row for each chunk
 pub length-chunk_table : (xorbs : List MDBXorbInfo) → length (chunk_table xorbs) ≡ total_chunks xorbs

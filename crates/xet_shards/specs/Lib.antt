@@ -29,8 +29,8 @@ pub mod TableReading
 pub mod Tables
 pub mod TruncatedHashes
 pub mod Written
-pub mod WrittenLaws
 pub mod WrittenChunks
+pub mod WrittenLaws
 pub mod WrittenQueries
 pub mod WrittenShard
 pub mod XorbHeaders

@@ -2,7 +2,8 @@ use Rattle.std.proofs.Common.{◌≡◌, ◌+◌, [], ◌∷◌, ◌++◌, take,
 use Rattle.std.specs.Io.KnownBytes.{Appends}
 use Rattle.std.proofs.KnownBytes.{Appends-trans}
 use Rattle.std.proofs.lemmas.List.{take_more}
-use Rattle.xet_shards.specs.Tables.{ChunkTableRow, chunk_table_row_bytes}
+use Rattle.xet_shards.specs.Tables.{chunk_table_row_bytes}
+use Rattle.xet_shards.proofs.ChunkTables.{no_table_row}
 use Rattle.xet_shards.proofs.Walks.{flat_map-push}
 use Rattle.xet_shards.proofs.shard_format.writer.write_chunk_rows.Goals as goal
 
@@ -11,9 +12,8 @@ loop-row-preserved g c =
     let contents = g.W.Write.contents in
     let rows = c.args.rows.now in
     let i = c.loop-row.row-index in
-    let no_row : ChunkTableRow = record { word = 0; row = 0; index = 0 } in
-    let row = get_or rows i no_row in
-    let more : take (i + 1) rows ≡ take i rows ++ row ∷ [] = take_more rows i no_row c.loop-row-test.true in
+    let row = get_or rows i no_table_row in
+    let more : take (i + 1) rows ≡ take i rows ++ row ∷ [] = take_more rows i no_table_row c.loop-row-test.true in
     subst (Appends (contents c.args.writer.now) (contents c.write_bytes.new.writer))
     (sym (ap (flat_map chunk_table_row_bytes) more ∙ flat_map-push chunk_table_row_bytes (take i rows) row))
     (Appends-trans _ (contents c.loop-row.writer) _ _ _ c.loop-row.invariant
