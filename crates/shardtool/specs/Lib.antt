@@ -1,11 +1,7 @@
-pub mod Combining
 pub mod Ends
-pub mod Exporting
 pub mod Lines
 pub mod Merging
-pub mod Minimal
 pub mod Naming
 pub mod Printed
-pub mod Query
 pub mod Trees
 pub mod Writing

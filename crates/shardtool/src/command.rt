@@ -3,9 +3,6 @@
 ghost use Rattle.std.specs.Prelude.{IfOk, IsOkAnd, IsNone, IsErrOf, IsUtf8};
 ghost use Rattle.script_lines.specs.Words.{IsSkipped};
 
-use crate::combine::Operation;
-use crate::export::{Export, ExportParts};
-use crate::minimal::{KeptXorbs, Subset};
 use crate::tree::{NameTree, parse_tree};
 use crate::write::Version;
 use script_lines::lines::{is_skipped, split_words};
@@ -16,6 +13,9 @@ use script_lines::records::{
 use script_lines::words::{
     ParseError, parse_flag, parse_hash, parse_key, parse_name, parse_u64, split_option,
 };
+use shard_bytes::combine::Operation;
+use shard_bytes::export::{Export, ExportParts};
+use shard_bytes::minimal::{KeptXorbs, Subset};
 use std::alloc::Global;
 use xet_core_structures::file_structs::{
     FileAuxExt, FileDataSequenceEntry, FileMetadataExt, FileVerificationEntry, KeptParts,

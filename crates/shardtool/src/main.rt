@@ -2,13 +2,9 @@
 //! standard output, and returns an exit status that says how the script ended.
 #![tactic(auto)]
 
-mod combine;
 mod command;
-mod export;
-mod find;
 mod merge;
-mod minimal;
-mod query;
+mod print_run;
 mod run;
 mod stop;
 #[cfg(test)]

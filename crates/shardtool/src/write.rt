@@ -1,7 +1,7 @@
 //! The bytes of a shard, in a version of the format.
 
 ghost use Rattle.std.specs.Prelude.{◌≡◌, ◌⊎◌, IfOk, IfErr, IsErrOf};
-ghost use Rattle.xet_core_structures.specs.Errors.{IsDeviceError};
+ghost use Rattle.xet_core_structures.specs.Errors.{IsWriteError};
 ghost use Rattle.shardtool.specs.Writing.{layout_for, HasNoLayout};
 
 use std::alloc::Global;
@@ -32,7 +32,7 @@ pub fn written_bytes(
     ensures refused { HasNoLayout version shard.now.content
         → IsErrOf result CoreError.InvalidArguments }
     ensures causes { IfErr result
-        (λ e. IsDeviceError e
+        (λ e. IsWriteError e
         ⊎ ((e ≡ CoreError.InvalidArguments) × HasNoLayout version shard.now.content)) }
 {
     let mut bytes = Vec::new(alloc);

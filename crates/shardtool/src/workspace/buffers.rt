@@ -8,13 +8,13 @@ ghost use Rattle.shardtool.specs.Naming.{IsKnown, IsUnknown};
 ghost use Rattle.shardtool.specs.Merging.{bytes_under, HasUnknown, StopsAtUnknown};
 
 use super::Workspace;
-use crate::combine::{Operation, combine_bytes};
-use crate::export::{Export, export_bytes};
 use crate::merge::merge_buffers;
-use crate::minimal::{Subset, minimal_bytes, subset_bytes};
 use crate::stop::Stop;
 use crate::tree::NameTree;
 use crate::write::{Version, written_bytes};
+use shard_bytes::combine::{Operation, combine_bytes};
+use shard_bytes::export::{Export, export_bytes};
+use shard_bytes::minimal::{Subset, minimal_bytes, subset_bytes};
 use std::alloc::Global;
 use xet_core_structures::file_structs::KeptParts;
 

@@ -8,12 +8,13 @@ ghost use Rattle.shardtool.specs.Naming.{IsUnknown};
 ghost use Rattle.shardtool.specs.Printed.{part_under};
 
 use super::Workspace;
-use crate::find::find_file;
-use crate::minimal::eligible_chunks;
-use crate::query::{print_run, query_chunks};
+use crate::print_run::print_run;
 use crate::stop::Stop;
 use script_lines::print::print_file;
 use script_lines::ranges::{ByteRange, bytes_in, hex_digits};
+use shard_bytes::find::find_file;
+use shard_bytes::minimal::eligible_chunks;
+use shard_bytes::query::query_chunks;
 use std::alloc::Global;
 use std::io::Write;
 use xet_core_structures::merklehash::MerkleHash;

@@ -1,0 +1,37 @@
+-- What is read of two byte strings in memory is what they are.
+use Rattle.std.proofs.Common.{◌≡◌, ◌⊎◌, inl, inr, ℕ, List, [], ◌++◌, None, Some, ap, ◌∙◌, subst, arith}
+use Rattle.xet_core_structures.specs.declared.error.CoreError.{CoreError}
+use Rattle.xet_core_structures.specs.declared.shard_format.MDBShardInfo.{MDBShardInfo}
+use Rattle.xet_core_structures.specs.declared.source.MemorySource.{MemorySource}
+use Rattle.xet_core_structures.specs.Errors.{IsWriteError}
+use Rattle.xet_core_structures.specs.Source.{Source}
+use Rattle.xet_core_structures.specs.Ends.{HasEnds}
+use Rattle.xet_core_structures.specs.Shard.{Shard}
+use Rattle.xet_core_structures.specs.ByteResults.{keyed_layout, key_of, HaveResult, WritesResult, InputsFail}
+use Rattle.shard_bytes.specs.Combining.{CombinesBytes, CombiningRefusal}
+
+-- what a source in memory is
+abbrev pub in_memory : MemorySource → Source
+in_memory m = record { bytes = m.bytes.now; at = m.at; seeks = m.seeks.value; read = m.read.value; failures = 0; last_failure = None }
+
+module _ (x y x_read y_read : List ℕ) (i j : MDBShardInfo) (x_is : x_read ≡ x) (y_is : y_read ≡ y) (i_ends : HasEnds x i) (j_ends : HasEnds y j) where
+  pub bytes_combined : (IsResult : Shard → Shard → Shard → Type 0) (start out : List ℕ) (info : MDBShardInfo) → start ≡ []
+      → WritesResult IsResult x_read i y_read j (Some start) (Some out) info → CombinesBytes IsResult x y out
+  bytes_combined IsResult start out info empty (c, have, is, appends) = (
+    i,
+    j,
+    c,
+    i_ends,
+    j_ends,
+    subst (λ p. p) (λ k. HaveResult IsResult (x_is k) i (y_is k) j c) have,
+    appends ∙ ap (λ zs. zs ++ keyed_layout c (key_of i)) empty,
+  )
+
+  -- sources in memory do not fail
+  pub combining_refused : (Refusal : List ℕ → MDBShardInfo → List ℕ → MDBShardInfo → CoreError → Type 0) (old_1 new_1 old_2 new_2 : MemorySource) (e : CoreError)
+      → (IsWriteError e ⊎ InputsFail (in_memory old_1) (in_memory new_1) (in_memory old_2) (in_memory new_2) (Refusal x_read i y_read j) e) → CombiningRefusal Refusal x y e
+  combining_refused Refusal old_1 new_1 old_2 new_2 e (inl failed) = inr (inr (inl failed))
+  combining_refused Refusal old_1 new_1 old_2 new_2 e (inr (inl failed)) = absurd (omega (arith, failed.0))
+  combining_refused Refusal old_1 new_1 old_2 new_2 e (inr (inr (inl failed))) = absurd (omega (arith, failed.0))
+  combining_refused Refusal old_1 new_1 old_2 new_2 e (inr (inr (inr (none, none_too, refusal)))) =
+      inr (inr (inr (i, j, i_ends, j_ends, subst (λ p. p) (λ k. Refusal (x_is k) i (y_is k) j e) refusal)))

@@ -1,0 +1,37 @@
+-- Exports from a source in memory, made and refused.
+use Rattle.std.proofs.Common.{◌≡◌, ◌⊎◌, inl, inr, ℕ, List, [], ◌++◌, Some, ap, ◌∙◌, subst, arith}
+use Rattle.xet_core_structures.specs.declared.error.CoreError.{CoreError}
+use Rattle.xet_core_structures.specs.declared.error.CoreError.TheVariants.{InvalidArguments}
+use Rattle.xet_core_structures.specs.declared.shard_format.MDBShardInfo.{MDBShardInfo}
+use Rattle.xet_core_structures.specs.declared.source.MemorySource.{MemorySource}
+use Rattle.xet_core_structures.specs.Ends.{HasEnds}
+use Rattle.xet_core_structures.specs.KeyedExport.{ExportCase, ExportFails, CannotExport, export_form, exported}
+use Rattle.xet_core_structures.specs.View.{auxes_as_wanted}
+use Rattle.xet_core_structures.specs.Source.{FailedBy, bytes_left, moved}
+use Rattle.shard_bytes.specs.declared.export.Export.{Export}
+use Rattle.shard_bytes.specs.Exporting.{WritesExport, ExportsBytes, RefusesExport}
+use Rattle.shard_bytes.proofs.Combining.{in_memory}
+
+-- the source was read from its start on, and its device does not fail
+pub export_refused : (x : Export) (bytes : List ℕ) (i : MDBShardInfo) (loaded start end : MemorySource) (e : CoreError) → HasEnds bytes i → loaded.bytes.now ≡ bytes
+    → in_memory start ≡ moved (in_memory loaded) 0
+    → (((e ≡ InvalidArguments) × CannotExport i x.now x.valid_seconds) ⊎ ExportFails (in_memory start) (in_memory end) e) → RefusesExport x bytes e
+export_refused x bytes i loaded start end e ends are start_is (inl cannot) = inr (i, ends, inl cannot)
+export_refused x bytes i loaded start end e ends are start_is (inr fails) = go fails.cause
+  where
+    go : FailedBy (ExportCase (bytes_left (in_memory start))) (in_memory start) (in_memory end) e → RefusesExport x bytes e
+    go (inl failed) = absurd (omega (arith, failed.0))
+    go (inr (same, why)) = inr (i, ends, inr (subst (λ left. ExportCase left e) (ap bytes_left start_is ∙ are) why))
+
+-- the bytes are those of the export, since the output was empty
+pub export_made : (x : Export) (bytes : List ℕ) (loaded start end : MemorySource) (empty out : List ℕ) (n : ℕ) → loaded.bytes.now ≡ bytes → in_memory start ≡ moved (in_memory loaded) 0 → empty ≡ []
+    → WritesExport x (in_memory start) (in_memory end) (Some empty) (Some out) n → ExportsBytes x bytes out
+export_made x bytes loaded start end empty out n are start_is none e =
+    subst (λ left. ExportsBytes x left out) (ap bytes_left start_is ∙ are) (record {
+      files = e.files;
+      xorbs = e.xorbs;
+      header = e.header;
+      file_section = e.file_section;
+      xorb_section = e.xorb_section;
+      written = e.written ∙ ap (λ zs. zs ++ exported (auxes_as_wanted x.parts.aux_ext e.files) e.xorbs (export_form x.key x.now x.valid_seconds x.parts.files x.parts.xorb_table x.parts.chunk_table)) none;
+    })

@@ -1,0 +1,4 @@
+pub mod Combining
+pub mod Exporting
+pub mod Keeping
+pub mod Written

@@ -1,0 +1,20 @@
+use Rattle.std.proofs.Common.{◌↔◌, IsTrue, ℕ, List, [], ◌++◌, map, ap, ◌∙◌, subst}
+use Rattle.xet_core_structures.specs.Layout.{layout_of}
+use Rattle.xet_core_structures.specs.MinimalShard.{mark_starts, is_start, minimal_form}
+use Rattle.xet_core_structures.specs.Shard.{xorb_hash_of}
+use Rattle.shard_bytes.specs.Minimal.{Keeps}
+use Rattle.shard_bytes.proofs.Keeping.{kept_so}
+use Rattle.shard_bytes.proofs.minimal.subset_bytes.Goals as goal
+
+pub returns : goal.returns
+returns c =
+    let m = c.in_ok-shard.shard in
+    let subset = c.args.subset.now in
+    let written = c.in_ok-serialize_xorb_subset_with_expiry.ensures.written in (
+      m,
+      written.kept,
+      c.in_ok-shard.ensures,
+      kept_so _ (λ x accepted. IsTrue accepted ↔ Keeps subset.kept (xorb_hash_of x))
+          (λ x accepted answer. subst (λ y. IsTrue accepted ↔ Keeps subset.kept (xorb_hash_of y)) answer.shows answer.says.met) m.xorbs written.kept written.is_kept,
+      written.written.appended ∙ ap (λ (zs : List ℕ). zs ++ layout_of [] (map (mark_starts (is_start m.files)) written.kept) (minimal_form subset.now subset.expiry)) c.new-written.ensures.items,
+    )

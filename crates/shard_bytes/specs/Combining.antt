@@ -1,0 +1,36 @@
+-- What the union or the difference of two byte strings is, and why there is none.
+use Rattle.std.specs.Prelude.{◌≡◌, ◌⊎◌, ℕ, List}
+use Rattle.xet_core_structures.specs.declared.error.CoreError.{CoreError}
+use Rattle.xet_core_structures.specs.declared.shard_format.MDBShardInfo.{MDBShardInfo}
+use Rattle.xet_core_structures.specs.Errors.{IsWriteError}
+use Rattle.xet_core_structures.specs.Ends.{HasEnds}
+use Rattle.xet_core_structures.specs.Shard.{Shard}
+use Rattle.xet_core_structures.specs.SetOperations.{IsDifference}
+use Rattle.xet_core_structures.specs.ByteUnion.{IsByteUnion}
+use Rattle.xet_core_structures.specs.ByteResults.{keyed_layout, key_of, HaveResult, LoadRefusal, UnionRefusal, DifferenceRefusal}
+use Rattle.shard_bytes.specs.declared.combine.Operation.{Operation}
+use Rattle.shard_bytes.specs.declared.combine.Operation.TheVariants.{Union, Difference}
+
+-- what an operation makes of two shards, and why it makes nothing of the bytes of two inputs
+abbrev pub IsResultOf : Operation → Shard → Shard → Shard → Type 0
+IsResultOf Union = IsByteUnion
+IsResultOf Difference = IsDifference
+
+abbrev pub RefusalOf : Operation → List ℕ → MDBShardInfo → List ℕ → MDBShardInfo → CoreError
+    → Type 0
+RefusalOf Union = UnionRefusal
+RefusalOf Difference = DifferenceRefusal
+
+-- the bytes of the result for what two byte strings hold, each with its own header and footer
+abbrev pub CombinesBytes : (Shard → Shard → Shard → Type 0) → List ℕ → List ℕ → List ℕ → Type 0
+CombinesBytes IsResult x y out =
+    (i j : MDBShardInfo) × (c : Shard) × HasEnds x i × HasEnds y j × HaveResult IsResult x i y j c
+    × (out ≡ keyed_layout c (key_of i))
+
+-- a header or a footer is not read, those of the second after those of the first, the result is
+-- not written, or there is none
+abbrev pub CombiningRefusal : (List ℕ → MDBShardInfo → List ℕ → MDBShardInfo → CoreError → Type 0)
+    → List ℕ → List ℕ → CoreError → Type 0
+CombiningRefusal Refusal x y e =
+    LoadRefusal x e ⊎ ((i : MDBShardInfo) × HasEnds x i × LoadRefusal y e) ⊎ IsWriteError e
+    ⊎ ((i j : MDBShardInfo) × HasEnds x i × HasEnds y j × Refusal x i y j e)

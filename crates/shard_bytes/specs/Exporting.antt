@@ -1,0 +1,42 @@
+-- What a keyed export of a shard's bytes is, and why there is none.
+use Rattle.std.specs.Prelude.{◌≡◌, ◌⊎◌, ℕ, List, drop, Option}
+use Rattle.xet_core_structures.specs.declared.error.CoreError.{CoreError}
+use Rattle.xet_core_structures.specs.declared.error.CoreError.TheVariants.{InvalidArguments}
+use Rattle.xet_core_structures.specs.declared.file_structs.MDBFileInfo.{MDBFileInfo}
+use Rattle.xet_core_structures.specs.declared.xorb_structs.MDBXorbInfo.{MDBXorbInfo}
+use Rattle.xet_core_structures.specs.declared.shard_format.MDBShardInfo.{MDBShardInfo}
+use Rattle.xet_core_structures.specs.Ends.{HasHeader, HasEnds}
+use Rattle.xet_core_structures.specs.FileRecord.{file_records_in}
+use Rattle.xet_core_structures.specs.XorbRecord.{xorb_records}
+use Rattle.xet_core_structures.specs.KeyedExport.{ExportsWith, export_form, exported, xorbs_after, ExportCase, CannotExport}
+use Rattle.xet_core_structures.specs.SectionReading.{IsSection}
+use Rattle.xet_core_structures.specs.Source.{Source}
+use Rattle.xet_core_structures.specs.View.{auxes_as_wanted}
+use Rattle.xet_core_structures.specs.ByteResults.{LoadRefusal}
+use Rattle.shard_bytes.specs.declared.export.Export.{Export}
+
+-- the export that is asked for was made of a source
+abbrev pub WritesExport : Export → Source → Source → Option (List ℕ) → Option (List ℕ) → ℕ → Type 0
+WritesExport x =
+    ExportsWith x.parts.aux_ext
+    (export_form x.key x.now x.valid_seconds x.parts.files x.parts.xorb_table x.parts.chunk_table)
+
+-- the bytes have a header and both sections, and what these hold is written in the form that is
+-- asked for, with the files' auxiliary rows or without
+pub record ExportsBytes (x : Export) (bytes out : List ℕ) : Type 0 where
+  pub files : List MDBFileInfo
+  pub xorbs : List MDBXorbInfo
+  pub header : HasHeader bytes
+  pub file_section : IsSection (file_records_in header.version) (drop 48 bytes) files
+  pub xorb_section : IsSection xorb_records (drop (xorbs_after files) bytes) xorbs
+  pub written : out ≡ exported (auxes_as_wanted x.parts.aux_ext files) xorbs
+      (export_form x.key x.now x.valid_seconds x.parts.files x.parts.xorb_table
+      x.parts.chunk_table)
+
+-- header and footer are not read; or with this footer the shard cannot be exported, or a section is
+-- not read or written
+abbrev pub RefusesExport : Export → List ℕ → CoreError → Type 0
+RefusesExport x bytes e =
+    LoadRefusal bytes e
+    ⊎ ((i : MDBShardInfo) × HasEnds bytes i
+    × (((e ≡ InvalidArguments) × CannotExport i x.now x.valid_seconds) ⊎ ExportCase bytes e))

@@ -1,0 +1,25 @@
+-- What a lookup of a file in a shard's bytes returns, and why it is refused.
+use Rattle.std.specs.Prelude.{◌⊎◌, ℕ, List, Option}
+use Rattle.xet_core_structures.specs.declared.error.CoreError.{CoreError}
+use Rattle.xet_core_structures.specs.declared.file_structs.MDBFileInfo.{MDBFileInfo}
+use Rattle.xet_core_structures.specs.declared.merklehash.DataHash.{DataHash}
+use Rattle.xet_core_structures.specs.ByteResults.{LoadRefusal}
+use Rattle.xet_core_structures.specs.Lookup.{Finding, FindingFails, file_table}
+use Rattle.xet_core_structures.specs.SectionReading.{files_of}
+use Rattle.shard_bytes.specs.Outcomes.{HasOutcome}
+
+-- a record that is found is in these bytes, has the hash and is at a row of the file table with the
+-- hash's first word; without one, no record at such a row has it
+abbrev pub FindsFile : List ℕ → DataHash → Option MDBFileInfo → Type 0
+FindsFile bytes hash found =
+    HasOutcome bytes
+    (λ info before after. Finding (files_of info) (file_table info.metadata before)
+    info.metadata.file_info_offset hash before after found)
+
+-- header and footer are not read, or the lookup is refused
+abbrev pub RefusesFile : List ℕ → DataHash → CoreError → Type 0
+RefusesFile bytes hash e =
+    LoadRefusal bytes e
+    ⊎ HasOutcome bytes
+    (λ info before after. FindingFails (files_of info) (file_table info.metadata before)
+    info.metadata.file_info_offset hash before after e)

@@ -1,0 +1,6 @@
+pub mod Combining
+pub mod Exporting
+pub mod Finding
+pub mod Minimal
+pub mod Outcomes
+pub mod Query

@@ -1,0 +1,64 @@
+-- Minimal shards of a shard's bytes.
+use Rattle.std.specs.Prelude.{◌≡◌, ◌⊎◌, ◌↔◌, ⊤, ℕ, true, List, [], map, Contains, IsTrue, Option, None, Some}
+use Rattle.std.specs.Io.KnownBytes.{Consumes}
+use Rattle.xet_core_structures.specs.declared.error.CoreError.{CoreError}
+use Rattle.xet_core_structures.specs.declared.error.CoreError.TheVariants.{OutOfMemory}
+use Rattle.xet_core_structures.specs.declared.merklehash.DataHash.{DataHash}
+use Rattle.xet_core_structures.specs.declared.file_structs.KeptParts.{KeptParts}
+use Rattle.xet_core_structures.specs.declared.xorb_structs.MDBXorbInfo.{MDBXorbInfo}
+use Rattle.xet_core_structures.specs.Errors.{IsWriteError}
+use Rattle.xet_core_structures.specs.Input.{ReaderFails}
+use Rattle.xet_core_structures.specs.Layout.{layout_of}
+use Rattle.xet_core_structures.specs.MinimalReading.{ReadsMinimal, MinimalFails, ReaderHeaderFails}
+use Rattle.xet_core_structures.specs.MinimalShard.{MinimalShard, mark_starts, is_start, minimal_form, eligible_hashes, IsKept}
+use Rattle.xet_core_structures.specs.Shard.{xorb_hash_of}
+use Rattle.xet_core_structures.specs.View.{as_kept}
+use Rattle.shard_bytes.specs.declared.minimal.KeptXorbs.{KeptXorbs}
+use Rattle.shard_bytes.specs.declared.minimal.KeptXorbs.TheVariants.{All as all_xorbs, Listed}
+use Rattle.shard_bytes.specs.declared.minimal.Subset.{Subset}
+
+-- the bytes begin with a header and two sections, of these records; what comes after them is any
+-- bytes
+abbrev pub HoldsMinimal : List ℕ → MinimalShard → Type 0
+HoldsMinimal bytes m =
+    (left : Option (List ℕ)) × ReadsMinimal Consumes true true (Some bytes) left m
+
+-- why the bytes are not read as those of a shard
+abbrev pub RefusesMinimal : List ℕ → CoreError → Type 0
+RefusesMinimal bytes e =
+    (left : Option (List ℕ))
+    × MinimalFails Consumes (λ before after n e. ReaderFails before n e)
+    (λ before after e. ReaderHeaderFails before e) true (Some bytes) left e
+
+-- the minimal shard, with these parts of its files
+abbrev pub MinimalBytes : KeptParts → ℕ → List ℕ → List ℕ → Type 0
+MinimalBytes kept now bytes out =
+    (m : MinimalShard) × HoldsMinimal bytes m
+    × (out ≡ layout_of (map (as_kept kept) m.files)
+    (map (mark_starts (is_start m.files)) m.xorbs) (minimal_form now None))
+
+-- whether a subset keeps a xorb of this hash
+abbrev pub Keeps : KeptXorbs → DataHash → Type 0
+Keeps all_xorbs hash = ⊤
+Keeps (Listed hashes) hash = Contains hashes.items hash
+
+-- no files, and the xorbs that a subset keeps
+abbrev pub SubsetBytes : Subset → List ℕ → List ℕ → Type 0
+SubsetBytes subset bytes out =
+    (m : MinimalShard) × (kept : List MDBXorbInfo) × HoldsMinimal bytes m
+    × IsKept (λ x accepted. IsTrue accepted ↔ Keeps subset.kept (xorb_hash_of x)) m.xorbs kept
+    × (out ≡ layout_of [] (map (mark_starts (is_start m.files)) kept)
+    (minimal_form subset.now subset.expiry))
+
+-- the hashes of the eligible chunks
+abbrev pub EligibleIn : List ℕ → List DataHash → Type 0
+EligibleIn bytes hashes =
+    (m : MinimalShard) × HoldsMinimal bytes m × (hashes ≡ eligible_hashes m.files m.xorbs)
+
+-- why nothing is written: the bytes are not read, or writing fails
+abbrev pub WritesNone : List ℕ → CoreError → Type 0
+WritesNone bytes e = RefusesMinimal bytes e ⊎ IsWriteError e
+
+-- why there are no such hashes: the bytes are not read, or an allocation failed
+abbrev pub EligibleRefusal : List ℕ → CoreError → Type 0
+EligibleRefusal bytes e = RefusesMinimal bytes e ⊎ (e ≡ OutOfMemory)

@@ -1,0 +1,17 @@
+-- What a call that looks into a shard's bytes has for an outcome.
+use Rattle.std.specs.Prelude.{◌≡◌, ℕ, List}
+use Rattle.xet_core_structures.specs.declared.shard_format.MDBShardInfo.{MDBShardInfo}
+use Rattle.xet_core_structures.specs.Ends.{HasEnds}
+use Rattle.xet_core_structures.specs.Source.{Source}
+
+-- the bytes have a header and a footer, and with these a call has an outcome on a source of them that
+-- does not fail
+pub record HasOutcome (bytes : List ℕ) (Outcome : MDBShardInfo → Source → Source → Type 0)
+    : Type 0 where
+  pub info : MDBShardInfo
+  pub ends : HasEnds bytes info
+  pub before : Source
+  pub after : Source
+  pub bytes_are : before.bytes ≡ bytes
+  pub works : after.failures ≡ before.failures
+  pub outcome : Outcome info before after

@@ -1,0 +1,68 @@
+//! Union and difference of shards in buffers.
+
+ghost use Rattle.std.specs.Prelude.{◌⊎◌, MatchResult};
+ghost use Rattle.xet_core_structures.specs.Errors.{IsWriteError};
+ghost use Rattle.xet_core_structures.specs.ByteResults.{WritesResult, InputsFail};
+ghost use Rattle.shard_bytes.specs.Combining.{IsResultOf, RefusalOf, CombinesBytes, CombiningRefusal};
+
+use std::alloc::Global;
+use std::io::Write;
+use xet_core_structures::error::Result;
+use xet_core_structures::set_operations::{shard_set_difference, shard_set_union};
+use xet_core_structures::shard_format::MDBShardInfo;
+use xet_core_structures::source::{MemorySource, ShardSource};
+
+/// What is made of two shards: their union, or the second's records whose hashes the first does not
+/// have.
+#[derive(Clone, Copy)]
+pub enum Operation {
+    Union,
+    Difference,
+}
+
+/// The bytes of the result of an operation on two shards, from their bytes.
+///
+/// The errors are those of [`MDBShardInfo::load_from_reader`] and of [`shard_set_union`] or
+/// [`shard_set_difference`].
+pub fn combine_bytes(
+    alloc: Global,
+    operation: Operation,
+    first: &[u8],
+    second: &[u8],
+) -> Result<Vec<u8>>
+    ensures { MatchResult result
+        (λ bytes. CombinesBytes (IsResultOf operation) first.now second.now bytes.items)
+        (CombiningRefusal (RefusalOf operation) first.now second.now) }
+{
+    let mut r1 = MemorySource::new(first);
+    let mut r2 = MemorySource::new(second);
+    let s1 = MDBShardInfo::load_from_reader(alloc, &mut r1)?;
+    let s2 = MDBShardInfo::load_from_reader(alloc, &mut r2)?;
+    let mut bytes = Vec::new(alloc);
+    combine(alloc, operation, &s1, &mut r1, &s2, &mut r2, &mut bytes)?;
+    Ok(bytes)
+}
+
+fn combine<S: ShardSource, T: ShardSource, W: Write>(
+    alloc: Global,
+    operation: Operation,
+    s1: &MDBShardInfo,
+    r1: &mut S,
+    s2: &MDBShardInfo,
+    r2: &mut T,
+    out: &mut W,
+) -> Result<MDBShardInfo>
+    ensures { MatchResult result
+        (WritesResult (IsResultOf operation) (S.meaning r1.old).bytes s1.now
+        (T.meaning r2.old).bytes s2.now (W.contents out.old) (W.contents out.new))
+        (λ e. IsWriteError e
+        ⊎ InputsFail (S.meaning r1.old) (S.meaning r1.new) (T.meaning r2.old) (T.meaning r2.new)
+        (RefusalOf operation (S.meaning r1.old).bytes s1.now (T.meaning r2.old).bytes
+        s2.now)
+        e) }
+{
+    match operation {
+        Operation::Union => shard_set_union(alloc, s1, r1, s2, r2, out),
+        Operation::Difference => shard_set_difference(alloc, s1, r1, s2, r2, out),
+    }
+}

@@ -1,0 +1,92 @@
+//! Exporting a shard under a key.
+
+ghost use Rattle.std.specs.Prelude.{◌≡◌, ◌⊎◌, MatchResult};
+ghost use Rattle.xet_core_structures.specs.declared.error.CoreError.{CoreError};
+ghost use Rattle.xet_core_structures.specs.KeyedExport.{ExportFails, CannotExport};
+ghost use Rattle.shard_bytes.specs.Exporting.{WritesExport, ExportsBytes, RefusesExport};
+
+use std::alloc::Global;
+use std::io::Write;
+use xet_core_structures::error::Result;
+use xet_core_structures::merklehash::HMACKey;
+use xet_core_structures::shard_format::MDBShardInfo;
+use xet_core_structures::source::{MemorySource, ShardSource};
+
+/// The key of an export, its times in seconds, and which parts it has.
+#[derive(Clone, Copy)]
+pub struct Export {
+    pub key: HMACKey,
+    pub now: u64,
+    pub valid_seconds: u64,
+    pub parts: ExportParts,
+}
+
+/// Whether an export has files, with their auxiliary rows or without, and which of the other tables.
+#[derive(Clone, Copy)]
+pub struct ExportParts {
+    pub files: bool,
+    pub aux_ext: bool,
+    pub xorb_table: bool,
+    pub chunk_table: bool,
+}
+
+/// The bytes of a keyed export of a shard, from its bytes.
+///
+/// The errors are those of [`MDBShardInfo::load_from_reader`], and of
+/// [`MDBShardInfo::export_as_keyed_shard`] or
+/// [`MDBShardInfo::export_as_keyed_shard_without_aux`].
+pub fn export_bytes(alloc: Global, bytes: &[u8], export: &Export) -> Result<Vec<u8>>
+    ensures { MatchResult result
+        (λ exported. ExportsBytes export.entry.now bytes.now exported.items)
+        (RefusesExport export.entry.now bytes.now) }
+{
+    let mut source = MemorySource::new(bytes);
+    let info = MDBShardInfo::load_from_reader(alloc, &mut source)?;
+    source.seek_to(0)?;
+    let mut exported = Vec::new(alloc);
+    write_export(alloc, &info, &mut source, &mut exported, export)?;
+    Ok(exported)
+}
+
+// Writes the export that is asked for.
+fn write_export<S: ShardSource, W: Write>(
+    alloc: Global,
+    info: &MDBShardInfo,
+    source: &mut S,
+    writer: &mut W,
+    export: &Export,
+) -> Result<usize>
+    ensures { MatchResult result
+        (WritesExport export.entry.now (S.meaning source.old) (S.meaning source.new)
+        (W.contents writer.old) (W.contents writer.new))
+        (λ e. ((e ≡ CoreError.InvalidArguments)
+        × CannotExport info.now export.entry.now.now export.entry.now.valid_seconds)
+        ⊎ ExportFails (S.meaning source.old) (S.meaning source.new) e) }
+{
+    let parts = export.parts;
+    if parts.aux_ext {
+        info.export_as_keyed_shard(
+            alloc,
+            source,
+            writer,
+            export.key,
+            export.now,
+            export.valid_seconds,
+            parts.files,
+            parts.xorb_table,
+            parts.chunk_table,
+        )
+    } else {
+        info.export_as_keyed_shard_without_aux(
+            alloc,
+            source,
+            writer,
+            export.key,
+            export.now,
+            export.valid_seconds,
+            parts.files,
+            parts.xorb_table,
+            parts.chunk_table,
+        )
+    }
+}

@@ -1,0 +1,10 @@
+//! Operations on shards that are byte strings in memory: each takes the bytes of shards, and
+//! returns bytes or an answer. No source, reader or writer is to be made by the caller.
+#![tactic(auto)]
+
+pub mod combine;
+pub mod export;
+pub mod find;
+pub mod load;
+pub mod minimal;
+pub mod query;

@@ -1,0 +1,37 @@
+//! Looking for a run of chunks in the bytes of a shard.
+
+ghost use Rattle.std.specs.Prelude.{◌<◌, ◌^◌, ℕ, Option, IfSome, IsOkAnd, MatchResult};
+ghost use Rattle.std.specs.FinMap as finite;
+ghost use Rattle.xet_core_structures.specs.KeyedHash.{no_key};
+ghost use Rattle.xet_core_structures.specs.Shard.{Shard, IsShard};
+ghost use Rattle.xet_core_structures.specs.WrittenQueries.{RunAmong};
+ghost use Rattle.xet_core_structures.specs.WrittenShard.{AreBytesOf};
+ghost use Rattle.shard_bytes.specs.Query.{AnswersQuery, RefusesQuery};
+
+use std::alloc::Global;
+use xet_core_structures::error::Result;
+use xet_core_structures::file_structs::FileDataSequenceEntry;
+use xet_core_structures::merklehash::MerkleHash;
+use xet_core_structures::shard_format::MDBShardInfo;
+use xet_core_structures::source::MemorySource;
+
+/// Looks for a run of these chunks in the bytes of a shard: its number of chunks, and their
+/// segment, or `None`.
+///
+/// The errors are those of [`MDBShardInfo::load_from_reader`] and
+/// [`MDBShardInfo::chunk_hash_dedup_query`].
+pub fn query_chunks(
+    alloc: Global,
+    bytes: &[u8],
+    hashes: &[MerkleHash],
+) -> Result<Option<(usize, FileDataSequenceEntry)>>
+    ensures any_bytes { MatchResult result (AnswersQuery bytes.now hashes.now)
+        (RefusesQuery bytes.now hashes.now) }
+    ensures written { (s : Shard) → (expiry : Option ℕ) → IsShard s
+        → IfSome expiry (λ e. e < 2 ^ 64) → AreBytesOf s expiry bytes.now
+        → IsOkAnd result (RunAmong no_key hashes.now (finite.values s.xorbs)) }
+{
+    let mut source = MemorySource::new(bytes);
+    let info = MDBShardInfo::load_from_reader(alloc, &mut source)?;
+    info.chunk_hash_dedup_query(alloc, &mut source, hashes)
+}
