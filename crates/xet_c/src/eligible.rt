@@ -1,0 +1,41 @@
+//! The chunks that the global index keeps.
+
+ghost use Rattle.std.specs.Prelude.{◌≡◌, ◌⊎◌, List, map, MatchResult};
+ghost use Rattle.xet_core_structures.specs.declared.merklehash.DataHash.{DataHash};
+ghost use Rattle.shard_bytes.specs.Minimal.{EligibleIn, EligibleRefusal};
+ghost use Rattle.xet_c.specs.Arguments.{c_hash};
+ghost use Rattle.xet_c.specs.Output.{Outcome};
+
+use crate::hash::{XetHash, words_of};
+use crate::output::deliver;
+use shard_bytes::minimal::eligible_chunks;
+use std::alloc::Global;
+use xet_core_structures::error::{CoreError, Result};
+
+/// The hashes of a shard's chunks that the global index keeps, in ascending order, to the front of
+/// `out`.
+#[unsafe(no_mangle)]
+pub extern "C" fn xet_eligible(
+    alloc: Global,
+    shard: &[u8],
+    out: &mut [XetHash],
+    written: &mut usize,
+) -> u32
+    ensures { Outcome
+        (λ words. (hashes : List DataHash) × EligibleIn shard.now hashes
+        × (words ≡ map c_hash hashes))
+        (EligibleRefusal shard.now) out.old out.new written.new result }
+{
+    let words = eligible(alloc, shard);
+    deliver(words, out, written)
+}
+
+fn eligible(alloc: Global, shard: &[u8]) -> Result<Vec<XetHash>>
+    ensures { MatchResult result
+        (λ words. (hashes : List DataHash) × EligibleIn shard.now hashes
+        × (words.items ≡ map c_hash hashes))
+        (EligibleRefusal shard.now) }
+{
+    let hashes = eligible_chunks(alloc, shard)?;
+    words_of(alloc, hashes.as_slice())
+}

@@ -1,0 +1,116 @@
+//! Files.
+
+ghost use Rattle.std.specs.Prelude.{◌≡◌, ◌⊎◌, Option, IfOk, IfErr, map, option_map, option_and_then};
+ghost use Rattle.xet_core_structures.specs.declared.file_structs.MDBFileInfo.{MDBFileInfo};
+ghost use Rattle.xet_core_structures.specs.declared.merklehash.DataHash.{DataHash};
+ghost use Rattle.xet_core_structures.specs.Errors.{CoreResult};
+ghost use Rattle.xet_c.specs.Arguments.{c_file, c_hash, c_segment, segments_in, words_or_zero};
+ghost use Rattle.xet_c.specs.Finding.{LooksUpFile, ShowsFile};
+
+use crate::hash::XetHash;
+use crate::output::{error_number, give};
+use crate::segment::{XetSegment, segments_of};
+use shard_bytes::find::find_file;
+use std::alloc::Global;
+use xet_core_structures::error::{CoreError, Result};
+use xet_core_structures::file_structs::MDBFileInfo;
+use xet_core_structures::merklehash::MerkleHash;
+
+/// What a file's record has: the number of its segments, and its SHA-256 and its auxiliary hash, or
+/// zeros if it has none. If there is no such file, `found` is false and all else is zero.
+#[repr(C)]
+#[derive(Clone, Copy, Drop)]
+pub struct XetFile {
+    pub found: bool,
+    pub has_sha256: bool,
+    pub has_aux: bool,
+    pub segments: usize,
+    pub sha256: [u64; 4],
+    pub aux_hash: [u64; 4],
+}
+
+/// Looks a file up, and puts its segments to the front of `segments`. If the result is 19 they do
+/// not fit, `file` says how many there are, and `segments` stays as it is. After any other number
+/// but 0 both stay as they are.
+#[unsafe(no_mangle)]
+pub extern "C" fn xet_find_file(
+    alloc: Global,
+    shard: &[u8],
+    hash: &XetHash,
+    file: &mut XetFile,
+    segments: &mut [XetSegment],
+) -> u32
+    ensures { (h : DataHash) × (found : CoreResult (Option MDBFileInfo)) × (c_hash h ≡ hash.now)
+        × LooksUpFile shard.now h found
+        × (ShowsFile found file.old file.new segments.old segments.new result
+        ⊎ ((result ≡ 18) × (file.new ≡ file.old) × (segments.new ≡ segments.old))) }
+{
+    let hash = MerkleHash::from(hash.words);
+    let found = find_file(alloc, shard, &hash);
+    show(alloc, &found, file, segments)
+}
+
+fn show(
+    alloc: Global,
+    found: &Result<Option<MDBFileInfo>>,
+    file: &mut XetFile,
+    segments: &mut [XetSegment],
+) -> u32
+    ensures { ShowsFile found.now file.old file.new segments.old segments.new result
+        ⊎ ((result ≡ 18) × (file.new ≡ file.old) × (segments.new ≡ segments.old)) }
+{
+    let found = match found {
+        Ok(found) => found,
+        Err(error) => return error_number(error),
+    };
+    let Ok(list) = segments_found(alloc, found) else {
+        return 18;
+    };
+    *file = file_of(found);
+    let mut count = 0;
+    give(list.as_slice(), segments, &mut count)
+}
+
+fn segments_found(alloc: Global, found: &Option<MDBFileInfo>) -> Result<Vec<XetSegment>>
+    ensures ok { IfOk result (λ list. list.items ≡ map c_segment (segments_in found.now)) }
+    ensures causes { IfErr result (λ e. e ≡ CoreError.OutOfMemory) }
+{
+    match found {
+        Some(record) => segments_of(alloc, record.segments.as_slice()),
+        None => Ok(Vec::new(alloc)),
+    }
+}
+
+fn file_of(found: &Option<MDBFileInfo>) -> XetFile
+    ensures { result ≡ c_file found.now }
+{
+    let Some(record) = found else {
+        return XetFile {
+            found: false,
+            has_sha256: false,
+            has_aux: false,
+            segments: 0,
+            sha256: [0; 4],
+            aux_hash: [0; 4],
+        };
+    };
+    let sha256 = record.metadata_ext.map(|row| row.sha256);
+    let aux_hash = record.aux_ext.map(|row| row.aux_hash);
+    XetFile {
+        found: true,
+        has_sha256: sha256.is_some(),
+        has_aux: aux_hash.is_some(),
+        segments: record.segments.len(),
+        sha256: words(sha256),
+        aux_hash: words(aux_hash),
+    }
+}
+
+fn words(hash: Option<MerkleHash>) -> [u64; 4]
+    ensures { result ≡ words_or_zero hash }
+{
+    match hash {
+        Some(hash) => [hash.word0, hash.word1, hash.word2, hash.word3],
+        None => [0; 4],
+    }
+}

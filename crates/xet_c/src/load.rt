@@ -1,0 +1,67 @@
+//! Header and footer.
+
+ghost use Rattle.std.specs.Prelude.{◌≡◌, ◌⊎◌};
+ghost use Rattle.xet_core_structures.specs.declared.error.CoreError.{CoreError};
+ghost use Rattle.xet_core_structures.specs.declared.shard_format.MDBShardInfo.{MDBShardInfo};
+ghost use Rattle.xet_core_structures.specs.Errors.{variant_number};
+ghost use Rattle.xet_core_structures.specs.Ends.{HasEnds};
+ghost use Rattle.xet_core_structures.specs.ByteResults.{LoadRefusal};
+ghost use Rattle.xet_c.specs.Arguments.{c_info};
+
+use crate::output::error_number;
+use shard_bytes::load::load_bytes;
+use std::alloc::Global;
+use xet_core_structures::error::CoreError;
+use xet_core_structures::shard_format::MDBShardInfo;
+
+/// What header and footer of a shard say: the version, the rows of the three tables, the key, times
+/// in seconds, and sizes.
+#[repr(C)]
+#[derive(Clone, Copy, Drop)]
+pub struct XetInfo {
+    pub version: u64,
+    pub files: u64,
+    pub xorbs: u64,
+    pub chunks: u64,
+    pub key: [u64; 4],
+    pub creation: u64,
+    pub expiry: u64,
+    pub stored_bytes_on_disk: u64,
+    pub materialized_bytes: u64,
+    pub stored_bytes: u64,
+}
+
+/// Reads header and footer of a shard. If the result is not 0, `info` stays as it is.
+#[unsafe(no_mangle)]
+pub extern "C" fn xet_load(alloc: Global, shard: &[u8], info: &mut XetInfo) -> u32
+    ensures { ((i : MDBShardInfo) × HasEnds shard.now i × (info.new ≡ c_info i) × (result ≡ 0))
+        ⊎ ((e : CoreError) × LoadRefusal shard.now e × (info.new ≡ info.old)
+        × (result ≡ variant_number e)) }
+{
+    match load_bytes(alloc, shard) {
+        Ok(loaded) => {
+            *info = info_of(&loaded);
+            0
+        }
+        Err(error) => error_number(&error),
+    }
+}
+
+fn info_of(info: &MDBShardInfo) -> XetInfo
+    ensures { result ≡ c_info info.now }
+{
+    let footer = &info.metadata;
+    let key = footer.chunk_hash_hmac_key;
+    XetInfo {
+        version: info.header.version,
+        files: footer.file_lookup_num_entry,
+        xorbs: footer.xorb_lookup_num_entry,
+        chunks: footer.chunk_lookup_num_entry,
+        key: [key.word0, key.word1, key.word2, key.word3],
+        creation: footer.shard_creation_timestamp,
+        expiry: footer.shard_key_expiry,
+        stored_bytes_on_disk: footer.stored_bytes_on_disk,
+        materialized_bytes: footer.materialized_bytes,
+        stored_bytes: footer.stored_bytes,
+    }
+}

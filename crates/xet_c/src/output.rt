@@ -1,0 +1,65 @@
+//! The number of an error, and bytes that are written to the caller's memory.
+
+ghost use Rattle.std.specs.Prelude.{◌≡◌, MatchResult};
+ghost use Rattle.xet_core_structures.specs.Errors.{variant_number};
+ghost use Rattle.xet_c.specs.Output.{Delivers, Refuses};
+
+use xet_core_structures::error::{CoreError, Result};
+
+/// The output does not fit the memory that was given. 1 to 18 are the library's own errors.
+pub const XET_SHORT: u32 = 19;
+
+/// The number of an error, 1 to 18.
+pub fn error_number(error: &CoreError) -> u32
+    ensures { result ≡ variant_number error.now }
+{
+    match error {
+        CoreError::Io(_) => 1,
+        CoreError::InternalError(_) => 2,
+        CoreError::Other(_) => 3,
+        CoreError::TruncatedHashCollision(_) => 4,
+        CoreError::ShardVersion(_) => 5,
+        CoreError::BadFilename(_) => 6,
+        CoreError::ShardNotFound(_) => 7,
+        CoreError::FileNotFound(_) => 8,
+        CoreError::QueryFailed(_) => 9,
+        CoreError::SmudgeQueryPolicy(_) => 10,
+        CoreError::InvalidShard(_) => 11,
+        CoreError::InvalidRange => 12,
+        CoreError::InvalidArguments => 13,
+        CoreError::MalformedData(_) => 14,
+        CoreError::HashMismatch => 15,
+        CoreError::HashParsing(_) => 16,
+        CoreError::ChunkHeaderParse => 17,
+        CoreError::OutOfMemory => 18,
+    }
+}
+
+/// Copies the items that were made to the front of `out`, and sets `written` to their number, also
+/// if they do not fit. If none were made, `written` is 0. Returns 0, 19 or the number of the error;
+/// if it is not 0, `out` stays as it is.
+pub fn deliver<T: Copy + Drop>(made: Result<Vec<T>>, out: &mut [T], written: &mut usize) -> u32
+    ensures { MatchResult made
+        (λ items. Delivers items.items out.old out.new written.new result)
+        (λ error. Refuses error out.old out.new written.new result) }
+{
+    match made {
+        Ok(items) => give(items.as_slice(), out, written),
+        Err(error) => {
+            *written = 0;
+            error_number(&error)
+        }
+    }
+}
+
+/// The same of items that were made.
+pub fn give<T: Copy>(items: &[T], out: &mut [T], written: &mut usize) -> u32
+    ensures { Delivers items.now out.old out.new written.new result }
+{
+    *written = items.len();
+    if out.len() < items.len() {
+        return XET_SHORT;
+    }
+    out[..items.len()].copy_from_slice(items);
+    0
+}
