@@ -1,0 +1,106 @@
+/* Runs each call of bindings/c/xet.h on two shards with its 1st, 2nd .. allocation refused, until a run meets no
+ * refusal: refused_calls FIRST SECOND. A refused call has to return XET_OUT_OF_MEMORY, write 0 to its count and leave
+ * its other outputs. Link with -Wl,--wrap=malloc,--wrap=realloc. */
+#include "xet.h"
+#include <stdio.h>
+#include <stdlib.h>
+#include <string.h>
+
+enum { ROOM = 1 << 20, CALLS = 8 };
+
+void *__real_malloc(size_t size);
+void *__real_realloc(void *block, size_t size);
+void *__wrap_malloc(size_t size);
+void *__wrap_realloc(void *block, size_t size);
+
+/* The allocations that are made before one is refused, or -1, and whether one was. */
+static long left = -1;
+static bool was_refused;
+
+static bool is_refused(void) {
+    bool refused = left == 0;
+    if (left >= 0)
+        left--;
+    was_refused = was_refused || refused;
+    return refused;
+}
+
+void *__wrap_malloc(size_t size) {
+    return is_refused() ? NULL : __real_malloc(size);
+}
+
+void *__wrap_realloc(void *block, size_t size) {
+    return is_refused() ? NULL : __real_realloc(block, size);
+}
+
+static uint8_t first[ROOM], second[ROOM];
+static size_t first_length, second_length;
+/* All outputs of a call, but for its count. */
+static union {
+    uint8_t bytes[ROOM];
+    xet_hash hashes[100];
+    xet_segment run;
+    xet_info info;
+    struct {
+        xet_file file;
+        xet_segment segments[100];
+    } found;
+} out, before;
+
+static size_t read_shard(const char *name, uint8_t *bytes) {
+    FILE *file = fopen(name, "rb");
+    size_t length = file ? fread(bytes, 1, ROOM, file) : 0;
+    if (!file || fclose(file) != 0)
+        exit(2);
+    return length;
+}
+
+static uint32_t call(int number, size_t *count) {
+    const xet_export_options options = {{7, 1, 0, 0}, 1000, 60, true, true, true, true};
+    const xet_hash file = {{100, 1, 0, 0}}, chunks[2] = {{{21, 1, 0, 0}}, {{22, 1, 0, 0}}};
+    switch (number) {
+    case 0:
+        return xet_union(first, first_length, second, second_length, out.bytes, ROOM, count);
+    case 1:
+        return xet_difference(first, first_length, second, second_length, out.bytes, ROOM, count);
+    case 2:
+        return xet_export(first, first_length, &options, out.bytes, ROOM, count);
+    case 3:
+        return xet_minimal(first, first_length, 9, true, true, out.bytes, ROOM, count);
+    case 4:
+        return xet_eligible(first, first_length, out.hashes, 100, count);
+    case 5:
+        return xet_query_chunks(first, first_length, chunks, 2, count, &out.run);
+    case 6:
+        *count = 0;
+        return xet_find_file(first, first_length, &file, &out.found.file, out.found.segments, 100);
+    default:
+        *count = 0;
+        return xet_load(first, first_length, &out.info);
+    }
+}
+
+int main(int words, char **names) {
+    if (words != 3)
+        return 2;
+    first_length = read_shard(names[1], first);
+    second_length = read_shard(names[2], second);
+    for (int number = 0; number < CALLS; number++) {
+        long turn = 0;
+        do {
+            size_t count = 12345;
+            memset(&out, 0xaa, sizeof out);
+            before = out;
+            left = turn++, was_refused = false;
+            uint32_t error = call(number, &count);
+            left = -1;
+            bool stays = count == 0 && memcmp(&out, &before, sizeof out) == 0;
+            if (was_refused ? error != XET_OUT_OF_MEMORY || !stays : error != XET_OK) {
+                printf("call %d, allocation %ld: %s, count %zu\n", number, turn, xet_error_name(error), count);
+                return 1;
+            }
+        } while (was_refused);
+        printf("call %d: %ld refusals\n", number, turn - 1);
+    }
+    return 0;
+}

@@ -1,0 +1,206 @@
+/* Metadata shards of Xet storage, as bytes: the calls of crates/xet_c.
+ *
+ * Each call takes the bytes of shards and writes to memory of the caller. Nothing is kept between calls: there is no
+ * handle, and nothing to free. Shards of versions 2 and 3 of the format are read, and version 3 is written.
+ *
+ * A call returns 0 or the number of an error. If the result is not 0, every output but a count stays as it was: what
+ * `out`, `info`, `run`, `file` and `segments` point to is not touched, unless a call says otherwise below. A call that
+ * fills an array of the caller, `out` of `capacity` items, sets `*written` to the number of items that it wrote, from
+ * the front; what is behind them stays. If they do not fit, the result is XET_SHORT and `*written` is the number that
+ * is needed: call again with so much room. With any other error `*written` is 0. So `capacity` may be 0 to ask for the
+ * size.
+ *
+ * What callers must uphold. Each pointer is valid for as many items as its length says, or for one item if it has no
+ * length, is aligned for its type, and is not null, also if the length is 0. What an output points to overlaps neither
+ * an input nor another output, and no other thread uses it during the call; inputs may be the same memory, and other
+ * threads may read them. Each `bool` is 0 or 1. malloc, realloc and free are those of one allocator, whose blocks are
+ * aligned for any type, and no call is made from a signal handler, or from the child of a fork of a process with
+ * threads. Nothing checks this.
+ *
+ * What is proved, of callers that do: for any bytes, corrupt ones too, a call returns, its result and its outputs are
+ * those that its contract in crates/xet_c/src states, it reads no memory but its inputs and its own, and writes none
+ * but its outputs and its own. It never panics or aborts; the stack can run out. What is tested: that a failed
+ * allocation is XET_OUT_OF_MEMORY, and that a call frees what it allocates. This file, the C compiler and malloc are
+ * not part of the proof.
+ */
+#ifndef XET_H
+#define XET_H
+
+#include <stdbool.h>
+#include <stddef.h>
+#include <stdint.h>
+
+#ifdef __cplusplus
+extern "C" {
+#endif
+
+/* Why a call failed. No call returns those that are marked with a star. */
+enum xet_error {
+    XET_OK = 0,
+    XET_IO = 1,                       /* the bytes end too early, or verification rows are missing */
+    XET_INTERNAL_ERROR = 2,           /* a row of a table leads to the end of a section */
+    XET_OTHER = 3,                    /* * */
+    XET_TRUNCATED_HASH_COLLISION = 4, /* eight or more files share the first word of the hash */
+    XET_SHARD_VERSION = 5,            /* another tag, or another version of the header or the footer */
+    XET_BAD_FILENAME = 6,             /* * */
+    XET_SHARD_NOT_FOUND = 7,          /* * */
+    XET_FILE_NOT_FOUND = 8,           /* * */
+    XET_QUERY_FAILED = 9,             /* * */
+    XET_SMUDGE_QUERY_POLICY = 10,     /* * */
+    XET_INVALID_SHARD = 11,           /* the bytes are not a valid shard, or two shards have no union */
+    XET_INVALID_RANGE = 12,           /* * */
+    XET_INVALID_ARGUMENTS = 13,       /* the call does not admit its arguments */
+    XET_MALFORMED_DATA = 14,          /* * */
+    XET_HASH_MISMATCH = 15,           /* * */
+    XET_HASH_PARSING = 16,            /* * */
+    XET_CHUNK_HEADER_PARSE = 17,      /* * */
+    XET_OUT_OF_MEMORY = 18,           /* an allocation failed */
+    XET_SHORT = 19                    /* the output does not fit the room that was given */
+};
+
+/* The name of an error, as "InvalidShard"; "Ok" of 0 and "Unknown" of other numbers. */
+static inline const char *xet_error_name(uint32_t error) {
+    static const char *const names[] = {
+        "Ok", "Io", "InternalError", "Other", "TruncatedHashCollision", "ShardVersion", "BadFilename", "ShardNotFound",
+        "FileNotFound", "QueryFailed", "SmudgeQueryPolicy", "InvalidShard", "InvalidRange", "InvalidArguments",
+        "MalformedData", "HashMismatch", "HashParsing", "ChunkHeaderParse", "OutOfMemory", "Short",
+    };
+    return error < sizeof names / sizeof *names ? names[error] : "Unknown";
+}
+
+/* A hash of 32 bytes, as four words: word 0 is the first eight bytes, lowest byte first, and so on. As text a shard's
+ * hash is words 0, 1, 2 and 3, each as sixteen hexadecimal digits, highest first. */
+typedef struct xet_hash {
+    uint64_t words[4];
+} xet_hash;
+
+/* Chunks `start` to `end`, without `end`, of a xorb, and their bytes unpacked. */
+typedef struct xet_segment {
+    uint64_t xorb[4];
+    uint32_t flags;
+    uint32_t bytes;
+    uint32_t start;
+    uint32_t end;
+} xet_segment;
+
+/* What the header and the footer of a shard say. */
+typedef struct xet_info {
+    uint64_t version;              /* of the format: 2 or 3 */
+    uint64_t files;                /* the rows of the table of files, 0 if it is left out */
+    uint64_t xorbs;                /* the same of xorbs */
+    uint64_t chunks;               /* the same of chunks */
+    uint64_t key[4];               /* of the chunk hashes; all 0: they are not keyed */
+    uint64_t creation;             /* seconds */
+    uint64_t expiry;               /* seconds; UINT64_MAX: none */
+    uint64_t stored_bytes_on_disk; /* of all xorbs */
+    uint64_t materialized_bytes;   /* of all files */
+    uint64_t stored_bytes;         /* of all xorbs, unpacked */
+} xet_info;
+
+/* What an export is to have. A key of zeros leaves the chunk hashes as they are. */
+typedef struct xet_export_options {
+    uint64_t key[4];
+    uint64_t now;           /* the creation of the export, in seconds */
+    uint64_t valid_seconds; /* it expires so many seconds later */
+    bool files;             /* has the files and their table */
+    bool aux_rows;          /* files have their auxiliary rows */
+    bool xorb_table;
+    bool chunk_table;
+} xet_export_options;
+
+/* Reads the header and the footer of a shard.
+ *
+ * XET_SHARD_VERSION: the tag is another, the version is neither 2 nor 3, or that of the footer is not 1.
+ * XET_IO: there are too few bytes for a header and a footer. */
+uint32_t xet_load(const uint8_t *shard, size_t length, xet_info *info);
+
+/* Writes the union of two shards of one key: the records of both. Creation is 0, and there is no expiry. Of shards that
+ * agree it is the same bytes in either order and any grouping of several.
+ *
+ * Of two files with one hash it has the record with all optional parts of the other, the first's if both have the same;
+ * else the first's segments, with each part from the first that has it. Of two xorbs with one hash it has the first's.
+ *
+ * XET_SHARD_VERSION, XET_IO: the errors of xet_load, of either shard; XET_IO also if a section ends too early.
+ * XET_INVALID_ARGUMENTS: the keys differ.
+ * XET_INVALID_SHARD: the hashes of a section do not ascend, a file has a row that its version does not have, or a
+ *     section, here or in the union, has more than 4294967295 rows; or two files that have to be combined have
+ *     different numbers of segments.
+ * XET_OUT_OF_MEMORY, XET_SHORT. */
+uint32_t xet_union(const uint8_t *first, size_t first_length, const uint8_t *second, size_t second_length, uint8_t *out,
+                   size_t capacity, size_t *written);
+
+/* Writes the difference of two shards of one key: the second's records whose hashes the first does not have.
+ *
+ * The errors are those of xet_union, without that of files that have to be combined. */
+uint32_t xet_difference(const uint8_t *first, size_t first_length, const uint8_t *second, size_t second_length,
+                        uint8_t *out, size_t capacity, size_t *written);
+
+/* Writes a shard with each chunk hash replaced by its keyed hash, and with the parts that are asked for.
+ *
+ * XET_SHARD_VERSION, XET_IO: the errors of xet_load; XET_IO also if a section ends too early.
+ * XET_INVALID_ARGUMENTS: the chunk hashes are keyed already, or `now` and `valid_seconds` add up to 2^64 or more.
+ * XET_INVALID_SHARD: a file has a row that the version does not have, or a section more than 4294967295 rows.
+ * XET_OUT_OF_MEMORY, XET_SHORT. */
+uint32_t xet_export(const uint8_t *shard, size_t length, const xet_export_options *options, uint8_t *out,
+                    size_t capacity, size_t *written);
+
+/* Writes the records of a shard without tables, created at `now`, in seconds, with expiry 0, and with a mark at each
+ * chunk at which a file starts. Files keep verification rows and auxiliary rows if these are asked for. Only the header
+ * and the sections are read, so the shard may end after them.
+ *
+ * XET_SHARD_VERSION: the tag is another, or the version is neither 2 nor 3.
+ * XET_IO: the bytes end before the sections do; or verification rows are asked for and a file has none.
+ * XET_INVALID_SHARD: a file has a row that the version does not have, or a section more than 4294967295 rows.
+ * XET_OUT_OF_MEMORY, XET_SHORT. */
+uint32_t xet_minimal(const uint8_t *shard, size_t length, uint64_t now, bool verification, bool aux_rows, uint8_t *out,
+                     size_t capacity, size_t *written);
+
+/* Looks for a run of chunks with these hashes, which are not keyed, also if the shard's are. `*count` is how many
+ * chunks, from the first hash on, a xorb has one after another, and `run` says where. If there is none, `*count` is 0
+ * and `run` stays as it is: no hash is given, the shard has no table of chunks, or no chunk in it has the first hash,
+ * at the first eight with its first word. With an error `*count` is 0, and `run` stays.
+ *
+ * XET_SHARD_VERSION, XET_IO: the errors of xet_load; XET_IO also if a row that is read ends too early.
+ * XET_INVALID_SHARD: a row of the table leads to no chunk, or a number does not fit its width.
+ * XET_OUT_OF_MEMORY. */
+uint32_t xet_query_chunks(const uint8_t *shard, size_t length, const xet_hash *hashes, size_t hash_count, size_t *count,
+                          xet_segment *run);
+
+/* Writes the hashes of the chunks that the global index keeps, each once and in ascending order: chunks that are
+ * marked, those whose word 3 is a multiple of 1024, and those at which a file starts. Only the header and the sections
+ * are read. `capacity` and `*written` count hashes.
+ *
+ * XET_SHARD_VERSION: the tag is another, or the version is neither 2 nor 3.
+ * XET_IO: the bytes end before the sections do.
+ * XET_INVALID_SHARD: a file has a row that the version does not have, or a section more than 4294967295 rows.
+ * XET_OUT_OF_MEMORY, XET_SHORT. */
+uint32_t xet_eligible(const uint8_t *shard, size_t length, xet_hash *out, size_t capacity, size_t *written);
+
+/* What a file's record has: the number of its segments, and its SHA-256 and its auxiliary hash, or zeros where it has
+ * none. If there is no such file, `found` is false and all else is zero. */
+typedef struct xet_file {
+    bool found;
+    bool has_sha256;
+    bool has_aux;
+    size_t segments;
+    uint64_t sha256[4];
+    uint64_t aux_hash[4];
+} xet_file;
+
+/* Looks up the file with this hash, and writes its segments to the front of `segments`, which has room for `capacity`.
+ * With XET_SHORT they do not fit and `segments` stays as it is, but `file` is filled: `file->segments` is the room that
+ * is needed. With any other error `file` stays as well.
+ *
+ * XET_SHARD_VERSION, XET_IO: the errors of xet_load; XET_IO also if a row that is read ends too early.
+ * XET_TRUNCATED_HASH_COLLISION: eight or more files share the first word of the hash.
+ * XET_INTERNAL_ERROR: a row of the table of files leads to the end of the section.
+ * XET_INVALID_SHARD: the file has a row that the version does not have, or a number does not fit its width.
+ * XET_OUT_OF_MEMORY, XET_SHORT. */
+uint32_t xet_find_file(const uint8_t *shard, size_t length, const xet_hash *hash, xet_file *file, xet_segment *segments,
+                       size_t capacity);
+
+#ifdef __cplusplus
+}
+#endif
+
+#endif

@@ -1,0 +1,324 @@
+"""Tests of the C library through xet_shards: the expected bytes are those of vectors/, or worked out by hand.
+
+Runs with pytest, or as a program, which ends with the line 'N passed, M failed'.
+"""
+import ctypes
+import itertools
+import os
+import sys
+import traceback
+
+sys.dont_write_bytecode = True
+sys.path.insert(0, os.path.dirname(os.path.realpath(__file__)))
+
+import scripts  # noqa: E402
+import xet_shards  # noqa: E402
+from scripts import Shard, hash_text  # noqa: E402
+
+THEMES = "write find query union diff merge export minimal eligible".split()
+# The scripts of shards, and not of how lines are read. `subset` is no call of the C library.
+SHARDTOOL = """all_parts counts_differ counts_differ_in_a_tree dropped eight_share_a_word expiry exported found
+    made_again merged nine_chunks_share_a_word one_file parts_of_both queried seven_share_a_word subtracted united
+    versions_united xorb_and_file xorb_without_chunks""".split()
+
+
+def vector(folder, name):
+    return lambda: scripts.run(folder, name) and None
+
+
+for _name in [f"{theme}_{number:02}" for theme in THEMES for number in range(1, 9)]:
+    globals()[f"test_original_{_name}"] = vector("original", _name)
+for _name in SHARDTOOL:
+    globals()[f"test_shardtool_{_name}"] = vector("shardtool", _name)
+
+# The shard of one file that docs/FORMAT.md goes through byte by byte.
+ONE_FILE = bytes.fromhex(
+    "48465265706f4d6574614461746100556967456a7b815783a5bdd95ccdd14aa9" "0300000000000000" "c800000000000000"
+    + "64000000000000000100000000000000" + "00" * 16 + "0000000001000000" + "00" * 8
+    + "c8000000000000000100000000000000" + "00" * 16 + "00000000050000000000000005000000"
+    + ("ff" * 32 + "00" * 16) * 2
+    + "640000000000000000000000"
+    + "0100000000000000" "3000000000000000" "c000000000000000" "f0000000000000000100000000000000"
+    + ("fc00000000000000" + "00" * 8) * 2 + "00" * 32 + "00" * 8 + "ff" * 8 + "00" * 48
+    + "0000000000000000" "0500000000000000" "0000000000000000" "fc00000000000000"
+)
+
+
+def shard_of(*lines):
+    """Returns the bytes of a shard of `file` and `xorb` lines."""
+    shard = Shard()
+    for line in lines:
+        kind, *words = line.split()
+        (shard.add_file if kind == "file" else shard.add_xorb)(*words)
+    return shard.written()
+
+
+XORB_AND_FILE = shard_of("xorb 10 21:5", "file 100 200:0:5:5")
+
+
+def raises(error, call, *arguments, **named):
+    """Returns the error that a call raises."""
+    try:
+        call(*arguments, **named)
+    except error as raised:
+        return raised
+    raise AssertionError(f"{call.__name__} raises no {error.__name__}")
+
+
+def refused(name, call, *arguments, **named):
+    error = raises(xet_shards.XetError, call, *arguments, **named)
+    assert error.name == name, f"wanted {name}, got {error.name}"
+    return error
+
+
+def test_load():
+    assert len(ONE_FILE) == 452 and ONE_FILE == shard_of("file 100 200:0:5:5")
+    none = xet_shards.NO_KEY
+    assert xet_shards.load(ONE_FILE) == xet_shards.Info(3, 1, 0, 0, none, 0, xet_shards.NO_EXPIRY, 0, 5, 0)
+    assert xet_shards.load(XORB_AND_FILE) == xet_shards.Info(3, 1, 1, 1, none, 0, xet_shards.NO_EXPIRY, 0, 5, 5)
+
+
+def test_load_an_export():
+    key = hash_text("7")
+    exported = xet_shards.export(XORB_AND_FILE, key, 1000, 60, files=False)
+    assert xet_shards.load(exported) == xet_shards.Info(3, 0, 1, 1, key, 1000, 1060, 0, 0, 5)
+
+
+def test_kinds_of_bytes():
+    for kind in (bytearray, memoryview):
+        assert xet_shards.load(kind(ONE_FILE)) == xet_shards.load(ONE_FILE)
+
+
+def test_each_beginning_is_cut_short():
+    for count in range(452):
+        cut = ONE_FILE[:count]
+        # A minimal shard takes header and sections, which are 240 bytes.
+        if count < 240:
+            refused("Io", xet_shards.minimal, cut, 0, verification=False)
+            refused("Io", xet_shards.eligible, cut)
+        # The last 200 bytes of these begin with 01 and seven zeros, as a footer does: word 1 of the file's hash, the
+        # number of segments, and word 1 of the xorb's hash.
+        if count in (56 + 200, 84 + 200, 104 + 200):
+            assert xet_shards.load(cut).version == 3
+            continue
+        name = "Io" if count < 200 else "ShardVersion"
+        refused(name, xet_shards.load, cut)
+        refused(name, xet_shards.union, cut, ONE_FILE)
+        refused(name, xet_shards.difference, ONE_FILE, cut)
+        refused(name, xet_shards.find_file, cut, hash_text("100"))
+        refused(name, xet_shards.query_chunks, cut, [hash_text("21")])
+        refused(name, xet_shards.export, cut, xet_shards.NO_KEY, 0, 0)
+
+
+def test_other_formats():
+    tag = b"h" + ONE_FILE[1:]
+    version_1, version_4 = (ONE_FILE[:32] + bytes([it]) + ONE_FILE[33:] for it in (1, 4))
+    footer_2 = ONE_FILE[:252] + b"\2" + ONE_FILE[253:]
+    for bytes_of in (tag, version_1, version_4, footer_2):
+        refused("ShardVersion", xet_shards.load, bytes_of)
+        refused("ShardVersion", xet_shards.union, ONE_FILE, bytes_of)
+        refused("ShardVersion", xet_shards.query_chunks, bytes_of, [hash_text("21")])
+    refused("ShardVersion", xet_shards.minimal, tag, 0)
+    assert refused("ShardVersion", xet_shards.eligible, version_4).number == 5
+
+
+def test_auxiliary_row_in_version_2():
+    file = shard_of("file 100 x=777 200:0:5:5")
+    in_version_2 = file[:32] + b"\2" + file[33:]
+    for call in (xet_shards.eligible, lambda it: xet_shards.minimal(it, 0), lambda it: xet_shards.union(it, file)):
+        refused("InvalidShard", call, in_version_2)
+    refused("InvalidShard", xet_shards.find_file, in_version_2, hash_text("100"))
+
+
+def test_descending_hashes():
+    two = shard_of("file 100", "file 101")
+    assert two[48] == 100 and two[96] == 101
+    swapped = two[:48] + two[96:144] + two[48:96] + two[144:]
+    refused("InvalidShard", xet_shards.union, swapped, ONE_FILE)
+    refused("InvalidShard", xet_shards.difference, ONE_FILE, swapped)
+
+
+def test_row_that_leads_to_a_bookend():
+    # The row number in the file table, at 240 + 8, is that of the bookend.
+    wrong = ONE_FILE[:248] + b"\2" + ONE_FILE[249:]
+    refused("InternalError", xet_shards.find_file, wrong, hash_text("100"))
+
+
+def test_keys():
+    keyed = xet_shards.export(XORB_AND_FILE, hash_text("7"), 0, 0)
+    refused("InvalidArguments", xet_shards.union, keyed, XORB_AND_FILE)
+    refused("InvalidArguments", xet_shards.difference, XORB_AND_FILE, keyed)
+    refused("InvalidArguments", xet_shards.export, keyed, hash_text("7"), 0, 0)
+    assert xet_shards.query_chunks(keyed, [hash_text("21")]).segment.xorb == hash_text("10")
+
+
+def test_times():
+    refused("InvalidArguments", xet_shards.export, ONE_FILE, xet_shards.NO_KEY, 2**64 - 1, 1)
+    assert xet_shards.load(xet_shards.export(ONE_FILE, xet_shards.NO_KEY, 2**64 - 1, 0)).expiry == 2**64 - 1
+    raises(ValueError, xet_shards.export, ONE_FILE, xet_shards.NO_KEY, 2**64, 0)
+    raises(ValueError, xet_shards.minimal, ONE_FILE, -1)
+
+
+def test_minimal_without_verification():
+    assert refused("Io", xet_shards.minimal, ONE_FILE, 0).number == 1
+
+
+def test_many_segments():
+    lines = [f"{200 + it}:{it}:{it + 1}:{it}" for it in range(1000)]
+    found = xet_shards.find_file(shard_of("file 100 x=7 " + " ".join(lines), "file 101"), hash_text("100"))
+    assert (found.sha256, found.aux_hash) == (None, hash_text("7"))
+    wanted = [xet_shards.Segment(hash_text(str(200 + it)), it, it + 1, it, 0) for it in range(1000)]
+    assert list(found.segments) == wanted
+
+
+def test_many_eligible_chunks():
+    # The small hashes have word 3 zero.
+    chunks = " ".join(f"{it}:1" for it in range(99, -1, -1))
+    assert xet_shards.eligible(shard_of("xorb 10 " + chunks)) == [hash_text(str(it)) for it in range(100)]
+
+
+def test_tables_that_the_inputs_lack():
+    # The union has tables, so it is longer than its inputs and more than was first made room for.
+    chunks = " ".join(f"{it}:1" for it in range(1000))
+    whole = shard_of("xorb 10 " + chunks)
+    bare = xet_shards.export(whole, xet_shards.NO_KEY, 0, 0, files=False, xorb_table=False, chunk_table=False)
+    empty = shard_of()
+    assert len(empty) == 344 and len(bare) + len(empty) + 400 < len(whole) == len(bare) + 12 + 16000
+    assert xet_shards.union(bare, empty) == xet_shards.union(empty, bare) == whole
+
+
+def test_merge():
+    # These scripts print one byte string of three trees over three shards, and merge gives it, in any order. The shards
+    # of merge_02 don't agree.
+    for number in (1, 3, 4, 5, 6, 7, 8):
+        script, lines = scripts.read("original", f"merge_{number:02}")
+        run = scripts.Run(lines).run(script)
+        first, second, third, _ = lines[1::2]
+        assert first == second == third
+        shards = [run.buffers[it] for it in ("Ba", "Bc", "Bd")]
+        for order in itertools.permutations(shards):
+            assert xet_shards.merge(order).hex() == first
+        assert xet_shards.merge(shards * 5).hex() == first
+
+
+def test_merge_of_few():
+    # The union of a shard with itself has no expiry.
+    shard = Shard()
+    shard.add_file("100", "200:0:5:5")
+    assert xet_shards.merge([shard.written(7)]) == ONE_FILE
+    raises(ValueError, xet_shards.merge, [])
+
+
+def test_arguments():
+    for text in ("", "0" * 63, "0" * 65, "g" + "0" * 63, "0" * 64 + "\n", " " + "0" * 63, "0x" + "0" * 62):
+        raises(ValueError, xet_shards.find_file, ONE_FILE, text)
+        raises(ValueError, xet_shards.query_chunks, ONE_FILE, [text])
+    for shard in (452, "text", None, [1, 2]):
+        raises(TypeError, xet_shards.load, shard)
+    assert xet_shards.find_file(ONE_FILE, hash_text("100").upper()) is not None
+    assert xet_shards.query_chunks(XORB_AND_FILE, []) is None
+
+
+def test_sizes_of_structs():
+    # Of a 64-bit target: each word at a multiple of eight.
+    sizes = {"_Hash": 32, "_Segment": 48, "_Info": 104, "_Export": 56, "_File": 80}
+    assert {it: ctypes.sizeof(getattr(xet_shards, it)) for it in sizes} == sizes
+
+
+def union_into(out, room, first, second):
+    """Calls xet_union, and returns its result and the count that it writes."""
+    written = ctypes.c_size_t(12345)
+    number = xet_shards._library.xet_union(
+        first, len(first), second, len(second), out, room, ctypes.byref(written)
+    )
+    return number, written.value
+
+
+def test_room():
+    # 452 bytes are written to the front of what has room for them, and what is behind them stays.
+    for room in (452, 453, 500):
+        out = ctypes.create_string_buffer(b"\xaa" * 500, 500)
+        assert union_into(out, room, ONE_FILE, ONE_FILE) == (0, 452)
+        assert out.raw == ONE_FILE + b"\xaa" * 48
+    # With less room the size is told, and all stays.
+    for room in (0, 1, 451):
+        out = ctypes.create_string_buffer(b"\xaa" * 500, 500)
+        assert union_into(out, room, ONE_FILE, ONE_FILE) == (19, 452)
+        assert out.raw == b"\xaa" * 500
+
+
+def test_outputs_of_errors():
+    out = ctypes.create_string_buffer(b"\xaa" * 500, 500)
+    assert union_into(out, 500, ONE_FILE[:100], ONE_FILE) == (1, 0)
+    assert out.raw == b"\xaa" * 500
+    info = xet_shards._Info(*range(4), (4, 5, 6, 7), *range(8, 13))
+    before = bytes(info)
+    assert xet_shards._library.xet_load(ONE_FILE, 100, ctypes.byref(info)) == 1
+    assert bytes(info) == before
+
+
+def test_outputs_of_lookups():
+    file, segments = xet_shards._File(True, True, True, 4, (1, 2, 3, 4), (5, 6, 7, 8)), (xet_shards._Segment * 2)()
+    segments[0].bytes, segments[1].bytes = 123, 456
+    before, rows = bytes(file), bytes(segments)
+    call = xet_shards._library.xet_find_file
+    wanted = xet_shards._Hash(scripts.words_of(hash_text("100")))
+    # An error leaves both.
+    assert call(ONE_FILE, 100, ctypes.byref(wanted), ctypes.byref(file), segments, 2) == 1
+    assert (bytes(file), bytes(segments)) == (before, rows)
+    # Too little room tells the number and leaves the segments.
+    three = shard_of("file 100 s=3 200:0:5:5 201:0:5:6 202:0:5:7")
+    assert call(three, len(three), ctypes.byref(wanted), ctypes.byref(file), segments, 2) == 19
+    assert (file.found, file.segments, file.has_sha256, file.has_aux) == (True, 3, True, False)
+    assert (list(file.sha256), list(file.aux_hash), bytes(segments)) == ([3, 1, 0, 0], [0] * 4, rows)
+    # What is behind the segments stays.
+    assert call(ONE_FILE, len(ONE_FILE), ctypes.byref(wanted), ctypes.byref(file), segments, 2) == 0
+    assert (file.found, file.segments, file.has_sha256) == (True, 1, False)
+    assert [it.bytes for it in segments] == [5, 456]
+    # Of no file all is zero.
+    wanted.words[3] = 1
+    assert call(ONE_FILE, len(ONE_FILE), ctypes.byref(wanted), ctypes.byref(file), segments, 2) == 0
+    assert not file.found and not any(bytes(file)) and [it.bytes for it in segments] == [5, 456]
+
+
+def test_outputs_of_eligible():
+    # Two hashes, with room for less and for more.
+    shard, written = shard_of("xorb 10 22:1 21:1"), ctypes.c_size_t(12345)
+    out = (xet_shards._Hash * 3)(*[xet_shards._Hash((9, 9, 9, 9))] * 3)
+    call = xet_shards._library.xet_eligible
+    assert (call(shard, len(shard), out, 1, ctypes.byref(written)), written.value) == (19, 2)
+    assert [list(it.words) for it in out] == [[9] * 4] * 3
+    assert (call(shard, 40, out, 3, ctypes.byref(written)), written.value) == (1, 0)
+    assert [list(it.words) for it in out] == [[9] * 4] * 3
+    assert (call(shard, len(shard), out, 3, ctypes.byref(written)), written.value) == (0, 2)
+    assert [list(it.words) for it in out] == [[21, 1, 0, 0], [22, 1, 0, 0], [9] * 4]
+
+
+def test_outputs_of_queries():
+    count, run = ctypes.c_size_t(12345), xet_shards._Segment((1, 2, 3, 4), 5, 6, 7, 8)
+    before = bytes(run)
+    wanted = (xet_shards._Hash * 1)(xet_shards._Hash(scripts.words_of(hash_text("99"))))
+    for length, number in ((len(XORB_AND_FILE), 0), (100, 1)):
+        count.value = 12345
+        assert xet_shards._library.xet_query_chunks(
+            XORB_AND_FILE, length, wanted, 1, ctypes.byref(count), ctypes.byref(run)
+        ) == number
+        assert (count.value, bytes(run)) == (0, before)
+
+
+def main():
+    tests = {name: test for name, test in globals().items() if name.startswith("test_")}
+    failed = 0
+    for name, test in tests.items():
+        try:
+            test()
+        except Exception as error:
+            failed += 1
+            where = traceback.extract_tb(error.__traceback__)[-1]
+            print(f"{name}: {type(error).__name__}: {error or where.line}")
+    print(f"{len(tests) - failed} passed, {failed} failed")
+    return 1 if failed else 0
+
+
+if __name__ == "__main__":
+    sys.exit(main())
