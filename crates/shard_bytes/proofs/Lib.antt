@@ -1,4 +1,5 @@
 pub mod Combining
 pub mod Exporting
 pub mod Keeping
+pub mod Merging
 pub mod Written

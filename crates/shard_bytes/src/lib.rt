@@ -6,5 +6,6 @@ pub mod combine;
 pub mod export;
 pub mod find;
 pub mod load;
+pub mod merge;
 pub mod minimal;
 pub mod query;

@@ -1,0 +1,138 @@
+-- A list of byte strings is merged by a tree with each of them at a leaf; of shards that agree it gives the bytes of their
+-- join.
+use Rattle.std.proofs.Common.{◌≡◌, inl, inr, ℕ, zero, suc, ◌+◌, ◌-◌, ◌/◌, ◌<◌, ◌≤◌, ◌^◌, List, [], ◌∷◌, ◌++◌, length, get_or, Option, None, Some, refl, sym, ap, ◌∙◌, subst, arith}
+use Rattle.std.specs.Prelude.{Contains, IfSome, slice_get}
+use Rattle.std.specs.List.{AllZip}
+use Rattle.std.proofs.lemmas.Bool.{cases_lt}
+use Rattle.std.proofs.lemmas.List.Elements.{Contains-push, Contains-append_left, Contains-append_right, Contains-append_cases, Contains-get_or}
+use Rattle.xet_core_structures.specs.declared.set_operations.MergePlan.{MergePlan}
+use Rattle.xet_core_structures.specs.declared.set_operations.MergePlan.TheVariants.{Leaf, Both'}
+use Rattle.xet_core_structures.specs.Joins.{HasWhatAnyHas, IsJoinOf, AgreePairwise}
+use Rattle.xet_core_structures.specs.MergeTrees.{leaves, HasUnion, AtLeaves, AreWritten, AreSomeBytesOf}
+use Rattle.xet_core_structures.specs.Shard.{Shard, empty_shard}
+use Rattle.xet_core_structures.specs.WrittenShard.{AreBytesOf}
+use Rattle.xet_shards.proofs.MappedShards.{mapped_member, unmapped_member}
+use Rattle.shard_bytes.specs.Merging.{IsBalanced, IsMergePlan}
+
+only_member : (i j : ℕ) → Contains (j ∷ []) i → j ≡ i
+only_member i j (zero, within, is) = is
+only_member i j (suc k, within, is) = absurd (omega (arith, within))
+
+leaf_within : (from count : ℕ) (plan : MergePlan) → IsBalanced from count plan → (i : ℕ) → Contains (leaves plan) i → (from ≤ i) × (i < from + count)
+leaf_within from count (Leaf j) (one, is) i member = let same = only_member i j member in (omega arith, omega arith)
+leaf_within from count (Both' p left q right) (more, first, second) i member =
+    elim (Contains-append_cases (leaves left) (leaves right) i member) [
+      | inl here ↦ let within = leaf_within from (count / 2) left first i here in (within.0, omega arith)
+      | inr there ↦ let within = leaf_within (from + count / 2) (count - count / 2) right second i there in (omega arith, omega arith)
+    ]
+
+at_leaf : (from count : ℕ) (plan : MergePlan) → IsBalanced from count plan → (i : ℕ) → from ≤ i → i < from + count → Contains (leaves plan) i
+at_leaf from count (Leaf j) (one, is) i low high =
+    let same : j ≡ i = omega arith in
+    subst (Contains (j ∷ [])) same (Contains-push [] j)
+at_leaf from count (Both' p left q right) (more, first, second) i low high =
+    elim (cases_lt i (from + count / 2)) [
+      | inl below ↦ Contains-append_left (leaves left) (leaves right) i (at_leaf from (count / 2) left first i low below)
+      | inr above ↦ Contains-append_right (leaves left) (leaves right) i (at_leaf (from + count / 2) (count - count / 2) right second i above (omega arith))
+    ]
+
+-- a tree with a union and with each of so many inputs at a leaf
+pub record Covers (count : ℕ) (plan : MergePlan) : Type 0 where
+  pub union : HasUnion plan
+  pub within : (i : ℕ) → Contains (leaves plan) i → i < count
+  pub each : (i : ℕ) → i < count → Contains (leaves plan) i
+
+pub plan_covers : (count : ℕ) (plan : MergePlan) → IsMergePlan count plan → Covers count plan
+plan_covers count (Leaf i) (inl (one, none)) = absurd none
+plan_covers count (Leaf i) (inr (more, (one, is))) = absurd (omega arith)
+plan_covers count (Both' p left q right) (inl (one, (first, second))) =
+    let leaves_are : leaves (Both' p left q right) ≡ 0 ∷ 0 ∷ [] = subst (λ l. leaves l ++ leaves right ≡ 0 ∷ 0 ∷ []) (sym first) (ap (λ r. 0 ∷ leaves r) second) in
+    record {
+      union = tt;
+      within = λ i member.
+          let either = subst (λ is. Contains is i) leaves_are member in
+          elim (Contains-append_cases (0 ∷ []) (0 ∷ []) i either) [
+            | inl here ↦ let same = only_member i 0 here in omega arith
+            | inr there ↦ let same = only_member i 0 there in omega arith
+          ];
+      each = λ i below.
+          let same : 0 ≡ i = omega arith in
+          subst (λ is. Contains is i) (sym leaves_are) (subst (Contains (0 ∷ 0 ∷ [])) same (Contains-push (0 ∷ []) 0));
+    }
+plan_covers count (Both' p left q right) (inr (more, is)) = record {
+  union = tt;
+  within = λ i member. let found = leaf_within 0 count (Both' p left q right) is i member in omega arith;
+  each = λ i below. at_leaf 0 count (Both' p left q right) is i (omega arith) (omega arith);
+}
+
+-- a join is that of any set with the same members
+module _ (A B : Shard → Type 0) (into : (s : Shard) → A s → B s) (back : (s : Shard) → B s → A s) (c : Shard) where
+  same_part : {X : Type 0} (part : Shard → Option X) → HasWhatAnyHas A c part → HasWhatAnyHas B c part
+  same_part part has = λ x. (
+    λ is. let found = (has x).0 is in (found.0, into found.0 found.1, found.2),
+    λ found. (has x).1 (found.0, back found.0 found.1, found.2),
+  )
+
+  join_of_same : IsJoinOf A c → IsJoinOf B c
+  join_of_same join = record {
+    xorbs = λ q. same_part _ (join.xorbs q);
+    segments = λ q. same_part _ (join.segments q);
+    verification = λ q. same_part _ (join.verification q);
+    metadata_ext = λ q. same_part _ (join.metadata_ext q);
+    aux_ext = λ q. same_part _ (join.aux_ext q);
+    follows = join.follows;
+  }
+
+-- the expiry with which each byte string was written
+abbrev pub expiries : (all : List Shard) (inputs : List (List ℕ)) → AllZip AreSomeBytesOf all inputs → ℕ → Option ℕ
+expiries [] inputs are i = None
+expiries (s ∷ ss) [] are i = None
+expiries (s ∷ ss) (x ∷ xs) (here, rest) zero = here.0
+expiries (s ∷ ss) (x ∷ xs) (here, rest) (suc i) = expiries ss xs rest i
+
+input_at : (all : List Shard) (inputs : List (List ℕ)) (are : AllZip AreSomeBytesOf all inputs) (i : ℕ) → i < length all
+    → IfSome (expiries all inputs are i) (λ e. e < 2 ^ 64) × (bytes : List ℕ) × (slice_get inputs i ≡ Some bytes) × AreBytesOf (get_or all i empty_shard) (expiries all inputs are i) bytes
+input_at [] inputs are i below = absurd (omega (arith, below))
+input_at (s ∷ ss) [] are i below = absurd are
+input_at (s ∷ ss) (x ∷ xs) (here, rest) zero below = (here.1, x, refl, here.2)
+input_at (s ∷ ss) (x ∷ xs) (here, rest) (suc i) below = input_at ss xs rest i (omega (arith, below))
+
+pub same_count : (all : List Shard) (inputs : List (List ℕ)) → AllZip AreSomeBytesOf all inputs → length all ≡ length inputs
+same_count [] [] are = refl
+same_count [] (x ∷ xs) are = absurd are
+same_count (s ∷ ss) [] are = absurd are
+same_count (s ∷ ss) (x ∷ xs) (here, rest) = ap (λ n. suc n) (same_count ss xs rest)
+
+within_any : {X : Type 0} (xs : List X) (i : ℕ) (d e : X) → i < length xs → get_or xs i d ≡ get_or xs i e
+within_any [] i d e below = absurd (omega (arith, below))
+within_any (x ∷ xs) zero d e below = refl
+within_any (x ∷ xs) (suc i) d e below = within_any xs i d e (omega (arith, below))
+
+module _ (all : List Shard) (inputs : List (List ℕ)) (are : AllZip AreSomeBytesOf all inputs) (plan : MergePlan) (covers : Covers (length inputs) plan) where
+  abbrev pub shard_at : ℕ → Shard
+  shard_at i = get_or all i empty_shard
+
+  below_all : (i : ℕ) → i < length inputs → i < length all
+  below_all i below = let same = same_count all inputs are in omega arith
+
+  pub written : AreWritten inputs plan shard_at (expiries all inputs are)
+  written i member = input_at all inputs are i (below_all i (covers.within i member))
+
+  listed : (s : Shard) → AtLeaves plan shard_at s → Contains all s
+  listed s at =
+      let from = unmapped_member shard_at (leaves plan) s at in
+      subst (Contains all) from.2 (Contains-get_or all from.0 empty_shard (below_all from.0 (covers.within from.0 from.1)))
+
+  at_leaves : (s : Shard) → Contains all s → AtLeaves plan shard_at s
+  at_leaves s (i, below, is) =
+      let same = same_count all inputs are in
+      subst (AtLeaves plan shard_at) (within_any all i empty_shard s below ∙ is) (mapped_member shard_at (leaves plan) i (covers.each i (omega arith)))
+
+  pub agree_at_leaves : AgreePairwise (Contains all) → AgreePairwise (AtLeaves plan shard_at)
+  agree_at_leaves agree = record {
+    shards = λ s at. agree.shards s (listed s at);
+    pairs = λ s t one other. agree.pairs s t (listed s one) (listed t other);
+  }
+
+  pub join_at_leaves : (join : Shard) → IsJoinOf (Contains all) join → IsJoinOf (AtLeaves plan shard_at) join
+  join_at_leaves join is = join_of_same (Contains all) (AtLeaves plan shard_at) at_leaves listed join is

@@ -1,0 +1,56 @@
+-- The union of a list of byte strings.
+use Rattle.std.specs.Prelude.{◌≡◌, ◌⊎◌, ℕ, ◌+◌, ◌-◌, ◌/◌, ◌<◌, List, [], length, Contains, None}
+use Rattle.std.specs.List.{AllZip}
+use Rattle.xet_core_structures.specs.declared.error.CoreError.{CoreError}
+use Rattle.xet_core_structures.specs.declared.error.CoreError.TheVariants.{InvalidArguments, OutOfMemory}
+use Rattle.xet_core_structures.specs.declared.set_operations.MergePlan.{MergePlan}
+use Rattle.xet_core_structures.specs.declared.set_operations.MergePlan.TheVariants.{Leaf, Both'}
+use Rattle.xet_core_structures.specs.Errors.{IsInvalidShard}
+use Rattle.xet_core_structures.specs.Joins.{IsJoinOf, AgreePairwise}
+use Rattle.xet_core_structures.specs.Layout.{layout}
+use Rattle.xet_core_structures.specs.MergeTrees.{TreeWrites, TreeRefusal, AreSomeBytesOf}
+use Rattle.xet_core_structures.specs.SetOperations.{HasFewRows}
+use Rattle.xet_core_structures.specs.Shard.{Shard, IsShard}
+
+-- a tree over so many inputs from an index on: of two or more, half of them are at its left
+abbrev pub IsBalanced : ℕ → ℕ → MergePlan → Type 0
+IsBalanced from count (Leaf i) = (count ≡ 1) × (i ≡ from)
+IsBalanced from count (Both' p left q right) =
+    (1 < count) × IsBalanced from (count / 2) left
+    × IsBalanced (from + count / 2) (count - count / 2) right
+
+-- the union of what two trees give
+abbrev pub IsPlanOfBoth : MergePlan → MergePlan → MergePlan → Type 0
+IsPlanOfBoth first second (Leaf i) = ⊥
+IsPlanOfBoth first second (Both' p left q right) = (left ≡ first) × (right ≡ second)
+
+-- the tree by which a list of inputs is merged; a single one is united with itself
+abbrev pub IsMergePlan : ℕ → MergePlan → Type 0
+IsMergePlan count plan =
+    ((count ≡ 1) × IsPlanOfBoth (Leaf 0) (Leaf 0) plan) ⊎ ((1 < count) × IsBalanced 0 count plan)
+
+-- what the tree writes, and why it writes nothing
+abbrev pub MergesBytes : List (List ℕ) → List ℕ → Type 0
+MergesBytes inputs out =
+    (plan : MergePlan) × IsMergePlan (length inputs) plan × TreeWrites inputs plan out
+
+abbrev pub RefusesMerge : List (List ℕ) → CoreError → Type 0
+RefusesMerge inputs e =
+    ((e ≡ InvalidArguments) × (inputs ≡ [])) ⊎ (e ≡ OutOfMemory)
+    ⊎ ((plan : MergePlan) × IsMergePlan (length inputs) plan × TreeRefusal inputs plan e)
+
+-- the byte strings are those of these shards, each in either version and with any expiry or none;
+-- there is at least one, each two of them agree, and this is their join
+pub record HaveJoin (inputs : List (List ℕ)) (shards : List Shard) (join : Shard) : Type 0 where
+  pub some : 0 < length inputs
+  pub are_bytes : AllZip AreSomeBytesOf shards inputs
+  pub agree : AgreePairwise (Contains shards)
+  pub is_join : IsJoinOf (Contains shards) join
+
+-- the bytes of a join without expiry, and why there are none: an allocation failed, or a section of
+-- the join has too many rows
+abbrev pub WritesJoin : Shard → List ℕ → Type 0
+WritesJoin join bytes = (bytes ≡ layout join None) × IsShard join
+
+abbrev pub RefusesJoin : Shard → CoreError → Type 0
+RefusesJoin join e = (e ≡ OutOfMemory) ⊎ (IsInvalidShard e × (¬ HasFewRows join))

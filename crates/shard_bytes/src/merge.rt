@@ -1,0 +1,65 @@
+//! The union of a list of shards.
+
+ghost use Rattle.std.specs.Prelude.{◌≡◌, ◌⊎◌, ◌+◌, ◌<◌, ◌^◌, List, map, length, IfOk, IfErr, MatchResult};
+ghost use Rattle.xet_core_structures.specs.Shard.{Shard};
+ghost use Rattle.shard_bytes.specs.Merging.{IsBalanced, IsPlanOfBoth, IsMergePlan, MergesBytes, RefusesMerge, HaveJoin, WritesJoin, RefusesJoin};
+
+use std::alloc::Global;
+use xet_core_structures::error::{CoreError, Result};
+use xet_core_structures::set_operations::{MergePlan, shard_union_tree};
+
+/// The bytes of the union of one shard or more, from their bytes, by a balanced tree of unions:
+/// that of the first half of the list with that of the second. One shard is united with itself. Of
+/// shards that agree pairwise any other tree and any other order gives the same bytes.
+///
+/// `InvalidArguments` if the list is empty. Else the errors are those of [`shard_union_tree`].
+pub fn merge_bytes(alloc: Global, shards: &[&[u8]]) -> Result<Vec<u8>>
+    ensures any_bytes { MatchResult result
+        (λ bytes. MergesBytes (map (λ x. x.now) shards.now) bytes.items)
+        (RefusesMerge (map (λ x. x.now) shards.now)) }
+    ensures one_byte_string { (all : List Shard) → (join : Shard)
+        → HaveJoin (map (λ x. x.now) shards.now) all join
+        → MatchResult result (λ bytes. WritesJoin join bytes.items) (RefusesJoin join) }
+{
+    if shards.is_empty() {
+        return Err(CoreError::InvalidArguments);
+    }
+    let plan = merge_plan(alloc, shards.len())?;
+    shard_union_tree(alloc, &plan, shards)
+}
+
+// The tree by which so many inputs are merged.
+fn merge_plan(alloc: Global, count: usize) -> Result<MergePlan>
+    requires { 0 < count }
+    ensures ok { IfOk result (IsMergePlan count) }
+    ensures causes { IfErr result (λ e. e ≡ CoreError.OutOfMemory) }
+{
+    if count == 1 {
+        return plan_of_both(alloc, MergePlan::Leaf(0), MergePlan::Leaf(0));
+    }
+    balanced_plan(alloc, 0, count)
+}
+
+// The balanced tree over so many inputs from an index on.
+fn balanced_plan(alloc: Global, from: usize, count: usize) -> Result<MergePlan>
+    requires some { 0 < count }
+    requires end { from + count < 2 ^ 64 }
+    ensures ok { IfOk result (IsBalanced from count) }
+    ensures causes { IfErr result (λ e. e ≡ CoreError.OutOfMemory) }
+{
+    if count == 1 {
+        return Ok(MergePlan::Leaf(from));
+    }
+    let half = count / 2;
+    let left = balanced_plan(alloc, from, half)?;
+    let right = balanced_plan(alloc, from + half, count - half)?;
+    plan_of_both(alloc, left, right)
+}
+
+// The union of what two trees give.
+fn plan_of_both(alloc: Global, left: MergePlan, right: MergePlan) -> Result<MergePlan>
+    ensures ok { IfOk result (IsPlanOfBoth left right) }
+    ensures causes { IfErr result (λ e. e ≡ CoreError.OutOfMemory) }
+{
+    Ok(MergePlan::Both(Box::new(alloc, left)?, Box::new(alloc, right)?))
+}
