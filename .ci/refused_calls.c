@@ -6,7 +6,7 @@
 #include <stdlib.h>
 #include <string.h>
 
-enum { ROOM = 1 << 20, CALLS = 8 };
+enum { ROOM = 1 << 20, CALLS = 14 };
 
 void *__real_malloc(size_t size);
 void *__real_realloc(void *block, size_t size);
@@ -43,7 +43,7 @@ static union {
     xet_info info;
     struct {
         xet_file file;
-        xet_segment segments[100];
+        xet_file_segment segments[100];
     } found;
 } out, before;
 
@@ -57,7 +57,13 @@ static size_t read_shard(const char *name, uint8_t *bytes) {
 
 static uint32_t call(int number, size_t *count) {
     const xet_export_options options = {{7, 1, 0, 0}, 1000, 60, true, true, true, true};
-    const xet_hash file = {{100, 1, 0, 0}}, chunks[2] = {{{21, 1, 0, 0}}, {{22, 1, 0, 0}}};
+    const xet_subset_options times = {9, 0, false};
+    const xet_hash file = {{100, 1, 0, 0}}, chunks[2] = {{{21, 1, 0, 0}}, {{22, 1, 0, 0}}}, xorb = {{10, 1, 0, 0}};
+    const xet_bytes both[2] = {{first, first_length}, {second, second_length}};
+    const char *name = "0000000000000001000000000000000200000000000000030000000000000004.mdb";
+    /* These write no count. */
+    if (number == 6 || number > 10)
+        *count = 0;
     switch (number) {
     case 0:
         return xet_union(first, first_length, second, second_length, out.bytes, ROOM, count);
@@ -72,10 +78,20 @@ static uint32_t call(int number, size_t *count) {
     case 5:
         return xet_query_chunks(first, first_length, chunks, 2, count, &out.run);
     case 6:
-        *count = 0;
         return xet_find_file(first, first_length, &file, &out.found.file, out.found.segments, 100);
+    case 7:
+        return xet_merge(both, 2, out.bytes, ROOM, count);
+    case 8:
+        return xet_subset(first, first_length, &times, &xorb, 1, out.bytes, ROOM, count);
+    case 9:
+        return xet_hash_to_hex(&file, out.bytes, ROOM, count);
+    case 10:
+        return xet_shard_name(&file, out.bytes, ROOM, count);
+    case 11:
+        return xet_hash_from_hex((const uint8_t *)name, 64, out.hashes);
+    case 12:
+        return xet_parse_shard_name((const uint8_t *)name, 68, out.hashes);
     default:
-        *count = 0;
         return xet_load(first, first_length, &out.info);
     }
 }

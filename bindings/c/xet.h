@@ -42,7 +42,7 @@ enum xet_error {
     XET_OTHER = 3,                    /* * */
     XET_TRUNCATED_HASH_COLLISION = 4, /* eight or more files share the first word of the hash */
     XET_SHARD_VERSION = 5,            /* another tag, or another version of the header or the footer */
-    XET_BAD_FILENAME = 6,             /* * */
+    XET_BAD_FILENAME = 6,             /* a text is not the name of a shard file */
     XET_SHARD_NOT_FOUND = 7,          /* * */
     XET_FILE_NOT_FOUND = 8,           /* * */
     XET_QUERY_FAILED = 9,             /* * */
@@ -52,7 +52,7 @@ enum xet_error {
     XET_INVALID_ARGUMENTS = 13,       /* the call does not admit its arguments */
     XET_MALFORMED_DATA = 14,          /* * */
     XET_HASH_MISMATCH = 15,           /* * */
-    XET_HASH_PARSING = 16,            /* * */
+    XET_HASH_PARSING = 16,            /* a text is not the digits of a hash */
     XET_CHUNK_HEADER_PARSE = 17,      /* * */
     XET_OUT_OF_MEMORY = 18,           /* an allocation failed */
     XET_SHORT = 19                    /* the output does not fit the room that was given */
@@ -73,6 +73,12 @@ static inline const char *xet_error_name(uint32_t error) {
 typedef struct xet_hash {
     uint64_t words[4];
 } xet_hash;
+
+/* The bytes of a shard in memory. */
+typedef struct xet_bytes {
+    const uint8_t *bytes;
+    size_t length;
+} xet_bytes;
 
 /* Chunks `start` to `end`, without `end`, of a xorb, and their bytes unpacked. */
 typedef struct xet_segment {
@@ -129,6 +135,13 @@ uint32_t xet_load(const uint8_t *shard, size_t length, xet_info *info);
 uint32_t xet_union(const uint8_t *first, size_t first_length, const uint8_t *second, size_t second_length, uint8_t *out,
                    size_t capacity, size_t *written);
 
+/* Writes the union of one shard or more: that of the first half of the list with that of the second, each made in the
+ * same way; a single one is united with itself. Of shards that agree it is the same bytes in any order.
+ *
+ * XET_INVALID_ARGUMENTS: there is no shard, or the keys differ.
+ * The other errors are those of xet_union. */
+uint32_t xet_merge(const xet_bytes *shards, size_t count, uint8_t *out, size_t capacity, size_t *written);
+
 /* Writes the difference of two shards of one key: the second's records whose hashes the first does not have.
  *
  * The errors are those of xet_union, without that of files that have to be combined. */
@@ -155,6 +168,23 @@ uint32_t xet_export(const uint8_t *shard, size_t length, const xet_export_option
 uint32_t xet_minimal(const uint8_t *shard, size_t length, uint64_t now, bool verification, bool aux_rows, uint8_t *out,
                      size_t capacity, size_t *written);
 
+/* What a subset is to have. */
+typedef struct xet_subset_options {
+    uint64_t now;    /* its creation, in seconds */
+    uint64_t expiry; /* in seconds; 0: none */
+    bool all;        /* has all xorbs, whatever is listed */
+} xet_subset_options;
+
+/* Writes the xorbs of a shard with these hashes, and no files, without tables, and with a mark at each chunk at which a
+ * file starts. A hash that no xorb has is passed over. Only the header and the sections are read.
+ *
+ * XET_SHARD_VERSION: the tag is another, or the version is neither 2 nor 3.
+ * XET_IO: the bytes end before the sections do.
+ * XET_INVALID_SHARD: a file has a row that the version does not have, or a section more than 4294967295 rows.
+ * XET_OUT_OF_MEMORY, XET_SHORT. */
+uint32_t xet_subset(const uint8_t *shard, size_t length, const xet_subset_options *options, const xet_hash *xorbs,
+                    size_t xorb_count, uint8_t *out, size_t capacity, size_t *written);
+
 /* Looks for a run of chunks with these hashes, which are not keyed, also if the shard's are. `*count` is how many
  * chunks, from the first hash on, a xorb has one after another, and `run` says where. If there is none, `*count` is 0
  * and `run` stays as it is: no hash is given, the shard has no table of chunks, or no chunk in it has the first hash,
@@ -176,10 +206,17 @@ uint32_t xet_query_chunks(const uint8_t *shard, size_t length, const xet_hash *h
  * XET_OUT_OF_MEMORY, XET_SHORT. */
 uint32_t xet_eligible(const uint8_t *shard, size_t length, xet_hash *out, size_t capacity, size_t *written);
 
-/* What a file's record has: the number of its segments, and its SHA-256 and its auxiliary hash, or zeros where it has
- * none. If there is no such file, `found` is false and all else is zero. */
+/* A segment of a file, and the hash of its verification row, or zeros where the file has none. */
+typedef struct xet_file_segment {
+    xet_segment segment;
+    uint64_t verification[4];
+} xet_file_segment;
+
+/* What a file's record has: the number of its segments, whether these have verification hashes, and its SHA-256 and its
+ * auxiliary hash, or zeros where it has none. If there is no such file, `found` is false and all else is zero. */
 typedef struct xet_file {
     bool found;
+    bool has_verification;
     bool has_sha256;
     bool has_aux;
     size_t segments;
@@ -196,8 +233,21 @@ typedef struct xet_file {
  * XET_INTERNAL_ERROR: a row of the table of files leads to the end of the section.
  * XET_INVALID_SHARD: the file has a row that the version does not have, or a number does not fit its width.
  * XET_OUT_OF_MEMORY, XET_SHORT. */
-uint32_t xet_find_file(const uint8_t *shard, size_t length, const xet_hash *hash, xet_file *file, xet_segment *segments,
-                       size_t capacity);
+uint32_t xet_find_file(const uint8_t *shard, size_t length, const xet_hash *hash, xet_file *file,
+                       xet_file_segment *segments, size_t capacity);
+
+/* Writes the 64 hexadecimal digits of a hash, in lower case. XET_OUT_OF_MEMORY, XET_SHORT. */
+uint32_t xet_hash_to_hex(const xet_hash *hash, uint8_t *out, size_t capacity, size_t *written);
+
+/* Reads a hash from its 64 hexadecimal digits, of either case. XET_HASH_PARSING: it is another text. */
+uint32_t xet_hash_from_hex(const uint8_t *text, size_t length, xet_hash *hash);
+
+/* Writes the name of the file of the shard with this hash: its 64 digits and `.mdb`. XET_OUT_OF_MEMORY, XET_SHORT. */
+uint32_t xet_shard_name(const xet_hash *hash, uint8_t *out, size_t capacity, size_t *written);
+
+/* Reads the hash in the name of a shard file, which is 64 hexadecimal digits of either case and `.mdb`.
+ * XET_BAD_FILENAME: it is another text, such as a path. */
+uint32_t xet_parse_shard_name(const uint8_t *name, size_t length, xet_hash *hash);
 
 #ifdef __cplusplus
 }

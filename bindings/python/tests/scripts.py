@@ -185,6 +185,11 @@ class Run:
     def dropmin(self, *words):
         self.minimal(*words, aux=False)
 
+    def subset(self, name, into, now, expiry, *words):
+        listed = None if words == ("*",) else [hash_text(it) for it in words]
+        expiry = None if expiry == "-" else int(expiry)
+        self.buffers[into] = xet_shards.subset(self.buffers[name], int(now), expiry, listed)
+
     def eligible(self, name):
         for text in xet_shards.eligible(self.buffers[name]):
             self.compare(text, self.next_line())
@@ -208,8 +213,10 @@ class Run:
         for it in found.segments:
             self.compare(f"seg {it.xorb} {it.start} {it.end} {it.bytes}", self.next_line())
         if int(flags) & VERIFICATION:
-            for _ in found.segments:
-                self.compare("ver", self.next_line()[:3])
+            for it in found.segments:
+                self.compare(f"ver {it.verification}", self.next_line())
+        else:
+            self.compare([None] * int(count), [it.verification for it in found.segments])
         for name, text_of, bit in (("sha", found.sha256, SHA256), ("aux", found.aux_hash, AUX)):
             self.compare(text_of is not None, bool(int(flags) & bit))
             if text_of is not None:

@@ -15,11 +15,11 @@ import scripts  # noqa: E402
 import xet_shards  # noqa: E402
 from scripts import Shard, hash_text  # noqa: E402
 
-THEMES = "write find query union diff merge export minimal eligible".split()
-# The scripts of shards, and not of how lines are read. `subset` is no call of the C library.
+THEMES = "write find query union diff merge export minimal subset eligible".split()
+# The scripts of shards, and not of how lines are read.
 SHARDTOOL = """all_parts counts_differ counts_differ_in_a_tree dropped eight_share_a_word expiry exported found
     made_again merged nine_chunks_share_a_word one_file parts_of_both queried seven_share_a_word subtracted united
-    versions_united xorb_and_file xorb_without_chunks""".split()
+    subset_of_one_xorb versions_united xorb_and_file xorb_without_chunks""".split()
 
 
 def vector(folder, name):
@@ -171,6 +171,13 @@ def test_many_segments():
     assert list(found.segments) == wanted
 
 
+def test_verification_rows():
+    found = xet_shards.find_file(shard_of("file 100 v=7,8 200:0:5:5 201:0:5:6"), hash_text("100"))
+    assert [it.verification for it in found.segments] == [hash_text("7"), hash_text("8")]
+    # A file can have verification rows, and no segment that could have one.
+    assert xet_shards.find_file(shard_of("file 100 v="), hash_text("100")) == xet_shards.File((), None, None)
+
+
 def test_many_eligible_chunks():
     # The small hashes have word 3 zero.
     chunks = " ".join(f"{it}:1" for it in range(99, -1, -1))
@@ -185,6 +192,31 @@ def test_tables_that_the_inputs_lack():
     empty = shard_of()
     assert len(empty) == 344 and len(bare) + len(empty) + 400 < len(whole) == len(bare) + 12 + 16000
     assert xet_shards.union(bare, empty) == xet_shards.union(empty, bare) == whole
+
+
+def test_subset_of_no_xorb():
+    assert len(xet_shards.subset(XORB_AND_FILE, 9, xorbs=[])) == 344
+    assert len(xet_shards.subset(XORB_AND_FILE, 9)) == 344 + 96
+    assert xet_shards.load(xet_shards.subset(XORB_AND_FILE, 9, expiry=100)).expiry == 100
+    raises(ValueError, xet_shards.subset, XORB_AND_FILE, 9, xorbs=["10"])
+
+
+def test_names():
+    name = "00000000000000010000000000000002000000000000000300000000000000ab.mdb"
+    assert xet_shards.shard_name(name[:64]) == name
+    assert xet_shards.hash_of_name(name) == xet_shards.hash_of_name(name[:64].upper() + ".mdb") == name[:64]
+    for other in ("", name[:64], name[1:], f"/{name}", name.upper(), "g" + name[1:], name[:63] + "\u00e9.mdb"):
+        assert refused("BadFilename", xet_shards.hash_of_name, other).number == 6
+    raises(ValueError, xet_shards.shard_name, name)
+
+
+def test_merge_of_one_and_of_none():
+    # A single shard is written anew, in version 3 and without expiry.
+    shard = Shard()
+    shard.add_file("100", "200:0:5:5")
+    assert xet_shards.merge([shard.written(expiry=7, version=2)]) == ONE_FILE
+    raises(ValueError, xet_shards.merge, [])
+    refused("Io", xet_shards.merge, [ONE_FILE, ONE_FILE[:199]])
 
 
 def test_merge():
@@ -258,8 +290,9 @@ def test_outputs_of_errors():
 
 
 def test_outputs_of_lookups():
-    file, segments = xet_shards._File(True, True, True, 4, (1, 2, 3, 4), (5, 6, 7, 8)), (xet_shards._Segment * 2)()
-    segments[0].bytes, segments[1].bytes = 123, 456
+    file = xet_shards._File(True, True, True, True, 4, (1, 2, 3, 4), (5, 6, 7, 8))
+    segments = (xet_shards._FileSegment * 2)()
+    segments[0].segment.bytes, segments[1].segment.bytes = 123, 456
     before, rows = bytes(file), bytes(segments)
     call = xet_shards._library.xet_find_file
     wanted = xet_shards._Hash(scripts.words_of(hash_text("100")))
@@ -269,16 +302,17 @@ def test_outputs_of_lookups():
     # Too little room tells the number and leaves the segments.
     three = shard_of("file 100 s=3 200:0:5:5 201:0:5:6 202:0:5:7")
     assert call(three, len(three), ctypes.byref(wanted), ctypes.byref(file), segments, 2) == 19
-    assert (file.found, file.segments, file.has_sha256, file.has_aux) == (True, 3, True, False)
+    assert (file.found, file.segments) == (True, 3)
+    assert (file.has_verification, file.has_sha256, file.has_aux) == (False, True, False)
     assert (list(file.sha256), list(file.aux_hash), bytes(segments)) == ([3, 1, 0, 0], [0] * 4, rows)
     # What is behind the segments stays.
     assert call(ONE_FILE, len(ONE_FILE), ctypes.byref(wanted), ctypes.byref(file), segments, 2) == 0
     assert (file.found, file.segments, file.has_sha256) == (True, 1, False)
-    assert [it.bytes for it in segments] == [5, 456]
+    assert [it.segment.bytes for it in segments] == [5, 456]
     # Of no file all is zero.
     wanted.words[3] = 1
     assert call(ONE_FILE, len(ONE_FILE), ctypes.byref(wanted), ctypes.byref(file), segments, 2) == 0
-    assert not file.found and not any(bytes(file)) and [it.bytes for it in segments] == [5, 456]
+    assert not file.found and not any(bytes(file)) and [it.segment.bytes for it in segments] == [5, 456]
 
 
 def test_outputs_of_eligible():

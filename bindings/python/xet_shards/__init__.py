@@ -17,7 +17,7 @@ from typing import Callable, List, Optional, Sequence, Tuple, Union
 
 __all__ = [
     "File", "Info", "NO_EXPIRY", "NO_KEY", "Run", "Segment", "XetError", "difference", "eligible", "export",
-    "find_file", "load", "merge", "minimal", "query_chunks", "union",
+    "find_file", "hash_of_name", "load", "merge", "minimal", "query_chunks", "shard_name", "subset", "union",
 ]
 
 Buffer = Union[bytes, bytearray, memoryview]
@@ -66,13 +66,17 @@ class Info:
 
 @dataclass(frozen=True)
 class Segment:
-    """Chunks `start` to `end`, without `end`, of a xorb, and their bytes unpacked."""
+    """Chunks `start` to `end`, without `end`, of a xorb, and their bytes unpacked.
+
+    `verification` is the hash of a file's verification row, where the file has them.
+    """
 
     xorb: str
     start: int
     end: int
     bytes: int
     flags: int
+    verification: Optional[str] = None
 
 
 @dataclass(frozen=True)
@@ -103,6 +107,14 @@ class _Segment(ctypes.Structure):
     _fields_ = [("xorb", _Words), ("flags", c_uint32), ("bytes", c_uint32), ("start", c_uint32), ("end", c_uint32)]
 
 
+class _FileSegment(ctypes.Structure):
+    _fields_ = [("segment", _Segment), ("verification", _Words)]
+
+
+class _ShardBytes(ctypes.Structure):
+    _fields_ = [("bytes", c_char_p), ("length", c_size_t)]
+
+
 class _Info(ctypes.Structure):
     _fields_ = [
         ("version", c_uint64), ("files", c_uint64), ("xorbs", c_uint64), ("chunks", c_uint64), ("key", _Words),
@@ -118,25 +130,36 @@ class _Export(ctypes.Structure):
     ]
 
 
+class _Subset(ctypes.Structure):
+    _fields_ = [("now", c_uint64), ("expiry", c_uint64), ("all", c_bool)]
+
+
 class _File(ctypes.Structure):
     _fields_ = [
-        ("found", c_bool), ("has_sha256", c_bool), ("has_aux", c_bool), ("segments", c_size_t), ("sha256", _Words),
-        ("aux_hash", _Words),
+        ("found", c_bool), ("has_verification", c_bool), ("has_sha256", c_bool), ("has_aux", c_bool),
+        ("segments", c_size_t), ("sha256", _Words), ("aux_hash", _Words),
     ]
 
 
 _SHARD = [c_char_p, c_size_t]
 _HASHES = [POINTER(_Hash), c_size_t]
 _OUT = [POINTER(c_char), c_size_t, POINTER(c_size_t)]
+_TEXT = [c_char_p, c_size_t]
 _CALLS = {
     "xet_load": [*_SHARD, POINTER(_Info)],
     "xet_union": [*_SHARD, *_SHARD, *_OUT],
+    "xet_merge": [POINTER(_ShardBytes), c_size_t, *_OUT],
     "xet_difference": [*_SHARD, *_SHARD, *_OUT],
     "xet_export": [*_SHARD, POINTER(_Export), *_OUT],
     "xet_minimal": [*_SHARD, c_uint64, c_bool, c_bool, *_OUT],
+    "xet_subset": [*_SHARD, POINTER(_Subset), *_HASHES, *_OUT],
     "xet_query_chunks": [*_SHARD, *_HASHES, POINTER(c_size_t), POINTER(_Segment)],
     "xet_eligible": [*_SHARD, *_HASHES, POINTER(c_size_t)],
-    "xet_find_file": [*_SHARD, POINTER(_Hash), POINTER(_File), POINTER(_Segment), c_size_t],
+    "xet_find_file": [*_SHARD, POINTER(_Hash), POINTER(_File), POINTER(_FileSegment), c_size_t],
+    "xet_hash_to_hex": [POINTER(_Hash), *_OUT],
+    "xet_hash_from_hex": [*_TEXT, POINTER(_Hash)],
+    "xet_shard_name": [POINTER(_Hash), *_OUT],
+    "xet_parse_shard_name": [*_TEXT, POINTER(_Hash)],
 }
 
 
@@ -179,8 +202,15 @@ def _text(words: Sequence[int]) -> str:
     return "".join(f"{word:016x}" for word in words)
 
 
-def _segment(it: _Segment) -> Segment:
-    return Segment(_text(it.xorb), it.start, it.end, it.bytes, it.flags)
+def _segment(it: _Segment, verification: Optional[str] = None) -> Segment:
+    return Segment(_text(it.xorb), it.start, it.end, it.bytes, it.flags, verification)
+
+
+def _hashes(texts: Sequence[str]) -> ctypes.Array:
+    hashes = _array(_Hash, len(texts))
+    for at, text in enumerate(texts):
+        hashes[at].words = _words(text)
+    return hashes
 
 
 def _array(item: type, count: int) -> ctypes.Array:
@@ -212,17 +242,20 @@ def find_file(shard: Buffer, file_hash: str) -> Optional[File]:
     """Returns the file with this hash, or None."""
     data, wanted, file = _bytes(shard), _Hash(_words(file_hash)), _File()
     room = 64
-    segments = _array(_Segment, room)
+    segments = _array(_FileSegment, room)
     number = _library.xet_find_file(data, len(data), byref(wanted), byref(file), segments, room)
     if number == _SHORT:
         room = file.segments
-        segments = _array(_Segment, room)
+        segments = _array(_FileSegment, room)
         number = _library.xet_find_file(data, len(data), byref(wanted), byref(file), segments, room)
     _check(number)
     if not file.found:
         return None
     return File(
-        tuple(_segment(it) for it in segments[: file.segments]),
+        tuple(
+            _segment(it.segment, _text(it.verification) if file.has_verification else None)
+            for it in segments[: file.segments]
+        ),
         _text(file.sha256) if file.has_sha256 else None,
         _text(file.aux_hash) if file.has_aux else None,
     )
@@ -230,9 +263,7 @@ def find_file(shard: Buffer, file_hash: str) -> Optional[File]:
 
 def query_chunks(shard: Buffer, hashes: Sequence[str]) -> Optional[Run]:
     """Returns a run of chunks with these hashes, which are not keyed, or None. It has at least the first."""
-    data, wanted = _bytes(shard), _array(_Hash, len(hashes))
-    for at, text in enumerate(hashes):
-        wanted[at].words = _words(text)
+    data, wanted = _bytes(shard), _hashes(hashes)
     count, run = c_size_t(), _Segment()
     _check(_library.xet_query_chunks(data, len(data), wanted, len(hashes), byref(count), byref(run)))
     return Run(count.value, _segment(run)) if count.value else None
@@ -262,15 +293,16 @@ def merge(shards: Sequence[Buffer]) -> bytes:
     Any other tree gives the same bytes, and so does any other order, for shards that agree and have no key: files with
     one hash have equal segments, and an equal optional part wherever both have it, and xorbs with one hash are equal.
     """
-    level: List[Buffer] = list(shards)
-    if not level:
+    inputs = [_bytes(it) for it in shards]
+    if not inputs:
         raise ValueError("no shard is given")
-    if len(level) == 1:
-        level *= 2
-    while len(level) > 1:
-        pairs = [union(*level[at : at + 2]) for at in range(0, len(level) - 1, 2)]
-        level = pairs + level[2 * len(pairs) :]
-    return _bytes(level[0])
+    array = _array(_ShardBytes, len(inputs))
+    for at, it in enumerate(inputs):
+        array[at] = _ShardBytes(it, len(it))
+    return _filled(
+        c_char, sum(len(it) for it in inputs) + 400,
+        lambda out, room, written: _library.xet_merge(array, len(inputs), out, room, byref(written)),
+    )
 
 
 def export(
@@ -305,6 +337,21 @@ def minimal(shard: Buffer, now: int, verification: bool = True, aux_rows: bool =
     )
 
 
+def subset(shard: Buffer, now: int, expiry: Optional[int] = None, xorbs: Optional[Sequence[str]] = None) -> bytes:
+    """Returns the xorbs of the shard with these hashes, or all, without files and tables, created at `now`.
+
+    A hash that no xorb has is passed over.
+    """
+    data, listed = _bytes(shard), _hashes(xorbs or [])
+    options = _Subset(_seconds(now), _seconds(expiry or 0), xorbs is None)
+    return _filled(
+        c_char, len(data) + 400,
+        lambda out, room, written: _library.xet_subset(
+            data, len(data), byref(options), listed, len(xorbs or []), out, room, byref(written)
+        ),
+    )
+
+
 def eligible(shard: Buffer) -> List[str]:
     """Returns the hashes of the chunks that the global index keeps, in ascending order."""
     data = _bytes(shard)
@@ -312,3 +359,19 @@ def eligible(shard: Buffer) -> List[str]:
         _Hash, 16, lambda out, room, written: _library.xet_eligible(data, len(data), out, room, byref(written))
     )
     return [_text(it.words) for it in hashes]
+
+
+def shard_name(shard_hash: str) -> str:
+    """Returns the name of the file of the shard with this hash: its 64 digits and `.mdb`."""
+    wanted = _Hash(_words(shard_hash))
+    name = _filled(
+        c_char, 68, lambda out, room, written: _library.xet_shard_name(byref(wanted), out, room, byref(written))
+    )
+    return name.decode("ascii")
+
+
+def hash_of_name(name: str) -> str:
+    """Returns the hash in the name of a shard file, of 64 hexadecimal digits and `.mdb`."""
+    text, found = name.encode("utf-8"), _Hash()
+    _check(_library.xet_parse_shard_name(text, len(text), byref(found)))
+    return _text(found.words)

@@ -1,5 +1,5 @@
 -- What was made is delivered, and why nothing was made is answered.
-use Rattle.std.proofs.Common.{◌⊎◌, inl, inr, ℕ, List, Ok, Err, Result, MatchResult}
+use Rattle.std.proofs.Common.{inl, inr, ℕ, List, Ok, Err, Result, MatchResult}
 use Rattle.std.specs.declared.vec.Vec.{Vec}
 use Rattle.xet_core_structures.specs.declared.error.CoreError.{CoreError}
 use Rattle.xet_c.specs.Output.{Delivers, Refuses, Outcome}

@@ -1,19 +1,27 @@
 -- What the structs say that are passed.
-use Rattle.std.specs.Prelude.{◌≡◌, ◌⊎◌, ℕ, ◌+◌, ◌<◌, is_some, List, [], ◌∷◌, length, map, Option, None, Some, option_map, option_and_then}
+use Rattle.std.specs.Prelude.{◌≡◌, ◌⊎◌, ⊤, ℕ, Bool, true, false, is_some, List, [], ◌∷◌, length, map, Option, None, Some, option_map}
 use Rattle.xet_core_structures.specs.declared.error.CoreError.{CoreError}
 use Rattle.xet_core_structures.specs.declared.error.CoreError.TheVariants.{OutOfMemory}
 use Rattle.xet_core_structures.specs.declared.file_structs.FileDataSequenceEntry.{FileDataSequenceEntry}
+use Rattle.xet_core_structures.specs.declared.file_structs.FileVerificationEntry.{FileVerificationEntry}
 use Rattle.xet_core_structures.specs.declared.file_structs.MDBFileInfo.{MDBFileInfo}
 use Rattle.xet_core_structures.specs.declared.merklehash.DataHash.{DataHash}
 use Rattle.xet_core_structures.specs.declared.shard_format.MDBShardInfo.{MDBShardInfo}
+use Rattle.xet_core_structures.specs.FileRecord.{has_verification}
 use Rattle.xet_core_structures.specs.Hash.{words_of}
 use Rattle.shard_bytes.specs.declared.export.Export.{Export}
+use Rattle.shard_bytes.specs.declared.minimal.KeptXorbs.{KeptXorbs}
+use Rattle.shard_bytes.specs.declared.minimal.KeptXorbs.TheVariants.{All as all_xorbs, Listed}
+use Rattle.shard_bytes.specs.declared.minimal.Subset.{Subset}
+use Rattle.shard_bytes.specs.Minimal.{SubsetBytes}
 use Rattle.shard_bytes.specs.Query.{AnswersQuery, RefusesQuery}
 use Rattle.xet_c.specs.declared.export.XetExport.{XetExport}
 use Rattle.xet_c.specs.declared.find.XetFile.{XetFile}
 use Rattle.xet_c.specs.declared.hash.XetHash.{XetHash}
 use Rattle.xet_c.specs.declared.load.XetInfo.{XetInfo}
+use Rattle.xet_c.specs.declared.segment.XetFileSegment.{XetFileSegment}
 use Rattle.xet_c.specs.declared.segment.XetSegment.{XetSegment}
+use Rattle.xet_c.specs.declared.subset.XetSubset.{XetSubset}
 
 -- an export has the key, the times and the parts that are asked for
 pub record AsksFor (options : XetExport) (x : Export) : Type 0 where
@@ -44,6 +52,24 @@ c_info info = record {
 abbrev pub c_hash : DataHash → XetHash
 c_hash hash = record { words = words_of hash }
 
+-- all xorbs are kept, or those with these hashes
+abbrev pub KeepsXorbs : Bool → List XetHash → KeptXorbs → Type 0
+KeepsXorbs true cs all_xorbs = ⊤
+KeepsXorbs false cs (Listed hashes) = map c_hash hashes.items ≡ cs
+KeepsXorbs _ cs _ = ⊥
+
+-- a subset has the times and keeps the xorbs that are asked for
+pub record AsksForSubset (options : XetSubset) (xorbs : List XetHash) (subset : Subset) : Type 0
+  where
+    pub now : subset.now ≡ options.now
+    pub expiry : subset.expiry ≡ Some options.expiry
+    pub kept : KeepsXorbs options.all xorbs subset.kept
+
+-- the bytes of the subset that is asked for
+abbrev pub WritesSubset : XetSubset → List XetHash → List ℕ → List ℕ → Type 0
+WritesSubset options xorbs bytes out =
+    (subset : Subset) × AsksForSubset options xorbs subset × SubsetBytes subset bytes out
+
 -- the numbers of a segment
 abbrev pub c_segment : FileDataSequenceEntry → XetSegment
 c_segment s = record {
@@ -59,20 +85,41 @@ abbrev pub words_or_zero : Option DataHash → List ℕ
 words_or_zero (Some hash) = words_of hash
 words_or_zero None = 0 ∷ 0 ∷ 0 ∷ 0 ∷ []
 
--- the segments of a file, or none
-abbrev pub segments_in : Option MDBFileInfo → List FileDataSequenceEntry
-segments_in (Some file) = file.segments
+-- a segment of a file, with its verification hash if it has one
+abbrev pub c_file_segment : FileDataSequenceEntry → Option DataHash → XetFileSegment
+c_file_segment s hash = record { segment = c_segment s; verification = words_or_zero hash }
+
+-- segments, each with the hash of its verification row, or zeros if it has none
+abbrev pub c_segments : List FileDataSequenceEntry → List FileVerificationEntry
+    → List XetFileSegment
+c_segments [] rows = []
+c_segments (s ∷ ss) [] = c_file_segment s None ∷ c_segments ss []
+c_segments (s ∷ ss) (row ∷ rows) = c_file_segment s (Some row.range_hash) ∷ c_segments ss rows
+
+-- those of a file, or none
+abbrev pub segments_in : Option MDBFileInfo → List XetFileSegment
+segments_in (Some file) = c_segments file.segments file.verification
 segments_in None = []
 
 -- what a record has, or that there is none
 abbrev pub c_file : Option MDBFileInfo → XetFile
-c_file found = record {
-  found = is_some found;
-  segments = length (segments_in found);
-  has_sha256 = is_some (option_and_then (λ f. f.metadata_ext) found);
-  has_aux = is_some (option_and_then (λ f. f.aux_ext) found);
-  sha256 = words_or_zero (option_map (λ m. m.sha256) (option_and_then (λ f. f.metadata_ext) found));
-  aux_hash = words_or_zero (option_map (λ a. a.aux_hash) (option_and_then (λ f. f.aux_ext) found));
+c_file (Some file) = record {
+  found = true;
+  has_verification = has_verification file.metadata.file_flags;
+  has_sha256 = is_some file.metadata_ext;
+  has_aux = is_some file.aux_ext;
+  segments = length file.segments;
+  sha256 = words_or_zero (option_map (λ m. m.sha256) file.metadata_ext);
+  aux_hash = words_or_zero (option_map (λ a. a.aux_hash) file.aux_ext);
+}
+c_file None = record {
+  found = false;
+  has_verification = false;
+  has_sha256 = false;
+  has_aux = false;
+  segments = 0;
+  sha256 = words_or_zero None;
+  aux_hash = words_or_zero None;
 }
 
 -- a count and a segment show the answer of a query: of none the count is 0, and the segment stays

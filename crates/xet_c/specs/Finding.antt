@@ -1,7 +1,6 @@
 -- A lookup of a file, and how it is shown.
-use Rattle.std.specs.Prelude.{◌≡◌, ◌⊎◌, ◌<◌, ◌≤◌, ◌^◌, ℕ, List, length, map, Option, IfSome, MatchResult, Ok, Err}
+use Rattle.std.specs.Prelude.{◌≡◌, ◌⊎◌, ◌<◌, ◌≤◌, ◌^◌, ℕ, List, length, Option, IfSome, MatchResult, Ok, Err}
 use Rattle.std.specs.FinMap as finite
-use Rattle.xet_core_structures.specs.declared.error.CoreError.{CoreError}
 use Rattle.xet_core_structures.specs.declared.error.CoreError.TheVariants.{OutOfMemory, TruncatedHashCollision}
 use Rattle.xet_core_structures.specs.declared.file_structs.MDBFileInfo.{MDBFileInfo}
 use Rattle.xet_core_structures.specs.declared.merklehash.DataHash.{DataHash}
@@ -12,8 +11,8 @@ use Rattle.xet_core_structures.specs.Shard.{Shard, IsShard}
 use Rattle.xet_core_structures.specs.WrittenShard.{AreBytesOf}
 use Rattle.shard_bytes.specs.Finding.{FindsFile, RefusesFile}
 use Rattle.xet_c.specs.declared.find.XetFile.{XetFile}
-use Rattle.xet_c.specs.declared.segment.XetSegment.{XetSegment}
-use Rattle.xet_c.specs.Arguments.{c_file, c_segment, segments_in}
+use Rattle.xet_c.specs.declared.segment.XetFileSegment.{XetFileSegment}
+use Rattle.xet_c.specs.Arguments.{c_file, segments_in}
 use Rattle.xet_c.specs.Output.{Delivers}
 
 -- a file was looked up: on any bytes; and on those of a shard, where it is what the shard's map has
@@ -31,9 +30,9 @@ pub record LooksUpFile (bytes : List ℕ) (hash : DataHash) (result : CoreResult
 -- what was found is shown, its segments at the front of an output if they fit; after an error all
 -- stays
 abbrev pub ShowsFile : CoreResult (Option MDBFileInfo) → (old_file new_file : XetFile)
-    → (old new : List XetSegment) → ℕ → Type 0
+    → (old new : List XetFileSegment) → ℕ → Type 0
 ShowsFile (Ok found) old_file new_file old new answer =
     (new_file ≡ c_file found)
-    × Delivers (map c_segment (segments_in found)) old new (length (segments_in found)) answer
+    × Delivers (segments_in found) old new (length (segments_in found)) answer
 ShowsFile (Err e) old_file new_file old new answer =
     (new_file ≡ old_file) × (new ≡ old) × (answer ≡ variant_number e)

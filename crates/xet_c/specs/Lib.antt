@@ -1,3 +1,4 @@
 pub mod Arguments
 pub mod Finding
 pub mod Output
+pub mod Text

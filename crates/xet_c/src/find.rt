@@ -1,27 +1,29 @@
 //! Files.
 
-ghost use Rattle.std.specs.Prelude.{◌≡◌, ◌⊎◌, Option, IfOk, IfErr, map, option_map, option_and_then};
+ghost use Rattle.std.specs.Prelude.{◌≡◌, ◌⊎◌, Option, IfOk, IfErr};
 ghost use Rattle.xet_core_structures.specs.declared.file_structs.MDBFileInfo.{MDBFileInfo};
 ghost use Rattle.xet_core_structures.specs.declared.merklehash.DataHash.{DataHash};
 ghost use Rattle.xet_core_structures.specs.Errors.{CoreResult};
-ghost use Rattle.xet_c.specs.Arguments.{c_file, c_hash, c_segment, segments_in, words_or_zero};
+ghost use Rattle.xet_c.specs.Arguments.{c_file, c_hash, segments_in};
 ghost use Rattle.xet_c.specs.Finding.{LooksUpFile, ShowsFile};
 
-use crate::hash::XetHash;
+use crate::hash::{XetHash, words_or_zero};
 use crate::output::{error_number, give};
-use crate::segment::{XetSegment, segments_of};
+use crate::segment::{XetFileSegment, segments_of};
 use shard_bytes::find::find_file;
 use std::alloc::Global;
 use xet_core_structures::error::{CoreError, Result};
 use xet_core_structures::file_structs::MDBFileInfo;
 use xet_core_structures::merklehash::MerkleHash;
 
-/// What a file's record has: the number of its segments, and its SHA-256 and its auxiliary hash, or
-/// zeros if it has none. If there is no such file, `found` is false and all else is zero.
+/// What a file's record has: the number of its segments, whether these have verification hashes, and
+/// its SHA-256 and its auxiliary hash, or zeros if it has none. If there is no such file, `found` is
+/// false and all else is zero.
 #[repr(C)]
 #[derive(Clone, Copy, Drop)]
 pub struct XetFile {
     pub found: bool,
+    pub has_verification: bool,
     pub has_sha256: bool,
     pub has_aux: bool,
     pub segments: usize,
@@ -38,7 +40,7 @@ pub extern "C" fn xet_find_file(
     shard: &[u8],
     hash: &XetHash,
     file: &mut XetFile,
-    segments: &mut [XetSegment],
+    segments: &mut [XetFileSegment],
 ) -> u32
     ensures { (h : DataHash) × (found : CoreResult (Option MDBFileInfo)) × (c_hash h ≡ hash.now)
         × LooksUpFile shard.now h found
@@ -54,7 +56,7 @@ fn show(
     alloc: Global,
     found: &Result<Option<MDBFileInfo>>,
     file: &mut XetFile,
-    segments: &mut [XetSegment],
+    segments: &mut [XetFileSegment],
 ) -> u32
     ensures { ShowsFile found.now file.old file.new segments.old segments.new result
         ⊎ ((result ≡ 18) × (file.new ≡ file.old) × (segments.new ≡ segments.old)) }
@@ -71,12 +73,16 @@ fn show(
     give(list.as_slice(), segments, &mut count)
 }
 
-fn segments_found(alloc: Global, found: &Option<MDBFileInfo>) -> Result<Vec<XetSegment>>
-    ensures ok { IfOk result (λ list. list.items ≡ map c_segment (segments_in found.now)) }
+fn segments_found(alloc: Global, found: &Option<MDBFileInfo>) -> Result<Vec<XetFileSegment>>
+    ensures ok { IfOk result (λ list. list.items ≡ segments_in found.now) }
     ensures causes { IfErr result (λ e. e ≡ CoreError.OutOfMemory) }
 {
     match found {
-        Some(record) => segments_of(alloc, record.segments.as_slice()),
+        Some(record) => segments_of(
+            alloc,
+            record.segments.as_slice(),
+            record.verification.as_slice(),
+        ),
         None => Ok(Vec::new(alloc)),
     }
 }
@@ -87,6 +93,7 @@ fn file_of(found: &Option<MDBFileInfo>) -> XetFile
     let Some(record) = found else {
         return XetFile {
             found: false,
+            has_verification: false,
             has_sha256: false,
             has_aux: false,
             segments: 0,
@@ -98,19 +105,11 @@ fn file_of(found: &Option<MDBFileInfo>) -> XetFile
     let aux_hash = record.aux_ext.map(|row| row.aux_hash);
     XetFile {
         found: true,
+        has_verification: record.contains_verification(),
         has_sha256: sha256.is_some(),
         has_aux: aux_hash.is_some(),
         segments: record.segments.len(),
-        sha256: words(sha256),
-        aux_hash: words(aux_hash),
-    }
-}
-
-fn words(hash: Option<MerkleHash>) -> [u64; 4]
-    ensures { result ≡ words_or_zero hash }
-{
-    match hash {
-        Some(hash) => [hash.word0, hash.word1, hash.word2, hash.word3],
-        None => [0; 4],
+        sha256: words_or_zero(sha256),
+        aux_hash: words_or_zero(aux_hash),
     }
 }

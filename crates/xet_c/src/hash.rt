@@ -1,7 +1,7 @@
 //! Hashes, as four words.
 
 ghost use Rattle.std.specs.Prelude.{◌≡◌, map, IfOk, IfErr};
-ghost use Rattle.xet_c.specs.Arguments.{c_hash};
+ghost use Rattle.xet_c.specs.Arguments.{c_hash, words_or_zero};
 
 use std::alloc::Global;
 use xet_core_structures::error::{CoreError, Result};
@@ -38,10 +38,21 @@ pub fn words_of(alloc: Global, hashes: &[MerkleHash]) -> Result<Vec<XetHash>>
     Ok(words)
 }
 
-fn of_hash(hash: &MerkleHash) -> XetHash
+/// The words of this hash.
+pub fn of_hash(hash: &MerkleHash) -> XetHash
     ensures { result ≡ c_hash hash.now }
 {
     XetHash {
         words: [hash.word0, hash.word1, hash.word2, hash.word3],
+    }
+}
+
+/// The words of a hash, or zeros if there is none.
+pub fn words_or_zero(hash: Option<MerkleHash>) -> [u64; 4]
+    ensures { result ≡ words_or_zero hash }
+{
+    match hash {
+        Some(hash) => [hash.word0, hash.word1, hash.word2, hash.word3],
+        None => [0; 4],
     }
 }

@@ -1,11 +1,12 @@
 //! Segments of files.
 
-ghost use Rattle.std.specs.Prelude.{◌≡◌, map, IfOk, IfErr};
-ghost use Rattle.xet_c.specs.Arguments.{c_segment};
+ghost use Rattle.std.specs.Prelude.{◌≡◌, IfOk, IfErr, option_map, slice_get};
+ghost use Rattle.xet_c.specs.Arguments.{c_segment, c_segments, words_or_zero};
 
+use crate::hash::words_or_zero;
 use std::alloc::Global;
 use xet_core_structures::error::{CoreError, Result};
-use xet_core_structures::file_structs::FileDataSequenceEntry;
+use xet_core_structures::file_structs::{FileDataSequenceEntry, FileVerificationEntry};
 
 /// Chunks `start` to `end`, without `end`, of a xorb, and their size unpacked.
 #[repr(C)]
@@ -18,16 +19,39 @@ pub struct XetSegment {
     pub end: u32,
 }
 
-/// These segments, for C.
-pub fn segments_of(alloc: Global, entries: &[FileDataSequenceEntry]) -> Result<Vec<XetSegment>>
-    ensures ok { IfOk result (λ segments. segments.items ≡ map c_segment entries.now) }
+/// A segment of a file, and the hash of its verification row, or zeros if the file has none.
+#[repr(C)]
+#[derive(Clone, Copy, Drop)]
+pub struct XetFileSegment {
+    pub segment: XetSegment,
+    pub verification: [u64; 4],
+}
+
+/// The segments of a file with these verification rows, for C.
+pub fn segments_of(
+    alloc: Global,
+    entries: &[FileDataSequenceEntry],
+    rows: &[FileVerificationEntry],
+) -> Result<Vec<XetFileSegment>>
+    ensures ok { IfOk result (λ segments. segments.items ≡ c_segments entries.now rows.now) }
     ensures causes { IfErr result (λ e. e ≡ CoreError.OutOfMemory) }
 {
     let mut segments = Vec::new(alloc);
-    for entry in entries {
-        segments.push(segment_of(entry))?;
+    for (index, entry) in entries.iter().enumerate() {
+        segments.push(XetFileSegment {
+            segment: segment_of(entry),
+            verification: verification_of(rows, index),
+        })?;
     }
     Ok(segments)
+}
+
+// The hash of the verification row at an index, or zeros if there is none.
+fn verification_of(rows: &[FileVerificationEntry], index: usize) -> [u64; 4]
+    ensures { result
+        ≡ words_or_zero (option_map (λ row. row.range_hash) (slice_get rows.now index)) }
+{
+    words_or_zero(rows.get(index).map(|row| row.range_hash))
 }
 
 /// This segment, for C.

@@ -1,6 +1,6 @@
-use Rattle.std.proofs.Common.{◌≡◌, map, take}
-use Rattle.xet_c.specs.Arguments.{c_segment}
+use Rattle.std.proofs.Common.{◌≡◌, take}
+use Rattle.xet_c.specs.Arguments.{c_segments}
 use Rattle.xet_c.proofs.segment.segments_of.Given as goal
 
-abbrev pub invariant-loop-entry : goal.invariant-loop-entry
-invariant-loop-entry l = l.segments.items ≡ map c_segment (take l.entry-index l.entries)
+abbrev pub invariant-loop-index : goal.invariant-loop-index
+invariant-loop-index l = l.segments.items ≡ c_segments (take l.index l.entries) l.rows

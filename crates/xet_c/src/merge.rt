@@ -1,0 +1,29 @@
+//! The union of a list of shards.
+
+ghost use Rattle.std.specs.Prelude.{◌≡◌, ◌⊎◌, List, map};
+ghost use Rattle.xet_core_structures.specs.Shard.{Shard};
+ghost use Rattle.shard_bytes.specs.Merging.{MergesBytes, RefusesMerge, HaveJoin, WritesJoin, RefusesJoin};
+ghost use Rattle.xet_c.specs.Output.{Outcome};
+
+use crate::output::deliver;
+use shard_bytes::merge::merge_bytes;
+use std::alloc::Global;
+use xet_core_structures::error::CoreError;
+
+/// The union of one shard or more, to the front of `out`.
+#[unsafe(no_mangle)]
+pub extern "C" fn xet_merge(
+    alloc: Global,
+    shards: &[&[u8]],
+    out: &mut [u8],
+    written: &mut usize,
+) -> u32
+    ensures any_bytes { Outcome (MergesBytes (map (λ x. x.now) shards.now))
+        (RefusesMerge (map (λ x. x.now) shards.now)) out.old out.new written.new result }
+    ensures one_byte_string { (all : List Shard) → (join : Shard)
+        → HaveJoin (map (λ x. x.now) shards.now) all join
+        → Outcome (WritesJoin join) (RefusesJoin join) out.old out.new written.new result }
+{
+    let merged = merge_bytes(alloc, shards);
+    deliver(merged, out, written)
+}

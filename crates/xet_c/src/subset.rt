@@ -1,0 +1,62 @@
+//! Subsets of xorbs.
+
+ghost use Rattle.std.specs.Prelude.{◌≡◌, ◌⊎◌, MatchResult, IfOk, IfErr};
+ghost use Rattle.shard_bytes.specs.Minimal.{WritesNone};
+ghost use Rattle.xet_c.specs.Arguments.{KeepsXorbs, WritesSubset};
+ghost use Rattle.xet_c.specs.Output.{Outcome};
+
+use crate::hash::{XetHash, hashes_of};
+use crate::output::deliver;
+use shard_bytes::minimal::{KeptXorbs, Subset, subset_bytes};
+use std::alloc::Global;
+use xet_core_structures::error::{CoreError, Result};
+
+/// The times of a subset in seconds, of which an expiry of 0 is none, and whether it has all xorbs,
+/// or those that are listed.
+#[repr(C)]
+#[derive(Clone, Copy, Drop)]
+pub struct XetSubset {
+    pub now: u64,
+    pub expiry: u64,
+    pub all: bool,
+}
+
+/// A shard of some xorbs of a shard, and no files, to the front of `out`.
+#[unsafe(no_mangle)]
+pub extern "C" fn xet_subset(
+    alloc: Global,
+    shard: &[u8],
+    options: &XetSubset,
+    xorbs: &[XetHash],
+    out: &mut [u8],
+    written: &mut usize,
+) -> u32
+    ensures { Outcome (WritesSubset options.entry.now xorbs.now shard.now) (WritesNone shard.now)
+        out.old out.new written.new result }
+{
+    let subset = subset(alloc, shard, options, xorbs);
+    deliver(subset, out, written)
+}
+
+fn subset(alloc: Global, shard: &[u8], options: &XetSubset, xorbs: &[XetHash]) -> Result<Vec<u8>>
+    ensures { MatchResult result
+        (λ bytes. WritesSubset options.entry.now xorbs.now shard.now bytes.items)
+        (WritesNone shard.now) }
+{
+    let subset = Subset {
+        now: options.now,
+        expiry: Some(options.expiry),
+        kept: kept_xorbs(alloc, options.all, xorbs)?,
+    };
+    subset_bytes(alloc, shard, &subset)
+}
+
+fn kept_xorbs(alloc: Global, all: bool, listed: &[XetHash]) -> Result<KeptXorbs>
+    ensures ok { IfOk result (KeepsXorbs all listed.now) }
+    ensures causes { IfErr result (λ e. e ≡ CoreError.OutOfMemory) }
+{
+    if all {
+        return Ok(KeptXorbs::All);
+    }
+    Ok(KeptXorbs::Listed(hashes_of(alloc, listed)?))
+}

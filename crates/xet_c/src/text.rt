@@ -1,0 +1,114 @@
+//! Hashes as text, and the names of shard files.
+
+ghost use Rattle.std.specs.Prelude.{◌≡◌, ◌⊎◌, MatchResult, MatchOption, IsOkAnd, IsErrAnd, string_bytes};
+ghost use Rattle.std.specs.Str.{IsAscii};
+ghost use Rattle.xet_core_structures.specs.declared.error.CoreError.{CoreError};
+ghost use Rattle.xet_core_structures.specs.declared.merklehash.DataHash.{DataHash};
+ghost use Rattle.xet_core_structures.specs.Hex.{hash_hex, IsHexText, Spells};
+ghost use Rattle.xet_core_structures.specs.Names.{shard_name, IsShardName, NamesShard};
+ghost use Rattle.xet_c.specs.Output.{Outcome};
+ghost use Rattle.xet_c.specs.Text.{Reads, WritesTextOf};
+
+use crate::hash::{XetHash, of_hash};
+use crate::output::{deliver, error_number};
+use std::alloc::Global;
+use xet_core_structures::error::{CoreError, Result};
+use xet_core_structures::merklehash::MerkleHash;
+use xet_core_structures::utils::{parse_shard_filename, shard_file_name};
+
+/// The 64 digits of a hash, to the front of `out`.
+#[unsafe(no_mangle)]
+pub extern "C" fn xet_hash_to_hex(
+    alloc: Global,
+    hash: &XetHash,
+    out: &mut [u8],
+    written: &mut usize,
+) -> u32
+    ensures { Outcome (WritesTextOf hash_hex hash.now) (λ e. e ≡ CoreError.OutOfMemory) out.old
+        out.new written.new result }
+{
+    let text = MerkleHash::from(hash.words).hex(alloc);
+    deliver(bytes_of(text), out, written)
+}
+
+/// Reads a hash from its 64 hexadecimal digits, of either case. The error of any other text is that
+/// of `HashParsing`, and `hash` stays as it is.
+#[unsafe(no_mangle)]
+pub extern "C" fn xet_hash_from_hex(text: &[u8], hash: &mut XetHash) -> u32
+    ensures { Reads Spells IsHexText text.now 16 hash.old hash.new result }
+{
+    match hash_of_text(text) {
+        Some(read) => {
+            *hash = of_hash(&read);
+            0
+        }
+        None => 16,
+    }
+}
+
+/// The name of the file of the shard with this hash, its 64 digits and `.mdb`, to the front of
+/// `out`.
+#[unsafe(no_mangle)]
+pub extern "C" fn xet_shard_name(
+    alloc: Global,
+    hash: &XetHash,
+    out: &mut [u8],
+    written: &mut usize,
+) -> u32
+    ensures { Outcome (WritesTextOf shard_name hash.now) (λ e. e ≡ CoreError.OutOfMemory) out.old
+        out.new written.new result }
+{
+    let name = shard_file_name(alloc, &MerkleHash::from(hash.words));
+    deliver(bytes_of(name), out, written)
+}
+
+/// Reads the hash in the name of a shard file: 64 hexadecimal digits of either case, and `.mdb`. The
+/// error of any other text, such as a path, is that of `BadFilename`, and `hash` stays as it is.
+#[unsafe(no_mangle)]
+pub extern "C" fn xet_parse_shard_name(name: &[u8], hash: &mut XetHash) -> u32
+    ensures { Reads NamesShard IsShardName name.now 6 hash.old hash.new result }
+{
+    match hash_of_name(name) {
+        Some(read) => {
+            *hash = of_hash(&read);
+            0
+        }
+        None => 6,
+    }
+}
+
+fn bytes_of(text: Result<String>) -> Result<Vec<u8>>
+    ensures { MatchResult text
+        (λ text. IsOkAnd result (λ bytes. bytes.items ≡ string_bytes text))
+        (λ e. IsErrAnd result (λ f. f ≡ e)) }
+{
+    Ok(text?.into_bytes())
+}
+
+fn hash_of_text(bytes: &[u8]) -> Option<MerkleHash>
+    ensures { MatchOption result (¬ IsHexText bytes.now) (Spells bytes.now) }
+{
+    let Some(text) = text_of(bytes) else {
+        return None;
+    };
+    MerkleHash::from_hex(text).ok()
+}
+
+fn hash_of_name(bytes: &[u8]) -> Option<MerkleHash>
+    ensures { MatchOption result (¬ IsShardName bytes.now) (NamesShard bytes.now) }
+{
+    let Some(name) = text_of(bytes) else {
+        return None;
+    };
+    parse_shard_filename(name)
+}
+
+// The bytes as text, which ASCII is.
+fn text_of(bytes: &[u8]) -> Option<&str>
+    ensures { MatchOption result (¬ IsAscii bytes.now) (λ text. text.now ≡ bytes.now) }
+{
+    match str::from_utf8(bytes) {
+        Ok(text) => Some(text),
+        Err(_) => None,
+    }
+}
