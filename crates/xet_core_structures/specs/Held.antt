@@ -15,8 +15,8 @@ use Rattle.xet_shards.specs.Shard.{Shard}
 use Rattle.xet_shards.specs.SectionReading.{files_of, HoldsRecords, IsSection, PassesRows, IsCutSection, PassesLimit, EndsEarly, rows_left}
 
 module _ {H R : Type 0} (K : RecordKind H R) where
-  -- what bytes are to a reader of a section, they are in one way: one list of records at most, and
-  -- none where they are cut short or have a header that is refused, which exclude each other
+  -- a reader of a section finds at most one list of records in the bytes, and none if they are cut
+  -- short or have a header that is refused; they are not both
   pub record IsReadInOneWay (bytes : List ℕ) : Type 0 where
     pub list : (xs ys : List R) → IsSection K bytes xs → IsSection K bytes ys → xs ≡ ys
     pub cut : (xs : List R) → IsSection K bytes xs → ¬ IsCutSection K bytes
@@ -101,8 +101,8 @@ IsCut bytes info =
     IsCutInOrder (files_of info) (files_at bytes info)
     ⊎ (HasFiles bytes info × IsCutInOrder xorb_records (xorbs_at bytes info))
 
--- or it is that a section has too many rows, a header that its version does not have, or hashes that
--- do not strictly ascend
+-- what it meets first is a header that is refused, of a record with too many rows or one that the
+-- version does not have, or a hash that is not greater than the one before it
 abbrev pub IsBad : List ℕ → MDBShardInfo → Type 0
 IsBad bytes info =
     IsBadSection (files_of info) (files_at bytes info)

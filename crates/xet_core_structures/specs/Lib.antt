@@ -25,6 +25,7 @@ pub use Rattle.xet_shards.specs.Ends
 pub use Rattle.xet_shards.specs.InForm
 pub use Rattle.xet_shards.specs.Joins
 pub use Rattle.xet_shards.specs.KeyedExport
+pub use Rattle.xet_shards.specs.KeyedShards
 pub use Rattle.xet_shards.specs.Layout
 pub use Rattle.xet_shards.specs.Lookup
 pub use Rattle.xet_shards.specs.MinimalReading
@@ -34,5 +35,6 @@ pub use Rattle.xet_shards.specs.RunReading
 pub use Rattle.xet_shards.specs.SectionReading
 pub use Rattle.xet_shards.specs.SetOperations
 pub use Rattle.xet_shards.specs.Shard
+pub use Rattle.xet_shards.specs.ShardsWithoutAux
 pub use Rattle.xet_shards.specs.WrittenQueries
 pub use Rattle.xet_shards.specs.WrittenShard

@@ -236,10 +236,11 @@ pub fn lookups_on_trees()
         → FindsInShard join hash loaded new found }
 {}
 
-/// To a reader of a section bytes are one thing: they begin with one list of records and a bookend,
-/// or end before that, or have a record too many or, in version 2, one with an auxiliary row. So
-/// they hold one shard at most, whose sections a set operation does not refuse, and of those that it
-/// does refuse either an end or what is invalid comes first.
+/// A reader of a section finds one thing in bytes: a list of records with a bookend after them, or
+/// an end before that, or a header that is refused, of a record with too many rows or, in version 2,
+/// with an auxiliary row. So bytes hold at most one shard (`holds`), and a set operation does not
+/// refuse its sections (`whole`). In bytes that it refuses, an early end or something invalid comes
+/// first, and not the other too (`first`).
 pub fn sections_are_read_in_one_way()
     ensures files { (version : FormatVersion) → (bytes : List ℕ)
         → IsReadInOneWay (file_records_in version) bytes }

@@ -43,7 +43,8 @@ use xet_shards::shard_format::MDBShardInfo;
 /// section ends before its bookend, `InvalidShard` if its version does not have the header of a
 /// file, its rows pass 4294967295 or its hashes do not strictly ascend. `InvalidShard` too if files
 /// that have to be combined differ in their count of segments, or the rows of a section of the union
-/// pass 4294967295. Else the error is a device's, or `OutOfMemory` if an allocation fails.
+/// pass 4294967295. Of several faults of an input, the one that reading meets first is answered. Else
+/// the error is a device's, or `OutOfMemory` if an allocation fails.
 pub fn shard_set_union<S: ShardSource, T: ShardSource, W: Write>(
     alloc: Global,
     s1: &MDBShardInfo,
@@ -80,8 +81,9 @@ pub fn shard_set_union<S: ShardSource, T: ShardSource, W: Write>(
 ///
 /// `InvalidArguments` if the keys differ, before anything is read or written. `UnexpectedEof` if a
 /// section ends before its bookend, `InvalidShard` if its version does not have the header of a
-/// file, its rows pass 4294967295 or its hashes do not strictly ascend. Else the error is a
-/// device's, or `OutOfMemory` if an allocation fails.
+/// file, its rows pass 4294967295 or its hashes do not strictly ascend. Of several faults of an
+/// input, the one that reading meets first is answered. Else the error is a device's, or
+/// `OutOfMemory` if an allocation fails.
 pub fn shard_set_difference<S: ShardSource, T: ShardSource, W: Write>(
     alloc: Global,
     s1: &MDBShardInfo,

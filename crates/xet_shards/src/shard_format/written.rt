@@ -99,7 +99,7 @@ pub struct WrittenFiles {
 }
 
 /// The xorbs written so far: their lookup table, the rows of the chunk table, in the order of the
-/// section, and the sums of their sizes, unpacked and on disk, by their headers.
+/// section, if they are wanted, and the sums of their sizes, unpacked and on disk, by their headers.
 #[derive(Drop)]
 pub struct WrittenXorbs {
     pub table: RecordTable,
