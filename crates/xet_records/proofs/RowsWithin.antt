@@ -2,8 +2,9 @@
 use Rattle.std.proofs.Common.{◌≡◌, ℕ, zero, suc, ◌+◌, ◌*◌, ◌<◌, ◌≤◌, List, [], ◌∷◌, ◌++◌, length, take, drop, flat_map, Some, refl, sym, ap, ◌∙◌, arith, append-nil}
 use Rattle.std.specs.Prelude.{All, map}
 use Rattle.std.specs.List.{slice_get}
-use Rattle.std.proofs.lemmas.List.{length-append, append_assoc, drop-drop}
-use Rattle.std.proofs.lemmas.List.Elements.{All-drop}
+use Rattle.std.proofs.lemmas.List.{length-append, length-take-le, append_assoc, drop-drop, take-append-drop}
+use Rattle.std.proofs.lemmas.List.Elements.{All-drop, All-take}
+use Rattle.std.proofs.lemmas.Grind.{flat_map-append}
 use Rattle.xet_base.proofs.Lists.{front_is, rest_is, parts_front}
 use Rattle.xet_records.specs.FileRow.{segment_row, verification_row, metadata_row, aux_row, FitsSegment, FitsVerification, FitsMetadata, FitsAux}
 use Rattle.xet_records.specs.XorbRow.{chunk_row, FitsChunk}
@@ -99,6 +100,25 @@ module _ {T : Type 0} (row_bytes : T → List ℕ) (Fits : T → Type 0) (laws :
   bytes_of_rows bytes start rows at count has at_is count_is =
       front_is (48 * count) (drop (48 * at) bytes) (flat_map row_bytes rows) has.after (length-rows rows has.fit ∙ omega (arith, count_is))
       (rest_is (48 * at) bytes has.before (flat_map row_bytes rows ++ has.after) (has.start_is ∙ omega (arith, at_is)) has.bytes_are)
+
+  -- the bytes have also some of the rows
+  pub some_rows : (bytes : List ℕ) (start : ℕ) (rows : List T) (from n : ℕ) → HasRows row_bytes Fits bytes start rows → from + n ≤ length rows
+      → HasRows row_bytes Fits bytes (start + from) (take n (drop from rows))
+  some_rows bytes start rows from n has within =
+      let first = take from rows in
+      let rest = drop from rows in
+      let first_fit = All-take Fits from rows has.fit in
+      let parts : flat_map row_bytes rows ≡ flat_map row_bytes first ++ (flat_map row_bytes (take n rest) ++ flat_map row_bytes (drop n rest)) =
+      ap (flat_map row_bytes) (sym (take-append-drop from rows)) ∙ flat_map-append row_bytes first rest
+      ∙ ap (λ bs. flat_map row_bytes first ++ bs) (ap (flat_map row_bytes) (sym (take-append-drop n rest)) ∙ flat_map-append row_bytes (take n rest) (drop n rest)) in
+      record {
+        before = has.before ++ flat_map row_bytes first;
+        after = flat_map row_bytes (drop n rest) ++ has.after;
+        start_is = length-append has.before (flat_map row_bytes first)
+            ∙ omega (arith, has.start_is, length-rows first first_fit, length-take-le from rows (omega (arith, within)));
+        fit = All-take Fits n rest (All-drop Fits from rows has.fit);
+        bytes_are = has.bytes_are ∙ ap (λ bs. has.before ++ (bs ++ has.after)) parts ∙ simp append_assoc;
+      }
 
   pub rows_from_index : (handed_out : T → T) (bytes : List ℕ) (start : ℕ) (rows : List T) (at count : ℕ) (result : List T) → HasRows row_bytes Fits bytes start rows
       → at ≡ start → count ≡ length rows → ReadsRows row_bytes Fits handed_out (λ taken. taken ≡ take (48 * count) (drop (48 * at) bytes)) count result

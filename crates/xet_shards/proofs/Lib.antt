@@ -65,3 +65,4 @@ pub mod WrittenTables
 pub mod XorbLayouts
 pub mod Xorbs
 pub mod FileRanges
+pub mod FileStarts

@@ -1,5 +1,5 @@
 -- Starts, marks and eligible chunks, collected one after another.
-use Rattle.std.proofs.Common.{◌≡◌, inl, inr, true≢false, ℕ, ◌+◌, ◌<◌, Bool, true, false, List, [], ◌∷◌, ◌++◌, length, map, take, get_or, cond, Some, refl, sym, ap, ◌∙◌, append-nil, arith}
+use Rattle.std.proofs.Common.{◌≡◌, inl, inr, true≢false, ℕ, ◌+◌, ◌-◌, ◌<◌, ◌≤◌, Bool, true, false, List, [], ◌∷◌, ◌++◌, length, map, take, drop, get_or, cond, Some, refl, sym, ap, ◌∙◌, append-nil, arith}
 use Rattle.std.specs.Prelude.{◌⊎◌, ◌||◌, ◌==◌, ◌%◌, ◌↔◌, IsTrue, filter, slice_get, if◌then◌else◌}
 use Rattle.std.specs.Cmp.{both_ways}
 use Rattle.std.proofs.lemmas.Bool.{eqb-true, eq-eqb}
@@ -8,7 +8,8 @@ use Rattle.std.specs.Ordering.{eq_by_cmp, is_eq}
 use Rattle.std.specs.Cmp.{IsTotalOrder, on_total, then_total, nat_cmp_total}
 use Rattle.std.proofs.lemmas.Cmp.{eq_by_cmp_equiv}
 use Rattle.std.specs.BTreeSet.{insert_key}
-use Rattle.std.proofs.lemmas.List.{map-append, length-take, take_more}
+use Rattle.std.proofs.Math.Seq.{take-add}
+use Rattle.std.proofs.lemmas.List.{map-append, length-take, length-take-le, length-drop, take_more}
 use Rattle.std.proofs.lemmas.List.Elements.{filter-append}
 use Rattle.std.proofs.lemmas.Option.{get_or_from_slice_get, slice_get_within}
 use Rattle.xet_base.specs.declared.merklehash.DataHash.{DataHash}
@@ -19,6 +20,7 @@ use Rattle.xet_records.specs.declared.xorb_structs.MDBXorbInfo.{MDBXorbInfo}
 use Rattle.xet_records.specs.XorbRow.{is_marked, IsEligibleChunk}
 use Rattle.xet_shards.specs.declared.streaming_shard.file_start.FileStart.{FileStart}
 use Rattle.xet_shards.specs.MinimalShard.{start_cmp, chunk_of, marked_if, is_eligible, ascending_hashes}
+use Rattle.xet_shards.specs.MinimalWriting.{StartsNowhere}
 use Rattle.xet_shards.proofs.ChunkTableRows.{keys-push, enumerate_from-push}
 use Rattle.xet_shards.proofs.Maps.{entries-empty}
 
@@ -50,6 +52,11 @@ enumerated-more cs i c there =
     let count : 0 + length (take i cs) ≡ i = omega (arith, length-take i cs, slice_get_within cs i c there) in
     ap (enumerate_from 0) (one_more cs i c there) ∙ enumerate_from-push 0 (take i cs) c ∙ ap (λ n. enumerate_from 0 (take i cs) ++ (n, c) ∷ []) count
 
+-- two lists, with their indices
+enumerated-append : {X : Type 0} (n : ℕ) (xs ys : List X) → enumerate_from n (xs ++ ys) ≡ enumerate_from n xs ++ enumerate_from (n + length xs) ys
+enumerated-append n [] ys = ap (λ k. enumerate_from k ys) (omega arith)
+enumerated-append n (x ∷ xs) ys = ap (λ es. (n, x) ∷ es) (enumerated-append (n + 1) xs ys ∙ ap (λ k. enumerate_from (n + 1) xs ++ enumerate_from k ys) (omega arith))
+
 module _ (starts : FileStart → Bool) (x : MDBXorbInfo) where
   abbrev pub marks_to : ℕ → List XorbChunkSequenceEntry
   marks_to i = map (λ (e : ℕ × XorbChunkSequenceEntry). marked_if (starts (chunk_of x e.0)) e.1) (enumerate_from 0 (take i x.chunks))
@@ -58,6 +65,24 @@ module _ (starts : FileStart → Bool) (x : MDBXorbInfo) where
   one_marked i c there =
       let mark : ℕ × XorbChunkSequenceEntry → XorbChunkSequenceEntry = λ e. marked_if (starts (chunk_of x e.0)) e.1 in
       ap (map mark) (enumerated-more x.chunks i c there) ∙ map-append mark (enumerate_from 0 (take i x.chunks)) ((i, c) ∷ [])
+
+  none_marked : (k : ℕ) (cs : List XorbChunkSequenceEntry) → StartsNowhere starts x k (k + length cs)
+      → map (λ (e : ℕ × XorbChunkSequenceEntry). marked_if (starts (chunk_of x e.0)) e.1) (enumerate_from k cs) ≡ cs
+  none_marked k [] none = refl
+  none_marked k (c ∷ cs) none = λ i. marked_if (none k (omega arith) (omega arith) i) c ∷ none_marked (k + 1) cs (λ j above below. none j (omega arith) (omega arith)) i
+
+  -- chunks that are no starts stay as they are
+  pub none_marked_to : (from to : ℕ) → from ≤ to → to ≤ length x.chunks → StartsNowhere starts x from to → marks_to to ≡ marks_to from ++ take (to - from) (drop from x.chunks)
+  none_marked_to from to after within none =
+      let mark : ℕ × XorbChunkSequenceEntry → XorbChunkSequenceEntry = λ e. marked_if (starts (chunk_of x e.0)) e.1 in
+      let first = take from x.chunks in
+      let more = take (to - from) (drop from x.chunks) in
+      let count : 0 + length first ≡ from = omega (arith, length-take from x.chunks) in
+      let size : length more ≡ to - from = length-take-le (to - from) (drop from x.chunks) (omega (arith, length-drop from x.chunks)) in
+      ap (λ n. map mark (enumerate_from 0 (take n x.chunks))) (omega arith) ∙ ap (λ cs. map mark (enumerate_from 0 cs)) (take-add from (to - from) x.chunks)
+      ∙ ap (map mark) (enumerated-append 0 first more) ∙ map-append mark (enumerate_from 0 first) (enumerate_from (0 + length first) more)
+      ∙ ap (λ k. marks_to from ++ map mark (enumerate_from k more)) count
+      ∙ ap (λ cs. marks_to from ++ cs) (none_marked from more (λ i above below. none i above (omega (arith, size))))
 
   -- the hashes of the eligible chunks among the first ones
   abbrev pub eligible_to : ℕ → List DataHash

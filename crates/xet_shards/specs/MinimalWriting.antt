@@ -1,5 +1,5 @@
 -- What is written of the xorbs of a minimal shard.
-use Rattle.std.specs.Prelude.{Bool, false, ℕ, List, map, Option}
+use Rattle.std.specs.Prelude.{◌≡◌, ◌≤◌, ◌<◌, Bool, true, false, ℕ, List, length, map, Option}
 use Rattle.std.specs.Io.KnownBytes.{Appends}
 use Rattle.xet_records.specs.declared.xorb_structs.MDBXorbInfo.{MDBXorbInfo}
 use Rattle.xet_records.specs.XorbRecord.{xorb_records}
@@ -7,7 +7,7 @@ use Rattle.xet_shards.specs.declared.shard_format.written.WrittenXorbs.{WrittenX
 use Rattle.xet_shards.specs.declared.streaming_shard.file_start.FileStart.{FileStart}
 use Rattle.xet_shards.specs.Section.{section_bytes}
 use Rattle.xet_shards.specs.Written.{HasWrittenFor}
-use Rattle.xet_shards.specs.MinimalShard.{mark_starts, IsKept}
+use Rattle.xet_shards.specs.MinimalShard.{chunk_of, mark_starts, IsKept}
 
 -- the section of the xorbs that a filter accepts was written, with a mark on each start, and this
 -- was collected, for no chunk table
@@ -17,3 +17,15 @@ pub record WritesMarked (answers : MDBXorbInfo → Bool → Type 0) (starts : Fi
   pub is_kept : IsKept answers xorbs kept
   pub bytes : Appends old new (section_bytes xorb_records (map (mark_starts starts) kept))
   pub collected : HasWrittenFor false written (map (mark_starts starts) kept)
+
+module _ (starts : FileStart → Bool) (x : MDBXorbInfo) where
+  -- no chunk from an index up to another is a start
+  abbrev pub StartsNowhere : ℕ → ℕ → Type 0
+  StartsNowhere from to = (i : ℕ) → from ≤ i → i < to → starts (chunk_of x i) ≡ false
+
+  -- the first chunk from an index on that is a start
+  pub record IsNextStart (from next : ℕ) : Type 0 where
+    pub after : from ≤ next
+    pub within : next < length x.chunks
+    pub is_start : starts (chunk_of x next) ≡ true
+    pub none_before : StartsNowhere from next

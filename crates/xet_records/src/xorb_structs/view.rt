@@ -1,6 +1,6 @@
 //! A xorb record as a view of its bytes.
 
-ghost use Rattle.std.specs.Prelude.{◌≡◌, ◌≢◌, ◌⊎◌, ◌+◌, ◌*◌, ◌^◌, ◌<◌, ◌≤◌, ◌++◌, ℕ, List, flat_map, nat_eq, slice_get, Some, length, take, MatchResult, MatchOption, OnOk, IfOk, IfErr, IsErrAnd};
+ghost use Rattle.std.specs.Prelude.{◌≡◌, ◌≢◌, ◌⊎◌, ◌+◌, ◌-◌, ◌*◌, ◌^◌, ◌<◌, ◌≤◌, ◌++◌, ℕ, List, flat_map, nat_eq, slice_get, Some, length, take, drop, MatchResult, MatchOption, OnOk, IfOk, IfErr, IsErrAnd};
 ghost use Rattle.std.specs.Cmp.{partial_equiv_from_equiv};
 ghost use Rattle.std.specs.Cmp.Lexicographic.{pointwise, on_texts_equal};
 ghost use Rattle.std.specs.Ordering.{on};
@@ -132,6 +132,20 @@ impl MDBXorbInfoView {
     {
         write_bytes(writer, self.bytes.as_slice())?;
         Ok(self.byte_size())
+    }
+
+    /// Appends the chunks from one index up to another, without the header, as they are. The error is
+    /// the writer's.
+    pub fn serialize_chunks<W: Write>(&self, writer: &mut W, from: usize, to: usize) -> Result<()>
+        requires { from ≤ to × to ≤ length self.now.chunks }
+        ensures bytes { OnOk result
+            (Appends (W.contents writer.old) (W.contents writer.new)
+            (flat_map chunk_row (take (to - from) (drop from self.now.chunks)))) }
+        ensures causes { IfErr result IsWriteError }
+    {
+        let rows = record_bytes::part(self.bytes.as_slice(), 1 + from, to - from);
+        write_bytes(writer, rows)?;
+        Ok(())
     }
 
     /// Appends the record with the chunk at each index replaced by what `rewrite` returns for the

@@ -1,19 +1,23 @@
 //! The chunks at which files start.
 
-ghost use Rattle.std.specs.Prelude.{◌≡◌, ◌||◌, ◌<◌, ◌^◌, OnOk, IfOk, IfErr};
+ghost use Rattle.std.specs.Prelude.{◌≡◌, ◌||◌, ◌<◌, ◌≤◌, ◌^◌, length, MatchOption, OnOk, IfOk, IfErr};
 ghost use Rattle.std.specs.BTreeSet.{contains};
+ghost use Rattle.std.specs.Io.KnownBytes.{Appends};
 ghost use Rattle.std.specs.List.{list_any};
 ghost use Rattle.std.specs.Ordering.{eq_by_cmp};
-ghost use Rattle.xet_records.specs.XorbRecord.{IsStoredXorb};
-ghost use Rattle.xet_shards.specs.MinimalShard.{start_cmp, start_of_file, is_start, chunk_of, marked_if, mark_starts};
+ghost use Rattle.xet_base.specs.Errors.{IsWriteError};
+ghost use Rattle.xet_records.specs.XorbRecord.{xorb_record_bytes, IsStoredXorb};
+ghost use Rattle.xet_shards.specs.MinimalShard.{start_cmp, start_of_file, is_start, chunk_of, mark_starts};
+ghost use Rattle.xet_shards.specs.MinimalWriting.{StartsNowhere, IsNextStart};
 
 use std::alloc::Global;
 use std::collections::BTreeSet;
+use std::io::Write;
 use xet_base::error::{CoreError, Result};
 use xet_base::merklehash::MerkleHash;
 use xet_records::file_structs::MDBFileInfoView;
-use xet_records::rows::Rows;
-use xet_records::xorb_structs::{MDBXorbInfo, MDBXorbInfoView, XorbChunkSequenceEntry};
+use xet_records::rows::write_row;
+use xet_records::xorb_structs::MDBXorbInfoView;
 
 /// A chunk of a xorb, by its index there. A file starts at the first chunk of its first segment.
 #[derive(Clone, Copy, Debug, PartialEq, Eq, PartialOrd, Ord)]
@@ -66,34 +70,44 @@ fn insert_start(starts: &mut BTreeSet<FileStart>, file: &MDBFileInfoView) -> Res
     Ok(())
 }
 
-/// A xorb with a mark on each chunk that is a start, and its other marks as they are.
-pub(super) fn mark_starts(
-    alloc: Global,
+/// Writes a xorb with a mark on each chunk that is a start, and its other marks as they are. The rows
+/// between starts are written as they are stored. The error is the writer's.
+pub(super) fn write_marked<W: Write>(
+    writer: &mut W,
     xorb: &MDBXorbInfoView,
     starts: &BTreeSet<FileStart>,
-) -> Result<MDBXorbInfo>
+) -> Result<()>
     requires { IsStoredXorb xorb.now }
-    ensures ok { IfOk result
-        (λ marked. marked ≡ mark_starts (contains start_cmp starts.now) xorb.now) }
-    ensures causes { IfErr result (λ e. e ≡ CoreError.OutOfMemory) }
+    ensures appended { OnOk result
+        (Appends (W.contents writer.old) (W.contents writer.new)
+        (xorb_record_bytes (mark_starts (contains start_cmp starts.now) xorb.now))) }
+    ensures causes { IfErr result IsWriteError }
 {
-    let mut chunks = Rows::new(alloc);
-    for index in 0..xorb.num_entries() {
-        let chunk = xorb.chunk(index);
-        let is_start = starts.contains(&FileStart::of_chunk(xorb, index));
-        chunks.push(marked_if(is_start, chunk))?;
+    write_row(xorb.header(), writer)?;
+    let mut done = 0;
+    while let Some(start) = next_start(xorb, starts, done) {
+        xorb.serialize_chunks(writer, done, start)?;
+        let marked = xorb.chunk(start).with_global_dedup_flag(true);
+        write_row(&marked, writer)?;
+        done = start + 1;
     }
-    let metadata = *xorb.header();
-    Ok(MDBXorbInfo { metadata, chunks })
+    xorb.serialize_chunks(writer, done, xorb.num_entries())
 }
 
-// A chunk with its mark set, or as it is.
-fn marked_if(wanted: bool, chunk: XorbChunkSequenceEntry) -> XorbChunkSequenceEntry
-    ensures { result ≡ marked_if wanted chunk }
+// The first chunk of a xorb that is a start, from an index on.
+fn next_start(xorb: &MDBXorbInfoView, starts: &BTreeSet<FileStart>, from: usize) -> Option<usize>
+    requires stored { IsStoredXorb xorb.now }
+    requires within { from ≤ length xorb.now.chunks }
+    ensures { MatchOption result
+        (StartsNowhere (contains start_cmp starts.now) xorb.now from (length xorb.now.chunks))
+        (IsNextStart (contains start_cmp starts.now) xorb.now from) }
 {
-    if wanted {
-        chunk.with_global_dedup_flag(true)
+    let first = FileStart::of_chunk(xorb, from);
+    let start = starts.range(first..).next()?;
+    let index = start.chunk_index as usize;
+    if start.xorb_hash == xorb.xorb_hash() && index < xorb.num_entries() {
+        Some(index)
     } else {
-        chunk
+        None
     }
 }

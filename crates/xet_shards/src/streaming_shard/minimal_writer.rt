@@ -15,7 +15,7 @@ ghost use Rattle.xet_shards.specs.Written.{HasWritten};
 ghost use Rattle.xet_shards.specs.MinimalShard.{start_cmp, minimal_form, HasNoTables, WritesMinimal, WritesMinimalKept, WritesKept, FiltersAt};
 ghost use Rattle.xet_shards.specs.MinimalWriting.{WritesMarked};
 
-use super::file_start::{FileStart, mark_starts, starts_of};
+use super::file_start::{FileStart, starts_of, write_marked};
 use super::minimal_shard::MDBMinimalShard;
 use crate::shard_format::form::Form;
 use crate::shard_format::view_writer::write_file_view;
@@ -251,8 +251,8 @@ fn write_xorbs<W: Write, F: Fn(&MDBXorbInfoView) -> bool>(
     let mut written = WrittenXorbs::new(alloc);
     for xorb in xorbs {
         if filter(xorb) {
-            let marked = mark_starts(alloc, xorb, starts)?;
-            written.write_for(writer, &marked, false)?;
+            written.add(xorb.header())?;
+            write_marked(writer, xorb, starts)?;
         }
     }
     WrittenXorbs::write_bookend(writer)?;
