@@ -3,7 +3,7 @@ use Rattle.std.proofs.Common.{◌≡◌, ◌+◌, length, false, T, List, [], �
 use Rattle.std.specs.Prelude.{All}
 use Rattle.std.specs.Option.{option_or}
 use Rattle.std.specs.Ordering.{eq_by_cmp, is_lt, is_eq, ordering_reverse}
-use Rattle.std.specs.FinMap.{FinMap, entries, get-entries, get, insert, from_sorted, is_sorted, get-insert, get-from_sorted}
+use Rattle.std.specs.FinMap.{FinMap, empty, get-empty, entries, get-entries, get, insert, from_sorted, is_sorted, get-insert, get-from_sorted}
 use Rattle.std.specs.FinMap.Entries.{below_all}
 use Rattle.std.proofs.lemmas.List.{length-append, get_or-append-add}
 use Rattle.std.proofs.lemmas.List.Elements.{All-push}
@@ -94,6 +94,6 @@ merged-more front rest k r m b c sorted is before = λ q.
 
 -- own files merged, then the missing ones
 
-pub united : (a b m n : FileMap) → ((q : DataHash) → get m q ≡ own_file (get a q) (get b q)) → ((q : DataHash) → get n q ≡ option_or (get m q) (but a (get b) q))
-    → (q : DataHash) → get n q ≡ either_file (get a q) (get b q)
-united a b m n merged filled q = grind (arith, merged q, filled q)
+pub united : (a b m n none : FileMap) → none ≡ empty → ((q : DataHash) → get m q ≡ own_file (get a q) (get b q))
+    → ((q : DataHash) → get n q ≡ option_or (get m q) (but none (get b) q)) → (q : DataHash) → get n q ≡ either_file (get a q) (get b q)
+united a b m n none is merged filled q = grind (arith, merged q, filled q, ap (λ e. get e q) is, get-empty {X = MDBFileInfo} hash_cmp q)

@@ -213,10 +213,10 @@ impl MDBInMemoryShard {
     fn can_unite(&self, other: &MDBInMemoryShard) -> bool
         ensures { IsTrue result ↔ CanUnite self.now.content other.now.content }
     {
-        if !self.files.can_join(&other.files) {
+        let files = united_file_rows(self.files.content(), &other.files, other.file_rows);
+        let Some(file_rows) = files else {
             return false;
-        }
-        let file_rows = united_file_rows(self.files.content(), &other.files, other.file_rows);
+        };
         let xorb_rows = united_xorb_rows(self.xorbs.content(), &other.xorbs, other.xorb_rows);
         file_rows <= u64::from(u32::MAX) && xorb_rows <= u64::from(u32::MAX)
     }

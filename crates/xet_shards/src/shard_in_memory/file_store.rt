@@ -109,14 +109,6 @@ impl FileStore {
         Ok(())
     }
 
-    /// Whether the files that are in both stores have equally many segments, and each of this
-    /// store's, with the parts that only `other` has for it, has rows that fit `u32`.
-    pub fn can_join(&self, other: &FileStore) -> bool
-        ensures { IsTrue result ↔ CanJoinFiles self.now other.now }
-    {
-        can_join_files(&self.content, other)
-    }
-
     /// The files of both stores. Of two files with the same hash, this store's with each optional
     /// part that only `other` has for it. `OutOfMemory` if an allocation fails.
     pub fn union(&self, alloc: Global, other: &FileStore) -> Result<FileStore>
@@ -126,7 +118,7 @@ impl FileStore {
         ensures causes { IfErr result (λ e. e ≡ CoreError.OutOfMemory) }
     {
         let mut joined = merged_files(alloc, &self.content, other)?;
-        joined.append_missing(alloc, other.content(), self)?;
+        joined.append_missing(alloc, other.content(), &FileStore::new(alloc))?;
         Ok(joined)
     }
 
@@ -151,25 +143,9 @@ impl FileStore {
     }
 }
 
-// Whether each of these files can be joined with the one in `other`, if it is there too.
-fn can_join_files(files: &BTreeMap<MerkleHash, MDBFileInfo>, other: &FileStore) -> bool
-    requires sorted { T (is_sorted hash_cmp files.now.entries) }
-    requires files { AreFiles files.now.entries }
-    ensures { IsTrue result ↔ CanJoinFiles (from_sorted files.now.entries) other.now }
-{
-    for (file_hash, file_info) in files {
-        if let Some(twin) = other.get(file_hash) {
-            if !can_join(file_info, twin) {
-                return false;
-            }
-        }
-    }
-    true
-}
-
-// Whether two records are of one file, and the rows of the first with the parts that only the
-// second has fit `u32`.
-fn can_join(file_info: &MDBFileInfo, twin: &MDBFileInfo) -> bool
+/// Whether two records are of one file, and the rows of the first with the parts that only the
+/// second has fit `u32`.
+pub fn can_join(file_info: &MDBFileInfo, twin: &MDBFileInfo) -> bool
     requires own { IsWellFormed file_info.now }
     requires others { IsWellFormed twin.now }
     ensures { IsTrue result ↔ CanJoinFile file_info.now twin.now }

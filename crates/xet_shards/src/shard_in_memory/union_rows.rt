@@ -1,6 +1,6 @@
 //! The rows that a union has, counted before it is built.
 
-ghost use Rattle.std.specs.Prelude.{◌≡◌, ◌+◌, ◌≤◌, T, Some, IfSome, unwrap_or, option_map};
+ghost use Rattle.std.specs.Prelude.{◌≡◌, ◌+◌, ◌≤◌, ◌↔◌, T, Some, IsTrue, IfSome, MatchOption, unwrap_or, option_map};
 ghost use Rattle.std.specs.Map.{values_of};
 ghost use Rattle.std.specs.Option.{option_or};
 ghost use Rattle.std.specs.BTreeMap.{values};
@@ -13,10 +13,10 @@ ghost use Rattle.xet_records.specs.Merging.{IsSameFile};
 ghost use Rattle.xet_records.specs.XorbRecord.{xorb_records};
 ghost use Rattle.xet_shards.specs.Section.{total_rows};
 ghost use Rattle.xet_shards.specs.Shard.{FileMap, XorbMap, AreFiles, AreXorbs};
-ghost use Rattle.xet_shards.specs.Joining.{entry, CanJoinFiles, either_file};
+ghost use Rattle.xet_shards.specs.Joining.{entry, CanJoinFile, CanJoinFiles, either_file};
 ghost use Rattle.xet_shards.specs.XorbStore.{shown_xorbs};
 
-use super::file_store::{FileStore, joined_rows};
+use super::file_store::{FileStore, can_join, joined_rows};
 use super::xorb_store::XorbStore;
 use std::collections::BTreeMap;
 use std::rc::Rc;
@@ -24,27 +24,46 @@ use xet_base::merklehash::MerkleHash;
 use xet_records::file_structs::MDBFileInfo;
 use xet_records::xorb_structs::MDBXorbInfo;
 
-/// The rows of the union of these files and those of `other`, which has `other_rows`.
+/// The rows of the union of these files and those of `other`, which has `other_rows`; `None` if a
+/// file can't be joined with the one in `other` that has its hash.
 pub fn united_file_rows(
     files: &BTreeMap<MerkleHash, MDBFileInfo>,
     other: &FileStore,
     other_rows: u64,
-) -> u64
+) -> Option<u64>
     requires sorted { T (is_sorted hash_cmp files.now.entries) }
     requires files { AreFiles files.now.entries }
     requires rows { total_rows file_records (values files.now) ≤ 4294967295 }
-    requires joins { CanJoinFiles (from_sorted files.now.entries) other.now }
     requires others { other_rows ≡ total_rows file_records (finite.values other.now) }
     requires other_rows { other_rows ≤ 4294967295 }
-    ensures { (c : FileMap) → ((q : DataHash) → finite.get c q
+    ensures { MatchOption result
+        (CanJoinFiles (from_sorted files.now.entries) other.now → ⊥)
+        (λ united. CanJoinFiles (from_sorted files.now.entries) other.now
+        × ((c : FileMap) → ((q : DataHash) → finite.get c q
         ≡ either_file (entry files.now.entries q) (finite.get other.now q))
-        → result ≡ total_rows file_records (finite.values c) }
+        → united ≡ total_rows file_records (finite.values c))) }
 {
     let mut rows = other_rows;
     for (file_hash, file_info) in files {
-        rows += rows_added(file_info, other.get(file_hash));
+        let twin = other.get(file_hash);
+        if !can_join_twin(file_info, twin) {
+            return None;
+        }
+        rows += rows_added(file_info, twin);
     }
-    rows
+    Some(rows)
+}
+
+// Whether a file can be joined with its twin, if it has one.
+fn can_join_twin(file_info: &MDBFileInfo, twin: Option<&MDBFileInfo>) -> bool
+    requires own { IsWellFormed file_info.now }
+    requires others { IfSome twin (λ t. IsWellFormed t.now) }
+    ensures { IsTrue result ↔ IfSome twin.entry (λ t. CanJoinFile file_info.now t.now) }
+{
+    match twin {
+        Some(twin) => can_join(file_info, twin),
+        None => true,
+    }
 }
 
 // The rows of a file joined with its twin, less those of the twin.

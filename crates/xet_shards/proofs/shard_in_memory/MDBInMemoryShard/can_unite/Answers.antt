@@ -14,18 +14,15 @@ use Rattle.xet_shards.proofs.shard_in_memory.MDBInMemoryShard.can_unite.Goals as
 seen : (b : Bool) (s t u v : ShardWithLookup) → s ≡ u → t ≡ v → IsTrue b ↔ CanUnite s.content t.content → IsTrue b ↔ CanUnite u.content v.content
 seen b s t u v own other = subst (λ (p : ShardWithLookup × ShardWithLookup). IsTrue b ↔ CanUnite p.0.content p.1.content) (λ i. (own i, other i))
 
-pub returns-then-not-can_join : goal.returns-then-not-can_join
-returns-then-not-can_join c = seen false _ _ _ _ c.self.view_is c.other.view_is (
+pub returns-in_default : goal.returns-in_default
+returns-in_default c = seen false _ _ _ _ c.self.view_is c.other.view_is (
   λ wrong. absurd (true≢false (sym wrong)),
-  λ can. absurd (true≢false (sym (c.can_join.ensures.1 (can_join_united (shard_inside c.self.inside).content (shard_inside c.other.inside).content can)) ∙ c.if-not-can_join.true)),
+  λ can. absurd (c.in_default.ensures (subst (λ m. CanJoinFiles m c.other.inside.files) (sym (from_sorted-entries c.self.inside.files c.content.result.now.entries c.content.ensures.entries))
+      (can_join_united (shard_inside c.self.inside).content (shard_inside c.other.inside).content can))),
 )
 
-pub united_file_rows-file_rows-requires-clause-sorted : goal.united_file_rows-file_rows-requires-clause-sorted
-united_file_rows-file_rows-requires-clause-sorted c = subst (λ es. T (is_sorted hash_cmp es)) (sym c.content.ensures.entries) (entries_sorted c.self.inside.files)
-
-pub united_file_rows-file_rows-requires-clause-joins : goal.united_file_rows-file_rows-requires-clause-joins
-united_file_rows-file_rows-requires-clause-joins c =
-    subst (λ m. CanJoinFiles m c.other.inside.files) (sym (from_sorted-entries c.self.inside.files c.content.result.now.entries c.content.ensures.entries)) (c.can_join.ensures.0 c.if-not-can_join.false)
+pub united_file_rows-files-requires-clause-sorted : goal.united_file_rows-files-requires-clause-sorted
+united_file_rows-files-requires-clause-sorted c = subst (λ es. T (is_sorted hash_cmp es)) (sym c.content.ensures.entries) (entries_sorted c.self.inside.files)
 
 pub united_xorb_rows-xorb_rows-requires-clause-sorted : goal.united_xorb_rows-xorb_rows-requires-clause-sorted
 united_xorb_rows-xorb_rows-requires-clause-sorted c = subst (λ es. T (is_sorted hash_cmp es)) (sym c.content-2.ensures.entries) (entries_sorted c.self.inside.xorbs.xorbs)
@@ -35,20 +32,20 @@ returns-then-file_rows-from c =
     let own = (shard_inside c.self.inside).content in
     let others = (shard_inside c.other.inside).content in
     seen _ _ _ _ _ c.self.view_is c.other.view_is (
-      λ few. unite_if_few own others _ _ _ _ c.content.ensures.entries c.content-2.ensures.entries c.united_file_rows-file_rows.ensures c.united_xorb_rows-xorb_rows.ensures
-          (c.can_join.ensures.0 c.if-not-can_join.false) (omega (arith, c.if-file_rows-from.true, c.from.ensures))
+      λ few. unite_if_few own others _ _ _ _ c.content.ensures.entries c.content-2.ensures.entries c.in-Some.ensures.1 c.united_xorb_rows-xorb_rows.ensures
+          (subst (λ m. CanJoinFiles m others.files) (from_sorted-entries c.self.inside.files c.content.result.now.entries c.content.ensures.entries) c.in-Some.ensures.0) (omega (arith, c.if-file_rows-from.true, c.from.ensures))
           (omega (arith, leb-true c.united_xorb_rows-xorb_rows.result _ few, c.from-then-file_rows-from.ensures)),
       λ can.
-          let few = few_if_unite own others _ _ _ _ c.content.ensures.entries c.content-2.ensures.entries c.united_file_rows-file_rows.ensures c.united_xorb_rows-xorb_rows.ensures can in
+          let few = few_if_unite own others _ _ _ _ c.content.ensures.entries c.content-2.ensures.entries c.in-Some.ensures.1 c.united_xorb_rows-xorb_rows.ensures can in
           le-leb c.united_xorb_rows-xorb_rows.result _ (omega (arith, few.1, c.from-then-file_rows-from.ensures)),
     )
 
 pub returns-else-file_rows-from : goal.returns-else-file_rows-from
 returns-else-file_rows-from c =
     seen _ _ _ _ _ c.self.view_is c.other.view_is (
-      λ few. absurd (omega (arith, leb-true c.united_file_rows-file_rows.result _ few, c.if-file_rows-from.false)),
+      λ few. absurd (omega (arith, leb-true c.in-Some.file_rows _ few, c.if-file_rows-from.false)),
       λ can.
           let few = few_if_unite (shard_inside c.self.inside).content (shard_inside c.other.inside).content _ _ _ _
-          c.content.ensures.entries c.content-2.ensures.entries c.united_file_rows-file_rows.ensures c.united_xorb_rows-xorb_rows.ensures can in
-          le-leb c.united_file_rows-file_rows.result _ (omega (arith, few.0, c.from.ensures)),
+          c.content.ensures.entries c.content-2.ensures.entries c.in-Some.ensures.1 c.united_xorb_rows-xorb_rows.ensures can in
+          le-leb c.in-Some.file_rows _ (omega (arith, few.0, c.from.ensures)),
     )

@@ -5,6 +5,7 @@ use Rattle.std.specs.FinMap.{values}
 use Rattle.xet_records.specs.Merging.{merged}
 use Rattle.xet_records.specs.FileRecord.{file_records}
 use Rattle.xet_shards.specs.Section.{total_rows}
+use Rattle.xet_shards.proofs.FileUnions.{CanJoinEntries}
 use Rattle.xet_shards.proofs.Overlays.{overlay}
 use Rattle.xet_shards.proofs.shard_in_memory.union_rows.united_file_rows.Given as goal
 
@@ -14,5 +15,6 @@ invariant-loop-file_hash l = record {
   finite : goal.iterator-loop-file_hash.is_finite l.file_hash-iterator;
   all : map deref_pair l.yielded ++ l.file_hash-iterator ≡ l.files.entries;
   rows : l.rows ≡ total_rows file_records (values (overlay merged (map deref_pair l.yielded) l.other));
+  joins : CanJoinEntries (map deref_pair l.yielded) l.other;
   bound : l.rows ≤ 4294967295 + total_rows file_records (values_of (map deref_pair l.yielded));
 }

@@ -13,9 +13,10 @@ pub returns-clause-ok : goal.returns-clause-ok
 returns-clause-ok c =
     let own = c.args.self.now in
     let other = c.args.other.now in
-    united own other c.in_ok-joined.joined _
+    let none = c.new.result in
+    united own other c.in_ok-joined.joined _ none c.new.ensures
     (λ q. c.in_ok-joined.ensures.ok q
     ∙ ap (λ o. own_file o (get other q)) (sym (get-from_sorted hash_cmp _ q c.self.invariant.sorted) ∙ ap (λ m. get m q) c.self.view_is))
     (λ q. c.in_ok-append_missing.ensures.ok q
-    ∙ ap (λ es. option_or (get c.in_ok-joined.joined q) (but own (entry es) q)) c.content.ensures.entries
-    ∙ ap (λ f. option_or (get c.in_ok-joined.joined q) (but own (λ _. f) q)) (sym (get-entries other q)))
+    ∙ ap (λ es. option_or (get c.in_ok-joined.joined q) (but none (entry es) q)) c.content.ensures.entries
+    ∙ ap (λ f. option_or (get c.in_ok-joined.joined q) (but none (λ _. f) q)) (sym (get-entries other q)))
