@@ -39,6 +39,7 @@ use Rattle.xet_shards.specs.Ends.{HasHeader, FitsFooter}
 use Rattle.xet_shards.specs.SectionReading.{IsSection, TakesNoSection, RecordFails}
 use Rattle.xet_shards.specs.KeyedExport.{ExportsWith, ExportFails, ExportCase, CannotExport, ExpiresTooLate, BadSection, PassesSection, ExportsSection, WritingFails, HasExported, exported_file, exported_xorb, xorbs_after, keyed_xorb, keyed_xorbs}
 use Rattle.xet_shards.specs.KeyedExport.ExportCase.{bad_files, bad_xorbs, not_written}
+use Rattle.xet_shards.specs.Rewriting.{HasSections}
 use Rattle.xet_shards.proofs.EndsUnique.{ends_of_layout}
 use Rattle.xet_shards.proofs.Files.{length-le-rows}
 use Rattle.xet_shards.proofs.KeyedHashes.{keyed_section}
@@ -192,7 +193,7 @@ section_not_exported K old mid new n e at header bad (inr fails) = record {
 }
 
 -- the layout ends after the footer
-footer_last : (files : List MDBFileInfo) (xorbs : List MDBXorbInfo) (form : Form) → length (layout_of files xorbs form) ≡ (footer_value files xorbs form).footer_offset + 200
+pub footer_last : (files : List MDBFileInfo) (xorbs : List MDBXorbInfo) (form : Form) → length (layout_of files xorbs form) ≡ (footer_value files xorbs form).footer_offset + 200
 unfolding layout_of
 footer_last files xorbs form =
     let header = shard_header_bytes (header_value form.version) in
@@ -273,6 +274,9 @@ module _ (old s1 : Source) (h : MDBShardFileHeader) (taken : Takes old s1 (shard
       abbrev pub xorbs_out : List MDBXorbInfo
       xorbs_out = keyed_xorbs form.key xorbs
 
+      pub sections_there : HasSections (bytes_left old) files xorbs
+      sections_there = record { header = header_there; file_section = file_section; xorb_section = subst (λ bs. IsSection xorb_records bs xorbs) xorbs_left rest.section }
+
       pub at_end : s3 ≡ advanced old (xorbs_after files + 48 * (total_rows xorb_records xorbs + 1))
       at_end =
           let n = 48 * (total_rows xorb_records xorbs + 1) in
@@ -308,9 +312,9 @@ module _ (old s1 : Source) (h : MDBShardFileHeader) (taken : Takes old s1 (shard
       all_exported is_3 footer start after_header after_files after_xorbs end n is fits count header_out files_bytes xorbs_bytes end_bytes = record {
         files = files;
         xorbs = xorbs;
-        header = header_there;
-        file_section = file_section;
-        xorb_section = subst (λ bs. IsSection xorb_records bs xorbs) xorbs_left rest.section;
+        header = sections_there.header;
+        file_section = sections_there.file_section;
+        xorb_section = sections_there.xorb_section;
         read = at_end;
         written = whole_layout start after_header after_files after_xorbs end files_out xorbs_out form header_out files_bytes xorbs_bytes end_bytes;
         count = count ∙ ap (λ (f : MDBShardFileFooter). f.footer_offset + 200) is ∙ sym (footer_last files_out xorbs_out form);

@@ -35,9 +35,11 @@ pub mod Names
 pub mod Overlays
 pub mod QueriesAt
 pub mod Readback
+pub mod Rewriting
 pub mod Runs
 pub mod RunsAt
 pub mod SameBytes
+pub mod SectionHashes
 pub mod SectionReading
 pub mod SectionUnique
 pub mod ShardsWithoutAux
@@ -58,6 +60,7 @@ pub mod Versions
 pub mod Walks
 pub mod Widths
 pub mod Worked
+pub mod WholeSections
 pub mod Written
 pub mod WrittenQueries
 pub mod WrittenRuns

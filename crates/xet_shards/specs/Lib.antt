@@ -17,6 +17,7 @@ pub mod MinimalReading
 pub mod MinimalShard
 pub mod MinimalWriting
 pub mod Names
+pub mod Rewriting
 pub mod RunReading
 pub mod RunSteps
 pub mod Section

@@ -11,6 +11,7 @@ mod header;
 pub(crate) mod info;
 mod keyed_export;
 mod record_table;
+pub(crate) mod rewriting;
 mod run_reader;
 mod section_reader;
 mod section_walk;

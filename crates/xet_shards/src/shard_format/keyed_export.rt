@@ -262,7 +262,7 @@ fn export<S: ShardSource, W: Write>(
 }
 
 // A record as an export reads it from a source, and writes it in a form.
-trait ExportedRecord {
+pub(super) trait ExportedRecord {
     type Section: WrittenSection + Drop;
 
     // the stored record that was read
@@ -410,7 +410,7 @@ impl ExportedRecord for MDBXorbInfo {
 
 // Reads a section, and writes what the form has of each record as it is read.
 #[tactic(auto, unfolding(crate::specs::Section::section_bytes))]
-fn export_section<E: ExportedRecord + Drop, S: ShardSource, W: Write>(
+pub(super) fn export_section<E: ExportedRecord + Drop, S: ShardSource, W: Write>(
     alloc: Global,
     source: &mut S,
     version: FormatVersion,

@@ -1,0 +1,52 @@
+-- A layout has a header, a footer and its sections, and bytes that have them are not cut short or refused.
+use Rattle.std.proofs.Common.{◌≡◌, ℕ, ◌^◌, ◌<◌, List, drop, subst}
+use Rattle.xet_base.specs.Hash.{IsHash}
+use Rattle.xet_records.specs.declared.file_structs.MDBFileInfo.{MDBFileInfo}
+use Rattle.xet_records.specs.declared.xorb_structs.MDBXorbInfo.{MDBXorbInfo}
+use Rattle.xet_records.specs.FileRecord.{file_records, file_records_in}
+use Rattle.xet_records.specs.XorbRecord.{xorb_records}
+use Rattle.xet_records.proofs.RecordKinds.{xorb_laws, version_known}
+use Rattle.xet_shards.specs.Ends.{HasHeader, HasEnds}
+use Rattle.xet_shards.specs.InForm.{FitsSection}
+use Rattle.xet_shards.specs.KeyedExport.{xorbs_after}
+use Rattle.xet_shards.specs.Layout.{Form, info_of, layout_of}
+use Rattle.xet_shards.specs.Rewriting.{HasSections, form_of}
+use Rattle.xet_shards.specs.SectionReading.{IsSection, PassesRows, IsCutSection}
+use Rattle.xet_shards.proofs.EndsUnique.{ends_of_layout}
+use Rattle.xet_shards.proofs.Loading.{one_version}
+use Rattle.xet_shards.proofs.Sections.{files_laws, fits_ever}
+use Rattle.xet_shards.proofs.SectionUnique.{only_list, section_or_passes, section_or_cut}
+use Rattle.xet_shards.proofs.Widths.{fits_in_form}
+
+-- the form that header and footer name has the form's version
+pub version_again : (files : List MDBFileInfo) (xorbs : List MDBXorbInfo) (form : Form) → (form_of (info_of files xorbs form)).version ≡ form.version
+version_again files xorbs form = version_known form.version
+
+pub layout_ends : (files : List MDBFileInfo) (xorbs : List MDBXorbInfo) (form : Form) → FitsSection (file_records_in form.version) files → FitsSection xorb_records xorbs → IsHash form.key
+    → form.creation < 2 ^ 64 → form.expiry < 2 ^ 64 → HasEnds (layout_of files xorbs form) (info_of files xorbs form)
+layout_ends files xorbs form files_fit xorbs_fit key creation expiry =
+    ends_of_layout files xorbs form (fits_in_form files xorbs form (fits_ever file_records form.version files files_fit) xorbs_fit key creation expiry)
+
+module _ (bytes : List ℕ) (files : List MDBFileInfo) (xorbs : List MDBXorbInfo) (have : HasSections bytes files xorbs) (header : HasHeader bytes) where
+  files_there : IsSection (file_records_in header.version) (drop 48 bytes) files
+  files_there = subst (λ v. IsSection (file_records_in v) (drop 48 bytes) files) (one_version bytes have.header header) have.file_section
+
+  pub files_not_cut : ¬ IsCutSection (file_records_in header.version) (drop 48 bytes)
+  files_not_cut = section_or_cut (file_records_in header.version) (files_laws header.version) (drop 48 bytes) files files_there
+
+  pub files_not_refused : ¬ PassesRows (file_records_in header.version) (drop 48 bytes)
+  files_not_refused = section_or_passes (file_records_in header.version) (files_laws header.version) (drop 48 bytes) files files_there
+
+  -- the files are those of any other reading of the section
+  pub same_files : (others : List MDBFileInfo) → IsSection (file_records_in header.version) (drop 48 bytes) others → files ≡ others
+  same_files others there = only_list (file_records_in header.version) (files_laws header.version) (drop 48 bytes) files others files_there there
+
+  module _ (others : List MDBFileInfo) (there : IsSection (file_records_in header.version) (drop 48 bytes) others) where
+    xorbs_there : IsSection xorb_records (drop (xorbs_after others) bytes) xorbs
+    xorbs_there = subst (λ rs. IsSection xorb_records (drop (xorbs_after rs) bytes) xorbs) (same_files others there) have.xorb_section
+
+    pub xorbs_not_cut : ¬ IsCutSection xorb_records (drop (xorbs_after others) bytes)
+    xorbs_not_cut = section_or_cut xorb_records xorb_laws (drop (xorbs_after others) bytes) xorbs xorbs_there
+
+    pub xorbs_not_refused : ¬ PassesRows xorb_records (drop (xorbs_after others) bytes)
+    xorbs_not_refused = section_or_passes xorb_records xorb_laws (drop (xorbs_after others) bytes) xorbs xorbs_there
