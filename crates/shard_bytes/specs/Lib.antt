@@ -1,3 +1,4 @@
+pub mod Checking
 pub mod Combining
 pub mod Exporting
 pub mod Finding

@@ -1,0 +1,89 @@
+-- What is known of bytes whose sections are read from a source in memory, and of those that cannot be read.
+use Rattle.std.proofs.Common.{◌≡◌, inl, inr, ℕ, ◌+◌, List, [], ◌∷◌, map, drop, None, refl, sym, ap, ◌∙◌, subst, arith}
+use Rattle.xet_core_structures.specs.declared.error.CoreError.{CoreError}
+use Rattle.xet_core_structures.specs.declared.file_structs.MDBFileInfo.{MDBFileInfo}
+use Rattle.xet_core_structures.specs.declared.xorb_structs.MDBXorbInfo.{MDBXorbInfo}
+use Rattle.xet_core_structures.specs.declared.xorb_structs.XorbChunkSequenceHeader.{XorbChunkSequenceHeader}
+use Rattle.xet_core_structures.specs.declared.shard_format.MDBShardInfo.{MDBShardInfo}
+use Rattle.xet_core_structures.specs.ByteResults.{LoadRefusal}
+use Rattle.xet_core_structures.specs.Ends.{HasHeader, HasEnds}
+use Rattle.xet_core_structures.specs.Errors.{IsShardVersion, IsEndOfInput}
+use Rattle.xet_core_structures.specs.FileRecord.{file_records, file_records_in}
+use Rattle.xet_core_structures.specs.KeyedExport.{xorbs_after, BadSection}
+use Rattle.xet_core_structures.specs.SectionReading.{IsSection, PassesRows, IsCutSection, TakesNoSection}
+use Rattle.xet_core_structures.specs.Source.{Source, DeviceFailure, FailedBy, bytes_left, moved}
+use Rattle.xet_core_structures.specs.XorbRecord.{xorb_records}
+use Rattle.xet_records.proofs.RecordKinds.{xorb_laws}
+use Rattle.xet_shards.specs.FileRanges.{FileRanges, ReadsFileRanges, FileRangesFail}
+use Rattle.xet_shards.specs.Rewriting.{HasSections}
+use Rattle.xet_shards.specs.SectionWalk.{KeepsSection}
+use Rattle.xet_shards.specs.Tables.{hash_in}
+use Rattle.xet_shards.specs.XorbHeaders.{header_at}
+use Rattle.xet_shards.proofs.SectionHashes.{ReadsHashes, file_hashes, files_refused, hashes_of_section}
+use Rattle.xet_shards.proofs.WholeSections.{same_files}
+use Rattle.shard_bytes.specs.declared.check.Section.TheVariants.{Files, Xorbs}
+use Rattle.shard_bytes.specs.declared.check.Finding.{Finding}
+use Rattle.shard_bytes.specs.declared.check.Finding.TheVariants.{Unsupported, TooShort}
+use Rattle.shard_bytes.specs.Checking.{IsReport, IsUnreadable}
+use Rattle.shard_bytes.proofs.Checking.{header_in, one_finding, unread}
+
+-- header and footer are not read
+pub not_loaded : (bytes : List ℕ) (e : CoreError) (f : Finding) (findings : List Finding) → LoadRefusal bytes e → (IsShardVersion e → f ≡ Unsupported) → (IsEndOfInput e → f ≡ TooShort)
+    → findings ≡ f ∷ [] → IsReport bytes findings
+not_loaded bytes e f findings (inl (version, unsupported)) is other one =
+    one_finding bytes Unsupported findings unsupported (one ∙ ap (λ g. g ∷ []) (is version))
+not_loaded bytes e f findings (inr (end, short)) other is one =
+    one_finding bytes TooShort findings short (one ∙ ap (λ g. g ∷ []) (is end))
+
+-- a source of these bytes, at their start
+abbrev pub source_of : List ℕ → Source
+source_of bytes = record { bytes = bytes; at = 0; seeks = 0; read = 0; failures = 0; last_failure = None }
+
+-- the file section is not read
+pub files_unread : (bytes : List ℕ) (info : MDBShardInfo) (old new : Source) (e : CoreError) (findings : List Finding) → HasEnds bytes info → old ≡ source_of bytes → ¬ DeviceFailure old new e
+    → FileRangesFail old new e → IsUnreadable Files e findings → IsReport bytes findings
+files_unread bytes info old new e findings ends start works fails unreadable =
+    let left : bytes_left old ≡ bytes = ap bytes_left start in
+    let header = subst HasHeader (sym left) (header_in bytes info ends) in
+    let why = subst (λ bs. (h : HasHeader bs) × BadSection (file_records_in h.version) (drop 48 bs) e) left (header, files_refused old new e header works fails) in
+    unread Files bytes (drop 48 bytes) (PassesRows (file_records_in why.0.version)) (IsCutSection (file_records_in why.0.version)) e findings why.1 unreadable (λ over. (why.0, over)) (λ cut. (why.0, cut))
+
+-- after the file section, from the position where it ends
+module _ (bytes : List ℕ) (s0 s1 s2 : Source) (found : List FileRanges) (n : ℕ) (start : s0 ≡ source_of bytes) (read : ReadsFileRanges s0 s1 found) (n_is : n ≡ s1.at) (s2_is : s2 ≡ s1) where
+  hashes : ReadsHashes s0 s1 (map (λ (r : FileRanges). r.0) found)
+  hashes = file_hashes s0 s1 found read
+
+  file_part : (header : HasHeader bytes) × IsSection (file_records_in header.version) (drop 48 bytes) hashes.files
+  file_part = subst (λ bs. (h : HasHeader bs) × IsSection (file_records_in h.version) (drop 48 bs) hashes.files) (ap bytes_left start) (hashes.header, hashes.section)
+
+  xorbs_left : bytes_left (moved s2 n) ≡ drop (xorbs_after hashes.files) bytes
+  xorbs_left =
+      let k = xorbs_after hashes.files in
+      let from_zero : 0 + k ≡ k = omega arith in
+      let at : n ≡ k = n_is ∙ ap (λ (s : Source). s.at) hashes.after ∙ ap (λ (s : Source). s.at + k) start ∙ from_zero in
+      let same : s2.bytes ≡ bytes = ap (λ (s : Source). s.bytes) s2_is ∙ ap (λ (s : Source). s.bytes) hashes.after ∙ ap (λ (s : Source). s.bytes) start in
+      λ i. drop (at i) (same i)
+
+  pub xorbs_unread : (new : Source) (e : CoreError) (findings : List Finding) → ¬ DeviceFailure (moved s2 n) new e → TakesNoSection xorb_records (moved s2 n) new e → IsUnreadable Xorbs e findings
+      → IsReport bytes findings
+  xorbs_unread new e findings works fails unreadable = by_cause fails.cause
+    where
+      by_cause : FailedBy (BadSection xorb_records (bytes_left (moved s2 n))) (moved s2 n) new e → IsReport bytes findings
+      by_cause (inl failed) = absurd (works failed)
+      by_cause (inr (same, bad)) =
+          unread Xorbs bytes (drop (xorbs_after hashes.files) bytes) (PassesRows xorb_records) (IsCutSection xorb_records) e findings (subst (λ bs. BadSection xorb_records bs e) xorbs_left bad) unreadable
+          (λ over. (file_part.0, hashes.files, file_part.1, over)) (λ cut. (file_part.0, hashes.files, file_part.1, cut))
+
+  -- the hashes that were read are those of the records of both sections
+  module _ (new : Source) (headers : List (XorbChunkSequenceHeader × ℕ)) (keeps : KeepsSection xorb_records header_at (moved s2 n) new headers) (files : List MDBFileInfo) (xorbs : List MDBXorbInfo)
+      (have : HasSections bytes files xorbs) where
+    same : files ≡ hashes.files
+    same = same_files bytes files xorbs have file_part.0 hashes.files file_part.1
+
+    pub files_read : map (λ (r : FileRanges). r.0) found ≡ map (hash_in file_records) files
+    files_read = hashes.hashes_are ∙ ap (map (hash_in file_records)) (sym same)
+
+    pub xorbs_read : map (λ (r : XorbChunkSequenceHeader × ℕ). r.0.xorb_hash) headers ≡ map (hash_in xorb_records) xorbs
+    xorbs_read =
+        hashes_of_section xorb_records xorb_laws header_at (λ (r : XorbChunkSequenceHeader × ℕ). r.0.xorb_hash) (λ at r. refl) (moved s2 n) new headers xorbs
+        (subst (λ bs. IsSection xorb_records bs xorbs) (sym xorbs_left) (subst (λ rs. IsSection xorb_records (drop (xorbs_after rs) bytes) xorbs) same have.xorb_section)) keeps

@@ -1,0 +1,186 @@
+-- The bytes of a shard that are, byte for byte, what the library writes of the records in them; and
+-- what is wrong with bytes that are not.
+use Rattle.std.specs.Prelude.{◌≡◌, ◌≢◌, ◌⊎◌, ℕ, ◌+◌, ◌-◌, ◌^◌, ◌<◌, List, [], ◌∷◌, ◌++◌, length, map, drop, slice_index_or, All}
+use Rattle.std.specs.List.{slice_range}
+use Rattle.std.specs.List.Sorted.{IsStrictlySortedBy}
+use Rattle.std.specs.declared.cmp.Ordering.TheVariants.{Less}
+use Rattle.xet_core_structures.specs.declared.error.CoreError.{CoreError}
+use Rattle.xet_core_structures.specs.declared.error.CoreError.TheVariants.{OutOfMemory}
+use Rattle.xet_core_structures.specs.declared.file_structs.MDBFileInfo.{MDBFileInfo}
+use Rattle.xet_core_structures.specs.declared.xorb_structs.MDBXorbInfo.{MDBXorbInfo}
+use Rattle.xet_core_structures.specs.declared.merklehash.DataHash.{DataHash}
+use Rattle.xet_core_structures.specs.declared.shard_format.MDBShardFileFooter.{MDBShardFileFooter}
+use Rattle.xet_core_structures.specs.declared.shard_format.MDBShardInfo.{MDBShardInfo}
+use Rattle.xet_core_structures.specs.Ends.{HasHeader, HasEnds, IsUnsupported, IsTooShort}
+use Rattle.xet_core_structures.specs.Errors.{IsInvalidShard}
+use Rattle.xet_core_structures.specs.FileRecord.{file_records, file_records_in}
+use Rattle.xet_core_structures.specs.Hash.{IsHash, hash_cmp}
+use Rattle.xet_core_structures.specs.InForm.{FitsSection, Ascends}
+use Rattle.xet_core_structures.specs.KeyedExport.{xorbs_after}
+use Rattle.xet_core_structures.specs.Layout.{footer_value, layout_of}
+use Rattle.xet_core_structures.specs.SectionReading.{IsSection, PassesRows, IsCutSection}
+use Rattle.xet_core_structures.specs.XorbRecord.{xorb_records}
+use Rattle.xet_shards.specs.declared.shard_writer.Form.{Form}
+use Rattle.xet_shards.specs.Rewriting.{HasSections, form_of}
+use Rattle.xet_shards.specs.Tables.{hash_in}
+use Rattle.shard_bytes.specs.declared.check.Section.{Section}
+use Rattle.shard_bytes.specs.declared.check.Section.TheVariants.{Files, Xorbs}
+use Rattle.shard_bytes.specs.declared.check.Part.{Part}
+use Rattle.shard_bytes.specs.declared.check.Part.TheVariants.{Header, FileSection, XorbSection, FileTable, XorbTable, ChunkTable, Footer}
+use Rattle.shard_bytes.specs.declared.check.Finding.{Finding}
+use Rattle.shard_bytes.specs.declared.check.Finding.TheVariants.{Unsupported, TooShort, Cut, Refused, OutOfOrder, Differs, Size}
+
+-- the bytes are the layout, in a form, of files and xorbs that sections may hold and whose hashes
+-- strictly ascend
+pub record IsWhole (bytes : List ℕ) : Type 0 where
+  pub files : List MDBFileInfo
+  pub xorbs : List MDBXorbInfo
+  pub form : Form
+  pub files_fit : FitsSection (file_records_in form.version) files
+  pub xorbs_fit : FitsSection xorb_records xorbs
+  pub files_ascend : Ascends file_records files
+  pub xorbs_ascend : Ascends xorb_records xorbs
+  pub key : IsHash form.key
+  pub creation : form.creation < 2 ^ 64
+  pub expiry : form.expiry < 2 ^ 64
+  pub bytes_are : bytes ≡ layout_of files xorbs form
+
+-- the bytes can be read: they have a header and a footer, and the sections of these records
+pub record IsReadAs (bytes : List ℕ) (info : MDBShardInfo) (files : List MDBFileInfo)
+    (xorbs : List MDBXorbInfo) : Type 0 where
+  pub ends : HasEnds bytes info
+  pub sections : HasSections bytes files xorbs
+
+-- the hash at an index is the first that is not greater than the one before it
+pub record IsOutOfOrder (n : ℕ) (hashes : List DataHash) : Type 0 where
+  pub some : 0 < n
+  pub below : n < length hashes
+  pub not_less : (d : DataHash) → hash_cmp (slice_index_or hashes (n - 1) d) (slice_index_or hashes n d) ≢ Less
+  pub first : (k : ℕ) (d : DataHash) → k + 1 < n
+      → hash_cmp (slice_index_or hashes k d) (slice_index_or hashes (k + 1) d) ≡ Less
+
+-- the hashes of the records of a section
+abbrev pub hashes_of : Section → List MDBFileInfo → List MDBXorbInfo → List DataHash
+hashes_of Files files xorbs = map (hash_in file_records) files
+hashes_of Xorbs files xorbs = map (hash_in xorb_records) xorbs
+
+-- a part of the bytes, whose header and footer were read, is that of the bytes that were written,
+-- whose footer says where it is
+abbrev pub IsSamePart : Part → List ℕ → MDBShardInfo → List ℕ → MDBShardFileFooter → Type 0
+IsSamePart Header bytes info written f =
+    slice_range bytes 0 f.file_info_offset ≡ slice_range written 0 f.file_info_offset
+IsSamePart FileSection bytes info written f =
+    slice_range bytes f.file_info_offset f.xorb_info_offset
+    ≡ slice_range written f.file_info_offset f.xorb_info_offset
+IsSamePart XorbSection bytes info written f =
+    slice_range bytes f.xorb_info_offset f.file_lookup_offset
+    ≡ slice_range written f.xorb_info_offset f.file_lookup_offset
+IsSamePart FileTable bytes info written f =
+    slice_range bytes f.file_lookup_offset f.xorb_lookup_offset
+    ≡ slice_range written f.file_lookup_offset f.xorb_lookup_offset
+IsSamePart XorbTable bytes info written f =
+    slice_range bytes f.xorb_lookup_offset f.chunk_lookup_offset
+    ≡ slice_range written f.xorb_lookup_offset f.chunk_lookup_offset
+IsSamePart ChunkTable bytes info written f =
+    slice_range bytes f.chunk_lookup_offset f.footer_offset
+    ≡ slice_range written f.chunk_lookup_offset f.footer_offset
+IsSamePart Footer bytes info written f = info.metadata ≡ f
+
+-- what is said of the bytes after the file section
+abbrev pub AfterFiles : (List ℕ → Type 0) → List ℕ → Type 0
+AfterFiles Says bytes =
+    (header : HasHeader bytes) × (files : List MDBFileInfo)
+    × IsSection (file_records_in header.version) (drop 48 bytes) files
+    × Says (drop (xorbs_after files) bytes)
+
+-- what is said of bytes that can be read, and of what the library writes of their records
+abbrev pub WhereRead : (MDBShardInfo → List MDBFileInfo → List MDBXorbInfo → Type 0) → List ℕ
+    → Type 0
+WhereRead Says bytes =
+    (info : MDBShardInfo) × (files : List MDBFileInfo) × (xorbs : List MDBXorbInfo)
+    × IsReadAs bytes info files xorbs × Says info files xorbs
+
+-- a finding is true of the bytes
+abbrev pub IsFinding : List ℕ → Finding → Type 0
+IsFinding bytes Unsupported = IsUnsupported bytes
+IsFinding bytes TooShort = IsTooShort bytes
+IsFinding bytes (Cut Files) =
+    (header : HasHeader bytes) × IsCutSection (file_records_in header.version) (drop 48 bytes)
+IsFinding bytes (Cut Xorbs) = AfterFiles (IsCutSection xorb_records) bytes
+IsFinding bytes (Refused Files) =
+    (header : HasHeader bytes) × PassesRows (file_records_in header.version) (drop 48 bytes)
+IsFinding bytes (Refused Xorbs) = AfterFiles (PassesRows xorb_records) bytes
+IsFinding bytes (OutOfOrder section n) =
+    WhereRead (λ info files xorbs. IsOutOfOrder n (hashes_of section files xorbs)) bytes
+IsFinding bytes (Differs part) =
+    WhereRead
+    (λ info files xorbs.
+    ¬ IsSamePart part bytes info (layout_of files xorbs (form_of info))
+    (footer_value files xorbs (form_of info)))
+    bytes
+IsFinding bytes (Size n) =
+    WhereRead
+    (λ info files xorbs.
+    (n ≡ length (layout_of files xorbs (form_of info))) × (length bytes ≢ n))
+    bytes
+
+-- these are findings, and there is none only if the bytes are whole
+pub record IsReport (bytes : List ℕ) (findings : List Finding) : Type 0 where
+  pub each : All (IsFinding bytes) findings
+  pub none : findings ≡ [] → IsWhole bytes
+
+-- findings were added, all of which are so, and none only if all is well
+pub record Adds (Well : Type 0) (IsSo : Finding → Type 0) (old new : List Finding) : Type 0 where
+  pub more : List Finding
+  pub added : new ≡ old ++ more
+  pub each : All IsSo more
+  pub none : more ≡ [] → Well
+
+-- the one finding of a section that cannot be read, by the error of reading it
+abbrev pub IsUnreadable : Section → CoreError → List Finding → Type 0
+IsUnreadable section e findings =
+    ((findings ≡ Refused section ∷ []) × IsInvalidShard e)
+    ⊎ ((findings ≡ Cut section ∷ []) × (e ≢ OutOfMemory) × (¬ IsInvalidShard e))
+
+-- the first record out of order was added, if there is one
+abbrev pub AddsDisorder : Section → List DataHash → List Finding → List Finding → Type 0
+AddsDisorder section hashes =
+    Adds (IsStrictlySortedBy hash_cmp hashes)
+    (λ f. (n : ℕ) × (f ≡ OutOfOrder section n) × IsOutOfOrder n hashes)
+
+-- a part was added if it differs
+abbrev pub AddsPart : Part → List ℕ → MDBShardInfo → List ℕ → MDBShardFileFooter → List Finding
+    → List Finding → Type 0
+AddsPart part bytes info written footer =
+    Adds (IsSamePart part bytes info written footer)
+    (λ f. (f ≡ Differs part) × (¬ IsSamePart part bytes info written footer))
+
+-- the size was, if it differs
+abbrev pub AddsSize : List ℕ → List ℕ → List Finding → List Finding → Type 0
+AddsSize bytes written =
+    Adds (length bytes ≡ length written)
+    (λ f. (f ≡ Size (length written)) × (length bytes ≢ length written))
+
+-- a part or the size differs from those of the bytes that were written
+abbrev pub IsDifference : List ℕ → MDBShardInfo → List ℕ → MDBShardFileFooter → Finding → Type 0
+IsDifference bytes info written footer f =
+    ((part : Part) × (f ≡ Differs part) × (¬ IsSamePart part bytes info written footer))
+    ⊎ ((f ≡ Size (length written)) × (length bytes ≢ length written))
+
+abbrev pub IsSame : List ℕ → MDBShardInfo → List ℕ → MDBShardFileFooter → Type 0
+IsSame bytes info written footer =
+    ((part : Part) → IsSamePart part bytes info written footer)
+    × (length bytes ≡ length written)
+
+-- each difference was added
+abbrev pub Compares : List ℕ → MDBShardInfo → List ℕ → MDBShardFileFooter → List Finding
+    → List Finding → Type 0
+Compares bytes info written footer =
+    Adds (IsSame bytes info written footer) (IsDifference bytes info written footer)
+
+-- the records were read, and each difference from what the library writes of them was added
+abbrev pub AddsDifferences : List ℕ → MDBShardInfo → List Finding → List Finding → Type 0
+AddsDifferences bytes info old new =
+    (files : List MDBFileInfo) × (xorbs : List MDBXorbInfo) × HasSections bytes files xorbs
+    × Compares bytes info (layout_of files xorbs (form_of info))
+    (footer_value files xorbs (form_of info)) old new

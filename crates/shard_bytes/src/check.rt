@@ -1,0 +1,363 @@
+//! Whether the bytes of a shard are what the library would write of the records in them.
+
+ghost use Rattle.std.specs.Prelude.{◌≡◌, ◌↔◌, [], ◌∷◌, ◌++◌, map, All, MatchOption, OnOk, IfOk, IfErr, IsTrue, if◌then◌else◌};
+ghost use Rattle.std.specs.List.{slice_range};
+ghost use Rattle.std.specs.List.Sorted.{IsStrictlySortedBy};
+ghost use Rattle.std.specs.declared.cmp.Ordering.TheVariants.{Less};
+ghost use Rattle.xet_core_structures.specs.declared.merklehash.DataHash.{DataHash};
+ghost use Rattle.xet_core_structures.specs.Ends.{HasEnds};
+ghost use Rattle.xet_core_structures.specs.Errors.{IsShardVersion, IsEndOfInput};
+ghost use Rattle.xet_core_structures.specs.Hash.{hash_cmp};
+ghost use Rattle.shard_bytes.specs.Checking.{IsWhole, IsFinding, IsReport, IsUnreadable, IsOutOfOrder, IsSamePart, AddsPart, AddsSize, AddsDisorder, AddsDifferences, Compares};
+
+use crate::load::load_bytes;
+use std::alloc::Global;
+use std::cmp::Ordering;
+use xet_core_structures::error::{CoreError, Result};
+use xet_core_structures::merklehash::MerkleHash;
+use xet_core_structures::shard_format::{MDBShardFileFooter, MDBShardInfo};
+use xet_core_structures::source::{MemorySource, ShardSource};
+use xet_core_structures::xorb_structs::XorbChunkSequenceHeader;
+use xet_shards::shard_writer::{Form, write_again};
+
+/// One of the two sections of a shard.
+#[derive(Clone, Copy, Debug, PartialEq, Eq)]
+pub enum Section {
+    Files,
+    Xorbs,
+}
+
+/// A part of a shard, in the order of its bytes.
+#[derive(Clone, Copy, Debug, PartialEq, Eq)]
+pub enum Part {
+    Header,
+    FileSection,
+    XorbSection,
+    FileTable,
+    XorbTable,
+    ChunkTable,
+    Footer,
+}
+
+/// What is not as the library would write it.
+#[derive(Clone, Copy, Debug, PartialEq, Eq)]
+pub enum Finding {
+    /// The tag or the version of the header, or the version of the footer, is not supported.
+    Unsupported,
+    /// There are too few bytes for a header and a footer.
+    TooShort,
+    /// The bytes end before the section's bookend.
+    Cut(Section),
+    /// The section has a header that the shard's version does not have, or more than 4294967295
+    /// rows.
+    Refused(Section),
+    /// The hash of the record at this index, from 0 on, is not greater than that of the record
+    /// before it. It is the first such record of the section.
+    OutOfOrder(Section, usize),
+    /// The part is not the one that the records give: of a section this is its bookend, since its
+    /// records are those that are read.
+    Differs(Part),
+    /// The size is not this one, in bytes, which the records give.
+    Size(usize),
+}
+
+/// What is wrong with the bytes of a shard, in the order of [`Finding`]. Nothing is if they are, byte
+/// for byte, what the library would write of the records in them, with strictly ascending hashes, in
+/// their version and with their key, their timestamps and the tables that the footer says have rows.
+/// After bytes that cannot be read nothing else is looked for.
+///
+/// `OutOfMemory` if an allocation fails. No other error.
+pub fn check_bytes(alloc: Global, bytes: &[u8]) -> Result<Vec<Finding>>
+    ensures whole { IfOk result (λ findings. (findings.items ≡ []) ↔ IsWhole bytes.now) }
+    ensures each { IfOk result (λ findings. All (IsFinding bytes.now) findings.items) }
+    ensures causes { IfErr result (λ e. e ≡ CoreError.OutOfMemory) }
+{
+    match load_bytes(alloc, bytes) {
+        Ok(info) => check_sections(alloc, bytes, &info),
+        Err(error) => only(alloc, unloaded(error)),
+    }
+}
+
+// The finding of bytes of which header and footer cannot be read, by the error of reading them.
+fn unloaded(error: CoreError) -> Finding
+    ensures unsupported { IsShardVersion error → result ≡ Finding.Unsupported }
+    ensures short { IsEndOfInput error → result ≡ Finding.TooShort }
+{
+    match error {
+        CoreError::ShardVersion(_) => Finding::Unsupported,
+        _ => Finding::TooShort,
+    }
+}
+
+// Checks the bytes of a shard with this header and footer.
+fn check_sections(alloc: Global, bytes: &[u8], info: &MDBShardInfo) -> Result<Vec<Finding>>
+    requires { HasEnds bytes.now info.now }
+    ensures report { IfOk result (λ findings. IsReport bytes.now findings.items) }
+    ensures causes { IfErr result (λ e. e ≡ CoreError.OutOfMemory) }
+{
+    let mut source = MemorySource::new(bytes);
+    let files = match MDBShardInfo::read_file_info_ranges(alloc, &mut source) {
+        Ok(files) => files,
+        Err(error) => return unreadable(alloc, Section::Files, error),
+    };
+    // The xorb section comes next, whatever the footer says.
+    let mut after_files = *info;
+    after_files.metadata.xorb_info_offset = source.position()?;
+    let xorbs = match after_files.read_all_xorb_blocks(alloc, &mut source) {
+        Ok(xorbs) => xorbs,
+        Err(error) => return unreadable(alloc, Section::Xorbs, error),
+    };
+    let mut findings = Vec::new(alloc);
+    push_disorder(&mut findings, Section::Files, files.as_slice())?;
+    push_disorder(&mut findings, Section::Xorbs, xorbs.as_slice())?;
+    push_differences(alloc, &mut findings, bytes, info)?;
+    Ok(findings)
+}
+
+// The one finding of bytes that have no such section, by the error of reading it.
+fn unreadable(alloc: Global, section: Section, error: CoreError) -> Result<Vec<Finding>>
+    ensures report { IfOk result (λ findings. IsUnreadable section error findings.items) }
+    ensures causes { IfErr result (λ e. e ≡ CoreError.OutOfMemory) }
+{
+    match error {
+        CoreError::OutOfMemory => Err(CoreError::OutOfMemory),
+        CoreError::InvalidShard(_) => only(alloc, Finding::Refused(section)),
+        _ => only(alloc, Finding::Cut(section)),
+    }
+}
+
+fn only(alloc: Global, finding: Finding) -> Result<Vec<Finding>>
+    ensures ok { IfOk result (λ findings. findings.items ≡ finding ∷ []) }
+    ensures causes { IfErr result (λ e. e ≡ CoreError.OutOfMemory) }
+{
+    let mut findings = Vec::new(alloc);
+    findings.push(finding)?;
+    Ok(findings)
+}
+
+// What is read of a record, with its hash.
+trait Hashed {
+    ghost hash_of: { Self → DataHash };
+
+    fn record_hash(&self) -> MerkleHash
+        ensures { result ≡ hash_of self.now };
+}
+
+// A file's hash and its byte ranges.
+impl Hashed
+    for (
+        MerkleHash,
+        (u64, u64),
+        Option<(u64, u64)>,
+        Option<MerkleHash>,
+    ) {
+    ghost hash_of = { λ ranges. ranges.0 };
+
+    fn record_hash(&self) -> MerkleHash {
+        self.0
+    }
+}
+
+// A xorb's header and its offset.
+impl Hashed for (XorbChunkSequenceHeader, u64) {
+    ghost hash_of = { λ located. located.0.xorb_hash };
+
+    fn record_hash(&self) -> MerkleHash {
+        self.0.xorb_hash
+    }
+}
+
+// Adds the first record that is out of order, if there is one.
+fn push_disorder<T: Hashed>(
+    findings: &mut Vec<Finding>,
+    section: Section,
+    records: &[T],
+) -> Result<()>
+    ensures added { OnOk result
+        (AddsDisorder section (map T.hash_of records.now) findings.old.items findings.new.items) }
+    ensures causes { IfErr result (λ e. e ≡ CoreError.OutOfMemory) }
+{
+    if let Some(index) = first_out_of_order(records) {
+        findings.push(Finding::OutOfOrder(section, index))?;
+    }
+    Ok(())
+}
+
+// The index of the first record whose hash is not greater than that of the record before it.
+fn first_out_of_order<T: Hashed>(records: &[T]) -> Option<usize>
+    ensures { MatchOption result (IsStrictlySortedBy hash_cmp (map T.hash_of records.now))
+        (λ index. IsOutOfOrder index (map T.hash_of records.now)) }
+{
+    for index in 1..records.len() {
+        if !ascend(&records[index - 1], &records[index]) {
+            return Some(index);
+        }
+    }
+    None
+}
+
+// Whether the second record's hash is greater than that of the first.
+fn ascend<T: Hashed>(first: &T, second: &T) -> bool
+    ensures { IsTrue result
+        ↔ (hash_cmp (T.hash_of first.now) (T.hash_of second.now) ≡ Less) }
+{
+    first.record_hash().cmp(&second.record_hash()) == Ordering::Less
+}
+
+// Adds what differs from the shard of the same records as the library writes it.
+fn push_differences(
+    alloc: Global,
+    findings: &mut Vec<Finding>,
+    bytes: &[u8],
+    info: &MDBShardInfo,
+) -> Result<()>
+    requires { HasEnds bytes.now info.now }
+    ensures added { OnOk result
+        (AddsDifferences bytes.now info.now findings.old.items findings.new.items) }
+    ensures causes { IfErr result (λ e. e ≡ CoreError.OutOfMemory) }
+{
+    let mut source = MemorySource::new(bytes);
+    let mut written = Vec::new(alloc);
+    let form = Form::of_info(info);
+    match write_again(alloc, &mut source, &mut written, &form) {
+        Ok(footer) => compare(findings, bytes, info, written.as_slice(), &footer),
+        // Both sections were read before, so only memory can be lacking.
+        Err(_) => Err(CoreError::OutOfMemory),
+    }
+}
+
+// Adds each part that differs from the one that was written, which has this footer, and the size.
+fn compare(
+    findings: &mut Vec<Finding>,
+    bytes: &[u8],
+    info: &MDBShardInfo,
+    written: &[u8],
+    footer: &MDBShardFileFooter,
+) -> Result<()>
+    ensures added { OnOk result
+        (Compares bytes.now info.now written.now footer.now findings.old.items findings.new.items) }
+    ensures causes { IfErr result (λ e. e ≡ CoreError.OutOfMemory) }
+{
+    push_part(findings, Part::Header, bytes, info, written, footer)?;
+    push_part(findings, Part::FileSection, bytes, info, written, footer)?;
+    push_part(findings, Part::XorbSection, bytes, info, written, footer)?;
+    push_part(findings, Part::FileTable, bytes, info, written, footer)?;
+    push_part(findings, Part::XorbTable, bytes, info, written, footer)?;
+    push_part(findings, Part::ChunkTable, bytes, info, written, footer)?;
+    push_part(findings, Part::Footer, bytes, info, written, footer)?;
+    push_size(findings, bytes, written)
+}
+
+// Adds a part, if it differs.
+fn push_part(
+    findings: &mut Vec<Finding>,
+    part: Part,
+    bytes: &[u8],
+    info: &MDBShardInfo,
+    written: &[u8],
+    footer: &MDBShardFileFooter,
+) -> Result<()>
+    ensures added { OnOk result
+        (AddsPart part bytes.now info.now written.now footer.now findings.old.items
+        findings.new.items) }
+    ensures causes { IfErr result (λ e. e ≡ CoreError.OutOfMemory) }
+{
+    let same = is_same_part(part, bytes, info, written, footer);
+    push_unless(findings, same, Finding::Differs(part))
+}
+
+// Adds the size, if it differs.
+fn push_size(findings: &mut Vec<Finding>, bytes: &[u8], written: &[u8]) -> Result<()>
+    ensures added { OnOk result
+        (AddsSize bytes.now written.now findings.old.items findings.new.items) }
+    ensures causes { IfErr result (λ e. e ≡ CoreError.OutOfMemory) }
+{
+    let size = written.len();
+    push_unless(findings, bytes.len() == size, Finding::Size(size))
+}
+
+fn push_unless(findings: &mut Vec<Finding>, holds: bool, finding: Finding) -> Result<()>
+    ensures added { OnOk result
+        (findings.new.items
+        ≡ (if holds then findings.old.items else findings.old.items ++ finding ∷ [])) }
+    ensures causes { IfErr result (λ e. e ≡ CoreError.OutOfMemory) }
+{
+    if !holds {
+        findings.push(finding)?;
+    }
+    Ok(())
+}
+
+// Whether a part is the same in the bytes, which end in a footer that was read, and in those that
+// were written.
+fn is_same_part(
+    part: Part,
+    bytes: &[u8],
+    info: &MDBShardInfo,
+    written: &[u8],
+    footer: &MDBShardFileFooter,
+) -> bool
+    ensures { IsTrue result ↔ IsSamePart part bytes.now info.now written.now footer.now }
+{
+    match part {
+        Part::Header => same(bytes, written, 0, footer.file_info_offset),
+        Part::FileSection => {
+            same(
+                bytes,
+                written,
+                footer.file_info_offset,
+                footer.xorb_info_offset,
+            )
+        }
+        Part::XorbSection => {
+            same(
+                bytes,
+                written,
+                footer.xorb_info_offset,
+                footer.file_lookup_offset,
+            )
+        }
+        Part::FileTable => {
+            same(
+                bytes,
+                written,
+                footer.file_lookup_offset,
+                footer.xorb_lookup_offset,
+            )
+        }
+        Part::XorbTable => {
+            same(
+                bytes,
+                written,
+                footer.xorb_lookup_offset,
+                footer.chunk_lookup_offset,
+            )
+        }
+        Part::ChunkTable => {
+            same(
+                bytes,
+                written,
+                footer.chunk_lookup_offset,
+                footer.footer_offset,
+            )
+        }
+        Part::Footer => info.metadata == *footer,
+    }
+}
+
+// Whether two byte strings have the same bytes from one offset up to another, as far as they go.
+fn same(bytes: &[u8], written: &[u8], start: u64, end: u64) -> bool
+    ensures { IsTrue result
+        ↔ (slice_range bytes.now start end ≡ slice_range written.now start end) }
+{
+    slice(bytes, start, end) == slice(written, start, end)
+}
+
+// The bytes from one offset up to another, as far as they go.
+fn slice(bytes: &[u8], start: u64, end: u64) -> &[u8]
+    ensures { result.now ≡ slice_range bytes.now start end }
+{
+    let end = bytes.len().min(end as usize);
+    let start = end.min(start as usize);
+    &bytes[start..end]
+}
