@@ -10,7 +10,7 @@ use Rattle.xet_core_structures.specs.Ends.{HasHeader, HasEnds}
 use Rattle.xet_core_structures.specs.Errors.{IsShardVersion, IsEndOfInput}
 use Rattle.xet_core_structures.specs.FileRecord.{file_records, file_records_in}
 use Rattle.xet_core_structures.specs.KeyedExport.{xorbs_after, BadSection}
-use Rattle.xet_core_structures.specs.SectionReading.{IsSection, PassesRows, IsCutSection, TakesNoSection}
+use Rattle.xet_core_structures.specs.SectionReading.{IsSection, IsRefusedSection, IsCutSection, TakesNoSection}
 use Rattle.xet_core_structures.specs.Source.{Source, DeviceFailure, FailedBy, bytes_left, moved}
 use Rattle.xet_core_structures.specs.XorbRecord.{xorb_records}
 use Rattle.xet_records.proofs.RecordKinds.{xorb_laws}
@@ -46,7 +46,7 @@ files_unread bytes info old new e findings ends start works fails unreadable =
     let left : bytes_left old ≡ bytes = ap bytes_left start in
     let header = subst HasHeader (sym left) (header_in bytes info ends) in
     let why = subst (λ bs. (h : HasHeader bs) × BadSection (file_records_in h.version) (drop 48 bs) e) left (header, files_refused old new e header works fails) in
-    unread Files bytes (drop 48 bytes) (PassesRows (file_records_in why.0.version)) (IsCutSection (file_records_in why.0.version)) e findings why.1 unreadable (λ over. (why.0, over)) (λ cut. (why.0, cut))
+    unread Files bytes (drop 48 bytes) (IsRefusedSection (file_records_in why.0.version)) (IsCutSection (file_records_in why.0.version)) e findings why.1 unreadable (λ over. (why.0, over)) (λ cut. (why.0, cut))
 
 -- after the file section, from the position where it ends
 module _ (bytes : List ℕ) (s0 s1 s2 : Source) (found : List FileRanges) (n : ℕ) (start : s0 ≡ source_of bytes) (read : ReadsFileRanges s0 s1 found) (n_is : n ≡ s1.at) (s2_is : s2 ≡ s1) where
@@ -71,7 +71,7 @@ module _ (bytes : List ℕ) (s0 s1 s2 : Source) (found : List FileRanges) (n : �
       by_cause : FailedBy (BadSection xorb_records (bytes_left (moved s2 n))) (moved s2 n) new e → IsReport bytes findings
       by_cause (inl failed) = absurd (works failed)
       by_cause (inr (same, bad)) =
-          unread Xorbs bytes (drop (xorbs_after hashes.files) bytes) (PassesRows xorb_records) (IsCutSection xorb_records) e findings (subst (λ bs. BadSection xorb_records bs e) xorbs_left bad) unreadable
+          unread Xorbs bytes (drop (xorbs_after hashes.files) bytes) (IsRefusedSection xorb_records) (IsCutSection xorb_records) e findings (subst (λ bs. BadSection xorb_records bs e) xorbs_left bad) unreadable
           (λ over. (file_part.0, hashes.files, file_part.1, over)) (λ cut. (file_part.0, hashes.files, file_part.1, cut))
 
   -- the hashes that were read are those of the records of both sections

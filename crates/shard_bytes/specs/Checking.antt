@@ -18,7 +18,7 @@ use Rattle.xet_core_structures.specs.Hash.{IsHash, hash_cmp}
 use Rattle.xet_core_structures.specs.InForm.{FitsSection, Ascends}
 use Rattle.xet_core_structures.specs.KeyedExport.{xorbs_after}
 use Rattle.xet_core_structures.specs.Layout.{footer_value, layout_of}
-use Rattle.xet_core_structures.specs.SectionReading.{IsSection, PassesRows, IsCutSection}
+use Rattle.xet_core_structures.specs.SectionReading.{IsSection, IsRefusedSection, IsCutSection}
 use Rattle.xet_core_structures.specs.XorbRecord.{xorb_records}
 use Rattle.xet_shards.specs.declared.shard_writer.Form.{Form}
 use Rattle.xet_shards.specs.Rewriting.{HasSections, form_of}
@@ -108,8 +108,8 @@ IsFinding bytes (Cut Files) =
     (header : HasHeader bytes) × IsCutSection (file_records_in header.version) (drop 48 bytes)
 IsFinding bytes (Cut Xorbs) = AfterFiles (IsCutSection xorb_records) bytes
 IsFinding bytes (Refused Files) =
-    (header : HasHeader bytes) × PassesRows (file_records_in header.version) (drop 48 bytes)
-IsFinding bytes (Refused Xorbs) = AfterFiles (PassesRows xorb_records) bytes
+    (header : HasHeader bytes) × IsRefusedSection (file_records_in header.version) (drop 48 bytes)
+IsFinding bytes (Refused Xorbs) = AfterFiles (IsRefusedSection xorb_records) bytes
 IsFinding bytes (OutOfOrder section n) =
     WhereRead (λ info files xorbs. IsOutOfOrder n (hashes_of section files xorbs)) bytes
 IsFinding bytes (Differs part) =

@@ -21,11 +21,11 @@ use Rattle.xet_records.specs.Reading.Stops.{no_rows}
 use Rattle.xet_records.proofs.RecordKinds.{laws_in}
 use Rattle.xet_records.proofs.SectionRecords.{nothing_read, more_read, rows_after_header}
 use Rattle.xet_shards.specs.InForm.{Ascends}
-use Rattle.xet_shards.specs.SectionReading.{HoldsRecords, PassesLimit, EndsEarly, rows_left, SectionCase, RecordFails}
+use Rattle.xet_shards.specs.SectionReading.{HoldsRecords, BeginsRefused, EndsEarly, rows_left, SectionCase, RecordFails}
 use Rattle.xet_shards.specs.SectionReading.SectionCase.{not_read, passes_limit}
 use Rattle.xet_shards.proofs.SectionReading.{holds, section_failure, record_fails}
 use Rattle.xet_core_structures.specs.Combining.{key_of_record, ComeBefore}
-use Rattle.xet_core_structures.specs.Held.{BeginsInOrder, IsCutInOrder, PassesInOrder}
+use Rattle.xet_core_structures.specs.Held.{BeginsInOrder, IsCutInOrder, IsRefusedInOrder}
 use Rattle.xet_core_structures.specs.SideBySide.{IsRecordHeader, ReadsFollowing, FollowingFails, Advances, PassesRecord, SectionRefusal, TakesNoAscending, GoesOnAfter}
 use Rattle.xet_core_structures.specs.SideBySide.FollowingFails.{not_read as next_not_read, falls}
 use Rattle.xet_core_structures.proofs.Combining.{ascends_push, IsUnder}
@@ -198,7 +198,7 @@ module _ {H R : Type 0} (K : RecordKind H R) (laws : KindLaws K) (version : Form
     fewer (Some g) header = omega (arith, header.rows)
 
   -- why a section was not read on
-  refused_section : (bytes : List ℕ) (e : CoreError) → SectionCase (PassesInOrder (in_version K version)) (IsCutInOrder (in_version K version)) bytes e → SectionRefusal K version bytes e
+  refused_section : (bytes : List ℕ) (e : CoreError) → SectionCase (IsRefusedInOrder (in_version K version)) (IsCutInOrder (in_version K version)) bytes e → SectionRefusal K version bytes e
   refused_section bytes e (not_read (out_of_memory is)) = inl is
   refused_section bytes e (not_read (out_of_bytes is cut)) = inr (inl (is, cut))
   refused_section bytes e (passes_limit is passes) = inr (inr (bare_invalid e is, inl passes))
@@ -212,11 +212,11 @@ module _ {H R : Type 0} (K : RecordKind H R) (laws : KindLaws K) (version : Form
       let left_is : left ≡ rows_left (in_version K version) read.stored = omega (arith, read.rows) in
       record {
         bytes = fails.bytes ∙ served.bytes;
-        cause = failed_after (SectionCase (PassesInOrder (in_version K version)) (IsCutInOrder (in_version K version)) (bytes_left start)) (SectionRefusal K version (bytes_left start)) start start new e refl
+        cause = failed_after (SectionCase (IsRefusedInOrder (in_version K version)) (IsCutInOrder (in_version K version)) (bytes_left start)) (SectionRefusal K version (bytes_left start)) start start new e refl
             (refused_section (bytes_left start) e)
-            (section_failure (PassesLimit (in_version K version) left) (EndsEarly (in_version K version) left) (PassesInOrder (in_version K version)) (IsCutInOrder (in_version K version)) (bytes_left now) (bytes_left start)
+            (section_failure (BeginsRefused (in_version K version) left) (EndsEarly (in_version K version) left) (IsRefusedInOrder (in_version K version)) (IsCutInOrder (in_version K version)) (bytes_left now) (bytes_left start)
             start now new e served.failures
-            (λ passes. (read.stored, bytes_left now, front, subst (λ n. PassesLimit (in_version K version) n (bytes_left now)) left_is passes))
+            (λ passes. (read.stored, bytes_left now, front, subst (λ n. BeginsRefused (in_version K version) n (bytes_left now)) left_is passes))
             (λ ends. (read.stored, bytes_left now, front, subst (λ n. EndsEarly (in_version K version) n (bytes_left now)) left_is ends)) fails.cause);
       }
 

@@ -16,7 +16,7 @@ use Rattle.xet_records.specs.XorbRecord.{xorb_records}
 use Rattle.xet_records.proofs.RecordKinds.{KindLaws, StopsAt, same_front, header_within, no_record, xorb_laws}
 use Rattle.xet_shards.specs.declared.shard_format.info.MDBShardInfo.{MDBShardInfo}
 use Rattle.xet_shards.specs.InForm.{Ascends}
-use Rattle.xet_shards.specs.SectionReading.{files_of, HoldsRecords, IsSection, PassesRows, IsCutSection, PassesLimit, EndsEarly, rows_left}
+use Rattle.xet_shards.specs.SectionReading.{files_of, HoldsRecords, IsSection, IsRefusedSection, IsCutSection, BeginsRefused, EndsEarly, rows_left}
 use Rattle.xet_shards.specs.Tables.{hash_in}
 use Rattle.xet_shards.proofs.Sections.{files_laws}
 use Rattle.xet_shards.proofs.SectionUnique.{same_reading, only_list, first_of_section, section_or_passes, section_or_cut}
@@ -24,7 +24,7 @@ use Rattle.xet_core_structures.specs.Held.{IsReadInOneWay, IsCutInOrder, IsBadSe
 use Rattle.xet_core_structures.proofs.Held.{sorted_front}
 
 module _ {H R : Type 0} (K : RecordKind H R) (laws : KindLaws K) where
-  passes_or_ends : (left : ℕ) (bytes : List ℕ) → PassesLimit K left bytes → ¬ EndsEarly K left bytes
+  passes_or_ends : (left : ℕ) (bytes : List ℕ) → BeginsRefused K left bytes → ¬ EndsEarly K left bytes
   passes_or_ends left bytes (h, rest, begins, past) (inl short) = omega (arith, short, header_within K laws bytes h rest begins.bytes_are)
   passes_or_ends left bytes (h, rest, begins, not_allowed refused) (inr (g, after, has, taken, short)) =
       let same = same_front K laws bytes h g rest after begins.widths begins.bytes_are has in
@@ -53,7 +53,7 @@ module _ {H R : Type 0} (K : RecordKind H R) (laws : KindLaws K) where
   front_of : (bytes : List ℕ) (xs ys : List R) (a b : List ℕ) → HoldsRecords K bytes xs a → HoldsRecords K bytes ys b → StopsAt K (rows_left K xs) a → (zs : List R) × (xs ≡ ys ++ zs)
   front_of bytes xs ys a b x y stop = first_of 4294967295 xs ys a b x.are_stored y.are_stored x.rows y.rows stop (sym x.bytes_are ∙ y.bytes_are)
 
-  cut_or_passes : (bytes : List ℕ) → IsCutSection K bytes → ¬ PassesRows K bytes
+  cut_or_passes : (bytes : List ℕ) → IsCutSection K bytes → ¬ IsRefusedSection K bytes
   cut_or_passes bytes (xs, a, x, ends) (ys, b, y, passes) =
       let same = same_reading K laws bytes xs ys a b x y (inr (inr ends)) (inr (inl passes)) in
       passes_or_ends (rows_left K ys) b passes (subst (λ p. p) (λ i. EndsEarly K (rows_left K (same.0 i)) (same.1 i)) ends)

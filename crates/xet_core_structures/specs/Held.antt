@@ -12,7 +12,7 @@ use Rattle.xet_shards.specs.declared.shard_format.info.MDBShardInfo.{MDBShardInf
 use Rattle.xet_shards.specs.InForm.{Ascends}
 use Rattle.xet_shards.specs.Section.{total_rows}
 use Rattle.xet_shards.specs.Shard.{Shard}
-use Rattle.xet_shards.specs.SectionReading.{files_of, HoldsRecords, IsSection, PassesRows, IsCutSection, PassesLimit, EndsEarly, rows_left}
+use Rattle.xet_shards.specs.SectionReading.{files_of, HoldsRecords, IsSection, IsRefusedSection, IsCutSection, BeginsRefused, EndsEarly, rows_left}
 
 module _ {H R : Type 0} (K : RecordKind H R) where
   -- a reader of a section finds at most one list of records in the bytes, and none if they are cut
@@ -20,8 +20,8 @@ module _ {H R : Type 0} (K : RecordKind H R) where
   pub record IsReadInOneWay (bytes : List ℕ) : Type 0 where
     pub list : (xs ys : List R) → IsSection K bytes xs → IsSection K bytes ys → xs ≡ ys
     pub cut : (xs : List R) → IsSection K bytes xs → ¬ IsCutSection K bytes
-    pub passes : (xs : List R) → IsSection K bytes xs → ¬ PassesRows K bytes
-    pub either : IsCutSection K bytes → ¬ PassesRows K bytes
+    pub passes : (xs : List R) → IsSection K bytes xs → ¬ IsRefusedSection K bytes
+    pub either : IsCutSection K bytes → ¬ IsRefusedSection K bytes
 
   -- the records may be written as a section whose hashes strictly ascend
   pub record AreWritable (rs : List R) : Type 0 where
@@ -41,10 +41,10 @@ module _ {H R : Type 0} (K : RecordKind H R) where
       × EndsEarly K (rows_left K stored) rest
 
   -- such records, and then a header that is refused
-  abbrev pub PassesInOrder : List ℕ → Type 0
-  PassesInOrder bytes =
+  abbrev pub IsRefusedInOrder : List ℕ → Type 0
+  IsRefusedInOrder bytes =
       (stored : List R) × (rest : List ℕ) × BeginsInOrder bytes stored rest
-      × PassesLimit K (rows_left K stored) rest
+      × BeginsRefused K (rows_left K stored) rest
 
   -- such records, and then a whole one whose hash is not greater
   pub record FallsInOrder (bytes : List ℕ) : Type 0 where
@@ -57,7 +57,7 @@ module _ {H R : Type 0} (K : RecordKind H R) where
 
   -- a header is refused, or hashes do not strictly ascend
   abbrev pub IsBadSection : List ℕ → Type 0
-  IsBadSection bytes = PassesInOrder bytes ⊎ FallsInOrder bytes
+  IsBadSection bytes = IsRefusedInOrder bytes ⊎ FallsInOrder bytes
 
 -- the bytes are a section whose hashes strictly ascend: this is the map of its records, as reading
 -- returns them

@@ -20,7 +20,7 @@ use Rattle.xet_records.specs.Rows.{ReadsRows, ReadsOptional}
 use Rattle.xet_records.specs.XorbRow.{chunk_row, FitsChunk}
 use Rattle.xet_records.specs.FileRecord.{file_record_bytes, file_rows_bytes, has_verification, has_metadata_ext, has_aux_ext, rows_after, file_records}
 use Rattle.xet_records.specs.XorbRecord.{xorb_record_bytes, xorb_records}
-use Rattle.xet_records.specs.Reading.{ReadsRowsAfter, ReadsRecord, BeginsWithHeader, BeginsWithBookend, PassesLimit, EndsEarly}
+use Rattle.xet_records.specs.Reading.{ReadsRowsAfter, ReadsRecord, BeginsWithHeader, BeginsWithBookend, BeginsRefused, EndsEarly}
 use Rattle.xet_records.specs.Reading.IsRefused.{not_allowed, too_many_rows}
 use Rattle.xet_records.proofs.Handed.{file_handed}
 use Rattle.xet_records.proofs.Lengths.{length-header_row, length-file_record_bytes, length-xorb_header_row, length-chunk_rows}
@@ -123,7 +123,7 @@ known_number n (version, is) = is ∙ ap number_of (sym (ap version_of is ∙ ve
 
 -- what is after the records of a section that are read
 abbrev pub StopsAt : {H R : Type 0} → RecordKind H R → ℕ → List ℕ → Type 0
-StopsAt K left bytes = BeginsWithBookend K bytes ⊎ PassesLimit K left bytes ⊎ EndsEarly K left bytes
+StopsAt K left bytes = BeginsWithBookend K bytes ⊎ BeginsRefused K left bytes ⊎ EndsEarly K left bytes
 
 module _ {H R : Type 0} (K : RecordKind H R) (laws : KindLaws K) where
   -- a record has 48 bytes a row
@@ -156,7 +156,7 @@ module _ {H R : Type 0} (K : RecordKind H R) (laws : KindLaws K) where
   bookend_or_header bytes h rest bookend = not_bookend bytes bookend.header h bookend.rest rest bookend.widths bookend.is_bookend bookend.bytes_are
 
   -- a bookend, a record too many and an early end exclude each other
-  pub bookend_or_passes : (left : ℕ) (bytes : List ℕ) → BeginsWithBookend K bytes → ¬ PassesLimit K left bytes
+  pub bookend_or_passes : (left : ℕ) (bytes : List ℕ) → BeginsWithBookend K bytes → ¬ BeginsRefused K left bytes
   bookend_or_passes left bytes bookend (h, rest, begins, past) = bookend_or_header bytes h rest bookend begins
 
   pub bookend_or_ends : (left : ℕ) (bytes : List ℕ) → BeginsWithBookend K bytes → ¬ EndsEarly K left bytes

@@ -12,7 +12,7 @@ use Rattle.xet_base.specs.Hash.{all_ones}
 use Rattle.xet_records.specs.declared.record_reader.FormatVersion.{FormatVersion}
 use Rattle.xet_records.specs.RecordKind.{RecordKind, in_version, KindLaws, IsHeaderRow}
 use Rattle.xet_records.specs.Rows.{ReadsRow}
-use Rattle.xet_records.specs.Reading.{ReadsHeader, CountsHeader, ReadsRowsAfter, CountsRecord, ReadsNextRecord, HasRead, BeginsWithBookend, PassesLimit, EndsEarly}
+use Rattle.xet_records.specs.Reading.{ReadsHeader, CountsHeader, ReadsRowsAfter, CountsRecord, ReadsNextRecord, HasRead, BeginsWithBookend, BeginsRefused, EndsEarly}
 use Rattle.xet_records.proofs.RecordKinds.{whole_record, stored_begins, bookend_or_header, bookend_or_ends, bookend_or_passes, no_record}
 
 -- a header row, not a bookend's
@@ -75,7 +75,7 @@ module _ {H R : Type 0} (K : RecordKind H R) (laws : KindLaws K) where
 
   -- bytes from which a bookend or a record was read are neither cut short nor too many
   whole : (bytes rest : List ℕ) (left after : ℕ) (found : Option R) → ReadsNextRecord K (Consumes (Some bytes) (Some rest)) left after found
-      → (¬ EndsEarly K left bytes) × (¬ PassesLimit K left bytes)
+      → (¬ EndsEarly K left bytes) × (¬ BeginsRefused K left bytes)
   whole bytes rest left after None read =
       let bookend : BeginsWithBookend K bytes = record { header = read.header; rest = rest; widths = read.widths; is_bookend = read.is_bookend; bytes_are = read.taken } in
       (bookend_or_ends K laws left bytes bookend, bookend_or_passes K laws left bytes bookend)
@@ -84,7 +84,7 @@ module _ {H R : Type 0} (K : RecordKind H R) (laws : KindLaws K) where
       ((λ ends. none (inr (inr ends))), (λ passes. none (inr (inl passes))))
 
   reads_whole : (old new : Option (List ℕ)) (left after : ℕ) (found : Option R) → ReadsNextRecord K (Consumes old new) left after found
-      → IfSome old (λ bytes. ¬ EndsEarly K left bytes) × IfSome old (λ bytes. ¬ PassesLimit K left bytes)
+      → IfSome old (λ bytes. ¬ EndsEarly K left bytes) × IfSome old (λ bytes. ¬ BeginsRefused K left bytes)
   reads_whole None new left after found read = (tt, tt)
   reads_whole (Some bytes) None left after None read = absurd read.taken
   reads_whole (Some bytes) None left after (Some found) next = absurd next.reads.taken
@@ -108,7 +108,7 @@ module _ {H R : Type 0} (K : RecordKind H R) (laws : KindLaws K) where
     pub not_cut_short : OnOk r (IfSome old (λ bytes. ¬ EndsEarly K left bytes))
     not_cut_short = on_value _ _ Fails r (λ found next. (reads_whole old new left after found next).0) read
 
-    pub few_rows : OnOk r (IfSome old (λ bytes. ¬ PassesLimit K left bytes))
+    pub few_rows : OnOk r (IfSome old (λ bytes. ¬ BeginsRefused K left bytes))
     few_rows = on_value _ _ Fails r (λ found next. (reads_whole old new left after found next).1) read
 
     pub read_again : (x : R) (rest : List ℕ) → K.IsStored x → old ≡ Some (K.record_bytes x ++ rest) → IfOk r (λ found. (found ≡ Some (K.handed_out x)) × (new ≡ Some rest))

@@ -137,8 +137,8 @@ pub record BeginsWithBookend {H R : Type 0} (K : RecordKind H R) (bytes : List �
 
 module _ {H R : Type 0} (K : RecordKind H R) where
   -- a header, not a bookend, that is refused
-  abbrev pub PassesLimit : ℕ → List ℕ → Type 0
-  PassesLimit left bytes =
+  abbrev pub BeginsRefused : ℕ → List ℕ → Type 0
+  BeginsRefused left bytes =
       (header : H) × (rest : List ℕ) × BeginsWithHeader K bytes header rest
       × IsRefused K left header
 
@@ -156,5 +156,5 @@ module _ {H R : Type 0} (K : RecordKind H R) where
 
   -- the bytes begin with a header that is refused; in version 3 it announces more than 4294967295
   -- rows
-  abbrev pub HasTooManyRows : List ℕ → Type 0
-  HasTooManyRows bytes = PassesLimit 4294967296 bytes
+  abbrev pub HasRefusedHeader : List ℕ → Type 0
+  HasRefusedHeader bytes = BeginsRefused 4294967296 bytes

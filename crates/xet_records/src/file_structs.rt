@@ -8,7 +8,7 @@ ghost use Rattle.std.specs.Prelude.{◌≡◌, ℕ, List, Some, ◌++◌, ◌*�
 ghost use Rattle.std.specs.Io.KnownBytes.{Appends, Consumes};
 ghost use Rattle.xet_records.specs.FileRecord.{has_verification, has_metadata_ext, has_aux_ext, rows_after, row_count, file_record_bytes, size_of_file, FitsItsHeader, IsStored, handed_out, file_records};
 ghost use Rattle.xet_records.specs.Merging.{IsSameFile, merged};
-ghost use Rattle.xet_records.specs.Reading.{ReadsOrEnds, ReadsRowsAfter, IsCutShort, HasTooManyRows};
+ghost use Rattle.xet_records.specs.Reading.{ReadsOrEnds, ReadsRowsAfter, IsCutShort, HasRefusedHeader};
 ghost use Rattle.xet_base.specs.Table.{IsBareInvalidShard};
 ghost use Rattle.xet_base.specs.Errors.{IsEndOfInput, IsDeviceError, IsWriteError, IsInvalidShard};
 
@@ -129,12 +129,12 @@ impl MDBFileInfo {
             (λ e. IsEndOfInput e → IfSome (R.remaining reader.old) (IsCutShort file_records)) }
         ensures invalid { IfErr result
             (λ e. IsInvalidShard e
-            → IfSome (R.remaining reader.old) (HasTooManyRows file_records)) }
+            → IfSome (R.remaining reader.old) (HasRefusedHeader file_records)) }
         ensures causes { IfErr result (λ e. IsDeviceError e ⊎ IsBareInvalidShard e) }
         ensures whole { OnOk result
             (IfSome (R.remaining reader.old) (λ bytes. ¬ IsCutShort file_records bytes)) }
         ensures fits { OnOk result
-            (IfSome (R.remaining reader.old) (λ bytes. ¬ HasTooManyRows file_records bytes)) }
+            (IfSome (R.remaining reader.old) (λ bytes. ¬ HasRefusedHeader file_records bytes)) }
         ensures again { (r : MDBFileInfo) → (rest : List ℕ) → IsStored r
             → R.remaining reader.old ≡ Some (file_record_bytes r ++ rest)
             → IfOk result

@@ -28,7 +28,7 @@ use Rattle.xet_shards.specs.Shard.{Shard, IsShard}
 use Rattle.xet_shards.specs.Section.{section_bytes}
 use Rattle.xet_shards.specs.Tables.{table_bytes, chunk_table_bytes}
 use Rattle.xet_shards.specs.Layout.{Form, if_in, shard_header_bytes, header_value, shard_footer_bytes, footer_value, layout_of, layout_in, plain_form_in}
-use Rattle.xet_shards.specs.SectionReading.{files_of, IsSection, TakesSection, TakesNoSection, SectionFailure, PassesRows, IsCutSection}
+use Rattle.xet_shards.specs.SectionReading.{files_of, IsSection, TakesSection, TakesNoSection, SectionFailure, IsRefusedSection, IsCutSection}
 use Rattle.xet_shards.proofs.Sections.{FitsSection, files_laws, section_there, files_fit_in, xorbs_fit}
 use Rattle.xet_shards.proofs.Layouts.{length-shard_header_bytes}
 use Rattle.xet_shards.proofs.SectionUnique.{only_list, section_or_passes, section_or_cut}
@@ -110,7 +110,7 @@ section_written {s} {expiry} {bytes} is =
 
 -- bytes that are a section of records are read as these, unless the device fails or an allocation does
 module _ {H R : Type 0} (K : RecordKind H R) (laws : KindLaws K) (old new : Source) (rs : List R) (section : IsSection K (bytes_left old) rs) where
-  pub why_not : (e : CoreError) → SectionFailure (PassesRows K) (IsCutSection K) (bytes_left old) old new e → DeviceFailure old new e ⊎ (e ≡ OutOfMemory)
+  pub why_not : (e : CoreError) → SectionFailure (IsRefusedSection K) (IsCutSection K) (bytes_left old) old new e → DeviceFailure old new e ⊎ (e ≡ OutOfMemory)
   why_not e cause =
       search (rules, section_or_cut K laws (bytes_left old) rs section, section_or_passes K laws (bytes_left old) rs section)
 

@@ -9,7 +9,7 @@ use Rattle.xet_base.specs.Source.{Source, Takes, Fails, FailedBy, ReadCase, Read
 use Rattle.xet_base.specs.InputLaws.{Takes-trans}
 use Rattle.xet_base.proofs.Reading.{Takes-consumes, lacks_left}
 use Rattle.xet_records.specs.RecordKind.{RecordKind}
-use Rattle.xet_records.specs.Reading.{ReadsBookend, ReadsHeader, BeginsWithHeader, IsTaken, PassesLimit, EndsEarly, HasRead, Stops, ReadsRecords, StopsAfter}
+use Rattle.xet_records.specs.Reading.{ReadsBookend, ReadsHeader, BeginsWithHeader, IsTaken, BeginsRefused, EndsEarly, HasRead, Stops, ReadsRecords, StopsAfter}
 use Rattle.xet_records.specs.Reading.Stops.{no_header, refused_header, no_rows}
 use Rattle.xet_records.proofs.Lengths.{length-all_record_bytes}
 use Rattle.xet_records.proofs.RecordKinds.{KindLaws, length-record_bytes, stored_begins}
@@ -50,7 +50,7 @@ module _ {H R : Type 0} (K : RecordKind H R) (laws : KindLaws K) where
           taken = 48;
           read = fails.read;
           may_take = inl (omega arith);
-          cause = refused_as (PassesLimit K left) (EndsEarly K left) (bytes_left old) old old (meaning t) 48 e refl (λ short. inl (lacks_left old 48 (omega arith) short)) fails.cause;
+          cause = refused_as (BeginsRefused K left) (EndsEarly K left) (bytes_left old) old old (meaning t) 48 e refl (λ short. inl (lacks_left old 48 (omega arith) short)) fails.cause;
         }
     record_fails left s t e (refused_header h read refused is) =
         let taken = read.taken in
@@ -78,7 +78,7 @@ module _ {H R : Type 0} (K : RecordKind H R) (laws : KindLaws K) where
           taken = 48 * (1 + K.rows_after h);
           read = omega (arith, fails.read, ap (λ (u : Source). u.read) taken.after, laws.header_size h);
           may_take = inr (h, bytes_left mid, begins, omega arith);
-          cause = refused_as (PassesLimit K left) (EndsEarly K left) (bytes_left old) old mid (meaning t) (48 * K.rows_after h) e (ap (λ (u : Source). u.failures) taken.after)
+          cause = refused_as (BeginsRefused K left) (EndsEarly K left) (bytes_left old) old mid (meaning t) (48 * K.rows_after h) e (ap (λ (u : Source). u.failures) taken.after)
               (λ short. inr (h, bytes_left mid, begins, within, lacks_left mid (48 * K.rows_after h) (omega (arith, short, inside)) short)) fails.cause;
         }
 

@@ -11,7 +11,7 @@ use Rattle.xet_shards.specs.InForm.{FitsSection}
 use Rattle.xet_shards.specs.KeyedExport.{xorbs_after}
 use Rattle.xet_shards.specs.Layout.{Form, info_of, layout_of}
 use Rattle.xet_shards.specs.Rewriting.{HasSections, form_of}
-use Rattle.xet_shards.specs.SectionReading.{IsSection, PassesRows, IsCutSection}
+use Rattle.xet_shards.specs.SectionReading.{IsSection, IsRefusedSection, IsCutSection}
 use Rattle.xet_shards.proofs.EndsUnique.{ends_of_layout}
 use Rattle.xet_shards.proofs.Loading.{one_version}
 use Rattle.xet_shards.proofs.Sections.{files_laws, fits_ever}
@@ -34,7 +34,7 @@ module _ (bytes : List ℕ) (files : List MDBFileInfo) (xorbs : List MDBXorbInfo
   pub files_not_cut : ¬ IsCutSection (file_records_in header.version) (drop 48 bytes)
   files_not_cut = section_or_cut (file_records_in header.version) (files_laws header.version) (drop 48 bytes) files files_there
 
-  pub files_not_refused : ¬ PassesRows (file_records_in header.version) (drop 48 bytes)
+  pub files_not_refused : ¬ IsRefusedSection (file_records_in header.version) (drop 48 bytes)
   files_not_refused = section_or_passes (file_records_in header.version) (files_laws header.version) (drop 48 bytes) files files_there
 
   -- the files are those of any other reading of the section
@@ -48,5 +48,5 @@ module _ (bytes : List ℕ) (files : List MDBFileInfo) (xorbs : List MDBXorbInfo
     pub xorbs_not_cut : ¬ IsCutSection xorb_records (drop (xorbs_after others) bytes)
     xorbs_not_cut = section_or_cut xorb_records xorb_laws (drop (xorbs_after others) bytes) xorbs xorbs_there
 
-    pub xorbs_not_refused : ¬ PassesRows xorb_records (drop (xorbs_after others) bytes)
+    pub xorbs_not_refused : ¬ IsRefusedSection xorb_records (drop (xorbs_after others) bytes)
     xorbs_not_refused = section_or_passes xorb_records xorb_laws (drop (xorbs_after others) bytes) xorbs xorbs_there

@@ -18,7 +18,7 @@ use Rattle.xet_records.specs.declared.record_reader.FormatVersion.TheVariants.{V
 use Rattle.xet_records.specs.XorbRecord.{xorb_records}
 use Rattle.xet_shards.specs.declared.shard_format.info.MDBShardInfo.{MDBShardInfo}
 use Rattle.xet_shards.specs.Section.{total_rows, section_bytes}
-use Rattle.xet_shards.specs.SectionReading.{IsSection, PassesRows, IsCutSection, SectionCase}
+use Rattle.xet_shards.specs.SectionReading.{IsSection, IsRefusedSection, IsCutSection, SectionCase}
 use Rattle.xet_shards.specs.Ends.{HasHeader, HasEnds, HasUnsupportedHeader, EndsInHeader, FormatCase}
 use Rattle.xet_shards.specs.Layout.{Form, if_in, layout_of, footer_value, info_of}
 use Rattle.xet_shards.specs.InForm.{IsInForm}
@@ -92,7 +92,7 @@ Exports form = ExportsWith true form
 
 -- why a section was not read, if the device did not fail
 abbrev pub BadSection : {H R : Type 0} → RecordKind H R → List ℕ → CoreError → Type 0
-BadSection K bytes e = SectionCase (PassesRows K) (IsCutSection K) bytes e
+BadSection K bytes e = SectionCase (IsRefusedSection K) (IsCutSection K) bytes e
 
 -- why a shard was not exported, if the source's device did not fail: the header or a section was
 -- not read, or the writer failed or an allocation did

@@ -17,7 +17,7 @@ use Rattle.xet_records.specs.Reading.{ReadsRecord}
 use Rattle.xet_shards.specs.declared.shard_format.footer.MDBShardFileFooter.{MDBShardFileFooter}
 use Rattle.xet_shards.specs.Shard.{Shard}
 use Rattle.xet_shards.specs.Tables.{hash_in, starts}
-use Rattle.xet_shards.specs.SectionReading.{MayTake, BeginsWithBookend, PassesLimit, EndsEarly, SectionFailure}
+use Rattle.xet_shards.specs.SectionReading.{MayTake, BeginsWithBookend, BeginsRefused, EndsEarly, SectionFailure}
 
 -- the records whose hashes have this first word
 abbrev pub sharing : {H R : Type 0} → RecordKind H R → ℕ → List R → List R
@@ -66,7 +66,7 @@ abbrev pub RecordRefusal : {H R : Type 0} → RecordKind H R → List ℕ → So
     → Type 0
 RecordRefusal K bytes old new e =
     ((new.failures ≡ old.failures) × IsBareInternalError e × BeginsWithBookend K bytes)
-    ⊎ SectionFailure (PassesLimit K 4294967296) (EndsEarly K 4294967296) bytes old new e
+    ⊎ SectionFailure (BeginsRefused K 4294967296) (EndsEarly K 4294967296) bytes old new e
 
 -- why the record at a row was not read: its offset passes 64 bits; or it does not, and the record
 -- there was not read

@@ -15,7 +15,7 @@ use Rattle.xet_records.specs.FileRecord.{file_records_in}
 use Rattle.xet_records.specs.XorbRecord.{xorb_records}
 use Rattle.xet_shards.specs.declared.shard_format.info.MDBShardInfo.{MDBShardInfo}
 use Rattle.xet_records.specs.Reading.{CountsRecord, ReadsNextRecord, BeginsWithHeader}
-pub use Rattle.xet_records.specs.Reading.{BeginsWithBookend, PassesLimit, EndsEarly}
+pub use Rattle.xet_records.specs.Reading.{BeginsWithBookend, BeginsRefused, EndsEarly}
 
 -- the bytes begin with those of records, of at most 4294967295 rows, and then come others
 pub record HoldsRecords {H R : Type 0} (K : RecordKind H R) (bytes : List ℕ) (stored : List R)
@@ -38,10 +38,10 @@ module _ {H R : Type 0} (K : RecordKind H R) where
 
   -- the bytes of some records, and then a header that is refused: the version does not have it, or
   -- its record has more rows than are left
-  abbrev pub PassesRows : List ℕ → Type 0
-  PassesRows bytes =
+  abbrev pub IsRefusedSection : List ℕ → Type 0
+  IsRefusedSection bytes =
       (stored : List R) × (rest : List ℕ) × HoldsRecords K bytes stored rest
-      × PassesLimit K (rows_left stored) rest
+      × BeginsRefused K (rows_left stored) rest
 
   -- the bytes of some records, and then too few bytes
   abbrev pub IsCutSection : List ℕ → Type 0
@@ -85,7 +85,7 @@ pub record TakesNoSection {H R : Type 0} (K : RecordKind H R) (old new : Source)
     : Type 0 where
   pub bytes : new.bytes ≡ old.bytes
   pub seeks : new.seeks ≡ old.seeks
-  pub cause : SectionFailure (PassesRows K) (IsCutSection K) (bytes_left old) old new e
+  pub cause : SectionFailure (IsRefusedSection K) (IsCutSection K) (bytes_left old) old new e
 
 -- those of the section at an offset were not, by one seek
 abbrev pub SectionFails : {H R : Type 0} → RecordKind H R → Source → Source → ℕ → CoreError → Type 0
@@ -107,7 +107,7 @@ pub record RecordFails {H R : Type 0} (K : RecordKind H R) (left : ℕ) (old new
   pub taken : ℕ
   pub read : new.read ≤ old.read + taken
   pub may_take : MayTake K (bytes_left old) taken
-  pub cause : SectionFailure (PassesLimit K left) (EndsEarly K left) (bytes_left old) old new e
+  pub cause : SectionFailure (BeginsRefused K left) (EndsEarly K left) (bytes_left old) old new e
 
 -- all records of the section at an offset were read, or it failed
 abbrev pub ReadsAll : {H R Z : Type 0} → RecordKind H R → Source → Source → ℕ → CoreResult (Vec R Z)

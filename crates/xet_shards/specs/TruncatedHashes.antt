@@ -10,7 +10,7 @@ use Rattle.xet_records.specs.XorbRecord.{xorb_records}
 use Rattle.xet_shards.specs.Section.{total_rows, with_fronts}
 use Rattle.xet_shards.specs.Tables.{chunk_table_rows}
 use Rattle.xet_shards.specs.TableReading.{triple_of}
-use Rattle.xet_shards.specs.SectionReading.{HoldsRecords, BeginsWithBookend, PassesLimit, EndsEarly, SectionFailure, ReadsNext, rows_left}
+use Rattle.xet_shards.specs.SectionReading.{HoldsRecords, BeginsWithBookend, BeginsRefused, EndsEarly, SectionFailure, ReadsNext, rows_left}
 
 -- the rows that a chunk table would have for these xorbs, in section order
 abbrev pub hashes_of : List MDBXorbInfo → List (ℕ × (ℕ × ℕ))
@@ -44,7 +44,7 @@ abbrev pub PassesBefore : ℕ → ℕ → List ℕ → Type 0
 PassesBefore at stop bytes =
     (xorbs : List MDBXorbInfo) × (rest : List ℕ) × HoldsRecords xorb_records bytes xorbs rest
     × (at + 48 * total_rows xorb_records xorbs < stop)
-    × PassesLimit xorb_records (rows_left xorb_records xorbs) rest
+    × BeginsRefused xorb_records (rows_left xorb_records xorbs) rest
 
 -- the same, but there are too few bytes
 abbrev pub CutBefore : ℕ → ℕ → List ℕ → Type 0
@@ -87,5 +87,5 @@ ReadsBefore stop old new left after found =
 pub record XorbBeforeFails (stop left : ℕ) (old new : Source) (e : CoreError) : Type 0 where
   pub bytes : new.bytes ≡ old.bytes
   pub seeks : new.seeks ≡ old.seeks
-  pub cause : SectionFailure (λ bytes. (old.at < stop) × PassesLimit xorb_records left bytes)
+  pub cause : SectionFailure (λ bytes. (old.at < stop) × BeginsRefused xorb_records left bytes)
       (λ bytes. (old.at < stop) × EndsEarly xorb_records left bytes) (bytes_left old) old new e
