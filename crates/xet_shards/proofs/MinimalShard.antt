@@ -35,16 +35,6 @@ one_more_item xs i x below is = take_more xs i x below ∙ ap (λ y. take i xs +
 pub start_total : IsTotalOrder start_cmp
 start_total = then_total (on_total (λ (s : FileStart). s.xorb_hash) hash_cmp-IsTotalOrder) (on_total (λ (s : FileStart). s.chunk_index) nat_cmp_total)
 
--- one more start in a set
-pub start_inserted : (b c old : Bool) (s at : FileStart) → b ≡ is_eq (start_cmp s at) → c ≡ cond b true old → c ≡ (old || (eq_by_cmp start_cmp at s || false))
-start_inserted b c old s at is set = set ∙ ap (λ t. cond t true old) (is ∙ (eq_by_cmp_equiv start_total).symm s at) ∙ both (eq_by_cmp start_cmp at s) old
-  where
-    both : (t o : Bool) → cond t true o ≡ (o || (t || false))
-    both true true = refl
-    both true false = refl
-    both false true = refl
-    both false false = refl
-
 -- one more chunk, with its index
 pub enumerated-more : (cs : List XorbChunkSequenceEntry) (i : ℕ) (c : XorbChunkSequenceEntry) → slice_get cs i ≡ Some c
     → enumerate_from 0 (take (i + 1) cs) ≡ enumerate_from 0 (take i cs) ++ (i, c) ∷ []

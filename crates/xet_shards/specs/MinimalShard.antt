@@ -56,9 +56,13 @@ start_of_file r =
     map (λ s. record { xorb_hash = s.xorb_hash; chunk_index = s.chunk_index_start })
     (take 1 r.segments)
 
+-- a list of starts has this one
+abbrev pub has_start : List FileStart → FileStart → Bool
+has_start starts at = list_any (eq_by_cmp start_cmp at) starts
+
 -- one of these files starts there
 abbrev pub is_start : List MDBFileInfo → FileStart → Bool
-is_start files at = list_any (eq_by_cmp start_cmp at) (flat_map start_of_file files)
+is_start files at = has_start (flat_map start_of_file files) at
 
 -- a chunk of a xorb, by its index
 abbrev pub chunk_of : MDBXorbInfo → ℕ → FileStart

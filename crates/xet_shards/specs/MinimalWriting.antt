@@ -1,5 +1,6 @@
 -- What is written of the xorbs of a minimal shard.
-use Rattle.std.specs.Prelude.{◌≡◌, ◌≤◌, ◌<◌, Bool, true, false, ℕ, List, length, map, Option}
+use Rattle.std.specs.Prelude.{◌≡◌, ◌≤◌, ◌<◌, Bool, true, false, IsTrue, ℕ, List, length, map, slice_get, Option, Some, IfSome}
+use Rattle.std.specs.BTreeMap.Range.{IsLeBy}
 use Rattle.std.specs.Io.KnownBytes.{Appends}
 use Rattle.xet_records.specs.declared.xorb_structs.MDBXorbInfo.{MDBXorbInfo}
 use Rattle.xet_records.specs.XorbRecord.{xorb_records}
@@ -7,7 +8,7 @@ use Rattle.xet_shards.specs.declared.shard_format.written.WrittenXorbs.{WrittenX
 use Rattle.xet_shards.specs.declared.streaming_shard.file_start.FileStart.{FileStart}
 use Rattle.xet_shards.specs.Section.{section_bytes}
 use Rattle.xet_shards.specs.Written.{HasWrittenFor}
-use Rattle.xet_shards.specs.MinimalShard.{chunk_of, mark_starts, IsKept}
+use Rattle.xet_shards.specs.MinimalShard.{start_cmp, has_start, chunk_of, mark_starts, IsKept}
 
 -- the section of the xorbs that a filter accepts was written, with a mark on each start, and this
 -- was collected, for no chunk table
@@ -29,3 +30,9 @@ module _ (starts : FileStart → Bool) (x : MDBXorbInfo) where
     pub within : next < length x.chunks
     pub is_start : starts (chunk_of x next) ≡ true
     pub none_before : StartsNowhere from next
+
+-- in a sorted list the starts from one on begin at this place
+pub record IsPlaceOf (starts : List FileStart) (first : FileStart) (at : ℕ) : Type 0 where
+  pub from : (k : FileStart) → slice_get starts at ≡ Some k → IsLeBy start_cmp first k
+  pub least : (s : FileStart) → IsTrue (has_start starts s) → IsLeBy start_cmp first s
+      → IfSome (slice_get starts at) (λ k. IsLeBy start_cmp k s) × (at < length starts)

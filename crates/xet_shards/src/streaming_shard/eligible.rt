@@ -1,14 +1,15 @@
 //! The chunks that the global index keeps.
 
 ghost use Rattle.std.specs.Prelude.{◌≡◌, List, ◌++◌, MatchResult, OnOk, IfOk, IfErr, if◌then◌else◌};
-ghost use Rattle.std.specs.BTreeSet.{contains, insert_key};
+ghost use Rattle.std.specs.BTreeSet.{insert_key};
+ghost use Rattle.std.specs.List.Sorted.{IsSorted};
 ghost use Rattle.xet_base.specs.Hash.{hash_cmp};
 ghost use Rattle.xet_base.specs.declared.merklehash.DataHash.{DataHash};
 ghost use Rattle.xet_records.specs.XorbRecord.{IsStoredXorb};
-ghost use Rattle.xet_shards.specs.MinimalShard.{start_cmp, ascending_hashes, eligible_hashes, eligible_in};
+ghost use Rattle.xet_shards.specs.MinimalShard.{start_cmp, has_start, ascending_hashes, eligible_hashes, eligible_in};
 ghost use Rattle.xet_shards.specs.MinimalReading.{ReadsEligible, EligibleFails};
 
-use super::file_start::{FileStart, starts_of};
+use super::file_start::{FileStart, is_start, starts_of};
 use super::minimal_reader::read_sections;
 use super::minimal_shard::MDBMinimalShard;
 use crate::shard_format::MDBShardInfo;
@@ -34,7 +35,7 @@ impl MDBMinimalShard {
         let mut hashes = BTreeSet::new(alloc);
         let xorbs = self.xorbs();
         for xorb in xorbs {
-            insert_eligible(&mut hashes, xorb, &starts)?;
+            insert_eligible(&mut hashes, xorb, starts.as_slice())?;
         }
         list_of(alloc, hashes)
     }
@@ -81,19 +82,20 @@ fn list_of(alloc: Global, hashes: BTreeSet<MerkleHash>) -> Result<Vec<MerkleHash
 fn insert_eligible(
     hashes: &mut BTreeSet<MerkleHash>,
     xorb: &MDBXorbInfoView,
-    starts: &BTreeSet<FileStart>,
+    starts: &[FileStart],
 ) -> Result<()>
-    requires { IsStoredXorb xorb.now }
+    requires sorted { IsSorted start_cmp starts.now }
+    requires stored { IsStoredXorb xorb.now }
     ensures ok { OnOk result
         ((before : List DataHash) → hashes.old.keys ≡ ascending_hashes before
         → hashes.new.keys ≡ ascending_hashes
-        (before ++ eligible_in (contains start_cmp starts.now) xorb.now)) }
+        (before ++ eligible_in (has_start starts.now) xorb.now)) }
     ensures causes { IfErr result (λ e. e ≡ CoreError.OutOfMemory) }
 {
     for index in 0..xorb.num_entries() {
         let chunk = xorb.chunk(index);
         let start = FileStart::of_chunk(xorb, index);
-        let is_eligible = chunk.is_global_dedup_eligible() | starts.contains(&start);
+        let is_eligible = chunk.is_global_dedup_eligible() | is_start(starts, &start);
         insert_if(is_eligible, hashes, chunk.chunk_hash)?;
     }
     Ok(())

@@ -1,17 +1,14 @@
 //! The chunks at which files start.
 
-ghost use Rattle.std.specs.Prelude.{◌≡◌, ◌||◌, ◌<◌, ◌≤◌, ◌^◌, length, MatchOption, OnOk, IfOk, IfErr};
-ghost use Rattle.std.specs.BTreeSet.{contains};
+ghost use Rattle.std.specs.Prelude.{◌≡◌, ◌++◌, ◌<◌, ◌≤◌, ◌^◌, length, MatchOption, OnOk, IfOk, IfErr};
 ghost use Rattle.std.specs.Io.KnownBytes.{Appends};
-ghost use Rattle.std.specs.List.{list_any};
-ghost use Rattle.std.specs.Ordering.{eq_by_cmp};
+ghost use Rattle.std.specs.List.Sorted.{IsSorted};
 ghost use Rattle.xet_base.specs.Errors.{IsWriteError};
 ghost use Rattle.xet_records.specs.XorbRecord.{xorb_record_bytes, IsStoredXorb};
-ghost use Rattle.xet_shards.specs.MinimalShard.{start_cmp, start_of_file, is_start, chunk_of, mark_starts};
-ghost use Rattle.xet_shards.specs.MinimalWriting.{StartsNowhere, IsNextStart};
+ghost use Rattle.xet_shards.specs.MinimalShard.{start_cmp, start_of_file, has_start, is_start, chunk_of, mark_starts};
+ghost use Rattle.xet_shards.specs.MinimalWriting.{StartsNowhere, IsNextStart, IsPlaceOf};
 
 use std::alloc::Global;
-use std::collections::BTreeSet;
 use std::io::Write;
 use xet_base::error::{CoreError, Result};
 use xet_base::merklehash::MerkleHash;
@@ -39,35 +36,53 @@ impl FileStart {
     }
 }
 
-/// Where these files start. A file without segments starts nowhere.
-pub(super) fn starts_of(alloc: Global, files: &[MDBFileInfoView]) -> Result<BTreeSet<FileStart>>
-    ensures ok { IfOk result (λ starts. contains start_cmp starts ≡ is_start files.now) }
+/// Where these files start, in ascending order. A file without segments starts nowhere.
+pub(super) fn starts_of(alloc: Global, files: &[MDBFileInfoView]) -> Result<Vec<FileStart>>
+    ensures ok { IfOk result (λ starts. has_start starts.items ≡ is_start files.now) }
+    ensures sorted { IfOk result (λ starts. IsSorted start_cmp starts.items) }
     ensures causes { IfErr result (λ e. e ≡ CoreError.OutOfMemory) }
 {
-    let mut starts = BTreeSet::new(alloc);
+    let mut starts = Vec::new(alloc);
     for file in files {
-        insert_start(&mut starts, file)?;
+        push_start(&mut starts, file)?;
     }
+    starts.sort_unstable();
     Ok(starts)
 }
 
-// Inserts where a file starts, if it has a segment.
-fn insert_start(starts: &mut BTreeSet<FileStart>, file: &MDBFileInfoView) -> Result<()>
-    ensures ok { OnOk result
-        ((at : FileStart)
-        → contains start_cmp starts.new at ≡ (contains start_cmp starts.old at || list_any
-        (eq_by_cmp start_cmp at) (start_of_file file.now))) }
+// Adds where a file starts, if it has a segment.
+fn push_start(starts: &mut Vec<FileStart>, file: &MDBFileInfoView) -> Result<()>
+    ensures ok { OnOk result (starts.new.items ≡ starts.old.items ++ start_of_file file.now) }
     ensures causes { IfErr result (λ e. e ≡ CoreError.OutOfMemory) }
 {
     if file.num_entries() == 0 {
         return Ok(());
     }
     let segment = file.entry(0);
-    starts.insert(FileStart {
+    starts.push(FileStart {
         xorb_hash: segment.xorb_hash,
         chunk_index: segment.chunk_index_start,
     })?;
     Ok(())
+}
+
+/// Whether a chunk is one of these starts.
+pub(super) fn is_start(starts: &[FileStart], chunk: &FileStart) -> bool
+    requires { IsSorted start_cmp starts.now }
+    ensures { result ≡ has_start starts.now chunk.now }
+{
+    starts.binary_search(chunk).is_ok()
+}
+
+// Where the starts from this one on begin.
+fn place_of(starts: &[FileStart], first: &FileStart) -> usize
+    requires { IsSorted start_cmp starts.now }
+    ensures { IsPlaceOf starts.now first.now result }
+{
+    match starts.binary_search(first) {
+        Ok(at) => at,
+        Err(at) => at,
+    }
 }
 
 /// Writes a xorb with a mark on each chunk that is a start, and its other marks as they are. The rows
@@ -75,12 +90,13 @@ fn insert_start(starts: &mut BTreeSet<FileStart>, file: &MDBFileInfoView) -> Res
 pub(super) fn write_marked<W: Write>(
     writer: &mut W,
     xorb: &MDBXorbInfoView,
-    starts: &BTreeSet<FileStart>,
+    starts: &[FileStart],
 ) -> Result<()>
-    requires { IsStoredXorb xorb.now }
+    requires sorted { IsSorted start_cmp starts.now }
+    requires stored { IsStoredXorb xorb.now }
     ensures appended { OnOk result
         (Appends (W.contents writer.old) (W.contents writer.new)
-        (xorb_record_bytes (mark_starts (contains start_cmp starts.now) xorb.now))) }
+        (xorb_record_bytes (mark_starts (has_start starts.now) xorb.now))) }
     ensures causes { IfErr result IsWriteError }
 {
     write_row(xorb.header(), writer)?;
@@ -95,15 +111,16 @@ pub(super) fn write_marked<W: Write>(
 }
 
 // The first chunk of a xorb that is a start, from an index on.
-fn next_start(xorb: &MDBXorbInfoView, starts: &BTreeSet<FileStart>, from: usize) -> Option<usize>
+fn next_start(xorb: &MDBXorbInfoView, starts: &[FileStart], from: usize) -> Option<usize>
+    requires sorted { IsSorted start_cmp starts.now }
     requires stored { IsStoredXorb xorb.now }
     requires within { from ≤ length xorb.now.chunks }
     ensures { MatchOption result
-        (StartsNowhere (contains start_cmp starts.now) xorb.now from (length xorb.now.chunks))
-        (IsNextStart (contains start_cmp starts.now) xorb.now from) }
+        (StartsNowhere (has_start starts.now) xorb.now from (length xorb.now.chunks))
+        (IsNextStart (has_start starts.now) xorb.now from) }
 {
     let first = FileStart::of_chunk(xorb, from);
-    let start = starts.range(first..).next()?;
+    let start = starts.get(place_of(starts, &first))?;
     let index = start.chunk_index as usize;
     if start.xorb_hash == xorb.xorb_hash() && index < xorb.num_entries() {
         Some(index)

@@ -1,10 +1,10 @@
 //! Writing a minimal shard: all of it, or some of its xorbs.
 
 ghost use Rattle.std.specs.Prelude.{◌≡◌, ◌+◌, ◌*◌, false, [], map, None, IsTrue, IsErrAnd, OnOk, IfOk, IfErr};
-ghost use Rattle.std.specs.BTreeSet.{contains};
 ghost use Rattle.std.specs.Fn.{FnReturnsAt};
 ghost use Rattle.std.specs.Io.KnownBytes.{Appends};
 ghost use Rattle.std.specs.List.{Any, All, list_all};
+ghost use Rattle.std.specs.List.Sorted.{IsSorted};
 ghost use Rattle.xet_base.specs.Errors.{IsWriteError};
 ghost use Rattle.xet_records.specs.FileRecord.{file_records, has_verification};
 ghost use Rattle.xet_records.specs.XorbRecord.{xorb_records};
@@ -12,7 +12,7 @@ ghost use Rattle.xet_records.specs.View.{as_kept, LacksVerification, IsIoOther};
 ghost use Rattle.xet_shards.specs.InForm.{FitsSection};
 ghost use Rattle.xet_shards.specs.Section.{section_bytes};
 ghost use Rattle.xet_shards.specs.Written.{HasWritten};
-ghost use Rattle.xet_shards.specs.MinimalShard.{start_cmp, minimal_form, HasNoTables, WritesMinimal, WritesMinimalKept, WritesKept, FiltersAt};
+ghost use Rattle.xet_shards.specs.MinimalShard.{start_cmp, has_start, minimal_form, HasNoTables, WritesMinimal, WritesMinimalKept, WritesKept, FiltersAt};
 ghost use Rattle.xet_shards.specs.MinimalWriting.{WritesMarked};
 
 use super::file_start::{FileStart, starts_of, write_marked};
@@ -23,7 +23,6 @@ use crate::shard_format::writer::write_end;
 use crate::shard_format::written::{WrittenFiles, WrittenSection, WrittenXorbs};
 use crate::shard_format::{MDBShardFileHeader, MDBShardInfo};
 use std::alloc::Global;
-use std::collections::BTreeSet;
 use std::io;
 use std::io::{ErrorKind, Write};
 use xet_base::error::{CoreError, Result};
@@ -175,7 +174,7 @@ impl MDBMinimalShard {
         let starts = starts_of(alloc, self.files())?;
         MDBShardFileHeader::of_version(form.version).serialize(writer)?;
         let files = write_files(alloc, writer, files, kept)?;
-        let xorbs = write_xorbs(alloc, writer, self.xorbs(), &starts, filter)?;
+        let xorbs = write_xorbs(alloc, writer, self.xorbs(), starts.as_slice(), filter)?;
         let size = size_of(&files, &xorbs);
         write_end(writer, &files, xorbs, form)?;
         Ok(size)
@@ -238,13 +237,14 @@ fn write_xorbs<W: Write, F: Fn(&MDBXorbInfoView) -> bool>(
     alloc: Global,
     writer: &mut W,
     xorbs: &[MDBXorbInfoView],
-    starts: &BTreeSet<FileStart>,
+    starts: &[FileStart],
     filter: F,
 ) -> Result<WrittenXorbs>
+    requires sorted { IsSorted start_cmp starts.now }
     requires callable { All (FiltersAt F.Fn filter) xorbs.now }
     requires fit { FitsSection xorb_records xorbs.now }
     ensures written { IfOk result
-        (WritesMarked (FnReturnsAt F.Fn filter) (contains start_cmp starts.now)
+        (WritesMarked (FnReturnsAt F.Fn filter) (has_start starts.now)
         (W.contents writer.old) (W.contents writer.new) xorbs.now) }
     ensures causes { IfErr result IsWriteError }
 {

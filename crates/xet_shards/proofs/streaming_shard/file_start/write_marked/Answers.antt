@@ -1,5 +1,4 @@
 use Rattle.std.proofs.Common.{◌≡◌, ℕ, ◌∷◌, [], ◌-◌, ◌+◌, ◌++◌, take, take_all, drop, flat_map, map, sym, ap, ◌∙◌, subst, append-nil, arith}
-use Rattle.std.specs.BTreeSet.{contains}
 use Rattle.std.specs.Io.KnownBytes.{Appends}
 use Rattle.std.specs.List.{enumerate_from}
 use Rattle.std.proofs.KnownBytes.{Appends-trans}
@@ -9,13 +8,13 @@ use Rattle.std.proofs.lemmas.Result.{on_ok_weaker}
 use Rattle.xet_records.specs.declared.xorb_structs.XorbChunkSequenceEntry.{XorbChunkSequenceEntry}
 use Rattle.xet_records.specs.XorbRow.{xorb_header_row, chunk_row}
 use Rattle.xet_records.specs.XorbRecord.{xorb_record_bytes}
-use Rattle.xet_shards.specs.MinimalShard.{start_cmp, chunk_of, marked_if}
+use Rattle.xet_shards.specs.MinimalShard.{has_start, chunk_of, marked_if}
 use Rattle.xet_shards.proofs.MinimalShard.{marks_to, none_marked_to, one_marked}
 use Rattle.xet_shards.proofs.streaming_shard.file_start.write_marked.Goals as goal
 
 pub loop-start-preserved : goal.loop-start-preserved
 loop-start-preserved g c =
-    let starts = contains start_cmp c.args.starts.now in
+    let starts = has_start c.args.starts.now in
     let x = c.args.xorb.now in
     let done = c.loop-start.done in
     let next = c.in-Some.start in
@@ -42,7 +41,7 @@ loop-start-preserved g c =
 pub returns-clause-appended : goal.returns-clause-appended
 unfolding xorb_record_bytes
 returns-clause-appended g c =
-    let starts = contains start_cmp c.args.starts.now in
+    let starts = has_start c.args.starts.now in
     let x = c.args.xorb.now in
     let done = c.loop-start.done in
     let count = c.num_entries.result in

@@ -1,8 +1,7 @@
 use Rattle.std.proofs.Common.{◌-◌, ◌≤◌, length, flat_map, ◌++◌}
-use Rattle.std.specs.BTreeSet.{contains}
 use Rattle.std.specs.Io.KnownBytes.{Appends}
 use Rattle.xet_records.specs.XorbRow.{xorb_header_row, chunk_row}
-use Rattle.xet_shards.specs.MinimalShard.{start_cmp}
+use Rattle.xet_shards.specs.MinimalShard.{has_start}
 use Rattle.xet_shards.proofs.MinimalShard.{marks_to}
 use Rattle.xet_shards.proofs.streaming_shard.file_start.write_marked.Given as goal
 
@@ -10,7 +9,7 @@ abbrev pub invariant-loop-start : goal.invariant-loop-start
 invariant-loop-start g l = record {
   within : l.done ≤ length l.xorb.chunks;
   written : Appends (g.W.Write.contents l.fn.writer) (g.W.Write.contents l.writer)
-      (xorb_header_row l.xorb.metadata ++ flat_map chunk_row (marks_to (contains start_cmp l.starts) l.xorb l.done));
+      (xorb_header_row l.xorb.metadata ++ flat_map chunk_row (marks_to (has_start l.starts) l.xorb l.done));
 }
 
 abbrev pub decreases-loop-start : goal.decreases-loop-start

@@ -1,5 +1,4 @@
 use Rattle.std.proofs.Common.{◌≡◌, ◌+◌, ◌∷◌, [], ◌++◌, true, false, map, take, take_all, flat_map, sym, ap, ◌∙◌, subst, true≢false, arith}
-use Rattle.std.specs.BTreeSet.{contains}
 use Rattle.std.specs.Fn.{FnReturnsAt}
 use Rattle.std.specs.Io.KnownBytes.{Appends}
 use Rattle.std.proofs.KnownBytes.{Appends-trans}
@@ -10,7 +9,7 @@ use Rattle.xet_records.specs.XorbRecord.{xorb_record_bytes, xorb_row_count, IsSt
 use Rattle.xet_shards.specs.Section.{section_bytes}
 use Rattle.xet_shards.specs.Shard.{xorb_hash_of}
 use Rattle.xet_shards.specs.Written.{AddsRecord, HasWrittenFor}
-use Rattle.xet_shards.specs.MinimalShard.{start_cmp, mark_starts, IsKept}
+use Rattle.xet_shards.specs.MinimalShard.{has_start, mark_starts, IsKept}
 use Rattle.xet_shards.proofs.Walks.{flat_map-push}
 use Rattle.xet_shards.proofs.MinimalShard.{one_more_item}
 use Rattle.xet_shards.proofs.Written.{xorb_written}
@@ -20,7 +19,7 @@ use Rattle.xet_shards.proofs.streaming_shard.minimal_writer.write_xorbs.Goals.{t
 
 pub add-requires : goal.add-requires
 add-requires g c =
-    let starts = contains start_cmp c.args.starts.now in
+    let starts = has_start c.args.starts.now in
     let xorbs = c.args.xorbs.now in
     let i = c.loop-xorb.xorb-index in
     let x = c.xorb-item.result in
@@ -36,12 +35,12 @@ add-requires g c =
       ap (λ (h : XorbChunkSequenceHeader). h.num_entries) c.header.ensures,
     )
 
-pub write_marked-requires : goal.write_marked-requires
-write_marked-requires g c = subst IsStoredXorb (sym c.xorb-item.is) (c.requires.fit.stored c.loop-xorb.xorb-index c.xorb-item.result c.loop-xorb-test.true)
+pub write_marked-requires-clause-stored : goal.write_marked-requires-clause-stored
+write_marked-requires-clause-stored g c = subst IsStoredXorb (sym c.xorb-item.is) (c.requires.fit.stored c.loop-xorb.xorb-index c.xorb-item.result c.loop-xorb-test.true)
 
 pub loop-xorb-preserved : goal.loop-xorb-preserved
 loop-xorb-preserved g c =
-    let starts = contains start_cmp c.args.starts.now in
+    let starts = has_start c.args.starts.now in
     let answers = FnReturnsAt g.F.Fn c.args.filter in
     let xorbs = c.args.xorbs.now in
     let i = c.loop-xorb.xorb-index in
@@ -83,7 +82,7 @@ loop-xorb-preserved g c =
 pub returns-clause-written : goal.returns-clause-written
 unfolding section_bytes
 returns-clause-written g c =
-    let starts = contains start_cmp c.args.starts.now in
+    let starts = has_start c.args.starts.now in
     let contents = g.W.Write.contents in
     let inv = c.loop-xorb.invariant in
     record {
