@@ -1,0 +1,77 @@
+//! A case: two shards, some of them corrupted, and calls on them.
+
+use crate::answer::{Call, Hash};
+use crate::corrupt::corrupt;
+use crate::random::Random;
+use crate::shards;
+
+pub struct Case {
+    pub first: Vec<u8>,
+    pub second: Vec<u8>,
+    pub calls: Vec<Call>,
+}
+
+impl Case {
+    /// The case with this number, of a seed.
+    pub fn new(seed: u64, number: u64) -> Case {
+        let mut random = Random::new(seed, number);
+        let mut first = shards::shard(&mut random);
+        let mut second = if random.once_in(20) {
+            first.clone()
+        } else {
+            shards::shard(&mut random)
+        };
+        if random.once_in(2) {
+            corrupt(&mut first, &mut random);
+        }
+        if random.once_in(4) {
+            corrupt(&mut second, &mut random);
+        }
+        let mut calls = vec![Call::Load, Call::Union, Call::Difference, Call::Eligible];
+        calls.push(Call::Minimal {
+            verification: random.once_in(2),
+        });
+        calls.push(Call::Export(shards::export(&mut random)));
+        calls.extend((0..3).map(|_| Call::Find(hash(&first, &mut random))));
+        calls.extend((0..3).map(|_| Call::Query(query(&first, &mut random))));
+        Case {
+            first,
+            second,
+            calls,
+        }
+    }
+}
+
+/// One of the shard's rows, or any.
+fn hash(shard: &[u8], random: &mut Random) -> Hash {
+    let rows = shard.len() / 48;
+    if rows == 0 || random.once_in(4) {
+        return shards::hash(random);
+    }
+    hash_at(shard, random.below(rows) * 48)
+}
+
+fn hash_at(shard: &[u8], at: usize) -> Hash {
+    let word = |index: usize| {
+        let at = at + 8 * index;
+        u64::from_le_bytes(shard[at..at + 8].try_into().unwrap())
+    };
+    Hash {
+        words: [word(0), word(1), word(2), word(3)],
+    }
+}
+
+/// The hashes of rows that follow one another, at times with another at the end.
+fn query(shard: &[u8], random: &mut Random) -> Vec<Hash> {
+    let rows = shard.len() / 48;
+    let length = random.below(5);
+    let mut hashes = Vec::new();
+    if rows > 0 {
+        let start = random.below(rows);
+        hashes.extend((start..rows.min(start + length)).map(|row| hash_at(shard, row * 48)));
+    }
+    if random.once_in(4) {
+        hashes.push(shards::hash(random));
+    }
+    hashes
+}

@@ -1,0 +1,304 @@
+//! The differences that docs/DIFFERENCES.md lists, as far as these calls show them. Each is accepted
+//! only if the bytes have its cause.
+
+use crate::answer::{Answer, Call, Error, Export, Hash};
+use crate::compare::{Comparison, compare};
+use crate::original::{self, merkle};
+use crate::sections::{
+    AUX, Ends, Record, Section, Table, chunk_at, ends, file_at, row_offset, section, version,
+    xorb_at,
+};
+use xet_core_structures::merklehash::MerkleHash;
+
+#[derive(Clone, Copy, PartialEq, Eq, PartialOrd, Ord, Debug)]
+pub enum Exception {
+    /// A version other than 2 and 3 is `ShardVersion`.
+    HeaderVersion,
+    /// In version 2 a file with the flag of the auxiliary row is `InvalidShard`.
+    AuxFlagInVersion2,
+    /// In version 3 such a file has one row more; anything may follow.
+    AuxRow,
+    /// A section past 4294967295 rows, or a record that announces them, is `InvalidShard`.
+    TooManyRows,
+    /// A table's end or a row's offset past 64 bits is `InvalidShard`.
+    Past64Bits,
+    /// The search of a table of more than 255 rows that do not ascend, or that the bytes do not
+    /// have, probes other rows, and may find others.
+    SearchOfUnsortedTable,
+    /// A query that is led past the chunks of a xorb, or to a bookend, is `InvalidShard`.
+    QueryPastXorb,
+    /// A run whose bytes do not fit 32 bits is `InvalidShard`.
+    QuerySum,
+    /// The original reads one chunk more after the last hash, and fails where the bytes end.
+    QueryReadsOneMore,
+    /// Equal keys are carried to a union or a difference.
+    KeyCarried,
+    /// Different ones are `InvalidArguments`.
+    KeysDiffer,
+    /// A section whose hashes do not ascend is `InvalidShard`.
+    HashesDescend,
+    /// Files that have to be combined, with different numbers of segments, are `InvalidShard`.
+    SegmentCountsDiffer,
+    /// A keyed shard is not exported again: `InvalidArguments`.
+    KeyedAgain,
+    /// An export without files leaves out whole records; the original reads their segments as
+    /// headers. The port's has to be the original's of a shard without files.
+    ExportWithoutFiles,
+    /// An export's bookends have zero fields, and its header the footer size 200.
+    ExportFraming,
+    /// An expiry past 64 bits is `InvalidArguments`, before anything is read; the original panics.
+    ExpiryPast64Bits,
+}
+
+use Exception::*;
+
+impl Exception {
+    pub const ALL: [Exception; 17] = [
+        HeaderVersion,
+        AuxFlagInVersion2,
+        AuxRow,
+        TooManyRows,
+        Past64Bits,
+        SearchOfUnsortedTable,
+        QueryPastXorb,
+        QuerySum,
+        QueryReadsOneMore,
+        KeyCarried,
+        KeysDiffer,
+        HashesDescend,
+        SegmentCountsDiffer,
+        KeyedAgain,
+        ExportWithoutFiles,
+        ExportFraming,
+        ExpiryPast64Bits,
+    ];
+}
+
+/// Two answers that differ.
+pub struct Difference<'a> {
+    pub call: &'a Call,
+    pub first: &'a [u8],
+    pub second: &'a [u8],
+    pub original: &'a Answer,
+    pub port: &'a Answer,
+}
+
+impl Difference<'_> {
+    /// The exception that it is, if any.
+    pub fn exception(&self) -> Option<Exception> {
+        let both = matches!(self.call, Call::Union | Call::Difference);
+        if self.port_fails_by(Error::ShardVersion) {
+            let is_other = |bytes| !matches!(version(bytes), Some(2 | 3));
+            return (is_other(self.first) || both && is_other(self.second))
+                .then_some(HeaderVersion);
+        }
+        match self.call {
+            Call::Load => None,
+            Call::Find(hash) => self.in_find(hash),
+            Call::Query(hashes) => self.in_query(hashes),
+            Call::Union | Call::Difference => self.in_combination(),
+            Call::Export(options) => self.in_export(options),
+            Call::Minimal { .. } | Call::Eligible => self.in_stream(),
+        }
+    }
+
+    fn port_fails_by(&self, error: Error) -> bool {
+        *self.port == Answer::Error(error)
+    }
+
+    fn is_refused(&self) -> bool {
+        self.port_fails_by(Error::InvalidShard)
+    }
+
+    fn in_find(&self, hash: &Hash) -> Option<Exception> {
+        let ends = ends(self.first)?;
+        let rows = ends.file_table.values(self.first, hash.words[0]);
+        let offsets: Vec<_> = rows
+            .iter()
+            .map(|&(row, _)| row_offset(ends.file_info_offset, row.into()))
+            .collect();
+        let records: Vec<_> = offsets
+            .iter()
+            .filter_map(|&at| file_at(self.first, at?))
+            .collect();
+        let is_long = |record: &Record| record.rows > u32::MAX.into();
+        if self.is_refused() && (ends.file_table.is_past_64_bits() || offsets.contains(&None)) {
+            return Some(Past64Bits);
+        }
+        if let Some(aux) = self.aux(&records, ends.version) {
+            return Some(aux);
+        }
+        if self.is_refused() && records.iter().any(is_long) {
+            return Some(TooManyRows);
+        }
+        self.search(&ends.file_table)
+    }
+
+    fn search(&self, table: &Table) -> Option<Exception> {
+        table
+            .is_searched_unsorted(self.first)
+            .then_some(SearchOfUnsortedTable)
+    }
+
+    /// Among these records is one with the flag of the auxiliary row.
+    fn aux(&self, records: &[Record], version: u64) -> Option<Exception> {
+        let has_aux = records.iter().any(|record| record.flags & AUX != 0);
+        match version {
+            2 => (has_aux && self.is_refused()).then_some(AuxFlagInVersion2),
+            _ => has_aux.then_some(AuxRow),
+        }
+    }
+
+    fn in_query(&self, hashes: &[Hash]) -> Option<Exception> {
+        let ends = ends(self.first)?;
+        let first = keyed(&ends, hashes.first()?);
+        let locations = ends.chunk_table.values(self.first, first.words[0]);
+        let offset = |row: u32| row_offset(ends.xorb_info_offset, row.into());
+        if self.is_refused() {
+            let is_past = |&(row, _): &(u32, u32)| offset(row).is_none();
+            if ends.chunk_table.is_past_64_bits() || locations.iter().any(is_past) {
+                return Some(Past64Bits);
+            }
+            let is_absent = |&(row, index): &(u32, u32)| {
+                let xorb = offset(row).and_then(|at| xorb_at(self.first, at));
+                xorb.is_some_and(|xorb| xorb.is_bookend() || xorb.entries <= index)
+            };
+            if locations.iter().any(is_absent) {
+                return Some(QueryPastXorb);
+            }
+            if *self.original == Answer::Panic
+                && locations.iter().any(|&at| self.sum_is_large(&ends, at))
+            {
+                return Some(QuerySum);
+            }
+        }
+        let ends_after = |&at: &(u32, u32)| self.ends_after(&ends, at, hashes.len());
+        if *self.original == Answer::Error(Error::Io) && locations.iter().any(ends_after) {
+            return Some(QueryReadsOneMore);
+        }
+        self.search(&ends.chunk_table)
+    }
+
+    /// The chunks of a xorb from an index on have more than 32 bits of bytes.
+    fn sum_is_large(&self, ends: &Ends, (row, index): (u32, u32)) -> bool {
+        let chunk = |number: u64| {
+            let at = row_offset(
+                ends.xorb_info_offset,
+                1 + u64::from(row) + u64::from(index) + number,
+            )?;
+            Some(u64::from(chunk_at(self.first, at)?.1))
+        };
+        let bytes: u64 = (0..).map_while(chunk).take(64).sum();
+        bytes > u32::MAX.into()
+    }
+
+    /// The port's run from a location has all hashes, and the bytes end before the next chunk does.
+    fn ends_after(&self, ends: &Ends, (row, index): (u32, u32), length: usize) -> bool {
+        let Answer::Run(Some((count, run))) = self.port else {
+            return false;
+        };
+        let xorb =
+            row_offset(ends.xorb_info_offset, row.into()).and_then(|at| xorb_at(self.first, at));
+        let is_there = xorb.is_some_and(|xorb| xorb.hash == run.xorb && xorb.entries > run.end);
+        let next = row_offset(
+            ends.xorb_info_offset,
+            1 + u64::from(row) + u64::from(run.end),
+        );
+        *count == length
+            && run.start == index
+            && is_there
+            && next.is_some_and(|at| chunk_at(self.first, at).is_none())
+    }
+
+    fn in_combination(&self) -> Option<Exception> {
+        let (x, y) = (ends(self.first)?, ends(self.second)?);
+        if x.key != y.key {
+            return self
+                .port_fails_by(Error::InvalidArguments)
+                .then_some(KeysDiffer);
+        }
+        let sections = [(self.first, &x), (self.second, &y)]
+            .map(|(bytes, ends)| section(bytes, ends.file_info_offset, file_at));
+        let xorbs = [(self.first, &x), (self.second, &y)]
+            .map(|(bytes, ends)| section(bytes, ends.xorb_info_offset, xorb_at));
+        for (files, version) in sections.iter().zip([x.version, y.version]) {
+            if let Some(aux) = self.aux(&files.records, version) {
+                return Some(aux);
+            }
+        }
+        if !self.is_refused() {
+            return None;
+        }
+        let all: Vec<&Section> = sections.iter().chain(&xorbs).collect();
+        if all.iter().any(|section| section.descends()) {
+            return Some(HashesDescend);
+        }
+        if all.iter().any(|section| section.is_too_long()) {
+            return Some(TooManyRows);
+        }
+        let [first, second] = &sections;
+        let cannot_combine = |file: &Record| {
+            second.has(|other| other.hash == file.hash && have_to_be_combined(file, other))
+        };
+        (*self.call == Call::Union && first.has(cannot_combine)).then_some(SegmentCountsDiffer)
+    }
+
+    fn in_export(&self, options: &Export) -> Option<Exception> {
+        let ends = ends(self.first)?;
+        if self.port_fails_by(Error::InvalidArguments) {
+            if ends.key != [0; 4] {
+                return Some(KeyedAgain);
+            }
+            let is_past = options.now.checked_add(options.valid_seconds).is_none();
+            return is_past.then_some(ExpiryPast64Bits);
+        }
+        if let Some(exception) = self.in_stream() {
+            return Some(exception);
+        }
+        let files = section(self.first, 48, file_at);
+        let leaves_out = !options.files && files.has(|file| file.entries > 0);
+        (leaves_out && self.is_export_without(files.bookend)).then_some(ExportWithoutFiles)
+    }
+
+    /// The port's export is the original's of the same shard without its files.
+    fn is_export_without(&self, bookend: Option<u64>) -> bool {
+        let Some(bookend) = bookend else {
+            return self.port_fails_by(Error::Io);
+        };
+        let rest = &self.first[bookend as usize..];
+        let without = [&self.first[..48], rest].concat();
+        let original = original::answer(self.call, &without, self.second);
+        matches!(
+            compare(self.call, &without, &original, self.port),
+            Comparison::Same(_)
+        )
+    }
+
+    /// In a call that reads the sections that follow the header.
+    fn in_stream(&self) -> Option<Exception> {
+        let files = section(self.first, 48, file_at);
+        if let Some(aux) = self.aux(&files.records, version(self.first)?) {
+            return Some(aux);
+        }
+        let xorbs = files
+            .bookend
+            .map(|bookend| section(self.first, bookend + 48, xorb_at));
+        let is_long = files.is_too_long() || xorbs.is_some_and(|xorbs| xorbs.is_too_long());
+        (self.is_refused() && is_long).then_some(TooManyRows)
+    }
+}
+
+/// Neither has all flags of the other, and their numbers of segments differ.
+fn have_to_be_combined(file: &Record, other: &Record) -> bool {
+    let common = file.flags & other.flags;
+    common != file.flags && common != other.flags && file.entries != other.entries
+}
+
+fn keyed(ends: &Ends, hash: &Hash) -> Hash {
+    if ends.key == [0; 4] {
+        return *hash;
+    }
+    Hash {
+        words: *merkle(hash).hmac(MerkleHash::from(ends.key)),
+    }
+}

@@ -1,0 +1,152 @@
+//! The original.
+
+use crate::answer::{Answer, Call, Error, Export, File, Hash, Info, Segment};
+use std::io::Cursor;
+use std::panic::{AssertUnwindSafe, catch_unwind};
+use std::sync::atomic::{AtomicBool, Ordering};
+use std::time::Duration;
+use xet_core_structures::error::{CoreError, Result};
+use xet_core_structures::merklehash::MerkleHash;
+use xet_core_structures::metadata_shard::file_structs::FileDataSequenceEntry;
+use xet_core_structures::metadata_shard::set_operations::{shard_set_difference, shard_set_union};
+use xet_core_structures::metadata_shard::shard_format::MDBShardInfo;
+use xet_core_structures::metadata_shard::streaming_shard::MDBMinimalShard;
+
+/// Whether a call of the original is under way: its panics are answers.
+static IS_CALLED: AtomicBool = AtomicBool::new(false);
+
+/// Prints nothing where the original panics.
+pub fn silence_panics() {
+    let print = std::panic::take_hook();
+    std::panic::set_hook(Box::new(move |info| {
+        if !IS_CALLED.load(Ordering::Relaxed) {
+            print(info);
+        }
+    }));
+}
+
+/// What the original answers.
+pub fn answer(call: &Call, first: &[u8], second: &[u8]) -> Answer {
+    IS_CALLED.store(true, Ordering::Relaxed);
+    let answer = catch_unwind(AssertUnwindSafe(|| call_original(call, first, second)));
+    IS_CALLED.store(false, Ordering::Relaxed);
+    match answer {
+        Ok(Ok(answer)) => answer,
+        Ok(Err(error)) => Answer::Error(number(&error)),
+        Err(_) => Answer::Panic,
+    }
+}
+
+fn number(error: &CoreError) -> Error {
+    match error {
+        CoreError::Io(_) => Error::Io,
+        CoreError::InternalError(_) => Error::InternalError,
+        CoreError::TruncatedHashCollision(_) => Error::TruncatedHashCollision,
+        CoreError::ShardVersion(_) => Error::ShardVersion,
+        CoreError::InvalidShard(_) => Error::InvalidShard,
+        CoreError::InvalidArguments => Error::InvalidArguments,
+        _ => Error::Other,
+    }
+}
+
+fn call_original(call: &Call, first: &[u8], second: &[u8]) -> Result<Answer> {
+    Ok(match call {
+        Call::Load => Answer::Info(info(&load(first)?)),
+        Call::Find(hash) => {
+            let found = load(first)?
+                .get_file_reconstruction_info(&mut Cursor::new(first), &merkle(hash))?;
+            Answer::File(found.map(|file| File {
+                segments: file.segments.iter().map(segment).collect(),
+                sha256: file.metadata_ext.map(|row| *row.sha256),
+            }))
+        }
+        Call::Query(hashes) => {
+            let hashes: Vec<_> = hashes.iter().map(merkle).collect();
+            let found = load(first)?.chunk_hash_dedup_query(&mut Cursor::new(first), &hashes)?;
+            Answer::Run(found.map(|(count, run)| (count, segment(&run))))
+        }
+        Call::Union => Answer::Shard(combine(first, second, true)?),
+        Call::Difference => Answer::Shard(combine(first, second, false)?),
+        Call::Export(options) => Answer::Shard(export(first, options)?),
+        Call::Minimal { verification } => {
+            let mut bytes = Vec::new();
+            minimal(first)?.serialize(&mut bytes, *verification)?;
+            Answer::Shard(bytes)
+        }
+        Call::Eligible => {
+            let chunks = minimal(first)?.global_dedup_eligible_chunks();
+            let mut hashes: Vec<_> = chunks
+                .into_iter()
+                .map(|hash| Hash { words: *hash })
+                .collect();
+            // The original lists them in any order.
+            hashes.sort_unstable();
+            Answer::Hashes(hashes)
+        }
+    })
+}
+
+pub fn merkle(hash: &Hash) -> MerkleHash {
+    MerkleHash::from(hash.words)
+}
+
+fn load(shard: &[u8]) -> Result<MDBShardInfo> {
+    MDBShardInfo::load_from_reader(&mut Cursor::new(shard))
+}
+
+fn info(info: &MDBShardInfo) -> Info {
+    Info {
+        version: info.header.version,
+        files: info.metadata.file_lookup_num_entry,
+        xorbs: info.metadata.xorb_lookup_num_entry,
+        chunks: info.metadata.chunk_lookup_num_entry,
+        key: *info.metadata.chunk_hash_hmac_key,
+        creation: info.metadata.shard_creation_timestamp,
+        expiry: info.metadata.shard_key_expiry,
+        stored_bytes_on_disk: info.stored_bytes_on_disk(),
+        materialized_bytes: info.materialized_bytes(),
+        stored_bytes: info.stored_bytes(),
+    }
+}
+
+fn segment(entry: &FileDataSequenceEntry) -> Segment {
+    Segment {
+        xorb: *entry.xorb_hash,
+        flags: entry.xorb_flags,
+        bytes: entry.unpacked_segment_bytes,
+        start: entry.chunk_index_start,
+        end: entry.chunk_index_end,
+    }
+}
+
+fn combine(first: &[u8], second: &[u8], union: bool) -> Result<Vec<u8>> {
+    let (mut r1, mut r2) = (Cursor::new(first), Cursor::new(second));
+    let s1 = MDBShardInfo::load_from_reader(&mut r1)?;
+    let s2 = MDBShardInfo::load_from_reader(&mut r2)?;
+    let mut bytes = Vec::new();
+    if union {
+        shard_set_union(&s1, &mut r1, &s2, &mut r2, &mut bytes)?;
+    } else {
+        shard_set_difference(&s1, &mut r1, &s2, &mut r2, &mut bytes)?;
+    }
+    Ok(bytes)
+}
+
+pub fn export(shard: &[u8], export: &Export) -> Result<Vec<u8>> {
+    let info = load(shard)?;
+    let mut bytes = Vec::new();
+    info.export_as_keyed_shard(
+        &mut Cursor::new(shard),
+        &mut bytes,
+        MerkleHash::from(export.key),
+        Duration::from_secs(export.valid_seconds),
+        export.files,
+        export.xorb_table,
+        export.chunk_table,
+    )?;
+    Ok(bytes)
+}
+
+pub fn minimal(shard: &[u8]) -> Result<MDBMinimalShard> {
+    MDBMinimalShard::from_reader(&mut Cursor::new(shard), true, true)
+}

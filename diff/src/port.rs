@@ -1,0 +1,245 @@
+//! The port, through its library for C.
+
+use crate::answer::{Answer, Call, Error, Export, File, Hash, Info, NOW, Segment};
+
+#[repr(C)]
+#[derive(Default)]
+struct FoundFile {
+    found: bool,
+    has_sha256: bool,
+    has_aux: bool,
+    segments: usize,
+    sha256: [u64; 4],
+    aux_hash: [u64; 4],
+}
+
+#[repr(C)]
+struct ExportOptions {
+    key: [u64; 4],
+    now: u64,
+    valid_seconds: u64,
+    files: bool,
+    aux_rows: bool,
+    xorb_table: bool,
+    chunk_table: bool,
+}
+
+// As in bindings/c/xet.h.
+unsafe extern "C" {
+    fn xet_load(shard: *const u8, length: usize, info: *mut Info) -> u32;
+    fn xet_union(
+        first: *const u8,
+        first_length: usize,
+        second: *const u8,
+        second_length: usize,
+        out: *mut u8,
+        capacity: usize,
+        written: *mut usize,
+    ) -> u32;
+    fn xet_difference(
+        first: *const u8,
+        first_length: usize,
+        second: *const u8,
+        second_length: usize,
+        out: *mut u8,
+        capacity: usize,
+        written: *mut usize,
+    ) -> u32;
+    fn xet_export(
+        shard: *const u8,
+        length: usize,
+        options: *const ExportOptions,
+        out: *mut u8,
+        capacity: usize,
+        written: *mut usize,
+    ) -> u32;
+    fn xet_minimal(
+        shard: *const u8,
+        length: usize,
+        now: u64,
+        verification: bool,
+        aux_rows: bool,
+        out: *mut u8,
+        capacity: usize,
+        written: *mut usize,
+    ) -> u32;
+    fn xet_query_chunks(
+        shard: *const u8,
+        length: usize,
+        hashes: *const Hash,
+        hash_count: usize,
+        count: *mut usize,
+        run: *mut Segment,
+    ) -> u32;
+    fn xet_eligible(
+        shard: *const u8,
+        length: usize,
+        out: *mut Hash,
+        capacity: usize,
+        written: *mut usize,
+    ) -> u32;
+    fn xet_find_file(
+        shard: *const u8,
+        length: usize,
+        hash: *const Hash,
+        file: *mut FoundFile,
+        segments: *mut Segment,
+        capacity: usize,
+    ) -> u32;
+}
+
+const SHORT: u32 = 19;
+const NO_HASH: Hash = Hash { words: [0; 4] };
+
+/// What the port answers. Each pointer below is that of a slice or a value that outlives the call,
+/// with the slice's length; no output overlaps an input or another output.
+pub fn answer(call: &Call, first: &[u8], second: &[u8]) -> Answer {
+    match call {
+        Call::Load => load(first),
+        Call::Find(hash) => find(first, hash),
+        Call::Query(hashes) => query(first, hashes),
+        Call::Union => shard(|out, room, written| unsafe {
+            xet_union(
+                first.as_ptr(),
+                first.len(),
+                second.as_ptr(),
+                second.len(),
+                out,
+                room,
+                written,
+            )
+        }),
+        Call::Difference => shard(|out, room, written| unsafe {
+            xet_difference(
+                first.as_ptr(),
+                first.len(),
+                second.as_ptr(),
+                second.len(),
+                out,
+                room,
+                written,
+            )
+        }),
+        Call::Export(options) => export(first, options),
+        Call::Minimal { verification } => shard(|out, room, written| unsafe {
+            xet_minimal(
+                first.as_ptr(),
+                first.len(),
+                NOW,
+                *verification,
+                true,
+                out,
+                room,
+                written,
+            )
+        }),
+        Call::Eligible => items(NO_HASH, Answer::Hashes, |out, room, written| unsafe {
+            xet_eligible(first.as_ptr(), first.len(), out, room, written)
+        }),
+    }
+}
+
+fn load(shard: &[u8]) -> Answer {
+    let mut info = Info::default();
+    match unsafe { xet_load(shard.as_ptr(), shard.len(), &mut info) } {
+        0 => Answer::Info(info),
+        error => Answer::Error(Error::of_number(error)),
+    }
+}
+
+fn find(shard: &[u8], hash: &Hash) -> Answer {
+    let mut file = FoundFile::default();
+    let mut segments = vec![Segment::default(); 16];
+    loop {
+        let result = unsafe {
+            xet_find_file(
+                shard.as_ptr(),
+                shard.len(),
+                hash,
+                &mut file,
+                segments.as_mut_ptr(),
+                segments.len(),
+            )
+        };
+        match result {
+            0 => break,
+            SHORT => segments.resize(file.segments, Segment::default()),
+            error => return Answer::Error(Error::of_number(error)),
+        }
+    }
+    segments.truncate(file.segments);
+    Answer::File(file.found.then_some(File {
+        segments,
+        sha256: file.has_sha256.then_some(file.sha256),
+    }))
+}
+
+fn query(shard: &[u8], hashes: &[Hash]) -> Answer {
+    let (mut count, mut run) = (0, Segment::default());
+    let result = unsafe {
+        xet_query_chunks(
+            shard.as_ptr(),
+            shard.len(),
+            hashes.as_ptr(),
+            hashes.len(),
+            &mut count,
+            &mut run,
+        )
+    };
+    match result {
+        0 => Answer::Run((count > 0).then_some((count, run))),
+        error => Answer::Error(Error::of_number(error)),
+    }
+}
+
+fn export(shard_bytes: &[u8], export: &Export) -> Answer {
+    let options = ExportOptions {
+        key: export.key,
+        now: export.now,
+        valid_seconds: export.valid_seconds,
+        files: export.files,
+        aux_rows: true,
+        xorb_table: export.xorb_table,
+        chunk_table: export.chunk_table,
+    };
+    shard(|out, room, written| unsafe {
+        xet_export(
+            shard_bytes.as_ptr(),
+            shard_bytes.len(),
+            &options,
+            out,
+            room,
+            written,
+        )
+    })
+}
+
+fn shard(call: impl Fn(*mut u8, usize, *mut usize) -> u32) -> Answer {
+    items(0xa5, Answer::Shard, call)
+}
+
+/// What a call writes into room that it is given: first none, and then as much as it says, and one
+/// item that has to stay.
+fn items<T: Copy + PartialEq>(
+    unwritten: T,
+    made: impl Fn(Vec<T>) -> Answer,
+    call: impl Fn(*mut T, usize, *mut usize) -> u32,
+) -> Answer {
+    let mut written = 0;
+    let mut out = vec![unwritten];
+    match call(out.as_mut_ptr(), 0, &mut written) {
+        0 => assert_eq!(written, 0),
+        SHORT => {
+            let needed = written;
+            out = vec![unwritten; needed + 1];
+            assert_eq!(call(out.as_mut_ptr(), needed, &mut written), 0);
+            assert_eq!(written, needed);
+        }
+        error => return Answer::Error(Error::of_number(error)),
+    }
+    assert!(
+        out.pop() == Some(unwritten),
+        "the room's end was overwritten"
+    );
+    made(out)
+}
