@@ -41,6 +41,7 @@ pub struct Export {
     pub now: u64,
     pub valid_seconds: u64,
     pub files: bool,
+    pub aux_rows: bool,
     pub xorb_table: bool,
     pub chunk_table: bool,
 }
@@ -54,7 +55,7 @@ pub enum Call {
     Union,
     Difference,
     Export(Export),
-    Minimal { verification: bool },
+    Minimal { verification: bool, aux_rows: bool },
     Eligible,
 }
 

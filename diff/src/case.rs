@@ -30,6 +30,7 @@ impl Case {
         let mut calls = vec![Call::Load, Call::Union, Call::Difference, Call::Eligible];
         calls.push(Call::Minimal {
             verification: random.once_in(2),
+            aux_rows: random.once_in(2),
         });
         calls.push(Call::Export(shards::export(&mut random)));
         calls.extend((0..3).map(|_| Call::Find(hash(&first, &mut random))));

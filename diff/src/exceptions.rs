@@ -6,7 +6,7 @@ use crate::compare::{Comparison, compare};
 use crate::original::{self, merkle};
 use crate::sections::{
     AUX, Ends, Record, Section, Table, chunk_at, ends, file_at, row_offset, section, version,
-    xorb_at,
+    without_aux_rows, xorb_at,
 };
 use xet_core_structures::merklehash::MerkleHash;
 
@@ -16,7 +16,8 @@ pub enum Exception {
     HeaderVersion,
     /// In version 2 a file with the flag of the auxiliary row is `InvalidShard`.
     AuxFlagInVersion2,
-    /// In version 3 such a file has one row more; anything may follow.
+    /// In version 3 such a file has one row more. A call that leaves out these rows has to do what
+    /// the original does without them; else anything may follow.
     AuxRow,
     /// A section past 4294967295 rows, or a record that announces them, is `InvalidShard`.
     TooManyRows,
@@ -266,25 +267,56 @@ impl Difference<'_> {
             return self.port_fails_by(Error::Io);
         };
         let rest = &self.first[bookend as usize..];
-        let without = [&self.first[..48], rest].concat();
-        let original = original::answer(self.call, &without, self.second);
-        matches!(
-            compare(self.call, &without, &original, self.port),
-            Comparison::Same(_)
-        )
+        self.is_answer_for(&[&self.first[..48], rest].concat())
+    }
+
+    /// The port's answer is the original's for these bytes, but for listed differences.
+    fn is_answer_for(&self, first: &[u8]) -> bool {
+        let original = &original::answer(self.call, first, self.second);
+        if let Comparison::Same(_) = compare(self.call, first, original, self.port) {
+            return true;
+        }
+        let difference = Difference {
+            first,
+            original,
+            ..*self
+        };
+        difference.exception().is_some()
+    }
+
+    fn is_answer_without_aux_rows(&self) -> bool {
+        let without = without_aux_rows(self.first);
+        let files = section(&without, 48, file_at);
+        if files.bookend.is_none() {
+            return self.port_fails_by(Error::Io) || self.is_refused() && files.is_too_long();
+        }
+        self.is_answer_for(&without)
+    }
+
+    /// The call leaves out auxiliary rows, so it does what it does without them.
+    fn leaves_out_aux_rows(&self) -> bool {
+        match self.call {
+            Call::Export(options) => !(options.files && options.aux_rows),
+            Call::Minimal { aux_rows, .. } => !aux_rows,
+            _ => true,
+        }
     }
 
     /// In a call that reads the sections that follow the header.
     fn in_stream(&self) -> Option<Exception> {
         let files = section(self.first, 48, file_at);
-        if let Some(aux) = self.aux(&files.records, version(self.first)?) {
-            return Some(aux);
-        }
         let xorbs = files
             .bookend
             .map(|bookend| section(self.first, bookend + 48, xorb_at));
         let is_long = files.is_too_long() || xorbs.is_some_and(|xorbs| xorbs.is_too_long());
-        (self.is_refused() && is_long).then_some(TooManyRows)
+        if self.is_refused() && is_long {
+            return Some(TooManyRows);
+        }
+        let aux = self.aux(&files.records, version(self.first)?)?;
+        let is_right = aux == AuxFlagInVersion2
+            || !self.leaves_out_aux_rows()
+            || self.is_answer_without_aux_rows();
+        is_right.then_some(aux)
     }
 }
 

@@ -68,7 +68,7 @@ fn call_original(call: &Call, first: &[u8], second: &[u8]) -> Result<Answer> {
         Call::Union => Answer::Shard(combine(first, second, true)?),
         Call::Difference => Answer::Shard(combine(first, second, false)?),
         Call::Export(options) => Answer::Shard(export(first, options)?),
-        Call::Minimal { verification } => {
+        Call::Minimal { verification, .. } => {
             let mut bytes = Vec::new();
             minimal(first)?.serialize(&mut bytes, *verification)?;
             Answer::Shard(bytes)

@@ -121,13 +121,16 @@ pub fn answer(call: &Call, first: &[u8], second: &[u8]) -> Answer {
             )
         }),
         Call::Export(options) => export(first, options),
-        Call::Minimal { verification } => shard(|out, room, written| unsafe {
+        Call::Minimal {
+            verification,
+            aux_rows,
+        } => shard(|out, room, written| unsafe {
             xet_minimal(
                 first.as_ptr(),
                 first.len(),
                 NOW,
                 *verification,
-                true,
+                *aux_rows,
                 out,
                 room,
                 written,
@@ -198,7 +201,7 @@ fn export(shard_bytes: &[u8], export: &Export) -> Answer {
         now: export.now,
         valid_seconds: export.valid_seconds,
         files: export.files,
-        aux_rows: true,
+        aux_rows: export.aux_rows,
         xorb_table: export.xorb_table,
         chunk_table: export.chunk_table,
     };

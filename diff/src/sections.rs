@@ -152,6 +152,32 @@ pub fn section(
     section
 }
 
+/// The bytes without auxiliary rows in the section that follows the header, and without their flags:
+/// what version 2 has of them.
+pub fn without_aux_rows(bytes: &[u8]) -> Vec<u8> {
+    let mut rest = bytes;
+    let mut without = Vec::new();
+    let pass = |rest: &mut &[u8], size: u64| {
+        let size = usize::try_from(size).map_or(rest.len(), |size| size.min(rest.len()));
+        let (front, back) = rest.split_at(size);
+        *rest = back;
+        front.to_vec()
+    };
+    without.extend(pass(&mut rest, ROW_SIZE));
+    while let Some(record) = file_at(rest, 0)
+        && !record.is_bookend()
+    {
+        let start = without.len();
+        without.extend(pass(&mut rest, ROW_SIZE * (1 + record.rows)));
+        if record.flags & AUX != 0 {
+            without[start + 32..start + 36].copy_from_slice(&(record.flags & !AUX).to_le_bytes());
+            pass(&mut rest, ROW_SIZE);
+        }
+    }
+    without.extend(rest);
+    without
+}
+
 impl Section {
     pub fn has(&self, holds: impl Fn(&Record) -> bool) -> bool {
         self.records.iter().any(holds)
@@ -166,7 +192,8 @@ impl Section {
 
     /// The rows up to some record do not fit 32 bits.
     pub fn is_too_long(&self) -> bool {
-        let rows: u64 = self.records.iter().map(|record| 1 + record.rows).sum();
+        let with_aux = |record: &Record| 1 + record.rows + u64::from(record.flags & AUX != 0);
+        let rows: u64 = self.records.iter().map(with_aux).sum();
         rows > u64::from(u32::MAX)
     }
 }

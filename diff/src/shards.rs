@@ -3,6 +3,7 @@
 use crate::answer::{Export, Hash, NOW};
 use crate::original;
 use crate::random::Random;
+use crate::sections::{AUX, file_at};
 use std::time::Duration;
 use xet_core_structures::metadata_shard::file_structs::{
     FileDataSequenceEntry, FileDataSequenceHeader, FileMetadataExt, FileVerificationEntry,
@@ -62,8 +63,52 @@ pub fn shard(random: &mut Random) -> Vec<u8> {
     let mut bytes = formed(random, bytes);
     if random.once_in(4) {
         bytes[32] = 3;
+        if random.once_in(2) {
+            add_aux_rows(&mut bytes, random);
+        }
     }
     bytes
+}
+
+/// Adds the row that version 3 alone has to some files, and moves what the footer says.
+fn add_aux_rows(shard: &mut Vec<u8>, random: &mut Random) {
+    let (mut at, mut added) = (48, 0);
+    let mut starts = Vec::new();
+    while let Some(record) = file_at(shard, at)
+        && !record.is_bookend()
+    {
+        starts.push((at / 48 - 1) as u32);
+        let end = at + 48 * (1 + record.rows);
+        at = end;
+        if record.flags & AUX == 0 && random.once_in(2) {
+            shard[(end - 48 * record.rows) as usize - 13] |= (AUX >> 24) as u8;
+            let row = [
+                random.next().to_le_bytes(),
+                [0; 8],
+                [1; 8],
+                [2; 8],
+                [0; 8],
+                [0; 8],
+            ];
+            shard.splice(end as usize..end as usize, row.concat());
+            at += 48;
+            added += 48;
+        }
+    }
+    let footer = shard.len() - 200;
+    for field in [16, 24, 40, 56, 192] {
+        let moved = number(shard, footer + field) + added;
+        shard[footer + field..footer + field + 8].copy_from_slice(&moved.to_le_bytes());
+    }
+    let table = number(shard, footer + 24) as usize;
+    let rows = number(shard, footer + 32) as usize;
+    for (row, start) in starts.iter().enumerate().take(rows) {
+        shard[table + 12 * row + 8..table + 12 * row + 12].copy_from_slice(&start.to_le_bytes());
+    }
+}
+
+fn number(shard: &[u8], at: usize) -> u64 {
+    u64::from_le_bytes(shard[at..at + 8].try_into().unwrap())
 }
 
 fn count(random: &mut Random, end: usize) -> usize {
@@ -117,6 +162,7 @@ pub fn export(random: &mut Random) -> Export {
             random.next() % 1000
         },
         files: !random.once_in(4),
+        aux_rows: random.once_in(2),
         xorb_table: !random.once_in(4),
         chunk_table: !random.once_in(4),
     }
