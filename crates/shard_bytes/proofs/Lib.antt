@@ -1,5 +1,6 @@
 pub mod Checking
 pub mod Combining
+pub mod Exclusive
 pub mod Exporting
 pub mod Keeping
 pub mod Merging

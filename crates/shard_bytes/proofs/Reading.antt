@@ -26,14 +26,15 @@ use Rattle.shard_bytes.specs.declared.check.Finding.{Finding}
 use Rattle.shard_bytes.specs.declared.check.Finding.TheVariants.{Unsupported, TooShort}
 use Rattle.shard_bytes.specs.Checking.{IsReport, IsUnreadable}
 use Rattle.shard_bytes.proofs.Checking.{header_in, one_finding, unread}
+use Rattle.shard_bytes.proofs.Exclusive.{only_unsupported, only_too_short, only_cut_files, only_refused_files, only_cut_xorbs, only_refused_xorbs}
 
 -- header and footer are not read
 pub not_loaded : (bytes : List ℕ) (e : CoreError) (f : Finding) (findings : List Finding) → LoadRefusal bytes e → (IsShardVersion e → f ≡ Unsupported) → (IsEndOfInput e → f ≡ TooShort)
     → findings ≡ f ∷ [] → IsReport bytes findings
 not_loaded bytes e f findings (inl (version, unsupported)) is other one =
-    one_finding bytes Unsupported findings unsupported (one ∙ ap (λ g. g ∷ []) (is version))
+    one_finding bytes Unsupported findings unsupported (only_unsupported bytes unsupported) (one ∙ ap (λ g. g ∷ []) (is version))
 not_loaded bytes e f findings (inr (end, short)) other is one =
-    one_finding bytes TooShort findings short (one ∙ ap (λ g. g ∷ []) (is end))
+    one_finding bytes TooShort findings short (only_too_short bytes short) (one ∙ ap (λ g. g ∷ []) (is end))
 
 -- a source of these bytes, at their start
 abbrev pub source_of : List ℕ → Source
@@ -46,7 +47,8 @@ files_unread bytes info old new e findings ends start works fails unreadable =
     let left : bytes_left old ≡ bytes = ap bytes_left start in
     let header = subst HasHeader (sym left) (header_in bytes info ends) in
     let why = subst (λ bs. (h : HasHeader bs) × BadSection (file_records_in h.version) (drop 48 bs) e) left (header, files_refused old new e header works fails) in
-    unread Files bytes (drop 48 bytes) (IsRefusedSection (file_records_in why.0.version)) (IsCutSection (file_records_in why.0.version)) e findings why.1 unreadable (λ over. (why.0, over)) (λ cut. (why.0, cut))
+    unread Files bytes (drop 48 bytes) (IsRefusedSection (file_records_in why.0.version)) (IsCutSection (file_records_in why.0.version)) e findings why.1 unreadable (λ over. ((info, ends, why.0, over), only_refused_files bytes info ends why.0 over))
+    (λ cut. ((info, ends, why.0, cut), only_cut_files bytes info ends why.0 cut))
 
 -- after the file section, from the position where it ends
 module _ (bytes : List ℕ) (s0 s1 s2 : Source) (found : List FileRanges) (n : ℕ) (start : s0 ≡ source_of bytes) (read : ReadsFileRanges s0 s1 found) (n_is : n ≡ s1.at) (s2_is : s2 ≡ s1) where
@@ -64,15 +66,16 @@ module _ (bytes : List ℕ) (s0 s1 s2 : Source) (found : List FileRanges) (n : �
       let same : s2.bytes ≡ bytes = ap (λ (s : Source). s.bytes) s2_is ∙ ap (λ (s : Source). s.bytes) hashes.after ∙ ap (λ (s : Source). s.bytes) start in
       λ i. drop (at i) (same i)
 
-  pub xorbs_unread : (new : Source) (e : CoreError) (findings : List Finding) → ¬ DeviceFailure (moved s2 n) new e → TakesNoSection xorb_records (moved s2 n) new e → IsUnreadable Xorbs e findings
+  pub xorbs_unread : (info : MDBShardInfo) → HasEnds bytes info → (new : Source) (e : CoreError) (findings : List Finding) → ¬ DeviceFailure (moved s2 n) new e → TakesNoSection xorb_records (moved s2 n) new e → IsUnreadable Xorbs e findings
       → IsReport bytes findings
-  xorbs_unread new e findings works fails unreadable = by_cause fails.cause
+  xorbs_unread info ends new e findings works fails unreadable = by_cause fails.cause
     where
       by_cause : FailedBy (BadSection xorb_records (bytes_left (moved s2 n))) (moved s2 n) new e → IsReport bytes findings
       by_cause (inl failed) = absurd (works failed)
       by_cause (inr (same, bad)) =
           unread Xorbs bytes (drop (xorbs_after hashes.files) bytes) (IsRefusedSection xorb_records) (IsCutSection xorb_records) e findings (subst (λ bs. BadSection xorb_records bs e) xorbs_left bad) unreadable
-          (λ over. (file_part.0, hashes.files, file_part.1, over)) (λ cut. (file_part.0, hashes.files, file_part.1, cut))
+          (λ over. ((info, ends, file_part.0, (hashes.files, file_part.1, over)), only_refused_xorbs bytes info ends file_part.0 hashes.files file_part.1 over))
+          (λ cut. ((info, ends, file_part.0, (hashes.files, file_part.1, cut)), only_cut_xorbs bytes info ends file_part.0 hashes.files file_part.1 cut))
 
   -- the hashes that were read are those of the records of both sections
   module _ (new : Source) (headers : List (XorbChunkSequenceHeader × ℕ)) (keeps : KeepsSection xorb_records header_at (moved s2 n) new headers) (files : List MDBFileInfo) (xorbs : List MDBXorbInfo)

@@ -91,10 +91,10 @@ module _ (bytes : List ℕ) (w : IsWhole bytes) where
   pub no_finding : (f : Finding) → ¬ IsFinding bytes f
   no_finding Unsupported so = not_unsupported bytes info ends so
   no_finding TooShort so = not_too_short bytes info ends so
-  no_finding (Cut Files) (header, cut) = files_not_cut bytes w.files w.xorbs have header cut
-  no_finding (Cut Xorbs) (header, files, there, cut) = xorbs_not_cut bytes w.files w.xorbs have header files there cut
-  no_finding (Refused Files) (header, over) = files_not_refused bytes w.files w.xorbs have header over
-  no_finding (Refused Xorbs) (header, files, there, over) = xorbs_not_refused bytes w.files w.xorbs have header files there over
+  no_finding (Cut Files) (i, e, header, cut) = files_not_cut bytes w.files w.xorbs have header cut
+  no_finding (Cut Xorbs) (i, e, header, (files, there, cut)) = xorbs_not_cut bytes w.files w.xorbs have header files there cut
+  no_finding (Refused Files) (i, e, header, over) = files_not_refused bytes w.files w.xorbs have header over
+  no_finding (Refused Xorbs) (i, e, header, (files, there, over)) = xorbs_not_refused bytes w.files w.xorbs have header files there over
   no_finding (OutOfOrder Files n) (other, files, xorbs, read, out) = files_ordered other files xorbs read n out
   no_finding (OutOfOrder Xorbs n) (other, files, xorbs, read, out) = xorbs_ordered other files xorbs read n out
   no_finding (Differs part) (other, files, xorbs, read, differs) = differs (part_read_same part other files xorbs read)

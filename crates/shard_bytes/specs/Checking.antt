@@ -1,6 +1,6 @@
 -- The bytes of a shard that are, byte for byte, what the library writes of the records in them; and
 -- what is wrong with bytes that are not.
-use Rattle.std.specs.Prelude.{◌≡◌, ◌≢◌, ◌⊎◌, ℕ, ◌+◌, ◌-◌, ◌^◌, ◌<◌, List, [], ◌∷◌, ◌++◌, length, map, drop, slice_index_or, All}
+use Rattle.std.specs.Prelude.{◌≡◌, ◌≢◌, ◌⊎◌, ℕ, ◌+◌, ◌-◌, ◌^◌, ◌<◌, List, [], ◌∷◌, ◌++◌, length, map, drop, slice_index_or, All, Contains}
 use Rattle.std.specs.List.{slice_range}
 use Rattle.std.specs.List.Sorted.{IsStrictlySortedBy}
 use Rattle.std.specs.declared.cmp.Ordering.TheVariants.{Less}
@@ -86,12 +86,18 @@ IsSamePart ChunkTable bytes info written f =
     ≡ slice_range written f.chunk_lookup_offset f.footer_offset
 IsSamePart Footer bytes info written f = info.metadata ≡ f
 
--- what is said of the bytes after the file section
+-- the bytes have a header and a footer, and this is said with the header
+abbrev pub AfterHeader : (bytes : List ℕ) → (HasHeader bytes → Type 0) → Type 0
+AfterHeader bytes Says =
+    (info : MDBShardInfo) × HasEnds bytes info × (header : HasHeader bytes) × Says header
+
+-- the file section can be read too, and this is said of the bytes after it
 abbrev pub AfterFiles : (List ℕ → Type 0) → List ℕ → Type 0
 AfterFiles Says bytes =
-    (header : HasHeader bytes) × (files : List MDBFileInfo)
+    AfterHeader bytes
+    (λ header. (files : List MDBFileInfo)
     × IsSection (file_records_in header.version) (drop 48 bytes) files
-    × Says (drop (xorbs_after files) bytes)
+    × Says (drop (xorbs_after files) bytes))
 
 -- what is said of bytes that can be read, and of what the library writes of their records
 abbrev pub WhereRead : (MDBShardInfo → List MDBFileInfo → List MDBXorbInfo → Type 0) → List ℕ
@@ -105,10 +111,10 @@ abbrev pub IsFinding : List ℕ → Finding → Type 0
 IsFinding bytes Unsupported = IsUnsupported bytes
 IsFinding bytes TooShort = IsTooShort bytes
 IsFinding bytes (Cut Files) =
-    (header : HasHeader bytes) × IsCutSection (file_records_in header.version) (drop 48 bytes)
+    AfterHeader bytes (λ header. IsCutSection (file_records_in header.version) (drop 48 bytes))
 IsFinding bytes (Cut Xorbs) = AfterFiles (IsCutSection xorb_records) bytes
 IsFinding bytes (Refused Files) =
-    (header : HasHeader bytes) × IsRefusedSection (file_records_in header.version) (drop 48 bytes)
+    AfterHeader bytes (λ header. IsRefusedSection (file_records_in header.version) (drop 48 bytes))
 IsFinding bytes (Refused Xorbs) = AfterFiles (IsRefusedSection xorb_records) bytes
 IsFinding bytes (OutOfOrder section n) =
     WhereRead (λ info files xorbs. IsOutOfOrder n (hashes_of section files xorbs)) bytes
@@ -124,16 +130,18 @@ IsFinding bytes (Size n) =
     (n ≡ length (layout_of files xorbs (form_of info))) × (length bytes ≢ n))
     bytes
 
--- these are findings, and there is none only if the bytes are whole
+-- these are all findings that are true of the bytes, and there is none only if the bytes are whole
 pub record IsReport (bytes : List ℕ) (findings : List Finding) : Type 0 where
   pub each : All (IsFinding bytes) findings
+  pub all : (f : Finding) → IsFinding bytes f → Contains findings f
   pub none : findings ≡ [] → IsWhole bytes
 
--- findings were added, all of which are so, and none only if all is well
+-- all findings that are so were added, and none only if all is well
 pub record Adds (Well : Type 0) (IsSo : Finding → Type 0) (old new : List Finding) : Type 0 where
   pub more : List Finding
   pub added : new ≡ old ++ more
   pub each : All IsSo more
+  pub all : (f : Finding) → IsSo f → Contains more f
   pub none : more ≡ [] → Well
 
 -- the one finding of a section that cannot be read, by the error of reading it

@@ -1,6 +1,6 @@
 //! Whether the bytes of a shard are what the library would write of the records in them.
 
-ghost use Rattle.std.specs.Prelude.{◌≡◌, ◌↔◌, [], ◌∷◌, ◌++◌, map, All, MatchOption, OnOk, IfOk, IfErr, IsTrue, if◌then◌else◌};
+ghost use Rattle.std.specs.Prelude.{◌≡◌, ◌↔◌, [], ◌∷◌, ◌++◌, map, All, Contains, MatchOption, OnOk, IfOk, IfErr, IsTrue, if◌then◌else◌};
 ghost use Rattle.std.specs.List.{slice_range};
 ghost use Rattle.std.specs.List.Sorted.{IsStrictlySortedBy};
 ghost use Rattle.std.specs.declared.cmp.Ordering.TheVariants.{Less};
@@ -8,6 +8,7 @@ ghost use Rattle.xet_core_structures.specs.declared.merklehash.DataHash.{DataHas
 ghost use Rattle.xet_core_structures.specs.Ends.{HasEnds};
 ghost use Rattle.xet_core_structures.specs.Errors.{IsShardVersion, IsEndOfInput};
 ghost use Rattle.xet_core_structures.specs.Hash.{hash_cmp};
+ghost use Rattle.shard_bytes.specs.declared.check.Finding.{Finding};
 ghost use Rattle.shard_bytes.specs.Checking.{IsWhole, IsFinding, IsReport, IsUnreadable, IsOutOfOrder, IsSamePart, AddsPart, AddsSize, AddsDisorder, AddsDifferences, Compares};
 
 use crate::load::load_bytes;
@@ -70,6 +71,8 @@ pub enum Finding {
 pub fn check_bytes(alloc: Global, bytes: &[u8]) -> Result<Vec<Finding>>
     ensures whole { IfOk result (λ findings. (findings.items ≡ []) ↔ IsWhole bytes.now) }
     ensures each { IfOk result (λ findings. All (IsFinding bytes.now) findings.items) }
+    ensures all { IfOk result
+        (λ findings. (f : Finding) → IsFinding bytes.now f → Contains findings.items f) }
     ensures causes { IfErr result (λ e. e ≡ CoreError.OutOfMemory) }
 {
     match load_bytes(alloc, bytes) {

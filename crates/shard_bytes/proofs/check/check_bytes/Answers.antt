@@ -1,5 +1,6 @@
 use Rattle.std.proofs.Common.{◌≡◌, ◌↔◌, [], ◌∷◌}
-use Rattle.std.specs.Prelude.{All}
+use Rattle.std.specs.Prelude.{All, Contains}
+use Rattle.shard_bytes.specs.declared.check.Finding.{Finding}
 use Rattle.shard_bytes.specs.Checking.{IsWhole, IsFinding, IsReport}
 use Rattle.shard_bytes.proofs.Checking.{if_ok}
 use Rattle.shard_bytes.proofs.Reading.{not_loaded}
@@ -28,4 +29,12 @@ returns-in-Err-clause-each c =
     let f = c.unloaded.result in
     if_ok c.only.result (λ found. found.items ≡ f ∷ []) (λ found. All (IsFinding bytes) found.items)
     (λ found one. (not_loaded bytes c.in-Err.error f found.items c.in-Err.ensures c.unloaded.ensures.unsupported c.unloaded.ensures.short one).each)
+    c.only.ensures.ok
+
+pub returns-in-Err-clause-all : goal.returns-in-Err-clause-all
+returns-in-Err-clause-all c =
+    let bytes = c.args.bytes.now in
+    let f = c.unloaded.result in
+    if_ok c.only.result (λ found. found.items ≡ f ∷ []) (λ found. (g : Finding) → IsFinding bytes g → Contains found.items g)
+    (λ found one. (not_loaded bytes c.in-Err.error f found.items c.in-Err.ensures c.unloaded.ensures.unsupported c.unloaded.ensures.short one).all)
     c.only.ensures.ok

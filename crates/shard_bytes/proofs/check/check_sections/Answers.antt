@@ -22,7 +22,7 @@ returns-in-Err-read_all_xorb_blocks-clause-report c =
     let at = c.in_ok-after_files.ensures in
     if_ok c.unreadable-in-Err-read_all_xorb_blocks.result (λ found. IsUnreadable Xorbs e found.items) (λ found. IsReport c.args.bytes.now found.items)
     (λ found unreadable. xorbs_unread c.args.bytes.now (in_memory c.new-source.result) (in_memory c.read_file_info_ranges.new.source) (in_memory c.position.new.self) c.in-Ok.files.items
-    c.in_ok-after_files.field-0 c.new-source.ensures c.in-Ok.ensures.read at.0 at.1 (in_memory c.read_all_xorb_blocks.new.source) e found.items
+    c.in_ok-after_files.field-0 c.new-source.ensures c.in-Ok.ensures.read at.0 at.1 c.args.info.now c.requires (in_memory c.read_all_xorb_blocks.new.source) e found.items
     (λ failed. absurd (omega (arith, failed.0))) c.in-Err-read_all_xorb_blocks.ensures.read unreadable)
     c.unreadable-in-Err-read_all_xorb_blocks.ensures.report
 
