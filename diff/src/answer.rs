@@ -77,10 +77,11 @@ impl Call {
 /// The timestamp that minimal shards get.
 pub const NOW: u64 = 1_700_000_000;
 
-/// A file's segments and its SHA-256.
+/// A file's segments, the hashes of its verification rows and its SHA-256.
 #[derive(Clone, PartialEq, Eq, Debug)]
 pub struct File {
     pub segments: Vec<Segment>,
+    pub verification: Option<Vec<[u64; 4]>>,
     pub sha256: Option<[u64; 4]>,
 }
 

@@ -258,21 +258,27 @@ impl Difference<'_> {
         }
         let files = section(self.first, 48, file_at);
         let leaves_out = !options.files && files.has(|file| file.entries > 0);
-        (leaves_out && self.is_export_without(files.bookend)).then_some(ExportWithoutFiles)
+        (leaves_out && self.is_export_without(options, files.bookend)).then_some(ExportWithoutFiles)
     }
 
-    /// The port's export is the original's of the same shard without its files.
-    fn is_export_without(&self, bookend: Option<u64>) -> bool {
+    /// The port's export is the original's of the same shard without its files. Its footer is not
+    /// looked at: the bookend that is read may be in it.
+    fn is_export_without(&self, options: &Export, bookend: Option<u64>) -> bool {
         let Some(bookend) = bookend else {
             return self.port_fails_by(Error::Io);
         };
         let rest = &self.first[bookend as usize..];
-        self.is_answer_for(&[&self.first[..48], rest].concat())
+        let shard = [&self.first[..48], rest].concat();
+        self.is_like(&shard, &original::answer_of_stream(options, &shard))
     }
 
     /// The port's answer is the original's for these bytes, but for listed differences.
     fn is_answer_for(&self, first: &[u8]) -> bool {
-        let original = &original::answer(self.call, first, self.second);
+        self.is_like(first, &original::answer(self.call, first, self.second))
+    }
+
+    /// The port's answer is this one of the original for these bytes, but for listed differences.
+    fn is_like(&self, first: &[u8], original: &Answer) -> bool {
         if let Comparison::Same(_) = compare(self.call, first, original, self.port) {
             return true;
         }

@@ -27,8 +27,29 @@ pub fn silence_panics() {
 
 /// What the original answers.
 pub fn answer(call: &Call, first: &[u8], second: &[u8]) -> Answer {
+    caught(|| call_original(call, first, second))
+}
+
+/// What it answers of an export that does not look at the footer.
+pub fn answer_of_stream(export: &Export, shard: &[u8]) -> Answer {
+    caught(|| {
+        let mut bytes = Vec::new();
+        MDBShardInfo::export_as_keyed_shard_streaming(
+            &mut Cursor::new(shard),
+            &mut bytes,
+            MerkleHash::from(export.key),
+            Duration::from_secs(export.valid_seconds),
+            export.files,
+            export.xorb_table,
+            export.chunk_table,
+        )?;
+        Ok(Answer::Shard(bytes))
+    })
+}
+
+fn caught(call: impl FnOnce() -> Result<Answer>) -> Answer {
     IS_CALLED.store(true, Ordering::Relaxed);
-    let answer = catch_unwind(AssertUnwindSafe(|| call_original(call, first, second)));
+    let answer = catch_unwind(AssertUnwindSafe(call));
     IS_CALLED.store(false, Ordering::Relaxed);
     match answer {
         Ok(Ok(answer)) => answer,
@@ -57,6 +78,10 @@ fn call_original(call: &Call, first: &[u8], second: &[u8]) -> Result<Answer> {
                 .get_file_reconstruction_info(&mut Cursor::new(first), &merkle(hash))?;
             Answer::File(found.map(|file| File {
                 segments: file.segments.iter().map(segment).collect(),
+                verification: file.contains_verification().then(|| {
+                    let rows = file.verification.iter();
+                    rows.map(|row| *row.range_hash).collect()
+                }),
                 sha256: file.metadata_ext.map(|row| *row.sha256),
             }))
         }

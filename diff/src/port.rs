@@ -6,11 +6,19 @@ use crate::answer::{Answer, Call, Error, Export, File, Hash, Info, NOW, Segment}
 #[derive(Default)]
 struct FoundFile {
     found: bool,
+    has_verification: bool,
     has_sha256: bool,
     has_aux: bool,
     segments: usize,
     sha256: [u64; 4],
     aux_hash: [u64; 4],
+}
+
+#[repr(C)]
+#[derive(Clone, Copy, Default)]
+struct FileSegment {
+    segment: Segment,
+    verification: [u64; 4],
 }
 
 #[repr(C)]
@@ -83,7 +91,7 @@ unsafe extern "C" {
         length: usize,
         hash: *const Hash,
         file: *mut FoundFile,
-        segments: *mut Segment,
+        segments: *mut FileSegment,
         capacity: usize,
     ) -> u32;
 }
@@ -152,7 +160,7 @@ fn load(shard: &[u8]) -> Answer {
 
 fn find(shard: &[u8], hash: &Hash) -> Answer {
     let mut file = FoundFile::default();
-    let mut segments = vec![Segment::default(); 16];
+    let mut segments = vec![FileSegment::default(); 16];
     loop {
         let result = unsafe {
             xet_find_file(
@@ -166,13 +174,15 @@ fn find(shard: &[u8], hash: &Hash) -> Answer {
         };
         match result {
             0 => break,
-            SHORT => segments.resize(file.segments, Segment::default()),
+            SHORT => segments.resize(file.segments, FileSegment::default()),
             error => return Answer::Error(Error::of_number(error)),
         }
     }
     segments.truncate(file.segments);
+    let verification = segments.iter().map(|row| row.verification).collect();
     Answer::File(file.found.then_some(File {
-        segments,
+        segments: segments.iter().map(|row| row.segment).collect(),
+        verification: file.has_verification.then_some(verification),
         sha256: file.has_sha256.then_some(file.sha256),
     }))
 }
