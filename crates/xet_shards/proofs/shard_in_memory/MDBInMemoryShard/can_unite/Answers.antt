@@ -1,4 +1,4 @@
-use Rattle.std.proofs.Common.{◌≡◌, Bool, false, T, sym, ◌∙◌, subst, true≢false, IsTrue, arith}
+use Rattle.std.proofs.Common.{◌≡◌, Bool, false, T, sym, subst, true≢false, IsTrue, arith}
 use Rattle.std.specs.Prelude.{◌↔◌}
 use Rattle.std.proofs.lemmas.Bool.{leb-true, le-leb}
 use Rattle.std.specs.FinMap.{is_sorted, entries_sorted}

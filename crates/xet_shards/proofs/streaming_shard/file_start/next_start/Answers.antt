@@ -1,8 +1,7 @@
-use Rattle.std.proofs.Common.{◌≡◌, ◌≤◌, length, Some, true, false, sym, ap, ◌∙◌, subst, true≢false, arith}
+use Rattle.std.proofs.Common.{◌≡◌, length, Some, sym, ap, ◌∙◌, subst, true≢false, arith}
 use Rattle.std.specs.Prelude.{slice_get}
 use Rattle.std.proofs.lemmas.Option.{slice_get-get_or}
 use Rattle.xet_base.proofs.HashOrder.{same_hash}
-use Rattle.xet_shards.specs.MinimalShard.{chunk_of}
 use Rattle.xet_shards.specs.MinimalWriting.{IsPlaceOf}
 use Rattle.xet_shards.specs.Shard.{xorb_hash_of}
 use Rattle.xet_shards.proofs.FileStarts.{none_before, next_start, none_of_xorb}

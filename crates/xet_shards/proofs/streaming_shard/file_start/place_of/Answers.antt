@@ -1,4 +1,3 @@
-use Rattle.std.proofs.Common.{◌≡◌}
 use Rattle.xet_shards.proofs.FileStarts.{placed_at, placed_between, searchable}
 use Rattle.xet_shards.proofs.streaming_shard.file_start.place_of.Goals as goal
 

@@ -1,4 +1,4 @@
-use Rattle.std.proofs.Common.{◌≡◌, ◌++◌, ◌∷◌, [], take, take_all, flat_map, sym, ap, ◌∙◌}
+use Rattle.std.proofs.Common.{◌++◌, take, take_all, flat_map, sym, ap, ◌∙◌}
 use Rattle.std.specs.Ordering.{eq_by_cmp}
 use Rattle.std.proofs.lemmas.List.Sorted.{list_any-IsPermutation}
 use Rattle.xet_shards.specs.MinimalShard.{start_cmp, start_of_file, has_start}
