@@ -1,0 +1,5 @@
+pub mod Bar
+pub mod Joining
+pub mod Merging
+pub mod Problems
+pub mod Reading

@@ -1,0 +1,17 @@
+use Rattle.std.proofs.Common.{map, ap, sym, ◌∙◌}
+use Rattle.mdb_report.specs.declared.problem.Problem.TheVariants.{Bytes}
+use Rattle.mdb_report.proofs.Problems.{findings_are, with_name}
+use Rattle.mdb_report.proofs.problem.problems_of.Goals as goal
+
+pub returns-then-is_some-clause-each : goal.returns-then-is_some-clause-each
+returns-then-is_some-clause-each c =
+    findings_are c.args.name.now c.args.bytes.now c.in_ok-findings.findings.items c.in_ok-problems.problems.items c.in_ok-findings.ensures.each
+    (c.in_ok-problems.ensures ∙ ap (map Bytes) c.as_slice.ensures.value)
+
+pub returns-clause-each : goal.returns-clause-each
+returns-clause-each c =
+    with_name c.args.name.now c.args.bytes.now c.in_ok-problems.problems.items c.push.new.self.items c.parse_shard_filename.result c.parse_shard_filename.ensures.accepted
+    (sym c.is_some.ensures ∙ c.if-is_some.false)
+    (findings_are c.args.name.now c.args.bytes.now c.in_ok-findings.findings.items c.in_ok-problems.problems.items c.in_ok-findings.ensures.each
+    (c.in_ok-problems.ensures ∙ ap (map Bytes) c.as_slice.ensures.value))
+    c.in_ok-push.ensures.items

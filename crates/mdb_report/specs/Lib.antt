@@ -1,0 +1,6 @@
+pub mod Lookups
+pub mod Merging
+pub mod Parts
+pub mod Problems
+pub mod Records
+pub mod Summary

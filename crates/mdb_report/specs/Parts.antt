@@ -1,0 +1,18 @@
+-- The bar of a shard's parts.
+use Rattle.std.specs.Prelude.{ℕ, ◌*◌, ◌/◌, List, map, nat_lt, if◌then◌else◌}
+use Rattle.std.specs.List.{range_with_len}
+use Rattle.mdb_report.specs.declared.parts.Parts.{Parts}
+
+-- the letter of the part in which a byte is: H header, F files, X xorbs, T tables, E footer
+abbrev pub letter_of : Parts → ℕ → ℕ
+letter_of parts offset =
+    if nat_lt offset parts.header.end then 72
+    else if nat_lt offset parts.files.end then 70
+    else if nat_lt offset parts.xorbs.end then 88
+    else if nat_lt offset parts.chunk_table.end then 84
+    else 69
+
+-- the first columns of a bar of 60, each with the letter of the byte at its place
+abbrev pub columns : Parts → ℕ → ℕ → List ℕ
+columns parts bytes count =
+    map (λ column. letter_of parts (column * bytes / 60)) (range_with_len 0 count)

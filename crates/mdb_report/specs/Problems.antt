@@ -1,0 +1,11 @@
+-- What a check reports of a file.
+use Rattle.std.specs.Prelude.{ℕ, List}
+use Rattle.xet_core_structures.specs.Names.{IsShardName}
+use Rattle.shard_bytes.specs.Checking.{IsFinding}
+use Rattle.mdb_report.specs.declared.problem.Problem.{Problem}
+use Rattle.mdb_report.specs.declared.problem.Problem.TheVariants.{Bytes, Name}
+
+-- a problem is true of a file with this name and these bytes
+abbrev pub IsProblem : List ℕ → List ℕ → Problem → Type 0
+IsProblem name bytes (Bytes finding) = IsFinding bytes finding
+IsProblem name bytes Name = ¬ IsShardName name

@@ -1,0 +1,131 @@
+//! Why a command failed, in words.
+
+use crate::problem::InWords;
+use shard_bytes::check::{Finding, check_bytes};
+use shard_bytes::load::load_bytes;
+use std::alloc::{AllocError, AllocFailed, Global};
+use std::{fmt, io};
+use xet_core_structures::error::CoreError;
+use xet_core_structures::file_structs::KeptParts;
+
+/// Why a command failed.
+#[derive(Drop)]
+pub enum Fault {
+    /// A file or a stream can't be read or written.
+    Device(io::Error),
+    OutOfMemory,
+    /// The bytes of a shard are not those that the library would write.
+    Bytes(Finding),
+    /// So many files share this first word of a hash that the lookup gives up.
+    Collision(u64),
+    /// The shards that are to be combined are under different keys.
+    KeysDiffer,
+    /// The shards that are to be combined have files that can't be, or too many rows.
+    NoUnion,
+    /// The shard has a key and can't be exported under another.
+    HasKey,
+    /// The expiry is past the last timestamp.
+    LateExpiry,
+    /// Verification rows are asked for that a file does not have.
+    NoVerification,
+    /// Anything else that a call of the library reports.
+    Other(CoreError),
+}
+
+impl fmt::Display for Fault {
+    fn fmt<W: fmt::Write>(&self, f: &mut fmt::Formatter<W>) -> fmt::Result {
+        match self {
+            Fault::Device(error) => write!(f, "{error}"),
+            Fault::OutOfMemory => write!(f, "out of memory"),
+            Fault::Bytes(finding) => write!(f, "{}", InWords(*finding)),
+            Fault::Collision(word) => {
+                write!(
+                    f,
+                    "eight or more files have hashes that begin with {word:016x}"
+                )
+            }
+            Fault::KeysDiffer => write!(f, "the shards are under different keys"),
+            Fault::NoUnion => {
+                write!(
+                    f,
+                    "the shards have a file in common that can't be combined, or too many rows"
+                )
+            }
+            Fault::HasKey => write!(f, "its chunk hashes are under a key already"),
+            Fault::LateExpiry => write!(f, "the expiry is past the last timestamp"),
+            Fault::NoVerification => write!(f, "a file has no verification rows"),
+            Fault::Other(error) => write!(f, "{error}"),
+        }
+    }
+}
+
+impl From<io::Error> for Fault {
+    fn from(error: io::Error) -> Fault {
+        if error.kind() == io::ErrorKind::OutOfMemory {
+            Fault::OutOfMemory
+        } else {
+            Fault::Device(error)
+        }
+    }
+}
+
+impl From<AllocError> for Fault {
+    fn from(_error: AllocError) -> Fault {
+        Fault::OutOfMemory
+    }
+}
+
+impl<T: Drop> From<AllocFailed<T>> for Fault {
+    fn from(_error: AllocFailed<T>) -> Fault {
+        Fault::OutOfMemory
+    }
+}
+
+/// The fault behind an error of a call on the bytes of one shard: what a check of these bytes finds
+/// first, if the error does not say it.
+pub fn fault_of(alloc: Global, bytes: &[u8], error: CoreError) -> Fault {
+    match error {
+        CoreError::OutOfMemory => Fault::OutOfMemory,
+        CoreError::TruncatedHashCollision(word) => Fault::Collision(word),
+        error => match first_finding(alloc, bytes) {
+            Ok(Some(finding)) => Fault::Bytes(finding),
+            Ok(None) => Fault::Other(error),
+            Err(fault) => fault,
+        },
+    }
+}
+
+fn first_finding(alloc: Global, bytes: &[u8]) -> Result<Option<Finding>, Fault> {
+    match check_bytes(alloc, bytes) {
+        Ok(findings) => Ok(findings.as_slice().first().copied()),
+        Err(_) => Err(Fault::OutOfMemory),
+    }
+}
+
+/// The first finding for which no union and no difference is made of a shard's bytes: their sections
+/// can't be read, or their hashes do not ascend.
+pub fn first_obstacle(alloc: Global, bytes: &[u8]) -> Result<Option<Finding>, Fault> {
+    match first_finding(alloc, bytes)? {
+        Some(Finding::Differs(_) | Finding::Size(_)) => Ok(None),
+        finding => Ok(finding),
+    }
+}
+
+/// The fault behind an error of an export.
+pub fn export_fault(alloc: Global, bytes: &[u8], error: CoreError) -> Fault {
+    if error != CoreError::InvalidArguments {
+        return fault_of(alloc, bytes, error);
+    }
+    match load_bytes(alloc, bytes) {
+        Ok(info) if info.chunk_hashes_protected() => Fault::HasKey,
+        _ => Fault::LateExpiry,
+    }
+}
+
+/// The fault behind an error of a minimal shard.
+pub fn minimal_fault(alloc: Global, bytes: &[u8], kept: KeptParts, error: CoreError) -> Fault {
+    match fault_of(alloc, bytes, error) {
+        Fault::Other(CoreError::Io(_)) if kept.verification => Fault::NoVerification,
+        fault => fault,
+    }
+}

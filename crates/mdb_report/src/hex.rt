@@ -1,0 +1,44 @@
+//! Hashes as their digits.
+
+ghost use Rattle.std.specs.Prelude.{Some};
+ghost use Rattle.xet_core_structures.specs.Hex.{hash_hex};
+
+use serde::{Described, Serialize, Serializer};
+use std::fmt;
+use xet_core_structures::merklehash::MerkleHash;
+
+/// A hash that is written as its 64 digits, in text and in JSON.
+#[derive(Clone, Copy, Debug, PartialEq, Eq)]
+pub struct Hex(pub MerkleHash);
+
+impl fmt::Display for Hex {
+    ghost output = { λ hex. Some (hash_hex hex.0) };
+
+    fn fmt<W: fmt::Write>(&self, f: &mut fmt::Formatter<W>) -> fmt::Result {
+        let hash = self.0;
+        write!(f, "{hash}")
+    }
+}
+
+impl Described for Hex {}
+
+impl Serialize for Hex {
+    fn serialize<S: Serializer>(&self, out: &mut S) -> Result<(), S::Error> {
+        out.collect_str(self)
+    }
+}
+
+/// A hash on a line of its own.
+#[derive(Clone, Copy, Debug, PartialEq, Eq, Serialize)]
+pub struct HashReport {
+    pub hash: Hex,
+}
+
+impl fmt::Display for HashReport {
+    ghost output = { λ report. Some (hash_hex report.hash.0) };
+
+    fn fmt<W: fmt::Write>(&self, f: &mut fmt::Formatter<W>) -> fmt::Result {
+        let hash = self.hash;
+        write!(f, "{hash}")
+    }
+}

@@ -1,0 +1,16 @@
+//! What the program `mdb` says of shards: values with names, which print as text and as JSON, and
+//! faults in words.
+#![tactic(auto)]
+
+pub mod counting;
+pub mod fault;
+pub mod hex;
+pub mod inquiry;
+pub mod line;
+pub mod lookup;
+pub mod merge;
+pub mod moment;
+pub mod parts;
+pub mod problem;
+pub mod records;
+pub mod summary;

@@ -1,0 +1,138 @@
+//! What lookups and queries find.
+
+ghost use Rattle.std.specs.Prelude.{IfOk, IfSome, MatchResult};
+ghost use Rattle.xet_core_structures.specs.FileRecord.{FitsItsHeader};
+ghost use Rattle.shard_bytes.specs.Finding.{RefusesFile};
+ghost use Rattle.mdb_report.specs.Lookups.{FindsAt, ReportsLookup, LookupRefusal};
+
+use crate::counting::CountingSource;
+use crate::hex::Hex;
+use crate::records::{FileReport, SegmentReport};
+use serde::Serialize;
+use shard_bytes::query::query_chunks;
+use std::alloc::Global;
+use std::fmt;
+use xet_core_structures::error::Result;
+use xet_core_structures::file_structs::MDBFileInfo;
+use xet_core_structures::merklehash::MerkleHash;
+use xet_core_structures::shard_format::MDBShardInfo;
+use xet_core_structures::source::MemorySource;
+
+/// What a lookup of a file found.
+#[derive(Drop, Serialize)]
+pub struct FoundReport {
+    /// The hash that was looked up.
+    pub hash: Hex,
+    pub found: Option<FileReport>,
+    #[serde(skip_serializing_if = "Option::is_none")]
+    pub costs: Option<Costs>,
+}
+
+/// The seeks of a lookup and the bytes that it read, those of header and footer not counted.
+#[derive(Clone, Copy, Debug, PartialEq, Eq, Serialize)]
+pub struct Costs {
+    pub seeks: u64,
+    pub bytes_read: u64,
+}
+
+impl FoundReport {
+    /// Looks up a file in the bytes of a shard.
+    ///
+    /// The errors are those of [`MDBShardInfo::load_from_reader`] and
+    /// [`MDBShardInfo::get_file_reconstruction_info`].
+    pub fn of_lookup(
+        alloc: Global,
+        bytes: &[u8],
+        hash: MerkleHash,
+        with_costs: bool,
+    ) -> Result<FoundReport>
+        ensures { MatchResult result (ReportsLookup bytes.now hash) (LookupRefusal bytes.now hash) }
+    {
+        let (file, costs) = find_counted(alloc, bytes, &hash)?;
+        let found = match file {
+            Some(file) => Some(FileReport::of_file(alloc, &file, true)?),
+            None => None,
+        };
+        Ok(FoundReport {
+            hash: Hex(hash),
+            found,
+            costs: if with_costs { Some(costs) } else { None },
+        })
+    }
+}
+
+// Looks up a file in the bytes of a shard, and counts the seeks and the bytes read.
+fn find_counted(
+    alloc: Global,
+    bytes: &[u8],
+    hash: &MerkleHash,
+) -> Result<(Option<MDBFileInfo>, Costs)>
+    ensures any_bytes { MatchResult result
+        (λ found. FindsAt bytes.now hash.now found.0 found.1) (RefusesFile bytes.now hash.now) }
+    ensures fits { IfOk result (λ found. IfSome found.0 FitsItsHeader) }
+{
+    let mut source = CountingSource::new(MemorySource::new(bytes));
+    let info = MDBShardInfo::load_from_reader(alloc, &mut source)?;
+    let seeks = source.seeks();
+    let read = source.read();
+    let found = info.get_file_reconstruction_info(alloc, &mut source, hash)?;
+    let costs = Costs {
+        seeks: source.seeks().saturating_sub(seeks),
+        bytes_read: source.read().saturating_sub(read),
+    };
+    Ok((found, costs))
+}
+
+impl fmt::Display for FoundReport {
+    fn fmt<W: fmt::Write>(&self, f: &mut fmt::Formatter<W>) -> fmt::Result {
+        match &self.found {
+            Some(file) => write!(f, "{file}")?,
+            None => {
+                let hash = self.hash;
+                write!(f, "none {hash}")?;
+            }
+        }
+        if let Some(Costs { seeks, bytes_read }) = self.costs {
+            write!(f, "\n  seeks {seeks} bytes read {bytes_read}")?;
+        }
+        Ok(())
+    }
+}
+
+/// The run that a query found.
+#[derive(Clone, Copy, Debug, PartialEq, Eq, Serialize)]
+pub struct RunReport {
+    pub run: Option<Run>,
+}
+
+/// So many of the queried chunks, from the first on, that a xorb has one after another.
+#[derive(Clone, Copy, Debug, PartialEq, Eq, Serialize)]
+pub struct Run {
+    pub chunks: usize,
+    pub segment: SegmentReport,
+}
+
+impl RunReport {
+    /// Looks for a run of these chunks in the bytes of a shard.
+    ///
+    /// The errors are those of [`query_chunks`].
+    pub fn of_query(alloc: Global, bytes: &[u8], hashes: &[MerkleHash]) -> Result<RunReport> {
+        let run = match query_chunks(alloc, bytes, hashes)? {
+            Some((chunks, segment)) => Some(Run {
+                chunks,
+                segment: SegmentReport::of_segment(&segment),
+            }),
+            None => None,
+        };
+        Ok(RunReport { run })
+    }
+}
+
+impl fmt::Display for RunReport {
+    fn fmt<W: fmt::Write>(&self, f: &mut fmt::Formatter<W>) -> fmt::Result {
+        match self.run {
+            Some(Run { chunks, segment }) => write!(f, "run {chunks} {segment}"),
+            None => write!(f, "none"),
+        }
+    }
+}

@@ -1,0 +1,137 @@
+//! Where the parts of a shard are, and a bar of them.
+
+ghost use Rattle.std.specs.Prelude.{◌≡◌, ◌*◌, ◌/◌, ◌<◌, IfOk, string_bytes};
+ghost use Rattle.mdb_report.specs.Parts.{letter_of, columns};
+ghost use Rattle.mdb_report.specs.Summary.{ArePartsOf};
+
+use serde::Serialize;
+use std::alloc::{AllocError, Global};
+use std::fmt;
+use xet_core_structures::shard_format::MDBShardInfo;
+
+/// The bytes of a part: offsets from the start of the shard, the end excluded.
+#[derive(Clone, Copy, Debug, PartialEq, Eq, Serialize)]
+pub struct Part {
+    pub start: u64,
+    pub end: u64,
+}
+
+impl fmt::Display for Part {
+    fn fmt<W: fmt::Write>(&self, f: &mut fmt::Formatter<W>) -> fmt::Result {
+        let Part { start, end } = *self;
+        write!(f, "{start}..{end}")
+    }
+}
+
+/// The bytes of a table and its rows.
+#[derive(Clone, Copy, Debug, PartialEq, Eq, Serialize)]
+pub struct Table {
+    pub start: u64,
+    pub end: u64,
+    pub rows: u64,
+}
+
+impl fmt::Display for Table {
+    fn fmt<W: fmt::Write>(&self, f: &mut fmt::Formatter<W>) -> fmt::Result {
+        let Table { start, end, rows } = *self;
+        write!(f, "{start}..{end} rows {rows}")
+    }
+}
+
+/// The parts of a shard as its footer has them; each ends where the next one starts.
+#[derive(Clone, Copy, Debug, PartialEq, Eq, Serialize)]
+pub struct Parts {
+    pub header: Part,
+    pub files: Part,
+    pub xorbs: Part,
+    pub file_table: Table,
+    pub xorb_table: Table,
+    pub chunk_table: Table,
+    pub footer: Part,
+}
+
+impl Parts {
+    /// The parts of a shard of so many bytes that has this footer.
+    pub fn of_shard(info: &MDBShardInfo, bytes: u64) -> Parts
+        ensures { ArePartsOf info.now bytes result }
+    {
+        let footer = info.metadata;
+        Parts {
+            header: Part {
+                start: 0,
+                end: footer.file_info_offset,
+            },
+            files: Part {
+                start: footer.file_info_offset,
+                end: footer.xorb_info_offset,
+            },
+            xorbs: Part {
+                start: footer.xorb_info_offset,
+                end: footer.file_lookup_offset,
+            },
+            file_table: Table {
+                start: footer.file_lookup_offset,
+                end: footer.xorb_lookup_offset,
+                rows: footer.file_lookup_num_entry,
+            },
+            xorb_table: Table {
+                start: footer.xorb_lookup_offset,
+                end: footer.chunk_lookup_offset,
+                rows: footer.xorb_lookup_num_entry,
+            },
+            chunk_table: Table {
+                start: footer.chunk_lookup_offset,
+                end: footer.footer_offset,
+                rows: footer.chunk_lookup_num_entry,
+            },
+            footer: Part {
+                start: footer.footer_offset,
+                end: bytes,
+            },
+        }
+    }
+
+    /// The letter of the part in which a byte is.
+    fn letter_at(&self, offset: u64) -> char
+        ensures letter { result ≡ letter_of self.now offset }
+        ensures ascii { result < 128 }
+    {
+        if offset < self.header.end {
+            'H'
+        } else if offset < self.files.end {
+            'F'
+        } else if offset < self.xorbs.end {
+            'X'
+        } else if offset < self.chunk_table.end {
+            'T'
+        } else {
+            'E'
+        }
+    }
+}
+
+/// The columns of a bar.
+const COLUMNS: u64 = 60;
+
+/// What the letters of a bar stand for.
+pub const LEGEND: &str = "H header  F files  X xorbs  T tables  E footer";
+
+/// A bar of the parts of a shard of so many bytes, 60 columns wide: column k has the letter of the
+/// part in which byte k * bytes / 60 is.
+pub fn bar_of(alloc: Global, parts: &Parts, bytes: u64) -> Result<String, AllocError>
+    ensures { IfOk result (λ bar. string_bytes bar ≡ columns parts.now bytes 60) }
+{
+    let mut bar = String::with_capacity(alloc, COLUMNS as usize)?;
+    for column in 0..COLUMNS {
+        bar.push(parts.letter_at(byte_at(column, bytes)))?;
+    }
+    Ok(bar)
+}
+
+// column * bytes / 60, without a product that overflows.
+fn byte_at(column: u64, bytes: u64) -> u64
+    requires { column < 60 }
+    ensures { result ≡ column * bytes / 60 }
+{
+    bytes / COLUMNS * column + bytes % COLUMNS * column / COLUMNS
+}

@@ -1,0 +1,157 @@
+//! What a check finds, in words.
+
+ghost use Rattle.std.specs.Prelude.{◌≡◌, ◌↔◌, [], map, All, IfOk, IfErr};
+ghost use Rattle.xet_core_structures.specs.Names.{IsShardName};
+ghost use Rattle.shard_bytes.specs.Checking.{IsWhole};
+ghost use Rattle.mdb_report.specs.Problems.{IsProblem};
+
+use serde::{Described, Serialize, Serializer};
+use shard_bytes::check::{Finding, Part, Section, check_bytes};
+use std::alloc::{AllocError, Global};
+use std::fmt;
+use xet_core_structures::error::{CoreError, Result};
+use xet_core_structures::utils::parse_shard_filename;
+
+/// What is not as it should be with a file.
+#[derive(Clone, Copy, Debug, PartialEq, Eq)]
+pub enum Problem {
+    /// The bytes are not those that the library would write.
+    Bytes(Finding),
+    /// The name is not 64 hexadecimal digits and `.mdb`.
+    Name,
+}
+
+/// A problem, and the file that has it.
+#[derive(Clone, Copy, Debug, PartialEq, Eq, Serialize)]
+pub struct ProblemReport<'a> {
+    pub file: &'a str,
+    pub problem: Problem,
+}
+
+/// The problems of a file with this name and these bytes: those of its bytes, in the order of
+/// [`check_bytes`], and then that of its name.
+///
+/// The only error is `OutOfMemory`.
+pub fn problems_of(alloc: Global, name: &str, bytes: &[u8]) -> Result<Vec<Problem>>
+    ensures whole { IfOk result
+        (λ problems. (problems.items ≡ []) ↔ (IsWhole bytes.now × IsShardName name.now)) }
+    ensures each { IfOk result (λ problems. All (IsProblem name.now bytes.now) problems.items) }
+    ensures causes { IfErr result (λ e. e ≡ CoreError.OutOfMemory) }
+{
+    let findings = check_bytes(alloc, bytes)?;
+    let mut problems = problems_in(alloc, findings.as_slice())?;
+    if parse_shard_filename(name).is_some() {
+        return Ok(problems);
+    }
+    problems.push(Problem::Name)?;
+    Ok(problems)
+}
+
+fn problems_in(alloc: Global, findings: &[Finding]) -> std::result::Result<Vec<Problem>, AllocError>
+    ensures { IfOk result (λ problems. problems.items ≡ map Problem.Bytes findings.now) }
+{
+    findings
+        .iter()
+        .map(|finding| Problem::Bytes(*finding))
+        .collect(alloc)
+}
+
+/// The last part of a path.
+pub fn file_name(path: &str) -> &str {
+    match path.rsplit_once('/') {
+        Some((_, name)) => name,
+        None => path,
+    }
+}
+
+impl fmt::Display for ProblemReport<'_> {
+    fn fmt<W: fmt::Write>(&self, f: &mut fmt::Formatter<W>) -> fmt::Result {
+        let file = self.file;
+        let problem = self.problem;
+        write!(f, "{file}: {problem}")
+    }
+}
+
+impl fmt::Display for Problem {
+    fn fmt<W: fmt::Write>(&self, f: &mut fmt::Formatter<W>) -> fmt::Result {
+        match *self {
+            Problem::Bytes(finding) => write!(f, "{}", InWords(finding)),
+            Problem::Name => write!(f, "its name is not 64 hexadecimal digits and .mdb"),
+        }
+    }
+}
+
+impl Described for Problem {}
+
+impl Serialize for Problem {
+    fn serialize<S: Serializer>(&self, out: &mut S) -> std::result::Result<(), S::Error> {
+        out.collect_str(self)
+    }
+}
+
+/// A finding, for `{}` to print.
+#[derive(Clone, Copy)]
+pub struct InWords(pub Finding);
+
+impl fmt::Display for InWords {
+    fn fmt<W: fmt::Write>(&self, f: &mut fmt::Formatter<W>) -> fmt::Result {
+        match self.0 {
+            Finding::Unsupported => {
+                write!(
+                    f,
+                    "its tag, its version or its footer's version is not supported"
+                )
+            }
+            Finding::TooShort => write!(f, "it is too short for a header and a footer"),
+            Finding::Cut(section) => {
+                let section = section_name(section);
+                write!(f, "{section} ends before its bookend")
+            }
+            Finding::Refused(section) => {
+                let section = section_name(section);
+                write!(
+                    f,
+                    "{section} has a record that its version does not have, or too many rows"
+                )
+            }
+            Finding::OutOfOrder(section, record) => {
+                let section = section_name(section);
+                write!(
+                    f,
+                    "{section} has a hash at record {record} that is not above the one before"
+                )
+            }
+            Finding::Differs(Part::Header) => write!(
+                f,
+                "the header has another footer size than 200"
+            ),
+            Finding::Differs(part) => {
+                let part = part_name(part);
+                write!(f, "{part} is not the one that the records give")
+            }
+            Finding::Size(bytes) => write!(
+                f,
+                "its size is not the {bytes} bytes that the records give"
+            ),
+        }
+    }
+}
+
+fn section_name(section: Section) -> &'static str {
+    match section {
+        Section::Files => "the file section",
+        Section::Xorbs => "the xorb section",
+    }
+}
+
+fn part_name(part: Part) -> &'static str {
+    match part {
+        Part::Header => "the header",
+        Part::FileSection => "the file section",
+        Part::XorbSection => "the xorb section",
+        Part::FileTable => "the file table",
+        Part::XorbTable => "the xorb table",
+        Part::ChunkTable => "the chunk table",
+        Part::Footer => "the footer",
+    }
+}

@@ -1,0 +1,118 @@
+//! What a shard's header and footer say.
+
+ghost use Rattle.std.specs.Prelude.{◌≡◌, ◌⊎◌, length, MatchResult};
+ghost use Rattle.xet_core_structures.specs.declared.error.CoreError.{CoreError};
+ghost use Rattle.xet_core_structures.specs.declared.shard_format.MDBShardInfo.{MDBShardInfo as Info};
+ghost use Rattle.xet_core_structures.specs.Ends.{HasEnds};
+ghost use Rattle.xet_core_structures.specs.ByteResults.{LoadRefusal};
+ghost use Rattle.mdb_report.specs.Summary.{Summarizes};
+
+use crate::hex::Hex;
+use crate::moment::Moment;
+use crate::parts::{LEGEND, Parts, bar_of};
+use serde::Serialize;
+use shard_bytes::load::load_bytes;
+use std::alloc::Global;
+use std::fmt;
+use xet_core_structures::error::Result;
+
+/// What a shard's header and footer say.
+#[derive(Drop, Serialize)]
+pub struct Summary<'a> {
+    /// The name of the shard's file.
+    pub file: &'a str,
+    pub bytes: u64,
+    pub version: u64,
+    pub parts: Parts,
+    pub key: Option<Hex>,
+    pub created: Moment,
+    pub expires: Moment,
+    /// The bytes of the xorbs, unpacked.
+    pub stored_bytes: u64,
+    /// The bytes of the xorbs, as they are stored.
+    pub stored_bytes_on_disk: u64,
+    /// The bytes of the files.
+    pub materialized_bytes: u64,
+    pub bar: String,
+}
+
+impl<'a> Summary<'a> {
+    /// The summary of the shard with these bytes.
+    ///
+    /// The errors are those of [`load_bytes`], and `OutOfMemory`.
+    pub fn of_bytes(alloc: Global, file: &'a str, bytes: &[u8]) -> Result<Summary<'a>>
+        ensures { MatchResult result
+            (λ summary. (info : Info) × HasEnds bytes.now info
+            × Summarizes info (length bytes.now) summary)
+            (λ e. LoadRefusal bytes.now e ⊎ (e ≡ CoreError.OutOfMemory)) }
+    {
+        let info = load_bytes(alloc, bytes)?;
+        let length = bytes.len() as u64;
+        let parts = Parts::of_shard(&info, length);
+        let footer = info.metadata;
+        Ok(Summary {
+            file,
+            bytes: length,
+            version: info.header.version,
+            parts,
+            key: info.chunk_hmac_key().map(Hex),
+            created: Moment::of_seconds(alloc, footer.shard_creation_timestamp)?,
+            expires: Moment::of_seconds(alloc, footer.shard_key_expiry)?,
+            stored_bytes: footer.stored_bytes,
+            stored_bytes_on_disk: footer.stored_bytes_on_disk,
+            materialized_bytes: footer.materialized_bytes,
+            bar: bar_of(alloc, &parts, length)?,
+        })
+    }
+}
+
+impl fmt::Display for Summary<'_> {
+    fn fmt<W: fmt::Write>(&self, f: &mut fmt::Formatter<W>) -> fmt::Result {
+        let file = self.file;
+        let version = self.version;
+        let bytes = self.bytes;
+        writeln!(f, "{file}: version {version}, {bytes} bytes")?;
+        write!(f, "{}", PartLines(&self.parts))?;
+        match self.key {
+            Some(key) => writeln!(f, "  key          {key}")?,
+            None => writeln!(f, "  key          none")?,
+        }
+        let created = &self.created;
+        writeln!(f, "  created      {created}")?;
+        let expires = &self.expires;
+        writeln!(f, "  expires      {expires}")?;
+        let stored = self.stored_bytes;
+        let on_disk = self.stored_bytes_on_disk;
+        writeln!(f, "  stored       {stored} bytes, {on_disk} on disk")?;
+        let materialized = self.materialized_bytes;
+        writeln!(f, "  materialized {materialized} bytes")?;
+        let bar = &self.bar;
+        writeln!(f, "  {bar}")?;
+        write!(f, "  {LEGEND}")
+    }
+}
+
+// A line for each part.
+#[derive(Drop)]
+struct PartLines<'a>(&'a Parts);
+
+impl fmt::Display for PartLines<'_> {
+    fn fmt<W: fmt::Write>(&self, f: &mut fmt::Formatter<W>) -> fmt::Result {
+        let Parts {
+            header,
+            files,
+            xorbs,
+            file_table,
+            xorb_table,
+            chunk_table,
+            footer,
+        } = *self.0;
+        writeln!(f, "  header       {header}")?;
+        writeln!(f, "  files        {files}")?;
+        writeln!(f, "  xorbs        {xorbs}")?;
+        writeln!(f, "  file table   {file_table}")?;
+        writeln!(f, "  xorb table   {xorb_table}")?;
+        writeln!(f, "  chunk table  {chunk_table}")?;
+        writeln!(f, "  footer       {footer}")
+    }
+}
