@@ -1,0 +1,18 @@
+-- Exit statuses.
+use Rattle.std.specs.Prelude.{ℕ}
+use Rattle.mdb.specs.declared.run.Status.{Status}
+use Rattle.mdb.specs.declared.run.Status.TheVariants.{Done, Failed, Misused, Found}
+
+-- the number that the process ends with
+abbrev pub number_of : Status → ℕ
+number_of Done = 0
+number_of Failed = 1
+number_of Misused = 2
+number_of Found = 3
+
+-- what a check that finds something makes of the status so far: a failure stays
+abbrev pub after_finding : Status → Status
+after_finding Done = Found
+after_finding Failed = Failed
+after_finding Misused = Misused
+after_finding Found = Found

@@ -1,0 +1,213 @@
+//! What a command line asks for.
+
+use crate::command_line::{self, id};
+use clap::error::ErrorKind;
+use clap::{ArgMatches, Error};
+use mdb_report::inquiry::Inquiry;
+use mdb_report::line::Style;
+use shard_bytes::combine::Operation;
+use shard_bytes::export::{Export, ExportParts};
+use shard_bytes::minimal::{KeptXorbs, Subset};
+use std::alloc::{AllocError, AllocFailed, Global};
+use xet_core_structures::file_structs::KeptParts;
+use xet_core_structures::merklehash::MerkleHash;
+
+/// What is asked for.
+#[derive(Drop)]
+pub enum Request<'a> {
+    /// To print what shards are asked.
+    Inspect(Vec<&'a str>, Inquiry, Style),
+    /// To write a shard to a path.
+    Make(Making<'a>, &'a str),
+}
+
+/// A command that writes a shard.
+#[derive(Drop)]
+pub enum Making<'a> {
+    Combine(Operation, &'a str, &'a str),
+    Merge(Vec<&'a str>),
+    Export(&'a str, Export),
+    Minimal(&'a str, u64, KeptParts),
+    Subset(&'a str, Subset),
+}
+
+/// Why words are no request.
+#[derive(Drop)]
+enum Refusal<'a> {
+    OutOfMemory,
+    /// The argument with this id lacks a value that it has to have.
+    Missing(&'static str),
+    /// The word is not the digits of a hash.
+    NoHash(&'a str),
+}
+
+impl From<AllocError> for Refusal<'_> {
+    fn from(_error: AllocError) -> Self {
+        Refusal::OutOfMemory
+    }
+}
+
+impl<T: Drop> From<AllocFailed<T>> for Refusal<'_> {
+    fn from(_error: AllocFailed<T>) -> Self {
+        Refusal::OutOfMemory
+    }
+}
+
+/// The request that words make, the first of which is the program's name. Else an error of the
+/// command line, which a request for help is too.
+pub fn request_of<'a>(alloc: Global, words: &'a [String]) -> Result<Request<'a>, Error> {
+    let mut command = command_line::command_line(alloc)?;
+    let matches = command.try_get_matches_from_mut(words)?;
+    match request_in(alloc, &matches) {
+        Ok(request) => Ok(request),
+        Err(refusal) => {
+            let message = message_of(alloc, &refusal)?;
+            Err(command.error(ErrorKind::ValueValidation, message.as_str())?)
+        }
+    }
+}
+
+fn message_of(alloc: Global, refusal: &Refusal<'_>) -> Result<String, AllocError> {
+    match refusal {
+        Refusal::OutOfMemory => String::from_str(alloc, "out of memory"),
+        Refusal::Missing(id) => format!(in alloc; "{id} is missing"),
+        Refusal::NoHash(word) => {
+            format!(in alloc; "'{word}' is no hash: it has 64 hexadecimal digits")
+        }
+    }
+}
+
+fn request_in<'a>(alloc: Global, matches: &ArgMatches<'a>) -> Result<Request<'a>, Refusal<'a>> {
+    let Some((name, matches)) = matches.subcommand() else {
+        return Err(Refusal::Missing("a command"));
+    };
+    match making_in(alloc, name, matches)? {
+        Some(making) => Ok(Request::Make(making, text_of(matches, id::OUTPUT)?)),
+        None => {
+            let inquiry = inquiry_in(alloc, name, matches)?;
+            let style = if matches.get_flag(id::JSON) {
+                Style::Json
+            } else {
+                Style::Text
+            };
+            Ok(Request::Inspect(texts_of(alloc, matches, id::FILE)?, inquiry, style))
+        }
+    }
+}
+
+fn inquiry_in<'a>(
+    alloc: Global,
+    name: &str,
+    matches: &ArgMatches<'a>,
+) -> Result<Inquiry, Refusal<'a>> {
+    let long = matches.get_flag(id::LONG);
+    match name {
+        "info" => Ok(Inquiry::Summary),
+        "check" => Ok(Inquiry::Check),
+        "files" => Ok(Inquiry::Files { long }),
+        "xorbs" => Ok(Inquiry::Xorbs { long }),
+        "chunks" => Ok(Inquiry::Chunks { long }),
+        "find" => Ok(Inquiry::Find {
+            hashes: hashes_of(alloc, matches, id::HASHES)?,
+            costs: matches.get_flag(id::COSTS),
+        }),
+        "query" => Ok(Inquiry::Query {
+            hashes: hashes_of(alloc, matches, id::HASHES)?,
+        }),
+        "eligible" => Ok(Inquiry::Eligible),
+        _ => Err(Refusal::Missing("a command")),
+    }
+}
+
+// `None` for a command that makes nothing.
+fn making_in<'a>(
+    alloc: Global,
+    name: &str,
+    matches: &ArgMatches<'a>,
+) -> Result<Option<Making<'a>>, Refusal<'a>> {
+    let making = match name {
+        "union" => pair_in(Operation::Union, matches)?,
+        "diff" => pair_in(Operation::Difference, matches)?,
+        "merge" => Making::Merge(texts_of(alloc, matches, id::FILE)?),
+        "export" => Making::Export(text_of(matches, id::FILE)?, export_in(matches)?),
+        "minimal" => Making::Minimal(
+            text_of(matches, id::FILE)?,
+            number_of(matches, id::NOW)?,
+            KeptParts {
+                verification: matches.get_flag(id::VERIFICATION),
+                aux_ext: !matches.get_flag(id::NO_AUX),
+            },
+        ),
+        "subset" => Making::Subset(text_of(matches, id::FILE)?, subset_in(alloc, matches)?),
+        _ => return Ok(None),
+    };
+    Ok(Some(making))
+}
+
+fn pair_in<'a>(operation: Operation, matches: &ArgMatches<'a>) -> Result<Making<'a>, Refusal<'a>> {
+    let first = text_of(matches, id::FIRST)?;
+    let second = text_of(matches, id::SECOND)?;
+    Ok(Making::Combine(operation, first, second))
+}
+
+fn export_in<'a>(matches: &ArgMatches<'a>) -> Result<Export, Refusal<'a>> {
+    Ok(Export {
+        key: hash_of(text_of(matches, id::KEY)?)?,
+        now: number_of(matches, id::NOW)?,
+        valid_seconds: number_of(matches, id::VALID)?,
+        parts: ExportParts {
+            files: !matches.get_flag(id::NO_FILES),
+            aux_ext: !matches.get_flag(id::NO_AUX),
+            xorb_table: !matches.get_flag(id::NO_XORB_TABLE),
+            chunk_table: !matches.get_flag(id::NO_CHUNK_TABLE),
+        },
+    })
+}
+
+fn subset_in<'a>(alloc: Global, matches: &ArgMatches<'a>) -> Result<Subset, Refusal<'a>> {
+    let kept = if matches.contains_id(id::XORBS) {
+        KeptXorbs::Listed(hashes_of(alloc, matches, id::XORBS)?)
+    } else {
+        KeptXorbs::All
+    };
+    Ok(Subset {
+        now: number_of(matches, id::NOW)?,
+        expiry: matches.get_one::<u64>(id::EXPIRY),
+        kept,
+    })
+}
+
+fn text_of<'a>(matches: &ArgMatches<'a>, id: &'static str) -> Result<&'a str, Refusal<'a>> {
+    matches.get_str(id).ok_or(Refusal::Missing(id))
+}
+
+fn number_of<'a>(matches: &ArgMatches<'a>, id: &'static str) -> Result<u64, Refusal<'a>> {
+    matches.get_one::<u64>(id).ok_or(Refusal::Missing(id))
+}
+
+fn texts_of<'a>(
+    alloc: Global,
+    matches: &ArgMatches<'a>,
+    id: &'static str,
+) -> Result<Vec<&'a str>, Refusal<'a>> {
+    match matches.get_strs(id) {
+        Some(texts) => Ok(Vec::from_slice(alloc, texts)?),
+        None => Err(Refusal::Missing(id)),
+    }
+}
+
+fn hashes_of<'a>(
+    alloc: Global,
+    matches: &ArgMatches<'a>,
+    id: &'static str,
+) -> Result<Vec<MerkleHash>, Refusal<'a>> {
+    let mut hashes = Vec::new(alloc);
+    for text in &texts_of(alloc, matches, id)? {
+        hashes.push(hash_of(text)?)?;
+    }
+    Ok(hashes)
+}
+
+fn hash_of<'a>(text: &'a str) -> Result<MerkleHash, Refusal<'a>> {
+    MerkleHash::from_hex(text).or(Err(Refusal::NoHash(text)))
+}

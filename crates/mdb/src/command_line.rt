@@ -1,0 +1,259 @@
+//! The commands of the program, their arguments and their help.
+
+use crate::help;
+use clap::{Arg, ArgAction, Command, value_parser};
+use std::alloc::{AllocError, Global};
+
+/// The ids of arguments, which usage shows as the names of values.
+pub mod id {
+    pub const FILE: &str = "FILE";
+
+    pub const FIRST: &str = "A";
+
+    pub const SECOND: &str = "B";
+
+    pub const HASHES: &str = "HASH";
+
+    pub const OUTPUT: &str = "OUT";
+
+    pub const KEY: &str = "HEX";
+
+    pub const NOW: &str = "NOW";
+
+    pub const VALID: &str = "VALID";
+
+    pub const EXPIRY: &str = "EXPIRY";
+
+    pub const XORBS: &str = "XORB";
+
+    pub const JSON: &str = "json";
+
+    pub const LONG: &str = "long";
+
+    pub const COSTS: &str = "costs";
+
+    pub const VERIFICATION: &str = "verification";
+
+    pub const NO_FILES: &str = "no-files";
+
+    pub const NO_AUX: &str = "no-aux";
+
+    pub const NO_XORB_TABLE: &str = "no-xorb-table";
+
+    pub const NO_CHUNK_TABLE: &str = "no-chunk-table";
+}
+
+/// The command line of the program.
+pub fn command_line<'a>(alloc: Global) -> Result<Command<'a>, AllocError> {
+    let command = Command::new(alloc, "mdb")
+        .bin_name("mdb")?
+        .about("Looks into .mdb files, checks them, and makes new ones of them")
+        .subcommand_required(true)
+        .arg_required_else_help(true)
+        .subcommand(info(alloc)?)?
+        .subcommand(listing(alloc, "files", "Lists the files", help::FILES)?)?
+        .subcommand(listing(alloc, "xorbs", "Lists the xorbs", help::XORBS)?)?
+        .subcommand(listing(
+            alloc,
+            "chunks",
+            "Lists the chunks of the xorbs",
+            help::CHUNKS,
+        )?)?
+        .subcommand(find(alloc)?)?
+        .subcommand(query(alloc)?)?
+        .subcommand(check(alloc)?)?;
+    command
+        .subcommand(union(alloc)?)?
+        .subcommand(diff(alloc)?)?
+        .subcommand(merge(alloc)?)?
+        .subcommand(export(alloc)?)?
+        .subcommand(minimal(alloc)?)?
+        .subcommand(subset(alloc)?)?
+        .subcommand(eligible(alloc)?)
+}
+
+fn info<'a>(alloc: Global) -> Result<Command<'a>, AllocError> {
+    Command::new(alloc, "info")
+        .about("Prints what headers and footers say")
+        .after_help(help::INFO)
+        .arg(files(alloc))?
+        .arg(json(alloc))
+}
+
+fn listing<'a>(
+    alloc: Global,
+    name: &'a str,
+    about: &'a str,
+    example: &'a str,
+) -> Result<Command<'a>, AllocError> {
+    Command::new(alloc, name)
+        .about(about)
+        .after_help(example)
+        .arg(file(alloc))?
+        .arg(flag(alloc, id::LONG, "Prints all that is known of each"))?
+        .arg(json(alloc))
+}
+
+fn find<'a>(alloc: Global) -> Result<Command<'a>, AllocError> {
+    Command::new(alloc, "find")
+        .about("Looks files up by their hashes")
+        .after_help(help::FIND)
+        .arg(file(alloc))?
+        .arg(hashes(alloc, "The files' hashes, of 64 hexadecimal digits each"))?
+        .arg(flag(
+            alloc,
+            id::COSTS,
+            "Prints the seeks and the bytes read of each lookup",
+        ))?
+        .arg(json(alloc))
+}
+
+fn query<'a>(alloc: Global) -> Result<Command<'a>, AllocError> {
+    Command::new(alloc, "query")
+        .about("Looks for a run of chunks in one xorb")
+        .after_help(help::QUERY)
+        .arg(file(alloc))?
+        .arg(hashes(
+            alloc,
+            "The chunks' hashes in order, of 64 hexadecimal digits each",
+        ))?
+        .arg(json(alloc))
+}
+
+fn check<'a>(alloc: Global) -> Result<Command<'a>, AllocError> {
+    Command::new(alloc, "check")
+        .about("Checks that files are as the library would write them; exit status 3 if one is not")
+        .after_help(help::CHECK)
+        .arg(files(alloc))?
+        .arg(json(alloc))
+}
+
+fn union<'a>(alloc: Global) -> Result<Command<'a>, AllocError> {
+    Command::new(alloc, "union")
+        .about("Writes the union of two shards")
+        .after_help(help::UNION)
+        .arg(positional(alloc, id::FIRST, "The first shard"))?
+        .arg(positional(alloc, id::SECOND, "The second shard"))?
+        .arg(output(alloc))
+}
+
+fn diff<'a>(alloc: Global) -> Result<Command<'a>, AllocError> {
+    Command::new(alloc, "diff")
+        .about("Writes what the second of two shards has and the first has not")
+        .after_help(help::DIFF)
+        .arg(positional(alloc, id::FIRST, "The first shard"))?
+        .arg(positional(alloc, id::SECOND, "The second shard"))?
+        .arg(output(alloc))
+}
+
+fn merge<'a>(alloc: Global) -> Result<Command<'a>, AllocError> {
+    Command::new(alloc, "merge")
+        .about("Writes the union of any number of shards")
+        .after_help(help::MERGE)
+        .arg(files(alloc))?
+        .arg(output(alloc))
+}
+
+fn export<'a>(alloc: Global) -> Result<Command<'a>, AllocError> {
+    Command::new(alloc, "export")
+        .about("Writes a shard with its chunk hashes under a key")
+        .after_help(help::EXPORT)
+        .arg(file(alloc))?
+        .arg(option(alloc, id::KEY, "key", "The key: 64 hexadecimal digits").required(true))?
+        .arg(number(alloc, id::NOW, "now", "The time of creation, in seconds").required(true))?
+        .arg(number(alloc, id::VALID, "valid", "The seconds until the expiry").required(true))?
+        .arg(flag(alloc, id::NO_FILES, "Leaves the files out"))?
+        .arg(flag(alloc, id::NO_AUX, "Leaves the files' auxiliary rows out"))?
+        .arg(flag(alloc, id::NO_XORB_TABLE, "Leaves the xorb table out"))?
+        .arg(flag(alloc, id::NO_CHUNK_TABLE, "Leaves the chunk table out"))?
+        .arg(output(alloc))
+}
+
+fn minimal<'a>(alloc: Global) -> Result<Command<'a>, AllocError> {
+    Command::new(alloc, "minimal")
+        .about("Writes a shard without tables, with marks on the chunks at which files start")
+        .after_help(help::MINIMAL)
+        .arg(file(alloc))?
+        .arg(number(alloc, id::NOW, "now", "The time of creation, in seconds").required(true))?
+        .arg(flag(
+            alloc,
+            id::VERIFICATION,
+            "Keeps the files' verification rows",
+        ))?
+        .arg(flag(alloc, id::NO_AUX, "Leaves the files' auxiliary rows out"))?
+        .arg(output(alloc))
+}
+
+fn subset<'a>(alloc: Global) -> Result<Command<'a>, AllocError> {
+    let xorbs = option(
+        alloc,
+        id::XORBS,
+        "xorb",
+        "The hash of a xorb to keep; without, all are kept",
+    );
+    Command::new(alloc, "subset")
+        .about("Writes some of the xorbs of a shard, without files and tables")
+        .after_help(help::SUBSET)
+        .arg(file(alloc))?
+        .arg(number(alloc, id::NOW, "now", "The time of creation, in seconds").required(true))?
+        .arg(number(
+            alloc,
+            id::EXPIRY,
+            "expiry",
+            "The time of expiry, in seconds",
+        ))?
+        .arg(xorbs.action(ArgAction::Append))?
+        .arg(output(alloc))
+}
+
+fn eligible<'a>(alloc: Global) -> Result<Command<'a>, AllocError> {
+    Command::new(alloc, "eligible")
+        .about("Lists the hashes of the chunks that the global index keeps, in ascending order")
+        .after_help(help::ELIGIBLE)
+        .arg(file(alloc))?
+        .arg(json(alloc))
+}
+
+fn positional<'a>(alloc: Global, id: &'a str, help: &'a str) -> Arg<'a> {
+    Arg::new(alloc, id).help(help).required(true)
+}
+
+fn file<'a>(alloc: Global) -> Arg<'a> {
+    positional(alloc, id::FILE, "The shard")
+}
+
+fn files<'a>(alloc: Global) -> Arg<'a> {
+    positional(alloc, id::FILE, "The shards").num_args(1..)
+}
+
+fn hashes<'a>(alloc: Global, help: &'a str) -> Arg<'a> {
+    positional(alloc, id::HASHES, help).num_args(1..)
+}
+
+fn option<'a>(alloc: Global, id: &'a str, long: &'a str, help: &'a str) -> Arg<'a> {
+    Arg::new(alloc, id).long(long).help(help)
+}
+
+fn number<'a>(alloc: Global, id: &'a str, long: &'a str, help: &'a str) -> Arg<'a> {
+    option(alloc, id, long, help).value_parser(value_parser!(u64))
+}
+
+fn output<'a>(alloc: Global) -> Arg<'a> {
+    Arg::new(alloc, id::OUTPUT)
+        .short('o')
+        .long("output")
+        .help("The file to write, or - for standard output")
+        .required(true)
+}
+
+// The long name of a flag is its id.
+fn flag<'a>(alloc: Global, id: &'a str, help: &'a str) -> Arg<'a> {
+    Arg::new(alloc, id)
+        .long(id)
+        .help(help)
+        .action(ArgAction::SetTrue)
+}
+
+fn json<'a>(alloc: Global) -> Arg<'a> {
+    flag(alloc, id::JSON, "Prints one JSON value a line")
+}

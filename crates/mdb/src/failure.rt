@@ -1,0 +1,58 @@
+//! Why a command ends without what was asked for.
+
+use mdb_report::fault::Fault;
+use std::fmt;
+
+/// What a failure is about.
+#[derive(Clone, Copy, Debug, PartialEq, Eq)]
+pub enum Subject<'a> {
+    File(&'a str),
+    Pair(&'a str, &'a str),
+    /// The first of so many files.
+    Files(&'a str, usize),
+    StandardOutput,
+}
+
+/// A failure: its one line is the subject and what is wrong.
+#[derive(Drop)]
+pub struct Failure<'a> {
+    pub subject: Subject<'a>,
+    pub fault: Fault,
+}
+
+impl<'a> Failure<'a> {
+    /// A failure on a file.
+    pub fn on_file(file: &'a str, fault: Fault) -> Failure<'a> {
+        Failure {
+            subject: Subject::File(file),
+            fault,
+        }
+    }
+
+    /// A failure on standard output.
+    pub fn on_output(fault: Fault) -> Failure<'a> {
+        Failure {
+            subject: Subject::StandardOutput,
+            fault,
+        }
+    }
+}
+
+impl fmt::Display for Subject<'_> {
+    fn fmt<W: fmt::Write>(&self, f: &mut fmt::Formatter<W>) -> fmt::Result {
+        match self {
+            Subject::File(file) => write!(f, "{file}"),
+            Subject::Pair(first, second) => write!(f, "{first} and {second}"),
+            Subject::Files(first, count) => write!(f, "{count} files, {first} the first"),
+            Subject::StandardOutput => write!(f, "standard output"),
+        }
+    }
+}
+
+impl fmt::Display for Failure<'_> {
+    fn fmt<W: fmt::Write>(&self, f: &mut fmt::Formatter<W>) -> fmt::Result {
+        let subject = self.subject;
+        let fault = &self.fault;
+        write!(f, "{subject}: {fault}")
+    }
+}

@@ -1,0 +1,18 @@
+//! Looks into `.mdb` files, checks them, and makes new ones of them. The work is in the libraries;
+//! here arguments and files are read, and what comes of them is printed or written.
+#![tactic(auto)]
+
+mod arguments;
+mod command_line;
+mod failure;
+mod files;
+mod help;
+mod inspect;
+mod make;
+mod run;
+
+use std::process::ExitCode;
+
+fn main(rt: HostRuntime) -> ExitCode {
+    ExitCode::from(run::run(&rt))
+}

@@ -1,0 +1,159 @@
+//! The commands that write a shard.
+
+use crate::arguments::Making;
+use crate::failure::{Failure, Subject};
+use crate::files::{STANDARD_OUTPUT, read, write};
+use mdb_report::fault::{Fault, export_fault, fault_of, first_obstacle, minimal_fault};
+use mdb_report::merge::merge_bytes;
+use shard_bytes::combine::{Operation, combine_bytes};
+use shard_bytes::export::{Export, export_bytes};
+use shard_bytes::minimal::{Subset, minimal_bytes, subset_bytes};
+use std::alloc::{AllocError, Global};
+use std::rt::Files;
+use xet_core_structures::error::CoreError;
+use xet_core_structures::file_structs::KeptParts;
+
+/// Writes the shard that a command makes to a path, or to standard output if it is `-`.
+pub fn make<'a, R: Files + Print + AllocGlobal>(
+    rt: &R,
+    making: &Making<'a>,
+    output: &'a str,
+) -> Result<(), Failure<'a>> {
+    let bytes = match making {
+        Making::Combine(operation, first, second) => combined(rt, *operation, first, second),
+        Making::Merge(files) => merged(rt, files.as_slice()),
+        Making::Export(file, export) => exported(rt, file, export),
+        Making::Minimal(file, now, kept) => minimal(rt, file, *now, *kept),
+        Making::Subset(file, kept) => subset(rt, file, kept),
+    }?;
+    match write(rt, rt.alloc(), output, bytes.as_slice()) {
+        Ok(()) => Ok(()),
+        Err(error) if output == STANDARD_OUTPUT => Err(Failure::on_output(Fault::from(error))),
+        Err(error) => Err(Failure::on_file(output, Fault::from(error))),
+    }
+}
+
+/// The bytes of a file.
+pub fn bytes_of<'a, R: Files + AllocGlobal>(rt: &R, file: &'a str) -> Result<Vec<u8>, Failure<'a>> {
+    match read(rt, file) {
+        Ok(bytes) => Ok(bytes),
+        Err(error) => Err(Failure::on_file(file, Fault::from(error))),
+    }
+}
+
+fn exported<'a, R: Files + AllocGlobal>(
+    rt: &R,
+    file: &'a str,
+    export: &Export,
+) -> Result<Vec<u8>, Failure<'a>> {
+    let alloc = rt.alloc();
+    let bytes = bytes_of(rt, file)?;
+    match export_bytes(alloc, bytes.as_slice(), export) {
+        Ok(exported) => Ok(exported),
+        Err(error) => {
+            let fault = export_fault(alloc, bytes.as_slice(), error);
+            Err(Failure::on_file(file, fault))
+        }
+    }
+}
+
+fn minimal<'a, R: Files + AllocGlobal>(
+    rt: &R,
+    file: &'a str,
+    now: u64,
+    kept: KeptParts,
+) -> Result<Vec<u8>, Failure<'a>> {
+    let alloc = rt.alloc();
+    let bytes = bytes_of(rt, file)?;
+    match minimal_bytes(alloc, bytes.as_slice(), now, kept) {
+        Ok(minimal) => Ok(minimal),
+        Err(error) => {
+            let fault = minimal_fault(alloc, bytes.as_slice(), kept, error);
+            Err(Failure::on_file(file, fault))
+        }
+    }
+}
+
+fn subset<'a, R: Files + AllocGlobal>(
+    rt: &R,
+    file: &'a str,
+    kept: &Subset,
+) -> Result<Vec<u8>, Failure<'a>> {
+    let alloc = rt.alloc();
+    let bytes = bytes_of(rt, file)?;
+    match subset_bytes(alloc, bytes.as_slice(), kept) {
+        Ok(subset) => Ok(subset),
+        Err(error) => Err(Failure::on_file(file, fault_of(alloc, bytes.as_slice(), error))),
+    }
+}
+
+fn combined<'a, R: Files + AllocGlobal>(
+    rt: &R,
+    operation: Operation,
+    first: &'a str,
+    second: &'a str,
+) -> Result<Vec<u8>, Failure<'a>> {
+    let alloc = rt.alloc();
+    let one = bytes_of(rt, first)?;
+    let other = bytes_of(rt, second)?;
+    match combine_bytes(alloc, operation, one.as_slice(), other.as_slice()) {
+        Ok(bytes) => Ok(bytes),
+        Err(error) => {
+            let inputs = [one.as_slice(), other.as_slice()];
+            Err(blamed(alloc, &[first, second], &inputs, error))
+        }
+    }
+}
+
+fn merged<'a, R: Files + AllocGlobal>(rt: &R, files: &[&'a str]) -> Result<Vec<u8>, Failure<'a>> {
+    let alloc = rt.alloc();
+    let mut contents = Vec::new(alloc);
+    for file in files {
+        let bytes = bytes_of(rt, file)?;
+        if contents.push(bytes).is_err() {
+            return Err(Failure::on_file(file, Fault::OutOfMemory));
+        }
+    }
+    let inputs: Result<Vec<&[u8]>, AllocError> = contents
+        .iter()
+        .map(|bytes| bytes.as_slice())
+        .collect(alloc);
+    let inputs = match inputs {
+        Ok(inputs) => inputs,
+        Err(_) => return Err(on_all(files, Fault::OutOfMemory)),
+    };
+    match merge_bytes(alloc, inputs.as_slice()) {
+        Ok(bytes) => Ok(bytes),
+        Err(error) => Err(blamed(alloc, files, inputs.as_slice(), error)),
+    }
+}
+
+// The failure behind an error of a union or a difference: the first input of which none can be made,
+// else what is wrong with the inputs together.
+fn blamed<'a>(alloc: Global, files: &[&'a str], inputs: &[&[u8]], error: CoreError) -> Failure<'a> {
+    if error == CoreError::OutOfMemory {
+        return on_all(files, Fault::OutOfMemory);
+    }
+    for (file, bytes) in files.iter().zip(inputs) {
+        match first_obstacle(alloc, bytes) {
+            Ok(Some(finding)) => return Failure::on_file(file, Fault::Bytes(finding)),
+            Ok(None) => {}
+            Err(fault) => return Failure::on_file(file, fault),
+        }
+    }
+    if error == CoreError::InvalidArguments {
+        on_all(files, Fault::KeysDiffer)
+    } else {
+        on_all(files, Fault::NoUnion)
+    }
+}
+
+// A failure on all inputs together.
+fn on_all<'a>(files: &[&'a str], fault: Fault) -> Failure<'a> {
+    let subject = match files {
+        [first, second] => Subject::Pair(first, second),
+        [first, ..] => Subject::Files(first, files.len()),
+        [] => Subject::StandardOutput,
+    };
+    Failure { subject, fault }
+}
