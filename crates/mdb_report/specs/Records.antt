@@ -1,5 +1,5 @@
 -- What is reported of records.
-use Rattle.std.specs.Prelude.{◌≡◌, ⊤, map, Option, None, Some, option_map, IfSome}
+use Rattle.std.specs.Prelude.{◌≡◌, map, option_map, IfSome}
 use Rattle.xet_core_structures.specs.declared.file_structs.FileDataSequenceEntry.{FileDataSequenceEntry}
 use Rattle.xet_core_structures.specs.declared.file_structs.MDBFileInfo.{MDBFileInfo}
 use Rattle.xet_core_structures.specs.declared.xorb_structs.MDBXorbInfo.{MDBXorbInfo}

@@ -1,8 +1,6 @@
 -- What a summary says.
-use Rattle.std.specs.Prelude.{◌≡◌, ℕ, List, length, string_bytes, None, Some, option_map, if◌then◌else◌}
+use Rattle.std.specs.Prelude.{◌≡◌, ℕ, string_bytes}
 use Rattle.xet_core_structures.specs.declared.shard_format.MDBShardInfo.{MDBShardInfo}
-use Rattle.xet_core_structures.specs.Hash.{hash_eq}
-use Rattle.xet_core_structures.specs.KeyedHash.{no_key}
 use Rattle.mdb_report.specs.declared.parts.Parts.{Parts}
 use Rattle.mdb_report.specs.declared.summary.Summary.{Summary}
 use Rattle.mdb_report.specs.Parts.{columns}
