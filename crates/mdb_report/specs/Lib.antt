@@ -1,5 +1,4 @@
 pub mod Lookups
-pub mod Merging
 pub mod Parts
 pub mod Problems
 pub mod Records

@@ -8,7 +8,6 @@ pub mod hex;
 pub mod inquiry;
 pub mod line;
 pub mod lookup;
-pub mod merge;
 pub mod moment;
 pub mod parts;
 pub mod problem;
