@@ -1,9 +1,20 @@
 -- What a summary says.
-use Rattle.std.specs.Prelude.{◌≡◌, ℕ, string_bytes}
+use Rattle.std.specs.Prelude.{◌≡◌, ℕ, string_bytes, Option, None, Some, option_map, if◌then◌else◌}
 use Rattle.xet_core_structures.specs.declared.shard_format.MDBShardInfo.{MDBShardInfo}
+use Rattle.xet_core_structures.specs.Hash.{hash_eq}
+use Rattle.xet_core_structures.specs.KeyedHash.{no_key}
+use Rattle.mdb_report.specs.declared.hex.Hex.{Hex}
 use Rattle.mdb_report.specs.declared.parts.Parts.{Parts}
 use Rattle.mdb_report.specs.declared.summary.Summary.{Summary}
 use Rattle.mdb_report.specs.Parts.{columns}
+
+-- the key of the chunk hashes, if they have one
+abbrev pub key_in : MDBShardInfo → Option Hex
+key_in info =
+    option_map (λ k. record { 0 = k })
+    (if hash_eq info.metadata.chunk_hash_hmac_key no_key
+    then None
+    else Some info.metadata.chunk_hash_hmac_key)
 
 -- each part starts where the footer says, and ends where the next one starts
 pub record ArePartsOf (info : MDBShardInfo) (bytes : ℕ) (parts : Parts) : Type 0 where
@@ -31,6 +42,7 @@ pub record Summarizes (info : MDBShardInfo) (bytes : ℕ) (summary : Summary) : 
   pub version : summary.version ≡ info.header.version
   pub parts : ArePartsOf info bytes summary.parts
   pub bar : string_bytes summary.bar ≡ columns summary.parts bytes 60
+  pub key : summary.key ≡ key_in info
   pub created : summary.created.seconds ≡ info.metadata.shard_creation_timestamp
   pub expires : summary.expires.seconds ≡ info.metadata.shard_key_expiry
   pub stored : summary.stored_bytes ≡ info.metadata.stored_bytes

@@ -5,7 +5,7 @@ ghost use Rattle.xet_core_structures.specs.declared.error.CoreError.{CoreError};
 ghost use Rattle.xet_core_structures.specs.declared.shard_format.MDBShardInfo.{MDBShardInfo as Info};
 ghost use Rattle.xet_core_structures.specs.Ends.{HasEnds};
 ghost use Rattle.xet_core_structures.specs.ByteResults.{LoadRefusal};
-ghost use Rattle.mdb_report.specs.Summary.{Summarizes};
+ghost use Rattle.mdb_report.specs.Summary.{Summarizes, key_in};
 
 use crate::hex::Hex;
 use crate::moment::Moment;
@@ -15,6 +15,7 @@ use shard_bytes::load::load_bytes;
 use std::alloc::Global;
 use std::fmt;
 use xet_core_structures::error::Result;
+use xet_core_structures::shard_format::MDBShardInfo;
 
 /// What a shard's header and footer say.
 #[derive(Drop, Serialize)]
@@ -55,7 +56,7 @@ impl<'a> Summary<'a> {
             bytes: length,
             version: info.header.version,
             parts,
-            key: info.chunk_hmac_key().map(Hex),
+            key: key_of(&info),
             created: Moment::of_seconds(alloc, footer.shard_creation_timestamp)?,
             expires: Moment::of_seconds(alloc, footer.shard_key_expiry)?,
             stored_bytes: footer.stored_bytes,
@@ -64,6 +65,13 @@ impl<'a> Summary<'a> {
             bar: bar_of(alloc, &parts, length)?,
         })
     }
+}
+
+// The key of the chunk hashes, if they have one.
+fn key_of(info: &MDBShardInfo) -> Option<Hex>
+    ensures { result ≡ key_in info.now }
+{
+    info.chunk_hmac_key().map(|key| Hex(key))
 }
 
 impl fmt::Display for Summary<'_> {
