@@ -3,7 +3,10 @@
 use crate::arguments::Making;
 use crate::failure::{Failure, Subject};
 use crate::files::{STANDARD_OUTPUT, read, write};
-use mdb_report::fault::{Fault, export_fault, fault_of, first_obstacle, minimal_fault};
+use mdb_report::fault::{
+    Fault, export_fault, fault_of, first_obstacle, has_wrong_footer, minimal_fault,
+};
+use shard_bytes::check::{Finding, Part};
 use shard_bytes::combine::{Operation, combine_bytes};
 use shard_bytes::export::{Export, export_bytes};
 use shard_bytes::merge::merge_bytes;
@@ -142,10 +145,24 @@ fn blamed<'a>(alloc: Global, files: &[&'a str], inputs: &[&[u8]], error: CoreErr
         }
     }
     if error == CoreError::InvalidArguments {
-        on_all(files, Fault::KeysDiffer)
-    } else {
-        on_all(files, Fault::NoUnion)
+        return on_all(files, Fault::KeysDiffer);
     }
+    misplaced(alloc, files, inputs)
+}
+
+// The failure of inputs that can all be read from their start: the first whose footer is wrong, so
+// that sections are looked for elsewhere, else what is wrong with the inputs together.
+fn misplaced<'a>(alloc: Global, files: &[&'a str], inputs: &[&[u8]]) -> Failure<'a> {
+    for (file, bytes) in files.iter().zip(inputs) {
+        match has_wrong_footer(alloc, bytes) {
+            Ok(true) => {
+                return Failure::on_file(file, Fault::Bytes(Finding::Differs(Part::Footer)));
+            }
+            Ok(false) => {}
+            Err(fault) => return Failure::on_file(file, fault),
+        }
+    }
+    on_all(files, Fault::NoUnion)
 }
 
 // A failure on all inputs together.

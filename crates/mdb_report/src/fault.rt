@@ -1,7 +1,7 @@
 //! Why a command failed, in words.
 
 use crate::problem::InWords;
-use shard_bytes::check::{Finding, check_bytes};
+use shard_bytes::check::{Finding, Part, check_bytes};
 use shard_bytes::load::load_bytes;
 use std::alloc::{AllocError, AllocFailed, Global};
 use std::{fmt, io};
@@ -111,6 +111,19 @@ pub fn first_obstacle(alloc: Global, bytes: &[u8]) -> Result<Option<Finding>, Fa
     }
 }
 
+/// Whether the footer of a shard's bytes, by which a union or a difference finds the sections, is not
+/// the one that the records give.
+pub fn has_wrong_footer(alloc: Global, bytes: &[u8]) -> Result<bool, Fault> {
+    match check_bytes(alloc, bytes) {
+        Ok(findings) => Ok(
+            findings
+                .as_slice()
+                .contains(&Finding::Differs(Part::Footer)),
+        ),
+        Err(_) => Err(Fault::OutOfMemory),
+    }
+}
+
 /// The fault behind an error of an export.
 pub fn export_fault(alloc: Global, bytes: &[u8], error: CoreError) -> Fault {
     if error != CoreError::InvalidArguments {
@@ -124,8 +137,16 @@ pub fn export_fault(alloc: Global, bytes: &[u8], error: CoreError) -> Fault {
 
 /// The fault behind an error of a minimal shard.
 pub fn minimal_fault(alloc: Global, bytes: &[u8], kept: KeptParts, error: CoreError) -> Fault {
-    match fault_of(alloc, bytes, error) {
-        Fault::Other(CoreError::Io(_)) if kept.verification => Fault::NoVerification,
-        fault => fault,
+    if kept.verification && lacks_verification(&error) {
+        return Fault::NoVerification;
+    }
+    fault_of(alloc, bytes, error)
+}
+
+// Whether the error of a minimal shard is that of a file without verification rows.
+fn lacks_verification(error: &CoreError) -> bool {
+    match error {
+        CoreError::Io(error) => error.kind() == io::ErrorKind::Other,
+        _ => false,
     }
 }
