@@ -1,14 +1,15 @@
 /* Metadata shards of Xet storage, as bytes: the calls of crates/xet_c.
  *
- * Each call takes the bytes of shards and writes to memory of the caller. Nothing is kept between calls: there is no
- * handle, and nothing to free. Shards of versions 2 and 3 of the format are read, and version 3 is written.
+ * Each call takes the bytes of shards, or a hash or its text, and writes to memory of the caller. Nothing is kept
+ * between calls: there is no handle, and nothing to free. Shards of versions 2 and 3 of the format are read, and
+ * version 3 is written.
  *
  * A call returns 0 or the number of an error. If the result is not 0, every output but a count stays as it was: what
- * `out`, `info`, `run`, `file` and `segments` point to is not touched, unless a call says otherwise below. A call that
- * fills an array of the caller, `out` of `capacity` items, sets `*written` to the number of items that it wrote, from
- * the front; what is behind them stays. If they do not fit, the result is XET_SHORT and `*written` is the number that
- * is needed: call again with so much room. With any other error `*written` is 0. So `capacity` may be 0 to ask for the
- * size.
+ * `out`, `info`, `run`, `file`, `segments` and `hash` point to is not touched, unless a call says otherwise below. A
+ * call that fills an array of the caller, `out` of `capacity` items, sets `*written` to the number of items that it
+ * wrote, from the front; what is behind them stays. If they do not fit, the result is XET_SHORT and `*written` is the
+ * number that is needed: call again with so much room. With any other error `*written` is 0. So `capacity` may be 0 to
+ * ask for the size.
  *
  * What callers must uphold. Each pointer is valid for as many items as its length says, or for one item if it has no
  * length, is aligned for its type, and is not null, also if the length is 0. What an output points to overlaps neither
@@ -97,7 +98,7 @@ typedef struct xet_info {
     uint64_t chunks;               /* the same of chunks */
     uint64_t key[4];               /* of the chunk hashes; all 0: they are not keyed */
     uint64_t creation;             /* seconds */
-    uint64_t expiry;               /* seconds; UINT64_MAX: none */
+    uint64_t expiry;               /* seconds; none: UINT64_MAX, or 0 in minimal shards and subsets */
     uint64_t stored_bytes_on_disk; /* of all xorbs */
     uint64_t materialized_bytes;   /* of all files */
     uint64_t stored_bytes;         /* of all xorbs, unpacked */
@@ -136,7 +137,7 @@ uint32_t xet_union(const uint8_t *first, size_t first_length, const uint8_t *sec
                    size_t capacity, size_t *written);
 
 /* Writes the union of one shard or more: that of the first half of the list with that of the second, each made in the
- * same way; a single one is united with itself. Of shards that agree it is the same bytes in any order.
+ * same way; a single one is united with itself. Of shards that agree and have no key it is the same bytes in any order.
  *
  * XET_INVALID_ARGUMENTS: there is no shard, or the keys differ.
  * The other errors are those of xet_union. */

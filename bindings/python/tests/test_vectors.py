@@ -210,6 +210,22 @@ def test_names():
     raises(ValueError, xet_shards.shard_name, name)
 
 
+def test_digits():
+    digits = b"000000000000000100000000000000020000000000000003000000000000000a"
+    words, written = xet_shards._Hash((1, 2, 3, 10)), ctypes.c_size_t()
+    text = ctypes.create_string_buffer(b"#" * 65, 65)
+    to_hex, from_hex = xet_shards._library.xet_hash_to_hex, xet_shards._library.xet_hash_from_hex
+    assert (to_hex(ctypes.byref(words), text, 63, ctypes.byref(written)), written.value) == (19, 64)
+    assert text.raw == b"#" * 65
+    assert (to_hex(ctypes.byref(words), text, 65, ctypes.byref(written)), written.value) == (0, 64)
+    assert text.raw == digits + b"#"
+    for given in (digits, digits.upper()):
+        found = xet_shards._Hash((9, 9, 9, 9))
+        assert (from_hex(given, 64, ctypes.byref(found)), list(found.words)) == (0, [1, 2, 3, 10])
+        assert (from_hex(given, 63, ctypes.byref(words)), list(words.words)) == (16, [1, 2, 3, 10])
+    assert (from_hex(b"\xff" * 64, 64, ctypes.byref(words)), list(words.words)) == (16, [1, 2, 3, 10])
+
+
 def test_merge_of_one_and_of_none():
     # A single shard is written anew, in version 3 and without expiry.
     shard = Shard()
@@ -231,14 +247,6 @@ def test_merge():
         for order in itertools.permutations(shards):
             assert xet_shards.merge(order).hex() == first
         assert xet_shards.merge(shards * 5).hex() == first
-
-
-def test_merge_of_few():
-    # The union of a shard with itself has no expiry.
-    shard = Shard()
-    shard.add_file("100", "200:0:5:5")
-    assert xet_shards.merge([shard.written(7)]) == ONE_FILE
-    raises(ValueError, xet_shards.merge, [])
 
 
 def test_arguments():

@@ -1,8 +1,8 @@
 """Metadata shards of Xet storage: bytes in, bytes or an answer out.
 
-Each function calls the function of the same name of bindings/c/xet.h, whose comments say what it does on which bytes,
-and when it fails. Shards are `bytes`, `bytearray` or `memoryview`. A hash is text of 64 hexadecimal digits, as shards
-print it: words 0, 1, 2 and 3, each as sixteen digits. Times are in seconds.
+Each function calls `xet_` and its name, and `hash_of_name` calls `xet_parse_shard_name`, of bindings/c/xet.h, whose
+comments say what it does on which bytes, and when it fails. Shards are `bytes`, `bytearray` or `memoryview`. A hash is
+text of 64 hexadecimal digits, as shards print it: words 0, 1, 2 and 3, each as sixteen digits. Times are in seconds.
 
 The shared object is the file that the environment variable XET_LIBRARY names, else libxet.so beside this module.
 """
@@ -288,7 +288,7 @@ def _combined(operation: Callable[..., int], first: Buffer, second: Buffer) -> b
 
 
 def merge(shards: Sequence[Buffer]) -> bytes:
-    """Returns the union of one shard or more, by a balanced tree of unions; that of one is with itself.
+    """Returns the union of one shard or more, by a balanced tree of unions; a single one is united with itself.
 
     Any other tree gives the same bytes, and so does any other order, for shards that agree and have no key: files with
     one hash have equal segments, and an equal optional part wherever both have it, and xorbs with one hash are equal.
@@ -340,7 +340,7 @@ def minimal(shard: Buffer, now: int, verification: bool = True, aux_rows: bool =
 def subset(shard: Buffer, now: int, expiry: Optional[int] = None, xorbs: Optional[Sequence[str]] = None) -> bytes:
     """Returns the xorbs of the shard with these hashes, or all, without files and tables, created at `now`.
 
-    A hash that no xorb has is passed over.
+    A hash that no xorb has is passed over. It expires at `expiry`, in seconds; None and 0 mean that it does not.
     """
     data, listed = _bytes(shard), _hashes(xorbs or [])
     options = _Subset(_seconds(now), _seconds(expiry or 0), xorbs is None)
@@ -372,6 +372,7 @@ def shard_name(shard_hash: str) -> str:
 
 def hash_of_name(name: str) -> str:
     """Returns the hash in the name of a shard file, of 64 hexadecimal digits and `.mdb`."""
-    text, found = name.encode("utf-8"), _Hash()
+    # A name of the file system may have bytes that are no text.
+    text, found = name.encode("utf-8", "surrogatepass"), _Hash()
     _check(_library.xet_parse_shard_name(text, len(text), byref(found)))
     return _text(found.words)

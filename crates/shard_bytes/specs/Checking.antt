@@ -136,7 +136,7 @@ pub record IsReport (bytes : List ℕ) (findings : List Finding) : Type 0 where
   pub all : (f : Finding) → IsFinding bytes f → Contains findings f
   pub none : findings ≡ [] → IsWhole bytes
 
--- all findings that are so were added, and none only if all is well
+-- the findings for which `IsSo` holds were added, and none was only if `Well` holds
 pub record Adds (Well : Type 0) (IsSo : Finding → Type 0) (old new : List Finding) : Type 0 where
   pub more : List Finding
   pub added : new ≡ old ++ more

@@ -62,10 +62,10 @@ pub enum Finding {
     Size(usize),
 }
 
-/// What is wrong with the bytes of a shard, in the order of [`Finding`]. Nothing is if they are, byte
-/// for byte, what the library would write of the records in them, with strictly ascending hashes, in
-/// their version and with their key, their timestamps and the tables that the footer says have rows.
-/// After bytes that cannot be read nothing else is looked for.
+/// What is wrong with the bytes of a shard. The list is empty if they are, byte for byte, what the
+/// library would write of the records in them, with strictly ascending hashes, in their version and
+/// with their key, their timestamps and the tables that the footer says have rows. If the bytes
+/// cannot be read, nothing else is looked for.
 ///
 /// `OutOfMemory` if an allocation fails. No other error.
 pub fn check_bytes(alloc: Global, bytes: &[u8]) -> Result<Vec<Finding>>

@@ -10,7 +10,8 @@ use xet_core_structures::set_operations::{MergePlan, shard_union_tree};
 
 /// The bytes of the union of one shard or more, from their bytes, by a balanced tree of unions:
 /// that of the first half of the list with that of the second. One shard is united with itself. Of
-/// shards that agree pairwise any other tree and any other order gives the same bytes.
+/// shards that agree pairwise and have no key, any other tree with a union and any other order give
+/// the same bytes.
 ///
 /// `InvalidArguments` if the list is empty. Else the errors are those of [`shard_union_tree`].
 pub fn merge_bytes(alloc: Global, shards: &[&[u8]]) -> Result<Vec<u8>>

@@ -31,7 +31,8 @@ module _ (starts : FileStart → Bool) (x : MDBXorbInfo) where
     pub is_start : starts (chunk_of x next) ≡ true
     pub none_before : StartsNowhere from next
 
--- in a sorted list the starts from one on begin at this place
+-- at this place of a sorted list, in which starts may repeat, is a least one from some start on, or
+-- the list has none
 pub record IsPlaceOf (starts : List FileStart) (first : FileStart) (at : ℕ) : Type 0 where
   pub from : (k : FileStart) → slice_get starts at ≡ Some k → IsLeBy start_cmp first k
   pub least : (s : FileStart) → IsTrue (has_start starts s) → IsLeBy start_cmp first s

@@ -74,7 +74,7 @@ pub(super) fn is_start(starts: &[FileStart], chunk: &FileStart) -> bool
     starts.binary_search(chunk).is_ok()
 }
 
-// Where the starts from this one on begin.
+// The index of a least start from this one on, or the length if there is none. Starts may repeat.
 fn place_of(starts: &[FileStart], first: &FileStart) -> usize
     requires { IsSorted start_cmp starts.now }
     ensures { IsPlaceOf starts.now first.now result }
