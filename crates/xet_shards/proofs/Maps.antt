@@ -1,6 +1,6 @@
 -- The finite maps of the entries of a `BTreeMap`.
-use Rattle.std.proofs.Common.{◌≡◌, ℕ, ◌+◌, Bool, ◌&&◌, List, [], ◌∷◌, map, length, Some, None, T, refl, sym, ap, ◌∙◌, subst, arith, is_some, ◌<◌, ◌≤◌}
-use Rattle.std.specs.Prelude.{All, option_map, unwrap_or, sum_by, cond}
+use Rattle.std.proofs.Common.{◌≡◌, ℕ, ◌+◌, Bool, ◌&&◌, List, [], ◌∷◌, map, length, Some, None, T, refl, sym, ap, ◌∙◌, subst, arith, is_some, ◌<◌, ◌≤◌, Bor}
+use Rattle.std.specs.Prelude.{All, IfSome, Option, option_map, unwrap_or, sum_by, cond}
 use Rattle.std.specs.Ordering.{is_lt, match_ordering}
 use Rattle.std.specs.declared.cmp.Ordering.{Ordering}
 use Rattle.std.specs.declared.cmp.Ordering.TheVariants.{Less, Equal, Greater}
@@ -24,6 +24,13 @@ both_left a b p = grind arith
 
 pub both_right : (a b : Bool) → T (a && b) → T b
 both_right a b p = grind arith
+
+-- what is said of a value is said of a reference to it
+pub lent : {X : Type 0} (P : X → Type 0) (o : Option (Bor X)) (p : Option X) → option_map (λ x. x.now) o ≡ p → IfSome p P → IfSome o (λ x. P x.now)
+lent P o p same holds = grind (arith, holds)
+
+pub lent_map : {X Y : Type 0} (f : X → Y) (o : Option (Bor X)) (p : Option X) → option_map (λ x. x.now) o ≡ p → option_map (λ x. f x.now) o ≡ option_map f p
+lent_map f o p same = grind (arith, same)
 
 module _ {K X : Type 0} (R : K → K → Ordering) where
   -- insertion into the entries is insertion into the map

@@ -118,23 +118,28 @@ impl MDBInMemoryShard {
         ensures err { OnErr result (self.new ≡ self.old) }
         ensures admitted { Admits (CanAddFile self.old.content file_info) result }
     {
-        if !file_store::is_well_formed(&file_info) {
+        if !file_store::is_well_formed(&file_info) || !self.has_room_for(&file_info) {
             return Err(CoreError::InvalidArguments);
         }
-        let rows = within_limit(self.rows_with_file(&file_info))?;
-        self.files.put(file_info)?;
-        self.file_rows = rows;
+        let rows = self.file_rows + 1 + file_info.metadata.rows_after();
+        self.file_rows = rows - self.files.put(file_info)?;
         Ok(())
     }
 
-    // The rows of all files once this one is inserted.
-    fn rows_with_file(&self, file_info: &MDBFileInfo) -> u64
+    // Whether the rows of all files fit `u32` once this one is inserted. The file that it replaces is
+    // looked up only where that decides.
+    fn has_room_for(&self, file_info: &MDBFileInfo) -> bool
         requires { IsWellFormed file_info.now }
-        ensures { result ≡ total_rows file_records
-            (finite.values (add_file self.now.content file_info.now).files) }
+        ensures { IsTrue result ↔ (total_rows file_records
+            (finite.values (add_file self.now.content file_info.now).files)
+            ≤ 4294967295) }
     {
-        let replaced = self.files.rows_of(&file_info.metadata.file_hash);
-        self.file_rows + 1 + file_info.metadata.rows_after() - replaced
+        let most = u64::from(u32::MAX);
+        let rows = self.file_rows + 1 + file_info.metadata.rows_after();
+        if rows <= most {
+            return true;
+        }
+        rows - self.files.rows_of(&file_info.metadata.file_hash) <= most
     }
 
     /// The xorbs by their hashes.

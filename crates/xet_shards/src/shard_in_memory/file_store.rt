@@ -62,23 +62,24 @@ impl FileStore {
     pub fn rows_of(&self, file_hash: &MerkleHash) -> u64
         ensures { result ≡ unwrap_or (option_map row_count (finite.get self.now file_hash.now)) 0 }
     {
-        match self.content.get(file_hash) {
-            Some(file_info) => 1 + file_info.metadata.rows_after(),
-            None => 0,
-        }
+        row_count(self.content.get(file_hash))
     }
 
-    /// Inserts or replaces a file. `OutOfMemory` if an allocation fails; then nothing changes.
-    pub fn put(&mut self, file_info: MDBFileInfo) -> Result<()>
+    /// Inserts or replaces a file, and returns the rows of the one that it replaces, or 0.
+    /// `OutOfMemory` if an allocation fails; then nothing changes.
+    pub fn put(&mut self, file_info: MDBFileInfo) -> Result<u64>
         requires { IsWellFormed file_info }
         ensures ok { OnOk result
             (self.new ≡ finite.insert self.old (file_hash_of file_info) file_info) }
+        ensures replaced { IfOk result (λ rows. rows
+            ≡ unwrap_or (option_map row_count (finite.get self.old (file_hash_of file_info))) 0) }
         ensures err { OnErr result (self.new ≡ self.old) }
         ensures causes { IfErr result (λ e. e ≡ CoreError.OutOfMemory) }
     {
-        self.content
+        let replaced = self
+            .content
             .insert(file_info.metadata.file_hash, file_info)?;
-        Ok(())
+        Ok(row_count(replaced.as_ref()))
     }
 
     /// Whether there is a file under this hash.
@@ -140,6 +141,17 @@ impl FileStore {
         ensures well_formed { IfSome result (λ file. IsWellFormed file.now) }
     {
         self.content.get(file_hash)
+    }
+}
+
+// The rows of a file, or 0 if there is none.
+fn row_count(file_info: Option<&MDBFileInfo>) -> u64
+    requires { IfSome file_info (λ file. IsWellFormed file.now) }
+    ensures { result ≡ unwrap_or (option_map (λ file. row_count file.now) file_info.entry) 0 }
+{
+    match file_info {
+        Some(file_info) => 1 + file_info.metadata.rows_after(),
+        None => 0,
     }
 }
 

@@ -1,14 +1,10 @@
-use Rattle.std.proofs.Common.{arith, ◌≡◌, Option, ap, ◌∙◌, Bor}
-use Rattle.std.specs.Prelude.{option_map, IfSome}
+use Rattle.std.proofs.Common.{ap, ◌∙◌}
 use Rattle.std.specs.FinMap.{get}
 use Rattle.std.proofs.lemmas.Map.Entries.{All-lookup}
 use Rattle.xet_base.proofs.HashOrder.{hash_cmp-IsTotalOrder, hash_cmp-IsAntisymmetric}
 use Rattle.xet_records.specs.FileRecord.{IsWellFormed}
-use Rattle.xet_shards.proofs.Maps.{found}
+use Rattle.xet_shards.proofs.Maps.{found, lent}
 use Rattle.xet_shards.proofs.shard_in_memory.file_store.FileStore.get.Goals as goal
-
-lent : {X : Type 0} (P : X → Type 0) (o : Option (Bor X)) (p : Option X) → option_map (λ x. x.now) o ≡ p → IfSome p P → IfSome o (λ x. P x.now)
-lent P o p same holds = grind (arith, holds)
 
 pub returns-clause-value : goal.returns-clause-value
 returns-clause-value c =

@@ -7,7 +7,7 @@ use Rattle.xet_shards.specs.Section.{total_rows}
 use Rattle.xet_shards.specs.Shard.{file_hash_of}
 use Rattle.xet_shards.specs.ChunkLookup.{ShardWithLookup}
 use Rattle.xet_shards.proofs.Maps.{sum-insert}
-use Rattle.xet_shards.proofs.shard_in_memory.MDBInMemoryShard.rows_with_file.Goals as goal
+use Rattle.xet_shards.proofs.shard_in_memory.MDBInMemoryShard.has_room_for.Goals as goal
 
 pub overflow_sub-result : goal.overflow_sub-result
 overflow_sub-result c =
@@ -15,9 +15,16 @@ overflow_sub-result c =
     let put_rows = sum-insert hash_cmp-IsTotalOrder hash_cmp-IsAntisymmetric row_count c.self.inside.files (file_hash_of file) file in
     omega (arith, put_rows, row_count-whole file c.requires.whole)
 
+pub returns-then-rows-most : goal.returns-then-rows-most
+returns-then-rows-most c =
+    let file = c.args.file_info.now in
+    let put_rows = sum-insert hash_cmp-IsTotalOrder hash_cmp-IsAntisymmetric row_count c.self.inside.files (file_hash_of file) file in
+    let seen = ap (λ (s : ShardWithLookup). total_rows file_records (values (insert s.content.files (file_hash_of file) file))) c.self.view_is in
+    grind (arith, put_rows, seen, row_count-whole file c.requires.whole)
+
 pub returns : goal.returns
 returns c =
     let file = c.args.file_info.now in
     let put_rows = sum-insert hash_cmp-IsTotalOrder hash_cmp-IsAntisymmetric row_count c.self.inside.files (file_hash_of file) file in
     let seen = ap (λ (s : ShardWithLookup). total_rows file_records (values (insert s.content.files (file_hash_of file) file))) c.self.view_is in
-    omega (arith, put_rows, seen, row_count-whole file c.requires.whole)
+    grind (arith, put_rows, seen, row_count-whole file c.requires.whole)
