@@ -10,7 +10,7 @@ ghost use Rattle.xet_records.specs.ViewReading.{ReadsNextView, AddsRows, LacksMe
 
 use crate::record_reader::{FormatVersion, SectionRecord, read_header};
 use crate::rows::{ROW_SIZE, ROWS_AT_ONCE, Row};
-use bytes::Bytes;
+use bytes::{Bytes, BytesMut};
 use std::alloc::Global;
 use xet_base::error::Result;
 use xet_base::input::ByteInput;
@@ -28,12 +28,14 @@ pub trait RecordView<R: SectionRecord> {
 }
 
 /// Reads a view of the next record of a section, or `None` at its bookend, and counts the record's
-/// rows down from `rows_left`.
+/// rows down from `rows_left`. The bytes are read into `buffer`, whose own bytes are dropped: views
+/// that are read with one buffer share its blocks, and a block whose views are gone is used again.
 ///
 /// `UnexpectedEof` if too few bytes are left, `InvalidShard` if the version does not have such a
 /// header, or the record has more rows than `rows_left`. May fail with `OutOfMemory`.
 pub fn read_view<R: SectionRecord, V: RecordView<R>, M, I: ByteInput<M>>(
     alloc: Global,
+    buffer: &mut BytesMut,
     input: &mut I,
     version: FormatVersion,
     rows_left: &mut u64,
@@ -48,45 +50,49 @@ pub fn read_view<R: SectionRecord, V: RecordView<R>, M, I: ByteInput<M>>(
     let Some(header) = read_header::<R, M, I>(alloc, input, version, rows_left)? else {
         return Ok(None);
     };
-    let bytes = read_row_bytes(alloc, input, &header.to_bytes(), R::rows_after(&header))?;
-    Ok(Some(V::of_bytes(header, Bytes::from_vec(bytes)?)))
+    let bytes = read_row_bytes(buffer, input, &header.to_bytes(), R::rows_after(&header))?;
+    Ok(Some(V::of_bytes(header, bytes)))
 }
 
 // These 48 bytes, and those of `count` rows that are read after them.
 fn read_row_bytes<M, I: ByteInput<M>>(
-    alloc: Global,
+    buffer: &mut BytesMut,
     input: &mut I,
     first: &[u8],
     count: u64,
-) -> Result<Vec<u8>>
+) -> Result<Bytes>
     ensures { MatchResult result
-        (λ bytes. AddsRows (I.reads input.old input.new) count first.now bytes.items)
+        (λ bytes. AddsRows (I.reads input.old input.new) count first.now bytes)
         (λ e. I.fails input.old input.new (48 * count) e
         ⊎ LacksMemory (I.reads input.old input.new) count e) }
 {
     let most = u64::from(ROWS_AT_ONCE);
-    let mut bytes = Vec::with_capacity(alloc, ROW_SIZE + ROW_SIZE * count.min(most) as usize)?;
-    bytes.extend_from_slice(first)?;
+    buffer.clear();
+    buffer.reserve(ROW_SIZE + ROW_SIZE * count.min(most) as usize)?;
+    buffer.extend_from_slice(first)?;
     let mut done = 0;
     while done < count {
         let rows = (count - done).min(most);
-        append_rows(&mut bytes, input, rows)?;
+        append_rows(buffer, input, rows)?;
         done += rows;
     }
-    Ok(bytes)
+    let size = buffer.len();
+    Ok(buffer.freeze_to(size)?)
 }
 
 // Appends the bytes of rows that are read at once. Memory is reserved before they are read.
-fn append_rows<M, I: ByteInput<M>>(bytes: &mut Vec<u8>, input: &mut I, rows: u64) -> Result<()>
+fn append_rows<M, I: ByteInput<M>>(buffer: &mut BytesMut, input: &mut I, rows: u64) -> Result<()>
     requires { rows ≤ 1024 }
     ensures { MatchResult result
-        (λ _. AddsRows (I.reads input.old input.new) rows bytes.old.items bytes.new.items)
+        (λ _. AddsRows (I.reads input.old input.new) rows buffer.old.items buffer.new.items)
         (λ e. I.fails input.old input.new (48 * rows) e
         ⊎ LacksMemory (I.reads input.old input.new) rows e) }
 {
-    let start = bytes.len();
-    bytes.resize(start + ROW_SIZE * rows as usize, 0)?;
-    input.fill(&mut bytes[start..])?;
+    let start = buffer.len();
+    let size = ROW_SIZE * rows as usize;
+    buffer.reserve(size)?;
+    buffer.advance_mut(size);
+    input.fill(&mut buffer.as_mut_slice()[start..])?;
     Ok(())
 }
 
@@ -112,8 +118,11 @@ pub fn process_section<
     ensures callable { F.IsAlwaysCallable callback.new }
 {
     R::laws();
+    let mut buffer = BytesMut::new(alloc);
     let mut rows_left = u64::from(u32::MAX);
-    while let Some(view) = read_view::<R, V, M, I>(alloc, input, version, &mut rows_left)? {
+    while let Some(view) =
+        read_view::<R, V, M, I>(alloc, &mut buffer, input, version, &mut rows_left)?
+    {
         callback(view)?;
     }
     Ok(())

@@ -1,17 +1,13 @@
 -- A shard under a key has the keyed xorbs under the same hashes. So it is a shard, and joins, unions and agreement of
 -- shards pass to the shards under one key; runs of chunks become no shorter.
-use Rattle.std.proofs.Common.{◌≡◌, Bool, true, false, zero, suc, ◌+◌, ◌≤◌, List, [], ◌∷◌, map, get_or, Option, None, Some, refl, sym, ap, ◌∙◌, subst, arith, is_lt}
-use Rattle.std.specs.Prelude.{T, ◌&&◌, cond, Contains, option_map}
+use Rattle.std.proofs.Common.{◌≡◌, Bool, true, false, ◌+◌, ◌≤◌, List, [], ◌∷◌, map, get_or, Option, None, Some, refl, sym, ap, ◌∙◌, subst, arith}
+use Rattle.std.specs.Prelude.{cond, Contains, option_map}
 use Rattle.std.specs.Option.{option_or}
-use Rattle.std.specs.Ordering.{eq_by_cmp}
-use Rattle.std.specs.FinMap.{get, entries, values, find, is_sorted, entries_sorted, entries-from_sorted, get-from_sorted, get-entries}
-use Rattle.std.specs.FinMap.Entries.{below_all}
-use Rattle.std.proofs.lemmas.List.{length-map, get_or-map}
+use Rattle.std.specs.FinMap.{get, entries, values}
 use Rattle.std.proofs.lemmas.List.Sums.{sum_by-cons}
 use Rattle.std.proofs.lemmas.List.Elements.{All-map}
-use Rattle.std.proofs.lemmas.Option.{same_Some, none-some}
 use Rattle.xet_base.specs.declared.merklehash.DataHash.{DataHash}
-use Rattle.xet_base.specs.Hash.{hash_cmp, hash_eq}
+use Rattle.xet_base.specs.Hash.{hash_eq}
 use Rattle.xet_base.specs.KeyedHash.{no_key, under_key}
 use Rattle.xet_base.proofs.HashOrder.{same_hash}
 use Rattle.xet_records.specs.declared.xorb_structs.MDBXorbInfo.{MDBXorbInfo}

@@ -24,6 +24,9 @@ use Rattle.xet_shards.specs.MinimalReading.SectionsFail.{no_files, no_xorbs}
 
 module _ {H R V : Type 0} (K : RecordKind H R) (laws : KindLaws K) (record_of : V → R) where
   -- before the first record
+  pub no_views : (Took : List ℕ → Type 0) → Took [] → HasReadViews K record_of Took [] 4294967295
+  no_views Took nothing = record { are_stored = All-nil _; taken = nothing; rows = omega arith }
+
   -- one record more
   pub more_views : (First Next Both : List ℕ → Type 0) (views : List V) (left after : ℕ) (view : V) → ((xs ys : List ℕ) → First xs → Next ys → Both (xs ++ ys))
       → HasReadViews K record_of First views left → CountsStored K Next left after (record_of view) → HasReadViews K record_of Both (views ++ view ∷ []) after

@@ -16,7 +16,7 @@ use Rattle.xet_records.proofs.Merging.{flags_fit}
 use Rattle.xet_records.specs.FileRecord.{file_records, row_count, has_verification, has_metadata_ext, has_aux_ext, FitsRecord, IsStored}
 use Rattle.xet_records.specs.XorbRecord.{xorb_records, xorb_row_count, HasItsChunks}
 use Rattle.xet_records.specs.declared.file_structs.view.KeptParts.{KeptParts}
-use Rattle.xet_records.specs.View.{as_wanted, without_verification, without_aux, aux_as_wanted, as_kept}
+use Rattle.xet_records.specs.View.{as_wanted, without_verification, aux_as_wanted, as_kept}
 use Rattle.xet_records.proofs.KeptParts.{parts_kept, parts-rows, without_aux-fits}
 use Rattle.xet_shards.specs.declared.streaming_shard.file_start.FileStart.{FileStart}
 use Rattle.std.specs.Io.KnownBytes.{Appends}

@@ -1,27 +1,25 @@
 -- A shard without auxiliary rows has the same files, but for these, under the same hashes. So it is a shard, and agreement
 -- and joins of shards pass to the shards without auxiliary rows.
-use Rattle.std.proofs.Common.{◌≡◌, ℕ, Bool, true, false, zero, suc, ◌+◌, ◌*◌, ◌≤◌, List, [], ◌∷◌, map, get_or, length, Option, None, Some, refl, sym, ap, ◌∙◌, subst, arith, if◌then◌else◌}
-use Rattle.std.specs.Prelude.{T, IsTrue, is_some, Contains, option_map, option_and_then, unwrap_or}
-use Rattle.std.specs.FinMap.{get, entries, values, is_sorted, entries_sorted, entries-from_sorted, get-from_sorted, get-entries}
-use Rattle.std.proofs.lemmas.List.{length-map, get_or-map}
+use Rattle.std.proofs.Common.{◌≡◌, List, map, get_or, Option, None, Some, refl, sym, ap, ◌∙◌, subst, arith, if◌then◌else◌}
+use Rattle.std.specs.Prelude.{IsTrue, is_some, Contains, option_map, option_and_then}
+use Rattle.std.specs.FinMap.{get, entries, values}
 use Rattle.std.proofs.lemmas.List.Elements.{All-map}
-use Rattle.std.proofs.lemmas.Option.{same_Some, none-some}
+use Rattle.std.proofs.lemmas.Option.{none-some}
 use Rattle.xet_base.specs.declared.merklehash.DataHash.{DataHash}
-use Rattle.xet_base.specs.Hash.{hash_cmp}
 use Rattle.xet_records.specs.declared.file_structs.MDBFileInfo.{MDBFileInfo}
 use Rattle.xet_records.specs.declared.file_structs.rows.FileDataSequenceEntry.{FileDataSequenceEntry}
 use Rattle.xet_records.specs.declared.file_structs.rows.FileVerificationEntry.{FileVerificationEntry}
 use Rattle.xet_records.specs.declared.file_structs.rows.FileMetadataExt.{FileMetadataExt}
 use Rattle.xet_records.specs.declared.file_structs.rows.FileAuxExt.{FileAuxExt}
-use Rattle.xet_records.specs.FileRecord.{file_records, flags_of, IsWellFormed}
-use Rattle.xet_records.specs.Merging.{Agree, verified}
+use Rattle.xet_records.specs.FileRecord.{file_records, IsWellFormed}
+use Rattle.xet_records.specs.Merging.{Agree}
 use Rattle.xet_records.specs.View.{without_aux}
 use Rattle.xet_records.proofs.KeptParts.{cleared, without_aux-formed}
 use Rattle.xet_records.proofs.Merging.{aux_flag_cleared}
 use Rattle.xet_shards.specs.Section.{total_rows}
 use Rattle.xet_shards.specs.Shard.{Shard, IsShard, AreFiles, file_hash_of}
 use Rattle.xet_shards.specs.SetOperations.{ShardsAgree}
-use Rattle.xet_shards.specs.Joins.{IsJoinOf, verification_of, segments_under, verification_under, metadata_under, aux_under, file_with}
+use Rattle.xet_shards.specs.Joins.{IsJoinOf, verification_of, aux_under, file_with}
 use Rattle.xet_shards.specs.ShardsWithoutAux.{entries_without_aux, shard_without_aux}
 use Rattle.xet_shards.proofs.FilesWithoutAux.{rows-without_aux}
 use Rattle.xet_shards.proofs.MappedMaps.{entries-mapped, values-mapped, get-mapped, mapped_some}

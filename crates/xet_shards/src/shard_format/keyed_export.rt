@@ -25,6 +25,7 @@ use super::info::{MDBShardInfo, read_header};
 use super::view_writer::write_file_view;
 use super::writer::write_end;
 use super::written::{WrittenFiles, WrittenSection, WrittenXorbs};
+use bytes::BytesMut;
 use std::alloc::Global;
 use std::io::Write;
 use xet_base::error::{CoreError, Result};
@@ -274,9 +275,11 @@ pub(super) trait ExportedRecord {
     // these records were written, and what a form needs of them was collected
     ghost has_written: { Form → Self.Section → List Self.Section.Record → Type 0 };
 
-    // Reads the next record, or `None` at the bookend, and counts its rows down from those left.
+    // Reads the next record, or `None` at the bookend, and counts its rows down from those left. A
+    // view is read into the buffer.
     fn read<S: ShardSource>(
         alloc: Global,
+        buffer: &mut BytesMut,
         source: &mut S,
         version: FormatVersion,
         left: &mut u64,
@@ -344,11 +347,12 @@ impl ExportedRecord for MDBFileInfoView {
 
     fn read<S: ShardSource>(
         alloc: Global,
+        buffer: &mut BytesMut,
         source: &mut S,
         version: FormatVersion,
         left: &mut u64,
     ) -> Result<Option<Self>> {
-        read_view::<MDBFileInfo, MDBFileInfoView, OfSource, S>(alloc, source, version, left)
+        read_view::<MDBFileInfo, MDBFileInfoView, OfSource, S>(alloc, buffer, source, version, left)
     }
 
     fn export<W: Write>(
@@ -389,6 +393,7 @@ impl ExportedRecord for MDBXorbInfo {
 
     fn read<S: ShardSource>(
         alloc: Global,
+        _buffer: &mut BytesMut,
         source: &mut S,
         version: FormatVersion,
         left: &mut u64,
@@ -427,8 +432,9 @@ pub(super) fn export_section<E: ExportedRecord + Drop, S: ShardSource, W: Write>
         ⊎ WritingFails (S.meaning source.old) (S.meaning source.new) e) }
 {
     let mut written = E::Section::new(alloc);
+    let mut buffer = BytesMut::new(alloc);
     let mut rows_left = u64::from(u32::MAX);
-    while let Some(next) = E::read(alloc, source, version, &mut rows_left)? {
+    while let Some(next) = E::read(alloc, &mut buffer, source, version, &mut rows_left)? {
         next.export(writer, &mut written, aux_ext, form)?;
     }
     E::Section::write_bookend(writer)?;

@@ -6,6 +6,7 @@ ghost use Rattle.xet_shards.specs.Layout.{if_in};
 ghost use Rattle.xet_shards.specs.MinimalReading.{ReadsViews, StopsAfterViews, ReadsSections, SectionsFail};
 
 use super::minimal_shard::MDBMinimalShard;
+use bytes::BytesMut;
 use std::alloc::Global;
 use xet_base::error::{CoreError, Result};
 use xet_base::input::ByteInput;
@@ -13,6 +14,9 @@ use xet_records::file_structs::{MDBFileInfo, MDBFileInfoView};
 use xet_records::record_reader::{FormatVersion, SectionRecord};
 use xet_records::view_reader::{RecordView, read_view};
 use xet_records::xorb_structs::{MDBXorbInfo, MDBXorbInfoView};
+
+// The views of a shard share blocks of this many bytes, or more where a record is larger.
+const BLOCK_SIZE: usize = 16 * 1024;
 
 /// Reads the file section and, if it is wanted, the xorb section after it. Files are kept if they
 /// are wanted.
@@ -53,8 +57,12 @@ fn read_views<R: SectionRecord, V: RecordView<R> + Drop, M, I: ByteInput<M>>(
 {
     R::laws();
     let mut views = Vec::new(alloc);
+    // Views that are dropped need no room, since the next one is read over them.
+    let mut buffer = BytesMut::with_capacity(alloc, if is_kept { BLOCK_SIZE } else { 0 })?;
     let mut rows_left = u64::from(u32::MAX);
-    while let Some(view) = read_view::<R, V, M, I>(alloc, input, version, &mut rows_left)? {
+    while let Some(view) =
+        read_view::<R, V, M, I>(alloc, &mut buffer, input, version, &mut rows_left)?
+    {
         push_if(is_kept, &mut views, view)?;
     }
     Ok(views)

@@ -1,4 +1,4 @@
-use Rattle.std.proofs.Common.{inr, subst, arith}
+use Rattle.std.proofs.Common.{subst}
 use Rattle.std.proofs.lemmas.Result.{err_from_is_err_and}
 use Rattle.xet_records.specs.RecordKind.{in_version}
 use Rattle.xet_records.specs.Reading.{ReadsNextHeader}
@@ -13,12 +13,3 @@ returns-in_err-bytes g c =
     let p = err_from_is_err_and c.from_residual-in_err-bytes.result c.from_residual-in_err-bytes.ensures.1 in
     rw (p.1, p.2) (rows_not_read (in_version g.R.SectionRecord.kind c.args.version) (laws_in g.R.SectionRecord.kind c.laws.ensures c.args.version) _ _ g.met.I.ByteInput.joins g.met.I.ByteInput.lacks_memory _ _ _ _ c.read_header.new.input _
     c.in-Some.header _ c.rows_after.ensures.rows begun c.in_err-bytes.ensures)
-
-pub returns-in_err-from_vec : goal.returns-in_err-from_vec
-returns-in_err-from_vec g c =
-    let reads = g.I.ByteInput.reads c.args.input.now c.read_header.new.input in
-    let begun = subst (ReadsNextHeader (in_version g.R.SectionRecord.kind c.args.version) reads c.args.rows_left.now c.read_header.new.rows_left) c.in-Some.is c.in_ok-header.ensures in
-    let rows = c.in_ok-bytes.ensures in
-    let p = err_from_is_err_and c.from_residual-in_err-from_vec.result c.from_residual-in_err-from_vec.ensures.1 in
-    rw p.1 (rows_not_read (in_version g.R.SectionRecord.kind c.args.version) (laws_in g.R.SectionRecord.kind c.laws.ensures c.args.version) _ _ g.met.I.ByteInput.joins g.met.I.ByteInput.lacks_memory _ _ _ _ c.read_header.new.input _
-    c.in-Some.header _ c.rows_after.ensures.rows begun (inr (record { added = rows.added; size = omega (arith, rows.size); taken = rows.taken; memory = p.2 })))

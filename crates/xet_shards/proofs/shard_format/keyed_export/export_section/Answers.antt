@@ -15,10 +15,10 @@ use Rattle.xet_shards.proofs.shard_format.keyed_export.export_section.Goals as g
 pub export-requires : goal.export-requires
 export-requires g c =
     let kind = g.E.Section.Record.SectionRecord.kind in
-    let now = g.S.ShardSource.meaning c.loop-written.source in
+    let now = g.S.ShardSource.meaning c.loop-buffer.source in
     let new = g.S.ShardSource.meaning c.read.new.source in
-    let before = c.loop-written.invariant in
-    let next = subst (ReadsNextView (in_version kind c.args.version) g.E.ExportedRecord.stored (Takes now new) c.loop-written.rows_left c.read.new.left) c.in-Some.is c.in_ok-next.ensures in
+    let before = c.loop-buffer.invariant in
+    let next = subst (ReadsNextView (in_version kind c.args.version) g.E.ExportedRecord.stored (Takes now new) c.loop-buffer.rows_left c.read.new.left) c.in-Some.is c.in_ok-next.ensures in
     record {
       stored = stored_ever kind c.args.version _ next.is_stored;
       rows = omega (
@@ -29,8 +29,8 @@ export-requires g c =
       );
     }
 
-pub loop-written-init : goal.loop-written-init
-loop-written-init g c = record {
+pub loop-buffer-init : goal.loop-buffer-init
+loop-buffer-init g c = record {
   stored = [];
   are_stored = All-nil _;
   taken = Takes-nil _;
@@ -38,53 +38,53 @@ loop-written-init g c = record {
   made = record { collected = g.met.E.ExportedRecord.begins c.args.form.now c.new-written.result c.new-written.ensures; bytes = Appends-nil _ };
 }
 
-pub loop-written-preserved : goal.loop-written-preserved
-loop-written-preserved g c =
+pub loop-buffer-preserved : goal.loop-buffer-preserved
+loop-buffer-preserved g c =
     let kind = g.E.Section.Record.SectionRecord.kind in
-    let now = g.S.ShardSource.meaning c.loop-written.source in
+    let now = g.S.ShardSource.meaning c.loop-buffer.source in
     let new = g.S.ShardSource.meaning c.read.new.source in
-    let before = c.loop-written.invariant in
-    let next = subst (ReadsNextView (in_version kind c.args.version) g.E.ExportedRecord.stored (Takes now new) c.loop-written.rows_left c.read.new.left) c.in-Some.is c.in_ok-next.ensures in
+    let before = c.loop-buffer.invariant in
+    let next = subst (ReadsNextView (in_version kind c.args.version) g.E.ExportedRecord.stored (Takes now new) c.loop-buffer.rows_left c.read.new.left) c.in-Some.is c.in_ok-next.ensures in
     let wrote = c.in_ok-export.ensures in
     one_exported (in_version kind c.args.version) (laws_in kind g.met.E.ExportedRecord.laws c.args.version) _ _ _ _ _ _ _ (g.E.ExportedRecord.stored c.in-Some.next) (Takes-trans (g.S.ShardSource.meaning c.args.source.now) now new) before next
-    (more_written kind (g.E.ExportedRecord.exports c.args.aux_ext c.args.form.now) _ _ _ (g.W.Write.contents c.loop-written.writer) _ before.stored _ before.made wrote.written wrote.appended)
+    (more_written kind (g.E.ExportedRecord.exports c.args.aux_ext c.args.form.now) _ _ _ (g.W.Write.contents c.loop-buffer.writer) _ before.stored _ before.made wrote.written wrote.appended)
 
 pub returns-in_err-next : goal.returns-in_err-next
 returns-in_err-next g c =
     let source = g.S.ShardSource.meaning in
-    search (rules, not_passed (in_version g.E.Section.Record.SectionRecord.kind c.args.version) (laws_in g.E.Section.Record.SectionRecord.kind g.met.E.ExportedRecord.laws c.args.version) _ (source c.loop-written.source) _ _ c.loop-written.invariant _ _ c.in_err-next.ensures)
+    search (rules, not_passed (in_version g.E.Section.Record.SectionRecord.kind c.args.version) (laws_in g.E.Section.Record.SectionRecord.kind g.met.E.ExportedRecord.laws c.args.version) _ (source c.loop-buffer.source) _ _ c.loop-buffer.invariant _ _ c.in_err-next.ensures)
 
 pub returns-in_err-export : goal.returns-in_err-export
 returns-in_err-export g c =
     let kind = g.E.Section.Record.SectionRecord.kind in
-    let now = g.S.ShardSource.meaning c.loop-written.source in
+    let now = g.S.ShardSource.meaning c.loop-buffer.source in
     let new = g.S.ShardSource.meaning c.read.new.source in
-    let next = subst (ReadsNextView (in_version kind c.args.version) g.E.ExportedRecord.stored (Takes now new) c.loop-written.rows_left c.read.new.left) c.in-Some.is c.in_ok-next.ensures in
+    let next = subst (ReadsNextView (in_version kind c.args.version) g.E.ExportedRecord.stored (Takes now new) c.loop-buffer.rows_left c.read.new.left) c.in-Some.is c.in_ok-next.ensures in
     let p = err_from_is_err_and c.from_residual-in_err-export.result c.from_residual-in_err-export.ensures.1 in
     rw (p.1, p.2) (inr (writing_failed (g.S.ShardSource.meaning c.args.source.now) new _ _
-    (Takes-trans (g.S.ShardSource.meaning c.args.source.now) now new _ _ c.loop-written.invariant.taken next.taken) c.in_err-export.ensures.causes))
+    (Takes-trans (g.S.ShardSource.meaning c.args.source.now) now new _ _ c.loop-buffer.invariant.taken next.taken) c.in_err-export.ensures.causes))
 
 pub returns-in_err-write_bookend : goal.returns-in_err-write_bookend
 returns-in_err-write_bookend g c =
     let kind = g.E.Section.Record.SectionRecord.kind in
-    let now = g.S.ShardSource.meaning c.loop-written.source in
+    let now = g.S.ShardSource.meaning c.loop-buffer.source in
     let new = g.S.ShardSource.meaning c.read.new.source in
     let last : ReadsBookend (in_version kind c.args.version) (Takes now new) = search rules in
     let p = err_from_is_err_and c.from_residual-in_err-write_bookend.result c.from_residual-in_err-write_bookend.ensures.1 in
     rw (p.1, p.2) (inr (writing_failed (g.S.ShardSource.meaning c.args.source.now) new _ _
-    (Takes-trans (g.S.ShardSource.meaning c.args.source.now) now new _ _ c.loop-written.invariant.taken last.taken) c.in_err-write_bookend.ensures.causes))
+    (Takes-trans (g.S.ShardSource.meaning c.args.source.now) now new _ _ c.loop-buffer.invariant.taken last.taken) c.in_err-write_bookend.ensures.causes))
 
 pub returns : goal.returns
 unfolding section_bytes
 returns g c =
     let kind = g.E.Section.Record.SectionRecord.kind in
-    let now = g.S.ShardSource.meaning c.loop-written.source in
+    let now = g.S.ShardSource.meaning c.loop-buffer.source in
     let new = g.S.ShardSource.meaning c.read.new.source in
-    let before = c.loop-written.invariant in
+    let before = c.loop-buffer.invariant in
     let last : ReadsBookend (in_version kind c.args.version) (Takes now new) = search rules in
     record {
       stored = before.stored;
       passed = all_passed (in_version kind c.args.version) (laws_in kind g.met.E.ExportedRecord.laws c.args.version) _ now _ _ before new last;
       collected = before.made.collected;
-      written = Appends-trans _ (g.W.Write.contents c.loop-written.writer) _ _ _ before.made.bytes c.in_ok-write_bookend.ensures.bytes;
+      written = Appends-trans _ (g.W.Write.contents c.loop-buffer.writer) _ _ _ before.made.bytes c.in_ok-write_bookend.ensures.bytes;
     }

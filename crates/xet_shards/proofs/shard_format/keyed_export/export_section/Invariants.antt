@@ -5,12 +5,12 @@ use Rattle.xet_shards.specs.KeyedExport.{HasExported}
 use Rattle.xet_shards.proofs.KeyedExport.{SectionWritten}
 use Rattle.xet_shards.proofs.shard_format.keyed_export.export_section.Given as goal
 
-abbrev pub invariant-loop-written : goal.invariant-loop-written
-invariant-loop-written g l =
+abbrev pub invariant-loop-buffer : goal.invariant-loop-buffer
+invariant-loop-buffer g l =
     let kind = g.E.Section.Record.SectionRecord.kind in
     HasExported (in_version kind l.version) (Takes (g.S.ShardSource.meaning l.fn.source) (g.S.ShardSource.meaning l.source))
     (λ stored. SectionWritten kind (g.E.ExportedRecord.has_written l.form l.written) (g.W.Write.contents l.fn.writer) (g.W.Write.contents l.writer) (flat_map (g.E.ExportedRecord.exports l.aux_ext l.form) stored))
     l.rows_left
 
-abbrev pub decreases-loop-written : goal.decreases-loop-written
-decreases-loop-written g l = l.rows_left
+abbrev pub decreases-loop-buffer : goal.decreases-loop-buffer
+decreases-loop-buffer g l = l.rows_left

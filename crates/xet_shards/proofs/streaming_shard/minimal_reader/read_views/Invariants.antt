@@ -4,10 +4,10 @@ use Rattle.xet_shards.specs.Layout.{if_in}
 use Rattle.xet_shards.specs.MinimalReading.{HasReadViews}
 use Rattle.xet_shards.proofs.streaming_shard.minimal_reader.read_views.Given as goal
 
-abbrev pub invariant-loop-views : goal.invariant-loop-views
-invariant-loop-views g l =
+abbrev pub invariant-loop-buffer : goal.invariant-loop-buffer
+invariant-loop-buffer g l =
     (read : List g.row.V.Denot) × HasReadViews (in_version g.R.SectionRecord.kind l.version) g.V.RecordView.shown (g.I.ByteInput.reads l.fn.input l.input) read l.rows_left
     × (l.views.items ≡ if_in l.is_kept read)
 
-abbrev pub decreases-loop-views : goal.decreases-loop-views
-decreases-loop-views g l = l.rows_left
+abbrev pub decreases-loop-buffer : goal.decreases-loop-buffer
+decreases-loop-buffer g l = l.rows_left
