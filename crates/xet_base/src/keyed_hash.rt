@@ -18,6 +18,7 @@ pub(crate) fn keyed_bytes(key: &[u8; 32], message: &[u8; 32]) -> [u8; 32]
 
 // The state that begins with a key: four words of the function, a counter of 0, the length of the
 // block, and flags.
+#[inline(always)]
 fn start_of(key: &[u8; 32]) -> Words
     ensures { result ≡ start_of key.now }
 {
@@ -29,6 +30,7 @@ fn start_of(key: &[u8; 32]) -> Words
 }
 
 // The message, and zeros after it.
+#[inline(always)]
 fn message_of(message: &[u8; 32]) -> Words
     ensures { result ≡ message_of message.now }
 {
@@ -38,6 +40,7 @@ fn message_of(message: &[u8; 32]) -> Words
     ]
 }
 
+#[inline(always)]
 fn words_of(bytes: &[u8; 32]) -> [u32; 8]
     ensures { result ≡ words_before bytes.now [] }
 {
@@ -53,21 +56,35 @@ fn words_of(bytes: &[u8; 32]) -> [u32; 8]
     ]
 }
 
-// Seven rounds.
+// Seven rounds, written out: so each word of the message is read where it is, and adding the zeros
+// among them costs nothing.
+#[inline(always)]
 #[tactic(auto, unfolding(crate::specs::KeyedHash::state_after, crate::specs::KeyedHash::message_after))]
 fn compress(start: Words, message: Words) -> Words
     ensures { result ≡ state_after 7 start message }
 {
-    let mut state = start;
-    let mut words = message;
-    for _round in 0..7usize {
-        mix_columns(&mut state, &words);
-        mix_diagonals(&mut state, &words);
-        words = permuted(&words);
-    }
+    let (state, words) = round(start, message);
+    let (state, words) = round(state, words);
+    let (state, words) = round(state, words);
+    let (state, words) = round(state, words);
+    let (state, words) = round(state, words);
+    let (state, words) = round(state, words);
+    let (state, _words) = round(state, words);
     state
 }
 
+// The state after a round, and the message for the next one.
+#[inline(always)]
+fn round(mut state: Words, words: Words) -> (Words, Words)
+    ensures state { result.0 ≡ mix_diagonals (mix_columns state words) words }
+    ensures words { result.1 ≡ permuted words }
+{
+    mix_columns(&mut state, &words);
+    mix_diagonals(&mut state, &words);
+    (state, permuted(&words))
+}
+
+#[inline(always)]
 #[tactic(auto, unfolding(crate::specs::KeyedHash::mix_columns))]
 fn mix_columns(v: &mut Words, m: &Words)
     ensures { v.new ≡ mix_columns v.old m.now }
@@ -78,6 +95,7 @@ fn mix_columns(v: &mut Words, m: &Words)
     mix_at(v, 3, 7, 11, 15, m[6], m[7]);
 }
 
+#[inline(always)]
 #[tactic(auto, unfolding(crate::specs::KeyedHash::mix_diagonals))]
 fn mix_diagonals(v: &mut Words, m: &Words)
     ensures { v.new ≡ mix_diagonals v.old m.now }
@@ -89,6 +107,7 @@ fn mix_diagonals(v: &mut Words, m: &Words)
 }
 
 // Four words of the state mixed with two words of the message.
+#[inline(always)]
 fn mix_at(v: &mut Words, a: usize, b: usize, c: usize, d: usize, x: u32, y: u32)
     requires a { a < 16 }
     requires b { b < 16 }
@@ -104,6 +123,7 @@ fn mix_at(v: &mut Words, a: usize, b: usize, c: usize, d: usize, x: u32, y: u32)
 }
 
 // Two words of the message mixed into four of the state.
+#[inline(always)]
 #[tactic(auto, unfolding(crate::specs::KeyedHash::mix))]
 fn mix(a: u32, b: u32, c: u32, d: u32, x: u32, y: u32) -> (u32, u32, u32, u32)
     ensures { result ≡ mix a b c d x y }
@@ -120,6 +140,7 @@ fn mix(a: u32, b: u32, c: u32, d: u32, x: u32, y: u32) -> (u32, u32, u32, u32)
 }
 
 // The message for the next round.
+#[inline(always)]
 #[tactic(auto, unfolding(crate::specs::KeyedHash::permuted))]
 fn permuted(m: &Words) -> Words
     ensures { result ≡ permuted m.now }
@@ -131,6 +152,7 @@ fn permuted(m: &Words) -> Words
 }
 
 // Word i of some bytes, lowest byte first.
+#[inline(always)]
 #[tactic(auto, unfolding(crate::specs::KeyedHash::word_at))]
 fn word_at(bytes: &[u8; 32], i: usize) -> u32
     requires { i < 8 }
@@ -145,6 +167,7 @@ fn word_at(bytes: &[u8; 32], i: usize) -> u32
 }
 
 // Both halves of a state together, as bytes.
+#[inline(always)]
 #[tactic(auto, unfolding(crate::specs::KeyedHash::digest))]
 fn digest(v: &Words) -> [u8; 32]
     ensures { result ≡ digest v.now }
