@@ -1,7 +1,8 @@
 -- The problems of a file are its findings, and that of its name.
-use Rattle.std.proofs.Common.{◌≡◌, ℕ, true, false, List, [], ◌∷◌, ◌++◌, map, arith, sym, ◌∙◌, subst, zero, suc}
-use Rattle.std.specs.Prelude.{◌↔◌, All, Option, IsSome, is_some}
-use Rattle.std.proofs.lemmas.List.Elements.{All-map, All-append}
+use Rattle.std.proofs.Common.{◌≡◌, ℕ, true, false, List, [], ◌∷◌, ◌++◌, map, ◌<◌, arith, sym, ap, ◌∙◌, subst, zero, suc}
+use Rattle.std.specs.Prelude.{◌↔◌, All, Contains, Option, IsSome, is_some}
+use Rattle.std.proofs.lemmas.List.{length-map, get_or-map}
+use Rattle.std.proofs.lemmas.List.Elements.{All-map, All-append, Contains-append_left, Contains-push}
 use Rattle.xet_core_structures.specs.Names.{IsShardName}
 use Rattle.xet_core_structures.specs.declared.merklehash.DataHash.{DataHash}
 use Rattle.shard_bytes.specs.declared.check.Finding.{Finding}
@@ -29,3 +30,25 @@ pub with_name : (name bytes : List ℕ) (some problems : List Problem) (found : 
     → All (IsProblem name bytes) some → problems ≡ some ++ Name ∷ [] → All (IsProblem name bytes) problems
 with_name name bytes some problems found accepted lacks all are =
     subst (All (IsProblem name bytes)) (sym are) (All-append (IsProblem name bytes) some (Name ∷ []) all (only_name name bytes (no_name name found accepted lacks)))
+
+of_map : {A B : Type 0} (f : A → B) (xs : List A) (x : A) → Contains xs x → Contains (map f xs) (f x)
+of_map f xs x (k, below, at) =
+    (k, subst (λ n. k < n) (sym (length-map xs f)) below, get_or-map f xs k x (f x) below ∙ ap f at)
+
+-- no finding is lost
+pub all_findings_are : (bytes : List ℕ) (fs : List Finding) (problems : List Problem) → ((f : Finding) → IsFinding bytes f → Contains fs f) → problems ≡ map Bytes fs
+    → (f : Finding) → IsFinding bytes f → Contains problems (Bytes f)
+all_findings_are bytes fs problems all are f true_of = subst (λ ps. Contains ps (Bytes f)) (sym are) (of_map Bytes fs f (all f true_of))
+
+-- and of a shard's name nothing is to be found
+pub all_if_named : (name bytes : List ℕ) (fs : List Finding) (problems : List Problem) (found : Option DataHash) → (IsSome found ↔ IsShardName name) → is_some found ≡ true
+    → ((f : Finding) → IsFinding bytes f → Contains fs f) → problems ≡ map Bytes fs → (p : Problem) → IsProblem name bytes p → Contains problems p
+all_if_named name bytes fs problems found accepted has all are (Bytes f) true_of = all_findings_are bytes fs problems all are f true_of
+all_if_named name bytes fs problems found accepted has all are Name unnamed = absurd (unnamed (accepted.0 has))
+
+-- with the name's problem all are there
+pub all_with_name : (name bytes : List ℕ) (fs : List Finding) (some problems : List Problem) → ((f : Finding) → IsFinding bytes f → Contains fs f) → some ≡ map Bytes fs
+    → problems ≡ some ++ Name ∷ [] → (p : Problem) → IsProblem name bytes p → Contains problems p
+all_with_name name bytes fs some problems all are more (Bytes f) true_of =
+    subst (λ ps. Contains ps (Bytes f)) (sym more) (Contains-append_left some (Name ∷ []) (Bytes f) (all_findings_are bytes fs some all are f true_of))
+all_with_name name bytes fs some problems all are more Name unnamed = subst (λ ps. Contains ps Name) (sym more) (Contains-push some Name)

@@ -1,15 +1,22 @@
--- Files that are read fit their headers.
-use Rattle.std.proofs.Common.{Ok, Err}
-use Rattle.std.specs.Prelude.{ℕ, All, IfOk}
+-- Files that are read fit their headers, and each gets its report.
+use Rattle.std.proofs.Common.{◌≡◌, inl, inr, ℕ, ◌+◌, ◌<◌, List, [], ◌∷◌, ◌++◌, take, get_or, Ok, Err, sym, refl, ap, ◌∙◌, subst, length}
+use Rattle.std.specs.Prelude.{All, IfOk, MatchResult}
+use Rattle.std.specs.List.{AllZip}
+use Rattle.std.proofs.lemmas.List.{take_more}
 use Rattle.std.specs.declared.vec.Vec.{Vec}
+use Rattle.xet_core_structures.specs.declared.shard_format.MDBShardInfo.{MDBShardInfo}
+use Rattle.xet_core_structures.specs.declared.source.MemorySource.{MemorySource}
+use Rattle.xet_core_structures.specs.Ends.{HasEnds}
 use Rattle.xet_core_structures.specs.Errors.{CoreResult}
 use Rattle.xet_core_structures.specs.Source.{Source}
 use Rattle.xet_core_structures.specs.FileRecord.{file_records, file_records_in, FitsItsHeader}
-use Rattle.xet_core_structures.specs.SectionReading.{ReadsAll}
+use Rattle.xet_core_structures.specs.SectionReading.{ReadsAll, ReadsFiles}
 use Rattle.xet_core_structures.specs.declared.file_structs.MDBFileInfo.{MDBFileInfo}
 use Rattle.xet_records.specs.declared.record_reader.FormatVersion.{FormatVersion}
 use Rattle.xet_records.specs.declared.file_structs.header.FileDataSequenceHeader.{FileDataSequenceHeader}
 use Rattle.xet_records.specs.RecordKind.{RecordKind}
+use Rattle.shard_bytes.proofs.Combining.{in_memory}
+use Rattle.mdb_report.specs.Records.{HoldsFiles, FilesRefusal}
 use Rattle.xet_records.proofs.RecordKinds.{file_laws, laws_in, stored_ever}
 use Rattle.xet_core_structures.proofs.Handed.{all_handed}
 
@@ -19,3 +26,25 @@ read_files_fit version old new at (Ok files) reads = λ k r below.
     let K : RecordKind FileDataSequenceHeader MDBFileInfo = file_records_in version in
     (stored_ever file_records version _ (all_handed K (laws_in file_records file_laws version) reads.stored files.items reads.section.records.are_stored reads.handed k r below)).whole
 read_files_fit version old new at (Err e) reads = tt
+
+-- what is read of a source in memory is what its bytes hold
+pub files_in_memory : {Z : Type 0} (bytes : List ℕ) (info : MDBShardInfo) (old new : MemorySource) (result : CoreResult (Vec MDBFileInfo Z)) → HasEnds bytes info → old.bytes.now ≡ bytes
+    → ReadsFiles info (in_memory old) (in_memory new) result → MatchResult result (λ files. HoldsFiles bytes files.items) (FilesRefusal bytes)
+files_in_memory bytes info old new (Ok files) ends same reads =
+    record { info = info; ends = ends; before = in_memory old; after = in_memory new; bytes_are = same; works = refl; outcome = reads }
+files_in_memory bytes info old new (Err e) ends same fails =
+    inr (inl (record { info = info; ends = ends; before = in_memory old; after = in_memory new; bytes_are = same; works = refl; outcome = fails }))
+
+-- one more of each
+all_zip_pushed : {A B : Type 0} (R : A → B → Type 0) (xs : List A) (ys : List B) (x : A) (y : B) → AllZip R xs ys → R x y → AllZip R (xs ++ x ∷ []) (ys ++ y ∷ [])
+all_zip_pushed R [] [] x y all one = (one, tt)
+all_zip_pushed R [] (b ∷ ys) x y all one = absurd all
+all_zip_pushed R (a ∷ xs) [] x y all one = absurd all
+all_zip_pushed R (a ∷ xs) (b ∷ ys) x y all one = (all.0, all_zip_pushed R xs ys x y all.1 one)
+
+pub one_more_report : {A B : Type 0} (R : A → B → Type 0) (xs : List A) (ys more : List B) (i : ℕ) (x : A) (y : B) → i < length xs → x ≡ get_or xs i x → more ≡ ys ++ y ∷ []
+    → AllZip R (take i xs) ys → R x y → AllZip R (take (i + 1) xs) more
+one_more_report R xs ys more i x y below at pushed all one =
+    subst (λ zs. AllZip R (take (i + 1) xs) zs) (sym pushed)
+    (subst (λ zs. AllZip R zs (ys ++ y ∷ [])) (sym (take_more xs i x below ∙ ap (λ z. take i xs ++ z ∷ []) (sym at)))
+    (all_zip_pushed R (take i xs) ys x y all one))

@@ -1,3 +1,4 @@
+pub mod Faults
 pub mod Lookups
 pub mod Parts
 pub mod Problems

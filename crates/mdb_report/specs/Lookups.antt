@@ -1,7 +1,8 @@
 -- What is reported of lookups.
-use Rattle.std.specs.Prelude.{◌≡◌, ◌⊎◌, ⊤, ℕ, ◌-◌, ◌^◌, ◌<◌, List, Option, None, Some, IfSome}
+use Rattle.std.specs.Prelude.{◌≡◌, ◌⊎◌, ⊤, ℕ, ◌-◌, ◌^◌, ◌<◌, Bool, true, List, Option, None, Some, option_map, is_some, IfSome}
 use Rattle.xet_core_structures.specs.declared.error.CoreError.{CoreError}
 use Rattle.xet_core_structures.specs.declared.error.CoreError.TheVariants.{OutOfMemory}
+use Rattle.xet_core_structures.specs.declared.file_structs.FileDataSequenceEntry.{FileDataSequenceEntry}
 use Rattle.xet_core_structures.specs.declared.file_structs.MDBFileInfo.{MDBFileInfo}
 use Rattle.xet_core_structures.specs.declared.merklehash.DataHash.{DataHash}
 use Rattle.xet_core_structures.specs.Lookup.{Finding, file_table}
@@ -9,20 +10,23 @@ use Rattle.xet_core_structures.specs.SectionReading.{files_of}
 use Rattle.xet_core_structures.specs.Source.{Source}
 use Rattle.shard_bytes.specs.Finding.{RefusesFile}
 use Rattle.shard_bytes.specs.Outcomes.{HasOutcome}
+use Rattle.shard_bytes.specs.Query.{AnswersQuery}
 use Rattle.mdb_report.specs.declared.lookup.Costs.{Costs}
 use Rattle.mdb_report.specs.declared.lookup.FoundReport.{FoundReport}
+use Rattle.mdb_report.specs.declared.lookup.Run.{Run}
+use Rattle.mdb_report.specs.declared.lookup.RunReport.{RunReport}
 use Rattle.mdb_report.specs.declared.records.FileReport.{FileReport}
-use Rattle.mdb_report.specs.Records.{ReportsFile}
+use Rattle.mdb_report.specs.Records.{ReportsFile, segment_report}
 
 -- the seeks made between two states of a source, and the bytes read, as far as they are counted
 pub record AreCosts (before after : Source) (costs : Costs) : Type 0 where
   pub seeks : after.seeks < 2 ^ 64 → costs.seeks ≡ after.seeks - before.seeks
   pub read : after.read < 2 ^ 64 → costs.bytes_read ≡ after.read - before.read
 
--- the report has the record that was found, or none
+-- the report has the record that was found, with its rows, or none
 abbrev pub ReportsFound : Option MDBFileInfo → Option FileReport → Type 0
 ReportsFound None None = ⊤
-ReportsFound (Some file) (Some report) = ReportsFile file report
+ReportsFound (Some file) (Some report) = ReportsFile file true report
 ReportsFound _ _ = ⊥
 
 -- what a lookup of the hash in the bytes finds, and what it costs
@@ -33,14 +37,26 @@ FindsAt bytes hash found costs =
     info.metadata.file_info_offset hash before after found
     × AreCosts before after costs)
 
--- the report of such a lookup
-pub record ReportsLookup (bytes : List ℕ) (hash : DataHash) (report : FoundReport) : Type 0 where
+-- the report of such a lookup, with its costs if they are wanted, and else without
+pub record ReportsLookup (bytes : List ℕ) (hash : DataHash) (with_costs : Bool)
+    (report : FoundReport) : Type 0 where
   pub file : Option MDBFileInfo
   pub costs : Costs
   pub finds : FindsAt bytes hash file costs
   pub looked_up : report.hash.0 ≡ hash
   pub found : ReportsFound file report.found
+  pub has_costs : is_some report.costs ≡ with_costs
   pub costs_are : IfSome report.costs (λ c. c ≡ costs)
+
+abbrev pub run_of : ℕ × FileDataSequenceEntry → Run
+run_of run = record { chunks = run.0; segment = segment_report run.1 }
+
+-- the report of what a query of the chunks answers
+pub record ReportsQuery (bytes : List ℕ) (hashes : List DataHash) (report : RunReport)
+    : Type 0 where
+  pub answer : Option (ℕ × FileDataSequenceEntry)
+  pub answers : AnswersQuery bytes hashes answer
+  pub run : report.run ≡ option_map run_of answer
 
 abbrev pub LookupRefusal : List ℕ → DataHash → CoreError → Type 0
 LookupRefusal bytes hash e = RefusesFile bytes hash e ⊎ (e ≡ OutOfMemory)

@@ -1,14 +1,23 @@
 -- What is reported of records.
-use Rattle.std.specs.Prelude.{◌≡◌, map, option_map, IfSome}
+use Rattle.std.specs.Prelude.{◌≡◌, ◌⊎◌, ◌↔◌, ℕ, Bool, List, map, option_map, is_some, IfSome, IsTrue}
+use Rattle.std.specs.List.{AllZip}
+use Rattle.xet_core_structures.specs.declared.error.CoreError.{CoreError}
+use Rattle.xet_core_structures.specs.declared.error.CoreError.TheVariants.{OutOfMemory}
 use Rattle.xet_core_structures.specs.declared.file_structs.FileDataSequenceEntry.{FileDataSequenceEntry}
 use Rattle.xet_core_structures.specs.declared.file_structs.MDBFileInfo.{MDBFileInfo}
 use Rattle.xet_core_structures.specs.declared.xorb_structs.MDBXorbInfo.{MDBXorbInfo}
 use Rattle.xet_core_structures.specs.declared.xorb_structs.XorbChunkSequenceEntry.{XorbChunkSequenceEntry}
+use Rattle.xet_core_structures.specs.ByteResults.{LoadRefusal}
 use Rattle.xet_core_structures.specs.FileRecord.{size_of_file}
+use Rattle.xet_core_structures.specs.SectionReading.{ReadsSection, SectionFails, files_of}
+use Rattle.xet_records.specs.XorbRow.{IsEligibleChunk}
+use Rattle.shard_bytes.specs.Outcomes.{HasOutcome}
 use Rattle.mdb_report.specs.declared.records.FileReport.{FileReport}
 use Rattle.mdb_report.specs.declared.records.FileRows.{FileRows}
 use Rattle.mdb_report.specs.declared.records.SegmentReport.{SegmentReport}
 use Rattle.mdb_report.specs.declared.records.XorbReport.{XorbReport}
+use Rattle.mdb_report.specs.declared.records.ChunkReport.{ChunkReport}
+use Rattle.mdb_report.specs.declared.records.ChunkRest.{ChunkRest}
 use Rattle.mdb_report.specs.declared.records.ChunkRow.{ChunkRow}
 
 abbrev pub segment_report : FileDataSequenceEntry → SegmentReport
@@ -38,19 +47,62 @@ pub record ReportsRows (file : MDBFileInfo) (rows : FileRows) : Type 0 where
   pub sha256 : rows.sha256 ≡ option_map (λ m. record { 0 = m.sha256 }) file.metadata_ext
   pub aux : rows.aux ≡ option_map (λ a. record { 0 = a.aux_hash }) file.aux_ext
 
--- the report is of this file, and the rows in it, if any, are its rows
-pub record ReportsFile (file : MDBFileInfo) (report : FileReport) : Type 0 where
+-- the report is of this file, with its rows if they are wanted, and else with none
+pub record ReportsFile (file : MDBFileInfo) (with_rows : Bool) (report : FileReport)
+    : Type 0 where
   pub hash : report.file.0 ≡ file.metadata.file_hash
   pub flags : report.flags ≡ file.metadata.file_flags
   pub segments : report.segments ≡ file.metadata.num_entries
   pub bytes : report.bytes ≡ size_of_file file
+  pub has_rows : is_some report.rows ≡ with_rows
   pub rows : IfSome report.rows (ReportsRows file)
 
--- the report is of this xorb, and the chunks in it, if any, are its chunks
-pub record ReportsXorb (xorb : MDBXorbInfo) (report : XorbReport) : Type 0 where
+-- the bytes have these files in their file section, and no others
+abbrev pub HoldsFiles : List ℕ → List MDBFileInfo → Type 0
+HoldsFiles bytes files =
+    HasOutcome bytes
+    (λ info before after. ReadsSection (files_of info) before after
+    info.metadata.file_info_offset files)
+
+-- a report for each file of the bytes, in order
+abbrev pub ReportsFiles : List ℕ → Bool → List FileReport → Type 0
+ReportsFiles bytes with_rows reports =
+    (files : List MDBFileInfo) × HoldsFiles bytes files
+    × AllZip (λ file report. ReportsFile file with_rows report) files reports
+
+-- header and footer are not read, or the file section isn't, or memory is lacking
+abbrev pub FilesRefusal : List ℕ → CoreError → Type 0
+FilesRefusal bytes e =
+    LoadRefusal bytes e
+    ⊎ HasOutcome bytes
+    (λ info before after. SectionFails (files_of info) before after
+    info.metadata.file_info_offset e)
+    ⊎ (e ≡ OutOfMemory)
+
+-- the report is of this xorb, with its chunks if they are wanted, and else with none
+pub record ReportsXorb (xorb : MDBXorbInfo) (with_rows : Bool) (report : XorbReport)
+    : Type 0 where
   pub hash : report.xorb.0 ≡ xorb.metadata.xorb_hash
   pub flags : report.flags ≡ xorb.metadata.xorb_flags
   pub chunks : report.chunks ≡ xorb.metadata.num_entries
   pub bytes : report.bytes ≡ xorb.metadata.num_bytes_in_xorb
   pub bytes_on_disk : report.bytes_on_disk ≡ xorb.metadata.num_bytes_on_disk
+  pub has_rows : is_some report.rows ≡ with_rows
   pub rows : IfSome report.rows (λ rows. rows.items ≡ map chunk_row_of xorb.chunks)
+
+-- what else is known of a chunk, and whether the global index keeps it
+pub record ReportsRest (chunk : XorbChunkSequenceEntry) (rest : ChunkRest) : Type 0 where
+  pub flags : rest.flags ≡ chunk.flags
+  pub start : rest.start ≡ chunk.chunk_byte_range_start
+  pub eligible : IsTrue rest.eligible ↔ IsEligibleChunk chunk
+
+-- the report is of this chunk, at this index of the xorb, with the rest if all is wanted, and else
+-- without
+pub record ReportsChunk (xorb : MDBXorbInfo) (index : ℕ) (chunk : XorbChunkSequenceEntry)
+    (whole : Bool) (report : ChunkReport) : Type 0 where
+  pub hash : report.chunk.0 ≡ chunk.chunk_hash
+  pub xorb_hash : report.xorb.0 ≡ xorb.metadata.xorb_hash
+  pub index_is : report.index ≡ index
+  pub bytes : report.bytes ≡ chunk.unpacked_segment_bytes
+  pub has_rest : is_some report.rest ≡ whole
+  pub rest : IfSome report.rest (ReportsRest chunk)

@@ -1,5 +1,5 @@
 -- What a summary says.
-use Rattle.std.specs.Prelude.{◌≡◌, ℕ, string_bytes, Option, None, Some, option_map, if◌then◌else◌}
+use Rattle.std.specs.Prelude.{◌≡◌, ℕ, List, string_bytes, Option, None, Some, option_map, if◌then◌else◌}
 use Rattle.xet_core_structures.specs.declared.shard_format.MDBShardInfo.{MDBShardInfo}
 use Rattle.xet_core_structures.specs.Hash.{hash_eq}
 use Rattle.xet_core_structures.specs.KeyedHash.{no_key}
@@ -36,8 +36,10 @@ pub record ArePartsOf (info : MDBShardInfo) (bytes : ℕ) (parts : Parts) : Type
   pub footer : parts.footer.start ≡ info.metadata.footer_offset
   pub footer_end : parts.footer.end ≡ bytes
 
--- the summary says what header and footer do
-pub record Summarizes (info : MDBShardInfo) (bytes : ℕ) (summary : Summary) : Type 0 where
+-- the summary says what header and footer do, of the file with this name
+pub record Summarizes (info : MDBShardInfo) (file : List ℕ) (bytes : ℕ) (summary : Summary)
+    : Type 0 where
+  pub name : summary.file.now ≡ file
   pub size : summary.bytes ≡ bytes
   pub version : summary.version ≡ info.header.version
   pub parts : ArePartsOf info bytes summary.parts

@@ -1,5 +1,9 @@
 //! Why a command failed, in words.
 
+ghost use Rattle.std.specs.Prelude.{◌≡◌, ◌⊎◌, ◌↔◌, ℕ, IfSome, IsTrue, MatchOption, MatchResult};
+ghost use Rattle.shard_bytes.specs.Checking.{IsFinding, IsWhole};
+ghost use Rattle.mdb_report.specs.Faults.{IsFaultOf, IsObstacle};
+
 use crate::problem::InWords;
 use shard_bytes::check::{Finding, Part, check_bytes};
 use shard_bytes::load::load_bytes;
@@ -83,7 +87,12 @@ impl<T: Drop> From<AllocFailed<T>> for Fault {
 
 /// The fault behind an error of a call on the bytes of one shard: what a check of these bytes finds
 /// first, if the error does not say it.
-pub fn fault_of(alloc: Global, bytes: &[u8], error: CoreError) -> Fault {
+pub fn fault_of(alloc: Global, bytes: &[u8], error: CoreError) -> Fault
+    ensures is { IsFaultOf bytes.now error result }
+    ensures memory { error ≡ CoreError.OutOfMemory → result ≡ Fault.OutOfMemory }
+    ensures collision { (word : ℕ) → error ≡ CoreError.TruncatedHashCollision word
+        → result ≡ Fault.Collision word }
+{
     match error {
         CoreError::OutOfMemory => Fault::OutOfMemory,
         CoreError::TruncatedHashCollision(word) => Fault::Collision(word),
@@ -95,7 +104,11 @@ pub fn fault_of(alloc: Global, bytes: &[u8], error: CoreError) -> Fault {
     }
 }
 
-fn first_finding(alloc: Global, bytes: &[u8]) -> Result<Option<Finding>, Fault> {
+fn first_finding(alloc: Global, bytes: &[u8]) -> Result<Option<Finding>, Fault>
+    ensures { MatchResult result
+        (λ found. MatchOption found (IsWhole bytes.now) (IsFinding bytes.now))
+        (λ fault. fault ≡ Fault.OutOfMemory) }
+{
     match check_bytes(alloc, bytes) {
         Ok(findings) => Ok(findings.as_slice().first().copied()),
         Err(_) => Err(Fault::OutOfMemory),
@@ -104,7 +117,10 @@ fn first_finding(alloc: Global, bytes: &[u8]) -> Result<Option<Finding>, Fault> 
 
 /// The first finding for which no union and no difference is made of a shard's bytes: their sections
 /// can't be read, or their hashes do not ascend.
-pub fn first_obstacle(alloc: Global, bytes: &[u8]) -> Result<Option<Finding>, Fault> {
+pub fn first_obstacle(alloc: Global, bytes: &[u8]) -> Result<Option<Finding>, Fault>
+    ensures { MatchResult result (λ found. IfSome found (IsObstacle bytes.now))
+        (λ fault. fault ≡ Fault.OutOfMemory) }
+{
     match first_finding(alloc, bytes)? {
         Some(Finding::Differs(_) | Finding::Size(_)) => Ok(None),
         finding => Ok(finding),
@@ -113,7 +129,11 @@ pub fn first_obstacle(alloc: Global, bytes: &[u8]) -> Result<Option<Finding>, Fa
 
 /// Whether the footer of a shard's bytes, by which a union or a difference finds the sections, is not
 /// the one that the records give.
-pub fn has_wrong_footer(alloc: Global, bytes: &[u8]) -> Result<bool, Fault> {
+pub fn has_wrong_footer(alloc: Global, bytes: &[u8]) -> Result<bool, Fault>
+    ensures { MatchResult result
+        (λ wrong. IsTrue wrong ↔ IsFinding bytes.now (Finding.Differs Part.Footer))
+        (λ fault. fault ≡ Fault.OutOfMemory) }
+{
     match check_bytes(alloc, bytes) {
         Ok(findings) => Ok(
             findings
@@ -125,7 +145,10 @@ pub fn has_wrong_footer(alloc: Global, bytes: &[u8]) -> Result<bool, Fault> {
 }
 
 /// The fault behind an error of an export.
-pub fn export_fault(alloc: Global, bytes: &[u8], error: CoreError) -> Fault {
+pub fn export_fault(alloc: Global, bytes: &[u8], error: CoreError) -> Fault
+    ensures { (result ≡ Fault.HasKey) ⊎ (result ≡ Fault.LateExpiry)
+        ⊎ IsFaultOf bytes.now error result }
+{
     if error != CoreError::InvalidArguments {
         return fault_of(alloc, bytes, error);
     }
@@ -136,7 +159,10 @@ pub fn export_fault(alloc: Global, bytes: &[u8], error: CoreError) -> Fault {
 }
 
 /// The fault behind an error of a minimal shard.
-pub fn minimal_fault(alloc: Global, bytes: &[u8], kept: KeptParts, error: CoreError) -> Fault {
+pub fn minimal_fault(alloc: Global, bytes: &[u8], kept: KeptParts, error: CoreError) -> Fault
+    ensures is { (result ≡ Fault.NoVerification) ⊎ IsFaultOf bytes.now error result }
+    ensures verification { result ≡ Fault.NoVerification → IsTrue kept.verification }
+{
     if kept.verification && lacks_verification(&error) {
         return Fault::NoVerification;
     }

@@ -1,6 +1,6 @@
 //! What a shard can be asked, and printing its answers.
 
-ghost use Rattle.std.specs.Prelude.{◌≡◌, ◌↔◌, IfOk};
+ghost use Rattle.std.specs.Prelude.{◌≡◌, ◌≢◌, ◌↔◌, IfOk};
 ghost use Rattle.xet_core_structures.specs.Names.{IsShardName};
 ghost use Rattle.shard_bytes.specs.Checking.{IsWhole};
 
@@ -94,7 +94,12 @@ pub fn print_answer<W: Write>(
     bytes: &[u8],
     style: Style,
     output: &mut W,
-) -> Result<Answer, Trouble> {
+) -> Result<Answer, Trouble>
+    ensures printed { inquiry.now ≢ Inquiry.Check
+        → IfOk result (λ answer. answer ≡ Answer.Printed) }
+    ensures whole { inquiry.now ≡ Inquiry.Check
+        → IfOk result (λ answer. answer ≡ Answer.Printed → IsWhole bytes.now) }
+{
     match inquiry {
         Inquiry::Summary => print(
             alloc,

@@ -3,7 +3,8 @@
 ghost use Rattle.std.specs.Prelude.{IfOk, IfSome, MatchResult};
 ghost use Rattle.xet_core_structures.specs.FileRecord.{FitsItsHeader};
 ghost use Rattle.shard_bytes.specs.Finding.{RefusesFile};
-ghost use Rattle.mdb_report.specs.Lookups.{FindsAt, ReportsLookup, LookupRefusal};
+ghost use Rattle.shard_bytes.specs.Query.{RefusesQuery};
+ghost use Rattle.mdb_report.specs.Lookups.{FindsAt, ReportsLookup, ReportsQuery, LookupRefusal};
 
 use crate::counting::CountingSource;
 use crate::hex::Hex;
@@ -46,7 +47,8 @@ impl FoundReport {
         hash: MerkleHash,
         with_costs: bool,
     ) -> Result<FoundReport>
-        ensures { MatchResult result (ReportsLookup bytes.now hash) (LookupRefusal bytes.now hash) }
+        ensures { MatchResult result (ReportsLookup bytes.now hash with_costs)
+            (LookupRefusal bytes.now hash) }
     {
         let (file, costs) = find_counted(alloc, bytes, &hash)?;
         let found = match file {
@@ -116,7 +118,10 @@ impl RunReport {
     /// Looks for a run of these chunks in the bytes of a shard.
     ///
     /// The errors are those of [`query_chunks`].
-    pub fn of_query(alloc: Global, bytes: &[u8], hashes: &[MerkleHash]) -> Result<RunReport> {
+    pub fn of_query(alloc: Global, bytes: &[u8], hashes: &[MerkleHash]) -> Result<RunReport>
+        ensures { MatchResult result (ReportsQuery bytes.now hashes.now)
+            (RefusesQuery bytes.now hashes.now) }
+    {
         let run = match query_chunks(alloc, bytes, hashes)? {
             Some((chunks, segment)) => Some(Run {
                 chunks,

@@ -20,7 +20,8 @@ pub struct Moment {
 impl Moment {
     /// The moment so many seconds after the start of 1970.
     pub fn of_seconds(alloc: Global, seconds: u64) -> Result<Moment, AllocError>
-        ensures { IfOk result (λ moment. moment.seconds ≡ seconds) }
+        ensures seconds { IfOk result (λ moment. moment.seconds ≡ seconds) }
+        ensures none { seconds ≡ 0 → IfOk result (λ moment. IsNone moment.utc) }
     {
         let utc = match instant_of(seconds) {
             Some(instant) => Some(instant.to_string(alloc)?),

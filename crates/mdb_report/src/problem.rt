@@ -1,8 +1,9 @@
 //! What a check finds, in words.
 
-ghost use Rattle.std.specs.Prelude.{◌≡◌, ◌↔◌, [], map, All, IfOk, IfErr};
+ghost use Rattle.std.specs.Prelude.{◌≡◌, ◌↔◌, [], map, All, Contains, IfOk, IfErr};
 ghost use Rattle.xet_core_structures.specs.Names.{IsShardName};
 ghost use Rattle.shard_bytes.specs.Checking.{IsWhole};
+ghost use Rattle.mdb_report.specs.declared.problem.Problem.{Problem};
 ghost use Rattle.mdb_report.specs.Problems.{IsProblem};
 
 use serde::{Described, Serialize, Serializer};
@@ -36,6 +37,8 @@ pub fn problems_of(alloc: Global, name: &str, bytes: &[u8]) -> Result<Vec<Proble
     ensures whole { IfOk result
         (λ problems. (problems.items ≡ []) ↔ (IsWhole bytes.now × IsShardName name.now)) }
     ensures each { IfOk result (λ problems. All (IsProblem name.now bytes.now) problems.items) }
+    ensures all { IfOk result
+        (λ problems. (p : Problem) → IsProblem name.now bytes.now p → Contains problems.items p) }
     ensures causes { IfErr result (λ e. e ≡ CoreError.OutOfMemory) }
 {
     let findings = check_bytes(alloc, bytes)?;

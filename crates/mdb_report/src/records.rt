@@ -1,8 +1,8 @@
 //! The records of a shard.
 
-ghost use Rattle.std.specs.Prelude.{◌≡◌, All, IfOk, map};
+ghost use Rattle.std.specs.Prelude.{◌≡◌, All, IfOk, MatchResult, map};
 ghost use Rattle.xet_core_structures.specs.FileRecord.{FitsItsHeader};
-ghost use Rattle.mdb_report.specs.Records.{ReportsFile, ReportsRows, ReportsXorb, segment_report, chunk_row_of};
+ghost use Rattle.mdb_report.specs.Records.{ReportsFile, ReportsFiles, ReportsRows, ReportsXorb, ReportsChunk, HoldsFiles, FilesRefusal, segment_report, chunk_row_of};
 
 use crate::hex::Hex;
 use serde::Serialize;
@@ -35,7 +35,10 @@ pub fn file_reports(
     alloc: Global,
     bytes: &[u8],
     with_rows: bool,
-) -> Result<Vec<FileReport>, CoreError> {
+) -> Result<Vec<FileReport>, CoreError>
+    ensures { MatchResult result (λ reports. ReportsFiles bytes.now with_rows reports.items)
+        (FilesRefusal bytes.now) }
+{
     let files = read_files(alloc, bytes)?;
     let mut reports = Vec::new(alloc);
     for file in &files {
@@ -46,7 +49,9 @@ pub fn file_reports(
 
 // The files of a shard, each of which fits its header.
 fn read_files(alloc: Global, bytes: &[u8]) -> Result<Vec<MDBFileInfo>, CoreError>
-    ensures { IfOk result (λ files. All FitsItsHeader files.items) }
+    ensures read { MatchResult result (λ files. HoldsFiles bytes.now files.items)
+        (FilesRefusal bytes.now) }
+    ensures fits { IfOk result (λ files. All FitsItsHeader files.items) }
 {
     let mut source = MemorySource::new(bytes);
     let info = MDBShardInfo::load_from_reader(alloc, &mut source)?;
@@ -80,7 +85,7 @@ impl FileReport {
         with_rows: bool,
     ) -> Result<FileReport, AllocError>
         requires { FitsItsHeader file.now }
-        ensures { IfOk result (ReportsFile file.now) }
+        ensures { IfOk result (ReportsFile file.now with_rows) }
     {
         let header = file.metadata;
         let rows = if with_rows {
@@ -245,7 +250,7 @@ impl XorbReport {
         xorb: &MDBXorbInfo,
         with_rows: bool,
     ) -> Result<XorbReport, AllocError>
-        ensures { IfOk result (ReportsXorb xorb.now) }
+        ensures { IfOk result (ReportsXorb xorb.now with_rows) }
     {
         let header = xorb.metadata;
         let rows = if with_rows {
@@ -293,7 +298,9 @@ impl ChunkReport {
         index: u64,
         chunk: &XorbChunkSequenceEntry,
         whole: bool,
-    ) -> ChunkReport {
+    ) -> ChunkReport
+        ensures { ReportsChunk xorb.now index chunk.now whole result }
+    {
         let rest = if whole {
             Some(ChunkRest {
                 flags: chunk.flags,

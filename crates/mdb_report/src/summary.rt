@@ -44,7 +44,7 @@ impl<'a> Summary<'a> {
     pub fn of_bytes(alloc: Global, file: &'a str, bytes: &[u8]) -> Result<Summary<'a>>
         ensures { MatchResult result
             (λ summary. (info : Info) × HasEnds bytes.now info
-            × Summarizes info (length bytes.now) summary)
+            × Summarizes info file.now (length bytes.now) summary)
             (λ e. LoadRefusal bytes.now e ⊎ (e ≡ CoreError.OutOfMemory)) }
     {
         let info = load_bytes(alloc, bytes)?;

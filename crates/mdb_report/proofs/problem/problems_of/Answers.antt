@@ -1,6 +1,6 @@
 use Rattle.std.proofs.Common.{map, ap, sym, ◌∙◌}
 use Rattle.mdb_report.specs.declared.problem.Problem.TheVariants.{Bytes}
-use Rattle.mdb_report.proofs.Problems.{findings_are, with_name}
+use Rattle.mdb_report.proofs.Problems.{findings_are, with_name, all_if_named, all_with_name}
 use Rattle.mdb_report.proofs.problem.problems_of.Goals as goal
 
 pub returns-then-is_some-clause-each : goal.returns-then-is_some-clause-each
@@ -14,4 +14,17 @@ returns-clause-each c =
     (sym c.is_some.ensures ∙ c.if-is_some.false)
     (findings_are c.args.name.now c.args.bytes.now c.in_ok-findings.findings.items c.in_ok-problems.problems.items c.in_ok-findings.ensures.each
     (c.in_ok-problems.ensures ∙ ap (map Bytes) c.as_slice.ensures.value))
+    c.in_ok-push.ensures.items
+
+pub returns-then-is_some-clause-all : goal.returns-then-is_some-clause-all
+returns-then-is_some-clause-all c =
+    all_if_named c.args.name.now c.args.bytes.now c.in_ok-findings.findings.items c.in_ok-problems.problems.items c.parse_shard_filename.result c.parse_shard_filename.ensures.accepted
+    (sym c.is_some.ensures ∙ c.if-is_some.true)
+    c.in_ok-findings.ensures.all
+    (c.in_ok-problems.ensures ∙ ap (map Bytes) c.as_slice.ensures.value)
+
+pub returns-clause-all : goal.returns-clause-all
+returns-clause-all c =
+    all_with_name c.args.name.now c.args.bytes.now c.in_ok-findings.findings.items c.in_ok-problems.problems.items c.push.new.self.items c.in_ok-findings.ensures.all
+    (c.in_ok-problems.ensures ∙ ap (map Bytes) c.as_slice.ensures.value)
     c.in_ok-push.ensures.items
