@@ -1,7 +1,6 @@
 -- The laws of inputs, which the implementations of `ByteInput` cite: bytes that were read one after
 -- another, and failures after bytes that were read.
 use Rattle.std.proofs.Common.{◌≡◌, inl, inr, ℕ, ◌+◌, ◌<◌, ◌≤◌, List, [], ◌++◌, length, drop, take, Option, None, Some, sym, ap, ◌∙◌, subst, arith, refl, add_assoc, add-zero}
-use Rattle.std.specs.Prelude.{◌⊎◌}
 use Rattle.std.proofs.lemmas.List.{drop-drop, length-append}
 use Rattle.std.proofs.Math.Seq.{take-add}
 use Rattle.std.specs.Io.KnownBytes.{Consumes}
@@ -12,7 +11,7 @@ use Rattle.xet_base.specs.declared.error.CoreError.TheVariants.{Io, OutOfMemory}
 use Rattle.xet_base.specs.Bytes.{LacksBytes}
 use Rattle.xet_base.specs.Errors.{FromDevice}
 use Rattle.xet_base.specs.Input.{ReaderLacks, ReaderFails}
-use Rattle.xet_base.specs.Source.{Source, advanced, next_bytes, Takes, DeviceFailure, FailedBy, ReadCase, FillFailure, FillFails, ReadFails}
+use Rattle.xet_base.specs.Source.{Source, advanced, next_bytes, Takes, FailedBy, ReadCase, FillFailure, FillFails, ReadFails}
 use Rattle.xet_base.specs.Source.ReadCase.{out_of_memory, out_of_bytes}
 
 pub advanced-advanced : (s : Source) (m n : ℕ) → advanced (advanced s m) n ≡ advanced s (m + n)

@@ -120,9 +120,13 @@ pub fn process_section<
     R::laws();
     let mut buffer = BytesMut::new(alloc);
     let mut rows_left = u64::from(u32::MAX);
-    while let Some(view) =
-        read_view::<R, V, M, I>(alloc, &mut buffer, input, version, &mut rows_left)?
-    {
+    while let Some(view) = read_view::<R, V, M, I>(
+        alloc,
+        &mut buffer,
+        input,
+        version,
+        &mut rows_left,
+    )? {
         callback(view)?;
     }
     Ok(())

@@ -60,9 +60,13 @@ fn read_views<R: SectionRecord, V: RecordView<R> + Drop, M, I: ByteInput<M>>(
     // Views that are dropped need no room, since the next one is read over them.
     let mut buffer = BytesMut::with_capacity(alloc, if is_kept { BLOCK_SIZE } else { 0 })?;
     let mut rows_left = u64::from(u32::MAX);
-    while let Some(view) =
-        read_view::<R, V, M, I>(alloc, &mut buffer, input, version, &mut rows_left)?
-    {
+    while let Some(view) = read_view::<R, V, M, I>(
+        alloc,
+        &mut buffer,
+        input,
+        version,
+        &mut rows_left,
+    )? {
         push_if(is_kept, &mut views, view)?;
     }
     Ok(views)
