@@ -26,6 +26,9 @@ pub enum Exception {
     /// The search of a table of more than 255 rows that do not ascend, or that the bytes do not
     /// have, probes other rows, and may find others.
     SearchOfUnsortedTable,
+    /// The search of a table of more than 255 rows interpolates in whole numbers, not in `f64`. So it
+    /// may come upon several rows with one key in another order, and a query answers at the first.
+    SearchOrder,
     /// A query that is led past the chunks of a xorb, or to a bookend, is `InvalidShard`.
     QueryPastXorb,
     /// A run whose bytes do not fit 32 bits is `InvalidShard`.
@@ -54,13 +57,14 @@ pub enum Exception {
 use Exception::*;
 
 impl Exception {
-    pub const ALL: [Exception; 17] = [
+    pub const ALL: [Exception; 18] = [
         HeaderVersion,
         AuxFlagInVersion2,
         AuxRow,
         TooManyRows,
         Past64Bits,
         SearchOfUnsortedTable,
+        SearchOrder,
         QueryPastXorb,
         QuerySum,
         QueryReadsOneMore,
@@ -177,7 +181,24 @@ impl Difference<'_> {
         if *self.original == Answer::Error(Error::Io) && locations.iter().any(ends_after) {
             return Some(QueryReadsOneMore);
         }
+        if ends.chunk_table.rows > 255 && self.runs_begin_at(&ends, &locations) {
+            return Some(SearchOrder);
+        }
         self.search(&ends.chunk_table)
+    }
+
+    /// Both answers are runs, each of which begins at one of these locations.
+    fn runs_begin_at(&self, ends: &Ends, locations: &[(u32, u32)]) -> bool {
+        [self.original, self.port].iter().all(|answer| {
+            let Answer::Run(Some((_, run))) = answer else {
+                return false;
+            };
+            locations.iter().any(|&(row, index)| {
+                let xorb = row_offset(ends.xorb_info_offset, row.into())
+                    .and_then(|at| xorb_at(self.first, at));
+                index == run.start && xorb.is_some_and(|xorb| xorb.hash == run.xorb)
+            })
+        })
     }
 
     /// The chunks of a xorb from an index on have more than 32 bits of bytes.
