@@ -43,9 +43,9 @@ chunk_row_of c =
 pub record ReportsRows (file : MDBFileInfo) (rows : FileRows) : Type 0 where
   pub segments : rows.segments.items ≡ map segment_report file.segments
   pub verification : rows.verification.items
-      ≡ map (λ v. record { 0 = v.range_hash }) file.verification
-  pub sha256 : rows.sha256 ≡ option_map (λ m. record { 0 = m.sha256 }) file.metadata_ext
-  pub aux : rows.aux ≡ option_map (λ a. record { 0 = a.aux_hash }) file.aux_ext
+      ≡ map (λ row. record { 0 = row.hash }) file.verification
+  pub sha256 : rows.sha256 ≡ option_map (λ row. record { 0 = row.hash }) file.metadata_ext
+  pub aux : rows.aux ≡ option_map (λ row. record { 0 = row.hash }) file.aux_ext
 
 -- the report is of this file, with its rows if they are wanted, and else with none
 pub record ReportsFile (file : MDBFileInfo) (with_rows : Bool) (report : FileReport)

@@ -130,7 +130,7 @@ fn segment_reports(
 
 fn range_hashes(alloc: Global, rows: &[FileVerificationEntry]) -> Result<Vec<Hex>, AllocError>
     ensures { IfOk result
-        (λ hashes. hashes.items ≡ map (λ v. record { 0 = v.range_hash }) rows.now) }
+        (λ hashes. hashes.items ≡ map (λ row. record { 0 = row.hash }) rows.now) }
 {
     rows.iter().map(|row| Hex(row.range_hash)).collect(alloc)
 }

@@ -2,12 +2,12 @@
 use Rattle.std.proofs.Common.{◌≡◌, ℕ, zero, suc, ◌<◌, List, [], ◌∷◌, ◌++◌, length, get_or, map, refl, ap, ◌∙◌, sym, subst, arith, eqb}
 use Rattle.std.proofs.lemmas.List.{map-append}
 use Rattle.std.specs.List.{AllZip, slice_split}
-use Rattle.xet_core_structures.specs.declared.file_structs.FileVerificationEntry.{FileVerificationEntry}
+use Rattle.xet_core_structures.specs.declared.file_structs.HashRow.{HashRow}
 use Rattle.xet_core_structures.specs.declared.merklehash.DataHash.{DataHash}
 use Rattle.script_lines.specs.Words.{SpellsHash, ListsHashes, ListsVerification, parts_of, verification_of}
 
 -- the rows so far are those of the words so far
-abbrev pub RowsOf : List (List ℕ) → List FileVerificationEntry → Type 0
+abbrev pub RowsOf : List (List ℕ) → List HashRow → Type 0
 RowsOf words rows = (hashes : List DataHash) × AllZip SpellsHash words hashes × (rows ≡ map verification_of hashes)
 
 all_zip_push : {A B : Type 0} (R : A → B → Type 0) (xs : List A) (ys : List B) (x : A) (y : B) → AllZip R xs ys → R x y → AllZip R (xs ++ x ∷ []) (ys ++ y ∷ [])
@@ -27,7 +27,7 @@ pub parts_are : (list : List ℕ) → 0 < length list → parts_of list ≡ slic
 parts_are [] some = absurd (omega arith)
 parts_are (b ∷ bs) some = refl
 
-pub row_added : (words : List (List ℕ)) (rows : List FileVerificationEntry) (word : List ℕ) (hash : DataHash) → RowsOf words rows → SpellsHash word hash
+pub row_added : (words : List (List ℕ)) (rows : List HashRow) (word : List ℕ) (hash : DataHash) → RowsOf words rows → SpellsHash word hash
     → RowsOf (words ++ word ∷ []) (rows ++ verification_of hash ∷ [])
 row_added words rows word hash h spelled = (
   h.0 ++ hash ∷ [],
@@ -35,7 +35,7 @@ row_added words rows word hash h spelled = (
   ap (λ rs. rs ++ verification_of hash ∷ []) h.2 ∙ sym (map-append verification_of h.0 (hash ∷ [])),
 )
 
-pub listed : (list : List ℕ) (words : List (List ℕ)) (rows : List FileVerificationEntry) → parts_of list ≡ words → RowsOf words rows → ListsVerification list rows
+pub listed : (list : List ℕ) (words : List (List ℕ)) (rows : List HashRow) → parts_of list ≡ words → RowsOf words rows → ListsVerification list rows
 listed list words rows parts h = (h.0, subst (λ ws. AllZip SpellsHash ws h.0) (sym parts) h.1, h.2)
 
 -- a part that spells no hash

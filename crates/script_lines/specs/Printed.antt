@@ -4,9 +4,7 @@ use Rattle.std.specs.Fmt.{decimal}
 use Rattle.std.specs.List.{join_with_byte}
 use Rattle.std.specs.Option.{option_to_list}
 use Rattle.xet_core_structures.specs.declared.file_structs.FileDataSequenceEntry.{FileDataSequenceEntry}
-use Rattle.xet_core_structures.specs.declared.file_structs.FileMetadataExt.{FileMetadataExt}
-use Rattle.xet_core_structures.specs.declared.file_structs.FileAuxExt.{FileAuxExt}
-use Rattle.xet_core_structures.specs.declared.file_structs.FileVerificationEntry.{FileVerificationEntry}
+use Rattle.xet_core_structures.specs.declared.file_structs.HashRow.{HashRow}
 use Rattle.xet_core_structures.specs.declared.file_structs.MDBFileInfo.{MDBFileInfo}
 use Rattle.xet_core_structures.specs.FileRecord.{size_of_file}
 use Rattle.xet_core_structures.specs.Hex.{hash_hex, hex_digits}
@@ -25,14 +23,14 @@ segment_line s =
     printed_line (codes "seg" ∷ hash_hex s.xorb_hash ∷ decimal s.chunk_index_start
     ∷ decimal s.chunk_index_end ∷ decimal s.unpacked_segment_bytes ∷ [])
 
-abbrev pub verification_line : FileVerificationEntry → List ℕ
-verification_line v = printed_line (codes "ver" ∷ hash_hex v.range_hash ∷ [])
+abbrev pub verification_line : HashRow → List ℕ
+verification_line row = printed_line (codes "ver" ∷ hash_hex row.hash ∷ [])
 
-abbrev pub sha256_line : FileMetadataExt → List ℕ
-sha256_line m = printed_line (codes "sha" ∷ hash_hex m.sha256 ∷ [])
+abbrev pub sha256_line : HashRow → List ℕ
+sha256_line row = printed_line (codes "sha" ∷ hash_hex row.hash ∷ [])
 
-abbrev pub aux_line : FileAuxExt → List ℕ
-aux_line a = printed_line (codes "aux" ∷ hash_hex a.aux_hash ∷ [])
+abbrev pub aux_line : HashRow → List ℕ
+aux_line row = printed_line (codes "aux" ∷ hash_hex row.hash ∷ [])
 
 -- the line of a file: its hash, its flags, the number of its segments and their bytes
 abbrev pub file_line : MDBFileInfo → List ℕ

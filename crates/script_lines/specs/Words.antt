@@ -3,7 +3,7 @@ use Rattle.std.specs.Prelude.{ℕ, ◌≡◌, ◌≢◌, ◌^◌, ◌<◌, ◌�
 use Rattle.std.specs.Int.{IsInRange}
 use Rattle.std.specs.List.{AllZip, slice_split}
 use Rattle.std.specs.Str.Parse.{IsNumeral, digits_value}
-use Rattle.xet_core_structures.specs.declared.file_structs.FileVerificationEntry.{FileVerificationEntry}
+use Rattle.xet_core_structures.specs.declared.file_structs.HashRow.{HashRow}
 use Rattle.xet_core_structures.specs.declared.merklehash.DataHash.{DataHash}
 use Rattle.xet_core_structures.specs.Hash.{words_of}
 use Rattle.xet_core_structures.specs.Hex.{IsHexText, Spells}
@@ -80,10 +80,10 @@ abbrev pub ListsHashes : List ℕ → List DataHash → Type 0
 ListsHashes list hashes = AllZip SpellsHash (parts_of list) hashes
 
 -- the verification row of a hash, with zero reserved words
-abbrev pub verification_of : DataHash → FileVerificationEntry
-verification_of hash = record { range_hash = hash; _unused = 0 ∷ 0 ∷ [] }
+abbrev pub verification_of : DataHash → HashRow
+verification_of hash = record { hash = hash; _unused = 0 ∷ 0 ∷ [] }
 
 -- a list spells verification rows, those of the hashes that it spells
-abbrev pub ListsVerification : List ℕ → List FileVerificationEntry → Type 0
+abbrev pub ListsVerification : List ℕ → List HashRow → Type 0
 ListsVerification list rows =
     (hashes : List DataHash) × ListsHashes list hashes × (rows ≡ map verification_of hashes)

@@ -77,9 +77,7 @@ module _ (A B : Shard → Type 0) (into : (s : Shard) → A s → B s) (back : (
   join_of_same join = record {
     xorbs = λ q. same_part _ (join.xorbs q);
     segments = λ q. same_part _ (join.segments q);
-    verification = λ q. same_part _ (join.verification q);
-    metadata_ext = λ q. same_part _ (join.metadata_ext q);
-    aux_ext = λ q. same_part _ (join.aux_ext q);
+    parts = λ part q. same_part _ (join.parts part q);
     follows = join.follows;
   }
 

@@ -3,7 +3,7 @@ use Rattle.std.specs.Prelude.{◌≡◌, ◌⊎◌, ⊤, ℕ, Bool, true, false,
 use Rattle.xet_core_structures.specs.declared.error.CoreError.{CoreError}
 use Rattle.xet_core_structures.specs.declared.error.CoreError.TheVariants.{OutOfMemory}
 use Rattle.xet_core_structures.specs.declared.file_structs.FileDataSequenceEntry.{FileDataSequenceEntry}
-use Rattle.xet_core_structures.specs.declared.file_structs.FileVerificationEntry.{FileVerificationEntry}
+use Rattle.xet_core_structures.specs.declared.file_structs.HashRow.{HashRow}
 use Rattle.xet_core_structures.specs.declared.file_structs.MDBFileInfo.{MDBFileInfo}
 use Rattle.xet_core_structures.specs.declared.merklehash.DataHash.{DataHash}
 use Rattle.xet_core_structures.specs.declared.shard_format.MDBShardInfo.{MDBShardInfo}
@@ -90,11 +90,11 @@ abbrev pub c_file_segment : FileDataSequenceEntry → Option DataHash → XetFil
 c_file_segment s hash = record { segment = c_segment s; verification = words_or_zero hash }
 
 -- segments, each with the hash of its verification row, or zeros if it has none
-abbrev pub c_segments : List FileDataSequenceEntry → List FileVerificationEntry
+abbrev pub c_segments : List FileDataSequenceEntry → List HashRow
     → List XetFileSegment
 c_segments [] rows = []
 c_segments (s ∷ ss) [] = c_file_segment s None ∷ c_segments ss []
-c_segments (s ∷ ss) (row ∷ rows) = c_file_segment s (Some row.range_hash) ∷ c_segments ss rows
+c_segments (s ∷ ss) (row ∷ rows) = c_file_segment s (Some row.hash) ∷ c_segments ss rows
 
 -- those of a file, or none
 abbrev pub segments_in : Option MDBFileInfo → List XetFileSegment
@@ -109,8 +109,8 @@ c_file (Some file) = record {
   has_sha256 = is_some file.metadata_ext;
   has_aux = is_some file.aux_ext;
   segments = length file.segments;
-  sha256 = words_or_zero (option_map (λ m. m.sha256) file.metadata_ext);
-  aux_hash = words_or_zero (option_map (λ a. a.aux_hash) file.aux_ext);
+  sha256 = words_or_zero (option_map (λ row. row.hash) file.metadata_ext);
+  aux_hash = words_or_zero (option_map (λ row. row.hash) file.aux_ext);
 }
 c_file None = record {
   found = false;

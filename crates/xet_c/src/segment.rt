@@ -49,7 +49,7 @@ pub fn segments_of(
 // The hash of the verification row at an index, or zeros if there is none.
 fn verification_of(rows: &[FileVerificationEntry], index: usize) -> [u64; 4]
     ensures { result
-        ≡ words_or_zero (option_map (λ row. row.range_hash) (slice_get rows.now index)) }
+        ≡ words_or_zero (option_map (λ row. row.hash) (slice_get rows.now index)) }
 {
     words_or_zero(rows.get(index).map(|row| row.range_hash))
 }

@@ -9,10 +9,13 @@ use Rattle.xet_base.specs.Hash.{hash_cmp}
 use Rattle.xet_base.proofs.HashOrder.{hash_cmp-IsTotalOrder, hash_cmp-IsAntisymmetric}
 use Rattle.xet_records.specs.declared.file_structs.MDBFileInfo.{MDBFileInfo}
 use Rattle.xet_records.specs.declared.xorb_structs.MDBXorbInfo.{MDBXorbInfo}
-use Rattle.xet_records.specs.FileRecord.{file_records, IsWellFormed, row_count, flags_of}
+use Rattle.xet_records.specs.declared.file_structs.part.OptionalPart.{OptionalPart}
+use Rattle.xet_records.specs.FileRecord.{file_records, IsWellFormed, row_count}
+use Rattle.xet_records.specs.Part.{flags_of, rows_of, with_parts}
+use Rattle.xet_records.proofs.Parts.{with_parts-rows_of}
 use Rattle.xet_records.specs.XorbRecord.{xorb_records, IsXorb, xorb_row_count}
 use Rattle.xet_records.specs.declared.record_reader.FormatVersion.TheVariants.{V3}
-use Rattle.xet_records.specs.Merging.{verified, described, merged, extended}
+use Rattle.xet_records.specs.Merging.{has_part, merged}
 use Rattle.xet_shards.specs.Joining.{either_file}
 use Rattle.xet_shards.specs.Layout.{layout}
 use Rattle.xet_shards.specs.SetOperations.{IsUnion, IsDifference, ShardsAgree}
@@ -35,7 +38,7 @@ agree_turned : (a b : Shard) → ShardsAgree a b → ShardsAgree b a
 agree_turned a b agree = record {
   files = λ q r s r_at s_at.
       let pair = agree.files q s r s_at r_at in
-      record { segments = sym pair.segments; verification = λ v w. sym (pair.verification w v); metadata_ext = λ v w. sym (pair.metadata_ext w v); aux_ext = λ v w. sym (pair.aux_ext w v) };
+      record { segments = sym pair.segments; parts = λ part v w. sym (pair.parts part w v) };
   xorbs = λ q r s r_at s_at. sym (agree.xorbs q s r s_at r_at);
 }
 
@@ -43,7 +46,7 @@ agree_itself : (a : Shard) → ShardsAgree a a
 agree_itself a = record {
   files = λ q r s r_at s_at.
       let same = same_Some r s (sym r_at ∙ s_at) in
-      record { segments = ap (λ (f : MDBFileInfo). f.segments) same; verification = λ v w. ap (λ (f : MDBFileInfo). f.verification) same; metadata_ext = λ v w. ap (λ (f : MDBFileInfo). f.metadata_ext) same; aux_ext = λ v w. ap (λ (f : MDBFileInfo). f.aux_ext) same };
+      record { segments = ap (λ (f : MDBFileInfo). f.segments) same; parts = λ part v w. ap (rows_of part) same };
   xorbs = λ q r s r_at s_at. same_Some r s (sym r_at ∙ s_at);
 }
 
@@ -161,31 +164,17 @@ nothing_more false w more = refl
 nothing_more true true more = refl
 nothing_more true false more = absurd (true≢false (sym (more refl)))
 
-merged_kept : (r s : MDBFileInfo) (v m x : Bool) → v ≡ false → m ≡ false → x ≡ false → merged r s ≡ record {
-  metadata = record r.metadata { file_flags = r.metadata.file_flags + flags_of v m x };
-  segments = r.segments;
-  verification = if v then s.verification else r.verification;
-  metadata_ext = if m then s.metadata_ext else r.metadata_ext;
-  aux_ext = if x then s.aux_ext else r.aux_ext;
-} → merged r s ≡ r
-merged_kept r s v m x no_rows no_metadata no_aux is =
-    let flags : r.metadata.file_flags + flags_of false false false ≡ r.metadata.file_flags = omega arith in
-    is ∙ (λ i. record {
-      metadata = record r.metadata { file_flags = r.metadata.file_flags + flags_of (no_rows i) (no_metadata i) (no_aux i) };
-      segments = r.segments;
-      verification = if no_rows i then s.verification else r.verification;
-      metadata_ext = if no_metadata i then s.metadata_ext else r.metadata_ext;
-      aux_ext = if no_aux i then s.aux_ext else r.aux_ext;
-    }) ∙ (λ i. record r { metadata = record r.metadata { file_flags = flags i } })
+merged_kept : (r s : MDBFileInfo) → ((part : OptionalPart) → (has_part s part && not (has_part r part)) ≡ false) → merged r s ≡ r
+merged_kept r s none =
+    let flags : r.metadata.file_flags + flags_of (λ part. has_part s part && not (has_part r part)) ≡ r.metadata.file_flags =
+    (λ i. r.metadata.file_flags + flags_of (λ part. none part i)) ∙ omega arith in
+    (λ i. with_parts (record r.metadata { file_flags = flags i }) r.segments (λ part. if none part i then rows_of part s else rows_of part r)) ∙ with_parts-rows_of r
 
 module _ (a b c d : Shard) (first : IsShard a) (second : IsShard b) (agree : ShardsAgree a b) (parts : HasPartsOf a b) (is : IsDifference a b d) (union : IsUnion a b c) where
   same_files : (q : DataHash) (o p : Option MDBFileInfo) → get a.files q ≡ o → get b.files q ≡ p → either_file o p ≡ either_file o (if is_some o then None else p)
   same_files q None p o_at p_at = refl
   same_files q (Some r) None o_at p_at = refl
-  same_files q (Some r) (Some s) o_at p_at = ap Some (merged_kept r s _ _ _
-      (nothing_more (verified s) (verified r) (parts.verification q r s o_at p_at))
-      (nothing_more (described s) (described r) (parts.metadata_ext q r s o_at p_at))
-      (nothing_more (extended s) (extended r) (parts.aux_ext q r s o_at p_at)) refl)
+  same_files q (Some r) (Some s) o_at p_at = ap Some (merged_kept r s (λ part. nothing_more (has_part s part) (has_part r part) (parts.parts part q r s o_at p_at)))
 
   same_xorbs : (q : DataHash) (o p : Option MDBXorbInfo) → get a.xorbs q ≡ o → get b.xorbs q ≡ p → option_or p o ≡ option_or (if is_some o then None else p) o
   same_xorbs q None p o_at p_at = refl

@@ -11,9 +11,12 @@ use Rattle.xet_base.specs.Errors.{IsInvalidShard}
 use Rattle.xet_base.specs.declared.merklehash.DataHash.{DataHash}
 use Rattle.xet_records.specs.declared.file_structs.MDBFileInfo.{MDBFileInfo}
 use Rattle.xet_records.specs.declared.record_reader.FormatVersion.{FormatVersion}
-use Rattle.xet_records.specs.FileRecord.{flags_of, file_records_in}
-use Rattle.xet_records.specs.Merging.{Includes, verified, described, Agree, joined, extended}
-use Rattle.xet_records.proofs.Merging.{flags_are_parts, verification_absent, metadata_ext_absent, joined-comm, same_file_if_agree, merged_is_joined, aux_ext_absent}
+use Rattle.xet_records.specs.declared.file_structs.part.OptionalPart.{OptionalPart}
+use Rattle.xet_records.specs.FileRecord.{file_records_in}
+use Rattle.xet_records.specs.Part.{bit_of, flags_of, rows_of, with_parts}
+use Rattle.xet_records.specs.Merging.{Includes, has_part, Agree, joined}
+use Rattle.xet_records.proofs.Parts.{with_parts-rows_of}
+use Rattle.xet_records.proofs.Merging.{bit_within, part_absent, joined-comm, same_file_if_agree, merged_is_joined}
 use Rattle.xet_shards.specs.declared.shard_format.info.MDBShardInfo.{MDBShardInfo}
 use Rattle.xet_shards.specs.Ends.{HasEnds}
 use Rattle.xet_shards.specs.Joining.{either_file}
@@ -91,18 +94,13 @@ part_more false false x y more none = sym (none refl refl)
 module _ (q : DataHash) (a b : MDBFileInfo) (one : IsKnown q a) (other : IsKnown q b) where
   joined-more : Includes a.metadata.file_flags b.metadata.file_flags → joined a b ≡ a
   joined-more all =
-      let v = bit_kept a.metadata.file_flags b.metadata.file_flags 31 (omega arith) all in
-      let m = bit_kept a.metadata.file_flags b.metadata.file_flags 30 (omega arith) all in
-      let x = bit_kept a.metadata.file_flags b.metadata.file_flags 29 (omega arith) all in
-      let flags = (λ i. flags_of (or_more (verified a) (verified b) v i) (or_more (described a) (described b) m i) (or_more (extended a) (extended b) x i))
-      ∙ sym (flags_are_parts a.metadata.file_flags one.well_formed.widths.metadata.file_flags one.well_formed.known_flags) in
-      let verification = part_more (verified a) (verified b) a.verification b.verification v
-      (λ n k. verification_absent a one.well_formed.whole n ∙ sym (verification_absent b other.well_formed.whole k)) in
-      let metadata_ext = part_more (described a) (described b) a.metadata_ext b.metadata_ext m
-      (λ n k. metadata_ext_absent a one.well_formed.whole n ∙ sym (metadata_ext_absent b other.well_formed.whole k)) in
-      let aux_ext = part_more (extended a) (extended b) a.aux_ext b.aux_ext x
-      (λ n k. aux_ext_absent a one.well_formed.whole n ∙ sym (aux_ext_absent b other.well_formed.whole k)) in
-      λ i. record { metadata = record a.metadata { file_flags = flags i }; segments = a.segments; verification = verification i; metadata_ext = metadata_ext i; aux_ext = aux_ext i }
+      let more : (part : OptionalPart) → has_part b part ≡ true → has_part a part ≡ true =
+      λ part. bit_kept a.metadata.file_flags b.metadata.file_flags (bit_of part) (bit_within part) all in
+      let flags = (λ i. flags_of (λ part. or_more (has_part a part) (has_part b part) (more part) i)) ∙ sym one.well_formed.known_flags in
+      (λ i. with_parts (record a.metadata { file_flags = flags i }) a.segments
+      (λ part. part_more (has_part a part) (has_part b part) (rows_of part a) (rows_of part b) (more part)
+      (λ n k. part_absent a one.well_formed.whole part n ∙ sym (part_absent b other.well_formed.whole part k)) i))
+      ∙ with_parts-rows_of a
 
   pub mixed_is_joined : mixed a b ≡ joined a b
   mixed_is_joined = λ i. record (joined a b) { metadata = record (joined a b).metadata { _unused = sym one.well_formed.reserved i } }

@@ -16,13 +16,15 @@ use Rattle.xet_records.specs.declared.file_structs.MDBFileInfo.{MDBFileInfo}
 use Rattle.xet_records.specs.declared.xorb_structs.MDBXorbInfo.{MDBXorbInfo}
 use Rattle.xet_records.specs.declared.xorb_structs.XorbChunkSequenceEntry.{XorbChunkSequenceEntry}
 use Rattle.xet_records.specs.RecordKind.{RecordKind, KindLaws}
-use Rattle.xet_records.specs.FileRecord.{file_records, has_verification, has_metadata_ext, FitsItsHeader, IsStored, file_records_in, has_aux_ext}
+use Rattle.xet_records.specs.FileRecord.{file_records, has_verification, FitsItsHeader, IsStored, file_records_in}
+use Rattle.xet_records.specs.declared.file_structs.part.OptionalPart.TheVariants.{Verification}
+use Rattle.xet_records.specs.Part.{announces, all_but}
 use Rattle.xet_records.specs.XorbRow.{FitsChunk}
 use Rattle.xet_records.specs.XorbRecord.{xorb_records, IsStoredXorb}
 use Rattle.xet_records.specs.declared.file_structs.view.KeptParts.{KeptParts}
 use Rattle.xet_records.specs.View.{as_wanted, without_verification, aux_as_wanted, as_kept}
-use Rattle.xet_records.proofs.KeptParts.{without_aux-stored}
-use Rattle.xet_records.proofs.Merging.{verification_injective, metadata_ext_injective, aux_ext_injective}
+use Rattle.xet_records.proofs.KeptParts.{keeping-whole, without_aux-stored}
+use Rattle.xet_records.proofs.Merging.{announces-flags_of}
 use Rattle.xet_records.proofs.RecordKinds.{xorb_laws, version_known}
 use Rattle.xet_shards.specs.declared.streaming_shard.file_start.FileStart.{FileStart}
 use Rattle.xet_shards.specs.InForm.{FitsSection}
@@ -111,14 +113,8 @@ file_as_wanted wanted r stored =
 
     still_whole : (b : Bool) → FitsItsHeader (if b then without_verification r else r)
     still_whole true =
-        let has_ext = has_metadata_ext r.metadata.file_flags in
-        let has_aux = has_aux_ext r.metadata.file_flags in
-        record {
-          segments = stored.whole.segments;
-          verification = ap (λ v. if v then r.metadata.num_entries else 0) (sym (verification_injective false has_ext has_aux));
-          metadata_ext = stored.whole.metadata_ext ∙ sym (metadata_ext_injective false has_ext has_aux);
-          aux_ext = stored.whole.aux_ext ∙ sym (aux_ext_injective false has_ext has_aux);
-        }
+        keeping-whole (all_but Verification) (without_verification r).metadata r stored.whole refl
+        (announces-flags_of (λ part. all_but Verification part && announces r.metadata.file_flags part))
     still_whole false = stored.whole
 
 file_as_kept : (kept : KeptParts) (r : MDBFileInfo) → IsStored r → IsStored (as_kept kept r)

@@ -6,7 +6,6 @@ use Rattle.std.proofs.Math.Dec.{eqb-suc-zero}
 use Rattle.xet_base.specs.InputLaws.{Takes-nil}
 use Rattle.xet_base.specs.Source.{Source, Takes, ReadFails}
 use Rattle.xet_records.specs.declared.file_structs.header.FileDataSequenceHeader.{FileDataSequenceHeader}
-use Rattle.xet_records.specs.declared.file_structs.rows.FileVerificationEntry.{FileVerificationEntry}
 use Rattle.xet_records.specs.declared.file_structs.MDBFileInfo.{MDBFileInfo}
 use Rattle.xet_records.specs.declared.row_copier.CopyFailure.{CopyFailure}
 use Rattle.xet_records.specs.declared.row_copier.CopyFailure.TheVariants.{Input, Output}
@@ -14,36 +13,38 @@ use Rattle.xet_records.specs.Copying.{CopiesRows, CopyFails}
 use Rattle.xet_records.specs.Rows.{ReadsRows}
 use Rattle.xet_records.proofs.Reading.{no_rows}
 use Rattle.xet_records.proofs.RecordKinds.{file_laws}
-use Rattle.xet_records.specs.FileRow.{FitsVerification, FitsMetadata, FitsAux}
+use Rattle.xet_records.specs.declared.file_structs.part.OptionalPart.{OptionalPart}
+use Rattle.xet_records.specs.declared.file_structs.rows.HashRow.{HashRow}
+use Rattle.xet_records.specs.FileRow.{FitsHashRow}
+use Rattle.xet_records.specs.Part.{rows_of}
 use Rattle.xet_records.specs.FileRecord.{row_count, rows_after, IsStored}
-use Rattle.xet_records.specs.Merging.{verified, described, extended, mixed_header}
-use Rattle.xet_records.proofs.Merging.{joined_whole, flags_fit}
+use Rattle.xet_records.specs.Merging.{has_part, joined, mixed_header}
+use Rattle.xet_records.proofs.Merging.{joined_whole, flags_fit, All-joined}
+use Rattle.xet_records.proofs.Parts.{for_parts}
 use Rattle.xet_core_structures.specs.ByteUnion.{mixed}
 use Rattle.xet_core_structures.specs.MixedFiles.{CopiesEither, EitherFails}
 use Rattle.xet_core_structures.specs.MixedFiles.EitherFails.{output_fails, first_fails, second_fails}
 use Rattle.xet_core_structures.proofs.OneSection.{serves_same, taken_serves}
 
-pub either_part : {X : Type 0} (P : X → Type 0) (v : Bool) (x y : X) → P x → P y → P (if v then x else y)
-either_part P true x y first second = first
-either_part P false x y first second = second
+-- a mix has the parts of a join
+pub rows_of-mixed : (a b : MDBFileInfo) (part : OptionalPart) → rows_of part (mixed a b) ≡ rows_of part (joined a b)
+rows_of-mixed a b part = for_parts (λ p. rows_of p (mixed a b) ≡ rows_of p (joined a b)) refl refl refl part
 
 pub mixed_stored : (a b : MDBFileInfo) → IsStored a → IsStored b → a.metadata.file_hash ≡ b.metadata.file_hash → a.metadata.num_entries ≡ b.metadata.num_entries → IsStored (mixed a b)
 mixed_stored a b one other hash counts =
     let whole = joined_whole a b one.whole other.whole (record { file_hash = hash; num_entries = counts }) in
     record {
       is_file = one.is_file;
-      whole = record { segments = whole.segments; verification = whole.verification; metadata_ext = whole.metadata_ext; aux_ext = whole.aux_ext };
+      whole = record { segments = whole.segments; parts = λ part. ap length (rows_of-mixed a b part) ∙ whole.parts part };
       widths = record {
         metadata = record {
           file_hash = one.widths.metadata.file_hash;
-          file_flags = flags_fit (verified a || verified b) (described a || described b) (extended a || extended b);
+          file_flags = flags_fit (λ part. has_part a part || has_part b part);
           num_entries = one.widths.metadata.num_entries;
           unused = omega arith;
         };
         segments = one.widths.segments;
-        verification = either_part (All FitsVerification) (verified a) a.verification b.verification one.widths.verification other.widths.verification;
-        metadata_ext = either_part (λ o. IfSome o FitsMetadata) (described a) a.metadata_ext b.metadata_ext one.widths.metadata_ext other.widths.metadata_ext;
-        aux_ext = either_part (λ o. IfSome o FitsAux) (extended a) a.aux_ext b.aux_ext one.widths.aux_ext other.widths.aux_ext;
+        parts = All-joined FitsHashRow a b one.widths.parts other.widths.parts;
       };
     }
 
@@ -111,18 +112,13 @@ no_row [] [] one other = refl
 no_row [] (y ∷ ys) one other = absurd (omega (arith, other))
 no_row (x ∷ xs) ys one other = absurd (omega (arith, one))
 
-pub verification_of : (v w : Bool) (n count_1 count_2 : ℕ) (firsts seconds : List FileVerificationEntry) → count_1 ≡ (if v then n else 0) → count_2 ≡ (if w then n else 0)
-    → length firsts ≡ count_1 → length seconds ≡ count_2 → (if count_1 == 0 then seconds else firsts) ≡ (if v then firsts else seconds)
-verification_of false w n count_1 count_2 firsts seconds one other len_1 len_2 = ap (λ k. if k == 0 then seconds else firsts) one
-verification_of true w n count_1 count_2 firsts seconds one other len_1 len_2 = ap (λ k. if k == 0 then seconds else firsts) one ∙ at n refl where
+pub rows_chosen : (v w : Bool) (n count_1 count_2 : ℕ) (firsts seconds : List HashRow) → count_1 ≡ (if v then n else 0) → count_2 ≡ (if w then n else 0)
+    → length firsts ≡ count_1 → length seconds ≡ count_2 → (if v then firsts else seconds) ≡ (if count_1 == 0 then seconds else firsts)
+rows_chosen false w n count_1 count_2 firsts seconds one other len_1 len_2 = ap (λ k. if k == 0 then seconds else firsts) (sym one)
+rows_chosen true w n count_1 count_2 firsts seconds one other len_1 len_2 = sym (ap (λ k. if k == 0 then seconds else firsts) one ∙ at n refl) where
   at : (k : ℕ) → n ≡ k → (if k == 0 then seconds else firsts) ≡ firsts
   at zero none = no_row seconds firsts (len_2 ∙ other ∙ no_rows_of w) (len_1 ∙ one ∙ none) where
     no_rows_of : (w : Bool) → (if w then n else 0) ≡ 0
     no_rows_of true = none
     no_rows_of false = refl
   at (suc k) some = ap (λ b. if b then seconds else firsts) (eqb-suc-zero k)
-
-pub row_of : {T : Type 0} (v : Bool) (count : ℕ) (firsts seconds : List T) (one other : Option T) → count ≡ (if v then 1 else 0)
-    → firsts ≡ option_to_list one → seconds ≡ option_to_list other → (if count == 0 then seconds else firsts) ≡ option_to_list (if v then one else other)
-row_of true count firsts seconds one other counted first second = ap (λ k. if k == 0 then seconds else firsts) counted ∙ first
-row_of false count firsts seconds one other counted first second = ap (λ k. if k == 0 then seconds else firsts) counted ∙ second

@@ -1,6 +1,5 @@
 -- The results of union and difference are shards whose bytes lookups find their records in.
-use Rattle.std.proofs.Common.{◌≡◌, inl, inr, ℕ, ◌≤◌, List, [], ◌∷◌, map, get_or, Option, None, Some, refl, sym, ap, ◌∙◌, subst, arith}
-use Rattle.xet_records.specs.declared.file_structs.rows.FileAuxExt.{FileAuxExt}
+use Rattle.std.proofs.Common.{◌≡◌, inl, inr, ℕ, ◌≤◌, Bool, true, false, if◌then◌else◌, List, [], ◌∷◌, map, get_or, Option, None, Some, refl, sym, ap, ◌∙◌, subst, arith}
 use Rattle.xet_shards.proofs.Sections.{files_laws}
 use Rattle.xet_shards.specs.SectionReading.{files_of}
 use Rattle.xet_records.specs.Version.{version_of}
@@ -13,16 +12,19 @@ use Rattle.std.proofs.lemmas.Option.{same_Some, none-some}
 use Rattle.xet_base.specs.declared.merklehash.DataHash.{DataHash}
 use Rattle.xet_base.specs.Hash.{hash_cmp}
 use Rattle.xet_base.proofs.HashOrder.{hash_cmp-IsTotalOrder, hash_cmp-IsAntisymmetric}
-use Rattle.xet_records.specs.declared.file_structs.rows.FileVerificationEntry.{FileVerificationEntry}
-use Rattle.xet_records.specs.declared.file_structs.rows.FileMetadataExt.{FileMetadataExt}
 use Rattle.xet_records.specs.declared.file_structs.MDBFileInfo.{MDBFileInfo}
 use Rattle.xet_records.specs.declared.xorb_structs.MDBXorbInfo.{MDBXorbInfo}
 use Rattle.xet_records.specs.RecordKind.{RecordKind, KindLaws, in_version}
 use Rattle.xet_records.proofs.RecordKinds.{xorb_laws, stored_ever}
-use Rattle.xet_records.specs.FileRow.{clear_verification, clear_metadata, clear_aux}
+use Rattle.xet_records.specs.declared.file_structs.part.OptionalPart.{OptionalPart}
+use Rattle.xet_records.specs.declared.file_structs.rows.HashRow.{HashRow}
+use Rattle.xet_records.specs.FileRow.{clear}
+use Rattle.xet_records.specs.Part.{rows_of, with_parts}
+use Rattle.xet_records.proofs.Parts.{rows_of-handed, with_parts-rows_of}
+use Rattle.xet_records.proofs.Merging.{rows_of-joined}
 use Rattle.xet_records.specs.FileRecord.{file_records, handed_out}
 use Rattle.xet_records.specs.XorbRecord.{xorb_records, IsXorb}
-use Rattle.xet_records.specs.Merging.{verified, described, extended}
+use Rattle.xet_records.specs.Merging.{has_part}
 use Rattle.xet_shards.specs.declared.shard_format.info.MDBShardInfo.{MDBShardInfo}
 use Rattle.xet_shards.specs.SetOperations.{IsDifference}
 use Rattle.xet_shards.specs.Shard.{Shard}
@@ -36,23 +38,22 @@ use Rattle.xet_core_structures.specs.Combining.{IsRest}
 use Rattle.xet_core_structures.specs.Held.{IsSectionOf}
 use Rattle.xet_core_structures.specs.Readable.{AreReadable}
 use Rattle.xet_core_structures.proofs.Handed.{all_handed}
-use Rattle.xet_core_structures.proofs.Mixing.{mixed_stored, either_part}
+use Rattle.xet_core_structures.proofs.Mixing.{mixed_stored, rows_of-mixed}
 
 -- reading returns again what it returned
-cleared_twice : (vs : List FileVerificationEntry) → map clear_verification (map clear_verification vs) ≡ map clear_verification vs
+cleared_twice : (rows : List HashRow) → map clear (map clear rows) ≡ map clear rows
 cleared_twice [] = refl
-cleared_twice (v ∷ vs) = ap (λ ws. clear_verification v ∷ ws) (cleared_twice vs)
-
-metadata_twice : (o : Option FileMetadataExt) → option_map clear_metadata (option_map clear_metadata o) ≡ option_map clear_metadata o
-metadata_twice None = refl
-metadata_twice (Some m) = refl
-
-aux_twice : (o : Option FileAuxExt) → option_map clear_aux (option_map clear_aux o) ≡ option_map clear_aux o
-aux_twice None = refl
-aux_twice (Some m) = refl
+cleared_twice (row ∷ rows) = ap (λ xs. clear row ∷ xs) (cleared_twice rows)
 
 handed_twice : (r : MDBFileInfo) → handed_out (handed_out r) ≡ handed_out r
-handed_twice r = λ i. record r { verification = cleared_twice r.verification i; metadata_ext = metadata_twice r.metadata_ext i; aux_ext = aux_twice r.aux_ext i }
+handed_twice r = λ i. with_parts r.metadata r.segments (λ part. (ap (map clear) (rows_of-handed r part) ∙ cleared_twice (rows_of part r)) i)
+
+-- a record is handed out as it is if its rows are
+rows_unchanged : (r : MDBFileInfo) → handed_out r ≡ r → (part : OptionalPart) → map clear (rows_of part r) ≡ rows_of part r
+rows_unchanged r same part = sym (rows_of-handed r part) ∙ ap (rows_of part) same
+
+unchanged_if : (r : MDBFileInfo) → ((part : OptionalPart) → map clear (rows_of part r) ≡ rows_of part r) → handed_out r ≡ r
+unchanged_if r each = (λ i. with_parts r.metadata r.segments (λ part. each part i)) ∙ with_parts-rows_of r
 
 module _ {H R : Type 0} (K : RecordKind H R) where
   -- a record under its hash that may be stored, and that reading returns as it is
@@ -114,14 +115,15 @@ readable_ever K version q r is = record { keyed = is.keyed; stored = stored_ever
 -- a mix of two files has rows of either
 mixed_readable : (q : DataHash) (a b : MDBFileInfo) → IsReadableAs file_records q a → IsReadableAs file_records q b → a.metadata.num_entries ≡ b.metadata.num_entries → IsReadableAs file_records q (mixed a b)
 mixed_readable q a b one other counts =
-    let verification = either_part (λ vs. map clear_verification vs ≡ vs) (verified a) a.verification b.verification (ap (λ (r : MDBFileInfo). r.verification) one.unchanged) (ap (λ (r : MDBFileInfo). r.verification) other.unchanged) in
-    let metadata_ext = either_part (λ o. option_map clear_metadata o ≡ o) (described a) a.metadata_ext b.metadata_ext (ap (λ (r : MDBFileInfo). r.metadata_ext) one.unchanged) (ap (λ (r : MDBFileInfo). r.metadata_ext) other.unchanged) in
-    let aux_ext = either_part (λ o. option_map clear_aux o ≡ o) (extended a) a.aux_ext b.aux_ext (ap (λ (r : MDBFileInfo). r.aux_ext) one.unchanged) (ap (λ (r : MDBFileInfo). r.aux_ext) other.unchanged) in
     record {
       keyed = one.keyed;
       stored = mixed_stored a b one.stored other.stored (sym one.keyed ∙ other.keyed) counts;
-      unchanged = λ i. record (mixed a b) { verification = verification i; metadata_ext = metadata_ext i; aux_ext = aux_ext i };
-    }
+      unchanged = unchanged_if (mixed a b) (λ part. subst (λ rows. map clear rows ≡ rows) (sym (rows_of-mixed a b part ∙ rows_of-joined a b part))
+          (either_part (has_part a part) (rows_of part a) (rows_of part b) (rows_unchanged a one.unchanged part) (rows_unchanged b other.unchanged part)));
+    } where
+      either_part : (v : Bool) (xs ys : List HashRow) → map clear xs ≡ xs → map clear ys ≡ ys → map clear (if v then xs else ys) ≡ (if v then xs else ys)
+      either_part true xs ys first second = first
+      either_part false xs ys first second = second
 
 united_readable : (q : DataHash) (a b t : MDBFileInfo) → IsReadableAs file_records q a → IsReadableAs file_records q b → IsUnitedFile a b t → IsReadableAs file_records q t
 united_readable q a b t one other (inl (all, is)) = subst (IsReadableAs file_records q) (sym is) one

@@ -11,7 +11,11 @@ use Rattle.xet_records.specs.declared.file_structs.header.SupersetResult.TheVari
 use Rattle.xet_records.specs.declared.file_structs.MDBFileInfo.{MDBFileInfo}
 use Rattle.xet_records.specs.declared.row_copier.CopyFailure.{CopyFailure}
 use Rattle.xet_records.specs.FileRecord.{file_records, file_record_bytes, row_count, rows_after}
-use Rattle.xet_records.specs.Merging.{Includes, Compares, verified, described, extended, mixed_header}
+use Rattle.xet_records.specs.Merging.{Includes, Compares, has_part, mixed_header}
+use Rattle.xet_records.specs.declared.file_structs.rows.HashRow.{HashRow}
+use Rattle.xet_records.specs.Part.{parts, rows_of}
+use Rattle.xet_records.proofs.Parts.{rows_of_both}
+use Rattle.xet_records.proofs.Merging.{rows_of-joined}
 use Rattle.xet_records.specs.Reading.{ReadsRowsAfter}
 use Rattle.xet_records.proofs.RecordKinds.{file_laws}
 use Rattle.xet_core_structures.specs.ByteUnion.{mixed, IsEitherFile}
@@ -19,7 +23,7 @@ use Rattle.xet_core_structures.specs.Combining.{IsMadeOf}
 use Rattle.xet_core_structures.specs.MixedFiles.{MixesFiles, MixHasNoRoom}
 use Rattle.xet_core_structures.specs.SideBySide.{IsRecordHeader, PassesRecord, WritesMade, CannotMake, PairFails}
 use Rattle.xet_core_structures.specs.SideBySide.CannotMake.{nothing_made, too_many_rows}
-use Rattle.xet_core_structures.proofs.Mixing.{mixed_stored, rows_of_mix}
+use Rattle.xet_core_structures.proofs.Mixing.{mixed_stored, rows_of_mix, rows_of-mixed}
 use Rattle.xet_core_structures.proofs.Pairs.{fails_so, record_of}
 use Rattle.xet_core_structures.proofs.OneSection.{header_of_found}
 
@@ -94,13 +98,9 @@ module _ (g h : FileDataSequenceHeader) (old_1 new_1 old_2 new_2 : Source) where
   cannot_unite rows neither counts one other (r, is, read) (s, at, also) = nothing_made r s is at (makes_none neither.0 neither.1 r s read also counts)
 
   -- a mix of both is made
-  either_rows : {X : Type 0} (v : Bool) (xs ys : List X) → length (if v then xs else ys) ≤ length xs + length ys
+  either_rows : (v : Bool) (xs ys : List HashRow) → length (if v then xs else ys) ≤ length xs + length ys
   either_rows true xs ys = omega arith
   either_rows false xs ys = omega arith
-
-  either_row : {X : Type 0} (v : Bool) (x y : Option X) → length (option_to_list (if v then x else y)) ≤ length (option_to_list x) + length (option_to_list y)
-  either_row true x y = omega arith
-  either_row false x y = omega arith
 
   module _ (first : IsRecordHeader file_records g) (second : IsRecordHeader file_records h) (hash : g.file_hash ≡ h.file_hash) (count : g.num_entries ≡ h.num_entries)
       (neither : (¬ Includes g.file_flags h.file_flags) × (¬ Includes h.file_flags g.file_flags)) where
@@ -112,7 +112,11 @@ module _ (g h : FileDataSequenceHeader) (old_1 new_1 old_2 new_2 : Source) where
         record {
           stored = mixed_stored r s (record_of file_records file_laws g old_1 new_1 r read first).2 (record_of file_records file_laws h old_2 new_2 s also second).2 same
               (ap (λ (k : FileDataSequenceHeader). k.num_entries) r_is ∙ count ∙ ap (λ (k : FileDataSequenceHeader). k.num_entries) (sym s_is));
-          rows = omega (arith, either_rows (verified r) r.verification s.verification, either_row (described r) r.metadata_ext s.metadata_ext, either_row (extended r) r.aux_ext s.aux_ext);
+          rows = omega (
+            arith,
+            rows_of_both (λ p. rows_of p (mixed r s)) (λ p. rows_of p r) (λ p. rows_of p s) (λ p. subst (λ n. n ≤ length (rows_of p r) + length (rows_of p s))
+                (ap length (sym (rows_of-mixed r s p ∙ rows_of-joined r s p))) (either_rows (has_part r p) (rows_of p r) (rows_of p s))) parts,
+          );
           hash = of_either same;
         } where
           of_either : r.metadata.file_hash ≡ s.metadata.file_hash → (x : MDBFileInfo) → (Some r ≡ Some x) ⊎ (Some s ≡ Some x) → r.metadata.file_hash ≡ x.metadata.file_hash

@@ -5,10 +5,11 @@ use Rattle.std.specs.FinMap.{get}
 use Rattle.xet_base.specs.declared.merklehash.DataHash.{DataHash}
 use Rattle.xet_records.specs.declared.file_structs.MDBFileInfo.{MDBFileInfo}
 use Rattle.xet_records.specs.declared.xorb_structs.MDBXorbInfo.{MDBXorbInfo}
-use Rattle.xet_records.specs.Merging.{Includes, verified, described, extended, joined}
+use Rattle.xet_records.specs.declared.file_structs.part.OptionalPart.{OptionalPart}
+use Rattle.xet_records.specs.Merging.{Includes, has_part, joined}
 use Rattle.xet_shards.specs.Shard.{Shard}
 
--- a header with the three known flags where either record has them, the first's segments, and each
+-- a header with the known flags that either record has, the first's segments, and each
 -- optional part from the first where it has it, else from the second
 abbrev pub mixed : MDBFileInfo → MDBFileInfo → MDBFileInfo
 mixed a b = record (joined a b) { metadata = record (joined a b).metadata { _unused = 0 } }
@@ -42,9 +43,5 @@ pub record IsByteUnion (a b c : Shard) : Type 0 where
 
 -- each file of both shards has in the first every optional part that it has in the second
 pub record HasPartsOf (a b : Shard) : Type 0 where
-  pub verification : (q : DataHash) (r s : MDBFileInfo) → get a.files q ≡ Some r
-      → get b.files q ≡ Some s → IsTrue (verified s) → IsTrue (verified r)
-  pub metadata_ext : (q : DataHash) (r s : MDBFileInfo) → get a.files q ≡ Some r
-      → get b.files q ≡ Some s → IsTrue (described s) → IsTrue (described r)
-  pub aux_ext : (q : DataHash) (r s : MDBFileInfo) → get a.files q ≡ Some r
-      → get b.files q ≡ Some s → IsTrue (extended s) → IsTrue (extended r)
+  pub parts : (part : OptionalPart) (q : DataHash) (r s : MDBFileInfo) → get a.files q ≡ Some r
+      → get b.files q ≡ Some s → IsTrue (has_part s part) → IsTrue (has_part r part)

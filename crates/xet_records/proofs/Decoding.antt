@@ -8,9 +8,9 @@ use Rattle.std.proofs.lemmas.List.Elements.{All-cons, All-nil}
 use Rattle.std.proofs.lemmas.Nat.{le_bytes_4, le_bytes_8}
 use Rattle.xet_base.specs.Bytes.{u32_bytes, u64_bytes}
 use Rattle.xet_base.specs.Hash.{hash_bytes, IsHash}
-use Rattle.xet_records.specs.FileRow.{segment_row, verification_row, metadata_row, aux_row, IsReserved, FitsSegment, FitsVerification, FitsMetadata, FitsAux}
+use Rattle.xet_records.specs.FileRow.{segment_row, hash_row, IsReserved, FitsSegment, FitsHashRow}
 use Rattle.xet_records.specs.XorbRow.{chunk_row, FitsChunk}
-use Rattle.xet_records.specs.Decoding.{u32_at, u64_at, hash_at, segment_at, verification_at, metadata_at, aux_at, chunk_at, rows_at}
+use Rattle.xet_records.specs.Decoding.{u32_at, u64_at, hash_at, segment_at, hash_row_at, chunk_at, rows_at}
 
 -- each number of a list is a byte
 abbrev pub AreBytes : List ℕ → Type 0
@@ -105,19 +105,10 @@ hash_and_words row_bytes Fits row bytes are within row_is fits = record {
       (record { first = u64_at bytes 32; second = u64_at bytes 40; words_are = refl; first_fits = u64_fits bytes 32 are; second_fits = u64_fits bytes 40 are });
 }
 
-pub verification_spelled : (bytes : List ℕ) → AreBytes bytes → 48 ≤ length bytes → Spells verification_row FitsVerification bytes (verification_at bytes)
-unfolding verification_row verification_at
-verification_spelled bytes are within =
-    hash_and_words verification_row FitsVerification (verification_at bytes) bytes are within refl (λ h words. record { range_hash = h; unused = words })
-
-pub metadata_spelled : (bytes : List ℕ) → AreBytes bytes → 48 ≤ length bytes → Spells metadata_row FitsMetadata bytes (metadata_at bytes)
-unfolding metadata_row metadata_at
-metadata_spelled bytes are within =
-    hash_and_words metadata_row FitsMetadata (metadata_at bytes) bytes are within refl (λ h words. record { sha256 = h; unused = words })
-
-pub aux_spelled : (bytes : List ℕ) → AreBytes bytes → 48 ≤ length bytes → Spells aux_row FitsAux bytes (aux_at bytes)
-unfolding aux_row aux_at
-aux_spelled bytes are within = hash_and_words aux_row FitsAux (aux_at bytes) bytes are within refl (λ h words. record { aux_hash = h; unused = words })
+pub hash_row_spelled : (bytes : List ℕ) → AreBytes bytes → 48 ≤ length bytes → Spells hash_row FitsHashRow bytes (hash_row_at bytes)
+unfolding hash_row hash_row_at
+hash_row_spelled bytes are within =
+    hash_and_words hash_row FitsHashRow (hash_row_at bytes) bytes are within refl (λ h words. record { hash = h; unused = words })
 
 -- so many rows have the bytes that spell them
 pub record SpellsRows {T : Type 0} (row_bytes : T → List ℕ) (Fits : T → Type 0) (bytes : List ℕ) (count : ℕ) (rows : List T) : Type 0 where

@@ -1,48 +1,40 @@
 -- The flag bits, tested by a mask.
-use Rattle.std.proofs.Common.{◌≡◌, ℕ, zero, suc, refl, false, min, ◌+◌, ◌*◌, ◌%◌, ◌^◌, ◌<◌, not, nat_eq, ap, ◌∙◌, arith}
+use Rattle.std.proofs.Common.{◌≡◌, ℕ, zero, suc, refl, min, ◌+◌, ◌*◌, ◌%◌, ◌^◌, ◌<◌, not, nat_eq, ◌==◌, ap, lit<, ◌∙◌, arith}
 use Rattle.std.specs.Prelude.{bit_and, bit_or}
 use Rattle.std.specs.Int.{bit_at}
 use Rattle.std.proofs.lemmas.Nat.{and_mask, and_le_r, and_comm, or_disjoint}
 use Rattle.std.proofs.lemmas.Nat.Bits.{and_pow, bit_at_and, bit_at-lt, same_from_bits_below}
 use Rattle.std.proofs.lemmas.Bool.Decides.{nat_tests}
-use Rattle.xet_records.specs.FileRecord.{has_verification, has_metadata_ext, has_aux_ext}
+use Rattle.xet_records.specs.declared.file_structs.part.OptionalPart.{OptionalPart}
+use Rattle.xet_records.specs.declared.file_structs.part.OptionalPart.TheVariants.{Verification, MetadataExt, AuxExt}
+use Rattle.xet_records.specs.Part.{bit_of, announces}
 use Rattle.xet_records.specs.Merging.{Includes}
 
-masked : (b k : ℕ) → b < 2 → 0 < k → not (nat_eq (b * k) 0) ≡ nat_eq b 1
-masked b k small above = grind (arith, nat_tests)
+masked_bit : (b k : ℕ) → b < 2 → 0 < k → not (nat_eq (b * k) 0) ≡ nat_eq b 1
+masked_bit b k small above = grind (arith, nat_tests)
 
-pub verification_masked : (flags : ℕ) → not (nat_eq (bit_and flags 2147483648) 0) ≡ has_verification flags
-verification_masked flags =
-    ap (λ m. not (nat_eq m 0)) (and_pow flags 31) ∙ masked (bit_at flags 31) 2147483648 (omega arith) (omega arith)
-
-pub metadata_ext_masked : (flags : ℕ) → not (nat_eq (bit_and flags 1073741824) 0) ≡ has_metadata_ext flags
-metadata_ext_masked flags =
-    ap (λ m. not (nat_eq m 0)) (and_pow flags 30) ∙ masked (bit_at flags 30) 1073741824 (omega arith) (omega arith)
-
-pub aux_ext_masked : (flags : ℕ) → not (nat_eq (bit_and flags 536870912) 0) ≡ has_aux_ext flags
-aux_ext_masked flags =
-    ap (λ m. not (nat_eq m 0)) (and_pow flags 29) ∙ masked (bit_at flags 29) 536870912 (omega arith) (omega arith)
+pub masked : (flags : ℕ) (part : OptionalPart) → not (nat_eq (bit_and flags (2 ^ bit_of part)) 0) ≡ announces flags part
+masked flags part =
+    ap (λ m. not (nat_eq m 0)) (and_pow flags (bit_of part)) ∙ masked_bit (bit_at flags (bit_of part)) (2 ^ bit_of part) (bit_at-lt flags (bit_of part)) (pow_above part)
+  where
+    pow_above : (part : OptionalPart) → 0 < 2 ^ bit_of part
+    pow_above Verification = lit< tt
+    pow_above MetadataExt = lit< tt
+    pow_above AuxExt = lit< tt
 
 -- a bit that is not set is added
 pub or_unset : (n k : ℕ) → bit_at n k ≡ 0 → bit_or n (2 ^ k) ≡ n + 2 ^ k
 or_unset n k unset = or_disjoint n (2 ^ k) (and_pow n k ∙ ap (λ b. b * 2 ^ k) unset ∙ omega arith)
 
--- the mark of a chunk, taken away and set
+-- the mark of a chunk, tested, taken away and set
+pub mark_masked : (flags : ℕ) → not (nat_eq (bit_and flags 2147483648) 0) ≡ (bit_at flags 31 == 1)
+mark_masked flags = masked flags Verification
+
 pub unmarked : (flags : ℕ) → bit_and flags 2147483647 ≡ flags % 2147483648
 unmarked flags = and_mask flags 31
 
 pub marked : (flags : ℕ) → bit_or (flags % 2147483648) 2147483648 ≡ flags % 2147483648 + 2147483648
 marked flags = or_unset (flags % 2147483648) 31 (omega arith)
-
--- the flag of an optional part that is not announced, added
-pub verification_added : (flags : ℕ) → has_verification flags ≡ false → bit_or flags 2147483648 ≡ flags + 2147483648
-verification_added flags unset = or_unset flags 31 (grind (arith, nat_tests))
-
-pub metadata_ext_added : (flags : ℕ) → has_metadata_ext flags ≡ false → bit_or flags 1073741824 ≡ flags + 1073741824
-metadata_ext_added flags unset = or_unset flags 30 (grind (arith, nat_tests))
-
-pub aux_ext_added : (flags : ℕ) → has_aux_ext flags ≡ false → bit_or flags 536870912 ≡ flags + 536870912
-aux_ext_added flags unset = or_unset flags 29 (grind (arith, nat_tests))
 
 -- inclusion of sets of bits, tested by the bits in common
 bits_in_common : (x y : ℕ) → y < 2 → (y ≡ 1 → x ≡ 1) → min x y ≡ y

@@ -1,43 +1,43 @@
 -- A record as reading returns it may be stored again.
-use Rattle.std.proofs.Common.{◌≡◌, [], ◌∷◌, Option, None, Some, IfSome, is_some, refl, ◌∙◌, arith}
-use Rattle.std.specs.Prelude.{option_map}
-use Rattle.std.proofs.lemmas.List.{length-map}
-use Rattle.std.proofs.lemmas.List.Elements.{All-map}
-use Rattle.xet_records.specs.declared.file_structs.rows.FileVerificationEntry.{FileVerificationEntry}
+use Rattle.std.proofs.Common.{◌≡◌, List, [], ◌∷◌, ◌++◌, length, flat_map, refl, sym, ap, ◌∙◌, arith}
+use Rattle.std.specs.Prelude.{map}
+use Rattle.std.proofs.lemmas.List.{length-map, map-append}
+use Rattle.std.proofs.lemmas.List.Elements.{All-map, All-same}
+use Rattle.xet_records.specs.declared.file_structs.part.OptionalPart.{OptionalPart}
+use Rattle.xet_records.specs.declared.file_structs.rows.HashRow.{HashRow}
 use Rattle.xet_records.specs.declared.file_structs.MDBFileInfo.{MDBFileInfo}
-use Rattle.xet_records.specs.FileRow.{IsReserved, FitsVerification, FitsMetadata, FitsAux, clear_verification, clear_metadata, clear_aux}
-use Rattle.xet_records.specs.FileRecord.{IsStored, handed_out}
+use Rattle.xet_records.specs.FileRow.{FitsHashRow, clear}
+use Rattle.xet_records.specs.Part.{parts, rows_of, optional_rows}
+use Rattle.xet_records.specs.FileRecord.{IsStored, row_count, handed_out}
+use Rattle.xet_records.proofs.Parts.{rows_of-handed}
 
-two_zeros : IsReserved (0 ∷ 0 ∷ [])
-two_zeros = record { first = 0; second = 0; words_are = refl; first_fits = omega arith; second_fits = omega arith }
+clear_fits : (row : HashRow) → FitsHashRow row → FitsHashRow (clear row)
+clear_fits row fits = record {
+  hash = fits.hash;
+  unused = record { first = 0; second = 0; words_are = refl; first_fits = omega arith; second_fits = omega arith };
+}
 
-clear_fits : (v : FileVerificationEntry) → FitsVerification v → FitsVerification (clear_verification v)
-clear_fits v fits = record { range_hash = fits.range_hash; unused = two_zeros }
+cleared : (rows : OptionalPart → List HashRow) (ps : List OptionalPart) → flat_map (λ part. map clear (rows part)) ps ≡ map clear (flat_map rows ps)
+cleared rows [] = refl
+cleared rows (part ∷ ps) = ap (λ ys. map clear (rows part) ++ ys) (cleared rows ps) ∙ sym (map-append clear (rows part) (flat_map rows ps))
 
--- an optional row that is cleared
-module _ {T : Type 0} (clear : T → T) where
-  pub still_there : (o : Option T) → is_some (option_map clear o) ≡ is_some o
-  still_there None = refl
-  still_there (Some t) = refl
+optional_rows-handed : (r : MDBFileInfo) → optional_rows (handed_out r) ≡ map clear (optional_rows r)
+optional_rows-handed r = (λ i. flat_map (λ part. rows_of-handed r part i) parts) ∙ cleared (λ part. rows_of part r) parts
 
-  cleared_fits : (Fits : T → Type 0) → ((t : T) → Fits t → Fits (clear t)) → (o : Option T) → IfSome o Fits → IfSome (option_map clear o) Fits
-  cleared_fits Fits clears None fits = tt
-  cleared_fits Fits clears (Some t) fits = clears t fits
+pub row_count-handed : (r : MDBFileInfo) → row_count (handed_out r) ≡ row_count r
+row_count-handed r = omega (arith, ap length (optional_rows-handed r), length-map (optional_rows r) clear)
 
 pub file_handed : (r : MDBFileInfo) → IsStored r → IsStored (handed_out r)
 file_handed r stored = record {
   is_file = stored.is_file;
   whole = record {
     segments = stored.whole.segments;
-    verification = length-map r.verification clear_verification ∙ stored.whole.verification;
-    metadata_ext = still_there clear_metadata r.metadata_ext ∙ stored.whole.metadata_ext;
-    aux_ext = still_there clear_aux r.aux_ext ∙ stored.whole.aux_ext;
+    parts = λ part. ap length (rows_of-handed r part) ∙ length-map (rows_of part r) clear ∙ stored.whole.parts part;
   };
   widths = record {
     metadata = stored.widths.metadata;
     segments = stored.widths.segments;
-    verification = All-map FitsVerification clear_verification r.verification (λ k v below. clear_fits _ (stored.widths.verification k v below));
-    metadata_ext = cleared_fits clear_metadata FitsMetadata (λ m fits. record { sha256 = fits.sha256; unused = two_zeros }) r.metadata_ext stored.widths.metadata_ext;
-    aux_ext = cleared_fits clear_aux FitsAux (λ a fits. record { aux_hash = fits.aux_hash; unused = two_zeros }) r.aux_ext stored.widths.aux_ext;
+    parts = All-same FitsHashRow (optional_rows (handed_out r)) (map clear (optional_rows r)) (optional_rows-handed r)
+        (All-map FitsHashRow clear (optional_rows r) (λ k row below. clear_fits _ (stored.widths.parts k row below)));
   };
 }

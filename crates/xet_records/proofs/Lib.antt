@@ -3,6 +3,7 @@ pub mod Decoding
 pub mod Flags
 pub mod Handed
 pub mod Lengths
+pub mod Parts
 pub mod Processing
 pub mod Reading
 pub mod Record
@@ -16,3 +17,4 @@ pub mod XorbViews
 pub mod XorbUnique
 pub mod Merging
 pub mod KeptParts
+mod WorkedParts

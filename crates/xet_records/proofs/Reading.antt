@@ -1,6 +1,7 @@
 -- Rows and records read one after another.
-use Rattle.std.proofs.Common.{◌≡◌, ℕ, ◌+◌, List, [], ◌∷◌, ◌++◌, length, flat_map, true, Some, refl, sym, ap, ◌∙◌, subst, arith, append-nil, append_assoc, take, drop, take-append-drop}
-use Rattle.std.proofs.lemmas.List.{map-append, length-append, length-take}
+use Rattle.std.proofs.Common.{◌≡◌, ℕ, ◌+◌, List, [], ◌∷◌, ◌++◌, length, flat_map, Bool, true, false, Option, None, Some, if◌then◌else◌, refl, sym, ap, ◌∙◌, subst, arith, append-nil, append_assoc, take, drop, take-append-drop}
+use Rattle.std.specs.Prelude.{is_some, IfSome, option_map, option_to_list}
+use Rattle.std.proofs.lemmas.List.{map-append, length-append, length-map, length-take}
 use Rattle.std.proofs.lemmas.List.Elements.{All-append, All-cons, All-nil}
 use Rattle.std.proofs.lemmas.Grind.{flat_map-append}
 use Rattle.xet_records.specs.Rows.{ReadsRow, ReadsRows, ReadsOptional}
@@ -49,6 +50,10 @@ module _ {T : Type 0} (row_bytes : T → List ℕ) (Fits : T → Type 0) (handed
     handed = ap Some read.handed;
   }
 
+  -- as many rows are returned as were read
+  pub length-read : (Took : List ℕ → Type 0) (count : ℕ) (rows : List T) → ReadsRows row_bytes Fits handed Took count rows → length rows ≡ count
+  length-read Took count rows read = ap length (sym read.handed) ∙ length-map read.stored handed ∙ read.len
+
   -- after rows that `First` took and rows that `Next` took
   pub rows_after_rows : (First Next Both : List ℕ → Type 0) (m n : ℕ) (rows more : List T)
       → ((xs ys : List ℕ) → First xs → Next ys → Both (xs ++ ys)) → ReadsRows row_bytes Fits handed First m rows
@@ -63,3 +68,17 @@ module _ {T : Type 0} (row_bytes : T → List ℕ) (Fits : T → Type 0) (handed
         (joins (flat_map row_bytes before.stored) (flat_map row_bytes last.stored) before.taken last.taken);
     handed = map-append handed before.stored last.stored ∙ (λ i. before.handed i ++ last.handed i);
   }
+
+  -- an optional row is a list of one row or none
+  pub optional_read : (Took : List ℕ → Type 0) (wanted : Bool) (row : Option T) → ReadsOptional row_bytes Fits handed Took wanted row
+      → ReadsRows row_bytes Fits handed Took (if wanted then 1 else 0) (option_to_list row)
+  optional_read Took wanted row read = by_cases wanted read.stored row read.present read.widths read.size read.taken read.handed
+    where
+      by_cases : (wanted : Bool) (stored row : Option T) → is_some stored ≡ wanted → IfSome stored Fits
+          → length (flat_map row_bytes (option_to_list stored)) ≡ (if wanted then 48 else 0) → Took (flat_map row_bytes (option_to_list stored)) → option_map handed stored ≡ row
+          → ReadsRows row_bytes Fits handed Took (if wanted then 1 else 0) (option_to_list row)
+      by_cases true (Some x) row present fits size taken is =
+          record { stored = x ∷ []; len = refl; widths = All-cons Fits x [] fits (All-nil Fits); size = size; taken = taken; handed = ap option_to_list is }
+      by_cases false None row present fits size taken is = record { stored = []; len = refl; widths = All-nil Fits; size = refl; taken = taken; handed = ap option_to_list is }
+      by_cases true None row present fits size taken is = cc
+      by_cases false (Some x) row present fits size taken is = cc

@@ -1,6 +1,5 @@
 -- The bytes of a record: their number, and what its header says of bytes that begin with it.
-use Rattle.std.proofs.Common.{◌≡◌, ℕ, ◌+◌, ◌*◌, List, ◌++◌, length, Bool, true, false, Option, None, Some, refl, sym, ap, ◌∙◌, arith, if◌then◌else◌}
-use Rattle.std.specs.Prelude.{option_to_list, is_some}
+use Rattle.std.proofs.Common.{◌≡◌, ℕ, ◌+◌, List, ◌++◌, sym, ◌∙◌, arith}
 use Rattle.std.proofs.lemmas.List.{length-append}
 use Rattle.xet_base.specs.Bytes.{u32_bytes}
 use Rattle.xet_base.specs.Hash.{hash_bytes}
@@ -9,15 +8,9 @@ use Rattle.xet_base.proofs.Bytes.{length-u32_bytes, length-hash_bytes, u32_bytes
 use Rattle.xet_records.specs.declared.file_structs.header.FileDataSequenceHeader.{FileDataSequenceHeader}
 use Rattle.xet_records.specs.declared.file_structs.MDBFileInfo.{MDBFileInfo}
 use Rattle.xet_records.specs.FileRow.{header_row, FitsHeader}
-use Rattle.xet_records.specs.FileRecord.{rows_after, row_count, has_metadata_ext, has_aux_ext, FitsItsHeader}
+use Rattle.xet_records.specs.FileRecord.{rows_after, row_count, FitsItsHeader}
 use Rattle.xet_records.proofs.Lengths.{length-header_row}
-
-pub length-four : (a b c d : List ℕ) → length ((a ++ b) ++ (c ++ d)) ≡ length a + length b + (length c + length d)
-length-four a b c d = length-append (a ++ b) (c ++ d) ∙ (λ i. length-append a b i + length-append c d i)
-
-pub row_or_none : (b : Bool) → (if b then 48 else 0) ≡ 48 * (if b then 1 else 0)
-row_or_none true = refl
-row_or_none false = refl
+use Rattle.xet_records.proofs.Parts.{length-optional_rows}
 
 -- the bytes determine the header
 pub header_row-injective : (g h : FileDataSequenceHeader) → FitsHeader g → FitsHeader h → header_row g ≡ header_row h → g ≡ h
@@ -39,15 +32,6 @@ header_row-front g h x y g_fits h_fits same =
     let parts = same_parts (header_row g) (header_row h) x y (length-header_row g ∙ sym (length-header_row h)) same in
     (header_row-injective g h g_fits h_fits parts.0, parts.1)
 
-pub optional_rows : {X : Type 0} (o : Option X) → length (option_to_list o) ≡ (if is_some o then 1 else 0)
-optional_rows None = refl
-optional_rows (Some x) = refl
-
 -- a record that fits its header has the rows that the header announces
 pub row_count-whole : (r : MDBFileInfo) → FitsItsHeader r → row_count r ≡ 1 + rows_after r.metadata
-row_count-whole r whole =
-    let metadata : length (option_to_list r.metadata_ext) ≡ (if has_metadata_ext r.metadata.file_flags then 1 else 0) =
-    optional_rows r.metadata_ext ∙ ap (λ (b : Bool). (if b then 1 else 0)) whole.metadata_ext in
-    let aux : length (option_to_list r.aux_ext) ≡ (if has_aux_ext r.metadata.file_flags then 1 else 0) =
-    optional_rows r.aux_ext ∙ ap (λ (b : Bool). (if b then 1 else 0)) whole.aux_ext in
-    omega (arith, whole.segments, whole.verification, metadata, aux)
+row_count-whole r whole = omega (arith, whole.segments, length-optional_rows r whole)

@@ -1,13 +1,15 @@
 -- What the two kinds of records have in common, and what follows of reading them.
-use Rattle.std.proofs.Common.{◌≡◌, ◌≢◌, true≢false, false, inl, inr, ℕ, ◌+◌, ◌*◌, ◌≤◌, Bool, if◌then◌else◌, flat_map, List, ◌++◌, length, Option, None, Some, refl, sym, ap, ◌∙◌, subst, arith}
-use Rattle.std.specs.Prelude.{◌⊎◌, option_map, option_to_list}
-use Rattle.std.proofs.lemmas.List.{length-append, length-map, append_assoc, map-id}
+use Rattle.std.proofs.Common.{◌≡◌, ◌≢◌, true≢false, inl, inr, ℕ, ◌+◌, ◌*◌, ◌≤◌, Bool, true, false, if◌then◌else◌, flat_map, List, [], ◌++◌, length, Option, refl, sym, ap, ◌∙◌, subst, arith}
+use Rattle.std.specs.Prelude.{◌⊎◌, map, option_to_list}
+use Rattle.std.proofs.lemmas.List.{length-append, append_assoc, map-id}
+use Rattle.std.proofs.lemmas.List.Elements.{All-same}
 use Rattle.xet_base.specs.Hash.{all_ones}
 use Rattle.xet_records.specs.declared.file_structs.header.FileDataSequenceHeader.{FileDataSequenceHeader}
 use Rattle.xet_records.specs.declared.file_structs.rows.FileDataSequenceEntry.{FileDataSequenceEntry}
-use Rattle.xet_records.specs.declared.file_structs.rows.FileVerificationEntry.{FileVerificationEntry}
-use Rattle.xet_records.specs.declared.file_structs.rows.FileMetadataExt.{FileMetadataExt}
-use Rattle.xet_records.specs.declared.file_structs.rows.FileAuxExt.{FileAuxExt}
+use Rattle.xet_records.specs.declared.file_structs.part.OptionalPart.{OptionalPart}
+use Rattle.xet_records.specs.declared.file_structs.part.OptionalPart.TheVariants.{Verification, MetadataExt, AuxExt}
+use Rattle.xet_records.specs.declared.file_structs.rows.HashRow.{HashRow}
+use Rattle.xet_records.specs.declared.file_structs.MDBFileInfo.{MDBFileInfo}
 use Rattle.xet_records.specs.declared.record_reader.FormatVersion.{FormatVersion}
 use Rattle.xet_records.specs.declared.record_reader.FormatVersion.TheVariants.{V2, V3}
 use Rattle.xet_records.specs.declared.xorb_structs.XorbChunkSequenceHeader.{XorbChunkSequenceHeader}
@@ -15,23 +17,21 @@ use Rattle.xet_records.specs.declared.xorb_structs.XorbChunkSequenceEntry.{XorbC
 use Rattle.xet_records.specs.RecordKind.{RecordKind, in_version}
 use Rattle.xet_records.specs.Version.{number_of, IsVersion, version_of}
 pub use Rattle.xet_records.specs.RecordKind.{KindLaws}
-use Rattle.xet_records.specs.FileRow.{header_row, segment_row, verification_row, metadata_row, aux_row, FitsSegment, FitsVerification, FitsMetadata, FitsAux, clear_verification, clear_metadata, clear_aux}
+use Rattle.xet_records.specs.FileRow.{header_row, segment_row, hash_row, FitsSegment, FitsHashRow, clear}
 use Rattle.xet_records.specs.Rows.{ReadsRows, ReadsOptional}
 use Rattle.xet_records.specs.XorbRow.{chunk_row, FitsChunk}
-use Rattle.xet_records.specs.FileRecord.{file_record_bytes, file_rows_bytes, has_verification, has_metadata_ext, has_aux_ext, rows_after, file_records}
+use Rattle.xet_records.specs.Part.{parts, announces, part_rows, optional_rows_after, rows_of, optional_rows, with_parts, part_of}
+use Rattle.xet_records.specs.FileRecord.{rows_after, file_record_bytes, file_rows_bytes, handed_out, file_records}
 use Rattle.xet_records.specs.XorbRecord.{xorb_record_bytes, xorb_records}
 use Rattle.xet_records.specs.Reading.{ReadsRowsAfter, ReadsRecord, BeginsWithHeader, BeginsWithBookend, BeginsRefused, EndsEarly}
 use Rattle.xet_records.specs.Reading.IsRefused.{not_allowed, too_many_rows}
-use Rattle.xet_records.proofs.Handed.{file_handed}
+use Rattle.xet_records.proofs.Handed.{row_count-handed, file_handed}
 use Rattle.xet_records.proofs.Lengths.{length-header_row, length-file_record_bytes, length-xorb_header_row, length-chunk_rows}
-use Rattle.xet_records.proofs.Record.{length-four, row_or_none, header_row-front, row_count-whole}
+use Rattle.xet_records.proofs.Parts.{Holds, these_rows, these_counted, rows_of-counted, with_parts-rows_of, part-of-parts, length-part_of, parts-of-rows, holds_announced, rows_of-with_parts, optional_rows-with_parts, same_record, rows_of-handed, part_of-map}
+use Rattle.xet_records.proofs.Reading.{no_rows, length-read, rows_after_rows, optional_read}
+use Rattle.xet_records.proofs.Record.{header_row-front, row_count-whole}
 use Rattle.xet_records.proofs.Unique.{record_front}
 use Rattle.xet_records.proofs.XorbUnique.{xorb_header_row-front, xorb_front}
-
--- an optional row stays present
-present : {T : Type 0} (clear : T → T) (o : Option T) → length (option_to_list (option_map clear o)) ≡ length (option_to_list o)
-present clear None = refl
-present clear (Some t) = refl
 
 pub file_laws : KindLaws file_records
 unfolding file_record_bytes
@@ -48,7 +48,7 @@ file_laws = record {
   is_record = λ r stored. stored.is_file;
   allowed = λ r stored. refl;
   same_header = λ r. refl;
-  same_rows = λ r. omega (arith, length-map r.verification clear_verification, present clear_metadata r.metadata_ext, present clear_aux r.aux_ext);
+  same_rows = row_count-handed;
   handed_stored = file_handed;
   front = record_front;
 }
@@ -196,57 +196,100 @@ module _ {H R : Type 0} (K : RecordKind H R) (laws : KindLaws K) where
     handed = read.handed;
   }
 
--- the bytes of a row, if it is wanted
-pub row_of : (wanted announced : Bool) → wanted ≡ announced → (if wanted then 48 else 0) ≡ 48 * (if announced then 1 else 0)
-row_of wanted announced wants = row_or_none wanted ∙ ap (λ (b : Bool). 48 * (if b then 1 else 0)) wants
-
--- the four parts after a file's header, one after another
-module _ (First Second Third Fourth Both Last Whole : List ℕ → Type 0) (two : (xs ys : List ℕ) → First xs → Second ys → Both (xs ++ ys))
-    (last : (xs ys : List ℕ) → Third xs → Fourth ys → Last (xs ++ ys)) (whole : (xs ys : List ℕ) → Both xs → Last ys → Whole (xs ++ ys)) where
-  pub parts_after : (h : FileDataSequenceHeader) (count : ℕ) (metadata aux : Bool) (ss : List FileDataSequenceEntry) (vs : List FileVerificationEntry) (m : Option FileMetadataExt) (a : Option FileAuxExt)
-      → count ≡ (if has_verification h.file_flags then h.num_entries else 0) → metadata ≡ has_metadata_ext h.file_flags → aux ≡ has_aux_ext h.file_flags
-      → ReadsRows segment_row FitsSegment (λ s. s) First h.num_entries ss → ReadsRows verification_row FitsVerification clear_verification Second count vs
-      → ReadsOptional metadata_row FitsMetadata clear_metadata Third metadata m → ReadsOptional aux_row FitsAux clear_aux Fourth aux a
-      → ReadsRowsAfter file_records h Whole (record { metadata = h; segments = ss; verification = vs; metadata_ext = m; aux_ext = a })
+-- the segments after a file's header, and the rows of its parts after them
+module _ (First Next Whole : List ℕ → Type 0) (joins : (xs ys : List ℕ) → First xs → Next ys → Whole (xs ++ ys)) where
+  pub parts_after : (r : MDBFileInfo) → ((part : OptionalPart) → length (rows_of part r) ≡ part_rows part r.metadata)
+      → ReadsRows segment_row FitsSegment (λ s. s) First r.metadata.num_entries r.segments
+      → ReadsRows hash_row FitsHashRow clear Next (optional_rows_after r.metadata) (optional_rows r) → ReadsRowsAfter file_records r.metadata Whole r
   unfolding file_rows_bytes
-  parts_after h count metadata aux ss vs m a counted wants_metadata wants_aux s v e f = record {
-    stored = record { metadata = h; segments = s.stored; verification = v.stored; metadata_ext = e.stored; aux_ext = f.stored };
-    same_header = refl;
-    is_stored = λ is_file fits. record {
-      is_file = is_file;
-      whole = record { segments = s.len; verification = v.len ∙ counted; metadata_ext = e.present ∙ wants_metadata; aux_ext = f.present ∙ wants_aux };
-      widths = record { metadata = fits; segments = s.widths; verification = v.widths; metadata_ext = e.widths; aux_ext = f.widths };
-    };
-    size = length-four (flat_map segment_row s.stored) (flat_map verification_row v.stored) (flat_map metadata_row (option_to_list e.stored)) (flat_map aux_row (option_to_list f.stored))
-        ∙ omega (arith, s.size, v.size ∙ ap (λ n. 48 * n) counted, e.size ∙ row_of metadata (has_metadata_ext h.file_flags) wants_metadata, f.size ∙ row_of aux (has_aux_ext h.file_flags) wants_aux);
-    taken = whole _ _ (two _ _ s.taken v.taken) (last _ _ e.taken f.taken);
-    handed = λ i. record {
-      metadata = h;
-      segments = (sym (map-id s.stored) ∙ s.handed) i;
-      verification = v.handed i;
-      metadata_ext = e.handed i;
-      aux_ext = f.handed i;
-    };
-  }
+  parts_after r each s e =
+      let h = r.metadata in
+      let rows : OptionalPart → List HashRow = λ part. part_of part h e.stored in
+      let stored = with_parts h s.stored rows in
+      let len : (part : OptionalPart) → length (rows part) ≡ part_rows part h = λ part. length-part_of h e.stored e.len part in
+      let holds : (part : OptionalPart) → Holds part (rows part) = λ part. holds_announced h part (rows part) (len part) in
+      let found : (part : OptionalPart) → rows_of part stored ≡ rows part = rows_of-with_parts h s.stored rows holds in
+      let all : optional_rows stored ≡ e.stored = optional_rows-with_parts h s.stored rows holds ∙ parts-of-rows h e.stored e.len in
+      record {
+        stored = stored;
+        same_header = refl;
+        is_stored = λ is_file fits. record {
+          is_file = is_file;
+          whole = record { segments = s.len; parts = λ part. ap length (found part) ∙ len part };
+          widths = record { metadata = fits; segments = s.widths; parts = All-same FitsHashRow (optional_rows stored) e.stored all e.widths };
+        };
+        size = ap (λ (xs : List HashRow). length (flat_map segment_row s.stored ++ flat_map hash_row xs)) all
+            ∙ length-append (flat_map segment_row s.stored) (flat_map hash_row e.stored) ∙ omega (arith, s.size, e.size);
+        taken = subst (λ (xs : List HashRow). Whole (flat_map segment_row s.stored ++ flat_map hash_row xs)) (sym all) (joins _ _ s.taken e.taken);
+        handed = same_record (handed_out stored) r refl (sym (map-id s.stored) ∙ s.handed) (λ part.
+            rows_of-handed stored part ∙ ap (map clear) (found part) ∙ sym (part_of-map part h e.stored) ∙ ap (part_of part h) e.handed
+            ∙ part-of-parts (λ p. rows_of p r) h each part);
+      }
 
--- the bytes of the parts before an optional row, with those of the row, are no more than the header announces
-pub rows_within : (h : FileDataSequenceHeader) (count : ℕ) (wanted : Bool) (xs ys : List ℕ) → count ≡ (if has_verification h.file_flags then h.num_entries else 0)
-    → wanted ≡ has_metadata_ext h.file_flags → length xs ≡ 48 * h.num_entries → length ys ≡ 48 * count
+-- the same of parts that are read one after another
+row_or_none : (b : Bool) → (if b then 48 else 0) ≡ 48 * (if b then 1 else 0)
+row_or_none true = refl
+row_or_none false = refl
+
+module _ {I : Type 0} (reads : I → I → List ℕ → Type 0) (nothing : (a : I) → reads a a []) (joins : (a b c : I) (xs ys : List ℕ) → reads a b xs → reads b c ys → reads a c (xs ++ ys)) where
+  pub parts_read : (h : FileDataSequenceHeader) (a b c d e : I) (ss : List FileDataSequenceEntry) (vs ms xs : List HashRow)
+      → ReadsRows segment_row FitsSegment (λ s. s) (reads a b) h.num_entries ss → ReadsRows hash_row FitsHashRow clear (reads b c) (part_rows Verification h) vs
+      → ReadsRows hash_row FitsHashRow clear (reads c d) (part_rows MetadataExt h) ms → ReadsRows hash_row FitsHashRow clear (reads d e) (part_rows AuxExt h) xs
+      → ReadsRowsAfter file_records h (reads a e) (with_parts h ss (these_rows vs ms xs))
+  parts_read h a b c d e ss vs ms xs s v m x =
+      let rows = these_rows vs ms xs in
+      let of = hash_row in
+      let len = these_counted h vs ms xs (length-read of FitsHashRow clear (reads b c) _ vs v) (length-read of FitsHashRow clear (reads c d) _ ms m) (length-read of FitsHashRow clear (reads d e) _ xs x) in
+      let join = rows_after_rows of FitsHashRow clear in
+      let read = join (reads b c) (reads c e) (reads b e) _ _ vs _ (joins b c e) v
+      (join (reads c d) (reads d e) (reads c e) _ _ ms _ (joins c d e) m
+      (join (reads d e) (reads e e) (reads d e) _ 0 xs [] (joins d e e) x (no_rows of FitsHashRow clear (reads e e) (nothing e)))) in
+      let all = optional_rows-with_parts h ss rows (λ part. holds_announced h part (rows part) (len part)) in
+      parts_after (reads a b) (reads b e) (reads a e) (joins a b e) (with_parts h ss rows) (λ part. ap length (rows_of-counted h ss rows len part) ∙ len part) s
+      (subst (λ xs. ReadsRows of FitsHashRow clear (reads b e) (optional_rows_after h) xs) (sym all)
+      (subst (λ n. ReadsRows of FitsHashRow clear (reads b e) n (flat_map rows parts)) (omega arith) read))
+
+  pub file_read : (h : FileDataSequenceHeader) (a b c d e : I) (count : ℕ) (m_wanted x_wanted : Bool) (ss : List FileDataSequenceEntry) (vs : List HashRow) (m x : Option HashRow)
+      → count ≡ part_rows Verification h → m_wanted ≡ announces h.file_flags MetadataExt → x_wanted ≡ announces h.file_flags AuxExt
+      → ReadsRows segment_row FitsSegment (λ s. s) (reads a b) h.num_entries ss → ReadsRows hash_row FitsHashRow clear (reads b c) count vs
+      → ReadsOptional hash_row FitsHashRow clear (reads c d) m_wanted m → ReadsOptional hash_row FitsHashRow clear (reads d e) x_wanted x
+      → ReadsRowsAfter file_records h (reads a e) (record { metadata = h; segments = ss; verification = vs; metadata_ext = m; aux_ext = x })
+  file_read h a b c d e count m_wanted x_wanted ss vs m x counted m_wants x_wants s v m_read x_read =
+      let r : MDBFileInfo = record { metadata = h; segments = ss; verification = vs; metadata_ext = m; aux_ext = x } in
+      subst (ReadsRowsAfter file_records h (reads a e)) (with_parts-rows_of r)
+      (parts_read h a b c d e ss vs (option_to_list m) (option_to_list x) s (subst (λ n. ReadsRows hash_row FitsHashRow clear (reads b c) n vs) counted v)
+      (subst (λ (w : Bool). ReadsRows hash_row FitsHashRow clear (reads c d) (if w then 1 else 0) (option_to_list m)) m_wants (optional_read hash_row FitsHashRow clear (reads c d) m_wanted m m_read))
+      (subst (λ (w : Bool). ReadsRows hash_row FitsHashRow clear (reads d e) (if w then 1 else 0) (option_to_list x)) x_wants (optional_read hash_row FitsHashRow clear (reads d e) x_wanted x x_read)))
+
+-- the bytes of some parts, with those of the next one, are no more than the header announces
+pub rows_within : (h : FileDataSequenceHeader) (count : ℕ) (wanted : Bool) (xs ys : List ℕ) → count ≡ part_rows Verification h
+    → wanted ≡ announces h.file_flags MetadataExt → length xs ≡ 48 * h.num_entries → length ys ≡ 48 * count
     → length (xs ++ ys) + (if wanted then 48 else 0) ≤ 48 * rows_after h
-rows_within h count wanted xs ys counted wants first second =
-    omega (arith, length-append xs ys, first, second ∙ ap (λ n. 48 * n) counted, row_of wanted (has_metadata_ext h.file_flags) wants)
-
-pub all_rows_within : (h : FileDataSequenceHeader) (count : ℕ) (metadata aux : Bool) (xs ys zs : List ℕ) → count ≡ (if has_verification h.file_flags then h.num_entries else 0)
-    → metadata ≡ has_metadata_ext h.file_flags → aux ≡ has_aux_ext h.file_flags → length xs ≡ 48 * h.num_entries → length ys ≡ 48 * count
-    → length zs ≡ (if metadata then 48 else 0) → length ((xs ++ ys) ++ zs) + (if aux then 48 else 0) ≤ 48 * rows_after h
-all_rows_within h count metadata aux xs ys zs counted wants_metadata wants_aux first second third = omega (
+rows_within h count wanted xs ys counted wants first second = omega (
   arith,
-  length-append (xs ++ ys) zs,
   length-append xs ys,
   first,
-  second ∙ ap (λ n. 48 * n) counted,
-  third ∙ row_of metadata (has_metadata_ext h.file_flags) wants_metadata,
-  row_of aux (has_aux_ext h.file_flags) wants_aux,
+  second,
+  counted,
+  row_or_none wanted,
+  ap {B = ℕ} (λ (b : Bool). if b then 1 else 0) wants,
+)
+
+pub rows_within_aux : (h : FileDataSequenceHeader) (count : ℕ) (m_wanted x_wanted : Bool) (xs ys zs : List ℕ) → count ≡ part_rows Verification h
+    → m_wanted ≡ announces h.file_flags MetadataExt → x_wanted ≡ announces h.file_flags AuxExt → length xs ≡ 48 * h.num_entries → length ys ≡ 48 * count
+    → length zs ≡ (if m_wanted then 48 else 0) → length ((xs ++ ys) ++ zs) + (if x_wanted then 48 else 0) ≤ 48 * rows_after h
+rows_within_aux h count m_wanted x_wanted xs ys zs counted m_wants x_wants first second third = omega (
+  arith,
+  length-append xs ys,
+  length-append (xs ++ ys) zs,
+  first,
+  second,
+  third,
+  counted,
+  row_or_none m_wanted,
+  row_or_none x_wanted,
+  ap {B = ℕ} (λ (b : Bool). if b then 1 else 0) m_wants,
+  ap {B = ℕ} (λ (b : Bool). if b then 1 else 0) x_wants,
 )
 
 -- the chunks after a header

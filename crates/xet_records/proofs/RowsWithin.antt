@@ -6,11 +6,11 @@ use Rattle.std.proofs.lemmas.List.{length-append, length-take-le, append_assoc, 
 use Rattle.std.proofs.lemmas.List.Elements.{All-drop, All-take}
 use Rattle.std.proofs.lemmas.Grind.{flat_map-append}
 use Rattle.xet_base.proofs.Lists.{front_is, rest_is, parts_front}
-use Rattle.xet_records.specs.FileRow.{segment_row, verification_row, metadata_row, aux_row, FitsSegment, FitsVerification, FitsMetadata, FitsAux}
+use Rattle.xet_records.specs.FileRow.{segment_row, hash_row, FitsSegment, FitsHashRow}
 use Rattle.xet_records.specs.XorbRow.{chunk_row, FitsChunk}
 use Rattle.xet_records.specs.Rows.{ReadsRow, ReadsRows}
-use Rattle.xet_records.proofs.Lengths.{length-segment_row, length-verification_row, length-metadata_row, length-aux_row, length-chunk_row}
-use Rattle.xet_records.proofs.Unique.{segment_row-injective, verification_row-injective, metadata_row-injective, aux_row-injective}
+use Rattle.xet_records.proofs.Lengths.{length-segment_row, length-hash_row, length-chunk_row}
+use Rattle.xet_records.proofs.Unique.{segment_row-injective, hash_row-injective}
 use Rattle.xet_records.proofs.XorbUnique.{chunk_row-injective}
 
 -- a row of a type has 48 bytes, which determine it
@@ -21,14 +21,8 @@ pub record RowLaws {T : Type 0} (row_bytes : T → List ℕ) (Fits : T → Type 
 pub segment_laws : RowLaws segment_row FitsSegment
 segment_laws = record { size = λ t _. length-segment_row t; determined = segment_row-injective }
 
-pub verification_laws : RowLaws verification_row FitsVerification
-verification_laws = record { size = length-verification_row; determined = verification_row-injective }
-
-pub metadata_laws : RowLaws metadata_row FitsMetadata
-metadata_laws = record { size = length-metadata_row; determined = metadata_row-injective }
-
-pub aux_laws : RowLaws aux_row FitsAux
-aux_laws = record { size = length-aux_row; determined = aux_row-injective }
+pub hash_laws : RowLaws hash_row FitsHashRow
+hash_laws = record { size = length-hash_row; determined = hash_row-injective }
 
 pub chunk_laws : RowLaws chunk_row FitsChunk
 chunk_laws = record { size = λ t _. length-chunk_row t; determined = chunk_row-injective }

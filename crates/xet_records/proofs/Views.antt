@@ -1,41 +1,29 @@
 -- The record that a view shows, and its rows in the view's bytes.
-use Rattle.std.proofs.Common.{◌≡◌, ℕ, ◌+◌, ◌*◌, ◌≤◌, List, [], ◌++◌, length, take, drop, flat_map, Bool, true, false, Option, None, Some, refl, sym, ap, ◌∙◌, arith, subst, append-nil, if◌then◌else◌}
-use Rattle.std.specs.Prelude.{IfSome, is_some, option_map, option_to_list}
+use Rattle.std.proofs.Common.{◌≡◌, ℕ, ◌+◌, ◌*◌, ◌≤◌, List, [], ◌++◌, length, take, drop, flat_map, Option, None, Some, refl, sym, ap, ◌∙◌, arith, subst, append-nil}
+use Rattle.std.specs.Prelude.{option_map, option_to_list}
 use Rattle.std.specs.List.{slice_get}
 use Rattle.std.proofs.lemmas.List.{length-append, length-take-le, length-drop, append_assoc, take-append-drop, take-append-le, take_all}
+use Rattle.std.proofs.lemmas.List.Elements.{All-take, All-drop, All-same}
+use Rattle.std.proofs.lemmas.Grind.{flat_map-append}
 use Rattle.xet_base.proofs.Lists.{front_is, rest_is}
 use Rattle.xet_records.specs.declared.file_structs.header.FileDataSequenceHeader.{FileDataSequenceHeader}
+use Rattle.xet_records.specs.declared.file_structs.part.OptionalPart.{OptionalPart}
+use Rattle.xet_records.specs.declared.file_structs.rows.HashRow.{HashRow}
 use Rattle.xet_records.specs.declared.file_structs.MDBFileInfo.{MDBFileInfo}
 use Rattle.xet_records.specs.declared.xorb_structs.XorbChunkSequenceHeader.{XorbChunkSequenceHeader}
 use Rattle.xet_records.specs.declared.xorb_structs.MDBXorbInfo.{MDBXorbInfo}
-use Rattle.xet_records.specs.FileRow.{header_row, segment_row, verification_row, metadata_row, aux_row, FitsHeader, FitsSegment, FitsVerification, FitsMetadata, FitsAux}
-use Rattle.xet_records.specs.FileRecord.{has_verification, has_metadata_ext, has_aux_ext, rows_after, file_record_bytes, file_rows_bytes, file_records}
+use Rattle.xet_records.specs.FileRow.{header_row, segment_row, hash_row, FitsHeader, FitsSegment, FitsHashRow, clear}
+use Rattle.xet_records.specs.Part.{part_rows, rows_before, optional_rows_after, rows_of, optional_rows, part_of}
+use Rattle.xet_records.specs.FileRecord.{rows_after, file_record_bytes, file_rows_bytes, file_records}
 use Rattle.xet_records.specs.XorbRow.{xorb_header_row, chunk_row, FitsXorbHeader, FitsChunk}
 use Rattle.xet_records.specs.XorbRecord.{xorb_record_bytes, xorb_records}
-use Rattle.xet_records.specs.Decoding.{segment_at, verification_at, metadata_at, aux_at, chunk_at, rows_at, optional_at, file_at, xorb_at}
+use Rattle.xet_records.specs.Decoding.{segment_at, hash_row_at, chunk_at, rows_at, file_at, xorb_at}
 use Rattle.xet_records.specs.RecordKind.{RecordKind}
 use Rattle.xet_records.specs.View.{IsWholeFile, IsWholeXorb, BeginsWithHeaderRow, BeginsWithRecord, Shows, ShowsRecord}
-use Rattle.xet_records.proofs.Lengths.{length-header_row, length-segment_rows, length-verification_rows, length-metadata_row, length-aux_row, length-optional_row, length-xorb_header_row}
-use Rattle.xet_records.proofs.Record.{optional_rows}
-use Rattle.xet_records.proofs.Unique.{optional_fits}
-use Rattle.xet_records.proofs.Decoding.{AreBytes, take-bytes, drop-bytes, Spells, rows_spelled, segment_spelled, verification_spelled, metadata_spelled, aux_spelled, chunk_spelled}
+use Rattle.xet_records.proofs.Lengths.{length-header_row, length-segment_rows, length-hash_rows, length-xorb_header_row}
+use Rattle.xet_records.proofs.Parts.{Holds, before_part, after_part, rows_split, length-before_part, part_within, length-part_of, parts-of-rows, holds_announced, rows_of-with_parts, optional_rows-with_parts}
+use Rattle.xet_records.proofs.Decoding.{AreBytes, take-bytes, drop-bytes, rows_spelled, segment_spelled, hash_row_spelled, chunk_spelled}
 use Rattle.xet_records.proofs.RowsWithin.{HasRows}
-
--- an optional row, if it is wanted, has the bytes at the front
-record FirstRow {T : Type 0} (row_bytes : T → List ℕ) (Fits : T → Type 0) (wanted : Bool) (bytes : List ℕ) (row : Option T) : Type 0 where
-  present : is_some row ≡ wanted
-  fits : IfSome row Fits
-  row_is : flat_map row_bytes (option_to_list row) ≡ take (48 * (if wanted then 1 else 0)) bytes
-
-first_row : {T : Type 0} (row_bytes : T → List ℕ) (Fits : T → Type 0) (row_at : List ℕ → T)
-    → ((bytes : List ℕ) → AreBytes bytes → 48 ≤ length bytes → Spells row_bytes Fits bytes (row_at bytes))
-    → (wanted : Bool) (bytes : List ℕ) → AreBytes bytes → 48 * (if wanted then 1 else 0) ≤ length bytes
-    → FirstRow row_bytes Fits wanted bytes (optional_at row_at wanted bytes)
-unfolding optional_at
-first_row row_bytes Fits row_at spelled true bytes are within =
-    let row = spelled bytes are within in
-    record { present = refl; fits = row.fits; row_is = append-nil (row_bytes (row_at bytes)) ∙ row.row_is }
-first_row row_bytes Fits row_at spelled false bytes are within = record { present = refl; fits = tt; row_is = refl }
 
 -- bytes that are as long as a header says, and begin with it, are the bytes of the record that they spell
 file_shown : (header : FileDataSequenceHeader) (bytes : List ℕ) → FitsHeader header → AreBytes bytes → rows_after header ≤ 4294967295
@@ -43,35 +31,29 @@ file_shown : (header : FileDataSequenceHeader) (bytes : List ℕ) → FitsHeader
 unfolding file_at file_record_bytes file_rows_bytes
 file_shown header bytes fits are few size begins =
     let segments = header.num_entries in
-    let verification : ℕ = if has_verification header.file_flags then header.num_entries else 0 in
+    let total = optional_rows_after header in
     let first = drop 48 bytes in
     let second = drop (48 * segments) first in
-    let third = drop (48 * verification) second in
-    let metadata : ℕ = if has_metadata_ext header.file_flags then 1 else 0 in
-    let aux : ℕ = if has_aux_ext header.file_flags then 1 else 0 in
-    let fourth = drop (48 * metadata) third in
     let first_are = drop-bytes 48 bytes are in
     let second_are = drop-bytes (48 * segments) first first_are in
-    let third_are = drop-bytes (48 * verification) second second_are in
-    let fourth_are = drop-bytes (48 * metadata) third third_are in
     let first_size : length first ≡ 48 * rows_after header = omega (arith, size, length-drop 48 bytes) in
-    let second_size : length second ≡ 48 * verification + 48 * metadata + 48 * aux = omega (arith, first_size, length-drop (48 * segments) first) in
-    let third_size : length third ≡ 48 * metadata + 48 * aux = omega (arith, second_size, length-drop (48 * verification) second) in
-    let fourth_size : length fourth ≡ 48 * aux = omega (arith, third_size, length-drop (48 * metadata) third) in
+    let second_size : length second ≡ 48 * total = omega (arith, first_size, length-drop (48 * segments) first) in
     let s = rows_spelled segment_row FitsSegment segment_at segment_spelled segments first first_are (omega (arith, first_size)) in
-    let v = rows_spelled verification_row FitsVerification verification_at verification_spelled verification second second_are (omega (arith, second_size)) in
-    let m = first_row metadata_row FitsMetadata metadata_at metadata_spelled (has_metadata_ext header.file_flags) third third_are (omega (arith, third_size)) in
-    let a = first_row aux_row FitsAux aux_at aux_spelled (has_aux_ext header.file_flags) fourth fourth_are (omega (arith, fourth_size)) in
-    let last = sym (a.row_is ∙ take_all (48 * aux) fourth (omega (arith, fourth_size))) in
-    let after_verification = sym (take-append-drop (48 * metadata) third) ∙ (λ i. sym m.row_is i ++ last i) in
-    let after_segments = sym (take-append-drop (48 * verification) second) ∙ (λ i. sym v.rows_are i ++ after_verification i) in
-    let after_header = sym (take-append-drop (48 * segments) first) ∙ (λ i. sym s.rows_are i ++ after_segments i)
-    ∙ sym (append_assoc (flat_map segment_row (rows_at segment_at segments first)) (flat_map verification_row (rows_at verification_at verification second)) _) in
+    let e = rows_spelled hash_row FitsHashRow hash_row_at hash_row_spelled total second second_are (omega (arith, second_size)) in
+    let spelled = rows_at hash_row_at total second in
+    let rows : OptionalPart → List HashRow = λ part. part_of part header spelled in
+    let len : (part : OptionalPart) → length (rows part) ≡ part_rows part header = λ part. length-part_of header spelled e.len part in
+    let holds : (part : OptionalPart) → Holds part (rows part) = λ part. holds_announced header part (rows part) (len part) in
+    let found : (part : OptionalPart) → rows_of part (file_at header bytes) ≡ rows part = rows_of-with_parts header (rows_at segment_at segments first) rows holds in
+    let all : optional_rows (file_at header bytes) ≡ spelled = optional_rows-with_parts header (rows_at segment_at segments first) rows holds ∙ parts-of-rows header spelled e.len in
+    let rows_are : second ≡ flat_map hash_row (optional_rows (file_at header bytes)) =
+    sym (ap (flat_map hash_row) all ∙ e.rows_are ∙ take_all (48 * total) second (omega (arith, second_size))) in
+    let after_header = sym (take-append-drop (48 * segments) first) ∙ (λ i. sym s.rows_are i ++ rows_are i) in
     record {
       same_header = refl;
       whole = record {
-        parts = record { segments = s.len; verification = v.len; metadata_ext = m.present; aux_ext = a.present };
-        widths = record { metadata = fits; segments = s.fit; verification = v.fit; metadata_ext = m.fits; aux_ext = a.fits };
+        parts = record { segments = s.len; parts = λ part. ap length (found part) ∙ len part };
+        widths = record { metadata = fits; segments = s.fit; parts = All-same FitsHashRow (optional_rows (file_at header bytes)) spelled all e.fit };
       };
       rows = few;
       bytes_are = sym (take-append-drop 48 bytes) ∙ (λ i. begins i ++ after_header i);
@@ -143,116 +125,70 @@ module _ {H R : Type 0} (K : RecordKind H R) (IsWhole : R → Type 0) where
 
 -- the rows of a record in the bytes that show it
 module _ (header : FileDataSequenceHeader) (bytes : List ℕ) (r : MDBFileInfo) (shown : Shows file_records IsWholeFile header bytes r) where
-  pub verification_count : length r.verification ≡ (if has_verification header.file_flags then header.num_entries else 0)
-  verification_count =
-      shown.whole.parts.verification ∙ ap (λ (h : FileDataSequenceHeader). if has_verification h.file_flags then h.num_entries else 0) shown.same_header
-
-  pub metadata_count : length (option_to_list r.metadata_ext) ≡ (if has_metadata_ext header.file_flags then 1 else 0)
-  metadata_count =
-      optional_rows r.metadata_ext ∙ ap (λ (b : Bool). if b then 1 else 0) (shown.whole.parts.metadata_ext
-      ∙ ap (λ (h : FileDataSequenceHeader). has_metadata_ext h.file_flags) shown.same_header)
-
-  pub aux_count : length (option_to_list r.aux_ext) ≡ (if has_aux_ext header.file_flags then 1 else 0)
-  aux_count =
-      optional_rows r.aux_ext ∙ ap (λ (b : Bool). if b then 1 else 0) (shown.whole.parts.aux_ext
-      ∙ ap (λ (h : FileDataSequenceHeader). has_aux_ext h.file_flags) shown.same_header)
-
-  -- the bytes of the last two parts
-  abbrev pub last_parts : List ℕ
-  last_parts = flat_map metadata_row (option_to_list r.metadata_ext) ++ flat_map aux_row (option_to_list r.aux_ext)
-
   pub has_segments : HasRows segment_row FitsSegment bytes 1 r.segments
   unfolding file_record_bytes file_rows_bytes
   has_segments =
       let s = flat_map segment_row r.segments in
-      let v = flat_map verification_row r.verification in
+      let e = flat_map hash_row (optional_rows r) in
       record {
         before = header_row r.metadata;
-        after = v ++ last_parts;
+        after = e;
         start_is = length-header_row r.metadata;
         fit = shown.whole.widths.segments;
-        bytes_are = shown.bytes_are ∙ ap (λ bs. header_row r.metadata ++ bs) (append_assoc s v last_parts);
+        bytes_are = shown.bytes_are;
       }
 
-  pub has_verification_rows : HasRows verification_row FitsVerification bytes (1 + length r.segments) r.verification
+  -- the rows of parts from some on
+  has_rows : (xs ys zs : List HashRow) (start : ℕ) → optional_rows r ≡ xs ++ (ys ++ zs) → start ≡ 1 + length r.segments + length xs → HasRows hash_row FitsHashRow bytes start ys
   unfolding file_record_bytes file_rows_bytes
-  has_verification_rows =
+  has_rows xs ys zs start split start_is =
       let h = header_row r.metadata in
       let s = flat_map segment_row r.segments in
-      let v = flat_map verification_row r.verification in
+      let all = All-same FitsHashRow (xs ++ (ys ++ zs)) (optional_rows r) (sym split) shown.whole.widths.parts in
+      let front = All-same FitsHashRow xs (take (length xs) (xs ++ (ys ++ zs))) (sym (front_is (length xs) _ xs (ys ++ zs) refl refl)) (All-take FitsHashRow (length xs) _ all) in
+      let rest = All-same FitsHashRow (ys ++ zs) (drop (length xs) (xs ++ (ys ++ zs))) (sym (rest_is (length xs) _ xs (ys ++ zs) refl refl)) (All-drop FitsHashRow (length xs) _ all) in
+      let x = flat_map hash_row xs in
+      let y = flat_map hash_row ys in
+      let z = flat_map hash_row zs in
+      let rows_are : flat_map hash_row (optional_rows r) ≡ x ++ (y ++ z) =
+      ap (flat_map hash_row) split ∙ flat_map-append hash_row xs (ys ++ zs) ∙ ap (λ bs. x ++ bs) (flat_map-append hash_row ys zs) in
       record {
-        before = h ++ s;
-        after = last_parts;
-        start_is = length-append h s ∙ omega (arith, length-header_row r.metadata, length-segment_rows r.segments);
-        fit = shown.whole.widths.verification;
-        bytes_are = shown.bytes_are ∙ ap (λ bs. h ++ bs) (append_assoc s v last_parts) ∙ sym (append_assoc h s (v ++ last_parts));
+        before = h ++ (s ++ x);
+        after = z;
+        start_is = length-append h (s ++ x)
+            ∙ omega (arith, length-append s x, length-header_row r.metadata, length-segment_rows r.segments, length-hash_rows xs front, start_is);
+        fit = All-same FitsHashRow ys (take (length ys) (ys ++ zs)) (sym (front_is (length ys) _ ys zs refl refl)) (All-take FitsHashRow (length ys) _ rest);
+        bytes_are = shown.bytes_are ∙ ap (λ bs. h ++ (s ++ bs)) rows_are ∙ ap (λ bs. h ++ bs) (sym (append_assoc s x (y ++ z))) ∙ sym (append_assoc h (s ++ x) (y ++ z));
       }
 
-  -- the bytes before the last two parts
-  abbrev pub first_parts : List ℕ
-  first_parts = header_row r.metadata ++ (flat_map segment_row r.segments ++ flat_map verification_row r.verification)
+  pub has_part_rows : (part : OptionalPart) → HasRows hash_row FitsHashRow bytes (1 + length r.segments + rows_before part r.metadata) (rows_of part r)
+  has_part_rows part =
+      has_rows (before_part (λ p. rows_of p r) part) (rows_of part r) (after_part (λ p. rows_of p r) part) _ (rows_split (λ p. rows_of p r) part)
+      (ap (λ n. 1 + length r.segments + n) (sym (length-before_part (λ p. rows_of p r) r.metadata shown.whole.parts.parts part)))
 
-  length-first_parts : length first_parts ≡ 48 * (1 + length r.segments + length r.verification)
-  length-first_parts = length-append (header_row r.metadata) (flat_map segment_row r.segments ++ flat_map verification_row r.verification) ∙ omega (
+  -- rows up to the end of a part
+  pub part_small : (part : OptionalPart) → 1 + length r.segments + rows_before part r.metadata + length (rows_of part r) ≤ 4294967296
+  part_small part = omega (
     arith,
-    length-append (flat_map segment_row r.segments) (flat_map verification_row r.verification),
-    length-header_row r.metadata,
-    length-segment_rows r.segments,
-    length-verification_rows r.verification shown.whole.widths.verification,
+    ap rows_after shown.same_header,
+    shown.rows,
+    shown.whole.parts.segments,
+    part_within r.metadata part,
+    shown.whole.parts.parts part,
   )
 
-  last_parts_are : bytes ≡ first_parts ++ last_parts
-  unfolding file_record_bytes file_rows_bytes
-  last_parts_are =
-      shown.bytes_are ∙ sym (append_assoc (header_row r.metadata) (flat_map segment_row r.segments ++ flat_map verification_row r.verification) last_parts)
+  pub part_count : (part : OptionalPart) → length (rows_of part r) ≡ part_rows part header
+  part_count part = shown.whole.parts.parts part ∙ ap (part_rows part) shown.same_header
 
-  length-last_parts : length last_parts ≡ 48 * (length (option_to_list r.metadata_ext) + length (option_to_list r.aux_ext))
-  length-last_parts = length-append (flat_map metadata_row (option_to_list r.metadata_ext)) (flat_map aux_row (option_to_list r.aux_ext)) ∙ omega (
-    arith,
-    length-optional_row metadata_row FitsMetadata length-metadata_row r.metadata_ext shown.whole.widths.metadata_ext,
-    length-optional_row aux_row FitsAux length-aux_row r.aux_ext shown.whole.widths.aux_ext,
-  )
+-- an optional row
+pub no_row : (row : Option HashRow) → length (option_to_list row) ≡ 0 → None ≡ option_map clear row
+no_row None none = refl
+no_row (Some row) none = absurd (omega (arith, none))
 
-  pub length-shown : length bytes ≡ 48 * (1 + length r.segments + length r.verification) + 48 * (length (option_to_list r.metadata_ext) + length (option_to_list r.aux_ext))
-  length-shown = ap length last_parts_are ∙ length-append first_parts last_parts ∙ (λ i. length-first_parts i + length-last_parts i)
-
-  pub last_parts_at : (at count : ℕ) → at ≡ 1 + length r.segments + length r.verification → count ≡ length (option_to_list r.metadata_ext) + length (option_to_list r.aux_ext)
-      → take (48 * count) (drop (48 * at) bytes) ≡ last_parts
-  last_parts_at at count at_is count_is =
-      ap (take (48 * count)) (rest_is (48 * at) bytes first_parts last_parts (length-first_parts ∙ ap (λ n. 48 * n) (sym at_is)) last_parts_are)
-      ∙ take_all (48 * count) last_parts (omega (arith, length-last_parts, count_is))
-
-  pub has_metadata_rows : HasRows metadata_row FitsMetadata bytes (1 + length r.segments + length r.verification) (option_to_list r.metadata_ext)
-  has_metadata_rows = record {
-    before = first_parts;
-    after = flat_map aux_row (option_to_list r.aux_ext);
-    start_is = length-first_parts;
-    fit = optional_fits FitsMetadata r.metadata_ext shown.whole.widths.metadata_ext;
-    bytes_are = last_parts_are;
-  }
-
-  pub has_aux_rows : HasRows aux_row FitsAux bytes (1 + length r.segments + length r.verification + length (option_to_list r.metadata_ext)) (option_to_list r.aux_ext)
-  has_aux_rows =
-      let m = flat_map metadata_row (option_to_list r.metadata_ext) in
-      let a = flat_map aux_row (option_to_list r.aux_ext) in
-      record {
-        before = first_parts ++ m;
-        after = [];
-        start_is = length-append first_parts m
-            ∙ omega (arith, length-first_parts, length-optional_row metadata_row FitsMetadata length-metadata_row r.metadata_ext shown.whole.widths.metadata_ext);
-        fit = optional_fits FitsAux r.aux_ext shown.whole.widths.aux_ext;
-        bytes_are = last_parts_are ∙ sym (append_assoc first_parts m a) ∙ ap (λ bs. (first_parts ++ m) ++ bs) (sym (append-nil a));
-      }
-
--- the row that reading hands out for an optional row
-pub the_row : {T : Type 0} (clear : T → T) (row : Option T) (stored found : T) → slice_get (option_to_list row) 0 ≡ Some stored → clear stored ≡ found → Some found ≡ option_map clear row
-the_row clear None stored found there handed = cc
-the_row clear (Some row) stored found there handed = ap Some (sym handed) ∙ ap (option_map clear) (sym there)
-
--- there is one if the header announces it
-pub one_row : {T : Type 0} (row : Option T) (announced there : Bool) → length (option_to_list row) ≡ (if announced then 1 else 0) → there ≡ announced → there ≡ true
-    → length (option_to_list row) ≡ 1
-one_row row announced there count is holds = count ∙ ap (λ (b : Bool). if b then 1 else 0) (sym is ∙ holds)
+pub the_row : (row : Option HashRow) (stored found : HashRow) → slice_get (option_to_list row) 0 ≡ Some stored
+    → clear stored ≡ found → Some found ≡ option_map clear row
+the_row None stored found there handed = cc
+the_row (Some row) stored found there handed = ap Some (sym handed) ∙ ap (option_map clear) (sym there)
 
 pub has_chunks : (header : XorbChunkSequenceHeader) (bytes : List ℕ) (r : MDBXorbInfo) → Shows xorb_records IsWholeXorb header bytes r
     → HasRows chunk_row FitsChunk bytes 1 r.chunks

@@ -3,6 +3,7 @@ pub mod Decoding
 pub mod FileRecord
 pub mod FileRow
 pub mod Merging
+pub mod Part
 pub mod Processing
 pub mod Reading
 pub mod RecordKind

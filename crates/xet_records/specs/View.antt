@@ -1,6 +1,6 @@
 -- What some bytes are to a view: the record that they begin with, whatever follows it, or why they
 -- begin with none.
-use Rattle.std.specs.Prelude.{◌≡◌, ◌≢◌, ◌⊎◌, ℕ, ◌+◌, ◌*◌, ◌<◌, ◌≤◌, Bool, false, not, ◌&&◌, IsTrue, List, [], ◌∷◌, ◌++◌, length, map, slice_get, None, Some, if◌then◌else◌}
+use Rattle.std.specs.Prelude.{◌≡◌, ◌≢◌, ◌⊎◌, ℕ, ◌+◌, ◌*◌, ◌<◌, ◌≤◌, Bool, false, not, ◌&&◌, ◌||◌, IsTrue, List, [], ◌∷◌, ◌++◌, length, map, slice_get, Some, if◌then◌else◌}
 use Rattle.std.specs.IoError.{error_kind}
 use Rattle.std.specs.declared.io.ErrorKind.TheVariants.{Other}
 use Rattle.xet_base.specs.declared.error.CoreError.{CoreError}
@@ -8,13 +8,17 @@ use Rattle.xet_base.specs.declared.error.CoreError.TheVariants.{Io}
 use Rattle.xet_base.specs.Errors.{IsEndOfInput}
 use Rattle.xet_base.specs.Hash.{all_ones}
 use Rattle.xet_base.specs.Table.{IsBareInvalidShard}
+use Rattle.xet_records.specs.declared.file_structs.header.FileDataSequenceHeader.{FileDataSequenceHeader}
 use Rattle.xet_records.specs.declared.file_structs.MDBFileInfo.{MDBFileInfo}
 -- which of a record's verification rows and auxiliary row are written
 pub use Rattle.xet_records.specs.declared.file_structs.view.KeptParts.{KeptParts}
 use Rattle.xet_records.specs.declared.xorb_structs.XorbChunkSequenceEntry.{XorbChunkSequenceEntry}
 use Rattle.xet_records.specs.declared.xorb_structs.MDBXorbInfo.{MDBXorbInfo}
 use Rattle.xet_records.specs.RecordKind.{RecordKind}
-use Rattle.xet_records.specs.FileRecord.{has_verification, has_metadata_ext, has_aux_ext, flags_of, with_aux_flag, FitsItsHeader, FitsRecord, file_records}
+use Rattle.xet_records.specs.declared.file_structs.part.OptionalPart.{OptionalPart}
+use Rattle.xet_records.specs.declared.file_structs.part.OptionalPart.TheVariants.{Verification, AuxExt}
+use Rattle.xet_records.specs.Part.{announces, flags_of, rows_of, with_parts, with_flag, all_but}
+use Rattle.xet_records.specs.FileRecord.{has_verification, FitsItsHeader, FitsRecord, file_records}
 use Rattle.xet_records.specs.XorbRecord.{end_of_chunk, HasItsChunks, FitsXorb, xorb_records}
 
 -- a record that has the parts that its header announces, with its numbers within their widths; its
@@ -83,22 +87,23 @@ module _ {H R : Type 0} (K : RecordKind H R) where
   NoView bytes e =
       (IsEndOfInput e × EndsInRecord bytes) ⊎ (IsBareInvalidShard e × AnnouncesTooMany bytes)
 
--- a record without its verification rows: its header has the bits of a metadata row and of an
--- auxiliary row alone, and a zero reserved word
+-- the record under this header, with those of its parts that stay
+abbrev pub keeping : (OptionalPart → Bool) → FileDataSequenceHeader → MDBFileInfo → MDBFileInfo
+keeping stays h r = with_parts h r.segments (λ part. if stays part then rows_of part r else [])
+
+-- the header without verification rows: the bits of the other parts alone, and a zero reserved word
+abbrev pub header_without_verification : FileDataSequenceHeader → FileDataSequenceHeader
+header_without_verification h =
+    record h {
+      file_flags =
+          flags_of (λ part. all_but Verification part && announces h.file_flags part);
+      _unused = 0;
+    }
+
+-- a record without its verification rows
 abbrev pub without_verification : MDBFileInfo → MDBFileInfo
-without_verification r = record {
-  metadata =
-      record r.metadata {
-        file_flags =
-            flags_of false (has_metadata_ext r.metadata.file_flags)
-            (has_aux_ext r.metadata.file_flags);
-        _unused = 0;
-      };
-  segments = r.segments;
-  verification = [];
-  metadata_ext = r.metadata_ext;
-  aux_ext = r.aux_ext;
-}
+without_verification r =
+    keeping (all_but Verification) (header_without_verification r.metadata) r
 
 -- the record that is written: verification rows are left out unless they are wanted, and all else
 -- is as it is
@@ -109,11 +114,9 @@ as_wanted wanted r =
 -- a record without its auxiliary row: its header has bit 29 cleared, and all else is as it is
 abbrev pub without_aux : MDBFileInfo → MDBFileInfo
 without_aux r =
-    record r {
-      metadata =
-          record r.metadata { file_flags = with_aux_flag false r.metadata.file_flags };
-      aux_ext = None;
-    }
+    keeping (all_but AuxExt)
+    (record r.metadata { file_flags = with_flag AuxExt false r.metadata.file_flags })
+    r
 
 -- the record, without its auxiliary row unless that is wanted
 abbrev pub aux_as_wanted : Bool → MDBFileInfo → MDBFileInfo
@@ -126,6 +129,11 @@ auxes_as_wanted wanted rs = if wanted then rs else map without_aux rs
 -- the record that is written where these parts are kept
 abbrev pub as_kept : KeptParts → MDBFileInfo → MDBFileInfo
 as_kept kept r = aux_as_wanted kept.aux_ext (as_wanted kept.verification r)
+
+-- whether it has the rows of a part that the record has
+abbrev pub keeps : KeptParts → OptionalPart → Bool
+keeps kept part =
+    (kept.verification || all_but Verification part) && (kept.aux_ext || all_but AuxExt part)
 
 -- verification rows are wanted, and the record has none
 abbrev pub LacksVerification : Bool → MDBFileInfo → Type 0

@@ -6,16 +6,13 @@ ghost use Rattle.xet_records.specs.Copying.{CopiesRows, CopiesFile, CopyFails};
 ghost use Rattle.xet_records.specs.FileRow.{segment_row, FitsSegment};
 ghost use Rattle.xet_records.specs.FileRecord.{rows_after};
 
-use crate::file_structs::{
-    FileAuxExt, FileDataSequenceEntry, FileDataSequenceHeader, FileMetadataExt,
-    FileVerificationEntry,
-};
-use crate::row_copier::{CopyResult, copy_row, copy_rows};
+use crate::file_structs::{FileDataSequenceEntry, FileDataSequenceHeader, HashRow};
+use crate::row_copier::{CopyResult, copy_all_rows, copy_row};
 use std::io::Write;
 use xet_base::input::ByteInput;
 
 /// Copies the rows that a file's header announces, and returns the size of the file in bytes.
-/// Reserved words of the rows of its optional parts are written as zero. `UnexpectedEof` of the
+/// Reserved words of the rows of optional parts are written as zero. `UnexpectedEof` of the
 /// input if fewer rows are left.
 pub fn copy_file_rows<M, I: ByteInput<M>, W: Write>(
     input: &mut I,
@@ -29,9 +26,7 @@ pub fn copy_file_rows<M, I: ByteInput<M>, W: Write>(
     ensures bound { IfOk result (λ size. size ≤ 4294967295 * header.num_entries) }
 {
     let size = copy_segments::<M, I, W>(input, writer, header.num_entries)?;
-    copy_rows::<FileVerificationEntry, M, I, W>(input, writer, header.verification_rows())?;
-    copy_rows::<FileMetadataExt, M, I, W>(input, writer, header.metadata_rows())?;
-    copy_rows::<FileAuxExt, M, I, W>(input, writer, header.aux_rows())?;
+    copy_all_rows::<HashRow, M, I, W>(input, writer, header.optional_rows())?;
     Ok(size)
 }
 

@@ -1,13 +1,15 @@
 //! The records of the file section, and their rows.
 
 mod header;
+mod part;
 mod rows;
 mod view;
 
-ghost use Rattle.std.specs.Prelude.{◌≡◌, ℕ, List, Some, ◌++◌, ◌*◌, ◌≤◌, ◌⊎◌, length, MatchResult, IfSome, OnOk, OnErr, IfOk, IfErr, IsTrue};
+ghost use Rattle.std.specs.Prelude.{◌≡◌, ℕ, List, Some, ◌++◌, ◌*◌, ◌≤◌, ◌⊎◌, length, MatchResult, IfSome, OnOk, OnErr, IfOk, IfErr, IsTrue, not, ◌&&◌, if◌then◌else◌};
 ghost use Rattle.std.specs.Io.KnownBytes.{Appends, Consumes};
 ghost use Rattle.xet_records.specs.FileRecord.{has_verification, has_metadata_ext, has_aux_ext, rows_after, row_count, file_record_bytes, size_of_file, FitsItsHeader, IsStored, handed_out, file_records};
-ghost use Rattle.xet_records.specs.Merging.{IsSameFile, merged};
+ghost use Rattle.xet_records.specs.Part.{rows_of};
+ghost use Rattle.xet_records.specs.Merging.{IsSameFile, has_part, merged};
 ghost use Rattle.xet_records.specs.Reading.{ReadsOrEnds, ReadsRowsAfter, IsCutShort, HasRefusedHeader};
 ghost use Rattle.xet_base.specs.Table.{IsBareInvalidShard};
 ghost use Rattle.xet_base.specs.Errors.{IsEndOfInput, IsDeviceError, IsWriteError, IsInvalidShard};
@@ -16,7 +18,10 @@ use crate::input_rows;
 use crate::record_reader::{FormatVersion, MAX_ROWS_OF_RECORD, SectionRecord, read_record};
 use crate::rows::{ROW_SIZE, Rows, write_optional, write_row, write_rows};
 pub use header::{FileDataSequenceHeader, SupersetResult};
-pub use rows::{FileAuxExt, FileDataSequenceEntry, FileMetadataExt, FileVerificationEntry};
+pub use part::OptionalPart;
+pub use rows::{
+    FileAuxExt, FileDataSequenceEntry, FileMetadataExt, FileVerificationEntry, HashRow,
+};
 use std::alloc::Global;
 use std::io::{Read, Write};
 pub use view::{KeptParts, MDBFileInfoView};
@@ -147,7 +152,7 @@ impl MDBFileInfo {
     /// Takes over each optional part that only `other` has, and nothing else. Requires that both
     /// records are of one file. On `OutOfMemory`, the only error, nothing changes; it comes only if
     /// verification rows are taken over.
-    #[tactic(auto, using(crate::proofs::Flags::verification_added, crate::proofs::Flags::metadata_ext_added, crate::proofs::Flags::aux_ext_added))]
+    #[tactic(auto, using(crate::proofs::Parts::either_row))]
     pub fn merge_from(&mut self, alloc: Global, other: &Self) -> Result<()>
         requires { IsSameFile self.old.metadata other.now.metadata }
         ensures ok { OnOk result (self.new ≡ merged self.old other.now) }
@@ -156,22 +161,34 @@ impl MDBFileInfo {
             × IsTrue (has_verification other.now.metadata.file_flags)
             × (¬ IsTrue (has_verification self.old.metadata.file_flags))) }
     {
-        let takes_verification = other.contains_verification() & !self.contains_verification();
-        let takes_metadata_ext = other.contains_metadata_ext() & !self.contains_metadata_ext();
-        let takes_aux_ext = other.contains_aux_ext() & !self.contains_aux_ext();
+        let takes_verification = self.takes(other, OptionalPart::Verification);
+        let takes_metadata_ext = self.takes(other, OptionalPart::MetadataExt);
+        let takes_aux_ext = self.takes(other, OptionalPart::AuxExt);
         if takes_verification {
             self.verification = other.verification.try_clone(alloc)?;
-            self.metadata.file_flags |= MDB_FILE_FLAG_WITH_VERIFICATION;
         }
-        if takes_metadata_ext {
-            self.metadata_ext = other.metadata_ext;
-            self.metadata.file_flags |= MDB_FILE_FLAG_WITH_METADATA_EXT;
-        }
-        if takes_aux_ext {
-            self.aux_ext = other.aux_ext;
-            self.metadata.file_flags |= MDB_FILE_FLAG_WITH_AUX_EXT;
-        }
+        self.metadata_ext = either(takes_metadata_ext, other.metadata_ext, self.metadata_ext);
+        self.aux_ext = either(takes_aux_ext, other.aux_ext, self.aux_ext);
+        self.metadata.file_flags = self.metadata.merged_flags(&other.metadata);
         Ok(())
+    }
+
+    /// The number of rows of a part that the record has, whatever its header announces.
+    pub fn part_len(&self, part: OptionalPart) -> usize
+        ensures { result ≡ length (rows_of part self.now) }
+    {
+        match part {
+            OptionalPart::Verification => self.verification.len(),
+            OptionalPart::MetadataExt => usize::from(self.metadata_ext.is_some()),
+            OptionalPart::AuxExt => usize::from(self.aux_ext.is_some()),
+        }
+    }
+
+    // Whether only `other` has a part.
+    fn takes(&self, other: &Self, part: OptionalPart) -> bool
+        ensures { result ≡ (has_part other.now part && not (has_part self.now part)) }
+    {
+        self.metadata.gains(&other.metadata, part)
     }
 
     /// A copy of the record, or `OutOfMemory`.
@@ -187,6 +204,13 @@ impl MDBFileInfo {
             aux_ext: self.aux_ext,
         })
     }
+}
+
+// The first value, or the second.
+fn either<T: Copy>(is_first: bool, first: T, second: T) -> T
+    ensures { result ≡ (if is_first then first else second) }
+{
+    if is_first { first } else { second }
 }
 
 impl SectionRecord for MDBFileInfo {
@@ -225,7 +249,11 @@ impl SectionRecord for MDBFileInfo {
         header: FileDataSequenceHeader,
     ) -> Result<MDBFileInfo> {
         let segments = input_rows::read_rows(alloc, input, header.num_entries)?;
-        let verification = input_rows::read_rows(alloc, input, header.verification_rows())?;
+        let verification = input_rows::read_rows(
+            alloc,
+            input,
+            header.part_rows(OptionalPart::Verification),
+        )?;
         let metadata_ext = input_rows::read_optional(input, header.contains_metadata_ext())?;
         let aux_ext = input_rows::read_optional(input, header.contains_aux_ext())?;
         Ok(MDBFileInfo {
@@ -243,7 +271,10 @@ impl SectionRecord for MDBFileInfo {
         header: FileDataSequenceHeader,
     ) -> Result<Option<FileMetadataExt>> {
         input_rows::skip_rows::<FileDataSequenceEntry, M, I>(input, header.num_entries)?;
-        input_rows::skip_rows::<FileVerificationEntry, M, I>(input, header.verification_rows())?;
+        input_rows::skip_rows::<FileVerificationEntry, M, I>(
+            input,
+            header.part_rows(OptionalPart::Verification),
+        )?;
         let metadata_ext = input_rows::read_optional(input, header.contains_metadata_ext())?;
         let _aux_ext: Option<FileAuxExt> = input_rows::read_optional(
             input,

@@ -99,6 +99,20 @@ pub fn copy_rows<T: Row, M, I: ByteInput<M>, W: Write>(
         (I.reads input.old input.new) (W.contents writer.old) (W.contents writer.new) count rows)
         (CopyFails I.reads I.fails input.old input.new (48 * count)) }
 {
+    copy_all_rows::<T, M, I, W>(input, writer, u64::from(count))
+}
+
+// The same of a number of rows that may not fit `u32`.
+pub(crate) fn copy_all_rows<T: Row, M, I: ByteInput<M>, W: Write>(
+    input: &mut I,
+    writer: &mut W,
+    count: u64,
+) -> CopyResult<()>
+    ensures { MatchResult result
+        (λ _. (rows : List T) × CopiesRows T.row_bytes T.Fits T.handed_out
+        (I.reads input.old input.new) (W.contents writer.old) (W.contents writer.new) count rows)
+        (CopyFails I.reads I.fails input.old input.new (48 * count)) }
+{
     for _row in 0..count {
         copy_row::<T, M, I, W>(input, writer)?;
     }

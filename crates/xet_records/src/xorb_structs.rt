@@ -186,7 +186,7 @@ impl XorbChunkSequenceEntry {
 
     /// Whether the global index keeps the chunk by what its row says: it is marked, or its hash is
     /// eligible.
-    #[tactic(auto, using(crate::proofs::Flags::verification_masked))]
+    #[tactic(auto, using(crate::proofs::Flags::mark_masked))]
     pub fn is_global_dedup_eligible(&self) -> bool
         ensures { IsTrue result ↔ IsEligibleChunk self.now }
     {

@@ -8,33 +8,32 @@ use Rattle.std.proofs.lemmas.List.Elements.{Contains-push, Contains-append_left,
 use Rattle.std.proofs.lemmas.Option.{same_Some}
 use Rattle.xet_base.specs.declared.merklehash.DataHash.{DataHash}
 use Rattle.xet_base.proofs.HashOrder.{hash_cmp-IsTotalOrder, hash_cmp-IsAntisymmetric}
-use Rattle.xet_records.specs.declared.file_structs.rows.FileVerificationEntry.{FileVerificationEntry}
+use Rattle.xet_records.specs.declared.file_structs.rows.HashRow.{HashRow}
+use Rattle.xet_records.specs.declared.file_structs.part.OptionalPart.{OptionalPart}
 use Rattle.xet_records.specs.declared.file_structs.MDBFileInfo.{MDBFileInfo}
 use Rattle.xet_records.specs.declared.xorb_structs.MDBXorbInfo.{MDBXorbInfo}
 use Rattle.xet_records.specs.FileRecord.{row_count, IsWellFormed}
 use Rattle.xet_records.specs.XorbRecord.{xorb_row_count, IsXorb}
-use Rattle.xet_records.specs.Merging.{Agree, verified, merged}
+use Rattle.xet_records.specs.Part.{parts, rows_of}
+use Rattle.xet_records.specs.Merging.{Agree, has_part, merged, part_in}
+use Rattle.xet_records.proofs.Parts.{fewer_rows}
 use Rattle.xet_records.proofs.Merging.{same_file_if_agree, merged_well_formed}
 use Rattle.xet_shards.specs.Shard.{Shard, IsShard, file_hash_of, xorb_hash_of}
 use Rattle.xet_shards.specs.Joining.{either_file}
 use Rattle.xet_shards.specs.SetOperations.{IsUnion, ShardsAgree, HasFewRows}
-use Rattle.xet_shards.specs.Joins.{verification_of, segments_under, verification_under, metadata_under, aux_under, HasWhatAnyHas, FollowsParts, IsJoinOf, AgreePairwise}
+use Rattle.xet_shards.specs.Joins.{segments_under, part_under, HasWhatAnyHas, FollowsParts, IsJoinOf, AgreePairwise}
 use Rattle.xet_shards.proofs.FileUnions.{holds_in_map}
 use Rattle.xet_shards.proofs.Sums.{all_of_map, part-le-sum, sum-below}
 use Rattle.xet_shards.proofs.Unions.{IsKnown, known}
 use Rattle.xet_shards.proofs.Overlays.{united_shard, union_exists}
-use Rattle.xet_shards.proofs.Joins.{same_segments, same_verification, same_metadata, same_aux, follows_parts, plain_file, join-unique, join-none, join-one, join-append}
+use Rattle.xet_shards.proofs.Joins.{same_segments, same_part, follows_parts, plain_file, join-unique, join-none, join-one, join-append}
 
--- the parts of a file that is present
-verification_is : (r : MDBFileInfo) → IsTrue (verified r) → verification_of r ≡ Some r.verification
-verification_is r has = ap (λ (v : Bool). if v then Some r.verification else None) has
-
-row_is : {X : Type 0} (o : Option X) → IsTrue (is_some o) → (x : X) × (o ≡ Some x)
-row_is o has = grind arith
+-- a part that is present
+part_is : (part : OptionalPart) (r : MDBFileInfo) → IsTrue (has_part r part) → part_in part r ≡ Some (rows_of part r)
+part_is part r has = ap (λ (v : Bool). if v then Some (rows_of part r) else None) has
 
 -- agreement of each shard of a set with each of another passes to their joins
-module _ (A B : Shard → Type 0) (a b : Shard) (first : IsJoinOf A a) (second : IsJoinOf B b)
-    (follows_A : (s : Shard) → A s → FollowsParts s) (follows_B : (s : Shard) → B s → FollowsParts s) (agree : (s t : Shard) → A s → B t → ShardsAgree s t) where
+module _ (A B : Shard → Type 0) (a b : Shard) (first : IsJoinOf A a) (second : IsJoinOf B b) (agree : (s t : Shard) → A s → B t → ShardsAgree s t) where
   -- what any of the one set has is what any of the other has
   from_members : {X : Type 0} (part : Shard → Option X) → HasWhatAnyHas A a part → HasWhatAnyHas B b part
       → ((s t : Shard) → A s → B t → (x y : X) → part s ≡ Some x → part t ≡ Some y → x ≡ y) → (x y : X) → part a ≡ Some x → part b ≡ Some y → x ≡ y
@@ -48,23 +47,9 @@ module _ (A B : Shard → Type 0) (a b : Shard) (first : IsJoinOf A a) (second :
     segments = from_members (segments_under q) (first.segments q) (second.segments q)
         (λ u v m n x y. same_segments q (get u.files q) (get v.files q) ((agree u v m n).files q) x y)
         r.segments s.segments (ap (option_map (λ t. t.segments)) own) (ap (option_map (λ t. t.segments)) other);
-    verification = λ v w. from_members (verification_under q) (first.verification q) (second.verification q)
-        (λ u k m n x y. same_verification q (get u.files q) (get k.files q) ((agree u k m n).files q) x y)
-        r.verification s.verification (ap (option_and_then verification_of) own ∙ verification_is r v) (ap (option_and_then verification_of) other ∙ verification_is s w);
-    metadata_ext = λ m l.
-        let mine = row_is r.metadata_ext ((plain_file a first.follows q r own).present ∙ m) in
-        let others = row_is s.metadata_ext ((plain_file b second.follows q s other).present ∙ l) in
-        mine.1 ∙ ap Some (from_members (metadata_under q) (first.metadata_ext q) (second.metadata_ext q)
-        (λ u k i j x y. same_metadata q (get u.files q) (get k.files q) (plain_file u (follows_A u i) q) (plain_file k (follows_B k j) q) ((agree u k i j).files q) x y)
-        mine.0 others.0 (ap (option_and_then (λ t. t.metadata_ext)) own ∙ mine.1) (ap (option_and_then (λ t. t.metadata_ext)) other ∙ others.1))
-        ∙ sym others.1;
-    aux_ext = λ m l.
-        let mine = row_is r.aux_ext ((plain_file a first.follows q r own).aux_present ∙ m) in
-        let others = row_is s.aux_ext ((plain_file b second.follows q s other).aux_present ∙ l) in
-        mine.1 ∙ ap Some (from_members (aux_under q) (first.aux_ext q) (second.aux_ext q)
-        (λ u k i j x y. same_aux q (get u.files q) (get k.files q) (plain_file u (follows_A u i) q) (plain_file k (follows_B k j) q) ((agree u k i j).files q) x y)
-        mine.0 others.0 (ap (option_and_then (λ t. t.aux_ext)) own ∙ mine.1) (ap (option_and_then (λ t. t.aux_ext)) other ∙ others.1))
-        ∙ sym others.1;
+    parts = λ part v w. from_members (part_under part q) (first.parts part q) (second.parts part q)
+        (λ u k m n x y. same_part q part (get u.files q) (get k.files q) ((agree u k m n).files q) x y)
+        (rows_of part r) (rows_of part s) (ap (option_and_then (part_in part)) own ∙ part_is part r v) (ap (option_and_then (part_in part)) other ∙ part_is part s w);
   }
 
   pub joins_agree : ShardsAgree a b
@@ -81,27 +66,21 @@ module _ (A C : Shard → Type 0) (a c : Shard) (few : IsJoinOf A a) (more : IsJ
   file_there : (o : Option MDBFileInfo) (xs : _) → option_map (λ (r : MDBFileInfo). r.segments) o ≡ Some xs → (t : MDBFileInfo) × (o ≡ Some t) × (t.segments ≡ xs)
   file_there o xs is = grind arith
 
-  verification_there : (v : Bool) (xs ys : List FileVerificationEntry) → (if v then Some xs else None) ≡ Some ys → xs ≡ ys
-  verification_there v xs ys is = grind arith
+  part_there : (v : Bool) (xs ys : List HashRow) → (if v then Some xs else None) ≡ Some ys → xs ≡ ys
+  part_there v xs ys is = grind arith
 
-  few_verification : (v : Bool) (xs ys : List FileVerificationEntry) → (v ≡ false → xs ≡ []) → (IsTrue v → ys ≡ xs) → length xs ≤ length ys
-  few_verification v xs ys absent same = grind arith
-
-  few_row : {X : Type 0} (o p : Option X) → ((x : X) → o ≡ Some x → p ≡ Some x) → length (option_to_list o) ≤ length (option_to_list p)
-  few_row o p same = grind arith
+  few_rows : (v : Bool) (xs ys : List HashRow) → (v ≡ false → xs ≡ []) → (IsTrue v → ys ≡ xs) → length xs ≤ length ys
+  few_rows v xs ys absent same = grind arith
 
   file_more : (q : DataHash) (r : MDBFileInfo) → get a.files q ≡ Some r → (t : MDBFileInfo) × (get c.files q ≡ Some t) × (row_count r ≤ row_count t)
   file_more q r at =
       let there = file_there (get c.files q) r.segments (has_more (segments_under q) (few.segments q) (more.segments q) r.segments (ap (option_map (λ t. t.segments)) at)) in
       let t = there.0 in
       let header = plain_file a few.follows q r at in
-      let verification = few_verification (verified r) r.verification t.verification header.absent (λ has. verification_there (verified t) t.verification r.verification
-      (sym (ap (option_and_then verification_of) there.1) ∙ has_more (verification_under q) (few.verification q) (more.verification q) r.verification (ap (option_and_then verification_of) at ∙ verification_is r has))) in
-      let metadata_ext = few_row r.metadata_ext t.metadata_ext (λ x is.
-      sym (ap (option_and_then (λ s. s.metadata_ext)) there.1) ∙ has_more (metadata_under q) (few.metadata_ext q) (more.metadata_ext q) x (ap (option_and_then (λ s. s.metadata_ext)) at ∙ is)) in
-      let aux_ext = few_row r.aux_ext t.aux_ext (λ x is.
-      sym (ap (option_and_then (λ s. s.aux_ext)) there.1) ∙ has_more (aux_under q) (few.aux_ext q) (more.aux_ext q) x (ap (option_and_then (λ s. s.aux_ext)) at ∙ is)) in
-      (t, there.1, omega (arith, ap length there.2, verification, metadata_ext, aux_ext))
+      let fewer : (part : OptionalPart) → length (rows_of part r) ≤ length (rows_of part t) =
+      λ part. few_rows (has_part r part) (rows_of part r) (rows_of part t) (header.absent part) (λ has. part_there (has_part t part) (rows_of part t) (rows_of part r)
+      (sym (ap (option_and_then (part_in part)) there.1) ∙ has_more (part_under part q) (few.parts part q) (more.parts part q) (rows_of part r) (ap (option_and_then (part_in part)) at ∙ part_is part r has))) in
+      (t, there.1, omega (arith, ap length there.2, fewer_rows (λ p. rows_of p r) (λ p. rows_of p t) fewer parts))
 
   pub fewer_if_more : HasFewRows c → HasFewRows a
   fewer_if_more all = record {
@@ -161,8 +140,6 @@ module _ (a b c : Shard) (first : IsShard a) (second : IsShard b) (agree : Shard
 module _ (xs ys : List Shard) (a b : Shard) (first : IsJoinOf (Contains xs) a) (second : IsJoinOf (Contains ys) b) (agree : AgreePairwise (Contains (xs ++ ys))) where
   pub lists_agree : ShardsAgree a b
   lists_agree = joins_agree (Contains xs) (Contains ys) a b first second
-      (λ s member. follows_parts s (agree.shards s (Contains-append_left xs ys s member)))
-      (λ s member. follows_parts s (agree.shards s (Contains-append_right xs ys s member)))
       (λ s t one other. agree.pairs s t (Contains-append_left xs ys s one) (Contains-append_right xs ys t other))
 
   pub union-of_joins : (c : Shard) → IsJoinOf (Contains (xs ++ ys)) c → IsUnion a b c

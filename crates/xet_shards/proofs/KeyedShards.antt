@@ -109,9 +109,7 @@ module _ (key : DataHash) (shards : List Shard) (c : Shard) where
           get-keyed key c q ∙ ap (option_map (keyed_xorb key)) ((join.xorbs q mine.0).1 (from.0, from.1, mine.1)) ∙ ap Some mine.2,
     );
     segments = λ q. part_kept (keyed_shard key) shards c _ (λ s. refl) (join.segments q);
-    verification = λ q. part_kept (keyed_shard key) shards c _ (λ s. refl) (join.verification q);
-    metadata_ext = λ q. part_kept (keyed_shard key) shards c _ (λ s. refl) (join.metadata_ext q);
-    aux_ext = λ q. part_kept (keyed_shard key) shards c _ (λ s. refl) (join.aux_ext q);
+    parts = λ part q. part_kept (keyed_shard key) shards c _ (λ s. refl) (join.parts part q);
     follows = join.follows;
   }
 

@@ -69,3 +69,4 @@ pub mod XorbLayouts
 pub mod Xorbs
 pub mod FileRanges
 pub mod FileStarts
+pub mod StoredParts

@@ -8,13 +8,15 @@ use Rattle.xet_base.specs.declared.merklehash.DataHash.{DataHash}
 use Rattle.xet_records.specs.declared.file_structs.MDBFileInfo.{MDBFileInfo}
 use Rattle.xet_records.specs.declared.xorb_structs.XorbChunkSequenceEntry.{XorbChunkSequenceEntry}
 use Rattle.xet_records.specs.declared.xorb_structs.MDBXorbInfo.{MDBXorbInfo}
-use Rattle.xet_records.specs.FileRecord.{has_verification, has_metadata_ext, has_aux_ext, with_aux_flag}
-use Rattle.xet_records.proofs.Merging.{verification_injective}
+use Rattle.xet_records.specs.FileRecord.{has_verification}
+use Rattle.xet_records.specs.Part.{announces, all_but, with_flag}
+use Rattle.xet_records.specs.declared.file_structs.part.OptionalPart.TheVariants.{Verification, AuxExt}
+use Rattle.xet_records.proofs.Merging.{announces-flags_of}
 use Rattle.xet_records.specs.XorbRow.{is_marked, with_mark}
 use Rattle.xet_records.specs.declared.file_structs.view.KeptParts.{KeptParts}
 use Rattle.xet_records.specs.declared.file_structs.rows.FileDataSequenceEntry.{FileDataSequenceEntry}
 use Rattle.xet_records.specs.View.{as_wanted, without_verification, without_aux, aux_as_wanted, as_kept}
-use Rattle.xet_records.proofs.KeptParts.{cleared, parts_kept}
+use Rattle.xet_records.proofs.KeptParts.{cleared, segments_kept, keeping-again}
 use Rattle.xet_shards.specs.declared.streaming_shard.file_start.FileStart.{FileStart}
 use Rattle.xet_shards.specs.MinimalShard.{start_cmp, start_of_file, is_start, chunk_of, marked_if, mark_starts, is_eligible, eligible_in, ascending_hashes, eligible_hashes}
 
@@ -84,21 +86,21 @@ none_left r none = ap (λ b. if b && true then without_verification r else r) no
 -- so are auxiliary rows
 without_aux-again : (r : MDBFileInfo) → without_aux (without_aux r) ≡ without_aux r
 without_aux-again r =
-    let flags = with_aux_flag false r.metadata.file_flags in
-    let same : with_aux_flag false flags ≡ flags = ap (λ (b : Bool). flags - (if b then 536870912 else 0) + 0) (cleared r.metadata.file_flags).aux_ext ∙ omega arith in
-    ap (λ n. record (without_aux r) { metadata = record (without_aux r).metadata { file_flags = n } }) same
+    let flags = with_flag AuxExt false r.metadata.file_flags in
+    let same : with_flag AuxExt false flags ≡ flags = ap (λ (b : Bool). flags - (if b then 536870912 else 0) + 0) (cleared r.metadata.file_flags AuxExt) ∙ omega arith in
+    keeping-again (all_but AuxExt) (without_aux r).metadata r (without_aux (without_aux r)).metadata (λ i. record r.metadata { file_flags = same i })
 
 none_verified : (r : MDBFileInfo) → has_verification (as_wanted false r).metadata.file_flags ≡ false
 none_verified r = either (has_verification r.metadata.file_flags) refl
   where
     either : (b : Bool) → has_verification r.metadata.file_flags ≡ b → has_verification (if b && true then without_verification r else r).metadata.file_flags ≡ false
-    either true is = verification_injective false (has_metadata_ext r.metadata.file_flags) (has_aux_ext r.metadata.file_flags)
+    either true is = announces-flags_of (λ part. all_but Verification part && announces r.metadata.file_flags part) Verification
     either false is = is
 
 wanted_again : (wanted aux : Bool) (r : MDBFileInfo) → as_wanted wanted (aux_as_wanted aux (as_wanted wanted r)) ≡ aux_as_wanted aux (as_wanted wanted r)
 wanted_again true aux r = all_wanted (aux_as_wanted aux (as_wanted true r))
 wanted_again false true r = none_left (as_wanted false r) (none_verified r)
-wanted_again false false r = none_left (without_aux (as_wanted false r)) ((cleared (as_wanted false r).metadata.file_flags).verification ∙ none_verified r)
+wanted_again false false r = none_left (without_aux (as_wanted false r)) (cleared (as_wanted false r).metadata.file_flags Verification ∙ none_verified r)
 
 kept_again : (kept : KeptParts) (r : MDBFileInfo) → as_kept kept (as_kept kept r) ≡ as_kept kept r
 kept_again kept r = ap (aux_as_wanted kept.aux_ext) (wanted_again kept.verification kept.aux_ext r) ∙ either kept.aux_ext
@@ -113,7 +115,7 @@ all_kept_again kept (r ∷ files) = λ i. kept_again kept r i ∷ all_kept_again
 
 -- and change no start
 same_start : (kept : KeptParts) (r : MDBFileInfo) → start_of_file (as_kept kept r) ≡ start_of_file r
-same_start kept r = ap starts_in (parts_kept kept r).segments
+same_start kept r = ap starts_in (segments_kept kept r)
   where
     starts_in : List FileDataSequenceEntry → List FileStart
     starts_in segments = map (λ s. record { xorb_hash = s.xorb_hash; chunk_index = s.chunk_index_start }) (take 1 segments)

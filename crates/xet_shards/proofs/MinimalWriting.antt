@@ -13,11 +13,14 @@ use Rattle.xet_records.specs.declared.file_structs.MDBFileInfo.{MDBFileInfo}
 use Rattle.xet_records.specs.declared.xorb_structs.MDBXorbInfo.{MDBXorbInfo}
 use Rattle.xet_records.specs.declared.xorb_structs.XorbChunkSequenceEntry.{XorbChunkSequenceEntry}
 use Rattle.xet_records.proofs.Merging.{flags_fit}
-use Rattle.xet_records.specs.FileRecord.{file_records, row_count, has_verification, has_metadata_ext, has_aux_ext, FitsRecord, IsStored}
+use Rattle.xet_records.specs.FileRecord.{file_records, row_count, has_verification, FitsRecord, IsStored}
 use Rattle.xet_records.specs.XorbRecord.{xorb_records, xorb_row_count, HasItsChunks}
 use Rattle.xet_records.specs.declared.file_structs.view.KeptParts.{KeptParts}
 use Rattle.xet_records.specs.View.{as_wanted, without_verification, aux_as_wanted, as_kept}
-use Rattle.xet_records.proofs.KeptParts.{parts_kept, parts-rows, without_aux-fits}
+use Rattle.xet_records.specs.FileRow.{FitsHashRow}
+use Rattle.xet_records.specs.Part.{announces, all_but}
+use Rattle.xet_records.specs.declared.file_structs.part.OptionalPart.TheVariants.{Verification}
+use Rattle.xet_records.proofs.KeptParts.{rows-kept, keeping-all, without_aux-fits}
 use Rattle.xet_shards.specs.declared.streaming_shard.file_start.FileStart.{FileStart}
 use Rattle.std.specs.Io.KnownBytes.{Appends}
 use Rattle.xet_shards.specs.declared.shard_format.written.WrittenFiles.{WrittenFiles}
@@ -32,6 +35,7 @@ use Rattle.xet_shards.specs.Layout.{Form, if_in, layout_of, header_value, footer
 use Rattle.xet_shards.specs.MinimalShard.{MinimalShard, is_start, chunk_of, marked_if, mark_starts, minimal_form, HasNoTables, IsKept, WritesBytes, WritesKept, WritesMinimalKept}
 use Rattle.xet_shards.proofs.Layouts.{length-file_section, length-xorb_section, length-shard_header_bytes, length-shard_footer_bytes}
 use Rattle.xet_shards.proofs.Sums.{sum-mapped}
+use Rattle.xet_shards.proofs.XorbLayouts.{length-parts}
 
 -- marks change no number of rows
 pub rows_marked : (starts : FileStart → Bool) (x : MDBXorbInfo) → xorb_row_count (mark_starts starts x) ≡ xorb_row_count x
@@ -90,14 +94,12 @@ as_wanted-fits wanted r fits = either (has_verification r.metadata.file_flags &&
     either true = record {
       metadata = record {
         file_hash = fits.metadata.file_hash;
-        file_flags = flags_fit false (has_metadata_ext r.metadata.file_flags) (has_aux_ext r.metadata.file_flags);
+        file_flags = flags_fit (λ part. all_but Verification part && announces r.metadata.file_flags part);
         num_entries = fits.metadata.num_entries;
         unused = omega arith;
       };
       segments = fits.segments;
-      verification = All-nil _;
-      metadata_ext = fits.metadata_ext;
-      aux_ext = fits.aux_ext;
+      parts = keeping-all (all_but Verification) (without_verification r).metadata r FitsHashRow fits.parts;
     }
     either false = fits
 
@@ -110,7 +112,7 @@ as_kept-fits kept r fits = either kept.aux_ext
     either false = without_aux-fits (as_wanted kept.verification r) (as_wanted-fits kept.verification r fits)
 
 pub as_kept-rows : (kept : KeptParts) (r : MDBFileInfo) → row_count (as_kept kept r) ≤ row_count r
-as_kept-rows kept r = parts-rows r (as_kept kept r) (parts_kept kept r)
+as_kept-rows kept r = rows-kept kept r
 
 pub rows_as_kept : (kept : KeptParts) (files : List MDBFileInfo) → total_rows file_records (map (as_kept kept) files) ≤ total_rows file_records files
 rows_as_kept kept files = sum-mapped (as_kept kept) row_count (as_kept-rows kept) files
@@ -135,11 +137,10 @@ none_in is_in xs out = ap (λ b. length (if_in b xs)) out
 
 pub length-without_tables : (files : List MDBFileInfo) (xorbs : List MDBXorbInfo) (form : Form) → HasNoTables form → All FitsRecord files
     → length (layout_of files xorbs form) ≡ 344 + 48 * total_rows file_records files + 48 * total_rows xorb_records xorbs
-unfolding layout_of
 length-without_tables files xorbs form tables fit =
-    simp (length-append)
-    (omega (
+    omega (
       arith,
+      length-parts files xorbs form,
       length-shard_header_bytes (header_value form.version),
       length-file_section files fit,
       length-xorb_section xorbs,
@@ -147,7 +148,7 @@ length-without_tables files xorbs form tables fit =
       none_in form.xorb_table (table_bytes xorb_records xorbs) tables.1,
       none_in form.chunk_table (chunk_table_bytes xorbs) tables.2,
       length-shard_footer_bytes (footer_value files xorbs form) refl,
-    ))
+    )
 
 -- header, sections and end of a shard with the xorbs that a filter accepts
 pub shard_written : (answers : MDBXorbInfo → Bool → Type 0) (m : MinimalShard) (files : List MDBFileInfo) (form : Form) (start after_header after_files after_xorbs end : Option (List ℕ))

@@ -10,9 +10,7 @@ use Rattle.xet_base.specs.declared.error.CoreError.{CoreError}
 use Rattle.xet_base.specs.declared.error.CoreError.TheVariants.{OutOfMemory}
 use Rattle.xet_base.specs.Source.{Source, DeviceFailure, bytes_left}
 use Rattle.xet_base.proofs.Lists.{rest_is}
-use Rattle.xet_records.specs.declared.file_structs.rows.FileVerificationEntry.{FileVerificationEntry}
-use Rattle.xet_records.specs.declared.file_structs.rows.FileMetadataExt.{FileMetadataExt}
-use Rattle.xet_records.specs.declared.file_structs.rows.FileAuxExt.{FileAuxExt}
+use Rattle.xet_records.specs.declared.file_structs.rows.HashRow.{HashRow}
 use Rattle.xet_records.specs.declared.record_reader.FormatVersion.{FormatVersion}
 use Rattle.xet_records.specs.declared.file_structs.MDBFileInfo.{MDBFileInfo}
 use Rattle.xet_records.specs.declared.xorb_structs.MDBXorbInfo.{MDBXorbInfo}
@@ -20,7 +18,9 @@ use Rattle.xet_records.specs.RecordKind.{RecordKind}
 use Rattle.xet_records.proofs.RecordKinds.{KindLaws, xorb_laws, version_known}
 use Rattle.xet_shards.specs.declared.shard_format.info.MDBShardInfo.{MDBShardInfo}
 use Rattle.xet_shards.specs.WrittenShard.{IsWritten}
-use Rattle.xet_records.specs.FileRow.{header_row, clear_verification, clear_metadata, clear_aux}
+use Rattle.xet_records.specs.FileRow.{header_row, clear}
+use Rattle.xet_records.specs.Part.{rows_of, with_parts}
+use Rattle.xet_records.proofs.Parts.{All-part, with_parts-rows_of}
 use Rattle.xet_records.specs.FileRecord.{file_record_bytes, file_bookend, handed_out, IsWellFormed, file_records, file_records_in}
 use Rattle.xet_records.specs.XorbRow.{xorb_header_row}
 use Rattle.xet_records.specs.XorbRecord.{xorb_record_bytes, xorb_bookend, xorb_records}
@@ -34,23 +34,15 @@ use Rattle.xet_shards.proofs.Layouts.{length-shard_header_bytes}
 use Rattle.xet_shards.proofs.SectionUnique.{only_list, section_or_passes, section_or_cut}
 
 -- reserved words that are zero stay as they are
-clear_verifications : (vs : List FileVerificationEntry) → All (λ v. v._unused ≡ 0 ∷ 0 ∷ []) vs → map clear_verification vs ≡ vs
-clear_verifications [] clear = refl
-clear_verifications (v ∷ vs) clear =
-    let here : v._unused ≡ 0 ∷ 0 ∷ [] = clear 0 v (omega arith) in
-    λ i. record { range_hash = v.range_hash; _unused = sym here i } ∷ clear_verifications vs (All-drop (λ (w : FileVerificationEntry). w._unused ≡ 0 ∷ 0 ∷ []) 1 (v ∷ vs) clear) i
-
-clear_ext : (o : Option FileMetadataExt) → IfSome o (λ m. m._unused ≡ 0 ∷ 0 ∷ []) → option_map clear_metadata o ≡ o
-clear_ext None clear = refl
-clear_ext (Some m) clear = λ i. Some (record { sha256 = m.sha256; _unused = sym clear i })
-
-clear_aux_ext : (o : Option FileAuxExt) → IfSome o (λ a. a._unused ≡ 0 ∷ 0 ∷ []) → option_map clear_aux o ≡ o
-clear_aux_ext None clear = refl
-clear_aux_ext (Some a) clear = λ i. Some (record { aux_hash = a.aux_hash; _unused = sym clear i })
+clear_rows : (rows : List HashRow) → All (λ row. row._unused ≡ 0 ∷ 0 ∷ []) rows → map clear rows ≡ rows
+clear_rows [] are = refl
+clear_rows (row ∷ rows) are =
+    λ i. record { hash = row.hash; _unused = sym (are 0 row (omega arith)) i } ∷ clear_rows rows (All-drop (λ (other : HashRow). other._unused ≡ 0 ∷ 0 ∷ []) 1 (row ∷ rows) are) i
 
 -- so a well-formed record is handed out as it is
 pub handed_one : (r : MDBFileInfo) → IsWellFormed r → handed_out r ≡ r
-handed_one r good = search (rules, clear_verifications, clear_ext, clear_aux_ext)
+handed_one r good =
+    (λ i. with_parts r.metadata r.segments (λ part. clear_rows (rows_of part r) (All-part (λ row. row._unused ≡ 0 ∷ 0 ∷ []) (λ p. rows_of p r) good.clear part) i)) ∙ with_parts-rows_of r
 
 pub handed_same : (rs : List MDBFileInfo) → All IsWellFormed rs → map handed_out rs ≡ rs
 handed_same [] good = refl

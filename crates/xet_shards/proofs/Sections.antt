@@ -8,8 +8,8 @@ use Rattle.std.specs.FinMap.{entries, values}
 use Rattle.xet_records.specs.declared.record_reader.FormatVersion.{FormatVersion}
 use Rattle.xet_records.specs.declared.record_reader.FormatVersion.TheVariants.{V2, V3}
 use Rattle.xet_records.specs.RecordKind.{RecordKind, in_version}
-use Rattle.xet_records.specs.FileRecord.{file_records, file_records_in}
-use Rattle.xet_records.specs.Merging.{extended}
+use Rattle.xet_records.specs.declared.file_structs.MDBFileInfo.{MDBFileInfo}
+use Rattle.xet_records.specs.FileRecord.{file_records, file_records_in, has_aux_ext}
 use Rattle.xet_records.specs.XorbRecord.{xorb_records}
 use Rattle.xet_records.proofs.RecordKinds.{KindLaws, file_laws, laws_in, stored_ever}
 use Rattle.xet_shards.specs.Section.{section_bytes}
@@ -58,7 +58,7 @@ files_fit s shard = record {
 pub files_fit_in : (version : FormatVersion) (s : Shard) → IsShard s → HasFilesIn version s → FitsSection (file_records_in version) (values s.files)
 files_fit_in V2 s shard has =
     let fits = files_fit s shard in
-    record { stored = λ k r below. (fits.stored k r below, none_passes extended (values s.files) has k r below); rows = fits.rows }
+    record { stored = λ k r below. (fits.stored k r below, none_passes (λ (r : MDBFileInfo). has_aux_ext r.metadata.file_flags) (values s.files) has k r below); rows = fits.rows }
 files_fit_in V3 s shard has = files_fit s shard
 
 pub xorbs_fit : (s : Shard) → IsShard s → FitsSection xorb_records (values s.xorbs)

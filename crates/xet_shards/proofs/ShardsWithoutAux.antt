@@ -1,29 +1,32 @@
 -- A shard without auxiliary rows has the same files, but for these, under the same hashes. So it is a shard, and agreement
 -- and joins of shards pass to the shards without auxiliary rows.
-use Rattle.std.proofs.Common.{◌≡◌, List, map, get_or, Option, None, Some, refl, sym, ap, ◌∙◌, subst, arith, if◌then◌else◌}
-use Rattle.std.specs.Prelude.{IsTrue, is_some, Contains, option_map, option_and_then}
+use Rattle.std.proofs.Common.{◌≡◌, Bool, true, false, ◌&&◌, List, [], map, get_or, Option, None, Some, refl, sym, ap, ◌∙◌, subst, arith, if◌then◌else◌}
+use Rattle.std.specs.Prelude.{IsTrue, Contains, option_map, option_and_then}
 use Rattle.std.specs.FinMap.{get, entries, values}
 use Rattle.std.proofs.lemmas.List.Elements.{All-map}
 use Rattle.std.proofs.lemmas.Option.{none-some}
 use Rattle.xet_base.specs.declared.merklehash.DataHash.{DataHash}
 use Rattle.xet_records.specs.declared.file_structs.MDBFileInfo.{MDBFileInfo}
 use Rattle.xet_records.specs.declared.file_structs.rows.FileDataSequenceEntry.{FileDataSequenceEntry}
-use Rattle.xet_records.specs.declared.file_structs.rows.FileVerificationEntry.{FileVerificationEntry}
-use Rattle.xet_records.specs.declared.file_structs.rows.FileMetadataExt.{FileMetadataExt}
-use Rattle.xet_records.specs.declared.file_structs.rows.FileAuxExt.{FileAuxExt}
+use Rattle.xet_records.specs.declared.file_structs.rows.HashRow.{HashRow}
+use Rattle.xet_records.specs.declared.file_structs.part.OptionalPart.{OptionalPart}
+use Rattle.xet_records.specs.declared.file_structs.part.OptionalPart.TheVariants.{AuxExt}
 use Rattle.xet_records.specs.FileRecord.{file_records, IsWellFormed}
-use Rattle.xet_records.specs.Merging.{Agree}
+use Rattle.xet_records.specs.Part.{announces, flags_of, rows_of, with_parts, with_flag, all_but}
+use Rattle.xet_records.specs.Merging.{Agree, has_part, part_in, file_with}
 use Rattle.xet_records.specs.View.{without_aux}
-use Rattle.xet_records.proofs.KeptParts.{cleared, without_aux-formed}
-use Rattle.xet_records.proofs.Merging.{aux_flag_cleared}
+use Rattle.xet_records.proofs.Parts.{rows_of-keeping}
+use Rattle.xet_records.proofs.KeptParts.{cleared, cleared-known, without_aux-formed}
+use Rattle.xet_records.proofs.Merging.{flags_are_known, announces-flags_of}
 use Rattle.xet_shards.specs.Section.{total_rows}
 use Rattle.xet_shards.specs.Shard.{Shard, IsShard, AreFiles, file_hash_of}
 use Rattle.xet_shards.specs.SetOperations.{ShardsAgree}
-use Rattle.xet_shards.specs.Joins.{IsJoinOf, verification_of, aux_under, file_with}
+use Rattle.xet_shards.specs.Joins.{IsJoinOf, FollowsParts, HasWhatAnyHas, part_under}
 use Rattle.xet_shards.specs.ShardsWithoutAux.{entries_without_aux, shard_without_aux}
 use Rattle.xet_shards.proofs.FilesWithoutAux.{rows-without_aux}
+use Rattle.xet_shards.proofs.Joins.{HasPlainHeader, plain, plain_file}
 use Rattle.xet_shards.proofs.MappedMaps.{entries-mapped, values-mapped, get-mapped, mapped_some}
-use Rattle.xet_shards.proofs.MappedShards.{unmapped_member, part_kept}
+use Rattle.xet_shards.proofs.MappedShards.{mapped_member, unmapped_member, part_kept}
 
 module _ (s : Shard) where
   entries-without_aux : entries (shard_without_aux s).files ≡ entries_without_aux (entries s.files)
@@ -49,14 +52,17 @@ without_aux-is_shard s shard = record {
 }
 
 -- records that agree do so without their auxiliary rows
+agreed : (stays v w : Bool) (xs ys xs_left ys_left : List HashRow) → xs_left ≡ (if stays then xs else []) → ys_left ≡ (if stays then ys else []) → IsTrue (stays && v) → IsTrue (stays && w)
+    → (IsTrue v → IsTrue w → xs ≡ ys) → xs_left ≡ ys_left
+agreed stays v w xs ys xs_left ys_left mine others own other agree = grind arith
+
 records_agree : (a b : MDBFileInfo) → Agree a b → Agree (without_aux a) (without_aux b)
 records_agree a b agree = record {
   segments = agree.segments;
-  verification = λ own other.
-      agree.verification (subst IsTrue (cleared a.metadata.file_flags).verification own) (subst IsTrue (cleared b.metadata.file_flags).verification other);
-  metadata_ext = λ own other.
-      agree.metadata_ext (subst IsTrue (cleared a.metadata.file_flags).metadata_ext own) (subst IsTrue (cleared b.metadata.file_flags).metadata_ext other);
-  aux_ext = λ own other. refl;
+  parts = λ part own other.
+      agreed (all_but AuxExt part) (has_part a part) (has_part b part) (rows_of part a) (rows_of part b) (rows_of part (without_aux a)) (rows_of part (without_aux b))
+      (rows_of-keeping (all_but AuxExt) (without_aux a).metadata a part) (rows_of-keeping (all_but AuxExt) (without_aux b).metadata b part)
+      (sym (cleared a.metadata.file_flags part) ∙ own) (sym (cleared b.metadata.file_flags part) ∙ other) (agree.parts part);
 }
 
 pub without_aux-agree : (a b : Shard) → ShardsAgree a b → ShardsAgree (shard_without_aux a) (shard_without_aux b)
@@ -68,52 +74,71 @@ without_aux-agree a b agree = record {
   xorbs = agree.xorbs;
 }
 
+-- a file that its parts determine is so without its auxiliary row
+plain_without_aux : (q : DataHash) (r : MDBFileInfo) → HasPlainHeader q r → HasPlainHeader q (without_aux r)
+plain_without_aux q r has = record {
+  keyed = has.keyed;
+  reserved = has.reserved;
+  flags = cleared-known r.metadata.file_flags has.flags ∙ (λ i. flags_of (λ part. sym (cleared r.metadata.file_flags part) i));
+  segments = has.segments;
+  absent = λ part none. rows_of-keeping (all_but AuxExt) (without_aux r).metadata r part
+      ∙ dropped (all_but AuxExt part) (has_part r part) (rows_of part r) (sym (cleared r.metadata.file_flags part) ∙ none) (has.absent part);
+} where
+  dropped : (stays v : Bool) (xs : List HashRow) → (stays && v) ≡ false → (v ≡ false → xs ≡ []) → (if stays then xs else []) ≡ []
+  dropped true v xs none absent = absent none
+  dropped false v xs none absent = refl
+
 -- the parts of a file without its auxiliary row
-same_verification : (r : MDBFileInfo) → verification_of (without_aux r) ≡ verification_of r
-same_verification r = ap (λ b. if b then Some r.verification else None) (cleared r.metadata.file_flags).verification
+abbrev part_if : OptionalPart → Option (List HashRow) → Option (List HashRow)
+part_if part o = if all_but AuxExt part then o else None
+
+part_left : (part : OptionalPart) (r : MDBFileInfo) → part_in part (without_aux r) ≡ part_if part (part_in part r)
+part_left part r =
+    (λ i. if cleared r.metadata.file_flags part i then Some (rows_of-keeping (all_but AuxExt) (without_aux r).metadata r part i) else None)
+    ∙ by_cases (all_but AuxExt part) (has_part r part) (rows_of part r)
+  where
+    by_cases : (stays v : Bool) (xs : List HashRow) → (if stays && v then Some (if stays then xs else []) else None) ≡ (if stays then (if v then Some xs else None) else None)
+    by_cases true v xs = refl
+    by_cases false v xs = refl
 
 segments_same : (o : Option MDBFileInfo) → option_map (λ r. r.segments) (option_map without_aux o) ≡ option_map (λ r. r.segments) o
 segments_same None = refl
 segments_same (Some r) = refl
 
-verification_same : (o : Option MDBFileInfo) → option_and_then verification_of (option_map without_aux o) ≡ option_and_then verification_of o
-verification_same None = refl
-verification_same (Some r) = same_verification r
+none_left : (stays : Bool) (o : Option (List HashRow)) → o ≡ None → o ≡ (if stays then o else None)
+none_left true o none = refl
+none_left false o none = none
 
-metadata_same : (o : Option MDBFileInfo) → option_and_then (λ r. r.metadata_ext) (option_map without_aux o) ≡ option_and_then (λ r. r.metadata_ext) o
-metadata_same None = refl
-metadata_same (Some r) = refl
-
-aux_gone : (o : Option MDBFileInfo) → option_and_then (λ r. r.aux_ext) (option_map without_aux o) ≡ None
-aux_gone None = refl
-aux_gone (Some r) = refl
-
-file_without_aux : (q : DataHash) (segments : List FileDataSequenceEntry) (verification : Option (List FileVerificationEntry)) (metadata_ext : Option FileMetadataExt) (aux_ext : Option FileAuxExt)
-    → without_aux (file_with q segments verification metadata_ext aux_ext) ≡ file_with q segments verification metadata_ext None
-file_without_aux q segments verification metadata_ext aux_ext =
-    ap (λ n. record (file_with q segments verification metadata_ext None) { metadata = record (file_with q segments verification metadata_ext None).metadata { file_flags = n } })
-    (aux_flag_cleared (is_some verification) (is_some metadata_ext) (is_some aux_ext))
+parts_left : (part : OptionalPart) (o : Option MDBFileInfo) → option_and_then (part_in part) (option_map without_aux o) ≡ part_if part (option_and_then (part_in part) o)
+parts_left part None = none_left (all_but AuxExt part) None refl
+parts_left part (Some r) = part_left part r
 
 module _ (shards : List Shard) (c : Shard) where
-  no_aux_under : (q : DataHash) (s : Shard) → aux_under q (shard_without_aux s) ≡ None
-  no_aux_under q s = ap (option_and_then (λ (r : MDBFileInfo). r.aux_ext)) (get-without_aux s q) ∙ aux_gone (get s.files q)
+  left_under : (part : OptionalPart) (q : DataHash) (s : Shard) → part_under part q (shard_without_aux s) ≡ part_if part (part_under part q s)
+  left_under part q s = ap (option_and_then (part_in part)) (get-without_aux s q) ∙ parts_left part (get s.files q)
+
+  -- a part that stays, or one that none has
+  part_of_join : (part : OptionalPart) (q : DataHash) → HasWhatAnyHas (Contains shards) c (part_under part q)
+      → HasWhatAnyHas (Contains (map shard_without_aux shards)) (shard_without_aux c) (part_under part q)
+  part_of_join part q has = either (all_but AuxExt part) (λ s. left_under part q s)
+    where
+      either : (b : Bool) → ((s : Shard) → part_under part q (shard_without_aux s) ≡ (if b then part_under part q s else None))
+          → HasWhatAnyHas (Contains (map shard_without_aux shards)) (shard_without_aux c) (part_under part q)
+      either true left = part_kept shard_without_aux shards c (part_under part q) left has
+      either false left = λ x. (
+        λ is. absurd (none-some x (sym (left c) ∙ is)),
+        λ found.
+            let from = unmapped_member shard_without_aux shards found.0 found.1 in
+            absurd (none-some x (sym (left from.0) ∙ ap (part_under part q) from.2 ∙ found.2)),
+      )
 
   pub without_aux-join : IsJoinOf (Contains shards) c → IsJoinOf (Contains (map shard_without_aux shards)) (shard_without_aux c)
   without_aux-join join = record {
     xorbs = λ q. part_kept shard_without_aux shards c _ (λ s. refl) (join.xorbs q);
     segments = λ q. part_kept shard_without_aux shards c _ (λ s. ap (option_map (λ (r : MDBFileInfo). r.segments)) (get-without_aux s q) ∙ segments_same (get s.files q)) (join.segments q);
-    verification = λ q. part_kept shard_without_aux shards c _ (λ s. ap (option_and_then verification_of) (get-without_aux s q) ∙ verification_same (get s.files q)) (join.verification q);
-    metadata_ext = λ q. part_kept shard_without_aux shards c _ (λ s. ap (option_and_then (λ (r : MDBFileInfo). r.metadata_ext)) (get-without_aux s q) ∙ metadata_same (get s.files q)) (join.metadata_ext q);
-    aux_ext = λ q x. (
-      λ is. absurd (none-some x (sym (no_aux_under q c) ∙ is)),
-      λ found.
-          let from = unmapped_member shard_without_aux shards found.0 found.1 in
-          absurd (none-some x (sym (no_aux_under q from.0) ∙ ap (aux_under q) from.2 ∙ found.2)),
-    );
+    parts = λ part q. part_of_join part q (join.parts part q);
     follows = λ q r has.
         let mine = mapped_some without_aux (get c.files q) r (sym (get-without_aux c q) ∙ has) in
-        let whole = join.follows q mine.0 mine.1 in
-        subst (λ (t : MDBFileInfo). t ≡ file_with q t.segments (verification_of t) t.metadata_ext t.aux_ext) mine.2
-        (ap without_aux whole ∙ file_without_aux q mine.0.segments (verification_of mine.0) mine.0.metadata_ext mine.0.aux_ext
-        ∙ ap (λ v. file_with q mine.0.segments v mine.0.metadata_ext None) (sym (same_verification mine.0)));
+        subst (λ (t : MDBFileInfo). t ≡ file_with q t.segments (λ part. part_in part t)) mine.2
+        (plain q (without_aux mine.0) (plain_without_aux q mine.0 (plain_file c join.follows q mine.0 mine.1)));
   }

@@ -5,6 +5,7 @@ use Rattle.xet_records.specs.declared.file_structs.MDBFileInfo.{MDBFileInfo}
 use Rattle.xet_records.specs.declared.xorb_structs.MDBXorbInfo.{MDBXorbInfo}
 use Rattle.xet_records.specs.FileRecord.{file_records, row_count}
 use Rattle.xet_records.specs.View.{aux_as_wanted}
+use Rattle.xet_records.proofs.KeptParts.{without_aux-rows}
 use Rattle.xet_records.specs.XorbRecord.{xorb_records, xorb_row_count}
 use Rattle.xet_shards.specs.Section.{total_rows}
 use Rattle.xet_shards.specs.Layout.{Form, if_in}
@@ -17,7 +18,7 @@ file_rows aux form r = by_table form.file_table aux
     by_table : (b aux : Bool)
         → total_rows file_records (if_in b (aux_as_wanted aux r ∷ [])) ≤ row_count r
     by_table true true = omega arith
-    by_table true false = omega arith
+    by_table true false = omega (arith, without_aux-rows r)
     by_table false aux = omega arith
 
 pub xorb_rows : (aux : Bool) (form : Form) (r : MDBXorbInfo)

@@ -4,7 +4,7 @@ use Rattle.xet_base.specs.declared.error.CoreError.{CoreError}
 use Rattle.xet_base.specs.declared.merklehash.DataHash.{DataHash}
 use Rattle.xet_base.specs.Source.{Source, Takes}
 use Rattle.xet_records.specs.declared.file_structs.header.FileDataSequenceHeader.{FileDataSequenceHeader}
-use Rattle.xet_records.specs.declared.file_structs.rows.FileMetadataExt.{FileMetadataExt}
+use Rattle.xet_records.specs.declared.file_structs.rows.HashRow.{HashRow}
 use Rattle.xet_records.specs.declared.file_structs.MDBFileInfo.{MDBFileInfo}
 use Rattle.xet_records.specs.FileRecord.{has_verification, file_records, file_records_in}
 use Rattle.xet_records.specs.declared.record_reader.FormatVersion.{FormatVersion}
@@ -21,13 +21,13 @@ abbrev pub FileRanges : Type 0
 FileRanges = DataHash × (ℕ × ℕ) × Option (ℕ × ℕ) × Option DataHash
 
 -- those of a record whose rows after the header start at an offset
-abbrev pub ranges_after : ℕ → FileDataSequenceHeader → Option FileMetadataExt → FileRanges
+abbrev pub ranges_after : ℕ → FileDataSequenceHeader → Option HashRow → FileRanges
 ranges_after start h metadata_ext =
     let end = start + 48 * h.num_entries in (
       h.file_hash,
       (start, end),
       (if has_verification h.file_flags then Some (end, end + 48 * h.num_entries) else None),
-      option_map (λ m. m.sha256) metadata_ext,
+      option_map (λ row. row.hash) metadata_ext,
     )
 
 -- those of a record at an offset

@@ -1,7 +1,6 @@
 -- A shard: two finite maps, from file hash to file record and from xorb hash to xorb record.
 use Rattle.std.specs.Prelude.{◌≡◌, ◌≤◌, Bool, List, All, refl}
 use Rattle.std.specs.List.{list_any}
-use Rattle.xet_records.specs.Merging.{extended}
 use Rattle.std.specs.FinMap.{FinMap, empty, insert, entries, values}
 use Rattle.std.specs.FinMap as finite
 use Rattle.std.specs.Coded.{Coded, code_by, coded×}
@@ -12,7 +11,7 @@ use Rattle.xet_records.specs.declared.file_structs.MDBFileInfo.{MDBFileInfo}
 use Rattle.xet_records.specs.contracts.file_structs.MDBFileInfo as file
 use Rattle.xet_records.specs.declared.xorb_structs.MDBXorbInfo.{MDBXorbInfo}
 use Rattle.xet_records.specs.contracts.xorb_structs.MDBXorbInfo as xorb
-use Rattle.xet_records.specs.FileRecord.{file_records, IsWellFormed}
+use Rattle.xet_records.specs.FileRecord.{file_records, IsWellFormed, has_aux_ext}
 use Rattle.xet_records.specs.XorbRecord.{xorb_records, IsXorb}
 use Rattle.xet_shards.specs.Section.{total_rows}
 
@@ -81,4 +80,4 @@ pub record CanAddXorb (s : Shard) (r : MDBXorbInfo) : Type 0 where
 
 -- a file of the shard has an auxiliary row, which version 2 does not have
 abbrev pub has_aux_rows : Shard → Bool
-has_aux_rows s = list_any extended (values s.files)
+has_aux_rows s = list_any (λ r. has_aux_ext r.metadata.file_flags) (values s.files)

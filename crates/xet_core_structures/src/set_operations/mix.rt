@@ -1,6 +1,8 @@
 //! A mix of two records of one file, written as both are read.
 
 ghost use Rattle.std.specs.Prelude.{◌≡◌, Some, MatchResult};
+ghost use Rattle.xet_records.specs.FileRow.{hash_row, FitsHashRow, clear};
+ghost use Rattle.xet_records.specs.Part.{part_rows};
 ghost use Rattle.xet_records.specs.FileRecord.{file_records};
 ghost use Rattle.xet_shards.specs.Written.{HasWritten};
 ghost use Rattle.xet_core_structures.specs.SideBySide.{IsRecordHeader, PairFails};
@@ -13,8 +15,7 @@ use xet_base::input::OfSource;
 use xet_base::source::ShardSource;
 use xet_records::file_copier::copy_segments;
 use xet_records::file_structs::{
-    FileAuxExt, FileDataSequenceEntry, FileDataSequenceHeader, FileMetadataExt,
-    FileVerificationEntry, MDBFileInfo,
+    FileDataSequenceEntry, FileDataSequenceHeader, HashRow, MDBFileInfo, OptionalPart,
 };
 use xet_records::input_rows::skip_rows;
 use xet_records::row_copier::{CopyFailure, CopyResult, copy_rows, write_row};
@@ -51,25 +52,32 @@ pub fn mix<S: ShardSource, T: ShardSource, W: Write>(
     write_row(&header, out)?;
     let size = copy_segments::<OfSource, S, W>(r1, out, first.num_entries)?;
     skip_rows::<FileDataSequenceEntry, OfSource, T>(r2, second.num_entries)?;
-    copy_either::<FileVerificationEntry, S, T, W>(
-        r1,
-        first.verification_rows(),
-        r2,
-        second.verification_rows(),
-        out,
-    )?;
-    copy_either::<FileMetadataExt, S, T, W>(
-        r1,
-        first.metadata_rows(),
-        r2,
-        second.metadata_rows(),
-        out,
-    )?;
-    copy_either::<FileAuxExt, S, T, W>(r1, first.aux_rows(), r2, second.aux_rows(), out)?;
+    copy_part::<S, T, W>(&first, r1, &second, r2, OptionalPart::Verification, out)?;
+    copy_part::<S, T, W>(&first, r1, &second, r2, OptionalPart::MetadataExt, out)?;
+    copy_part::<S, T, W>(&first, r1, &second, r2, OptionalPart::AuxExt, out)?;
     match written.add(first.file_hash.word0, rows, size) {
         Ok(()) => Ok(()),
         Err(error) => Err(CopyFailure::Output(error)),
     }
+}
+
+// Copies a part of the first, or if it has no such rows, that of the second.
+fn copy_part<S: ShardSource, T: ShardSource, W: Write>(
+    first: &FileDataSequenceHeader,
+    r1: &mut S,
+    second: &FileDataSequenceHeader,
+    r2: &mut T,
+    part: OptionalPart,
+    out: &mut W,
+) -> CopyResult<()>
+    ensures { MatchResult result
+        (λ _. CopiesEither hash_row FitsHashRow clear (S.meaning r1.old) (S.meaning r1.new)
+        (T.meaning r2.old) (T.meaning r2.new) (part_rows part first.now)
+        (part_rows part second.now) (W.contents out.old) (W.contents out.new))
+        (EitherFails (S.meaning r1.old) (S.meaning r1.new) (T.meaning r2.old) (T.meaning r2.new)
+        (part_rows part first.now) (part_rows part second.now)) }
+{
+    copy_either::<HashRow, S, T, W>(r1, first.part_rows(part), r2, second.part_rows(part), out)
 }
 
 // Copies the rows of the first, or if it has none, those of the second, and reads past the others.

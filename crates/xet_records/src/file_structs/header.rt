@@ -1,18 +1,16 @@
 //! The header row of a file record.
 
-ghost use Rattle.std.specs.Prelude.{◌≡◌, false, ◌^◌, ◌<◌, ◌≤◌, ◌↔◌, if◌then◌else◌, IsTrue, IfOk, MatchResult, IfErr};
+ghost use Rattle.std.specs.Prelude.{◌≡◌, ◌+◌, ◌^◌, ◌<◌, ◌≤◌, ◌&&◌, not, false, ◌↔◌, if◌then◌else◌, IsTrue, IfOk, MatchResult, IfErr};
 ghost use Rattle.xet_base.specs.Errors.{IsNoEnd};
 ghost use Rattle.xet_base.specs.Hash.{all_ones};
 ghost use Rattle.xet_records.specs.FileRow.{header_row, FitsHeader};
-ghost use Rattle.xet_records.specs.FileRecord.{has_verification, has_metadata_ext, has_aux_ext, flags_of, with_aux_flag, file_bookend, rows_after};
+ghost use Rattle.xet_records.specs.Part.{bit_of, announces, flags_of, these_parts, with_flag, part_rows, rows_before, optional_rows_after};
+ghost use Rattle.xet_records.specs.FileRecord.{has_verification, has_metadata_ext, has_aux_ext, file_bookend, rows_after};
 ghost use Rattle.xet_records.specs.Rows.{WritesRow, ReadsWhole, LacksRow};
 ghost use Rattle.xet_records.specs.Merging.{Compares, IsSameFile, mixed_header};
 
-use super::{
-    MDB_DEFAULT_FILE_FLAG, MDB_FILE_FLAG_AUX_EXT_MASK, MDB_FILE_FLAG_METADATA_EXT_MASK,
-    MDB_FILE_FLAG_VERIFICATION_MASK, MDB_FILE_FLAG_WITH_AUX_EXT, MDB_FILE_FLAG_WITH_METADATA_EXT,
-    MDB_FILE_FLAG_WITH_VERIFICATION, MDB_FILE_INFO_ENTRY_SIZE,
-};
+use super::part::OptionalPart;
+use super::{MDB_DEFAULT_FILE_FLAG, MDB_FILE_FLAG_WITH_AUX_EXT, MDB_FILE_INFO_ENTRY_SIZE};
 use crate::rows::{Row, read_row, write_row};
 use std::io;
 use std::io::{Read, Write};
@@ -38,24 +36,42 @@ impl FileDataSequenceHeader {
     ) -> Self
         ensures { result ≡ record {
           file_hash = file_hash;
-          file_flags = flags_of contains_verification contains_metadata_ext false;
+          file_flags = flags_of (these_parts contains_verification contains_metadata_ext false);
           num_entries = num_entries;
           _unused = 0;
         } }
     {
-        let verification = if contains_verification {
-            MDB_FILE_FLAG_WITH_VERIFICATION
-        } else {
-            0
-        };
-        let metadata_ext = if contains_metadata_ext {
-            MDB_FILE_FLAG_WITH_METADATA_EXT
-        } else {
-            0
-        };
+        FileDataSequenceHeader::with_parts(
+            file_hash,
+            num_entries,
+            contains_verification,
+            contains_metadata_ext,
+            false,
+        )
+    }
+
+    // The same with any of the optional parts.
+    pub(crate) fn with_parts(
+        file_hash: MerkleHash,
+        num_entries: u32,
+        contains_verification: bool,
+        contains_metadata_ext: bool,
+        contains_aux_ext: bool,
+    ) -> Self
+        ensures { result ≡ record {
+          file_hash = file_hash;
+          file_flags = flags_of
+              (these_parts contains_verification contains_metadata_ext contains_aux_ext);
+          num_entries = num_entries;
+          _unused = 0;
+        } }
+    {
         FileDataSequenceHeader {
             file_hash,
-            file_flags: MDB_DEFAULT_FILE_FLAG + verification + metadata_ext,
+            file_flags: MDB_DEFAULT_FILE_FLAG
+                + OptionalPart::Verification.flag_if(contains_verification)
+                + OptionalPart::MetadataExt.flag_if(contains_metadata_ext)
+                + OptionalPart::AuxExt.flag_if(contains_aux_ext),
             num_entries,
             _unused: 0,
         }
@@ -63,21 +79,17 @@ impl FileDataSequenceHeader {
 
     /// The header with the flag of an auxiliary row set or cleared, and all else as it is.
     pub fn with_aux_ext(self, contains_aux_ext: bool) -> Self
-        ensures { result
-            ≡ record self { file_flags = with_aux_flag contains_aux_ext self.file_flags } }
+        ensures { result ≡ record self {
+          file_flags = with_flag OptionalPart.AuxExt contains_aux_ext self.file_flags;
+        } }
     {
         let others = if self.contains_aux_ext() {
             self.file_flags - MDB_FILE_FLAG_WITH_AUX_EXT
         } else {
             self.file_flags
         };
-        let aux_ext = if contains_aux_ext {
-            MDB_FILE_FLAG_WITH_AUX_EXT
-        } else {
-            0
-        };
         FileDataSequenceHeader {
-            file_flags: others + aux_ext,
+            file_flags: others + OptionalPart::AuxExt.flag_if(contains_aux_ext),
             ..self
         }
     }
@@ -101,28 +113,34 @@ impl FileDataSequenceHeader {
         self.file_hash == MerkleHash::from([u64::MAX; 4])
     }
 
+    // Whether the flags announce a part.
+    #[tactic(auto, using(crate::proofs::Flags::masked))]
+    #[inline(always)]
+    pub(crate) fn contains(&self, part: OptionalPart) -> bool
+        ensures { result ≡ announces self.now.file_flags part }
+    {
+        self.file_flags & part.flag() != 0
+    }
+
     /// Whether each segment has a verification row.
-    #[tactic(auto, using(crate::proofs::Flags::verification_masked))]
     pub fn contains_verification(&self) -> bool
         ensures { result ≡ has_verification self.now.file_flags }
     {
-        self.file_flags & MDB_FILE_FLAG_VERIFICATION_MASK != 0
+        self.contains(OptionalPart::Verification)
     }
 
     /// Whether the record has a metadata row.
-    #[tactic(auto, using(crate::proofs::Flags::metadata_ext_masked))]
     pub fn contains_metadata_ext(&self) -> bool
         ensures { result ≡ has_metadata_ext self.now.file_flags }
     {
-        self.file_flags & MDB_FILE_FLAG_METADATA_EXT_MASK != 0
+        self.contains(OptionalPart::MetadataExt)
     }
 
     /// Whether the record ends in an auxiliary row.
-    #[tactic(auto, using(crate::proofs::Flags::aux_ext_masked))]
     pub fn contains_aux_ext(&self) -> bool
         ensures { result ≡ has_aux_ext self.now.file_flags }
     {
-        self.file_flags & MDB_FILE_FLAG_AUX_EXT_MASK != 0
+        self.contains(OptionalPart::AuxExt)
     }
 
     /// Appends the row and returns 48, the number of bytes. The error is the writer's.
@@ -149,7 +167,7 @@ impl FileDataSequenceHeader {
         requires { rows_after self.now < 2 ^ 32 }
         ensures { result ≡ rows_after self.now }
     {
-        self.num_entries + self.verification_rows() + self.metadata_rows() + self.aux_rows()
+        self.rows_after() as u32
     }
 
     /// The number of rows after the header, which may not fit `u32`.
@@ -157,9 +175,44 @@ impl FileDataSequenceHeader {
         ensures rows { result ≡ rows_after self.now }
         ensures bound { result ≤ 2 ^ 33 }
     {
-        u64::from(self.num_entries)
-            + u64::from(self.verification_rows())
-            + u64::from(self.metadata_rows() + self.aux_rows())
+        u64::from(self.num_entries) + self.optional_rows()
+    }
+
+    /// The number of rows of a part that the header announces.
+    #[inline(always)]
+    pub fn part_rows(&self, part: OptionalPart) -> u32
+        ensures { result ≡ part_rows part self.now }
+    {
+        if self.contains(part) {
+            part.size(self.num_entries)
+        } else {
+            0
+        }
+    }
+
+    // The number of rows of all optional parts.
+    pub(crate) fn optional_rows(&self) -> u64
+        ensures rows { result ≡ optional_rows_after self.now }
+        ensures bound { result ≤ self.now.num_entries + 2 }
+    {
+        u64::from(self.part_rows(OptionalPart::Verification))
+            + u64::from(self.part_rows(OptionalPart::MetadataExt))
+            + u64::from(self.part_rows(OptionalPart::AuxExt))
+    }
+
+    // The number of rows of the optional parts before one of them.
+    pub(crate) fn rows_before(&self, part: OptionalPart) -> usize
+        ensures rows { result ≡ rows_before part self.now }
+        ensures bound { result < 2 ^ 33 }
+    {
+        match part {
+            OptionalPart::Verification => 0,
+            OptionalPart::MetadataExt => self.part_rows(OptionalPart::Verification) as usize,
+            OptionalPart::AuxExt => {
+                self.part_rows(OptionalPart::Verification) as usize
+                    + self.part_rows(OptionalPart::MetadataExt) as usize
+            }
+        }
     }
 
     /// The number of verification rows that the header announces.
@@ -167,40 +220,63 @@ impl FileDataSequenceHeader {
         ensures { result
             ≡ (if has_verification self.now.file_flags then self.now.num_entries else 0) }
     {
-        if self.contains_verification() {
-            self.num_entries
-        } else {
-            0
-        }
+        self.part_rows(OptionalPart::Verification)
     }
 
     /// The number of metadata rows that the header announces, 1 or 0.
     pub fn metadata_rows(&self) -> u32
         ensures { result ≡ (if has_metadata_ext self.now.file_flags then 1 else 0) }
     {
-        if self.contains_metadata_ext() { 1 } else { 0 }
+        self.part_rows(OptionalPart::MetadataExt)
+    }
+
+    // The flags with those of each part that only `other` announces.
+    pub(crate) fn merged_flags(&self, other: &Self) -> u32
+        ensures { result ≡ self.now.file_flags + flags_of
+            (λ part. announces other.now.file_flags part
+            && not (announces self.now.file_flags part)) }
+    {
+        self.file_flags
+            + self.gained_flag(other, OptionalPart::Verification)
+            + self.gained_flag(other, OptionalPart::MetadataExt)
+            + self.gained_flag(other, OptionalPart::AuxExt)
+    }
+
+    // Whether only `other` announces a part.
+    pub(crate) fn gains(&self, other: &Self, part: OptionalPart) -> bool
+        ensures { result ≡ (announces other.now.file_flags part
+            && not (announces self.now.file_flags part)) }
+    {
+        other.contains(part) & !self.contains(part)
+    }
+
+    // The flag of a part if only `other` announces it, else 0.
+    fn gained_flag(&self, other: &Self, part: OptionalPart) -> u32
+        ensures { result ≡ (if announces other.now.file_flags part
+            && not (announces self.now.file_flags part) then 2 ^ bit_of part else 0) }
+    {
+        part.flag_if(self.gains(other, part))
     }
 
     /// The number of auxiliary rows that the header announces, 1 or 0.
     pub fn aux_rows(&self) -> u32
         ensures { result ≡ (if has_aux_ext self.now.file_flags then 1 else 0) }
     {
-        if self.contains_aux_ext() { 1 } else { 0 }
+        self.part_rows(OptionalPart::AuxExt)
     }
 
     /// The header of a mix of two records of one file: the flags of the parts that either
     /// announces, no others, and a zero reserved word.
-    #[tactic(auto, using(crate::proofs::Merging::aux_flag_added))]
     pub fn mixed(&self, other: &Self) -> Self
         ensures { result ≡ mixed_header self.now other.now }
     {
-        FileDataSequenceHeader::new(
+        FileDataSequenceHeader::with_parts(
             self.file_hash,
             self.num_entries,
             self.contains_verification() | other.contains_verification(),
             self.contains_metadata_ext() | other.contains_metadata_ext(),
+            self.contains_aux_ext() | other.contains_aux_ext(),
         )
-        .with_aux_ext(self.contains_aux_ext() | other.contains_aux_ext())
     }
 
     /// Whether both headers have the same hash and the same number of segments.

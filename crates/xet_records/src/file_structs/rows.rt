@@ -2,7 +2,7 @@
 
 ghost use Rattle.std.specs.Prelude.{◌≡◌, ◌^◌, ◌<◌, [], ◌∷◌, length, IfOk, MatchResult, IfErr};
 ghost use Rattle.xet_base.specs.Errors.{IsNoEnd};
-ghost use Rattle.xet_records.specs.FileRow.{segment_row, verification_row, metadata_row, aux_row, FitsSegment, FitsVerification, FitsMetadata, FitsAux, clear_verification, clear_metadata, clear_aux};
+ghost use Rattle.xet_records.specs.FileRow.{segment_row, hash_row, FitsSegment, FitsHashRow, clear};
 ghost use Rattle.xet_records.specs.XorbRecord.{total_bytes, segment_of};
 ghost use Rattle.xet_records.specs.Rows.{WritesRow, ReadsWhole, ReadsCleared, LacksRow};
 
@@ -11,6 +11,7 @@ use crate::rows::{Row, read_row, write_row};
 use crate::xorb_structs::{XorbChunkSequenceEntry, XorbChunkSequenceHeader};
 use std::io;
 use std::io::{Read, Write};
+use std::marker::Model;
 use xet_base::merklehash::{MerkleHash, Sha256};
 use xet_base::row::{put_hash, put_u32, put_u64, split_hash, split_u32, split_u64};
 
@@ -139,71 +140,39 @@ impl Row for FileDataSequenceEntry {
     fn widths(self) {}
 }
 
-/// The hash over a segment's chunks, for verifying them.
+/// What each row of an optional part is: a hash, and sixteen bytes that are read as zero.
 #[derive(Clone, Copy, Default, Debug, PartialEq, Eq)]
-pub struct FileVerificationEntry {
-    pub range_hash: MerkleHash,
+pub struct HashRow {
+    pub hash: MerkleHash,
     pub _unused: [u64; 2],
 }
 
-impl FileVerificationEntry {
-    /// A row of this hash, with zero reserved words.
-    pub fn new(range_hash: MerkleHash) -> Self
-        ensures { result ≡ record { range_hash = range_hash; _unused = 0 ∷ 0 ∷ [] } }
-    {
-        FileVerificationEntry {
-            range_hash,
-            _unused: [0; 2],
-        }
-    }
+impl Row for HashRow {
+    ghost row_bytes = { hash_row };
 
-    /// Appends the row and returns 48, the number of bytes. The error is the writer's.
-    pub fn serialize<W: Write>(&self, writer: &mut W) -> io::Result<usize>
-        ensures bytes { IfOk result
-            (WritesRow (W.contents writer.old) (W.contents writer.new)
-            (verification_row self.now)) }
-        ensures causes { IfErr result IsNoEnd }
-    {
-        write_row(self, writer)?;
-        Ok(MDB_FILE_INFO_ENTRY_SIZE)
-    }
+    ghost Fits = { FitsHashRow };
 
-    /// Reads the row, and sets its reserved words to zero. `UnexpectedEof` if fewer than 48 bytes
-    /// are left.
-    pub fn deserialize<R: Read>(reader: &mut R) -> io::Result<Self>
-        ensures { MatchResult result
-            (ReadsCleared verification_row FitsVerification clear_verification
-            (R.remaining reader.old) (R.remaining reader.new))
-            (LacksRow (R.remaining reader.old)) }
-    {
-        read_row(reader)
-    }
-}
+    ghost handed_out = { clear };
 
-impl Row for FileVerificationEntry {
-    ghost row_bytes = { verification_row };
-
-    ghost Fits = { FitsVerification };
-
-    ghost handed_out = { clear_verification };
-
-    #[tactic(auto, unfolding(crate::specs::FileRow::verification_row))]
+    #[tactic(auto, unfolding(crate::specs::FileRow::hash_row))]
     #[inline(always)]
     fn to_bytes(&self) -> [u8; 48] {
         let mut row = [0u8; 48];
-        let at = put_hash(&mut row, 0, &self.range_hash);
+        let at = put_hash(&mut row, 0, &self.hash);
         let at = put_u64(&mut row, at, self._unused[0]);
         put_u64(&mut row, at, self._unused[1]);
         row
     }
 
-    #[tactic(auto, unfolding(crate::specs::FileRow::verification_row))]
     #[inline(always)]
     fn from_bytes(bytes: &[u8; 48]) -> Self {
-        let (range_hash, rest) = split_hash(bytes);
+        let (hash, rest) = split_hash(bytes);
         let (_first, rest) = split_u64(rest);
         let (_second, _) = split_u64(rest);
-        FileVerificationEntry::new(range_hash)
+        HashRow {
+            hash,
+            _unused: [0; 2],
+        }
     }
 
     fn widths(self) {
@@ -220,28 +189,48 @@ fn two_words(words: &[u64]) -> (u64, u64)
     (words[0], words[1])
 }
 
-/// The file's SHA-256.
+/// The hash over a segment's chunks, for verifying them. Contracts see it as a `HashRow`.
 #[derive(Clone, Copy, Default, Debug, PartialEq, Eq)]
-pub struct FileMetadataExt {
-    pub sha256: Sha256,
+pub struct FileVerificationEntry {
+    pub range_hash: MerkleHash,
     pub _unused: [u64; 2],
 }
 
-impl FileMetadataExt {
-    /// A row of this SHA-256, with zero reserved words.
-    pub fn new(sha256: Sha256) -> Self
-        ensures { result ≡ record { sha256 = sha256; _unused = 0 ∷ 0 ∷ [] } }
+impl Model for FileVerificationEntry {
+    ghost use Rattle.xet_records.specs.declared.file_structs.rows.HashRow.{HashRow};
+
+    ghost Value = { HashRow };
+
+    ghost view = { λ row. record { hash = row.range_hash; _unused = row._unused } };
+
+    ghost inverse = { λ row. record { range_hash = row.hash; _unused = row._unused } };
+}
+
+impl FileVerificationEntry {
+    /// A row of this hash, with zero reserved words.
+    pub fn new(range_hash: MerkleHash) -> Self
+        ensures { result ≡ record { hash = range_hash; _unused = 0 ∷ 0 ∷ [] } }
     {
-        FileMetadataExt {
-            sha256,
+        FileVerificationEntry {
+            range_hash,
             _unused: [0; 2],
+        }
+    }
+
+    #[inline(always)]
+    fn row(&self) -> HashRow
+        ensures { result ≡ self.now }
+    {
+        HashRow {
+            hash: self.range_hash,
+            _unused: self._unused,
         }
     }
 
     /// Appends the row and returns 48, the number of bytes. The error is the writer's.
     pub fn serialize<W: Write>(&self, writer: &mut W) -> io::Result<usize>
         ensures bytes { IfOk result
-            (WritesRow (W.contents writer.old) (W.contents writer.new) (metadata_row self.now)) }
+            (WritesRow (W.contents writer.old) (W.contents writer.new) (hash_row self.now)) }
         ensures causes { IfErr result IsNoEnd }
     {
         write_row(self, writer)?;
@@ -252,7 +241,89 @@ impl FileMetadataExt {
     /// are left.
     pub fn deserialize<R: Read>(reader: &mut R) -> io::Result<Self>
         ensures { MatchResult result
-            (ReadsCleared metadata_row FitsMetadata clear_metadata (R.remaining reader.old)
+            (ReadsCleared hash_row FitsHashRow clear (R.remaining reader.old)
+            (R.remaining reader.new))
+            (LacksRow (R.remaining reader.old)) }
+    {
+        read_row(reader)
+    }
+}
+
+impl Row for FileVerificationEntry {
+    ghost row_bytes = { hash_row };
+
+    ghost Fits = { FitsHashRow };
+
+    ghost handed_out = { clear };
+
+    #[inline(always)]
+    fn to_bytes(&self) -> [u8; 48] {
+        self.row().to_bytes()
+    }
+
+    #[inline(always)]
+    fn from_bytes(bytes: &[u8; 48]) -> Self {
+        FileVerificationEntry::new(HashRow::from_bytes(bytes).hash)
+    }
+
+    fn widths(self) {
+        self.row().widths();
+    }
+}
+
+/// The file's SHA-256. Contracts see it as a `HashRow`.
+#[derive(Clone, Copy, Default, Debug, PartialEq, Eq)]
+pub struct FileMetadataExt {
+    pub sha256: Sha256,
+    pub _unused: [u64; 2],
+}
+
+impl Model for FileMetadataExt {
+    ghost use Rattle.xet_records.specs.declared.file_structs.rows.HashRow.{HashRow};
+
+    ghost Value = { HashRow };
+
+    ghost view = { λ row. record { hash = row.sha256; _unused = row._unused } };
+
+    ghost inverse = { λ row. record { sha256 = row.hash; _unused = row._unused } };
+}
+
+impl FileMetadataExt {
+    /// A row of this SHA-256, with zero reserved words.
+    pub fn new(sha256: Sha256) -> Self
+        ensures { result ≡ record { hash = sha256; _unused = 0 ∷ 0 ∷ [] } }
+    {
+        FileMetadataExt {
+            sha256,
+            _unused: [0; 2],
+        }
+    }
+
+    #[inline(always)]
+    fn row(&self) -> HashRow
+        ensures { result ≡ self.now }
+    {
+        HashRow {
+            hash: self.sha256,
+            _unused: self._unused,
+        }
+    }
+
+    /// Appends the row and returns 48, the number of bytes. The error is the writer's.
+    pub fn serialize<W: Write>(&self, writer: &mut W) -> io::Result<usize>
+        ensures bytes { IfOk result
+            (WritesRow (W.contents writer.old) (W.contents writer.new) (hash_row self.now)) }
+        ensures causes { IfErr result IsNoEnd }
+    {
+        write_row(self, writer)?;
+        Ok(MDB_FILE_INFO_ENTRY_SIZE)
+    }
+
+    /// Reads the row, and sets its reserved words to zero. `UnexpectedEof` if fewer than 48 bytes
+    /// are left.
+    pub fn deserialize<R: Read>(reader: &mut R) -> io::Result<Self>
+        ensures { MatchResult result
+            (ReadsCleared hash_row FitsHashRow clear (R.remaining reader.old)
             (R.remaining reader.new))
             (LacksRow (R.remaining reader.old)) }
     {
@@ -261,47 +332,49 @@ impl FileMetadataExt {
 }
 
 impl Row for FileMetadataExt {
-    ghost row_bytes = { metadata_row };
+    ghost row_bytes = { hash_row };
 
-    ghost Fits = { FitsMetadata };
+    ghost Fits = { FitsHashRow };
 
-    ghost handed_out = { clear_metadata };
+    ghost handed_out = { clear };
 
-    #[tactic(auto, unfolding(crate::specs::FileRow::metadata_row))]
     #[inline(always)]
     fn to_bytes(&self) -> [u8; 48] {
-        let mut row = [0u8; 48];
-        let at = put_hash(&mut row, 0, &self.sha256);
-        let at = put_u64(&mut row, at, self._unused[0]);
-        put_u64(&mut row, at, self._unused[1]);
-        row
+        self.row().to_bytes()
     }
 
-    #[tactic(auto, unfolding(crate::specs::FileRow::metadata_row))]
     #[inline(always)]
     fn from_bytes(bytes: &[u8; 48]) -> Self {
-        let (sha256, rest) = split_hash(bytes);
-        let (_first, rest) = split_u64(rest);
-        let (_second, _) = split_u64(rest);
-        FileMetadataExt::new(sha256)
+        FileMetadataExt::new(HashRow::from_bytes(bytes).hash)
     }
 
     fn widths(self) {
-        two_words(&self._unused);
+        self.row().widths();
     }
 }
 
 /// The auxiliary row: a further hash of the file. Version 2 of the format does not have it.
+/// Contracts see it as a `HashRow`.
 #[derive(Clone, Copy, Default, Debug, PartialEq, Eq)]
 pub struct FileAuxExt {
     pub aux_hash: MerkleHash,
     pub _unused: [u64; 2],
 }
 
+impl Model for FileAuxExt {
+    ghost use Rattle.xet_records.specs.declared.file_structs.rows.HashRow.{HashRow};
+
+    ghost Value = { HashRow };
+
+    ghost view = { λ row. record { hash = row.aux_hash; _unused = row._unused } };
+
+    ghost inverse = { λ row. record { aux_hash = row.hash; _unused = row._unused } };
+}
+
 impl FileAuxExt {
     /// A row of this hash, with zero reserved words.
     pub fn new(aux_hash: MerkleHash) -> Self
-        ensures { result ≡ record { aux_hash = aux_hash; _unused = 0 ∷ 0 ∷ [] } }
+        ensures { result ≡ record { hash = aux_hash; _unused = 0 ∷ 0 ∷ [] } }
     {
         FileAuxExt {
             aux_hash,
@@ -309,10 +382,20 @@ impl FileAuxExt {
         }
     }
 
+    #[inline(always)]
+    fn row(&self) -> HashRow
+        ensures { result ≡ self.now }
+    {
+        HashRow {
+            hash: self.aux_hash,
+            _unused: self._unused,
+        }
+    }
+
     /// Appends the row and returns 48, the number of bytes. The error is the writer's.
     pub fn serialize<W: Write>(&self, writer: &mut W) -> io::Result<usize>
         ensures bytes { IfOk result
-            (WritesRow (W.contents writer.old) (W.contents writer.new) (aux_row self.now)) }
+            (WritesRow (W.contents writer.old) (W.contents writer.new) (hash_row self.now)) }
         ensures causes { IfErr result IsNoEnd }
     {
         write_row(self, writer)?;
@@ -323,7 +406,7 @@ impl FileAuxExt {
     /// are left.
     pub fn deserialize<R: Read>(reader: &mut R) -> io::Result<Self>
         ensures { MatchResult result
-            (ReadsCleared aux_row FitsAux clear_aux (R.remaining reader.old)
+            (ReadsCleared hash_row FitsHashRow clear (R.remaining reader.old)
             (R.remaining reader.new))
             (LacksRow (R.remaining reader.old)) }
     {
@@ -332,32 +415,23 @@ impl FileAuxExt {
 }
 
 impl Row for FileAuxExt {
-    ghost row_bytes = { aux_row };
+    ghost row_bytes = { hash_row };
 
-    ghost Fits = { FitsAux };
+    ghost Fits = { FitsHashRow };
 
-    ghost handed_out = { clear_aux };
+    ghost handed_out = { clear };
 
-    #[tactic(auto, unfolding(crate::specs::FileRow::aux_row))]
     #[inline(always)]
     fn to_bytes(&self) -> [u8; 48] {
-        let mut row = [0u8; 48];
-        let at = put_hash(&mut row, 0, &self.aux_hash);
-        let at = put_u64(&mut row, at, self._unused[0]);
-        put_u64(&mut row, at, self._unused[1]);
-        row
+        self.row().to_bytes()
     }
 
-    #[tactic(auto, unfolding(crate::specs::FileRow::aux_row))]
     #[inline(always)]
     fn from_bytes(bytes: &[u8; 48]) -> Self {
-        let (aux_hash, rest) = split_hash(bytes);
-        let (_first, rest) = split_u64(rest);
-        let (_second, _) = split_u64(rest);
-        FileAuxExt::new(aux_hash)
+        FileAuxExt::new(HashRow::from_bytes(bytes).hash)
     }
 
     fn widths(self) {
-        two_words(&self._unused);
+        self.row().widths();
     }
 }

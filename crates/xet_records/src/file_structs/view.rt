@@ -1,18 +1,19 @@
 //! A file record as a view of its bytes.
 
-ghost use Rattle.std.specs.Prelude.{◌≡◌, ◌≢◌, ◌⊎◌, ◌+◌, ◌*◌, ◌^◌, ◌<◌, ◌≤◌, nat_eq, slice_get, option_map, option_to_list, Some, IsTrue, length, take, MatchResult, OnOk, IfOk, IfErr, IsErrAnd};
+ghost use Rattle.std.specs.Prelude.{◌≡◌, ◌≢◌, ◌⊎◌, ◌+◌, ◌*◌, ◌^◌, ◌<◌, ◌≤◌, nat_eq, slice_get, flat_map, option_map, Some, IsTrue, length, take, MatchResult, OnOk, IfOk, IfErr, IsErrAnd};
 ghost use Rattle.std.specs.Cmp.{partial_equiv_from_equiv};
 ghost use Rattle.std.specs.Cmp.Lexicographic.{pointwise, on_texts_equal};
 ghost use Rattle.std.specs.Ordering.{on};
 ghost use Rattle.std.specs.Io.KnownBytes.{Appends};
 ghost use Rattle.xet_base.specs.Errors.{IsWriteError, IsNoEnd};
-ghost use Rattle.xet_records.specs.FileRow.{header_row, clear_verification, clear_metadata, clear_aux};
+ghost use Rattle.xet_records.specs.FileRow.{header_row, hash_row, clear};
+ghost use Rattle.xet_records.specs.Part.{rows_of, rows_before};
 ghost use Rattle.xet_records.specs.FileRecord.{has_verification, has_metadata_ext, has_aux_ext, row_count, file_record_bytes, handed_out, file_records};
-ghost use Rattle.xet_records.specs.View.{BeginsWithHeaderRow, BeginsWithFile, NoView, without_verification, as_wanted, as_kept, LacksVerification, IsIoOther};
+ghost use Rattle.xet_records.specs.View.{BeginsWithHeaderRow, BeginsWithFile, NoView, without_verification, as_wanted, as_kept, keeps, LacksVerification, IsIoOther};
 
 use super::{
     FileAuxExt, FileDataSequenceEntry, FileDataSequenceHeader, FileMetadataExt,
-    FileVerificationEntry, MDB_FILE_INFO_ENTRY_SIZE, MDBFileInfo,
+    FileVerificationEntry, MDB_FILE_INFO_ENTRY_SIZE, MDBFileInfo, OptionalPart,
 };
 use crate::record_bytes;
 use crate::rows::{Row, write_row};
@@ -31,6 +32,19 @@ use xet_base::serialization_utils::write_bytes;
 pub struct KeptParts {
     pub verification: bool,
     pub aux_ext: bool,
+}
+
+impl KeptParts {
+    // Whether the rows of a part are written.
+    fn keeps(self, part: OptionalPart) -> bool
+        ensures { result ≡ keeps self part }
+    {
+        match part {
+            OptionalPart::Verification => self.verification,
+            OptionalPart::MetadataExt => true,
+            OptionalPart::AuxExt => self.aux_ext,
+        }
+    }
 }
 
 /// A file record as its bytes. Contracts see the record that the bytes are, its reserved words as
@@ -166,36 +180,41 @@ impl MDBFileInfoView {
     /// there is one.
     pub fn verification(&self, index: usize) -> FileVerificationEntry
         requires { index < length self.now.verification }
-        ensures { option_map clear_verification (slice_get self.now.verification index)
+        ensures { option_map clear (slice_get self.now.verification index)
             ≡ Some result }
     {
-        record_bytes::row(self.bytes.as_slice(), 1 + self.num_entries() + index)
+        let start = self.start_of(OptionalPart::Verification);
+        record_bytes::row(self.bytes.as_slice(), start + index)
     }
 
     /// The metadata row, if there is one, with zero reserved words.
     pub fn metadata_ext(&self) -> Option<FileMetadataExt>
-        ensures { result ≡ option_map clear_metadata self.now.metadata_ext }
+        ensures { result ≡ option_map clear self.now.metadata_ext }
     {
         let bytes = self.bytes.as_slice();
         if !self.header.contains_metadata_ext() {
             return None;
         }
-        let index = 1 + self.num_entries() + self.header.verification_rows() as usize;
-        Some(record_bytes::row(bytes, index))
+        Some(record_bytes::row(bytes, self.start_of(OptionalPart::MetadataExt)))
     }
 
     /// The auxiliary row, if there is one, with zero reserved words.
     pub fn aux_ext(&self) -> Option<FileAuxExt>
-        ensures { result ≡ option_map clear_aux self.now.aux_ext }
+        ensures { result ≡ option_map clear self.now.aux_ext }
     {
         let bytes = self.bytes.as_slice();
         if !self.header.contains_aux_ext() {
             return None;
         }
-        let verification = self.header.verification_rows() as usize;
-        let metadata = self.header.metadata_rows() as usize;
-        let index = 1 + self.num_entries() + verification + metadata;
-        Some(record_bytes::row(bytes, index))
+        Some(record_bytes::row(bytes, self.start_of(OptionalPart::AuxExt)))
+    }
+
+    // The index of a part's first row, or where it would be.
+    fn start_of(&self, part: OptionalPart) -> usize
+        ensures rows { result ≡ 1 + length self.now.segments + rows_before part self.now.metadata }
+        ensures bound { result ≤ 2 ^ 34 }
+    {
+        1 + self.header.num_entries as usize + self.header.rows_before(part)
     }
 
     /// The size in bytes of the record as `serialize` writes it.
@@ -213,35 +232,24 @@ impl MDBFileInfoView {
         ensures { result ≡ 48 * row_count (as_kept kept self.now) }
     {
         let segments = self.header.num_entries as usize;
-        let rows = 1 + segments + self.verification_rows(kept) + self.last_rows(kept);
+        let rows = 1
+            + segments
+            + self.kept_rows(kept, OptionalPart::Verification)
+            + self.kept_rows(kept, OptionalPart::MetadataExt)
+            + self.kept_rows(kept, OptionalPart::AuxExt);
         rows * MDB_FILE_INFO_ENTRY_SIZE
     }
 
-    // The number of verification rows that are kept.
-    fn verification_rows(&self, kept: KeptParts) -> usize
-        ensures rows { result ≡ length (as_kept kept self.now).verification }
+    // The number of rows of a part that are written.
+    fn kept_rows(&self, kept: KeptParts, part: OptionalPart) -> usize
+        ensures rows { result ≡ length (rows_of part (as_kept kept self.now)) }
         ensures bound { result < 2 ^ 32 }
     {
-        if kept.verification {
-            self.header.verification_rows() as usize
+        if kept.keeps(part) {
+            self.header.part_rows(part) as usize
         } else {
             0
         }
-    }
-
-    // The number of metadata and auxiliary rows that are kept, at most 2.
-    fn last_rows(&self, kept: KeptParts) -> usize
-        ensures rows { result
-            ≡ length (option_to_list self.now.metadata_ext)
-            + length (option_to_list (as_kept kept self.now).aux_ext) }
-        ensures bound { result ≤ 2 }
-    {
-        let aux = if kept.aux_ext {
-            self.header.aux_rows()
-        } else {
-            0
-        };
-        (self.header.metadata_rows() + aux) as usize
     }
 
     /// Appends the record and returns its size in bytes. If verification rows are not wanted, a
@@ -307,13 +315,32 @@ impl MDBFileInfoView {
     {
         let header = self.kept_header(kept);
         write_row(&header, writer)?;
+        let segments = record_bytes::part(self.bytes.as_slice(), 1, self.num_entries());
+        write_bytes(writer, segments)?;
+        self.write_part(writer, kept, OptionalPart::Verification)?;
+        self.write_part(writer, kept, OptionalPart::MetadataExt)?;
+        self.write_part(writer, kept, OptionalPart::AuxExt)?;
+        Ok(())
+    }
+
+    // Appends the rows of a part if they are kept.
+    fn write_part<W: Write>(
+        &self,
+        writer: &mut W,
+        kept: KeptParts,
+        part: OptionalPart,
+    ) -> io::Result<()>
+        ensures bytes { OnOk result
+            (Appends (W.contents writer.old) (W.contents writer.new)
+            (flat_map hash_row (rows_of part (as_kept kept self.now)))) }
+        ensures causes { IfErr result IsNoEnd }
+    {
+        let rows = self.kept_rows(kept, part);
+        if rows == 0 {
+            return Ok(());
+        }
         let bytes = self.bytes.as_slice();
-        let segments = self.num_entries();
-        let first = segments + self.verification_rows(kept);
-        write_bytes(writer, record_bytes::part(bytes, 1, first))?;
-        let after = 1 + segments + self.header.verification_rows() as usize;
-        let last = self.last_rows(kept);
-        write_bytes(writer, record_bytes::part(bytes, after, last))?;
+        write_bytes(writer, record_bytes::part(bytes, self.start_of(part), rows))?;
         Ok(())
     }
 
@@ -337,13 +364,13 @@ impl MDBFileInfoView {
     fn header_without_verification(&self) -> FileDataSequenceHeader
         ensures { result ≡ (without_verification self.now).metadata }
     {
-        FileDataSequenceHeader::new(
+        FileDataSequenceHeader::with_parts(
             self.header.file_hash,
             self.header.num_entries,
             false,
             self.header.contains_metadata_ext(),
+            self.header.contains_aux_ext(),
         )
-        .with_aux_ext(self.header.contains_aux_ext())
     }
 
     /// The bytes of the record. `OutOfMemory` is the only error.
@@ -362,11 +389,12 @@ impl MDBFileInfoView {
     {
         let bytes = self.bytes.as_slice();
         let segments = self.num_entries();
-        let verification = self.header.verification_rows() as usize;
+        let start = self.start_of(OptionalPart::Verification);
+        let count = self.header.part_rows(OptionalPart::Verification) as usize;
         Ok(MDBFileInfo {
             metadata: self.header,
             segments: record_bytes::rows(alloc, bytes, 1, segments)?,
-            verification: record_bytes::rows(alloc, bytes, 1 + segments, verification)?,
+            verification: record_bytes::rows(alloc, bytes, start, count)?,
             metadata_ext: self.metadata_ext(),
             aux_ext: self.aux_ext(),
         })

@@ -8,6 +8,8 @@ ghost use Rattle.xet_base.specs.declared.merklehash.DataHash.{DataHash};
 ghost use Rattle.xet_base.specs.Hash.{hash_cmp};
 ghost use Rattle.xet_records.specs.FileRecord.{row_count, FitsItsHeader, FitsRecord, IsWellFormed};
 ghost use Rattle.xet_records.specs.Merging.{IsSameFile, merged};
+ghost use Rattle.xet_records.specs.Part.{announces, flags_of, rows_of, optional_rows};
+ghost use Rattle.xet_shards.specs.FileStore.{HasAnnounced, AreClear};
 ghost use Rattle.xet_shards.specs.Shard.{AreFiles, file_hash_of};
 ghost use Rattle.xet_shards.specs.Joining.{but, entry, CanJoinFile, CanJoinFiles, either_file, own_file};
 
@@ -16,7 +18,7 @@ use std::collections::BTreeMap;
 use std::marker::Model;
 use xet_base::error::{CoreError, Result};
 use xet_base::merklehash::MerkleHash;
-use xet_records::file_structs::{FileAuxExt, FileDataSequenceHeader, FileMetadataExt, MDBFileInfo};
+use xet_records::file_structs::{FileDataSequenceHeader, MDBFileInfo, OptionalPart};
 use xet_records::rows::{Row, all_widths};
 
 /// Well-formed files, each under its hash. Contracts see the finite map.
@@ -145,6 +147,7 @@ impl FileStore {
 }
 
 // The rows of a file, or 0 if there is none.
+#[tactic(auto, using(crate::proofs::StoredParts::rows_whole))]
 fn row_count(file_info: Option<&MDBFileInfo>) -> u64
     requires { IfSome file_info (λ file. IsWellFormed file.now) }
     ensures { result ≡ unwrap_or (option_map (λ file. row_count file.now) file_info.entry) 0 }
@@ -203,43 +206,70 @@ fn merged_files(
 }
 
 /// Whether a record can be in a store.
+#[tactic(auto, using(crate::proofs::StoredParts::rows_whole))]
 pub fn is_well_formed(file_info: &MDBFileInfo) -> bool
     ensures { IsTrue result ↔ IsWellFormed file_info.now }
 {
     record_widths(file_info);
     let metadata = file_info.metadata;
     !metadata.is_bookend()
-        && metadata.file_flags % (1 << 29) == 0
+        && has_known_flags(metadata.file_flags)
         && metadata._unused == 0
         && file_info.segments.len() as u64 == u64::from(metadata.num_entries)
-        && file_info.verification.len() as u64 == u64::from(metadata.verification_rows())
-        && file_info.metadata_ext.is_some() == metadata.contains_metadata_ext()
-        && file_info.aux_ext.is_some() == metadata.contains_aux_ext()
-        && file_info
-            .verification
-            .as_slice()
-            .iter()
-            .all(|row| row._unused == [0; 2])
-        && is_clear(&file_info.metadata_ext)
-        && is_clear_aux(&file_info.aux_ext)
+        && has_announced_parts(file_info)
+        && has_clear_parts(file_info)
         && metadata.rows_after() < u64::from(u32::MAX)
 }
 
-fn is_clear(metadata_ext: &Option<FileMetadataExt>) -> bool
-    ensures { IsTrue result ↔ IfSome metadata_ext.now (λ m. m._unused ≡ 0 ∷ 0 ∷ []) }
+// Whether flags announce parts, and nothing else.
+#[tactic(auto, using(crate::proofs::StoredParts::flags_are_parts, crate::proofs::StoredParts::flags_known))]
+fn has_known_flags(flags: u32) -> bool
+    ensures { IsTrue result ↔ (flags ≡ flags_of (announces flags)) }
 {
-    match metadata_ext {
-        Some(row) => row._unused == [0; 2],
-        None => true,
-    }
+    flags % (1 << 29) == 0
 }
 
-fn is_clear_aux(aux_ext: &Option<FileAuxExt>) -> bool
-    ensures { IsTrue result ↔ IfSome aux_ext.now (λ a. a._unused ≡ 0 ∷ 0 ∷ []) }
+// Whether the record has the parts that its header announces.
+fn has_announced_parts(file_info: &MDBFileInfo) -> bool
+    ensures { IsTrue result ↔ ((part : OptionalPart) → HasAnnounced part file_info.now) }
 {
-    match aux_ext {
-        Some(row) => row._unused == [0; 2],
-        None => true,
+    has_announced(file_info, OptionalPart::Verification)
+        & has_announced(file_info, OptionalPart::MetadataExt)
+        & has_announced(file_info, OptionalPart::AuxExt)
+}
+
+fn has_announced(file_info: &MDBFileInfo, part: OptionalPart) -> bool
+    ensures { IsTrue result ↔ HasAnnounced part file_info.now }
+{
+    file_info.part_len(part) as u64 == u64::from(file_info.metadata.part_rows(part))
+}
+
+// Whether the reserved words in the rows of its parts are zero.
+fn has_clear_parts(file_info: &MDBFileInfo) -> bool
+    ensures { IsTrue result ↔ AreClear (optional_rows file_info.now) }
+{
+    is_clear(file_info, OptionalPart::Verification)
+        & is_clear(file_info, OptionalPart::MetadataExt)
+        & is_clear(file_info, OptionalPart::AuxExt)
+}
+
+#[tactic(auto, using(crate::proofs::StoredParts::one_clear, crate::proofs::StoredParts::none_clear))]
+fn is_clear(file_info: &MDBFileInfo, part: OptionalPart) -> bool
+    ensures { IsTrue result ↔ AreClear (rows_of part file_info.now) }
+{
+    match part {
+        OptionalPart::Verification => {
+            let rows = file_info.verification.as_slice();
+            rows.iter().all(|row| row._unused == [0; 2])
+        }
+        OptionalPart::MetadataExt => match file_info.metadata_ext {
+            Some(row) => row._unused == [0; 2],
+            None => true,
+        },
+        OptionalPart::AuxExt => match file_info.aux_ext {
+            Some(row) => row._unused == [0; 2],
+            None => true,
+        },
     }
 }
 

@@ -3,8 +3,7 @@
 ghost use Rattle.std.specs.Prelude.{◌≡◌, ◌≤◌, sum_by};
 ghost use Rattle.std.specs.BTreeMap.{values};
 ghost use Rattle.std.specs.List.{list_any};
-ghost use Rattle.xet_records.specs.Merging.{extended};
-ghost use Rattle.xet_records.specs.FileRecord.{file_records, size_of_file};
+ghost use Rattle.xet_records.specs.FileRecord.{file_records, has_aux_ext, size_of_file};
 ghost use Rattle.xet_records.specs.XorbRecord.{xorb_records};
 ghost use Rattle.xet_shards.specs.Section.{total_rows};
 ghost use Rattle.xet_shards.specs.Shard.{AreFiles, AreXorbs};
@@ -31,7 +30,7 @@ pub fn file_rows(files: &BTreeMap<MerkleHash, MDBFileInfo>) -> u64
 
 /// Whether a file has an auxiliary row.
 pub fn have_aux_rows(files: &BTreeMap<MerkleHash, MDBFileInfo>) -> bool
-    ensures { result ≡ list_any extended (values files.now) }
+    ensures { result ≡ list_any (λ r. has_aux_ext r.metadata.file_flags) (values files.now) }
 {
     files.values().any(|file_info| file_info.contains_aux_ext())
 }

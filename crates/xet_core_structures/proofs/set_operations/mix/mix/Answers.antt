@@ -5,7 +5,7 @@ use Rattle.std.proofs.lemmas.List.{length-append}
 use Rattle.std.proofs.lemmas.Result.{err_from_is_err_and}
 use Rattle.xet_base.specs.InputLaws.{Takes-nil, Takes-trans}
 use Rattle.xet_records.specs.FileRecord.{file_records, rows_after}
-use Rattle.xet_records.specs.FileRow.{header_row, segment_row, verification_row, metadata_row}
+use Rattle.xet_records.specs.FileRow.{header_row, segment_row, hash_row}
 use Rattle.xet_core_structures.specs.MixedFiles.EitherFails.{second_fails}
 use Rattle.xet_core_structures.proofs.Mixing.{first_not_copied}
 use Rattle.xet_core_structures.proofs.MixWriting.{part_fails, no_output, not_added, mix_written}
@@ -35,80 +35,74 @@ returns-in_err-skip_rows g c =
     rw (p.1, p.2) (part_fails c.args.first c.args.second _ _ (g.S.ShardSource.meaning c.copy_segments.new.input) _ _ (two c.args.r2.now) _ (flat_map segment_row s.stored) [] 0 c.args.second.num_entries _
     s.taken (Takes-nil _) (omega (arith, s.size)) (omega arith) (second_fails _ refl c.in_err-skip_rows.ensures (serves_same _ _ refl)))
 
-pub returns-in_err-copy_either : goal.returns-in_err-copy_either
-returns-in_err-copy_either g c =
+pub returns-in_err-copy_part : goal.returns-in_err-copy_part
+returns-in_err-copy_part g c =
     let s = c.in_ok-size.ensures.copied.1.read in
     let t = c.in_ok-skip_rows.ensures.1 in
-    let p = err_from_is_err_and c.from_residual-in_err-copy_either.result c.from_residual-in_err-copy_either.ensures.1 in
+    let p = err_from_is_err_and c.from_residual-in_err-copy_part.result c.from_residual-in_err-copy_part.ensures.1 in
     rw (p.1, p.2) (part_fails c.args.first c.args.second _ _ (g.S.ShardSource.meaning c.copy_segments.new.input) _ _ (g.T.ShardSource.meaning c.skip_rows.new.input) _
     (flat_map segment_row s.stored) (flat_map segment_row t.stored) _ _ _ s.taken t.taken
-    (omega (arith, s.size, c.verification_rows.ensures)) (omega (arith, t.size, c.verification_rows-2.ensures)) c.in_err-copy_either.ensures)
+    (omega (arith, s.size)) (omega (arith, t.size)) c.in_err-copy_part.ensures)
 
-pub returns-in_err-copy_either-2 : goal.returns-in_err-copy_either-2
-returns-in_err-copy_either-2 g c =
+pub returns-in_err-copy_part-2 : goal.returns-in_err-copy_part-2
+returns-in_err-copy_part-2 g c =
     let s = c.in_ok-size.ensures.copied.1.read in
     let t = c.in_ok-skip_rows.ensures.1 in
-    let v = c.in_ok-copy_either.ensures in
-    let p = err_from_is_err_and c.from_residual-in_err-copy_either-2.result c.from_residual-in_err-copy_either-2.ensures.1 in
-    rw (p.1, p.2) (part_fails c.args.first c.args.second _ _ (g.S.ShardSource.meaning c.copy_either.new.r1) _ _ (g.T.ShardSource.meaning c.copy_either.new.r2) _
-    (flat_map segment_row s.stored ++ flat_map verification_row v.first.stored) (flat_map segment_row t.stored ++ flat_map verification_row v.second.stored) _ _ _
+    let v = c.in_ok-copy_part.ensures in
+    let p = err_from_is_err_and c.from_residual-in_err-copy_part-2.result c.from_residual-in_err-copy_part-2.ensures.1 in
+    rw (p.1, p.2) (part_fails c.args.first c.args.second _ _ (g.S.ShardSource.meaning c.copy_part.new.r1) _ _ (g.T.ShardSource.meaning c.copy_part.new.r2) _
+    (flat_map segment_row s.stored ++ flat_map hash_row v.first.stored) (flat_map segment_row t.stored ++ flat_map hash_row v.second.stored) _ _ _
     (Takes-trans _ (g.S.ShardSource.meaning c.copy_segments.new.input) _ _ _ s.taken v.first.taken) (Takes-trans _ (g.T.ShardSource.meaning c.skip_rows.new.input) _ _ _ t.taken v.second.taken)
-    (omega (arith, length-append (flat_map segment_row s.stored) (flat_map verification_row v.first.stored), s.size, v.first.size, c.verification_rows.ensures, c.metadata_rows.ensures))
-    (omega (arith, length-append (flat_map segment_row t.stored) (flat_map verification_row v.second.stored), t.size, v.second.size, c.verification_rows-2.ensures, c.metadata_rows-2.ensures))
-    c.in_err-copy_either-2.ensures)
+    (omega (arith, length-append (flat_map segment_row s.stored) (flat_map hash_row v.first.stored), s.size, v.first.size))
+    (omega (arith, length-append (flat_map segment_row t.stored) (flat_map hash_row v.second.stored), t.size, v.second.size))
+    c.in_err-copy_part-2.ensures)
 
-pub returns-in_err-copy_either-3 : goal.returns-in_err-copy_either-3
-returns-in_err-copy_either-3 g c =
+pub returns-in_err-copy_part-3 : goal.returns-in_err-copy_part-3
+returns-in_err-copy_part-3 g c =
     let s = c.in_ok-size.ensures.copied.1.read in
     let t = c.in_ok-skip_rows.ensures.1 in
-    let v = c.in_ok-copy_either.ensures in
-    let m = c.in_ok-copy_either-2.ensures in
+    let v = c.in_ok-copy_part.ensures in
+    let m = c.in_ok-copy_part-2.ensures in
     let one = g.S.ShardSource.meaning in
     let two = g.T.ShardSource.meaning in
-    let p = err_from_is_err_and c.from_residual-in_err-copy_either-3.result c.from_residual-in_err-copy_either-3.ensures.1 in
-    rw (p.1, p.2) (part_fails c.args.first c.args.second _ _ (one c.copy_either-2.new.r1) _ _ (two c.copy_either-2.new.r2) _
-    ((flat_map segment_row s.stored ++ flat_map verification_row v.first.stored) ++ flat_map metadata_row m.first.stored)
-    ((flat_map segment_row t.stored ++ flat_map verification_row v.second.stored) ++ flat_map metadata_row m.second.stored) _ _ _
-    (Takes-trans _ (one c.copy_either.new.r1) _ _ _ (Takes-trans _ (one c.copy_segments.new.input) _ _ _ s.taken v.first.taken) m.first.taken)
-    (Takes-trans _ (two c.copy_either.new.r2) _ _ _ (Takes-trans _ (two c.skip_rows.new.input) _ _ _ t.taken v.second.taken) m.second.taken)
+    let p = err_from_is_err_and c.from_residual-in_err-copy_part-3.result c.from_residual-in_err-copy_part-3.ensures.1 in
+    rw (p.1, p.2) (part_fails c.args.first c.args.second _ _ (one c.copy_part-2.new.r1) _ _ (two c.copy_part-2.new.r2) _
+    ((flat_map segment_row s.stored ++ flat_map hash_row v.first.stored) ++ flat_map hash_row m.first.stored)
+    ((flat_map segment_row t.stored ++ flat_map hash_row v.second.stored) ++ flat_map hash_row m.second.stored) _ _ _
+    (Takes-trans _ (one c.copy_part.new.r1) _ _ _ (Takes-trans _ (one c.copy_segments.new.input) _ _ _ s.taken v.first.taken) m.first.taken)
+    (Takes-trans _ (two c.copy_part.new.r2) _ _ _ (Takes-trans _ (two c.skip_rows.new.input) _ _ _ t.taken v.second.taken) m.second.taken)
     (omega (
       arith,
-      length-append (flat_map segment_row s.stored ++ flat_map verification_row v.first.stored) (flat_map metadata_row m.first.stored),
-      length-append (flat_map segment_row s.stored) (flat_map verification_row v.first.stored),
+      length-append (flat_map segment_row s.stored ++ flat_map hash_row v.first.stored) (flat_map hash_row m.first.stored),
+      length-append (flat_map segment_row s.stored) (flat_map hash_row v.first.stored),
       s.size,
       v.first.size,
       m.first.size,
-      c.verification_rows.ensures,
-      c.metadata_rows.ensures,
-      c.aux_rows.ensures,
     ))
     (omega (
       arith,
-      length-append (flat_map segment_row t.stored ++ flat_map verification_row v.second.stored) (flat_map metadata_row m.second.stored),
-      length-append (flat_map segment_row t.stored) (flat_map verification_row v.second.stored),
+      length-append (flat_map segment_row t.stored ++ flat_map hash_row v.second.stored) (flat_map hash_row m.second.stored),
+      length-append (flat_map segment_row t.stored) (flat_map hash_row v.second.stored),
       t.size,
       v.second.size,
       m.second.size,
-      c.verification_rows-2.ensures,
-      c.metadata_rows-2.ensures,
-      c.aux_rows-2.ensures,
     ))
-    c.in_err-copy_either-3.ensures)
+    c.in_err-copy_part-3.ensures)
 
 pub returns-in-Err : goal.returns-in-Err
 returns-in-Err g c =
     let s = c.in_ok-size.ensures.copied.1.read in
     let t = c.in_ok-skip_rows.ensures.1 in
-    let v = c.in_ok-copy_either.ensures in
-    let m = c.in_ok-copy_either-2.ensures in
-    let x = c.in_ok-copy_either-3.ensures in
+    let v = c.in_ok-copy_part.ensures in
+    let m = c.in_ok-copy_part-2.ensures in
+    let x = c.in_ok-copy_part-3.ensures in
     let one = g.S.ShardSource.meaning in
     let two = g.T.ShardSource.meaning in
-    not_added c.args.first c.args.second _ _ (one c.copy_either-3.new.r1) _ (two c.copy_either-3.new.r2) _
-    (serves_on _ (one c.copy_segments.new.input) _ (taken_serves _ _ _ s.taken) (serves_on _ (one c.copy_either.new.r1) _ (taken_serves _ _ _ v.first.taken)
-    (serves_on _ (one c.copy_either-2.new.r1) _ (taken_serves _ _ _ m.first.taken) (taken_serves _ _ _ x.first.taken))))
-    (serves_on _ (two c.skip_rows.new.input) _ (taken_serves _ _ _ t.taken) (serves_on _ (two c.copy_either.new.r2) _ (taken_serves _ _ _ v.second.taken)
-    (serves_on _ (two c.copy_either-2.new.r2) _ (taken_serves _ _ _ m.second.taken) (taken_serves _ _ _ x.second.taken))))
+    not_added c.args.first c.args.second _ _ (one c.copy_part-3.new.r1) _ (two c.copy_part-3.new.r2) _
+    (serves_on _ (one c.copy_segments.new.input) _ (taken_serves _ _ _ s.taken) (serves_on _ (one c.copy_part.new.r1) _ (taken_serves _ _ _ v.first.taken)
+    (serves_on _ (one c.copy_part-2.new.r1) _ (taken_serves _ _ _ m.first.taken) (taken_serves _ _ _ x.first.taken))))
+    (serves_on _ (two c.skip_rows.new.input) _ (taken_serves _ _ _ t.taken) (serves_on _ (two c.copy_part.new.r2) _ (taken_serves _ _ _ v.second.taken)
+    (serves_on _ (two c.copy_part-2.new.r2) _ (taken_serves _ _ _ m.second.taken) (taken_serves _ _ _ x.second.taken))))
     c.in-Err.ensures.causes
 
 pub returns-then-not-has_room : goal.returns-then-not-has_room
@@ -125,11 +119,11 @@ returns-in-Ok g c =
     let two = g.T.ShardSource.meaning in
     let contents = g.W.Write.contents in
     let room = c.has_room.ensures.0 c.if-not-has_room.false in
-    mix_written c.args.first c.args.second (one c.args.r1.now) (one c.copy_segments.new.input) (one c.copy_either.new.r1) (one c.copy_either-2.new.r1) (one c.copy_either-3.new.r1)
-    (two c.args.r2.now) (two c.skip_rows.new.input) (two c.copy_either.new.r2) (two c.copy_either-2.new.r2) (two c.copy_either-3.new.r2)
-    (contents c.args.out.now) (contents c.write_row.new.writer) (contents c.copy_segments.new.writer) (contents c.copy_either.new.out) (contents c.copy_either-2.new.out) (contents c.copy_either-3.new.out)
-    c.in_ok-size.ensures.copied.0 c.in_ok-skip_rows.ensures.0 c.in_ok-size.size c.args.written.now.table.rows (1 + c.rows_after-rows.result) _ _ _ _ _ _ c.args.written.now c.add.new.self
+    mix_written c.args.first c.args.second (one c.args.r1.now) (one c.copy_segments.new.input) (one c.copy_part.new.r1) (one c.copy_part-2.new.r1) (one c.copy_part-3.new.r1)
+    (two c.args.r2.now) (two c.skip_rows.new.input) (two c.copy_part.new.r2) (two c.copy_part-2.new.r2) (two c.copy_part-3.new.r2)
+    (contents c.args.out.now) (contents c.write_row.new.writer) (contents c.copy_segments.new.writer) (contents c.copy_part.new.out) (contents c.copy_part-2.new.out) (contents c.copy_part-3.new.out)
+    c.in_ok-size.ensures.copied.0 c.in_ok-skip_rows.ensures.0 c.in_ok-size.size c.args.written.now.table.rows (1 + c.rows_after-rows.result) c.args.written.now c.add.new.self
     c.requires.first c.requires.second c.requires.hash c.requires.count (ap (λ n. 1 + n) (c.rows_after-rows.ensures.rows ∙ ap rows_after c.mixed-header.ensures)) room
     (subst (λ h. Appends (contents c.args.out.now) (contents c.write_row.new.writer) (header_row h)) c.mixed-header.ensures c.in_ok-write_row.ensures.appended)
-    c.in_ok-size.ensures.copied.1 c.in_ok-size.ensures.copied.2 c.in_ok-skip_rows.ensures.1 c.verification_rows.ensures c.verification_rows-2.ensures c.in_ok-copy_either.ensures
-    c.metadata_rows.ensures c.metadata_rows-2.ensures c.in_ok-copy_either-2.ensures c.aux_rows.ensures c.aux_rows-2.ensures c.in_ok-copy_either-3.ensures c.in-Ok.ensures.written
+    c.in_ok-size.ensures.copied.1 c.in_ok-size.ensures.copied.2 c.in_ok-skip_rows.ensures.1 c.in_ok-copy_part.ensures
+    c.in_ok-copy_part-2.ensures c.in_ok-copy_part-3.ensures c.in-Ok.ensures.written

@@ -1,6 +1,6 @@
 use Rattle.std.proofs.Common.{[], arith}
 use Rattle.std.proofs.lemmas.Result.{err_from_is_err_and}
-use Rattle.xet_records.proofs.RecordKinds.{parts_after, rows_within, all_rows_within}
+use Rattle.xet_records.proofs.RecordKinds.{file_read, rows_within, rows_within_aux}
 use Rattle.xet_records.proofs.file_structs.MDBFileInfoSectionRecord.read_rows_after.Goals as goal
 
 pub returns-in_err-segments : goal.returns-in_err-segments
@@ -13,7 +13,7 @@ returns-in_err-metadata_ext g c =
     let s = c.in_ok-segments.ensures in
     let v = c.in_ok-verification.ensures in
     let p = err_from_is_err_and c.from_residual-in_err-metadata_ext.result c.from_residual-in_err-metadata_ext.ensures.1 in
-    let within = rows_within c.args.header _ _ _ _ c.verification_rows.ensures c.contains_metadata_ext.ensures s.size v.size in
+    let within = rows_within c.args.header _ _ _ _ c.part_rows.ensures c.contains_metadata_ext.ensures s.size v.size in
     rw (p.1) (g.met.I.ByteInput.fails_later _ c.read_rows-2.new.input _ _ _ _ _ (g.met.I.ByteInput.joins _ c.read_rows.new.input _ _ _ s.taken v.taken)
     (g.met.I.ByteInput.fails_once _ _ _ _ _ c.in_err-metadata_ext.ensures.fails p.2) within)
 
@@ -21,17 +21,15 @@ pub returns-in_err-aux_ext : goal.returns-in_err-aux_ext
 returns-in_err-aux_ext g c =
     let s = c.in_ok-segments.ensures in
     let v = c.in_ok-verification.ensures in
-    let m = c.in_ok-metadata_ext.ensures.value in
-    let joins = g.met.I.ByteInput.joins c.args.input.now in
+    let e = c.in_ok-metadata_ext.ensures.value in
     let p = err_from_is_err_and c.from_residual-in_err-aux_ext.result c.from_residual-in_err-aux_ext.ensures.1 in
-    let within = all_rows_within c.args.header _ _ _ _ _ _ c.verification_rows.ensures c.contains_metadata_ext.ensures c.contains_aux_ext.ensures s.size v.size m.size in
-    rw (p.1) (g.met.I.ByteInput.fails_later _ c.read_optional.new.input _ _ _ _ _
-    (joins c.read_rows-2.new.input _ _ _ (joins c.read_rows.new.input _ _ _ s.taken v.taken) m.taken)
+    let within = rows_within_aux c.args.header _ _ _ _ _ _ c.part_rows.ensures c.contains_metadata_ext.ensures c.contains_aux_ext.ensures s.size v.size e.size in
+    let joins = g.met.I.ByteInput.joins c.args.input.now in
+    rw (p.1) (g.met.I.ByteInput.fails_later _ c.read_optional.new.input _ _ _ _ _ (joins c.read_rows-2.new.input _ _ _ (joins c.read_rows.new.input _ _ _ s.taken v.taken) e.taken)
     (g.met.I.ByteInput.fails_once _ _ _ _ _ c.in_err-aux_ext.ensures.fails p.2) within)
 
 pub returns : goal.returns
 returns g c =
-    let joins = g.met.I.ByteInput.joins in
-    parts_after _ _ _ _ _ _ _ (joins c.args.input.now c.read_rows.new.input _) (joins c.read_rows-2.new.input c.read_optional.new.input _) (joins c.args.input.now c.read_rows-2.new.input _)
-    c.args.header _ _ _ _ _ _ _ c.verification_rows.ensures c.contains_metadata_ext.ensures c.contains_aux_ext.ensures
-    c.in_ok-segments.ensures c.in_ok-verification.ensures c.in_ok-metadata_ext.ensures.value c.in_ok-aux_ext.ensures.value
+    file_read g.I.ByteInput.reads g.met.I.ByteInput.reads_nothing g.met.I.ByteInput.joins c.args.header _ c.read_rows.new.input c.read_rows-2.new.input c.read_optional.new.input _ _ _ _ _ _ _ _
+    c.part_rows.ensures c.contains_metadata_ext.ensures c.contains_aux_ext.ensures c.in_ok-segments.ensures c.in_ok-verification.ensures c.in_ok-metadata_ext.ensures.value
+    c.in_ok-aux_ext.ensures.value

@@ -1,30 +1,31 @@
-use Rattle.std.proofs.Common.{sym, arith}
-use Rattle.xet_records.specs.FileRow.{aux_row, FitsAux, clear_aux}
+use Rattle.std.proofs.Common.{◌≡◌, Bool, sym, ap, ◌∙◌, length, arith, if◌then◌else◌}
+use Rattle.std.specs.Prelude.{option_to_list}
+use Rattle.xet_records.specs.declared.file_structs.part.OptionalPart.TheVariants.{AuxExt}
+use Rattle.xet_records.specs.FileRow.{hash_row, FitsHashRow}
 use Rattle.xet_records.specs.FileRecord.{file_records}
 use Rattle.xet_records.specs.View.{IsWholeFile}
-use Rattle.xet_records.proofs.RowsWithin.{aux_laws, rows_within, row_at_index}
-use Rattle.xet_records.proofs.Views.{shown_as, verification_count, metadata_count, aux_count, has_aux_rows, the_row, one_row}
+use Rattle.xet_records.proofs.RowsWithin.{hash_laws, rows_within, row_at_index}
+use Rattle.xet_records.proofs.Views.{shown_as, part_count, has_part_rows, the_row, no_row}
 use Rattle.xet_records.proofs.file_structs.view.MDBFileInfoView.aux_ext.Goals as goal
+
+pub returns-then-not-contains_aux_ext : goal.returns-then-not-contains_aux_ext
+returns-then-not-contains_aux_ext c =
+    let shown = shown_as file_records IsWholeFile c.self.inside.header _ c.as_slice-bytes.result.now _ _ (sym c.as_slice-bytes.ensures) c.self.view_is c.self.invariant in
+    no_row c.args.self.now.aux_ext
+    (part_count _ _ _ shown AuxExt ∙ ap (λ (b : Bool). if b then 1 else 0) (sym c.contains_aux_ext.ensures ∙ c.if-not-contains_aux_ext.true))
 
 pub row-requires : goal.row-requires
 row-requires c =
     let shown = shown_as file_records IsWholeFile c.self.inside.header _ c.as_slice-bytes.result.now _ _ (sym c.as_slice-bytes.ensures) c.self.view_is c.self.invariant in
-    let one = one_row c.args.self.now.aux_ext _ _ (aux_count _ _ _ shown) c.contains_aux_ext.ensures c.if-not-contains_aux_ext.false in
-    omega (
-      arith,
-      rows_within aux_row FitsAux aux_laws _ _ _ (has_aux_rows _ _ _ shown),
-      one,
-      c.num_entries.ensures,
-      verification_count _ _ _ shown,
-      c.verification_rows-verification.ensures,
-      metadata_count _ _ _ shown,
-      c.metadata_rows-metadata.ensures,
-    )
+    let one : length (option_to_list c.args.self.now.aux_ext) ≡ 1 =
+    part_count _ _ _ shown AuxExt ∙ ap (λ (b : Bool). if b then 1 else 0) (sym c.contains_aux_ext.ensures ∙ c.if-not-contains_aux_ext.false) in
+    omega (arith, rows_within hash_row FitsHashRow hash_laws _ _ _ (has_part_rows _ _ _ shown AuxExt), one, c.start_of.ensures.rows)
 
 pub returns : goal.returns
 returns c =
     let shown = shown_as file_records IsWholeFile c.self.inside.header _ c.as_slice-bytes.result.now _ _ (sym c.as_slice-bytes.ensures) c.self.view_is c.self.invariant in
-    let one = one_row c.args.self.now.aux_ext _ _ (aux_count _ _ _ shown) c.contains_aux_ext.ensures c.if-not-contains_aux_ext.false in
-    let found = row_at_index aux_row FitsAux aux_laws _ _ _ _ 0 _ _ (has_aux_rows _ _ _ shown) (omega (arith, one))
-    (omega (arith, c.num_entries.ensures, verification_count _ _ _ shown, c.verification_rows-verification.ensures, metadata_count _ _ _ shown, c.metadata_rows-metadata.ensures)) c.row.ensures in
-    the_row clear_aux c.args.self.now.aux_ext _ _ found.1 found.2
+    let one : length (option_to_list c.args.self.now.aux_ext) ≡ 1 =
+    part_count _ _ _ shown AuxExt ∙ ap (λ (b : Bool). if b then 1 else 0) (sym c.contains_aux_ext.ensures ∙ c.if-not-contains_aux_ext.false) in
+    let found = row_at_index hash_row FitsHashRow hash_laws _ _ _ _ 0 _ _ (has_part_rows _ _ _ shown AuxExt) (omega (arith, one))
+    (omega (arith, c.start_of.ensures.rows)) c.row.ensures in
+    the_row c.args.self.now.aux_ext _ _ found.1 found.2
