@@ -1,18 +1,19 @@
 -- A list of byte strings is merged by a tree with each of them at a leaf; of shards that agree it gives the bytes of their
 -- join.
-use Rattle.std.proofs.Common.{◌≡◌, inl, inr, ℕ, zero, suc, ◌+◌, ◌-◌, ◌/◌, ◌<◌, ◌≤◌, ◌^◌, List, [], ◌∷◌, ◌++◌, length, get_or, Option, None, Some, refl, sym, ap, ◌∙◌, subst, arith}
-use Rattle.std.specs.Prelude.{Contains, IfSome, slice_get}
+use Rattle.std.proofs.Common.{◌≡◌, inl, inr, ℕ, zero, suc, ◌+◌, ◌-◌, ◌/◌, ◌<◌, ◌≤◌, List, [], ◌∷◌, ◌++◌, length, map, get_or, Option, Some, refl, sym, ap, ◌∙◌, subst, arith}
+use Rattle.std.specs.Prelude.{Contains}
 use Rattle.std.specs.List.{AllZip}
 use Rattle.std.proofs.lemmas.Bool.{cases_lt}
 use Rattle.std.proofs.lemmas.List.Elements.{Contains-push, Contains-append_left, Contains-append_right, Contains-append_cases, Contains-get_or}
 use Rattle.xet_core_structures.specs.declared.set_operations.MergePlan.{MergePlan}
 use Rattle.xet_core_structures.specs.declared.set_operations.MergePlan.TheVariants.{Leaf, Both'}
-use Rattle.xet_core_structures.specs.Joins.{HasWhatAnyHas, IsJoinOf, AgreePairwise}
-use Rattle.xet_core_structures.specs.MergeTrees.{leaves, HasUnion, AtLeaves, AreWritten, AreSomeBytesOf}
+use Rattle.xet_core_structures.specs.Joins.{HasWhatAnyHas, IsJoinOf}
+use Rattle.xet_core_structures.specs.MergeTrees.{leaves, HasUnion, InputIs, IsMerge}
 use Rattle.xet_core_structures.specs.Shard.{Shard, empty_shard}
-use Rattle.xet_core_structures.specs.WrittenShard.{AreBytesOf}
+use Rattle.xet_core_structures.specs.WrittenShard.{IsBytesOf}
 use Rattle.xet_shards.proofs.MappedShards.{mapped_member, unmapped_member}
-use Rattle.shard_bytes.specs.Merging.{IsBalanced, IsMergePlan}
+use Rattle.xet_core_structures.proofs.Zipped.{zipped_made}
+use Rattle.shard_bytes.specs.Merging.{IsBalanced, IsMergePlan, HaveJoin}
 
 only_member : (i j : ℕ) → Contains (j ∷ []) i → j ≡ i
 only_member i j (zero, within, is) = is
@@ -81,21 +82,13 @@ module _ (A B : Shard → Type 0) (into : (s : Shard) → A s → B s) (back : (
     follows = join.follows;
   }
 
--- the expiry with which each byte string was written
-abbrev pub expiries : (all : List Shard) (inputs : List (List ℕ)) → AllZip AreSomeBytesOf all inputs → ℕ → Option ℕ
-expiries [] inputs are i = None
-expiries (s ∷ ss) [] are i = None
-expiries (s ∷ ss) (x ∷ xs) (here, rest) zero = here.0
-expiries (s ∷ ss) (x ∷ xs) (here, rest) (suc i) = expiries ss xs rest i
-
-input_at : (all : List Shard) (inputs : List (List ℕ)) (are : AllZip AreSomeBytesOf all inputs) (i : ℕ) → i < length all
-    → IfSome (expiries all inputs are i) (λ e. e < 2 ^ 64) × (bytes : List ℕ) × (slice_get inputs i ≡ Some bytes) × AreBytesOf (get_or all i empty_shard) (expiries all inputs are i) bytes
+input_at : (all : List Shard) (inputs : List (List ℕ)) → AllZip IsBytesOf all inputs → (i : ℕ) → i < length all → InputIs inputs (IsBytesOf (get_or all i empty_shard)) i
 input_at [] inputs are i below = absurd (omega (arith, below))
 input_at (s ∷ ss) [] are i below = absurd are
-input_at (s ∷ ss) (x ∷ xs) (here, rest) zero below = (here.1, x, refl, here.2)
+input_at (s ∷ ss) (x ∷ xs) (here, rest) zero below = (x, refl, here)
 input_at (s ∷ ss) (x ∷ xs) (here, rest) (suc i) below = input_at ss xs rest i (omega (arith, below))
 
-pub same_count : (all : List Shard) (inputs : List (List ℕ)) → AllZip AreSomeBytesOf all inputs → length all ≡ length inputs
+pub same_count : (all : List Shard) (inputs : List (List ℕ)) → AllZip IsBytesOf all inputs → length all ≡ length inputs
 same_count [] [] are = refl
 same_count [] (x ∷ xs) are = absurd are
 same_count (s ∷ ss) [] are = absurd are
@@ -106,31 +99,34 @@ within_any [] i d e below = absurd (omega (arith, below))
 within_any (x ∷ xs) zero d e below = refl
 within_any (x ∷ xs) (suc i) d e below = within_any xs i d e (omega (arith, below))
 
-module _ (all : List Shard) (inputs : List (List ℕ)) (are : AllZip AreSomeBytesOf all inputs) (plan : MergePlan) (covers : Covers (length inputs) plan) where
-  abbrev pub shard_at : ℕ → Shard
+-- a tree with each of the byte strings at a leaf merges them
+module _ (all : List Shard) (inputs : List (List ℕ)) (join : Shard) (have : HaveJoin inputs all join) (plan : MergePlan) (covers : Covers (length inputs) plan) where
+  abbrev shard_at : ℕ → Shard
   shard_at i = get_or all i empty_shard
 
+  abbrev pub at_leaves : List Shard
+  at_leaves = map shard_at (leaves plan)
+
   below_all : (i : ℕ) → i < length inputs → i < length all
-  below_all i below = let same = same_count all inputs are in omega arith
+  below_all i below = let same = same_count all inputs have.are_bytes in omega arith
 
-  pub written : AreWritten inputs plan shard_at (expiries all inputs are)
-  written i member = input_at all inputs are i (below_all i (covers.within i member))
-
-  listed : (s : Shard) → AtLeaves plan shard_at s → Contains all s
-  listed s at =
+  from_list : (s : Shard) → Contains at_leaves s → Contains all s
+  from_list s at =
       let from = unmapped_member shard_at (leaves plan) s at in
       subst (Contains all) from.2 (Contains-get_or all from.0 empty_shard (below_all from.0 (covers.within from.0 from.1)))
 
-  at_leaves : (s : Shard) → Contains all s → AtLeaves plan shard_at s
-  at_leaves s (i, below, is) =
-      let same = same_count all inputs are in
-      subst (AtLeaves plan shard_at) (within_any all i empty_shard s below ∙ is) (mapped_member shard_at (leaves plan) i (covers.each i (omega arith)))
+  to_leaves : (s : Shard) → Contains all s → Contains at_leaves s
+  to_leaves s (i, below, is) =
+      let same = same_count all inputs have.are_bytes in
+      subst (Contains at_leaves) (within_any all i empty_shard s below ∙ is) (mapped_member shard_at (leaves plan) i (covers.each i (omega arith)))
 
-  pub agree_at_leaves : AgreePairwise (Contains all) → AgreePairwise (AtLeaves plan shard_at)
-  agree_at_leaves agree = record {
-    shards = λ s at. agree.shards s (listed s at);
-    pairs = λ s t one other. agree.pairs s t (listed s one) (listed t other);
+  pub merges : IsMerge inputs plan at_leaves join
+  merges = record {
+    union = covers.union;
+    inputs_are = zipped_made (λ i s. InputIs inputs (IsBytesOf s) i) shard_at (leaves plan) (λ i member. input_at all inputs have.are_bytes i (below_all i (covers.within i member)));
+    agree = record {
+      shards = λ s at. have.agree.shards s (from_list s at);
+      pairs = λ s t one other. have.agree.pairs s t (from_list s one) (from_list t other);
+    };
+    is_join = join_of_same (Contains all) (Contains at_leaves) to_leaves from_list join have.is_join;
   }
-
-  pub join_at_leaves : (join : Shard) → IsJoinOf (Contains all) join → IsJoinOf (AtLeaves plan shard_at) join
-  join_at_leaves join is = join_of_same (Contains all) (AtLeaves plan shard_at) at_leaves listed join is

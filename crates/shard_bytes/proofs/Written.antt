@@ -1,28 +1,27 @@
 -- The bytes of a shard that are read from a source in memory.
-use Rattle.std.proofs.Common.{◌≡◌, ◌⊎◌, inl, inr, ◌<◌, ◌≤◌, ℕ, List, length, Option, Ok, Err, ◌∙◌, arith}
+use Rattle.std.proofs.Common.{◌≡◌, inl, inr, ℕ, List, Option, Ok, Err, sym, subst, ◌∙◌, arith}
 use Rattle.std.specs.Prelude.{IsOkAnd, MatchResult}
+use Rattle.std.specs.FinMap.{values}
 use Rattle.std.specs.declared.result.Result.{Result}
 use Rattle.xet_core_structures.specs.declared.error.CoreError.{CoreError}
-use Rattle.xet_core_structures.specs.declared.error.CoreError.TheVariants.{OutOfMemory, TruncatedHashCollision}
 use Rattle.xet_core_structures.specs.declared.file_structs.MDBFileInfo.{MDBFileInfo}
 use Rattle.xet_core_structures.specs.declared.merklehash.DataHash.{DataHash}
 use Rattle.xet_core_structures.specs.declared.shard_format.MDBShardInfo.{MDBShardInfo}
 use Rattle.xet_core_structures.specs.declared.source.MemorySource.{MemorySource}
+use Rattle.xet_core_structures.specs.Ends.{HasEnds, Loads}
 use Rattle.xet_core_structures.specs.FileRecord.{file_records}
-use Rattle.xet_core_structures.specs.Layout.{info_value_in}
-use Rattle.xet_core_structures.specs.Lookup.{sharing, LookupFailsAmong}
-use Rattle.xet_core_structures.specs.Shard.{Shard, IsShard}
-use Rattle.xet_core_structures.specs.Source.{DeviceFailure}
-use Rattle.xet_core_structures.specs.WrittenShard.{AreBytesOf, IsWritten}
+use Rattle.xet_core_structures.specs.Lookup.{FoundInShard, LookupFailsAmong}
+use Rattle.xet_core_structures.specs.Shard.{Shard}
+use Rattle.xet_core_structures.specs.Source.{Source, DeviceFailure}
+use Rattle.xet_core_structures.specs.WrittenShard.{IsBytesOf, IsBytesWithInfo}
+use Rattle.shard_bytes.specs.Finding.{NotFoundInShard}
 use Rattle.shard_bytes.proofs.Combining.{in_memory}
 
-pub as_written : (s : Shard) (expiry : Option ℕ) (bytes read : List ℕ) (info : MDBShardInfo) → IsShard s → (are : AreBytesOf s expiry bytes) → read ≡ bytes → info ≡ info_value_in are.version s expiry → IsWritten s expiry read info
-as_written s expiry bytes read info shard are same info_is = record {
-  shard = shard;
-  version = are.version;
-  files = are.files;
-  same_bytes = same ∙ are.bytes_are;
-  same_info = info_is;
+-- header and footer were read from these bytes
+pub as_written : (s : Shard) (bytes : List ℕ) (old new : Source) (info : MDBShardInfo) → IsBytesOf s bytes → old.bytes ≡ bytes → Loads old new info → IsBytesWithInfo s new.bytes info
+as_written s bytes old new info is same loads = record {
+  is_bytes = subst (IsBytesOf s) (sym (loads.bytes ∙ same)) is;
+  ends = subst (λ bs. HasEnds bs info) (sym loads.bytes) loads.ends;
 }
 
 -- a source in memory does not fail
@@ -30,10 +29,9 @@ pub ok_in_memory : {T : Type 0} (result : Result T CoreError) (IsRight : T → T
 ok_in_memory (Ok value) IsRight old new is = is
 ok_in_memory (Err e) IsRight old new failed = absurd (omega (arith, failed.0))
 
-pub lookup_in_memory : (files : List MDBFileInfo) (hash : DataHash) (result : Result (Option MDBFileInfo) CoreError) (IsRight : Option MDBFileInfo → Type 0) (old new : MemorySource)
-    → MatchResult result IsRight (LookupFailsAmong file_records files hash (in_memory old) (in_memory new))
-    → MatchResult result IsRight (λ e. ((e ≡ OutOfMemory) × (length (sharing file_records hash.word0 files) < 8)) ⊎ ((e ≡ TruncatedHashCollision hash.word0) × (8 ≤ length (sharing file_records hash.word0 files))))
-lookup_in_memory files hash (Ok value) IsRight old new is = is
-lookup_in_memory files hash (Err e) IsRight old new (inl failed) = absurd (omega (arith, failed.0))
-lookup_in_memory files hash (Err e) IsRight old new (inr (inl (is, some, few))) = inl (is, few)
-lookup_in_memory files hash (Err e) IsRight old new (inr (inr many)) = inr many
+pub lookup_in_memory : (s : Shard) (hash : DataHash) (result : Result (Option MDBFileInfo) CoreError) (old new : MemorySource)
+    → MatchResult result (FoundInShard s hash) (LookupFailsAmong file_records (values s.files) hash (in_memory old) (in_memory new)) → MatchResult result (FoundInShard s hash) (NotFoundInShard s hash)
+lookup_in_memory s hash (Ok value) old new is = is
+lookup_in_memory s hash (Err e) old new (inl failed) = absurd (omega (arith, failed.0))
+lookup_in_memory s hash (Err e) old new (inr (inl (is, some, few))) = inl (is, few)
+lookup_in_memory s hash (Err e) old new (inr (inr many)) = inr many

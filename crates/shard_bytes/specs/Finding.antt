@@ -1,11 +1,15 @@
 -- What a lookup of a file in a shard's bytes returns, and why it is refused.
-use Rattle.std.specs.Prelude.{◌⊎◌, ℕ, List, Option}
+use Rattle.std.specs.Prelude.{◌≡◌, ◌⊎◌, ◌<◌, ◌≤◌, ℕ, List, length, Option}
+use Rattle.std.specs.FinMap.{values}
 use Rattle.xet_core_structures.specs.declared.error.CoreError.{CoreError}
+use Rattle.xet_core_structures.specs.declared.error.CoreError.TheVariants.{OutOfMemory, TruncatedHashCollision}
 use Rattle.xet_core_structures.specs.declared.file_structs.MDBFileInfo.{MDBFileInfo}
 use Rattle.xet_core_structures.specs.declared.merklehash.DataHash.{DataHash}
 use Rattle.xet_core_structures.specs.ByteResults.{LoadRefusal}
-use Rattle.xet_core_structures.specs.Lookup.{Finding, FindingFails, file_table}
+use Rattle.xet_core_structures.specs.Lookup.{Finding, FindingFails, file_table, sharing}
+use Rattle.xet_core_structures.specs.FileRecord.{file_records}
 use Rattle.xet_core_structures.specs.SectionReading.{files_of}
+use Rattle.xet_core_structures.specs.Shard.{Shard}
 use Rattle.shard_bytes.specs.Outcomes.{HasOutcome}
 
 -- a record that is found is in these bytes, has the hash and is at a row of the file table with the
@@ -23,3 +27,11 @@ RefusesFile bytes hash e =
     ⊎ HasOutcome bytes
     (λ info before after. FindingFails (files_of info) (file_table info.metadata before)
     info.metadata.file_info_offset hash before after e)
+
+-- why a file is not found in the bytes of a shard in memory: an allocation failed, if fewer than
+-- eight files share the first word, or eight or more do
+abbrev pub NotFoundInShard : Shard → DataHash → CoreError → Type 0
+NotFoundInShard s hash e =
+    ((e ≡ OutOfMemory) × (length (sharing file_records hash.word0 (values s.files)) < 8))
+    ⊎ ((e ≡ TruncatedHashCollision hash.word0)
+    × (8 ≤ length (sharing file_records hash.word0 (values s.files))))

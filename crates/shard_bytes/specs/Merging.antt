@@ -1,16 +1,14 @@
 -- The union of a list of byte strings.
-use Rattle.std.specs.Prelude.{◌≡◌, ◌⊎◌, ℕ, ◌+◌, ◌-◌, ◌/◌, ◌<◌, List, [], length, Contains, None}
+use Rattle.std.specs.Prelude.{◌≡◌, ◌⊎◌, ℕ, ◌+◌, ◌-◌, ◌/◌, ◌<◌, List, [], length, Contains}
 use Rattle.std.specs.List.{AllZip}
 use Rattle.xet_core_structures.specs.declared.error.CoreError.{CoreError}
 use Rattle.xet_core_structures.specs.declared.error.CoreError.TheVariants.{InvalidArguments, OutOfMemory}
 use Rattle.xet_core_structures.specs.declared.set_operations.MergePlan.{MergePlan}
 use Rattle.xet_core_structures.specs.declared.set_operations.MergePlan.TheVariants.{Leaf, Both'}
-use Rattle.xet_core_structures.specs.Errors.{IsInvalidShard}
 use Rattle.xet_core_structures.specs.Joins.{IsJoinOf, AgreePairwise}
-use Rattle.xet_core_structures.specs.Layout.{layout}
-use Rattle.xet_core_structures.specs.MergeTrees.{TreeWrites, TreeRefusal, AreSomeBytesOf}
-use Rattle.xet_core_structures.specs.SetOperations.{HasFewRows}
-use Rattle.xet_core_structures.specs.Shard.{Shard, IsShard}
+use Rattle.xet_core_structures.specs.MergeTrees.{TreeWrites, TreeRefusal}
+use Rattle.xet_core_structures.specs.Shard.{Shard}
+use Rattle.xet_core_structures.specs.WrittenShard.{IsBytesOf}
 
 -- a tree over so many inputs from an index on: of two or more, half of them are at its left
 abbrev pub IsBalanced : ℕ → ℕ → MergePlan → Type 0
@@ -39,18 +37,10 @@ RefusesMerge inputs e =
     ((e ≡ InvalidArguments) × (inputs ≡ [])) ⊎ (e ≡ OutOfMemory)
     ⊎ ((plan : MergePlan) × IsMergePlan (length inputs) plan × TreeRefusal inputs plan e)
 
--- the byte strings are those of these shards, each in either version and with any expiry or none;
--- there is at least one, each two of them agree, and this is their join
+-- the byte strings are these shards', each in either version, with an expiry or none; there is at
+-- least one, each two of them agree, and this is their join
 pub record HaveJoin (inputs : List (List ℕ)) (shards : List Shard) (join : Shard) : Type 0 where
   pub some : 0 < length inputs
-  pub are_bytes : AllZip AreSomeBytesOf shards inputs
+  pub are_bytes : AllZip IsBytesOf shards inputs
   pub agree : AgreePairwise (Contains shards)
   pub is_join : IsJoinOf (Contains shards) join
-
--- the bytes of a join without expiry, and why there are none: an allocation failed, or a section of
--- the join has too many rows
-abbrev pub WritesJoin : Shard → List ℕ → Type 0
-WritesJoin join bytes = (bytes ≡ layout join None) × IsShard join
-
-abbrev pub RefusesJoin : Shard → CoreError → Type 0
-RefusesJoin join e = (e ≡ OutOfMemory) ⊎ (IsInvalidShard e × (¬ HasFewRows join))

@@ -1,8 +1,10 @@
 //! The union of a list of shards.
 
 ghost use Rattle.std.specs.Prelude.{◌≡◌, ◌⊎◌, ◌+◌, ◌<◌, ◌^◌, List, map, length, IfOk, IfErr, MatchResult};
+ghost use Rattle.xet_core_structures.specs.MergeTrees.{MergeRefused};
 ghost use Rattle.xet_core_structures.specs.Shard.{Shard};
-ghost use Rattle.shard_bytes.specs.Merging.{IsBalanced, IsPlanOfBoth, IsMergePlan, MergesBytes, RefusesMerge, HaveJoin, WritesJoin, RefusesJoin};
+ghost use Rattle.xet_core_structures.specs.WrittenShard.{IsBytesWithoutExpiry};
+ghost use Rattle.shard_bytes.specs.Merging.{IsBalanced, IsPlanOfBoth, IsMergePlan, MergesBytes, RefusesMerge, HaveJoin};
 
 use std::alloc::Global;
 use xet_core_structures::error::{CoreError, Result};
@@ -20,7 +22,7 @@ pub fn merge_bytes(alloc: Global, shards: &[&[u8]]) -> Result<Vec<u8>>
         (RefusesMerge (map (λ x. x.now) shards.now)) }
     ensures one_byte_string { (all : List Shard) → (join : Shard)
         → HaveJoin (map (λ x. x.now) shards.now) all join
-        → MatchResult result (λ bytes. WritesJoin join bytes.items) (RefusesJoin join) }
+        → MatchResult result (λ bytes. IsBytesWithoutExpiry join bytes.items) (MergeRefused join) }
 {
     if shards.is_empty() {
         return Err(CoreError::InvalidArguments);

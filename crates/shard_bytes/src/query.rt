@@ -3,9 +3,9 @@
 ghost use Rattle.std.specs.Prelude.{◌<◌, ◌^◌, ℕ, Option, IfSome, IsOkAnd, MatchResult};
 ghost use Rattle.std.specs.FinMap as finite;
 ghost use Rattle.xet_core_structures.specs.KeyedHash.{no_key};
-ghost use Rattle.xet_core_structures.specs.Shard.{Shard, IsShard};
+ghost use Rattle.xet_core_structures.specs.Shard.{Shard};
 ghost use Rattle.xet_core_structures.specs.WrittenQueries.{RunAmong};
-ghost use Rattle.xet_core_structures.specs.WrittenShard.{AreBytesOf};
+ghost use Rattle.xet_core_structures.specs.WrittenShard.{IsBytesOf};
 ghost use Rattle.shard_bytes.specs.Query.{AnswersQuery, RefusesQuery};
 
 use std::alloc::Global;
@@ -27,8 +27,7 @@ pub fn query_chunks(
 ) -> Result<Option<(usize, FileDataSequenceEntry)>>
     ensures any_bytes { MatchResult result (AnswersQuery bytes.now hashes.now)
         (RefusesQuery bytes.now hashes.now) }
-    ensures written { (s : Shard) → (expiry : Option ℕ) → IsShard s
-        → IfSome expiry (λ e. e < 2 ^ 64) → AreBytesOf s expiry bytes.now
+    ensures written { (s : Shard) → IsBytesOf s bytes.now
         → IsOkAnd result (RunAmong no_key hashes.now (finite.values s.xorbs)) }
 {
     let mut source = MemorySource::new(bytes);

@@ -1,15 +1,12 @@
 -- A lookup of a file, and how it is shown.
-use Rattle.std.specs.Prelude.{◌≡◌, ◌⊎◌, ◌<◌, ◌≤◌, ◌^◌, ℕ, List, length, Option, IfSome, MatchResult, Ok, Err}
-use Rattle.std.specs.FinMap as finite
-use Rattle.xet_core_structures.specs.declared.error.CoreError.TheVariants.{OutOfMemory, TruncatedHashCollision}
+use Rattle.std.specs.Prelude.{◌≡◌, ℕ, List, length, Option, MatchResult, Ok, Err}
 use Rattle.xet_core_structures.specs.declared.file_structs.MDBFileInfo.{MDBFileInfo}
 use Rattle.xet_core_structures.specs.declared.merklehash.DataHash.{DataHash}
 use Rattle.xet_core_structures.specs.Errors.{CoreResult, variant_number}
-use Rattle.xet_core_structures.specs.FileRecord.{file_records}
-use Rattle.xet_core_structures.specs.Lookup.{FoundInShard, sharing}
-use Rattle.xet_core_structures.specs.Shard.{Shard, IsShard}
-use Rattle.xet_core_structures.specs.WrittenShard.{AreBytesOf}
-use Rattle.shard_bytes.specs.Finding.{FindsFile, RefusesFile}
+use Rattle.xet_core_structures.specs.Lookup.{FoundInShard}
+use Rattle.xet_core_structures.specs.Shard.{Shard}
+use Rattle.xet_core_structures.specs.WrittenShard.{IsBytesOf}
+use Rattle.shard_bytes.specs.Finding.{FindsFile, RefusesFile, NotFoundInShard}
 use Rattle.xet_c.specs.declared.find.XetFile.{XetFile}
 use Rattle.xet_c.specs.declared.segment.XetFileSegment.{XetFileSegment}
 use Rattle.xet_c.specs.Arguments.{c_file, segments_in}
@@ -19,13 +16,8 @@ use Rattle.xet_c.specs.Output.{Delivers}
 pub record LooksUpFile (bytes : List ℕ) (hash : DataHash) (result : CoreResult (Option MDBFileInfo))
     : Type 0 where
   pub any_bytes : MatchResult result (FindsFile bytes hash) (RefusesFile bytes hash)
-  pub written : (s : Shard) → (expiry : Option ℕ) → IsShard s
-      → IfSome expiry (λ e. e < 2 ^ 64) → AreBytesOf s expiry bytes
-      → MatchResult result (FoundInShard s hash)
-      (λ e. ((e ≡ OutOfMemory)
-      × (length (sharing file_records hash.word0 (finite.values s.files)) < 8))
-      ⊎ ((e ≡ TruncatedHashCollision hash.word0)
-      × (8 ≤ length (sharing file_records hash.word0 (finite.values s.files)))))
+  pub written : (s : Shard) → IsBytesOf s bytes
+      → MatchResult result (FoundInShard s hash) (NotFoundInShard s hash)
 
 -- what was found is shown, its segments at the front of an output if they fit; after an error all
 -- stays

@@ -1,8 +1,10 @@
 //! The union of a list of shards.
 
 ghost use Rattle.std.specs.Prelude.{◌≡◌, ◌⊎◌, List, map};
+ghost use Rattle.xet_core_structures.specs.MergeTrees.{MergeRefused};
 ghost use Rattle.xet_core_structures.specs.Shard.{Shard};
-ghost use Rattle.shard_bytes.specs.Merging.{MergesBytes, RefusesMerge, HaveJoin, WritesJoin, RefusesJoin};
+ghost use Rattle.xet_core_structures.specs.WrittenShard.{IsBytesWithoutExpiry};
+ghost use Rattle.shard_bytes.specs.Merging.{MergesBytes, RefusesMerge, HaveJoin};
 ghost use Rattle.xet_c.specs.Output.{Outcome};
 
 use crate::output::deliver;
@@ -22,7 +24,7 @@ pub extern "C" fn xet_merge(
         (RefusesMerge (map (λ x. x.now) shards.now)) out.old out.new written.new result }
     ensures one_byte_string { (all : List Shard) → (join : Shard)
         → HaveJoin (map (λ x. x.now) shards.now) all join
-        → Outcome (WritesJoin join) (RefusesJoin join) out.old out.new written.new result }
+        → Outcome (IsBytesWithoutExpiry join) (MergeRefused join) out.old out.new written.new result }
 {
     let merged = merge_bytes(alloc, shards);
     deliver(merged, out, written)

@@ -24,6 +24,7 @@ use Rattle.xet_shards.specs.declared.shard_format.form.Form.{Form}
 use Rattle.xet_shards.specs.Layout.{layout_of, layout, plain_form, plain_form_in, info_of}
 use Rattle.xet_shards.specs.SetOperations.{IsUnion, ShardsAgree, HasFewRows}
 use Rattle.xet_shards.specs.Shard.{Shard, IsShard}
+use Rattle.xet_shards.specs.WrittenShard.{IsBytesOf}
 use Rattle.xet_shards.proofs.EndsUnique.{only_info, ends_of_layout, not_unsupported, not_too_short}
 use Rattle.xet_shards.proofs.Overlays.{union_unique}
 use Rattle.xet_shards.proofs.Sections.{files_fit, files_fit_in, xorbs_fit}
@@ -33,7 +34,6 @@ use Rattle.xet_core_structures.specs.ByteUnion.{mixed, IsUnitedFile, IsEitherFil
 use Rattle.xet_core_structures.specs.ByteResults.{keyed_layout, key_of, HaveNoUnion, UnionRefusal, UnitesBytes, LoadRefusal, BytesRefusal}
 use Rattle.xet_core_structures.specs.ExportTrees.{FitsForm}
 use Rattle.xet_core_structures.specs.Held.{Holds}
-use Rattle.xet_core_structures.specs.MergeTrees.{AreSomeBytesOf}
 use Rattle.xet_core_structures.proofs.Held.{held_once, held_whole, held_well, holds_in_form}
 
 -- whether one set of bits includes another is decided
@@ -229,8 +229,9 @@ plain_fits version expiry fits = record {
 }
 
 -- of bytes of either version each
-pub written_union : (a b c : Shard) (x y : List ℕ) → IsShard a → IsShard b → AreSomeBytesOf a x → AreSomeBytesOf b y → ShardsAgree a b → IsUnion a b c
-    → (out : List ℕ) → UnitesBytes x y out → (out ≡ layout c None) × HasFewRows c
-written_union a b c x y first second (e, e_fits, one) (f, f_fits, other) agree union out unites =
-    form_union a b c (plain_form_in one.version e) (plain_form_in other.version f) first second (files_fit_in one.version a first one.files) (files_fit_in other.version b second other.files)
-    (plain_fits one.version e e_fits) (plain_fits other.version f f_fits) refl agree union out (subst (λ p. p) (λ k. UnitesBytes (one.bytes_are k) (other.bytes_are k) out) unites)
+pub written_union : (a b c : Shard) (x y : List ℕ) → IsBytesOf a x → IsBytesOf b y → ShardsAgree a b → IsUnion a b c → (out : List ℕ) → UnitesBytes x y out → (out ≡ layout c None) × HasFewRows c
+written_union a b c x y one other agree union out unites =
+    form_union a b c (plain_form_in one.version one.expiry) (plain_form_in other.version other.expiry) one.shard other.shard
+    (files_fit_in one.version a one.shard one.files) (files_fit_in other.version b other.shard other.files)
+    (plain_fits one.version one.expiry one.expiry_fits) (plain_fits other.version other.expiry other.expiry_fits) refl agree union out
+    (subst (λ p. p) (λ k. UnitesBytes (one.bytes_are k) (other.bytes_are k) out) unites)

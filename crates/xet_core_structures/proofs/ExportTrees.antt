@@ -1,5 +1,5 @@
 -- Trees of unions over exports of shards write the export of their join, and keep runs of chunks.
-use Rattle.std.proofs.Common.{◌≡◌, ◌⊎◌, inl, inr, ℕ, zero, suc, ◌<◌, ◌≤◌, Bool, true, List, [], ◌∷◌, ◌++◌, ◌+◌, length, map, flat_map, get_or, drop, Option, None, Some, refl, sym, ap, ◌∙◌, subst, arith, append-nil}
+use Rattle.std.proofs.Common.{◌≡◌, inl, inr, ℕ, ◌<◌, ◌≤◌, Bool, true, List, [], ◌∷◌, ◌++◌, ◌+◌, length, map, flat_map, get_or, drop, Option, Some, refl, sym, ap, ◌∙◌, subst, arith, append-nil}
 use Rattle.xet_shards.specs.InForm.{FitsSection}
 use Rattle.xet_shards.proofs.Loading.{header_of, one_version}
 use Rattle.xet_shards.specs.Ends.{HasHeader}
@@ -9,15 +9,11 @@ use Rattle.std.specs.FinMap.{FinMap, get, entries, values, get-entries}
 use Rattle.std.specs.Io.KnownBytes.{Appends}
 use Rattle.std.specs.List.{drop-map}
 use Rattle.std.proofs.lemmas.List.{length-append, append_assoc, length-map, get_or-map}
-use Rattle.std.proofs.lemmas.List.Elements.{Contains-push, Contains-append_left}
-use Rattle.std.proofs.lemmas.Option.{same_Some, none-some}
-use Rattle.std.proofs.lemmas.Simd.{map-map}
+use Rattle.std.proofs.lemmas.Option.{none-some}
 use Rattle.xet_base.specs.declared.error.CoreError.{CoreError}
-use Rattle.xet_base.specs.declared.error.CoreError.TheVariants.{OutOfMemory}
 use Rattle.xet_base.specs.declared.merklehash.DataHash.{DataHash}
 use Rattle.xet_base.specs.Bytes.{u64_bytes}
-use Rattle.xet_base.specs.Errors.{IsInvalidShard}
-use Rattle.xet_base.specs.Hash.{IsHash, hash_bytes, hash_cmp}
+use Rattle.xet_base.specs.Hash.{hash_bytes, hash_cmp}
 use Rattle.xet_base.specs.KeyedHash.{no_key, under_key}
 use Rattle.xet_base.specs.Source.{Source, bytes_left}
 use Rattle.xet_base.proofs.Bytes.{length-u64_bytes}
@@ -34,13 +30,13 @@ use Rattle.xet_shards.specs.declared.shard_format.form.Form.{Form}
 use Rattle.xet_shards.specs.ChunkLookup.{ChunkLocation}
 use Rattle.xet_shards.specs.ChunkQuery.{run_at, run_length}
 use Rattle.xet_shards.specs.Layout.{if_in, layout_of, header_value, shard_header_bytes, shard_footer_bytes, offsets_of, sums_of, footer_value, plain_form_in, layout_in as layout_in_version}
-use Rattle.xet_shards.specs.WrittenShard.{AreBytesOf}
+use Rattle.xet_shards.specs.WrittenShard.{IsBytesOf}
 use Rattle.xet_shards.specs.Joins.{IsJoinOf, AgreePairwise}
 use Rattle.xet_shards.specs.KeyedExport.{exported, Exports, ExportsWith, export_form, xorbs_after, keyed_chunk, keyed_xorb, keyed_xorbs}
 use Rattle.xet_shards.specs.KeyedShards.{keyed_shard}
 use Rattle.xet_shards.specs.Section.{section_bytes, total_rows}
 use Rattle.xet_shards.specs.SectionReading.{IsSection}
-use Rattle.xet_shards.specs.SetOperations.{ShardsAgree, HasFewRows}
+use Rattle.xet_shards.specs.SetOperations.{HasFewRows}
 use Rattle.xet_shards.specs.Shard.{Shard, IsShard}
 use Rattle.xet_shards.specs.Tables.{table_bytes, chunk_table_bytes}
 use Rattle.xet_shards.specs.WrittenQueries.{HasChunkAt, RunAmong}
@@ -49,19 +45,17 @@ use Rattle.xet_shards.proofs.KeyedHashes.{keyed_total}
 use Rattle.xet_shards.proofs.KeyedShards.{keyed_is_shard, keyed_agree, keyed_join, exported_is, values-keyed, get-keyed, run_no_shorter}
 use Rattle.xet_shards.proofs.Layouts.{length-file_section}
 use Rattle.xet_shards.proofs.MappedMaps.{mapped_some}
-use Rattle.xet_shards.proofs.MappedShards.{mapped_member, unmapped_member}
 use Rattle.xet_shards.proofs.Readback.{section_of_shard, xorb_section_of_shard, layout_from_48}
 use Rattle.xet_shards.proofs.Sections.{files_laws, files_fit, files_fit_in}
 use Rattle.xet_shards.proofs.SectionUnique.{only_list}
 use Rattle.xet_shards.proofs.Sums.{all_of_map}
 use Rattle.xet_core_structures.specs.declared.set_operations.MergePlan.{MergePlan}
-use Rattle.xet_core_structures.specs.declared.set_operations.MergePlan.TheVariants.{Leaf, Both'}
 use Rattle.xet_core_structures.specs.ByteResults.{keyed_form, keyed_layout}
-use Rattle.xet_core_structures.specs.ExportTrees.{AreExported, JoinsLeaves, run_under}
-use Rattle.xet_core_structures.specs.MergeTrees.{leaves, TreeWrites, TreeRefusal}
+use Rattle.xet_core_structures.specs.ExportTrees.{IsExportOf, IsMergeOfExports, run_under}
+use Rattle.xet_core_structures.specs.MergeTrees.{TreeWrites, TreeRefusal, IsMergeOf, MergeRefused}
 use Rattle.xet_core_structures.proofs.ByteUnions.{layout_in}
-use Rattle.xet_core_structures.proofs.MappedLeaves.{mapped_leaves}
-use Rattle.xet_core_structures.proofs.MergeTrees.{AreInputs, keyed_tree, tree_refused}
+use Rattle.xet_core_structures.proofs.MappedJoins.{PassesToJoins, mapped_agree, mapped_merge}
+use Rattle.xet_core_structures.proofs.MergeTrees.{IsLayout, keyed_tree, tree_refused}
 
 -- the values of a map are what it has under its keys
 at_value : {X : Type 0} (m : FinMap hash_cmp X) (q : DataHash) (x : X) → get m q ≡ Some x → Contains (values m) x
@@ -81,90 +75,83 @@ value_at {X} m q x (k, within, is) =
     let same = sym (get_or-map (λ (d : DataHash × X). d.1) (entries m) k (q, x) x below) ∙ is in
     ((get_or (entries m) k (q, x)).0, found ∙ ap Some same)
 
-first_leaf : (plan : MergePlan) → (i : ℕ) × Contains (leaves plan) i
-first_leaf (Leaf i) = (i, Contains-push [] i)
-first_leaf (Both' p left q right) =
-    let i = first_leaf left in
-    (i.0, Contains-append_left (leaves left) (leaves right) i.0 i.1)
+-- exports with auxiliary rows of shards that agree, under one key
+keys_pass : (key : DataHash) → PassesToJoins (keyed_shard key)
+keys_pass key = record { shards = keyed_is_shard key; agree = keyed_agree key; join = keyed_join key }
 
-module _ (plan : MergePlan) (key : DataHash) (shard_at : ℕ → Shard) (join : Shard) (joins : JoinsLeaves plan shard_at join) where
-  abbrev keyed_at : ℕ → Shard
-  keyed_at i = keyed_shard key (shard_at i)
+pub keyed_leaves : (key : DataHash) (shards : List Shard) (join : Shard) → AgreePairwise (Contains shards) → IsJoinOf (Contains shards) join
+    → AgreePairwise (Contains (map (keyed_shard key) shards)) × IsJoinOf (Contains (map (keyed_shard key) shards)) (keyed_shard key join)
+keyed_leaves key shards join agree is_join = (mapped_agree (keyed_shard key) (keys_pass key) shards agree, keyed_join key shards join is_join)
 
-  pub keyed_leaves : JoinsLeaves plan keyed_at (keyed_shard key join)
-  keyed_leaves = mapped_leaves (keyed_shard key) (record { shards = keyed_is_shard key; agree = keyed_agree key; join = keyed_join key }) plan shard_at join joins
+export_layout : (key : DataHash) (s : Shard) (bytes : List ℕ) → IsShard s → IsExportOf true key s bytes → IsLayout key (keyed_shard key s) bytes
+export_layout key s bytes shard export =
+    let keyed = keyed_is_shard key s shard in
+    record {
+      form = export.form;
+      shard = keyed;
+      under = export.is_form.under;
+      files = subst (λ v. FitsSection (file_records_in v) (values (keyed_shard key s).files)) (sym export.is_form.version) (files_fit (keyed_shard key s) keyed);
+      fits = export.is_form.fits;
+      bytes = export.bytes_are ∙ exported_is s export.form export.is_form.files ∙ (λ k. layout_in (keyed_shard (export.is_form.under k) s) export.form);
+    }
 
+module _ (key : DataHash) (inputs : List (List ℕ)) (plan : MergePlan) (shards : List Shard) (join : Shard) (merge : IsMergeOfExports true key inputs plan shards join) where
   few_keyed : HasFewRows join → HasFewRows (keyed_shard key join)
   few_keyed few = record {
     files = few.files;
     xorbs = omega (arith, ap (total_rows xorb_records) (values-keyed key join), keyed_total key (values join.xorbs), few.xorbs);
   }
 
-  module _ (inputs : List (List ℕ)) (form_at : ℕ → Form) (exports : AreExported inputs plan key shard_at form_at) where
-    key_fits : IsHash key
-    key_fits =
-        let leaf = first_leaf plan in
-        let export = exports leaf.0 leaf.1 in
-        subst IsHash export.under export.fits.key
+  layouts : IsMergeOf (IsLayout key) inputs plan (map (keyed_shard key) shards) (keyed_shard key join)
+  layouts = mapped_merge (keyed_shard key) (keys_pass key) (IsExportOf true key) (IsLayout key) (export_layout key) inputs plan shards join merge
 
-    inputs_are : AreInputs inputs key key_fits keyed_at plan
-    inputs_are i member =
-        let export = exports i member in
-        record {
-          form = form_at i;
-          under = export.under;
-          files = subst (λ v. FitsSection (file_records_in v) (values (keyed_at i).files)) (sym export.version) (files_fit (keyed_at i) (keyed_leaves.agree.shards (keyed_at i) (mapped_member keyed_at (leaves plan) i member)));
-          fits = export.fits;
-          bytes = export.bytes ∙ ap Some (exported_is (shard_at i) (form_at i) export.files ∙ (λ k. layout_in (keyed_shard (export.under k) (shard_at i)) (form_at i)));
-        }
+  pub tree_of_exports : (out : List ℕ) → TreeWrites inputs plan out → out ≡ keyed_layout (keyed_shard key join) key
+  tree_of_exports out writes = (keyed_tree inputs key plan (map (keyed_shard key) shards) (keyed_shard key join) out layouts writes).0
 
-    pub tree_of_exports : (out : List ℕ) → TreeWrites inputs plan out → out ≡ keyed_layout (keyed_shard key join) key
-    tree_of_exports out writes = (keyed_tree inputs key key_fits keyed_at plan (keyed_shard key join) out joins.union inputs_are keyed_leaves.agree keyed_leaves.is_join writes).0
+  pub export_of_join : (out : List ℕ) → TreeWrites inputs plan out → out ≡ exported (values join.files) (values join.xorbs) (export_form key 0 18446744073709551615 true true true)
+  export_of_join out writes = tree_of_exports out writes ∙ sym (exported_is join (keyed_form key) refl)
 
-    pub export_of_join : (out : List ℕ) → TreeWrites inputs plan out → out ≡ exported (values join.files) (values join.xorbs) (export_form key 0 18446744073709551615 true true true)
-    export_of_join out writes = tree_of_exports out writes ∙ sym (exported_is join (keyed_form key) refl)
-
-    pub exports_refused : (e : CoreError) → TreeRefusal inputs plan e → (e ≡ OutOfMemory) ⊎ (IsInvalidShard e × (¬ HasFewRows join))
-    exports_refused e refusal = elim (tree_refused inputs key key_fits keyed_at plan (keyed_shard key join) e inputs_are keyed_leaves.agree keyed_leaves.is_join refusal) [
-      | inl no_memory ↦ inl no_memory
-      | inr many ↦ inr (many.0, λ few. many.1 (few_keyed few))
-    ]
+  pub exports_refused : (e : CoreError) → TreeRefusal inputs plan e → MergeRefused join e
+  exports_refused e refusal = elim (tree_refused inputs key plan (map (keyed_shard key) shards) (keyed_shard key join) e layouts.inputs_are layouts.agree layouts.is_join refusal) [
+    | inl no_memory ↦ inl no_memory
+    | inr many ↦ inr (many.0, λ few. many.1 (few_keyed few))
+  ]
 
 -- an export of a shard is the layout of the shard under the key, without files where they are not asked for
 exported_in : (s : Shard) (form : Form) → exported (values s.files) (values s.xorbs) form ≡ layout_of (if_in form.file_table (values s.files)) (values (keyed_shard form.key s).xorbs) form
 exported_in s form = λ i. layout_of (if_in form.file_table (values s.files)) (sym (values-keyed form.key s) i) form
 
 -- what an export of the shard's bytes writes, in whichever version they are, with auxiliary rows or without
-module _ (aux : Bool) (s : Shard) (expiry : Option ℕ) (shard : IsShard s) (form : Form) (old new : Source) (before after : Option (List ℕ)) (n : ℕ) (are : AreBytesOf s expiry (bytes_left old))
-    (exports : ExportsWith aux form old new before after n) where
+module _ (aux : Bool) (s : Shard) (form : Form) (old new : Source) (before after : Option (List ℕ)) (n : ℕ) (is : IsBytesOf s (bytes_left old)) (exports : ExportsWith aux form old new before after n) where
   abbrev own_header : HasHeader (bytes_left old)
-  own_header = header_of (bytes_left old) _ (header_value are.version) (are.bytes_are ∙ layout_from_48 (values s.files) (values s.xorbs) (plain_form_in are.version expiry)) (are.version, refl)
+  own_header = header_of (bytes_left old) _ (header_value is.version) (is.bytes_are ∙ layout_from_48 (values s.files) (values s.xorbs) (plain_form_in is.version is.expiry)) (is.version, refl)
 
-  section_in : IsSection (file_records_in are.version) (drop 48 (bytes_left old)) exports.files
+  section_in : IsSection (file_records_in is.version) (drop 48 (bytes_left old)) exports.files
   section_in =
       subst (λ v. IsSection (file_records_in v) (drop 48 (bytes_left old)) exports.files)
-      (one_version (bytes_left old) exports.header own_header ∙ version_known are.version) exports.file_section
+      (one_version (bytes_left old) exports.header own_header ∙ version_known is.version) exports.file_section
 
   files_read : exports.files ≡ values s.files
   files_read =
-      only_list (file_records_in are.version) (files_laws are.version) (drop 48 (layout_in_version are.version s expiry)) exports.files (values s.files)
-      (subst (λ bytes. IsSection (file_records_in are.version) (drop 48 bytes) exports.files) are.bytes_are section_in) (section_of_shard are.version s expiry (files_fit_in are.version s shard are.files))
+      only_list (file_records_in is.version) (files_laws is.version) (drop 48 (layout_in_version is.version s is.expiry)) exports.files (values s.files)
+      (subst (λ bytes. IsSection (file_records_in is.version) (drop 48 bytes) exports.files) is.bytes_are section_in)
+      (section_of_shard is.version s is.expiry (files_fit_in is.version s is.shard is.files))
 
   after_files : xorbs_after exports.files ≡ 48 + length (section_bytes file_records (values s.files))
-  after_files = ap xorbs_after files_read ∙ omega (arith, length-file_section (values s.files) (λ k r below. ((files_fit s shard).stored k r below).widths))
+  after_files = ap xorbs_after files_read ∙ omega (arith, length-file_section (values s.files) (λ k r below. ((files_fit s is.shard).stored k r below).widths))
 
   xorbs_read : exports.xorbs ≡ values s.xorbs
   xorbs_read =
-      only_list xorb_records xorb_laws (drop (48 + length (section_bytes file_records (values s.files))) (layout_in_version are.version s expiry)) exports.xorbs (values s.xorbs)
-      (subst (λ bytes. IsSection xorb_records bytes exports.xorbs) (λ i. drop (after_files i) (are.bytes_are i)) exports.xorb_section) (xorb_section_of_shard are.version s expiry shard)
+      only_list xorb_records xorb_laws (drop (48 + length (section_bytes file_records (values s.files))) (layout_in_version is.version s is.expiry)) exports.xorbs (values s.xorbs)
+      (subst (λ bytes. IsSection xorb_records bytes exports.xorbs) (λ i. drop (after_files i) (is.bytes_are i)) exports.xorb_section) (xorb_section_of_shard is.version s is.expiry is.shard)
 
   pub export_of_bytes : Appends before after (exported (auxes_as_wanted aux (values s.files)) (values s.xorbs) form)
   export_of_bytes = subst (Appends before after) (λ i. exported (auxes_as_wanted aux (files_read i)) (xorbs_read i) form) exports.written
 
-pub export_written : (s : Shard) (expiry : Option ℕ) → IsShard s → (form : Form) (old new : Source) (before after : Option (List ℕ)) (n : ℕ) → AreBytesOf s expiry (bytes_left old)
+pub export_written : (s : Shard) (form : Form) (old new : Source) (before after : Option (List ℕ)) (n : ℕ) → IsBytesOf s (bytes_left old)
     → Exports form old new before after n → Appends before after (layout_of (if_in form.file_table (values s.files)) (values (keyed_shard form.key s).xorbs) form)
-export_written s expiry shard form old new before after n are exports =
-    subst (Appends before after) (exported_in s form) (export_of_bytes true s expiry shard form old new before after n are exports)
+export_written s form old new before after n is exports =
+    subst (Appends before after) (exported_in s form) (export_of_bytes true s form old new before after n is exports)
 
 -- under a key a run is at least as long
 pub longer_under : (key : DataHash) (s : Shard) (q : DataHash) (index : ℕ) (qs : List DataHash) (run : ℕ × FileDataSequenceEntry) → run_under no_key s q index qs ≡ Some run
@@ -179,57 +166,51 @@ longer_under key s q index qs run is =
       omega (arith, run_no_shorter key qs (drop index xorb.chunks), ap (run_length key qs) chunks, ap (λ (r : ℕ × FileDataSequenceEntry). r.0) mine.2),
     )
 
-module _ (plan : MergePlan) (shard_at : ℕ → Shard) (join : Shard) (joins : JoinsLeaves plan shard_at join) where
-  -- the join has the xorbs of the leaves, and no others
-  xorb_kept : (i : ℕ) (q : DataHash) (xorb : MDBXorbInfo) → Contains (leaves plan) i → get (shard_at i).xorbs q ≡ Some xorb → get join.xorbs q ≡ Some xorb
-  xorb_kept i q xorb member has = (joins.is_join.xorbs q xorb).1 (shard_at i, mapped_member shard_at (leaves plan) i member, has)
+module _ (shards : List Shard) (join : Shard) (is_join : IsJoinOf (Contains shards) join) where
+  -- the join has the xorbs of the shards, and no others
+  xorb_kept : (s : Shard) (q : DataHash) (xorb : MDBXorbInfo) → Contains shards s → get s.xorbs q ≡ Some xorb → get join.xorbs q ≡ Some xorb
+  xorb_kept s q xorb member has = (is_join.xorbs q xorb).1 (s, member, has)
 
-  xorb_from : (q : DataHash) (xorb : MDBXorbInfo) → get join.xorbs q ≡ Some xorb → (i : ℕ) × Contains (leaves plan) i × (get (shard_at i).xorbs q ≡ Some xorb)
-  xorb_from q xorb has =
-      let found = (joins.is_join.xorbs q xorb).0 has in
-      let from = unmapped_member shard_at (leaves plan) found.0 found.1 in
-      (from.0, from.1, ap (λ (s : Shard). get s.xorbs q) from.2 ∙ found.2)
-
-  pub run_kept : (key : DataHash) (i : ℕ) (q : DataHash) (index : ℕ) (qs : List DataHash) (run : ℕ × FileDataSequenceEntry) → Contains (leaves plan) i
-      → run_under key (shard_at i) q index qs ≡ Some run → run_under key join q index qs ≡ Some run
-  run_kept key i q index qs run member is =
-      let mine = mapped_some (λ (xorb : MDBXorbInfo). run_at key (xorb, index) qs) (get (shard_at i).xorbs q) run is in
-      ap (option_map (λ (xorb : MDBXorbInfo). run_at key (xorb, index) qs)) (xorb_kept i q mine.0 member mine.1) ∙ ap Some mine.2
+  pub run_kept : (key : DataHash) (s : Shard) (q : DataHash) (index : ℕ) (qs : List DataHash) (run : ℕ × FileDataSequenceEntry) → Contains shards s
+      → run_under key s q index qs ≡ Some run → run_under key join q index qs ≡ Some run
+  run_kept key s q index qs run member is =
+      let mine = mapped_some (λ (xorb : MDBXorbInfo). run_at key (xorb, index) qs) (get s.xorbs q) run is in
+      ap (option_map (λ (xorb : MDBXorbInfo). run_at key (xorb, index) qs)) (xorb_kept s q mine.0 member mine.1) ∙ ap Some mine.2
 
   pub run_from : (key q : DataHash) (index : ℕ) (qs : List DataHash) (run : ℕ × FileDataSequenceEntry) → run_under key join q index qs ≡ Some run
-      → (i : ℕ) × Contains (leaves plan) i × (run_under key (shard_at i) q index qs ≡ Some run)
+      → (s : Shard) × Contains shards s × (run_under key s q index qs ≡ Some run)
   run_from key q index qs run is =
       let mine = mapped_some (λ (xorb : MDBXorbInfo). run_at key (xorb, index) qs) (get join.xorbs q) run is in
-      let from = xorb_from q mine.0 mine.1 in
+      let from = (is_join.xorbs q mine.0).0 mine.1 in
       (from.0, from.1, ap (option_map (λ (xorb : MDBXorbInfo). run_at key (xorb, index) qs)) from.2 ∙ ap Some mine.2)
 
-  chunk_from : (q : DataHash) (p : ChunkLocation) → HasChunkAt (values join.xorbs) q p → (i : ℕ) × Contains (leaves plan) i × HasChunkAt (values (shard_at i).xorbs) q p
+  chunk_from : (q : DataHash) (p : ChunkLocation) → HasChunkAt (values join.xorbs) q p → (s : Shard) × Contains shards s × HasChunkAt (values s.xorbs) q p
   chunk_from q p has =
       let own = value_at join.xorbs q p.0 has.xorb in
-      let from = xorb_from own.0 p.0 own.1 in
-      (from.0, from.1, record { xorb = at_value (shard_at from.0).xorbs own.0 p.0 from.2; chunk = has.chunk })
+      let from = (is_join.xorbs own.0 p.0).0 own.1 in
+      (from.0, from.1, record { xorb = at_value (from.0).xorbs own.0 p.0 from.2; chunk = has.chunk })
 
-  pub same_chunks : (q : DataHash) (p : ChunkLocation) → HasChunkAt (values join.xorbs) q p ↔ ((i : ℕ) × Contains (leaves plan) i × HasChunkAt (values (shard_at i).xorbs) q p)
+  pub same_chunks : (q : DataHash) (p : ChunkLocation) → HasChunkAt (values join.xorbs) q p ↔ ((s : Shard) × Contains shards s × HasChunkAt (values s.xorbs) q p)
   same_chunks q p = (
     chunk_from q p,
     λ found.
-        let own = value_at (shard_at found.0).xorbs q p.0 found.2.xorb in
+        let own = value_at (found.0).xorbs q p.0 found.2.xorb in
         record { xorb = at_value join.xorbs own.0 p.0 (xorb_kept found.0 own.0 p.0 found.1 own.1); chunk = found.2.chunk },
   )
 
-  -- an answer to a query on the join is one on a leaf
+  -- an answer to a query on the join is one on one of the shards
   pub answer_from : (key : DataHash) (qs : List DataHash) (run : ℕ × FileDataSequenceEntry) → RunAmong key qs (values join.xorbs) (Some run)
-      → (i : ℕ) × Contains (leaves plan) i × RunAmong key qs (values (shard_at i).xorbs) (Some run)
+      → (s : Shard) × Contains shards s × RunAmong key qs (values s.xorbs) (Some run)
   answer_from key [] run is = absurd (none-some run (sym is))
   answer_from key (q ∷ qs) run (p, has, is) =
       let from = chunk_from (under_key key q) p has in
       (from.0, from.1, (p, from.2, is))
 
   -- under a key it has one at least as long
-  pub longer_run : (key : DataHash) (i : ℕ) (q : DataHash) (index : ℕ) (qs : List DataHash) (run : ℕ × FileDataSequenceEntry) → Contains (leaves plan) i
-      → run_under no_key (shard_at i) q index qs ≡ Some run
+  pub longer_run : (key : DataHash) (s : Shard) (q : DataHash) (index : ℕ) (qs : List DataHash) (run : ℕ × FileDataSequenceEntry) → Contains shards s
+      → run_under no_key s q index qs ≡ Some run
       → (longer : ℕ × FileDataSequenceEntry) × (run_under key (keyed_shard key join) q index qs ≡ Some longer) × (run.0 ≤ longer.0)
-  longer_run key i q index qs run member is = longer_under key join q index qs run (run_kept no_key i q index qs run member is)
+  longer_run key s q index qs run member is = longer_under key join q index qs run (run_kept no_key s q index qs run member is)
 
 -- two exports of the same records differ in the two timestamps of the footer alone
 module _ (files : List MDBFileInfo) (xorbs : List MDBXorbInfo) (key : DataHash) where

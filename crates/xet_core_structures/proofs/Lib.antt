@@ -7,7 +7,7 @@ pub mod Held
 pub mod ListMaps
 pub mod Lists
 pub mod LookupsFound
-pub mod MappedLeaves
+pub mod MappedJoins
 pub mod MergeTrees
 pub mod MinimalAgain
 pub mod MixWriting
@@ -25,3 +25,4 @@ pub mod TreesOfExports
 pub mod TreeXorbs
 pub mod UnitedFiles
 pub mod Uniting
+pub mod Zipped

@@ -1,5 +1,5 @@
 -- File lookups on the bytes of a shard under a key find its files, and so do those on the bytes of a tree of unions.
-use Rattle.std.proofs.Common.{◌≡◌, ℕ, ◌^◌, ◌<◌, List, Option, Ok, Err, IfSome, refl, sym, subst, arith, ap}
+use Rattle.std.proofs.Common.{◌≡◌, ℕ, List, Option, Ok, Err, refl, sym, subst, arith, ap}
 use Rattle.xet_shards.proofs.Sections.{files_laws}
 use Rattle.xet_shards.specs.SectionReading.{files_of}
 use Rattle.xet_records.specs.Version.{version_of}
@@ -15,25 +15,25 @@ use Rattle.xet_records.specs.XorbRecord.{xorb_records}
 use Rattle.xet_records.proofs.RecordKinds.{file_laws}
 use Rattle.xet_shards.specs.declared.shard_format.info.MDBShardInfo.{MDBShardInfo}
 use Rattle.xet_shards.specs.Ends.{FitsFooter, HasEnds, Loads}
-use Rattle.xet_shards.specs.Layout.{layout, plain_form, info_value, plain_form_in}
-use Rattle.xet_shards.specs.Lookup.{FoundInShard, LookupFailsAmong, LooksUpRecord, file_table}
+use Rattle.xet_shards.specs.Layout.{plain_form_in}
+use Rattle.xet_shards.specs.Lookup.{FoundInShard, LookupFailsAmong, LooksUpRecord, file_table, LooksUpFile, FindsInShard}
 use Rattle.xet_shards.specs.SetOperations.{IsDifference}
-use Rattle.xet_shards.specs.Shard.{Shard, IsShard}
+use Rattle.xet_shards.specs.Shard.{Shard}
 use Rattle.xet_shards.specs.Tables.{hash_in}
-use Rattle.xet_shards.specs.WrittenShard.{IsWritten}
+use Rattle.xet_shards.specs.WrittenShard.{IsBytesWithInfo}
 use Rattle.xet_shards.proofs.EndsUnique.{only_info, ends_of_layout}
-use Rattle.xet_shards.proofs.InForm.{no_file, files_in, shard_in_form, files_ascend, files_of_shard}
+use Rattle.xet_shards.proofs.InForm.{no_file, files_in, files_of_shard}
 use Rattle.xet_shards.proofs.MapAnswers.{map_answers}
 use Rattle.xet_shards.proofs.ShardLookups.{lookup_written, bounds_ever}
 use Rattle.xet_shards.proofs.TableLookups.{IsLookedUp, answered, not_answered, lookup_bounded, collision_bounded}
 use Rattle.xet_shards.proofs.TableOrder.{hashes_ascend}
-use Rattle.xet_shards.proofs.Widths.{fits_written, fits_in_form}
+use Rattle.xet_shards.proofs.Widths.{fits_in_form}
 use Rattle.xet_core_structures.specs.declared.set_operations.MergePlan.{MergePlan}
 use Rattle.xet_core_structures.specs.declared.set_operations.MergePlan.TheVariants.{Leaf, Both'}
 use Rattle.xet_core_structures.specs.ByteUnion.{IsByteUnion}
 use Rattle.xet_core_structures.specs.ByteResults.{keyed_form, keyed_layout, keyed_info, key_of, HaveResult, WritesResult}
 use Rattle.xet_core_structures.specs.MergeTrees.{HasUnion, TreeWrites}
-use Rattle.xet_core_structures.specs.Readable.{IsWrittenUnder, WritesInForm, LooksUpFile, FindsInShard}
+use Rattle.xet_core_structures.specs.Readable.{IsWrittenUnder, WritesInForm}
 use Rattle.xet_core_structures.proofs.Readable.{IsReadable, union_readable, difference_readable}
 
 -- lookups on the bytes of a shard under a key
@@ -115,23 +115,18 @@ tree_under inputs (Both' p left q right) out union (x, y, x_written, y_written, 
     (key_of i, c, subst (λ bytes. IsWrittenUnder (key_of i) c bytes (keyed_info c (key_of i))) (sym is) (union_under x i y j c x_ends have))
 
 -- the bytes of a shard without a key
-module _ (s : Shard) (expiry : Option ℕ) (old : Source) (info : MDBShardInfo) (written : IsWritten s expiry old.bytes info) where
+module _ (s : Shard) (old : Source) (info : MDBShardInfo) (is : IsBytesWithInfo s old.bytes info) where
   plain : let footer = info.metadata in IsLookedUp (files_of info) no_file (values s.files) footer.file_info_offset footer.file_lookup_offset footer.file_lookup_num_entry old
   plain =
       let footer = info.metadata in
-      subst (λ v. IsLookedUp (file_records_in v) no_file (values s.files) footer.file_info_offset footer.file_lookup_offset footer.file_lookup_num_entry old) (sym (files_of_shard written).version)
-      (files_in (values s.files) (values s.xorbs) (plain_form_in written.version expiry) old info.metadata (shard_in_form written) (files_ascend s written.shard) refl)
+      let has_table = files_of_shard is in
+      subst (λ v. IsLookedUp (file_records_in v) no_file (values s.files) footer.file_info_offset footer.file_lookup_offset footer.file_lookup_num_entry old) (sym has_table.version)
+      (files_in (values s.files) (values s.xorbs) (plain_form_in is.is_bytes.version is.is_bytes.expiry) old info.metadata has_table.in_form has_table.ascends refl)
 
   pub found_in_layout : (hash : DataHash) (new : Source) (found : Result (Option MDBFileInfo) CoreError) → LooksUpFile info hash old new found → FindsInShard s hash old new found
   found_in_layout hash new found looks = record {
-    answer = lookup_written s written.shard (version_of info.header.version) _ _ _ old plain new hash found looks;
+    answer = lookup_written s is.is_bytes.shard (version_of info.header.version) _ _ _ old plain new hash found looks;
     costs = bounds_ever file_records (version_of info.header.version) (values s.files) _ _ _
         (lookup_bounded (files_of info) (files_laws (version_of info.header.version)) no_file (values s.files) _ _ _ old plain new hash found looks);
     collision = collision_bounded (files_of info) (files_laws (version_of info.header.version)) no_file (values s.files) _ _ _ old plain new hash found looks;
   }
-
-pub loaded_layout : (s : Shard) (expiry : Option ℕ) (old new : Source) (found : MDBShardInfo) → IsShard s → IfSome expiry (λ n. n < 2 ^ 64) → old.bytes ≡ layout s expiry → Loads old new found
-    → found ≡ info_value s expiry
-loaded_layout s expiry old new found shard fits are loads =
-    only_info old.bytes found (info_value s expiry) loads.ends
-    (subst (λ bytes. HasEnds bytes (info_value s expiry)) (sym are) (ends_of_layout (values s.files) (values s.xorbs) (plain_form expiry) (fits_written s expiry shard fits)))

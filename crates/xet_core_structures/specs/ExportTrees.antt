@@ -1,5 +1,5 @@
 -- Trees of unions over exports of shards, and runs of chunks in the shards at their leaves.
-use Rattle.std.specs.Prelude.{◌≡◌, ℕ, ◌^◌, ◌<◌, Bool, true, List, [], Contains, Option, Some, option_map, slice_get}
+use Rattle.std.specs.Prelude.{◌≡◌, ℕ, ◌^◌, ◌<◌, Bool, true, List, [], Option, Some, option_map, slice_get}
 use Rattle.xet_records.specs.declared.record_reader.FormatVersion.TheVariants.{V3}
 use Rattle.std.specs.FinMap.{get, values}
 use Rattle.xet_base.specs.Source.{Source, bytes_left}
@@ -9,11 +9,10 @@ use Rattle.xet_base.specs.Hash.{IsHash}
 use Rattle.xet_records.specs.declared.file_structs.rows.FileDataSequenceEntry.{FileDataSequenceEntry}
 use Rattle.xet_shards.specs.declared.shard_format.form.Form.{Form}
 use Rattle.xet_shards.specs.ChunkQuery.{run_at}
-use Rattle.xet_shards.specs.Joins.{IsJoinOf, AgreePairwise}
 use Rattle.xet_shards.specs.KeyedExport.{exported, ExportsWith}
 use Rattle.xet_shards.specs.Shard.{Shard}
 use Rattle.xet_core_structures.specs.declared.set_operations.MergePlan.{MergePlan}
-use Rattle.xet_core_structures.specs.MergeTrees.{leaves, HasUnion, AtLeaves}
+use Rattle.xet_core_structures.specs.MergeTrees.{IsMergeOf}
 
 -- the numbers of a form are within their widths
 pub record FitsForm (form : Form) : Type 0 where
@@ -21,35 +20,29 @@ pub record FitsForm (form : Form) : Type 0 where
   pub creation : form.creation < 2 ^ 64
   pub expiry : form.expiry < 2 ^ 64
 
--- the input at an index is the export of a shard with its files under a key, with auxiliary rows or
--- without
-pub record IsExportAt (aux : Bool) (inputs : List (List ℕ)) (key : DataHash) (i : ℕ) (s : Shard)
-    (form : Form) : Type 0 where
+-- the form of an export with files under a key, with tables and timestamps of its own
+pub record IsExportForm (key : DataHash) (form : Form) : Type 0 where
   pub under : form.key ≡ key
   pub files : form.file_table ≡ true
   pub version : form.version ≡ V3
   pub fits : FitsForm form
-  pub bytes : slice_get inputs i
-      ≡ Some (exported (auxes_as_wanted aux (values s.files)) (values s.xorbs) form)
 
--- the input at each leaf is such an export, with tables and timestamps of its own
-abbrev pub AreExportedWith : Bool → List (List ℕ) → MergePlan → DataHash → (ℕ → Shard) → (ℕ → Form)
+-- the bytes are such an export of this shard, with auxiliary rows or without
+pub record IsExportOf (aux : Bool) (key : DataHash) (s : Shard) (bytes : List ℕ) : Type 0 where
+  pub form : Form
+  pub is_form : IsExportForm key form
+  pub bytes_are : bytes ≡ exported (auxes_as_wanted aux (values s.files)) (values s.xorbs) form
+
+-- a tree with a union, over exports under one key of shards that agree, and their join
+abbrev pub IsMergeOfExports : Bool → DataHash → List (List ℕ) → MergePlan → List Shard → Shard
     → Type 0
-AreExportedWith aux inputs plan key shard_at form_at =
-    (i : ℕ) → Contains (leaves plan) i → IsExportAt aux inputs key i (shard_at i) (form_at i)
+IsMergeOfExports aux key = IsMergeOf (IsExportOf aux key)
 
-abbrev pub AreExported : List (List ℕ) → MergePlan → DataHash → (ℕ → Shard) → (ℕ → Form) → Type 0
-AreExported inputs plan key shard_at form_at =
-    AreExportedWith true inputs plan key shard_at form_at
-
--- an export of the bytes at an index of one list, with its files under a key, wrote those at this
--- index of another
-pub record IsExportedAt (aux : Bool) (inputs outs : List (List ℕ)) (key : DataHash) (i : ℕ)
-    (form : Form) : Type 0 where
-  pub under : form.key ≡ key
-  pub files : form.file_table ≡ true
-  pub version : form.version ≡ V3
-  pub fits : FitsForm form
+-- such an export of the bytes at an index of one list wrote those at this index of another
+pub record IsExportedAt (aux : Bool) (key : DataHash) (inputs outs : List (List ℕ)) (i : ℕ)
+    : Type 0 where
+  pub form : Form
+  pub is_form : IsExportForm key form
   pub old : Source
   pub new : Source
   pub out : List ℕ
@@ -62,9 +55,3 @@ pub record IsExportedAt (aux : Bool) (inputs outs : List (List ℕ)) (key : Data
 abbrev pub run_under : DataHash → Shard → DataHash → ℕ → List DataHash
     → Option (ℕ × FileDataSequenceEntry)
 run_under key s q index qs = option_map (λ xorb. run_at key (xorb, index) qs) (get s.xorbs q)
-
--- a tree with a union, over shards that agree pairwise, and their join
-pub record JoinsLeaves (plan : MergePlan) (shard_at : ℕ → Shard) (join : Shard) : Type 0 where
-  pub union : HasUnion plan
-  pub agree : AgreePairwise (AtLeaves plan shard_at)
-  pub is_join : IsJoinOf (AtLeaves plan shard_at) join

@@ -7,7 +7,9 @@ pub mod Held
 pub mod MergeTrees
 pub mod MixedFiles
 pub mod Readable
+pub mod SetOutcomes
 pub mod SideBySide
+pub mod Streams
 pub use Rattle.xet_base.specs.Errors
 pub use Rattle.xet_base.specs.Hash
 pub use Rattle.xet_base.specs.Hex

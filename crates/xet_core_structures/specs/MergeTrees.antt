@@ -1,13 +1,17 @@
 -- Trees of unions of bytes: what they write on any inputs, and what their leaves are.
-use Rattle.std.specs.Prelude.{◌≡◌, ◌⊎◌, ⊤, ℕ, ◌^◌, ◌<◌, ◌≤◌, List, [], ◌∷◌, ◌++◌, length, map, All, Contains, Option, Some, IfSome, slice_get}
+use Rattle.std.specs.Prelude.{◌≡◌, ◌⊎◌, ⊤, ℕ, ◌<◌, ◌≤◌, List, [], ◌∷◌, ◌++◌, length, All, Contains, Some, slice_get}
+use Rattle.std.specs.List.{AllZip}
 use Rattle.std.specs.FinMap.{values}
 use Rattle.xet_base.specs.declared.error.CoreError.{CoreError}
 use Rattle.xet_base.specs.declared.error.CoreError.TheVariants.{InvalidArguments, OutOfMemory}
+use Rattle.xet_base.specs.Errors.{IsInvalidShard}
 use Rattle.xet_records.specs.XorbRecord.{IsXorb}
 use Rattle.xet_shards.specs.declared.shard_format.info.MDBShardInfo.{MDBShardInfo}
 use Rattle.xet_shards.specs.Ends.{HasEnds}
+use Rattle.xet_shards.specs.Joins.{IsJoinOf, AgreePairwise}
+use Rattle.xet_shards.specs.SetOperations.{HasFewRows}
 use Rattle.xet_shards.specs.Shard.{Shard}
-use Rattle.xet_shards.specs.WrittenShard.{AreBytesOf}
+use Rattle.xet_shards.specs.WrittenShard.{IsBytesOf}
 use Rattle.xet_core_structures.specs.declared.set_operations.MergePlan.{MergePlan}
 use Rattle.xet_core_structures.specs.declared.set_operations.MergePlan.TheVariants.{Leaf, Both'}
 use Rattle.xet_core_structures.specs.ByteResults.{UnitesBytes, BytesRefusal}
@@ -49,19 +53,24 @@ HaveXorbs inputs plan =
     → slice_get inputs i ≡ Some bytes → HasEnds bytes info → Holds bytes info s
     → All IsXorb (values s.xorbs)
 
--- the shards at the leaves
-abbrev pub AtLeaves : MergePlan → (ℕ → Shard) → Shard → Type 0
-AtLeaves plan shard_at = Contains (map shard_at (leaves plan))
+-- there is an input at an index, and it is such bytes
+abbrev pub InputIs : List (List ℕ) → (List ℕ → Type 0) → ℕ → Type 0
+InputIs inputs Is i = (bytes : List ℕ) × (slice_get inputs i ≡ Some bytes) × Is bytes
 
--- bytes are those of a shard, in either version, with any expiry or none
-abbrev pub AreSomeBytesOf : Shard → List ℕ → Type 0
-AreSomeBytesOf s bytes =
-    (expiry : Option ℕ) × IfSome expiry (λ e. e < 2 ^ 64) × AreBytesOf s expiry bytes
+-- a tree with a union, whose inputs at the leaves are bytes of these shards, from left to right;
+-- each two of the shards agree, and this is their join
+pub record IsMergeOf (IsOf : Shard → List ℕ → Type 0) (inputs : List (List ℕ)) (plan : MergePlan)
+    (shards : List Shard) (join : Shard) : Type 0 where
+  pub union : HasUnion plan
+  pub inputs_are : AllZip (λ i s. InputIs inputs (IsOf s) i) (leaves plan) shards
+  pub agree : AgreePairwise (Contains shards)
+  pub is_join : IsJoinOf (Contains shards) join
 
--- the input at each leaf is the bytes of a shard, in either version, with an expiry or none
-abbrev pub AreWritten : List (List ℕ) → MergePlan → (ℕ → Shard) → (ℕ → Option ℕ) → Type 0
-AreWritten inputs plan shard_at expiry_at =
-    (i : ℕ) → Contains (leaves plan) i
-    → IfSome (expiry_at i) (λ e. e < 2 ^ 64)
-    × (bytes : List ℕ) × (slice_get inputs i ≡ Some bytes)
-    × AreBytesOf (shard_at i) (expiry_at i) bytes
+-- of bytes as they are written for shards, each in either version, with an expiry or none
+abbrev pub IsMerge : List (List ℕ) → MergePlan → List Shard → Shard → Type 0
+IsMerge = IsMergeOf IsBytesOf
+
+-- why shards that agree are not merged: an allocation failed, or a section of the join has too many
+-- rows
+abbrev pub MergeRefused : Shard → CoreError → Type 0
+MergeRefused join e = (e ≡ OutOfMemory) ⊎ (IsInvalidShard e × (¬ HasFewRows join))

@@ -1,22 +1,15 @@
 -- Bytes of a shard in which lookups find its records as they are.
-use Rattle.std.specs.Prelude.{◌≡◌, ℕ, List, All, Option, MatchResult, IfErr}
+use Rattle.std.specs.Prelude.{◌≡◌, ℕ, List, All, Option}
 use Rattle.std.specs.FinMap.{FinMap, entries, values}
 use Rattle.std.specs.Io.KnownBytes.{Appends}
-use Rattle.std.specs.declared.result.Result.{Result}
-use Rattle.xet_base.specs.declared.error.CoreError.{CoreError}
-use Rattle.xet_base.specs.declared.error.CoreError.TheVariants.{TruncatedHashCollision}
 use Rattle.xet_base.specs.declared.merklehash.DataHash.{DataHash}
 use Rattle.xet_base.specs.Hash.{hash_cmp}
-use Rattle.xet_base.specs.Source.{Source}
-use Rattle.xet_records.specs.declared.file_structs.MDBFileInfo.{MDBFileInfo}
 use Rattle.xet_records.specs.RecordKind.{RecordKind}
 use Rattle.xet_records.specs.FileRecord.{file_records}
 use Rattle.xet_records.specs.XorbRecord.{xorb_records}
 use Rattle.xet_shards.specs.declared.shard_format.info.MDBShardInfo.{MDBShardInfo}
 use Rattle.xet_shards.specs.Ends.{HasEnds}
 use Rattle.xet_shards.specs.InForm.{FitsSection, Ascends, IsInForm}
-use Rattle.xet_shards.specs.Lookup.{file_table, LooksUpRecord, FoundInShard, LookupFailsAmong, WithinBounds, SearchWithinBounds}
-use Rattle.xet_shards.specs.SectionReading.{files_of}
 use Rattle.xet_shards.specs.Shard.{Shard}
 use Rattle.xet_shards.specs.Tables.{hash_in}
 use Rattle.xet_core_structures.specs.ByteResults.{keyed_form, key_of, HaveResult}
@@ -44,21 +37,3 @@ abbrev pub WritesInForm : (Shard → Shard → Shard → Type 0) → List ℕ �
 WritesInForm IsResult x i y j old new info =
     (c : Shard) × (bytes : List ℕ) × HaveResult IsResult x i y j c
     × IsWrittenUnder (key_of i) c bytes info × Appends old new bytes
-
--- a file lookup by this header and footer on any bytes: what `get_file_reconstruction_info` returns
--- is one
-abbrev pub LooksUpFile : MDBShardInfo → DataHash → Source → Source
-    → Result (Option MDBFileInfo) CoreError → Type 0
-LooksUpFile info hash old new found =
-    LooksUpRecord (files_of info) (file_table info.metadata old) info.metadata.file_info_offset hash
-    old new found
-
--- it found what the shard has, or had a reason not to, within bounds
-pub record FindsInShard (s : Shard) (hash : DataHash) (old new : Source)
-    (found : Result (Option MDBFileInfo) CoreError) : Type 0 where
-  pub answer : MatchResult found (FoundInShard s hash)
-      (LookupFailsAmong file_records (values s.files) hash old new)
-  pub costs : WithinBounds file_records (values s.files) hash.word0 old new
-  pub collision : IfErr found
-      (λ e. e ≡ TruncatedHashCollision hash.word0
-      → SearchWithinBounds file_records (values s.files) hash.word0 old new)

@@ -1,6 +1,7 @@
 -- Two sections that are read side by side, a record of each at a time, while what is made of the
 -- records with one hash is written.
-use Rattle.std.specs.Prelude.{◌≡◌, ◌≢◌, ◌⊎◌, ℕ, ◌+◌, ◌*◌, ◌<◌, ◌≤◌, List, ◌++◌, map, flat_map, Option, None, Some, IfSome, option_to_list}
+use Rattle.std.specs.Prelude.{◌≡◌, ◌≢◌, ◌⊎◌, ℕ, ◌+◌, ◌*◌, ◌<◌, ◌≤◌, List, ◌++◌, map, flat_map, Option, None, Some, IfSome, option_to_list, MatchResult}
+use Rattle.std.specs.declared.result.Result.{Result}
 use Rattle.std.specs.Io.KnownBytes.{Appends}
 use Rattle.std.specs.declared.cmp.Ordering.TheVariants.{Less}
 use Rattle.xet_base.specs.declared.error.CoreError.{CoreError}
@@ -21,6 +22,7 @@ use Rattle.xet_shards.specs.Copying.{CopiesRecord}
 use Rattle.xet_shards.specs.SectionReading.{HoldsRecords, BeginsWithBookend, ReadsNext, RecordFails, TakesSection}
 use Rattle.xet_core_structures.specs.Combining.{key_of_record, Combines, IsMadeOf, ArePassed}
 use Rattle.xet_core_structures.specs.Held.{IsCutInOrder, IsBadSection}
+use Rattle.xet_core_structures.specs.Streams.{Streams}
 
 module _ {H R : Type 0} (K : RecordKind H R) where
   -- a header of a record, and not a bookend
@@ -124,6 +126,16 @@ module _ {H R : Type 0} (K : RecordKind H R) where
     refused : (e : CoreError) → failure ≡ Input e → IsInvalidShard e → (one other : Option R)
         → PassesRecord first old_1 new_1 one → PassesRecord second old_2 new_2 other
         → Refused one other → PairFails first second old_1 new_1 old_2 new_2 Refused failure
+
+  -- the outcome for the records of both headers, between two states of both sources and the output
+  abbrev pub MakesRecord : {U : Type 0} → (Option R → Option R → Option R → Type 0) → Option H
+      → Option H → Streams → Streams → ℕ → (List R → Type 0) → (List R → Type 0)
+      → Result U CopyFailure → Type 0
+  MakesRecord makes first second old new rows Before After result =
+      MatchResult result
+      (λ _. WritesMade makes first second old.first new.first old.second new.second rows Before
+      After old.out new.out)
+      (PairFails first second old.first new.first old.second new.second (CannotMake makes rows))
 
   -- both sections were read, each in its version, and a section was written and gathered of what is
   -- made of them

@@ -22,12 +22,13 @@ ghost use Rattle.xet_core_structures.specs.ByteResults.{keyed_info, HaveResult, 
 ghost use Rattle.xet_core_structures.specs.ByteUnion.{IsByteUnion, HasPartsOf};
 ghost use Rattle.xet_core_structures.specs.Equality.{error_eq, derived_eq, derived_partial_cmp, derived_cmp, derived_input};
 ghost use Rattle.xet_core_structures.specs.Held.{Holds, IsReadInOneWay, IsCut, IsBad};
-ghost use Rattle.xet_core_structures.specs.MergeTrees.{HasUnion, TreeWrites, HaveXorbs, AtLeaves, AreSomeBytesOf, AreWritten};
-ghost use Rattle.xet_core_structures.specs.Readable.{IsWrittenUnder, LooksUpFile, FindsInShard};
+ghost use Rattle.xet_core_structures.specs.MergeTrees.{HasUnion, TreeWrites, HaveXorbs, IsMerge};
+ghost use Rattle.xet_core_structures.specs.Readable.{IsWrittenUnder};
 ghost use Rattle.xet_records.specs.declared.file_structs.MDBFileInfo.{MDBFileInfo};
 ghost use Rattle.xet_shards.specs.declared.shard_format.info.MDBShardInfo.{MDBShardInfo};
 ghost use Rattle.xet_shards.specs.Ends.{Loads};
-ghost use Rattle.xet_shards.specs.Layout.{layout, info_value};
+ghost use Rattle.xet_shards.specs.Layout.{layout};
+ghost use Rattle.xet_shards.specs.Lookup.{LooksUpFile, FindsInShard};
 ghost use Rattle.xet_shards.specs.Names.{shard_name, NamesShard};
 ghost use Rattle.xet_records.specs.declared.xorb_structs.MDBXorbInfo.{MDBXorbInfo};
 ghost use Rattle.xet_shards.specs.declared.shard_format.xorb_writer.ChunkTableRow.{ChunkTableRow};
@@ -36,6 +37,7 @@ ghost use Rattle.xet_shards.specs.Shard.{Shard, IsShard, empty_shard, file_hash_
 ghost use Rattle.xet_shards.specs.Tables.{chunk_table_row_cmp, chunk_table_rows, chunk_table, starts, records_below};
 ghost use Rattle.xet_shards.specs.SetOperations.{IsUnion, IsDifference, ShardsAgree, HasFewRows, CanUnite};
 ghost use Rattle.xet_shards.specs.Joins.{IsJoinOf, AgreePairwise};
+ghost use Rattle.xet_shards.specs.WrittenShard.{IsBytesOf, IsBytesWithInfo, IsBytesWithoutExpiry};
 
 mod exports;
 mod minimal;
@@ -220,20 +222,15 @@ pub fn lookups_on_results()
 /// What the tree writes is the bytes of their join without expiry; `load_from_reader` reads the
 /// header and the footer of these, and a file lookup finds what the join has, within bounds.
 pub fn lookups_on_trees()
-    ensures premises { (inputs : List (List ℕ)) → (plan : MergePlan) → (shard_at : ℕ → Shard)
-        → (expiry_at : ℕ → Option ℕ) → (join : Shard) → (old new : Source) → (info : MDBShardInfo)
-        → HasUnion plan → AreWritten inputs plan shard_at expiry_at
-        → AgreePairwise (AtLeaves plan shard_at) → IsJoinOf (AtLeaves plan shard_at) join
-        → TreeWrites inputs plan old.bytes → Loads old new info
-        → IsShard join × (new.bytes ≡ layout join None) × (info ≡ info_value join None) }
-    ensures files { (inputs : List (List ℕ)) → (plan : MergePlan) → (shard_at : ℕ → Shard)
-        → (expiry_at : ℕ → Option ℕ) → (join : Shard) → (old loaded new : Source)
-        → (info : MDBShardInfo) → (hash : DataHash)
-        → (found : Result (Option MDBFileInfo) CoreError) → HasUnion plan
-        → AreWritten inputs plan shard_at expiry_at → AgreePairwise (AtLeaves plan shard_at)
-        → IsJoinOf (AtLeaves plan shard_at) join → TreeWrites inputs plan old.bytes
-        → Loads old loaded info → LooksUpFile info hash loaded new found
-        → FindsInShard join hash loaded new found }
+    ensures premises { (inputs : List (List ℕ)) → (plan : MergePlan) → (shards : List Shard)
+        → (join : Shard) → (old new : Source) → (info : MDBShardInfo)
+        → IsMerge inputs plan shards join → TreeWrites inputs plan old.bytes → Loads old new info
+        → IsBytesWithoutExpiry join new.bytes × IsBytesWithInfo join new.bytes info }
+    ensures files { (inputs : List (List ℕ)) → (plan : MergePlan) → (shards : List Shard)
+        → (join : Shard) → (old loaded new : Source) → (info : MDBShardInfo) → (hash : DataHash)
+        → (found : Result (Option MDBFileInfo) CoreError) → IsMerge inputs plan shards join
+        → TreeWrites inputs plan old.bytes → Loads old loaded info
+        → LooksUpFile info hash loaded new found → FindsInShard join hash loaded new found }
 {}
 
 /// A reader of a section finds one thing in bytes: a list of records with a bookend after them, or
@@ -265,29 +262,27 @@ pub fn results_are_one()
 /// is the same byte string in either order and in either grouping. With the same shard, and with the
 /// empty one on either side, it is the shard's bytes in version 3 without expiry.
 pub fn unions_of_bytes()
-    ensures order { (a b : Shard) → (a_1 a_2 b_1 b_2 x y : List ℕ) → IsShard a → IsShard b
-        → ShardsAgree a b → AreSomeBytesOf a a_1 → AreSomeBytesOf a a_2 → AreSomeBytesOf b b_1
-        → AreSomeBytesOf b b_2 → UnitesBytes a_1 b_1 x → UnitesBytes b_2 a_2 y → x ≡ y }
+    ensures order { (a b : Shard) → (a_1 a_2 b_1 b_2 x y : List ℕ) → ShardsAgree a b
+        → IsBytesOf a a_1 → IsBytesOf a a_2 → IsBytesOf b b_1 → IsBytesOf b b_2
+        → UnitesBytes a_1 b_1 x → UnitesBytes b_2 a_2 y → x ≡ y }
     ensures grouping { (a b c : Shard) → (a_1 a_2 b_1 b_2 c_1 c_2 ab bc left right : List ℕ)
-        → IsShard a → IsShard b → IsShard c → ShardsAgree a b → ShardsAgree a c → ShardsAgree b c
-        → AreSomeBytesOf a a_1 → AreSomeBytesOf a a_2 → AreSomeBytesOf b b_1
-        → AreSomeBytesOf b b_2 → AreSomeBytesOf c c_1 → AreSomeBytesOf c c_2
+        → ShardsAgree a b → ShardsAgree a c → ShardsAgree b c → IsBytesOf a a_1 → IsBytesOf a a_2
+        → IsBytesOf b b_1 → IsBytesOf b b_2 → IsBytesOf c c_1 → IsBytesOf c c_2
         → UnitesBytes a_1 b_1 ab → UnitesBytes ab c_1 left → UnitesBytes b_2 c_2 bc
         → UnitesBytes a_2 bc right → left ≡ right }
-    ensures repetition { (a : Shard) → (a_1 a_2 x : List ℕ) → IsShard a → AreSomeBytesOf a a_1
-        → AreSomeBytesOf a a_2 → UnitesBytes a_1 a_2 x → x ≡ layout a None }
-    ensures right { (a : Shard) → (some none x : List ℕ) → IsShard a → AreSomeBytesOf a some
-        → AreSomeBytesOf empty_shard none → UnitesBytes some none x → x ≡ layout a None }
-    ensures left { (a : Shard) → (some none x : List ℕ) → IsShard a → AreSomeBytesOf a some
-        → AreSomeBytesOf empty_shard none → UnitesBytes none some x → x ≡ layout a None }
+    ensures repetition { (a : Shard) → (a_1 a_2 x : List ℕ) → IsBytesOf a a_1 → IsBytesOf a a_2
+        → UnitesBytes a_1 a_2 x → IsBytesWithoutExpiry a x }
+    ensures right { (a : Shard) → (some none x : List ℕ) → IsBytesOf a some
+        → IsBytesOf empty_shard none → UnitesBytes some none x → IsBytesWithoutExpiry a x }
+    ensures left { (a : Shard) → (some none x : List ℕ) → IsBytesOf a some
+        → IsBytesOf empty_shard none → UnitesBytes none some x → IsBytesWithoutExpiry a x }
 {}
 
 /// If two shards agree, and each file of both has in the first every optional part that it has in
 /// the second, then the union of the first's bytes with those of their difference is the union of
 /// the bytes of both, whatever the versions of these.
 pub fn unions_with_differences()
-    ensures { (a b d : Shard) → (a_1 a_2 b_1 d_1 x y : List ℕ) → IsShard a → IsShard b
-        → ShardsAgree a b → HasPartsOf a b → IsDifference a b d → AreSomeBytesOf a a_1
-        → AreSomeBytesOf a a_2 → AreSomeBytesOf b b_1 → AreSomeBytesOf d d_1
-        → UnitesBytes a_1 b_1 x → UnitesBytes a_2 d_1 y → x ≡ y }
+    ensures { (a b d : Shard) → (a_1 a_2 b_1 d_1 x y : List ℕ) → ShardsAgree a b → HasPartsOf a b
+        → IsDifference a b d → IsBytesOf a a_1 → IsBytesOf a a_2 → IsBytesOf b b_1
+        → IsBytesOf d d_1 → UnitesBytes a_1 b_1 x → UnitesBytes a_2 d_1 y → x ≡ y }
 {}

@@ -1,18 +1,18 @@
 //! Union and difference of shards as bytes, and trees of unions.
 
-ghost use Rattle.std.specs.Prelude.{◌≡◌, ◌≢◌, ◌⊎◌, ℕ, ◌<◌, ◌≤◌, Option, None, Some, length, map, slice_get, IfOk, OnOk, IsErrAnd, MatchResult};
-ghost use Rattle.xet_base.specs.Errors.{IsWriteError, IsInvalidShard};
+ghost use Rattle.std.specs.Prelude.{◌≡◌, ◌≢◌, ◌⊎◌, ℕ, ◌<◌, ◌≤◌, Option, None, Some, length, map, slice_get, IfOk, OnOk, IsErrAnd, MatchResult, List};
+ghost use Rattle.xet_base.specs.Errors.{IsWriteError};
 ghost use Rattle.xet_base.specs.Table.{Serves};
 ghost use Rattle.xet_shards.specs.Ends.{FitsFooter};
-ghost use Rattle.xet_shards.specs.Joins.{IsJoinOf, AgreePairwise};
-ghost use Rattle.xet_shards.specs.Layout.{layout};
-ghost use Rattle.xet_shards.specs.SetOperations.{IsDifference, HasFewRows};
-ghost use Rattle.xet_shards.specs.Shard.{Shard, IsShard};
+ghost use Rattle.xet_shards.specs.SetOperations.{IsDifference};
+ghost use Rattle.xet_shards.specs.Shard.{Shard};
+ghost use Rattle.xet_shards.specs.WrittenShard.{IsBytesWithoutExpiry};
 ghost use Rattle.xet_core_structures.specs.ByteUnion.{IsByteUnion};
 ghost use Rattle.xet_core_structures.specs.ByteResults.{key_of, WritesResult, InputsFail, UnionRefusal, DifferenceRefusal, UnitesBytes, BytesRefusal};
 ghost use Rattle.xet_core_structures.specs.Held.{ReadsSections};
-ghost use Rattle.xet_core_structures.specs.Readable.{WritesInForm};
-ghost use Rattle.xet_core_structures.specs.MergeTrees.{HasUnion, TreeWrites, TreeRefusal, AtLeaves, AreWritten};
+ghost use Rattle.xet_core_structures.specs.SetOutcomes.{Unites, Subtracts};
+ghost use Rattle.xet_core_structures.specs.Streams.{streams};
+ghost use Rattle.xet_core_structures.specs.MergeTrees.{TreeWrites, TreeRefusal, IsMerge, MergeRefused};
 
 mod mix;
 mod record_operation;
@@ -53,25 +53,12 @@ pub fn shard_set_union<S: ShardSource, T: ShardSource, W: Write>(
     r2: &mut T,
     out: &mut W,
 ) -> Result<MDBShardInfo>
-    ensures written { MatchResult result
-        (WritesResult IsByteUnion (S.meaning r1.old).bytes s1.now (T.meaning r2.old).bytes s2.now
-        (W.contents out.old) (W.contents out.new))
-        (λ e. IsWriteError e
-        ⊎ InputsFail (S.meaning r1.old) (S.meaning r1.new) (T.meaning r2.old) (T.meaning r2.new)
-        (UnionRefusal (S.meaning r1.old).bytes s1.now (T.meaning r2.old).bytes s2.now) e) }
+    ensures outcome { Unites s1.now s2.now
+        (streams (S.meaning r1.old) (T.meaning r2.old) (W.contents out.old))
+        (streams (S.meaning r1.new) (T.meaning r2.new) (W.contents out.new)) result }
     ensures untouched { key_of s1.now ≢ key_of s2.now
         → IsErrAnd result (λ e. e ≡ CoreError.InvalidArguments) × (r1.new ≡ r1.old)
         × (r2.new ≡ r2.old) × (out.new ≡ out.old) }
-    ensures in_form { IfOk result
-        (WritesInForm IsByteUnion (S.meaning r1.old).bytes s1.now (T.meaning r2.old).bytes s2.now
-        (W.contents out.old) (W.contents out.new)) }
-    ensures costs { OnOk result (ReadsSections s1.now (S.meaning r1.old) (S.meaning r1.new)
-        × ReadsSections s2.now (T.meaning r2.old) (T.meaning r2.new)) }
-    ensures serves { OnOk result (Serves (S.meaning r1.old) (S.meaning r1.new)
-        × Serves (T.meaning r2.old) (T.meaning r2.new)) }
-    ensures sources { ((S.meaning r1.new).bytes ≡ (S.meaning r1.old).bytes)
-        × ((T.meaning r2.new).bytes ≡ (T.meaning r2.old).bytes) }
-    ensures widths { IfOk result (λ info. FitsFooter info.metadata) }
 {
     Ok(operate::<OfUnion, S, T, W>(alloc, s1, r1, s2, r2, out)?)
 }
@@ -92,26 +79,12 @@ pub fn shard_set_difference<S: ShardSource, T: ShardSource, W: Write>(
     r2: &mut T,
     out: &mut W,
 ) -> Result<MDBShardInfo>
-    ensures written { MatchResult result
-        (WritesResult IsDifference (S.meaning r1.old).bytes s1.now (T.meaning r2.old).bytes s2.now
-        (W.contents out.old) (W.contents out.new))
-        (λ e. IsWriteError e
-        ⊎ InputsFail (S.meaning r1.old) (S.meaning r1.new) (T.meaning r2.old) (T.meaning r2.new)
-        (DifferenceRefusal (S.meaning r1.old).bytes s1.now (T.meaning r2.old).bytes s2.now)
-        e) }
+    ensures outcome { Subtracts s1.now s2.now
+        (streams (S.meaning r1.old) (T.meaning r2.old) (W.contents out.old))
+        (streams (S.meaning r1.new) (T.meaning r2.new) (W.contents out.new)) result }
     ensures untouched { key_of s1.now ≢ key_of s2.now
         → IsErrAnd result (λ e. e ≡ CoreError.InvalidArguments) × (r1.new ≡ r1.old)
         × (r2.new ≡ r2.old) × (out.new ≡ out.old) }
-    ensures in_form { IfOk result
-        (WritesInForm IsDifference (S.meaning r1.old).bytes s1.now (T.meaning r2.old).bytes s2.now
-        (W.contents out.old) (W.contents out.new)) }
-    ensures costs { OnOk result (ReadsSections s1.now (S.meaning r1.old) (S.meaning r1.new)
-        × ReadsSections s2.now (T.meaning r2.old) (T.meaning r2.new)) }
-    ensures serves { OnOk result (Serves (S.meaning r1.old) (S.meaning r1.new)
-        × Serves (T.meaning r2.old) (T.meaning r2.new)) }
-    ensures sources { ((S.meaning r1.new).bytes ≡ (S.meaning r1.old).bytes)
-        × ((T.meaning r2.new).bytes ≡ (T.meaning r2.old).bytes) }
-    ensures widths { IfOk result (λ info. FitsFooter info.metadata) }
 {
     Ok(operate::<OfDifference, S, T, W>(alloc, s1, r1, s2, r2, out)?)
 }
@@ -137,11 +110,9 @@ pub fn shard_union_tree(alloc: Global, plan: &MergePlan, inputs: &[&[u8]]) -> Re
     ensures any_bytes { MatchResult result
         (λ bytes. TreeWrites (map (λ x. x.now) inputs.now) plan.now bytes.items)
         (TreeRefusal (map (λ x. x.now) inputs.now) plan.now) }
-    ensures one_byte_string { (shard_at : ℕ → Shard) → (expiry_at : ℕ → Option ℕ) → (join : Shard)
-        → HasUnion plan.now → AreWritten (map (λ x. x.now) inputs.now) plan.now shard_at expiry_at
-        → AgreePairwise (AtLeaves plan.now shard_at) → IsJoinOf (AtLeaves plan.now shard_at) join
-        → MatchResult result (λ bytes. (bytes.items ≡ layout join None) × IsShard join)
-        (λ e. (e ≡ CoreError.OutOfMemory) ⊎ (IsInvalidShard e × (¬ HasFewRows join))) }
+    ensures one_byte_string { (shards : List Shard) → (join : Shard)
+        → IsMerge (map (λ x. x.now) inputs.now) plan.now shards join
+        → MatchResult result (λ bytes. IsBytesWithoutExpiry join bytes.items) (MergeRefused join) }
 {
     merge(alloc, plan, inputs)
 }

@@ -1,5 +1,5 @@
 -- The first and the last bytes of a shard determine header and footer, and those of a written shard are its own.
-use Rattle.std.proofs.Common.{◌≡◌, ℕ, ◌+◌, ◌-◌, ◌^◌, ◌<◌, List, [], ◌++◌, length, flat_map, take, drop, Option, refl, sym, ap, ◌∙◌, subst, arith, take-append-drop, append-nil, rules}
+use Rattle.std.proofs.Common.{◌≡◌, ℕ, ◌+◌, ◌-◌, ◌^◌, ◌<◌, List, [], ◌++◌, length, flat_map, take, drop, Option, None, refl, sym, ap, ◌∙◌, subst, arith, take-append-drop, append-nil, rules}
 use Rattle.std.specs.Prelude.{MatchResult}
 use Rattle.std.specs.declared.result.Result.{Result}
 use Rattle.std.proofs.lemmas.Result.{MatchResult-weaker}
@@ -18,10 +18,12 @@ use Rattle.xet_records.specs.XorbRecord.{xorb_records}
 use Rattle.xet_shards.proofs.Versions.{number_fits}
 use Rattle.xet_records.specs.Version.{IsVersion}
 use Rattle.xet_records.specs.declared.record_reader.FormatVersion.{FormatVersion}
+use Rattle.xet_records.specs.declared.record_reader.FormatVersion.TheVariants.{V3}
 use Rattle.xet_shards.specs.declared.shard_format.header.MDBShardFileHeader.{MDBShardFileHeader}
 use Rattle.xet_shards.specs.declared.shard_format.footer.MDBShardFileFooter.{MDBShardFileFooter}
 use Rattle.xet_shards.specs.declared.shard_format.info.MDBShardInfo.{MDBShardInfo}
 use Rattle.xet_shards.specs.Shard.{Shard}
+use Rattle.xet_shards.specs.WrittenShard.{IsBytesOf, IsBytesWithInfo, IsBytesWithoutExpiry}
 use Rattle.xet_shards.specs.Section.{section_bytes}
 use Rattle.xet_shards.specs.Tables.{table_bytes, chunk_table_bytes}
 use Rattle.xet_shards.specs.Layout.{Form, if_in, header_tag, shard_header_bytes, header_value, offsets_of, timestamps_of, sums_of, shard_footer_bytes, footer_value, layout_of, layout_in, plain_form_in, info_value_in}
@@ -29,6 +31,7 @@ use Rattle.xet_shards.specs.Ends.{HasHeader, FitsFooter, HasEnds, IsUnsupported,
 use Rattle.xet_shards.proofs.Layouts.{length-shard_header_bytes, length-shard_footer_bytes}
 use Rattle.xet_shards.proofs.Loading.{header_of}
 use Rattle.xet_shards.proofs.Readback.{layout_from_48}
+use Rattle.xet_shards.proofs.Widths.{fits_written}
 
 -- the number of a version that is read
 version_fits : (n : ℕ) → IsVersion n → n < 2 ^ 64
@@ -136,3 +139,16 @@ pub loads_written : (old new : Source) (version : FormatVersion) (s : Shard) (ex
 loads_written old new version s expiry r are fits =
     loads_ends old new (info_value_in version s expiry) r
     (subst (λ bs. HasEnds bs (info_value_in version s expiry)) (sym are) (ends_of_layout (values s.files) (values s.xorbs) (plain_form_in version expiry) fits))
+
+-- the header and the footer in the bytes of a shard are those of its layout
+pub ends_of_bytes : (s : Shard) (bytes : List ℕ) (is : IsBytesOf s bytes) → HasEnds bytes (info_value_in is.version s is.expiry)
+ends_of_bytes s bytes is =
+    subst (λ bs. HasEnds bs (info_value_in is.version s is.expiry)) (sym is.bytes_are)
+    (ends_of_layout (values s.files) (values s.xorbs) (plain_form_in is.version is.expiry) (fits_written s is.expiry is.shard is.expiry_fits))
+
+pub info_of_bytes : {s : Shard} {bytes : List ℕ} {info : MDBShardInfo} → (is : IsBytesWithInfo s bytes info) → info ≡ info_value_in is.is_bytes.version s is.is_bytes.expiry
+info_of_bytes {s} {bytes} {info} is = only_info bytes info (info_value_in is.is_bytes.version s is.is_bytes.expiry) is.ends (ends_of_bytes s bytes is.is_bytes)
+
+-- bytes without expiry are such bytes
+pub bytes_without_expiry : {s : Shard} {bytes : List ℕ} → IsBytesWithoutExpiry s bytes → IsBytesOf s bytes
+bytes_without_expiry is = record { shard = is.shard; version = V3; files = tt; expiry = None; expiry_fits = tt; bytes_are = is.bytes_are }

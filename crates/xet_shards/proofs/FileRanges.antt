@@ -1,5 +1,5 @@
 -- The ranges of the files of a shard, read from its layout.
-use Rattle.std.proofs.Common.{◌≡◌, ◌⊎◌, inl, inr, Ok, Err, drop, Option, subst, ℕ, ◌+◌, List, map, refl, sym, ap, ◌∙◌, rules}
+use Rattle.std.proofs.Common.{◌≡◌, ◌⊎◌, inl, inr, Ok, Err, drop, subst, ◌+◌, List, map, refl, sym, ap, ◌∙◌, rules}
 use Rattle.std.specs.Prelude.{MatchResult}
 use Rattle.std.specs.FinMap.{entries, values}
 use Rattle.std.specs.declared.result.Result.{Result}
@@ -13,8 +13,9 @@ use Rattle.xet_records.specs.declared.file_structs.MDBFileInfo.{MDBFileInfo}
 use Rattle.xet_records.specs.declared.xorb_structs.MDBXorbInfo.{MDBXorbInfo}
 use Rattle.xet_records.specs.FileRecord.{file_records, file_records_in}
 use Rattle.xet_shards.specs.declared.shard_format.header.MDBShardFileHeader.{MDBShardFileHeader}
-use Rattle.xet_shards.specs.Shard.{Shard, IsShard}
-use Rattle.xet_shards.specs.Layout.{layout_of, Form, shard_header_bytes, header_value, plain_form, layout}
+use Rattle.xet_shards.specs.Shard.{Shard}
+use Rattle.xet_shards.specs.WrittenShard.{IsBytesOf}
+use Rattle.xet_shards.specs.Layout.{layout_of, Form, shard_header_bytes, header_value, plain_form_in}
 use Rattle.xet_shards.specs.Ends.{HasHeader}
 use Rattle.xet_shards.specs.SectionReading.{IsSection}
 use Rattle.xet_shards.specs.FileRanges.{FileRanges, ranges_at, file_ranges, ReadsFileRanges, FileRangesFail}
@@ -24,7 +25,7 @@ use Rattle.xet_shards.proofs.Loading.{header_of, one_version}
 use Rattle.xet_records.specs.Version.{IsVersion, version_of}
 use Rattle.xet_records.proofs.RecordKinds.{version_known}
 use Rattle.xet_shards.proofs.Readback.{layout_from_48, file_section_in, handed_same, why_not}
-use Rattle.xet_shards.proofs.Sections.{FitsSection, files_fit, files_laws}
+use Rattle.xet_shards.proofs.Sections.{FitsSection, files_fit_in, files_laws}
 use Rattle.xet_shards.proofs.SectionWalks.{keeps_known}
 
 -- such a layout from the source's offset on
@@ -60,8 +61,9 @@ module _ (old new : Source) (files : List MDBFileInfo) (xorbs : List MDBXorbInfo
       (section read.header mid read.version read.header_taken) same read.ranges ∙ ap (λ n. file_ranges n files) at
   ranges_in_layout (Err e) same fails = why_no_ranges e fails
 
-pub ranges_written : (old new : Source) (s : Shard) (expiry : Option ℕ) → IsShard s → bytes_left old ≡ layout s expiry → {Z : Type 0} (r : Result (Vec FileRanges Z) CoreError)
+pub ranges_written : (old new : Source) (s : Shard) → IsBytesOf s (bytes_left old) → {Z : Type 0} (r : Result (Vec FileRanges Z) CoreError)
     → MatchResult r (λ found. ReadsFileRanges old new found.items) (FileRangesFail old new)
     → MatchResult r (λ found. found.items ≡ file_ranges (old.at + 48) (values s.files)) (λ e. DeviceFailure old new e ⊎ (e ≡ OutOfMemory))
-ranges_written old new s expiry shard are r read =
-    ranges_in_layout old new (values s.files) (values s.xorbs) (plain_form expiry) (files_fit s shard) are r (handed_same (values s.files) (well_formed_values (entries s.files) shard.files)) read
+ranges_written old new s is r read =
+    ranges_in_layout old new (values s.files) (values s.xorbs) (plain_form_in is.version is.expiry) (files_fit_in is.version s is.shard is.files) is.bytes_are r
+    (handed_same (values s.files) (well_formed_values (entries s.files) is.shard.files)) read

@@ -1,5 +1,5 @@
 -- Records that are written in a form with their table are looked up.
-use Rattle.std.proofs.Common.{◌≡◌, refl, Bool, true, false, ℕ, ◌^◌, ◌<◌, ◌≤◌, [], ◌++◌, length, drop, map, flat_map, get_or, Option, None, sym, ap, ◌∙◌, subst, arith, List}
+use Rattle.std.proofs.Common.{◌≡◌, refl, Bool, true, false, ℕ, ◌^◌, ◌<◌, ◌≤◌, [], ◌++◌, length, drop, map, flat_map, get_or, None, sym, ap, ◌∙◌, subst, arith, List}
 use Rattle.std.specs.Prelude.{All}
 use Rattle.std.specs.FinMap.{values}
 use Rattle.std.specs.declared.cmp.Ordering.TheVariants.{Less}
@@ -20,7 +20,8 @@ use Rattle.xet_shards.specs.Shard.{Shard, IsShard}
 use Rattle.xet_shards.specs.Tables.{hash_in, starts, start_row, table_bytes}
 use Rattle.xet_shards.specs.Layout.{Form, if_in, footer_value, plain_form_in}
 use Rattle.xet_shards.specs.InForm.{Ascends, IsInForm, HasFileTable}
-use Rattle.xet_shards.specs.WrittenShard.{IsWritten}
+use Rattle.xet_shards.specs.WrittenShard.{IsBytesWithInfo}
+use Rattle.xet_shards.proofs.EndsUnique.{info_of_bytes}
 use Rattle.xet_shards.proofs.Files.{length-le-rows}
 use Rattle.xet_shards.proofs.Found.{first_words_ascend}
 use Rattle.xet_shards.proofs.Layouts.{length-file_section, length-xorb_section}
@@ -125,13 +126,13 @@ module _ (files : List MDBFileInfo) (xorbs : List MDBXorbInfo) (form : Form) (ol
       })
 
 -- the bytes of a shard
-pub shard_in_form : {s : Shard} {expiry : Option ℕ} {bytes : List ℕ} {info : MDBShardInfo}
-    → (is : IsWritten s expiry bytes info) → IsInForm (values s.files) (values s.xorbs) (plain_form_in is.version expiry) bytes info.metadata
+pub shard_in_form : {s : Shard} {bytes : List ℕ} {info : MDBShardInfo}
+    → (is : IsBytesWithInfo s bytes info) → IsInForm (values s.files) (values s.xorbs) (plain_form_in is.is_bytes.version is.is_bytes.expiry) bytes info.metadata
 shard_in_form {s} is = record {
-  files_fit = files_fit_in is.version s is.shard is.files;
-  xorbs_fit = xorbs_fit s is.shard;
-  bytes_are = is.same_bytes;
-  footer_is = ap (λ (i : MDBShardInfo). i.metadata) is.same_info;
+  files_fit = files_fit_in is.is_bytes.version s is.is_bytes.shard is.is_bytes.files;
+  xorbs_fit = xorbs_fit s is.is_bytes.shard;
+  bytes_are = is.is_bytes.bytes_are;
+  footer_is = ap (λ (i : MDBShardInfo). i.metadata) (info_of_bytes is);
 }
 
 module _ (s : Shard) (shard : IsShard s) where
@@ -141,11 +142,11 @@ module _ (s : Shard) (shard : IsShard s) where
   pub xorbs_ascend : Ascends xorb_records (values s.xorbs)
   xorbs_ascend = hashes_ascend (hash_in xorb_records) s.xorbs shard.xorbs.keyed
 
-pub files_of_shard : {s : Shard} {expiry : Option ℕ} {bytes : List ℕ} {info : MDBShardInfo}
-    → (is : IsWritten s expiry bytes info) → HasFileTable (values s.files) (values s.xorbs) (plain_form_in is.version expiry) bytes info
+pub files_of_shard : {s : Shard} {bytes : List ℕ} {info : MDBShardInfo}
+    → (is : IsBytesWithInfo s bytes info) → HasFileTable (values s.files) (values s.xorbs) (plain_form_in is.is_bytes.version is.is_bytes.expiry) bytes info
 files_of_shard {s} is = record {
   in_form = shard_in_form is;
-  version = ap (λ (i : MDBShardInfo). version_of i.header.version) is.same_info ∙ version_known is.version;
-  ascends = files_ascend s is.shard;
+  version = ap (λ (i : MDBShardInfo). version_of i.header.version) (info_of_bytes is) ∙ version_known is.is_bytes.version;
+  ascends = files_ascend s is.is_bytes.shard;
   table = refl;
 }

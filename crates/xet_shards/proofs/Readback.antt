@@ -17,7 +17,7 @@ use Rattle.xet_records.specs.declared.xorb_structs.MDBXorbInfo.{MDBXorbInfo}
 use Rattle.xet_records.specs.RecordKind.{RecordKind}
 use Rattle.xet_records.proofs.RecordKinds.{KindLaws, xorb_laws, version_known}
 use Rattle.xet_shards.specs.declared.shard_format.info.MDBShardInfo.{MDBShardInfo}
-use Rattle.xet_shards.specs.WrittenShard.{IsWritten}
+use Rattle.xet_shards.specs.WrittenShard.{IsBytesOf}
 use Rattle.xet_records.specs.FileRow.{header_row, clear}
 use Rattle.xet_records.specs.Part.{rows_of, with_parts}
 use Rattle.xet_records.proofs.Parts.{All-part, with_parts-rows_of}
@@ -27,7 +27,7 @@ use Rattle.xet_records.specs.XorbRecord.{xorb_record_bytes, xorb_bookend, xorb_r
 use Rattle.xet_shards.specs.Shard.{Shard, IsShard}
 use Rattle.xet_shards.specs.Section.{section_bytes}
 use Rattle.xet_shards.specs.Tables.{table_bytes, chunk_table_bytes}
-use Rattle.xet_shards.specs.Layout.{Form, if_in, shard_header_bytes, header_value, shard_footer_bytes, footer_value, layout_of, layout_in, plain_form_in}
+use Rattle.xet_shards.specs.Layout.{Form, if_in, shard_header_bytes, header_value, shard_footer_bytes, footer_value, layout_of, layout_in, info_value_in, plain_form_in}
 use Rattle.xet_shards.specs.SectionReading.{files_of, IsSection, TakesSection, TakesNoSection, SectionFailure, IsRefusedSection, IsCutSection}
 use Rattle.xet_shards.proofs.Sections.{FitsSection, files_laws, section_there, files_fit_in, xorbs_fit}
 use Rattle.xet_shards.proofs.Layouts.{length-shard_header_bytes}
@@ -92,13 +92,21 @@ pub xorb_section_of_shard : (version : FormatVersion) (s : Shard) (expiry : Opti
 xorb_section_of_shard version s expiry shard = xorb_section_in (values s.files) (values s.xorbs) (plain_form_in version expiry) (xorbs_fit s shard)
 
 -- the file section in the bytes of a shard, read in the version of their header
-pub section_written : {s : Shard} {expiry : Option ℕ} {bytes : List ℕ} {info : MDBShardInfo} → IsWritten s expiry bytes info
+pub section_written : {s : Shard} {bytes : List ℕ} {info : MDBShardInfo} → (is : IsBytesOf s bytes) → info ≡ info_value_in is.version s is.expiry
     → IsSection (files_of info) (drop info.metadata.file_info_offset bytes) (values s.files)
-section_written {s} {expiry} {bytes} is =
-    let there = section_of_shard is.version s expiry (files_fit_in is.version s is.shard is.files) in
-    let in_bytes = subst (λ bs. IsSection (file_records_in is.version) (drop 48 bs) (values s.files)) (sym is.same_bytes) there in
+section_written {s} {bytes} is info_is =
+    let there = section_of_shard is.version s is.expiry (files_fit_in is.version s is.shard is.files) in
+    let in_bytes = subst (λ bs. IsSection (file_records_in is.version) (drop 48 bs) (values s.files)) (sym is.bytes_are) there in
     let known = subst (λ v. IsSection (file_records_in v) (drop 48 bytes) (values s.files)) (sym (version_known is.version)) in_bytes in
-    subst (λ (i : MDBShardInfo). IsSection (files_of i) (drop i.metadata.file_info_offset bytes) (values s.files)) (sym is.same_info) known
+    subst (λ (i : MDBShardInfo). IsSection (files_of i) (drop i.metadata.file_info_offset bytes) (values s.files)) (sym info_is) known
+
+-- the xorb section in them
+pub xorb_section_written : {s : Shard} {bytes : List ℕ} {info : MDBShardInfo} → (is : IsBytesOf s bytes) → info ≡ info_value_in is.version s is.expiry
+    → IsSection xorb_records (drop info.metadata.xorb_info_offset bytes) (values s.xorbs)
+xorb_section_written {s} {bytes} is info_is =
+    let there = subst (λ bs. IsSection xorb_records (drop (info_value_in is.version s is.expiry).metadata.xorb_info_offset bs) (values s.xorbs)) (sym is.bytes_are)
+    (xorb_section_of_shard is.version s is.expiry is.shard) in
+    subst (λ (i : MDBShardInfo). IsSection xorb_records (drop i.metadata.xorb_info_offset bytes) (values s.xorbs)) (sym info_is) there
 
 -- bytes that are a section of records are read as these, unless the device fails or an allocation does
 module _ {H R : Type 0} (K : RecordKind H R) (laws : KindLaws K) (old new : Source) (rs : List R) (section : IsSection K (bytes_left old) rs) where

@@ -1,6 +1,6 @@
 -- Looking up a record by its hash: the table of starts, the records that its rows lead to, and what
 -- this costs.
-use Rattle.std.specs.Prelude.{◌≡◌, ◌≢◌, ◌⊎◌, ◌==◌, ℕ, ◌+◌, ◌*◌, ◌/◌, ◌^◌, ◌<◌, ◌≤◌, List, ◌++◌, length, take, map, filter, flat_map, sum, drop, All, AllPairs, Contains, Option, Some, None, IfOk, IfErr, OnOk, MatchResult, string_bytes, []}
+use Rattle.std.specs.Prelude.{◌≡◌, ◌≢◌, ◌⊎◌, ◌==◌, ℕ, ◌+◌, ◌*◌, ◌/◌, ◌^◌, ◌<◌, ◌≤◌, List, ◌++◌, min, length, take, map, filter, flat_map, sum, drop, All, AllPairs, Contains, Option, Some, None, IfOk, IfErr, OnOk, MatchResult, string_bytes, []}
 use Rattle.std.specs.List.{AllZip}
 use Rattle.std.specs.FinMap.{get, values}
 use Rattle.xet_base.specs.declared.error.CoreError.{CoreError}
@@ -9,15 +9,16 @@ use Rattle.xet_base.specs.declared.merklehash.DataHash.{DataHash}
 use Rattle.xet_base.specs.Bytes.{u32_bytes}
 use Rattle.xet_base.specs.Errors.{CoreResult}
 use Rattle.xet_base.specs.Source.{Source, DeviceFailure}
-use Rattle.xet_base.specs.Table.{Table, table_at, Hit, IsHit, OtherRow, IsSorted, hits, FitsTable, Serves, Bounded, IsEven, SearchRefused, IsBareInvalidShard}
+use Rattle.xet_base.specs.Table.{Table, table_at, Hit, IsHit, OtherRow, IsSorted, hits, Finds, FitsTable, Serves, Bounded, IsEven, SearchRefused, IsBareInvalidShard}
 use Rattle.xet_records.specs.declared.file_structs.MDBFileInfo.{MDBFileInfo}
 use Rattle.xet_records.specs.RecordKind.{RecordKind}
 use Rattle.xet_records.specs.FileRecord.{file_records}
 use Rattle.xet_records.specs.Reading.{ReadsRecord}
 use Rattle.xet_shards.specs.declared.shard_format.footer.MDBShardFileFooter.{MDBShardFileFooter}
+use Rattle.xet_shards.specs.declared.shard_format.info.MDBShardInfo.{MDBShardInfo}
 use Rattle.xet_shards.specs.Shard.{Shard}
 use Rattle.xet_shards.specs.Tables.{hash_in, starts}
-use Rattle.xet_shards.specs.SectionReading.{MayTake, BeginsWithBookend, BeginsRefused, EndsEarly, SectionFailure}
+use Rattle.xet_shards.specs.SectionReading.{files_of, MayTake, BeginsWithBookend, BeginsRefused, EndsEarly, SectionFailure}
 
 -- the records whose hashes have this first word
 abbrev pub sharing : {H R : Type 0} → RecordKind H R → ℕ → List R → List R
@@ -98,6 +99,20 @@ pub record ReadInfoFails {H R : Type 0} (K : RecordKind H R) (offset row : ℕ) 
   pub read : new.read ≤ old.read + taken
   pub may_take : MayTake K (drop (row_at offset row) old.bytes) taken
   pub cause : InfoRefusal K offset row old new e
+
+-- a search in a table for a word, with room for so many values: how many rows were found and that
+-- they are all where the table is sorted, that the device did not fail, why it was refused, that the
+-- bytes of the source stay, and what it costs where the table is sorted, and where it is even
+pub record Searches {V : Type 0} (t : Table) (word : ℕ) (Gives : List ℕ → V → Type 0) (room : ℕ)
+    (dest_old dest_new : List V) (old new : Source) (result : CoreResult ℕ) : Type 0 where
+  pub found : IfOk result (Finds t word Gives dest_old dest_new)
+  pub count : IsSorted t → IfOk result (λ n. n ≡ min (hits t word) room)
+  pub serves : OnOk result (Serves old new)
+  pub fits : OnOk result (0 < room → FitsTable t)
+  pub refused : IfErr result (SearchRefused t old new)
+  pub kept : new.bytes ≡ old.bytes
+  pub bounds : IsSorted t → Bounded t word old new
+  pub even : IsEven t → new.seeks ≤ old.seeks + 3
 
 -- different rows of a table with the key, all of them where it is sorted
 pub record AreHits (t : Table) (key : ℕ) (found : List (Hit ℕ)) : Type 0 where
@@ -248,6 +263,13 @@ pub record LooksUpRecord {H R : Type 0} (K : RecordKind H R) (t : Table) (offset
   pub serves : OnOk result (Serves old new)
   pub kept : new.bytes ≡ old.bytes
 
+-- a file lookup by this header and footer, on any bytes
+abbrev pub LooksUpFile : MDBShardInfo → DataHash → Source → Source → CoreResult (Option MDBFileInfo)
+    → Type 0
+LooksUpFile info hash old new result =
+    LooksUpRecord (files_of info) (file_table info.metadata old) info.metadata.file_info_offset hash
+    old new result
+
 -- these rows are the starts of the records that share the first word, in some order
 abbrev pub AreStarts : {H R : Type 0} → RecordKind H R → List R → ℕ → List ℕ → Type 0
 AreStarts K records word rows =
@@ -295,3 +317,29 @@ FoundAmong K records hash answer =
 abbrev pub FoundInShard : Shard → DataHash → Option MDBFileInfo → Type 0
 FoundInShard s hash answer =
     (length (sharing file_records hash.word0 (values s.files)) < 8) × (answer ≡ get s.files hash)
+
+-- an index lookup in such bytes: the starts or why there are none, and its cost
+pub record FindsStarts {H R : Type 0} (K : RecordKind H R) (records : List R) (word : ℕ)
+    (rows : List ℕ) (old new : Source) (result : CoreResult ℕ) : Type 0 where
+  pub answer : MatchResult result (StartsAmong K records word rows)
+      (IndexFailsAmong K records word old new)
+  pub costs : SearchWithinBounds K records word old new
+
+-- a record lookup in such bytes: the answer or why there is none, its cost, and that of a collision
+pub record FindsAmong {H R : Type 0} (K : RecordKind H R) (records : List R)
+    (Found : Option R → Type 0) (hash : DataHash) (old new : Source)
+    (result : CoreResult (Option R)) : Type 0 where
+  pub answer : MatchResult result Found (LookupFailsAmong K records hash old new)
+  pub costs : WithinBounds K records hash.word0 old new
+  pub collision : IfErr result
+      (λ e. e ≡ TruncatedHashCollision hash.word0
+      → SearchWithinBounds K records hash.word0 old new)
+
+-- a file lookup among files that are written in a form, and one on the bytes of a shard
+abbrev pub FindsFileAmong : List MDBFileInfo → DataHash → Source → Source
+    → CoreResult (Option MDBFileInfo) → Type 0
+FindsFileAmong files hash = FindsAmong file_records files (FoundAmong file_records files hash) hash
+
+abbrev pub FindsInShard : Shard → DataHash → Source → Source → CoreResult (Option MDBFileInfo)
+    → Type 0
+FindsInShard s hash = FindsAmong file_records (values s.files) (FoundInShard s hash) hash

@@ -1,6 +1,7 @@
 -- Looking up chunks in the bytes of xorbs that are written with a chunk table.
-use Rattle.std.specs.Prelude.{◌≡◌, ◌≢◌, ◌==◌, ℕ, min, List, ◌++◌, length, drop, map, filter, All, AllPairs, Contains}
-use Rattle.xet_base.specs.Source.{Source}
+use Rattle.std.specs.Prelude.{◌≡◌, ◌≢◌, ◌==◌, ℕ, min, List, ◌++◌, length, drop, map, filter, All, AllPairs, Contains, MatchResult}
+use Rattle.xet_base.specs.Errors.{CoreResult}
+use Rattle.xet_base.specs.Source.{Source, DeviceFailure}
 use Rattle.xet_records.specs.declared.xorb_structs.MDBXorbInfo.{MDBXorbInfo}
 use Rattle.xet_shards.specs.Lookup.{SearchCosts}
 use Rattle.xet_shards.specs.Tables.{ChunkTableRow, chunk_table}
@@ -27,3 +28,9 @@ pub record RowsAmong (xorbs : List MDBXorbInfo) (word : ℕ) (old new : List (�
 abbrev pub ChunkSearchCosts : List MDBXorbInfo → ℕ → Source → Source → Type 0
 ChunkSearchCosts xorbs word old new =
     SearchCosts (length (chunk_table xorbs)) (length (rows_with_word word xorbs)) 16 old new
+
+-- a lookup of chunks in such bytes: the rows or why there are none, and its cost
+pub record FindsRows (xorbs : List MDBXorbInfo) (word : ℕ) (dest_old dest_new : List (ℕ × ℕ))
+    (old new : Source) (result : CoreResult ℕ) : Type 0 where
+  pub answer : MatchResult result (RowsAmong xorbs word dest_old dest_new) (DeviceFailure old new)
+  pub costs : ChunkSearchCosts xorbs word old new

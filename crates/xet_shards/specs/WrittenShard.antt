@@ -1,5 +1,5 @@
 -- Bytes that were written for a shard.
-use Rattle.std.specs.Prelude.{◌≡◌, ◌⊎◌, ⊤, ℕ, false, List, Option, MatchResult}
+use Rattle.std.specs.Prelude.{◌≡◌, ◌⊎◌, ⊤, ℕ, ◌^◌, ◌<◌, false, List, Option, None, IfSome, MatchResult}
 use Rattle.std.specs.declared.vec.Vec.{Vec}
 use Rattle.xet_base.specs.declared.error.CoreError.TheVariants.{OutOfMemory}
 use Rattle.xet_base.specs.Errors.{CoreResult}
@@ -7,29 +7,34 @@ use Rattle.xet_base.specs.Source.{Source, DeviceFailure}
 use Rattle.xet_records.specs.declared.record_reader.FormatVersion.{FormatVersion}
 use Rattle.xet_records.specs.declared.record_reader.FormatVersion.TheVariants.{V2, V3}
 use Rattle.xet_shards.specs.declared.shard_format.info.MDBShardInfo.{MDBShardInfo}
+use Rattle.xet_shards.specs.Ends.{HasEnds}
 use Rattle.xet_shards.specs.Shard.{Shard, IsShard, has_aux_rows}
-use Rattle.xet_shards.specs.Layout.{layout_in, info_value_in}
+use Rattle.xet_shards.specs.Layout.{layout, layout_in}
 
 -- a version has the files of a shard: version 2 has no auxiliary rows
 abbrev pub HasFilesIn : FormatVersion → Shard → Type 0
 HasFilesIn V2 s = has_aux_rows s ≡ false
 HasFilesIn V3 s = ⊤
 
--- bytes are those of a shard, in a version that has its files, with an expiry or none
-pub record AreBytesOf (s : Shard) (expiry : Option ℕ) (bytes : List ℕ) : Type 0 where
-  pub version : FormatVersion
-  pub files : HasFilesIn version s
-  pub bytes_are : bytes ≡ layout_in version s expiry
-
--- the bytes are the layout of the shard in a version that has its files, and `info` is its header
--- and footer
-pub record IsWritten (s : Shard) (expiry : Option ℕ) (bytes : List ℕ) (info : MDBShardInfo)
-    : Type 0 where
+-- the bytes are this shard's: its layout in a version that has its files, with an expiry of 64 bits
+-- or none
+pub record IsBytesOf (s : Shard) (bytes : List ℕ) : Type 0 where
   pub shard : IsShard s
   pub version : FormatVersion
   pub files : HasFilesIn version s
-  pub same_bytes : bytes ≡ layout_in version s expiry
-  pub same_info : info ≡ info_value_in version s expiry
+  pub expiry : Option ℕ
+  pub expiry_fits : IfSome expiry (λ e. e < 2 ^ 64)
+  pub bytes_are : bytes ≡ layout_in version s expiry
+
+-- the same, and this is the header and the footer in them
+pub record IsBytesWithInfo (s : Shard) (bytes : List ℕ) (info : MDBShardInfo) : Type 0 where
+  pub is_bytes : IsBytesOf s bytes
+  pub ends : HasEnds bytes info
+
+-- the bytes are this shard's in version 3 and without expiry
+pub record IsBytesWithoutExpiry (s : Shard) (bytes : List ℕ) : Type 0 where
+  pub shard : IsShard s
+  pub bytes_are : bytes ≡ layout s None
 
 -- these items were read, unless the device failed or an allocation
 abbrev pub ReadsBack : {T Z : Type 0} → List T → Source → Source → CoreResult (Vec T Z) → Type 0
@@ -41,5 +46,4 @@ ReadsBack items old new result =
 abbrev pub ReadsOfShard : {T Z : Type 0} → (Shard → List T) → Source → Source → MDBShardInfo
     → CoreResult (Vec T Z) → Type 0
 ReadsOfShard items old new info result =
-    (s : Shard) → (expiry : Option ℕ) → IsWritten s expiry old.bytes info
-    → ReadsBack (items s) old new result
+    (s : Shard) → IsBytesWithInfo s old.bytes info → ReadsBack (items s) old new result

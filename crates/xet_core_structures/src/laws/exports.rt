@@ -1,14 +1,12 @@
 //! Laws of shards whose chunk hashes are under a key. Each is a function that does nothing; its
 //! contract is the law.
 
-ghost use Rattle.std.specs.Prelude.{◌≡◌, ◌↔◌, ◌⊎◌, ◌+◌, ◌++◌, ◌≤◌, ℕ, Bool, List, [], length, map, Contains, Option, None, Some, true, false};
+ghost use Rattle.std.specs.Prelude.{◌≡◌, ◌↔◌, ◌⊎◌, ◌+◌, ◌++◌, ◌≤◌, ℕ, Bool, List, [], length, map, Contains, Option, None, Some, true, false, All};
 ghost use Rattle.std.specs.FinMap.{get, values};
 ghost use Rattle.std.specs.Io.KnownBytes.{Appends};
 ghost use Rattle.xet_base.specs.declared.error.CoreError.{CoreError};
-ghost use Rattle.xet_base.specs.declared.error.CoreError.TheVariants.{OutOfMemory};
 ghost use Rattle.xet_base.specs.declared.merklehash.DataHash.{DataHash};
 ghost use Rattle.xet_base.specs.Bytes.{u64_bytes};
-ghost use Rattle.xet_base.specs.Errors.{IsInvalidShard};
 ghost use Rattle.xet_base.specs.KeyedHash.{no_key};
 ghost use Rattle.xet_base.specs.Source.{Source, bytes_left};
 ghost use Rattle.xet_records.specs.declared.file_structs.rows.FileDataSequenceEntry.{FileDataSequenceEntry};
@@ -17,20 +15,20 @@ ghost use Rattle.xet_records.specs.declared.xorb_structs.MDBXorbInfo.{MDBXorbInf
 ghost use Rattle.xet_records.specs.declared.xorb_structs.XorbChunkSequenceEntry.{XorbChunkSequenceEntry};
 ghost use Rattle.xet_shards.specs.ChunkLookup.{ChunkLocation};
 ghost use Rattle.xet_shards.specs.ChunkQuery.{run_length};
-ghost use Rattle.xet_shards.specs.Joins.{IsJoinOf};
+ghost use Rattle.xet_shards.specs.Joins.{IsJoinOf, AgreePairwise};
 ghost use Rattle.xet_shards.specs.ShardsWithoutAux.{shard_without_aux};
 ghost use Rattle.xet_shards.specs.KeyedExport.{keyed_chunk, exported, export_form, Exports, ExportsWith};
 ghost use Rattle.xet_shards.specs.KeyedShards.{keyed_shard};
 ghost use Rattle.xet_shards.specs.declared.shard_format.form.Form.{Form};
-ghost use Rattle.xet_shards.specs.Layout.{if_in, layout, layout_of};
-ghost use Rattle.xet_shards.specs.SetOperations.{IsUnion, ShardsAgree, HasFewRows};
+ghost use Rattle.xet_shards.specs.Layout.{if_in, layout_of};
+ghost use Rattle.xet_shards.specs.SetOperations.{IsUnion, ShardsAgree};
 ghost use Rattle.xet_shards.specs.Shard.{Shard, IsShard};
 ghost use Rattle.xet_shards.specs.WrittenQueries.{HasChunkAt, RunAmong};
-ghost use Rattle.xet_shards.specs.WrittenShard.{AreBytesOf};
+ghost use Rattle.xet_shards.specs.WrittenShard.{IsBytesOf, IsBytesWithoutExpiry};
 ghost use Rattle.xet_core_structures.specs.declared.set_operations.MergePlan.{MergePlan};
 ghost use Rattle.xet_core_structures.specs.ByteResults.{keyed_layout};
-ghost use Rattle.xet_core_structures.specs.ExportTrees.{AreExported, AreExportedWith, IsExportedAt, JoinsLeaves, run_under};
-ghost use Rattle.xet_core_structures.specs.MergeTrees.{leaves, TreeWrites, TreeRefusal, AreWritten};
+ghost use Rattle.xet_core_structures.specs.ExportTrees.{IsExportedAt, IsMergeOfExports, run_under};
+ghost use Rattle.xet_core_structures.specs.MergeTrees.{leaves, TreeWrites, TreeRefusal, IsMerge, MergeRefused};
 
 /// A shard with its chunk hashes under a key is a shard, and an export with files is its layout.
 pub fn keyed_shards_are_exported()
@@ -72,15 +70,14 @@ pub fn joins_keep_runs()
 /// export of the union are the same bytes but for these (`exchanged`). Nothing is written only if an
 /// allocation fails or the join has too many rows (`refusals`).
 pub fn exports_merge_to_the_export_of_the_join()
-    ensures exports { (aux : Bool) → (s : Shard) → (expiry : Option ℕ) → (form : Form)
-        → (old new : Source) → (before after : Option (List ℕ)) → (size : ℕ) → IsShard s
-        → AreBytesOf s expiry (bytes_left old) → ExportsWith aux form old new before after size
+    ensures exports { (aux : Bool) → (s : Shard) → (form : Form) → (old new : Source)
+        → (before after : Option (List ℕ)) → (size : ℕ) → IsBytesOf s (bytes_left old)
+        → ExportsWith aux form old new before after size
         → Appends before after
         (exported (auxes_as_wanted aux (values s.files)) (values s.xorbs) form) }
     ensures bytes { (aux : Bool) → (inputs : List (List ℕ)) → (plan : MergePlan)
-        → (key : DataHash) → (shard_at : ℕ → Shard) → (form_at : ℕ → Form) → (join : Shard)
-        → (out : List ℕ) → JoinsLeaves plan shard_at join
-        → AreExportedWith aux inputs plan key shard_at form_at → TreeWrites inputs plan out
+        → (key : DataHash) → (shards : List Shard) → (join : Shard) → (out : List ℕ)
+        → IsMergeOfExports aux key inputs plan shards join → TreeWrites inputs plan out
         → out ≡ exported (auxes_as_wanted aux (values join.files)) (values join.xorbs)
         (export_form key 0 18446744073709551615 true true true) }
     ensures timestamps { (aux : Bool) → (s : Shard) → (key : DataHash)
@@ -90,23 +87,19 @@ pub fn exports_merge_to_the_export_of_the_join()
         (export_form key now valid true true true)
         ≡ before ++ u64_bytes now ++ u64_bytes (now + valid) ++ after) }
     ensures exchanged { (aux : Bool) → (inputs outs : List (List ℕ)) → (plan : MergePlan)
-        → (key : DataHash) → (shard_at : ℕ → Shard) → (expiry_at : ℕ → Option ℕ)
-        → (form_at : ℕ → Form) → (join : Shard) → (united out bytes : List ℕ)
-        → (now valid size : ℕ) → (old new : Source) → JoinsLeaves plan shard_at join
-        → AreWritten inputs plan shard_at expiry_at → TreeWrites inputs plan united
-        → ((i : ℕ) → Contains (leaves plan) i
-        → IsExportedAt aux inputs outs key i (form_at i))
-        → TreeWrites outs plan out → bytes_left old ≡ united
+        → (key : DataHash) → (shards : List Shard) → (join : Shard) → (out bytes : List ℕ)
+        → (now valid size : ℕ) → (old new : Source) → IsMerge inputs plan shards join
+        → TreeWrites inputs plan (bytes_left old)
         → ExportsWith aux (export_form key now valid true true true) old new (Some [])
         (Some bytes) size
+        → All (IsExportedAt aux key inputs outs) (leaves plan) → TreeWrites outs plan out
         → (before after : List ℕ) × (length after ≡ 80)
         × (bytes ≡ before ++ u64_bytes now ++ u64_bytes (now + valid) ++ after)
         × (out ≡ before ++ u64_bytes 0 ++ u64_bytes 18446744073709551615 ++ after) }
     ensures refusals { (aux : Bool) → (inputs : List (List ℕ)) → (plan : MergePlan)
-        → (key : DataHash) → (shard_at : ℕ → Shard) → (form_at : ℕ → Form) → (join : Shard)
-        → (e : CoreError) → JoinsLeaves plan shard_at join
-        → AreExportedWith aux inputs plan key shard_at form_at → TreeRefusal inputs plan e
-        → (e ≡ OutOfMemory) ⊎ (IsInvalidShard e × (¬ HasFewRows join)) }
+        → (key : DataHash) → (shards : List Shard) → (join : Shard) → (e : CoreError)
+        → IsMergeOfExports aux key inputs plan shards join → TreeRefusal inputs plan e
+        → MergeRefused join e }
 {}
 
 /// The bytes that a tree writes for shards that agree have the runs of chunks of these shards, and
@@ -115,43 +108,37 @@ pub fn exports_merge_to_the_export_of_the_join()
 /// join under the form's key, without files where they are not asked for (`exported`), and in that
 /// a run is at least as long as in the join (`exported_runs`).
 pub fn merges_keep_runs()
-    ensures kept { (inputs : List (List ℕ)) → (plan : MergePlan) → (shard_at : ℕ → Shard)
-        → (expiry_at : ℕ → Option ℕ) → (join : Shard) → (out : List ℕ) → (i : ℕ) → (q : DataHash)
+    ensures kept { (inputs : List (List ℕ)) → (plan : MergePlan) → (shards : List Shard)
+        → (join s : Shard) → (out : List ℕ) → (q : DataHash) → (index : ℕ)
+        → (hashes : List DataHash) → (run : ℕ × FileDataSequenceEntry)
+        → IsMerge inputs plan shards join → TreeWrites inputs plan out → Contains shards s
+        → run_under no_key s q index hashes ≡ Some run
+        → IsBytesWithoutExpiry join out × (run_under no_key join q index hashes ≡ Some run) }
+    ensures only { (key : DataHash) → (shards : List Shard) → (join : Shard) → (q : DataHash)
         → (index : ℕ) → (hashes : List DataHash) → (run : ℕ × FileDataSequenceEntry)
-        → JoinsLeaves plan shard_at join → AreWritten inputs plan shard_at expiry_at
-        → TreeWrites inputs plan out → Contains (leaves plan) i
-        → run_under no_key (shard_at i) q index hashes ≡ Some run
-        → (out ≡ layout join None) × (run_under no_key join q index hashes ≡ Some run) }
-    ensures only { (plan : MergePlan) → (key : DataHash) → (shard_at : ℕ → Shard) → (join : Shard)
-        → (q : DataHash) → (index : ℕ) → (hashes : List DataHash)
-        → (run : ℕ × FileDataSequenceEntry) → JoinsLeaves plan shard_at join
-        → run_under key join q index hashes ≡ Some run
-        → (i : ℕ) × Contains (leaves plan) i
-        × (run_under key (shard_at i) q index hashes ≡ Some run) }
-    ensures answers { (plan : MergePlan) → (key : DataHash) → (shard_at : ℕ → Shard)
-        → (join : Shard) → (hashes : List DataHash) → (run : ℕ × FileDataSequenceEntry)
-        → JoinsLeaves plan shard_at join → RunAmong key hashes (values join.xorbs) (Some run)
-        → (i : ℕ) × Contains (leaves plan) i
-        × RunAmong key hashes (values (shard_at i).xorbs) (Some run) }
-    ensures chunks { (plan : MergePlan) → (shard_at : ℕ → Shard) → (join : Shard) → (q : DataHash)
-        → (p : ChunkLocation) → JoinsLeaves plan shard_at join
+        → IsJoinOf (Contains shards) join → run_under key join q index hashes ≡ Some run
+        → (s : Shard) × Contains shards s × (run_under key s q index hashes ≡ Some run) }
+    ensures answers { (key : DataHash) → (shards : List Shard) → (join : Shard)
+        → (hashes : List DataHash) → (run : ℕ × FileDataSequenceEntry)
+        → IsJoinOf (Contains shards) join → RunAmong key hashes (values join.xorbs) (Some run)
+        → (s : Shard) × Contains shards s × RunAmong key hashes (values s.xorbs) (Some run) }
+    ensures chunks { (shards : List Shard) → (join : Shard) → (q : DataHash)
+        → (p : ChunkLocation) → IsJoinOf (Contains shards) join
         → HasChunkAt (values join.xorbs) q p
-        ↔ ((i : ℕ) × Contains (leaves plan) i × HasChunkAt (values (shard_at i).xorbs) q p) }
+        ↔ ((s : Shard) × Contains shards s × HasChunkAt (values s.xorbs) q p) }
     ensures keyed { (inputs : List (List ℕ)) → (plan : MergePlan) → (key : DataHash)
-        → (shard_at : ℕ → Shard) → (form_at : ℕ → Form) → (join : Shard) → (out : List ℕ) → (i : ℕ)
-        → (q : DataHash) → (index : ℕ) → (hashes : List DataHash)
-        → (run : ℕ × FileDataSequenceEntry) → JoinsLeaves plan shard_at join
-        → AreExported inputs plan key shard_at form_at → TreeWrites inputs plan out
-        → Contains (leaves plan) i → run_under no_key (shard_at i) q index hashes ≡ Some run
+        → (shards : List Shard) → (join s : Shard) → (out : List ℕ) → (q : DataHash) → (index : ℕ)
+        → (hashes : List DataHash) → (run : ℕ × FileDataSequenceEntry)
+        → IsMergeOfExports true key inputs plan shards join → TreeWrites inputs plan out
+        → Contains shards s → run_under no_key s q index hashes ≡ Some run
         → (out ≡ keyed_layout (keyed_shard key join) key)
         × ((longer : ℕ × FileDataSequenceEntry)
         × (run_under key (keyed_shard key join) q index hashes ≡ Some longer)
         × (run.0 ≤ longer.0)) }
-    ensures exported { (inputs : List (List ℕ)) → (plan : MergePlan) → (shard_at : ℕ → Shard)
-        → (expiry_at : ℕ → Option ℕ) → (join : Shard) → (out : List ℕ) → (form : Form)
-        → (old new : Source) → (before after : Option (List ℕ)) → (size : ℕ)
-        → JoinsLeaves plan shard_at join → AreWritten inputs plan shard_at expiry_at
-        → TreeWrites inputs plan out → bytes_left old ≡ out → Exports form old new before after size
+    ensures exported { (inputs : List (List ℕ)) → (plan : MergePlan) → (shards : List Shard)
+        → (join : Shard) → (form : Form) → (old new : Source) → (before after : Option (List ℕ))
+        → (size : ℕ) → IsMerge inputs plan shards join → TreeWrites inputs plan (bytes_left old)
+        → Exports form old new before after size
         → let keyed = keyed_shard form.key join in
         Appends before after
         (layout_of (if_in form.file_table (values keyed.files)) (values keyed.xorbs) form) }
@@ -161,9 +148,10 @@ pub fn merges_keep_runs()
         → (longer : ℕ × FileDataSequenceEntry)
         × (run_under key (keyed_shard key join) q index hashes ≡ Some longer)
         × (run.0 ≤ longer.0) }
-    ensures keyed_leaves { (plan : MergePlan) → (key : DataHash) → (shard_at : ℕ → Shard)
-        → (join : Shard) → JoinsLeaves plan shard_at join
-        → JoinsLeaves plan (λ i. keyed_shard key (shard_at i)) (keyed_shard key join) }
+    ensures keyed_leaves { (key : DataHash) → (shards : List Shard) → (join : Shard)
+        → AgreePairwise (Contains shards) → IsJoinOf (Contains shards) join
+        → let keyed = Contains (map (keyed_shard key) shards) in
+        AgreePairwise keyed × IsJoinOf keyed (keyed_shard key join) }
 {}
 
 /// Auxiliary rows can be dropped before shards are merged or after: agreement and joins of shards

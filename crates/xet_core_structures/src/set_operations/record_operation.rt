@@ -6,7 +6,8 @@ ghost use Rattle.xet_records.specs.XorbRecord.{xorb_records};
 ghost use Rattle.xet_shards.specs.Written.{HasWritten, HasWrittenXorbs};
 ghost use Rattle.xet_core_structures.specs.ByteUnion.{IsEitherFile, IsEitherXorb};
 ghost use Rattle.xet_core_structures.specs.Combining.{IsRest, AreOfOneHash};
-ghost use Rattle.xet_core_structures.specs.SideBySide.{IsRecordHeader, WritesMade, PairFails, CannotMake, KeepsRecord, PassesBoth, ReadsPast, ReadsNotPast, HasNoRoom};
+ghost use Rattle.xet_core_structures.specs.SideBySide.{IsRecordHeader, WritesMade, PairFails, CannotMake, KeepsRecord, PassesBoth, ReadsPast, ReadsNotPast, HasNoRoom, MakesRecord};
+ghost use Rattle.xet_core_structures.specs.Streams.{streams};
 
 use super::mix::mix;
 use std::alloc::Global;
@@ -48,14 +49,10 @@ pub trait RecordOperation<Sec: WrittenSection> {
         requires first { IfSome first (IsRecordHeader Sec.Record.kind) }
         requires second { IfSome second (IsRecordHeader Sec.Record.kind) }
         requires hash { AreOfOneHash Sec.Record.kind.hash_of first second }
-        ensures { MatchResult result
-            (λ _. WritesMade Sec.Record.kind makes first second (S.meaning r1.old)
-            (S.meaning r1.new) (T.meaning r2.old) (T.meaning r2.new) (Sec.rows written.old)
-            (Sec.has_written written.old) (Sec.has_written written.new) (W.contents out.old)
-            (W.contents out.new))
-            (PairFails Sec.Record.kind first second (S.meaning r1.old) (S.meaning r1.new)
-            (T.meaning r2.old) (T.meaning r2.new)
-            (CannotMake Sec.Record.kind makes (Sec.rows written.old))) };
+        ensures { MakesRecord Sec.Record.kind makes first second
+            (streams (S.meaning r1.old) (T.meaning r2.old) (W.contents out.old))
+            (streams (S.meaning r1.new) (T.meaning r2.new) (W.contents out.new)) (Sec.rows written.old)
+            (Sec.has_written written.old) (Sec.has_written written.new) result };
 }
 
 /// The record of either, or of two files the one whose flags have all bits of the other's, the
@@ -79,14 +76,10 @@ impl RecordOperation<WrittenFiles> for OfUnion {
         requires first { IfSome first (IsRecordHeader file_records) }
         requires second { IfSome second (IsRecordHeader file_records) }
         requires hash { AreOfOneHash file_records.hash_of first second }
-        ensures { MatchResult result
-            (λ _. WritesMade file_records IsEitherFile first second (S.meaning r1.old)
-            (S.meaning r1.new) (T.meaning r2.old) (T.meaning r2.new) written.old.table.rows
-            (HasWritten written.old) (HasWritten written.new) (W.contents out.old)
-            (W.contents out.new))
-            (PairFails file_records first second (S.meaning r1.old) (S.meaning r1.new)
-            (T.meaning r2.old) (T.meaning r2.new)
-            (CannotMake file_records IsEitherFile written.old.table.rows)) }
+        ensures { MakesRecord file_records IsEitherFile first second
+            (streams (S.meaning r1.old) (T.meaning r2.old) (W.contents out.old))
+            (streams (S.meaning r1.new) (T.meaning r2.new) (W.contents out.new)) written.old.table.rows
+            (HasWritten written.old) (HasWritten written.new) result }
     {
         match (first, second) {
             (Some(x), Some(y)) => unite_files(alloc, x, r1, y, r2, written, out),
@@ -117,14 +110,10 @@ impl RecordOperation<WrittenXorbs> for OfUnion {
         requires first { IfSome first (IsRecordHeader xorb_records) }
         requires second { IfSome second (IsRecordHeader xorb_records) }
         requires hash { AreOfOneHash xorb_records.hash_of first second }
-        ensures { MatchResult result
-            (λ _. WritesMade xorb_records IsEitherXorb first second (S.meaning r1.old)
-            (S.meaning r1.new) (T.meaning r2.old) (T.meaning r2.new) written.old.table.rows
-            (HasWrittenXorbs written.old) (HasWrittenXorbs written.new) (W.contents out.old)
-            (W.contents out.new))
-            (PairFails xorb_records first second (S.meaning r1.old) (S.meaning r1.new)
-            (T.meaning r2.old) (T.meaning r2.new)
-            (CannotMake xorb_records IsEitherXorb written.old.table.rows)) }
+        ensures { MakesRecord xorb_records IsEitherXorb first second
+            (streams (S.meaning r1.old) (T.meaning r2.old) (W.contents out.old))
+            (streams (S.meaning r1.new) (T.meaning r2.new) (W.contents out.new)) written.old.table.rows
+            (HasWrittenXorbs written.old) (HasWrittenXorbs written.new) result }
     {
         match (first, second) {
             (Some(x), other) => keep(alloc, x, r1, other, r2, written, out),
@@ -154,14 +143,10 @@ impl<Sec: WrittenSection> RecordOperation<Sec> for OfDifference {
         requires first { IfSome first (IsRecordHeader Sec.Record.kind) }
         requires second { IfSome second (IsRecordHeader Sec.Record.kind) }
         requires hash { AreOfOneHash Sec.Record.kind.hash_of first second }
-        ensures { MatchResult result
-            (λ _. WritesMade Sec.Record.kind IsRest first second (S.meaning r1.old)
-            (S.meaning r1.new) (T.meaning r2.old) (T.meaning r2.new) (Sec.rows written.old)
-            (Sec.has_written written.old) (Sec.has_written written.new) (W.contents out.old)
-            (W.contents out.new))
-            (PairFails Sec.Record.kind first second (S.meaning r1.old) (S.meaning r1.new)
-            (T.meaning r2.old) (T.meaning r2.new)
-            (CannotMake Sec.Record.kind IsRest (Sec.rows written.old))) }
+        ensures { MakesRecord Sec.Record.kind IsRest first second
+            (streams (S.meaning r1.old) (T.meaning r2.old) (W.contents out.old))
+            (streams (S.meaning r1.new) (T.meaning r2.new) (W.contents out.new)) (Sec.rows written.old)
+            (Sec.has_written written.old) (Sec.has_written written.new) result }
     {
         Sec::Record::laws();
         match (first, second) {

@@ -4,7 +4,7 @@ ghost use Rattle.std.specs.Prelude.{◌≡◌, ◌≢◌, ◌⊎◌, true, ℕ, 
 ghost use Rattle.std.specs.FinMap as finite;
 ghost use Rattle.xet_base.specs.KeyedHash.{no_key};
 ghost use Rattle.xet_base.specs.Source.{DeviceFailure};
-ghost use Rattle.xet_base.specs.Table.{Serves, IsBareInvalidShard};
+ghost use Rattle.xet_base.specs.Table.{Serves};
 ghost use Rattle.xet_records.specs.declared.file_structs.MDBFileInfo.{MDBFileInfo as File};
 ghost use Rattle.xet_records.specs.declared.xorb_structs.MDBXorbInfo.{MDBXorbInfo as Xorb};
 ghost use Rattle.xet_records.specs.XorbRecord.{xorb_records, IsXorb};
@@ -15,7 +15,7 @@ ghost use Rattle.xet_shards.specs.InForm.{IsInForm};
 ghost use Rattle.xet_shards.specs.Lookup.{Visit, VisitsSome};
 ghost use Rattle.xet_shards.specs.WrittenQueries.{RunInXorb, QueryFailsInXorb, RunAmong, QueryCosts};
 ghost use Rattle.xet_shards.specs.RunReading.{AnswerAt, RefusedAt, TriedAnswer, TriedRefused, QueryOutcome};
-ghost use Rattle.xet_shards.specs.WrittenShard.{IsWritten};
+ghost use Rattle.xet_shards.specs.WrittenShard.{IsBytesWithInfo};
 
 use super::info::MDBShardInfo;
 use super::run_reader::read_header_at;
@@ -60,8 +60,8 @@ impl MDBShardInfo {
             → MatchResult result (RunInXorb form.key unkeyed_query_hashes.now xorb chunk_index)
             (QueryFailsInXorb unkeyed_query_hashes.now xorb chunk_index (S.meaning source.old)
             (S.meaning source.new)) }
-        ensures written { (s : Shard) → (expiry : Option ℕ) → (xorb : Xorb)
-            → IsWritten s expiry (S.meaning source.old).bytes self.now
+        ensures written { (s : Shard) → (xorb : Xorb)
+            → IsBytesWithInfo s (S.meaning source.old).bytes self.now
             → StartsAt xorb_records (finite.values s.xorbs) xorb_row xorb
             → MatchResult result (RunInXorb no_key unkeyed_query_hashes.now xorb chunk_index)
             (QueryFailsInXorb unkeyed_query_hashes.now xorb chunk_index (S.meaning source.old)
@@ -115,8 +115,8 @@ impl MDBShardInfo {
             → form.chunk_table ≡ true → All IsXorb xorbs
             → MatchResult result (RunAmong form.key unkeyed_query_hashes.now xorbs)
             (DeviceFailure (S.meaning source.old) (S.meaning source.new)) }
-        ensures written { (s : Shard) → (expiry : Option ℕ)
-            → IsWritten s expiry (S.meaning source.old).bytes self.now
+        ensures written { (s : Shard)
+            → IsBytesWithInfo s (S.meaning source.old).bytes self.now
             → MatchResult result (RunAmong no_key unkeyed_query_hashes.now (finite.values s.xorbs))
             (DeviceFailure (S.meaning source.old) (S.meaning source.new)) }
         ensures in_form_costs { (files : List File) → (xorbs : List Xorb) → (form : Form)
@@ -124,8 +124,8 @@ impl MDBShardInfo {
             → form.chunk_table ≡ true
             → QueryCosts form.key unkeyed_query_hashes.now xorbs (S.meaning source.old)
             (S.meaning source.new) }
-        ensures costs { (s : Shard) → (expiry : Option ℕ)
-            → IsWritten s expiry (S.meaning source.old).bytes self.now
+        ensures costs { (s : Shard)
+            → IsBytesWithInfo s (S.meaning source.old).bytes self.now
             → QueryCosts no_key unkeyed_query_hashes.now (finite.values s.xorbs)
             (S.meaning source.old) (S.meaning source.new) }
     {

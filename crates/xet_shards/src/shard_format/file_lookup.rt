@@ -10,8 +10,8 @@ ghost use Rattle.xet_shards.specs.SectionReading.{files_of};
 ghost use Rattle.xet_shards.specs.Shard.{Shard};
 ghost use Rattle.xet_shards.specs.Layout.{Form};
 ghost use Rattle.xet_shards.specs.InForm.{HasFileTable};
-ghost use Rattle.xet_shards.specs.Lookup.{StartsAmong, IndexFailsAmong, FoundAmong, FoundInShard, LookupFailsAmong, WithinBounds, SearchWithinBounds, file_table, LooksUpIndex, LooksUpRecord, ReadsInfo, ReadInfoFails, VisitsSome, Finding, FindingFails, LookupAnswer, LookupRefused};
-ghost use Rattle.xet_shards.specs.WrittenShard.{IsWritten};
+ghost use Rattle.xet_shards.specs.Lookup.{FindsStarts, FindsFileAmong, FindsInShard, file_table, LooksUpIndex, LooksUpFile, ReadsInfo, ReadInfoFails, VisitsSome, Finding, FindingFails, LookupAnswer, LookupRefused};
+ghost use Rattle.xet_shards.specs.WrittenShard.{IsBytesWithInfo};
 
 use super::info::MDBShardInfo;
 use super::section_reader::read_record_at;
@@ -42,24 +42,12 @@ impl MDBShardInfo {
             hash.now.word0 dest.old dest.new (S.meaning source.old) (S.meaning source.new) result }
         ensures in_form { (files : List MDBFileInfo) → (xorbs : List MDBXorbInfo) → (form : Form)
             → HasFileTable files xorbs form (S.meaning source.old).bytes self.now
-            → MatchResult result (StartsAmong file_records files hash.now.word0 dest.new)
-            (IndexFailsAmong file_records files hash.now.word0 (S.meaning source.old)
-            (S.meaning source.new)) }
-        ensures in_form_costs { (files : List MDBFileInfo) → (xorbs : List MDBXorbInfo)
-            → (form : Form)
-            → HasFileTable files xorbs form (S.meaning source.old).bytes self.now
-            → SearchWithinBounds file_records files hash.now.word0 (S.meaning source.old)
-            (S.meaning source.new) }
-        ensures written { (s : Shard) → (expiry : Option ℕ)
-            → IsWritten s expiry (S.meaning source.old).bytes self.now
-            → MatchResult result
-            (StartsAmong file_records (finite.values s.files) hash.now.word0 dest.new)
-            (IndexFailsAmong file_records (finite.values s.files) hash.now.word0
-            (S.meaning source.old) (S.meaning source.new)) }
-        ensures costs { (s : Shard) → (expiry : Option ℕ)
-            → IsWritten s expiry (S.meaning source.old).bytes self.now
-            → SearchWithinBounds file_records (finite.values s.files) hash.now.word0
-            (S.meaning source.old) (S.meaning source.new) }
+            → FindsStarts file_records files hash.now.word0 dest.new (S.meaning source.old)
+            (S.meaning source.new) result }
+        ensures written { (s : Shard)
+            → IsBytesWithInfo s (S.meaning source.old).bytes self.now
+            → FindsStarts file_records (finite.values s.files) hash.now.word0 dest.new
+            (S.meaning source.old) (S.meaning source.new) result }
     {
         let start = self.metadata.file_lookup_offset;
         let rows = self.metadata.file_lookup_num_entry;
@@ -99,41 +87,15 @@ impl MDBShardInfo {
         source: &mut S,
         hash: &MerkleHash,
     ) -> Result<Option<MDBFileInfo>>
-        ensures looks { LooksUpRecord (files_of self.now)
-            (file_table self.now.metadata (S.meaning source.old)) self.now.metadata.file_info_offset
-            hash.now (S.meaning source.old) (S.meaning source.new) result }
+        ensures looks { LooksUpFile self.now hash.now (S.meaning source.old) (S.meaning source.new)
+            result }
         ensures fits { IfOk result (λ found. IfSome found FitsItsHeader) }
         ensures in_form { (files : List MDBFileInfo) → (xorbs : List MDBXorbInfo) → (form : Form)
             → HasFileTable files xorbs form (S.meaning source.old).bytes self.now
-            → MatchResult result (FoundAmong file_records files hash.now)
-            (LookupFailsAmong file_records files hash.now (S.meaning source.old)
-            (S.meaning source.new)) }
-        ensures in_form_costs { (files : List MDBFileInfo) → (xorbs : List MDBXorbInfo)
-            → (form : Form)
-            → HasFileTable files xorbs form (S.meaning source.old).bytes self.now
-            → WithinBounds file_records files hash.now.word0 (S.meaning source.old)
-            (S.meaning source.new) }
-        ensures in_form_collision { (files : List MDBFileInfo) → (xorbs : List MDBXorbInfo)
-            → (form : Form)
-            → HasFileTable files xorbs form (S.meaning source.old).bytes self.now
-            → IfErr result (λ e. e ≡ CoreError.TruncatedHashCollision hash.now.word0
-            → SearchWithinBounds file_records files hash.now.word0 (S.meaning source.old)
-            (S.meaning source.new)) }
-        ensures written { (s : Shard) → (expiry : Option ℕ)
-            → IsWritten s expiry (S.meaning source.old).bytes self.now
-            → MatchResult result (FoundInShard s hash.now)
-            (LookupFailsAmong file_records (finite.values s.files) hash.now (S.meaning source.old)
-            (S.meaning source.new)) }
-        ensures costs { (s : Shard) → (expiry : Option ℕ)
-            → IsWritten s expiry (S.meaning source.old).bytes self.now
-            → WithinBounds file_records (finite.values s.files) hash.now.word0
-            (S.meaning source.old) (S.meaning source.new) }
-        ensures collision { (s : Shard) → (expiry : Option ℕ)
-            → IsWritten s expiry (S.meaning source.old).bytes self.now
-            → IfErr result
-            (λ e. e ≡ CoreError.TruncatedHashCollision hash.now.word0
-            → SearchWithinBounds file_records (finite.values s.files) hash.now.word0
-            (S.meaning source.old) (S.meaning source.new)) }
+            → FindsFileAmong files hash.now (S.meaning source.old) (S.meaning source.new) result }
+        ensures written { (s : Shard)
+            → IsBytesWithInfo s (S.meaning source.old).bytes self.now
+            → FindsInShard s hash.now (S.meaning source.old) (S.meaning source.new) result }
     {
         self.look_up(alloc, source, hash)
     }

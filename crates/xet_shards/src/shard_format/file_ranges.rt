@@ -4,8 +4,8 @@ ghost use Rattle.std.specs.Prelude.{◌≡◌, ◌⊎◌, ℕ, Option, ◌+◌, 
 ghost use Rattle.std.specs.FinMap as finite;
 ghost use Rattle.xet_base.specs.Source.{DeviceFailure, bytes_left};
 ghost use Rattle.xet_records.specs.FileRecord.{rows_after};
-ghost use Rattle.xet_shards.specs.Shard.{Shard, IsShard};
-ghost use Rattle.xet_shards.specs.Layout.{layout};
+ghost use Rattle.xet_shards.specs.Shard.{Shard};
+ghost use Rattle.xet_shards.specs.WrittenShard.{IsBytesOf};
 ghost use Rattle.xet_shards.specs.FileRanges.{file_ranges, ranges_after, ranges_at, ReadsFileRanges, FileRangesFail};
 
 use super::info::{MDBShardInfo, read_header};
@@ -41,8 +41,7 @@ impl MDBShardInfo {
         ensures read { MatchResult result
             (λ found. ReadsFileRanges (S.meaning source.old) (S.meaning source.new) found.items)
             (FileRangesFail (S.meaning source.old) (S.meaning source.new)) }
-        ensures written { (s : Shard) → (expiry : Option ℕ) → IsShard s
-            → bytes_left (S.meaning source.old) ≡ layout s expiry
+        ensures written { (s : Shard) → IsBytesOf s (bytes_left (S.meaning source.old))
             → MatchResult result
             (λ found. found.items
             ≡ file_ranges ((S.meaning source.old).at + 48) (finite.values s.files))

@@ -7,7 +7,7 @@ ghost use Rattle.xet_base.specs.Errors.{IsWriteError};
 ghost use Rattle.xet_base.specs.Table.{IsBareInvalidShard};
 ghost use Rattle.xet_shards.specs.Shard.{Shard, IsShard, has_aux_rows};
 ghost use Rattle.xet_shards.specs.Layout.{layout, layout_in, layout_of, info_of, info_value, info_value_in, header_tag, shard_header_bytes, shard_footer_bytes};
-ghost use Rattle.xet_shards.specs.WrittenShard.{IsWritten, ReadsBack, ReadsOfShard};
+ghost use Rattle.xet_shards.specs.WrittenShard.{IsBytesWithInfo, ReadsBack, ReadsOfShard};
 ghost use Rattle.xet_base.specs.Source.{Takes, DeviceFailure};
 ghost use Rattle.xet_records.specs.Version.{IsVersion};
 ghost use Rattle.xet_records.specs.declared.record_reader.FormatVersion.{FormatVersion};
@@ -171,11 +171,10 @@ impl MDBShardInfo {
             self.now.metadata.xorb_info_offset found.items)
             (SectionFails xorb_records (S.meaning source.old) (S.meaning source.new)
             self.now.metadata.xorb_info_offset) }
-        ensures written { (s : Shard) → (expiry : Option ℕ)
-            → IsWritten s expiry (S.meaning source.old).bytes self.now
+        ensures written { (s : Shard)
+            → IsBytesWithInfo s (S.meaning source.old).bytes self.now
             → ReadsBack
-            (xorb_headers (info_value s expiry).metadata.xorb_info_offset
-            (finite.values s.xorbs))
+            (xorb_headers self.now.metadata.xorb_info_offset (finite.values s.xorbs))
             (S.meaning source.old) (S.meaning source.new) result }
     {
         read_xorb_headers(alloc, source, self.metadata.xorb_info_offset)

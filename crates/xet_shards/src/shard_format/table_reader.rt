@@ -3,12 +3,12 @@
 ghost use Rattle.std.specs.Prelude.{◌≡◌, ◌⊎◌, ℕ, List, Option, MatchResult, IfOk, IfErr, ◌<◌};
 ghost use Rattle.std.proofs.Common.{rules};
 ghost use Rattle.std.specs.FinMap as finite;
-ghost use Rattle.xet_base.specs.Source.{DeviceFailure, ReadFails};
+ghost use Rattle.xet_base.specs.Source.{ReadFails};
 ghost use Rattle.xet_records.specs.XorbRecord.{xorb_records};
 ghost use Rattle.xet_shards.specs.Shard.{Shard};
 ghost use Rattle.xet_shards.specs.Tables.{start_row, starts};
 ghost use Rattle.xet_shards.specs.TableReading.{FitsStart, triple_row, FitsTriple, ReadsNextRow, ReadsTable, TableFails};
-ghost use Rattle.xet_shards.specs.WrittenShard.{IsWritten, ReadsBack};
+ghost use Rattle.xet_shards.specs.WrittenShard.{IsBytesWithInfo, ReadsBack};
 
 use super::info::MDBShardInfo;
 use std::alloc::Global;
@@ -33,8 +33,8 @@ impl MDBShardInfo {
             self.now.metadata.xorb_lookup_num_entry found.items)
             (TableFails 12 (S.meaning source.old) (S.meaning source.new)
             self.now.metadata.xorb_lookup_offset self.now.metadata.xorb_lookup_num_entry) }
-        ensures written { (s : Shard) → (expiry : Option ℕ)
-            → IsWritten s expiry (S.meaning source.old).bytes self.now
+        ensures written { (s : Shard)
+            → IsBytesWithInfo s (S.meaning source.old).bytes self.now
             → ReadsBack (starts xorb_records (finite.values s.xorbs)) (S.meaning source.old)
             (S.meaning source.new) result }
     {

@@ -3,7 +3,7 @@
 ghost use Rattle.std.specs.Prelude.{◌≡◌, ◌⊎◌, ℕ, List, ◌+◌, ◌<◌, ◌≤◌, length, min, MatchResult, OnOk, IfOk, IfErr};
 ghost use Rattle.xet_base.specs.Source.{FillFails, next_bytes};
 ghost use Rattle.xet_base.specs.Table.{table_at, Finds, FitsTable, SearchRefused, hits, IsSorted, Serves, Bounded, IsEven, ReadsOn};
-ghost use Rattle.xet_shards.specs.Lookup.{IsNumber, IsPair, IndexFinds, IndexRefused};
+ghost use Rattle.xet_shards.specs.Lookup.{IsNumber, IsPair, Searches, LooksUpIndex};
 
 use std::alloc::Global;
 use std::io;
@@ -72,18 +72,8 @@ pub(super) fn find_rows<S: ShardSource>(
     word: u64,
     dest: &mut [u32; 8],
 ) -> Result<usize>
-    ensures found { IfOk result
-        (IndexFinds (table_at (S.meaning source.old) start rows 4) word dest.old dest.new) }
-    ensures serves { OnOk result (Serves (S.meaning source.old) (S.meaning source.new)) }
-    ensures refused { IfErr result
-        (IndexRefused (table_at (S.meaning source.old) start rows 4) word (S.meaning source.old)
-        (S.meaning source.new)) }
-    ensures kept { (S.meaning source.new).bytes ≡ (S.meaning source.old).bytes }
-    ensures bounds { IsSorted (table_at (S.meaning source.old) start rows 4)
-        → Bounded (table_at (S.meaning source.old) start rows 4) word (S.meaning source.old)
-        (S.meaning source.new) }
-    ensures even { IsEven (table_at (S.meaning source.old) start rows 4)
-        → (S.meaning source.new).seeks ≤ (S.meaning source.old).seeks + 3 }
+    ensures { LooksUpIndex (table_at (S.meaning source.old) start rows 4) word dest.old dest.new
+        (S.meaning source.old) (S.meaning source.new) result }
 {
     let found = search_table::<u32, S>(alloc, source, start, rows, word, dest)?;
     if found < dest.len() {
@@ -103,25 +93,8 @@ pub(super) fn search_table<V: TableValue, S: ShardSource>(
     word: u64,
     dest: &mut [V],
 ) -> Result<usize>
-    ensures found { IfOk result
-        (Finds (table_at (S.meaning source.old) start rows V.WIDTH) word V.Spells dest.old
-        dest.new) }
-    ensures count { IsSorted (table_at (S.meaning source.old) start rows V.WIDTH)
-        → IfOk result
-        (λ n. n ≡ min (hits (table_at (S.meaning source.old) start rows V.WIDTH) word)
-        (length dest.old)) }
-    ensures serves { OnOk result (Serves (S.meaning source.old) (S.meaning source.new)) }
-    ensures fits { OnOk result
-        (0 < length dest.old → FitsTable (table_at (S.meaning source.old) start rows V.WIDTH)) }
-    ensures refused { IfErr result
-        (SearchRefused (table_at (S.meaning source.old) start rows V.WIDTH) (S.meaning source.old)
-        (S.meaning source.new)) }
-    ensures kept { (S.meaning source.new).bytes ≡ (S.meaning source.old).bytes }
-    ensures bounds { IsSorted (table_at (S.meaning source.old) start rows V.WIDTH)
-        → Bounded (table_at (S.meaning source.old) start rows V.WIDTH) word (S.meaning source.old)
-        (S.meaning source.new) }
-    ensures even { IsEven (table_at (S.meaning source.old) start rows V.WIDTH)
-        → (S.meaning source.new).seeks ≤ (S.meaning source.old).seeks + 3 }
+    ensures { Searches (table_at (S.meaning source.old) start rows V.WIDTH) word V.Spells
+        (length dest.old) dest.old dest.new (S.meaning source.old) (S.meaning source.new) result }
 {
     search_on_sorted_u64s(
         alloc,

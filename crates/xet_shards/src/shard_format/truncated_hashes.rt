@@ -2,10 +2,9 @@
 
 ghost use Rattle.std.specs.Prelude.{◌≡◌, ◌≢◌, ◌⊎◌, ℕ, Option, ◌≤◌, ◌++◌, length, map, MatchResult, OnOk, IfOk, IfErr};
 ghost use Rattle.std.specs.FinMap as finite;
-ghost use Rattle.xet_base.specs.Source.{DeviceFailure};
 ghost use Rattle.xet_shards.specs.Shard.{Shard};
 ghost use Rattle.xet_shards.specs.Tables.{chunk_table_rows_from, chunk_table};
-ghost use Rattle.xet_shards.specs.WrittenShard.{IsWritten, ReadsBack};
+ghost use Rattle.xet_shards.specs.WrittenShard.{IsBytesWithInfo, ReadsBack};
 ghost use Rattle.xet_shards.specs.TableReading.{triple_of, triple_row, FitsTriple, ReadsTable, TableFails};
 ghost use Rattle.xet_shards.specs.TruncatedHashes.{ReadsHashes, HashesFail, ReadsBefore, XorbBeforeFails};
 
@@ -46,8 +45,8 @@ impl MDBShardInfo {
             found.items)
             (HashesFail (S.meaning source.old) (S.meaning source.new)
             self.now.metadata.xorb_info_offset self.now.metadata.file_lookup_offset) }
-        ensures written { (s : Shard) → (expiry : Option ℕ)
-            → IsWritten s expiry (S.meaning source.old).bytes self.now
+        ensures written { (s : Shard)
+            → IsBytesWithInfo s (S.meaning source.old).bytes self.now
             → ReadsBack (map triple_of (chunk_table (finite.values s.xorbs))) (S.meaning source.old)
             (S.meaning source.new) result }
     {

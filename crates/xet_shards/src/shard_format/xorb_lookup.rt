@@ -3,17 +3,16 @@
 ghost use Rattle.std.specs.Prelude.{◌≡◌, ℕ, List, Option, true, ◌+◌, ◌≤◌, min, MatchResult, OnOk, IfOk, IfErr};
 ghost use Rattle.std.specs.FinMap as finite;
 ghost use Rattle.xet_base.specs.KeyedHash.{under_key};
-ghost use Rattle.xet_base.specs.Source.{DeviceFailure};
-ghost use Rattle.xet_base.specs.Table.{hits, Finds, FitsTable, SearchRefused, IsSorted, Serves, Bounded, IsEven};
+ghost use Rattle.xet_base.specs.Table.{IsSorted, Serves};
 ghost use Rattle.xet_records.specs.declared.file_structs.MDBFileInfo.{MDBFileInfo as File};
 ghost use Rattle.xet_records.specs.declared.xorb_structs.MDBXorbInfo.{MDBXorbInfo as Xorb};
 ghost use Rattle.xet_records.specs.XorbRecord.{xorb_records};
 ghost use Rattle.xet_shards.specs.Shard.{Shard};
 ghost use Rattle.xet_shards.specs.Layout.{Form};
 ghost use Rattle.xet_shards.specs.InForm.{Ascends, IsInForm};
-ghost use Rattle.xet_shards.specs.Lookup.{StartsAmong, IndexFailsAmong, SearchWithinBounds, xorb_table, chunk_lookup_table, IsPair, LooksUpIndex};
-ghost use Rattle.xet_shards.specs.WrittenChunks.{RowsAmong, ChunkSearchCosts};
-ghost use Rattle.xet_shards.specs.WrittenShard.{IsWritten};
+ghost use Rattle.xet_shards.specs.Lookup.{FindsStarts, Searches, xorb_table, chunk_lookup_table, IsPair, LooksUpIndex};
+ghost use Rattle.xet_shards.specs.WrittenChunks.{FindsRows};
+ghost use Rattle.xet_shards.specs.WrittenShard.{IsBytesWithInfo};
 
 use super::info::MDBShardInfo;
 use super::table_search::{find_rows, search_table};
@@ -38,49 +37,17 @@ impl MDBShardInfo {
         unkeyed_hash: &MerkleHash,
         dest: &mut [(u32, u32); 8],
     ) -> Result<usize>
-        ensures found { IfOk result
-            (Finds (chunk_lookup_table self.now.metadata (S.meaning source.old))
-            (under_key self.now.metadata.chunk_hash_hmac_key unkeyed_hash.now).word0 IsPair
-            dest.old dest.new) }
-        ensures count { IsSorted (chunk_lookup_table self.now.metadata (S.meaning source.old))
-            → IfOk result
-            (λ n. n ≡ min
-            (hits (chunk_lookup_table self.now.metadata (S.meaning source.old))
-            (under_key self.now.metadata.chunk_hash_hmac_key unkeyed_hash.now).word0)
-            8) }
-        ensures fits { OnOk result
-            (FitsTable (chunk_lookup_table self.now.metadata (S.meaning source.old))) }
-        ensures refused { IfErr result
-            (SearchRefused (chunk_lookup_table self.now.metadata (S.meaning source.old))
-            (S.meaning source.old) (S.meaning source.new)) }
-        ensures serves { OnOk result (Serves (S.meaning source.old) (S.meaning source.new)) }
-        ensures kept { (S.meaning source.new).bytes ≡ (S.meaning source.old).bytes }
+        ensures looks { Searches (chunk_lookup_table self.now.metadata (S.meaning source.old))
+            (under_key self.now.metadata.chunk_hash_hmac_key unkeyed_hash.now).word0 IsPair 8
+            dest.old dest.new (S.meaning source.old) (S.meaning source.new) result }
         ensures in_form { (files : List File) → (xorbs : List Xorb) → (form : Form)
             → IsInForm files xorbs form (S.meaning source.old).bytes self.now.metadata
             → form.chunk_table ≡ true
-            → MatchResult result
-            (RowsAmong xorbs (under_key form.key unkeyed_hash.now).word0 dest.old dest.new)
-            (DeviceFailure (S.meaning source.old) (S.meaning source.new)) }
-        ensures written { (s : Shard) → (expiry : Option ℕ)
-            → IsWritten s expiry (S.meaning source.old).bytes self.now
-            → MatchResult result
-            (RowsAmong (finite.values s.xorbs) unkeyed_hash.now.word0 dest.old dest.new)
-            (DeviceFailure (S.meaning source.old) (S.meaning source.new)) }
-        ensures bounds { IsSorted (chunk_lookup_table self.now.metadata (S.meaning source.old))
-            → Bounded (chunk_lookup_table self.now.metadata (S.meaning source.old))
-            (under_key self.now.metadata.chunk_hash_hmac_key unkeyed_hash.now).word0
-            (S.meaning source.old) (S.meaning source.new) }
-        ensures even { IsEven (chunk_lookup_table self.now.metadata (S.meaning source.old))
-            → (S.meaning source.new).seeks ≤ (S.meaning source.old).seeks + 3 }
-        ensures in_form_costs { (files : List File) → (xorbs : List Xorb) → (form : Form)
-            → IsInForm files xorbs form (S.meaning source.old).bytes self.now.metadata
-            → form.chunk_table ≡ true
-            → ChunkSearchCosts xorbs (under_key form.key unkeyed_hash.now).word0
-            (S.meaning source.old) (S.meaning source.new) }
-        ensures costs { (s : Shard) → (expiry : Option ℕ)
-            → IsWritten s expiry (S.meaning source.old).bytes self.now
-            → ChunkSearchCosts (finite.values s.xorbs) unkeyed_hash.now.word0 (S.meaning source.old)
-            (S.meaning source.new) }
+            → FindsRows xorbs (under_key form.key unkeyed_hash.now).word0 dest.old dest.new
+            (S.meaning source.old) (S.meaning source.new) result }
+        ensures written { (s : Shard) → IsBytesWithInfo s (S.meaning source.old).bytes self.now
+            → FindsRows (finite.values s.xorbs) unkeyed_hash.now.word0 dest.old dest.new
+            (S.meaning source.old) (S.meaning source.new) result }
     {
         let start = self.metadata.chunk_lookup_offset;
         let rows = self.metadata.chunk_lookup_num_entry;
@@ -107,24 +74,12 @@ impl MDBShardInfo {
         ensures in_form { (files : List File) → (xorbs : List Xorb) → (form : Form)
             → IsInForm files xorbs form (S.meaning source.old).bytes self.now.metadata
             → Ascends xorb_records xorbs → form.xorb_table ≡ true
-            → MatchResult result (StartsAmong xorb_records xorbs hash.now.word0 dest.new)
-            (IndexFailsAmong xorb_records xorbs hash.now.word0 (S.meaning source.old)
-            (S.meaning source.new)) }
-        ensures written { (s : Shard) → (expiry : Option ℕ)
-            → IsWritten s expiry (S.meaning source.old).bytes self.now
-            → MatchResult result
-            (StartsAmong xorb_records (finite.values s.xorbs) hash.now.word0 dest.new)
-            (IndexFailsAmong xorb_records (finite.values s.xorbs) hash.now.word0
-            (S.meaning source.old) (S.meaning source.new)) }
-        ensures in_form_costs { (files : List File) → (xorbs : List Xorb) → (form : Form)
-            → IsInForm files xorbs form (S.meaning source.old).bytes self.now.metadata
-            → Ascends xorb_records xorbs → form.xorb_table ≡ true
-            → SearchWithinBounds xorb_records xorbs hash.now.word0 (S.meaning source.old)
-            (S.meaning source.new) }
-        ensures costs { (s : Shard) → (expiry : Option ℕ)
-            → IsWritten s expiry (S.meaning source.old).bytes self.now
-            → SearchWithinBounds xorb_records (finite.values s.xorbs) hash.now.word0
-            (S.meaning source.old) (S.meaning source.new) }
+            → FindsStarts xorb_records xorbs hash.now.word0 dest.new (S.meaning source.old)
+            (S.meaning source.new) result }
+        ensures written { (s : Shard)
+            → IsBytesWithInfo s (S.meaning source.old).bytes self.now
+            → FindsStarts xorb_records (finite.values s.xorbs) hash.now.word0 dest.new
+            (S.meaning source.old) (S.meaning source.new) result }
     {
         let start = self.metadata.xorb_lookup_offset;
         let rows = self.metadata.xorb_lookup_num_entry;

@@ -4,5 +4,4 @@ use Rattle.xet_core_structures.proofs.MergeTrees.{one_string}
 use Rattle.xet_core_structures.proofs.set_operations.shard_union_tree.Goals as goal
 
 pub returns-clause-one_byte_string : goal.returns-clause-one_byte_string
-returns-clause-one_byte_string c = λ shard_at expiry_at join union written agree is.
-    one_string (map (λ (x : Bor (List ℕ)). x.now) c.args.inputs.now) shard_at expiry_at c.args.plan.now join c.merge.result union written agree is c.merge.ensures
+returns-clause-one_byte_string c = λ shards join merge. one_string (map (λ (x : Bor (List ℕ)). x.now) c.args.inputs.now) c.args.plan.now shards join merge c.merge.result c.merge.ensures

@@ -19,11 +19,11 @@ returns-clause-in_form_costs g c files xorbs form is with_table =
     query_costs_in_form files xorbs form old c.args.self.now.metadata is with_table c.args.unkeyed_query_hashes.now new c.query_by_table.result c.query_by_table.ensures.read
 
 pub returns-clause-written : goal.returns-clause-written
-returns-clause-written g c s expiry written =
-    returns-clause-in_form g c (values s.files) (values s.xorbs) (plain_form_in written.version expiry)
-    (shard_in_form written) refl (xorb_values (entries s.xorbs) written.shard.xorbs)
+returns-clause-written g c s is =
+    returns-clause-in_form g c (values s.files) (values s.xorbs) (plain_form_in is.is_bytes.version is.is_bytes.expiry)
+    (shard_in_form is) refl (xorb_values (entries s.xorbs) is.is_bytes.shard.xorbs)
 
 pub returns-clause-costs : goal.returns-clause-costs
-returns-clause-costs g c s expiry written =
-    returns-clause-in_form_costs g c (values s.files) (values s.xorbs) (plain_form_in written.version expiry)
-    (shard_in_form written) refl
+returns-clause-costs g c s is =
+    returns-clause-in_form_costs g c (values s.files) (values s.xorbs) (plain_form_in is.is_bytes.version is.is_bytes.expiry)
+    (shard_in_form is) refl

@@ -19,6 +19,6 @@ returns-clause-bookend g c files xorbs form is at =
     c.run_at_location.ensures.answer c.run_at_location.ensures.refused
 
 pub returns-clause-written : goal.returns-clause-written
-returns-clause-written g c s expiry xorb written at =
-    returns-clause-in_form g c (values s.files) (values s.xorbs) (plain_form_in written.version expiry) xorb
-    (shard_in_form written) at (xorb_of_shard s written.shard c.args.xorb_row xorb at)
+returns-clause-written g c s xorb is at =
+    returns-clause-in_form g c (values s.files) (values s.xorbs) (plain_form_in is.is_bytes.version is.is_bytes.expiry) xorb
+    (shard_in_form is) at (xorb_of_shard s is.is_bytes.shard c.args.xorb_row xorb at)

@@ -1,9 +1,12 @@
-use Rattle.std.proofs.Common.{List, sym, subst}
+use Rattle.std.proofs.Common.{◌≡◌, List, sym, subst}
+use Rattle.std.specs.Prelude.{IfErr}
 use Rattle.std.specs.FinMap.{values}
 use Rattle.xet_records.specs.declared.file_structs.MDBFileInfo.{MDBFileInfo}
 use Rattle.xet_records.specs.declared.xorb_structs.MDBXorbInfo.{MDBXorbInfo}
 use Rattle.xet_records.specs.FileRecord.{file_records, file_records_in}
 use Rattle.xet_records.specs.Version.{version_of}
+use Rattle.xet_base.specs.declared.error.CoreError.TheVariants.{TruncatedHashCollision}
+use Rattle.xet_shards.specs.Lookup.{WithinBounds, SearchWithinBounds}
 use Rattle.xet_shards.specs.SectionReading.{files_of}
 use Rattle.xet_shards.proofs.Sections.{files_laws}
 use Rattle.xet_shards.specs.Layout.{Form, plain_form_in}
@@ -31,26 +34,35 @@ pub returns-clause-fits : goal.returns-clause-fits
 returns-clause-fits g c =
     lookup_fits (version_of c.args.self.now.header.version) _ _ c.args.hash.now (g.S.ShardSource.meaning c.args.source.now) (g.S.ShardSource.meaning c.look_up.new.source) c.look_up.result (returns-clause-looks g c)
 
-pub returns-clause-in_form : goal.returns-clause-in_form
-returns-clause-in_form g c files xorbs form is =
-    lookup_in_form (files_of c.args.self.now) (files_laws (version_of c.args.self.now.header.version)) no_file files _ _ _ (g.S.ShardSource.meaning c.args.source.now) (looked g c files xorbs form is) (g.S.ShardSource.meaning c.look_up.new.source) c.args.hash.now c.look_up.result (returns-clause-looks g c)
-
-pub returns-clause-in_form_costs : goal.returns-clause-in_form_costs
-returns-clause-in_form_costs g c files xorbs form is =
+-- what the lookup costs, and what it does where eight files share the first word
+costs_in_form : (g : _) (c : goal.After-look_up g) (files : List MDBFileInfo) (xorbs : List MDBXorbInfo) (form : Form)
+    → HasFileTable files xorbs form (g.S.ShardSource.meaning c.args.source.now).bytes c.args.self.now
+    → WithinBounds file_records files c.args.hash.now.word0 (g.S.ShardSource.meaning c.args.source.now) (g.S.ShardSource.meaning c.look_up.new.source)
+costs_in_form g c files xorbs form is =
     bounds_ever file_records (version_of c.args.self.now.header.version) files _ _ _
     (lookup_bounded (files_of c.args.self.now) (files_laws (version_of c.args.self.now.header.version)) no_file files _ _ _ (g.S.ShardSource.meaning c.args.source.now) (looked g c files xorbs form is) (g.S.ShardSource.meaning c.look_up.new.source) c.args.hash.now c.look_up.result (returns-clause-looks g c))
 
-pub returns-clause-in_form_collision : goal.returns-clause-in_form_collision
-returns-clause-in_form_collision g c files xorbs form is =
+collision_in_form : (g : _) (c : goal.After-look_up g) (files : List MDBFileInfo) (xorbs : List MDBXorbInfo) (form : Form)
+    → HasFileTable files xorbs form (g.S.ShardSource.meaning c.args.source.now).bytes c.args.self.now
+    → IfErr c.look_up.result (λ e. e ≡ TruncatedHashCollision c.args.hash.now.word0
+    → SearchWithinBounds file_records files c.args.hash.now.word0 (g.S.ShardSource.meaning c.args.source.now) (g.S.ShardSource.meaning c.look_up.new.source))
+collision_in_form g c files xorbs form is =
     collision_bounded (files_of c.args.self.now) (files_laws (version_of c.args.self.now.header.version)) no_file files _ _ _ (g.S.ShardSource.meaning c.args.source.now) (looked g c files xorbs form is) (g.S.ShardSource.meaning c.look_up.new.source) c.args.hash.now c.look_up.result (returns-clause-looks g c)
 
+pub returns-clause-in_form : goal.returns-clause-in_form
+returns-clause-in_form g c files xorbs form is = record {
+  answer = lookup_in_form (files_of c.args.self.now) (files_laws (version_of c.args.self.now.header.version)) no_file files _ _ _ (g.S.ShardSource.meaning c.args.source.now) (looked g c files xorbs form is) (g.S.ShardSource.meaning c.look_up.new.source) c.args.hash.now c.look_up.result (returns-clause-looks g c);
+  costs = costs_in_form g c files xorbs form is;
+  collision = collision_in_form g c files xorbs form is;
+}
+
 pub returns-clause-written : goal.returns-clause-written
-returns-clause-written g c s expiry written =
-    lookup_written s written.shard (version_of c.args.self.now.header.version) _ _ _ (g.S.ShardSource.meaning c.args.source.now) (looked g c (values s.files) (values s.xorbs) (plain_form_in written.version expiry) (files_of_shard written))
-    (g.S.ShardSource.meaning c.look_up.new.source) c.args.hash.now c.look_up.result (returns-clause-looks g c)
-
-pub returns-clause-costs : goal.returns-clause-costs
-returns-clause-costs g c s expiry written = returns-clause-in_form_costs g c (values s.files) (values s.xorbs) (plain_form_in written.version expiry) (files_of_shard written)
-
-pub returns-clause-collision : goal.returns-clause-collision
-returns-clause-collision g c s expiry written = returns-clause-in_form_collision g c (values s.files) (values s.xorbs) (plain_form_in written.version expiry) (files_of_shard written)
+returns-clause-written g c s is =
+    let form = plain_form_in is.is_bytes.version is.is_bytes.expiry in
+    let has_table = files_of_shard is in
+    record {
+      answer = lookup_written s is.is_bytes.shard (version_of c.args.self.now.header.version) _ _ _ (g.S.ShardSource.meaning c.args.source.now) (looked g c (values s.files) (values s.xorbs) form has_table)
+          (g.S.ShardSource.meaning c.look_up.new.source) c.args.hash.now c.look_up.result (returns-clause-looks g c);
+      costs = costs_in_form g c (values s.files) (values s.xorbs) form has_table;
+      collision = collision_in_form g c (values s.files) (values s.xorbs) form has_table;
+    }

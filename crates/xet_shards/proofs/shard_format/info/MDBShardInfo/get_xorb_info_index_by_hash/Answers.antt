@@ -12,30 +12,21 @@ pub returns-clause-looks : goal.returns-clause-looks
 returns-clause-looks g c =
     let old = g.S.ShardSource.meaning c.args.source.now in
     let new = g.S.ShardSource.meaning c.find_rows.new.source in
-    let found = c.find_rows.ensures in
-    subst (λ w. LooksUpIndex (xorb_table c.args.self.now.metadata old) w c.args.dest.now c.find_rows.new.dest old new c.find_rows.result) c.truncate_hash.ensures
-    (record { found = found.found; serves = found.serves; refused = found.refused; kept = found.kept; bounds = found.bounds; even = found.even })
+    subst (λ w. LooksUpIndex (xorb_table c.args.self.now.metadata old) w c.args.dest.now c.find_rows.new.dest old new c.find_rows.result) c.truncate_hash.ensures c.find_rows.ensures
 
 pub returns-clause-in_form : goal.returns-clause-in_form
 returns-clause-in_form g c files xorbs form is ascends with_table =
     let old = g.S.ShardSource.meaning c.args.source.now in
     let footer = c.args.self.now.metadata in
-    index_written xorb_records xorb_laws no_xorb xorbs footer.xorb_info_offset footer.xorb_lookup_offset footer.xorb_lookup_num_entry old
-    (xorbs_in files xorbs form old footer is ascends with_table) _ _ _ _ c.find_rows.result (returns-clause-looks g c)
-
-pub returns-clause-in_form_costs : goal.returns-clause-in_form_costs
-returns-clause-in_form_costs g c files xorbs form is ascends with_table =
-    let old = g.S.ShardSource.meaning c.args.source.now in
-    let footer = c.args.self.now.metadata in
-    index_bounded xorb_records xorb_laws no_xorb xorbs footer.xorb_info_offset footer.xorb_lookup_offset footer.xorb_lookup_num_entry old
-    (xorbs_in files xorbs form old footer is ascends with_table) _ _ _ _ c.find_rows.result (returns-clause-looks g c)
+    let looked = xorbs_in files xorbs form old footer is ascends with_table in
+    record {
+      answer = index_written xorb_records xorb_laws no_xorb xorbs footer.xorb_info_offset footer.xorb_lookup_offset footer.xorb_lookup_num_entry old
+          looked _ _ _ _ c.find_rows.result (returns-clause-looks g c);
+      costs = index_bounded xorb_records xorb_laws no_xorb xorbs footer.xorb_info_offset footer.xorb_lookup_offset footer.xorb_lookup_num_entry old
+          looked _ _ _ _ c.find_rows.result (returns-clause-looks g c);
+    }
 
 pub returns-clause-written : goal.returns-clause-written
-returns-clause-written g c s expiry written =
-    returns-clause-in_form g c (values s.files) (values s.xorbs) (plain_form_in written.version expiry)
-    (shard_in_form written) (xorbs_ascend s written.shard) refl
-
-pub returns-clause-costs : goal.returns-clause-costs
-returns-clause-costs g c s expiry written =
-    returns-clause-in_form_costs g c (values s.files) (values s.xorbs) (plain_form_in written.version expiry)
-    (shard_in_form written) (xorbs_ascend s written.shard) refl
+returns-clause-written g c s is =
+    returns-clause-in_form g c (values s.files) (values s.xorbs) (plain_form_in is.is_bytes.version is.is_bytes.expiry)
+    (shard_in_form is) (xorbs_ascend s is.is_bytes.shard) refl

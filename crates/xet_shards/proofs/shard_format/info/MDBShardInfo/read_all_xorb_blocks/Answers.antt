@@ -3,11 +3,12 @@ use Rattle.std.proofs.lemmas.List.{map-id}
 use Rattle.xet_records.specs.XorbRecord.{xorb_records}
 use Rattle.xet_records.proofs.RecordKinds.{xorb_laws}
 use Rattle.xet_shards.specs.XorbHeaders.{header_at}
-use Rattle.xet_shards.proofs.Readback.{xorb_section_of_shard}
+use Rattle.xet_shards.proofs.EndsUnique.{info_of_bytes}
+use Rattle.xet_shards.proofs.Readback.{xorb_section_written}
 use Rattle.xet_shards.proofs.SectionWalks.{keeps_known}
 use Rattle.xet_shards.proofs.shard_format.info.MDBShardInfo.read_all_xorb_blocks.Goals as goal
 
 pub returns-clause-written : goal.returns-clause-written
-returns-clause-written g c = λ s expiry written.
+returns-clause-written g c = λ s is.
     keeps_known xorb_records xorb_laws header_at _ (g.S.ShardSource.meaning c.read_xorb_headers.new.source) (values s.xorbs) c.read_xorb_headers.result
-    (rw written.same_bytes (xorb_section_of_shard written.version s expiry written.shard)) (map-id (values s.xorbs)) (rw written.same_info at c.read_xorb_headers.ensures)
+    (xorb_section_written is.is_bytes (info_of_bytes is)) (map-id (values s.xorbs)) c.read_xorb_headers.ensures

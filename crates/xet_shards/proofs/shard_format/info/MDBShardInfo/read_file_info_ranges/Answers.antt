@@ -3,6 +3,6 @@ use Rattle.xet_shards.proofs.shard_format.info.MDBShardInfo.read_file_info_range
 
 pub returns-clause-written : goal.returns-clause-written
 returns-clause-written g c =
-    λ s expiry shard are.
-    ranges_written (g.S.ShardSource.meaning c.args.source.now) (g.S.ShardSource.meaning c.read_header_and_ranges.new.source) s expiry shard are
+    λ s is.
+    ranges_written (g.S.ShardSource.meaning c.args.source.now) (g.S.ShardSource.meaning c.read_header_and_ranges.new.source) s is
     c.read_header_and_ranges.result c.read_header_and_ranges.ensures

@@ -1,0 +1,43 @@
+-- Lists whose items are related place by place.
+use Rattle.std.proofs.Common.{◌≡◌, List, [], ◌∷◌, ◌++◌, map, refl, ap, arith}
+use Rattle.std.specs.List.{AllZip}
+use Rattle.std.specs.Prelude.{All, Contains}
+use Rattle.std.proofs.lemmas.List.Elements.{All-drop, Contains-append_right}
+
+-- what is related to two lists in a row is two lists in a row
+pub zipped_parts : {A B : Type 0} (R : A → B → Type 0) (ks bs : List A) (cs : List B) → AllZip R (ks ++ bs) cs → (xs ys : List B) × (xs ++ ys ≡ cs) × AllZip R ks xs × AllZip R bs ys
+zipped_parts R [] bs cs related = ([], cs, refl, tt, related)
+zipped_parts R (a ∷ ks) bs [] related = absurd related
+zipped_parts R (a ∷ ks) bs (c ∷ cs) (here, rest) =
+    let parts = zipped_parts R ks bs cs rest in
+    (c ∷ parts.0, parts.1, ap (λ ds. c ∷ ds) parts.2, (here, parts.3), parts.4)
+
+-- a relation that follows from another
+pub zipped_as : {A B : Type 0} (R Q : A → B → Type 0) → ((a : A) (b : B) → R a b → Q a b) → (ks : List A) (bs : List B) → AllZip R ks bs → AllZip Q ks bs
+zipped_as R Q follows [] [] related = tt
+zipped_as R Q follows [] (b ∷ bs) related = absurd related
+zipped_as R Q follows (a ∷ ks) [] related = absurd related
+zipped_as R Q follows (a ∷ ks) (b ∷ bs) (here, rest) = (follows a b here, zipped_as R Q follows ks bs rest)
+
+-- the second list is mapped by a function, of whose items something is known
+pub zipped_with : {A B C : Type 0} (R : A → B → Type 0) (Q : A → C → Type 0) (f : B → C) (Is : B → Type 0) → ((a : A) (b : B) → Is b → R a b → Q a (f b)) → (ks : List A) (bs : List B)
+    → ((b : B) → Contains bs b → Is b) → AllZip R ks bs → AllZip Q ks (map f bs)
+zipped_with R Q f Is follows [] [] known related = tt
+zipped_with R Q f Is follows [] (b ∷ bs) known related = absurd related
+zipped_with R Q f Is follows (a ∷ ks) [] known related = absurd related
+zipped_with R Q f Is follows (a ∷ ks) (b ∷ bs) known (here, rest) = (
+  follows a b (known b (0, omega arith, refl)) here,
+  zipped_with R Q f Is follows ks bs (λ c member. known c (Contains-append_right (b ∷ []) bs c member)) rest,
+)
+
+-- something is known of each item of the first list
+pub zipped_and : {A B : Type 0} (P : A → Type 0) (R Q : A → B → Type 0) → ((a : A) (b : B) → P a → R a b → Q a b) → (ks : List A) (bs : List B) → All P ks → AllZip R ks bs → AllZip Q ks bs
+zipped_and P R Q follows [] [] all related = tt
+zipped_and P R Q follows [] (b ∷ bs) all related = absurd related
+zipped_and P R Q follows (a ∷ ks) [] all related = absurd related
+zipped_and P R Q follows (a ∷ ks) (b ∷ bs) all (here, rest) = (follows a b (all 0 a (omega arith)) here, zipped_and P R Q follows ks bs (All-drop P 1 (a ∷ ks) all) rest)
+
+-- each item of a list is related to what a function makes of it
+pub zipped_made : {A B : Type 0} (R : A → B → Type 0) (f : A → B) (ks : List A) → ((a : A) → Contains ks a → R a (f a)) → AllZip R ks (map f ks)
+zipped_made R f [] each = tt
+zipped_made R f (a ∷ ks) each = (each a (0, omega arith, refl), zipped_made R f ks (λ b member. each b (Contains-append_right (a ∷ []) ks b member)))
