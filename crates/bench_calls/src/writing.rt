@@ -3,7 +3,7 @@
 ghost use Rattle.std.specs.Prelude.{◌≡◌, MatchResult, true};
 ghost use Rattle.shard_bytes.specs.Combining.{IsResultOf, RefusalOf, CombinesBytes, CombiningRefusal};
 ghost use Rattle.shard_bytes.specs.Exporting.{ExportsBytes, RefusesExport};
-ghost use Rattle.shard_bytes.specs.Minimal.{MinimalBytes, WritesNone};
+ghost use Rattle.shard_bytes.specs.Minimal.{MinimalBytes, RefusesMinimalBytes};
 ghost use Rattle.bench_calls.specs.Answers.{whole_export, all_parts};
 
 use shard_bytes::combine::{Operation, combine_bytes};
@@ -58,7 +58,7 @@ pub fn export(alloc: Global, shard: &[u8], key: HMACKey, times: u64) -> Result<V
 /// Reads a shard and writes its minimal shard, with all rows, created at 0.
 pub fn write_minimal(alloc: Global, shard: &[u8], times: u64) -> Result<Vec<u8>>
     ensures { MatchResult result (λ bytes. MinimalBytes all_parts 0 shard.now bytes.items)
-        (WritesNone shard.now) }
+        (RefusesMinimalBytes all_parts shard.now) }
 {
     let kept = KeptParts {
         verification: true,

@@ -1,6 +1,7 @@
 -- What is read of two byte strings in memory is what they are.
 use Rattle.std.proofs.Common.{◌≡◌, ◌⊎◌, inl, inr, ℕ, List, [], ◌++◌, None, Some, ap, ◌∙◌, subst, arith}
 use Rattle.xet_core_structures.specs.declared.error.CoreError.{CoreError}
+use Rattle.xet_core_structures.specs.declared.error.CoreError.TheVariants.{OutOfMemory}
 use Rattle.xet_core_structures.specs.declared.shard_format.MDBShardInfo.{MDBShardInfo}
 use Rattle.xet_core_structures.specs.declared.source.MemorySource.{MemorySource}
 use Rattle.xet_core_structures.specs.Errors.{IsWriteError}
@@ -8,7 +9,8 @@ use Rattle.xet_core_structures.specs.Source.{Source}
 use Rattle.xet_core_structures.specs.Ends.{HasEnds}
 use Rattle.xet_core_structures.specs.Shard.{Shard}
 use Rattle.xet_core_structures.specs.ByteResults.{keyed_layout, key_of, HaveResult, WritesResult, InputsFail}
-use Rattle.shard_bytes.specs.Combining.{CombinesBytes, CombiningRefusal}
+use Rattle.shard_bytes.proofs.MemoryErrors.{from_memory}
+use Rattle.shard_bytes.specs.Combining.{CombinesBytes, NotCombined, CombiningRefusal}
 
 -- what a source in memory is
 abbrev pub in_memory : MemorySource → Source
@@ -28,10 +30,13 @@ module _ (x y x_read y_read : List ℕ) (i j : MDBShardInfo) (x_is : x_read ≡ 
   )
 
   -- sources in memory do not fail
-  pub combining_refused : (Refusal : List ℕ → MDBShardInfo → List ℕ → MDBShardInfo → CoreError → Type 0) (old_1 new_1 old_2 new_2 : MemorySource) (e : CoreError)
-      → (IsWriteError e ⊎ InputsFail (in_memory old_1) (in_memory new_1) (in_memory old_2) (in_memory new_2) (Refusal x_read i y_read j) e) → CombiningRefusal Refusal x y e
-  combining_refused Refusal old_1 new_1 old_2 new_2 e (inl failed) = inr (inr (inl failed))
-  combining_refused Refusal old_1 new_1 old_2 new_2 e (inr (inl failed)) = absurd (omega (arith, failed.0))
-  combining_refused Refusal old_1 new_1 old_2 new_2 e (inr (inr (inl failed))) = absurd (omega (arith, failed.0))
-  combining_refused Refusal old_1 new_1 old_2 new_2 e (inr (inr (inr (none, none_too, refusal)))) =
-      inr (inr (inr (i, j, i_ends, j_ends, subst (λ p. p) (λ k. Refusal (x_is k) i (y_is k) j e) refusal)))
+  pub combining_refused : (Refusal : List ℕ → MDBShardInfo → List ℕ → MDBShardInfo → CoreError → Type 0) (old_1 new_1 old_2 new_2 : MemorySource) (e r : CoreError)
+      → (IsWriteError e ⊎ InputsFail (in_memory old_1) (in_memory new_1) (in_memory old_2) (in_memory new_2) (Refusal x_read i y_read j) e)
+      → ((r ≡ OutOfMemory) × IsWriteError e) ⊎ ((r ≡ e) × (¬ IsWriteError e)) → CombiningRefusal Refusal x y r
+  combining_refused Refusal old_1 new_1 old_2 new_2 e r fails becomes = from_memory (NotCombined Refusal x y) e r becomes (λ none. go none fails) where
+    go : ¬ IsWriteError e → (IsWriteError e ⊎ InputsFail (in_memory old_1) (in_memory new_1) (in_memory old_2) (in_memory new_2) (Refusal x_read i y_read j) e)
+        → NotCombined Refusal x y e
+    go none (inl failed) = absurd (none failed)
+    go none (inr (inl failed)) = absurd (omega (arith, failed.0))
+    go none (inr (inr (inl failed))) = absurd (omega (arith, failed.0))
+    go none (inr (inr (inr (same, same_too, refusal)))) = inr (inr (i, j, i_ends, j_ends, subst (λ p. p) (λ k. Refusal (x_is k) i (y_is k) j e) refusal))

@@ -1,7 +1,7 @@
 -- Exports from a source in memory, made and refused.
-use Rattle.std.proofs.Common.{◌≡◌, ◌⊎◌, inl, inr, ℕ, List, [], ◌++◌, Some, ap, ◌∙◌, subst, arith}
+use Rattle.std.proofs.Common.{◌≡◌, ◌⊎◌, inl, inr, ℕ, List, [], ◌++◌, Some, sym, ap, ◌∙◌, subst, arith}
 use Rattle.xet_core_structures.specs.declared.error.CoreError.{CoreError}
-use Rattle.xet_core_structures.specs.declared.error.CoreError.TheVariants.{InvalidArguments}
+use Rattle.xet_core_structures.specs.declared.error.CoreError.TheVariants.{InvalidArguments, OutOfMemory}
 use Rattle.xet_core_structures.specs.declared.shard_format.MDBShardInfo.{MDBShardInfo}
 use Rattle.xet_core_structures.specs.declared.source.MemorySource.{MemorySource}
 use Rattle.xet_core_structures.specs.Ends.{HasEnds}
@@ -9,25 +9,36 @@ use Rattle.xet_core_structures.specs.KeyedExport.{ExportCase, ExportFails, Canno
 use Rattle.xet_core_structures.specs.View.{auxes_as_wanted}
 use Rattle.xet_core_structures.specs.Source.{FailedBy, bytes_left, moved}
 use Rattle.shard_bytes.specs.declared.export.Export.{Export}
-use Rattle.shard_bytes.specs.Exporting.{WritesExport, ExportsBytes, RefusesExport}
+use Rattle.shard_bytes.specs.Exporting.{WritesExport, ExportsBytes, NotExported, RefusesExport}
 use Rattle.shard_bytes.proofs.Combining.{in_memory}
+use Rattle.shard_bytes.proofs.MemoryErrors.{from_memory, no_argument}
+use Rattle.xet_core_structures.specs.Errors.{IsWriteError}
 
 -- the source was read from its start on, and its device does not fail
-pub export_refused : (x : Export) (bytes : List ℕ) (i : MDBShardInfo) (loaded start end : MemorySource) (e : CoreError) → HasEnds bytes i → loaded.bytes.now ≡ bytes
+pub export_refused : (x : Export) (bytes : List ℕ) (i : MDBShardInfo) (loaded start end : MemorySource) (e r : CoreError) → HasEnds bytes i → loaded.bytes.now ≡ bytes
     → in_memory start ≡ moved (in_memory loaded) 0
-    → (((e ≡ InvalidArguments) × CannotExport i x.now x.valid_seconds) ⊎ ExportFails (in_memory start) (in_memory end) e) → RefusesExport x bytes e
-export_refused x bytes i loaded start end e ends are start_is (inl cannot) = inr (i, ends, inl cannot)
-export_refused x bytes i loaded start end e ends are start_is (inr fails) = go fails.cause
+    → (((e ≡ InvalidArguments) × CannotExport i x.now x.valid_seconds) ⊎ ExportFails (in_memory start) (in_memory end) e)
+    → (CannotExport i x.now x.valid_seconds → e ≡ InvalidArguments)
+    → ((r ≡ OutOfMemory) × IsWriteError e) ⊎ ((r ≡ e) × (¬ IsWriteError e)) → RefusesExport x bytes r
+export_refused x bytes i loaded start end e r ends are start_is (inl cannot) refused becomes = from_memory (NotExported x bytes) e r becomes (λ none. inr (i, ends, inl cannot))
+export_refused x bytes i loaded start end e r ends are start_is (inr fails) refused becomes = from_memory (NotExported x bytes) e r becomes (λ none. go fails.cause)
   where
-    go : FailedBy (ExportCase (bytes_left (in_memory start))) (in_memory start) (in_memory end) e → RefusesExport x bytes e
+    go : FailedBy (ExportCase (bytes_left (in_memory start))) (in_memory start) (in_memory end) e
+        → NotExported x bytes e
     go (inl failed) = absurd (omega (arith, failed.0))
-    go (inr (same, why)) = inr (i, ends, inr (subst (λ left. ExportCase left e) (ap bytes_left start_is ∙ are) why))
+    go (inr (same, why)) =
+        let case = subst (λ left. ExportCase left e) (ap bytes_left start_is ∙ are) why in
+        inr (i, ends, inr (λ cannot. no_argument bytes (subst (ExportCase bytes) (refused cannot) case), case))
 
 -- the bytes are those of the export, since the output was empty
-pub export_made : (x : Export) (bytes : List ℕ) (loaded start end : MemorySource) (empty out : List ℕ) (n : ℕ) → loaded.bytes.now ≡ bytes → in_memory start ≡ moved (in_memory loaded) 0 → empty ≡ []
+pub export_made : (x : Export) (bytes : List ℕ) (i : MDBShardInfo) → HasEnds bytes i → ¬ CannotExport i x.now x.valid_seconds → (loaded start end : MemorySource) (empty out : List ℕ) (n : ℕ) → loaded.bytes.now ≡ bytes → in_memory start ≡ moved (in_memory loaded) 0 → empty ≡ []
     → WritesExport x (in_memory start) (in_memory end) (Some empty) (Some out) n → ExportsBytes x bytes out
-export_made x bytes loaded start end empty out n are start_is none e =
-    subst (λ left. ExportsBytes x left out) (ap bytes_left start_is ∙ are) (record {
+export_made x bytes i ends can loaded start end empty out n are start_is none e =
+    let left : bytes_left (in_memory start) ≡ bytes = ap bytes_left start_is ∙ are in
+    subst (λ left. ExportsBytes x left out) left (record {
+      info = i;
+      ends = subst (λ bytes. HasEnds bytes i) (sym left) ends;
+      can = can;
       files = e.files;
       xorbs = e.xorbs;
       header = e.header;

@@ -3,6 +3,7 @@ pub mod Combining
 pub mod Exclusive
 pub mod Exporting
 pub mod Keeping
+pub mod MemoryErrors
 pub mod Merging
 pub mod Reading
 pub mod Whole

@@ -2,12 +2,12 @@
 use Rattle.std.specs.Prelude.{◌≡◌, ◌⊎◌, ℕ, List}
 use Rattle.xet_core_structures.specs.declared.error.CoreError.{CoreError}
 use Rattle.xet_core_structures.specs.declared.shard_format.MDBShardInfo.{MDBShardInfo}
-use Rattle.xet_core_structures.specs.Errors.{IsWriteError}
 use Rattle.xet_core_structures.specs.Ends.{HasEnds}
 use Rattle.xet_core_structures.specs.Shard.{Shard}
 use Rattle.xet_core_structures.specs.SetOperations.{IsDifference}
 use Rattle.xet_core_structures.specs.ByteUnion.{IsByteUnion}
 use Rattle.xet_core_structures.specs.ByteResults.{keyed_layout, key_of, HaveResult, LoadRefusal, UnionRefusal, DifferenceRefusal}
+use Rattle.shard_bytes.specs.Outcomes.{InMemory}
 use Rattle.shard_bytes.specs.declared.combine.Operation.{Operation}
 use Rattle.shard_bytes.specs.declared.combine.Operation.TheVariants.{Union, Difference}
 
@@ -27,10 +27,14 @@ CombinesBytes IsResult x y out =
     (i j : MDBShardInfo) × (c : Shard) × HasEnds x i × HasEnds y j × HaveResult IsResult x i y j c
     × (out ≡ keyed_layout c (key_of i))
 
--- a header or a footer is not read, those of the second after those of the first, the result is
--- not written, or there is none
+-- a header or a footer is not read, those of the second after those of the first, or there is no
+-- result
+abbrev pub NotCombined : (List ℕ → MDBShardInfo → List ℕ → MDBShardInfo → CoreError → Type 0)
+    → List ℕ → List ℕ → CoreError → Type 0
+NotCombined Refusal x y e =
+    LoadRefusal x e ⊎ ((i : MDBShardInfo) × HasEnds x i × LoadRefusal y e)
+    ⊎ ((i j : MDBShardInfo) × HasEnds x i × HasEnds y j × Refusal x i y j e)
+
 abbrev pub CombiningRefusal : (List ℕ → MDBShardInfo → List ℕ → MDBShardInfo → CoreError → Type 0)
     → List ℕ → List ℕ → CoreError → Type 0
-CombiningRefusal Refusal x y e =
-    LoadRefusal x e ⊎ ((i : MDBShardInfo) × HasEnds x i × LoadRefusal y e) ⊎ IsWriteError e
-    ⊎ ((i j : MDBShardInfo) × HasEnds x i × HasEnds y j × Refusal x i y j e)
+CombiningRefusal Refusal x y = InMemory (NotCombined Refusal x y)

@@ -14,6 +14,7 @@ use Rattle.xet_core_structures.specs.Source.{Source}
 use Rattle.xet_core_structures.specs.View.{auxes_as_wanted}
 use Rattle.xet_core_structures.specs.ByteResults.{LoadRefusal}
 use Rattle.shard_bytes.specs.declared.export.Export.{Export}
+use Rattle.shard_bytes.specs.Outcomes.{InMemory}
 
 -- the export that is asked for was made of a source
 abbrev pub WritesExport : Export → Source → Source → Option (List ℕ) → Option (List ℕ) → ℕ → Type 0
@@ -21,9 +22,12 @@ WritesExport x =
     ExportsWith x.parts.aux_ext
     (export_form x.key x.now x.valid_seconds x.parts.files x.parts.xorb_table x.parts.chunk_table)
 
--- the bytes have a header and both sections, and what these hold is written in the form that is
--- asked for, with the files' auxiliary rows or without
+-- the bytes have a footer with which the shard can be exported, a header and both sections, and what
+-- these hold is written in the form that is asked for, with the files' auxiliary rows or without
 pub record ExportsBytes (x : Export) (bytes out : List ℕ) : Type 0 where
+  pub info : MDBShardInfo
+  pub ends : HasEnds bytes info
+  pub can : ¬ CannotExport info x.now x.valid_seconds
   pub files : List MDBFileInfo
   pub xorbs : List MDBXorbInfo
   pub header : HasHeader bytes
@@ -33,10 +37,14 @@ pub record ExportsBytes (x : Export) (bytes out : List ℕ) : Type 0 where
       (export_form x.key x.now x.valid_seconds x.parts.files x.parts.xorb_table
       x.parts.chunk_table)
 
--- header and footer are not read; or with this footer the shard cannot be exported, or a section is
--- not read or written
-abbrev pub RefusesExport : Export → List ℕ → CoreError → Type 0
-RefusesExport x bytes e =
+-- header and footer are not read; or with this footer the shard cannot be exported, or it can and a
+-- section is not read
+abbrev pub NotExported : Export → List ℕ → CoreError → Type 0
+NotExported x bytes e =
     LoadRefusal bytes e
     ⊎ ((i : MDBShardInfo) × HasEnds bytes i
-    × (((e ≡ InvalidArguments) × CannotExport i x.now x.valid_seconds) ⊎ ExportCase bytes e))
+    × (((e ≡ InvalidArguments) × CannotExport i x.now x.valid_seconds)
+    ⊎ ((¬ CannotExport i x.now x.valid_seconds) × ExportCase bytes e)))
+
+abbrev pub RefusesExport : Export → List ℕ → CoreError → Type 0
+RefusesExport x bytes = InMemory (NotExported x bytes)

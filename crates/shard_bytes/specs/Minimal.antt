@@ -1,8 +1,8 @@
 -- Minimal shards of a shard's bytes.
 use Rattle.std.specs.Prelude.{◌≡◌, ◌⊎◌, ◌↔◌, ⊤, ℕ, true, List, [], map, Contains, IsTrue, Option, None, Some}
 use Rattle.std.specs.Io.KnownBytes.{Consumes}
+use Rattle.std.specs.List.{Any}
 use Rattle.xet_core_structures.specs.declared.error.CoreError.{CoreError}
-use Rattle.xet_core_structures.specs.declared.error.CoreError.TheVariants.{OutOfMemory}
 use Rattle.xet_core_structures.specs.declared.merklehash.DataHash.{DataHash}
 use Rattle.xet_core_structures.specs.declared.file_structs.KeptParts.{KeptParts}
 use Rattle.xet_core_structures.specs.declared.xorb_structs.MDBXorbInfo.{MDBXorbInfo}
@@ -12,7 +12,8 @@ use Rattle.xet_core_structures.specs.Layout.{layout_of}
 use Rattle.xet_core_structures.specs.MinimalReading.{ReadsMinimal, MinimalFails, ReaderHeaderFails}
 use Rattle.xet_core_structures.specs.MinimalShard.{MinimalShard, mark_starts, is_start, minimal_form, eligible_hashes, IsKept}
 use Rattle.xet_core_structures.specs.Shard.{xorb_hash_of}
-use Rattle.xet_core_structures.specs.View.{as_kept}
+use Rattle.xet_core_structures.specs.View.{as_kept, LacksVerification}
+use Rattle.shard_bytes.specs.Outcomes.{InMemory}
 use Rattle.shard_bytes.specs.declared.minimal.KeptXorbs.{KeptXorbs}
 use Rattle.shard_bytes.specs.declared.minimal.KeptXorbs.TheVariants.{All as all_xorbs, Listed}
 use Rattle.shard_bytes.specs.declared.minimal.Subset.{Subset}
@@ -30,10 +31,11 @@ RefusesMinimal bytes e =
     × MinimalFails Consumes (λ before after n e. ReaderFails before n e)
     (λ before after e. ReaderHeaderFails before e) true (Some bytes) left e
 
--- the minimal shard, with these parts of its files
+-- the minimal shard, with these parts of its files, which have the verification rows that are wanted
 abbrev pub MinimalBytes : KeptParts → ℕ → List ℕ → List ℕ → Type 0
 MinimalBytes kept now bytes out =
     (m : MinimalShard) × HoldsMinimal bytes m
+    × (¬ Any (LacksVerification kept.verification) m.files)
     × (out ≡ layout_of (map (as_kept kept) m.files)
     (map (mark_starts (is_start m.files)) m.xorbs) (minimal_form now None))
 
@@ -55,10 +57,8 @@ abbrev pub EligibleIn : List ℕ → List DataHash → Type 0
 EligibleIn bytes hashes =
     (m : MinimalShard) × HoldsMinimal bytes m × (hashes ≡ eligible_hashes m.files m.xorbs)
 
--- why nothing is written: the bytes are not read, or writing fails
-abbrev pub WritesNone : List ℕ → CoreError → Type 0
-WritesNone bytes e = RefusesMinimal bytes e ⊎ IsWriteError e
-
--- why there are no such hashes: the bytes are not read, or an allocation failed
-abbrev pub EligibleRefusal : List ℕ → CoreError → Type 0
-EligibleRefusal bytes e = RefusesMinimal bytes e ⊎ (e ≡ OutOfMemory)
+-- why there is no minimal shard: an allocation failed, or the bytes are not read, or verification rows
+-- are wanted, and then writing it fails
+abbrev pub RefusesMinimalBytes : KeptParts → List ℕ → CoreError → Type 0
+RefusesMinimalBytes kept bytes e =
+    InMemory (RefusesMinimal bytes) e ⊎ (IsTrue kept.verification × IsWriteError e)

@@ -1,5 +1,8 @@
--- What a call that looks into a shard's bytes has for an outcome.
-use Rattle.std.specs.Prelude.{◌≡◌, ℕ, List}
+-- What a call on a shard's bytes has for an outcome.
+use Rattle.std.specs.Prelude.{◌≡◌, ◌⊎◌, ℕ, List}
+use Rattle.xet_core_structures.specs.declared.error.CoreError.{CoreError}
+use Rattle.xet_core_structures.specs.declared.error.CoreError.TheVariants.{OutOfMemory}
+use Rattle.xet_core_structures.specs.Errors.{IsWriteError}
 use Rattle.xet_core_structures.specs.declared.shard_format.MDBShardInfo.{MDBShardInfo}
 use Rattle.xet_core_structures.specs.Ends.{HasEnds}
 use Rattle.xet_core_structures.specs.Source.{Source}
@@ -15,3 +18,7 @@ pub record HasOutcome (bytes : List ℕ) (Outcome : MDBShardInfo → Source → 
   pub bytes_are : before.bytes ≡ bytes
   pub works : after.failures ≡ before.failures
   pub outcome : Outcome info before after
+
+-- why a call on memory fails: an allocation failed, or there is another cause, which is no device's
+abbrev pub InMemory : (CoreError → Type 0) → CoreError → Type 0
+InMemory Cause e = (e ≡ OutOfMemory) ⊎ ((¬ IsWriteError e) × Cause e)

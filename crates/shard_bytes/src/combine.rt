@@ -5,6 +5,7 @@ ghost use Rattle.xet_core_structures.specs.Errors.{IsWriteError};
 ghost use Rattle.xet_core_structures.specs.ByteResults.{WritesResult, InputsFail};
 ghost use Rattle.shard_bytes.specs.Combining.{IsResultOf, RefusalOf, CombinesBytes, CombiningRefusal};
 
+use crate::memory::in_memory;
 use std::alloc::Global;
 use std::io::Write;
 use xet_core_structures::error::Result;
@@ -39,8 +40,10 @@ pub fn combine_bytes(
     let s1 = MDBShardInfo::load_from_reader(alloc, &mut r1)?;
     let s2 = MDBShardInfo::load_from_reader(alloc, &mut r2)?;
     let mut bytes = Vec::new(alloc);
-    combine(alloc, operation, &s1, &mut r1, &s2, &mut r2, &mut bytes)?;
-    Ok(bytes)
+    match combine(alloc, operation, &s1, &mut r1, &s2, &mut r2, &mut bytes) {
+        Ok(_) => Ok(bytes),
+        Err(error) => Err(in_memory(error)),
+    }
 }
 
 fn combine<S: ShardSource, T: ShardSource, W: Write>(

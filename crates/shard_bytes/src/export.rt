@@ -1,10 +1,11 @@
 //! Exporting a shard under a key.
 
-ghost use Rattle.std.specs.Prelude.{◌≡◌, ◌⊎◌, MatchResult};
+ghost use Rattle.std.specs.Prelude.{◌≡◌, ◌⊎◌, IsErrAnd, MatchResult};
 ghost use Rattle.xet_core_structures.specs.declared.error.CoreError.{CoreError};
 ghost use Rattle.xet_core_structures.specs.KeyedExport.{ExportFails, CannotExport};
 ghost use Rattle.shard_bytes.specs.Exporting.{WritesExport, ExportsBytes, RefusesExport};
 
+use crate::memory::in_memory;
 use std::alloc::Global;
 use std::io::Write;
 use xet_core_structures::error::Result;
@@ -44,8 +45,10 @@ pub fn export_bytes(alloc: Global, bytes: &[u8], export: &Export) -> Result<Vec<
     let info = MDBShardInfo::load_from_reader(alloc, &mut source)?;
     source.seek_to(0)?;
     let mut exported = Vec::new(alloc);
-    write_export(alloc, &info, &mut source, &mut exported, export)?;
-    Ok(exported)
+    match write_export(alloc, &info, &mut source, &mut exported, export) {
+        Ok(_) => Ok(exported),
+        Err(error) => Err(in_memory(error)),
+    }
 }
 
 // Writes the export that is asked for.
@@ -56,12 +59,14 @@ fn write_export<S: ShardSource, W: Write>(
     writer: &mut W,
     export: &Export,
 ) -> Result<usize>
-    ensures { MatchResult result
+    ensures made { MatchResult result
         (WritesExport export.entry.now (S.meaning source.old) (S.meaning source.new)
         (W.contents writer.old) (W.contents writer.new))
         (λ e. ((e ≡ CoreError.InvalidArguments)
         × CannotExport info.now export.entry.now.now export.entry.now.valid_seconds)
         ⊎ ExportFails (S.meaning source.old) (S.meaning source.new) e) }
+    ensures refused { CannotExport info.now export.entry.now.now export.entry.now.valid_seconds
+        → IsErrAnd result (λ e. e ≡ CoreError.InvalidArguments) }
 {
     let parts = export.parts;
     if parts.aux_ext {

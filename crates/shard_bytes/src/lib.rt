@@ -7,6 +7,7 @@ pub mod combine;
 pub mod export;
 pub mod find;
 pub mod load;
+mod memory;
 pub mod merge;
 pub mod minimal;
 pub mod query;

@@ -1,11 +1,18 @@
 //! Minimal shards, and the chunks that the global index keeps.
 
-ghost use Rattle.std.specs.Prelude.{◌↔◌, IsTrue, MatchResult};
+ghost use Rattle.std.specs.List.{Any};
+ghost use Rattle.std.specs.Prelude.{◌≡◌, ◌⊎◌, ◌↔◌, IfErr, IfOk, IsErrAnd, IsTrue, MatchResult};
+ghost use Rattle.xet_core_structures.specs.Errors.{IsWriteError};
+ghost use Rattle.xet_core_structures.specs.MinimalShard.{WritesMinimalKept};
 ghost use Rattle.xet_core_structures.specs.Shard.{xorb_hash_of};
-ghost use Rattle.shard_bytes.specs.Minimal.{HoldsMinimal, RefusesMinimal, MinimalBytes, Keeps, SubsetBytes, EligibleIn, WritesNone, EligibleRefusal};
+ghost use Rattle.xet_core_structures.specs.View.{LacksVerification, IsIoOther};
+ghost use Rattle.shard_bytes.specs.Minimal.{HoldsMinimal, RefusesMinimal, MinimalBytes, RefusesMinimalBytes, Keeps, SubsetBytes, EligibleIn};
+ghost use Rattle.shard_bytes.specs.Outcomes.{InMemory};
 
+use crate::memory::in_memory;
 use std::alloc::Global;
-use xet_core_structures::error::Result;
+use std::io::Write;
+use xet_core_structures::error::{CoreError, Result};
 use xet_core_structures::file_structs::KeptParts;
 use xet_core_structures::merklehash::MerkleHash;
 use xet_core_structures::streaming_shard::MDBMinimalShard;
@@ -43,16 +50,47 @@ pub struct Subset {
 /// or [`MDBMinimalShard::serialize_without_aux`].
 pub fn minimal_bytes(alloc: Global, bytes: &[u8], now: u64, kept: KeptParts) -> Result<Vec<u8>>
     ensures { MatchResult result (λ minimal. MinimalBytes kept now bytes.now minimal.items)
-        (WritesNone bytes.now) }
+        (RefusesMinimalBytes kept bytes.now) }
 {
     let shard = read_minimal(alloc, bytes)?;
     let mut minimal = Vec::new(alloc);
-    if kept.aux_ext {
-        shard.serialize(alloc, &mut minimal, now, kept.verification)?;
-    } else {
-        shard.serialize_without_aux(alloc, &mut minimal, now, kept.verification)?;
+    match write_minimal(alloc, &shard, &mut minimal, now, kept) {
+        Ok(_) => Ok(minimal),
+        Err(error) => Err(writing_error(kept, error)),
     }
-    Ok(minimal)
+}
+
+// Writes the minimal shard with these parts of its files.
+fn write_minimal<W: Write>(
+    alloc: Global,
+    shard: &MDBMinimalShard,
+    writer: &mut W,
+    now: u64,
+    kept: KeptParts,
+) -> Result<usize>
+    ensures written { IfOk result
+        (WritesMinimalKept (W.contents writer.old) (W.contents writer.new) kept now shard.now) }
+    ensures missing { Any (LacksVerification kept.verification) shard.now.files
+        → IsErrAnd result IsIoOther }
+    ensures causes { IfErr result IsWriteError }
+{
+    if kept.aux_ext {
+        shard.serialize(alloc, writer, now, kept.verification)
+    } else {
+        shard.serialize_without_aux(alloc, writer, now, kept.verification)
+    }
+}
+
+// The error of writing to a vector: if verification rows are wanted it may be that a file has none.
+fn writing_error(kept: KeptParts, error: CoreError) -> CoreError
+    requires { IsWriteError error }
+    ensures { (result ≡ CoreError.OutOfMemory) ⊎ ((result ≡ error) × IsTrue kept.verification) }
+{
+    if kept.verification {
+        error
+    } else {
+        in_memory(error)
+    }
 }
 
 /// The bytes of a shard with some of the xorbs and none of the files of a shard, from its bytes.
@@ -61,21 +99,24 @@ pub fn minimal_bytes(alloc: Global, bytes: &[u8], now: u64, kept: KeptParts) -> 
 /// [`MDBMinimalShard::serialize_xorb_subset_with_expiry`].
 pub fn subset_bytes(alloc: Global, bytes: &[u8], subset: &Subset) -> Result<Vec<u8>>
     ensures { MatchResult result (λ written. SubsetBytes subset.entry.now bytes.now written.items)
-        (WritesNone bytes.now) }
+        (InMemory (RefusesMinimal bytes.now)) }
 {
     let shard = read_minimal(alloc, bytes)?;
     let mut written = Vec::new(alloc);
     let is_kept = |xorb: &MDBXorbInfoView| -> bool
         ensures { IsTrue result ↔ Keeps subset.entry.now.kept (xorb_hash_of xorb.now) }
     { subset.kept.has(&xorb.xorb_hash()) };
-    shard.serialize_xorb_subset_with_expiry(
+    match shard.serialize_xorb_subset_with_expiry(
         alloc,
         &mut written,
         subset.now,
         subset.expiry,
         is_kept,
-    )?;
-    Ok(written)
+    ) {
+        Ok(_) => Ok(written),
+        // Writing to a vector fails only if it is out of memory.
+        Err(_) => Err(CoreError::OutOfMemory),
+    }
 }
 
 /// The hashes of the chunks of a shard that the global index keeps, from its bytes, in ascending
@@ -85,14 +126,17 @@ pub fn subset_bytes(alloc: Global, bytes: &[u8], subset: &Subset) -> Result<Vec<
 /// [`MDBMinimalShard::global_dedup_eligible_chunks`].
 pub fn eligible_chunks(alloc: Global, bytes: &[u8]) -> Result<Vec<MerkleHash>>
     ensures { MatchResult result (λ hashes. EligibleIn bytes.now hashes.items)
-        (EligibleRefusal bytes.now) }
+        (InMemory (RefusesMinimal bytes.now)) }
 {
     read_minimal(alloc, bytes)?.global_dedup_eligible_chunks(alloc)
 }
 
 fn read_minimal(alloc: Global, bytes: &[u8]) -> Result<MDBMinimalShard>
-    ensures { MatchResult result (HoldsMinimal bytes.now) (RefusesMinimal bytes.now) }
+    ensures { MatchResult result (HoldsMinimal bytes.now) (InMemory (RefusesMinimal bytes.now)) }
 {
     let mut reader = bytes;
-    MDBMinimalShard::from_reader(alloc, &mut reader, true, true)
+    match MDBMinimalShard::from_reader(alloc, &mut reader, true, true) {
+        Ok(shard) => Ok(shard),
+        Err(error) => Err(in_memory(error)),
+    }
 }

@@ -1,6 +1,6 @@
 //! Rows of bytes, put together from parts and taken apart again.
 
-ghost use Rattle.std.specs.Prelude.{◌≡◌, ◌+◌, ◌*◌, ◌≤◌, ◌++◌, length, take, flat_map};
+ghost use Rattle.std.specs.Prelude.{◌≡◌, ◌+◌, ◌*◌, ◌≤◌, ◌++◌, length, take, drop, flat_map};
 ghost use Rattle.xet_base.specs.Bytes.{u32_bytes, u64_bytes};
 ghost use Rattle.xet_base.specs.Hash.{hash_bytes};
 
@@ -12,6 +12,7 @@ pub fn put(row: &mut [u8], at: usize, bytes: &[u8]) -> usize
     requires { at + length bytes.now ≤ length row.old }
     ensures end { result ≡ at + length bytes.now }
     ensures front { take result row.new ≡ take at row.old ++ bytes.now }
+    ensures rest { drop result row.new ≡ drop result row.old }
 {
     let end = at + bytes.len();
     row[at..end].copy_from_slice(bytes);
@@ -24,6 +25,7 @@ pub fn put_hash(row: &mut [u8], at: usize, hash: &MerkleHash) -> usize
     requires { at + 32 ≤ length row.old }
     ensures end { result ≡ at + 32 }
     ensures front { take result row.new ≡ take at row.old ++ hash_bytes hash.now }
+    ensures rest { drop result row.new ≡ drop result row.old }
 {
     put(row, at, &hash.as_bytes())
 }
@@ -36,6 +38,7 @@ pub fn put_u32(row: &mut [u8], at: usize, value: u32) -> usize
     requires { at + 4 ≤ length row.old }
     ensures end { result ≡ at + 4 }
     ensures front { take result row.new ≡ take at row.old ++ u32_bytes value }
+    ensures rest { drop result row.new ≡ drop result row.old }
 {
     put(row, at, &value.to_le_bytes())
 }
@@ -48,6 +51,7 @@ pub fn put_u64(row: &mut [u8], at: usize, value: u64) -> usize
     requires { at + 8 ≤ length row.old }
     ensures end { result ≡ at + 8 }
     ensures front { take result row.new ≡ take at row.old ++ u64_bytes value }
+    ensures rest { drop result row.new ≡ drop result row.old }
 {
     put(row, at, &value.to_le_bytes())
 }

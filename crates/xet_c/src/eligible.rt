@@ -2,7 +2,8 @@
 
 ghost use Rattle.std.specs.Prelude.{◌≡◌, ◌⊎◌, List, map, MatchResult};
 ghost use Rattle.xet_core_structures.specs.declared.merklehash.DataHash.{DataHash};
-ghost use Rattle.shard_bytes.specs.Minimal.{EligibleIn, EligibleRefusal};
+ghost use Rattle.shard_bytes.specs.Minimal.{EligibleIn, RefusesMinimal};
+ghost use Rattle.shard_bytes.specs.Outcomes.{InMemory};
 ghost use Rattle.xet_c.specs.Arguments.{c_hash};
 ghost use Rattle.xet_c.specs.Output.{Outcome};
 
@@ -24,7 +25,7 @@ pub extern "C" fn xet_eligible(
     ensures { Outcome
         (λ words. (hashes : List DataHash) × EligibleIn shard.now hashes
         × (words ≡ map c_hash hashes))
-        (EligibleRefusal shard.now) out.old out.new written.new result }
+        (InMemory (RefusesMinimal shard.now)) out.old out.new written.new result }
 {
     let words = eligible(alloc, shard);
     deliver(words, out, written)
@@ -34,7 +35,7 @@ fn eligible(alloc: Global, shard: &[u8]) -> Result<Vec<XetHash>>
     ensures { MatchResult result
         (λ words. (hashes : List DataHash) × EligibleIn shard.now hashes
         × (words.items ≡ map c_hash hashes))
-        (EligibleRefusal shard.now) }
+        (InMemory (RefusesMinimal shard.now)) }
 {
     let hashes = eligible_chunks(alloc, shard)?;
     words_of(alloc, hashes.as_slice())

@@ -1,6 +1,6 @@
 //! Minimal shards.
 
-ghost use Rattle.shard_bytes.specs.Minimal.{MinimalBytes, WritesNone};
+ghost use Rattle.shard_bytes.specs.Minimal.{MinimalBytes, RefusesMinimalBytes};
 ghost use Rattle.xet_c.specs.Output.{Outcome};
 
 use crate::output::deliver;
@@ -23,7 +23,8 @@ pub extern "C" fn xet_minimal(
 ) -> u32
     ensures { Outcome
         (MinimalBytes (record { verification = verification; aux_ext = aux_rows }) now shard.now)
-        (WritesNone shard.now) out.old out.new written.new result }
+        (RefusesMinimalBytes (record { verification = verification; aux_ext = aux_rows }) shard.now)
+        out.old out.new written.new result }
 {
     let kept = KeptParts {
         verification,

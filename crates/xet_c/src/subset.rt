@@ -1,7 +1,8 @@
 //! Subsets of xorbs.
 
 ghost use Rattle.std.specs.Prelude.{◌≡◌, ◌⊎◌, MatchResult, IfOk, IfErr};
-ghost use Rattle.shard_bytes.specs.Minimal.{WritesNone};
+ghost use Rattle.shard_bytes.specs.Minimal.{RefusesMinimal};
+ghost use Rattle.shard_bytes.specs.Outcomes.{InMemory};
 ghost use Rattle.xet_c.specs.Arguments.{KeepsXorbs, WritesSubset};
 ghost use Rattle.xet_c.specs.Output.{Outcome};
 
@@ -31,7 +32,7 @@ pub extern "C" fn xet_subset(
     out: &mut [u8],
     written: &mut usize,
 ) -> u32
-    ensures { Outcome (WritesSubset options.entry.now xorbs.now shard.now) (WritesNone shard.now)
+    ensures { Outcome (WritesSubset options.entry.now xorbs.now shard.now) (InMemory (RefusesMinimal shard.now))
         out.old out.new written.new result }
 {
     let subset = subset(alloc, shard, options, xorbs);
@@ -41,7 +42,7 @@ pub extern "C" fn xet_subset(
 fn subset(alloc: Global, shard: &[u8], options: &XetSubset, xorbs: &[XetHash]) -> Result<Vec<u8>>
     ensures { MatchResult result
         (λ bytes. WritesSubset options.entry.now xorbs.now shard.now bytes.items)
-        (WritesNone shard.now) }
+        (InMemory (RefusesMinimal shard.now)) }
 {
     let subset = Subset {
         now: options.now,

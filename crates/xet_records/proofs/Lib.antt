@@ -12,6 +12,7 @@ pub mod RecordKinds
 pub mod RowsWithin
 pub mod ViewReading
 pub mod Views
+pub mod ViewsAgain
 pub mod SectionRecords
 pub mod XorbViews
 pub mod XorbUnique

@@ -1,9 +1,10 @@
 -- The first and the last bytes of a shard determine header and footer, and those of a written shard are its own.
-use Rattle.std.proofs.Common.{◌≡◌, ℕ, ◌+◌, ◌-◌, ◌^◌, ◌<◌, List, [], ◌++◌, length, flat_map, take, drop, Option, None, refl, sym, ap, ◌∙◌, subst, arith, take-append-drop, append-nil, rules}
-use Rattle.std.specs.Prelude.{MatchResult}
+use Rattle.std.proofs.Common.{◌≡◌, ℕ, ◌+◌, ◌-◌, ◌^◌, ◌<◌, List, [], ◌++◌, length, flat_map, take, drop, Option, refl, sym, ap, ◌∙◌, subst, arith, take-append-drop, append-nil, rules, None, Some}
+use Rattle.std.specs.Prelude.{MatchResult, IfOk, Ok, Err}
 use Rattle.std.specs.declared.result.Result.{Result}
 use Rattle.std.proofs.lemmas.Result.{MatchResult-weaker}
 use Rattle.std.specs.FinMap.{values}
+use Rattle.std.specs.Io.KnownBytes.{Consumes}
 use Rattle.std.proofs.lemmas.List.{length-append, append_assoc}
 use Rattle.xet_base.specs.declared.error.CoreError.{CoreError}
 use Rattle.xet_base.specs.Bytes.{u64_bytes}
@@ -69,6 +70,40 @@ footer_unique f g f_fits g_fits same =
     let sums = words (sums_of f) (sums_of g) [] [] refl f_fits.sums g_fits.sums (append-nil (flat_map u64_bytes (sums_of f)) ∙ buffer.1 ∙ sym (append-nil (flat_map u64_bytes (sums_of g)))) in
     let hash = hash_bytes-injective f.chunk_hash_hmac_key g.chunk_hash_hmac_key f_fits.key g_fits.key key.0 in
     search (rules, offsets.0, hash, timestamps.0, buffer.0, sums.0)
+
+-- what was taken from the front of known bytes is what they begin with
+same_taken : (old new : Option (List ℕ)) (xs ys rest : List ℕ) → length ys ≡ length xs → old ≡ Some (xs ++ rest) → Consumes old new ys → (ys ≡ xs) × (new ≡ Some rest)
+same_taken old None xs ys rest len are taken = absurd (subst (λ o. Consumes o None ys) are taken)
+same_taken old (Some zs) xs ys rest len are taken =
+    let both : xs ++ rest ≡ ys ++ zs = subst (λ o. Consumes o (Some zs) ys) are taken in
+    let parts = same_parts xs ys rest zs (sym len) both in
+    (sym parts.0, ap Some (sym parts.1))
+
+-- a header, or a footer, that is read from its own bytes is itself
+pub header_again : (old new : Option (List ℕ)) (found h : MDBShardFileHeader) (rest : List ℕ) → found.tag ≡ header_tag → IsVersion found.version → found.footer_size < 2 ^ 64
+    → h.tag ≡ header_tag → IsVersion h.version → h.footer_size < 2 ^ 64 → old ≡ Some (shard_header_bytes h ++ rest) → Consumes old new (shard_header_bytes found)
+    → (found ≡ h) × (new ≡ Some rest)
+header_again old new found h rest found_tag found_known found_fits tag known fits are taken =
+    let same = same_taken old new (shard_header_bytes h) (shard_header_bytes found) rest (length-shard_header_bytes found ∙ sym (length-shard_header_bytes h)) are taken in
+    (header_unique found h found_tag tag found_known known found_fits fits same.0, same.1)
+
+header_bytes_are : (tag rest : List ℕ) (h : MDBShardFileHeader) → tag ≡ header_tag → rest ≡ u64_bytes h.version ++ u64_bytes h.footer_size → tag ++ rest ≡ shard_header_bytes h
+unfolding shard_header_bytes
+header_bytes_are tag rest h is_tag rest_is = λ i. is_tag i ++ rest_is i
+
+pub header_read_again : (old new : Option (List ℕ)) (tag rest : List ℕ) (r : Result MDBShardFileHeader CoreError) → Consumes old new (tag ++ rest) → tag ≡ header_tag
+    → IfOk r (λ h. (h.tag ≡ header_tag) × IsVersion h.version × (rest ≡ u64_bytes h.version ++ u64_bytes h.footer_size)) → IfOk r (λ h. h.footer_size < 2 ^ 64)
+    → (h : MDBShardFileHeader) (after : List ℕ) → h.tag ≡ header_tag → IsVersion h.version → h.footer_size < 2 ^ 64 → old ≡ Some (shard_header_bytes h ++ after)
+    → IfOk r (λ found. (found ≡ h) × (new ≡ Some after))
+header_read_again old new tag rest (Ok found) taken is_tag (found_tag, found_known, rest_is) found_fits h after h_tag known fits are =
+    header_again old new found h after found_tag found_known found_fits h_tag known fits are (subst (Consumes old new) (header_bytes_are tag rest found is_tag rest_is) taken)
+header_read_again old new tag rest (Err e) taken is_tag ok found_fits h after h_tag known fits are = tt
+
+pub footer_again : (old new : Option (List ℕ)) (found f : MDBShardFileFooter) (rest : List ℕ) → FitsFooter found → FitsFooter f → old ≡ Some (shard_footer_bytes f ++ rest)
+    → Consumes old new (shard_footer_bytes found) → (found ≡ f) × (new ≡ Some rest)
+footer_again old new found f rest found_fits fits are taken =
+    let same = same_taken old new (shard_footer_bytes f) (shard_footer_bytes found) rest (length-shard_footer_bytes found found_fits.buffer_size ∙ sym (length-shard_footer_bytes f fits.buffer_size)) are taken in
+    (footer_unique found f found_fits fits same.0, same.1)
 
 -- at most one header and footer have these bytes
 pub only_info : (bytes : List ℕ) (x y : MDBShardInfo) → HasEnds bytes x → HasEnds bytes y → x ≡ y

@@ -1,6 +1,6 @@
 //! A file record as a view of its bytes.
 
-ghost use Rattle.std.specs.Prelude.{◌≡◌, ◌≢◌, ◌⊎◌, ◌+◌, ◌*◌, ◌^◌, ◌<◌, ◌≤◌, nat_eq, slice_get, flat_map, option_map, Some, IsTrue, length, take, MatchResult, OnOk, IfOk, IfErr, IsErrAnd};
+ghost use Rattle.std.specs.Prelude.{◌≡◌, ◌≢◌, ◌⊎◌, ◌+◌, ◌*◌, ◌^◌, ◌<◌, ◌≤◌, nat_eq, slice_get, flat_map, option_map, Some, IsTrue, length, take, MatchResult, OnOk, IfOk, IfErr, IsErrAnd, ℕ, List, ◌++◌, IsOkAnd};
 ghost use Rattle.std.specs.Cmp.{partial_equiv_from_equiv};
 ghost use Rattle.std.specs.Cmp.Lexicographic.{pointwise, on_texts_equal};
 ghost use Rattle.std.specs.Ordering.{on};
@@ -8,7 +8,7 @@ ghost use Rattle.std.specs.Io.KnownBytes.{Appends};
 ghost use Rattle.xet_base.specs.Errors.{IsWriteError, IsNoEnd};
 ghost use Rattle.xet_records.specs.FileRow.{header_row, hash_row, clear};
 ghost use Rattle.xet_records.specs.Part.{rows_of, rows_before};
-ghost use Rattle.xet_records.specs.FileRecord.{has_verification, has_metadata_ext, has_aux_ext, row_count, file_record_bytes, handed_out, file_records};
+ghost use Rattle.xet_records.specs.FileRecord.{has_verification, has_metadata_ext, has_aux_ext, row_count, file_record_bytes, handed_out, file_records, rows_after, IsStored};
 ghost use Rattle.xet_records.specs.View.{BeginsWithHeaderRow, BeginsWithFile, NoView, without_verification, as_wanted, as_kept, keeps, LacksVerification, IsIoOther};
 
 use super::{
@@ -76,6 +76,16 @@ impl MDBFileInfoView {
     /// `UnexpectedEof` if the bytes end before the header or the rows that it announces,
     /// `InvalidShard` if these rows pass 4294967295.
     pub fn new(alloc: Global, bytes: Bytes) -> Result<Self>
+        ensures shows { MatchResult result (BeginsWithFile bytes) (NoView file_records bytes) }
+        ensures again { (r : MDBFileInfo) → (rest : List ℕ) → IsStored r
+            → rows_after r.metadata ≤ 4294967295 → bytes ≡ file_record_bytes r ++ rest
+            → IsOkAnd result (λ view. view ≡ r) }
+    {
+        MDBFileInfoView::of_front(alloc, bytes)
+    }
+
+    // The view of the record that the bytes begin with.
+    fn of_front(alloc: Global, bytes: Bytes) -> Result<Self>
         ensures { MatchResult result (BeginsWithFile bytes) (NoView file_records bytes) }
     {
         let header = record_bytes::first_row(bytes.as_slice())?;

@@ -1,6 +1,6 @@
 //! A xorb record as a view of its bytes.
 
-ghost use Rattle.std.specs.Prelude.{◌≡◌, ◌≢◌, ◌⊎◌, ◌+◌, ◌-◌, ◌*◌, ◌^◌, ◌<◌, ◌≤◌, ◌++◌, ℕ, List, flat_map, nat_eq, slice_get, Some, length, take, drop, MatchResult, MatchOption, OnOk, IfOk, IfErr, IsErrAnd};
+ghost use Rattle.std.specs.Prelude.{◌≡◌, ◌≢◌, ◌⊎◌, ◌+◌, ◌-◌, ◌*◌, ◌^◌, ◌<◌, ◌≤◌, ◌++◌, ℕ, List, flat_map, nat_eq, slice_get, Some, length, take, drop, MatchResult, MatchOption, OnOk, IfOk, IfErr, IsOkAnd, IsErrAnd};
 ghost use Rattle.std.specs.Cmp.{partial_equiv_from_equiv};
 ghost use Rattle.std.specs.Cmp.Lexicographic.{pointwise, on_texts_equal};
 ghost use Rattle.std.specs.Ordering.{on};
@@ -9,7 +9,7 @@ ghost use Rattle.xet_base.specs.Errors.{IsWriteError};
 ghost use Rattle.xet_base.specs.Table.{IsBareInvalidShard};
 ghost use Rattle.xet_records.specs.declared.xorb_structs.XorbChunkSequenceEntry.{XorbChunkSequenceEntry as chunk_type};
 ghost use Rattle.xet_records.specs.XorbRow.{xorb_header_row, chunk_row};
-ghost use Rattle.xet_records.specs.XorbRecord.{xorb_row_count, xorb_record_bytes, xorb_records};
+ghost use Rattle.xet_records.specs.XorbRecord.{xorb_row_count, xorb_record_bytes, IsStoredXorb, xorb_records};
 ghost use Rattle.xet_records.specs.View.{BeginsWithHeaderRow, BeginsWithXorb, NoView, end_of_chunks, under_own_header, Rewrites, TakesEach};
 
 use super::{MDBXorbInfo, XorbChunkSequenceEntry, XorbChunkSequenceHeader};
@@ -51,6 +51,15 @@ impl MDBXorbInfoView {
     ///
     /// `UnexpectedEof` if the bytes end before the header or the chunks that it announces.
     pub fn new(bytes: Bytes) -> Result<Self>
+        ensures shows { MatchResult result (BeginsWithXorb bytes) (NoView xorb_records bytes) }
+        ensures again { (r : MDBXorbInfo) → (rest : List ℕ) → IsStoredXorb r
+            → bytes ≡ xorb_record_bytes r ++ rest → IsOkAnd result (λ view. view ≡ r) }
+    {
+        MDBXorbInfoView::of_front(bytes)
+    }
+
+    // The view of the record that the bytes begin with.
+    fn of_front(bytes: Bytes) -> Result<Self>
         ensures { MatchResult result (BeginsWithXorb bytes) (NoView xorb_records bytes) }
     {
         let header = record_bytes::first_row(bytes.as_slice())?;

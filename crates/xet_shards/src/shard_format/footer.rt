@@ -1,6 +1,6 @@
 //! The last 200 bytes of a shard.
 
-ghost use Rattle.std.specs.Prelude.{◌≡◌, ◌≢◌, ◌⊎◌, [], ◌∷◌, ◌++◌, OnOk, IfOk, IfErr};
+ghost use Rattle.std.specs.Prelude.{◌≡◌, ◌≢◌, ◌⊎◌, ℕ, List, [], ◌∷◌, ◌++◌, Some, OnOk, IfOk, IfErr};
 ghost use Rattle.std.specs.Io.KnownBytes.{Appends, Consumes};
 ghost use Rattle.xet_base.specs.Bytes.{u64_bytes};
 ghost use Rattle.xet_base.specs.Errors.{IsBareShardVersion, IsDeviceError, IsWriteError};
@@ -118,6 +118,10 @@ impl MDBShardFileFooter {
             (λ f. Consumes (R.remaining reader.old) (R.remaining reader.new)
             (shard_footer_bytes f)) }
         ensures version { IfOk result (λ f. f.version ≡ 1) }
+        ensures widths { IfOk result FitsFooter }
+        ensures again { (f : MDBShardFileFooter) → (rest : List ℕ) → f.version ≡ 1 → FitsFooter f
+            → R.remaining reader.old ≡ Some (shard_footer_bytes f ++ rest)
+            → IfOk result (λ found. (found ≡ f) × (R.remaining reader.new ≡ Some rest)) }
         ensures unsupported { IfErr result
             (SaysUnsupported HasUnsupportedFooter (R.remaining reader.old)) }
         ensures end { IfErr result (SaysEnd EndsInFooter (R.remaining reader.old)) }

@@ -1,6 +1,6 @@
 //! The first 48 bytes of a shard.
 
-ghost use Rattle.std.specs.Prelude.{◌≡◌, ◌≢◌, ◌⊎◌, ◌^◌, ◌<◌, ◌++◌, take, OnOk, IfOk, IfErr};
+ghost use Rattle.std.specs.Prelude.{◌≡◌, ◌≢◌, ◌⊎◌, ℕ, ◌^◌, ◌<◌, List, ◌++◌, take, Some, OnOk, IfOk, IfErr};
 ghost use Rattle.std.specs.Io.KnownBytes.{Appends, Consumes};
 ghost use Rattle.xet_base.specs.Bytes.{u64_bytes};
 ghost use Rattle.xet_base.specs.Errors.{IsBareShardVersion, IsDeviceError, IsWriteError};
@@ -88,6 +88,11 @@ impl MDBShardFileHeader {
             (λ h. Consumes (R.remaining reader.old) (R.remaining reader.new)
             (shard_header_bytes h)) }
         ensures tag { IfOk result (λ h. (h.tag ≡ header_tag) × IsVersion h.version) }
+        ensures width { IfOk result (λ h. h.footer_size < 2 ^ 64) }
+        ensures again { (h : MDBShardFileHeader) → (rest : List ℕ) → h.tag ≡ header_tag
+            → IsVersion h.version → h.footer_size < 2 ^ 64
+            → R.remaining reader.old ≡ Some (shard_header_bytes h ++ rest)
+            → IfOk result (λ found. (found ≡ h) × (R.remaining reader.new ≡ Some rest)) }
         ensures unsupported { IfErr result
             (SaysUnsupported HasUnsupportedHeader (R.remaining reader.old)) }
         ensures end { IfErr result (SaysEnd EndsInHeader (R.remaining reader.old)) }

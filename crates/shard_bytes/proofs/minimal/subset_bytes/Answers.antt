@@ -6,11 +6,11 @@ use Rattle.shard_bytes.specs.Minimal.{Keeps}
 use Rattle.shard_bytes.proofs.Keeping.{kept_so}
 use Rattle.shard_bytes.proofs.minimal.subset_bytes.Goals as goal
 
-pub returns : goal.returns
-returns c =
+pub returns-in-Ok : goal.returns-in-Ok
+returns-in-Ok c =
     let m = c.in_ok-shard.shard in
     let subset = c.args.subset.now in
-    let written = c.in_ok-serialize_xorb_subset_with_expiry.ensures.written in (
+    let written = c.in-Ok.ensures.written in (
       m,
       written.kept,
       c.in_ok-shard.ensures,

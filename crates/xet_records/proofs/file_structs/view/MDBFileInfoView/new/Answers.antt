@@ -1,12 +1,5 @@
-use Rattle.std.proofs.Common.{take, sym, ap, ◌∙◌, subst}
-use Rattle.xet_records.specs.FileRow.{header_row, FitsHeader}
-use Rattle.xet_records.specs.FileRecord.{file_records}
-use Rattle.xet_records.specs.View.{IsWholeFile}
-use Rattle.xet_records.proofs.Views.{header_begins}
+use Rattle.xet_records.proofs.ViewsAgain.{file_again}
 use Rattle.xet_records.proofs.file_structs.view.MDBFileInfoView.new.Goals as goal
 
-pub cut-requires : goal.cut-requires
-cut-requires c =
-    let read = c.in_ok-header.ensures in
-    header_begins file_records IsWholeFile _ _ (subst FitsHeader read.handed read.widths)
-    (ap (take 48) (sym c.as_slice.ensures) ∙ sym read.taken.1 ∙ ap header_row read.handed)
+pub returns-clause-again : goal.returns-clause-again
+returns-clause-again c = λ r rest stored few are. file_again _ r rest stored few are c.of_front.result c.of_front.ensures

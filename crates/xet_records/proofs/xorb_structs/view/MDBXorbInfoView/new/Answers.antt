@@ -1,12 +1,5 @@
-use Rattle.std.proofs.Common.{take, sym, ap, ◌∙◌, subst}
-use Rattle.xet_records.specs.XorbRow.{xorb_header_row, FitsXorbHeader}
-use Rattle.xet_records.specs.XorbRecord.{xorb_records}
-use Rattle.xet_records.specs.View.{IsWholeXorb}
-use Rattle.xet_records.proofs.Views.{header_begins}
+use Rattle.xet_records.proofs.ViewsAgain.{xorb_again}
 use Rattle.xet_records.proofs.xorb_structs.view.MDBXorbInfoView.new.Goals as goal
 
-pub cut-requires : goal.cut-requires
-cut-requires c =
-    let read = c.in_ok-header.ensures in
-    header_begins xorb_records IsWholeXorb _ _ (subst FitsXorbHeader read.handed read.widths)
-    (ap (take 48) (sym c.as_slice.ensures) ∙ sym read.taken.1 ∙ ap xorb_header_row read.handed)
+pub returns-clause-again : goal.returns-clause-again
+returns-clause-again c = λ r rest stored are. xorb_again _ r rest stored are c.of_front.result c.of_front.ensures
