@@ -19,4 +19,5 @@ pub mod Bounds
 pub mod Search
 pub mod Collecting
 pub mod KnownTable
+mod Lanes
 pub mod KeyedHash

@@ -5,6 +5,7 @@ pub mod Hex
 pub mod Input
 pub mod InputLaws
 pub mod KeyedHash
+pub mod Lanes
 pub mod Probes
 pub mod Search
 pub mod Source

@@ -1,32 +1,39 @@
 //! The keyed hash: BLAKE3's keyed mode for one block of 32 bytes.
 
-ghost use Rattle.std.specs.Prelude.{◌≡◌, ℕ, ◌+◌, ◌*◌, ◌<◌, ◌≤◌, [], length};
-ghost use Rattle.xet_base.specs.KeyedHash.{mix, mix_at, mix_columns, mix_diagonals, permuted, state_after, message_after, word_at, words_before, start_of, message_of, digest, keyed_bytes};
+ghost use Rattle.std.specs.Prelude.{◌≡◌, ℕ, ◌+◌, ◌*◌, ◌<◌, ◌≤◌, [], ◌∷◌, length, slice_index};
+ghost use Rattle.xet_base.specs.KeyedHash.{add32, xor_rotate, mix, mix_columns, mix_diagonals, permuted, state_after, message_after, word_at, words_before, start_of, message_of, digest, keyed_bytes};
+ghost use Rattle.xet_base.specs.Lanes.{words_in};
 
 use crate::row::put_u32;
+use std::simd::u32x4;
 
 // The state or the message.
 type Words = [u32; 16];
+
+// The state as four rows of four words. A step on rows is one on each column.
+type Rows = (u32x4, u32x4, u32x4, u32x4);
 
 /// The keyed hash of 32 bytes.
 #[tactic(auto, unfolding(crate::specs::KeyedHash::keyed_bytes))]
 pub(crate) fn keyed_bytes(key: &[u8; 32], message: &[u8; 32]) -> [u8; 32]
     ensures { result ≡ keyed_bytes key.now message.now }
 {
-    digest(&compress(start_of(key), message_of(message)))
+    digest(&words_in(compress(start_of(key), message_of(message))))
 }
 
 // The state that begins with a key: four words of the function, a counter of 0, the length of the
 // block, and flags.
 #[inline(always)]
-fn start_of(key: &[u8; 32]) -> Words
-    ensures { result ≡ start_of key.now }
+fn start_of(key: &[u8; 32]) -> Rows
+    ensures { words_in result ≡ start_of key.now }
 {
     let k = words_of(key);
-    [
-        k[0], k[1], k[2], k[3], k[4], k[5], k[6], k[7], 0x6A09E667, 0xBB67AE85, 0x3C6EF372,
-        0xA54FF53A, 0, 0, 32, 27,
-    ]
+    (
+        u32x4::from_array([k[0], k[1], k[2], k[3]]),
+        u32x4::from_array([k[4], k[5], k[6], k[7]]),
+        u32x4::from_array([0x6A09E667, 0xBB67AE85, 0x3C6EF372, 0xA54FF53A]),
+        u32x4::from_array([0, 0, 32, 27]),
+    )
 }
 
 // The message, and zeros after it.
@@ -60,8 +67,8 @@ fn words_of(bytes: &[u8; 32]) -> [u32; 8]
 // among them costs nothing.
 #[inline(always)]
 #[tactic(auto, unfolding(crate::specs::KeyedHash::state_after, crate::specs::KeyedHash::message_after))]
-fn compress(start: Words, message: Words) -> Words
-    ensures { result ≡ state_after 7 start message }
+fn compress(start: Rows, message: Words) -> Rows
+    ensures { words_in result ≡ state_after 7 (words_in start) message }
 {
     let (state, words) = round(start, message);
     let (state, words) = round(state, words);
@@ -75,68 +82,120 @@ fn compress(start: Words, message: Words) -> Words
 
 // The state after a round, and the message for the next one.
 #[inline(always)]
-fn round(mut state: Words, words: Words) -> (Words, Words)
-    ensures state { result.0 ≡ mix_diagonals (mix_columns state words) words }
+fn round(state: Rows, words: Words) -> (Rows, Words)
+    ensures state { words_in result.0
+        ≡ mix_diagonals (mix_columns (words_in state) words) words }
     ensures words { result.1 ≡ permuted words }
 {
-    mix_columns(&mut state, &words);
-    mix_diagonals(&mut state, &words);
+    let state = mix_columns(state, &words);
+    let state = mix_diagonals(state, &words);
     (state, permuted(&words))
 }
 
 #[inline(always)]
-#[tactic(auto, unfolding(crate::specs::KeyedHash::mix_columns))]
-fn mix_columns(v: &mut Words, m: &Words)
-    ensures { v.new ≡ mix_columns v.old m.now }
+fn mix_columns(state: Rows, m: &Words) -> Rows
+    ensures { words_in result ≡ mix_columns (words_in state) m.now }
 {
-    mix_at(v, 0, 4, 8, 12, m[0], m[1]);
-    mix_at(v, 1, 5, 9, 13, m[2], m[3]);
-    mix_at(v, 2, 6, 10, 14, m[4], m[5]);
-    mix_at(v, 3, 7, 11, 15, m[6], m[7]);
+    let (a, b, c, d) = state;
+    let x = u32x4::from_array([m[0], m[2], m[4], m[6]]);
+    let y = u32x4::from_array([m[1], m[3], m[5], m[7]]);
+    mix(a, b, c, d, x, y)
+}
+
+// The diagonals are the columns once three rows are turned.
+#[inline(always)]
+fn mix_diagonals(state: Rows, m: &Words) -> Rows
+    ensures { words_in result ≡ mix_diagonals (words_in state) m.now }
+{
+    let (a, b, c, d) = state;
+    let x = u32x4::from_array([m[8], m[10], m[12], m[14]]);
+    let y = u32x4::from_array([m[9], m[11], m[13], m[15]]);
+    let b_diagonal = turned(b);
+    let c_diagonal = turned_twice(c);
+    let d_diagonal = turned_back(d);
+    let (a, b, c, d) = mix(a, b_diagonal, c_diagonal, d_diagonal, x, y);
+    let b_row = turned_back(b);
+    let c_row = turned_twice(c);
+    let d_row = turned(d);
+    (a, b_row, c_row, d_row)
+}
+
+// Four words of the state mixed with two of the message, for each lane.
+#[inline(always)]
+fn mix(a: u32x4, b: u32x4, c: u32x4, d: u32x4, x: u32x4, y: u32x4) -> Rows
+    ensures { (j : ℕ) → j < 4
+        → (slice_index result.0 j, slice_index result.1 j, slice_index result.2 j, slice_index result.3 j)
+        ≡ mix (slice_index a j) (slice_index b j) (slice_index c j) (slice_index d j) (slice_index x j) (slice_index y j) }
+{
+    let ab = add(a, b);
+    let a1 = add(ab, x);
+    let d1 = xor_rotate(d, a1, 16);
+    let c1 = add(c, d1);
+    let b1 = xor_rotate(b, c1, 12);
+    let ab1 = add(a1, b1);
+    let a2 = add(ab1, y);
+    let d2 = xor_rotate(d1, a2, 8);
+    let c2 = add(c1, d2);
+    let b2 = xor_rotate(b1, c2, 7);
+    (a2, b2, c2, d2)
 }
 
 #[inline(always)]
-#[tactic(auto, unfolding(crate::specs::KeyedHash::mix_diagonals))]
-fn mix_diagonals(v: &mut Words, m: &Words)
-    ensures { v.new ≡ mix_diagonals v.old m.now }
+fn add(a: u32x4, b: u32x4) -> u32x4
+    ensures { (j : ℕ) → j < 4 → slice_index result j ≡ add32 (slice_index a j) (slice_index b j) }
 {
-    mix_at(v, 0, 5, 10, 15, m[8], m[9]);
-    mix_at(v, 1, 6, 11, 12, m[10], m[11]);
-    mix_at(v, 2, 7, 8, 13, m[12], m[13]);
-    mix_at(v, 3, 4, 9, 14, m[14], m[15]);
+    a + b
 }
 
-// Four words of the state mixed with two words of the message.
 #[inline(always)]
-fn mix_at(v: &mut Words, a: usize, b: usize, c: usize, d: usize, x: u32, y: u32)
-    requires a { a < 16 }
-    requires b { b < 16 }
-    requires c { c < 16 }
-    requires d { d < 16 }
-    ensures { v.new ≡ mix_at v.old a b c d x y }
+fn xor_rotate(a: u32x4, b: u32x4, k: u32) -> u32x4
+    requires low { 0 < k }
+    requires high { k < 32 }
+    ensures { (j : ℕ) → j < 4
+        → slice_index result j ≡ xor_rotate (slice_index a j) (slice_index b j) k }
 {
-    let mixed = mix(v[a], v[b], v[c], v[d], x, y);
-    v[a] = mixed.0;
-    v[b] = mixed.1;
-    v[c] = mixed.2;
-    v[d] = mixed.3;
+    let x = a ^ b;
+    (x >> u32x4::splat(k)) | (x << u32x4::splat(32 - k))
 }
 
-// Two words of the message mixed into four of the state.
+// The lanes, each one place to the left.
 #[inline(always)]
-#[tactic(auto, unfolding(crate::specs::KeyedHash::mix))]
-fn mix(a: u32, b: u32, c: u32, d: u32, x: u32, y: u32) -> (u32, u32, u32, u32)
-    ensures { result ≡ mix a b c d x y }
+fn turned(v: u32x4) -> u32x4
+    ensures { result ≡ slice_index v 1 ∷ slice_index v 2 ∷ slice_index v 3 ∷ slice_index v 0 ∷ [] }
 {
-    let a = a.wrapping_add(b).wrapping_add(x);
-    let d = (d ^ a).rotate_right(16);
-    let c = c.wrapping_add(d);
-    let b = (b ^ c).rotate_right(12);
-    let a = a.wrapping_add(b).wrapping_add(y);
-    let d = (d ^ a).rotate_right(8);
-    let c = c.wrapping_add(d);
-    let b = (b ^ c).rotate_right(7);
-    (a, b, c, d)
+    let [v0, v1, v2, v3] = v.to_array();
+    u32x4::from_array([v1, v2, v3, v0])
+}
+
+#[inline(always)]
+fn turned_twice(v: u32x4) -> u32x4
+    ensures { result ≡ slice_index v 2 ∷ slice_index v 3 ∷ slice_index v 0 ∷ slice_index v 1 ∷ [] }
+{
+    let [v0, v1, v2, v3] = v.to_array();
+    u32x4::from_array([v2, v3, v0, v1])
+}
+
+#[inline(always)]
+fn turned_back(v: u32x4) -> u32x4
+    ensures { result ≡ slice_index v 3 ∷ slice_index v 0 ∷ slice_index v 1 ∷ slice_index v 2 ∷ [] }
+{
+    let [v0, v1, v2, v3] = v.to_array();
+    u32x4::from_array([v3, v0, v1, v2])
+}
+
+// The words of a state.
+#[inline(always)]
+fn words_in(state: Rows) -> Words
+    ensures { result ≡ words_in state }
+{
+    let (a, b, c, d) = state;
+    let [a0, a1, a2, a3] = a.to_array();
+    let [b0, b1, b2, b3] = b.to_array();
+    let [c0, c1, c2, c3] = c.to_array();
+    let [d0, d1, d2, d3] = d.to_array();
+    [
+        a0, a1, a2, a3, b0, b1, b2, b3, c0, c1, c2, c3, d0, d1, d2, d3,
+    ]
 }
 
 // The message for the next round.
