@@ -3,6 +3,7 @@ pub mod ChunkTableRows
 pub mod ChunkQueries
 pub mod ChunkLocations
 pub mod ChunkTables
+mod Clones
 pub mod ChunkSorting
 pub mod Copying
 pub mod Distinct

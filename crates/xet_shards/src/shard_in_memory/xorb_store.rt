@@ -149,6 +149,17 @@ impl XorbStore {
         Ok(())
     }
 
+    // A store with the same xorbs and the same lookup. `OutOfMemory` if an allocation fails.
+    fn try_clone(&self) -> Result<XorbStore>
+        ensures ok { IfOk result (λ t. t ≡ self.now) }
+        ensures causes { IfErr result (λ e. e ≡ CoreError.OutOfMemory) }
+    {
+        Ok(XorbStore {
+            content: self.content.clone()?,
+            lookup: self.lookup.clone()?,
+        })
+    }
+
     /// The xorbs of both stores. Of two xorbs with the same hash, that of `other`. `OutOfMemory` if
     /// an allocation fails.
     pub fn union(&self, alloc: Global, other: &XorbStore) -> Result<XorbStore>
@@ -156,10 +167,8 @@ impl XorbStore {
             ≡ option_or (finite.get other.now.xorbs q) (finite.get self.now.xorbs q)) }
         ensures causes { IfErr result (λ e. e ≡ CoreError.OutOfMemory) }
     {
-        let none = XorbStore::new(alloc);
-        let mut joined = XorbStore::new(alloc);
-        joined.append_missing(alloc, other.content(), &none)?;
-        joined.append_missing(alloc, self.content(), &none)?;
+        let mut joined = other.try_clone()?;
+        joined.append_missing(alloc, self.content(), &XorbStore::new(alloc))?;
         Ok(joined)
     }
 
