@@ -32,7 +32,7 @@ module _ {H R : Type 0} (K : RecordKind H R) where
   abbrev pub ComeAfter : DataHash → List R → Type 0
   ComeAfter k rs = AllByRecursion (λ r. hash_cmp k (key_of_record K r) ≡ Less) rs
 
-  before_later : (k q : DataHash) (rs : List R) → hash_cmp k q ≡ Less → Before k rs → Before q rs
+  pub before_later : (k q : DataHash) (rs : List R) → hash_cmp k q ≡ Less → Before k rs → Before q rs
   before_later k q rs less before = all_through _ _ rs (λ r below. hash_cmp-IsTotalOrder.trans (key_of_record K r) k q below less) before
 
   pub after_earlier : (k q : DataHash) (rs : List R) → hash_cmp q k ≡ Less → ComeAfter k rs → ComeAfter q rs

@@ -16,6 +16,11 @@ pub mod OneResult
 pub mod OneSection
 pub mod Operating
 pub mod Pairs
+pub mod Parts
+pub mod PlacedShards
+pub mod PlacedUnions
+pub mod PlacedWriting
+pub mod Placing
 pub mod Readable
 pub mod Refusing
 pub mod Results
@@ -23,6 +28,7 @@ pub mod SectionWays
 pub mod SideBySide
 pub mod TreesOfExports
 pub mod TreeXorbs
+pub mod Turns
 pub mod UnitedFiles
 pub mod Uniting
 pub mod Zipped

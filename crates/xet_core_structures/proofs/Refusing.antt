@@ -36,7 +36,7 @@ last_in [] x = (0, omega arith, refl)
 last_in (y ∷ xs) x = let found = last_in xs x in (suc found.0, omega (arith, found.1), found.2)
 
 -- a member of a mapped list is made of a member of the list
-mapped_at : {X : Type 0} (f : X → X) (xs : List X) (i : ℕ) (y : X) → i < length (map f xs) → get_or (map f xs) i y ≡ y → (x : X) × Contains xs x × (f x ≡ y)
+pub mapped_at : {X : Type 0} (f : X → X) (xs : List X) (i : ℕ) (y : X) → i < length (map f xs) → get_or (map f xs) i y ≡ y → (x : X) × Contains xs x × (f x ≡ y)
 mapped_at f [] i y low at = absurd (omega (arith, low))
 mapped_at f (x ∷ xs) zero y low at = (x, (0, omega arith, refl), at)
 mapped_at f (x ∷ xs) (suc i) y low at =

@@ -122,13 +122,13 @@ not_read x i y j e (inr (same, cause)) = inr (same, inl cause)
 
 module _ (x : List ℕ) (i : MDBShardInfo) (y : List ℕ) (j : MDBShardInfo) (one other : Records) (have : HaveInputs x i y j one other) where
   -- what was written is the layout of the result
-  abbrev shard_of : Records → Shard
+  abbrev pub shard_of : Records → Shard
   shard_of records = record { files = list_map file_records records.files; xorbs = list_map xorb_records records.xorbs }
 
   section_of : {H R : Type 0} (K : RecordKind H R) (bytes : List ℕ) (rs : List R) → IsListOf K bytes rs → IsSectionOf K bytes (list_map K rs)
   section_of K bytes rs is = section_of_list K rs is.writable.ascends bytes is.stored is.section is.handed
 
-  held : (bytes : List ℕ) (info : MDBShardInfo) (records : Records) → HoldsLists bytes info records.files records.xorbs → Holds bytes info (shard_of records)
+  pub held : (bytes : List ℕ) (info : MDBShardInfo) (records : Records) → HoldsLists bytes info records.files records.xorbs → Holds bytes info (shard_of records)
   held bytes info records lists = record {
     files = section_of (files_of info) (files_at bytes info) records.files lists.files;
     xorbs = section_of xorb_records (xorbs_at bytes info) records.xorbs lists.xorbs;

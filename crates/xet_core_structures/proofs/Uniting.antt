@@ -17,7 +17,7 @@ use Rattle.xet_core_structures.specs.ByteResults.{keyed_layout, key_of, HaveResu
 use Rattle.xet_core_structures.specs.MergeTrees.{TreeWrites, TreeRefusal}
 
 -- what a source in memory is
-abbrev in_memory : MemorySource → Source
+abbrev pub in_memory : MemorySource → Source
 in_memory m = record { bytes = m.bytes.now; at = m.at; seeks = m.seeks.value; read = m.read.value; failures = 0; last_failure = None }
 
 bare_version : (e : CoreError) → IsBareShardVersion e → IsShardVersion e

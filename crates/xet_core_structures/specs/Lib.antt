@@ -6,6 +6,8 @@ pub mod ExportTrees
 pub mod Held
 pub mod MergeTrees
 pub mod MixedFiles
+pub mod Parts
+pub mod Placed
 pub mod Readable
 pub mod SetOutcomes
 pub mod SideBySide

@@ -15,10 +15,13 @@ ghost use Rattle.xet_core_structures.specs.Streams.{streams};
 ghost use Rattle.xet_core_structures.specs.MergeTrees.{TreeWrites, TreeRefusal, IsMerge, MergeRefused};
 
 mod mix;
+mod parts;
+mod placed;
 mod record_operation;
 mod results;
 mod sections;
 
+use parts::{part_bytes, place_tree};
 use record_operation::{OfDifference, OfUnion};
 use results::operate;
 use std::alloc::Global;
@@ -117,12 +120,17 @@ pub fn shard_union_tree(alloc: Global, plan: &MergePlan, inputs: &[&[u8]]) -> Re
     merge(alloc, plan, inputs)
 }
 
-// The same, without the clause on inputs that agree.
+// The same, without the clause on inputs that agree. No byte is written before the tree is done. If
+// a mix of two files is in it, the bytes of both sides are written, each in this way, and then their
+// union.
 fn merge(alloc: Global, plan: &MergePlan, inputs: &[&[u8]]) -> Result<Vec<u8>>
     ensures { MatchResult result
         (λ bytes. TreeWrites (map (λ x. x.now) inputs.now) plan.now bytes.items)
         (TreeRefusal (map (λ x. x.now) inputs.now) plan.now) }
 {
+    if let Some(part) = place_tree(alloc, plan, inputs)? {
+        return part_bytes(alloc, part);
+    }
     match plan {
         MergePlan::Leaf(index) => copy_input(alloc, inputs, *index),
         MergePlan::Both(left, right) => {

@@ -189,7 +189,7 @@ fn combine_at<
 }
 
 // Moves a source to an offset.
-fn seek<S: ShardSource>(source: &mut S, offset: u64) -> Result<()>
+pub fn seek<S: ShardSource>(source: &mut S, offset: u64) -> Result<()>
     ensures moved { OnOk result (S.meaning source.new ≡ moved (S.meaning source.old) offset) }
     ensures bytes { (S.meaning source.new).bytes ≡ (S.meaning source.old).bytes }
     ensures causes { IfErr result (DeviceFailure (S.meaning source.old) (S.meaning source.new)) }
@@ -198,7 +198,7 @@ fn seek<S: ShardSource>(source: &mut S, offset: u64) -> Result<()>
 }
 
 // Writes the header of a shard. The failure is the output's.
-fn write_header<W: Write>(out: &mut W) -> CopyResult<()>
+pub fn write_header<W: Write>(out: &mut W) -> CopyResult<()>
     ensures appended { OnOk result
         (Appends (W.contents out.old) (W.contents out.new) (shard_header_bytes (header_value V3))) }
     ensures causes { IfErr result IsOutputFailure }
@@ -211,7 +211,7 @@ fn write_header<W: Write>(out: &mut W) -> CopyResult<()>
 
 // Writes the lookup tables and the footer of a shard in a form, and returns its header and footer.
 // The failure is the output's.
-fn write_tables<W: Write>(
+pub fn write_tables<W: Write>(
     out: &mut W,
     files: &WrittenFiles,
     xorbs: WrittenXorbs,

@@ -1,7 +1,9 @@
-use Rattle.std.proofs.Common.{ℕ, List, map, sym, subst}
+use Rattle.std.proofs.Common.{ℕ, List, map, IfSome, sym, subst}
 use Rattle.std.specs.Borrow.{Bor}
 use Rattle.std.specs.Prelude.{MatchResult}
 use Rattle.xet_core_structures.specs.MergeTrees.{TreeWrites, TreeRefusal}
+use Rattle.xet_core_structures.specs.Parts.{IsPart}
+use Rattle.xet_core_structures.proofs.Parts.{tree_written}
 use Rattle.xet_core_structures.proofs.Uniting.{both_sides}
 use Rattle.xet_core_structures.proofs.set_operations.+merge.Goals as goal
 
@@ -14,3 +16,9 @@ returns-in_ok-right-in-Both t c =
     (subst (λ plan. TreeWrites inputs plan c.in_ok-left-in-Both.left.items) c.deref.ensures c.in_ok-left-in-Both.ensures)
     (subst (λ plan. TreeWrites inputs plan c.in_ok-right-in-Both.right.items) c.deref-in-Both.ensures c.in_ok-right-in-Both.ensures)
     c.deref-in-Both-2.ensures.value c.deref-in-Both-3.ensures.value c.unite_bytes.ensures)
+
+pub returns-in-Some : goal.returns-in-Some
+returns-in-Some t c =
+    let inputs : List (List ℕ) = map (λ (x : Bor (List ℕ)). x.now) c.args.inputs.now in
+    let found = subst (λ o. IfSome o (λ part. (bytes : List ℕ) × TreeWrites inputs c.args.plan.now bytes × IsPart bytes part)) c.in-Some.is c.in_ok-part.ensures in
+    tree_written inputs c.args.plan.now found.0 c.part_bytes.result found.1 (c.part_bytes.ensures found.0 found.2)

@@ -1,0 +1,95 @@
+-- Records of sections in memory that stay where they are.
+use Rattle.std.specs.Prelude.{◌≡◌, ◌⊎◌, ⊤, ℕ, ◌<◌, List, [], ◌∷◌, ◌++◌, drop, Contains, Option, Some}
+use Rattle.std.specs.List.{AllZip}
+use Rattle.std.specs.declared.cmp.Ordering.TheVariants.{Less}
+use Rattle.xet_base.specs.declared.merklehash.DataHash.{DataHash}
+use Rattle.xet_base.specs.Hash.{hash_cmp}
+use Rattle.xet_base.specs.Source.{Source}
+use Rattle.xet_records.specs.declared.record_reader.FormatVersion.{FormatVersion}
+use Rattle.xet_records.specs.RecordKind.{RecordKind, in_version}
+use Rattle.xet_records.specs.Reading.{ReadsRowsAfter}
+use Rattle.xet_shards.specs.InForm.{Ascends}
+use Rattle.xet_shards.specs.Section.{total_rows}
+use Rattle.xet_shards.specs.SectionReading.{TakesSection}
+use Rattle.xet_core_structures.specs.declared.set_operations.placed.PlacedRecord.{PlacedRecord}
+use Rattle.xet_core_structures.specs.declared.set_operations.placed.Choice.{Choice}
+use Rattle.xet_core_structures.specs.declared.set_operations.placed.Choice.TheVariants.{First, Second, Mix as ChosenMix, Nothing as ChosenNothing}
+use Rattle.xet_core_structures.specs.declared.set_operations.placed.Turn.{Turn}
+use Rattle.xet_core_structures.specs.declared.set_operations.placed.Turn.TheVariants.{End, Keep, Mix, Nothing}
+use Rattle.xet_core_structures.specs.Combining.{key_of_record, Combines}
+use Rattle.xet_core_structures.specs.SideBySide.{IsRecordHeader}
+
+-- bytes begin with others
+abbrev pub BeginsWith : List ℕ → List ℕ → Type 0
+BeginsWith bytes front = (rest : List ℕ) × (bytes ≡ front ++ rest)
+
+-- rows are counted exactly, or are more than a section has
+abbrev pub CountsRows : ℕ → ℕ → Type 0
+CountsRows total counted =
+    (counted ≡ total) ⊎ ((4294967295 < total) × (4294967295 < counted))
+
+module _ {H R : Type 0} (K : RecordKind H R) where
+  -- a header, and bytes from the rows after it on, are those of a record, as reading returns it
+  pub record Places (p : PlacedRecord H) (r : R) : Type 0 where
+    pub header : IsRecordHeader K p.header
+    pub rows : ReadsRowsAfter K p.header (BeginsWith p.rows.now) r
+
+  abbrev pub PlacesAll : List (PlacedRecord H) → List R → Type 0
+  PlacesAll = AllZip Places
+
+  -- the section of a source was read, its hashes strictly ascend, and these are its records
+  abbrev pub TakesPlaced : FormatVersion → Source → Source → List (PlacedRecord H) → Type 0
+  TakesPlaced version old new placed =
+      (found : List R) × TakesSection (in_version K version) old new found × Ascends K found
+      × PlacesAll placed found
+
+  -- the records of a list, whose hashes strictly ascend
+  pub record MayUnite (placed : List (PlacedRecord H)) (rs : List R) : Type 0 where
+    pub places : PlacesAll placed rs
+    pub ascends : Ascends K rs
+
+  abbrev pub hash_at : PlacedRecord H → DataHash
+  hash_at p = K.hash_of p.header
+
+  -- a hash is less than that of the first of a list, if there is one
+  abbrev pub IsBefore : DataHash → List (PlacedRecord H) → Type 0
+  IsBefore k [] = ⊤
+  IsBefore k (q ∷ qs) = hash_cmp k (hash_at q) ≡ Less
+
+  module _ (makes : Option R → Option R → Option R → Type 0) where
+    -- what is made of two records with these headers
+    abbrev pub IsChoice : H → H → Choice → Type 0
+    IsChoice g h First =
+        (r s : R) → K.header_of r ≡ g → K.header_of s ≡ h → makes (Some r) (Some s) (Some r)
+    IsChoice g h Second =
+        (r s : R) → K.header_of r ≡ g → K.header_of s ≡ h → makes (Some r) (Some s) (Some s)
+    IsChoice g h ChosenMix = ⊤
+    IsChoice g h ChosenNothing =
+        (r s : R) → K.header_of r ≡ g → K.header_of s ≡ h → (t : Option R)
+        → ¬ makes (Some r) (Some s) t
+
+    -- the first of one of two lists is next, or one of the first of both, which have one hash
+    pub data KeepsNext (ps qs : List (PlacedRecord H)) (p : PlacedRecord H)
+        (xs ys : List (PlacedRecord H)) : Type 0 where
+      takes_first : ps ≡ p ∷ xs → qs ≡ ys → IsBefore (hash_at p) qs → KeepsNext ps qs p xs ys
+      takes_second : qs ≡ p ∷ ys → ps ≡ xs → IsBefore (hash_at p) ps → KeepsNext ps qs p xs ys
+      takes_both : (g h : PlacedRecord H) → ps ≡ g ∷ xs → qs ≡ h ∷ ys → hash_at g ≡ hash_at h
+          → ((p ≡ g) × IsChoice g.header h.header First)
+          ⊎ ((p ≡ h) × IsChoice g.header h.header Second) → KeepsNext ps qs p xs ys
+
+    -- what comes next of the union of two lists, of which these places are reached
+    abbrev pub IsTurn : List (PlacedRecord H) → ℕ → List (PlacedRecord H) → ℕ → Turn H → Type 0
+    IsTurn ps i qs j End = (drop i ps ≡ []) × (drop j qs ≡ [])
+    IsTurn ps i qs j (Keep p n m) = KeepsNext (drop i ps) (drop j qs) p (drop n ps) (drop m qs)
+    IsTurn ps i qs j Mix = ⊤
+    IsTurn ps i qs j Nothing =
+        (g h : PlacedRecord H) × (gs hs : List (PlacedRecord H)) × (drop i ps ≡ g ∷ gs)
+        × (drop j qs ≡ h ∷ hs) × (hash_at g ≡ hash_at h) × IsChoice g.header h.header ChosenNothing
+
+    -- two lists have no union within the rows of a section: it has more rows, or they have records
+    -- with one hash that have none
+    abbrev pub HaveNoListUnion : List R → List R → Type 0
+    HaveNoListUnion xs ys =
+        ((zs : List R) × Combines K makes xs ys zs × (4294967295 < total_rows K zs))
+        ⊎ ((r s : R) × Contains xs r × Contains ys s × (key_of_record K r ≡ key_of_record K s)
+        × ((t : Option R) → ¬ makes (Some r) (Some s) t))

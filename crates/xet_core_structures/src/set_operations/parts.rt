@@ -1,0 +1,259 @@
+//! A tree of unions over inputs in memory. Records stay where they are until the tree is done, and
+//! are written once.
+
+ghost use Rattle.std.specs.Prelude.{◌≡◌, ◌⊎◌, ◌↔◌, ℕ, IsTrue, List, map, IfSome, IfOk, MatchResult};
+ghost use Rattle.std.specs.Io.KnownBytes.{Appends};
+ghost use Rattle.xet_base.specs.declared.error.CoreError.TheVariants.{OutOfMemory};
+ghost use Rattle.xet_base.specs.Errors.{IsInvalidShard};
+ghost use Rattle.xet_records.specs.FileRecord.{file_records};
+ghost use Rattle.xet_records.specs.XorbRecord.{xorb_records};
+ghost use Rattle.xet_shards.specs.declared.shard_format.info.MDBShardInfo.{MDBShardInfo};
+ghost use Rattle.xet_shards.specs.Ends.{HasEnds};
+ghost use Rattle.xet_shards.specs.Layout.{layout_of};
+ghost use Rattle.xet_core_structures.specs.ByteUnion.{IsEitherFile, IsEitherXorb};
+ghost use Rattle.xet_core_structures.specs.ByteResults.{keyed_form, key_of, Records, AreCombined, UnitesBytes, BytesRefusal, LoadRefusal};
+ghost use Rattle.xet_core_structures.specs.MergeTrees.{TreeWrites, TreeRefusal};
+ghost use Rattle.xet_core_structures.specs.Parts.{PlacesRecords, MayBeUnited, MayBeWritten, PlacesShard, SectionsRefusal, HaveNoRecordUnion, IsPart, IsOpened};
+
+use super::MergePlan;
+use super::placed::{PlacedRecord, place_records, unite_placed, write_placed};
+use super::record_operation::OfUnion;
+use super::results::{seek, write_header, write_tables};
+use std::alloc::Global;
+use std::io::Write;
+use xet_base::error::{CoreError, Result};
+use xet_base::merklehash::HMACKey;
+use xet_base::source::MemorySource;
+use xet_records::file_structs::{FileDataSequenceHeader, MDBFileInfo};
+use xet_records::record_reader::FormatVersion;
+use xet_records::row_copier::CopyResult;
+use xet_records::xorb_structs::{MDBXorbInfo, XorbChunkSequenceHeader};
+use xet_shards::shard_format::MDBShardInfo;
+use xet_shards::shard_writer::{Form, WrittenFiles, WrittenXorbs};
+
+/// The records of a shard in memory, and the key of its chunk hashes.
+#[derive(Drop)]
+pub struct PlacedShard<'a> {
+    pub key: HMACKey,
+    pub files: Vec<PlacedRecord<'a, FileDataSequenceHeader>>,
+    pub xorbs: Vec<PlacedRecord<'a, XorbChunkSequenceHeader>>,
+}
+
+/// What a tree gives: an input, or a union of which no byte is written yet.
+#[derive(Drop)]
+pub enum Part<'a> {
+    Input(&'a [u8]),
+    United(PlacedShard<'a>),
+}
+
+/// The same, with the header and the footer of an input.
+#[derive(Drop)]
+pub enum Opened<'a> {
+    Input(&'a [u8], MDBShardInfo),
+    United(PlacedShard<'a>),
+}
+
+/// What a tree gives, or `None` if a mix of two files would be in it.
+pub fn place_tree<'a>(
+    alloc: Global,
+    plan: &MergePlan,
+    inputs: &[&'a [u8]],
+) -> Result<Option<Part<'a>>>
+    ensures { MatchResult result
+        (λ found. IfSome found (λ part. (bytes : List ℕ)
+        × TreeWrites (map (λ x. x.now) inputs.now) plan.now bytes × IsPart bytes part))
+        (TreeRefusal (map (λ x. x.now) inputs.now) plan.now) }
+{
+    match plan {
+        MergePlan::Leaf(index) => {
+            if *index >= inputs.len() {
+                return Err(CoreError::InvalidArguments);
+            }
+            Ok(Some(Part::Input(inputs[*index])))
+        }
+        MergePlan::Both(left, right) => {
+            let Some(left) = place_tree(alloc, left, inputs)? else {
+                return Ok(None);
+            };
+            let Some(right) = place_tree(alloc, right, inputs)? else {
+                return Ok(None);
+            };
+            unite_parts(alloc, left, right)
+        }
+    }
+}
+
+// The union of two parts, or `None` if a mix of two files would be in it.
+fn unite_parts<'a>(alloc: Global, left: Part<'a>, right: Part<'a>) -> Result<Option<Part<'a>>>
+    ensures { (x y : List ℕ) → IsPart x left.entry → IsPart y right.entry → MatchResult result
+        (λ found. IfSome found (λ part. (bytes : List ℕ) × UnitesBytes x y bytes
+        × IsPart bytes part))
+        (BytesRefusal x y) }
+{
+    let one = open(alloc, left)?;
+    let other = open(alloc, right)?;
+    let first_key = key(&one);
+    let second_key = key(&other);
+    if !are_equal(first_key, second_key) {
+        return Err(CoreError::InvalidArguments);
+    }
+    let first = lists(alloc, one)?;
+    let second = lists(alloc, other)?;
+    match unite_lists(alloc, &first, &second)? {
+        Some(shard) => Ok(Some(Part::United(shard))),
+        None => Ok(None),
+    }
+}
+
+// A part, and the header and the footer if it is an input.
+fn open<'a>(alloc: Global, part: Part<'a>) -> Result<Opened<'a>>
+    ensures { (bytes : List ℕ) → IsPart bytes part.entry → MatchResult result
+        (λ opened. (info : MDBShardInfo) × HasEnds bytes info × IsOpened bytes info opened)
+        (LoadRefusal bytes) }
+{
+    match part {
+        Part::Input(bytes) => {
+            let mut source = MemorySource::new(bytes);
+            let info = MDBShardInfo::load_from_reader(alloc, &mut source)?;
+            Ok(Opened::Input(bytes, info))
+        }
+        Part::United(shard) => Ok(Opened::United(shard)),
+    }
+}
+
+// The key of the chunk hashes.
+fn key(opened: &Opened<'_>) -> HMACKey
+    ensures { (bytes : List ℕ) (info : MDBShardInfo) → IsOpened bytes info opened.now
+        → result ≡ key_of info }
+{
+    match opened {
+        Opened::Input(_, info) => info.metadata.chunk_hash_hmac_key,
+        Opened::United(shard) => shard.key,
+    }
+}
+
+// Whether two keys are equal.
+fn are_equal(first: HMACKey, second: HMACKey) -> bool
+    ensures { IsTrue result ↔ (first ≡ second) }
+{
+    first == second
+}
+
+// The records of a part.
+fn lists<'a>(alloc: Global, opened: Opened<'a>) -> Result<PlacedShard<'a>>
+    ensures { (bytes : List ℕ) (info : MDBShardInfo) → IsOpened bytes info opened.entry
+        → MatchResult result (PlacesShard bytes info) (SectionsRefusal bytes info) }
+{
+    match opened {
+        Opened::Input(bytes, info) => place_shard(alloc, bytes, &info),
+        Opened::United(shard) => Ok(shard),
+    }
+}
+
+// The records of an input, at the offsets of its footer.
+fn place_shard<'a>(alloc: Global, bytes: &'a [u8], info: &MDBShardInfo) -> Result<PlacedShard<'a>>
+    ensures { MatchResult result (PlacesShard bytes.now info.now)
+        (SectionsRefusal bytes.now info.now) }
+{
+    let mut source = MemorySource::new(bytes);
+    seek(&mut source, info.metadata.file_info_offset)?;
+    let version = FormatVersion::of_header(info.header.version);
+    let files = place_records::<MDBFileInfo, MemorySource<'_>>(alloc, &mut source, bytes, version)?;
+    seek(&mut source, info.metadata.xorb_info_offset)?;
+    let xorbs = place_records::<MDBXorbInfo, MemorySource<'_>>(
+        alloc,
+        &mut source,
+        bytes,
+        FormatVersion::V3,
+    )?;
+    Ok(PlacedShard {
+        key: info.metadata.chunk_hash_hmac_key,
+        files,
+        xorbs,
+    })
+}
+
+// The union of the records of two shards, or `None` if a mix of two files would be in it.
+fn unite_lists<'a>(
+    alloc: Global,
+    first: &PlacedShard<'a>,
+    second: &PlacedShard<'a>,
+) -> Result<Option<PlacedShard<'a>>>
+    ensures { (one other : Records) → MayBeUnited first.now one → MayBeUnited second.now other
+        → MatchResult result
+        (λ found. IfSome found (λ shard. (made : Records)
+        × AreCombined IsEitherFile IsEitherXorb one other made × PlacesRecords shard made
+        × (shard.key ≡ first.now.key)))
+        (λ e. (e ≡ OutOfMemory) ⊎ (IsInvalidShard e × HaveNoRecordUnion one other)) }
+{
+    let files = unite_placed::<MDBFileInfo, OfUnion>(
+        alloc,
+        first.files.as_slice(),
+        second.files.as_slice(),
+    )?;
+    let Some(files) = files else {
+        return Ok(None);
+    };
+    let xorbs = unite_placed::<MDBXorbInfo, OfUnion>(
+        alloc,
+        first.xorbs.as_slice(),
+        second.xorbs.as_slice(),
+    )?;
+    let Some(xorbs) = xorbs else {
+        return Ok(None);
+    };
+    Ok(Some(PlacedShard {
+        key: first.key,
+        files,
+        xorbs,
+    }))
+}
+
+/// The bytes of a part.
+pub fn part_bytes(alloc: Global, part: Part<'_>) -> Result<Vec<u8>>
+    requires { (bytes : List ℕ) × IsPart bytes part }
+    ensures { (bytes : List ℕ) → IsPart bytes part.entry → MatchResult result
+        (λ written. written.items ≡ bytes) (λ e. e ≡ OutOfMemory) }
+{
+    match part {
+        Part::Input(bytes) => Ok(Vec::from_slice(alloc, bytes)?),
+        Part::United(shard) => shard_bytes(alloc, &shard),
+    }
+}
+
+// The bytes of a shard. Writing to a vector fails only if it is out of memory, and the records are
+// there to be read.
+fn shard_bytes(alloc: Global, shard: &PlacedShard<'_>) -> Result<Vec<u8>>
+    requires { (records : Records) × MayBeWritten shard.now records }
+    ensures { (records : Records) → MayBeWritten shard.now records → MatchResult result
+        (λ written. written.items
+        ≡ layout_of records.files records.xorbs (keyed_form shard.now.key))
+        (λ e. e ≡ OutOfMemory) }
+{
+    let mut bytes = Vec::new(alloc);
+    match write_shard(alloc, shard, &mut bytes) {
+        Ok(_) => Ok(bytes),
+        Err(_) => Err(CoreError::OutOfMemory),
+    }
+}
+
+// Writes a shard.
+fn write_shard<W: Write>(
+    alloc: Global,
+    shard: &PlacedShard<'_>,
+    out: &mut W,
+) -> CopyResult<MDBShardInfo>
+    requires { (records : Records) × MayBeWritten shard.now records }
+    ensures { IfOk result (λ _. (records : Records) → MayBeWritten shard.now records
+        → Appends (W.contents out.old) (W.contents out.new)
+        (layout_of records.files records.xorbs (keyed_form shard.now.key))) }
+{
+    write_header(out)?;
+    let files = write_placed::<WrittenFiles, W>(alloc, shard.files.as_slice(), out)?;
+    let xorbs = write_placed::<WrittenXorbs, W>(alloc, shard.xorbs.as_slice(), out)?;
+    let form = Form {
+        key: shard.key,
+        ..Form::plain(None)
+    };
+    write_tables(out, &files, xorbs, &form)
+}
