@@ -1,16 +1,17 @@
 -- A list of byte strings is merged by a tree with each of them at a leaf; of shards that agree it gives the bytes of their
 -- join.
-use Rattle.std.proofs.Common.{◌≡◌, inl, inr, ℕ, zero, suc, ◌+◌, ◌-◌, ◌/◌, ◌<◌, ◌≤◌, List, [], ◌∷◌, ◌++◌, length, map, get_or, Option, Some, refl, sym, ap, ◌∙◌, subst, arith}
+use Rattle.std.proofs.Common.{◌≡◌, inl, inr, ℕ, zero, suc, ◌+◌, ◌-◌, ◌/◌, ◌<◌, ◌≤◌, List, [], ◌∷◌, ◌++◌, length, map, get_or, Option, refl, sym, ap, ◌∙◌, subst, arith}
 use Rattle.std.specs.Prelude.{Contains}
 use Rattle.std.specs.List.{AllZip}
 use Rattle.std.proofs.lemmas.Bool.{cases_lt}
 use Rattle.std.proofs.lemmas.List.Elements.{Contains-push, Contains-append_left, Contains-append_right, Contains-append_cases, Contains-get_or}
 use Rattle.xet_core_structures.specs.declared.set_operations.MergePlan.{MergePlan}
 use Rattle.xet_core_structures.specs.declared.set_operations.MergePlan.TheVariants.{Leaf, Both'}
+use Rattle.xet_core_structures.specs.Held.{HoldsShard}
 use Rattle.xet_core_structures.specs.Joins.{HasWhatAnyHas, IsJoinOf}
+use Rattle.xet_core_structures.specs.KeyedHash.{no_key}
 use Rattle.xet_core_structures.specs.MergeTrees.{leaves, HasUnion, InputIs, IsMerge}
 use Rattle.xet_core_structures.specs.Shard.{Shard, empty_shard}
-use Rattle.xet_core_structures.specs.WrittenShard.{IsBytesOf}
 use Rattle.xet_shards.proofs.MappedShards.{mapped_member, unmapped_member}
 use Rattle.xet_core_structures.proofs.Zipped.{zipped_made}
 use Rattle.shard_bytes.specs.Merging.{IsBalanced, IsMergePlan, HaveJoin}
@@ -82,13 +83,13 @@ module _ (A B : Shard → Type 0) (into : (s : Shard) → A s → B s) (back : (
     follows = join.follows;
   }
 
-input_at : (all : List Shard) (inputs : List (List ℕ)) → AllZip IsBytesOf all inputs → (i : ℕ) → i < length all → InputIs inputs (IsBytesOf (get_or all i empty_shard)) i
+input_at : (all : List Shard) (inputs : List (List ℕ)) → AllZip (HoldsShard no_key) all inputs → (i : ℕ) → i < length all → InputIs inputs (HoldsShard no_key (get_or all i empty_shard)) i
 input_at [] inputs are i below = absurd (omega (arith, below))
 input_at (s ∷ ss) [] are i below = absurd are
 input_at (s ∷ ss) (x ∷ xs) (here, rest) zero below = (x, refl, here)
 input_at (s ∷ ss) (x ∷ xs) (here, rest) (suc i) below = input_at ss xs rest i (omega (arith, below))
 
-pub same_count : (all : List Shard) (inputs : List (List ℕ)) → AllZip IsBytesOf all inputs → length all ≡ length inputs
+pub same_count : (all : List Shard) (inputs : List (List ℕ)) → AllZip (HoldsShard no_key) all inputs → length all ≡ length inputs
 same_count [] [] are = refl
 same_count [] (x ∷ xs) are = absurd are
 same_count (s ∷ ss) [] are = absurd are
@@ -108,7 +109,7 @@ module _ (all : List Shard) (inputs : List (List ℕ)) (join : Shard) (have : Ha
   at_leaves = map shard_at (leaves plan)
 
   below_all : (i : ℕ) → i < length inputs → i < length all
-  below_all i below = let same = same_count all inputs have.are_bytes in omega arith
+  below_all i below = let same = same_count all inputs have.are_held in omega arith
 
   from_list : (s : Shard) → Contains at_leaves s → Contains all s
   from_list s at =
@@ -117,13 +118,13 @@ module _ (all : List Shard) (inputs : List (List ℕ)) (join : Shard) (have : Ha
 
   to_leaves : (s : Shard) → Contains all s → Contains at_leaves s
   to_leaves s (i, below, is) =
-      let same = same_count all inputs have.are_bytes in
+      let same = same_count all inputs have.are_held in
       subst (Contains at_leaves) (within_any all i empty_shard s below ∙ is) (mapped_member shard_at (leaves plan) i (covers.each i (omega arith)))
 
   pub merges : IsMerge inputs plan at_leaves join
   merges = record {
     union = covers.union;
-    inputs_are = zipped_made (λ i s. InputIs inputs (IsBytesOf s) i) shard_at (leaves plan) (λ i member. input_at all inputs have.are_bytes i (below_all i (covers.within i member)));
+    inputs_are = zipped_made (λ i s. InputIs inputs (HoldsShard no_key s) i) shard_at (leaves plan) (λ i member. input_at all inputs have.are_held i (below_all i (covers.within i member)));
     agree = record {
       shards = λ s at. have.agree.shards s (from_list s at);
       pairs = λ s t one other. have.agree.pairs s t (from_list s one) (from_list t other);

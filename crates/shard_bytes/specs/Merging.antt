@@ -5,10 +5,11 @@ use Rattle.xet_core_structures.specs.declared.error.CoreError.{CoreError}
 use Rattle.xet_core_structures.specs.declared.error.CoreError.TheVariants.{InvalidArguments, OutOfMemory}
 use Rattle.xet_core_structures.specs.declared.set_operations.MergePlan.{MergePlan}
 use Rattle.xet_core_structures.specs.declared.set_operations.MergePlan.TheVariants.{Leaf, Both'}
+use Rattle.xet_core_structures.specs.Held.{HoldsShard}
 use Rattle.xet_core_structures.specs.Joins.{IsJoinOf, AgreePairwise}
+use Rattle.xet_core_structures.specs.KeyedHash.{no_key}
 use Rattle.xet_core_structures.specs.MergeTrees.{TreeWrites, TreeRefusal}
 use Rattle.xet_core_structures.specs.Shard.{Shard}
-use Rattle.xet_core_structures.specs.WrittenShard.{IsBytesOf}
 
 -- a tree over so many inputs from an index on: of two or more, half of them are at its left
 abbrev pub IsBalanced : ℕ → ℕ → MergePlan → Type 0
@@ -37,10 +38,10 @@ RefusesMerge inputs e =
     ((e ≡ InvalidArguments) × (inputs ≡ [])) ⊎ (e ≡ OutOfMemory)
     ⊎ ((plan : MergePlan) × IsMergePlan (length inputs) plan × TreeRefusal inputs plan e)
 
--- the byte strings are these shards', each in either version, with an expiry or none; there is at
--- least one, each two of them agree, and this is their join
+-- the byte strings hold these shards, without a key; there is at least one, each two of the shards
+-- agree, and this is their join
 pub record HaveJoin (inputs : List (List ℕ)) (shards : List Shard) (join : Shard) : Type 0 where
   pub some : 0 < length inputs
-  pub are_bytes : AllZip IsBytesOf shards inputs
+  pub are_held : AllZip (HoldsShard no_key) shards inputs
   pub agree : AgreePairwise (Contains shards)
   pub is_join : IsJoinOf (Contains shards) join

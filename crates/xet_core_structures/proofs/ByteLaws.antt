@@ -1,5 +1,5 @@
--- Of the bytes of shards that agree, one union is the same in either order and grouping, and if it is repeated.
-use Rattle.std.proofs.Common.{◌≡◌, ℕ, ◌+◌, Bool, true, false, ◌&&◌, not, List, Option, None, Some, refl, sym, ap, ◌∙◌, subst, if◌then◌else◌, is_some, true≢false, arith}
+-- Of bytes that hold shards that agree, one union is the same in either order and grouping, and if it is repeated.
+use Rattle.std.proofs.Common.{◌≡◌, ℕ, ◌+◌, Bool, true, false, ◌&&◌, not, List, Option, None, Some, refl, sym, ap, ◌∙◌, if◌then◌else◌, is_some, true≢false, arith}
 use Rattle.std.specs.Prelude.{IsTrue}
 use Rattle.std.specs.Option.{option_or}
 use Rattle.std.specs.FinMap.{get, get-empty}
@@ -13,17 +13,14 @@ use Rattle.xet_records.specs.Part.{flags_of, rows_of, with_parts}
 use Rattle.xet_records.proofs.Parts.{with_parts-rows_of}
 use Rattle.xet_records.specs.Merging.{has_part, merged}
 use Rattle.xet_shards.specs.Joining.{either_file}
-use Rattle.xet_shards.specs.Layout.{layout}
 use Rattle.xet_shards.specs.SetOperations.{IsUnion, IsDifference, ShardsAgree}
 use Rattle.xet_shards.specs.Shard.{Shard, IsShard, empty_shard}
-use Rattle.xet_shards.specs.WrittenShard.{IsBytesOf, IsBytesWithoutExpiry}
-use Rattle.xet_shards.proofs.AgreeingJoins.{union_is_shard}
-use Rattle.xet_shards.proofs.EndsUnique.{bytes_without_expiry}
 use Rattle.xet_shards.proofs.Overlays.{united_shard, union_exists}
 use Rattle.xet_shards.proofs.Unions.{union-comm, union-assoc, union-idem, union-empty, union-of_empty, union_agrees}
 use Rattle.xet_core_structures.specs.ByteUnion.{HasPartsOf}
-use Rattle.xet_core_structures.specs.ByteResults.{UnitesBytes}
-use Rattle.xet_core_structures.proofs.ByteUnions.{written_union}
+use Rattle.xet_core_structures.specs.ByteResults.{keyed_layout, UnitesBytes}
+use Rattle.xet_core_structures.specs.Held.{HoldsShard}
+use Rattle.xet_core_structures.proofs.ByteUnions.{held_union}
 
 -- agreement has no order, and a shard agrees with itself
 agree_turned : (a b : Shard) → ShardsAgree a b → ShardsAgree b a
@@ -48,54 +45,46 @@ agree_empty a = record {
   xorbs = λ q r s r_at s_at. absurd (none-some s (sym (get-empty hash_cmp q) ∙ s_at));
 }
 
--- the one union of the bytes of two shards that agree
-one_union : (a b c : Shard) (x y out : List ℕ) → ShardsAgree a b → IsBytesOf a x → IsBytesOf b y → IsUnion a b c → UnitesBytes x y out → IsBytesWithoutExpiry c out
-one_union a b c x y out agree x_is y_is union unites =
-    let written = written_union a b c x y x_is y_is agree union out unites in
-    record { shard = union_is_shard a b c x_is.shard y_is.shard agree union written.1; bytes_are = written.0 }
-
-pub bytes_commute : (a b : Shard) (a_1 a_2 b_1 b_2 x y : List ℕ) → ShardsAgree a b → IsBytesOf a a_1 → IsBytesOf a a_2 → IsBytesOf b b_1 → IsBytesOf b b_2
+-- of bytes that hold shards that agree, under one key
+pub bytes_commute : (key : DataHash) (a b : Shard) (a_1 a_2 b_1 b_2 x y : List ℕ) → ShardsAgree a b → HoldsShard key a a_1 → HoldsShard key a a_2 → HoldsShard key b b_1 → HoldsShard key b b_2
     → UnitesBytes a_1 b_1 x → UnitesBytes b_2 a_2 y → x ≡ y
-bytes_commute a b a_1 a_2 b_1 b_2 x y agree a_1_is a_2_is b_1_is b_2_is one other =
+bytes_commute key a b a_1 a_2 b_1 b_2 x y agree a_1_is a_2_is b_1_is b_2_is one other =
     let c = united_shard a b in
     let d = united_shard b a in
-    (one_union a b c a_1 b_1 x agree a_1_is b_1_is (union_exists a b) one).bytes_are
-    ∙ ap (λ s. layout s None) (union-comm a b c d a_1_is.shard b_1_is.shard agree (union_exists a b) (union_exists b a))
-    ∙ sym (one_union b a d b_2 a_2 y (agree_turned a b agree) b_2_is a_2_is (union_exists b a) other).bytes_are
+    (held_union a b c key a_1 b_1 a_1_is b_1_is agree (union_exists a b) x one).0
+    ∙ ap (λ s. keyed_layout s key) (union-comm a b c d a_1_is.shard b_1_is.shard agree (union_exists a b) (union_exists b a))
+    ∙ sym (held_union b a d key b_2 a_2 b_2_is a_2_is (agree_turned a b agree) (union_exists b a) y other).0
 
-pub bytes_associate : (a b c : Shard) (a_1 a_2 b_1 b_2 c_1 c_2 ab bc left right : List ℕ) → ShardsAgree a b → ShardsAgree a c → ShardsAgree b c
-    → IsBytesOf a a_1 → IsBytesOf a a_2 → IsBytesOf b b_1 → IsBytesOf b b_2 → IsBytesOf c c_1 → IsBytesOf c c_2
+pub bytes_associate : (key : DataHash) (a b c : Shard) (a_1 a_2 b_1 b_2 c_1 c_2 ab bc left right : List ℕ) → ShardsAgree a b → ShardsAgree a c → ShardsAgree b c
+    → HoldsShard key a a_1 → HoldsShard key a a_2 → HoldsShard key b b_1 → HoldsShard key b b_2 → HoldsShard key c c_1 → HoldsShard key c c_2
     → UnitesBytes a_1 b_1 ab → UnitesBytes ab c_1 left → UnitesBytes b_2 c_2 bc → UnitesBytes a_2 bc right → left ≡ right
-bytes_associate a b c a_1 a_2 b_1 b_2 c_1 c_2 ab bc left right ab_agree ac_agree bc_agree a_1_is a_2_is b_1_is b_2_is c_1_is c_2_is ab_is left_is bc_is right_is =
+bytes_associate key a b c a_1 a_2 b_1 b_2 c_1 c_2 ab bc left right ab_agree ac_agree bc_agree a_1_is a_2_is b_1_is b_2_is c_1_is c_2_is ab_is left_is bc_is right_is =
     let d = united_shard a b in
     let k = united_shard b c in
-    let one = one_union a b d a_1 b_1 ab ab_agree a_1_is b_1_is (union_exists a b) ab_is in
-    let other = one_union b c k b_2 c_2 bc bc_agree b_2_is c_2_is (union_exists b c) bc_is in
+    let one = held_union a b d key a_1 b_1 a_1_is b_1_is ab_agree (union_exists a b) ab ab_is in
+    let other = held_union b c k key b_2 c_2 b_2_is c_2_is bc_agree (union_exists b c) bc bc_is in
     let d_agrees = union_agrees a b c d ac_agree bc_agree (union_exists a b) in
     let k_agrees = agree_turned k a (union_agrees b c a k (agree_turned a b ab_agree) (agree_turned a c ac_agree) (union_exists b c)) in
-    (one_union d c (united_shard d c) ab c_1 left d_agrees (bytes_without_expiry one) c_1_is (union_exists d c) left_is).bytes_are
-    ∙ ap (λ s. layout s None) (union-assoc a b c d k (united_shard d c) (united_shard a k) (union_exists a b) (union_exists d c) (union_exists b c) (union_exists a k))
-    ∙ sym (one_union a k (united_shard a k) a_2 bc right k_agrees a_2_is (bytes_without_expiry other) (union_exists a k) right_is).bytes_are
+    (held_union d c (united_shard d c) key ab c_1 one.1 c_1_is d_agrees (union_exists d c) left left_is).0
+    ∙ ap (λ s. keyed_layout s key) (union-assoc a b c d k (united_shard d c) (united_shard a k) (union_exists a b) (union_exists d c) (union_exists b c) (union_exists a k))
+    ∙ sym (held_union a k (united_shard a k) key a_2 bc a_2_is other.1 k_agrees (union_exists a k) right right_is).0
 
--- such bytes of a shard that is another
-same_union : (c a : Shard) (x : List ℕ) → c ≡ a → IsBytesWithoutExpiry c x → IsBytesWithoutExpiry a x
-same_union c a x same is = subst (λ s. IsBytesWithoutExpiry s x) same is
-
-pub bytes_repeat : (a : Shard) (a_1 a_2 x : List ℕ) → IsBytesOf a a_1 → IsBytesOf a a_2 → UnitesBytes a_1 a_2 x → IsBytesWithoutExpiry a x
-bytes_repeat a a_1 a_2 x a_1_is a_2_is unites =
+pub bytes_repeat : (key : DataHash) (a : Shard) (a_1 a_2 x : List ℕ) → HoldsShard key a a_1 → HoldsShard key a a_2 → UnitesBytes a_1 a_2 x → x ≡ keyed_layout a key
+bytes_repeat key a a_1 a_2 x a_1_is a_2_is unites =
     let c = united_shard a a in
-    same_union c a x (union-idem a c a_1_is.shard (union_exists a a)) (one_union a a c a_1 a_2 x (agree_itself a) a_1_is a_2_is (union_exists a a) unites)
+    (held_union a a c key a_1 a_2 a_1_is a_2_is (agree_itself a) (union_exists a a) x unites).0 ∙ ap (λ s. keyed_layout s key) (union-idem a c a_1_is.shard (union_exists a a))
 
-pub bytes_with_nothing : (a : Shard) (some none x : List ℕ) → IsBytesOf a some → IsBytesOf empty_shard none → UnitesBytes some none x → IsBytesWithoutExpiry a x
-bytes_with_nothing a some none x some_is none_is unites =
+pub bytes_with_nothing : (key : DataHash) (a : Shard) (some none x : List ℕ) → HoldsShard key a some → HoldsShard key empty_shard none → UnitesBytes some none x → x ≡ keyed_layout a key
+bytes_with_nothing key a some none x some_is none_is unites =
     let c = united_shard a empty_shard in
-    same_union c a x (union-empty a c (union_exists a empty_shard)) (one_union a empty_shard c some none x (agree_empty a) some_is none_is (union_exists a empty_shard) unites)
+    (held_union a empty_shard c key some none some_is none_is (agree_empty a) (union_exists a empty_shard) x unites).0
+    ∙ ap (λ s. keyed_layout s key) (union-empty a c (union_exists a empty_shard))
 
-pub bytes_of_nothing : (a : Shard) (some none x : List ℕ) → IsBytesOf a some → IsBytesOf empty_shard none → UnitesBytes none some x → IsBytesWithoutExpiry a x
-bytes_of_nothing a some none x some_is none_is unites =
+pub bytes_of_nothing : (key : DataHash) (a : Shard) (some none x : List ℕ) → HoldsShard key a some → HoldsShard key empty_shard none → UnitesBytes none some x → x ≡ keyed_layout a key
+bytes_of_nothing key a some none x some_is none_is unites =
     let c = united_shard empty_shard a in
-    same_union c a x (union-of_empty a c (union_exists empty_shard a))
-    (one_union empty_shard a c none some x (agree_turned a empty_shard (agree_empty a)) none_is some_is (union_exists empty_shard a) unites)
+    (held_union empty_shard a c key none some none_is some_is (agree_turned a empty_shard (agree_empty a)) (union_exists empty_shard a) x unites).0
+    ∙ ap (λ s. keyed_layout s key) (union-of_empty a c (union_exists empty_shard a))
 
 -- a difference of shards agrees with the first
 module _ (a b d : Shard) (is : IsDifference a b d) where
@@ -138,9 +127,9 @@ module _ (a b c d : Shard) (first : IsShard a) (second : IsShard b) (agree : Sha
     xorbs = λ q. union.xorbs q ∙ same_xorbs q (get a.xorbs q) (get b.xorbs q) refl refl ∙ ap (λ o. option_or o (get a.xorbs q)) (sym (is.xorbs q));
   }
 
-pub bytes_with_difference : (a b d : Shard) (a_1 a_2 b_1 d_1 x y : List ℕ) → ShardsAgree a b → HasPartsOf a b → IsDifference a b d
-    → IsBytesOf a a_1 → IsBytesOf a a_2 → IsBytesOf b b_1 → IsBytesOf d d_1 → UnitesBytes a_1 b_1 x → UnitesBytes a_2 d_1 y → x ≡ y
-bytes_with_difference a b d a_1 a_2 b_1 d_1 x y agree parts is a_1_is a_2_is b_1_is d_1_is one other =
+pub bytes_with_difference : (key : DataHash) (a b d : Shard) (a_1 a_2 b_1 d_1 x y : List ℕ) → ShardsAgree a b → HasPartsOf a b → IsDifference a b d
+    → HoldsShard key a a_1 → HoldsShard key a a_2 → HoldsShard key b b_1 → HoldsShard key d d_1 → UnitesBytes a_1 b_1 x → UnitesBytes a_2 d_1 y → x ≡ y
+bytes_with_difference key a b d a_1 a_2 b_1 d_1 x y agree parts is a_1_is a_2_is b_1_is d_1_is one other =
     let c = united_shard a b in
-    (one_union a b c a_1 b_1 x agree a_1_is b_1_is (union_exists a b) one).bytes_are
-    ∙ sym (one_union a d c a_2 d_1 y (difference_agrees a b d is) a_2_is d_1_is (union_of_difference a b c d a_1_is.shard b_1_is.shard agree parts is (union_exists a b)) other).bytes_are
+    let same = union_of_difference a b c d a_1_is.shard b_1_is.shard agree parts is (union_exists a b) in
+    (held_union a b c key a_1 b_1 a_1_is b_1_is agree (union_exists a b) x one).0 ∙ sym (held_union a d c key a_2 d_1 a_2_is d_1_is (difference_agrees a b d is) same y other).0

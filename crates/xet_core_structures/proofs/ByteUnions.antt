@@ -6,8 +6,8 @@ use Rattle.std.specs.FinMap.{get, values}
 use Rattle.std.proofs.lemmas.Bool.Decides.{nat_tests}
 use Rattle.std.proofs.lemmas.Nat.Bits.{bit_at-lt}
 use Rattle.xet_base.specs.declared.error.CoreError.{CoreError}
-use Rattle.xet_base.specs.declared.error.CoreError.TheVariants.{OutOfMemory}
-use Rattle.xet_base.specs.Errors.{IsInvalidShard}
+use Rattle.xet_base.specs.Hash.{IsHash}
+use Rattle.xet_base.specs.KeyedHash.{no_key}
 use Rattle.xet_base.specs.declared.merklehash.DataHash.{DataHash}
 use Rattle.xet_records.specs.declared.file_structs.MDBFileInfo.{MDBFileInfo}
 use Rattle.xet_records.specs.declared.record_reader.FormatVersion.{FormatVersion}
@@ -21,19 +21,21 @@ use Rattle.xet_shards.specs.declared.shard_format.info.MDBShardInfo.{MDBShardInf
 use Rattle.xet_shards.specs.Ends.{HasEnds}
 use Rattle.xet_shards.specs.Joining.{either_file}
 use Rattle.xet_shards.specs.declared.shard_format.form.Form.{Form}
-use Rattle.xet_shards.specs.Layout.{layout_of, layout, plain_form, plain_form_in, info_of}
+use Rattle.xet_shards.specs.Layout.{layout_of, plain_form, plain_form_in, info_of}
 use Rattle.xet_shards.specs.SetOperations.{IsUnion, ShardsAgree, HasFewRows}
 use Rattle.xet_shards.specs.Shard.{Shard, IsShard}
-use Rattle.xet_shards.specs.WrittenShard.{IsBytesOf}
+use Rattle.xet_shards.specs.WrittenShard.{HasFilesIn, IsBytesOf}
+use Rattle.xet_shards.proofs.AgreeingJoins.{union_is_shard}
 use Rattle.xet_shards.proofs.EndsUnique.{only_info, ends_of_layout, not_unsupported, not_too_short}
 use Rattle.xet_shards.proofs.Overlays.{union_unique}
 use Rattle.xet_shards.proofs.Sections.{files_fit, files_fit_in, xorbs_fit}
 use Rattle.xet_shards.proofs.Unions.{IsKnown, known, same_either}
 use Rattle.xet_shards.proofs.Widths.{fits_in_form}
 use Rattle.xet_core_structures.specs.ByteUnion.{mixed, IsUnitedFile, IsEitherFile, IsByteUnion}
-use Rattle.xet_core_structures.specs.ByteResults.{keyed_layout, key_of, HaveNoUnion, UnionRefusal, UnitesBytes, LoadRefusal, BytesRefusal}
+use Rattle.xet_core_structures.specs.ByteResults.{keyed_form, keyed_layout, key_of, HaveNoUnion, UnionRefusal, UnitesBytes, LoadRefusal, BytesRefusal}
 use Rattle.xet_core_structures.specs.ExportTrees.{FitsForm}
-use Rattle.xet_core_structures.specs.Held.{Holds}
+use Rattle.xet_core_structures.specs.Held.{Holds, HoldsShard}
+use Rattle.xet_core_structures.specs.MergeTrees.{MergeRefused}
 use Rattle.xet_core_structures.proofs.Held.{held_once, held_whole, held_well, holds_in_form}
 
 -- whether one set of bits includes another is decided
@@ -175,63 +177,77 @@ module _ (s : Shard) (form : Form) (shard : IsShard s) (fits : FitsForm form) wh
       ends_of_layout (values s.files) (values s.xorbs) form
       (fits_in_form (values s.files) (values s.xorbs) form (files_fit s shard) (xorbs_fit s shard) fits.key fits.creation fits.expiry)
 
+  -- the bytes of a shard in a form hold it, under the form's key
+  held_in_form : FitsSection (file_records_in form.version) (values s.files) → HoldsShard form.key s (layout_in s form)
+  held_in_form files = record { shard = shard; info = info_in s form; ends = ends_in_form; under = refl; holds = holds_in_form s form shard files }
+
+module _ (key : DataHash) (s : Shard) (bytes : List ℕ) (held : HoldsShard key s bytes) where
   -- they have no other header and footer
-  info_found : (i : MDBShardInfo) → HasEnds (layout_in s form) i → i ≡ info_in s form
-  info_found i ends = only_info (layout_in s form) i (info_in s form) ends ends_in_form
+  info_found : (i : MDBShardInfo) → HasEnds bytes i → i ≡ held.info
+  info_found i ends = only_info bytes i held.info ends held.ends
 
-  loads_well : (e : CoreError) → ¬ LoadRefusal (layout_in s form) e
-  loads_well e (inl (is, unsupported)) = not_unsupported (layout_in s form) (info_in s form) ends_in_form unsupported
-  loads_well e (inr (is, short)) = not_too_short (layout_in s form) (info_in s form) ends_in_form short
+  loads_well : (e : CoreError) → ¬ LoadRefusal bytes e
+  loads_well e (inl (is, unsupported)) = not_unsupported bytes held.info held.ends unsupported
+  loads_well e (inr (is, short)) = not_too_short bytes held.info held.ends short
 
--- the union of the bytes of two shards that agree, under one key
-module _ (a b c : Shard) (f g : Form) (first : IsShard a) (second : IsShard b) (f_files : FitsSection (file_records_in f.version) (values a.files)) (g_files : FitsSection (file_records_in g.version) (values b.files))
-    (f_fits : FitsForm f) (g_fits : FitsForm g) (same_key : f.key ≡ g.key)
-    (agree : ShardsAgree a b) (union : IsUnion a b c) where
-  pub form_union : (out : List ℕ) → UnitesBytes (layout_in a f) (layout_in b g) out → (out ≡ keyed_layout c f.key) × HasFewRows c
-  form_union out (i, j, d, i_ends, j_ends, have, is) =
-      let i_is = info_found a f first f_fits i i_ends in
-      let j_is = info_found b g second g_fits j j_ends in
-      let a_is = held_once (layout_in a f) (info_in a f) a (holds_in_form a f first f_files) have.first (subst (λ k. Holds (layout_in a f) k have.first) i_is have.holds_first) in
-      let b_is = held_once (layout_in b g) (info_in b g) b (holds_in_form b g second g_files) have.second (subst (λ k. Holds (layout_in b g) k have.second) j_is have.holds_second) in
+  fits_key : IsHash key
+  fits_key = subst IsHash held.under held.ends.footer_widths.key
+
+-- the union of bytes that hold two shards that agree, under one key
+module _ (a b c : Shard) (key : DataHash) (x y : List ℕ) (one : HoldsShard key a x) (other : HoldsShard key b y) (agree : ShardsAgree a b) (union : IsUnion a b c) where
+  union_found : (out : List ℕ) → UnitesBytes x y out → (out ≡ keyed_layout c key) × HasFewRows c
+  union_found out (i, j, d, i_ends, j_ends, have, is) =
+      let i_is = info_found key a x one i i_ends in
+      let j_is = info_found key b y other j j_ends in
+      let a_is = held_once x one.info a one.holds have.first (subst (λ k. Holds x k have.first) i_is have.holds_first) in
+      let b_is = held_once y other.info b other.holds have.second (subst (λ k. Holds y k have.second) j_is have.holds_second) in
       let bytes : IsByteUnion a b d = subst (λ p. p) (λ k. IsByteUnion (a_is k) (b_is k) d) have.result in
-      let d_is = union_unique a b d c (byte_union_is_union a b d first second agree bytes) union in
-      (is ∙ (λ k. keyed_layout (d_is k) (key_of (i_is k))), subst HasFewRows d_is have.rows)
+      let d_is = union_unique a b d c (byte_union_is_union a b d one.shard other.shard agree bytes) union in
+      (is ∙ (λ k. keyed_layout (d_is k) (key_of (i_is k))) ∙ ap (keyed_layout c) one.under, subst HasFewRows d_is have.rows)
 
-  no_union : HasFewRows c → ¬ HaveNoUnion (layout_in a f) (info_in a f) (layout_in b g) (info_in b g)
-  no_union few (inl files) = files.none a.files b.files c.files (holds_in_form a f first f_files).files (holds_in_form b g second g_files).files (union_is_byte_union a b c first second agree union).files few.files
-  no_union few (inr xorbs) = xorbs.none a.xorbs b.xorbs c.xorbs (holds_in_form a f first f_files).xorbs (holds_in_form b g second g_files).xorbs (union_is_byte_union a b c first second agree union).xorbs few.xorbs
+  -- it is the layout of their union under the key, and holds it
+  pub held_union : (out : List ℕ) → UnitesBytes x y out → (out ≡ keyed_layout c key) × HoldsShard key c out
+  held_union out unites =
+      let found = union_found out unites in
+      let shard = union_is_shard a b c one.shard other.shard agree union found.1 in
+      let fits : FitsForm (keyed_form key) = record { key = fits_key key a x one; creation = omega arith; expiry = omega arith } in
+      (found.0, subst (HoldsShard key c) (sym found.0) (held_in_form c (keyed_form key) shard fits (files_fit c shard)))
 
-  refused : (err : CoreError) → UnionRefusal (layout_in a f) (info_in a f) (layout_in b g) (info_in b g) err → (err ≡ OutOfMemory) ⊎ (IsInvalidShard err × (¬ HasFewRows c))
-  refused err (inl (is, differ)) = absurd (differ same_key)
+  no_union : HasFewRows c → ¬ HaveNoUnion x one.info y other.info
+  no_union few (inl files) = files.none a.files b.files c.files one.holds.files other.holds.files (union_is_byte_union a b c one.shard other.shard agree union).files few.files
+  no_union few (inr xorbs) = xorbs.none a.xorbs b.xorbs c.xorbs one.holds.xorbs other.holds.xorbs (union_is_byte_union a b c one.shard other.shard agree union).xorbs few.xorbs
+
+  refused : (err : CoreError) → UnionRefusal x one.info y other.info err → MergeRefused c err
+  refused err (inl (is, differ)) = absurd (differ (one.under ∙ sym other.under))
   refused err (inr (same, inl (inl no_memory))) = inl no_memory
-  refused err (inr (same, inl (inr (inl (is, inl cut))))) = absurd (held_whole (layout_in a f) (info_in a f) a (holds_in_form a f first f_files) cut)
-  refused err (inr (same, inl (inr (inl (is, inr cut))))) = absurd (held_whole (layout_in b g) (info_in b g) b (holds_in_form b g second g_files) cut)
-  refused err (inr (same, inl (inr (inr (is, inl bad))))) = absurd (held_well (layout_in a f) (info_in a f) a (holds_in_form a f first f_files) bad)
-  refused err (inr (same, inl (inr (inr (is, inr bad))))) = absurd (held_well (layout_in b g) (info_in b g) b (holds_in_form b g second g_files) bad)
+  refused err (inr (same, inl (inr (inl (is, inl cut))))) = absurd (held_whole x one.info a one.holds cut)
+  refused err (inr (same, inl (inr (inl (is, inr cut))))) = absurd (held_whole y other.info b other.holds cut)
+  refused err (inr (same, inl (inr (inr (is, inl bad))))) = absurd (held_well x one.info a one.holds bad)
+  refused err (inr (same, inl (inr (inr (is, inr bad))))) = absurd (held_well y other.info b other.holds bad)
   refused err (inr (same, inr (is, none))) = inr (is, λ few. no_union few none)
 
-  pub refused_union : (err : CoreError) → BytesRefusal (layout_in a f) (layout_in b g) err → (err ≡ OutOfMemory) ⊎ (IsInvalidShard err × (¬ HasFewRows c))
-  refused_union err (inl load) = absurd (loads_well a f first f_fits err load)
-  refused_union err (inr (inl (i, i_ends, load))) = absurd (loads_well b g second g_fits err load)
+  pub refused_union : (err : CoreError) → BytesRefusal x y err → MergeRefused c err
+  refused_union err (inl load) = absurd (loads_well key a x one err load)
+  refused_union err (inr (inl (i, i_ends, load))) = absurd (loads_well key b y other err load)
   refused_union err (inr (inr (i, j, i_ends, j_ends, why))) =
-      refused err (subst (λ p. p) (λ k. UnionRefusal (layout_in a f) (info_found a f first f_fits i i_ends k) (layout_in b g) (info_found b g second g_fits j j_ends k) err) why)
+      refused err (subst (λ p. p) (λ k. UnionRefusal x (info_found key a x one i i_ends k) y (info_found key b y other j j_ends k) err) why)
 
--- the same without a key
+-- the bytes of a shard hold it, in any form whose version has its files
+pub form_held : (s : Shard) (form : Form) → IsShard s → HasFilesIn form.version s → FitsForm form → HoldsShard form.key s (layout_in s form)
+form_held s form shard has fits = held_in_form s form shard fits (files_fit_in form.version s shard has)
+
+-- those that are written without options hold it without a key
 expiry_fits : (expiry : Option ℕ) → IfSome expiry (λ e. e < 2 ^ 64) → (plain_form expiry).expiry < 2 ^ 64
 expiry_fits None fits = omega arith
 expiry_fits (Some e) fits = fits
 
-pub plain_fits : (version : FormatVersion) (expiry : Option ℕ) → IfSome expiry (λ e. e < 2 ^ 64) → FitsForm (plain_form_in version expiry)
+plain_fits : (version : FormatVersion) (expiry : Option ℕ) → IfSome expiry (λ e. e < 2 ^ 64) → FitsForm (plain_form_in version expiry)
 plain_fits version expiry fits = record {
   key = record { word0 = omega arith; word1 = omega arith; word2 = omega arith; word3 = omega arith };
   creation = omega arith;
   expiry = expiry_fits expiry fits;
 }
 
--- of bytes of either version each
-pub written_union : (a b c : Shard) (x y : List ℕ) → IsBytesOf a x → IsBytesOf b y → ShardsAgree a b → IsUnion a b c → (out : List ℕ) → UnitesBytes x y out → (out ≡ layout c None) × HasFewRows c
-written_union a b c x y one other agree union out unites =
-    form_union a b c (plain_form_in one.version one.expiry) (plain_form_in other.version other.expiry) one.shard other.shard
-    (files_fit_in one.version a one.shard one.files) (files_fit_in other.version b other.shard other.files)
-    (plain_fits one.version one.expiry one.expiry_fits) (plain_fits other.version other.expiry other.expiry_fits) refl agree union out
-    (subst (λ p. p) (λ k. UnitesBytes (one.bytes_are k) (other.bytes_are k) out) unites)
+pub written_held : (s : Shard) (bytes : List ℕ) → IsBytesOf s bytes → HoldsShard no_key s bytes
+written_held s bytes is =
+    subst (HoldsShard no_key s) (sym is.bytes_are) (form_held s (plain_form_in is.version is.expiry) is.shard is.files (plain_fits is.version is.expiry is.expiry_fits))

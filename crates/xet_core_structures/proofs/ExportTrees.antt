@@ -1,9 +1,9 @@
 -- Trees of unions over exports of shards write the export of their join, and keep runs of chunks.
 use Rattle.std.proofs.Common.{◌≡◌, inl, inr, ℕ, ◌<◌, ◌≤◌, Bool, true, List, [], ◌∷◌, ◌++◌, ◌+◌, length, map, flat_map, get_or, drop, Option, Some, refl, sym, ap, ◌∙◌, subst, arith, append-nil}
-use Rattle.xet_shards.specs.InForm.{FitsSection}
 use Rattle.xet_shards.proofs.Loading.{header_of, one_version}
 use Rattle.xet_shards.specs.Ends.{HasHeader}
-use Rattle.xet_records.specs.declared.record_reader.FormatVersion.TheVariants.{V3}
+use Rattle.xet_records.specs.declared.record_reader.FormatVersion.{FormatVersion}
+use Rattle.xet_records.specs.declared.record_reader.FormatVersion.TheVariants.{V2, V3}
 use Rattle.std.specs.Prelude.{◌↔◌, Contains, option_map}
 use Rattle.std.specs.FinMap.{FinMap, get, entries, values, get-entries}
 use Rattle.std.specs.Io.KnownBytes.{Appends}
@@ -30,7 +30,7 @@ use Rattle.xet_shards.specs.declared.shard_format.form.Form.{Form}
 use Rattle.xet_shards.specs.ChunkLookup.{ChunkLocation}
 use Rattle.xet_shards.specs.ChunkQuery.{run_at, run_length}
 use Rattle.xet_shards.specs.Layout.{if_in, layout_of, header_value, shard_header_bytes, shard_footer_bytes, offsets_of, sums_of, footer_value, plain_form_in, layout_in as layout_in_version}
-use Rattle.xet_shards.specs.WrittenShard.{IsBytesOf}
+use Rattle.xet_shards.specs.WrittenShard.{HasFilesIn, IsBytesOf}
 use Rattle.xet_shards.specs.Joins.{IsJoinOf, AgreePairwise}
 use Rattle.xet_shards.specs.KeyedExport.{exported, Exports, ExportsWith, export_form, xorbs_after, keyed_chunk, keyed_xorb, keyed_xorbs}
 use Rattle.xet_shards.specs.KeyedShards.{keyed_shard}
@@ -52,10 +52,11 @@ use Rattle.xet_shards.proofs.Sums.{all_of_map}
 use Rattle.xet_core_structures.specs.declared.set_operations.MergePlan.{MergePlan}
 use Rattle.xet_core_structures.specs.ByteResults.{keyed_form, keyed_layout}
 use Rattle.xet_core_structures.specs.ExportTrees.{IsExportOf, IsMergeOfExports, run_under}
-use Rattle.xet_core_structures.specs.MergeTrees.{TreeWrites, TreeRefusal, IsMergeOf, MergeRefused}
-use Rattle.xet_core_structures.proofs.ByteUnions.{layout_in}
+use Rattle.xet_core_structures.specs.Held.{HoldsShard}
+use Rattle.xet_core_structures.specs.MergeTrees.{TreeWrites, TreeRefusal, IsMergeUnder, MergeRefused}
+use Rattle.xet_core_structures.proofs.ByteUnions.{form_held}
 use Rattle.xet_core_structures.proofs.MappedJoins.{PassesToJoins, mapped_agree, mapped_merge}
-use Rattle.xet_core_structures.proofs.MergeTrees.{IsLayout, keyed_tree, tree_refused}
+use Rattle.xet_core_structures.proofs.MergeTrees.{keyed_tree, tree_refused}
 
 -- the values of a map are what it has under its keys
 at_value : {X : Type 0} (m : FinMap hash_cmp X) (q : DataHash) (x : X) → get m q ≡ Some x → Contains (values m) x
@@ -83,17 +84,18 @@ pub keyed_leaves : (key : DataHash) (shards : List Shard) (join : Shard) → Agr
     → AgreePairwise (Contains (map (keyed_shard key) shards)) × IsJoinOf (Contains (map (keyed_shard key) shards)) (keyed_shard key join)
 keyed_leaves key shards join agree is_join = (mapped_agree (keyed_shard key) (keys_pass key) shards agree, keyed_join key shards join is_join)
 
-export_layout : (key : DataHash) (s : Shard) (bytes : List ℕ) → IsShard s → IsExportOf true key s bytes → IsLayout key (keyed_shard key s) bytes
-export_layout key s bytes shard export =
-    let keyed = keyed_is_shard key s shard in
-    record {
-      form = export.form;
-      shard = keyed;
-      under = export.is_form.under;
-      files = subst (λ v. FitsSection (file_records_in v) (values (keyed_shard key s).files)) (sym export.is_form.version) (files_fit (keyed_shard key s) keyed);
-      fits = export.is_form.fits;
-      bytes = export.bytes_are ∙ exported_is s export.form export.is_form.files ∙ (λ k. layout_in (keyed_shard (export.is_form.under k) s) export.form);
-    }
+keyed_files : (key : DataHash) (s : Shard) (version : FormatVersion) → HasFilesIn version s → HasFilesIn version (keyed_shard key s)
+keyed_files key s V2 has = has
+keyed_files key s V3 has = tt
+
+pub export_held : (key : DataHash) (s : Shard) (bytes : List ℕ) → IsShard s → IsExportOf true key s bytes → HoldsShard key (keyed_shard key s) bytes
+export_held key s bytes shard export =
+    let form = export.form in
+    let here = export.is_form.under in
+    let keyed = keyed_is_shard form.key s shard in
+    let held = form_held (keyed_shard form.key s) form keyed (keyed_files form.key s form.version export.files) export.is_form.fits in
+    let bytes_are = export.bytes_are ∙ exported_is s form export.is_form.files in
+    subst (λ k. HoldsShard k (keyed_shard k s) bytes) here (subst (HoldsShard form.key (keyed_shard form.key s)) (sym bytes_are) held)
 
 module _ (key : DataHash) (inputs : List (List ℕ)) (plan : MergePlan) (shards : List Shard) (join : Shard) (merge : IsMergeOfExports true key inputs plan shards join) where
   few_keyed : HasFewRows join → HasFewRows (keyed_shard key join)
@@ -102,17 +104,17 @@ module _ (key : DataHash) (inputs : List (List ℕ)) (plan : MergePlan) (shards 
     xorbs = omega (arith, ap (total_rows xorb_records) (values-keyed key join), keyed_total key (values join.xorbs), few.xorbs);
   }
 
-  layouts : IsMergeOf (IsLayout key) inputs plan (map (keyed_shard key) shards) (keyed_shard key join)
-  layouts = mapped_merge (keyed_shard key) (keys_pass key) (IsExportOf true key) (IsLayout key) (export_layout key) inputs plan shards join merge
+  held : IsMergeUnder key inputs plan (map (keyed_shard key) shards) (keyed_shard key join)
+  held = mapped_merge (keyed_shard key) (keys_pass key) (IsExportOf true key) (HoldsShard key) (export_held key) inputs plan shards join merge
 
   pub tree_of_exports : (out : List ℕ) → TreeWrites inputs plan out → out ≡ keyed_layout (keyed_shard key join) key
-  tree_of_exports out writes = (keyed_tree inputs key plan (map (keyed_shard key) shards) (keyed_shard key join) out layouts writes).0
+  tree_of_exports out writes = (keyed_tree inputs key plan (map (keyed_shard key) shards) (keyed_shard key join) out held writes).0
 
   pub export_of_join : (out : List ℕ) → TreeWrites inputs plan out → out ≡ exported (values join.files) (values join.xorbs) (export_form key 0 18446744073709551615 true true true)
   export_of_join out writes = tree_of_exports out writes ∙ sym (exported_is join (keyed_form key) refl)
 
   pub exports_refused : (e : CoreError) → TreeRefusal inputs plan e → MergeRefused join e
-  exports_refused e refusal = elim (tree_refused inputs key plan (map (keyed_shard key) shards) (keyed_shard key join) e layouts.inputs_are layouts.agree layouts.is_join refusal) [
+  exports_refused e refusal = elim (tree_refused inputs key plan (map (keyed_shard key) shards) (keyed_shard key join) e held.inputs_are held.agree held.is_join refusal) [
     | inl no_memory ↦ inl no_memory
     | inr many ↦ inr (many.0, λ few. many.1 (few_keyed few))
   ]

@@ -1,7 +1,6 @@
--- A tree of unions over the bytes of shards that agree pairwise, in forms with one key, writes the layout of their join
--- under this key.
-use Rattle.std.proofs.Common.{◌≡◌, inl, inr, ℕ, List, [], ◌∷◌, ◌++◌, Ok, Err, refl, sym, ap, ◌∙◌, subst, arith}
-use Rattle.std.specs.FinMap.{values}
+-- A tree of unions over bytes that hold shards that agree pairwise, under one key, writes the layout of their join under
+-- this key.
+use Rattle.std.proofs.Common.{◌≡◌, inl, inr, ℕ, List, [], ◌∷◌, ◌++◌, Ok, Err, sym, ◌∙◌, subst}
 use Rattle.std.specs.List.{AllZip}
 use Rattle.std.specs.Prelude.{Contains, MatchResult}
 use Rattle.std.specs.declared.result.Result.{Result}
@@ -10,63 +9,30 @@ use Rattle.std.proofs.lemmas.List.Elements.{Contains-append_left, Contains-appen
 use Rattle.std.proofs.lemmas.Option.{same_Some, none-some, slice_get_past}
 use Rattle.xet_base.specs.declared.error.CoreError.{CoreError}
 use Rattle.xet_base.specs.declared.merklehash.DataHash.{DataHash}
-use Rattle.xet_base.specs.Hash.{IsHash}
 use Rattle.xet_base.specs.KeyedHash.{no_key}
-use Rattle.xet_records.specs.FileRecord.{file_records_in}
-use Rattle.xet_shards.specs.declared.shard_format.form.Form.{Form}
-use Rattle.xet_shards.specs.InForm.{FitsSection}
-use Rattle.xet_shards.specs.Layout.{plain_form_in}
 use Rattle.xet_shards.specs.Joins.{IsJoinOf, AgreePairwise}
 use Rattle.xet_shards.specs.SetOperations.{HasFewRows}
-use Rattle.xet_shards.specs.Shard.{Shard, IsShard}
+use Rattle.xet_shards.specs.Shard.{Shard}
 use Rattle.xet_shards.specs.WrittenShard.{IsBytesOf, IsBytesWithoutExpiry}
 use Rattle.xet_shards.proofs.Joins.{join-unique, join-one, follows_parts}
-use Rattle.xet_shards.proofs.AgreeingJoins.{joins_exist, lists_agree, union-of_joins, agree_left, agree_right, union_is_shard, fewer_if_more}
-use Rattle.xet_shards.proofs.Sections.{files_fit, files_fit_in}
+use Rattle.xet_shards.proofs.AgreeingJoins.{joins_exist, lists_agree, union-of_joins, agree_left, agree_right, fewer_if_more}
 use Rattle.xet_core_structures.specs.declared.set_operations.MergePlan.{MergePlan}
 use Rattle.xet_core_structures.specs.declared.set_operations.MergePlan.TheVariants.{Leaf, Both'}
-use Rattle.xet_core_structures.specs.ByteResults.{keyed_form, keyed_layout, UnitesBytes, BytesRefusal}
-use Rattle.xet_core_structures.specs.ExportTrees.{FitsForm}
-use Rattle.xet_core_structures.specs.MergeTrees.{leaves, HasUnion, TreeWrites, TreeRefusal, InputIs, IsMergeOf, IsMerge, MergeRefused}
-use Rattle.xet_core_structures.proofs.ByteUnions.{layout_in, form_union, refused_union, plain_fits}
+use Rattle.xet_core_structures.specs.ByteResults.{keyed_layout, UnitesBytes, BytesRefusal}
+use Rattle.xet_core_structures.specs.Held.{HoldsShard}
+use Rattle.xet_core_structures.specs.MergeTrees.{leaves, HasUnion, TreeWrites, TreeRefusal, InputIs, IsMergeUnder, IsMerge, IsMergeOfWritten, MergeRefused}
+use Rattle.xet_core_structures.proofs.ByteUnions.{held_union, refused_union, written_held}
 use Rattle.xet_core_structures.proofs.Zipped.{zipped_parts, zipped_as}
-
--- bytes are those of a shard in a form with this key
-pub record IsLayout (key : DataHash) (c : Shard) (out : List ℕ) : Type 0 where
-  pub form : Form
-  pub shard : IsShard c
-  pub under : form.key ≡ key
-  pub files : FitsSection (file_records_in form.version) (values c.files)
-  pub fits : FitsForm form
-  pub bytes : out ≡ layout_in c form
 
 module _ (inputs : List (List ℕ)) (key : DataHash) where
   -- the inputs at all leaves are
   abbrev pub AreInputs : MergePlan → List Shard → Type 0
-  AreInputs plan shards = AllZip (λ i s. InputIs inputs (IsLayout key s) i) (leaves plan) shards
+  AreInputs plan shards = AllZip (λ i s. InputIs inputs (HoldsShard key s) i) (leaves plan) shards
 
   -- the shards at the leaves of both sides of a union
-  abbrev parts_of : (left right : MergePlan) (shards : List Shard) → AllZip (λ i s. InputIs inputs (IsLayout key s) i) (leaves left ++ leaves right) shards
+  abbrev parts_of : (left right : MergePlan) (shards : List Shard) → AllZip (λ i s. InputIs inputs (HoldsShard key s) i) (leaves left ++ leaves right) shards
       → (xs ys : List Shard) × (xs ++ ys ≡ shards) × AreInputs left xs × AreInputs right ys
-  parts_of left right shards are = zipped_parts (λ i s. InputIs inputs (IsLayout key s) i) (leaves left) (leaves right) shards are
-
-  -- the key is that of the first leaf
-  key_fits : (plan : MergePlan) (shards : List Shard) → AreInputs plan shards → IsHash key
-  key_fits (Leaf i) [] are = absurd are
-  key_fits (Leaf i) (s ∷ ss) ((bytes, at, is), rest) = subst IsHash is.under is.fits.key
-  key_fits (Both' p left q right) shards are =
-      let parts = parts_of left right shards are in
-      key_fits left parts.0 parts.3
-
-  in_keyed_form : IsHash key → (c : Shard) → IsShard c → (out : List ℕ) → out ≡ keyed_layout c key → IsLayout key c out
-  in_keyed_form fits c shard out is = record {
-    form = keyed_form key;
-    shard = shard;
-    under = refl;
-    files = files_fit c shard;
-    fits = record { key = fits; creation = omega arith; expiry = omega arith };
-    bytes = is;
-  }
+  parts_of left right shards are = zipped_parts (λ i s. InputIs inputs (HoldsShard key s) i) (leaves left) (leaves right) shards are
 
   -- what holds at both sides of a union
   module _ (xs ys : List Shard) (c : Shard) (agree : AgreePairwise (Contains (xs ++ ys))) (join : IsJoinOf (Contains (xs ++ ys)) c) where
@@ -83,31 +49,24 @@ module _ (inputs : List (List ℕ)) (key : DataHash) where
     few_right a one = fewer_if_more (Contains ys) (Contains (xs ++ ys)) a c one join (λ s. Contains-append_right xs ys s)
 
     -- the union of what both sides write
-    both_written : (a b : Shard) (x y out : List ℕ) → IsJoinOf (Contains xs) a → IsJoinOf (Contains ys) b → IsLayout key a x → IsLayout key b y → UnitesBytes x y out
-        → (out ≡ keyed_layout c key) × IsShard c
-    both_written a b x y out one other first second unites =
-        let union = union-of_joins xs ys a b one other agree c join in
-        let pair = lists_agree xs ys a b one other agree in
-        let written = form_union a b c first.form second.form first.shard second.shard first.files second.files first.fits second.fits (first.under ∙ sym second.under) pair union out
-        (subst (λ p. p) (λ k. UnitesBytes (first.bytes k) (second.bytes k) out) unites) in
-        (written.0 ∙ ap (keyed_layout c) first.under, union_is_shard a b c first.shard second.shard pair union written.1)
+    both_written : (a b : Shard) (x y out : List ℕ) → IsJoinOf (Contains xs) a → IsJoinOf (Contains ys) b → HoldsShard key a x → HoldsShard key b y → UnitesBytes x y out
+        → (out ≡ keyed_layout c key) × HoldsShard key c out
+    both_written a b x y out one other first second unites = held_union a b c key x y first second (lists_agree xs ys a b one other agree) (union-of_joins xs ys a b one other agree c join) out unites
 
-    both_refused : (a b : Shard) (x y : List ℕ) (err : CoreError) → IsJoinOf (Contains xs) a → IsJoinOf (Contains ys) b → IsLayout key a x → IsLayout key b y → BytesRefusal x y err
+    both_refused : (a b : Shard) (x y : List ℕ) (err : CoreError) → IsJoinOf (Contains xs) a → IsJoinOf (Contains ys) b → HoldsShard key a x → HoldsShard key b y → BytesRefusal x y err
         → MergeRefused c err
     both_refused a b x y err one other first second refusal =
-        refused_union a b c first.form second.form first.shard second.shard first.files second.files first.fits second.fits (first.under ∙ sym second.under) (lists_agree xs ys a b one other agree)
-        (union-of_joins xs ys a b one other agree c join) err
-        (subst (λ p. p) (λ k. BytesRefusal (first.bytes k) (second.bytes k) err) refusal)
+        refused_union a b c key x y first second (lists_agree xs ys a b one other agree) (union-of_joins xs ys a b one other agree c join) err refusal
 
-  -- what a tree writes is the layout of the join of its leaves under the key, without timestamps unless it is a leaf
+  -- what a tree writes holds the join of its leaves under the key, and is the layout of it unless the tree is a leaf
   tree_written : (plan : MergePlan) (shards : List Shard) (c : Shard) (out : List ℕ) → AreInputs plan shards → AgreePairwise (Contains shards) → IsJoinOf (Contains shards) c
-      → TreeWrites inputs plan out → IsLayout key c out × (HasUnion plan → out ≡ keyed_layout c key)
+      → TreeWrites inputs plan out → HoldsShard key c out × (HasUnion plan → out ≡ keyed_layout c key)
   tree_written (Leaf i) [] c out are agree join writes = absurd are
   tree_written (Leaf i) (s ∷ t ∷ ss) c out (here, rest) agree join writes = absurd rest
   tree_written (Leaf i) (s ∷ []) c out ((bytes, at, here), rest) agree join writes =
       let same_shard = join-unique (Contains (s ∷ [])) s c (join-one s (follows_parts s here.shard)) join in
       let same_bytes = same_Some bytes out (sym at ∙ writes) in
-      (subst (λ p. p) (λ k. IsLayout key (same_shard k) (same_bytes k)) here, λ none. absurd none)
+      (subst (λ p. p) (λ k. HoldsShard key (same_shard k) (same_bytes k)) here, λ none. absurd none)
   tree_written (Both' p left q right) shards c out are agree join (x, y, x_written, y_written, unites) =
       let parts = parts_of left right shards are in
       let xs = parts.0 in
@@ -119,7 +78,7 @@ module _ (inputs : List (List ℕ)) (key : DataHash) where
       let first = tree_written left xs l.0 x parts.3 (agree_l xs ys c agree join) l.1 x_written in
       let second = tree_written right ys r.0 y parts.4 (agree_r xs ys c agree join) r.1 y_written in
       let written = both_written xs ys c agree join l.0 r.0 x y out l.1 r.1 first.0 second.0 unites in
-      (in_keyed_form (key_fits left xs parts.3) c written.1 out written.0, λ union. written.0)
+      (written.1, λ union. written.0)
 
   -- it refuses only if an allocation fails or the join has too many rows
   pub tree_refused : (plan : MergePlan) (shards : List Shard) (c : Shard) (err : CoreError) → AreInputs plan shards → AgreePairwise (Contains shards) → IsJoinOf (Contains shards) c
@@ -161,35 +120,30 @@ module _ (inputs : List (List ℕ)) (key : DataHash) where
       let second = tree_written right ys r.0 y parts.4 (agree_r xs ys c agree join) r.1 y_written in
       both_refused xs ys c agree join l.0 r.0 x y err l.1 r.1 first.0 second.0 refusal
 
-  pub keyed_tree : (plan : MergePlan) (shards : List Shard) (c : Shard) (out : List ℕ) → IsMergeOf (IsLayout key) inputs plan shards c → TreeWrites inputs plan out
-      → (out ≡ keyed_layout c key) × IsShard c
+  pub keyed_tree : (plan : MergePlan) (shards : List Shard) (c : Shard) (out : List ℕ) → IsMergeUnder key inputs plan shards c → TreeWrites inputs plan out
+      → (out ≡ keyed_layout c key) × HoldsShard key c out
   keyed_tree plan shards c out merge writes =
       let found = tree_written plan shards c out merge.inputs_are merge.agree merge.is_join writes in
-      (found.1 merge.union, found.0.shard)
+      (found.1 merge.union, found.0)
 
--- the one byte string, without a key
-plain_layout : (s : Shard) (bytes : List ℕ) → IsBytesOf s bytes → IsLayout no_key s bytes
-plain_layout s bytes is = record {
-  form = plain_form_in is.version is.expiry;
-  shard = is.shard;
-  under = refl;
-  files = files_fit_in is.version s is.shard is.files;
-  fits = plain_fits is.version is.expiry is.expiry_fits;
-  bytes = is.bytes_are;
+-- the bytes of shards, in either version, are such inputs
+pub merge_of_written : (inputs : List (List ℕ)) (plan : MergePlan) (shards : List Shard) (c : Shard) → IsMergeOfWritten inputs plan shards c → IsMerge inputs plan shards c
+merge_of_written inputs plan shards c merge = record {
+  union = merge.union;
+  inputs_are = zipped_as (λ i s. InputIs inputs (IsBytesOf s) i) (λ i s. InputIs inputs (HoldsShard no_key s) i)
+      (λ i s input. (input.0, input.1, written_held s input.0 input.2)) (leaves plan) shards merge.inputs_are;
+  agree = merge.agree;
+  is_join = merge.is_join;
 }
 
+-- the one byte string, without a key
 module _ (inputs : List (List ℕ)) (plan : MergePlan) (shards : List Shard) (c : Shard) (merge : IsMerge inputs plan shards c) where
-  plain_inputs : AreInputs inputs no_key plan shards
-  plain_inputs =
-      zipped_as (λ i s. InputIs inputs (IsBytesOf s) i) (λ i s. InputIs inputs (IsLayout no_key s) i)
-      (λ i s input. (input.0, input.1, plain_layout s input.0 input.2)) (leaves plan) shards merge.inputs_are
-
   pub one_layout : (out : List ℕ) → TreeWrites inputs plan out → IsBytesWithoutExpiry c out
   one_layout out writes =
-      let found = tree_written inputs no_key plan shards c out plain_inputs merge.agree merge.is_join writes in
-      record { shard = found.0.shard; bytes_are = found.1 merge.union }
+      let found = keyed_tree inputs no_key plan shards c out merge writes in
+      record { shard = found.1.shard; bytes_are = found.0 }
 
   pub one_string : {Z : Type 0} (result : Result (Vec ℕ Z) CoreError) → MatchResult result (λ bytes. TreeWrites inputs plan bytes.items) (TreeRefusal inputs plan)
       → MatchResult result (λ bytes. IsBytesWithoutExpiry c bytes.items) (MergeRefused c)
   one_string (Ok bytes) writes = one_layout bytes.items writes
-  one_string (Err e) refusal = tree_refused inputs no_key plan shards c e plain_inputs merge.agree merge.is_join refusal
+  one_string (Err e) refusal = tree_refused inputs no_key plan shards c e merge.inputs_are merge.agree merge.is_join refusal

@@ -4,7 +4,7 @@ use Rattle.xet_shards.proofs.Sections.{files_laws}
 use Rattle.xet_shards.specs.SectionReading.{files_of}
 use Rattle.xet_records.specs.Version.{version_of}
 use Rattle.xet_records.specs.declared.record_reader.FormatVersion.{FormatVersion}
-use Rattle.std.specs.Prelude.{All, option_map}
+use Rattle.std.specs.Prelude.{All}
 use Rattle.std.specs.FinMap.{FinMap, entries, values, get, get-entries}
 use Rattle.std.proofs.lemmas.List.{get_or-map, length-map}
 use Rattle.std.proofs.lemmas.List.Elements.{All-map}

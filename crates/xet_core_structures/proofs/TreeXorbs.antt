@@ -1,6 +1,6 @@
 -- Bytes that were written under a key hold their shard, and a tree writes well-formed xorbs if its leaves have such.
 use Rattle.std.proofs.Common.{◌≡◌, ℕ, List, [], ◌∷◌, map, refl, sym, subst, arith}
-use Rattle.std.specs.Prelude.{All, Contains}
+use Rattle.std.specs.Prelude.{All}
 use Rattle.std.specs.FinMap.{values}
 use Rattle.std.proofs.lemmas.List.Elements.{All-drop, Contains-push, Contains-append_left, Contains-append_right}
 use Rattle.xet_base.specs.declared.merklehash.DataHash.{DataHash}

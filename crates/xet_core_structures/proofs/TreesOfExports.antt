@@ -1,5 +1,5 @@
 -- Trees of unions over exports of shards, with auxiliary rows or without, write such an export of the shards' join.
-use Rattle.std.proofs.Common.{◌≡◌, inl, inr, ℕ, ◌+◌, Bool, true, false, List, [], ◌++◌, length, map, Some, sym, ap, ◌∙◌, subst, arith}
+use Rattle.std.proofs.Common.{◌≡◌, ℕ, ◌+◌, Bool, true, false, List, [], ◌++◌, length, map, Some, sym, ap, ◌∙◌, subst}
 use Rattle.std.specs.Prelude.{All}
 use Rattle.std.specs.FinMap.{values}
 use Rattle.std.proofs.lemmas.Option.{same_Some}
@@ -7,24 +7,22 @@ use Rattle.xet_base.specs.declared.error.CoreError.{CoreError}
 use Rattle.xet_base.specs.declared.merklehash.DataHash.{DataHash}
 use Rattle.xet_base.specs.Bytes.{u64_bytes}
 use Rattle.xet_base.specs.Source.{Source, bytes_left}
-use Rattle.xet_records.specs.FileRecord.{file_records}
 use Rattle.xet_records.specs.View.{without_aux, auxes_as_wanted}
 use Rattle.xet_shards.specs.declared.shard_format.form.Form.{Form}
 use Rattle.xet_shards.specs.KeyedExport.{exported, ExportsWith, export_form}
-use Rattle.xet_shards.specs.Section.{total_rows}
-use Rattle.xet_shards.specs.SetOperations.{HasFewRows}
+use Rattle.xet_shards.specs.KeyedShards.{keyed_shard}
 use Rattle.xet_shards.specs.Shard.{Shard, IsShard}
 use Rattle.xet_shards.specs.ShardsWithoutAux.{shard_without_aux}
-use Rattle.xet_shards.specs.WrittenShard.{IsBytesOf}
+use Rattle.xet_shards.specs.WrittenShard.{HasFilesIn, IsBytesOf}
 use Rattle.xet_shards.proofs.EndsUnique.{bytes_without_expiry}
-use Rattle.xet_shards.proofs.FilesWithoutAux.{rows-without_aux}
 use Rattle.xet_shards.proofs.ShardsWithoutAux.{values-without_aux, without_aux-is_shard, without_aux-agree, without_aux-join}
 use Rattle.xet_core_structures.specs.declared.set_operations.MergePlan.{MergePlan}
-use Rattle.xet_core_structures.specs.ExportTrees.{IsExportOf, IsExportedAt, IsMergeOfExports}
-use Rattle.xet_core_structures.specs.MergeTrees.{leaves, TreeWrites, TreeRefusal, InputIs, IsMerge, MergeRefused}
-use Rattle.xet_core_structures.proofs.ExportTrees.{export_of_join, export_of_bytes, exports_refused, before_timestamps, after_timestamps, split_at_timestamps, after_timestamps_size}
+use Rattle.xet_core_structures.specs.ExportTrees.{shard_as_wanted, IsExportOf, IsExportedAt, IsMergeOfExports}
+use Rattle.xet_core_structures.specs.Held.{HoldsShard}
+use Rattle.xet_core_structures.specs.MergeTrees.{leaves, TreeWrites, TreeRefusal, InputIs, IsMergeOfWritten, MergeRefused}
+use Rattle.xet_core_structures.proofs.ExportTrees.{export_held, export_of_join, export_of_bytes, exports_refused, before_timestamps, after_timestamps, split_at_timestamps, after_timestamps_size}
 use Rattle.xet_core_structures.proofs.MappedJoins.{PassesToJoins, mapped_merge}
-use Rattle.xet_core_structures.proofs.MergeTrees.{one_layout}
+use Rattle.xet_core_structures.proofs.MergeTrees.{one_layout, merge_of_written}
 use Rattle.xet_core_structures.proofs.Zipped.{zipped_and}
 
 -- an export of a shard without auxiliary rows is the export of the shard that has none
@@ -46,7 +44,12 @@ aux_passes : PassesToJoins shard_without_aux
 aux_passes = record { shards = without_aux-is_shard; agree = without_aux-agree; join = without_aux-join }
 
 export_without_aux : (key : DataHash) (s : Shard) (bytes : List ℕ) → IsShard s → IsExportOf false key s bytes → IsExportOf true key (shard_without_aux s) bytes
-export_without_aux key s bytes shard export = record { form = export.form; is_form = export.is_form; bytes_are = export.bytes_are ∙ exported-without_aux s export.form }
+export_without_aux key s bytes shard export = record { form = export.form; is_form = export.is_form; files = export.files; bytes_are = export.bytes_are ∙ exported-without_aux s export.form }
+
+-- an export holds the shard under the key
+pub any_export_held : (aux : Bool) (key : DataHash) (s : Shard) (bytes : List ℕ) → IsShard s → IsExportOf aux key s bytes → HoldsShard key (keyed_shard key (shard_as_wanted aux s)) bytes
+any_export_held true key s bytes shard export = export_held key s bytes shard export
+any_export_held false key s bytes shard export = export_held key (shard_without_aux s) bytes (without_aux-is_shard s shard) (export_without_aux key s bytes shard export)
 
 module _ (key : DataHash) (inputs : List (List ℕ)) (plan : MergePlan) (shards : List Shard) (join : Shard) where
   merge_without_aux : IsMergeOfExports false key inputs plan shards join → IsMergeOfExports true key inputs plan (map shard_without_aux shards) (shard_without_aux join)
@@ -59,19 +62,9 @@ module _ (key : DataHash) (inputs : List (List ℕ)) (plan : MergePlan) (shards 
       export_of_join key inputs plan (map shard_without_aux shards) (shard_without_aux join) (merge_without_aux merge) out writes
       ∙ sym (exported-without_aux join (export_form key 0 18446744073709551615 true true true))
 
-  pub refused_with : (aux : Bool) (e : CoreError) → IsMergeOfExports aux key inputs plan shards join → TreeRefusal inputs plan e → MergeRefused join e
+  pub refused_with : (aux : Bool) (e : CoreError) → IsMergeOfExports aux key inputs plan shards join → TreeRefusal inputs plan e → MergeRefused (shard_as_wanted aux join) e
   refused_with true e merge refusal = exports_refused key inputs plan shards join merge e refusal
-  refused_with false e merge refusal =
-      elim (exports_refused key inputs plan (map shard_without_aux shards) (shard_without_aux join) (merge_without_aux merge) e refusal) [
-        | inl no_memory ↦ inl no_memory
-        | inr many ↦ inr (many.0, λ few. many.1 (few_without_aux few))
-      ]
-    where
-      few_without_aux : HasFewRows join → HasFewRows (shard_without_aux join)
-      few_without_aux few = record {
-        files = omega (arith, ap (total_rows file_records) (values-without_aux join), rows-without_aux (values join.files), few.files);
-        xorbs = few.xorbs;
-      }
+  refused_with false e merge refusal = exports_refused key inputs plan (map shard_without_aux shards) (shard_without_aux join) (merge_without_aux merge) e refusal
 
 -- what an export of the input at a leaf wrote
 leaf_exported : (aux : Bool) (key : DataHash) (inputs outs : List (List ℕ)) (i : ℕ) (s : Shard) → IsExportedAt aux key inputs outs i → InputIs inputs (IsBytesOf s) i → InputIs outs (IsExportOf aux key s) i
@@ -82,12 +75,13 @@ leaf_exported aux key inputs outs i s this (bytes, at, is) =
       record {
         form = this.form;
         is_form = this.is_form;
+        files = subst (λ v. HasFilesIn v (shard_as_wanted aux s)) (sym this.version) tt;
         bytes_are = export_of_bytes aux s this.form this.old this.new (Some []) (Some this.out) this.size here this.export;
       },
     )
 
 -- merging and exporting can be exchanged but for the timestamps
-module _ (aux : Bool) (key : DataHash) (inputs outs : List (List ℕ)) (plan : MergePlan) (shards : List Shard) (join : Shard) (merge : IsMerge inputs plan shards join)
+module _ (aux : Bool) (key : DataHash) (inputs outs : List (List ℕ)) (plan : MergePlan) (shards : List Shard) (join : Shard) (merge : IsMergeOfWritten inputs plan shards join)
     (exported_at : All (IsExportedAt aux key inputs outs) (leaves plan)) where
   exports_merge : IsMergeOfExports aux key outs plan shards join
   exports_merge = record {
@@ -102,7 +96,7 @@ module _ (aux : Bool) (key : DataHash) (inputs outs : List (List ℕ)) (plan : M
       → (before after : List ℕ) × (length after ≡ 80) × (bytes ≡ before ++ u64_bytes now ++ u64_bytes (now + valid) ++ after)
       × (out ≡ before ++ u64_bytes 0 ++ u64_bytes 18446744073709551615 ++ after)
   exchanged out bytes now valid size old new unites exports writes =
-      let joined = bytes_without_expiry (one_layout inputs plan shards join merge (bytes_left old) unites) in
+      let joined = bytes_without_expiry (one_layout inputs plan shards join (merge_of_written inputs plan shards join merge) (bytes_left old) unites) in
       let whole = export_of_bytes aux join (export_form key now valid true true true) old new (Some []) (Some bytes) size joined exports in
       let differ = timestamps_differ aux join key in (
         differ.0,

@@ -1,5 +1,5 @@
 -- Trees of unions over exports of shards, and runs of chunks in the shards at their leaves.
-use Rattle.std.specs.Prelude.{◌≡◌, ℕ, ◌^◌, ◌<◌, Bool, true, List, [], Option, Some, option_map, slice_get}
+use Rattle.std.specs.Prelude.{◌≡◌, ℕ, ◌^◌, ◌<◌, Bool, true, List, [], Option, Some, option_map, slice_get, if◌then◌else◌}
 use Rattle.xet_records.specs.declared.record_reader.FormatVersion.TheVariants.{V3}
 use Rattle.std.specs.FinMap.{get, values}
 use Rattle.xet_base.specs.Source.{Source, bytes_left}
@@ -11,6 +11,8 @@ use Rattle.xet_shards.specs.declared.shard_format.form.Form.{Form}
 use Rattle.xet_shards.specs.ChunkQuery.{run_at}
 use Rattle.xet_shards.specs.KeyedExport.{exported, ExportsWith}
 use Rattle.xet_shards.specs.Shard.{Shard}
+use Rattle.xet_shards.specs.ShardsWithoutAux.{shard_without_aux}
+use Rattle.xet_shards.specs.WrittenShard.{HasFilesIn}
 use Rattle.xet_core_structures.specs.declared.set_operations.MergePlan.{MergePlan}
 use Rattle.xet_core_structures.specs.MergeTrees.{IsMergeOf}
 
@@ -24,13 +26,18 @@ pub record FitsForm (form : Form) : Type 0 where
 pub record IsExportForm (key : DataHash) (form : Form) : Type 0 where
   pub under : form.key ≡ key
   pub files : form.file_table ≡ true
-  pub version : form.version ≡ V3
   pub fits : FitsForm form
 
--- the bytes are such an export of this shard, with auxiliary rows or without
+-- a shard with its auxiliary rows or without
+abbrev pub shard_as_wanted : Bool → Shard → Shard
+shard_as_wanted aux s = if aux then s else shard_without_aux s
+
+-- the bytes are such an export of this shard, with auxiliary rows or without, in a version that has
+-- its files
 pub record IsExportOf (aux : Bool) (key : DataHash) (s : Shard) (bytes : List ℕ) : Type 0 where
   pub form : Form
   pub is_form : IsExportForm key form
+  pub files : HasFilesIn form.version (shard_as_wanted aux s)
   pub bytes_are : bytes ≡ exported (auxes_as_wanted aux (values s.files)) (values s.xorbs) form
 
 -- a tree with a union, over exports under one key of shards that agree, and their join
@@ -38,11 +45,13 @@ abbrev pub IsMergeOfExports : Bool → DataHash → List (List ℕ) → MergePla
     → Type 0
 IsMergeOfExports aux key = IsMergeOf (IsExportOf aux key)
 
--- such an export of the bytes at an index of one list wrote those at this index of another
+-- such an export in version 3, of the bytes at an index of one list, wrote those at this index of
+-- another
 pub record IsExportedAt (aux : Bool) (key : DataHash) (inputs outs : List (List ℕ)) (i : ℕ)
     : Type 0 where
   pub form : Form
   pub is_form : IsExportForm key form
+  pub version : form.version ≡ V3
   pub old : Source
   pub new : Source
   pub out : List ℕ

@@ -1,6 +1,7 @@
 -- What bytes hold, to an operation that reads both sections of a shard at the offsets of a footer.
 use Rattle.std.specs.Prelude.{◌≡◌, ◌⊎◌, ℕ, ◌+◌, ◌*◌, ◌≤◌, List, [], ◌∷◌, ◌++◌, map, drop, All}
 use Rattle.std.specs.FinMap.{FinMap, entries, values}
+use Rattle.xet_base.specs.declared.merklehash.DataHash.{DataHash}
 use Rattle.xet_base.specs.Hash.{hash_cmp}
 use Rattle.xet_base.specs.Source.{Source}
 use Rattle.xet_records.specs.declared.file_structs.MDBFileInfo.{MDBFileInfo}
@@ -9,9 +10,10 @@ use Rattle.xet_records.specs.RecordKind.{RecordKind}
 use Rattle.xet_records.specs.FileRecord.{file_records}
 use Rattle.xet_records.specs.XorbRecord.{xorb_records}
 use Rattle.xet_shards.specs.declared.shard_format.info.MDBShardInfo.{MDBShardInfo}
+use Rattle.xet_shards.specs.Ends.{HasEnds}
 use Rattle.xet_shards.specs.InForm.{Ascends}
 use Rattle.xet_shards.specs.Section.{total_rows}
-use Rattle.xet_shards.specs.Shard.{Shard}
+use Rattle.xet_shards.specs.Shard.{Shard, IsShard}
 use Rattle.xet_shards.specs.SectionReading.{files_of, HoldsRecords, IsSection, IsRefusedSection, IsCutSection, BeginsRefused, EndsEarly, rows_left}
 
 module _ {H R : Type 0} (K : RecordKind H R) where
@@ -87,6 +89,15 @@ xorbs_at bytes info = drop info.metadata.xorb_info_offset bytes
 pub record Holds (bytes : List ℕ) (info : MDBShardInfo) (s : Shard) : Type 0 where
   pub files : IsSectionOf (files_of info) (files_at bytes info) s.files
   pub xorbs : IsSectionOf xorb_records (xorbs_at bytes info) s.xorbs
+
+-- the bytes hold this shard under a key: they have a header and a footer, and the footer has the key
+-- and leads to both sections; nothing is said of tables, timestamps and sums
+pub record HoldsShard (key : DataHash) (s : Shard) (bytes : List ℕ) : Type 0 where
+  pub shard : IsShard s
+  pub info : MDBShardInfo
+  pub ends : HasEnds bytes info
+  pub under : info.metadata.chunk_hash_hmac_key ≡ key
+  pub holds : Holds bytes info s
 
 -- the file section is whole, and its hashes strictly ascend
 abbrev pub HasFiles : List ℕ → MDBShardInfo → Type 0

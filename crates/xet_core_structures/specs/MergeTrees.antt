@@ -4,7 +4,9 @@ use Rattle.std.specs.List.{AllZip}
 use Rattle.std.specs.FinMap.{values}
 use Rattle.xet_base.specs.declared.error.CoreError.{CoreError}
 use Rattle.xet_base.specs.declared.error.CoreError.TheVariants.{InvalidArguments, OutOfMemory}
+use Rattle.xet_base.specs.declared.merklehash.DataHash.{DataHash}
 use Rattle.xet_base.specs.Errors.{IsInvalidShard}
+use Rattle.xet_base.specs.KeyedHash.{no_key}
 use Rattle.xet_records.specs.XorbRecord.{IsXorb}
 use Rattle.xet_shards.specs.declared.shard_format.info.MDBShardInfo.{MDBShardInfo}
 use Rattle.xet_shards.specs.Ends.{HasEnds}
@@ -15,7 +17,7 @@ use Rattle.xet_shards.specs.WrittenShard.{IsBytesOf}
 use Rattle.xet_core_structures.specs.declared.set_operations.MergePlan.{MergePlan}
 use Rattle.xet_core_structures.specs.declared.set_operations.MergePlan.TheVariants.{Leaf, Both'}
 use Rattle.xet_core_structures.specs.ByteResults.{UnitesBytes, BytesRefusal}
-use Rattle.xet_core_structures.specs.Held.{Holds}
+use Rattle.xet_core_structures.specs.Held.{Holds, HoldsShard}
 
 -- the inputs at the leaves, from left to right
 abbrev pub leaves : MergePlan → List ℕ
@@ -66,9 +68,17 @@ pub record IsMergeOf (IsOf : Shard → List ℕ → Type 0) (inputs : List (List
   pub agree : AgreePairwise (Contains shards)
   pub is_join : IsJoinOf (Contains shards) join
 
--- of bytes as they are written for shards, each in either version, with an expiry or none
+-- of bytes that hold the shards under one key
+abbrev pub IsMergeUnder : DataHash → List (List ℕ) → MergePlan → List Shard → Shard → Type 0
+IsMergeUnder key = IsMergeOf (HoldsShard key)
+
+-- of bytes that hold them without a key
 abbrev pub IsMerge : List (List ℕ) → MergePlan → List Shard → Shard → Type 0
-IsMerge = IsMergeOf IsBytesOf
+IsMerge = IsMergeUnder no_key
+
+-- of bytes as they are written for shards, each in either version, with an expiry or none
+abbrev pub IsMergeOfWritten : List (List ℕ) → MergePlan → List Shard → Shard → Type 0
+IsMergeOfWritten = IsMergeOf IsBytesOf
 
 -- why shards that agree are not merged: an allocation failed, or a section of the join has too many
 -- rows

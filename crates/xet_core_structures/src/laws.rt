@@ -4,7 +4,7 @@
 ghost use Rattle.xet_records.specs.XorbRecord.{xorb_records, IsXorb};
 ghost use Rattle.xet_records.specs.declared.record_reader.FormatVersion.{FormatVersion};
 ghost use Rattle.xet_records.specs.FileRecord.{file_records, file_records_in};
-ghost use Rattle.std.specs.Prelude.{◌≡◌, ◌↔◌, ◌<◌, ◌^◌, ℕ, List, [], ◌∷◌, ◌++◌, flat_map, map, All, Contains, Option, None, Some, IfSome, IsTrue, unwrap_or};
+ghost use Rattle.std.specs.Prelude.{◌≡◌, ◌↔◌, ◌<◌, ◌^◌, ℕ, Bool, List, [], ◌∷◌, ◌++◌, flat_map, map, All, Contains, Option, None, Some, IfSome, IsTrue, unwrap_or};
 ghost use Rattle.std.specs.Cmp.{IsTotalOrder};
 ghost use Rattle.std.specs.declared.cmp.Ordering.TheVariants.{Equal};
 ghost use Rattle.std.specs.declared.result.Result.{Result};
@@ -16,18 +16,22 @@ ghost use Rattle.xet_base.specs.declared.error.CoreError.{CoreError};
 ghost use Rattle.xet_base.specs.Errors.{variant_number};
 ghost use Rattle.xet_base.specs.Hash.{IsHash, hash_cmp, words_of};
 ghost use Rattle.xet_base.specs.Hex.{hash_hex, IsHexText, Spells};
+ghost use Rattle.xet_base.specs.KeyedHash.{no_key};
 ghost use Rattle.xet_base.specs.Source.{Source};
 ghost use Rattle.xet_core_structures.specs.declared.set_operations.MergePlan.{MergePlan};
-ghost use Rattle.xet_core_structures.specs.ByteResults.{keyed_info, HaveResult, UnitesBytes};
+ghost use Rattle.xet_core_structures.specs.ByteResults.{keyed_info, keyed_layout, HaveResult, UnitesBytes};
 ghost use Rattle.xet_core_structures.specs.ByteUnion.{IsByteUnion, HasPartsOf};
 ghost use Rattle.xet_core_structures.specs.Equality.{error_eq, derived_eq, derived_partial_cmp, derived_cmp, derived_input};
-ghost use Rattle.xet_core_structures.specs.Held.{Holds, IsReadInOneWay, IsCut, IsBad};
-ghost use Rattle.xet_core_structures.specs.MergeTrees.{HasUnion, TreeWrites, HaveXorbs, IsMerge};
+ghost use Rattle.xet_core_structures.specs.ExportTrees.{FitsForm, IsExportOf, shard_as_wanted};
+ghost use Rattle.xet_core_structures.specs.Held.{Holds, HoldsShard, IsReadInOneWay, IsCut, IsBad};
+ghost use Rattle.xet_core_structures.specs.MergeTrees.{HasUnion, TreeWrites, TreeRefusal, HaveXorbs, IsMerge, IsMergeUnder, MergeRefused};
 ghost use Rattle.xet_core_structures.specs.Readable.{IsWrittenUnder};
 ghost use Rattle.xet_records.specs.declared.file_structs.MDBFileInfo.{MDBFileInfo};
 ghost use Rattle.xet_shards.specs.declared.shard_format.info.MDBShardInfo.{MDBShardInfo};
 ghost use Rattle.xet_shards.specs.Ends.{Loads};
-ghost use Rattle.xet_shards.specs.Layout.{layout};
+ghost use Rattle.xet_shards.specs.KeyedShards.{keyed_shard};
+ghost use Rattle.xet_shards.specs.declared.shard_format.form.Form.{Form};
+ghost use Rattle.xet_shards.specs.Layout.{layout, layout_of};
 ghost use Rattle.xet_shards.specs.Lookup.{LooksUpFile, FindsInShard};
 ghost use Rattle.xet_shards.specs.Names.{shard_name, NamesShard};
 ghost use Rattle.xet_records.specs.declared.xorb_structs.MDBXorbInfo.{MDBXorbInfo};
@@ -37,7 +41,7 @@ ghost use Rattle.xet_shards.specs.Shard.{Shard, IsShard, empty_shard, file_hash_
 ghost use Rattle.xet_shards.specs.Tables.{chunk_table_row_cmp, chunk_table_rows, chunk_table, starts, records_below};
 ghost use Rattle.xet_shards.specs.SetOperations.{IsUnion, IsDifference, ShardsAgree, HasFewRows, CanUnite};
 ghost use Rattle.xet_shards.specs.Joins.{IsJoinOf, AgreePairwise};
-ghost use Rattle.xet_shards.specs.WrittenShard.{IsBytesOf, IsBytesWithInfo, IsBytesWithoutExpiry};
+ghost use Rattle.xet_shards.specs.WrittenShard.{HasFilesIn, IsBytesOf, IsBytesWithInfo, IsBytesWithoutExpiry};
 
 mod exports;
 mod minimal;
@@ -218,7 +222,7 @@ pub fn lookups_on_results()
         → IsWrittenUnder key c bytes info → Holds bytes info c }
 {}
 
-/// The inputs at the leaves of a tree with a union are the bytes of shards that agree pairwise.
+/// The inputs at the leaves of a tree with a union hold shards that agree pairwise, without a key.
 /// What the tree writes is the bytes of their join without expiry; `load_from_reader` reads the
 /// header and the footer of these, and a file lookup finds what the join has, within bounds.
 pub fn lookups_on_trees()
@@ -231,6 +235,36 @@ pub fn lookups_on_trees()
         → (found : Result (Option MDBFileInfo) CoreError) → IsMerge inputs plan shards join
         → TreeWrites inputs plan old.bytes → Loads old loaded info
         → LooksUpFile info hash loaded new found → FindsInShard join hash loaded new found }
+{}
+
+/// A union reads the key and the sections of its inputs, and nothing else: so any bytes that hold
+/// shards that agree pairwise, under one key, merge by any tree with a union to the layout of their
+/// join under this key, whatever tables, timestamps and sums they have (`bytes`). It refuses only if
+/// an allocation fails or the join has too many rows (`refusals`). Such bytes are those of a shard
+/// in either version (`written`), its layout in any form whose version has its files (`forms`), and
+/// its exports under the key, in either version, with any tables and timestamps (`exports`); and
+/// what a tree writes is such again (`again`).
+pub fn trees_of_held_shards()
+    ensures written { (s : Shard) → (bytes : List ℕ) → IsBytesOf s bytes
+        → HoldsShard no_key s bytes }
+    ensures forms { (s : Shard) → (form : Form) → IsShard s → HasFilesIn form.version s
+        → FitsForm form
+        → HoldsShard form.key s (layout_of (values s.files) (values s.xorbs) form) }
+    ensures exports { (aux : Bool) → (key : DataHash) → (s : Shard) → (bytes : List ℕ)
+        → IsShard s → IsExportOf aux key s bytes
+        → HoldsShard key (keyed_shard key (shard_as_wanted aux s)) bytes }
+    ensures bytes { (inputs : List (List ℕ)) → (plan : MergePlan) → (key : DataHash)
+        → (shards : List Shard) → (join : Shard) → (out : List ℕ)
+        → IsMergeUnder key inputs plan shards join → TreeWrites inputs plan out
+        → out ≡ keyed_layout join key }
+    ensures again { (inputs : List (List ℕ)) → (plan : MergePlan) → (key : DataHash)
+        → (shards : List Shard) → (join : Shard) → (out : List ℕ)
+        → IsMergeUnder key inputs plan shards join → TreeWrites inputs plan out
+        → HoldsShard key join out }
+    ensures refusals { (inputs : List (List ℕ)) → (plan : MergePlan) → (key : DataHash)
+        → (shards : List Shard) → (join : Shard) → (e : CoreError)
+        → IsMergeUnder key inputs plan shards join → TreeRefusal inputs plan e
+        → MergeRefused join e }
 {}
 
 /// A reader of a section finds one thing in bytes: a list of records with a bookend after them, or
@@ -258,31 +292,37 @@ pub fn results_are_one()
     ensures bytes { (x y u v : List ℕ) → UnitesBytes x y u → UnitesBytes x y v → u ≡ v }
 {}
 
-/// Of the bytes of shards that agree, each in either version and with any expiry or none, one union
-/// is the same byte string in either order and in either grouping. With the same shard, and with the
-/// empty one on either side, it is the shard's bytes in version 3 without expiry.
+/// Of any bytes that hold shards that agree, under one key, one union is the same byte string in
+/// either order and in either grouping. With the same shard, and with the empty one on either side,
+/// it is the shard's layout under the key.
 pub fn unions_of_bytes()
-    ensures order { (a b : Shard) → (a_1 a_2 b_1 b_2 x y : List ℕ) → ShardsAgree a b
-        → IsBytesOf a a_1 → IsBytesOf a a_2 → IsBytesOf b b_1 → IsBytesOf b b_2
-        → UnitesBytes a_1 b_1 x → UnitesBytes b_2 a_2 y → x ≡ y }
-    ensures grouping { (a b c : Shard) → (a_1 a_2 b_1 b_2 c_1 c_2 ab bc left right : List ℕ)
-        → ShardsAgree a b → ShardsAgree a c → ShardsAgree b c → IsBytesOf a a_1 → IsBytesOf a a_2
-        → IsBytesOf b b_1 → IsBytesOf b b_2 → IsBytesOf c c_1 → IsBytesOf c c_2
-        → UnitesBytes a_1 b_1 ab → UnitesBytes ab c_1 left → UnitesBytes b_2 c_2 bc
-        → UnitesBytes a_2 bc right → left ≡ right }
-    ensures repetition { (a : Shard) → (a_1 a_2 x : List ℕ) → IsBytesOf a a_1 → IsBytesOf a a_2
-        → UnitesBytes a_1 a_2 x → IsBytesWithoutExpiry a x }
-    ensures right { (a : Shard) → (some none x : List ℕ) → IsBytesOf a some
-        → IsBytesOf empty_shard none → UnitesBytes some none x → IsBytesWithoutExpiry a x }
-    ensures left { (a : Shard) → (some none x : List ℕ) → IsBytesOf a some
-        → IsBytesOf empty_shard none → UnitesBytes none some x → IsBytesWithoutExpiry a x }
+    ensures order { (key : DataHash) → (a b : Shard) → (a_1 a_2 b_1 b_2 x y : List ℕ)
+        → ShardsAgree a b → HoldsShard key a a_1 → HoldsShard key a a_2 → HoldsShard key b b_1
+        → HoldsShard key b b_2 → UnitesBytes a_1 b_1 x → UnitesBytes b_2 a_2 y → x ≡ y }
+    ensures grouping { (key : DataHash) → (a b c : Shard)
+        → (a_1 a_2 b_1 b_2 c_1 c_2 ab bc left right : List ℕ)
+        → ShardsAgree a b → ShardsAgree a c → ShardsAgree b c → HoldsShard key a a_1
+        → HoldsShard key a a_2 → HoldsShard key b b_1 → HoldsShard key b b_2
+        → HoldsShard key c c_1 → HoldsShard key c c_2 → UnitesBytes a_1 b_1 ab
+        → UnitesBytes ab c_1 left → UnitesBytes b_2 c_2 bc → UnitesBytes a_2 bc right
+        → left ≡ right }
+    ensures repetition { (key : DataHash) → (a : Shard) → (a_1 a_2 x : List ℕ)
+        → HoldsShard key a a_1 → HoldsShard key a a_2 → UnitesBytes a_1 a_2 x
+        → x ≡ keyed_layout a key }
+    ensures right { (key : DataHash) → (a : Shard) → (some none x : List ℕ)
+        → HoldsShard key a some → HoldsShard key empty_shard none → UnitesBytes some none x
+        → x ≡ keyed_layout a key }
+    ensures left { (key : DataHash) → (a : Shard) → (some none x : List ℕ)
+        → HoldsShard key a some → HoldsShard key empty_shard none → UnitesBytes none some x
+        → x ≡ keyed_layout a key }
 {}
 
 /// If two shards agree, and each file of both has in the first every optional part that it has in
-/// the second, then the union of the first's bytes with those of their difference is the union of
-/// the bytes of both, whatever the versions of these.
+/// the second, then the union of bytes of the first with bytes of their difference is the union of
+/// the bytes of both, of any bytes that hold these shards under one key.
 pub fn unions_with_differences()
-    ensures { (a b d : Shard) → (a_1 a_2 b_1 d_1 x y : List ℕ) → ShardsAgree a b → HasPartsOf a b
-        → IsDifference a b d → IsBytesOf a a_1 → IsBytesOf a a_2 → IsBytesOf b b_1
-        → IsBytesOf d d_1 → UnitesBytes a_1 b_1 x → UnitesBytes a_2 d_1 y → x ≡ y }
+    ensures { (key : DataHash) → (a b d : Shard) → (a_1 a_2 b_1 d_1 x y : List ℕ)
+        → ShardsAgree a b → HasPartsOf a b → IsDifference a b d → HoldsShard key a a_1
+        → HoldsShard key a a_2 → HoldsShard key b b_1 → HoldsShard key d d_1
+        → UnitesBytes a_1 b_1 x → UnitesBytes a_2 d_1 y → x ≡ y }
 {}

@@ -27,8 +27,8 @@ ghost use Rattle.xet_shards.specs.WrittenQueries.{HasChunkAt, RunAmong};
 ghost use Rattle.xet_shards.specs.WrittenShard.{IsBytesOf, IsBytesWithoutExpiry};
 ghost use Rattle.xet_core_structures.specs.declared.set_operations.MergePlan.{MergePlan};
 ghost use Rattle.xet_core_structures.specs.ByteResults.{keyed_layout};
-ghost use Rattle.xet_core_structures.specs.ExportTrees.{IsExportedAt, IsMergeOfExports, run_under};
-ghost use Rattle.xet_core_structures.specs.MergeTrees.{leaves, TreeWrites, TreeRefusal, IsMerge, MergeRefused};
+ghost use Rattle.xet_core_structures.specs.ExportTrees.{shard_as_wanted, IsExportedAt, IsMergeOfExports, run_under};
+ghost use Rattle.xet_core_structures.specs.MergeTrees.{leaves, TreeWrites, TreeRefusal, IsMerge, IsMergeOfWritten, MergeRefused};
 
 /// A shard with its chunk hashes under a key is a shard, and an export with files is its layout.
 pub fn keyed_shards_are_exported()
@@ -63,12 +63,12 @@ pub fn joins_keep_runs()
 {}
 
 /// An export of the bytes of a shard, in either version, writes the shard under the key, in version
-/// 3, with auxiliary rows or without (`exports`). Such exports of shards that agree, under one key
-/// and with their files, merge to such an export of their join under this key with all tables,
-/// created at 0 and without expiry (`bytes`). Exports of one shard with all tables under one key
+/// 3, with auxiliary rows or without (`exports`). Exports of shards that agree, in either version,
+/// under one key and with their files, merge to the export of their join under this key in version 3
+/// with all tables, created at 0 and without expiry (`bytes`). Exports of one shard with all tables under one key
 /// differ in the two timestamps of the footer alone (`timestamps`). So the union of exports and the
 /// export of the union are the same bytes but for these (`exchanged`). Nothing is written only if an
-/// allocation fails or the join has too many rows (`refusals`).
+/// allocation fails or what is joined, with these rows or without, has too many (`refusals`).
 pub fn exports_merge_to_the_export_of_the_join()
     ensures exports { (aux : Bool) → (s : Shard) → (form : Form) → (old new : Source)
         → (before after : Option (List ℕ)) → (size : ℕ) → IsBytesOf s (bytes_left old)
@@ -88,7 +88,7 @@ pub fn exports_merge_to_the_export_of_the_join()
         ≡ before ++ u64_bytes now ++ u64_bytes (now + valid) ++ after) }
     ensures exchanged { (aux : Bool) → (inputs outs : List (List ℕ)) → (plan : MergePlan)
         → (key : DataHash) → (shards : List Shard) → (join : Shard) → (out bytes : List ℕ)
-        → (now valid size : ℕ) → (old new : Source) → IsMerge inputs plan shards join
+        → (now valid size : ℕ) → (old new : Source) → IsMergeOfWritten inputs plan shards join
         → TreeWrites inputs plan (bytes_left old)
         → ExportsWith aux (export_form key now valid true true true) old new (Some [])
         (Some bytes) size
@@ -99,7 +99,7 @@ pub fn exports_merge_to_the_export_of_the_join()
     ensures refusals { (aux : Bool) → (inputs : List (List ℕ)) → (plan : MergePlan)
         → (key : DataHash) → (shards : List Shard) → (join : Shard) → (e : CoreError)
         → IsMergeOfExports aux key inputs plan shards join → TreeRefusal inputs plan e
-        → MergeRefused join e }
+        → MergeRefused (shard_as_wanted aux join) e }
 {}
 
 /// The bytes that a tree writes for shards that agree have the runs of chunks of these shards, and

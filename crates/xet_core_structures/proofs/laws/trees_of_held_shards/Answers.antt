@@ -1,0 +1,22 @@
+use Rattle.xet_core_structures.proofs.ByteUnions.{form_held, written_held}
+use Rattle.xet_core_structures.proofs.MergeTrees.{keyed_tree, tree_refused}
+use Rattle.xet_core_structures.proofs.TreesOfExports.{any_export_held}
+use Rattle.xet_core_structures.proofs.laws.trees_of_held_shards.Goals as goal
+
+pub returns-clause-written : goal.returns-clause-written
+returns-clause-written c = written_held
+
+pub returns-clause-forms : goal.returns-clause-forms
+returns-clause-forms c = form_held
+
+pub returns-clause-exports : goal.returns-clause-exports
+returns-clause-exports c = any_export_held
+
+pub returns-clause-bytes : goal.returns-clause-bytes
+returns-clause-bytes c = λ inputs plan key shards join out merge writes. (keyed_tree inputs key plan shards join out merge writes).0
+
+pub returns-clause-again : goal.returns-clause-again
+returns-clause-again c = λ inputs plan key shards join out merge writes. (keyed_tree inputs key plan shards join out merge writes).1
+
+pub returns-clause-refusals : goal.returns-clause-refusals
+returns-clause-refusals c = λ inputs plan key shards join e merge refusal. tree_refused inputs key plan shards join e merge.inputs_are merge.agree merge.is_join refusal
