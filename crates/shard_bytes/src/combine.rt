@@ -6,6 +6,7 @@ ghost use Rattle.xet_core_structures.specs.ByteResults.{WritesResult, InputsFail
 ghost use Rattle.shard_bytes.specs.Combining.{IsResultOf, RefusalOf, CombinesBytes, CombiningRefusal};
 
 use crate::memory::in_memory;
+use crate::room::with_room;
 use std::alloc::Global;
 use std::io::Write;
 use xet_core_structures::error::Result;
@@ -39,10 +40,18 @@ pub fn combine_bytes(
     let mut r2 = MemorySource::new(second);
     let s1 = MDBShardInfo::load_from_reader(alloc, &mut r1)?;
     let s2 = MDBShardInfo::load_from_reader(alloc, &mut r2)?;
-    let mut bytes = Vec::new(alloc);
+    let mut bytes = with_room(alloc, likely_most(operation, first, second))?;
     match combine(alloc, operation, &s1, &mut r1, &s2, &mut r2, &mut bytes) {
         Ok(_) => Ok(bytes),
         Err(error) => Err(in_memory(error)),
+    }
+}
+
+// How many bytes memory is reserved for. A result of shards that have their tables has no more.
+fn likely_most(operation: Operation, first: &[u8], second: &[u8]) -> usize {
+    match operation {
+        Operation::Union => first.len() + second.len(),
+        Operation::Difference => second.len(),
     }
 }
 

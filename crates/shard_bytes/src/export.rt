@@ -6,6 +6,7 @@ ghost use Rattle.xet_core_structures.specs.KeyedExport.{ExportFails, CannotExpor
 ghost use Rattle.shard_bytes.specs.Exporting.{WritesExport, ExportsBytes, RefusesExport};
 
 use crate::memory::in_memory;
+use crate::room::with_room;
 use std::alloc::Global;
 use std::io::Write;
 use xet_core_structures::error::Result;
@@ -44,7 +45,7 @@ pub fn export_bytes(alloc: Global, bytes: &[u8], export: &Export) -> Result<Vec<
     let mut source = MemorySource::new(bytes);
     let info = MDBShardInfo::load_from_reader(alloc, &mut source)?;
     source.seek_to(0)?;
-    let mut exported = Vec::new(alloc);
+    let mut exported = with_room(alloc, bytes.len())?;
     match write_export(alloc, &info, &mut source, &mut exported, export) {
         Ok(_) => Ok(exported),
         Err(error) => Err(in_memory(error)),

@@ -11,3 +11,4 @@ mod memory;
 pub mod merge;
 pub mod minimal;
 pub mod query;
+mod room;

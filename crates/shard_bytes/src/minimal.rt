@@ -10,6 +10,7 @@ ghost use Rattle.shard_bytes.specs.Minimal.{HoldsMinimal, RefusesMinimal, Minima
 ghost use Rattle.shard_bytes.specs.Outcomes.{InMemory};
 
 use crate::memory::in_memory;
+use crate::room::with_room;
 use std::alloc::Global;
 use std::io::Write;
 use xet_core_structures::error::{CoreError, Result};
@@ -53,7 +54,7 @@ pub fn minimal_bytes(alloc: Global, bytes: &[u8], now: u64, kept: KeptParts) -> 
         (RefusesMinimalBytes kept bytes.now) }
 {
     let shard = read_minimal(alloc, bytes)?;
-    let mut minimal = Vec::new(alloc);
+    let mut minimal = with_room(alloc, bytes.len())?;
     match write_minimal(alloc, &shard, &mut minimal, now, kept) {
         Ok(_) => Ok(minimal),
         Err(error) => Err(writing_error(kept, error)),

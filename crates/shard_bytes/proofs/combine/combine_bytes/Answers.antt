@@ -26,6 +26,11 @@ returns-in_err-s2 c =
       inr (inl (c.in_ok-s1.s1, subst (λ bytes. HasEnds bytes c.in_ok-s1.s1) x c.in_ok-s1.ensures.read.ends, load)),
     ))
 
+pub returns-in_err-bytes : goal.returns-in_err-bytes
+returns-in_err-bytes c =
+    let p = err_from_is_err_and c.from_residual-in_err-bytes.result c.from_residual-in_err-bytes.ensures.1 in
+    rw (p.1, p.2) (inl c.in_err-bytes.ensures.causes)
+
 pub returns-in-Err : goal.returns-in-Err
 returns-in-Err c =
     let x : c.new-r1.result.bytes.now ≡ c.args.first.now = ap (λ (s : Source). s.bytes) c.new-r1.ensures in
@@ -42,4 +47,4 @@ returns-in-Ok c =
     bytes_combined c.args.first.now c.args.second.now c.load_from_reader.new.source.bytes.now c.load_from_reader-2.new.source.bytes.now c.in_ok-s1.s1 c.in_ok-s2.s2
     (c.in_ok-s1.ensures.read.bytes ∙ x) (c.in_ok-s2.ensures.read.bytes ∙ y)
     (subst (λ bytes. HasEnds bytes c.in_ok-s1.s1) x c.in_ok-s1.ensures.read.ends) (subst (λ bytes. HasEnds bytes c.in_ok-s2.s2) y c.in_ok-s2.ensures.read.ends)
-    (IsResultOf c.args.operation) c.new-bytes.result.items c.combine.new.out.items c.in-Ok.field-0 c.new-bytes.ensures.items c.in-Ok.ensures
+    (IsResultOf c.args.operation) c.in_ok-bytes.bytes.items c.combine.new.out.items c.in-Ok.field-0 c.in_ok-bytes.ensures.empty c.in-Ok.ensures
