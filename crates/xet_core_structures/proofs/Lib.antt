@@ -1,6 +1,10 @@
+pub mod AgreeingInputs
+pub mod AgreeingTrees
+pub mod Agreement
 pub mod ByteLaws
 pub mod ByteUnions
 pub mod Combining
+pub mod Equalities
 pub mod ExportTrees
 pub mod Handed
 pub mod Held
@@ -26,8 +30,8 @@ pub mod Refusing
 pub mod Results
 pub mod SectionWays
 pub mod SideBySide
-pub mod TreesOfExports
 pub mod TreeXorbs
+pub mod TreesOfExports
 pub mod Turns
 pub mod UnitedFiles
 pub mod Uniting

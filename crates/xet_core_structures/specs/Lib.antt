@@ -1,3 +1,4 @@
+pub mod Agreement
 pub mod ByteResults
 pub mod ByteUnion
 pub mod Combining

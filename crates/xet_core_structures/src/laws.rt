@@ -43,9 +43,11 @@ ghost use Rattle.xet_shards.specs.SetOperations.{IsUnion, IsDifference, ShardsAg
 ghost use Rattle.xet_shards.specs.Joins.{IsJoinOf, AgreePairwise};
 ghost use Rattle.xet_shards.specs.WrittenShard.{HasFilesIn, IsBytesOf, IsBytesWithInfo, IsBytesWithoutExpiry};
 
+mod agreement;
 mod exports;
 mod minimal;
 
+pub use agreement::merges_of_agreeing_inputs;
 pub use exports::{
     exports_merge_to_the_export_of_the_join, joins_keep_runs, keyed_shards_are_exported,
     keys_pass_to_joins, merges_keep_runs,

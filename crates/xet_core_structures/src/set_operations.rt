@@ -14,6 +14,7 @@ ghost use Rattle.xet_core_structures.specs.SetOutcomes.{Unites, Subtracts};
 ghost use Rattle.xet_core_structures.specs.Streams.{streams};
 ghost use Rattle.xet_core_structures.specs.MergeTrees.{TreeWrites, TreeRefusal, IsMerge, MergeRefused};
 
+mod agreement;
 mod mix;
 mod parts;
 mod placed;
@@ -21,6 +22,7 @@ mod record_operation;
 mod results;
 mod sections;
 
+pub use agreement::{Disagreement, Merged, RecordHash, find_disagreement, merge_agreeing};
 use parts::{part_bytes, place_tree};
 use record_operation::{OfDifference, OfUnion};
 use results::operate;

@@ -150,8 +150,12 @@ fn lists<'a>(alloc: Global, opened: Opened<'a>) -> Result<PlacedShard<'a>>
     }
 }
 
-// The records of an input, at the offsets of its footer.
-fn place_shard<'a>(alloc: Global, bytes: &'a [u8], info: &MDBShardInfo) -> Result<PlacedShard<'a>>
+/// The records of an input, at the offsets of its footer.
+pub fn place_shard<'a>(
+    alloc: Global,
+    bytes: &'a [u8],
+    info: &MDBShardInfo,
+) -> Result<PlacedShard<'a>>
     ensures { MatchResult result (PlacesShard bytes.now info.now)
         (SectionsRefusal bytes.now info.now) }
 {

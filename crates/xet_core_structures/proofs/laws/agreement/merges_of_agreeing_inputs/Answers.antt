@@ -1,0 +1,11 @@
+use Rattle.xet_core_structures.proofs.AgreeingTrees.{not_both, held_agree, agreeing_tree}
+use Rattle.xet_core_structures.proofs.laws.agreement.merges_of_agreeing_inputs.Goals as goal
+
+pub returns-clause-not_both : goal.returns-clause-not_both
+returns-clause-not_both c = not_both
+
+pub returns-clause-pairwise : goal.returns-clause-pairwise
+returns-clause-pairwise c = held_agree
+
+pub returns-clause-joined : goal.returns-clause-joined
+returns-clause-joined c = agreeing_tree
