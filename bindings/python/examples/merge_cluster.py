@@ -1,7 +1,8 @@
 #!/usr/bin/env python3
 """Merges shards by a tree on a cluster of worker processes, in one process, and in its threads, and compares the bytes.
 
-Any tree of unions over the bytes of shards that agree gives one byte string, so the workers may merge in any grouping.
+Any tree of unions over shards that agree and have no key gives one byte string, so the workers may merge in any
+grouping.
 It makes the shards first, in a folder that is removed. Needs Dask: apt-get install python3-dask python3-distributed
 """
 import argparse
