@@ -124,8 +124,9 @@ uint32_t xet_load(const uint8_t *shard, size_t length, xet_info *info);
 /* Writes the union of two shards of one key: the records of both. Creation is 0, and there is no expiry. Of shards that
  * agree it is the same bytes in either order and any grouping of several.
  *
- * Of two files with one hash it has the record with all optional parts of the other, the first's if both have the same;
- * else the first's segments, with each part from the first that has it. Of two xorbs with one hash it has the first's.
+ * Of two files with one hash it has the record whose flags have all of the other's, the first's if both do; else the
+ * first's segments, with each optional part from the first where it has it, else from the second. Of two xorbs with one
+ * hash it has the first's.
  *
  * XET_SHARD_VERSION, XET_IO: the errors of xet_load, of either shard; XET_IO also if a section ends too early.
  * XET_INVALID_ARGUMENTS: the keys differ.
@@ -137,7 +138,8 @@ uint32_t xet_union(const uint8_t *first, size_t first_length, const uint8_t *sec
                    size_t capacity, size_t *written);
 
 /* Writes the union of one shard or more: that of the first half of the list with that of the second, each made in the
- * same way; a single one is united with itself. Of shards that agree and have no key it is the same bytes in any order.
+ * same way; a single one is united with itself. If the sections of the inputs hold shards that agree pairwise, without
+ * a key, it is the bytes of their join, which has no order, or fails for memory or for too many rows.
  *
  * XET_INVALID_ARGUMENTS: there is no shard, or the keys differ.
  * The other errors are those of xet_union. */
@@ -163,7 +165,8 @@ uint32_t xet_export(const uint8_t *shard, size_t length, const xet_export_option
  * and the sections are read, so the shard may end after them.
  *
  * XET_SHARD_VERSION: the tag is another, or the version is neither 2 nor 3.
- * XET_IO: the bytes end before the sections do; or verification rows are asked for and a file has none.
+ * XET_IO: the bytes end before the sections do; or verification rows are asked for and a file has none. Where they are
+ *     asked for, it is not proved that there is no other XET_IO.
  * XET_INVALID_SHARD: a file has a row that the version does not have, or a section more than 4294967295 rows.
  * XET_OUT_OF_MEMORY, XET_SHORT. */
 uint32_t xet_minimal(const uint8_t *shard, size_t length, uint64_t now, bool verification, bool aux_rows, uint8_t *out,
@@ -188,8 +191,8 @@ uint32_t xet_subset(const uint8_t *shard, size_t length, const xet_subset_option
 
 /* Looks for a run of chunks with these hashes, which are not keyed, also if the shard's are. `*count` is how many
  * chunks, from the first hash on, a xorb has one after another, and `run` says where. If there is none, `*count` is 0
- * and `run` stays as it is: no hash is given, the shard has no table of chunks, or no chunk in it has the first hash,
- * at the first eight with its first word. With an error `*count` is 0, and `run` stays.
+ * and `run` stays as it is: no hash is given, the shard has no table of chunks, or none of at most eight rows in it
+ * with the first word of the first hash leads to a chunk with that hash. With an error `*count` is 0, and `run` stays.
  *
  * XET_SHARD_VERSION, XET_IO: the errors of xet_load; XET_IO also if a row that is read ends too early.
  * XET_INVALID_SHARD: a row of the table leads to no chunk, or a number does not fit its width.

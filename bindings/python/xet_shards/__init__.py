@@ -290,8 +290,9 @@ def _combined(operation: Callable[..., int], first: Buffer, second: Buffer) -> b
 def merge(shards: Sequence[Buffer]) -> bytes:
     """Returns the union of one shard or more, by a balanced tree of unions; a single one is united with itself.
 
-    Any other tree gives the same bytes, and so does any other order, for shards that agree and have no key: files with
-    one hash have equal segments, and an equal optional part wherever both have it, and xorbs with one hash are equal.
+    If the sections of the inputs hold shards that agree pairwise, without a key, it is the bytes of their join, which
+    has no order, and any other tree of unions gives the same. Shards agree if files with one hash have equal segments,
+    and an equal optional part wherever both have it, and xorbs with one hash are equal.
     """
     inputs = [_bytes(it) for it in shards]
     if not inputs:
