@@ -76,21 +76,6 @@ announces-flags_of wanted part =
 pub flags_are_known : (wanted : OptionalPart → Bool) → flags_of wanted ≡ flags_of (announces (flags_of wanted))
 flags_are_known wanted = λ i. flags_of (λ part. sym (announces-flags_of wanted part) i)
 
--- the same by the 29 bits below them, as a function can test it
-pub flags_are_parts : (flags : ℕ) → flags < 2 ^ 32 → flags % 2 ^ 29 ≡ 0 → flags ≡ flags_of (announces flags)
-flags_are_parts flags fits known = omega (
-  arith,
-  flag_is (announces flags Verification) 2147483648,
-  flag_is (announces flags MetadataExt) 1073741824,
-  flag_is (announces flags AuxExt) 536870912,
-  one_announced flags Verification,
-  one_announced flags MetadataExt,
-  one_announced flags AuxExt,
-)
-
-pub flags_known : (wanted : OptionalPart → Bool) → flags_of wanted % 2 ^ 29 ≡ 0
-flags_known wanted = omega (arith, flag_is (wanted Verification) 2147483648, flag_is (wanted MetadataExt) 1073741824, flag_is (wanted AuxExt) 536870912)
-
 -- sums over parts
 sums_added : (f g h : OptionalPart → ℕ) → ((part : OptionalPart) → f part + g part ≡ h part) → (ps : List OptionalPart) → sum_by f ps + sum_by g ps ≡ sum_by h ps
 sums_added f g h each [] = refl

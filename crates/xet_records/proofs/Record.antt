@@ -33,5 +33,5 @@ header_row-front g h x y g_fits h_fits same =
     (header_row-injective g h g_fits h_fits parts.0, parts.1)
 
 -- a record that fits its header has the rows that the header announces
-pub row_count-whole : (r : MDBFileInfo) → FitsItsHeader r → row_count r ≡ 1 + rows_after r.metadata
-row_count-whole r whole = omega (arith, whole.segments, length-optional_rows r whole)
+pub rows_whole : (r : MDBFileInfo) → FitsItsHeader r → row_count r ≡ 1 + rows_after r.metadata
+rows_whole r whole = omega (arith, whole.segments, length-optional_rows r whole)

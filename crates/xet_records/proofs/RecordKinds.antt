@@ -29,7 +29,7 @@ use Rattle.xet_records.proofs.Handed.{row_count-handed, file_handed}
 use Rattle.xet_records.proofs.Lengths.{length-header_row, length-file_record_bytes, length-xorb_header_row, length-chunk_rows}
 use Rattle.xet_records.proofs.Parts.{Holds, these_rows, these_counted, rows_of-counted, with_parts-rows_of, part-of-parts, length-part_of, parts-of-rows, holds_announced, rows_of-with_parts, optional_rows-with_parts, same_record, rows_of-handed, part_of-map}
 use Rattle.xet_records.proofs.Reading.{no_rows, length-read, rows_after_rows, optional_read}
-use Rattle.xet_records.proofs.Record.{header_row-front, row_count-whole}
+use Rattle.xet_records.proofs.Record.{header_row-front, rows_whole}
 use Rattle.xet_records.proofs.Unique.{record_front}
 use Rattle.xet_records.proofs.XorbUnique.{xorb_header_row-front, xorb_front}
 
@@ -42,8 +42,8 @@ file_laws = record {
   bookend_hash = refl;
   record_bytes_are = λ r. refl;
   size_after = λ r stored.
-      omega (arith, length-append (header_row r.metadata) (file_rows_bytes r), length-header_row r.metadata, length-file_record_bytes r stored.widths, row_count-whole r stored.whole);
-  rows = λ r stored. row_count-whole r stored.whole;
+      omega (arith, length-append (header_row r.metadata) (file_rows_bytes r), length-header_row r.metadata, length-file_record_bytes r stored.widths, rows_whole r stored.whole);
+  rows = λ r stored. rows_whole r stored.whole;
   header_fits = λ r stored. stored.widths.metadata;
   is_record = λ r stored. stored.is_file;
   allowed = λ r stored. refl;

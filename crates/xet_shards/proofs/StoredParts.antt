@@ -1,33 +1,13 @@
 -- What is tested of each optional part of a record before it is stored.
-use Rattle.std.proofs.Common.{◌≡◌, ℕ, ◌+◌, ◌^◌, ◌%◌, ◌<◌, ◌≤◌, ap, ◌∙◌, Bool, true, false, ◌&&◌, List, [], ◌∷◌, zero, suc, refl, sym, true≢false, arith}
+use Rattle.std.proofs.Common.{◌≡◌, Bool, true, false, ◌&&◌, [], ◌∷◌, zero, suc, refl, sym, true≢false, arith}
 use Rattle.std.specs.Prelude.{◌↔◌, IsTrue}
 use Rattle.xet_records.specs.declared.file_structs.part.OptionalPart.{OptionalPart}
 use Rattle.xet_records.specs.declared.file_structs.part.OptionalPart.TheVariants.{Verification, MetadataExt, AuxExt}
 use Rattle.xet_records.specs.declared.file_structs.rows.HashRow.{HashRow}
 use Rattle.xet_records.specs.declared.file_structs.MDBFileInfo.{MDBFileInfo}
-use Rattle.xet_records.specs.Part.{announces, flags_of, rows_of, optional_rows}
-use Rattle.xet_records.specs.FileRecord.{rows_after, row_count, FitsItsHeader}
-use Rattle.xet_records.specs.Merging.{IsSameFile, merged}
-use Rattle.xet_records.proofs.Merging as records
-use Rattle.xet_records.proofs.Record.{row_count-whole}
+use Rattle.xet_records.specs.Part.{rows_of, optional_rows}
 use Rattle.xet_records.proofs.Parts.{for_parts, All-part, All-parts}
 use Rattle.xet_shards.specs.FileStore.{AreClear}
-
--- the lower bits are zero exactly in flags that announce parts and nothing else
-pub flags_are_parts : (flags : ℕ) → flags < 2 ^ 32 → flags % 2 ^ 29 ≡ 0 → flags ≡ flags_of (announces flags)
-flags_are_parts flags fits known = records.flags_are_parts flags fits known
-
-pub flags_known : (flags : ℕ) → flags ≡ flags_of (announces flags) → flags % 2 ^ 29 ≡ 0
-flags_known flags known = ap (λ n. n % 2 ^ 29) known ∙ records.flags_known (announces flags)
-
-pub rows_whole : (r : MDBFileInfo) → FitsItsHeader r → row_count r ≡ 1 + rows_after r.metadata
-rows_whole r whole = row_count-whole r whole
-
-pub merged_more : (a b : MDBFileInfo) → FitsItsHeader a → FitsItsHeader b → IsSameFile a.metadata b.metadata → row_count b ≤ row_count (merged a b)
-merged_more a b a_whole b_whole same = records.merged_more a b a_whole b_whole same
-
-pub merged_within : (a b : MDBFileInfo) → row_count (merged a b) + 1 ≤ row_count a + row_count b
-merged_within a b = records.merged_within a b
 
 -- a test of each part is one of all
 pub each_part : (P : OptionalPart → Type 0) (v m x : Bool) → (IsTrue v ↔ P Verification) → (IsTrue m ↔ P MetadataExt) → (IsTrue x ↔ P AuxExt)

@@ -122,6 +122,15 @@ impl FileDataSequenceHeader {
         self.file_flags & part.flag() != 0
     }
 
+    /// The flags of the optional parts that the header announces, and no others.
+    pub fn known_flags(&self) -> u32
+        ensures { result ≡ flags_of (announces self.now.file_flags) }
+    {
+        OptionalPart::Verification.flag_if(self.contains_verification())
+            + OptionalPart::MetadataExt.flag_if(self.contains_metadata_ext())
+            + OptionalPart::AuxExt.flag_if(self.contains_aux_ext())
+    }
+
     /// Whether each segment has a verification row.
     pub fn contains_verification(&self) -> bool
         ensures { result ≡ has_verification self.now.file_flags }

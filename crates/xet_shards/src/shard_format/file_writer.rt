@@ -57,7 +57,7 @@ impl WrittenSection for WrittenFiles {
         self.table.has_room(more)
     }
 
-    #[tactic(auto, using(crate::proofs::StoredParts::rows_whole))]
+    #[tactic(auto, using(xet_records::proofs::Record::rows_whole))]
     fn write<W: Write>(&mut self, writer: &mut W, file_info: &MDBFileInfo) -> Result<()> {
         let metadata = &file_info.metadata;
         let rows = 1 + metadata.rows_after();

@@ -8,7 +8,7 @@ ghost use Rattle.xet_base.specs.declared.merklehash.DataHash.{DataHash};
 ghost use Rattle.xet_base.specs.Hash.{hash_cmp};
 ghost use Rattle.xet_records.specs.FileRecord.{row_count, FitsItsHeader, FitsRecord, IsWellFormed};
 ghost use Rattle.xet_records.specs.Merging.{IsSameFile, merged};
-ghost use Rattle.xet_records.specs.Part.{announces, flags_of, rows_of, optional_rows};
+ghost use Rattle.xet_records.specs.Part.{rows_of, optional_rows};
 ghost use Rattle.xet_shards.specs.FileStore.{HasAnnounced, AreClear};
 ghost use Rattle.xet_shards.specs.Shard.{AreFiles, file_hash_of};
 ghost use Rattle.xet_shards.specs.Joining.{but, entry, CanJoinFile, CanJoinFiles, either_file, own_file};
@@ -147,7 +147,7 @@ impl FileStore {
 }
 
 // The rows of a file, or 0 if there is none.
-#[tactic(auto, using(crate::proofs::StoredParts::rows_whole))]
+#[tactic(auto, using(xet_records::proofs::Record::rows_whole))]
 fn row_count(file_info: Option<&MDBFileInfo>) -> u64
     requires { IfSome file_info (λ file. IsWellFormed file.now) }
     ensures { result ≡ unwrap_or (option_map (λ file. row_count file.now) file_info.entry) 0 }
@@ -206,27 +206,19 @@ fn merged_files(
 }
 
 /// Whether a record can be in a store.
-#[tactic(auto, using(crate::proofs::StoredParts::rows_whole))]
+#[tactic(auto, using(xet_records::proofs::Record::rows_whole))]
 pub fn is_well_formed(file_info: &MDBFileInfo) -> bool
     ensures { IsTrue result ↔ IsWellFormed file_info.now }
 {
     record_widths(file_info);
     let metadata = file_info.metadata;
     !metadata.is_bookend()
-        && has_known_flags(metadata.file_flags)
+        && metadata.file_flags == metadata.known_flags()
         && metadata._unused == 0
         && file_info.segments.len() as u64 == u64::from(metadata.num_entries)
         && has_announced_parts(file_info)
         && has_clear_parts(file_info)
         && metadata.rows_after() < u64::from(u32::MAX)
-}
-
-// Whether flags announce parts, and nothing else.
-#[tactic(auto, using(crate::proofs::StoredParts::flags_are_parts, crate::proofs::StoredParts::flags_known))]
-fn has_known_flags(flags: u32) -> bool
-    ensures { IsTrue result ↔ (flags ≡ flags_of (announces flags)) }
-{
-    flags % (1 << 29) == 0
 }
 
 // Whether the record has the parts that its header announces.

@@ -67,7 +67,7 @@ fn can_join_twin(file_info: &MDBFileInfo, twin: Option<&MDBFileInfo>) -> bool
 }
 
 // The rows of a file joined with its twin, less those of the twin.
-#[tactic(auto, using(crate::proofs::StoredParts::rows_whole, crate::proofs::StoredParts::merged_more, crate::proofs::StoredParts::merged_within))]
+#[tactic(auto, using(xet_records::proofs::Record::rows_whole, xet_records::proofs::Merging::merged_more, xet_records::proofs::Merging::merged_within))]
 fn rows_added(file_info: &MDBFileInfo, twin: Option<&MDBFileInfo>) -> u64
     requires own { IsWellFormed file_info.now }
     requires others { IfSome twin (λ t. IsWellFormed t.now) }

@@ -3,7 +3,7 @@ use Rattle.std.proofs.lemmas.List.{map_push}
 use Rattle.std.proofs.lemmas.List.Sums.{sum_by_push}
 use Rattle.std.specs.Map.Iter.{deref}
 use Rattle.xet_records.specs.FileRecord.{file_records, row_count, IsWellFormed}
-use Rattle.xet_records.proofs.Record.{row_count-whole}
+use Rattle.xet_records.proofs.Record.{rows_whole}
 use Rattle.xet_shards.specs.Section.{total_rows}
 use Rattle.xet_shards.proofs.Files.{well_formed_values}
 use Rattle.xet_shards.proofs.Walks.{entry_turn, entry_turned, entry_holds}
@@ -21,6 +21,6 @@ loop-file_info-preserved c =
       rows = omega (
         arith,
         ap (λ rs. total_rows file_records rs) (map_push deref c.loop-file_info.yielded c.in-Some.file_info) ∙ sum_by_push row_count (map deref c.loop-file_info.yielded) file,
-        row_count-whole file well.whole,
+        rows_whole file well.whole,
       );
     }
