@@ -110,7 +110,7 @@ module _ {H R : Type 0} (K : RecordKind H R) (laws : KindLaws K) (version : Form
     pub pending_serves : Serves start now
     pending_serves = serves_on start pending.mid now (taken_serves start pending.mid _ pending.records.taken) (next_serves next pending.header) where
       next_serves : (o : Option H) → ReadsNextHeader (in_version K version) (Takes pending.mid now) pending.before left o → Serves pending.mid now
-      next_serves None bookend = taken_serves pending.mid now _ bookend.taken
+      next_serves None end = taken_serves pending.mid now _ end.bookend.taken
       next_serves (Some h) header = taken_serves pending.mid now _ header.read.taken
 
     -- its record was read too
@@ -163,12 +163,12 @@ module _ {H R : Type 0} (K : RecordKind H R) (laws : KindLaws K) (version : Form
       goes_on = λ _. on next pending.header (later refl);
     } where
       on : (o : Option H) → ReadsNextHeader (in_version K version) (Takes pending.mid now) pending.before left o → IfSome o (λ h. hash_cmp k (K.hash_of h) ≡ Less) → GoesOnAfter K k (bytes_left pending.mid)
-      on None bookend less = inl (record {
-        header = bookend.header;
+      on None end less = inl (record {
+        header = end.bookend.header;
         rest = bytes_left now;
-        widths = bookend.widths;
-        is_bookend = bookend.is_bookend;
-        bytes_are = Takes-consumes pending.mid now (K.header_bytes bookend.header) bookend.taken;
+        widths = end.bookend.widths;
+        is_bookend = end.bookend.is_bookend;
+        bytes_are = Takes-consumes pending.mid now (K.header_bytes end.bookend.header) end.bookend.taken;
       })
       on (Some h) header less = inr (
         h,
@@ -194,7 +194,7 @@ module _ {H R : Type 0} (K : RecordKind H R) (laws : KindLaws K) (version : Form
       omega (arith, same)
   weight_on next (Some h) next' old new left after is following = subst (λ o. weight after next' + 1 ≤ weight left o) (sym (is h refl)) (fewer next' following.read) where
     fewer : (o : Option H) → ReadsNextHeader (in_version K version) (Takes old new) left after o → weight after o + 1 ≤ left + 1
-    fewer None bookend = omega arith
+    fewer None end = omega (arith, end.stays)
     fewer (Some g) header = omega (arith, header.rows)
 
   -- why a section was not read on

@@ -97,7 +97,7 @@ module _ {H R : Type 0} (K : RecordKind H R) (laws : KindLaws K) (version : Form
     placing_ends none = (
       placing.found,
       section_ends (in_version K version) (laws_in K laws version) start placing.pending.mid placing.found placing.pending.before placing.pending.records now
-          (subst (ReadsNextHeader (in_version K version) (Takes placing.pending.mid now) placing.pending.before left) none placing.pending.header),
+          (subst (ReadsNextHeader (in_version K version) (Takes placing.pending.mid now) placing.pending.before left) none placing.pending.header).bookend,
       placing.ascends,
       placing.places,
     )

@@ -302,7 +302,7 @@ module _ {H R : Type 0} (K : RecordKind H R) (laws : KindLaws K) (v w : FormatVe
       } where
         ended : (version : FormatVersion) (start now : Source) (left : ℕ) (next : Option H) (found : List R) (pending : HasPending (in_version K version) start now left next found) → next ≡ None → TakesSection (in_version K version) start now found
         ended version start now left next found pending none =
-            section_ends (in_version K version) (laws_in K laws version) start pending.mid found pending.before pending.records now (subst (ReadsNextHeader (in_version K version) (Takes pending.mid now) pending.before left) none pending.header)
+            section_ends (in_version K version) (laws_in K laws version) start pending.mid found pending.before pending.records now (subst (ReadsNextHeader (in_version K version) (Takes pending.mid now) pending.before left) none pending.header).bookend
 
   -- so no section was written
   module _ (makes : Option R → Option R → Option R → Type 0) (start_1 now_1 start_2 now_2 : Source) (left_1 left_2 : ℕ) (next_1 next_2 : Option H) (Before : List R → Type 0) (start now : Option (List ℕ))

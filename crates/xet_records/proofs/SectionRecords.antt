@@ -77,7 +77,7 @@ module _ {H R : Type 0} (K : RecordKind H R) (laws : KindLaws K) where
   whole : (bytes rest : List ℕ) (left after : ℕ) (found : Option R) → ReadsNextRecord K (Consumes (Some bytes) (Some rest)) left after found
       → (¬ EndsEarly K left bytes) × (¬ BeginsRefused K left bytes)
   whole bytes rest left after None read =
-      let bookend : BeginsWithBookend K bytes = record { header = read.header; rest = rest; widths = read.widths; is_bookend = read.is_bookend; bytes_are = read.taken } in
+      let bookend : BeginsWithBookend K bytes = record { header = read.bookend.header; rest = rest; widths = read.bookend.widths; is_bookend = read.bookend.is_bookend; bytes_are = read.bookend.taken } in
       (bookend_or_ends K laws left bytes bookend, bookend_or_passes K laws left bytes bookend)
   whole bytes rest left after (Some found) next =
       let none = no_record K laws left bytes next.reads.stored rest next.reads.is_stored (record_within _ left after found next) next.reads.taken in
@@ -86,19 +86,19 @@ module _ {H R : Type 0} (K : RecordKind H R) (laws : KindLaws K) where
   reads_whole : (old new : Option (List ℕ)) (left after : ℕ) (found : Option R) → ReadsNextRecord K (Consumes old new) left after found
       → IfSome old (λ bytes. ¬ EndsEarly K left bytes) × IfSome old (λ bytes. ¬ BeginsRefused K left bytes)
   reads_whole None new left after found read = (tt, tt)
-  reads_whole (Some bytes) None left after None read = absurd read.taken
+  reads_whole (Some bytes) None left after None read = absurd read.bookend.taken
   reads_whole (Some bytes) None left after (Some found) next = absurd next.reads.taken
   reads_whole (Some bytes) (Some rest) left after found read = whole bytes rest left after found read
 
   -- what was written is read again, whatever follows
   read_front : (new : Option (List ℕ)) (r : R) (rest : List ℕ) (left after : ℕ) (found : Option R) → K.IsStored r
       → ReadsNextRecord K (Consumes (Some (K.record_bytes r ++ rest)) new) left after found → (found ≡ Some (K.handed_out r)) × (new ≡ Some rest)
-  read_front None r rest left after None stored read = absurd read.taken
+  read_front None r rest left after None stored read = absurd read.bookend.taken
   read_front None r rest left after (Some found) stored next = absurd next.reads.taken
   read_front (Some more) r rest left after None stored read =
       let bytes = K.record_bytes r ++ rest in
       absurd (bookend_or_header K laws bytes (K.header_of r) (K.bytes_after r ++ rest)
-      (record { header = read.header; rest = more; widths = read.widths; is_bookend = read.is_bookend; bytes_are = read.taken }) (stored_begins K laws bytes r rest stored refl))
+      (record { header = read.bookend.header; rest = more; widths = read.bookend.widths; is_bookend = read.bookend.is_bookend; bytes_are = read.bookend.taken }) (stored_begins K laws bytes r rest stored refl))
   read_front (Some more) r rest left after (Some found) stored next =
       let same = laws.front r next.reads.stored rest more stored next.reads.is_stored next.reads.taken in
       (ap Some (sym next.reads.handed ∙ ap K.handed_out (sym same.0)), ap Some (sym same.1))

@@ -49,6 +49,12 @@ pub record ReadsRecord {H R : Type 0} (K : RecordKind H R) (Took : List ℕ → 
   pub taken : Took (K.record_bytes stored)
   pub handed : K.handed_out stored ≡ found
 
+-- a bookend was read, and no row is counted
+pub record ReadsEnd {H R : Type 0} (K : RecordKind H R) (Took : List ℕ → Type 0) (left after : ℕ)
+    : Type 0 where
+  pub bookend : ReadsBookend K Took
+  pub stays : after ≡ left
+
 -- a record was read, or a bookend
 abbrev pub ReadsOrEnds : {H R : Type 0} → RecordKind H R → (List ℕ → Type 0) → Option R → Type 0
 ReadsOrEnds K Took found = MatchOption found (ReadsBookend K Took) (ReadsRecord K Took)
@@ -63,12 +69,12 @@ pub record CountsRecord {H R : Type 0} (K : RecordKind H R) (Took : List ℕ →
 abbrev pub ReadsNextHeader : {H R : Type 0} → RecordKind H R → (List ℕ → Type 0) → ℕ → ℕ → Option H
     → Type 0
 ReadsNextHeader K Took left after found =
-    MatchOption found (ReadsBookend K Took) (CountsHeader K Took left after)
+    MatchOption found (ReadsEnd K Took left after) (CountsHeader K Took left after)
 
 abbrev pub ReadsNextRecord : {H R : Type 0} → RecordKind H R → (List ℕ → Type 0) → ℕ → ℕ → Option R
     → Type 0
 ReadsNextRecord K Took left after found =
-    MatchOption found (ReadsBookend K Took) (CountsRecord K Took left after)
+    MatchOption found (ReadsEnd K Took left after) (CountsRecord K Took left after)
 
 -- records were read, and their rows counted down from 4294967295; `found` is returned for them
 pub record HasRead {H R : Type 0} (K : RecordKind H R) (Took : List ℕ → Type 0) (found : List R)

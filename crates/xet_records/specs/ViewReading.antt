@@ -3,7 +3,7 @@ use Rattle.std.specs.Prelude.{◌≡◌, ℕ, ◌+◌, ◌*◌, ◌≤◌, List,
 use Rattle.xet_base.specs.declared.error.CoreError.{CoreError}
 use Rattle.xet_base.specs.declared.error.CoreError.TheVariants.{OutOfMemory}
 use Rattle.xet_records.specs.RecordKind.{RecordKind}
-use Rattle.xet_records.specs.Reading.{ReadsBookend}
+use Rattle.xet_records.specs.Reading.{ReadsEnd}
 
 -- a stored record was read, and its rows counted down from those that were left
 pub record CountsStored {H R : Type 0} (K : RecordKind H R) (Took : List ℕ → Type 0)
@@ -16,7 +16,7 @@ pub record CountsStored {H R : Type 0} (K : RecordKind H R) (Took : List ℕ →
 abbrev pub ReadsNextView : {H R V : Type 0} → RecordKind H R → (V → R) → (List ℕ → Type 0) → ℕ → ℕ
     → Option V → Type 0
 ReadsNextView K record_of Took left after found =
-    MatchOption found (ReadsBookend K Took)
+    MatchOption found (ReadsEnd K Took left after)
     (λ view. CountsStored K Took left after (record_of view))
 
 -- so many rows were read, and are the bytes after these

@@ -6,7 +6,7 @@ use Rattle.xet_records.specs.RecordKind.{in_version}
 use Rattle.xet_records.proofs.RecordKinds.{laws_in, stored_ever}
 use Rattle.xet_base.specs.Source.{Takes}
 use Rattle.xet_base.specs.InputLaws.{Takes-nil, Takes-trans}
-use Rattle.xet_records.specs.Reading.{ReadsBookend}
+use Rattle.xet_records.specs.Reading.{ReadsEnd}
 use Rattle.xet_records.specs.ViewReading.{ReadsNextView}
 use Rattle.xet_shards.specs.Section.{section_bytes}
 use Rattle.xet_shards.proofs.KeyedExport.{more_written, fewer_rows, one_exported, next_fits, all_passed, not_passed, writing_failed}
@@ -69,10 +69,10 @@ returns-in_err-write_bookend g c =
     let kind = g.E.Section.Record.SectionRecord.kind in
     let now = g.S.ShardSource.meaning c.loop-buffer.source in
     let new = g.S.ShardSource.meaning c.read.new.source in
-    let last : ReadsBookend (in_version kind c.args.version) (Takes now new) = search rules in
+    let last : ReadsEnd (in_version kind c.args.version) (Takes now new) c.loop-buffer.rows_left c.read.new.left = search rules in
     let p = err_from_is_err_and c.from_residual-in_err-write_bookend.result c.from_residual-in_err-write_bookend.ensures.1 in
     rw (p.1, p.2) (inr (writing_failed (g.S.ShardSource.meaning c.args.source.now) new _ _
-    (Takes-trans (g.S.ShardSource.meaning c.args.source.now) now new _ _ c.loop-buffer.invariant.taken last.taken) c.in_err-write_bookend.ensures.causes))
+    (Takes-trans (g.S.ShardSource.meaning c.args.source.now) now new _ _ c.loop-buffer.invariant.taken last.bookend.taken) c.in_err-write_bookend.ensures.causes))
 
 pub returns : goal.returns
 unfolding section_bytes
@@ -81,10 +81,10 @@ returns g c =
     let now = g.S.ShardSource.meaning c.loop-buffer.source in
     let new = g.S.ShardSource.meaning c.read.new.source in
     let before = c.loop-buffer.invariant in
-    let last : ReadsBookend (in_version kind c.args.version) (Takes now new) = search rules in
+    let last : ReadsEnd (in_version kind c.args.version) (Takes now new) c.loop-buffer.rows_left c.read.new.left = search rules in
     record {
       stored = before.stored;
-      passed = all_passed (in_version kind c.args.version) (laws_in kind g.met.E.ExportedRecord.laws c.args.version) _ now _ _ before new last;
+      passed = all_passed (in_version kind c.args.version) (laws_in kind g.met.E.ExportedRecord.laws c.args.version) _ now _ _ before new last.bookend;
       collected = before.made.collected;
       written = Appends-trans _ (g.W.Write.contents c.loop-buffer.writer) _ _ _ before.made.bytes c.in_ok-write_bookend.ensures.bytes;
     }

@@ -40,4 +40,4 @@ returns-in-None g c =
     let mid = g.S.ShardSource.meaning c.seek_to.new.self in
     let row_offset_is : c.in-Some.row_offset ≡ row_at offset c.args.row = omega (arith, c.in-Some.ensures, c.from-distance.ensures) in
     info_bookend (in_version g.R.SectionRecord.kind c.args.version) (laws_in g.R.SectionRecord.kind c.laws.ensures c.args.version) offset c.args.row _ mid _ (omega (arith, row_offset_is)) (c.in_ok-seek_to.ensures ∙ ap (moved (g.S.ShardSource.meaning c.args.source.now)) row_offset_is) _ c.new-in-None.ensures.bytes
-    (subst (ReadsOne (in_version g.R.SectionRecord.kind c.args.version) mid (g.S.ShardSource.meaning c.read_record.new.input) 4294967296 c.read_record.new.rows_left) c.in-None.is c.in_ok-found.ensures)
+    (subst (ReadsOne (in_version g.R.SectionRecord.kind c.args.version) mid (g.S.ShardSource.meaning c.read_record.new.input) 4294967296 c.read_record.new.rows_left) c.in-None.is c.in_ok-found.ensures).bookend
