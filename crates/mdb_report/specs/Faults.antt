@@ -1,7 +1,10 @@
 -- The fault that is reported for an error.
-use Rattle.std.specs.Prelude.{◌≡◌, ⊤, ℕ, List}
+use Rattle.std.specs.Prelude.{◌≡◌, ◌≢◌, ⊤, ℕ, List}
 use Rattle.xet_core_structures.specs.declared.error.CoreError.{CoreError}
 use Rattle.xet_core_structures.specs.declared.error.CoreError.TheVariants.{TruncatedHashCollision}
+use Rattle.xet_core_structures.specs.declared.shard_format.MDBShardInfo.{MDBShardInfo}
+use Rattle.xet_core_structures.specs.Ends.{HasEnds}
+use Rattle.xet_core_structures.specs.KeyedHash.{no_key}
 use Rattle.shard_bytes.specs.declared.check.Finding.{Finding}
 use Rattle.shard_bytes.specs.declared.check.Finding.TheVariants.{Differs, Size}
 use Rattle.shard_bytes.specs.Checking.{IsFinding, IsWhole}
@@ -17,8 +20,21 @@ IsFaultOf bytes error (Collision word) = error ≡ TruncatedHashCollision word
 IsFaultOf bytes error OutOfMemory = ⊤
 IsFaultOf bytes error _ = ⊥
 
--- the finding is true of the bytes, and more than a part or a size that differs
+-- a finding keeps a shard from being combined: it is more than a part or a size that differs
+abbrev pub KeepsFrom : Finding → Type 0
+KeepsFrom (Differs _) = ⊥
+KeepsFrom (Size _) = ⊥
+KeepsFrom _ = ⊤
+
+-- it is true of the bytes too
 abbrev pub IsObstacle : List ℕ → Finding → Type 0
-IsObstacle bytes (Differs _) = ⊥
-IsObstacle bytes (Size _) = ⊥
-IsObstacle bytes finding = IsFinding bytes finding
+IsObstacle bytes finding = IsFinding bytes finding × KeepsFrom finding
+
+-- the chunk hashes of a shard's bytes are under a key, and they are not
+abbrev pub IsUnderKey : List ℕ → Type 0
+IsUnderKey bytes =
+    (info : MDBShardInfo) × HasEnds bytes info × (info.metadata.chunk_hash_hmac_key ≢ no_key)
+
+abbrev pub IsUnderNoKey : List ℕ → Type 0
+IsUnderNoKey bytes =
+    (info : MDBShardInfo) × HasEnds bytes info × (info.metadata.chunk_hash_hmac_key ≡ no_key)

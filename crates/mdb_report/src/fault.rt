@@ -1,8 +1,8 @@
 //! Why a command failed, in words.
 
-ghost use Rattle.std.specs.Prelude.{◌≡◌, ◌⊎◌, ◌↔◌, ℕ, IfSome, IsTrue, MatchOption, MatchResult};
+ghost use Rattle.std.specs.Prelude.{◌≡◌, ◌⊎◌, ◌↔◌, ℕ, All, Contains, IsTrue, MatchOption, MatchResult};
 ghost use Rattle.shard_bytes.specs.Checking.{IsFinding, IsWhole};
-ghost use Rattle.mdb_report.specs.Faults.{IsFaultOf, IsObstacle};
+ghost use Rattle.mdb_report.specs.Faults.{IsFaultOf, KeepsFrom, IsObstacle, IsUnderKey, IsUnderNoKey};
 
 use crate::problem::InWords;
 use shard_bytes::check::{Finding, Part, check_bytes};
@@ -116,14 +116,37 @@ fn first_finding(alloc: Global, bytes: &[u8]) -> Result<Option<Finding>, Fault>
 }
 
 /// The first finding for which no union and no difference is made of a shard's bytes: their sections
-/// can't be read, or their hashes do not ascend.
+/// can't be read, or their hashes do not ascend. `None` if there is no such finding.
 pub fn first_obstacle(alloc: Global, bytes: &[u8]) -> Result<Option<Finding>, Fault>
-    ensures { MatchResult result (λ found. IfSome found (IsObstacle bytes.now))
+    ensures { MatchResult result
+        (λ found. MatchOption found ((f : Finding) → ¬ IsObstacle bytes.now f)
+        (IsObstacle bytes.now))
         (λ fault. fault ≡ Fault.OutOfMemory) }
 {
-    match first_finding(alloc, bytes)? {
-        Some(Finding::Differs(_) | Finding::Size(_)) => Ok(None),
-        finding => Ok(finding),
+    match check_bytes(alloc, bytes) {
+        Ok(findings) => Ok(obstacle_in(findings.as_slice())),
+        Err(_) => Err(Fault::OutOfMemory),
+    }
+}
+
+// The first of some findings that is more than a part or a size that differs.
+fn obstacle_in(findings: &[Finding]) -> Option<Finding>
+    ensures { MatchOption result (All (λ f. ¬ KeepsFrom f) findings.now)
+        (λ f. Contains findings.now f × KeepsFrom f) }
+{
+    let obstacle = findings.iter().find(|finding: &&Finding| -> bool
+        ensures { IsTrue result ↔ KeepsFrom finding.now.now }
+    { keeps_from(finding) });
+    obstacle.copied()
+}
+
+// Whether a finding is more than a part or a size that differs.
+fn keeps_from(finding: &Finding) -> bool
+    ensures { IsTrue result ↔ KeepsFrom finding.now }
+{
+    match finding {
+        Finding::Differs(_) | Finding::Size(_) => false,
+        _ => true,
     }
 }
 
@@ -144,17 +167,33 @@ pub fn has_wrong_footer(alloc: Global, bytes: &[u8]) -> Result<bool, Fault>
     }
 }
 
-/// The fault behind an error of an export.
+/// The fault behind an error of an export: of one that is refused for its arguments, the key that the
+/// shard has, or else the expiry.
 pub fn export_fault(alloc: Global, bytes: &[u8], error: CoreError) -> Fault
-    ensures { (result ≡ Fault.HasKey) ⊎ (result ≡ Fault.LateExpiry)
+    ensures is { (result ≡ Fault.HasKey) ⊎ (result ≡ Fault.LateExpiry)
         ⊎ IsFaultOf bytes.now error result }
+    ensures key { result ≡ Fault.HasKey
+        → (error ≡ CoreError.InvalidArguments) × IsUnderKey bytes.now }
+    ensures expiry { result ≡ Fault.LateExpiry
+        → (error ≡ CoreError.InvalidArguments) × IsUnderNoKey bytes.now }
 {
-    if error != CoreError::InvalidArguments {
-        return fault_of(alloc, bytes, error);
+    match error {
+        CoreError::InvalidArguments => refused_export(alloc, bytes),
+        error => fault_of(alloc, bytes, error),
     }
+}
+
+// The fault of a shard that is not exported with the arguments that were given.
+fn refused_export(alloc: Global, bytes: &[u8]) -> Fault
+    ensures { ((result ≡ Fault.HasKey) × IsUnderKey bytes.now)
+        ⊎ ((result ≡ Fault.LateExpiry) × IsUnderNoKey bytes.now)
+        ⊎ (result ≡ Fault.OutOfMemory) }
+{
     match load_bytes(alloc, bytes) {
         Ok(info) if info.chunk_hashes_protected() => Fault::HasKey,
-        _ => Fault::LateExpiry,
+        Ok(_) => Fault::LateExpiry,
+        // They were loaded before, so only memory is lacking.
+        Err(_) => Fault::OutOfMemory,
     }
 }
 

@@ -4,7 +4,7 @@ ghost use Rattle.std.specs.Prelude.{◌≡◌, ◌↔◌, [], map, All, Contains
 ghost use Rattle.xet_core_structures.specs.Names.{IsShardName};
 ghost use Rattle.shard_bytes.specs.Checking.{IsWhole};
 ghost use Rattle.mdb_report.specs.declared.problem.Problem.{Problem};
-ghost use Rattle.mdb_report.specs.Problems.{IsProblem};
+ghost use Rattle.mdb_report.specs.Problems.{IsProblem, IsFileName};
 
 use serde::{Described, Serialize, Serializer};
 use shard_bytes::check::{Finding, Part, Section, check_bytes};
@@ -59,8 +59,10 @@ fn problems_in(alloc: Global, findings: &[Finding]) -> std::result::Result<Vec<P
         .collect(alloc)
 }
 
-/// The last part of a path.
-pub fn file_name(path: &str) -> &str {
+/// What a path has after its last slash, or all of it if it has none.
+pub fn file_name(path: &str) -> &str
+    ensures { IsFileName path.now result.now }
+{
     match path.rsplit_once('/') {
         Some((_, name)) => name,
         None => path,
