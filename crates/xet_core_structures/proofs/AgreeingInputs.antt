@@ -4,6 +4,7 @@ use Rattle.std.specs.Prelude.{Contains, slice_get}
 use Rattle.std.specs.List.{AllZip}
 use Rattle.std.specs.Ordering.{eq_by_cmp}
 use Rattle.std.specs.FinMap.{get}
+use Rattle.std.proofs.lemmas.Bool.{cases_order}
 use Rattle.std.proofs.lemmas.List.{take_more}
 use Rattle.std.proofs.lemmas.Option.{same_Some, none-some, slice_get_within, get_or_from_slice_get}
 use Rattle.xet_base.specs.declared.merklehash.DataHash.{DataHash}
@@ -17,19 +18,19 @@ use Rattle.xet_records.specs.Merging.{Agree}
 use Rattle.xet_shards.specs.InForm.{Ascends}
 use Rattle.xet_shards.specs.SetOperations.{ShardsAgree}
 use Rattle.xet_shards.specs.Shard.{Shard}
-use Rattle.xet_shards.proofs.EndsUnique.{only_info}
 use Rattle.xet_core_structures.specs.declared.set_operations.agreement.RecordHash.{RecordHash}
 use Rattle.xet_core_structures.specs.declared.set_operations.agreement.RecordHash.TheVariants.{File, Xorb}
 use Rattle.xet_core_structures.specs.declared.set_operations.parts.PlacedShard.{PlacedShard}
-use Rattle.xet_core_structures.specs.Agreement.{AllAgree, DisagreeAt, AreEqual, AgreeRecords, DisagreeRecords, DisagreeShards, HasShard, HoldsAt, IsPlacedOf, AgreeAt, InputsAgree, InputsDisagree}
+use Rattle.xet_core_structures.specs.Agreement.{AllAgree, DisagreeAt, AreEqual, AgreeRecords, DisagreeRecords, DisagreeShards, HoldsAt, IsPlacedOf, AgreeAt, InputsAgree, InputsDisagree}
 use Rattle.xet_core_structures.specs.ByteResults.{Records}
 use Rattle.xet_core_structures.specs.Combining.{key_of_record, with_hash}
-use Rattle.xet_core_structures.specs.Held.{Holds, IsListOf, IsSectionOf}
+use Rattle.xet_core_structures.specs.Held.{Holds, HasShard, IsListOf, IsSectionOf}
 use Rattle.xet_core_structures.specs.Parts.{MayBeUnited}
-use Rattle.xet_core_structures.proofs.Held.{held_once}
+use Rattle.xet_core_structures.proofs.ByteLaws.{agree_turned, agree_itself}
+use Rattle.xet_core_structures.proofs.Held.{only_shard}
 use Rattle.xet_core_structures.proofs.ListMaps.{list_map, get-list_map, with_hash_of, section_of_list}
 use Rattle.xet_core_structures.proofs.Parts.{may_be_united}
-use Rattle.xet_core_structures.proofs.Placing.{zip_push}
+use Rattle.xet_core_structures.proofs.Zipped.{zipped_append}
 
 module _ {H R : Type 0} (K : RecordKind H R) where
   -- what a list has under a hash is one of its records, and has this hash
@@ -80,11 +81,8 @@ module _ (shard : PlacedShard) (bytes : List ℕ) (is : IsPlacedOf shard bytes) 
   pub united_in : MayBeUnited shard records_in
   united_in = may_be_united bytes is.0 shard is.2
 
-  pub has_shard : HasShard bytes (shard_with records_in)
-  has_shard = (is.0, is.1, shard_in)
-
-  only_shard : (s : Shard) → HasShard bytes s → s ≡ shard_with records_in
-  only_shard s (info, ends, holds) = held_once bytes is.0 (shard_with records_in) shard_in s (subst (λ i. Holds bytes i s) (only_info bytes info is.0 ends is.1) holds)
+  pub has_shard : HasShard (shard_with records_in) bytes
+  has_shard = record { info = is.0; ends = is.1; holds = shard_in }
 
 -- what is at a place of two lists
 zip_get : {A B : Type 0} (P : A → B → Type 0) (xs : List A) (ys : List B) (i : ℕ) (a : A) → AllZip P xs ys → i < length xs → a ≡ get_or xs i a → (b : B) × (slice_get ys i ≡ Some b) × P a b
@@ -115,8 +113,8 @@ module _ (shards : List PlacedShard) (inputs : List (List ℕ)) (all : AllZip Is
 
   pub agree_at : AgreeRecords records_i records_j → AgreeAt inputs i j
   agree_at agree s t (x, x_at, x_has) (y, y_at, y_has) =
-      let s_is = only_shard one at_i.0 at_i.2 s (subst (λ b. HasShard b s) (same_Some x at_i.0 (sym x_at ∙ at_i.1)) x_has) in
-      let t_is = only_shard other at_j.0 at_j.2 t (subst (λ b. HasShard b t) (same_Some y at_j.0 (sym y_at ∙ at_j.1)) y_has) in
+      let s_is = only_shard at_i.0 (shard_with records_i) s (has_shard one at_i.0 at_i.2) (subst (HasShard s) (same_Some x at_i.0 (sym x_at ∙ at_i.1)) x_has) in
+      let t_is = only_shard at_j.0 (shard_with records_j) t (has_shard other at_j.0 at_j.2) (subst (HasShard t) (same_Some y at_j.0 (sym y_at ∙ at_j.1)) y_has) in
       subst (λ p. p) (λ k. ShardsAgree (sym s_is k) (sym t_is k)) (record {
         files = maps_agree file_records Agree records_i.files records_j.files united_i.files_ascend united_j.files_ascend agree.files;
         xorbs = maps_agree xorb_records AreEqual records_i.xorbs records_j.xorbs united_i.xorbs_ascend united_j.xorbs_ascend agree.xorbs;
@@ -141,37 +139,7 @@ pub placed_more : (shards : List PlacedShard) (xs : List (List ℕ)) (i : ℕ) (
 placed_more shards xs i shard y at all one =
     subst (λ l. AllZip IsPlacedOf (shards ++ shard ∷ []) l)
     (sym (take_more xs i y (slice_get_within xs i y at) ∙ ap (λ z. take i xs ++ z ∷ []) (get_or_from_slice_get xs i y y at)))
-    (zip_push IsPlacedOf shards (take i xs) shard y all one)
-
--- the two orders of two numbers
-order_up : (i j : ℕ) → (i < j) ⊎ ((i ≡ j) ⊎ (j < i)) → (suc i < suc j) ⊎ ((suc i ≡ suc j) ⊎ (suc j < suc i))
-order_up i j (inl less) = inl (omega (arith, less))
-order_up i j (inr (inl same)) = inr (inl (ap suc same))
-order_up i j (inr (inr more)) = inr (inr (omega (arith, more)))
-
-order : (i j : ℕ) → (i < j) ⊎ ((i ≡ j) ⊎ (j < i))
-order zero zero = inr (inl refl)
-order zero (suc j) = inl (omega arith)
-order (suc i) zero = inr (inr (omega arith))
-order (suc i) (suc j) = order_up i j (order i j)
-
-agree_same : (a : MDBFileInfo) → Agree a a
-agree_same a = record { segments = refl; parts = λ part h k. refl }
-
-agree_back : (a b : MDBFileInfo) → Agree a b → Agree b a
-agree_back a b agree = record { segments = sym agree.segments; parts = λ part h k. sym (agree.parts part k h) }
-
-shards_back : (s t : Shard) → ShardsAgree s t → ShardsAgree t s
-shards_back s t agree = record {
-  files = λ q a b a_at b_at. agree_back b a (agree.files q b a b_at a_at);
-  xorbs = λ q a b a_at b_at. sym (agree.xorbs q b a b_at a_at);
-}
-
-shards_same : (s : Shard) → ShardsAgree s s
-shards_same s = record {
-  files = λ q a b a_at b_at. subst (Agree a) (same_Some a b (sym a_at ∙ b_at)) (agree_same a);
-  xorbs = λ q a b a_at b_at. same_Some a b (sym a_at ∙ b_at);
-}
+    (zipped_append IsPlacedOf shards (shard ∷ []) (take i xs) (y ∷ []) all (one, tt))
 
 zip_length : {A B : Type 0} (P : A → B → Type 0) (xs : List A) (ys : List B) → AllZip P xs ys → length xs ≡ length ys
 zip_length P [] [] all = refl
@@ -186,27 +154,17 @@ zip_held (p ∷ shards) (x ∷ inputs) all zero low = (shard_with (records_in p 
 zip_held (p ∷ shards) (x ∷ inputs) all (suc i) low = zip_held shards inputs all.1 i (omega (arith, low))
 
 same_input : (inputs : List (List ℕ)) (i : ℕ) → AgreeAt inputs i i
-same_input inputs i s t (x, x_at, (info, ends, holds)) (y, y_at, y_has) =
-    let other = subst (λ b. HasShard b t) (same_Some y x (sym y_at ∙ x_at)) y_has in
-    let t_is = held_once x info s holds t (subst (λ k. Holds x k t) (only_info x other.0 info other.1 ends) other.2) in
-    subst (λ u. ShardsAgree s u) (sym t_is) (shards_same s)
+same_input inputs i s t (x, x_at, x_has) (y, y_at, y_has) =
+    subst (ShardsAgree s) (sym (only_shard x s t x_has (subst (HasShard t) (same_Some y x (sym y_at ∙ x_at)) y_has))) (agree_itself s)
 
 -- each two inputs agree
 pub inputs_agree : (shards : List PlacedShard) (inputs : List (List ℕ)) (n : ℕ) → AllZip IsPlacedOf shards inputs → length shards ≤ n → ((i j : ℕ) → i < j → j < n → AgreeAt inputs i j) → InputsAgree inputs
 inputs_agree shards inputs n all past agree = record {
   held = zip_held shards inputs all;
   pairs = λ i j s t one other.
-      of i j s t one other (omega (arith, zip_length IsPlacedOf shards inputs all, slice_get_within inputs i one.0 one.1, past)) (omega (arith, zip_length IsPlacedOf shards inputs all, slice_get_within inputs j other.0 other.1, past)) (order i j);
+      of i j s t one other (omega (arith, zip_length IsPlacedOf shards inputs all, slice_get_within inputs i one.0 one.1, past)) (omega (arith, zip_length IsPlacedOf shards inputs all, slice_get_within inputs j other.0 other.1, past)) (cases_order i j);
 } where
-  of : (i j : ℕ) (s t : Shard) → HoldsAt inputs i s → HoldsAt inputs j t → i < n → j < n → (i < j) ⊎ ((i ≡ j) ⊎ (j < i)) → ShardsAgree s t
-  of i j s t one other i_low j_low (inl less) = agree i j less j_low s t one other
-  of i j s t one other i_low j_low (inr (inl same)) = same_input inputs j s t (subst (λ k. HoldsAt inputs k s) same one) other
-  of i j s t one other i_low j_low (inr (inr more)) = shards_back t s (agree j i more i_low t s other one)
-
--- a clause for all numbers below one more
-pub below_more : (P : ℕ → Type 0) (n : ℕ) → ((i : ℕ) → i < n → P i) → P n → (i : ℕ) → i < n + 1 → P i
-below_more P n all one i low = of (order i n) where
-  of : (i < n) ⊎ ((i ≡ n) ⊎ (n < i)) → P i
-  of (inl less) = all i less
-  of (inr (inl same)) = subst P (sym same) one
-  of (inr (inr more)) = absurd (omega (arith, more, low))
+  of : (i j : ℕ) (s t : Shard) → HoldsAt inputs i s → HoldsAt inputs j t → i < n → j < n → (i ≡ j) ⊎ ((i < j) ⊎ (j < i)) → ShardsAgree s t
+  of i j s t one other i_low j_low (inl same) = same_input inputs j s t (subst (λ k. HoldsAt inputs k s) same one) other
+  of i j s t one other i_low j_low (inr (inl less)) = agree i j less j_low s t one other
+  of i j s t one other i_low j_low (inr (inr more)) = agree_turned t s (agree j i more i_low t s other one)

@@ -23,7 +23,7 @@ use Rattle.xet_core_structures.specs.Held.{HoldsShard}
 use Rattle.xet_core_structures.proofs.ByteUnions.{held_union}
 
 -- agreement has no order, and a shard agrees with itself
-agree_turned : (a b : Shard) → ShardsAgree a b → ShardsAgree b a
+pub agree_turned : (a b : Shard) → ShardsAgree a b → ShardsAgree b a
 agree_turned a b agree = record {
   files = λ q r s r_at s_at.
       let pair = agree.files q s r s_at r_at in
@@ -31,7 +31,7 @@ agree_turned a b agree = record {
   xorbs = λ q r s r_at s_at. sym (agree.xorbs q s r s_at r_at);
 }
 
-agree_itself : (a : Shard) → ShardsAgree a a
+pub agree_itself : (a : Shard) → ShardsAgree a a
 agree_itself a = record {
   files = λ q r s r_at s_at.
       let same = same_Some r s (sym r_at ∙ s_at) in

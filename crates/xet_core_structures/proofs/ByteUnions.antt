@@ -34,9 +34,9 @@ use Rattle.xet_shards.proofs.Widths.{fits_in_form}
 use Rattle.xet_core_structures.specs.ByteUnion.{mixed, IsUnitedFile, IsEitherFile, IsByteUnion}
 use Rattle.xet_core_structures.specs.ByteResults.{keyed_form, keyed_layout, key_of, HaveNoUnion, UnionRefusal, UnitesBytes, LoadRefusal, BytesRefusal}
 use Rattle.xet_core_structures.specs.ExportTrees.{FitsForm}
-use Rattle.xet_core_structures.specs.Held.{Holds, HoldsShard}
+use Rattle.xet_core_structures.specs.Held.{HoldsShard}
 use Rattle.xet_core_structures.specs.MergeTrees.{MergeRefused}
-use Rattle.xet_core_structures.proofs.Held.{held_once, held_whole, held_well, holds_in_form}
+use Rattle.xet_core_structures.proofs.Held.{only_shard, held_whole, held_well, holds_in_form}
 
 -- whether one set of bits includes another is decided
 bit_is : (x : ℕ) → x < 2 → (x ≡ 0) ⊎ (x ≡ 1)
@@ -179,31 +179,29 @@ module _ (s : Shard) (form : Form) (shard : IsShard s) (fits : FitsForm form) wh
 
   -- the bytes of a shard in a form hold it, under the form's key
   held_in_form : FitsSection (file_records_in form.version) (values s.files) → HoldsShard form.key s (layout_in s form)
-  held_in_form files = record { shard = shard; info = info_in s form; ends = ends_in_form; under = refl; holds = holds_in_form s form shard files }
+  held_in_form files = record { shard = shard; has = record { info = info_in s form; ends = ends_in_form; holds = holds_in_form s form shard files }; under = refl }
 
 module _ (key : DataHash) (s : Shard) (bytes : List ℕ) (held : HoldsShard key s bytes) where
   -- they have no other header and footer
-  info_found : (i : MDBShardInfo) → HasEnds bytes i → i ≡ held.info
-  info_found i ends = only_info bytes i held.info ends held.ends
+  info_found : (i : MDBShardInfo) → HasEnds bytes i → i ≡ held.has.info
+  info_found i ends = only_info bytes i held.has.info ends held.has.ends
 
   loads_well : (e : CoreError) → ¬ LoadRefusal bytes e
-  loads_well e (inl (is, unsupported)) = not_unsupported bytes held.info held.ends unsupported
-  loads_well e (inr (is, short)) = not_too_short bytes held.info held.ends short
+  loads_well e (inl (is, unsupported)) = not_unsupported bytes held.has.info held.has.ends unsupported
+  loads_well e (inr (is, short)) = not_too_short bytes held.has.info held.has.ends short
 
   fits_key : IsHash key
-  fits_key = subst IsHash held.under held.ends.footer_widths.key
+  fits_key = subst IsHash held.under held.has.ends.footer_widths.key
 
 -- the union of bytes that hold two shards that agree, under one key
 module _ (a b c : Shard) (key : DataHash) (x y : List ℕ) (one : HoldsShard key a x) (other : HoldsShard key b y) (agree : ShardsAgree a b) (union : IsUnion a b c) where
   union_found : (out : List ℕ) → UnitesBytes x y out → (out ≡ keyed_layout c key) × HasFewRows c
   union_found out (i, j, d, i_ends, j_ends, have, is) =
-      let i_is = info_found key a x one i i_ends in
-      let j_is = info_found key b y other j j_ends in
-      let a_is = held_once x one.info a one.holds have.first (subst (λ k. Holds x k have.first) i_is have.holds_first) in
-      let b_is = held_once y other.info b other.holds have.second (subst (λ k. Holds y k have.second) j_is have.holds_second) in
+      let a_is = only_shard x a have.first one.has (record { info = i; ends = i_ends; holds = have.holds_first }) in
+      let b_is = only_shard y b have.second other.has (record { info = j; ends = j_ends; holds = have.holds_second }) in
       let bytes : IsByteUnion a b d = subst (λ p. p) (λ k. IsByteUnion (a_is k) (b_is k) d) have.result in
       let d_is = union_unique a b d c (byte_union_is_union a b d one.shard other.shard agree bytes) union in
-      (is ∙ (λ k. keyed_layout (d_is k) (key_of (i_is k))) ∙ ap (keyed_layout c) one.under, subst HasFewRows d_is have.rows)
+      (is ∙ (λ k. keyed_layout (d_is k) (key_of (info_found key a x one i i_ends k))) ∙ ap (keyed_layout c) one.under, subst HasFewRows d_is have.rows)
 
   -- it is the layout of their union under the key, and holds it
   pub held_union : (out : List ℕ) → UnitesBytes x y out → (out ≡ keyed_layout c key) × HoldsShard key c out
@@ -213,17 +211,17 @@ module _ (a b c : Shard) (key : DataHash) (x y : List ℕ) (one : HoldsShard key
       let fits : FitsForm (keyed_form key) = record { key = fits_key key a x one; creation = omega arith; expiry = omega arith } in
       (found.0, subst (HoldsShard key c) (sym found.0) (held_in_form c (keyed_form key) shard fits (files_fit c shard)))
 
-  no_union : HasFewRows c → ¬ HaveNoUnion x one.info y other.info
-  no_union few (inl files) = files.none a.files b.files c.files one.holds.files other.holds.files (union_is_byte_union a b c one.shard other.shard agree union).files few.files
-  no_union few (inr xorbs) = xorbs.none a.xorbs b.xorbs c.xorbs one.holds.xorbs other.holds.xorbs (union_is_byte_union a b c one.shard other.shard agree union).xorbs few.xorbs
+  no_union : HasFewRows c → ¬ HaveNoUnion x one.has.info y other.has.info
+  no_union few (inl files) = files.none a.files b.files c.files one.has.holds.files other.has.holds.files (union_is_byte_union a b c one.shard other.shard agree union).files few.files
+  no_union few (inr xorbs) = xorbs.none a.xorbs b.xorbs c.xorbs one.has.holds.xorbs other.has.holds.xorbs (union_is_byte_union a b c one.shard other.shard agree union).xorbs few.xorbs
 
-  refused : (err : CoreError) → UnionRefusal x one.info y other.info err → MergeRefused c err
+  refused : (err : CoreError) → UnionRefusal x one.has.info y other.has.info err → MergeRefused c err
   refused err (inl (is, differ)) = absurd (differ (one.under ∙ sym other.under))
   refused err (inr (same, inl (inl no_memory))) = inl no_memory
-  refused err (inr (same, inl (inr (inl (is, inl cut))))) = absurd (held_whole x one.info a one.holds cut)
-  refused err (inr (same, inl (inr (inl (is, inr cut))))) = absurd (held_whole y other.info b other.holds cut)
-  refused err (inr (same, inl (inr (inr (is, inl bad))))) = absurd (held_well x one.info a one.holds bad)
-  refused err (inr (same, inl (inr (inr (is, inr bad))))) = absurd (held_well y other.info b other.holds bad)
+  refused err (inr (same, inl (inr (inl (is, inl cut))))) = absurd (held_whole x one.has.info a one.has.holds cut)
+  refused err (inr (same, inl (inr (inl (is, inr cut))))) = absurd (held_whole y other.has.info b other.has.holds cut)
+  refused err (inr (same, inl (inr (inr (is, inl bad))))) = absurd (held_well x one.has.info a one.has.holds bad)
+  refused err (inr (same, inl (inr (inr (is, inr bad))))) = absurd (held_well y other.has.info b other.has.holds bad)
   refused err (inr (same, inr (is, none))) = inr (is, λ few. no_union few none)
 
   pub refused_union : (err : CoreError) → BytesRefusal x y err → MergeRefused c err

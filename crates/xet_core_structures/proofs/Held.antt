@@ -22,13 +22,14 @@ use Rattle.xet_shards.specs.Layout.{layout_of, info_of}
 use Rattle.xet_shards.specs.Section.{total_rows}
 use Rattle.xet_shards.specs.SectionReading.{files_of}
 use Rattle.xet_shards.specs.Shard.{Shard, IsShard}
+use Rattle.xet_shards.proofs.EndsUnique.{only_info}
 use Rattle.xet_shards.proofs.Files.{well_formed_values}
 use Rattle.xet_shards.proofs.Maps.{rising_keys}
 use Rattle.xet_shards.proofs.Readback.{handed_same, file_section_in, xorb_section_in}
 use Rattle.xet_shards.proofs.SameBytes.{same_values}
 use Rattle.xet_shards.proofs.Sections.{xorbs_fit, files_laws}
 use Rattle.xet_shards.proofs.SectionUnique.{only_list, first_of_section, section_or_passes, section_or_cut}
-use Rattle.xet_core_structures.specs.Held.{IsCutInOrder, IsBadSection, IsSectionOf, files_at, xorbs_at, Holds, IsCut, IsBad}
+use Rattle.xet_core_structures.specs.Held.{IsCutInOrder, IsBadSection, IsSectionOf, files_at, xorbs_at, Holds, HasShard, IsCut, IsBad}
 
 -- the first of strictly ascending keys strictly ascend
 all_front : {X : Type 0} (P : X → Type 0) (xs ys : List X) → AllByRecursion P (xs ++ ys) → AllByRecursion P xs
@@ -106,6 +107,11 @@ module _ (bytes : List ℕ) (info : MDBShardInfo) (s : Shard) (holds : Holds byt
   pub held_well : ¬ IsBad bytes info
   held_well (inl files) = not_bad (files_of info) (files_laws (version_of info.header.version)) (files_at bytes info) s.files holds.files files
   held_well (inr (whole, xorbs)) = not_bad xorb_records xorb_laws (xorbs_at bytes info) s.xorbs holds.xorbs xorbs
+
+-- bytes hold one shard, with the header and the footer that they have
+pub only_shard : (bytes : List ℕ) (s t : Shard) → HasShard s bytes → HasShard t bytes → t ≡ s
+only_shard bytes s t one other =
+    held_once bytes one.info s one.holds t (subst (λ info. Holds bytes info t) (only_info bytes other.info one.info other.ends one.ends) other.holds)
 
 -- the bytes of a shard hold it
 same_xorbs : {X : Type 0} (xs : List X) → map (λ x. x) xs ≡ xs

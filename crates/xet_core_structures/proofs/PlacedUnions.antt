@@ -22,7 +22,7 @@ use Rattle.xet_core_structures.specs.Placed.{CountsRows, Places, PlacesAll, MayU
 use Rattle.xet_core_structures.specs.Placed.KeepsNext.{takes_first, takes_second, takes_both}
 use Rattle.xet_core_structures.proofs.Combining.{HasHash, IsUnder, none_combined, more_combined, passed_on}
 use Rattle.xet_core_structures.proofs.OneSection.{header_of_found}
-use Rattle.xet_core_structures.proofs.Placing.{zip_push}
+use Rattle.xet_core_structures.proofs.Zipped.{zipped_append}
 
 module _ {H R : Type 0} (K : RecordKind H R) (makes : Option R → Option R → Option R → Type 0) where
   -- what comes first of a list comes after what two others and their union have
@@ -153,7 +153,7 @@ module _ {H R : Type 0} (K : RecordKind H R) (laws : KindLaws K) where
           second_is = uniting.second_is ∙ ap (λ rs. uniting.before_2 ++ rs) second ∙ sym (append_assoc uniting.before_2 (option_to_list other) ys');
           places_1 = places_1;
           places_2 = places_2;
-          places = zip_push (Places K) made uniting.zs p z uniting.places places;
+          places = zipped_append (Places K) made (p ∷ []) uniting.zs (z ∷ []) uniting.places (places, tt);
           ascends_1 = ascends_1;
           ascends_2 = ascends_2;
           combined = more_combined K makes k one other (Some z) one_hash other_hash z_under is_made uniting.before_1 uniting.before_2 uniting.zs passed uniting.combined;

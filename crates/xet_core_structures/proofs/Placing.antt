@@ -20,13 +20,7 @@ use Rattle.xet_core_structures.specs.Placed.{Places, PlacesAll, TakesPlaced}
 use Rattle.xet_core_structures.specs.SideBySide.{Follows, ReadsFollowing, FollowingFails, TakesNoAscending}
 use Rattle.xet_core_structures.proofs.Combining.{IsUnder, before_later, before_push, ascends_push}
 use Rattle.xet_core_structures.proofs.OneSection.{HasPending, pending_start, pending_on, pending_header, pending_serves, under_pending, no_next}
-
--- one item more of each of two lists
-pub zip_push : {A B : Type 0} (P : A → B → Type 0) (xs : List A) (ys : List B) (x : A) (y : B) → AllZip P xs ys → P x y → AllZip P (xs ++ x ∷ []) (ys ++ y ∷ [])
-zip_push P [] [] x y all one = (one, tt)
-zip_push P [] (b ∷ ys) x y all one = absurd all
-zip_push P (a ∷ xs) [] x y all one = absurd all
-zip_push P (a ∷ xs) (b ∷ ys) x y all one = (all.0, zip_push P xs ys x y all.1 one)
+use Rattle.xet_core_structures.proofs.Zipped.{zipped_append}
 
 module _ {H R : Type 0} (K : RecordKind H R) where
   -- records were read, whose hashes strictly ascend, and the header of the next
@@ -75,7 +69,7 @@ module _ {H R : Type 0} (K : RecordKind H R) (laws : KindLaws K) (version : Form
         pending = pending_on K laws version start now left next placing.found placing.pending mid new after (Some h) next' (Some r) (λ g same. is ∙ same) (r, refl, read) following;
         ascends = ascends_push K (K.hash_of h) placing.found (Some r) under.0 before placing.ascends;
         passed = passed_next next' following.follows;
-        places = zip_push (Places K) placed placing.found p r placing.places (record {
+        places = zipped_append (Places K) placed (p ∷ []) placing.found (r ∷ []) placing.places (record {
           header = rw header_is (pending_header K laws version start now left next placing.found placing.pending h is);
           rows = rw header_is (record {
             stored = read.stored;
@@ -85,7 +79,7 @@ module _ {H R : Type 0} (K : RecordKind H R) (laws : KindLaws K) (version : Form
             taken = (bytes_left mid, rows_is ∙ Takes-consumes now mid (K.bytes_after read.stored) read.taken);
             handed = read.handed;
           });
-        });
+        }, tt);
       }
 
       -- the one after it is not read, or does not follow

@@ -13,10 +13,10 @@ use Rattle.xet_shards.proofs.Readback.{file_section_in, xorb_section_in}
 use Rattle.xet_core_structures.specs.declared.set_operations.MergePlan.{MergePlan}
 use Rattle.xet_core_structures.specs.declared.set_operations.MergePlan.TheVariants.{Leaf, Both'}
 use Rattle.xet_core_structures.specs.ByteResults.{keyed_form, keyed_layout, keyed_info, key_of}
-use Rattle.xet_core_structures.specs.Held.{Holds}
+use Rattle.xet_core_structures.specs.Held.{Holds, HasShard}
 use Rattle.xet_core_structures.specs.MergeTrees.{leaves, TreeWrites, HaveXorbs}
 use Rattle.xet_core_structures.specs.Readable.{IsWrittenUnder}
-use Rattle.xet_core_structures.proofs.Held.{held_once}
+use Rattle.xet_core_structures.proofs.Held.{only_shard}
 use Rattle.xet_core_structures.proofs.LookupsFound.{union_under}
 use Rattle.xet_core_structures.proofs.Readable.{united_xorbs}
 
@@ -55,22 +55,19 @@ module _ (key : DataHash) (c : Shard) (bytes : List ℕ) (info : MDBShardInfo) (
       let info_is = sym info_under in
       subst (λ p. p) (λ k. Holds (bytes_are k) (info_is k) c) in_layout
 
-  -- the bytes hold no other shard
-  pub only_under : (i : MDBShardInfo) (s : Shard) → HasEnds bytes i → Holds bytes i s → s ≡ c
-  only_under i s ends holds =
-      held_once bytes info c held_under s (subst (λ j. Holds bytes j s) (only_info bytes i info ends written.ends) holds)
+  pub shard_under : HasShard c bytes
+  shard_under = record { info = info; ends = written.ends; holds = held_under }
 
--- the xorbs of each shard that the bytes hold, with the footer at their end
+-- the xorbs of each shard that the bytes hold
 module _ (inputs : List (List ℕ)) where
-  tree_holds : (plan : MergePlan) (bytes : List ℕ) (info : MDBShardInfo) (s : Shard) → HaveXorbs inputs plan → TreeWrites inputs plan bytes → HasEnds bytes info → Holds bytes info s
-      → All IsXorb (values s.xorbs)
-  tree_holds (Leaf i) bytes info s have is ends holds = have i bytes info s (Contains-push [] i) is ends holds
-  tree_holds (Both' p left q right) bytes info s have (x, y, x_written, y_written, (i, j, c, x_ends, y_ends, result, is)) ends holds =
-      let first = tree_holds left x i result.first (λ k input at t member. have k input at t (Contains-append_left (leaves left) (leaves right) k member)) x_written x_ends result.holds_first in
-      let second = tree_holds right y j result.second (λ k input at t member. have k input at t (Contains-append_right (leaves left) (leaves right) k member)) y_written y_ends result.holds_second in
+  tree_holds : (plan : MergePlan) (bytes : List ℕ) (s : Shard) → HaveXorbs inputs plan → TreeWrites inputs plan bytes → HasShard s bytes → All IsXorb (values s.xorbs)
+  tree_holds (Leaf i) bytes s have is holds = have i s (Contains-push [] i) (bytes, is, holds)
+  tree_holds (Both' p left q right) bytes s have (x, y, x_written, y_written, (i, j, c, x_ends, y_ends, result, is)) holds =
+      let first = tree_holds left x result.first (λ k t member. have k t (Contains-append_left (leaves left) (leaves right) k member)) x_written (record { info = i; ends = x_ends; holds = result.holds_first }) in
+      let second = tree_holds right y result.second (λ k t member. have k t (Contains-append_right (leaves left) (leaves right) k member)) y_written (record { info = j; ends = y_ends; holds = result.holds_second }) in
       let under = subst (λ bytes. IsWrittenUnder (key_of i) c bytes (keyed_info c (key_of i))) (sym is) (union_under x i y j c x_ends result) in
-      subst (λ (t : Shard). All IsXorb (values t.xorbs)) (sym (only_under (key_of i) c bytes (keyed_info c (key_of i)) under info s ends holds)) (united_xorbs x i y j c result first second)
+      subst (λ (t : Shard). All IsXorb (values t.xorbs)) (only_shard bytes s c holds (shard_under (key_of i) c bytes (keyed_info c (key_of i)) under)) (united_xorbs x i y j c result first second)
 
   pub tree_xorbs : (plan : MergePlan) (key : DataHash) (c : Shard) (bytes : List ℕ) (info : MDBShardInfo) → HaveXorbs inputs plan → TreeWrites inputs plan bytes → IsWrittenUnder key c bytes info
       → All IsXorb (values c.xorbs)
-  tree_xorbs plan key c bytes info have writes under = tree_holds plan bytes info c have writes under.ends (held_under key c bytes info under)
+  tree_xorbs plan key c bytes info have writes under = tree_holds plan bytes c have writes (shard_under key c bytes info under)

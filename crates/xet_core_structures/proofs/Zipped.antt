@@ -1,5 +1,5 @@
 -- Lists whose items are related place by place.
-use Rattle.std.proofs.Common.{◌≡◌, List, [], ◌∷◌, ◌++◌, map, refl, ap, arith}
+use Rattle.std.proofs.Common.{◌≡◌, zero, suc, List, [], ◌∷◌, ◌++◌, map, refl, ap, subst, arith}
 use Rattle.std.specs.List.{AllZip}
 use Rattle.std.specs.Prelude.{All, Contains}
 use Rattle.std.proofs.lemmas.List.Elements.{All-drop, Contains-append_right}
@@ -11,6 +11,20 @@ zipped_parts R (a ∷ ks) bs [] related = absurd related
 zipped_parts R (a ∷ ks) bs (c ∷ cs) (here, rest) =
     let parts = zipped_parts R ks bs cs rest in
     (c ∷ parts.0, parts.1, ap (λ ds. c ∷ ds) parts.2, (here, parts.3), parts.4)
+
+-- two lists in a row are related to two that their parts are related to
+pub zipped_append : {A B : Type 0} (R : A → B → Type 0) (ks js : List A) (bs cs : List B) → AllZip R ks bs → AllZip R js cs → AllZip R (ks ++ js) (bs ++ cs)
+zipped_append R [] js [] cs one other = other
+zipped_append R [] js (b ∷ bs) cs one other = absurd one
+zipped_append R (a ∷ ks) js [] cs one other = absurd one
+zipped_append R (a ∷ ks) js (b ∷ bs) cs (here, rest) other = (here, zipped_append R ks js bs cs rest other)
+
+-- an item of the second list is related to one of the first
+pub zipped_member : {A B : Type 0} (R : A → B → Type 0) (ks : List A) (bs : List B) → AllZip R ks bs → (b : B) → Contains bs b → (a : A) × R a b
+zipped_member R ks [] related b (k, low, at) = absurd (omega (arith, low))
+zipped_member R [] (c ∷ bs) related b member = absurd related
+zipped_member R (a ∷ ks) (c ∷ bs) (here, rest) b (zero, low, at) = (a, subst (R a) at here)
+zipped_member R (a ∷ ks) (c ∷ bs) (here, rest) b (suc k, low, at) = zipped_member R ks bs rest b (k, omega (arith, low), at)
 
 -- a relation that follows from another
 pub zipped_as : {A B : Type 0} (R Q : A → B → Type 0) → ((a : A) (b : B) → R a b → Q a b) → (ks : List A) (bs : List B) → AllZip R ks bs → AllZip Q ks bs

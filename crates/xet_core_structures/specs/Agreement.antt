@@ -26,8 +26,8 @@ use Rattle.xet_core_structures.specs.declared.set_operations.parts.PlacedShard.{
 use Rattle.xet_core_structures.specs.declared.set_operations.placed.PlacedRecord.{PlacedRecord}
 use Rattle.xet_core_structures.specs.ByteResults.{key_of, LoadRefusal, Records}
 use Rattle.xet_core_structures.specs.Combining.{key_of_record}
-use Rattle.xet_core_structures.specs.Held.{Holds}
-use Rattle.xet_core_structures.specs.MergeTrees.{leaves, TreeWrites}
+use Rattle.xet_core_structures.specs.Held.{HasShard}
+use Rattle.xet_core_structures.specs.MergeTrees.{leaves, TreeWrites, InputIs}
 use Rattle.xet_core_structures.specs.Parts.{PlacesShard, SectionsRefusal}
 use Rattle.xet_core_structures.specs.Placed.{Places, hash_at, IsBefore}
 
@@ -87,13 +87,9 @@ DisagreeShards s t (File q) =
 DisagreeShards s t (Xorb q) =
     (a b : MDBXorbInfo) × (get s.xorbs q ≡ Some a) × (get t.xorbs q ≡ Some b) × (¬ (a ≡ b))
 
--- bytes hold a shard, at the offsets of their footer
-abbrev pub HasShard : List ℕ → Shard → Type 0
-HasShard bytes s = (info : MDBShardInfo) × HasEnds bytes info × Holds bytes info s
-
--- the input with this number does
+-- the input with this number holds a shard
 abbrev pub HoldsAt : List (List ℕ) → ℕ → Shard → Type 0
-HoldsAt inputs i s = (bytes : List ℕ) × (slice_get inputs i ≡ Some bytes) × HasShard bytes s
+HoldsAt inputs i s = InputIs inputs (HasShard s) i
 
 -- one of the inputs does
 abbrev pub IsHeld : List (List ℕ) → Shard → Type 0

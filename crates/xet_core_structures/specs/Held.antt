@@ -90,14 +90,18 @@ pub record Holds (bytes : List ℕ) (info : MDBShardInfo) (s : Shard) : Type 0 w
   pub files : IsSectionOf (files_of info) (files_at bytes info) s.files
   pub xorbs : IsSectionOf xorb_records (xorbs_at bytes info) s.xorbs
 
--- the bytes hold this shard under a key: they have a header and a footer, and the footer has the key
--- and leads to both sections; nothing is said of tables, timestamps and sums
-pub record HoldsShard (key : DataHash) (s : Shard) (bytes : List ℕ) : Type 0 where
-  pub shard : IsShard s
+-- the bytes hold this shard: they have a header and a footer, and the footer leads to both sections;
+-- nothing is said of tables, timestamps and sums
+pub record HasShard (s : Shard) (bytes : List ℕ) : Type 0 where
   pub info : MDBShardInfo
   pub ends : HasEnds bytes info
-  pub under : info.metadata.chunk_hash_hmac_key ≡ key
   pub holds : Holds bytes info s
+
+-- the same of a well-formed shard, under a key, which the footer has
+pub record HoldsShard (key : DataHash) (s : Shard) (bytes : List ℕ) : Type 0 where
+  pub shard : IsShard s
+  pub has : HasShard s bytes
+  pub under : has.info.metadata.chunk_hash_hmac_key ≡ key
 
 -- the file section is whole, and its hashes strictly ascend
 abbrev pub HasFiles : List ℕ → MDBShardInfo → Type 0

@@ -8,8 +8,6 @@ use Rattle.xet_base.specs.declared.merklehash.DataHash.{DataHash}
 use Rattle.xet_base.specs.Errors.{IsInvalidShard}
 use Rattle.xet_base.specs.KeyedHash.{no_key}
 use Rattle.xet_records.specs.XorbRecord.{IsXorb}
-use Rattle.xet_shards.specs.declared.shard_format.info.MDBShardInfo.{MDBShardInfo}
-use Rattle.xet_shards.specs.Ends.{HasEnds}
 use Rattle.xet_shards.specs.Joins.{IsJoinOf, AgreePairwise}
 use Rattle.xet_shards.specs.SetOperations.{HasFewRows}
 use Rattle.xet_shards.specs.Shard.{Shard}
@@ -17,7 +15,7 @@ use Rattle.xet_shards.specs.WrittenShard.{IsBytesOf}
 use Rattle.xet_core_structures.specs.declared.set_operations.MergePlan.{MergePlan}
 use Rattle.xet_core_structures.specs.declared.set_operations.MergePlan.TheVariants.{Leaf, Both'}
 use Rattle.xet_core_structures.specs.ByteResults.{UnitesBytes, BytesRefusal}
-use Rattle.xet_core_structures.specs.Held.{Holds, HoldsShard}
+use Rattle.xet_core_structures.specs.Held.{HasShard, HoldsShard}
 
 -- the inputs at the leaves, from left to right
 abbrev pub leaves : MergePlan → List ℕ
@@ -47,17 +45,15 @@ TreeRefusal inputs (Both' p left q right) e =
     × (TreeRefusal inputs right e
     ⊎ ((y : List ℕ) × TreeWrites inputs right y × BytesRefusal x y e)))
 
--- the xorbs of each shard that the input at a leaf holds, at the offsets of its footer, are
--- well-formed
-abbrev pub HaveXorbs : List (List ℕ) → MergePlan → Type 0
-HaveXorbs inputs plan =
-    (i : ℕ) (bytes : List ℕ) (info : MDBShardInfo) (s : Shard) → Contains (leaves plan) i
-    → slice_get inputs i ≡ Some bytes → HasEnds bytes info → Holds bytes info s
-    → All IsXorb (values s.xorbs)
-
 -- there is an input at an index, and it is such bytes
 abbrev pub InputIs : List (List ℕ) → (List ℕ → Type 0) → ℕ → Type 0
 InputIs inputs Is i = (bytes : List ℕ) × (slice_get inputs i ≡ Some bytes) × Is bytes
+
+-- the xorbs of each shard that the input at a leaf holds are well-formed
+abbrev pub HaveXorbs : List (List ℕ) → MergePlan → Type 0
+HaveXorbs inputs plan =
+    (i : ℕ) (s : Shard) → Contains (leaves plan) i → InputIs inputs (HasShard s) i
+    → All IsXorb (values s.xorbs)
 
 -- a tree with a union, whose inputs at the leaves are bytes of these shards, from left to right;
 -- each two of the shards agree, and this is their join

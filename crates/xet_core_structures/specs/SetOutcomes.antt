@@ -13,9 +13,10 @@ use Rattle.xet_core_structures.specs.Held.{ReadsSections}
 use Rattle.xet_core_structures.specs.Readable.{WritesInForm}
 use Rattle.xet_core_structures.specs.Streams.{Streams}
 
--- an operation between two states of its sources and its output, with the headers and footers of its sources: what it wrote
--- or why it failed, that lookups can read it, what it read, that no device failed, that the sources
--- keep their bytes, and that the footer's numbers are within their widths
+-- an operation between two states of its sources and its output, with the headers and footers of
+-- its sources: what it wrote or why it failed, that lookups can read it, what it read, that no
+-- device failed, that the sources keep their bytes, and that the footer's numbers are within their
+-- widths
 pub record Operates (IsResult : Shard → Shard → Shard → Type 0) (Fails : CoreError → Type 0)
     (i j : MDBShardInfo) (old new : Streams) (result : CoreResult MDBShardInfo) : Type 0 where
   pub written : MatchResult result

@@ -12,8 +12,9 @@ ghost use Rattle.xet_core_structures.specs.ByteResults.{keyed_layout};
 ghost use Rattle.xet_core_structures.specs.MergeTrees.{leaves, HasUnion, TreeWrites};
 
 /// Of inputs, each of which holds a shard, either each two agree or two do not. If they agree, the
-/// bytes that a tree with a union writes are the layout, under the key that all its leaves have, of the join of the shards that
-/// its leaves hold, whatever tables, timestamps and sums the inputs have.
+/// bytes that a tree with a union writes are the layout, under the key that all its leaves have, of
+/// the join of the shards that its leaves hold, whatever tables, timestamps and sums the inputs
+/// have.
 pub fn merges_of_agreeing_inputs()
     ensures not_both { (inputs : List (List ℕ)) → (d : Disagreement) → InputsDisagree inputs d
         → ¬ InputsAgree inputs }

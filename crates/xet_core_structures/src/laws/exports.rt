@@ -64,11 +64,12 @@ pub fn joins_keep_runs()
 
 /// An export of the bytes of a shard, in either version, writes the shard under the key, in version
 /// 3, with auxiliary rows or without (`exports`). Exports of shards that agree, in either version,
-/// under one key and with their files, merge to the export of their join under this key in version 3
-/// with all tables, created at 0 and without expiry (`bytes`). Exports of one shard with all tables under one key
-/// differ in the two timestamps of the footer alone (`timestamps`). So the union of exports and the
-/// export of the union are the same bytes but for these (`exchanged`). Nothing is written only if an
-/// allocation fails or what is joined, with these rows or without, has too many (`refusals`).
+/// under one key and with their files, merge to the export of their join under this key in version
+/// 3 with all tables, created at 0 and without expiry (`bytes`). Exports of one shard with all
+/// tables under one key differ in the two timestamps of the footer alone (`timestamps`). So the
+/// union of exports and the export of the union are the same bytes but for these (`exchanged`).
+/// Nothing is written only if an allocation fails or what is joined, with these rows or without,
+/// has too many (`refusals`).
 pub fn exports_merge_to_the_export_of_the_join()
     ensures exports { (aux : Bool) → (s : Shard) → (form : Form) → (old new : Source)
         → (before after : Option (List ℕ)) → (size : ℕ) → IsBytesOf s (bytes_left old)

@@ -1,7 +1,8 @@
 use Rattle.std.proofs.Common.{ℕ, ◌<◌, ◌≤◌, length, rules, subst}
 use Rattle.std.specs.Prelude.{MatchOption}
+use borrow.Author.Count.{below_more}
 use Rattle.xet_core_structures.specs.Agreement.{AgreeAt, InputsDisagree}
-use Rattle.xet_core_structures.proofs.AgreeingInputs.{below_more, inputs_agree}
+use Rattle.xet_core_structures.proofs.AgreeingInputs.{inputs_agree}
 use Rattle.xet_core_structures.proofs.set_operations.agreement.compare_all.Goals as goal
 
 pub returns-in-Some : goal.returns-in-Some

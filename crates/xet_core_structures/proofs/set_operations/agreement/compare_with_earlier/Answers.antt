@@ -1,7 +1,7 @@
 use Rattle.std.proofs.Common.{◌≤◌, arith, rules, subst}
 use Rattle.std.specs.Prelude.{MatchOption}
+use borrow.Author.Count.{below_more}
 use Rattle.xet_core_structures.specs.Agreement.{AgreeAt, InputsDisagree}
-use Rattle.xet_core_structures.proofs.AgreeingInputs.{below_more}
 use Rattle.xet_core_structures.proofs.set_operations.agreement.compare_with_earlier.Goals as goal
 
 pub returns-in-Some : goal.returns-in-Some
