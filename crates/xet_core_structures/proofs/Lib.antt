@@ -30,6 +30,7 @@ pub mod Refusing
 pub mod Results
 pub mod SectionWays
 pub mod SideBySide
+pub mod SmallerShards
 pub mod TreeXorbs
 pub mod TreesOfExports
 pub mod Turns

@@ -100,6 +100,12 @@ pub fn union_with_nothing()
     ensures left { (a c : Shard) → IsUnion empty_shard a c → c ≡ a }
 {}
 
+/// The empty shard is a shard, and so is a difference of which the second is one.
+pub fn empty_and_differences_are_shards()
+    ensures empty { IsShard empty_shard }
+    ensures difference { (a b d : Shard) → IsShard b → IsDifference a b d → IsShard d }
+{}
+
 /// Shards that agree can be united if the rows of their union fit `u32`.
 pub fn agreeing_shards_unite()
     ensures { (a b : Shard) → IsShard a → IsShard b → ShardsAgree a b
