@@ -29,10 +29,11 @@ use Rattle.xet_records.proofs.RecordKinds.{file_laws, parts_read}
 use Rattle.xet_shards.specs.declared.shard_format.written.WrittenFiles.{WrittenFiles}
 use Rattle.xet_shards.specs.Written.{IsFileOf, HasWritten}
 use Rattle.xet_core_structures.specs.ByteUnion.{mixed}
-use Rattle.xet_core_structures.specs.MixedFiles.{MixesFiles, CopiesEither, EitherFails}
+use Rattle.xet_core_structures.specs.MixedFiles.{WritesMix, WritesEither, EitherFails}
 use Rattle.xet_core_structures.specs.MixedFiles.EitherFails.{output_fails as either_output_fails, first_fails as either_first_fails, second_fails as either_second_fails}
 use Rattle.xet_core_structures.specs.SideBySide.{IsRecordHeader, PairFails}
 use Rattle.xet_core_structures.specs.SideBySide.PairFails.{output_fails, first_fails, second_fails}
+use Rattle.xet_core_structures.specs.Streams.{sources, streams}
 use Rattle.xet_core_structures.proofs.Mixing.{rows_of_mix, rows_chosen}
 use Rattle.xet_core_structures.proofs.Pairs.{record_of}
 use Rattle.xet_core_structures.proofs.OneSection.{serves_on, taken_serves}
@@ -40,8 +41,8 @@ use Rattle.xet_core_structures.proofs.OneSection.{serves_on, taken_serves}
 -- a failure at some part is one of the whole
 module _ (g h : FileDataSequenceHeader) (Refused : Option MDBFileInfo → Option MDBFileInfo → Type 0) where
   pub part_fails : (old_1 mid_1 new_1 old_2 mid_2 new_2 : Source) (xs ys : List ℕ) (count_1 count_2 : ℕ) (failure : CopyFailure) → Takes old_1 mid_1 xs → Takes old_2 mid_2 ys
-      → length xs + 48 * count_1 ≤ 48 * rows_after g → length ys + 48 * count_2 ≤ 48 * rows_after h → EitherFails mid_1 new_1 mid_2 new_2 count_1 count_2 failure
-      → PairFails file_records (Some g) (Some h) old_1 new_1 old_2 new_2 Refused failure
+      → length xs + 48 * count_1 ≤ 48 * rows_after g → length ys + 48 * count_2 ≤ 48 * rows_after h → EitherFails (sources mid_1 mid_2) (sources new_1 new_2) count_1 count_2 failure
+      → PairFails file_records (Some g) (Some h) (sources old_1 old_2) (sources new_1 new_2) Refused failure
   part_fails old_1 mid_1 new_1 old_2 mid_2 new_2 xs ys count_1 count_2 failure first second in_1 in_2 (either_output_fails e is device one two) =
       output_fails e is device (one ∙ (taken_serves old_1 mid_1 xs first).bytes) (two ∙ (taken_serves old_2 mid_2 ys second).bytes)
   part_fails old_1 mid_1 new_1 old_2 mid_2 new_2 xs ys count_1 count_2 failure first second in_1 in_2 (either_first_fails e is fails serves) =
@@ -49,11 +50,11 @@ module _ (g h : FileDataSequenceHeader) (Refused : Option MDBFileInfo → Option
   part_fails old_1 mid_1 new_1 old_2 mid_2 new_2 xs ys count_1 count_2 failure first second in_1 in_2 (either_second_fails e is fails serves) =
       second_fails e is h refl (source_fails_later old_2 mid_2 new_2 ys (48 * count_2) (48 * rows_after h) e second fails in_2) (serves_on old_1 mid_1 new_1 (taken_serves old_1 mid_1 xs first) serves)
 
-  pub no_output : (one two : Source) (failure : CopyFailure) → IsOutputFailure failure → PairFails file_records (Some g) (Some h) one one two two Refused failure
+  pub no_output : (one two : Source) (failure : CopyFailure) → IsOutputFailure failure → PairFails file_records (Some g) (Some h) (sources one two) (sources one two) Refused failure
   no_output one two (Input e) none = absurd none
   no_output one two (Output e) is = output_fails e refl is refl refl
 
-  pub not_added : (old_1 new_1 old_2 new_2 : Source) (e : CoreError) → Serves old_1 new_1 → Serves old_2 new_2 → e ≡ OutOfMemory → PairFails file_records (Some g) (Some h) old_1 new_1 old_2 new_2 Refused (Output e)
+  pub not_added : (old_1 new_1 old_2 new_2 : Source) (e : CoreError) → Serves old_1 new_1 → Serves old_2 new_2 → e ≡ OutOfMemory → PairFails file_records (Some g) (Some h) (sources old_1 old_2) (sources new_1 new_2) Refused (Output e)
   not_added old_1 new_1 old_2 new_2 e first second is = output_fails e refl (subst IsWriteError (sym is) (tt, λ none. none)) first.bytes second.bytes
 
 module _ (g h : FileDataSequenceHeader) (old_1 a_1 b_1 c_1 new_1 old_2 a_2 b_2 c_2 new_2 : Source) (start w0 w1 w2 w3 w4 : Option (List ℕ)) where
@@ -61,11 +62,11 @@ module _ (g h : FileDataSequenceHeader) (old_1 a_1 b_1 c_1 new_1 old_2 a_2 b_2 c
       → g.file_hash ≡ h.file_hash → g.num_entries ≡ h.num_entries → total ≡ 1 + rows_after (mixed_header g h) → rows + total ≤ 4294967295 → Appends start w0 (header_row (mixed_header g h))
       → CopiesRows segment_row FitsSegment (λ s. s) (Takes old_1 a_1) w0 w1 g.num_entries ss → size ≡ sum_by (λ s. s.unpacked_segment_bytes) ss
       → ReadsRows segment_row FitsSegment (λ s. s) (Takes old_2 a_2) h.num_entries ts
-      → CopiesEither hash_row FitsHashRow clear a_1 b_1 a_2 b_2 (part_rows Verification g) (part_rows Verification h) w1 w2
-      → CopiesEither hash_row FitsHashRow clear b_1 c_1 b_2 c_2 (part_rows MetadataExt g) (part_rows MetadataExt h) w2 w3
-      → CopiesEither hash_row FitsHashRow clear c_1 new_1 c_2 new_2 (part_rows AuxExt g) (part_rows AuxExt h) w3 w4
+      → WritesEither hash_row FitsHashRow clear (streams a_1 a_2 w1) (streams b_1 b_2 w2) (part_rows Verification g) (part_rows Verification h)
+      → WritesEither hash_row FitsHashRow clear (streams b_1 b_2 w2) (streams c_1 c_2 w3) (part_rows MetadataExt g) (part_rows MetadataExt h)
+      → WritesEither hash_row FitsHashRow clear (streams c_1 c_2 w3) (streams new_1 new_2 w4) (part_rows AuxExt g) (part_rows AuxExt h)
       → ((before : List MDBFileInfo) → (file : MDBFileInfo) → HasWritten v before → IsFileOf g.file_hash.word0 total size file → HasWritten w (before ++ file ∷ []))
-      → MixesFiles g h old_1 new_1 old_2 new_2 rows (HasWritten v) (HasWritten w) start w4
+      → WritesMix g h (streams old_1 old_2 start) (streams new_1 new_2 w4) rows (HasWritten v) (HasWritten w)
   unfolding file_record_bytes file_rows_bytes
   mix_written ss ts size rows total v w first second hash count counted fits front segments sized skipped vs ms xs adds =
       let firsts = these_rows vs.firsts ms.firsts xs.firsts in

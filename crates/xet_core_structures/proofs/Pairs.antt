@@ -15,23 +15,24 @@ use Rattle.xet_records.specs.RecordKind.{RecordKind, KindLaws}
 use Rattle.xet_records.specs.Reading.{ReadsRowsAfter}
 use Rattle.xet_shards.proofs.Copying.{header_returned, rows_returned}
 use Rattle.xet_core_structures.specs.Combining.{key_of_record, AreOfOneHash}
-use Rattle.xet_core_structures.specs.SideBySide.{IsRecordHeader, PassesRecord, ReadsNotPast, PassesBoth, KeepsRecord, HasNoRoom, WritesMade, CannotMake, PairFails}
+use Rattle.xet_core_structures.specs.SideBySide.{IsRecordHeader, PassesRecord, ReadsNotPast, PassesBoth, CopiesKept, KeepsRecord, HasNoRoom, WritesMade, MakesRecord, CannotMake, PairFails}
 use Rattle.xet_core_structures.specs.SideBySide.CannotMake.{too_many_rows}
 use Rattle.xet_core_structures.specs.SideBySide.PairFails.{output_fails, first_fails, second_fails, refused}
+use Rattle.xet_core_structures.specs.Streams.{Sources, sources, streams}
 use Rattle.xet_core_structures.proofs.OneSection.{serves_same, taken_serves}
 
 module _ {H R : Type 0} (K : RecordKind H R) where
-  module _ (first second : Option H) (old_1 new_1 old_2 new_2 : Source) where
+  module _ (first second : Option H) (old new : Sources) where
     -- a failure for one reason is one for another
-    pub fails_so : (Narrow Wide : Option R → Option R → Type 0) → ((one other : Option R) → PassesRecord K first old_1 new_1 one → PassesRecord K second old_2 new_2 other → Narrow one other → Wide one other)
-        → (failure : CopyFailure) → PairFails K first second old_1 new_1 old_2 new_2 Narrow failure → PairFails K first second old_1 new_1 old_2 new_2 Wide failure
+    pub fails_so : (Narrow Wide : Option R → Option R → Type 0) → ((one other : Option R) → PassesRecord K first old.first new.first one → PassesRecord K second old.second new.second other → Narrow one other → Wide one other)
+        → (failure : CopyFailure) → PairFails K first second old new Narrow failure → PairFails K first second old new Wide failure
     fails_so Narrow Wide wider failure (output_fails e is device one two) = output_fails e is device one two
     fails_so Narrow Wide wider failure (first_fails e is h at fails serves) = first_fails e is h at fails serves
     fails_so Narrow Wide wider failure (second_fails e is h at fails serves) = second_fails e is h at fails serves
     fails_so Narrow Wide wider failure (refused e is invalid one other p q narrow) = refused e is invalid one other p q (wider one other p q narrow)
 
-    pub fails_turned : (Refused : Option R → Option R → Type 0) (failure : CopyFailure) → PairFails K first second old_1 new_1 old_2 new_2 Refused failure
-        → PairFails K second first old_2 new_2 old_1 new_1 (λ other one. Refused one other) failure
+    pub fails_turned : (Refused : Option R → Option R → Type 0) (failure : CopyFailure) → PairFails K first second old new Refused failure
+        → PairFails K second first (sources old.second old.first) (sources new.second new.first) (λ other one. Refused one other) failure
     fails_turned Refused failure (output_fails e is device one two) = output_fails e is device two one
     fails_turned Refused failure (first_fails e is h at fails serves) = second_fails e is h at fails serves
     fails_turned Refused failure (second_fails e is h at fails serves) = first_fails e is h at fails serves
@@ -39,25 +40,25 @@ module _ {H R : Type 0} (K : RecordKind H R) where
 
     -- what a call that always fails returns
     pub refused_so : {T : Type 0} (Done : T → Type 0) (Refused : Option R → Option R → Type 0)
-        → ((one other : Option R) → PassesRecord K first old_1 new_1 one → PassesRecord K second old_2 new_2 other → Refused one other)
-        → (r : Result T CopyFailure) → IsErrAnd r (PairFails K first second old_1 new_1 old_2 new_2 (λ one other. ⊤)) → MatchResult r Done (PairFails K first second old_1 new_1 old_2 new_2 Refused)
+        → ((one other : Option R) → PassesRecord K first old.first new.first one → PassesRecord K second old.second new.second other → Refused one other)
+        → (r : Result T CopyFailure) → IsErrAnd r (PairFails K first second old new (λ one other. ⊤)) → MatchResult r Done (PairFails K first second old new Refused)
     refused_so Done Refused reason (Ok v) fails = absurd fails
     refused_so Done Refused reason (Err failure) fails = fails_so (λ one other. ⊤) Refused (λ one other p q _. reason one other p q) failure fails
 
   -- copying the record of the first header failed
   pub copy_failed : {S : Type 0} (meaning : S → Source) (s t : S) (kept : H) (passed : Option H) (two : Source) (Refused : Option R → Option R → Type 0) (failure : CopyFailure)
       → CopyFails (λ a b xs. Takes (meaning a) (meaning b) xs) (λ a b n e. ReadFails (meaning a) (meaning b) n e) s t (48 * K.rows_after kept) failure
-      → PairFails K (Some kept) passed (meaning s) (meaning t) two two Refused failure
+      → PairFails K (Some kept) passed (sources (meaning s) two) (sources (meaning t) two) Refused failure
   copy_failed meaning s t kept passed two Refused (Input e) fails = first_fails e refl kept refl fails (serves_same two two refl)
   copy_failed meaning s t kept passed two Refused (Output e) (is, taken, read) = output_fails e refl is (taken_serves (meaning s) (meaning t) taken read).bytes refl
 
   -- reading past the record of either header failed
   pub first_not_past : (first second : Option H) (old_1 new_1 two : Source) (Refused : Option R → Option R → Type 0) (e : CoreError) → ReadsNotPast K first old_1 new_1 e
-      → PairFails K first second old_1 new_1 two two Refused (Input e)
+      → PairFails K first second (sources old_1 two) (sources new_1 two) Refused (Input e)
   first_not_past first second old_1 new_1 two Refused e (h, is, fails) = first_fails e refl h is fails (serves_same two two refl)
 
   pub second_not_past : (first second : Option H) (old_1 new_1 old_2 new_2 : Source) (Refused : Option R → Option R → Type 0) (e : CoreError) → Serves old_1 new_1 → ReadsNotPast K second old_2 new_2 e
-      → PairFails K first second old_1 new_1 old_2 new_2 Refused (Input e)
+      → PairFails K first second (sources old_1 old_2) (sources new_1 new_2) Refused (Input e)
   second_not_past first second old_1 new_1 old_2 new_2 Refused e serves (h, is, fails) = second_fails e refl h is fails serves
 
   module _ (laws : KindLaws K) where
@@ -93,8 +94,8 @@ module _ {H R : Type 0} (K : RecordKind H R) where
       made_of_kept r other read q x (inr is) = ap K.hash_of (header_returned K laws (Takes old_1 new_1) kept r read) ∙ key_of_other passed hash other q x is
 
       pub kept_first : ((r : R) (other : Option R) → ReadsRowsAfter K kept (Takes old_1 new_1) r → PassesRecord K passed old_2 new_2 other → makes (Some r) other (Some r))
-          → (Before After : List R → Type 0) (old new : Option (List ℕ)) → KeepsRecord K kept passed old_1 new_1 old_2 new_2 rows Before After old new
-          → WritesMade K makes (Some kept) passed old_1 new_1 old_2 new_2 rows Before After old new
+          → (Before After : List R → Type 0) (old new : Option (List ℕ)) → CopiesKept K kept passed (streams old_1 old_2 old) (streams new_1 new_2 new) rows Before After
+          → WritesMade K makes (Some kept) passed (streams old_1 old_2 old) (streams new_1 new_2 new) rows Before After
       kept_first is_made Before After old new keeps =
           let r = keeps.copied.found in
           let facts = record_of kept old_1 new_1 r keeps.copied.read header in
@@ -112,8 +113,8 @@ module _ {H R : Type 0} (K : RecordKind H R) where
           }
 
       pub kept_second : ((r : R) (other : Option R) → ReadsRowsAfter K kept (Takes old_1 new_1) r → PassesRecord K passed old_2 new_2 other → makes other (Some r) (Some r))
-          → (Before After : List R → Type 0) (old new : Option (List ℕ)) → KeepsRecord K kept passed old_1 new_1 old_2 new_2 rows Before After old new
-          → WritesMade K makes passed (Some kept) old_2 new_2 old_1 new_1 rows Before After old new
+          → (Before After : List R → Type 0) (old new : Option (List ℕ)) → CopiesKept K kept passed (streams old_1 old_2 old) (streams new_1 new_2 new) rows Before After
+          → WritesMade K makes passed (Some kept) (streams old_2 old_1 old) (streams new_2 new_1 new) rows Before After
       kept_second is_made Before After old new keeps =
           let r = keeps.copied.found in
           let facts = record_of kept old_1 new_1 r keeps.copied.read header in
@@ -155,26 +156,27 @@ module _ {H R : Type 0} (K : RecordKind H R) where
       -- what a call that keeps one record returns
       pub keeps_first : ((r : R) (other : Option R) → ReadsRowsAfter K kept (Takes old_1 new_1) r → PassesRecord K passed old_2 new_2 other → makes (Some r) other (Some r))
           → (Before After : List R → Type 0) (old new : Option (List ℕ)) → {T : Type 0} (r : Result T CopyFailure)
-          → MatchResult r (λ _. KeepsRecord K kept passed old_1 new_1 old_2 new_2 rows Before After old new) (PairFails K (Some kept) passed old_1 new_1 old_2 new_2 (λ one _. HasNoRoom K rows one))
-          → MatchResult r (λ _. WritesMade K makes (Some kept) passed old_1 new_1 old_2 new_2 rows Before After old new) (PairFails K (Some kept) passed old_1 new_1 old_2 new_2 (CannotMake K makes rows))
+          → KeepsRecord K kept passed (streams old_1 old_2 old) (streams new_1 new_2 new) rows Before After r
+          → MakesRecord K makes (Some kept) passed (streams old_1 old_2 old) (streams new_1 new_2 new) rows Before After r
       keeps_first is_made Before After old new (Ok v) keeps = kept_first is_made Before After old new keeps
       keeps_first is_made Before After old new (Err failure) fails =
-          fails_so (Some kept) passed old_1 new_1 old_2 new_2 (λ one _. HasNoRoom K rows one) (CannotMake K makes rows) (cannot_first is_made) failure fails
+          fails_so (Some kept) passed (sources old_1 old_2) (sources new_1 new_2) (λ one _. HasNoRoom K rows one) (CannotMake K makes rows) (cannot_first is_made) failure fails
 
       pub keeps_second : ((r : R) (other : Option R) → ReadsRowsAfter K kept (Takes old_1 new_1) r → PassesRecord K passed old_2 new_2 other → makes other (Some r) (Some r))
           → (Before After : List R → Type 0) (old new : Option (List ℕ)) → {T : Type 0} (r : Result T CopyFailure)
-          → MatchResult r (λ _. KeepsRecord K kept passed old_1 new_1 old_2 new_2 rows Before After old new) (PairFails K (Some kept) passed old_1 new_1 old_2 new_2 (λ one _. HasNoRoom K rows one))
-          → MatchResult r (λ _. WritesMade K makes passed (Some kept) old_2 new_2 old_1 new_1 rows Before After old new) (PairFails K passed (Some kept) old_2 new_2 old_1 new_1 (CannotMake K makes rows))
+          → KeepsRecord K kept passed (streams old_1 old_2 old) (streams new_1 new_2 new) rows Before After r
+          → MakesRecord K makes passed (Some kept) (streams old_2 old_1 old) (streams new_2 new_1 new) rows Before After r
       keeps_second is_made Before After old new (Ok v) keeps = kept_second is_made Before After old new keeps
       keeps_second is_made Before After old new (Err failure) fails =
-          fails_turned (Some kept) passed old_1 new_1 old_2 new_2 (λ one other. CannotMake K makes rows other one) failure
-          (fails_so (Some kept) passed old_1 new_1 old_2 new_2 (λ one _. HasNoRoom K rows one) (λ one other. CannotMake K makes rows other one) (cannot_second is_made) failure fails)
+          fails_turned (Some kept) passed (sources old_1 old_2) (sources new_1 new_2) (λ one other. CannotMake K makes rows other one) failure
+          (fails_so (Some kept) passed (sources old_1 old_2) (sources new_1 new_2) (λ one _. HasNoRoom K rows one) (λ one other. CannotMake K makes rows other one) (cannot_second is_made) failure fails)
 
     -- nothing was made of both
-    pub writes_nothing : (makes : Option R → Option R → Option R → Type 0) (first second : Option H) (old_1 new_1 old_2 new_2 : Source) (rows : ℕ) (Before : List R → Type 0) (old : Option (List ℕ))
-        → ((one other : Option R) → PassesRecord K first old_1 new_1 one → PassesRecord K second old_2 new_2 other → makes one other None) → PassesBoth K first second old_1 new_1 old_2 new_2
-        → WritesMade K makes first second old_1 new_1 old_2 new_2 rows Before Before old old
-    writes_nothing makes first second old_1 new_1 old_2 new_2 rows Before old is_made both = record {
+    pub nothing_kept : (makes : Option R → Option R → Option R → Type 0) (first second : Option H) (old_1 new_1 old_2 new_2 : Source) (rows : ℕ) (Before : List R → Type 0) (old : Option (List ℕ))
+        → ((one other : Option R) → PassesRecord K first old_1 new_1 one → PassesRecord K second old_2 new_2 other → makes one other None) → {T : Type 0} (r : Result T CopyFailure)
+        → MatchResult r (λ _. PassesBoth K first second (sources old_1 old_2) (sources new_1 new_2)) (PairFails K first second (sources old_1 old_2) (sources new_1 new_2) (λ one other. ⊥))
+        → MakesRecord K makes first second (streams old_1 old_2 old) (streams new_1 new_2 old) rows Before Before r
+    nothing_kept makes first second old_1 new_1 old_2 new_2 rows Before old is_made (Ok v) both = record {
       one = both.0.0;
       other = both.1.0;
       made = None;
@@ -186,11 +188,5 @@ module _ {H R : Type 0} (K : RecordKind H R) where
       bytes = Appends-nil old;
       written = λ front have. subst Before (sym (append-nil front)) have;
     }
-
-    pub nothing_kept : (makes : Option R → Option R → Option R → Type 0) (first second : Option H) (old_1 new_1 old_2 new_2 : Source) (rows : ℕ) (Before : List R → Type 0) (old : Option (List ℕ))
-        → ((one other : Option R) → PassesRecord K first old_1 new_1 one → PassesRecord K second old_2 new_2 other → makes one other None) → {T : Type 0} (r : Result T CopyFailure)
-        → MatchResult r (λ _. PassesBoth K first second old_1 new_1 old_2 new_2) (PairFails K first second old_1 new_1 old_2 new_2 (λ one other. ⊥))
-        → MatchResult r (λ _. WritesMade K makes first second old_1 new_1 old_2 new_2 rows Before Before old old) (PairFails K first second old_1 new_1 old_2 new_2 (CannotMake K makes rows))
-    nothing_kept makes first second old_1 new_1 old_2 new_2 rows Before old is_made (Ok v) both = writes_nothing makes first second old_1 new_1 old_2 new_2 rows Before old is_made both
     nothing_kept makes first second old_1 new_1 old_2 new_2 rows Before old is_made (Err failure) fails =
-        fails_so first second old_1 new_1 old_2 new_2 (λ one other. ⊥) (CannotMake K makes rows) (λ one other p q never. absurd never) failure fails
+        fails_so first second (sources old_1 old_2) (sources new_1 new_2) (λ one other. ⊥) (CannotMake K makes rows) (λ one other p q never. absurd never) failure fails

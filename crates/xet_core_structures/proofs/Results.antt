@@ -24,12 +24,15 @@ use Rattle.xet_shards.specs.SectionReading.{files_of, TakesSection}
 use Rattle.xet_shards.specs.SetOperations.{IsDifference}
 use Rattle.xet_shards.specs.Shard.{Shard}
 use Rattle.xet_core_structures.specs.ByteUnion.{IsUnitedFile, IsEitherFile, IsEitherXorb, IsByteUnion}
-use Rattle.xet_core_structures.specs.ByteResults.{keyed_form, key_of, InputRefusal, DifferenceRefusal, UnionRefusal, InputsFail, FailsBy, WritesResult, Records, HaveInputs, AreCombined, WritesRecords, OperationLaws}
+use Rattle.xet_core_structures.specs.ByteResults.{keyed_form, key_of, InputRefusal, DifferenceRefusal, UnionRefusal, InputsFail, FailsBy, WritesResult, Records, HaveInputs, AreCombined, WritesRecords}
 use Rattle.xet_core_structures.specs.Combining.{IsRest}
 use Rattle.xet_core_structures.specs.Held.{HasFiles, IsListOf, IsSectionOf, files_at, xorbs_at, Holds, HoldsLists}
+use Rattle.xet_core_structures.specs.SetOutcomes.{OperationLaws}
 use Rattle.xet_core_structures.specs.SideBySide.{SectionRefusal, NoneMade, SectionsFail}
 use Rattle.xet_core_structures.specs.SideBySide.SectionsFail.{output_fails, first_fails, second_fails, refused}
+use Rattle.xet_core_structures.specs.Streams.{sources}
 use Rattle.xet_core_structures.proofs.ListMaps.{list_map, values-list_map, section_of_list, combined_maps}
+use Rattle.xet_core_structures.proofs.LookupsFound.{union_in_form, difference_in_form}
 use Rattle.xet_core_structures.proofs.Refusing.{no_union, always_rest}
 
 -- at most one record is made of two
@@ -62,7 +65,7 @@ module _ {H R : Type 0} (K : RecordKind H R) (v w : FormatVersion) (makes : Opti
   pub sections_failed : (old_1 old_2 : Source) (Cause : CoreError → Type 0) → mid_1.failures ≡ old_1.failures → mid_2.failures ≡ old_2.failures
       → ((e : CoreError) → SectionRefusal K v (bytes_left mid_1) e → Cause e) → ((e : CoreError) → SectionRefusal K w (bytes_left mid_2) e → Cause e)
       → ((e : CoreError) → IsInvalidShard e → NoneMade K v w makes (bytes_left mid_1) (bytes_left mid_2) → Cause e)
-      → (failure : CopyFailure) → SectionsFail K v w makes mid_1 new_1 mid_2 new_2 failure → FailsBy (InputsFail old_1 new_1 old_2 new_2 Cause) failure
+      → (failure : CopyFailure) → SectionsFail K v w makes (sources mid_1 mid_2) (sources new_1 new_2) failure → FailsBy (InputsFail old_1 new_1 old_2 new_2 Cause) failure
   sections_failed old_1 old_2 Cause same_1 same_2 first second none failure (output_fails e is device _ _) = subst (FailsBy (InputsFail old_1 new_1 old_2 new_2 Cause)) (sym is) device
   sections_failed old_1 old_2 Cause same_1 same_2 first second none failure (first_fails e is fails serves) =
       subst (FailsBy (InputsFail old_1 new_1 old_2 new_2 Cause)) (sym is) (of_first fails.cause)
@@ -79,7 +82,7 @@ module _ {H R : Type 0} (K : RecordKind H R) (v w : FormatVersion) (makes : Opti
   sections_failed old_1 old_2 Cause same_1 same_2 first second none failure (refused e is invalid serves_1 serves_2 nothing) =
       subst (FailsBy (InputsFail old_1 new_1 old_2 new_2 Cause)) (sym is) (inr (inr (serves_1.failures ∙ same_1, serves_2.failures ∙ same_2, none e invalid nothing)))
 
-  pub sections_kept : (failure : CopyFailure) → SectionsFail K v w makes mid_1 new_1 mid_2 new_2 failure → (new_1.bytes ≡ mid_1.bytes) × (new_2.bytes ≡ mid_2.bytes)
+  pub sections_kept : (failure : CopyFailure) → SectionsFail K v w makes (sources mid_1 mid_2) (sources new_1 new_2) failure → (new_1.bytes ≡ mid_1.bytes) × (new_2.bytes ≡ mid_2.bytes)
   sections_kept failure (output_fails e is device first second) = (first, second)
   sections_kept failure (first_fails e is fails serves) = (fails.bytes, serves.bytes)
   sections_kept failure (second_fails e is fails serves) = (serves.bytes, fails.bytes)
@@ -175,6 +178,7 @@ module _ (x : List ℕ) (i : MDBShardInfo) (y : List ℕ) (j : MDBShardInfo) (on
 pub union_laws : OperationLaws IsByteUnion IsEitherFile IsEitherXorb UnionRefusal
 union_laws = record {
   written = λ x i y j one other result old new info have made written. union_written x i y j one other have result old new info made written;
+  in_form = union_in_form;
   not_read = not_read;
   no_files = λ x i y j e same invalid none. inr (same, inr (invalid, inl (no_union file_records file_laws (version_of i.header.version) (version_of j.header.version) IsEitherFile files_unique (files_at x i) (files_at y j) none)));
   no_xorbs = λ x i y j e same invalid none. inr (same, inr (invalid, inr (no_union xorb_records xorb_laws V3 V3 IsEitherXorb xorbs_unique (xorbs_at x i) (xorbs_at y j) none)));
@@ -183,6 +187,7 @@ union_laws = record {
 pub difference_laws : OperationLaws IsDifference IsRest IsRest DifferenceRefusal
 difference_laws = record {
   written = λ x i y j one other result old new info have made written. difference_written x i y j one other have result old new info made written;
+  in_form = difference_in_form;
   not_read = λ x i y j e refusal. refusal;
   no_files = λ x i y j e same invalid none. absurd (always_rest file_records file_laws (version_of i.header.version) (version_of j.header.version) (files_at x i) (files_at y j) none);
   no_xorbs = λ x i y j e same invalid none. absurd (always_rest xorb_records xorb_laws V3 V3 (xorbs_at x i) (xorbs_at y j) none);

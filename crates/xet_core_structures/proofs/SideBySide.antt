@@ -25,9 +25,10 @@ use Rattle.xet_shards.specs.Section.{total_rows, section_bytes}
 use Rattle.xet_shards.specs.SectionReading.{TakesSection}
 use Rattle.xet_shards.proofs.SectionReading.{section_ends}
 use Rattle.xet_core_structures.specs.Combining.{key_of_record, IsNextPair, AreOfOneHash, ComeBefore, ArePassed, Combines, IsMadeOf, rows_in}
-use Rattle.xet_core_structures.specs.SideBySide.{Follows, ReadsFollowing, Advances, AdvanceFails, PassesRecord, WritesMade, CannotMake, PairFails, CombinesSections, TakesNoAscending, NoneMade, SectionsFail}
+use Rattle.xet_core_structures.specs.SideBySide.{Follows, ReadsFollowing, Advances, AdvanceFails, PassesRecord, WritesMade, CannotMake, PairFails, WritesCombined, TakesNoAscending, NoneMade, SectionsFail}
 use Rattle.xet_core_structures.specs.SideBySide.PairFails.{output_fails as pair_output_fails, first_fails as pair_first_fails, second_fails as pair_second_fails, refused as pair_refused}
 use Rattle.xet_core_structures.specs.SideBySide.SectionsFail.{output_fails, first_fails, second_fails, refused}
+use Rattle.xet_core_structures.specs.Streams.{sources, streams}
 use Rattle.xet_core_structures.proofs.Combining.{IsUnder, hash_under, none_combined, passed_on, more_combined, still_ascending}
 use Rattle.xet_core_structures.proofs.OneSection.{serves_on, weight, passed_serves, HasPending, pending_start, pending_serves, pending_on, under_pending, front_of, weight_on, rows_not_read, no_next}
 
@@ -222,7 +223,7 @@ module _ {H R : Type 0} (K : RecordKind H R) (laws : KindLaws K) (v w : FormatVe
             no_more (Some r) made = made.rows
 
         pub merging_on : (mid_1 mid_2 new_1 new_2 : Source) (after_1 after_2 rows : ℕ) (next_1' next_2' : Option H) (After : List R → Type 0) (new : Option (List ℕ)) → rows ≡ total_rows K merging.made
-            → WritesMade K makes one two now_1 mid_1 now_2 mid_2 rows Before After now new → Advances (in_version K v) next_1 one mid_1 new_1 left_1 after_1 next_1' → Advances (in_version K w) next_2 two mid_2 new_2 left_2 after_2 next_2'
+            → WritesMade K makes one two (streams now_1 now_2 now) (streams mid_1 mid_2 new) rows Before After → Advances (in_version K v) next_1 one mid_1 new_1 left_1 after_1 next_1' → Advances (in_version K w) next_2 two mid_2 new_2 left_2 after_2 next_2'
             → IsMerging K v w makes start_1 new_1 start_2 new_2 after_1 after_2 next_1' next_2' After start new
         merging_on mid_1 mid_2 new_1 new_2 after_1 after_2 rows next_1' next_2' After new counted wrote on_1 on_2 =
             let x = wrote.one in
@@ -285,7 +286,7 @@ module _ {H R : Type 0} (K : RecordKind H R) (laws : KindLaws K) (v w : FormatVe
 
       -- both bookends were read
       pub sections_combined : (new : Option (List ℕ)) → next_1 ≡ None → next_2 ≡ None → Appends now new (K.header_bytes K.bookend)
-          → CombinesSections K v w makes start_1 now_1 start_2 now_2 Before start new
+          → WritesCombined K v w makes (streams start_1 start_2 start) (streams now_1 now_2 new) Before
       unfolding section_bytes
       sections_combined new none_1 none_2 bookend = record {
         firsts = merging.firsts;
@@ -316,8 +317,8 @@ module _ {H R : Type 0} (K : RecordKind H R) (laws : KindLaws K) (v w : FormatVe
     served_2 : Serves start_2 now_2
     served_2 = pending_serves K laws w start_2 now_2 left_2 next_2 merging.seconds merging.second
 
-    pub pair_failed : (new_1 new_2 : Source) (rows : ℕ) (failure : CopyFailure) → rows ≡ total_rows K merging.made → PairFails K one two now_1 new_1 now_2 new_2 (CannotMake K makes rows) failure
-        → SectionsFail K v w makes start_1 new_1 start_2 new_2 failure
+    pub pair_failed : (new_1 new_2 : Source) (rows : ℕ) (failure : CopyFailure) → rows ≡ total_rows K merging.made → PairFails K one two (sources now_1 now_2) (sources new_1 new_2) (CannotMake K makes rows) failure
+        → SectionsFail K v w makes (sources start_1 start_2) (sources new_1 new_2) failure
     pair_failed new_1 new_2 rows failure counted (pair_output_fails e is device first second) = output_fails e is device (first ∙ served_1.bytes) (second ∙ served_2.bytes)
     pair_failed new_1 new_2 rows failure counted (pair_first_fails e is h at fails serves) =
         first_fails e is (rows_not_read K laws v start_1 now_1 left_1 next_1 merging.firsts merging.first merging.first_ascends h new_1 e (pair.first h at).0 fails) (serves_on start_2 now_2 new_2 served_2 serves)
@@ -328,7 +329,7 @@ module _ {H R : Type 0} (K : RecordKind H R) (laws : KindLaws K) (v w : FormatVe
         (none_made makes start_1 now_1 start_2 now_2 left_1 left_2 next_1 next_2 Before start now merging one two k pair new_1 new_2 rows x y counted first second cannot)
 
     pub first_not_next : (mid_1 new_1 mid_2 : Source) (x y : Option R) (e : CoreError) → PassesRecord K one now_1 mid_1 x → PassesRecord K two now_2 mid_2 y → AdvanceFails (in_version K v) one left_1 mid_1 new_1 e
-        → SectionsFail K v w makes start_1 new_1 start_2 mid_2 (Input e)
+        → SectionsFail K v w makes (sources start_1 start_2) (sources new_1 mid_2) (Input e)
     first_not_next mid_1 new_1 mid_2 x y e first second fails =
         first_fails e refl (of_header one (λ h is. pair.first h is) x first fails) (serves_on start_2 now_2 mid_2 served_2 (passed_serves K two now_2 mid_2 y second))
       where
@@ -339,7 +340,7 @@ module _ {H R : Type 0} (K : RecordKind H R) (laws : KindLaws K) (v w : FormatVe
             (subst (λ j. ComeBefore K j merging.firsts) (sym (is h refl).1) all_passed.first) (r, refl, read) fails
 
     pub second_not_next : (new_1 mid_2 new_2 : Source) (y : Option R) (e : CoreError) → Serves start_1 new_1 → PassesRecord K two now_2 mid_2 y → AdvanceFails (in_version K w) two left_2 mid_2 new_2 e
-        → SectionsFail K v w makes start_1 new_1 start_2 new_2 (Input e)
+        → SectionsFail K v w makes (sources start_1 start_2) (sources new_1 new_2) (Input e)
     second_not_next new_1 mid_2 new_2 y e serves second fails = second_fails e refl (of_header two (λ h is. pair.second h is) y second fails) serves where
       of_header : (a : Option H) → ((h : H) → a ≡ Some h → (next_2 ≡ Some h) × (K.hash_of h ≡ k)) → (y : Option R) → PassesRecord K a now_2 mid_2 y → AdvanceFails (in_version K w) a left_2 mid_2 new_2 e → TakesNoAscending K w start_2 new_2 e
       of_header None is y passed fails = absurd fails
@@ -354,6 +355,6 @@ module _ {H R : Type 0} (K : RecordKind H R) (laws : KindLaws K) (v w : FormatVe
 
   -- the output failed at the end
   pub no_bookend : (makes : Option R → Option R → Option R → Type 0) (start_1 now_1 start_2 now_2 : Source) (failure : CopyFailure) → Serves start_1 now_1 → Serves start_2 now_2 → IsOutputFailure failure
-      → SectionsFail K v w makes start_1 now_1 start_2 now_2 failure
+      → SectionsFail K v w makes (sources start_1 start_2) (sources now_1 now_2) failure
   no_bookend makes start_1 now_1 start_2 now_2 (Input e) first second none = absurd none
   no_bookend makes start_1 now_1 start_2 now_2 (Output e) first second is = output_fails e refl is first.bytes second.bytes

@@ -21,8 +21,9 @@ use Rattle.xet_records.proofs.RecordKinds.{file_laws}
 use Rattle.xet_core_structures.specs.ByteUnion.{mixed, IsEitherFile}
 use Rattle.xet_core_structures.specs.Combining.{IsMadeOf}
 use Rattle.xet_core_structures.specs.MixedFiles.{MixesFiles, MixHasNoRoom}
-use Rattle.xet_core_structures.specs.SideBySide.{IsRecordHeader, PassesRecord, WritesMade, CannotMake, PairFails}
+use Rattle.xet_core_structures.specs.SideBySide.{IsRecordHeader, PassesRecord, MakesRecord, CannotMake}
 use Rattle.xet_core_structures.specs.SideBySide.CannotMake.{nothing_made, too_many_rows}
+use Rattle.xet_core_structures.specs.Streams.{sources, streams}
 use Rattle.xet_core_structures.proofs.Mixing.{mixed_stored, rows_of_mix, rows_of-mixed}
 use Rattle.xet_core_structures.proofs.Pairs.{fails_so, record_of}
 use Rattle.xet_core_structures.proofs.OneSection.{header_of_found}
@@ -124,9 +125,8 @@ module _ (g h : FileDataSequenceHeader) (old_1 new_1 old_2 new_2 : Source) where
           of_either same x (inr is) = same ∙ ap (λ (t : MDBFileInfo). t.metadata.file_hash) (same_Some s x is)
 
     pub mix_made : (rows : ℕ) (Before After : List MDBFileInfo → Type 0) (old new : Option (List ℕ)) {T : Type 0} (r : Result T CopyFailure)
-        → MatchResult r (λ _. MixesFiles g h old_1 new_1 old_2 new_2 rows Before After old new) (PairFails file_records (Some g) (Some h) old_1 new_1 old_2 new_2 (MixHasNoRoom rows))
-        → MatchResult r (λ _. WritesMade file_records IsEitherFile (Some g) (Some h) old_1 new_1 old_2 new_2 rows Before After old new)
-        (PairFails file_records (Some g) (Some h) old_1 new_1 old_2 new_2 (CannotMake file_records IsEitherFile rows))
+        → MixesFiles g h (streams old_1 old_2 old) (streams new_1 new_2 new) rows Before After r
+        → MakesRecord file_records IsEitherFile (Some g) (Some h) (streams old_1 old_2 old) (streams new_1 new_2 new) rows Before After r
     mix_made rows Before After old new (Ok v) mixes = record {
       one = Some mixes.one;
       other = Some mixes.other;
@@ -140,7 +140,7 @@ module _ (g h : FileDataSequenceHeader) (old_1 new_1 old_2 new_2 : Source) where
       written = mixes.written;
     }
     mix_made rows Before After old new (Err failure) fails =
-        fails_so file_records (Some g) (Some h) old_1 new_1 old_2 new_2 (MixHasNoRoom rows) (CannotMake file_records IsEitherFile rows) cannot failure fails
+        fails_so file_records (Some g) (Some h) (sources old_1 old_2) (sources new_1 new_2) (MixHasNoRoom rows) (CannotMake file_records IsEitherFile rows) cannot failure fails
       where
         cannot : (one other : Option MDBFileInfo) → PassesRecord file_records (Some g) old_1 new_1 one → PassesRecord file_records (Some h) old_2 new_2 other → MixHasNoRoom rows one other
             → CannotMake file_records IsEitherFile rows one other

@@ -31,7 +31,6 @@ use Rattle.xet_shards.specs.SetOperations.{HasFewRows}
 use Rattle.xet_shards.specs.Shard.{Shard}
 use Rattle.xet_core_structures.specs.ByteUnion.{IsEitherFile, IsEitherXorb, IsByteUnion}
 use Rattle.xet_core_structures.specs.Combining.{Combines}
-use Rattle.xet_core_structures.specs.SideBySide.{NoneMade}
 use Rattle.xet_core_structures.specs.Held.{IsSectionOf, files_at, xorbs_at, Holds, HoldsLists, IsCut, IsBad}
 
 -- all tables, this key, creation 0 and no expiry
@@ -185,23 +184,3 @@ WritesEnd files xorbs form old new info =
     (rs : List MDBFileInfo) → (xs : List MDBXorbInfo) → All FitsRecord rs → HasWritten files rs
     → HasWrittenXorbs xorbs xs
     → (info ≡ info_of rs xs form) × Appends old new (end_of_layout rs xs form)
-
--- what is made of the records of two inputs is the result for what their bytes hold; and each error,
--- of reading the inputs or of records of which nothing can be made, is a refusal
-pub record OperationLaws (IsResult : Shard → Shard → Shard → Type 0)
-    (IsFile : Option MDBFileInfo → Option MDBFileInfo → Option MDBFileInfo → Type 0)
-    (IsXorb : Option MDBXorbInfo → Option MDBXorbInfo → Option MDBXorbInfo → Type 0)
-    (Refusal : List ℕ → MDBShardInfo → List ℕ → MDBShardInfo → CoreError → Type 0) : Type 0 where
-  pub written : (x : List ℕ) (i : MDBShardInfo) (y : List ℕ) (j : MDBShardInfo)
-      (first second result : Records) (old new : Option (List ℕ)) (info : MDBShardInfo)
-      → HaveInputs x i y j first second → AreCombined IsFile IsXorb first second result
-      → WritesRecords result (key_of i) old new info → WritesResult IsResult x i y j old new info
-  pub not_read : (x : List ℕ) (i : MDBShardInfo) (y : List ℕ) (j : MDBShardInfo) (e : CoreError)
-      → DifferenceRefusal x i y j e → Refusal x i y j e
-  pub no_files : (x : List ℕ) (i : MDBShardInfo) (y : List ℕ) (j : MDBShardInfo) (e : CoreError)
-      → key_of i ≡ key_of j → IsInvalidShard e
-      → NoneMade file_records (version_of i.header.version) (version_of j.header.version) IsFile
-      (files_at x i) (files_at y j) → Refusal x i y j e
-  pub no_xorbs : (x : List ℕ) (i : MDBShardInfo) (y : List ℕ) (j : MDBShardInfo) (e : CoreError)
-      → key_of i ≡ key_of j → IsInvalidShard e
-      → NoneMade xorb_records V3 V3 IsXorb (xorbs_at x i) (xorbs_at y j) → Refusal x i y j e

@@ -1,9 +1,10 @@
 -- A mix of two records of one file, written while both are read.
-use Rattle.std.specs.Prelude.{◌≡◌, ℕ, ◌+◌, ◌*◌, ◌<◌, ◌≤◌, ◌==◌, List, [], ◌∷◌, ◌++◌, flat_map, Option, Some, if◌then◌else◌}
+use Rattle.std.specs.Prelude.{◌≡◌, ℕ, ◌+◌, ◌*◌, ◌<◌, ◌≤◌, ◌==◌, List, [], ◌∷◌, ◌++◌, flat_map, Option, Some, MatchResult, if◌then◌else◌}
+use Rattle.std.specs.declared.result.Result.{Result}
 use Rattle.std.specs.Io.KnownBytes.{Appends}
 use Rattle.xet_base.specs.declared.error.CoreError.{CoreError}
 use Rattle.xet_base.specs.Errors.{IsWriteError}
-use Rattle.xet_base.specs.Source.{Source, Takes, ReadFails}
+use Rattle.xet_base.specs.Source.{Takes, ReadFails}
 use Rattle.xet_base.specs.Table.{Serves}
 use Rattle.xet_records.specs.declared.file_structs.header.FileDataSequenceHeader.{FileDataSequenceHeader}
 use Rattle.xet_records.specs.declared.file_structs.MDBFileInfo.{MDBFileInfo}
@@ -13,18 +14,19 @@ use Rattle.xet_records.specs.FileRecord.{file_records, file_record_bytes, row_co
 use Rattle.xet_records.specs.Reading.{ReadsRowsAfter}
 use Rattle.xet_records.specs.Rows.{ReadsRows}
 use Rattle.xet_core_structures.specs.ByteUnion.{mixed}
+use Rattle.xet_core_structures.specs.SideBySide.{PairFails}
+use Rattle.xet_core_structures.specs.Streams.{Sources, Streams, inputs_of}
 
 -- both records were read, and a mix of them was written and gathered, with rows that fit a section
 -- beside those before it
-pub record MixesFiles (first second : FileDataSequenceHeader) (old_1 new_1 old_2 new_2 : Source)
-    (rows : ℕ) (Before After : List MDBFileInfo → Type 0) (old new : Option (List ℕ))
-    : Type 0 where
+pub record WritesMix (first second : FileDataSequenceHeader) (old new : Streams) (rows : ℕ)
+    (Before After : List MDBFileInfo → Type 0) : Type 0 where
   pub one : MDBFileInfo
   pub other : MDBFileInfo
-  pub reads_first : ReadsRowsAfter file_records first (Takes old_1 new_1) one
-  pub reads_second : ReadsRowsAfter file_records second (Takes old_2 new_2) other
+  pub reads_first : ReadsRowsAfter file_records first (Takes old.first new.first) one
+  pub reads_second : ReadsRowsAfter file_records second (Takes old.second new.second) other
   pub few : rows + row_count (mixed one other) ≤ 4294967295
-  pub bytes : Appends old new (file_record_bytes (mixed one other))
+  pub bytes : Appends old.out new.out (file_record_bytes (mixed one other))
   pub written : (front : List MDBFileInfo) → Before front → After (front ++ mixed one other ∷ [])
 
 -- the mix has too many rows beside those before it
@@ -32,23 +34,39 @@ abbrev pub MixHasNoRoom : ℕ → Option MDBFileInfo → Option MDBFileInfo → 
 MixHasNoRoom rows one other =
     (r s : MDBFileInfo) → one ≡ Some r → other ≡ Some s → 4294967295 < rows + row_count (mixed r s)
 
+-- the outcome of a mix
+abbrev pub MixesFiles : {U : Type 0} → FileDataSequenceHeader → FileDataSequenceHeader → Streams
+    → Streams → ℕ → (List MDBFileInfo → Type 0) → (List MDBFileInfo → Type 0)
+    → Result U CopyFailure → Type 0
+MixesFiles first second old new rows Before After result =
+    MatchResult result (λ _. WritesMix first second old new rows Before After)
+    (PairFails file_records (Some first) (Some second) (inputs_of old) (inputs_of new)
+    (MixHasNoRoom rows))
+
 -- rows of both were read, and those of the first written, or if it has none, those of the second
-pub record CopiesEither {T : Type 0} (row_bytes : T → List ℕ) (Fits : T → Type 0)
-    (handed_out : T → T) (old_1 new_1 old_2 new_2 : Source) (count_1 count_2 : ℕ)
-    (old new : Option (List ℕ)) : Type 0 where
+pub record WritesEither {T : Type 0} (row_bytes : T → List ℕ) (Fits : T → Type 0)
+    (handed_out : T → T) (old new : Streams) (count_1 count_2 : ℕ) : Type 0 where
   pub firsts : List T
   pub seconds : List T
-  pub first : ReadsRows row_bytes Fits handed_out (Takes old_1 new_1) count_1 firsts
-  pub second : ReadsRows row_bytes Fits handed_out (Takes old_2 new_2) count_2 seconds
-  pub bytes : Appends old new (flat_map row_bytes (if count_1 == 0 then seconds else firsts))
+  pub first : ReadsRows row_bytes Fits handed_out (Takes old.first new.first) count_1 firsts
+  pub second : ReadsRows row_bytes Fits handed_out (Takes old.second new.second) count_2 seconds
+  pub bytes : Appends old.out new.out (flat_map row_bytes (if count_1 == 0 then seconds else firsts))
 
 -- why they were not: the output failed, or an input
-pub data EitherFails (old_1 new_1 old_2 new_2 : Source) (count_1 count_2 : ℕ)
-    (failure : CopyFailure) : Type 0 where
+pub data EitherFails (old new : Sources) (count_1 count_2 : ℕ) (failure : CopyFailure)
+    : Type 0 where
   output_fails : (e : CoreError) → failure ≡ Output e → IsWriteError e
-      → new_1.bytes ≡ old_1.bytes → new_2.bytes ≡ old_2.bytes
-      → EitherFails old_1 new_1 old_2 new_2 count_1 count_2 failure
-  first_fails : (e : CoreError) → failure ≡ Input e → ReadFails old_1 new_1 (48 * count_1) e
-      → Serves old_2 new_2 → EitherFails old_1 new_1 old_2 new_2 count_1 count_2 failure
-  second_fails : (e : CoreError) → failure ≡ Input e → ReadFails old_2 new_2 (48 * count_2) e
-      → Serves old_1 new_1 → EitherFails old_1 new_1 old_2 new_2 count_1 count_2 failure
+      → new.first.bytes ≡ old.first.bytes → new.second.bytes ≡ old.second.bytes
+      → EitherFails old new count_1 count_2 failure
+  first_fails : (e : CoreError) → failure ≡ Input e → ReadFails old.first new.first (48 * count_1) e
+      → Serves old.second new.second → EitherFails old new count_1 count_2 failure
+  second_fails : (e : CoreError) → failure ≡ Input e
+      → ReadFails old.second new.second (48 * count_2) e → Serves old.first new.first
+      → EitherFails old new count_1 count_2 failure
+
+-- the outcome for rows of either
+abbrev pub CopiesEither : {T U : Type 0} → (T → List ℕ) → (T → Type 0) → (T → T) → Streams
+    → Streams → ℕ → ℕ → Result U CopyFailure → Type 0
+CopiesEither row_bytes Fits handed_out old new count_1 count_2 result =
+    MatchResult result (λ _. WritesEither row_bytes Fits handed_out old new count_1 count_2)
+    (EitherFails (inputs_of old) (inputs_of new) count_1 count_2)

@@ -22,7 +22,7 @@ use Rattle.xet_shards.specs.Copying.{CopiesRecord}
 use Rattle.xet_shards.specs.SectionReading.{HoldsRecords, BeginsWithBookend, ReadsNext, RecordFails, TakesSection}
 use Rattle.xet_core_structures.specs.Combining.{key_of_record, Combines, IsMadeOf, ArePassed}
 use Rattle.xet_core_structures.specs.Held.{IsCutInOrder, IsBadSection}
-use Rattle.xet_core_structures.specs.Streams.{Streams}
+use Rattle.xet_core_structures.specs.Streams.{Sources, Streams, inputs_of}
 
 module _ {H R : Type 0} (K : RecordKind H R) where
   -- a header of a record, and not a bookend
@@ -70,17 +70,17 @@ module _ {H R : Type 0} (K : RecordKind H R) where
   ReadsNotPast header old new e =
       (h : H) × (header ≡ Some h) × ReadFails old new (48 * K.rows_after h) e
 
-  abbrev pub PassesBoth : Option H → Option H → Source → Source → Source → Source → Type 0
-  PassesBoth first second old_1 new_1 old_2 new_2 =
-      ReadsPast first old_1 new_1 × ReadsPast second old_2 new_2
+  abbrev pub PassesBoth : Option H → Option H → Sources → Sources → Type 0
+  PassesBoth first second old new =
+      ReadsPast first old.first new.first × ReadsPast second old.second new.second
 
   -- the record of one header was read, written and gathered, and that of another read past
-  pub record KeepsRecord (kept : H) (passed : Option H) (old_1 new_1 old_2 new_2 : Source)
-      (rows : ℕ) (Before After : List R → Type 0) (old new : Option (List ℕ)) : Type 0 where
-    pub copied : CopiesRecord K kept (Takes old_1 new_1) old new Before After
+  pub record CopiesKept (kept : H) (passed : Option H) (old new : Streams) (rows : ℕ)
+      (Before After : List R → Type 0) : Type 0 where
+    pub copied : CopiesRecord K kept (Takes old.first new.first) old.out new.out Before After
     pub few : rows + (1 + K.rows_after kept) ≤ 4294967295
     pub other : Option R
-    pub past : PassesRecord passed old_2 new_2 other
+    pub past : PassesRecord passed old.second new.second other
 
   -- a record has too many rows for a section beside those before it
   abbrev pub HasNoRoom : ℕ → Option R → Type 0
@@ -89,17 +89,16 @@ module _ {H R : Type 0} (K : RecordKind H R) where
   -- the records of both headers were read, and what is made of them, if anything, was written and
   -- gathered, with rows that fit a section beside those before it
   pub record WritesMade (makes : Option R → Option R → Option R → Type 0) (first second : Option H)
-      (old_1 new_1 old_2 new_2 : Source) (rows : ℕ) (Before After : List R → Type 0)
-      (old new : Option (List ℕ)) : Type 0 where
+      (old new : Streams) (rows : ℕ) (Before After : List R → Type 0) : Type 0 where
     pub one : Option R
     pub other : Option R
     pub made : Option R
-    pub reads_first : PassesRecord first old_1 new_1 one
-    pub reads_second : PassesRecord second old_2 new_2 other
+    pub reads_first : PassesRecord first old.first new.first one
+    pub reads_second : PassesRecord second old.second new.second other
     pub is_made : makes one other made
     pub made_of : IfSome made (IsMadeOf K one other)
     pub few : IfSome made (λ r. rows + K.row_count r ≤ 4294967295)
-    pub bytes : Appends old new (flat_map K.record_bytes (option_to_list made))
+    pub bytes : Appends old.out new.out (flat_map K.record_bytes (option_to_list made))
     pub written : (front : List R) → Before front → After (front ++ option_to_list made)
 
   -- nothing can be made of both records, or something that has too many rows beside those before it
@@ -112,47 +111,52 @@ module _ {H R : Type 0} (K : RecordKind H R) where
 
   -- why nothing was written for the records of both headers: the output failed, or an input, or
   -- both records were read and are refused
-  pub data PairFails (first second : Option H) (old_1 new_1 old_2 new_2 : Source)
+  pub data PairFails (first second : Option H) (old new : Sources)
       (Refused : Option R → Option R → Type 0) (failure : CopyFailure) : Type 0 where
     output_fails : (e : CoreError) → failure ≡ Output e → IsWriteError e
-        → new_1.bytes ≡ old_1.bytes → new_2.bytes ≡ old_2.bytes
-        → PairFails first second old_1 new_1 old_2 new_2 Refused failure
+        → new.first.bytes ≡ old.first.bytes → new.second.bytes ≡ old.second.bytes
+        → PairFails first second old new Refused failure
     first_fails : (e : CoreError) → failure ≡ Input e → (h : H) → first ≡ Some h
-        → ReadFails old_1 new_1 (48 * K.rows_after h) e → Serves old_2 new_2
-        → PairFails first second old_1 new_1 old_2 new_2 Refused failure
+        → ReadFails old.first new.first (48 * K.rows_after h) e → Serves old.second new.second
+        → PairFails first second old new Refused failure
     second_fails : (e : CoreError) → failure ≡ Input e → (h : H) → second ≡ Some h
-        → ReadFails old_2 new_2 (48 * K.rows_after h) e → Serves old_1 new_1
-        → PairFails first second old_1 new_1 old_2 new_2 Refused failure
+        → ReadFails old.second new.second (48 * K.rows_after h) e → Serves old.first new.first
+        → PairFails first second old new Refused failure
     refused : (e : CoreError) → failure ≡ Input e → IsInvalidShard e → (one other : Option R)
-        → PassesRecord first old_1 new_1 one → PassesRecord second old_2 new_2 other
-        → Refused one other → PairFails first second old_1 new_1 old_2 new_2 Refused failure
+        → PassesRecord first old.first new.first one → PassesRecord second old.second new.second other
+        → Refused one other → PairFails first second old new Refused failure
 
   -- the outcome for the records of both headers, between two states of both sources and the output
   abbrev pub MakesRecord : {U : Type 0} → (Option R → Option R → Option R → Type 0) → Option H
       → Option H → Streams → Streams → ℕ → (List R → Type 0) → (List R → Type 0)
       → Result U CopyFailure → Type 0
   MakesRecord makes first second old new rows Before After result =
-      MatchResult result
-      (λ _. WritesMade makes first second old.first new.first old.second new.second rows Before
-      After old.out new.out)
-      (PairFails first second old.first new.first old.second new.second (CannotMake makes rows))
+      MatchResult result (λ _. WritesMade makes first second old new rows Before After)
+      (PairFails first second (inputs_of old) (inputs_of new) (CannotMake makes rows))
+
+  -- the outcome where the record of one of them is kept
+  abbrev pub KeepsRecord : {U : Type 0} → H → Option H → Streams → Streams → ℕ
+      → (List R → Type 0) → (List R → Type 0) → Result U CopyFailure → Type 0
+  KeepsRecord kept passed old new rows Before After result =
+      MatchResult result (λ _. CopiesKept kept passed old new rows Before After)
+      (PairFails (Some kept) passed (inputs_of old) (inputs_of new) (λ one _. HasNoRoom rows one))
 
   -- both sections were read, each in its version, and a section was written and gathered of what is
   -- made of them
-  pub record CombinesSections (version_1 version_2 : FormatVersion)
-      (makes : Option R → Option R → Option R → Type 0) (old_1 new_1 old_2 new_2 : Source)
-      (Written : List R → Type 0) (old new : Option (List ℕ)) : Type 0 where
+  pub record WritesCombined (version_1 version_2 : FormatVersion)
+      (makes : Option R → Option R → Option R → Type 0) (old new : Streams)
+      (Written : List R → Type 0) : Type 0 where
     pub firsts : List R
     pub seconds : List R
     pub made : List R
-    pub first : TakesSection (in_version K version_1) old_1 new_1 firsts
-    pub second : TakesSection (in_version K version_2) old_2 new_2 seconds
+    pub first : TakesSection (in_version K version_1) old.first new.first firsts
+    pub second : TakesSection (in_version K version_2) old.second new.second seconds
     pub first_ascends : Ascends K firsts
     pub second_ascends : Ascends K seconds
     pub combined : Combines K makes firsts seconds made
     pub few : total_rows K made ≤ 4294967295
     pub written : Written made
-    pub bytes : Appends old new (section_bytes K made)
+    pub bytes : Appends old.out new.out (section_bytes K made)
 
   -- why a section is not read as records whose hashes strictly ascend, if the device does not fail
   abbrev pub SectionRefusal : FormatVersion → List ℕ → CoreError → Type 0
@@ -205,18 +209,27 @@ module _ {H R : Type 0} (K : RecordKind H R) where
   -- why no section was written of what is made of two: the output failed, or an input; or nothing
   -- can be made of records that both begin with
   pub data SectionsFail (version_1 version_2 : FormatVersion)
-      (makes : Option R → Option R → Option R → Type 0) (old_1 new_1 old_2 new_2 : Source)
+      (makes : Option R → Option R → Option R → Type 0) (old new : Sources)
       (failure : CopyFailure) : Type 0 where
     output_fails : (e : CoreError) → failure ≡ Output e → IsWriteError e
-        → new_1.bytes ≡ old_1.bytes → new_2.bytes ≡ old_2.bytes
-        → SectionsFail version_1 version_2 makes old_1 new_1 old_2 new_2 failure
-    first_fails : (e : CoreError) → failure ≡ Input e → TakesNoAscending version_1 old_1 new_1 e
-        → Serves old_2 new_2
-        → SectionsFail version_1 version_2 makes old_1 new_1 old_2 new_2 failure
-    second_fails : (e : CoreError) → failure ≡ Input e → TakesNoAscending version_2 old_2 new_2 e
-        → Serves old_1 new_1
-        → SectionsFail version_1 version_2 makes old_1 new_1 old_2 new_2 failure
-    refused : (e : CoreError) → failure ≡ Input e → IsInvalidShard e → Serves old_1 new_1
-        → Serves old_2 new_2
-        → NoneMade version_1 version_2 makes (bytes_left old_1) (bytes_left old_2)
-        → SectionsFail version_1 version_2 makes old_1 new_1 old_2 new_2 failure
+        → new.first.bytes ≡ old.first.bytes → new.second.bytes ≡ old.second.bytes
+        → SectionsFail version_1 version_2 makes old new failure
+    first_fails : (e : CoreError) → failure ≡ Input e
+        → TakesNoAscending version_1 old.first new.first e → Serves old.second new.second
+        → SectionsFail version_1 version_2 makes old new failure
+    second_fails : (e : CoreError) → failure ≡ Input e
+        → TakesNoAscending version_2 old.second new.second e → Serves old.first new.first
+        → SectionsFail version_1 version_2 makes old new failure
+    refused : (e : CoreError) → failure ≡ Input e → IsInvalidShard e
+        → Serves old.first new.first → Serves old.second new.second
+        → NoneMade version_1 version_2 makes (bytes_left old.first) (bytes_left old.second)
+        → SectionsFail version_1 version_2 makes old new failure
+
+  -- the outcome for two sections
+  abbrev pub CombinesSections : {U : Type 0} → FormatVersion → FormatVersion
+      → (Option R → Option R → Option R → Type 0) → Streams → Streams → (U → List R → Type 0)
+      → Result U CopyFailure → Type 0
+  CombinesSections version_1 version_2 makes old new has_written result =
+      MatchResult result
+      (λ written. WritesCombined version_1 version_2 makes old new (has_written written))
+      (SectionsFail version_1 version_2 makes (inputs_of old) (inputs_of new))

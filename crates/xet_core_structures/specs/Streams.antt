@@ -2,6 +2,14 @@
 use Rattle.std.specs.Prelude.{ℕ, List, Option}
 use Rattle.xet_base.specs.Source.{Source}
 
+-- the states of two sources
+pub record Sources : Type 0 where
+  pub first : Source
+  pub second : Source
+
+abbrev pub sources : Source → Source → Sources
+sources first second = record { first = first; second = second }
+
 -- the state of both sources, and the bytes of the output, if they are known
 pub record Streams : Type 0 where
   pub first : Source
@@ -10,3 +18,7 @@ pub record Streams : Type 0 where
 
 abbrev pub streams : Source → Source → Option (List ℕ) → Streams
 streams first second out = record { first = first; second = second; out = out }
+
+-- the sources of such a state
+abbrev pub inputs_of : Streams → Sources
+inputs_of s = sources s.first s.second

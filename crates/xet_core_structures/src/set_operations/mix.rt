@@ -1,12 +1,13 @@
 //! A mix of two records of one file, written as both are read.
 
-ghost use Rattle.std.specs.Prelude.{◌≡◌, Some, MatchResult};
+ghost use Rattle.std.specs.Prelude.{◌≡◌};
 ghost use Rattle.xet_records.specs.FileRow.{hash_row, FitsHashRow, clear};
 ghost use Rattle.xet_records.specs.Part.{part_rows};
 ghost use Rattle.xet_records.specs.FileRecord.{file_records};
 ghost use Rattle.xet_shards.specs.Written.{HasWritten};
-ghost use Rattle.xet_core_structures.specs.SideBySide.{IsRecordHeader, PairFails};
-ghost use Rattle.xet_core_structures.specs.MixedFiles.{MixesFiles, MixHasNoRoom, CopiesEither, EitherFails};
+ghost use Rattle.xet_core_structures.specs.SideBySide.{IsRecordHeader};
+ghost use Rattle.xet_core_structures.specs.MixedFiles.{MixesFiles, CopiesEither};
+ghost use Rattle.xet_core_structures.specs.Streams.{streams};
 
 use super::record_operation::refuse;
 use std::alloc::Global;
@@ -37,12 +38,10 @@ pub fn mix<S: ShardSource, T: ShardSource, W: Write>(
     requires second { IsRecordHeader file_records second }
     requires hash { first.file_hash ≡ second.file_hash }
     requires count { first.num_entries ≡ second.num_entries }
-    ensures { MatchResult result
-        (λ _. MixesFiles first second (S.meaning r1.old) (S.meaning r1.new) (T.meaning r2.old)
-        (T.meaning r2.new) written.old.table.rows (HasWritten written.old) (HasWritten written.new)
-        (W.contents out.old) (W.contents out.new))
-        (PairFails file_records (Some first) (Some second) (S.meaning r1.old) (S.meaning r1.new)
-        (T.meaning r2.old) (T.meaning r2.new) (MixHasNoRoom written.old.table.rows)) }
+    ensures { MixesFiles first second
+        (streams (S.meaning r1.old) (T.meaning r2.old) (W.contents out.old))
+        (streams (S.meaning r1.new) (T.meaning r2.new) (W.contents out.new)) written.old.table.rows
+        (HasWritten written.old) (HasWritten written.new) result }
 {
     let header = first.mixed(&second);
     let rows = 1 + header.rows_after();
@@ -70,12 +69,10 @@ fn copy_part<S: ShardSource, T: ShardSource, W: Write>(
     part: OptionalPart,
     out: &mut W,
 ) -> CopyResult<()>
-    ensures { MatchResult result
-        (λ _. CopiesEither hash_row FitsHashRow clear (S.meaning r1.old) (S.meaning r1.new)
-        (T.meaning r2.old) (T.meaning r2.new) (part_rows part first.now)
-        (part_rows part second.now) (W.contents out.old) (W.contents out.new))
-        (EitherFails (S.meaning r1.old) (S.meaning r1.new) (T.meaning r2.old) (T.meaning r2.new)
-        (part_rows part first.now) (part_rows part second.now)) }
+    ensures { CopiesEither hash_row FitsHashRow clear
+        (streams (S.meaning r1.old) (T.meaning r2.old) (W.contents out.old))
+        (streams (S.meaning r1.new) (T.meaning r2.new) (W.contents out.new))
+        (part_rows part first.now) (part_rows part second.now) result }
 {
     copy_either::<HashRow, S, T, W>(r1, first.part_rows(part), r2, second.part_rows(part), out)
 }
@@ -88,12 +85,10 @@ fn copy_either<R: Row, S: ShardSource, T: ShardSource, W: Write>(
     count_2: u32,
     out: &mut W,
 ) -> CopyResult<()>
-    ensures { MatchResult result
-        (λ _. CopiesEither R.row_bytes R.Fits R.handed_out (S.meaning r1.old) (S.meaning r1.new)
-        (T.meaning r2.old) (T.meaning r2.new) count_1 count_2 (W.contents out.old)
-        (W.contents out.new))
-        (EitherFails (S.meaning r1.old) (S.meaning r1.new) (T.meaning r2.old) (T.meaning r2.new)
-        count_1 count_2) }
+    ensures { CopiesEither R.row_bytes R.Fits R.handed_out
+        (streams (S.meaning r1.old) (T.meaning r2.old) (W.contents out.old))
+        (streams (S.meaning r1.new) (T.meaning r2.new) (W.contents out.new)) count_1 count_2
+        result }
 {
     if count_1 == 0 {
         copy_rows::<R, OfSource, T, W>(r2, out, count_2)?;

@@ -6,8 +6,8 @@ ghost use Rattle.xet_records.specs.XorbRecord.{xorb_records};
 ghost use Rattle.xet_shards.specs.Written.{HasWritten, HasWrittenXorbs};
 ghost use Rattle.xet_core_structures.specs.ByteUnion.{IsEitherFile, IsEitherXorb};
 ghost use Rattle.xet_core_structures.specs.Combining.{IsRest, AreOfOneHash};
-ghost use Rattle.xet_core_structures.specs.SideBySide.{IsRecordHeader, WritesMade, PairFails, CannotMake, KeepsRecord, PassesBoth, ReadsPast, ReadsNotPast, HasNoRoom, MakesRecord};
-ghost use Rattle.xet_core_structures.specs.Streams.{streams};
+ghost use Rattle.xet_core_structures.specs.SideBySide.{IsRecordHeader, PairFails, KeepsRecord, PassesBoth, ReadsPast, ReadsNotPast, MakesRecord};
+ghost use Rattle.xet_core_structures.specs.Streams.{sources, streams};
 
 use super::mix::mix;
 use std::alloc::Global;
@@ -169,13 +169,10 @@ fn keep<Sec: WrittenSection, S: ShardSource, T: ShardSource, W: Write>(
     out: &mut W,
 ) -> CopyResult<()>
     requires { IsRecordHeader Sec.Record.kind kept }
-    ensures { MatchResult result
-        (λ _. KeepsRecord Sec.Record.kind kept passed (S.meaning r1.old) (S.meaning r1.new)
-        (T.meaning r2.old) (T.meaning r2.new) (Sec.rows written.old) (Sec.has_written written.old)
-        (Sec.has_written written.new) (W.contents out.old) (W.contents out.new))
-        (PairFails Sec.Record.kind (Some kept) passed (S.meaning r1.old) (S.meaning r1.new)
-        (T.meaning r2.old) (T.meaning r2.new)
-        (λ one _. HasNoRoom Sec.Record.kind (Sec.rows written.old) one)) }
+    ensures { KeepsRecord Sec.Record.kind kept passed
+        (streams (S.meaning r1.old) (T.meaning r2.old) (W.contents out.old))
+        (streams (S.meaning r1.new) (T.meaning r2.new) (W.contents out.new)) (Sec.rows written.old)
+        (Sec.has_written written.old) (Sec.has_written written.new) result }
 {
     Sec::Record::laws();
     let rows = 1 + Sec::Record::rows_after(&kept);
@@ -201,13 +198,10 @@ fn unite_files<S: ShardSource, T: ShardSource, W: Write>(
     requires first { IsRecordHeader file_records first }
     requires second { IsRecordHeader file_records second }
     requires hash { first.file_hash ≡ second.file_hash }
-    ensures { MatchResult result
-        (λ _. WritesMade file_records IsEitherFile (Some first) (Some second) (S.meaning r1.old)
-        (S.meaning r1.new) (T.meaning r2.old) (T.meaning r2.new) written.old.table.rows
-        (HasWritten written.old) (HasWritten written.new) (W.contents out.old) (W.contents out.new))
-        (PairFails file_records (Some first) (Some second) (S.meaning r1.old) (S.meaning r1.new)
-        (T.meaning r2.old) (T.meaning r2.new)
-        (CannotMake file_records IsEitherFile written.old.table.rows)) }
+    ensures { MakesRecord file_records IsEitherFile (Some first) (Some second)
+        (streams (S.meaning r1.old) (T.meaning r2.old) (W.contents out.old))
+        (streams (S.meaning r1.new) (T.meaning r2.new) (W.contents out.new)) written.old.table.rows
+        (HasWritten written.old) (HasWritten written.new) result }
 {
     match FileDataSequenceHeader::compare_flag_superset(&first, &second) {
         SupersetResult::Equal | SupersetResult::SuperA => {
@@ -232,8 +226,8 @@ pub fn refuse<R: SectionRecord, S: ShardSource, T: ShardSource>(
     r2: &mut T,
 ) -> CopyResult<()>
     ensures { IsErrAnd result
-        (PairFails R.kind first second (S.meaning r1.old) (S.meaning r1.new) (T.meaning r2.old)
-        (T.meaning r2.new) (λ one other. ⊤)) }
+        (PairFails R.kind first second (sources (S.meaning r1.old) (T.meaning r2.old))
+        (sources (S.meaning r1.new) (T.meaning r2.new)) (λ one other. ⊤)) }
 {
     pass_both::<R, S, T>(first, r1, second, r2)?;
     Err(CopyFailure::Input(CoreError::InvalidShard(String::new(alloc))))
@@ -247,10 +241,10 @@ fn pass_both<R: SectionRecord, S: ShardSource, T: ShardSource>(
     r2: &mut T,
 ) -> CopyResult<()>
     ensures { MatchResult result
-        (λ _. PassesBoth R.kind first second (S.meaning r1.old) (S.meaning r1.new)
-        (T.meaning r2.old) (T.meaning r2.new))
-        (PairFails R.kind first second (S.meaning r1.old) (S.meaning r1.new) (T.meaning r2.old)
-        (T.meaning r2.new) (λ one other. ⊥)) }
+        (λ _. PassesBoth R.kind first second (sources (S.meaning r1.old) (T.meaning r2.old))
+        (sources (S.meaning r1.new) (T.meaning r2.new)))
+        (PairFails R.kind first second (sources (S.meaning r1.old) (T.meaning r2.old))
+        (sources (S.meaning r1.new) (T.meaning r2.new)) (λ one other. ⊥)) }
 {
     pass::<R, S>(first, r1)?;
     pass::<R, T>(second, r2)?;

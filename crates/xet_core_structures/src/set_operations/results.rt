@@ -1,10 +1,9 @@
 //! The union and the difference of two inputs, written to an output.
 
-ghost use Rattle.std.specs.Prelude.{◌≡◌, ◌≢◌, ◌++◌, ℕ, List, IfOk, OnOk, IfErr, IsErrAnd, MatchResult};
+ghost use Rattle.std.specs.Prelude.{◌≡◌, ◌≢◌, ◌++◌, ℕ, List, IfOk, OnOk, IfErr, IsErrAnd};
 ghost use Rattle.std.specs.Io.KnownBytes.{Appends};
 ghost use Rattle.xet_base.specs.declared.error.CoreError.{CoreError};
 ghost use Rattle.xet_base.specs.Source.{moved, DeviceFailure};
-ghost use Rattle.xet_base.specs.Table.{Serves};
 ghost use Rattle.xet_records.specs.declared.record_reader.FormatVersion.TheVariants.{V3};
 ghost use Rattle.xet_records.specs.Version.{version_of};
 ghost use Rattle.xet_records.specs.declared.row_copier.CopyFailure.TheVariants.{Input};
@@ -15,9 +14,10 @@ ghost use Rattle.xet_shards.specs.Layout.{shard_header_bytes, header_value};
 ghost use Rattle.xet_shards.specs.SetOperations.{IsDifference};
 ghost use Rattle.xet_shards.specs.Shard.{Shard};
 ghost use Rattle.xet_core_structures.specs.ByteUnion.{IsByteUnion};
-ghost use Rattle.xet_core_structures.specs.Held.{ReadsSections};
-ghost use Rattle.xet_core_structures.specs.SideBySide.{CombinesSections, SectionsFail};
-ghost use Rattle.xet_core_structures.specs.ByteResults.{key_of, keyed_form, WritesResult, WritesEnd, InputsFail, FailsBy, IsOutput, UnionRefusal, DifferenceRefusal, OperationLaws};
+ghost use Rattle.xet_core_structures.specs.ByteResults.{key_of, WritesEnd, IsOutput, UnionRefusal, DifferenceRefusal};
+ghost use Rattle.xet_core_structures.specs.SetOutcomes.{OperatesOn, OperationLaws};
+ghost use Rattle.xet_core_structures.specs.SideBySide.{CombinesSections};
+ghost use Rattle.xet_core_structures.specs.Streams.{streams};
 
 use super::record_operation::{OfDifference, OfUnion, RecordOperation};
 use super::sections::combine_sections;
@@ -85,24 +85,14 @@ pub fn operate<O: SetOperation, S: ShardSource, T: ShardSource, W: Write>(
     r2: &mut T,
     out: &mut W,
 ) -> CopyResult<MDBShardInfo>
-    ensures written { MatchResult result
-        (WritesResult O.IsResult (S.meaning r1.old).bytes s1.now (T.meaning r2.old).bytes s2.now
-        (W.contents out.old) (W.contents out.new))
-        (FailsBy
-        (InputsFail (S.meaning r1.old) (S.meaning r1.new) (T.meaning r2.old) (T.meaning r2.new)
-        (O.Refusal (S.meaning r1.old).bytes s1.now (T.meaning r2.old).bytes s2.now))) }
+    ensures outcome { OperatesOn O.IsResult O.Refusal s1.now s2.now
+        (streams (S.meaning r1.old) (T.meaning r2.old) (W.contents out.old))
+        (streams (S.meaning r1.new) (T.meaning r2.new) (W.contents out.new)) result }
     ensures same_key { IfErr result
         (λ failure. IsOutput failure → key_of s1.now ≡ key_of s2.now) }
     ensures untouched { key_of s1.now ≢ key_of s2.now
         → IsErrAnd result (λ failure. failure ≡ Input CoreError.InvalidArguments)
         × (r1.new ≡ r1.old) × (r2.new ≡ r2.old) × (out.new ≡ out.old) }
-    ensures costs { OnOk result (ReadsSections s1.now (S.meaning r1.old) (S.meaning r1.new)
-        × ReadsSections s2.now (T.meaning r2.old) (T.meaning r2.new)) }
-    ensures serves { OnOk result (Serves (S.meaning r1.old) (S.meaning r1.new)
-        × Serves (T.meaning r2.old) (T.meaning r2.new)) }
-    ensures sources { ((S.meaning r1.new).bytes ≡ (S.meaning r1.old).bytes)
-        × ((T.meaning r2.new).bytes ≡ (T.meaning r2.old).bytes) }
-    ensures widths { IfOk result (λ info. FitsFooter info.metadata) }
 {
     O::laws();
     let key = s1.metadata.chunk_hash_hmac_key;
@@ -174,14 +164,11 @@ fn combine_at<
     at_2: SectionAt,
     out: &mut W,
 ) -> CopyResult<Sec>
-    ensures { MatchResult result
-        (λ written. CombinesSections Sec.Record.kind at_1.version at_2.version Op.makes
-        (moved (S.meaning r1.old) at_1.offset) (S.meaning r1.new)
-        (moved (T.meaning r2.old) at_2.offset) (T.meaning r2.new) (Sec.has_written written)
-        (W.contents out.old) (W.contents out.new))
-        (SectionsFail Sec.Record.kind at_1.version at_2.version Op.makes
-        (moved (S.meaning r1.old) at_1.offset) (S.meaning r1.new)
-        (moved (T.meaning r2.old) at_2.offset) (T.meaning r2.new)) }
+    ensures { CombinesSections Sec.Record.kind at_1.version at_2.version Op.makes
+        (streams (moved (S.meaning r1.old) at_1.offset) (moved (T.meaning r2.old) at_2.offset)
+        (W.contents out.old))
+        (streams (S.meaning r1.new) (T.meaning r2.new) (W.contents out.new)) Sec.has_written
+        result }
 {
     seek(r1, at_1.offset)?;
     seek(r2, at_2.offset)?;

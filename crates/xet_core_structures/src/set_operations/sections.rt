@@ -7,7 +7,8 @@ ghost use Rattle.xet_base.specs.Source.{Takes};
 ghost use Rattle.xet_records.specs.RecordKind.{in_version};
 ghost use Rattle.xet_records.specs.Copying.{IsOutputFailure};
 ghost use Rattle.xet_core_structures.specs.Combining.{IsNextPair};
-ghost use Rattle.xet_core_structures.specs.SideBySide.{Follows, ReadsFollowing, FollowingFails, Advances, AdvanceFails, CombinesSections, SectionsFail};
+ghost use Rattle.xet_core_structures.specs.SideBySide.{Follows, ReadsFollowing, FollowingFails, Advances, AdvanceFails, CombinesSections};
+ghost use Rattle.xet_core_structures.specs.Streams.{streams};
 
 use super::record_operation::RecordOperation;
 use std::alloc::Global;
@@ -40,12 +41,10 @@ pub fn combine_sections<
     version_2: FormatVersion,
     out: &mut W,
 ) -> CopyResult<Sec>
-    ensures { MatchResult result
-        (λ written. CombinesSections Sec.Record.kind version_1 version_2 Op.makes
-        (S.meaning r1.old) (S.meaning r1.new) (T.meaning r2.old) (T.meaning r2.new)
-        (Sec.has_written written) (W.contents out.old) (W.contents out.new))
-        (SectionsFail Sec.Record.kind version_1 version_2 Op.makes (S.meaning r1.old)
-        (S.meaning r1.new) (T.meaning r2.old) (T.meaning r2.new)) }
+    ensures { CombinesSections Sec.Record.kind version_1 version_2 Op.makes
+        (streams (S.meaning r1.old) (T.meaning r2.old) (W.contents out.old))
+        (streams (S.meaning r1.new) (T.meaning r2.new) (W.contents out.new)) Sec.has_written
+        result }
 {
     Sec::Record::laws();
     let mut written = Sec::new(alloc);

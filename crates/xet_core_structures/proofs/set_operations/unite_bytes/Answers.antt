@@ -23,7 +23,7 @@ returns-in-Ok c =
     bytes_united c.args.first.now c.args.second.now c.load_from_reader.new.source.bytes.now c.load_from_reader-2.new.source.bytes.now c.in_ok-s1.s1 c.in_ok-s2.s2
     (c.in_ok-s1.ensures.read.bytes ∙ x) (c.in_ok-s2.ensures.read.bytes ∙ y)
     (subst (λ bytes. HasEnds bytes c.in_ok-s1.s1) x c.in_ok-s1.ensures.read.ends) (subst (λ bytes. HasEnds bytes c.in_ok-s2.s2) y c.in_ok-s2.ensures.read.ends)
-    c.new-bytes.result.items c.operate.new.out.items c.in-Ok.field-0 c.new-bytes.ensures.items c.in-Ok.ensures.written
+    c.new-bytes.result.items c.operate.new.out.items c.in-Ok.field-0 c.new-bytes.ensures.items c.in-Ok.ensures.outcome.written
 
 pub returns-in-Err-Input : goal.returns-in-Err-Input
 returns-in-Err-Input c =
@@ -33,4 +33,4 @@ returns-in-Err-Input c =
     (c.in_ok-s1.ensures.read.bytes ∙ x) (c.in_ok-s2.ensures.read.bytes ∙ y)
     (subst (λ bytes. HasEnds bytes c.in_ok-s1.s1) x c.in_ok-s1.ensures.read.ends) (subst (λ bytes. HasEnds bytes c.in_ok-s2.s2) y c.in_ok-s2.ensures.read.ends)
     c.load_from_reader.new.source c.operate.new.r1 c.load_from_reader-2.new.source c.operate.new.r2 c.in-Err-Input.error
-    (rw c.in-Err-Input.field-0-is at c.in-Err-Input.ensures.written)
+    (rw c.in-Err-Input.field-0-is at c.in-Err-Input.ensures.outcome.written)

@@ -109,7 +109,7 @@ pub returns-then-not-has_room : goal.returns-then-not-has_room
 returns-then-not-has_room g c =
     let rows = c.args.written.now.table.rows in
     let full : 4294967295 < rows + (1 + c.rows_after-rows.result) = lt_of_not-le (λ fits. true≢false (sym (c.has_room.ensures.1 fits) ∙ c.if-not-has_room.true)) in
-    refused_so file_records (Some c.args.first) (Some c.args.second) _ _ _ _ _ _
+    refused_so file_records (Some c.args.first) (Some c.args.second) _ _ _ _
     (mix_rows c.args.first c.args.second _ _ _ _ c.requires.first c.requires.second c.requires.hash c.requires.count rows (1 + c.rows_after-rows.result)
     (ap (λ n. 1 + n) (c.rows_after-rows.ensures.rows ∙ ap rows_after c.mixed-header.ensures)) full) c.refuse.result c.refuse.ensures
 

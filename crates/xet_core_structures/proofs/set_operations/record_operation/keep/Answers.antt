@@ -11,7 +11,7 @@ returns-then-not-has_room g c =
     let rows = g.Sec.WrittenSection.rows c.args.written.now in
     let full : 4294967295 < rows + (1 + c.rows_after-rows.result) = lt_of_not-le (λ fits. true≢false (sym (c.has_room.ensures.1 fits) ∙ c.if-not-has_room.true)) in
     let many : 4294967295 < rows + (1 + K.rows_after c.args.kept) = omega (arith, full, c.rows_after-rows.ensures.rows) in
-    refused_so K (Some c.args.kept) c.args.passed _ _ _ _ _ _ (refused_rows K c.laws.ensures c.args.kept c.args.passed _ _ _ _ rows c.requires many) c.refuse.result c.refuse.ensures
+    refused_so K (Some c.args.kept) c.args.passed _ _ _ _ (refused_rows K c.laws.ensures c.args.kept c.args.passed _ _ _ _ rows c.requires many) c.refuse.result c.refuse.ensures
 
 pub returns-in_err-copy : goal.returns-in_err-copy
 returns-in_err-copy g c =

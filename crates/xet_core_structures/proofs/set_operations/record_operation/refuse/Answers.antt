@@ -8,7 +8,7 @@ use Rattle.xet_core_structures.proofs.set_operations.record_operation.refuse.Goa
 pub returns-in_err-pass_both : goal.returns-in_err-pass_both
 returns-in_err-pass_both g c =
     let p = err_from_is_err_and c.from_residual.result c.from_residual.ensures.1 in
-    rw (p.1, p.2) (fails_so g.R.SectionRecord.kind c.args.first c.args.second _ _ _ _ (λ one other. ⊥) (λ one other. ⊤) (λ one other q r never. absurd never) _ c.in_err-pass_both.ensures)
+    rw (p.1, p.2) (fails_so g.R.SectionRecord.kind c.args.first c.args.second _ _ (λ one other. ⊥) (λ one other. ⊤) (λ one other q r never. absurd never) _ c.in_err-pass_both.ensures)
 
 pub returns : goal.returns
 returns g c =

@@ -19,7 +19,7 @@ returns-in-SuperB g c =
 
 pub returns-then-first-second : goal.returns-then-first-second
 returns-then-first-second g c =
-    refused_so file_records (Some c.args.first) (Some c.args.second) _ _ _ _ _ _
+    refused_so file_records (Some c.args.first) (Some c.args.second) _ _ _ _
     (cannot_unite c.args.first c.args.second _ _ _ _ c.args.written.now.table.rows (neither_includes _ _ _ c.compare_flag_superset.ensures c.in-Neither.is) c.if-first-second.true)
     c.refuse.result c.refuse.ensures
 

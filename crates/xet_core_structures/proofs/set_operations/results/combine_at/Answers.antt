@@ -1,7 +1,7 @@
 use Rattle.std.proofs.Common.{subst}
-use Rattle.std.specs.Prelude.{MatchResult}
 use Rattle.std.proofs.lemmas.Result.{err_from_is_err_and}
-use Rattle.xet_core_structures.specs.SideBySide.{CombinesSections, SectionsFail}
+use Rattle.xet_core_structures.specs.SideBySide.{CombinesSections}
+use Rattle.xet_core_structures.specs.Streams.{streams}
 use Rattle.xet_core_structures.proofs.Operating.{first_not_moved, second_not_moved}
 use Rattle.xet_core_structures.proofs.set_operations.results.combine_at.Goals as goal
 
@@ -22,11 +22,6 @@ returns-in_err-seek-2 g c =
 
 pub returns : goal.returns
 returns g c =
-    let K = g.Sec.Record.SectionRecord.kind in
-    let makes = g.Op.RecordOperation.makes in
-    let new_1 = g.S.ShardSource.meaning c.combine_sections.new.r1 in
-    let new_2 = g.T.ShardSource.meaning c.combine_sections.new.r2 in
-    subst (λ p. p) (λ i. MatchResult c.combine_sections.result
-    (λ written. CombinesSections K c.args.at_1.version c.args.at_2.version makes (c.in_ok-seek.ensures.moved i) new_1 (c.in_ok-seek-2.ensures.moved i) new_2 (g.Sec.WrittenSection.has_written written) (g.W.Write.contents c.args.out.now)
-    (g.W.Write.contents c.combine_sections.new.out))
-    (SectionsFail K c.args.at_1.version c.args.at_2.version makes (c.in_ok-seek.ensures.moved i) new_1 (c.in_ok-seek-2.ensures.moved i) new_2)) c.combine_sections.ensures
+    let new = streams (g.S.ShardSource.meaning c.combine_sections.new.r1) (g.T.ShardSource.meaning c.combine_sections.new.r2) (g.W.Write.contents c.combine_sections.new.out) in
+    subst (λ p. p) (λ i. CombinesSections g.Sec.Record.SectionRecord.kind c.args.at_1.version c.args.at_2.version g.Op.RecordOperation.makes
+    (streams (c.in_ok-seek.ensures.moved i) (c.in_ok-seek-2.ensures.moved i) (g.W.Write.contents c.args.out.now)) new g.Sec.WrittenSection.has_written c.combine_sections.result) c.combine_sections.ensures
