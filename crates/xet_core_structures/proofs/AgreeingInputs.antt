@@ -24,11 +24,11 @@ use Rattle.xet_core_structures.specs.declared.set_operations.parts.PlacedShard.{
 use Rattle.xet_core_structures.specs.Agreement.{AllAgree, DisagreeAt, AreEqual, AgreeRecords, DisagreeRecords, DisagreeShards, HoldsAt, IsPlacedOf, AgreeAt, InputsAgree, InputsDisagree}
 use Rattle.xet_core_structures.specs.ByteResults.{Records}
 use Rattle.xet_core_structures.specs.Combining.{key_of_record, with_hash}
-use Rattle.xet_core_structures.specs.Held.{Holds, HasShard, IsListOf, IsSectionOf}
+use Rattle.xet_core_structures.specs.Held.{HasShard}
 use Rattle.xet_core_structures.specs.Parts.{MayBeUnited}
 use Rattle.xet_core_structures.proofs.ByteLaws.{agree_turned, agree_itself}
 use Rattle.xet_core_structures.proofs.Held.{only_shard}
-use Rattle.xet_core_structures.proofs.ListMaps.{list_map, get-list_map, with_hash_of, section_of_list}
+use Rattle.xet_core_structures.proofs.ListMaps.{list_map, get-list_map, with_hash_of, shard_of, lists_hold}
 use Rattle.xet_core_structures.proofs.Parts.{may_be_united}
 use Rattle.xet_core_structures.proofs.Zipped.{zipped_append}
 
@@ -62,27 +62,15 @@ module _ {H R : Type 0} (K : RecordKind H R) where
     )
 
 -- the shard of records in memory
-abbrev shard_with : Records → Shard
-shard_with records = record { files = list_map file_records records.files; xorbs = list_map xorb_records records.xorbs }
-
-section_with : {H R : Type 0} (K : RecordKind H R) (bytes : List ℕ) (rs : List R) → IsListOf K bytes rs → IsSectionOf K bytes (list_map K rs)
-section_with K bytes rs is = section_of_list K rs is.writable.ascends bytes is.stored is.section is.handed
-
 module _ (shard : PlacedShard) (bytes : List ℕ) (is : IsPlacedOf shard bytes) where
   abbrev records_in : Records
   records_in = is.2.records
 
-  shard_in : Holds bytes is.0 (shard_with records_in)
-  shard_in = record {
-    files = section_with _ _ records_in.files is.2.lists.files;
-    xorbs = section_with xorb_records _ records_in.xorbs is.2.lists.xorbs;
-  }
-
   pub united_in : MayBeUnited shard records_in
   united_in = may_be_united bytes is.0 shard is.2
 
-  pub has_shard : HasShard (shard_with records_in) bytes
-  has_shard = record { info = is.0; ends = is.1; holds = shard_in }
+  pub has_shard : HasShard (shard_of records_in) bytes
+  has_shard = record { info = is.0; ends = is.1; holds = lists_hold bytes is.0 records_in is.2.lists }
 
 -- what is at a place of two lists
 zip_get : {A B : Type 0} (P : A → B → Type 0) (xs : List A) (ys : List B) (i : ℕ) (a : A) → AllZip P xs ys → i < length xs → a ≡ get_or xs i a → (b : B) × (slice_get ys i ≡ Some b) × P a b
@@ -113,21 +101,21 @@ module _ (shards : List PlacedShard) (inputs : List (List ℕ)) (all : AllZip Is
 
   pub agree_at : AgreeRecords records_i records_j → AgreeAt inputs i j
   agree_at agree s t (x, x_at, x_has) (y, y_at, y_has) =
-      let s_is = only_shard at_i.0 (shard_with records_i) s (has_shard one at_i.0 at_i.2) (subst (HasShard s) (same_Some x at_i.0 (sym x_at ∙ at_i.1)) x_has) in
-      let t_is = only_shard at_j.0 (shard_with records_j) t (has_shard other at_j.0 at_j.2) (subst (HasShard t) (same_Some y at_j.0 (sym y_at ∙ at_j.1)) y_has) in
+      let s_is = only_shard at_i.0 (shard_of records_i) s (has_shard one at_i.0 at_i.2) (subst (HasShard s) (same_Some x at_i.0 (sym x_at ∙ at_i.1)) x_has) in
+      let t_is = only_shard at_j.0 (shard_of records_j) t (has_shard other at_j.0 at_j.2) (subst (HasShard t) (same_Some y at_j.0 (sym y_at ∙ at_j.1)) y_has) in
       subst (λ p. p) (λ k. ShardsAgree (sym s_is k) (sym t_is k)) (record {
         files = maps_agree file_records Agree records_i.files records_j.files united_i.files_ascend united_j.files_ascend agree.files;
         xorbs = maps_agree xorb_records AreEqual records_i.xorbs records_j.xorbs united_i.xorbs_ascend united_j.xorbs_ascend agree.xorbs;
       })
 
-  differ : (h : RecordHash) → DisagreeRecords records_i records_j h → DisagreeShards (shard_with records_i) (shard_with records_j) h
+  differ : (h : RecordHash) → DisagreeRecords records_i records_j h → DisagreeShards (shard_of records_i) (shard_of records_j) h
   differ (File q) at = maps_disagree file_records Agree records_i.files records_j.files united_i.files_ascend united_j.files_ascend q at
   differ (Xorb q) at = maps_disagree xorb_records AreEqual records_i.xorbs records_j.xorbs united_i.xorbs_ascend united_j.xorbs_ascend q at
 
   pub disagree_at : (h : RecordHash) → DisagreeRecords records_i records_j h → InputsDisagree inputs (record { record_hash = h; first = i; second = j })
   disagree_at h at = record {
-    one = shard_with records_i;
-    other = shard_with records_j;
+    one = shard_of records_i;
+    other = shard_of records_j;
     is_first = (at_i.0, at_i.1, has_shard one at_i.0 at_i.2);
     is_second = (at_j.0, at_j.1, has_shard other at_j.0 at_j.2);
     differ = differ h at;
@@ -150,7 +138,7 @@ zip_length P (x ∷ xs) (y ∷ ys) all = ap suc (zip_length P xs ys all.1)
 zip_held : (shards : List PlacedShard) (inputs : List (List ℕ)) → AllZip IsPlacedOf shards inputs → (i : ℕ) → i < length inputs → (s : Shard) × HoldsAt inputs i s
 zip_held shards [] all i low = absurd (omega (arith, low))
 zip_held [] (x ∷ inputs) all i low = absurd all
-zip_held (p ∷ shards) (x ∷ inputs) all zero low = (shard_with (records_in p x all.0), (x, refl, has_shard p x all.0))
+zip_held (p ∷ shards) (x ∷ inputs) all zero low = (shard_of (records_in p x all.0), (x, refl, has_shard p x all.0))
 zip_held (p ∷ shards) (x ∷ inputs) all (suc i) low = zip_held shards inputs all.1 i (omega (arith, low))
 
 same_input : (inputs : List (List ℕ)) (i : ℕ) → AgreeAt inputs i i

@@ -12,10 +12,15 @@ use Rattle.xet_base.specs.declared.merklehash.DataHash.{DataHash}
 use Rattle.xet_base.specs.Hash.{hash_cmp}
 use Rattle.xet_base.proofs.HashOrder.{same_key}
 use Rattle.xet_records.specs.RecordKind.{RecordKind}
+use Rattle.xet_records.specs.FileRecord.{file_records}
+use Rattle.xet_records.specs.XorbRecord.{xorb_records}
+use Rattle.xet_shards.specs.declared.shard_format.info.MDBShardInfo.{MDBShardInfo}
 use Rattle.xet_shards.specs.InForm.{Ascends}
-use Rattle.xet_shards.specs.SectionReading.{IsSection}
+use Rattle.xet_shards.specs.SectionReading.{files_of, IsSection}
+use Rattle.xet_shards.specs.Shard.{Shard}
+use Rattle.xet_core_structures.specs.ByteResults.{Records}
 use Rattle.xet_core_structures.specs.Combining.{key_of_record, by_hash, with_hash, Combines}
-use Rattle.xet_core_structures.specs.Held.{IsSectionOf}
+use Rattle.xet_core_structures.specs.Held.{IsSectionOf, IsListOf, files_at, xorbs_at, Holds, HoldsLists}
 use Rattle.xet_core_structures.proofs.Combining.{apart}
 
 both : (a b : Bool) → T a → T b → T (a && b)
@@ -88,3 +93,16 @@ module _ {H R : Type 0} (K : RecordKind H R) where
       → (q : DataHash) → IsEither (get (list_map xs) q) (get (list_map ys) q) (get (list_map zs) q)
   combined_maps IsEither xs ys zs x_ascends y_ascends combines q =
       subst (λ p. p) (λ i. IsEither (sym (get-list_map xs x_ascends q) i) (sym (get-list_map ys y_ascends q) i) (sym (get-list_map zs combines.ascends q) i)) (combines.each q)
+
+-- the shard of the records of both sections, and bytes that have these hold it
+abbrev pub shard_of : Records → Shard
+shard_of records = record { files = list_map file_records records.files; xorbs = list_map xorb_records records.xorbs }
+
+section_of : {H R : Type 0} (K : RecordKind H R) (bytes : List ℕ) (rs : List R) → IsListOf K bytes rs → IsSectionOf K bytes (list_map K rs)
+section_of K bytes rs is = section_of_list K rs is.writable.ascends bytes is.stored is.section is.handed
+
+pub lists_hold : (bytes : List ℕ) (info : MDBShardInfo) (records : Records) → HoldsLists bytes info records.files records.xorbs → Holds bytes info (shard_of records)
+lists_hold bytes info records lists = record {
+  files = section_of (files_of info) (files_at bytes info) records.files lists.files;
+  xorbs = section_of xorb_records (xorbs_at bytes info) records.xorbs lists.xorbs;
+}

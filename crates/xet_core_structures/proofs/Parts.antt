@@ -48,10 +48,10 @@ use Rattle.xet_core_structures.specs.Placed.{PlacesAll, HaveNoListUnion}
 use Rattle.xet_core_structures.specs.SideBySide.{SectionRefusal}
 use Rattle.xet_core_structures.proofs.Handed.{all_handed}
 use Rattle.xet_core_structures.proofs.Held.{one_map}
-use Rattle.xet_core_structures.proofs.ListMaps.{list_map, values-list_map, get-list_map, with_hash_of, section_of_list, combined_maps}
+use Rattle.xet_core_structures.proofs.ListMaps.{list_map, values-list_map, get-list_map, with_hash_of, section_of_list, combined_maps, shard_of, lists_hold}
 use Rattle.xet_core_structures.proofs.LookupsFound.{union_under}
 use Rattle.xet_core_structures.proofs.Refusing.{mapped_at}
-use Rattle.xet_core_structures.proofs.Results.{shard_of, held, files_unique, xorbs_unique}
+use Rattle.xet_core_structures.proofs.Results.{files_unique, xorbs_unique}
 use Rattle.xet_core_structures.proofs.TreeXorbs.{held_under}
 
 -- why the sections of an input are not read
@@ -176,7 +176,7 @@ may_be_united bytes info shard places = record { places = places.places; files_a
 module _ (x : List ℕ) (i : MDBShardInfo) (y : List ℕ) (j : MDBShardInfo) (x_ends : HasEnds x i) (y_ends : HasEnds y j) (one other made : Records) (have : HaveInputs x i y j one other)
     (combined : AreCombined IsEitherFile IsEitherXorb one other made) where
   abbrev union : Shard
-  union = shard_of x i y j one other have made
+  union = shard_of made
 
   files_are : values union.files ≡ made.files
   files_are = values-list_map file_records made.files combined.files.ascends
@@ -186,10 +186,10 @@ module _ (x : List ℕ) (i : MDBShardInfo) (y : List ℕ) (j : MDBShardInfo) (x_
 
   have_union : HaveResult IsByteUnion x i y j union
   have_union = record {
-    first = shard_of x i y j one other have one;
-    second = shard_of x i y j one other have other;
-    holds_first = held x i y j one other have x i one have.first;
-    holds_second = held x i y j one other have y j other have.second;
+    first = shard_of one;
+    second = shard_of other;
+    holds_first = lists_hold x i one have.first;
+    holds_second = lists_hold y j other have.second;
     same_key = have.same_key;
     result = record {
       files = combined_maps file_records IsEitherFile _ _ _ have.first.files.writable.ascends have.second.files.writable.ascends combined.files;

@@ -20,18 +20,18 @@ use Rattle.xet_records.proofs.RecordKinds.{file_laws, xorb_laws}
 use Rattle.xet_shards.specs.declared.shard_format.info.MDBShardInfo.{MDBShardInfo}
 use Rattle.xet_shards.specs.Layout.{layout_of, info_of}
 use Rattle.xet_shards.specs.Section.{total_rows}
-use Rattle.xet_shards.specs.SectionReading.{files_of, TakesSection}
+use Rattle.xet_shards.specs.SectionReading.{TakesSection}
 use Rattle.xet_shards.specs.SetOperations.{IsDifference}
 use Rattle.xet_shards.specs.Shard.{Shard}
 use Rattle.xet_core_structures.specs.ByteUnion.{IsUnitedFile, IsEitherFile, IsEitherXorb, IsByteUnion}
 use Rattle.xet_core_structures.specs.ByteResults.{keyed_form, key_of, InputRefusal, DifferenceRefusal, UnionRefusal, InputsFail, FailsBy, WritesResult, Records, HaveInputs, AreCombined, WritesRecords}
 use Rattle.xet_core_structures.specs.Combining.{IsRest}
-use Rattle.xet_core_structures.specs.Held.{HasFiles, IsListOf, IsSectionOf, files_at, xorbs_at, Holds, HoldsLists}
+use Rattle.xet_core_structures.specs.Held.{HasFiles, files_at, xorbs_at}
 use Rattle.xet_core_structures.specs.SetOutcomes.{OperationLaws}
 use Rattle.xet_core_structures.specs.SideBySide.{SectionRefusal, NoneMade, SectionsFail}
 use Rattle.xet_core_structures.specs.SideBySide.SectionsFail.{output_fails, first_fails, second_fails, refused}
 use Rattle.xet_core_structures.specs.Streams.{sources}
-use Rattle.xet_core_structures.proofs.ListMaps.{list_map, values-list_map, section_of_list, combined_maps}
+use Rattle.xet_core_structures.proofs.ListMaps.{values-list_map, combined_maps, shard_of, lists_hold}
 use Rattle.xet_core_structures.proofs.LookupsFound.{union_in_form, difference_in_form}
 use Rattle.xet_core_structures.proofs.Refusing.{no_union, always_rest}
 
@@ -125,18 +125,6 @@ not_read x i y j e (inr (same, cause)) = inr (same, inl cause)
 
 module _ (x : List ℕ) (i : MDBShardInfo) (y : List ℕ) (j : MDBShardInfo) (one other : Records) (have : HaveInputs x i y j one other) where
   -- what was written is the layout of the result
-  abbrev pub shard_of : Records → Shard
-  shard_of records = record { files = list_map file_records records.files; xorbs = list_map xorb_records records.xorbs }
-
-  section_of : {H R : Type 0} (K : RecordKind H R) (bytes : List ℕ) (rs : List R) → IsListOf K bytes rs → IsSectionOf K bytes (list_map K rs)
-  section_of K bytes rs is = section_of_list K rs is.writable.ascends bytes is.stored is.section is.handed
-
-  pub held : (bytes : List ℕ) (info : MDBShardInfo) (records : Records) → HoldsLists bytes info records.files records.xorbs → Holds bytes info (shard_of records)
-  held bytes info records lists = record {
-    files = section_of (files_of info) (files_at bytes info) records.files lists.files;
-    xorbs = section_of xorb_records (xorbs_at bytes info) records.xorbs lists.xorbs;
-  }
-
   module _ (result : Records) (old new : Option (List ℕ)) (info : MDBShardInfo) (written : WritesRecords result (key_of i) old new info)
       (IsFile : Option MDBFileInfo → Option MDBFileInfo → Option MDBFileInfo → Type 0) (IsXorb : Option MDBXorbInfo → Option MDBXorbInfo → Option MDBXorbInfo → Type 0)
       (made : AreCombined IsFile IsXorb one other result) where
@@ -148,8 +136,8 @@ module _ (x : List ℕ) (i : MDBShardInfo) (y : List ℕ) (j : MDBShardInfo) (on
           record {
             first = shard_of one;
             second = shard_of other;
-            holds_first = held x i one have.first;
-            holds_second = held y j other have.second;
+            holds_first = lists_hold x i one have.first;
+            holds_second = lists_hold y j other have.second;
             same_key = have.same_key;
             result = is;
             rows = record {
