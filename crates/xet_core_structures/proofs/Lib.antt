@@ -13,6 +13,7 @@ pub mod Lists
 pub mod LookupsFound
 pub mod MappedJoins
 pub mod MergeTrees
+pub mod MergesByIndex
 pub mod MinimalAgain
 pub mod MixWriting
 pub mod Mixing
