@@ -1,6 +1,5 @@
 -- The turns of the loop that reads a section as a list of records that stay where they are.
 use Rattle.std.proofs.Common.{◌≡◌, inl, inr, ℕ, ◌+◌, List, [], ◌∷◌, ◌++◌, Option, None, Some, IfSome, refl, sym, ap, ◌∙◌, subst}
-use Rattle.std.specs.List.{AllZip}
 use Rattle.std.specs.List.Sorted.{IsStrictlySortedBy}
 use Rattle.std.proofs.lemmas.Option.{same_Some}
 use Rattle.xet_base.specs.declared.error.CoreError.{CoreError}
@@ -69,17 +68,20 @@ module _ {H R : Type 0} (K : RecordKind H R) (laws : KindLaws K) (version : Form
         pending = pending_on K laws version start now left next placing.found placing.pending mid new after (Some h) next' (Some r) (λ g same. is ∙ same) (r, refl, read) following;
         ascends = ascends_push K (K.hash_of h) placing.found (Some r) under.0 before placing.ascends;
         passed = passed_next next' following.follows;
-        places = zipped_append (Places K) placed (p ∷ []) placing.found (r ∷ []) placing.places (record {
-          header = rw header_is (pending_header K laws version start now left next placing.found placing.pending h is);
-          rows = rw header_is (record {
-            stored = read.stored;
-            same_header = read.same_header;
-            is_stored = read.is_stored;
-            size = read.size;
-            taken = (bytes_left mid, rows_is ∙ Takes-consumes now mid (K.bytes_after read.stored) read.taken);
-            handed = read.handed;
-          });
-        }, tt);
+        places = zipped_append (Places K) placed (p ∷ []) placing.found (r ∷ []) placing.places (
+          record {
+            header = rw header_is (pending_header K laws version start now left next placing.found placing.pending h is);
+            rows = rw header_is (record {
+              stored = read.stored;
+              same_header = read.same_header;
+              is_stored = read.is_stored;
+              size = read.size;
+              taken = (bytes_left mid, rows_is ∙ Takes-consumes now mid (K.bytes_after read.stored) read.taken);
+              handed = read.handed;
+            });
+          },
+          tt,
+        );
       }
 
       -- the one after it is not read, or does not follow

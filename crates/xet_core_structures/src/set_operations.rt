@@ -1,15 +1,9 @@
 //! Union and difference of shards as bytes, and trees of unions.
 
-ghost use Rattle.std.specs.Prelude.{◌≡◌, ◌≢◌, ◌⊎◌, ℕ, ◌<◌, ◌≤◌, Option, None, Some, length, map, slice_get, IfOk, OnOk, IsErrAnd, MatchResult, List};
-ghost use Rattle.xet_base.specs.Errors.{IsWriteError};
-ghost use Rattle.xet_base.specs.Table.{Serves};
-ghost use Rattle.xet_shards.specs.Ends.{FitsFooter};
-ghost use Rattle.xet_shards.specs.SetOperations.{IsDifference};
+ghost use Rattle.std.specs.Prelude.{◌≡◌, ◌≢◌, ◌⊎◌, ◌<◌, ◌≤◌, Some, length, map, slice_get, IsErrAnd, MatchResult, List};
 ghost use Rattle.xet_shards.specs.Shard.{Shard};
 ghost use Rattle.xet_shards.specs.WrittenShard.{IsBytesWithoutExpiry};
-ghost use Rattle.xet_core_structures.specs.ByteUnion.{IsByteUnion};
-ghost use Rattle.xet_core_structures.specs.ByteResults.{key_of, WritesResult, InputsFail, UnionRefusal, DifferenceRefusal, UnitesBytes, BytesRefusal};
-ghost use Rattle.xet_core_structures.specs.Held.{ReadsSections};
+ghost use Rattle.xet_core_structures.specs.ByteResults.{key_of, UnitesBytes, BytesRefusal};
 ghost use Rattle.xet_core_structures.specs.SetOutcomes.{Unites, Subtracts};
 ghost use Rattle.xet_core_structures.specs.Streams.{streams};
 ghost use Rattle.xet_core_structures.specs.MergeTrees.{TreeWrites, TreeRefusal, IsMerge, MergeRefused};

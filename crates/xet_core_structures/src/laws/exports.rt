@@ -1,7 +1,7 @@
 //! Laws of shards whose chunk hashes are under a key. Each is a function that does nothing; its
 //! contract is the law.
 
-ghost use Rattle.std.specs.Prelude.{◌≡◌, ◌↔◌, ◌⊎◌, ◌+◌, ◌++◌, ◌≤◌, ℕ, Bool, List, [], length, map, Contains, Option, None, Some, true, false, All};
+ghost use Rattle.std.specs.Prelude.{◌≡◌, ◌↔◌, ◌+◌, ◌++◌, ◌≤◌, ℕ, Bool, List, [], length, map, Contains, Option, Some, true, All};
 ghost use Rattle.std.specs.FinMap.{get, values};
 ghost use Rattle.std.specs.Io.KnownBytes.{Appends};
 ghost use Rattle.xet_base.specs.declared.error.CoreError.{CoreError};

@@ -1,12 +1,10 @@
 //! Records of sections in memory that stay where they are: reading a section as a list of them,
 //! uniting two lists, and writing one.
 
-ghost use Rattle.std.specs.Prelude.{◌≡◌, ◌⊎◌, ⊤, ◌+◌, ◌<◌, ◌≤◌, ℕ, List, [], ◌∷◌, drop, Option, None, Some, IfSome, MatchResult, IfOk};
+ghost use Rattle.std.specs.Prelude.{◌≡◌, ◌⊎◌, ◌+◌, ◌<◌, ◌≤◌, ℕ, List, drop, Option, None, Some, IfSome, MatchResult, IfOk};
 ghost use Rattle.std.specs.Io.KnownBytes.{Appends};
 ghost use Rattle.xet_base.specs.declared.error.CoreError.TheVariants.{OutOfMemory};
 ghost use Rattle.xet_base.specs.Errors.{IsInvalidShard};
-ghost use Rattle.xet_records.specs.RecordKind.{in_version};
-ghost use Rattle.xet_shards.specs.InForm.{Ascends};
 ghost use Rattle.xet_shards.specs.Section.{total_rows, section_bytes};
 ghost use Rattle.xet_core_structures.specs.SideBySide.{TakesNoAscending};
 ghost use Rattle.xet_core_structures.specs.Combining.{Combines};

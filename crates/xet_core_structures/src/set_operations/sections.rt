@@ -1,9 +1,8 @@
 //! Two sections read side by side, a record of each at a time, and a section written of what an
 //! operation makes of the records with one hash.
 
-ghost use Rattle.std.specs.Prelude.{◌≡◌, ◌≤◌, ◌⊎◌, ◌↔◌, IsTrue, IfSome, is_some, Option, MatchResult, IfErr, OnOk};
+ghost use Rattle.std.specs.Prelude.{◌≤◌, ◌⊎◌, ◌↔◌, IsTrue, IfSome, is_some, Option, MatchResult, IfErr, OnOk};
 ghost use Rattle.std.specs.Io.KnownBytes.{Appends};
-ghost use Rattle.xet_base.specs.Source.{Takes};
 ghost use Rattle.xet_records.specs.RecordKind.{in_version};
 ghost use Rattle.xet_records.specs.Copying.{IsOutputFailure};
 ghost use Rattle.xet_core_structures.specs.Combining.{IsNextPair};
