@@ -49,8 +49,8 @@ mod minimal;
 
 pub use agreement::merges_of_agreeing_inputs;
 pub use exports::{
-    exports_merge_to_the_export_of_the_join, joins_keep_runs, keyed_shards_are_exported,
-    keys_pass_to_joins, merges_keep_runs,
+    exports_merge_to_the_export_of_the_join, joins_keep_runs, joins_without_auxiliary_rows,
+    keyed_shards_are_exported, keys_pass_to_joins, merges_keep_runs,
 };
 pub use minimal::{minimal_shards_are_written_again, subsets_keep_eligible_chunks};
 

@@ -98,9 +98,9 @@ pub enum MergePlan {
 }
 
 /// Unites the inputs at the leaves of a tree: a leaf is a copy of its input, and each inner node
-/// the union of what its left and its right side give. So inputs that agree give one string of
-/// bytes if the tree has a union, whatever its shape and whatever the order and the repetition of
-/// its leaves.
+/// the union of what its left and its right side give. So inputs that agree and have no key give
+/// one string of bytes if the tree has a union, whatever its shape and whatever the order and the
+/// repetition of its leaves.
 ///
 /// The error is that of the first leaf or union that fails, left sides first: `InvalidArguments` if
 /// a leaf has no input, `ShardVersion` or `UnexpectedEof` if a header or a footer is unsupported or
