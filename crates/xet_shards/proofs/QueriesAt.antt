@@ -1,106 +1,123 @@
 -- Queries at one location: what follows from the header that is read there and the run after it.
-use Rattle.std.proofs.Common.{◌≡◌, ◌≢◌, inl, inr, Ok, Err, ℕ, ◌+◌, ◌-◌, ◌*◌, ◌^◌, ◌<◌, ◌≤◌, List, [], ◌∷◌, ◌++◌, length, drop, Option, refl, ap, ◌∙◌, subst, arith}
-use Rattle.std.specs.Prelude.{OnOk, IfErr}
-use Rattle.std.specs.declared.result.Result.{Result}
+use Rattle.std.proofs.Common.{◌≡◌, ◌≢◌, inl, inr, ◌==◌, Ok, Err, Bool, true, false, ℕ, ◌+◌, ◌*◌, ◌^◌, ◌<◌, ◌≤◌, [], ◌++◌, length, Option, None, refl, sym, ap, ◌∙◌, subst, arith}
+use Rattle.std.specs.Prelude.{◌⊎◌, ◌↔◌, IsTrue, MatchResult}
+use Rattle.std.proofs.lemmas.Bool.{both_ways, eq-eqb}
 use Rattle.xet_base.specs.declared.error.CoreError.{CoreError}
-use Rattle.xet_base.specs.declared.merklehash.DataHash.{DataHash}
+use Rattle.xet_base.specs.Errors.{CoreResult}
 use Rattle.xet_base.specs.Hash.{all_ones}
-use Rattle.xet_base.specs.Source.{Source, Takes, bytes_left, moved}
-use Rattle.xet_base.specs.Table.{Serves}
+use Rattle.xet_base.specs.Source.{Source, DeviceFailure, bytes_left, moved}
 use Rattle.xet_base.proofs.Reading.{Takes-consumes}
-use Rattle.xet_records.specs.declared.file_structs.rows.FileDataSequenceEntry.{FileDataSequenceEntry}
 use Rattle.xet_records.specs.declared.xorb_structs.XorbChunkSequenceHeader.{XorbChunkSequenceHeader}
-use Rattle.xet_records.specs.XorbRow.{xorb_header_row, FitsXorbHeader}
+use Rattle.xet_records.specs.XorbRow.{xorb_header_row}
 use Rattle.xet_records.specs.XorbRecord.{xorb_records}
 use Rattle.xet_records.specs.Reading.{BeginsWithHeader}
 use Rattle.xet_records.proofs.Lengths.{length-xorb_header_row}
-use Rattle.xet_shards.specs.Lookup.{row_at, Visit}
-use Rattle.xet_shards.specs.RunReading.{FoundRun, AnnouncesChunk, AnnouncesNoChunk, AnswerAt, RefusalAt, RefusedAt, chunks_at}
-use Rattle.xet_shards.specs.RunSteps.{RowFails, RunFailure, RunFails}
+use Rattle.xet_shards.specs.ChunkQuery.{Run}
+use Rattle.xet_shards.specs.Lookup.{Visit}
+use Rattle.xet_shards.specs.RunReading.{QueryAt, xorb_offset, xorb_at, chunk_offset, chunks_at, chunks_left, FoundRun, AnnouncesChunk, AnnouncesNoChunk, RefusalAt, OutcomeAt}
+use Rattle.xet_shards.specs.RunSteps.{RowFails, ReadsHeaderAt, RunFailure, ReadsRunAt, RunFails}
+use Rattle.xet_shards.proofs.Lookups.{serves_after}
 
-answer_at : (key : DataHash) (qs : List DataHash) (bytes : List ℕ) (offset row index : ℕ) (header : XorbChunkSequenceHeader) (answer : Option (ℕ × FileDataSequenceEntry)) → length qs ≢ 0
-    → AnnouncesChunk bytes offset row index header → FoundRun key qs header index (chunks_at bytes offset row index) answer → AnswerAt key qs bytes offset row index answer
-answer_at key [] bytes offset row index header answer some location found = absurd (some refl)
-answer_at key (q ∷ qs) bytes offset row index header answer some location found = (header, location, found)
+-- a test for no hashes that failed
+some_hashes : (q : QueryAt) → false ≡ (length q.hashes == 0) → q.hashes ≢ []
+some_hashes q some none = both_ways _ (sym some) (eq-eqb _ _ (ap length none))
 
-module _ (Absent : CoreError → Type 0) (key : DataHash) (qs : List DataHash) (offset row index : ℕ) (old : Source) where
-  pub visit_failed : (new : Source) (e : CoreError) → RowFails offset row old new e → Visit xorb_records 2 offset row old new
-  visit_failed new e fails =
-      record { bytes = fails.bytes; seeks = omega (arith, fails.seeks); no_fewer = fails.no_fewer; taken = 48; read = fails.read; may_take = inl (omega arith) }
+-- the header was not read
+pub header_fails : {Absent : CoreError → Type 0} (q : QueryAt) {old new : Source} {e : CoreError} → false ≡ (length q.hashes == 0) → RowFails q.section q.row old new e → OutcomeAt Absent q old new (Err e)
+header_fails q some fails = record {
+  answer = tt;
+  refused = (
+    some_hashes q some,
+    elim fails.cause [
+      | inl device ↦ inl device
+      | inr (inl past) ↦ inr (inl (past.0, past.1, inl past.2))
+      | inr (inr cut) ↦ inr (inr (inr (cut.0, cut.1, inl (cut.2, cut.3))))
+    ],
+  );
+  nothing = λ none. absurd (some_hashes q some none);
+  serves = tt;
+  visit = record { bytes = fails.bytes; seeks = omega (arith, fails.seeks); no_fewer = fails.no_fewer; taken = 48; read = fails.read; may_take = inl (omega arith) };
+}
 
-  -- the header was read
-  module _ (mid : Source) (header : XorbChunkSequenceHeader) (fits : FitsXorbHeader header) (taken : Takes (moved old (row_at offset row)) mid (xorb_header_row header)) where
-    bytes_are : drop (row_at offset row) old.bytes ≡ xorb_header_row header ++ bytes_left mid
-    bytes_are = Takes-consumes (moved old (row_at offset row)) mid (xorb_header_row header) taken
+-- the header was read, and tested for a bookend
+module _ (q : QueryAt) {old mid : Source} {header : XorbChunkSequenceHeader} (some : false ≡ (length q.hashes == 0)) (read : ReadsHeaderAt q.section q.row old mid header)
+    {b : Bool} (is : IsTrue b ↔ (header.xorb_hash ≡ all_ones)) where
+  bytes_are : xorb_at q old.bytes ≡ xorb_header_row header ++ bytes_left mid
+  bytes_are = Takes-consumes (moved old (xorb_offset q)) mid (xorb_header_row header) read.taken
 
-    bytes_same : mid.bytes ≡ old.bytes
-    bytes_same = ap (λ (s : Source). s.bytes) taken.after
+  bytes_same : mid.bytes ≡ old.bytes
+  bytes_same = ap (λ (s : Source). s.bytes) read.taken.after
 
-    failures_same : mid.failures ≡ old.failures
-    failures_same = ap (λ (s : Source). s.failures) taken.after
+  failures_same : mid.failures ≡ old.failures
+  failures_same = ap (λ (s : Source). s.failures) read.taken.after
 
-    begins : header.xorb_hash ≢ all_ones → BeginsWithHeader xorb_records (drop (row_at offset row) old.bytes) header (bytes_left mid)
-    begins is_record = record { widths = fits; is_record = is_record; bytes_are = bytes_are }
+  seeks_then : mid.seeks ≡ old.seeks + 1
+  seeks_then = ap (λ (s : Source). s.seeks) read.taken.after
 
-    seeks_then : mid.seeks ≡ old.seeks + 1
-    seeks_then = ap (λ (s : Source). s.seeks) taken.after
+  read_then : mid.read ≡ old.read + 48
+  read_then = ap (λ (s : Source). s.read) read.taken.after ∙ ap (λ n. old.read + n) (length-xorb_header_row header)
 
-    read_then : mid.read ≡ old.read + 48
-    read_then = ap (λ (s : Source). s.read) taken.after ∙ ap (λ n. old.read + n) (length-xorb_header_row header)
+  begins : b ≡ false → BeginsWithHeader xorb_records (xorb_at q old.bytes) header (bytes_left mid)
+  begins other = record { widths = read.fits; is_record = λ ones. both_ways b other (is.1 ones); bytes_are = bytes_are }
 
-    -- there is no such location
-    pub bookend_here : header.xorb_hash ≡ all_ones → AnnouncesNoChunk old.bytes offset row index
-    bookend_here ones = inl (record { header = header; rest = bytes_left mid; widths = fits; is_bookend = ones; bytes_are = bytes_are })
+  -- there is a bookend, or no such chunk
+  announces_none : (b ≡ true) ⊎ ((b ≡ false) × (header.num_entries ≤ q.index)) → AnnouncesNoChunk q old.bytes
+  announces_none (inl bookend) = inl (record { header = header; rest = bytes_left mid; widths = read.fits; is_bookend = is.0 bookend; bytes_are = bytes_are })
+  announces_none (inr (other, past)) = inr (header, bytes_left mid, begins other, past)
 
-    pub no_such_chunk : header.xorb_hash ≢ all_ones → header.num_entries ≤ index → AnnouncesNoChunk old.bytes offset row index
-    no_such_chunk is_record past = inr (header, bytes_left mid, begins is_record, past)
+  pub absent : {Absent : CoreError → Type 0} {e : CoreError} → (b ≡ true) ⊎ ((b ≡ false) × (header.num_entries ≤ q.index)) → Absent e → OutcomeAt Absent q old mid (Err e)
+  absent none is_absent = record {
+    answer = tt;
+    refused = (some_hashes q some, inr (inr (inl (failures_same, is_absent, announces_none none))));
+    nothing = λ none. absurd (some_hashes q some none);
+    serves = tt;
+    visit = record { bytes = bytes_same; seeks = omega (arith, seeks_then); no_fewer = omega (arith, seeks_then); taken = 48; read = omega (arith, read_then); may_take = inl (omega arith) };
+  }
 
-    pub absent : (e : CoreError) → length qs ≢ 0 → Absent e → AnnouncesNoChunk old.bytes offset row index → RefusedAt Absent key qs offset row index old mid e
-    absent e some is none = (λ no_hash. some (ap length no_hash), inr (inr (inl (failures_same, is, none))))
+  -- there is a chunk
+  module _ (other : b ≡ false) (within : q.index < header.num_entries) where
+    location : AnnouncesChunk q old.bytes header
+    location = record { rest = bytes_left mid; begins = begins other; within = within }
 
-    pub visit_header : Visit xorb_records 2 offset row old mid
-    visit_header =
-        record { bytes = bytes_same; seeks = omega (arith, seeks_then); no_fewer = omega (arith, seeks_then); taken = 48; read = omega (arith, read_then); may_take = inl (omega arith) }
+    device_failed : (new : Source) (e : CoreError) → DeviceFailure mid new e → DeviceFailure old new e
+    device_failed new e device = (device.0 ∙ ap (λ k. k + 1) failures_same, device.1, device.2, device.3)
 
-    -- there is one
-    module _ (is_record : header.xorb_hash ≢ all_ones) (within : index < header.num_entries) where
-      location : AnnouncesChunk old.bytes offset row index header
-      location = record { rest = bytes_left mid; begins = begins is_record; within = within }
+    run_refused : (Absent : CoreError → Type 0) (new : Source) (e : CoreError) → chunk_offset q < 2 ^ 64 → RunFailure q.key q.hashes (chunks_left q header) (chunks_at q old.bytes) mid new e
+        → RefusalAt Absent q old new e
+    run_refused Absent new e fits (inl device) = inl (device_failed new e device)
+    run_refused Absent new e fits (inr (inl (none, bare, passes))) = inr (inl (none ∙ failures_same, bare, inr (header, location, inr passes)))
+    run_refused Absent new e fits (inr (inr (none, end, cut))) = inr (inr (inr (none ∙ failures_same, end, inr (header, location, fits, cut))))
 
-      pub answered_here : (answer : Option (ℕ × FileDataSequenceEntry)) → length qs ≢ 0 → FoundRun key qs header index (chunks_at mid.bytes offset row index) answer
-          → AnswerAt key qs old.bytes offset row index answer
-      answered_here answer some found =
-          answer_at key qs old.bytes offset row index header answer some location (subst (λ bytes. FoundRun key qs header index (chunks_at bytes offset row index) answer) bytes_same found)
+    refused_here : (Absent : CoreError → Type 0) (new : Source) (e : CoreError) → RunFails q header mid new e → RefusalAt Absent q old new e
+    refused_here Absent new e fails = elim fails.cause [
+      | inl cause ↦ run_refused Absent new e cause.0 (subst (λ bytes. RunFailure q.key q.hashes (chunks_left q header) (chunks_at q bytes) mid new e) bytes_same cause.1)
+      | inr (inl device) ↦ inl (device_failed new e device)
+      | inr (inr past) ↦ inr (inl (past.0 ∙ failures_same, past.1, inr (header, location, inl past.2)))
+    ]
 
-      pub refused_here : (new : Source) (e : CoreError) → length qs ≢ 0 → RunFails key qs (header.num_entries - index) offset (row + 1 + index) mid new e
-          → RefusedAt Absent key qs offset row index old new e
-      refused_here new e some fails = (
-        λ no_hash. some (ap length no_hash),
-        elim fails.cause [
-          | inl cause ↦ why cause.0 (subst (λ bytes. RunFailure key qs (header.num_entries - index) (chunks_at bytes offset row index) mid new e) bytes_same cause.1)
-          | inr (inl device) ↦ inl (device.0 ∙ ap (λ k. k + 1) failures_same, device.1, device.2, device.3)
-          | inr (inr past) ↦ inr (inl (past.0 ∙ failures_same, past.1, inr (header, location, inl past.2)))
-        ],
-      )
-        where
-          why : row_at offset (row + 1 + index) < 2 ^ 64 → RunFailure key qs (header.num_entries - index) (chunks_at old.bytes offset row index) mid new e → RefusalAt Absent key qs offset row index old new e
-          why fits (inl device) = inl (device.0 ∙ ap (λ k. k + 1) failures_same, device.1, device.2, device.3)
-          why fits (inr (inl (none, bare, passes))) = inr (inl (none ∙ failures_same, bare, inr (header, location, inr passes)))
-          why fits (inr (inr (none, end, cut))) = inr (inr (inr (none ∙ failures_same, end, inr (header, location, fits, cut))))
+    visit_run : (new : Source) → new.bytes ≡ mid.bytes → new.seeks ≤ mid.seeks + 1 → mid.seeks ≤ new.seeks → new.read ≤ mid.read + 48 * chunks_left q header → Visit xorb_records 2 q.section q.row old new
+    visit_run new bytes seeks no_fewer most = record {
+      bytes = bytes ∙ bytes_same;
+      seeks = omega (arith, seeks, seeks_then);
+      no_fewer = omega (arith, no_fewer, seeks_then);
+      taken = 48 + 48 * chunks_left q header;
+      read = omega (arith, most, read_then);
+      may_take = inr (header, bytes_left mid, begins other, omega arith);
+    }
 
-      visit_run : (new : Source) → new.bytes ≡ mid.bytes → new.seeks ≤ mid.seeks + 1 → mid.seeks ≤ new.seeks → new.read ≤ mid.read + 48 * (header.num_entries - index)
-          → Visit xorb_records 2 offset row old new
-      visit_run new bytes seeks no_fewer read = record {
-        bytes = bytes ∙ bytes_same;
-        seeks = omega (arith, seeks, seeks_then);
-        no_fewer = omega (arith, no_fewer, seeks_then);
-        taken = 48 + 48 * (header.num_entries - index);
-        read = omega (arith, read, read_then);
-        may_take = inr (header, bytes_left mid, begins is_record, omega arith);
-      }
-
-      pub visit_either : (new : Source) (r : Result (Option (ℕ × FileDataSequenceEntry)) CoreError) → OnOk r (Serves mid new) → OnOk r (new.seeks ≡ mid.seeks + 1)
-          → OnOk r (new.read ≤ mid.read + 48 * (header.num_entries - index)) → IfErr r (RunFails key qs (header.num_entries - index) offset (row + 1 + index) mid new)
-          → Visit xorb_records 2 offset row old new
-      visit_either new (Ok answer) serves seeks read refused = visit_run new serves.bytes (omega (arith, seeks)) (omega (arith, seeks)) read
-      visit_either new (Err e) serves seeks read refused = visit_run new refused.bytes refused.seeks refused.no_fewer refused.read
+    pub run_read : {Absent : CoreError → Type 0} {new : Source} (r : CoreResult (Option Run)) → MatchResult r (ReadsRunAt q header mid new) (RunFails q header mid new)
+        → OutcomeAt Absent q old new r
+    run_read {Absent} {new} (Ok answer) reads = record {
+      answer = inr (some_hashes q some, header, location, subst (λ bytes. FoundRun q header bytes answer) bytes_same reads.found);
+      refused = tt;
+      nothing = λ none. absurd (some_hashes q some none);
+      serves = serves_after old mid new (record { bytes = bytes_same; failures = failures_same; last_failure = ap (λ (s : Source). s.last_failure) read.taken.after }) reads.serves;
+      visit = visit_run new reads.serves.bytes (omega (arith, reads.seeks)) (omega (arith, reads.seeks)) reads.read;
+    }
+    run_read {Absent} {new} (Err e) fails = record {
+      answer = tt;
+      refused = (some_hashes q some, refused_here Absent new e fails);
+      nothing = λ none. absurd (some_hashes q some none);
+      serves = tt;
+      visit = visit_run new fails.bytes fails.seeks fails.no_fewer fails.read;
+    }

@@ -1,5 +1,5 @@
 -- Runs of hashes among chunks that are read one after another.
-use Rattle.std.proofs.Common.{◌≡◌, inl, inr, ℕ, ◌+◌, ◌^◌, ◌<◌, ◌≤◌, Bool, true, false, not, cond, List, [], ◌∷◌, ◌++◌, length, flat_map, get_or, refl, sym, ap, ◌∙◌, subst, append-nil, arith}
+use Rattle.std.proofs.Common.{◌≡◌, ◌≢◌, inl, inr, ℕ, ◌+◌, ◌^◌, ◌<◌, ◌≤◌, Bool, true, false, not, cond, List, [], ◌∷◌, ◌++◌, length, flat_map, get_or, refl, sym, ap, ◌∙◌, subst, append-nil, arith}
 use Rattle.std.specs.Prelude.{All}
 use Rattle.std.proofs.lemmas.List.{length-append, nil_from_length}
 use Rattle.std.proofs.lemmas.List.Elements.{All-append, All-cons, All-nil}
@@ -24,16 +24,11 @@ use Rattle.xet_shards.specs.RunSteps.{RowFailure, RowNotRead, ReadsRun, RunFailu
 use Rattle.xet_shards.proofs.Walks.{flat_map-push}
 
 -- what a test for difference shows
-pub tested_same : (b : Bool) → false ≡ not b → b ≡ true
+tested_same : (b : Bool) → false ≡ not b → b ≡ true
 tested_same b is = grind arith
 
-pub tested_other : (b : Bool) → true ≡ not b → b ≡ false
+tested_other : (b : Bool) → true ≡ not b → b ≡ false
 tested_other b is = grind arith
-
--- the same of the next hash under a key
-pub next_hash : (key : DataHash) (qs : List DataHash) (n i : ℕ) (d keyed hash : DataHash) (b : Bool) → n ≡ i → keyed ≡ under_key key (get_or qs i d) → hash_eq keyed hash ≡ b
-    → hash_eq (under_key key (get_or qs n d)) hash ≡ b
-next_hash key qs n i d keyed hash b same is shown = (λ k. hash_eq (under_key key (get_or qs (same k) d)) hash) ∙ ap (λ h. hash_eq h hash) (sym is) ∙ shown
 
 module _ (key : DataHash) where
   pub run_within : (qs : List DataHash) (cs : List XorbChunkSequenceEntry) → run_length key qs cs ≤ length cs
@@ -68,108 +63,115 @@ module _ (key : DataHash) where
       let none : more ≡ [] = nil_from_length more (omega (arith, whole, all)) in
       ap (λ ms. run_length key qs (cs ++ ms)) none ∙ ap (run_length key qs) (append-nil cs)
 
-  -- reading a run
-  module _ (qs : List DataHash) (left : ℕ) (start : Source) where
-    pub no_run : HasReadRun key qs left start start 0 0
-    no_run = record { chunks = []; fit = All-nil FitsChunk; many = refl; few = omega arith; taken = Takes-nil start; same = run_of_none qs; sum = refl; narrow = omega arith }
+pub no_run : {key : DataHash} {qs : List DataHash} {left : ℕ} {start : Source} → HasReadRun key qs left start start 0 0
+no_run {key} {qs} {left} {start} =
+    record { chunks = []; fit = All-nil FitsChunk; many = refl; few = omega arith; taken = Takes-nil start; same = run_of_none key qs; sum = refl; narrow = omega arith }
 
-    module _ (now new : Source) (n bytes : ℕ) (before : HasReadRun key qs left start now n bytes) where
-      -- one chunk more
-      module _ (c : XorbChunkSequenceEntry) (d : DataHash) (read : ReadsRow chunk_row FitsChunk (λ x. x) (Takes now new) c) (below : n < length qs) (room : n < left) where
-        fit : All FitsChunk (before.chunks ++ c ∷ [])
-        fit = All-append FitsChunk before.chunks (c ∷ []) before.fit (All-cons FitsChunk c [] (subst FitsChunk read.handed read.widths) (All-nil FitsChunk))
+-- reading a run, where there are more hashes and more chunks
+module _ {key : DataHash} {qs : List DataHash} {left : ℕ} {start now : Source} {n bytes : ℕ} (before : HasReadRun key qs left start now n bytes) {i : ℕ} (at : n ≡ i)
+    (below : i < length qs) (more : n ≢ left) where
+  -- the next chunk was not read
+  pub run_fails : {new : Source} {e : CoreError} → RowNotRead now new e → ReadRunFails key qs left start new e
+  run_fails {new} {e} fails = record {
+    bytes = fails.bytes ∙ ap (λ (s : Source). s.bytes) before.taken.after;
+    seeks = fails.seeks ∙ ap (λ (s : Source). s.seeks) before.taken.after;
+    read = omega (arith, fails.read, ap (λ (s : Source). s.read) before.taken.after, length-chunk_rows before.chunks, before.many, before.few, more);
+    cause = why fails.cause;
+  }
+    where
+      failures : now.failures ≡ start.failures
+      failures = ap (λ (s : Source). s.failures) before.taken.after
 
-        many : length (before.chunks ++ c ∷ []) ≡ n + 1
-        many = length-append before.chunks (c ∷ []) ∙ ap (λ k. k + 1) before.many
+      why : RowFailure now new e → RunFailure key qs left (bytes_left start) start new e
+      why (inl device) = inl (device.0 ∙ ap (λ k. k + 1) failures, device.1, device.2, device.3)
+      why (inr (none, end, short)) = inr (inr (
+        none ∙ failures,
+        end,
+        (
+          before.chunks,
+          bytes_left now,
+          record { fit = before.fit; few = omega (arith, before.many, before.few); bytes_are = Takes-consumes start now (flat_map chunk_row before.chunks) before.taken },
+          before.same,
+          omega (arith, before.sum, before.narrow),
+          omega (arith, before.many, at, below),
+          omega (arith, before.many, before.few, more),
+          lacks_left now 48 (omega arith) short,
+        ),
+      ))
 
-        both_bytes : flat_map chunk_row before.chunks ++ chunk_row read.stored ≡ flat_map chunk_row (before.chunks ++ c ∷ [])
-        both_bytes = ap (λ x. flat_map chunk_row before.chunks ++ chunk_row x) read.handed ∙ sym (flat_map-push chunk_row before.chunks c)
+  -- it was, and is tested for the next hash under the key
+  module _ {new : Source} {c : XorbChunkSequenceEntry} (read : ReadsRow chunk_row FitsChunk (λ x. x) (Takes now new) c) {keyed : DataHash} (d : DataHash)
+      (is : keyed ≡ under_key key (get_or qs i d)) where
+    abbrev chunks : List XorbChunkSequenceEntry
+    chunks = before.chunks ++ c ∷ []
 
-        taken : Takes start new (flat_map chunk_row (before.chunks ++ c ∷ []))
-        taken = subst (Takes start new) both_bytes (Takes-trans start now new (flat_map chunk_row before.chunks) (chunk_row read.stored) before.taken read.taken)
+    fit : All FitsChunk chunks
+    fit = All-append FitsChunk before.chunks (c ∷ []) before.fit (All-cons FitsChunk c [] (subst FitsChunk read.handed read.widths) (All-nil FitsChunk))
 
-        length_is : run_length key qs (before.chunks ++ c ∷ []) ≡ n + cond (hash_eq (under_key key (get_or qs n d)) c.chunk_hash) 1 0
-        length_is =
-            subst (λ k. run_length key qs (before.chunks ++ c ∷ []) ≡ k + cond (hash_eq (under_key key (get_or qs k d)) c.chunk_hash) 1 0) before.many
-            (run_push qs before.chunks c d before.same (omega (arith, below, before.many)))
+    many : length chunks ≡ n + 1
+    many = length-append before.chunks (c ∷ []) ∙ ap (λ k. k + 1) before.many
 
-        sum_is : total_bytes (before.chunks ++ c ∷ []) ≡ bytes + c.unpacked_segment_bytes
-        sum_is = sum_by_push (λ (x : XorbChunkSequenceEntry). x.unpacked_segment_bytes) before.chunks c ∙ ap (λ k. k + c.unpacked_segment_bytes) (sym before.sum)
+    both_bytes : flat_map chunk_row before.chunks ++ chunk_row read.stored ≡ flat_map chunk_row chunks
+    both_bytes = ap (λ x. flat_map chunk_row before.chunks ++ chunk_row x) read.handed ∙ sym (flat_map-push chunk_row before.chunks c)
 
-        goes_on : hash_eq (under_key key (get_or qs n d)) c.chunk_hash ≡ true → run_length key qs (before.chunks ++ c ∷ []) ≡ length (before.chunks ++ c ∷ [])
-        goes_on same = length_is ∙ ap (λ b. n + cond b 1 0) same ∙ sym many
+    taken : Takes start new (flat_map chunk_row chunks)
+    taken = subst (Takes start new) both_bytes (Takes-trans start now new (flat_map chunk_row before.chunks) (chunk_row read.stored) before.taken read.taken)
 
-        pub run_goes_on : (sum : ℕ) → hash_eq (under_key key (get_or qs n d)) c.chunk_hash ≡ true → sum ≡ bytes + c.unpacked_segment_bytes → sum < 2 ^ 32 → HasReadRun key qs left start new (n + 1) sum
-        run_goes_on sum same added narrow = record {
-          chunks = before.chunks ++ c ∷ [];
+    length_is : run_length key qs chunks ≡ n + cond (hash_eq keyed c.chunk_hash) 1 0
+    length_is =
+        run_push key qs before.chunks c d before.same (omega (arith, before.many, at, below))
+        ∙ (λ k. before.many k + cond (hash_eq (under_key key (get_or qs ((before.many ∙ at) k) d)) c.chunk_hash) 1 0)
+        ∙ ap (λ h. n + cond (hash_eq h c.chunk_hash) 1 0) (sym is)
+
+    sum_is : total_bytes chunks ≡ bytes + c.unpacked_segment_bytes
+    sum_is = sum_by_push (λ (x : XorbChunkSequenceEntry). x.unpacked_segment_bytes) before.chunks c ∙ ap (λ k. k + c.unpacked_segment_bytes) (sym before.sum)
+
+    -- it ends at a chunk with another hash
+    pub run_stops : true ≡ not (hash_eq keyed c.chunk_hash) → ReadsRun key qs left start new (n, bytes)
+    run_stops other =
+        let short : run_length key qs chunks ≡ n = length_is ∙ ap (λ b. n + cond b 1 0) (tested_other _ other) ∙ omega arith in
+        record {
+          chunks = chunks;
           fit = fit;
-          many = many;
-          few = omega (arith, room);
+          few = omega (arith, many, before.few, more);
           taken = taken;
-          same = goes_on same;
-          sum = added ∙ sym sum_is;
-          narrow = narrow;
+          decide = inl (omega (arith, short, many));
+          count = sym short;
+          bytes = before.sum ∙ ap total_bytes (sym (front_is n chunks before.chunks (c ∷ []) before.many refl));
         }
 
-        -- it ends at a chunk with another hash
-        pub run_stops : hash_eq (under_key key (get_or qs n d)) c.chunk_hash ≡ false → ReadsRun key qs left start new (n, bytes)
-        run_stops other =
-            let short : run_length key qs (before.chunks ++ c ∷ []) ≡ n = length_is ∙ ap (λ b. n + cond b 1 0) other ∙ omega arith in
-            record {
-              chunks = before.chunks ++ c ∷ [];
-              fit = fit;
-              few = omega (arith, many, room);
-              taken = taken;
-              decide = inl (omega (arith, short, many));
-              count = sym short;
-              bytes = before.sum ∙ ap total_bytes (sym (front_is n (before.chunks ++ c ∷ []) before.chunks (c ∷ []) before.many refl));
-            }
+    -- it goes on with the next hash
+    module _ (ne : false ≡ not (hash_eq keyed c.chunk_hash)) where
+      goes_on : run_length key qs chunks ≡ length chunks
+      goes_on = length_is ∙ ap (λ b. n + cond b 1 0) (tested_same _ ne) ∙ sym many
 
-        -- its bytes pass 32 bits
-        pub run_passes : (e : CoreError) → hash_eq (under_key key (get_or qs n d)) c.chunk_hash ≡ true → IsBareInvalidShard e → 2 ^ 32 ≤ bytes + c.unpacked_segment_bytes
-            → ReadRunFails key qs left start new e
-        run_passes e same bare past = record {
-          bytes = ap (λ (s : Source). s.bytes) taken.after;
-          seeks = ap (λ (s : Source). s.seeks) taken.after;
-          read = omega (arith, ap (λ (s : Source). s.read) taken.after, length-chunk_rows (before.chunks ++ c ∷ []), many, room);
-          cause = inr (inl (
-            ap (λ (s : Source). s.failures) taken.after,
-            bare,
-            (
-              before.chunks ++ c ∷ [],
-              bytes_left new,
-              record { fit = fit; few = omega (arith, many, room); bytes_are = Takes-consumes start new (flat_map chunk_row (before.chunks ++ c ∷ [])) taken },
-              goes_on same,
-              omega (arith, past, sum_is),
-            ),
-          ));
-        }
-
-      -- the next chunk was not read
-      pub run_fails : (e : CoreError) → n < length qs → n < left → RowNotRead now new e → ReadRunFails key qs left start new e
-      run_fails e below room fails = record {
-        bytes = fails.bytes ∙ ap (λ (s : Source). s.bytes) before.taken.after;
-        seeks = fails.seeks ∙ ap (λ (s : Source). s.seeks) before.taken.after;
-        read = omega (arith, fails.read, ap (λ (s : Source). s.read) before.taken.after, length-chunk_rows before.chunks, before.many, room);
-        cause = why fails.cause;
+      pub run_goes_on : {sum : ℕ} → sum ≡ bytes + c.unpacked_segment_bytes → sum < 2 ^ 32 → HasReadRun key qs left start new (n + 1) sum
+      run_goes_on added narrow = record {
+        chunks = chunks;
+        fit = fit;
+        many = many;
+        few = omega (arith, before.few, more);
+        taken = taken;
+        same = goes_on;
+        sum = added ∙ sym sum_is;
+        narrow = narrow;
       }
-        where
-          failures : now.failures ≡ start.failures
-          failures = ap (λ (s : Source). s.failures) before.taken.after
 
-          why : RowFailure now new e → RunFailure key qs left (bytes_left start) start new e
-          why (inl device) = inl (device.0 ∙ ap (λ k. k + 1) failures, device.1, device.2, device.3)
-          why (inr (none, end, short)) = inr (inr (
-            none ∙ failures,
-            end,
-            (
-              before.chunks,
-              bytes_left now,
-              record { fit = before.fit; few = omega (arith, before.many, before.few); bytes_are = Takes-consumes start now (flat_map chunk_row before.chunks) before.taken },
-              before.same,
-              omega (arith, before.sum, before.narrow),
-              omega (arith, before.many, below),
-              omega (arith, before.many, room),
-              lacks_left now 48 (omega arith) short,
-            ),
-          ))
+      -- its bytes pass 32 bits
+      pub run_passes : {e : CoreError} → IsBareInvalidShard e → 2 ^ 32 ≤ bytes + c.unpacked_segment_bytes → ReadRunFails key qs left start new e
+      run_passes bare past = record {
+        bytes = ap (λ (s : Source). s.bytes) taken.after;
+        seeks = ap (λ (s : Source). s.seeks) taken.after;
+        read = omega (arith, ap (λ (s : Source). s.read) taken.after, length-chunk_rows chunks, many, before.few, more);
+        cause = inr (inl (
+          ap (λ (s : Source). s.failures) taken.after,
+          bare,
+          (
+            chunks,
+            bytes_left new,
+            record { fit = fit; few = omega (arith, many, before.few, more); bytes_are = Takes-consumes start new (flat_map chunk_row chunks) taken },
+            goes_on,
+            omega (arith, past, sum_is),
+          ),
+        ));
+      }

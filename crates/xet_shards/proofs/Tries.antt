@@ -1,147 +1,163 @@
 -- Locations that are tried one after another, after a search in the chunk table.
-use Rattle.std.proofs.Common.{◌≡◌, ◌≢◌, inr, Ok, Err, is_some, true, false, true≢false, ℕ, ◌+◌, ◌<◌, ◌≤◌, List, [], ◌∷◌, ◌++◌, length, take, drop, map, get_or, min, Option, None, Some, String, Global, refl, sym, ap, ◌∙◌, subst, arith, rules}
-use Rattle.std.specs.Prelude.{string_bytes, slice_get, IfOk, IfErr}
-use Rattle.std.specs.declared.result.Result.{Result}
+use Rattle.std.proofs.Common.{◌≡◌, ◌≢◌, inr, Ok, Err, is_some, true, false, true≢false, ℕ, ◌+◌, ◌<◌, ◌≤◌, List, [], ◌∷◌, ◌++◌, length, take, drop, map, get_or, Option, None, Some, String, Global, refl, sym, ap, ◌∙◌, subst, arith, rules}
+use Rattle.std.specs.Prelude.{Contains, string_bytes, slice_get, IfOk, IfErr, OnOk}
 use Rattle.std.proofs.lemmas.Grind.{common_steps}
 use Rattle.std.proofs.lemmas.Option.{none-some, same_Some}
-use Rattle.std.proofs.lemmas.List.{map-append, length-map, take_more, take-map}
+use Rattle.std.proofs.lemmas.List.{map-append, length-map, take_more, take_all, take-map}
 use Rattle.std.proofs.lemmas.List.Elements.{All-push, Contains-get_or}
 use Rattle.xet_base.specs.declared.error.CoreError.{CoreError}
+use Rattle.xet_base.specs.Errors.{CoreResult}
 use Rattle.xet_base.specs.declared.error.CoreError.TheVariants.{InvalidShard}
 use Rattle.xet_base.specs.declared.merklehash.DataHash.{DataHash}
-use Rattle.xet_base.specs.KeyedHash.{under_key}
 use Rattle.xet_base.specs.Source.{Source}
-use Rattle.xet_base.specs.Table.{Table, Hit, Finds, FitsTable, Serves, IsSorted, Bounded, hits, IsBareInvalidShard}
+use Rattle.xet_base.specs.Table.{Table, Hit, Finds, Serves, IsBareInvalidShard}
 use Rattle.xet_base.proofs.Lists.{front_is}
-use Rattle.xet_records.specs.declared.file_structs.rows.FileDataSequenceEntry.{FileDataSequenceEntry}
 use Rattle.xet_records.specs.XorbRecord.{xorb_records}
 use Rattle.xet_records.proofs.RecordKinds.{xorb_laws}
+use Rattle.xet_shards.specs.ChunkQuery.{Run}
 use Rattle.xet_shards.specs.declared.shard_format.footer.MDBShardFileFooter.{MDBShardFileFooter}
-use Rattle.xet_shards.specs.Lookup.{chunk_lookup_table, IsPair, Visit, Visits, VisitsSome}
-use Rattle.xet_shards.specs.RunReading.{AnswerAt, RefusedAt, Queries, TriedAnswer, TriedRefused, QueryOutcome, NoneTried}
+use Rattle.xet_shards.specs.Lookup.{chunk_lookup_table, IsPair, Searches, Visits, VisitsSome}
+use Rattle.xet_shards.specs.RunReading.{QueryAt, query_at, AnswerAt, RefusedAt, OutcomeAt, keyed_word, Queries, TriedAnswer, TriedRefused, OutcomeOfTries, QueryOutcome, NoneTried}
 use Rattle.xet_shards.proofs.Lookups.{serves_after, visits_more}
 
 -- an error for a location that is not there, if it is a bare `InvalidShard`
-pub if_corrupt : (key : DataHash) (qs : List DataHash) (offset row index : ℕ) (old new : Source) (e : CoreError) (text : String Global) → string_bytes text ≡ []
-    → RefusedAt (λ e. e ≡ InvalidShard text) key qs offset row index old new e → RefusedAt IsBareInvalidShard key qs offset row index old new e
-if_corrupt key qs offset row index old new e text bare refused = search rules
+if_corrupt : (q : QueryAt) (old new : Source) (e : CoreError) (text : String Global) → string_bytes text ≡ []
+    → RefusedAt (λ e. e ≡ InvalidShard text) q old new e → RefusedAt IsBareInvalidShard q old new e
+if_corrupt q old new e text bare refused = search rules
 
 -- what is said of an option that is none
-pub if_none : {X : Type 0} (P : Option X → Type 0) (o : Option X) → is_some o ≡ false → P o → P None
+if_none : {X : Type 0} (P : Option X → Type 0) (o : Option X) → is_some o ≡ false → P o → P None
 if_none P None none holds = holds
 if_none P (Some x) some holds = absurd (true≢false some)
 
 -- a refusal after calls that did not fail is one over all
-refused_later : (key : DataHash) (qs : List DataHash) (offset : ℕ) (location : ℕ × ℕ) (old now new : Source) (e : CoreError) → Serves old now
-    → RefusedAt IsBareInvalidShard key qs offset location.0 location.1 now new e → RefusedAt IsBareInvalidShard key qs offset location.0 location.1 old new e
-refused_later key qs offset location old now new e serves refused = search rules
+refused_later : (q : QueryAt) (old now new : Source) (e : CoreError) → Serves old now → RefusedAt IsBareInvalidShard q now new e → RefusedAt IsBareInvalidShard q old new e
+refused_later q old now new e serves refused = search rules
 
 rows_of_values : (found : List (Hit (ℕ × ℕ))) → map (λ (location : ℕ × ℕ). location.0) (map (λ (h : Hit (ℕ × ℕ)). h.value) found) ≡ map (λ (h : Hit (ℕ × ℕ)). h.value.0) found
 rows_of_values [] = refl
 rows_of_values (h ∷ found) = ap (λ rows. h.value.0 ∷ rows) (rows_of_values found)
 
-module _ (key : DataHash) (qs : List DataHash) (offset : ℕ) where
-  abbrev row_of : ℕ × ℕ → ℕ
-  row_of location = location.0
+abbrev row_of : ℕ × ℕ → ℕ
+row_of location = location.0
 
-  -- one location more was tried
-  module _ (locations : List (ℕ × ℕ)) (location : ℕ × ℕ) (old now new : Source) (before : NoneTried key qs offset locations old now) (visit : Visit xorb_records 2 offset location.0 now new) where
-    pub tried_visits : Visits xorb_records 2 offset (map row_of (locations ++ location ∷ [])) old new
-    tried_visits = search (rules, map-append, visits_more, xorb_laws)
+-- the next of some locations was tried
+module _ {footer : MDBShardFileFooter} {hashes : List DataHash} (locations : List (ℕ × ℕ)) (i : ℕ) (below : i < length locations) {old now new : Source}
+    (before : NoneTried footer hashes (take i locations) old now) {text : String Global} (bare : string_bytes text ≡ []) {r : CoreResult (Option Run)}
+    (outcome : OutcomeAt (λ e. e ≡ InvalidShard text) (query_at footer hashes (get_or locations i (0, 0))) now new r) where
+  abbrev next : ℕ × ℕ
+  next = get_or locations i (0, 0)
 
-    pub tried_more : Serves now new → AnswerAt key qs now.bytes offset location.0 location.1 None → NoneTried key qs offset (locations ++ location ∷ []) old new
-    tried_more serves none = grind (arith, common_steps, tried_visits, serves_after, All-push)
+  more : take (i + 1) locations ≡ take i locations ++ next ∷ []
+  more = take_more locations i (0, 0) below
 
-    pub tried_found : (answer : Option (ℕ × FileDataSequenceEntry)) → AnswerAt key qs now.bytes offset location.0 location.1 answer → AnswerAt key qs old.bytes offset location.0 location.1 answer
-    tried_found answer found = subst (λ bytes. AnswerAt key qs bytes offset location.0 location.1 answer) before.visits.bytes found
+  visits_next : Visits xorb_records 2 footer.xorb_info_offset (map row_of (take i locations ++ next ∷ [])) old new
+  visits_next = search (rules, map-append, visits_more, xorb_laws)
 
-    pub tried_refused : (e : CoreError) → RefusedAt IsBareInvalidShard key qs offset location.0 location.1 now new e → RefusedAt IsBareInvalidShard key qs offset location.0 location.1 old new e
-    tried_refused e refused = refused_later key qs offset location old now new e before.serves refused
+  visits : VisitsSome xorb_records 2 footer.xorb_info_offset (map row_of locations) old new
+  visits = (i + 1, subst (λ rows. Visits xorb_records 2 footer.xorb_info_offset rows old new) (ap (map row_of) (sym more) ∙ sym (take-map row_of (i + 1) locations)) visits_next)
 
-  -- the next of some locations was tried
-  module _ (locations : List (ℕ × ℕ)) (i : ℕ) (below : i < length locations) (old now new : Source) (before : NoneTried key qs offset (take i locations) old now) where
-    abbrev next : ℕ × ℕ
-    next = get_or locations i (0, 0)
+  answered : (answer : Option Run) → AnswerAt (query_at footer hashes next) now.bytes answer → AnswerAt (query_at footer hashes next) old.bytes answer
+  answered answer found = subst (λ bytes. AnswerAt (query_at footer hashes next) bytes answer) before.visits.bytes found
 
-    module _ (visit : Visit xorb_records 2 offset next.0 now new) where
-      pub visits_next : VisitsSome xorb_records 2 offset (map row_of locations) old new
-      visits_next = (
-        i + 1,
-        subst (λ rows. Visits xorb_records 2 offset rows old new) (ap (map row_of) (sym (take_more locations i (0, 0) below)) ∙ sym (take-map row_of (i + 1) locations))
-            (tried_visits (take i locations) next old now new before visit),
-      )
+  contains : Contains locations next
+  contains = Contains-get_or locations i (0, 0) below
 
-      pub none_next : Serves now new → AnswerAt key qs now.bytes offset next.0 next.1 None → NoneTried key qs offset (take (i + 1) locations) old new
-      none_next serves none =
-          subst (λ ps. NoneTried key qs offset ps old new) (sym (take_more locations i (0, 0) below)) (tried_more (take i locations) next old now new before visit serves none)
+  -- it has a run, or was refused
+  pub stops_next : IfOk r (λ answer. true ≡ is_some answer) → OutcomeOfTries footer hashes locations old new r
+  stops_next some = record { answer = found r some outcome.answer; refused = refused r outcome.refused; serves = serves r outcome.serves; visits = visits }
+    where
+      found : (o : CoreResult (Option Run)) → IfOk o (λ answer. true ≡ is_some answer) → IfOk o (AnswerAt (query_at footer hashes next) now.bytes)
+          → IfOk o (λ answer. TriedAnswer footer hashes old.bytes answer locations)
+      found (Ok None) some answer = absurd (true≢false some)
+      found (Ok (Some run)) some answer = (next, contains, answered (Some run) answer)
+      found (Err e) some answer = tt
 
-      found_next : (run : ℕ × FileDataSequenceEntry) → AnswerAt key qs now.bytes offset next.0 next.1 (Some run) → TriedAnswer key qs old.bytes offset (Some run) locations
-      found_next run found = (next, Contains-get_or locations i (0, 0) below, tried_found (take i locations) next old now new before visit (Some run) found)
+      refused : (o : CoreResult (Option Run)) → IfErr o (RefusedAt (λ e. e ≡ InvalidShard text) (query_at footer hashes next) now new)
+          → IfErr o (λ e. TriedRefused footer hashes old new e locations)
+      refused (Ok answer) none = tt
+      refused (Err e) why = (next, contains, refused_later (query_at footer hashes next) old now new e before.serves (if_corrupt (query_at footer hashes next) now new e text bare why))
 
-      pub found_if_some : (o : Option (ℕ × FileDataSequenceEntry)) → is_some o ≡ true → AnswerAt key qs now.bytes offset next.0 next.1 o → TriedAnswer key qs old.bytes offset o locations
-      found_if_some None none found = absurd (true≢false (sym none))
-      found_if_some (Some run) some found = found_next run found
+      serves : (o : CoreResult (Option Run)) → OnOk o (Serves now new) → OnOk o (Serves old new)
+      serves (Ok answer) is = serves_after old now new before.serves is
+      serves (Err e) none = tt
 
-      pub refused_next : (e : CoreError) → RefusedAt IsBareInvalidShard key qs offset next.0 next.1 now new e → TriedRefused key qs offset old new e locations
-      refused_next e refused = (next, Contains-get_or locations i (0, 0) below, tried_refused (take i locations) next old now new before visit e refused)
+-- it has none
+pub none_next : {footer : MDBShardFileFooter} {hashes : List DataHash} (locations : List (ℕ × ℕ)) (i : ℕ) → i < length locations → {old now new : Source}
+    → NoneTried footer hashes (take i locations) old now → {text : String Global} → string_bytes text ≡ [] → {answer : Option Run}
+    → OutcomeAt (λ e. e ≡ InvalidShard text) (query_at footer hashes (get_or locations i (0, 0))) now new (Ok answer) → false ≡ is_some answer
+    → NoneTried footer hashes (take (i + 1) locations) old new
+none_next {footer} {hashes} locations i below {old} {now} {new} before {text} bare {answer} outcome none =
+    let next = get_or locations i (0, 0) in
+    subst (λ ps. NoneTried footer hashes ps old new) (sym (more locations i below before bare outcome)) (record {
+      visits = visits_next locations i below before bare outcome;
+      serves = serves_after old now new before.serves outcome.serves;
+      none = All-push (λ location. AnswerAt (query_at footer hashes location) old.bytes None) (take i locations) next before.none
+          (answered locations i below before bare outcome None (if_none (AnswerAt (query_at footer hashes next) now.bytes) answer (sym none) outcome.answer));
+    })
 
-  -- the search answered, and locations that it found were tried
-  module _ (t : Table) (word count : ℕ) (old mid new : Source) (dest_old dest_new : List (ℕ × ℕ)) (finds : Finds t word IsPair dest_old dest_new count) (fits : FitsTable t)
-      (most : count ≤ 8) (all : IsSorted t → count ≡ min (hits t word) 8) (serves : Serves old mid) (bounded : IsSorted t → Bounded t word old mid)
-      (visits : VisitsSome xorb_records 2 offset (map row_of (take count dest_new)) mid new) where
-    in_front : take count dest_new ≡ map (λ (h : Hit (ℕ × ℕ)). h.value) finds.found
-    in_front = front_is count dest_new (map (λ (h : Hit (ℕ × ℕ)). h.value) finds.found) (drop count dest_old) (length-map finds.found (λ (h : Hit (ℕ × ℕ)). h.value) ∙ finds.number) finds.written
-
-    rows_are : map row_of (take count dest_new) ≡ map (λ (h : Hit (ℕ × ℕ)). h.value.0) finds.found
-    rows_are = ap (map row_of) in_front ∙ rows_of_values finds.found
-
-    queried : (Answer : List (ℕ × ℕ) → Type 0) → Answer (take count dest_new) → Queries t offset word old new Answer
-    queried Answer answer = search (rules, rows_are, in_front)
-
-    pub query_answered : (answer : Option (ℕ × FileDataSequenceEntry)) → TriedAnswer key qs mid.bytes offset answer (take count dest_new)
-        → Queries t offset word old new (TriedAnswer key qs old.bytes offset answer)
-    query_answered answer tried = search (rules, queried)
-
-    pub query_refused : (e : CoreError) → TriedRefused key qs offset mid new e (take count dest_new) → Queries t offset word old new (TriedRefused key qs offset old new e)
-    query_refused e (location, contains, refused) = queried (TriedRefused key qs offset old new e) (location, contains, refused_later key qs offset location old mid new e serves refused)
+-- all of them have none
+pub none_found : {footer : MDBShardFileFooter} {hashes : List DataHash} (locations : List (ℕ × ℕ)) (i : ℕ) → length locations ≤ i → {old new : Source}
+    → NoneTried footer hashes (take i locations) old new → OutcomeOfTries footer hashes locations old new (Ok None)
+none_found {footer} {hashes} locations i all {old} {new} tried = record {
+  answer = subst (TriedAnswer footer hashes old.bytes None) (take_all i locations all) tried.none;
+  refused = tt;
+  serves = tried.serves;
+  visits = (i, subst (λ rows. Visits xorb_records 2 footer.xorb_info_offset rows old new) (sym (take-map row_of i locations)) tried.visits);
+}
 
 -- what was found is no more than there is room for
-pub found_fit : (t : Table) (word count : ℕ) (dest_old dest_new : List (ℕ × ℕ)) → Finds t word IsPair dest_old dest_new count → count ≤ length dest_new
-found_fit t word count dest_old dest_new finds = grind (arith, common_steps)
+found_fit : {t : Table} {word count : ℕ} {dest_old dest_new : List (ℕ × ℕ)} → Finds t word IsPair dest_old dest_new count → count ≤ length dest_new
+found_fit finds = grind (arith, common_steps)
+
+-- the search for a hash answered, and locations that it found were tried
+module _ (footer : MDBShardFileFooter) (hash : DataHash) {count : ℕ} {old mid new : Source} {dest_old dest_new : List (ℕ × ℕ)}
+    (search_gave : Searches (chunk_lookup_table footer old) (keyed_word footer hash) IsPair 8 dest_old dest_new old mid (Ok count)) (room : length dest_new ≡ 8)
+    {hashes : List DataHash} {r : CoreResult (Option Run)} (tried : OutcomeOfTries footer hashes (take count dest_new) mid new r) where
+  finds : Finds (chunk_lookup_table footer old) (keyed_word footer hash) IsPair dest_old dest_new count
+  finds = search_gave.found
+
+  in_front : take count dest_new ≡ map (λ (h : Hit (ℕ × ℕ)). h.value) finds.found
+  in_front = front_is count dest_new (map (λ (h : Hit (ℕ × ℕ)). h.value) finds.found) (drop count dest_old) (length-map finds.found (λ (h : Hit (ℕ × ℕ)). h.value) ∙ finds.number) finds.written
+
+  rows_are : map row_of (take count dest_new) ≡ map (λ (h : Hit (ℕ × ℕ)). h.value.0) finds.found
+  rows_are = ap (map row_of) in_front ∙ rows_of_values finds.found
+
+  pub queried : (Answer : List (ℕ × ℕ) → Type 0) → Answer (take count dest_new) → Queries footer hash old new Answer
+  queried Answer answer = record {
+    fits = search_gave.fits (omega arith);
+    found = finds.found;
+    few = omega (arith, found_fit finds, finds.number, room);
+    each = finds.each;
+    distinct = finds.distinct;
+    all = λ sorted. finds.number ∙ search_gave.count sorted;
+    searched = mid;
+    serves = search_gave.serves;
+    bounded = search_gave.bounds;
+    visits = subst (λ rows. VisitsSome xorb_records 2 footer.xorb_info_offset rows mid new) rows_are tried.visits;
+    answer = subst Answer in_front answer;
+  }
+
+  pub query_refused : (e : CoreError) → TriedRefused footer hashes mid new e (take count dest_new) → Queries footer hash old new (TriedRefused footer hashes old new e)
+  query_refused e (location, contains, refused) =
+      queried (TriedRefused footer hashes old new e) (location, contains, refused_later (query_at footer hashes location) old mid new e search_gave.serves refused)
+
+  pub query_answered : (answer : Option Run) → TriedAnswer footer hashes mid.bytes answer (take count dest_new)
+      → Queries footer hash old new (TriedAnswer footer hashes old.bytes answer)
+  query_answered answer found =
+      queried (TriedAnswer footer hashes old.bytes answer) (subst (λ bytes. TriedAnswer footer hashes bytes answer (take count dest_new)) search_gave.serves.bytes found)
 
 -- the query by the first hash
-pub query_read : (footer : MDBShardFileFooter) (qs : List DataHash) (q : DataHash) (count : ℕ) (dest_old dest_new : List (ℕ × ℕ)) (old mid new : Source) → Some q ≡ slice_get qs 0
-    → Finds (chunk_lookup_table footer old) (under_key footer.chunk_hash_hmac_key q).word0 IsPair dest_old dest_new count → FitsTable (chunk_lookup_table footer old) → count ≤ 8
-    → (IsSorted (chunk_lookup_table footer old) → count ≡ min (hits (chunk_lookup_table footer old) (under_key footer.chunk_hash_hmac_key q).word0) 8) → Serves old mid
-    → (IsSorted (chunk_lookup_table footer old) → Bounded (chunk_lookup_table footer old) (under_key footer.chunk_hash_hmac_key q).word0 old mid)
-    → VisitsSome xorb_records 2 footer.xorb_info_offset (map (λ location. location.0) (take count dest_new)) mid new
-    → (r : Result (Option (ℕ × FileDataSequenceEntry)) CoreError)
-    → footer.chunk_lookup_num_entry ≢ 0
-    → IfOk r (λ answer. TriedAnswer footer.chunk_hash_hmac_key qs mid.bytes footer.xorb_info_offset answer (take count dest_new))
-    → IfErr r (λ e. TriedRefused footer.chunk_hash_hmac_key qs footer.xorb_info_offset mid new e (take count dest_new))
-    → QueryOutcome footer qs old new r
-query_read footer [] q count dest_old dest_new old mid new first finds fits most all serves bounded visits r some answered refused = absurd (none-some q (sym first))
-query_read footer (h ∷ qs) q count dest_old dest_new old mid new first finds fits most all serves bounded visits r some answered refused = go r answered refused
+pub query_read : (footer : MDBShardFileFooter) (hash : DataHash) {hashes : List DataHash} {count : ℕ} {old mid new : Source} {dest_old dest_new : List (ℕ × ℕ)}
+    {r : CoreResult (Option Run)} → Some hash ≡ slice_get hashes 0 → footer.chunk_lookup_num_entry ≢ 0
+    → Searches (chunk_lookup_table footer old) (keyed_word footer hash) IsPair 8 dest_old dest_new old mid (Ok count) → length dest_new ≡ 8
+    → OutcomeOfTries footer hashes (take count dest_new) mid new r → QueryOutcome footer hashes old new r
+query_read footer hash {hashes = []} first some gave room tried = absurd (none-some hash (sym first))
+query_read footer hash {hashes = h ∷ qs} {count} {old} {mid} {new} {dest_old} {dest_new} {r} first some gave room tried = go r tried
   where
-    same : (under_key footer.chunk_hash_hmac_key q).word0 ≡ (under_key footer.chunk_hash_hmac_key h).word0
-    same = ap (λ x. (under_key footer.chunk_hash_hmac_key x).word0) (same_Some q h first)
+    same : Searches (chunk_lookup_table footer old) (keyed_word footer h) IsPair 8 dest_old dest_new old mid (Ok count)
+    same = subst (λ x. Searches (chunk_lookup_table footer old) (keyed_word footer x) IsPair 8 dest_old dest_new old mid (Ok count)) (same_Some hash h first) gave
 
-    go : (o : Result (Option (ℕ × FileDataSequenceEntry)) CoreError)
-        → IfOk o (λ answer. TriedAnswer footer.chunk_hash_hmac_key (h ∷ qs) mid.bytes footer.xorb_info_offset answer (take count dest_new))
-        → IfErr o (λ e. TriedRefused footer.chunk_hash_hmac_key (h ∷ qs) footer.xorb_info_offset mid new e (take count dest_new))
-        → QueryOutcome footer (h ∷ qs) old new o
-    go (Ok answer) found none =
-        inr (
-          some,
-          query_answered footer.chunk_hash_hmac_key (h ∷ qs) footer.xorb_info_offset (chunk_lookup_table footer old) (under_key footer.chunk_hash_hmac_key h).word0 count old mid new dest_old dest_new
-              (subst (λ w. Finds (chunk_lookup_table footer old) w IsPair dest_old dest_new count) same finds) fits most
-              (subst (λ w. IsSorted (chunk_lookup_table footer old) → count ≡ min (hits (chunk_lookup_table footer old) w) 8) same all) serves
-              (subst (λ w. IsSorted (chunk_lookup_table footer old) → Bounded (chunk_lookup_table footer old) w old mid) same bounded) visits answer found,
-        )
-    go (Err e) none refused = (
-      some,
-      inr (query_refused footer.chunk_hash_hmac_key (h ∷ qs) footer.xorb_info_offset (chunk_lookup_table footer old) (under_key footer.chunk_hash_hmac_key h).word0 count old mid new dest_old dest_new
-          (subst (λ w. Finds (chunk_lookup_table footer old) w IsPair dest_old dest_new count) same finds) fits most
-          (subst (λ w. IsSorted (chunk_lookup_table footer old) → count ≡ min (hits (chunk_lookup_table footer old) w) 8) same all) serves
-          (subst (λ w. IsSorted (chunk_lookup_table footer old) → Bounded (chunk_lookup_table footer old) w old mid) same bounded) visits e refused),
-    )
+    go : (o : CoreResult (Option Run)) → OutcomeOfTries footer (h ∷ qs) (take count dest_new) mid new o → QueryOutcome footer (h ∷ qs) old new o
+    go (Ok answer) outcome = inr (some, query_answered footer h same room outcome answer outcome.answer)
+    go (Err e) outcome = (some, inr (query_refused footer h same room outcome e outcome.refused))

@@ -2,13 +2,13 @@
 use Rattle.std.proofs.Common.{◌≡◌, ◌⊎◌, inl, inr, ◌==◌, ◌&&◌, Ok, Err, Bool, true, false, not, cond, true≢false, ℕ, suc, ◌+◌, ◌<◌, ◌≤◌, List, [], ◌∷◌, length, take, drop, map, flat_map, get_or, min, Option, None, Some, refl, sym, ap, ◌∙◌, subst, drop-cons, arith}
 use Rattle.std.specs.Prelude.{All, AllPairs, Contains, MatchResult, option_map, sum}
 use Rattle.std.specs.List.{AllZip}
-use Rattle.std.specs.declared.result.Result.{Result}
 use Rattle.std.proofs.lemmas.Bool.{cases_lt, eq-eqb, ne_eqb, cond-true, cond-false}
 use Rattle.std.proofs.lemmas.Option.{none-some, same_Some, slice_get-get_or}
 use Rattle.std.proofs.lemmas.List.{get_or-map, get_or_default, length-append, length-map, length-take}
 use Rattle.std.proofs.lemmas.List.Elements.{All-cons, All-contains, All-drop, All-map, All-nil, All-take, All-weaker, Contains-get_or}
 use Rattle.std.proofs.lemmas.List.Sums.{sum_by-cons}
 use Rattle.xet_base.specs.declared.error.CoreError.{CoreError}
+use Rattle.xet_base.specs.Errors.{CoreResult}
 use Rattle.xet_base.specs.declared.merklehash.DataHash.{DataHash}
 use Rattle.xet_base.specs.Hash.{hash_eq}
 use Rattle.xet_base.specs.KeyedHash.{under_key}
@@ -16,21 +16,20 @@ use Rattle.xet_base.specs.Source.{Source, DeviceFailure}
 use Rattle.xet_base.specs.Table.{Table, Hit, IsHit, OtherRow, hits, IsBareInvalidShard}
 use Rattle.xet_base.proofs.HashOrder.{same_hash}
 use Rattle.xet_records.specs.declared.file_structs.MDBFileInfo.{MDBFileInfo}
-use Rattle.xet_records.specs.declared.file_structs.rows.FileDataSequenceEntry.{FileDataSequenceEntry}
 use Rattle.xet_records.specs.declared.xorb_structs.MDBXorbInfo.{MDBXorbInfo}
 use Rattle.xet_records.specs.declared.xorb_structs.XorbChunkSequenceEntry.{XorbChunkSequenceEntry}
 use Rattle.xet_records.specs.XorbRecord.{xorb_records, xorb_record_bytes, IsXorb}
 use Rattle.xet_records.proofs.RecordKinds.{xorb_laws}
 use Rattle.xet_shards.specs.declared.shard_format.footer.MDBShardFileFooter.{MDBShardFileFooter}
 use Rattle.xet_shards.specs.ChunkLookup.{ChunkLocation, chunk_at}
-use Rattle.xet_shards.specs.ChunkQuery.{run_length, run_at, some_run_at}
+use Rattle.xet_shards.specs.ChunkQuery.{Run, run_length, run_at, some_run_at}
 use Rattle.xet_shards.specs.Section.{total_rows, StartsAt}
 use Rattle.xet_shards.specs.SectionReading.{MayTake}
 use Rattle.xet_shards.specs.Tables.{ChunkTableRow, chunk_table_rows, chunk_table}
 use Rattle.xet_shards.specs.Layout.{Form}
 use Rattle.xet_shards.specs.InForm.{IsInForm}
 use Rattle.xet_shards.specs.Lookup.{row_at, chunk_lookup_table, IsPair}
-use Rattle.xet_shards.specs.RunReading.{AnswerAt, RefusedAt, Queries, TriedAnswer, TriedRefused, QueryAnswer, QueryRefused, QueryOutcome}
+use Rattle.xet_shards.specs.RunReading.{query_at, AnswerAt, RefusedAt, Queries, TriedAnswer, TriedRefused, QueryAnswer, QueryRefused, QueryOutcome}
 use Rattle.xet_shards.specs.WrittenChunks.{ChunkSearchCosts}
 use Rattle.xet_shards.specs.WrittenQueries.{HasChunkAt, all_chunks, is_other, others_sharing, RunAmong, TriesCost, QueryCosts}
 use Rattle.xet_shards.proofs.ChunkLocations.{IsLocated, located, has_row}
@@ -61,12 +60,12 @@ module _ (key q : DataHash) (qs : List DataHash) (x : MDBXorbInfo) (index : ℕ)
 
   if_same : is_same ≡ true → some_run_at key (x, index) (q ∷ qs) ≡ Some (run_at key (x, index) (q ∷ qs))
   if_same same =
-      cond-false {A = Option (ℕ × FileDataSequenceEntry)} (n == 0) None (Some (run_at key (x, index) (q ∷ qs)))
+      cond-false {A = Option Run} (n == 0) None (Some (run_at key (x, index) (q ∷ qs)))
       (ne_eqb n 0 (λ none. absurd (omega (arith, none, n_is ∙ ap (λ b. cond b (1 + run_length key qs (drop (suc index) x.chunks)) 0) same))))
 
   if_other : is_same ≡ false → some_run_at key (x, index) (q ∷ qs) ≡ None
   if_other other =
-      cond-true {A = Option (ℕ × FileDataSequenceEntry)} (n == 0) None (Some (run_at key (x, index) (q ∷ qs)))
+      cond-true {A = Option Run} (n == 0) None (Some (run_at key (x, index) (q ∷ qs)))
       (eq-eqb n 0 (n_is ∙ ap (λ b. cond b (1 + run_length key qs (drop (suc index) x.chunks)) 0) other))
 
   none_is_other : None ≡ some_run_at key (x, index) (q ∷ qs) → is_same ≡ false
@@ -76,7 +75,7 @@ module _ (key q : DataHash) (qs : List DataHash) (x : MDBXorbInfo) (index : ℕ)
       go true same = absurd (none-some (run_at key (x, index) (q ∷ qs)) (none ∙ if_same same))
       go false other = refl
 
-  some_is_same : (run : ℕ × FileDataSequenceEntry) → Some run ≡ some_run_at key (x, index) (q ∷ qs) → (is_same ≡ true) × (run ≡ run_at key (x, index) (q ∷ qs))
+  some_is_same : (run : Run) → Some run ≡ some_run_at key (x, index) (q ∷ qs) → (is_same ≡ true) × (run ≡ run_at key (x, index) (q ∷ qs))
   some_is_same run some = go is_same refl
     where
       go : (b : Bool) → is_same ≡ b → (b ≡ true) × (run ≡ run_at key (x, index) (q ∷ qs))
@@ -91,7 +90,7 @@ length-all_chunks [] = refl
 length-all_chunks (x ∷ xorbs) =
     length-append x.chunks (all_chunks xorbs) ∙ omega (arith, length-all_chunks xorbs, sum_by-cons (λ (r : MDBXorbInfo). length r.chunks) x xorbs)
 
-module _ (files : List MDBFileInfo) (xorbs : List MDBXorbInfo) (form : Form) (old : Source) (footer : MDBShardFileFooter) (is : IsInForm files xorbs form old.bytes footer)
+module _ {files : List MDBFileInfo} {xorbs : List MDBXorbInfo} {form : Form} (old : Source) {footer : MDBShardFileFooter} (is : IsInForm files xorbs form old.bytes footer)
     (with_table : form.chunk_table ≡ true) where
   abbrev rows : List ChunkTableRow
   rows = chunk_table xorbs
@@ -157,25 +156,25 @@ module _ (files : List MDBFileInfo) (xorbs : List MDBXorbInfo) (form : Form) (ol
     abbrev hash : DataHash
     hash = under_key key q
 
-    abbrev Answered : ℕ × ℕ → Option (ℕ × FileDataSequenceEntry) → Type 0
-    Answered v answer = AnswerAt key (q ∷ qs) old.bytes footer.xorb_info_offset v.0 v.1 answer
+    abbrev Answered : ℕ × ℕ → Option Run → Type 0
+    Answered v answer = AnswerAt (query_at footer (q ∷ qs) v) old.bytes answer
 
     -- no run at a hit: its chunk has another hash
     no_run_at : (h : Hit (ℕ × ℕ)) → IsHit t hash.word0 IsPair h → Answered h.value None → is_other hash (get_or (all_chunks xorbs) (chunk_of h.row) no_chunk) ≡ true
     no_run_at h hit none =
         let of = of_chunk hash.word0 h hit in
-        let run = run_there files xorbs form old footer is h.value.0 of.spot.xorb of.starts (q ∷ qs) h.value.1 None none in
+        let run = run_there old is of.starts (q ∷ qs) h.value.1 None none in
         let other = none_is_other key q qs of.spot.xorb h.value.1 of.within run.0 in
         let not_same : hash_eq hash (get_or (all_chunks xorbs) (chunk_of h.row) no_chunk).chunk_hash ≡ false =
         ap (λ (c : XorbChunkSequenceEntry). hash_eq hash c.chunk_hash) of.chunk_is ∙ other in
         λ i. eq-eqb (get_or (all_chunks xorbs) (chunk_of h.row) no_chunk).chunk_hash.word0 hash.word0 of.word_is i && not (not_same i)
 
     -- a run at a hit
-    run_at_hit : (h : Hit (ℕ × ℕ)) (run : ℕ × FileDataSequenceEntry) → IsHit t hash.word0 IsPair h → Answered h.value (Some run) → RunAmong key (q ∷ qs) xorbs (Some run)
+    run_at_hit : (h : Hit (ℕ × ℕ)) (run : Run) → IsHit t hash.word0 IsPair h → Answered h.value (Some run) → RunAmong key (q ∷ qs) xorbs (Some run)
     run_at_hit h run hit some =
         let of = of_chunk hash.word0 h hit in
         let x = of.spot.xorb in
-        let answer = run_there files xorbs form old footer is h.value.0 x of.starts (q ∷ qs) h.value.1 (Some run) some in
+        let answer = run_there old is of.starts (q ∷ qs) h.value.1 (Some run) some in
         let found = some_is_same key q qs x h.value.1 of.within run answer.0 in (
           (x, h.value.1),
           record {
@@ -215,14 +214,14 @@ module _ (files : List MDBFileInfo) (xorbs : List MDBXorbInfo) (form : Form) (ol
       abbrev no_hit : Hit (ℕ × ℕ)
       no_hit = record { row = 0; value = (0, 0) }
 
-      found_run : (run : ℕ × FileDataSequenceEntry) → TriedAnswer key (q ∷ qs) old.bytes footer.xorb_info_offset (Some run) values → RunAmong key (q ∷ qs) xorbs (Some run)
+      found_run : (run : Run) → TriedAnswer footer (q ∷ qs) old.bytes (Some run) values → RunAmong key (q ∷ qs) xorbs (Some run)
       found_run run (location, contains, some) =
           let P : ℕ × ℕ → Type 0 = λ v. Answered v (Some run) → RunAmong key (q ∷ qs) xorbs (Some run) in
           All-contains P values location
           (All-map P (λ (h : Hit (ℕ × ℕ)). h.value) found (All-weaker (IsHit t hash.word0 IsPair) (λ h. P h.value) (λ h hit. run_at_hit h run hit) found each))
           contains some
 
-      module _ (none : TriedAnswer key (q ∷ qs) old.bytes footer.xorb_info_offset None values) where
+      module _ (none : TriedAnswer footer (q ∷ qs) old.bytes None values) where
         none_at : (i : ℕ) (d : Hit (ℕ × ℕ)) → i < length found → Answered (get_or found i d).value None
         none_at i d below =
             subst (λ v. Answered v None) (get_or-map (λ (h : Hit (ℕ × ℕ)). h.value) found i d (0, 0) below)
@@ -267,7 +266,7 @@ module _ (files : List MDBFileInfo) (xorbs : List MDBXorbInfo) (form : Form) (ol
             let value : h.value ≡ (row.0, p.1) =
             (hit_row files xorbs form old footer is with_table hash.word0 h (each m.0 no_hit m.1)).2
             ∙ ap (λ k. ((row_of k).row, (row_of k).index)) (m.2 no_hit) ∙ ap (λ (s : ChunkTableRow). (s.row, s.index)) row.5 in
-            let run = run_there files xorbs form old footer is row.0 p.0 row.1 (q ∷ qs) p.1 None (subst (λ v. Answered v None) value (none_at m.0 no_hit m.1)) in
+            let run = run_there old is row.1 (q ∷ qs) p.1 None (subst (λ v. Answered v None) value (none_at m.0 no_hit m.1)) in
             let other = none_is_other key q qs p.0 p.1 within run.0 in
             let same = same_Some hash (get_or p.0.chunks p.1 no_chunk).chunk_hash (sym at.chunk ∙ chunk_here key q qs p.0 p.1 within) in
             true≢false (sym ((same_hash hash (get_or p.0.chunks p.1 no_chunk).chunk_hash).1 same) ∙ other)
@@ -279,19 +278,19 @@ module _ (files : List MDBFileInfo) (xorbs : List MDBXorbInfo) (form : Form) (ol
         ]
 
       -- a hit is refused only if the device fails
-      hit_refused : All IsXorb xorbs → (new : Source) (e : CoreError) → TriedRefused key (q ∷ qs) footer.xorb_info_offset old new e values → DeviceFailure old new e
+      hit_refused : All IsXorb xorbs → (new : Source) (e : CoreError) → TriedRefused footer (q ∷ qs) old new e values → DeviceFailure old new e
       hit_refused good new e (location, contains, refused) =
-          let P : ℕ × ℕ → Type 0 = λ v. RefusedAt IsBareInvalidShard key (q ∷ qs) footer.xorb_info_offset v.0 v.1 old new e → DeviceFailure old new e in
+          let P : ℕ × ℕ → Type 0 = λ v. RefusedAt IsBareInvalidShard (query_at footer (q ∷ qs) v) old new e → DeviceFailure old new e in
           All-contains P values location
           (All-map P (λ (h : Hit (ℕ × ℕ)). h.value) found (All-weaker (IsHit t hash.word0 IsPair) (λ h. P h.value) at_hit found each))
           contains refused
         where
-          at_hit : (h : Hit (ℕ × ℕ)) → IsHit t hash.word0 IsPair h → RefusedAt IsBareInvalidShard key (q ∷ qs) footer.xorb_info_offset h.value.0 h.value.1 old new e → DeviceFailure old new e
+          at_hit : (h : Hit (ℕ × ℕ)) → IsHit t hash.word0 IsPair h → RefusedAt IsBareInvalidShard (query_at footer (q ∷ qs) h.value) old new e → DeviceFailure old new e
           at_hit h hit refused =
               let of = of_chunk hash.word0 h hit in
               let section = xorbs_stored files xorbs form old footer is in
               let is_xorb = All-contains IsXorb xorbs of.spot.xorb good (in_records xorb_records xorb_laws xorbs footer.xorb_info_offset old section h.value.0 of.spot.xorb of.starts) in
-              elim (no_run_there files xorbs form old footer is h.value.0 of.spot.xorb of.starts IsBareInvalidShard (q ∷ qs) h.value.1 new e is_xorb.bytes refused) [
+              elim (no_run_there old is of.starts (q ∷ qs) h.value.1 IsBareInvalidShard new e is_xorb.bytes refused) [
                 | inl device ↦ device
                 | inr past ↦ absurd (omega (arith, past.1, of.within))
               ]
@@ -326,7 +325,7 @@ module _ (files : List MDBFileInfo) (xorbs : List MDBXorbInfo) (form : Form) (ol
         }
 
     -- what the locations that were tried cost
-    tries_cost : (new : Source) (Answer : List (ℕ × ℕ) → Type 0) → Queries t footer.xorb_info_offset hash.word0 old new Answer → TriesCost xorbs hash.word0 old new
+    tries_cost : (new : Source) (Answer : List (ℕ × ℕ) → Type 0) → Queries footer q old new Answer → TriesCost xorbs hash.word0 old new
     tries_cost new Answer queries =
         let starts = map (λ (h : Hit (ℕ × ℕ)). h.value.0) queries.found in
         let n = queries.visits.0 in
@@ -362,7 +361,7 @@ module _ (files : List MDBFileInfo) (xorbs : List MDBXorbInfo) (form : Form) (ol
     no_rows : footer.chunk_lookup_num_entry ≡ 0 → RunAmong key (q ∷ qs) xorbs None
     no_rows none = inl (λ p at. absurd (omega (arith, none, (row_of_location p at).3, (rows_known files xorbs form old footer is with_table).count_is)))
 
-    query_gives : (new : Source) (answer : Option (ℕ × FileDataSequenceEntry)) → QueryAnswer footer (q ∷ qs) old new answer → RunAmong key (q ∷ qs) xorbs answer
+    query_gives : (new : Source) (answer : Option Run) → QueryAnswer footer (q ∷ qs) old new answer → RunAmong key (q ∷ qs) xorbs answer
     query_gives new answer (inl (none, nothing, same)) = subst (RunAmong key (q ∷ qs) xorbs) (sym nothing) (no_rows none)
     query_gives new (Some run) (inr (some, queries)) = found_run queries.found queries.each queries.distinct run queries.answer
     query_gives new None (inr (some, queries)) = found_none queries.found queries.each queries.distinct queries.answer (queries.all (table_sorted files xorbs form old footer is with_table))
@@ -372,7 +371,7 @@ module _ (files : List MDBFileInfo) (xorbs : List MDBXorbInfo) (form : Form) (ol
         search_served word_of numbers_of 8 no_table_row rows footer.chunk_lookup_offset footer.chunk_lookup_num_entry old (rows_known files xorbs form old footer is with_table) new e refused
     query_refuses good new e (some, inr queries) = hit_refused queries.found queries.each queries.distinct good new e queries.answer
 
-    query_costs : (new : Source) (r : Result (Option (ℕ × FileDataSequenceEntry)) CoreError) → QueryOutcome footer (q ∷ qs) old new r
+    query_costs : (new : Source) (r : CoreResult (Option Run)) → QueryOutcome footer (q ∷ qs) old new r
         → TriesCost xorbs hash.word0 old new
     query_costs new (Ok answer) (inl (none, nothing, same)) =
         none_tried old new (record { made = 0; few = omega arith; seeks = omega arith; read = omega arith }) same
@@ -380,7 +379,7 @@ module _ (files : List MDBFileInfo) (xorbs : List MDBXorbInfo) (form : Form) (ol
     query_costs new (Err e) (some, inl (refused, bounded)) = none_tried new new (chunk_search_costs files xorbs form old footer is with_table hash.word0 new bounded) refl
     query_costs new (Err e) (some, inr queries) = tries_cost new _ queries
 
-  pub query_in_form : All IsXorb xorbs → (qs : List DataHash) (new : Source) (r : Result (Option (ℕ × FileDataSequenceEntry)) CoreError)
+  pub query_in_form : All IsXorb xorbs → (qs : List DataHash) (new : Source) (r : CoreResult (Option Run))
       → QueryOutcome footer qs old new r → MatchResult r (RunAmong form.key qs xorbs) (DeviceFailure old new)
   query_in_form good [] new (Ok answer) read = read.0
   query_in_form good [] new (Err e) read = absurd read
@@ -388,7 +387,7 @@ module _ (files : List MDBFileInfo) (xorbs : List MDBXorbInfo) (form : Form) (ol
       subst (λ (f : MDBShardFileFooter). RunAmong f.chunk_hash_hmac_key (q ∷ qs) xorbs answer) is.footer_is (query_gives q qs new answer read)
   query_in_form good (q ∷ qs) new (Err e) read = query_refuses q qs good new e read
 
-  pub query_costs_in_form : (qs : List DataHash) (new : Source) (r : Result (Option (ℕ × FileDataSequenceEntry)) CoreError)
+  pub query_costs_in_form : (qs : List DataHash) (new : Source) (r : CoreResult (Option Run))
       → QueryOutcome footer qs old new r → QueryCosts form.key qs xorbs old new
   query_costs_in_form [] new (Ok answer) read = read.1
   query_costs_in_form [] new (Err e) read = absurd read

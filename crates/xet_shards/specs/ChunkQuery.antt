@@ -12,25 +12,28 @@ use Rattle.xet_records.specs.XorbRecord.{segment_of}
 use Rattle.xet_shards.specs.ChunkLookup.{ChunkLocation, LocationMap, IsLocation}
 use Rattle.xet_shards.specs.Shard.{XorbMap}
 
+-- a run: its number of chunks, and their segment
+abbrev pub Run : Type 0
+Run = ℕ × FileDataSequenceEntry
+
 -- how many of these hashes, from the first on, equal the hashes of these chunks under a key, one by
 -- one
 abbrev pub run_length : DataHash → List DataHash → List XorbChunkSequenceEntry → ℕ
 run_length key qs cs = common_prefix_len (λ q c. hash_eq (under_key key q) c.chunk_hash) qs cs
 
--- the run at a location: its number of chunks, and their segment
-abbrev pub run_at : DataHash → ChunkLocation → List DataHash → ℕ × FileDataSequenceEntry
+-- the run at a location
+abbrev pub run_at : DataHash → ChunkLocation → List DataHash → Run
 run_at key p qs =
     let n = run_length key qs (drop p.1 p.0.chunks) in
     (n, segment_of p.0.metadata (take n (drop p.1 p.0.chunks)) p.1 (p.1 + n))
 
 -- the same if it has a chunk
-abbrev pub some_run_at : DataHash → ChunkLocation → List DataHash
-    → Option (ℕ × FileDataSequenceEntry)
+abbrev pub some_run_at : DataHash → ChunkLocation → List DataHash → Option Run
 some_run_at key p qs =
     if run_length key qs (drop p.1 p.0.chunks) == 0 then None else Some (run_at key p qs)
 
 -- the run, without a key, at the location that the lookup keeps for the first hash, if it has one
-abbrev pub query_answer : LocationMap → List DataHash → Option (ℕ × FileDataSequenceEntry)
+abbrev pub query_answer : LocationMap → List DataHash → Option Run
 query_answer locations [] = None
 query_answer locations (q ∷ qs) = option_map (λ p. run_at no_key p (q ∷ qs)) (get locations q)
 

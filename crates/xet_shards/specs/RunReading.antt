@@ -1,21 +1,20 @@
 -- A run in the bytes of a xorb: what reading it from a source returns, why it fails, and what a
 -- chunk query makes of it.
-use Rattle.std.specs.Prelude.{◌≡◌, ◌≢◌, ◌⊎◌, ℕ, ◌+◌, ◌-◌, ◌^◌, ◌<◌, ◌≤◌, min, List, [], ◌∷◌, ◌++◌, length, take, drop, map, flat_map, All, AllPairs, Contains, Option, None, Some, MatchResult}
+use Rattle.std.specs.Prelude.{◌≡◌, ◌≢◌, ◌⊎◌, ℕ, ◌+◌, ◌-◌, ◌^◌, ◌<◌, ◌≤◌, min, List, [], ◌∷◌, ◌++◌, length, take, drop, map, flat_map, All, AllPairs, Contains, Option, None, Some, Ok, MatchResult, IfOk, IfErr, OnOk}
 use Rattle.xet_base.specs.declared.error.CoreError.{CoreError}
 use Rattle.xet_base.specs.declared.merklehash.DataHash.{DataHash}
 use Rattle.xet_base.specs.Errors.{CoreResult, IsEndOfInput}
 use Rattle.xet_base.specs.KeyedHash.{under_key}
 use Rattle.xet_base.specs.Source.{Source, DeviceFailure}
-use Rattle.xet_base.specs.Table.{Table, Hit, IsHit, OtherRow, IsSorted, hits, FitsTable, Serves, Bounded, SearchRefused, IsBareInvalidShard}
-use Rattle.xet_records.specs.declared.file_structs.rows.FileDataSequenceEntry.{FileDataSequenceEntry}
+use Rattle.xet_base.specs.Table.{Hit, IsHit, OtherRow, IsSorted, hits, FitsTable, Serves, Bounded, SearchRefused, IsBareInvalidShard}
 use Rattle.xet_records.specs.declared.xorb_structs.XorbChunkSequenceEntry.{XorbChunkSequenceEntry}
 use Rattle.xet_records.specs.declared.xorb_structs.XorbChunkSequenceHeader.{XorbChunkSequenceHeader}
 use Rattle.xet_records.specs.Reading.{BeginsWithHeader}
 use Rattle.xet_records.specs.XorbRow.{chunk_row, FitsChunk}
 use Rattle.xet_records.specs.XorbRecord.{xorb_records, total_bytes, default_segment, segment_of}
 use Rattle.xet_shards.specs.declared.shard_format.footer.MDBShardFileFooter.{MDBShardFileFooter}
-use Rattle.xet_shards.specs.ChunkQuery.{run_length}
-use Rattle.xet_shards.specs.Lookup.{row_at, chunk_lookup_table, IsPair, Visits, VisitsSome}
+use Rattle.xet_shards.specs.ChunkQuery.{Run, run_length}
+use Rattle.xet_shards.specs.Lookup.{row_at, chunk_lookup_table, IsPair, Visit, Visits, VisitsSome}
 use Rattle.xet_shards.specs.SectionReading.{BeginsWithBookend}
 
 -- chunks in front of some bytes, no more than are left of their xorb
@@ -32,22 +31,57 @@ Decide key qs left chunks =
     (run_length key qs chunks < length chunks) ⊎ (length chunks ≡ length qs)
     ⊎ (length chunks ≡ left)
 
--- the run of hashes in a xorb with this header, from an index on, where these bytes begin
-pub record IsRun (key : DataHash) (qs : List DataHash) (header : XorbChunkSequenceHeader)
-    (index : ℕ) (bytes : List ℕ) (run : ℕ × FileDataSequenceEntry) : Type 0 where
-  pub within : index < header.num_entries
+-- a query at a location: for the run of these hashes, under a key, that begins at the chunk with an
+-- index in the xorb at a row of the section at an offset
+pub record QueryAt : Type 0 where
+  pub key : DataHash
+  pub hashes : List DataHash
+  pub section : ℕ
+  pub row : ℕ
+  pub index : ℕ
+
+-- the query at a row and an index by a footer
+abbrev pub query_at : MDBShardFileFooter → List DataHash → ℕ × ℕ → QueryAt
+query_at footer hashes location = record {
+  key = footer.chunk_hash_hmac_key;
+  hashes = hashes;
+  section = footer.xorb_info_offset;
+  row = location.0;
+  index = location.1;
+}
+
+-- the offsets of the xorb and of the chunk, and the bytes from there on
+abbrev pub xorb_offset : QueryAt → ℕ
+xorb_offset q = row_at q.section q.row
+
+abbrev pub chunk_offset : QueryAt → ℕ
+chunk_offset q = row_at q.section (q.row + 1 + q.index)
+
+abbrev pub xorb_at : QueryAt → List ℕ → List ℕ
+xorb_at q bytes = drop (xorb_offset q) bytes
+
+abbrev pub chunks_at : QueryAt → List ℕ → List ℕ
+chunks_at q bytes = drop (chunk_offset q) bytes
+
+-- how many chunks of a xorb with this header are left from the chunk on
+abbrev pub chunks_left : QueryAt → XorbChunkSequenceHeader → ℕ
+chunks_left q header = header.num_entries - q.index
+
+-- the run in a xorb with this header
+pub record IsRun (q : QueryAt) (header : XorbChunkSequenceHeader) (bytes : List ℕ)
+    (run : Run) : Type 0 where
+  pub within : q.index < header.num_entries
   pub chunks : List XorbChunkSequenceEntry
   pub rest : List ℕ
-  pub there : HasChunks (header.num_entries - index) bytes chunks rest
-  pub decide : Decide key qs (header.num_entries - index) chunks
-  pub count : run.0 ≡ run_length key qs chunks
-  pub segment : run.1 ≡ segment_of header (take run.0 chunks) index (index + run.0)
+  pub there : HasChunks (chunks_left q header) (chunks_at q bytes) chunks rest
+  pub decide : Decide q.key q.hashes (chunks_left q header) chunks
+  pub count : run.0 ≡ run_length q.key q.hashes chunks
+  pub segment : run.1 ≡ segment_of header (take run.0 chunks) q.index (q.index + run.0)
 
 -- the run if it has a chunk, none if it has not
-abbrev pub FoundRun : DataHash → List DataHash → XorbChunkSequenceHeader → ℕ → List ℕ
-    → Option (ℕ × FileDataSequenceEntry) → Type 0
-FoundRun key qs header index bytes (Some run) = (0 < run.0) × IsRun key qs header index bytes run
-FoundRun key qs header index bytes None = IsRun key qs header index bytes (0, default_segment)
+abbrev pub FoundRun : QueryAt → XorbChunkSequenceHeader → List ℕ → Option Run → Type 0
+FoundRun q header bytes (Some run) = (0 < run.0) × IsRun q header bytes run
+FoundRun q header bytes None = IsRun q header bytes (0, default_segment)
 
 -- chunks that have the hashes, one by one, and more bytes than fit `u32`
 abbrev pub RunPasses : DataHash → List DataHash → ℕ → List ℕ → Type 0
@@ -63,109 +97,123 @@ RunIsCut key qs left bytes =
     × (run_length key qs chunks ≡ length chunks) × (total_bytes chunks < 2 ^ 32)
     × (length chunks < length qs) × (length chunks < left) × (length rest < 48)
 
--- the bytes of a xorb from the chunk at an index on, where its header is at a row of a section
-abbrev pub chunks_at : List ℕ → ℕ → ℕ → ℕ → List ℕ
-chunks_at bytes offset row index = drop (row_at offset (row + 1 + index)) bytes
-
--- a xorb's header is at a row, and it announces a chunk at the index
-pub record AnnouncesChunk (bytes : List ℕ) (offset row index : ℕ) (header : XorbChunkSequenceHeader)
+-- a xorb's header is at the row, and it announces a chunk at the index
+pub record AnnouncesChunk (q : QueryAt) (bytes : List ℕ) (header : XorbChunkSequenceHeader)
     : Type 0 where
   pub rest : List ℕ
-  pub begins : BeginsWithHeader xorb_records (drop (row_at offset row) bytes) header rest
-  pub within : index < header.num_entries
+  pub begins : BeginsWithHeader xorb_records (xorb_at q bytes) header rest
+  pub within : q.index < header.num_entries
 
 -- there is a bookend at the row, or a xorb's header that announces no chunk at the index
-abbrev pub AnnouncesNoChunk : List ℕ → ℕ → ℕ → ℕ → Type 0
-AnnouncesNoChunk bytes offset row index =
-    BeginsWithBookend xorb_records (drop (row_at offset row) bytes)
+abbrev pub AnnouncesNoChunk : QueryAt → List ℕ → Type 0
+AnnouncesNoChunk q bytes =
+    BeginsWithBookend xorb_records (xorb_at q bytes)
     ⊎ ((header : XorbChunkSequenceHeader) × (rest : List ℕ)
-    × BeginsWithHeader xorb_records (drop (row_at offset row) bytes) header rest
-    × (header.num_entries ≤ index))
+    × BeginsWithHeader xorb_records (xorb_at q bytes) header rest
+    × (header.num_entries ≤ q.index))
 
--- the offset of the row or of the chunk passes 64 bits, or the bytes of the run pass 32
-abbrev pub PassesAt : DataHash → List DataHash → List ℕ → ℕ → ℕ → ℕ → Type 0
-PassesAt key qs bytes offset row index =
-    (2 ^ 64 ≤ row_at offset row)
-    ⊎ ((header : XorbChunkSequenceHeader) × AnnouncesChunk bytes offset row index header
-    × ((2 ^ 64 ≤ row_at offset (row + 1 + index))
-    ⊎ RunPasses key qs (header.num_entries - index) (chunks_at bytes offset row index)))
+-- the offset of the xorb or of the chunk passes 64 bits, or the bytes of the run pass 32
+abbrev pub PassesAt : QueryAt → List ℕ → Type 0
+PassesAt q bytes =
+    (2 ^ 64 ≤ xorb_offset q)
+    ⊎ ((header : XorbChunkSequenceHeader) × AnnouncesChunk q bytes header
+    × ((2 ^ 64 ≤ chunk_offset q)
+    ⊎ RunPasses q.key q.hashes (chunks_left q header) (chunks_at q bytes)))
 
--- the offset of the row or of the chunk fits 64 bits, and the bytes end before the header does, or
+-- the offset of the xorb or of the chunk fits 64 bits, and the bytes end before the header does, or
 -- before a chunk that has to be read
-abbrev pub IsCutAt : DataHash → List DataHash → List ℕ → ℕ → ℕ → ℕ → Type 0
-IsCutAt key qs bytes offset row index =
-    ((row_at offset row < 2 ^ 64) × (length (drop (row_at offset row) bytes) < 48))
-    ⊎ ((header : XorbChunkSequenceHeader) × AnnouncesChunk bytes offset row index header
-    × (row_at offset (row + 1 + index) < 2 ^ 64)
-    × RunIsCut key qs (header.num_entries - index) (chunks_at bytes offset row index))
+abbrev pub IsCutAt : QueryAt → List ℕ → Type 0
+IsCutAt q bytes =
+    ((xorb_offset q < 2 ^ 64) × (length (xorb_at q bytes) < 48))
+    ⊎ ((header : XorbChunkSequenceHeader) × AnnouncesChunk q bytes header
+    × (chunk_offset q < 2 ^ 64)
+    × RunIsCut q.key q.hashes (chunks_left q header) (chunks_at q bytes))
 
--- the query at a location: nothing without hashes, else the run there
-abbrev pub AnswerAt : DataHash → List DataHash → List ℕ → ℕ → ℕ → ℕ
-    → Option (ℕ × FileDataSequenceEntry) → Type 0
-AnswerAt key [] bytes offset row index answer = answer ≡ None
-AnswerAt key (q ∷ qs) bytes offset row index answer =
-    (header : XorbChunkSequenceHeader) × AnnouncesChunk bytes offset row index header
-    × FoundRun key (q ∷ qs) header index (chunks_at bytes offset row index) answer
+-- the answer: none without hashes, else the run there
+abbrev pub AnswerAt : QueryAt → List ℕ → Option Run → Type 0
+AnswerAt q bytes answer =
+    ((q.hashes ≡ []) × (answer ≡ None))
+    ⊎ ((q.hashes ≢ []) × (header : XorbChunkSequenceHeader) × AnnouncesChunk q bytes header
+    × FoundRun q header bytes answer)
 
--- why it was not answered: the device failed, a number is out of range, there is no such chunk, for
--- which the error is `Absent`, or the bytes end
-abbrev pub RefusalAt : (CoreError → Type 0) → DataHash → List DataHash → ℕ → ℕ → ℕ → Source → Source
-    → CoreError → Type 0
-RefusalAt Absent key qs offset row index old new e =
+-- why there is none: the device failed, a number is out of range, there is no such chunk, for which
+-- the error is `Absent`, or the bytes end
+abbrev pub RefusalAt : (CoreError → Type 0) → QueryAt → Source → Source → CoreError → Type 0
+RefusalAt Absent q old new e =
     DeviceFailure old new e
-    ⊎ ((new.failures ≡ old.failures) × IsBareInvalidShard e
-    × PassesAt key qs old.bytes offset row index)
-    ⊎ ((new.failures ≡ old.failures) × Absent e × AnnouncesNoChunk old.bytes offset row index)
-    ⊎ ((new.failures ≡ old.failures) × IsEndOfInput e × IsCutAt key qs old.bytes offset row index)
+    ⊎ ((new.failures ≡ old.failures) × IsBareInvalidShard e × PassesAt q old.bytes)
+    ⊎ ((new.failures ≡ old.failures) × Absent e × AnnouncesNoChunk q old.bytes)
+    ⊎ ((new.failures ≡ old.failures) × IsEndOfInput e × IsCutAt q old.bytes)
 
--- it was not answered: there are hashes, and one of these causes
-abbrev pub RefusedAt : (CoreError → Type 0) → DataHash → List DataHash → ℕ → ℕ → ℕ → Source → Source
-    → CoreError → Type 0
-RefusedAt Absent key qs offset row index old new e =
-    (qs ≢ []) × RefusalAt Absent key qs offset row index old new e
+-- there is none: there are hashes, and one of these causes
+abbrev pub RefusedAt : (CoreError → Type 0) → QueryAt → Source → Source → CoreError → Type 0
+RefusedAt Absent q old new e = (q.hashes ≢ []) × RefusalAt Absent q old new e
 
--- a query by the chunk table: the table fits 64 bits, rows with the word are found, eight at most,
--- and the first few of their locations were tried
-pub record Queries (t : Table) (offset word : ℕ) (old new : Source) (Answer : List (ℕ × ℕ) → Type 0)
-    : Type 0 where
-  pub fits : FitsTable t
+-- the outcome: the answer or why there is none, that without hashes nothing is done, that the
+-- device did not fail, and what was read
+pub record OutcomeAt (Absent : CoreError → Type 0) (q : QueryAt) (old new : Source)
+    (result : CoreResult (Option Run)) : Type 0 where
+  pub answer : IfOk result (AnswerAt q old.bytes)
+  pub refused : IfErr result (RefusedAt Absent q old new)
+  pub nothing : q.hashes ≡ [] → (result ≡ Ok None) × (new ≡ old)
+  pub serves : OnOk result (Serves old new)
+  pub visit : Visit xorb_records 2 q.section q.row old new
+
+-- the first word of a hash under a footer's key, by which the chunk table is searched
+abbrev pub keyed_word : MDBShardFileFooter → DataHash → ℕ
+keyed_word footer hash = (under_key footer.chunk_hash_hmac_key hash).word0
+
+-- a search for a hash in the chunk table: the table fits 64 bits, rows with the word are found, eight
+-- at most, and the first few of their locations were tried
+pub record Queries (footer : MDBShardFileFooter) (hash : DataHash) (old new : Source)
+    (Answer : List (ℕ × ℕ) → Type 0) : Type 0 where
+  pub fits : FitsTable (chunk_lookup_table footer old)
   pub found : List (Hit (ℕ × ℕ))
   pub few : length found ≤ 8
-  pub each : All (IsHit t word IsPair) found
+  pub each : All (IsHit (chunk_lookup_table footer old) (keyed_word footer hash) IsPair) found
   pub distinct : AllPairs OtherRow found
-  pub all : IsSorted t → length found ≡ min (hits t word) 8
+  pub all : IsSorted (chunk_lookup_table footer old)
+      → length found ≡ min (hits (chunk_lookup_table footer old) (keyed_word footer hash)) 8
   pub searched : Source
   pub serves : Serves old searched
-  pub bounded : IsSorted t → Bounded t word old searched
-  pub visits : VisitsSome xorb_records 2 offset (map (λ hit. hit.value.0) found) searched new
+  pub bounded : IsSorted (chunk_lookup_table footer old)
+      → Bounded (chunk_lookup_table footer old) (keyed_word footer hash) old searched
+  pub visits : VisitsSome xorb_records 2 footer.xorb_info_offset
+      (map (λ hit. hit.value.0) found) searched new
   pub answer : Answer (map (λ hit. hit.value) found)
 
--- the answer at one of the locations, or none at any
-abbrev pub TriedAnswer : DataHash → List DataHash → List ℕ → ℕ → Option (ℕ × FileDataSequenceEntry)
-    → List (ℕ × ℕ) → Type 0
-TriedAnswer key qs bytes offset (Some run) locations =
+-- queries at some locations: the answer at one of them, or none at any; why there is none at one
+abbrev pub TriedAnswer : MDBShardFileFooter → List DataHash → List ℕ
+    → Option Run → List (ℕ × ℕ) → Type 0
+TriedAnswer footer hashes bytes (Some run) locations =
     (location : ℕ × ℕ) × Contains locations location
-    × AnswerAt key qs bytes offset location.0 location.1 (Some run)
-TriedAnswer key qs bytes offset None locations =
-    All (λ location. AnswerAt key qs bytes offset location.0 location.1 None) locations
+    × AnswerAt (query_at footer hashes location) bytes (Some run)
+TriedAnswer footer hashes bytes None locations =
+    All (λ location. AnswerAt (query_at footer hashes location) bytes None) locations
 
-abbrev pub TriedRefused : DataHash → List DataHash → ℕ → Source → Source → CoreError → List (ℕ × ℕ)
-    → Type 0
-TriedRefused key qs offset old new e locations =
+abbrev pub TriedRefused : MDBShardFileFooter → List DataHash → Source → Source → CoreError
+    → List (ℕ × ℕ) → Type 0
+TriedRefused footer hashes old new e locations =
     (location : ℕ × ℕ) × Contains locations location
-    × RefusedAt IsBareInvalidShard key qs offset location.0 location.1 old new e
+    × RefusedAt IsBareInvalidShard (query_at footer hashes location) old new e
+
+-- the outcome of queries at some locations, of which the first few are tried
+pub record OutcomeOfTries (footer : MDBShardFileFooter) (hashes : List DataHash)
+    (locations : List (ℕ × ℕ)) (old new : Source) (result : CoreResult (Option Run)) : Type 0 where
+  pub answer : IfOk result (λ answer. TriedAnswer footer hashes old.bytes answer locations)
+  pub refused : IfErr result (λ e. TriedRefused footer hashes old new e locations)
+  pub serves : OnOk result (Serves old new)
+  pub visits : VisitsSome xorb_records 2 footer.xorb_info_offset
+      (map (λ location. location.0) locations) old new
 
 -- the answer to a query: none without hashes or without rows of the chunk table, which it then does
 -- not search
-abbrev pub QueryAnswer : MDBShardFileFooter → List DataHash → Source → Source
-    → Option (ℕ × FileDataSequenceEntry) → Type 0
+abbrev pub QueryAnswer : MDBShardFileFooter → List DataHash → Source → Source → Option Run → Type 0
 QueryAnswer footer [] old new answer = (answer ≡ None) × (new ≡ old)
 QueryAnswer footer (q ∷ qs) old new answer =
     ((footer.chunk_lookup_num_entry ≡ 0) × (answer ≡ None) × (new ≡ old))
     ⊎ ((footer.chunk_lookup_num_entry ≢ 0)
-    × Queries (chunk_lookup_table footer old) footer.xorb_info_offset
-    (under_key footer.chunk_hash_hmac_key q).word0 old new
-    (TriedAnswer footer.chunk_hash_hmac_key (q ∷ qs) old.bytes footer.xorb_info_offset answer))
+    × Queries footer q old new (TriedAnswer footer (q ∷ qs) old.bytes answer))
 
 -- it has none, which needs a hash and a row: the search was refused, or the location of a row that
 -- it found
@@ -175,21 +223,19 @@ QueryRefused footer (q ∷ qs) old new e =
     (footer.chunk_lookup_num_entry ≢ 0)
     × ((SearchRefused (chunk_lookup_table footer old) old new e
     × (IsSorted (chunk_lookup_table footer old)
-    → Bounded (chunk_lookup_table footer old) (under_key footer.chunk_hash_hmac_key q).word0
-    old new))
-    ⊎ Queries (chunk_lookup_table footer old) footer.xorb_info_offset
-    (under_key footer.chunk_hash_hmac_key q).word0 old new
-    (TriedRefused footer.chunk_hash_hmac_key (q ∷ qs) footer.xorb_info_offset old new e))
+    → Bounded (chunk_lookup_table footer old) (keyed_word footer q) old new))
+    ⊎ Queries footer q old new (TriedRefused footer (q ∷ qs) old new e))
 
 -- the outcome of a query
 abbrev pub QueryOutcome : MDBShardFileFooter → List DataHash → Source → Source
-    → CoreResult (Option (ℕ × FileDataSequenceEntry)) → Type 0
+    → CoreResult (Option Run) → Type 0
 QueryOutcome footer hashes old new result =
     MatchResult result (QueryAnswer footer hashes old new) (QueryRefused footer hashes old new)
 
 -- the locations at the front were tried, and have no run
-pub record NoneTried (key : DataHash) (qs : List DataHash) (offset : ℕ) (locations : List (ℕ × ℕ))
-    (old new : Source) : Type 0 where
-  pub visits : Visits xorb_records 2 offset (map (λ location. location.0) locations) old new
+pub record NoneTried (footer : MDBShardFileFooter) (hashes : List DataHash)
+    (locations : List (ℕ × ℕ)) (old new : Source) : Type 0 where
+  pub visits : Visits xorb_records 2 footer.xorb_info_offset
+      (map (λ location. location.0) locations) old new
   pub serves : Serves old new
-  pub none : TriedAnswer key qs old.bytes offset None locations
+  pub none : TriedAnswer footer hashes old.bytes None locations

@@ -1,16 +1,17 @@
 -- The steps of reading a run.
-use Rattle.std.specs.Prelude.{◌≡◌, ◌⊎◌, ℕ, ◌+◌, ◌*◌, ◌^◌, ◌<◌, ◌≤◌, List, length, take, drop, flat_map, All}
+use Rattle.std.specs.Prelude.{◌≡◌, ◌⊎◌, ℕ, ◌+◌, ◌*◌, ◌^◌, ◌<◌, ◌≤◌, List, length, take, drop, flat_map, All, Option}
 use Rattle.xet_base.specs.declared.error.CoreError.{CoreError}
 use Rattle.xet_base.specs.declared.merklehash.DataHash.{DataHash}
 use Rattle.xet_base.specs.Errors.{IsEndOfInput}
 use Rattle.xet_base.specs.Source.{Source, DeviceFailure, Takes, bytes_left, moved}
-use Rattle.xet_base.specs.Table.{IsBareInvalidShard}
+use Rattle.xet_base.specs.Table.{Serves, IsBareInvalidShard}
 use Rattle.xet_records.specs.declared.xorb_structs.XorbChunkSequenceEntry.{XorbChunkSequenceEntry}
-use Rattle.xet_records.specs.XorbRow.{chunk_row, FitsChunk}
+use Rattle.xet_records.specs.declared.xorb_structs.XorbChunkSequenceHeader.{XorbChunkSequenceHeader}
+use Rattle.xet_records.specs.XorbRow.{xorb_header_row, chunk_row, FitsXorbHeader, FitsChunk}
 use Rattle.xet_records.specs.XorbRecord.{total_bytes}
-use Rattle.xet_shards.specs.ChunkQuery.{run_length}
+use Rattle.xet_shards.specs.ChunkQuery.{Run, run_length}
 use Rattle.xet_shards.specs.Lookup.{row_at}
-use Rattle.xet_shards.specs.RunReading.{Decide, RunPasses, RunIsCut}
+use Rattle.xet_shards.specs.RunReading.{Decide, RunPasses, RunIsCut, QueryAt, chunk_offset, chunks_at, chunks_left, FoundRun}
 
 -- the source went to a row of a section
 pub record MovesToRow (offset row : ℕ) (old new : Source) : Type 0 where
@@ -38,6 +39,12 @@ pub record RowNotRead (old new : Source) (e : CoreError) : Type 0 where
   pub seeks : new.seeks ≡ old.seeks
   pub read : new.read ≤ old.read + 48
   pub cause : RowFailure old new e
+
+-- a xorb's header was read at a row of a section
+pub record ReadsHeaderAt (offset row : ℕ) (old new : Source) (header : XorbChunkSequenceHeader)
+    : Type 0 where
+  pub fits : FitsXorbHeader header
+  pub taken : Takes (moved old (row_at offset row)) new (xorb_header_row header)
 
 -- a row of a section was not read
 pub record RowFails (offset row : ℕ) (old new : Source) (e : CoreError) : Type 0 where
@@ -75,17 +82,25 @@ pub record ReadRunFails (key : DataHash) (qs : List DataHash) (left : ℕ) (old 
   pub read : new.read ≤ old.read + 48 * left
   pub cause : RunFailure key qs left (bytes_left old) old new e
 
--- the run at a row was not read
-pub record RunFails (key : DataHash) (qs : List DataHash) (left offset row : ℕ) (old new : Source)
+-- the run of a query in a xorb with this header was read, by one seek
+pub record ReadsRunAt (q : QueryAt) (header : XorbChunkSequenceHeader) (old new : Source)
+    (answer : Option Run) : Type 0 where
+  pub found : FoundRun q header old.bytes answer
+  pub serves : Serves old new
+  pub seeks : new.seeks ≡ old.seeks + 1
+  pub read : new.read ≤ old.read + 48 * chunks_left q header
+
+-- it was not read
+pub record RunFails (q : QueryAt) (header : XorbChunkSequenceHeader) (old new : Source)
     (e : CoreError) : Type 0 where
   pub bytes : new.bytes ≡ old.bytes
   pub seeks : new.seeks ≤ old.seeks + 1
   pub no_fewer : old.seeks ≤ new.seeks
-  pub read : new.read ≤ old.read + 48 * left
-  pub cause : ((row_at offset row < 2 ^ 64)
-      × RunFailure key qs left (drop (row_at offset row) old.bytes) old new e)
+  pub read : new.read ≤ old.read + 48 * chunks_left q header
+  pub cause : ((chunk_offset q < 2 ^ 64)
+      × RunFailure q.key q.hashes (chunks_left q header) (chunks_at q old.bytes) old new e)
       ⊎ DeviceFailure old new e
-      ⊎ ((new.failures ≡ old.failures) × IsBareInvalidShard e × (2 ^ 64 ≤ row_at offset row))
+      ⊎ ((new.failures ≡ old.failures) × IsBareInvalidShard e × (2 ^ 64 ≤ chunk_offset q))
 
 -- so many chunks were read, which have the first hashes, and their bytes were summed, in 32 bits
 pub record HasReadRun (key : DataHash) (qs : List DataHash) (left : ℕ) (start now : Source)

@@ -6,18 +6,16 @@ use Rattle.xet_base.specs.declared.merklehash.DataHash.{DataHash}
 use Rattle.xet_base.specs.Hash.{hash_eq}
 use Rattle.xet_base.specs.KeyedHash.{under_key}
 use Rattle.xet_base.specs.Source.{Source, DeviceFailure}
-use Rattle.xet_records.specs.declared.file_structs.rows.FileDataSequenceEntry.{FileDataSequenceEntry}
 use Rattle.xet_records.specs.declared.xorb_structs.MDBXorbInfo.{MDBXorbInfo}
 use Rattle.xet_records.specs.declared.xorb_structs.XorbChunkSequenceEntry.{XorbChunkSequenceEntry}
 use Rattle.xet_records.specs.XorbRecord.{xorb_record_bytes}
 use Rattle.xet_shards.specs.ChunkLookup.{ChunkLocation, chunk_at}
-use Rattle.xet_shards.specs.ChunkQuery.{run_at, some_run_at}
+use Rattle.xet_shards.specs.ChunkQuery.{Run, run_at, some_run_at}
 use Rattle.xet_shards.specs.WrittenChunks.{ChunkSearchCosts}
 
 -- a query at a chunk of a xorb: the run there, if it has a chunk; none without hashes, whatever the
 -- index
-abbrev pub RunInXorb : DataHash → List DataHash → MDBXorbInfo → ℕ
-    → Option (ℕ × FileDataSequenceEntry) → Type 0
+abbrev pub RunInXorb : DataHash → List DataHash → MDBXorbInfo → ℕ → Option Run → Type 0
 RunInXorb key qs xorb index answer =
     (answer ≡ some_run_at key (xorb, index) qs) × ((qs ≡ []) ⊎ (index < length xorb.chunks))
 
@@ -46,8 +44,7 @@ others_sharing hash xorbs = filter (is_other hash) (all_chunks xorbs)
 
 -- a query by the chunk table: the run at a chunk with the first hash; none without hashes, if no
 -- chunk has the first, or if eight others share its first word
-abbrev pub RunAmong : DataHash → List DataHash → List MDBXorbInfo
-    → Option (ℕ × FileDataSequenceEntry) → Type 0
+abbrev pub RunAmong : DataHash → List DataHash → List MDBXorbInfo → Option Run → Type 0
 RunAmong key [] xorbs answer = answer ≡ None
 RunAmong key (q ∷ qs) xorbs (Some run) =
     (p : ChunkLocation) × HasChunkAt xorbs (under_key key q) p × (run ≡ run_at key p (q ∷ qs))

@@ -1,6 +1,6 @@
 //! Queries for runs of chunks on the bytes of a shard.
 
-ghost use Rattle.std.specs.Prelude.{◌≡◌, ◌≢◌, ◌⊎◌, true, ℕ, List, [], All, Option, None, Ok, map, MatchResult, OnOk, IfOk, IfErr};
+ghost use Rattle.std.specs.Prelude.{◌≡◌, ◌≢◌, ◌⊎◌, true, ℕ, List, [], All, Option, None, Ok, MatchResult, OnOk, IfOk, IfErr};
 ghost use Rattle.std.specs.FinMap as finite;
 ghost use Rattle.xet_base.specs.KeyedHash.{no_key};
 ghost use Rattle.xet_base.specs.Source.{DeviceFailure};
@@ -12,9 +12,9 @@ ghost use Rattle.xet_shards.specs.Shard.{Shard};
 ghost use Rattle.xet_shards.specs.Section.{total_rows, StartsAt};
 ghost use Rattle.xet_shards.specs.Layout.{Form};
 ghost use Rattle.xet_shards.specs.InForm.{IsInForm};
-ghost use Rattle.xet_shards.specs.Lookup.{Visit, VisitsSome};
+ghost use Rattle.xet_shards.specs.Lookup.{Visit};
 ghost use Rattle.xet_shards.specs.WrittenQueries.{RunInXorb, QueryFailsInXorb, RunAmong, QueryCosts};
-ghost use Rattle.xet_shards.specs.RunReading.{AnswerAt, RefusedAt, TriedAnswer, TriedRefused, QueryOutcome};
+ghost use Rattle.xet_shards.specs.RunReading.{query_at, AnswerAt, RefusedAt, OutcomeAt, OutcomeOfTries, QueryOutcome};
 ghost use Rattle.xet_shards.specs.WrittenShard.{IsBytesWithInfo};
 
 use super::info::MDBShardInfo;
@@ -44,14 +44,13 @@ impl MDBShardInfo {
         chunk_index: u32,
     ) -> Result<Option<(usize, FileDataSequenceEntry)>>
         ensures answer { IfOk result
-            (AnswerAt self.now.metadata.chunk_hash_hmac_key unkeyed_query_hashes.now
-            (S.meaning source.old).bytes self.now.metadata.xorb_info_offset xorb_row
-            chunk_index) }
+            (AnswerAt (query_at self.now.metadata unkeyed_query_hashes.now (xorb_row, chunk_index))
+            (S.meaning source.old).bytes) }
         ensures nothing { unkeyed_query_hashes.now ≡ []
             → (result ≡ Ok None) × (S.meaning source.new ≡ S.meaning source.old) }
         ensures refused { IfErr result
-            (RefusedAt (λ e. e ≡ CoreError.InvalidArguments) self.now.metadata.chunk_hash_hmac_key
-            unkeyed_query_hashes.now self.now.metadata.xorb_info_offset xorb_row chunk_index
+            (RefusedAt (λ e. e ≡ CoreError.InvalidArguments)
+            (query_at self.now.metadata unkeyed_query_hashes.now (xorb_row, chunk_index))
             (S.meaning source.old) (S.meaning source.new)) }
         ensures serves { OnOk result (Serves (S.meaning source.old) (S.meaning source.new)) }
         ensures in_form { (files : List File) → (xorbs : List Xorb) → (form : Form) → (xorb : Xorb)
@@ -163,18 +162,8 @@ impl MDBShardInfo {
         query_hashes: &[MerkleHash],
         locations: &[(u32, u32)],
     ) -> Result<Option<(usize, FileDataSequenceEntry)>>
-        ensures answer { IfOk result
-            (λ answer. TriedAnswer self.now.metadata.chunk_hash_hmac_key query_hashes.now
-            (S.meaning source.old).bytes self.now.metadata.xorb_info_offset answer
-            locations.now) }
-        ensures refused { IfErr result
-            (λ e. TriedRefused self.now.metadata.chunk_hash_hmac_key query_hashes.now
-            self.now.metadata.xorb_info_offset (S.meaning source.old) (S.meaning source.new) e
-            locations.now) }
-        ensures serves { OnOk result (Serves (S.meaning source.old) (S.meaning source.new)) }
-        ensures visits { VisitsSome xorb_records 2 self.now.metadata.xorb_info_offset
-            (map (λ location. location.0) locations.now) (S.meaning source.old)
-            (S.meaning source.new) }
+        ensures { OutcomeOfTries self.now.metadata query_hashes.now locations.now
+            (S.meaning source.old) (S.meaning source.new) result }
     {
         for location in locations {
             let corrupt = CoreError::InvalidShard(String::new(alloc));
@@ -204,19 +193,9 @@ impl MDBShardInfo {
         chunk_index: u32,
         absent: CoreError,
     ) -> Result<Option<(usize, FileDataSequenceEntry)>>
-        ensures nothing { query_hashes.now ≡ []
-            → (result ≡ Ok None) × (S.meaning source.new ≡ S.meaning source.old) }
-        ensures answer { IfOk result
-            (AnswerAt self.now.metadata.chunk_hash_hmac_key query_hashes.now
-            (S.meaning source.old).bytes self.now.metadata.xorb_info_offset xorb_row
-            chunk_index) }
-        ensures refused { IfErr result
-            (RefusedAt (λ e. e ≡ absent) self.now.metadata.chunk_hash_hmac_key query_hashes.now
-            self.now.metadata.xorb_info_offset xorb_row chunk_index (S.meaning source.old)
-            (S.meaning source.new)) }
-        ensures serves { OnOk result (Serves (S.meaning source.old) (S.meaning source.new)) }
-        ensures visit { Visit xorb_records 2 self.now.metadata.xorb_info_offset xorb_row
-            (S.meaning source.old) (S.meaning source.new) }
+        ensures { OutcomeAt (λ e. e ≡ absent)
+            (query_at self.now.metadata query_hashes.now (xorb_row, chunk_index))
+            (S.meaning source.old) (S.meaning source.new) result }
     {
         if query_hashes.is_empty() {
             return Ok(None);

@@ -1,14 +1,10 @@
 //! Reading the chunks of a xorb as long as they have the hashes that are queried.
 
-ghost use Rattle.std.specs.Prelude.{◌≡◌, ◌≢◌, ◌⊎◌, ℕ, ◌+◌, ◌*◌, ◌-◌, ◌^◌, ◌<◌, ◌≤◌, MatchResult, OnOk, IfOk, IfErr, drop, length};
-ghost use Rattle.xet_base.specs.KeyedHash.{under_key};
-ghost use Rattle.xet_base.specs.Source.{Takes, moved};
-ghost use Rattle.xet_base.specs.Table.{Serves};
+ghost use Rattle.std.specs.Prelude.{◌*◌, ◌^◌, ◌<◌, ◌≤◌, MatchResult};
+ghost use Rattle.xet_base.specs.Source.{Takes};
 ghost use Rattle.xet_records.specs.Rows.{ReadsRow};
-ghost use Rattle.xet_records.specs.XorbRow.{xorb_header_row, chunk_row, FitsChunk, FitsXorbHeader};
-ghost use Rattle.xet_shards.specs.Lookup.{row_at};
-ghost use Rattle.xet_shards.specs.RunReading.{FoundRun, chunks_at};
-ghost use Rattle.xet_shards.specs.RunSteps.{RowNotRead, RowFails, ReadsRun, ReadRunFails, RunFails, MovesToRow, NotMoved};
+ghost use Rattle.xet_shards.specs.RunReading.{query_at};
+ghost use Rattle.xet_shards.specs.RunSteps.{RowNotRead, RowFails, ReadsHeaderAt, ReadsRun, ReadRunFails, ReadsRunAt, RunFails, MovesToRow, NotMoved};
 
 use super::info::MDBShardInfo;
 use std::alloc::Global;
@@ -27,9 +23,7 @@ pub(super) fn read_header_at<S: ShardSource>(
     row: u32,
 ) -> Result<XorbChunkSequenceHeader>
     ensures { MatchResult result
-        (λ header. FitsXorbHeader header
-        × Takes (moved (S.meaning source.old) (row_at offset row)) (S.meaning source.new)
-        (xorb_header_row header))
+        (ReadsHeaderAt offset row (S.meaning source.old) (S.meaning source.new))
         (RowFails offset row (S.meaning source.old) (S.meaning source.new)) }
 {
     seek_to_row(alloc, source, offset, u64::from(row))?;
@@ -49,20 +43,11 @@ impl MDBShardInfo {
         index: u32,
     ) -> Result<Option<(usize, FileDataSequenceEntry)>>
         requires { index < header.now.num_entries }
-        ensures found { IfOk result
-            (FoundRun self.now.metadata.chunk_hash_hmac_key query_hashes.now header.now index
-            (chunks_at (S.meaning source.old).bytes self.now.metadata.xorb_info_offset row
-            index)) }
-        ensures serves { OnOk result (Serves (S.meaning source.old) (S.meaning source.new)) }
-        ensures seeks { OnOk result
-            ((S.meaning source.new).seeks ≡ (S.meaning source.old).seeks + 1) }
-        ensures read { OnOk result
-            ((S.meaning source.new).read
-            ≤ (S.meaning source.old).read + 48 * (header.now.num_entries - index)) }
-        ensures refused { IfErr result
-            (RunFails self.now.metadata.chunk_hash_hmac_key query_hashes.now
-            (header.now.num_entries - index) self.now.metadata.xorb_info_offset
-            (row + 1 + index) (S.meaning source.old) (S.meaning source.new)) }
+        ensures { MatchResult result
+            (ReadsRunAt (query_at self.now.metadata query_hashes.now (row, index)) header.now
+            (S.meaning source.old) (S.meaning source.new))
+            (RunFails (query_at self.now.metadata query_hashes.now (row, index)) header.now
+            (S.meaning source.old) (S.meaning source.new)) }
     {
         let first = u64::from(row) + 1 + u64::from(index);
         seek_to_row(alloc, source, self.metadata.xorb_info_offset, first)?;

@@ -8,15 +8,11 @@ use Rattle.xet_shards.proofs.shard_format.info.MDBShardInfo.chunk_hash_dedup_que
 
 pub returns-clause-in_form : goal.returns-clause-in_form
 returns-clause-in_form g c files xorbs form is with_table good =
-    let old = g.S.ShardSource.meaning c.args.source.now in
-    let new = g.S.ShardSource.meaning c.query_by_table.new.source in
-    query_in_form files xorbs form old c.args.self.now.metadata is with_table good c.args.unkeyed_query_hashes.now new c.query_by_table.result c.query_by_table.ensures.read
+    query_in_form (g.S.ShardSource.meaning c.args.source.now) is with_table good c.args.unkeyed_query_hashes.now _ c.query_by_table.result c.query_by_table.ensures.read
 
 pub returns-clause-in_form_costs : goal.returns-clause-in_form_costs
 returns-clause-in_form_costs g c files xorbs form is with_table =
-    let old = g.S.ShardSource.meaning c.args.source.now in
-    let new = g.S.ShardSource.meaning c.query_by_table.new.source in
-    query_costs_in_form files xorbs form old c.args.self.now.metadata is with_table c.args.unkeyed_query_hashes.now new c.query_by_table.result c.query_by_table.ensures.read
+    query_costs_in_form (g.S.ShardSource.meaning c.args.source.now) is with_table c.args.unkeyed_query_hashes.now _ c.query_by_table.result c.query_by_table.ensures.read
 
 pub returns-clause-written : goal.returns-clause-written
 returns-clause-written g c s is =

@@ -7,16 +7,12 @@ use Rattle.xet_shards.proofs.shard_format.info.MDBShardInfo.chunk_hash_dedup_que
 pub returns-clause-in_form : goal.returns-clause-in_form
 returns-clause-in_form g c files xorbs form xorb is at good =
     let old = g.S.ShardSource.meaning c.args.source.now in
-    let new = g.S.ShardSource.meaning c.run_at_location.new.source in
-    direct_in_form files xorbs form old c.args.self.now.metadata is c.args.xorb_row xorb at good.bytes c.args.unkeyed_query_hashes.now c.args.chunk_index new c.run_at_location.result
-    c.run_at_location.ensures.answer c.run_at_location.ensures.refused
+    direct_in_form old is at c.args.unkeyed_query_hashes.now c.args.chunk_index good.bytes _ c.run_at_location.result c.run_at_location.ensures
 
 pub returns-clause-bookend : goal.returns-clause-bookend
 returns-clause-bookend g c files xorbs form is at =
     let old = g.S.ShardSource.meaning c.args.source.now in
-    let new = g.S.ShardSource.meaning c.run_at_location.new.source in
-    direct_at_bookend files xorbs form old c.args.self.now.metadata is c.args.xorb_row at c.args.unkeyed_query_hashes.now c.args.chunk_index new c.run_at_location.result
-    c.run_at_location.ensures.answer c.run_at_location.ensures.refused
+    direct_at_bookend old is at c.args.unkeyed_query_hashes.now c.args.chunk_index _ c.run_at_location.result c.run_at_location.ensures
 
 pub returns-clause-written : goal.returns-clause-written
 returns-clause-written g c s xorb is at =
