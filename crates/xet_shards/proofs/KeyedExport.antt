@@ -1,7 +1,8 @@
 -- The turns of the loops that read and write the sections of an export, and its parts together.
-use Rattle.std.proofs.Common.{◌≡◌, Bool, true, false, inl, inr, Ok, Err, ℕ, ◌+◌, ◌*◌, ◌^◌, ◌≤◌, List, [], ◌∷◌, ◌++◌, length, map, flat_map, drop, Option, None, Some, refl, sym, ap, ◌∙◌, subst, arith, append-nil}
-use Rattle.std.specs.Prelude.{◌⊎◌, All, MatchResult}
+use Rattle.std.proofs.Common.{◌≡◌, ◌≢◌, Bool, true, false, inl, inr, Ok, Err, ℕ, ◌+◌, ◌*◌, ◌^◌, ◌≤◌, List, [], ◌∷◌, ◌++◌, length, map, flat_map, drop, Option, None, Some, refl, sym, ap, ◌∙◌, subst, arith, append-nil}
+use Rattle.std.specs.Prelude.{◌⊎◌, ◌↔◌, IsTrue, All, MatchResult}
 use Rattle.std.specs.declared.result.Result.{Result}
+use Rattle.std.proofs.lemmas.Bool.{both_ways}
 use Rattle.std.specs.Io.KnownBytes.{Appends}
 use Rattle.std.proofs.KnownBytes.{Appends-trans}
 use Rattle.std.proofs.lemmas.List.{drop-drop, length-append, map-id}
@@ -10,8 +11,9 @@ use Rattle.std.proofs.lemmas.List.Sums.{sum_by-append, sum_by-cons, sum_by_push}
 use Rattle.std.proofs.lemmas.List.Concat.{flat_map_single}
 use Rattle.std.proofs.lemmas.Grind.{flat_map-append}
 use Rattle.xet_base.specs.declared.error.CoreError.{CoreError}
-use Rattle.xet_base.specs.Errors.{IsWriteError}
+use Rattle.xet_base.specs.Errors.{CoreResult, IsWriteError}
 use Rattle.xet_base.specs.declared.error.CoreError.TheVariants.{InvalidArguments}
+use Rattle.xet_base.specs.KeyedHash.{no_key}
 use Rattle.xet_base.specs.Source.{Source, Takes, advanced, bytes_left}
 use Rattle.xet_base.specs.InputLaws.{failed_after, advanced-advanced}
 use Rattle.xet_base.proofs.Reading.{Takes-consumes}
@@ -37,7 +39,7 @@ use Rattle.xet_shards.specs.Written.{end_of_layout}
 use Rattle.xet_shards.specs.InForm.{FitsSection}
 use Rattle.xet_shards.specs.Ends.{HasHeader, FitsFooter}
 use Rattle.xet_shards.specs.SectionReading.{IsSection, TakesNoSection, RecordFails}
-use Rattle.xet_shards.specs.KeyedExport.{ExportsWith, ExportFails, ExportCase, CannotExport, ExpiresTooLate, BadSection, PassesSection, ExportsSection, WritingFails, HasExported, exported_file, exported_xorb, xorbs_after, keyed_xorb, keyed_xorbs}
+use Rattle.xet_shards.specs.KeyedExport.{ExportsWith, ExportFails, ExportCase, OutcomeOfExport, CannotExport, ExpiresTooLate, BadSection, PassesSection, ExportsSection, WritingFails, ExportsNoSection, HasExported, exported_file, exported_xorb, xorbs_after, keyed_xorb, keyed_xorbs}
 use Rattle.xet_shards.specs.KeyedExport.ExportCase.{bad_files, bad_xorbs, not_written}
 use Rattle.xet_shards.specs.Rewriting.{HasSections}
 use Rattle.xet_shards.proofs.EndsUnique.{ends_of_layout}
@@ -55,18 +57,6 @@ use Rattle.xet_shards.proofs.XorbLayouts.{length-in_form, xorb_rows-chunks, leng
 pub record SectionWritten {H R : Type 0} (K : RecordKind H R) (Collected : List R → Type 0) (before after : Option (List ℕ)) (written : List R) : Type 0 where
   pub collected : Collected written
   pub bytes : Appends before after (flat_map K.record_bytes written)
-
--- a failure among others
-pub or_fails : {T E : Type 0} (r : Result T E) (P : T → Type 0) (Q Other : E → Type 0) → MatchResult r P Q → MatchResult r P (λ e. Other e ⊎ Q e)
-or_fails (Ok v) P Q Other holds = holds
-or_fails (Err e) P Q Other holds = inr holds
-
-pub refused_too : {T : Type 0} (r : Result T CoreError) (P : T → Type 0) (Fails : CoreError → Type 0) (info : MDBShardInfo) (now valid : ℕ)
-    → MatchResult r P (λ e. ((e ≡ InvalidArguments) × ExpiresTooLate now valid) ⊎ Fails e)
-    → MatchResult r P (λ e. ((e ≡ InvalidArguments) × CannotExport info now valid) ⊎ Fails e)
-refused_too (Ok v) P Fails info now valid holds = holds
-refused_too (Err e) P Fails info now valid (inl (is, late)) = inl (is, inr late)
-refused_too (Err e) P Fails info now valid (inr fails) = inr fails
 
 if_in-size : {X : Type 0} (b : Bool) (xs : List X) → length (if_in b xs) ≤ length xs
 if_in-size true xs = omega arith
@@ -107,6 +97,31 @@ pub result_as : {T E : Type 0} (r : Result T E) (P Q : T → Type 0) (F G : E �
 result_as (Ok v) P Q F G ok err holds = ok v holds
 result_as (Err e) P Q F G ok err holds = err e holds
 
+-- outcomes of exports
+module _ {S W : Type 0} {aux : Bool} {meaning : S → Source} {contents : W → Option (List ℕ)} {source_old source_new : S} {writer_old writer_new : W} {r : CoreResult ℕ} (now valid : ℕ) where
+  -- in its form, if it does not expire too late
+  pub export_in_time : {form same : Form} → (form ≡ same) × (¬ ExpiresTooLate now valid)
+      → MatchResult r (ExportsWith aux form (meaning source_old) (meaning source_new) (contents writer_old) (contents writer_new)) (ExportFails (meaning source_old) (meaning source_new))
+      → OutcomeOfExport (ExpiresTooLate now valid) aux same meaning contents source_old source_new writer_old writer_new r
+  export_in_time (is, in_time) exports =
+      subst (λ form. OutcomeOfExport (ExpiresTooLate now valid) aux form meaning contents source_old source_new writer_old writer_new r) is
+      (record { written = result_as r _ _ _ _ (λ n made. made) (λ e fails. inr fails) exports; untouched = λ late. absurd (in_time late) })
+
+  -- and of a shard whose chunk hashes are not keyed
+  pub export_unkeyed : (info : MDBShardInfo) {form : Form} {b : Bool} → IsTrue b ↔ (info.metadata.chunk_hash_hmac_key ≢ no_key) → b ≡ false
+      → OutcomeOfExport (ExpiresTooLate now valid) aux form meaning contents source_old source_new writer_old writer_new r
+      → OutcomeOfExport (CannotExport info now valid) aux form meaning contents source_old source_new writer_old writer_new r
+  export_unkeyed info {form} {b} is unkeyed outcome = record {
+    written = result_as r _ _ _ _ (λ n made. made) (λ e fails. elim fails [
+      | inl late ↦ inl (late.0, inr late.1)
+      | inr other ↦ inr other
+    ]) outcome.written;
+    untouched = λ cannot. outcome.untouched (elim cannot [
+      | inl keyed ↦ absurd (both_ways b unkeyed (is.1 keyed))
+      | inr late ↦ late
+    ]);
+  }
+
 pub next_xorb : (version : FormatVersion) (Took : List ℕ → Type 0) (left after : ℕ) (next : Option MDBXorbInfo)
     → ReadsNextRecord (in_version xorb_records version) Took left after next
     → ReadsNextView (in_version xorb_records version) (λ (r : MDBXorbInfo). r) Took left after next
@@ -130,11 +145,22 @@ module _ {H R : Type 0} (K : RecordKind H R) (exports : R → List R) where
       })
 
 -- a section that was exported, where what becomes of its records has another name
-pub section_exported : {H R : Type 0} (K : RecordKind H R) (version : FormatVersion) (exports : R → List R) (out : List R → List R) → ((rs : List R) → flat_map exports rs ≡ out rs)
-    → (Collected : List R → Type 0) (old new : Source) (before after : Option (List ℕ)) → ExportsSection K version exports Collected old new before after
-    → (stored : List R) × PassesSection (in_version K version) old new stored × Collected (out stored) × Appends before after (section_bytes K (out stored))
-section_exported K version exports out same Collected old new before after e =
-    (e.stored, e.passed, subst Collected (same e.stored) e.collected, subst (λ rs. Appends before after (section_bytes K rs)) (same e.stored) e.written)
+pub record Exported {H R : Type 0} (K : RecordKind H R) (version : FormatVersion) (out : List R → List R) (Collected : List R → Type 0) (old new : Source) (before after : Option (List ℕ))
+    : Type 0 where
+  pub stored : List R
+  pub passed : PassesSection (in_version K version) old new stored
+  pub collected : Collected (out stored)
+  pub written : Appends before after (section_bytes K (out stored))
+
+pub section_exported : {H R : Type 0} {K : RecordKind H R} {version : FormatVersion} {exports : R → List R} (out : List R → List R) → ((rs : List R) → flat_map exports rs ≡ out rs)
+    → {Collected : List R → Type 0} {old new : Source} {before after : Option (List ℕ)} → ExportsSection K version exports Collected old new before after
+    → Exported K version out Collected old new before after
+section_exported {K = K} out same {Collected} {old} {new} {before} {after} e = record {
+  stored = e.stored;
+  passed = e.passed;
+  collected = subst Collected (same e.stored) e.collected;
+  written = subst (λ rs. Appends before after (section_bytes K rs)) (same e.stored) e.written;
+}
 
 module _ {H R : Type 0} (K : RecordKind H R) (laws : KindLaws K) where
   pub one_exported : (First Next Both : List ℕ → Type 0) (Made After : List R → Type 0) (left after : ℕ) (r : R) → ((xs ys : List ℕ) → First xs → Next ys → Both (xs ++ ys))
@@ -179,14 +205,14 @@ left_after : (s : Source) (n : ℕ) → bytes_left (advanced s n) ≡ drop n (by
 left_after s n = sym (drop-drop n s.at s.bytes)
 
 -- a section was not read or not written
-section_not_exported : {H R : Type 0} (K : RecordKind H R) (old mid new : Source) (n : ℕ) (e : CoreError) → mid ≡ advanced old n → HasHeader (bytes_left old)
-    → (BadSection K (bytes_left mid) e → ExportCase (bytes_left old) e) → TakesNoSection K mid new e ⊎ WritingFails mid new e → ExportFails old new e
-section_not_exported K old mid new n e at header bad (inl fails) = record {
+section_not_exported : {H R : Type 0} (K : RecordKind H R) (version : FormatVersion) (old mid new : Source) (n : ℕ) (e : CoreError) → mid ≡ advanced old n → HasHeader (bytes_left old)
+    → (BadSection (in_version K version) (bytes_left mid) e → ExportCase (bytes_left old) e) → ExportsNoSection K version mid new e → ExportFails old new e
+section_not_exported K version old mid new n e at header bad (inl fails) = record {
   bytes = fails.bytes ∙ ap (λ (s : Source). s.bytes) at;
   seeks = fails.seeks ∙ ap (λ (s : Source). s.seeks) at;
-  cause = failed_after (BadSection K (bytes_left mid)) (ExportCase (bytes_left old)) old mid new e (ap (λ (s : Source). s.failures) at) bad fails.cause;
+  cause = failed_after (BadSection (in_version K version) (bytes_left mid)) (ExportCase (bytes_left old)) old mid new e (ap (λ (s : Source). s.failures) at) bad fails.cause;
 }
-section_not_exported K old mid new n e at header bad (inr fails) = record {
+section_not_exported K version old mid new n e at header bad (inr fails) = record {
   bytes = fails.bytes ∙ ap (λ (s : Source). s.bytes) at;
   seeks = fails.seeks ∙ ap (λ (s : Source). s.seeks) at;
   cause = inr (fails.failures ∙ ap (λ (s : Source). s.failures) at, not_written header fails.cause);
@@ -230,29 +256,33 @@ layout_small files xorbs form files_fit xorbs_fit = omega (
 )
 
 -- after the header
-module _ (old s1 : Source) (h : MDBShardFileHeader) (taken : Takes old s1 (shard_header_bytes h)) (two : IsVersion h.version) where
+module _ {old s1 : Source} (h : MDBShardFileHeader) (taken : Takes old s1 (shard_header_bytes h)) (two : IsVersion h.version) where
+  abbrev version : FormatVersion
+  version = version_of h.version
+
   abbrev header_there : HasHeader (bytes_left old)
   header_there = header_of (bytes_left old) (bytes_left s1) h (Takes-consumes old s1 (shard_header_bytes h) taken) two
 
-  pub at_files : s1 ≡ advanced old 48
+  at_files : s1 ≡ advanced old 48
   at_files = taken.after ∙ ap (advanced old) (length-shard_header_bytes h)
 
   files_left : bytes_left s1 ≡ drop 48 (bytes_left old)
   files_left = ap bytes_left at_files ∙ left_after old 48
 
-  pub files_not_exported : (new : Source) (e : CoreError) → TakesNoSection (file_records_in (version_of h.version)) s1 new e ⊎ WritingFails s1 new e → ExportFails old new e
+  pub files_not_exported : (new : Source) (e : CoreError) → ExportsNoSection file_records version s1 new e → ExportFails old new e
   files_not_exported new e why =
-      section_not_exported (file_records_in (version_of h.version)) old s1 new 48 e at_files header_there (λ bad. bad_files header_there (subst (λ bs. BadSection (file_records_in (version_of h.version)) bs e) files_left bad)) why
+      section_not_exported file_records version old s1 new 48 e at_files header_there
+      (λ bad. bad_files header_there (subst (λ bs. BadSection (file_records_in version) bs e) files_left bad)) why
 
   pub header_not_written : (e : CoreError) → IsWriteError e → ExportFails old s1 e
   header_not_written e cause = files_not_exported s1 e (inr (record { bytes = refl; seeks = refl; failures = refl; cause = cause }))
 
   -- after the files
-  module _ (s2 : Source) (files : List MDBFileInfo) (passed : PassesSection (file_records_in (version_of h.version)) s1 s2 files) where
-    file_section : IsSection (file_records_in (version_of h.version)) (drop 48 (bytes_left old)) files
-    file_section = subst (λ bs. IsSection (file_records_in (version_of h.version)) bs files) files_left passed.section
+  module _ {s2 : Source} {files : List MDBFileInfo} (passed : PassesSection (file_records_in version) s1 s2 files) where
+    file_section : IsSection (file_records_in version) (drop 48 (bytes_left old)) files
+    file_section = subst (λ bs. IsSection (file_records_in version) bs files) files_left passed.section
 
-    pub at_xorbs : s2 ≡ advanced old (xorbs_after files)
+    at_xorbs : s2 ≡ advanced old (xorbs_after files)
     at_xorbs =
         let n = 48 * (total_rows file_records files + 1) in
         let sum : 48 + 48 * (total_rows file_records files + 1) ≡ xorbs_after files = omega arith in
@@ -261,23 +291,17 @@ module _ (old s1 : Source) (h : MDBShardFileHeader) (taken : Takes old s1 (shard
     xorbs_left : bytes_left s2 ≡ drop (xorbs_after files) (bytes_left old)
     xorbs_left = ap bytes_left at_xorbs ∙ left_after old (xorbs_after files)
 
-    pub xorbs_not_exported : (new : Source) (e : CoreError) → TakesNoSection xorb_records s2 new e ⊎ WritingFails s2 new e → ExportFails old new e
+    pub xorbs_not_exported : (new : Source) (e : CoreError) → ExportsNoSection xorb_records V3 s2 new e → ExportFails old new e
     xorbs_not_exported new e why =
-        section_not_exported xorb_records old s2 new (xorbs_after files) e at_xorbs header_there
+        section_not_exported xorb_records V3 old s2 new (xorbs_after files) e at_xorbs header_there
         (λ bad. bad_xorbs header_there files file_section (subst (λ bs. BadSection xorb_records bs e) xorbs_left bad)) why
 
     -- after the xorbs
-    module _ (s3 : Source) (xorbs : List MDBXorbInfo) (rest : PassesSection xorb_records s2 s3 xorbs) (aux : Bool) (form : Form) where
-      abbrev pub files_out : List MDBFileInfo
-      files_out = if_in form.file_table (auxes_as_wanted aux files)
-
-      abbrev pub xorbs_out : List MDBXorbInfo
-      xorbs_out = keyed_xorbs form.key xorbs
-
+    module _ {s3 : Source} {xorbs : List MDBXorbInfo} (rest : PassesSection xorb_records s2 s3 xorbs) where
       pub sections_there : HasSections (bytes_left old) files xorbs
       sections_there = record { header = header_there; file_section = file_section; xorb_section = subst (λ bs. IsSection xorb_records bs xorbs) xorbs_left rest.section }
 
-      pub at_end : s3 ≡ advanced old (xorbs_after files + 48 * (total_rows xorb_records xorbs + 1))
+      at_end : s3 ≡ advanced old (xorbs_after files + 48 * (total_rows xorb_records xorbs + 1))
       at_end =
           let n = 48 * (total_rows xorb_records xorbs + 1) in
           rest.after ∙ ap (λ s. advanced s n) at_xorbs ∙ advanced-advanced old (xorbs_after files) n
@@ -290,34 +314,42 @@ module _ (old s1 : Source) (h : MDBShardFileHeader) (taken : Takes old s1 (shard
         cause = cause;
       }))
 
-      files_fit : FitsSection file_records files_out
-      files_fit = if_in-section form.file_table (auxes_as_wanted aux files)
-          (section-aux_as_wanted aux files (fits_ever file_records (version_of h.version) files (record { stored = file_section.records.are_stored; rows = file_section.records.rows })))
+      -- what is written of them
+      module _ (aux : Bool) (form : Form) where
+        abbrev files_out : List MDBFileInfo
+        files_out = if_in form.file_table (auxes_as_wanted aux files)
 
-      xorbs_fit : FitsSection xorb_records xorbs_out
-      xorbs_fit = keyed_section form.key xorbs (record { stored = rest.section.records.are_stored; rows = rest.section.records.rows })
+        abbrev xorbs_out : List MDBXorbInfo
+        xorbs_out = keyed_xorbs form.key xorbs
 
-      pub widths_out : All FitsRecord files_out
-      widths_out = λ k r below. (files_fit.stored k r below).widths
+        files_fit : FitsSection file_records files_out
+        files_fit = if_in-section form.file_table (auxes_as_wanted aux files)
+            (section-aux_as_wanted aux files (fits_ever file_records version files (record { stored = file_section.records.are_stored; rows = file_section.records.rows })))
 
-      pub export_small : (footer : MDBShardFileFooter) → footer ≡ footer_value files_out xorbs_out form → footer.footer_offset + 200 ≤ 2 ^ 50
-      export_small footer is =
-          omega (arith, footer_last files_out xorbs_out form, layout_small files_out xorbs_out form files_fit xorbs_fit, ap (λ (f : MDBShardFileFooter). f.footer_offset) is)
+        xorbs_fit : FitsSection xorb_records xorbs_out
+        xorbs_fit = keyed_section form.key xorbs (record { stored = rest.section.records.are_stored; rows = rest.section.records.rows })
 
-      pub all_exported : form.version ≡ V3 → (footer : MDBShardFileFooter) (start after_header after_files after_xorbs end : Option (List ℕ)) (n : ℕ)
-          → footer ≡ footer_value files_out xorbs_out form → FitsFooter footer → n ≡ footer.footer_offset + 200
-          → Appends start after_header (shard_header_bytes (header_value form.version)) → Appends after_header after_files (section_bytes file_records files_out)
-          → Appends after_files after_xorbs (section_bytes xorb_records xorbs_out) → Appends after_xorbs end (end_of_layout files_out xorbs_out form)
-          → ExportsWith aux form old s3 start end n
-      all_exported is_3 footer start after_header after_files after_xorbs end n is fits count header_out files_bytes xorbs_bytes end_bytes = record {
-        files = files;
-        xorbs = xorbs;
-        header = sections_there.header;
-        file_section = sections_there.file_section;
-        xorb_section = sections_there.xorb_section;
-        read = at_end;
-        written = whole_layout start after_header after_files after_xorbs end files_out xorbs_out form header_out files_bytes xorbs_bytes end_bytes;
-        count = count ∙ ap (λ (f : MDBShardFileFooter). f.footer_offset + 200) is ∙ sym (footer_last files_out xorbs_out form);
-        ends = ends_of_layout files_out xorbs_out form (subst FitsFooter is fits);
-        in_form = record { files_fit = subst (λ v. FitsSection (file_records_in v) files_out) (sym is_3) files_fit; xorbs_fit = xorbs_fit; bytes_are = refl; footer_is = refl };
-      }
+        pub widths_out : All FitsRecord files_out
+        widths_out = λ k r below. (files_fit.stored k r below).widths
+
+        pub export_small : (footer : MDBShardFileFooter) → footer ≡ footer_value files_out xorbs_out form → footer.footer_offset + 200 ≤ 2 ^ 50
+        export_small footer is =
+            omega (arith, footer_last files_out xorbs_out form, layout_small files_out xorbs_out form files_fit xorbs_fit, ap (λ (f : MDBShardFileFooter). f.footer_offset) is)
+
+        pub all_exported : form.version ≡ V3 → {footer : MDBShardFileFooter} (start after_header after_files after_xorbs end : Option (List ℕ)) {n : ℕ}
+            → footer ≡ footer_value files_out xorbs_out form → FitsFooter footer → n ≡ footer.footer_offset + 200
+            → Appends start after_header (shard_header_bytes (header_value form.version)) → Appends after_header after_files (section_bytes file_records files_out)
+            → Appends after_files after_xorbs (section_bytes xorb_records xorbs_out) → Appends after_xorbs end (end_of_layout files_out xorbs_out form)
+            → ExportsWith aux form old s3 start end n
+        all_exported is_3 start after_header after_files after_xorbs end is fits count header_out files_bytes xorbs_bytes end_bytes = record {
+          files = files;
+          xorbs = xorbs;
+          header = sections_there.header;
+          file_section = sections_there.file_section;
+          xorb_section = sections_there.xorb_section;
+          read = at_end;
+          written = whole_layout start after_header after_files after_xorbs end files_out xorbs_out form header_out files_bytes xorbs_bytes end_bytes;
+          count = count ∙ ap (λ (f : MDBShardFileFooter). f.footer_offset + 200) is ∙ sym (footer_last files_out xorbs_out form);
+          ends = ends_of_layout files_out xorbs_out form (subst FitsFooter is fits);
+          in_form = record { files_fit = subst (λ v. FitsSection (file_records_in v) files_out) (sym is_3) files_fit; xorbs_fit = xorbs_fit; bytes_are = refl; footer_is = refl };
+        }

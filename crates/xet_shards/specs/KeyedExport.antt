@@ -1,10 +1,11 @@
 -- Keyed exports: a shard is written again, with its chunk hashes under a key, and without its files
 -- if they are not asked for.
-use Rattle.std.specs.Prelude.{◌≡◌, ◌≢◌, ◌⊎◌, ℕ, ◌+◌, ◌*◌, ◌^◌, ◌≤◌, Bool, true, List, [], ◌∷◌, length, map, flat_map, drop, sum_by, All, Option}
+use Rattle.std.specs.Prelude.{◌≡◌, ◌≢◌, ◌⊎◌, ℕ, ◌+◌, ◌*◌, ◌^◌, ◌≤◌, Bool, true, List, [], ◌∷◌, length, map, flat_map, drop, sum_by, All, Option, MatchResult, IsErrAnd}
 use Rattle.std.specs.Io.KnownBytes.{Appends}
 use Rattle.xet_base.specs.declared.error.CoreError.{CoreError}
+use Rattle.xet_base.specs.declared.error.CoreError.TheVariants.{InvalidArguments}
 use Rattle.xet_base.specs.declared.merklehash.DataHash.{DataHash}
-use Rattle.xet_base.specs.Errors.{IsWriteError}
+use Rattle.xet_base.specs.Errors.{CoreResult, IsWriteError}
 use Rattle.xet_base.specs.KeyedHash.{no_key, under_key}
 use Rattle.xet_base.specs.Source.{Source, FailedBy, advanced, bytes_left}
 use Rattle.xet_records.specs.declared.file_structs.MDBFileInfo.{MDBFileInfo}
@@ -18,7 +19,7 @@ use Rattle.xet_records.specs.declared.record_reader.FormatVersion.TheVariants.{V
 use Rattle.xet_records.specs.XorbRecord.{xorb_records}
 use Rattle.xet_shards.specs.declared.shard_format.info.MDBShardInfo.{MDBShardInfo}
 use Rattle.xet_shards.specs.Section.{total_rows, section_bytes}
-use Rattle.xet_shards.specs.SectionReading.{IsSection, IsRefusedSection, IsCutSection, SectionCase}
+use Rattle.xet_shards.specs.SectionReading.{IsSection, TakesNoSection, IsRefusedSection, IsCutSection, SectionCase}
 use Rattle.xet_shards.specs.Ends.{HasHeader, HasEnds, HasUnsupportedHeader, EndsInHeader, FormatCase}
 use Rattle.xet_shards.specs.Layout.{Form, if_in, layout_of, footer_value, info_of}
 use Rattle.xet_shards.specs.InForm.{IsInForm}
@@ -120,6 +121,20 @@ abbrev pub CannotExport : MDBShardInfo → ℕ → ℕ → Type 0
 CannotExport info now valid =
     (info.metadata.chunk_hash_hmac_key ≢ no_key) ⊎ ExpiresTooLate now valid
 
+-- the outcome of an export, with auxiliary rows or without: it was made, or why not; and if the
+-- arguments are refused, then neither the source nor the writer is touched
+pub record OutcomeOfExport {S W : Type 0} (Refused : Type 0) (aux : Bool) (form : Form)
+    (meaning : S → Source) (contents : W → Option (List ℕ)) (source_old source_new : S)
+    (writer_old writer_new : W) (result : CoreResult ℕ) : Type 0 where
+  pub written : MatchResult result
+      (ExportsWith aux form (meaning source_old) (meaning source_new) (contents writer_old)
+      (contents writer_new))
+      (λ e. ((e ≡ InvalidArguments) × Refused)
+      ⊎ ExportFails (meaning source_old) (meaning source_new) e)
+  pub untouched : Refused
+      → IsErrAnd result (λ e. e ≡ InvalidArguments) × (source_new ≡ source_old)
+      × (writer_new ≡ writer_old)
+
 -- the records of the section at the source's position are these, and it was read up to its end
 pub record PassesSection {H R : Type 0} (K : RecordKind H R) (old new : Source) (stored : List R)
     : Type 0 where
@@ -142,6 +157,12 @@ pub record WritingFails (old new : Source) (e : CoreError) : Type 0 where
   pub seeks : new.seeks ≡ old.seeks
   pub failures : new.failures ≡ old.failures
   pub cause : IsWriteError e
+
+-- a section of a version was not exported: it was not read, or not written
+abbrev pub ExportsNoSection : {H R : Type 0} → RecordKind H R → FormatVersion → Source → Source
+    → CoreError → Type 0
+ExportsNoSection K version old new e =
+    TakesNoSection (in_version K version) old new e ⊎ WritingFails old new e
 
 -- records were read from the source, their rows counted down from 4294967295, and this was made of
 -- them

@@ -13,8 +13,8 @@ ghost use Rattle.xet_shards.specs.declared.shard_format.form.Form.{Form};
 ghost use Rattle.xet_shards.specs.Section.{section_bytes, total_rows};
 ghost use Rattle.xet_shards.specs.Written.{HasWritten, HasWrittenFor};
 ghost use Rattle.xet_shards.specs.WrittenLaws.{written_for};
-ghost use Rattle.xet_shards.specs.SectionReading.{TakesNoSection, RecordFails};
-ghost use Rattle.xet_shards.specs.KeyedExport.{Exports, ExportsWith, ExportFails, ExportsSection, CannotExport, ExpiresTooLate, WritingFails, export_form, exported_file, exported_xorb, keyed_xorb};
+ghost use Rattle.xet_shards.specs.SectionReading.{RecordFails};
+ghost use Rattle.xet_shards.specs.KeyedExport.{ExportsWith, ExportFails, OutcomeOfExport, ExportsSection, CannotExport, ExportsNoSection, ExpiresTooLate, export_form, exported_file, exported_xorb, keyed_xorb};
 ghost use Rattle.xet_shards.specs.ExportLaws.{file_rows, xorb_rows};
 
 use super::footer::FOOTER_SIZE;
@@ -63,17 +63,10 @@ impl MDBShardInfo {
         include_xorb_lookup_table: bool,
         include_chunk_lookup_table: bool,
     ) -> Result<usize>
-        ensures written { MatchResult result
-            (Exports
+        ensures { OutcomeOfExport (CannotExport self.now now valid_seconds) true
             (export_form key now valid_seconds include_file_info include_xorb_lookup_table
             include_chunk_lookup_table)
-            (S.meaning source.old) (S.meaning source.new) (W.contents writer.old)
-            (W.contents writer.new))
-            (λ e. ((e ≡ CoreError.InvalidArguments) × CannotExport self.now now valid_seconds)
-            ⊎ ExportFails (S.meaning source.old) (S.meaning source.new) e) }
-        ensures untouched { CannotExport self.now now valid_seconds
-            → IsErrAnd result (λ e. e ≡ CoreError.InvalidArguments) × (source.new ≡ source.old)
-            × (writer.new ≡ writer.old) }
+            S.meaning W.contents source.old source.new writer.old writer.new result }
     {
         if self.chunk_hashes_protected() {
             return Err(CoreError::InvalidArguments);
@@ -104,17 +97,10 @@ impl MDBShardInfo {
         include_xorb_lookup_table: bool,
         include_chunk_lookup_table: bool,
     ) -> Result<usize>
-        ensures written { MatchResult result
-            (Exports
+        ensures { OutcomeOfExport (ExpiresTooLate now valid_seconds) true
             (export_form key now valid_seconds include_file_info include_xorb_lookup_table
             include_chunk_lookup_table)
-            (S.meaning source.old) (S.meaning source.new) (W.contents writer.old)
-            (W.contents writer.new))
-            (λ e. ((e ≡ CoreError.InvalidArguments) × ExpiresTooLate now valid_seconds)
-            ⊎ ExportFails (S.meaning source.old) (S.meaning source.new) e) }
-        ensures untouched { ExpiresTooLate now valid_seconds
-            → IsErrAnd result (λ e. e ≡ CoreError.InvalidArguments) × (source.new ≡ source.old)
-            × (writer.new ≡ writer.old) }
+            S.meaning W.contents source.old source.new writer.old writer.new result }
     {
         let Some(form) = export_form(
             key,
@@ -143,17 +129,10 @@ impl MDBShardInfo {
         include_xorb_lookup_table: bool,
         include_chunk_lookup_table: bool,
     ) -> Result<usize>
-        ensures written { MatchResult result
-            (ExportsWith false
+        ensures { OutcomeOfExport (CannotExport self.now now valid_seconds) false
             (export_form key now valid_seconds include_file_info include_xorb_lookup_table
             include_chunk_lookup_table)
-            (S.meaning source.old) (S.meaning source.new) (W.contents writer.old)
-            (W.contents writer.new))
-            (λ e. ((e ≡ CoreError.InvalidArguments) × CannotExport self.now now valid_seconds)
-            ⊎ ExportFails (S.meaning source.old) (S.meaning source.new) e) }
-        ensures untouched { CannotExport self.now now valid_seconds
-            → IsErrAnd result (λ e. e ≡ CoreError.InvalidArguments) × (source.new ≡ source.old)
-            × (writer.new ≡ writer.old) }
+            S.meaning W.contents source.old source.new writer.old writer.new result }
     {
         let keyed = self.chunk_hashes_protected();
         if keyed {
@@ -184,17 +163,10 @@ impl MDBShardInfo {
         include_xorb_lookup_table: bool,
         include_chunk_lookup_table: bool,
     ) -> Result<usize>
-        ensures written { MatchResult result
-            (ExportsWith false
+        ensures { OutcomeOfExport (ExpiresTooLate now valid_seconds) false
             (export_form key now valid_seconds include_file_info include_xorb_lookup_table
             include_chunk_lookup_table)
-            (S.meaning source.old) (S.meaning source.new) (W.contents writer.old)
-            (W.contents writer.new))
-            (λ e. ((e ≡ CoreError.InvalidArguments) × ExpiresTooLate now valid_seconds)
-            ⊎ ExportFails (S.meaning source.old) (S.meaning source.new) e) }
-        ensures untouched { ExpiresTooLate now valid_seconds
-            → IsErrAnd result (λ e. e ≡ CoreError.InvalidArguments) × (source.new ≡ source.old)
-            × (writer.new ≡ writer.old) }
+            S.meaning W.contents source.old source.new writer.old writer.new result }
     {
         let Some(form) = export_form(
             key,
@@ -427,9 +399,8 @@ pub(super) fn export_section<E: ExportedRecord + Drop, S: ShardSource, W: Write>
         (λ written. ExportsSection E.Section.Record.kind version (E.exports aux_ext form.now)
         (E.has_written form.now written) (S.meaning source.old) (S.meaning source.new)
         (W.contents writer.old) (W.contents writer.new))
-        (λ e. TakesNoSection (in_version E.Section.Record.kind version) (S.meaning source.old)
-        (S.meaning source.new) e
-        ⊎ WritingFails (S.meaning source.old) (S.meaning source.new) e) }
+        (ExportsNoSection E.Section.Record.kind version (S.meaning source.old)
+        (S.meaning source.new)) }
 {
     let mut written = E::Section::new(alloc);
     let mut buffer = BytesMut::new(alloc);
