@@ -18,7 +18,7 @@ ghost use Rattle.xet_shards.specs.RunReading.{query_at, AnswerAt, RefusedAt, Out
 ghost use Rattle.xet_shards.specs.WrittenShard.{IsBytesWithInfo};
 
 use super::info::MDBShardInfo;
-use super::run_reader::read_header_at;
+use super::run_reader::{read_header_at, read_run_at};
 use std::alloc::Global;
 use xet_base::error::{CoreError, Result};
 use xet_base::merklehash::MerkleHash;
@@ -76,7 +76,8 @@ impl MDBShardInfo {
             (S.meaning source.old) (S.meaning source.new) }
     {
         let absent = CoreError::InvalidArguments;
-        self.run_at_location(
+        run_at_location(
+            self,
             alloc,
             source,
             unkeyed_query_hashes,
@@ -128,82 +129,91 @@ impl MDBShardInfo {
             → QueryCosts no_key unkeyed_query_hashes.now (finite.values s.xorbs)
             (S.meaning source.old) (S.meaning source.new) }
     {
-        self.query_by_table(alloc, source, unkeyed_query_hashes)
+        query_by_table(self, alloc, source, unkeyed_query_hashes)
     }
+}
 
-    // The run at the first of the locations that the chunk table has for the first hash.
-    fn query_by_table<S: ShardSource>(
-        &self,
-        alloc: Global,
-        source: &mut S,
-        unkeyed_query_hashes: &[MerkleHash],
-    ) -> Result<Option<(usize, FileDataSequenceEntry)>>
-        ensures read { QueryOutcome self.now.metadata unkeyed_query_hashes.now
-            (S.meaning source.old) (S.meaning source.new) result }
-        ensures serves { OnOk result (Serves (S.meaning source.old) (S.meaning source.new)) }
-        ensures kept { (S.meaning source.new).bytes ≡ (S.meaning source.old).bytes }
-    {
-        let Some(first) = unkeyed_query_hashes.first() else {
-            return Ok(None);
-        };
-        if self.metadata.chunk_lookup_num_entry == 0 {
-            return Ok(None);
-        }
-        let mut locations = [(0, 0); 8];
-        let found = self.get_xorb_info_index_by_chunk(alloc, source, first, &mut locations)?;
-        self.first_run(alloc, source, unkeyed_query_hashes, &locations[..found])
+// The run at the first of the locations that the chunk table has for the first hash.
+fn query_by_table<S: ShardSource>(
+    info: &MDBShardInfo,
+    alloc: Global,
+    source: &mut S,
+    query_hashes: &[MerkleHash],
+) -> Result<Option<(usize, FileDataSequenceEntry)>>
+    ensures read { QueryOutcome info.now.metadata query_hashes.now (S.meaning source.old)
+        (S.meaning source.new) result }
+    ensures serves { OnOk result (Serves (S.meaning source.old) (S.meaning source.new)) }
+    ensures kept { (S.meaning source.new).bytes ≡ (S.meaning source.old).bytes }
+{
+    let Some(first) = query_hashes.first() else {
+        return Ok(None);
+    };
+    if info.metadata.chunk_lookup_num_entry == 0 {
+        return Ok(None);
     }
+    let mut locations = [(0, 0); 8];
+    let found = info.get_xorb_info_index_by_chunk(alloc, source, first, &mut locations)?;
+    first_run(info, alloc, source, query_hashes, &locations[..found])
+}
 
-    // The run at the first of these locations that has one.
-    fn first_run<S: ShardSource>(
-        &self,
-        alloc: Global,
-        source: &mut S,
-        query_hashes: &[MerkleHash],
-        locations: &[(u32, u32)],
-    ) -> Result<Option<(usize, FileDataSequenceEntry)>>
-        ensures { OutcomeOfTries self.now.metadata query_hashes.now locations.now
-            (S.meaning source.old) (S.meaning source.new) result }
-    {
-        for location in locations {
-            let corrupt = CoreError::InvalidShard(String::new(alloc));
-            let run = self.run_at_location(
-                alloc,
-                source,
-                query_hashes,
-                location.0,
-                location.1,
-                corrupt,
-            )?;
-            if run.is_some() {
-                return Ok(run);
-            }
+// The run at the first of these locations that has one.
+fn first_run<S: ShardSource>(
+    info: &MDBShardInfo,
+    alloc: Global,
+    source: &mut S,
+    query_hashes: &[MerkleHash],
+    locations: &[(u32, u32)],
+) -> Result<Option<(usize, FileDataSequenceEntry)>>
+    ensures { OutcomeOfTries info.now.metadata query_hashes.now locations.now
+        (S.meaning source.old) (S.meaning source.new) result }
+{
+    for location in locations {
+        let corrupt = CoreError::InvalidShard(String::new(alloc));
+        let run = run_at_location(
+            info,
+            alloc,
+            source,
+            query_hashes,
+            location.0,
+            location.1,
+            corrupt,
+        )?;
+        if run.is_some() {
+            return Ok(run);
         }
-        Ok(None)
     }
+    Ok(None)
+}
 
-    // The run from the chunk at an index on of the xorb at a row. The error is `absent` if there is
-    // no such chunk.
-    fn run_at_location<S: ShardSource>(
-        &self,
-        alloc: Global,
-        source: &mut S,
-        query_hashes: &[MerkleHash],
-        xorb_row: u32,
-        chunk_index: u32,
-        absent: CoreError,
-    ) -> Result<Option<(usize, FileDataSequenceEntry)>>
-        ensures { OutcomeAt (λ e. e ≡ absent)
-            (query_at self.now.metadata query_hashes.now (xorb_row, chunk_index))
-            (S.meaning source.old) (S.meaning source.new) result }
-    {
-        if query_hashes.is_empty() {
-            return Ok(None);
-        }
-        let header = read_header_at(alloc, source, self.metadata.xorb_info_offset, xorb_row)?;
-        if header.is_bookend() || chunk_index >= header.num_entries {
-            return Err(absent);
-        }
-        self.read_run_at(alloc, source, query_hashes, &header, xorb_row, chunk_index)
+// The run from the chunk at an index on of the xorb at a row. The error is `absent` if there is no
+// such chunk.
+fn run_at_location<S: ShardSource>(
+    info: &MDBShardInfo,
+    alloc: Global,
+    source: &mut S,
+    query_hashes: &[MerkleHash],
+    xorb_row: u32,
+    chunk_index: u32,
+    absent: CoreError,
+) -> Result<Option<(usize, FileDataSequenceEntry)>>
+    ensures { OutcomeAt (λ e. e ≡ absent)
+        (query_at info.now.metadata query_hashes.now (xorb_row, chunk_index))
+        (S.meaning source.old) (S.meaning source.new) result }
+{
+    if query_hashes.is_empty() {
+        return Ok(None);
     }
+    let header = read_header_at(alloc, source, info.metadata.xorb_info_offset, xorb_row)?;
+    if header.is_bookend() || chunk_index >= header.num_entries {
+        return Err(absent);
+    }
+    read_run_at(
+        info,
+        alloc,
+        source,
+        query_hashes,
+        &header,
+        xorb_row,
+        chunk_index,
+    )
 }

@@ -97,55 +97,53 @@ impl MDBShardInfo {
             → IsBytesWithInfo s (S.meaning source.old).bytes self.now
             → FindsInShard s hash.now (S.meaning source.old) (S.meaning source.new) result }
     {
-        self.look_up(alloc, source, hash)
+        look_up(self, alloc, source, hash)
     }
+}
 
-    // Reads the records that the file table has for the hash's first word.
-    fn look_up<S: ShardSource>(
-        &self,
-        alloc: Global,
-        source: &mut S,
-        hash: &MerkleHash,
-    ) -> Result<Option<MDBFileInfo>>
-        ensures read { MatchResult result
-            (Finding (files_of self.now) (file_table self.now.metadata (S.meaning source.old))
-            self.now.metadata.file_info_offset hash.now (S.meaning source.old)
-            (S.meaning source.new))
-            (FindingFails (files_of self.now) (file_table self.now.metadata (S.meaning source.old))
-            self.now.metadata.file_info_offset hash.now (S.meaning source.old)
-            (S.meaning source.new)) }
-        ensures serves { OnOk result (Serves (S.meaning source.old) (S.meaning source.new)) }
-        ensures kept { (S.meaning source.new).bytes ≡ (S.meaning source.old).bytes }
-    {
-        let mut rows = [0; 8];
-        let found = self.get_file_info_index_by_hash(alloc, source, hash, &mut rows)?;
-        self.first_with_hash(alloc, source, hash, &rows[..found])
-    }
+// Reads the records that the file table has for the hash's first word.
+fn look_up<S: ShardSource>(
+    info: &MDBShardInfo,
+    alloc: Global,
+    source: &mut S,
+    hash: &MerkleHash,
+) -> Result<Option<MDBFileInfo>>
+    ensures read { MatchResult result
+        (Finding (files_of info.now) (file_table info.now.metadata (S.meaning source.old))
+        info.now.metadata.file_info_offset hash.now (S.meaning source.old) (S.meaning source.new))
+        (FindingFails (files_of info.now) (file_table info.now.metadata (S.meaning source.old))
+        info.now.metadata.file_info_offset hash.now (S.meaning source.old) (S.meaning source.new)) }
+    ensures serves { OnOk result (Serves (S.meaning source.old) (S.meaning source.new)) }
+    ensures kept { (S.meaning source.new).bytes ≡ (S.meaning source.old).bytes }
+{
+    let mut rows = [0; 8];
+    let found = info.get_file_info_index_by_hash(alloc, source, hash, &mut rows)?;
+    first_with_hash(info, alloc, source, hash, &rows[..found])
+}
 
-    // Reads the records at these rows of the file section up to the first with this hash.
-    fn first_with_hash<S: ShardSource>(
-        &self,
-        alloc: Global,
-        source: &mut S,
-        hash: &MerkleHash,
-        rows: &[u32],
-    ) -> Result<Option<MDBFileInfo>>
-        ensures answer { IfOk result
-            (λ answer. LookupAnswer (files_of self.now) (S.meaning source.old).bytes
-            self.now.metadata.file_info_offset hash.now answer rows.now) }
-        ensures refused { IfErr result
-            (λ e. LookupRefused (files_of self.now) self.now.metadata.file_info_offset
-            (S.meaning source.old) (S.meaning source.new) e rows.now) }
-        ensures serves { OnOk result (Serves (S.meaning source.old) (S.meaning source.new)) }
-        ensures visits { VisitsSome (files_of self.now) 1 self.now.metadata.file_info_offset
-            rows.now (S.meaning source.old) (S.meaning source.new) }
-    {
-        for row in rows {
-            let file_info = self.read_file_info(alloc, source, *row)?;
-            if file_info.metadata.file_hash == *hash {
-                return Ok(Some(file_info));
-            }
+// Reads the records at these rows of the file section up to the first with this hash.
+fn first_with_hash<S: ShardSource>(
+    info: &MDBShardInfo,
+    alloc: Global,
+    source: &mut S,
+    hash: &MerkleHash,
+    rows: &[u32],
+) -> Result<Option<MDBFileInfo>>
+    ensures answer { IfOk result
+        (λ answer. LookupAnswer (files_of info.now) (S.meaning source.old).bytes
+        info.now.metadata.file_info_offset hash.now answer rows.now) }
+    ensures refused { IfErr result
+        (λ e. LookupRefused (files_of info.now) info.now.metadata.file_info_offset
+        (S.meaning source.old) (S.meaning source.new) e rows.now) }
+    ensures serves { OnOk result (Serves (S.meaning source.old) (S.meaning source.new)) }
+    ensures visits { VisitsSome (files_of info.now) 1 info.now.metadata.file_info_offset rows.now
+        (S.meaning source.old) (S.meaning source.new) }
+{
+    for row in rows {
+        let file_info = info.read_file_info(alloc, source, *row)?;
+        if file_info.metadata.file_hash == *hash {
+            return Ok(Some(file_info));
         }
-        Ok(None)
     }
+    Ok(None)
 }

@@ -30,75 +30,73 @@ pub(super) fn read_header_at<S: ShardSource>(
     read_row(source)
 }
 
-impl MDBShardInfo {
-    /// Reads the run of hashes from the chunk at an index on of the xorb with this header, which is
-    /// at a row.
-    pub(super) fn read_run_at<S: ShardSource>(
-        &self,
-        alloc: Global,
-        source: &mut S,
-        query_hashes: &[MerkleHash],
-        header: &XorbChunkSequenceHeader,
-        row: u32,
-        index: u32,
-    ) -> Result<Option<(usize, FileDataSequenceEntry)>>
-        requires { index < header.now.num_entries }
-        ensures { MatchResult result
-            (ReadsRunAt (query_at self.now.metadata query_hashes.now (row, index)) header.now
-            (S.meaning source.old) (S.meaning source.new))
-            (RunFails (query_at self.now.metadata query_hashes.now (row, index)) header.now
-            (S.meaning source.old) (S.meaning source.new)) }
-    {
-        let first = u64::from(row) + 1 + u64::from(index);
-        seek_to_row(alloc, source, self.metadata.xorb_info_offset, first)?;
-        let left = header.num_entries - index;
-        let (length, bytes) = self.read_run(alloc, source, query_hashes, left)?;
-        if length == 0 {
-            return Ok(None);
-        }
-        let segment = FileDataSequenceEntry {
-            xorb_hash: header.xorb_hash,
-            xorb_flags: header.xorb_flags,
-            unpacked_segment_bytes: bytes,
-            chunk_index_start: index,
-            chunk_index_end: index + length,
-        };
-        Ok(Some((length as usize, segment)))
+/// Reads the run of hashes from the chunk at an index on of the xorb with this header, which is at
+/// a row.
+pub(super) fn read_run_at<S: ShardSource>(
+    info: &MDBShardInfo,
+    alloc: Global,
+    source: &mut S,
+    query_hashes: &[MerkleHash],
+    header: &XorbChunkSequenceHeader,
+    row: u32,
+    index: u32,
+) -> Result<Option<(usize, FileDataSequenceEntry)>>
+    requires { index < header.now.num_entries }
+    ensures { MatchResult result
+        (ReadsRunAt (query_at info.now.metadata query_hashes.now (row, index)) header.now
+        (S.meaning source.old) (S.meaning source.new))
+        (RunFails (query_at info.now.metadata query_hashes.now (row, index)) header.now
+        (S.meaning source.old) (S.meaning source.new)) }
+{
+    let first = u64::from(row) + 1 + u64::from(index);
+    seek_to_row(alloc, source, info.metadata.xorb_info_offset, first)?;
+    let left = header.num_entries - index;
+    let (length, bytes) = read_run(info, alloc, source, query_hashes, left)?;
+    if length == 0 {
+        return Ok(None);
     }
+    let segment = FileDataSequenceEntry {
+        xorb_hash: header.xorb_hash,
+        xorb_flags: header.xorb_flags,
+        unpacked_segment_bytes: bytes,
+        chunk_index_start: index,
+        chunk_index_end: index + length,
+    };
+    Ok(Some((length as usize, segment)))
+}
 
-    // Reads chunks, at most `left`, as long as they have these hashes, one by one: how many have,
-    // and their bytes.
-    fn read_run<S: ShardSource>(
-        &self,
-        alloc: Global,
-        source: &mut S,
-        query_hashes: &[MerkleHash],
-        left: u32,
-    ) -> Result<(u32, u32)>
-        ensures { MatchResult result
-            (ReadsRun self.now.metadata.chunk_hash_hmac_key query_hashes.now left
-            (S.meaning source.old) (S.meaning source.new))
-            (ReadRunFails self.now.metadata.chunk_hash_hmac_key query_hashes.now left
-            (S.meaning source.old) (S.meaning source.new)) }
-    {
-        let mut length = 0;
-        let mut bytes = 0u32;
-        for query_hash in query_hashes {
-            if length == left {
-                return Ok((length, bytes));
-            }
-            let chunk: XorbChunkSequenceEntry = read_row(source)?;
-            if self.keyed_chunk_hash(query_hash) != chunk.chunk_hash {
-                return Ok((length, bytes));
-            }
-            let Some(sum) = bytes.checked_add(chunk.unpacked_segment_bytes) else {
-                return Err(CoreError::InvalidShard(String::new(alloc)));
-            };
-            bytes = sum;
-            length += 1;
+// Reads chunks, at most `left`, as long as they have these hashes, one by one: how many have, and
+// their bytes.
+fn read_run<S: ShardSource>(
+    info: &MDBShardInfo,
+    alloc: Global,
+    source: &mut S,
+    query_hashes: &[MerkleHash],
+    left: u32,
+) -> Result<(u32, u32)>
+    ensures { MatchResult result
+        (ReadsRun info.now.metadata.chunk_hash_hmac_key query_hashes.now left
+        (S.meaning source.old) (S.meaning source.new))
+        (ReadRunFails info.now.metadata.chunk_hash_hmac_key query_hashes.now left
+        (S.meaning source.old) (S.meaning source.new)) }
+{
+    let mut length = 0;
+    let mut bytes = 0u32;
+    for query_hash in query_hashes {
+        if length == left {
+            return Ok((length, bytes));
         }
-        Ok((length, bytes))
+        let chunk: XorbChunkSequenceEntry = read_row(source)?;
+        if info.keyed_chunk_hash(query_hash) != chunk.chunk_hash {
+            return Ok((length, bytes));
+        }
+        let Some(sum) = bytes.checked_add(chunk.unpacked_segment_bytes) else {
+            return Err(CoreError::InvalidShard(String::new(alloc)));
+        };
+        bytes = sum;
+        length += 1;
     }
+    Ok((length, bytes))
 }
 
 // Seeks to a row of the section at an offset. `InvalidShard` if the row's offset does not fit

@@ -1,6 +1,6 @@
 use Rattle.std.proofs.lemmas.Result.{err_from_is_err_and}
 use Rattle.xet_shards.proofs.Tries.{stops_next, none_next, none_found}
-use Rattle.xet_shards.proofs.shard_format.info.MDBShardInfo.first_run.Goals as goal
+use Rattle.xet_shards.proofs.shard_format.chunk_query.first_run.Goals as goal
 
 pub returns-in_err-run : goal.returns-in_err-run
 returns-in_err-run g c =

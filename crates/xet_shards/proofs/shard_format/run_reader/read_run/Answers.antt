@@ -1,6 +1,6 @@
 use Rattle.std.proofs.Common.{◌+◌, refl, ap, arith, rules}
 use Rattle.xet_shards.proofs.Runs.{no_run, run_goes_on, run_stops, run_passes, run_fails}
-use Rattle.xet_shards.proofs.shard_format.info.MDBShardInfo.read_run.Goals as goal
+use Rattle.xet_shards.proofs.shard_format.run_reader.read_run.Goals as goal
 
 pub loop-query_hash-init : goal.loop-query_hash-init
 loop-query_hash-init g c = (no_run, refl)
