@@ -1,7 +1,7 @@
 -- Joins of shards that agree pairwise: they agree with each other, exist, and are shards if their rows are few; with more
 -- shards a join has no fewer rows.
-use Rattle.std.proofs.Common.{◌≡◌, ◌≤◌, Bool, false, List, [], ◌∷◌, ◌++◌, length, Option, None, Some, is_some, refl, sym, ap, ◌∙◌, subst, if◌then◌else◌, arith}
-use Rattle.std.specs.Prelude.{All, Contains, IsTrue, option_map, option_and_then, option_to_list}
+use Rattle.std.proofs.Common.{◌≡◌, ◌≤◌, Bool, false, List, [], ◌∷◌, ◌++◌, length, Option, None, Some, refl, sym, ap, ◌∙◌, subst, if◌then◌else◌, arith}
+use Rattle.std.specs.Prelude.{All, Contains, IsTrue, option_map, option_and_then}
 use Rattle.std.specs.Option.{option_or}
 use Rattle.std.specs.FinMap.{get, entries}
 use Rattle.std.proofs.lemmas.List.Elements.{Contains-push, Contains-append_left, Contains-append_right}
@@ -21,7 +21,7 @@ use Rattle.xet_records.proofs.Merging.{same_file_if_agree, merged_well_formed}
 use Rattle.xet_shards.specs.Shard.{Shard, IsShard, file_hash_of, xorb_hash_of}
 use Rattle.xet_shards.specs.Joining.{either_file}
 use Rattle.xet_shards.specs.SetOperations.{IsUnion, ShardsAgree, HasFewRows}
-use Rattle.xet_shards.specs.Joins.{segments_under, part_under, HasWhatAnyHas, FollowsParts, IsJoinOf, AgreePairwise}
+use Rattle.xet_shards.specs.Joins.{segments_under, part_under, HasWhatAnyHas, IsJoinOf, AgreePairwise}
 use Rattle.xet_shards.proofs.FileUnions.{holds_in_map}
 use Rattle.xet_shards.proofs.Sums.{all_of_map, part-le-sum, sum-below}
 use Rattle.xet_shards.proofs.Unions.{IsKnown, known}

@@ -1,6 +1,6 @@
 -- The turns of the loops that read and write the sections of an export, and its parts together.
 use Rattle.std.proofs.Common.{◌≡◌, ◌≢◌, Bool, true, false, inl, inr, Ok, Err, ℕ, ◌+◌, ◌*◌, ◌^◌, ◌≤◌, List, [], ◌∷◌, ◌++◌, length, map, flat_map, drop, Option, None, Some, refl, sym, ap, ◌∙◌, subst, arith, append-nil}
-use Rattle.std.specs.Prelude.{◌⊎◌, ◌↔◌, IsTrue, All, MatchResult}
+use Rattle.std.specs.Prelude.{◌↔◌, IsTrue, All, MatchResult}
 use Rattle.std.specs.declared.result.Result.{Result}
 use Rattle.std.proofs.lemmas.Bool.{both_ways}
 use Rattle.std.specs.Io.KnownBytes.{Appends}
@@ -12,7 +12,6 @@ use Rattle.std.proofs.lemmas.List.Concat.{flat_map_single}
 use Rattle.std.proofs.lemmas.Grind.{flat_map-append}
 use Rattle.xet_base.specs.declared.error.CoreError.{CoreError}
 use Rattle.xet_base.specs.Errors.{CoreResult, IsWriteError}
-use Rattle.xet_base.specs.declared.error.CoreError.TheVariants.{InvalidArguments}
 use Rattle.xet_base.specs.KeyedHash.{no_key}
 use Rattle.xet_base.specs.Source.{Source, Takes, advanced, bytes_left}
 use Rattle.xet_base.specs.InputLaws.{failed_after, advanced-advanced}

@@ -7,26 +7,24 @@ use Rattle.std.proofs.lemmas.List.Elements.{All-map}
 use Rattle.std.proofs.lemmas.Option.{none-some}
 use Rattle.xet_base.specs.declared.merklehash.DataHash.{DataHash}
 use Rattle.xet_records.specs.declared.file_structs.MDBFileInfo.{MDBFileInfo}
-use Rattle.xet_records.specs.declared.file_structs.rows.FileDataSequenceEntry.{FileDataSequenceEntry}
 use Rattle.xet_records.specs.declared.file_structs.rows.HashRow.{HashRow}
 use Rattle.xet_records.specs.declared.file_structs.part.OptionalPart.{OptionalPart}
 use Rattle.xet_records.specs.declared.file_structs.part.OptionalPart.TheVariants.{AuxExt}
 use Rattle.xet_records.specs.FileRecord.{file_records, IsWellFormed}
-use Rattle.xet_records.specs.Part.{announces, flags_of, rows_of, with_parts, with_flag, all_but}
+use Rattle.xet_records.specs.Part.{flags_of, rows_of, all_but}
 use Rattle.xet_records.specs.Merging.{Agree, has_part, part_in, file_with}
 use Rattle.xet_records.specs.View.{without_aux}
 use Rattle.xet_records.proofs.Parts.{rows_of-keeping}
 use Rattle.xet_records.proofs.KeptParts.{cleared, cleared-known, without_aux-formed}
-use Rattle.xet_records.proofs.Merging.{flags_are_known, announces-flags_of}
 use Rattle.xet_shards.specs.Section.{total_rows}
 use Rattle.xet_shards.specs.Shard.{Shard, IsShard, AreFiles, file_hash_of}
 use Rattle.xet_shards.specs.SetOperations.{ShardsAgree}
-use Rattle.xet_shards.specs.Joins.{IsJoinOf, FollowsParts, HasWhatAnyHas, part_under}
+use Rattle.xet_shards.specs.Joins.{IsJoinOf, HasWhatAnyHas, part_under}
 use Rattle.xet_shards.specs.ShardsWithoutAux.{entries_without_aux, shard_without_aux}
 use Rattle.xet_shards.proofs.FilesWithoutAux.{rows-without_aux}
 use Rattle.xet_shards.proofs.Joins.{HasPlainHeader, plain, plain_file}
 use Rattle.xet_shards.proofs.MappedMaps.{entries-mapped, values-mapped, get-mapped, mapped_some}
-use Rattle.xet_shards.proofs.MappedShards.{mapped_member, unmapped_member, part_kept}
+use Rattle.xet_shards.proofs.MappedShards.{unmapped_member, part_kept}
 
 module _ (s : Shard) where
   entries-without_aux : entries (shard_without_aux s).files ≡ entries_without_aux (entries s.files)

@@ -1,10 +1,9 @@
 //! Keyed exports: a shard is written again, record by record as it is read, with its chunk hashes
 //! under a key.
 
-ghost use Rattle.std.specs.Prelude.{◌≡◌, ◌⊎◌, ◌+◌, ◌*◌, ◌^◌, ◌≤◌, ◌++◌, Bool, true, false, List, [], flat_map, MatchOption, MatchResult, OnOk, IfErr, IsErrAnd};
+ghost use Rattle.std.specs.Prelude.{◌≡◌, ◌+◌, ◌≤◌, ◌++◌, Bool, true, false, List, [], flat_map, MatchOption, MatchResult, OnOk, IfErr};
 ghost use Rattle.std.specs.Io.KnownBytes.{Appends};
 ghost use Rattle.xet_base.specs.Errors.{IsWriteError};
-ghost use Rattle.xet_base.specs.KeyedHash.{no_key};
 ghost use Rattle.xet_base.specs.Source.{Takes};
 ghost use Rattle.xet_records.specs.RecordKind.{KindLaws, in_version};
 ghost use Rattle.xet_records.specs.ViewReading.{ReadsNextView};
