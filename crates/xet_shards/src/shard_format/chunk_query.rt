@@ -87,9 +87,9 @@ impl MDBShardInfo {
         )
     }
 
-    /// A run of these hashes in a xorb: its number of chunks, and their segment. It starts at the
-    /// first of at most eight locations, of those that the chunk table has for the first word of
-    /// the first hash, whose chunk has that hash. The hashes are not keyed; if the shard has a key,
+    /// A run of these hashes in a xorb: its number of chunks, and their segment. It starts at
+    /// one of at most eight locations that the chunk table has for the first word of the first
+    /// hash, at a chunk with that hash. The hashes are not keyed; if the shard has a key,
     /// they are compared under it. `None` if no hash is given, there is no chunk table, or none of
     /// the locations has the hash. Does not allocate.
     ///
