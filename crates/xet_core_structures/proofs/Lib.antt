@@ -22,6 +22,7 @@ pub mod OneSection
 pub mod Operating
 pub mod Pairs
 pub mod Parts
+pub mod PlacedMixes
 pub mod PlacedShards
 pub mod PlacedUnions
 pub mod PlacedWriting
@@ -36,5 +37,4 @@ pub mod TreeXorbs
 pub mod TreesOfExports
 pub mod Turns
 pub mod UnitedFiles
-pub mod Uniting
 pub mod Zipped

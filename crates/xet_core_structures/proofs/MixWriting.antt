@@ -29,14 +29,14 @@ use Rattle.xet_records.proofs.RecordKinds.{file_laws, parts_read}
 use Rattle.xet_shards.specs.declared.shard_format.written.WrittenFiles.{WrittenFiles}
 use Rattle.xet_shards.specs.Written.{IsFileOf, HasWritten}
 use Rattle.xet_core_structures.specs.ByteUnion.{mixed}
-use Rattle.xet_core_structures.specs.MixedFiles.{WritesMix, WritesEither, EitherFails}
+use Rattle.xet_core_structures.specs.MixedFiles.{WritesMix, WritesMixRows, WritesEither, EitherFails}
 use Rattle.xet_core_structures.specs.MixedFiles.EitherFails.{output_fails as either_output_fails, first_fails as either_first_fails, second_fails as either_second_fails}
 use Rattle.xet_core_structures.specs.SideBySide.{IsRecordHeader, PairFails}
 use Rattle.xet_core_structures.specs.SideBySide.PairFails.{output_fails, first_fails, second_fails}
-use Rattle.xet_core_structures.specs.Streams.{sources, streams}
+use Rattle.xet_core_structures.specs.Streams.{Sources, sources, streams}
 use Rattle.xet_core_structures.proofs.Mixing.{rows_of_mix, rows_chosen}
 use Rattle.xet_core_structures.proofs.Pairs.{record_of}
-use Rattle.xet_core_structures.proofs.OneSection.{serves_on, taken_serves}
+use Rattle.xet_core_structures.proofs.OneSection.{serves_on, taken_serves, header_of_found}
 
 -- a failure at some part is one of the whole
 module _ (g h : FileDataSequenceHeader) (Refused : Option MDBFileInfo → Option MDBFileInfo → Type 0) where
@@ -57,45 +57,63 @@ module _ (g h : FileDataSequenceHeader) (Refused : Option MDBFileInfo → Option
   pub not_added : (old_1 new_1 old_2 new_2 : Source) (e : CoreError) → Serves old_1 new_1 → Serves old_2 new_2 → e ≡ OutOfMemory → PairFails file_records (Some g) (Some h) (sources old_1 old_2) (sources new_1 new_2) Refused (Output e)
   not_added old_1 new_1 old_2 new_2 e first second is = output_fails e refl (subst IsWriteError (sym is) (tt, λ none. none)) first.bytes second.bytes
 
-module _ (g h : FileDataSequenceHeader) (old_1 a_1 b_1 c_1 new_1 old_2 a_2 b_2 c_2 new_2 : Source) (start w0 w1 w2 w3 w4 : Option (List ℕ)) where
-  pub mix_written : (ss ts : List FileDataSequenceEntry) (size rows total : ℕ) (v w : WrittenFiles) → IsRecordHeader file_records g → IsRecordHeader file_records h
-      → g.file_hash ≡ h.file_hash → g.num_entries ≡ h.num_entries → total ≡ 1 + rows_after (mixed_header g h) → rows + total ≤ 4294967295 → Appends start w0 (header_row (mixed_header g h))
+module _ (g h : FileDataSequenceHeader) (old_1 a_1 b_1 c_1 new_1 old_2 a_2 b_2 c_2 new_2 : Source) (w0 w1 w2 w3 w4 : Option (List ℕ)) where
+  pub rows_mixed : (ss ts : List FileDataSequenceEntry) (size : ℕ)
       → CopiesRows segment_row FitsSegment (λ s. s) (Takes old_1 a_1) w0 w1 g.num_entries ss → size ≡ sum_by (λ s. s.unpacked_segment_bytes) ss
       → ReadsRows segment_row FitsSegment (λ s. s) (Takes old_2 a_2) h.num_entries ts
       → WritesEither hash_row FitsHashRow clear (streams a_1 a_2 w1) (streams b_1 b_2 w2) (part_rows Verification g) (part_rows Verification h)
       → WritesEither hash_row FitsHashRow clear (streams b_1 b_2 w2) (streams c_1 c_2 w3) (part_rows MetadataExt g) (part_rows MetadataExt h)
       → WritesEither hash_row FitsHashRow clear (streams c_1 c_2 w3) (streams new_1 new_2 w4) (part_rows AuxExt g) (part_rows AuxExt h)
-      → ((before : List MDBFileInfo) → (file : MDBFileInfo) → HasWritten v before → IsFileOf g.file_hash.word0 total size file → HasWritten w (before ++ file ∷ []))
-      → WritesMix g h (streams old_1 old_2 start) (streams new_1 new_2 w4) rows (HasWritten v) (HasWritten w)
-  unfolding file_record_bytes file_rows_bytes
-  mix_written ss ts size rows total v w first second hash count counted fits front segments sized skipped vs ms xs adds =
+      → WritesMixRows g h (streams old_1 old_2 w0) (streams new_1 new_2 w4) size
+  unfolding file_rows_bytes
+  rows_mixed ss ts size segments sized skipped vs ms xs =
       let firsts = these_rows vs.firsts ms.firsts xs.firsts in
       let seconds = these_rows vs.seconds ms.seconds xs.seconds in
       let one : MDBFileInfo = with_parts g ss firsts in
       let two : MDBFileInfo = with_parts h ts seconds in
-      let one_read = parts_read (λ a b bytes. Takes a b bytes) Takes-nil Takes-trans g old_1 a_1 b_1 c_1 new_1 ss vs.firsts ms.firsts xs.firsts segments.read vs.first ms.first xs.first in
-      let two_read = parts_read (λ a b bytes. Takes a b bytes) Takes-nil Takes-trans h old_2 a_2 b_2 c_2 new_2 ts vs.seconds ms.seconds xs.seconds skipped vs.second ms.second xs.second in
       let len_1 = these_counted g vs.firsts ms.firsts xs.firsts (length-read hash_row FitsHashRow clear _ _ _ vs.first) (length-read hash_row FitsHashRow clear _ _ _ ms.first)
       (length-read hash_row FitsHashRow clear _ _ _ xs.first) in
       let len_2 = these_counted h vs.seconds ms.seconds xs.seconds (length-read hash_row FitsHashRow clear _ _ _ vs.second) (length-read hash_row FitsHashRow clear _ _ _ ms.second)
       (length-read hash_row FitsHashRow clear _ _ _ xs.second) in
-      let row_total : row_count (mixed one two) ≡ 1 + rows_after (mixed_header g h) =
-      rows_of_mix g h one two refl refl (record_of file_records file_laws g old_1 new_1 one one_read first).2 (record_of file_records file_laws h old_2 new_2 two two_read second).2 hash count in
       let chosen : OptionalPart → List HashRow = λ part. if part_rows part g == 0 then seconds part else firsts part in
-      let each : (part : OptionalPart) → (if announces g.file_flags part then rows_of part one else rows_of part two) ≡ chosen part =
-      λ part. (λ i. if announces g.file_flags part then rows_of-counted g ss firsts len_1 part i else rows_of-counted h ts seconds len_2 part i)
+      let each : g.num_entries ≡ h.num_entries → (part : OptionalPart) → (if announces g.file_flags part then rows_of part one else rows_of part two) ≡ chosen part =
+      λ count part. (λ i. if announces g.file_flags part then rows_of-counted g ss firsts len_1 part i else rows_of-counted h ts seconds len_2 part i)
       ∙ rows_chosen (announces g.file_flags part) (announces h.file_flags part) (size_of_part part g.num_entries) (part_rows part g) (part_rows part h) (firsts part) (seconds part) refl
       (ap (λ n. if announces h.file_flags part then size_of_part part n else 0) (sym count)) (len_1 part) (len_2 part) in
-      let all : optional_rows (mixed one two) ≡ flat_map chosen parts = λ i. flat_map (λ part. (rows_of-joined one two part ∙ each part) i) parts in
+      let all : g.num_entries ≡ h.num_entries → optional_rows (mixed one two) ≡ flat_map chosen parts = λ count. λ i. flat_map (λ part. (rows_of-joined one two part ∙ each count part) i) parts in
       record {
         one = one;
         other = two;
-        reads_first = one_read;
-        reads_second = two_read;
-        few = omega (arith, fits, counted, row_total);
-        bytes = subst (λ bs. Appends start w4 (header_row (mixed_header g h) ++ (flat_map segment_row ss ++ bs))) (sym (ap (flat_map hash_row) all ∙ rows_bytes hash_row chosen parts))
-            (subst (λ bs. Appends start w4 (header_row (mixed_header g h) ++ (flat_map segment_row ss ++ (flat_map hash_row (chosen Verification) ++ (flat_map hash_row (chosen MetadataExt) ++ bs)))))
+        reads_first = parts_read (λ a b bytes. Takes a b bytes) Takes-nil Takes-trans g old_1 a_1 b_1 c_1 new_1 ss vs.firsts ms.firsts xs.firsts segments.read vs.first ms.first xs.first;
+        reads_second = parts_read (λ a b bytes. Takes a b bytes) Takes-nil Takes-trans h old_2 a_2 b_2 c_2 new_2 ts vs.seconds ms.seconds xs.seconds skipped vs.second ms.second xs.second;
+        rows = λ count. subst (λ bs. Appends w0 w4 (flat_map segment_row ss ++ bs)) (sym (ap (flat_map hash_row) (all count) ∙ rows_bytes hash_row chosen parts))
+            (subst (λ bs. Appends w0 w4 (flat_map segment_row ss ++ (flat_map hash_row (chosen Verification) ++ (flat_map hash_row (chosen MetadataExt) ++ bs))))
             (sym (append-nil (flat_map hash_row (chosen AuxExt))))
-            (Appends-trans start w0 w4 _ _ front (Appends-trans w0 w1 w4 _ _ segments.written (Appends-trans w1 w2 w4 _ _ vs.bytes (Appends-trans w2 w3 w4 _ _ ms.bytes xs.bytes)))));
-        written = λ before have. adds before (mixed one two) have (record { word = refl; rows = row_total ∙ sym counted; bytes = sym sized });
+            (Appends-trans w0 w1 w4 _ _ segments.written (Appends-trans w1 w2 w4 _ _ vs.bytes (Appends-trans w2 w3 w4 _ _ ms.bytes xs.bytes))));
+        size = sym sized;
+      }
+
+-- a header was written before these rows
+module _ (g h : FileDataSequenceHeader) (old new : Sources) (start w0 w1 : Option (List ℕ)) where
+  pub mix_written : (size rows total : ℕ) (v w : WrittenFiles) → IsRecordHeader file_records g → IsRecordHeader file_records h
+      → g.file_hash ≡ h.file_hash → g.num_entries ≡ h.num_entries → total ≡ 1 + rows_after (mixed_header g h) → rows + total ≤ 4294967295 → Appends start w0 (header_row (mixed_header g h))
+      → WritesMixRows g h (streams old.first old.second w0) (streams new.first new.second w1) size
+      → ((before : List MDBFileInfo) → (file : MDBFileInfo) → HasWritten v before → IsFileOf g.file_hash.word0 total size file → HasWritten w (before ++ file ∷ []))
+      → WritesMix g h (streams old.first old.second start) (streams new.first new.second w1) rows (HasWritten v) (HasWritten w)
+  unfolding file_record_bytes
+  mix_written size rows total v w first second hash count counted fits front mixes adds =
+      let one_is = header_of_found file_records file_laws _ g mixes.one mixes.reads_first in
+      let two_is = header_of_found file_records file_laws _ h mixes.other mixes.reads_second in
+      let row_total : row_count (mixed mixes.one mixes.other) ≡ 1 + rows_after (mixed_header g h) =
+      rows_of_mix g h mixes.one mixes.other one_is two_is (record_of file_records file_laws g old.first new.first mixes.one mixes.reads_first first).2
+      (record_of file_records file_laws h old.second new.second mixes.other mixes.reads_second second).2 hash count in
+      record {
+        one = mixes.one;
+        other = mixes.other;
+        reads_first = mixes.reads_first;
+        reads_second = mixes.reads_second;
+        few = omega (arith, fits, counted, row_total);
+        bytes = subst (λ k. Appends start w1 (header_row k ++ file_rows_bytes (mixed mixes.one mixes.other))) (λ i. mixed_header (sym one_is i) (sym two_is i))
+            (Appends-trans start w0 w1 _ _ front (mixes.rows count));
+        written = λ before have. adds before (mixed mixes.one mixes.other) have (record { word = ap (λ (k : FileDataSequenceHeader). k.file_hash.word0) one_is; rows = row_total ∙ sym counted; bytes = mixes.size });
       }

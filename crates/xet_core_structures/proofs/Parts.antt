@@ -1,5 +1,5 @@
 -- Shards in memory whose records stay where they are, and the unions of two.
-use Rattle.std.proofs.Common.{◌≡◌, ◌⊎◌, inl, inr, ℕ, ◌<◌, ◌≤◌, List, map, Option, None, Some, IfSome, Ok, Err, refl, sym, ap, ◌∙◌, subst, arith}
+use Rattle.std.proofs.Common.{◌≡◌, ◌⊎◌, inl, inr, ℕ, ◌<◌, ◌≤◌, List, map, Option, Some, Ok, Err, refl, sym, ap, ◌∙◌, subst, arith}
 use Rattle.std.specs.Prelude.{Contains, IfOk, MatchResult}
 use Rattle.std.specs.Io.KnownBytes.{Appends}
 use Rattle.std.specs.FinMap.{FinMap, get, values}
@@ -222,14 +222,13 @@ lists_refused x i y j one other e first second (inl no_memory) = inl (inl no_mem
 lists_refused x i y j one other e first second (inr (invalid, none)) = inr (invalid, no_shard_union x i y j one other first second none)
 
 -- both sides of a tree give a part, and so does their union, or it is refused
-pub both_parts : (inputs : List (List ℕ)) (left right : MergePlan) (x y : List ℕ) (r : Result (Option Part) CoreError) → TreeWrites inputs left x → TreeWrites inputs right y
-    → MatchResult r (λ found. IfSome found (λ part. (bytes : List ℕ) × UnitesBytes x y bytes × IsPart bytes part)) (BytesRefusal x y)
+pub both_parts : (inputs : List (List ℕ)) (left right : MergePlan) (x y : List ℕ) (r : Result Part CoreError) → TreeWrites inputs left x → TreeWrites inputs right y
+    → MatchResult r (λ part. (bytes : List ℕ) × UnitesBytes x y bytes × IsPart bytes part) (BytesRefusal x y)
     → MatchResult r
-    (λ found. IfSome found (λ part. (bytes : List ℕ) × ((x y : List ℕ) × TreeWrites inputs left x × TreeWrites inputs right y × UnitesBytes x y bytes) × IsPart bytes part))
+    (λ part. (bytes : List ℕ) × ((x y : List ℕ) × TreeWrites inputs left x × TreeWrites inputs right y × UnitesBytes x y bytes) × IsPart bytes part)
     (λ e. TreeRefusal inputs left e
     ⊎ ((x : List ℕ) × TreeWrites inputs left x × (TreeRefusal inputs right e ⊎ ((y : List ℕ) × TreeWrites inputs right y × BytesRefusal x y e))))
-both_parts inputs left right x y (Ok None) x_written y_written none = tt
-both_parts inputs left right x y (Ok (Some part)) x_written y_written (bytes, unites, is) = (bytes, (x, y, x_written, y_written, unites), is)
+both_parts inputs left right x y (Ok part) x_written y_written (bytes, unites, is) = (bytes, (x, y, x_written, y_written, unites), is)
 both_parts inputs left right x y (Err e) x_written y_written refusal = inr (x, x_written, inr (y, y_written, refusal))
 
 -- an allocation may fail after a tree is done

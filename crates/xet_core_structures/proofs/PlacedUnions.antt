@@ -1,6 +1,6 @@
 -- The turns of the loop that unites two lists of records that stay where they are.
 use Rattle.std.proofs.Common.{◌≡◌, ◌⊎◌, inl, inr, ℕ, ◌+◌, ◌<◌, ◌≤◌, List, [], ◌∷◌, ◌++◌, length, Option, None, Some, Ok, Err, refl, sym, ap, ◌∙◌, subst, arith, append-nil, append_assoc}
-use Rattle.std.specs.Prelude.{⊤, Contains, IfSome, MatchResult, option_to_list}
+use Rattle.std.specs.Prelude.{⊤, Contains, MatchResult, option_to_list}
 use Rattle.std.specs.declared.result.Result.{Result}
 use Rattle.std.specs.List.Sorted.{IsStrictlySortedBy}
 use Rattle.std.specs.declared.cmp.Ordering.TheVariants.{Less}
@@ -16,9 +16,8 @@ use Rattle.xet_shards.specs.InForm.{Ascends}
 use Rattle.xet_shards.specs.Section.{total_rows}
 use Rattle.xet_shards.proofs.Copying.{rows_returned}
 use Rattle.xet_core_structures.specs.declared.set_operations.placed.PlacedRecord.{PlacedRecord}
-use Rattle.xet_core_structures.specs.declared.set_operations.placed.Choice.TheVariants.{First, Second, Nothing}
 use Rattle.xet_core_structures.specs.Combining.{key_of_record, ArePassed, Combines}
-use Rattle.xet_core_structures.specs.Placed.{CountsRows, Places, PlacesAll, MayUnite, hash_at, IsBefore, IsChoice, KeepsNext, HaveNoListUnion}
+use Rattle.xet_core_structures.specs.Placed.{CountsRows, Places, PlacesAll, MayUnite, hash_at, IsBefore, MakesNothing, KeepsNext, HaveNoListUnion}
 use Rattle.xet_core_structures.specs.Placed.KeepsNext.{takes_first, takes_second, takes_both}
 use Rattle.xet_core_structures.proofs.Combining.{HasHash, IsUnder, none_combined, more_combined, passed_on}
 use Rattle.xet_core_structures.proofs.OneSection.{header_of_found}
@@ -60,7 +59,7 @@ module _ {H R : Type 0} (K : RecordKind H R) (laws : KindLaws K) where
   pub rows_placed : (p : PlacedRecord H) (r : R) → Places K p r → K.row_count r ≡ 1 + K.rows_after p.header
   rows_placed p r places = rows_returned K laws _ p.header r places.rows places.header.is_record places.header.fits
 
-  stored_placed : (p : PlacedRecord H) (r : R) → Places K p r → K.IsStored r
+  pub stored_placed : (p : PlacedRecord H) (r : R) → Places K p r → K.IsStored r
   stored_placed p r places = subst K.IsStored places.rows.handed (laws.handed_stored places.rows.stored (places.rows.is_stored places.header.is_record places.header.fits))
 
   -- a hash is less than the first of a list
@@ -184,7 +183,7 @@ module _ {H R : Type 0} (K : RecordKind H R) (laws : KindLaws K) where
             one_more None (Some r) r p uniting.after_1 second.others ps' qs' (key_of_record K r) counted refl second.is tt refl (second_alone r) second.here refl (subst IsPassedBy second.is uniting.passed_2)
             (subst (λ l. PlacesAll K l uniting.after_1) ps_is uniting.places_1) second.rest uniting.ascends_1 (ascends_rest r second.others ascends)
             (after_placed (key_of_record K r) ps uniting.after_1 uniting.places_1 (subst (λ k. IsBefore K k ps) (sym key) before)) (after_first r second.others ascends) counts
-        uniting_on p ps' qs' counted (takes_both g h ps_is qs_is same which) counts = either which where
+        uniting_on p ps' qs' counted (takes_both g h ps_is qs_is same made_of) counts = both (made_of.1 first.record_of second.record_of first.here second.here) where
           first : HasFirst g ps' uniting.after_1
           first = first_placed g ps' uniting.after_1 (subst (λ l. PlacesAll K l uniting.after_1) ps_is uniting.places_1)
 
@@ -194,19 +193,14 @@ module _ {H R : Type 0} (K : RecordKind H R) (laws : KindLaws K) where
           one_key : key_of_record K second.record_of ≡ key_of_record K first.record_of
           one_key = key_placed h second.record_of second.here ∙ sym same ∙ sym (key_placed g first.record_of first.here)
 
-          both : (z : R) → makes (Some first.record_of) (Some second.record_of) (Some z) → Places K p z → key_of_record K z ≡ key_of_record K first.record_of → IsUniting K makes xs ys ps' qs' (made ++ p ∷ []) counted
-          both z is_made places z_key =
+          both : (z : R) × Places K p z × makes (Some first.record_of) (Some second.record_of) (Some z) → IsUniting K makes xs ys ps' qs' (made ++ p ∷ []) counted
+          both (z, places, is_made) =
               let ascends_1 = subst (Ascends K) first.is uniting.ascends_1 in
               let ascends_2 = subst (Ascends K) second.is uniting.ascends_2 in
+              let z_key = key_placed p z places ∙ made_of.0 ∙ sym (key_placed g first.record_of first.here) in
               one_more (Some first.record_of) (Some second.record_of) z p first.others second.others ps' qs' (key_of_record K first.record_of) counted first.is second.is refl one_key is_made places z_key
               (subst IsPassedBy first.is uniting.passed_1) first.rest second.rest (ascends_rest first.record_of first.others ascends_1) (ascends_rest second.record_of second.others ascends_2)
               (after_first first.record_of first.others ascends_1) (subst (λ k. ComesAfter k second.others) one_key (after_first second.record_of second.others ascends_2)) counts
-
-          either : ((p ≡ g) × IsChoice K makes g.header h.header First) ⊎ ((p ≡ h) × IsChoice K makes g.header h.header Second) → IsUniting K makes xs ys ps' qs' (made ++ p ∷ []) counted
-          either (inl (is, chosen)) = both first.record_of (chosen first.record_of second.record_of (header_placed g first.record_of first.here) (header_placed h second.record_of second.here))
-              (subst (λ q. Places K q first.record_of) (sym is) first.here) refl
-          either (inr (is, chosen)) = both second.record_of (chosen first.record_of second.record_of (header_placed g first.record_of first.here) (header_placed h second.record_of second.here))
-              (subst (λ q. Places K q second.record_of) (sym is) second.here) one_key
 
       -- nothing is left
       pub uniting_ends : ps ≡ [] → qs ≡ [] → Combines K makes xs ys uniting.zs
@@ -233,17 +227,16 @@ module _ {H R : Type 0} (K : RecordKind H R) (laws : KindLaws K) where
       too_many ps_none qs_none many = inl (uniting.zs, uniting_ends ps_none qs_none, many_rows many)
 
       -- what a call returns that refuses a list with too many rows
-      pub united : ps ≡ [] → qs ≡ [] → {V : Type 0} (items : V → List (PlacedRecord H)) (v : V) → items v ≡ made → (result : Result (Option V) CoreError)
-          → MatchResult result (λ found. (found ≡ Some v) × (rows ≤ 4294967295)) (λ e. IsInvalidShard e × (4294967295 < rows))
-          → MatchResult result (λ found. IfSome found (λ placed. (zs : List R) × PlacesAll K (items placed) zs × Combines K makes xs ys zs × (total_rows K zs ≤ 4294967295)))
+      pub united : ps ≡ [] → qs ≡ [] → {V : Type 0} (items : V → List (PlacedRecord H)) (v : V) → items v ≡ made → (result : Result V CoreError)
+          → MatchResult result (λ found. (found ≡ v) × (rows ≤ 4294967295)) (λ e. IsInvalidShard e × (4294967295 < rows))
+          → MatchResult result (λ placed. (zs : List R) × PlacesAll K (items placed) zs × Combines K makes xs ys zs × (total_rows K zs ≤ 4294967295))
           (λ e. (e ≡ OutOfMemory) ⊎ (IsInvalidShard e × HaveNoListUnion K makes xs ys))
       united ps_none qs_none items v is (Ok found) (found_is, few) =
-          subst (λ o. IfSome o (λ placed. (zs : List R) × PlacesAll K (items placed) zs × Combines K makes xs ys zs × (total_rows K zs ≤ 4294967295))) (sym found_is)
-          (uniting.zs, subst (λ l. PlacesAll K l uniting.zs) (sym is) uniting.places, uniting_ends ps_none qs_none, few_rows few)
+          (uniting.zs, subst (λ l. PlacesAll K l uniting.zs) (sym (ap items found_is ∙ is)) uniting.places, uniting_ends ps_none qs_none, few_rows few)
       united ps_none qs_none items v is (Err e) (invalid, many) = inr (invalid, too_many ps_none qs_none many)
 
       -- two records have no union
-      pub no_record : (g h : PlacedRecord H) (gs hs : List (PlacedRecord H)) → ps ≡ g ∷ gs → qs ≡ h ∷ hs → hash_at K g ≡ hash_at K h → IsChoice K makes g.header h.header Nothing → HaveNoListUnion K makes xs ys
+      pub no_record : (g h : PlacedRecord H) (gs hs : List (PlacedRecord H)) → ps ≡ g ∷ gs → qs ≡ h ∷ hs → hash_at K g ≡ hash_at K h → MakesNothing K makes g h → HaveNoListUnion K makes xs ys
       no_record g h gs hs ps_is qs_is same never =
           let first = first_placed g gs uniting.after_1 (subst (λ l. PlacesAll K l uniting.after_1) ps_is uniting.places_1) in
           let second = first_placed h hs uniting.after_2 (subst (λ l. PlacesAll K l uniting.after_2) qs_is uniting.places_2) in
@@ -255,7 +248,7 @@ module _ {H R : Type 0} (K : RecordKind H R) (laws : KindLaws K) where
             subst (λ rs. Contains rs second.record_of) (sym (uniting.second_is ∙ ap (λ rs. uniting.before_2 ++ rs) second.is))
                 (Contains-append_right uniting.before_2 (second.record_of ∷ second.others) second.record_of (0, omega arith, refl)),
             key_placed g first.record_of first.here ∙ same ∙ sym (key_placed h second.record_of second.here),
-            never first.record_of second.record_of (header_placed g first.record_of first.here) (header_placed h second.record_of second.here),
+            never first.record_of second.record_of first.here second.here,
           )
 
   -- fewer are left
@@ -263,4 +256,4 @@ module _ {H R : Type 0} (K : RecordKind H R) (laws : KindLaws K) where
       → length ps' + length qs' < length ps + length qs
   fewer_left makes ps qs p ps' qs' (takes_first ps_is qs_is before) = omega (arith, ap length ps_is, ap length qs_is)
   fewer_left makes ps qs p ps' qs' (takes_second qs_is ps_is before) = omega (arith, ap length ps_is, ap length qs_is)
-  fewer_left makes ps qs p ps' qs' (takes_both g h ps_is qs_is same which) = omega (arith, ap length ps_is, ap length qs_is)
+  fewer_left makes ps qs p ps' qs' (takes_both g h ps_is qs_is same made) = omega (arith, ap length ps_is, ap length qs_is)

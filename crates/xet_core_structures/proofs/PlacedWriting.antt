@@ -7,6 +7,7 @@ use Rattle.std.proofs.lemmas.List.Sums.{sum_by-append, sum_by-cons}
 use Rattle.xet_base.specs.Source.{Source, Takes, bytes_left}
 use Rattle.xet_base.proofs.Reading.{Takes-consumes}
 use Rattle.xet_records.specs.RecordKind.{RecordKind, KindLaws}
+use Rattle.xet_records.specs.Reading.{ReadsRowsAfter}
 use Rattle.xet_shards.specs.Copying.{CopiesRecord}
 use Rattle.xet_shards.specs.Section.{total_rows, section_bytes}
 use Rattle.xet_core_structures.specs.declared.set_operations.placed.PlacedRecord.{PlacedRecord}
@@ -35,6 +36,21 @@ module _ {H R : Type 0} (K : RecordKind H R) (laws : KindLaws K) where
       (bytes a.stored a.taken.0 a.same_header a.taken.1 ∙ sym (bytes b.stored b.taken.0 b.same_header b.taken.1)) in
       sym a.handed ∙ ap K.handed_out same.0 ∙ b.handed
 
+  -- a record that is read from the rows of one that is placed
+  pub placed_read : (p : PlacedRecord H) (r found : R) → Places K p r → (from to : Source) → p.rows.now ≡ bytes_left from → ReadsRowsAfter K p.header (Takes from to) found → found ≡ r
+  placed_read p r found here from to rows_are read =
+      placed_once p found r (record {
+        header = here.header;
+        rows = record {
+          stored = read.stored;
+          same_header = read.same_header;
+          is_stored = read.is_stored;
+          size = read.size;
+          taken = (bytes_left to, rows_are ∙ Takes-consumes from to (K.bytes_after read.stored) read.taken);
+          handed = read.handed;
+        };
+      }) here
+
   pub writing_start : (rs : List R) (ps : List (PlacedRecord H)) (Written : List R → Type 0) (old : Option (List ℕ)) → PlacesAll K ps rs → Written [] → IsWriting K rs ps Written old old
   writing_start rs ps Written old places written = record { front = []; rest = rs; is = refl; places = places; written = written; bytes = Appends-nil old }
 
@@ -51,19 +67,7 @@ module _ {H R : Type 0} (K : RecordKind H R) (laws : KindLaws K) where
 
     pub writing_on : (from to : Source) (After : List R → Type 0) (new : Option (List ℕ)) → p.rows.now ≡ bytes_left from → CopiesRecord K p.header (Takes from to) old new Before After → IsWriting K rs ps After start new
     writing_on from to After new rows_are copies =
-        let read = copies.read in
-        let found : Places K p copies.found = record {
-          header = first.here.header;
-          rows = record {
-            stored = read.stored;
-            same_header = read.same_header;
-            is_stored = read.is_stored;
-            size = read.size;
-            taken = (bytes_left to, rows_are ∙ Takes-consumes from to (K.bytes_after read.stored) read.taken);
-            handed = read.handed;
-          };
-        } in
-        let same = placed_once p copies.found first.record_of found first.here in
+        let same = placed_read p first.record_of copies.found first.here from to rows_are copies.read in
         record {
           front = writing.front ++ copies.found ∷ [];
           rest = first.others;

@@ -45,7 +45,7 @@ cleared_twice : (rows : List HashRow) → map clear (map clear rows) ≡ map cle
 cleared_twice [] = refl
 cleared_twice (row ∷ rows) = ap (λ xs. clear row ∷ xs) (cleared_twice rows)
 
-handed_twice : (r : MDBFileInfo) → handed_out (handed_out r) ≡ handed_out r
+pub handed_twice : (r : MDBFileInfo) → handed_out (handed_out r) ≡ handed_out r
 handed_twice r = λ i. with_parts r.metadata r.segments (λ part. (ap (map clear) (rows_of-handed r part) ∙ cleared_twice (rows_of part r)) i)
 
 -- a record is handed out as it is if its rows are
@@ -113,7 +113,7 @@ readable_ever : {H R : Type 0} (K : RecordKind H R) (version : FormatVersion) (q
 readable_ever K version q r is = record { keyed = is.keyed; stored = stored_ever K version r is.stored; unchanged = is.unchanged }
 
 -- a mix of two files has rows of either
-mixed_readable : (q : DataHash) (a b : MDBFileInfo) → IsReadableAs file_records q a → IsReadableAs file_records q b → a.metadata.num_entries ≡ b.metadata.num_entries → IsReadableAs file_records q (mixed a b)
+pub mixed_readable : (q : DataHash) (a b : MDBFileInfo) → IsReadableAs file_records q a → IsReadableAs file_records q b → a.metadata.num_entries ≡ b.metadata.num_entries → IsReadableAs file_records q (mixed a b)
 mixed_readable q a b one other counts =
     record {
       keyed = one.keyed;

@@ -38,6 +38,33 @@ second_includes a b r compares is = subst (Compares a b) is compares
 pub neither_includes : (a b : ℕ) (r : SupersetResult) → Compares a b r → r ≡ Neither → (¬ Includes a b) × (¬ Includes b a)
 neither_includes a b r compares is = subst (Compares a b) is compares
 
+-- two files neither of whose flags include the other's
+module _ (g h : FileDataSequenceHeader) (lacks : ¬ Includes g.file_flags h.file_flags) (wants : ¬ Includes h.file_flags g.file_flags) (r s : MDBFileInfo)
+    (r_is : g ≡ r.metadata) (s_is : h ≡ s.metadata) where
+  lacks_all : ¬ Includes r.metadata.file_flags s.metadata.file_flags
+  lacks_all all = lacks (subst (λ p. p) (λ i. Includes (sym r_is i).file_flags (sym s_is i).file_flags) all)
+
+  wants_all : ¬ Includes s.metadata.file_flags r.metadata.file_flags
+  wants_all all = wants (subst (λ p. p) (λ i. Includes (sym s_is i).file_flags (sym r_is i).file_flags) all)
+
+  pub makes_mix : g.num_entries ≡ h.num_entries → IsEitherFile (Some r) (Some s) (Some (mixed r s))
+  makes_mix count = (
+    mixed r s,
+    refl,
+    inr (inr (
+      lacks_all,
+      wants_all,
+      ap (λ (k : FileDataSequenceHeader). k.num_entries) (sym r_is) ∙ count ∙ ap (λ (k : FileDataSequenceHeader). k.num_entries) s_is,
+      refl,
+    )),
+  )
+
+  makes_none : ¬ (g.num_entries ≡ h.num_entries) → (made : Option MDBFileInfo) → ¬ IsEitherFile (Some r) (Some s) made
+  makes_none other made (t, is, inl (all, _)) = lacks_all all
+  makes_none other made (t, is, inr (inl (_, all, _))) = wants_all all
+  makes_none other made (t, is, inr (inr (_, _, count, _))) =
+      other (ap (λ (k : FileDataSequenceHeader). k.num_entries) r_is ∙ count ∙ ap (λ (k : FileDataSequenceHeader). k.num_entries) (sym s_is))
+
 -- what is made of two files, by their headers
 module _ (g h : FileDataSequenceHeader) (old_1 new_1 old_2 new_2 : Source) where
   flags_1 : (r : MDBFileInfo) → ReadsRowsAfter file_records g (Takes old_1 new_1) r → g ≡ r.metadata
@@ -66,36 +93,10 @@ module _ (g h : FileDataSequenceHeader) (old_1 new_1 old_2 new_2 : Source) where
         )),
       )
 
-  module _ (lacks : ¬ Includes g.file_flags h.file_flags) (wants : ¬ Includes h.file_flags g.file_flags) (r s : MDBFileInfo) (read : ReadsRowsAfter file_records g (Takes old_1 new_1) r)
-      (also : ReadsRowsAfter file_records h (Takes old_2 new_2) s) where
-    lacks_all : ¬ Includes r.metadata.file_flags s.metadata.file_flags
-    lacks_all all = lacks (subst (λ p. p) (λ i. Includes (sym (flags_1 r read) i).file_flags (sym (flags_2 s also) i).file_flags) all)
-
-    wants_all : ¬ Includes s.metadata.file_flags r.metadata.file_flags
-    wants_all all = wants (subst (λ p. p) (λ i. Includes (sym (flags_2 s also) i).file_flags (sym (flags_1 r read) i).file_flags) all)
-
-    pub makes_mix : g.num_entries ≡ h.num_entries → IsEitherFile (Some r) (Some s) (Some (mixed r s))
-    makes_mix count = (
-      mixed r s,
-      refl,
-      inr (inr (
-        lacks_all,
-        wants_all,
-        ap (λ (k : FileDataSequenceHeader). k.num_entries) (sym (flags_1 r read)) ∙ count ∙ ap (λ (k : FileDataSequenceHeader). k.num_entries) (flags_2 s also),
-        refl,
-      )),
-    )
-
-    pub makes_none : ¬ (g.num_entries ≡ h.num_entries) → (made : Option MDBFileInfo) → ¬ IsEitherFile (Some r) (Some s) made
-    makes_none other made (t, is, inl (all, _)) = lacks_all all
-    makes_none other made (t, is, inr (inl (_, all, _))) = wants_all all
-    makes_none other made (t, is, inr (inr (_, _, count, _))) =
-        other (ap (λ (k : FileDataSequenceHeader). k.num_entries) (flags_1 r read) ∙ count ∙ ap (λ (k : FileDataSequenceHeader). k.num_entries) (sym (flags_2 s also)))
-
   -- no file is made of both, if their counts differ
   pub cannot_unite : (rows : ℕ) → (¬ Includes g.file_flags h.file_flags) × (¬ Includes h.file_flags g.file_flags) → ¬ (g.num_entries ≡ h.num_entries) → (one other : Option MDBFileInfo)
       → PassesRecord file_records (Some g) old_1 new_1 one → PassesRecord file_records (Some h) old_2 new_2 other → CannotMake file_records IsEitherFile rows one other
-  cannot_unite rows neither counts one other (r, is, read) (s, at, also) = nothing_made r s is at (makes_none neither.0 neither.1 r s read also counts)
+  cannot_unite rows neither counts one other (r, is, read) (s, at, also) = nothing_made r s is at (makes_none g h neither.0 neither.1 r s (flags_1 r read) (flags_2 s also) counts)
 
   -- a mix of both is made
   either_rows : (v : Bool) (xs ys : List HashRow) → length (if v then xs else ys) ≤ length xs + length ys
@@ -132,7 +133,7 @@ module _ (g h : FileDataSequenceHeader) (old_1 new_1 old_2 new_2 : Source) where
       made = Some (mixed mixes.one mixes.other);
       reads_first = (mixes.one, refl, mixes.reads_first);
       reads_second = (mixes.other, refl, mixes.reads_second);
-      is_made = makes_mix neither.0 neither.1 mixes.one mixes.other mixes.reads_first mixes.reads_second count;
+      is_made = makes_mix g h neither.0 neither.1 mixes.one mixes.other (flags_1 mixes.one mixes.reads_first) (flags_2 mixes.other mixes.reads_second) count;
       made_of = mix_of mixes.one mixes.other mixes.reads_first mixes.reads_second;
       few = mixes.few;
       bytes = subst (Appends old new) (sym (append-nil (file_record_bytes (mixed mixes.one mixes.other)))) mixes.bytes;
@@ -145,7 +146,7 @@ module _ (g h : FileDataSequenceHeader) (old_1 new_1 old_2 new_2 : Source) where
             → CannotMake file_records IsEitherFile rows one other
         cannot one other (r, is, read) (s, at, also) many =
             subst (λ p. p) (λ i. CannotMake file_records IsEitherFile rows (sym is i) (sym at i))
-            (too_many_rows (mixed r s) (makes_mix neither.0 neither.1 r s read also count) (mix_of r s read also) (many r s is at))
+            (too_many_rows (mixed r s) (makes_mix g h neither.0 neither.1 r s (flags_1 r read) (flags_2 s also) count) (mix_of r s read also) (many r s is at))
 
   -- the rows of a mix have no room
   module _ (first : IsRecordHeader file_records g) (second : IsRecordHeader file_records h) (hash : g.file_hash ≡ h.file_hash) (count : g.num_entries ≡ h.num_entries) where

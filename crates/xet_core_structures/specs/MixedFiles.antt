@@ -10,7 +10,7 @@ use Rattle.xet_records.specs.declared.file_structs.header.FileDataSequenceHeader
 use Rattle.xet_records.specs.declared.file_structs.MDBFileInfo.{MDBFileInfo}
 use Rattle.xet_records.specs.declared.row_copier.CopyFailure.{CopyFailure}
 use Rattle.xet_records.specs.declared.row_copier.CopyFailure.TheVariants.{Input, Output}
-use Rattle.xet_records.specs.FileRecord.{file_records, file_record_bytes, row_count}
+use Rattle.xet_records.specs.FileRecord.{file_records, file_record_bytes, file_rows_bytes, row_count, size_of_file}
 use Rattle.xet_records.specs.Reading.{ReadsRowsAfter}
 use Rattle.xet_records.specs.Rows.{ReadsRows}
 use Rattle.xet_core_structures.specs.ByteUnion.{mixed}
@@ -28,6 +28,25 @@ pub record WritesMix (first second : FileDataSequenceHeader) (old new : Streams)
   pub few : rows + row_count (mixed one other) ≤ 4294967295
   pub bytes : Appends old.out new.out (file_record_bytes (mixed one other))
   pub written : (front : List MDBFileInfo) → Before front → After (front ++ mixed one other ∷ [])
+
+-- both records were read, and the rows of a mix of them were written, if they have as many
+-- segments; this is the size of the file in bytes
+pub record WritesMixRows (first second : FileDataSequenceHeader) (old new : Streams) (bytes : ℕ)
+    : Type 0 where
+  pub one : MDBFileInfo
+  pub other : MDBFileInfo
+  pub reads_first : ReadsRowsAfter file_records first (Takes old.first new.first) one
+  pub reads_second : ReadsRowsAfter file_records second (Takes old.second new.second) other
+  pub rows : first.num_entries ≡ second.num_entries
+      → Appends old.out new.out (file_rows_bytes (mixed one other))
+  pub size : size_of_file (mixed one other) ≡ bytes
+
+-- the outcome for the rows
+abbrev pub MixesRows : FileDataSequenceHeader → FileDataSequenceHeader → Streams → Streams
+    → Result ℕ CopyFailure → Type 0
+MixesRows first second old new result =
+    MatchResult result (WritesMixRows first second old new)
+    (PairFails file_records (Some first) (Some second) (inputs_of old) (inputs_of new) (λ _ _. ⊥))
 
 -- the mix has too many rows beside those before it
 abbrev pub MixHasNoRoom : ℕ → Option MDBFileInfo → Option MDBFileInfo → Type 0

@@ -12,10 +12,8 @@ use Rattle.xet_shards.specs.InForm.{Ascends}
 use Rattle.xet_shards.specs.Section.{total_rows}
 use Rattle.xet_shards.specs.SectionReading.{TakesSection}
 use Rattle.xet_core_structures.specs.declared.set_operations.placed.PlacedRecord.{PlacedRecord}
-use Rattle.xet_core_structures.specs.declared.set_operations.placed.Choice.{Choice}
-use Rattle.xet_core_structures.specs.declared.set_operations.placed.Choice.TheVariants.{First, Second, Mix as ChosenMix, Nothing as ChosenNothing}
 use Rattle.xet_core_structures.specs.declared.set_operations.placed.Turn.{Turn}
-use Rattle.xet_core_structures.specs.declared.set_operations.placed.Turn.TheVariants.{End, Keep, Mix, Nothing}
+use Rattle.xet_core_structures.specs.declared.set_operations.placed.Turn.TheVariants.{End, Keep, Nothing}
 use Rattle.xet_core_structures.specs.Combining.{key_of_record, Combines}
 use Rattle.xet_core_structures.specs.SideBySide.{IsRecordHeader}
 
@@ -57,34 +55,32 @@ module _ {H R : Type 0} (K : RecordKind H R) where
   IsBefore k (q ∷ qs) = hash_cmp k (hash_at q) ≡ Less
 
   module _ (makes : Option R → Option R → Option R → Type 0) where
-    -- what is made of two records with these headers
-    abbrev pub IsChoice : H → H → Choice → Type 0
-    IsChoice g h First =
-        (r s : R) → K.header_of r ≡ g → K.header_of s ≡ h → makes (Some r) (Some s) (Some r)
-    IsChoice g h Second =
-        (r s : R) → K.header_of r ≡ g → K.header_of s ≡ h → makes (Some r) (Some s) (Some s)
-    IsChoice g h ChosenMix = ⊤
-    IsChoice g h ChosenNothing =
-        (r s : R) → K.header_of r ≡ g → K.header_of s ≡ h → (t : Option R)
-        → ¬ makes (Some r) (Some s) t
+    -- what is made of two records in place is placed too, and nothing is made of them
+    abbrev pub MakesPlaced : PlacedRecord H → PlacedRecord H → PlacedRecord H → Type 0
+    MakesPlaced g h p =
+        (hash_at p ≡ hash_at g)
+        × ((r s : R) → Places g r → Places h s
+        → (t : R) × Places p t × makes (Some r) (Some s) (Some t))
 
-    -- the first of one of two lists is next, or one of the first of both, which have one hash
+    abbrev pub MakesNothing : PlacedRecord H → PlacedRecord H → Type 0
+    MakesNothing g h = (r s : R) → Places g r → Places h s → (t : Option R) → ¬ makes (Some r) (Some s) t
+
+    -- the first of one of two lists is next, or what is made of the first of both, which have one
+    -- hash
     pub data KeepsNext (ps qs : List (PlacedRecord H)) (p : PlacedRecord H)
         (xs ys : List (PlacedRecord H)) : Type 0 where
       takes_first : ps ≡ p ∷ xs → qs ≡ ys → IsBefore (hash_at p) qs → KeepsNext ps qs p xs ys
       takes_second : qs ≡ p ∷ ys → ps ≡ xs → IsBefore (hash_at p) ps → KeepsNext ps qs p xs ys
       takes_both : (g h : PlacedRecord H) → ps ≡ g ∷ xs → qs ≡ h ∷ ys → hash_at g ≡ hash_at h
-          → ((p ≡ g) × IsChoice g.header h.header First)
-          ⊎ ((p ≡ h) × IsChoice g.header h.header Second) → KeepsNext ps qs p xs ys
+          → MakesPlaced g h p → KeepsNext ps qs p xs ys
 
     -- what comes next of the union of two lists, of which these places are reached
     abbrev pub IsTurn : List (PlacedRecord H) → ℕ → List (PlacedRecord H) → ℕ → Turn H → Type 0
     IsTurn ps i qs j End = (drop i ps ≡ []) × (drop j qs ≡ [])
     IsTurn ps i qs j (Keep p n m) = KeepsNext (drop i ps) (drop j qs) p (drop n ps) (drop m qs)
-    IsTurn ps i qs j Mix = ⊤
     IsTurn ps i qs j Nothing =
         (g h : PlacedRecord H) × (gs hs : List (PlacedRecord H)) × (drop i ps ≡ g ∷ gs)
-        × (drop j qs ≡ h ∷ hs) × (hash_at g ≡ hash_at h) × IsChoice g.header h.header ChosenNothing
+        × (drop j qs ≡ h ∷ hs) × (hash_at g ≡ hash_at h) × MakesNothing g h
 
     -- two lists have no union within the rows of a section: it has more rows, or they have records
     -- with one hash that have none

@@ -3,7 +3,7 @@
 ghost use Rattle.std.specs.Prelude.{◌≡◌, ◌≢◌, ◌⊎◌, ◌<◌, ◌≤◌, Some, length, map, slice_get, IsErrAnd, MatchResult, List};
 ghost use Rattle.xet_shards.specs.Shard.{Shard};
 ghost use Rattle.xet_shards.specs.WrittenShard.{IsBytesWithoutExpiry};
-ghost use Rattle.xet_core_structures.specs.ByteResults.{key_of, UnitesBytes, BytesRefusal};
+ghost use Rattle.xet_core_structures.specs.ByteResults.{key_of};
 ghost use Rattle.xet_core_structures.specs.SetOutcomes.{Unites, Subtracts};
 ghost use Rattle.xet_core_structures.specs.Streams.{streams};
 ghost use Rattle.xet_core_structures.specs.MergeTrees.{TreeWrites, TreeRefusal, IsMerge, MergeRefused};
@@ -17,14 +17,14 @@ mod results;
 mod sections;
 
 pub use agreement::{Disagreement, Merged, RecordHash, find_disagreement, merge_agreeing};
+use bumpalo::Bump;
 use parts::{part_bytes, place_tree};
 use record_operation::{OfDifference, OfUnion};
 use results::operate;
 use std::alloc::Global;
 use std::io::Write;
 use xet_base::error::{CoreError, Result};
-use xet_base::source::{MemorySource, ShardSource};
-use xet_records::row_copier::CopyFailure;
+use xet_base::source::ShardSource;
 use xet_shards::shard_format::MDBShardInfo;
 
 /// Writes the union of two shards, each of either version, in version 3: header, sections, lookup
@@ -116,56 +116,14 @@ pub fn shard_union_tree(alloc: Global, plan: &MergePlan, inputs: &[&[u8]]) -> Re
     merge(alloc, plan, inputs)
 }
 
-// The same, without the clause on inputs that agree. No byte is written before the tree is done. If
-// a mix of two files is in it, the bytes of both sides are written, each in this way, and then their
-// union.
-fn merge(alloc: Global, plan: &MergePlan, inputs: &[&[u8]]) -> Result<Vec<u8>>
+// The same, without the clause on inputs that agree. No byte is written before the tree is done. The
+// inputs have one lifetime, since the borrow checker covers no meet of theirs with the arena's.
+fn merge<'a>(alloc: Global, plan: &MergePlan, inputs: &'a [&'a [u8]]) -> Result<Vec<u8>>
     ensures { MatchResult result
         (λ bytes. TreeWrites (map (λ x. x.now) inputs.now) plan.now bytes.items)
         (TreeRefusal (map (λ x. x.now) inputs.now) plan.now) }
 {
-    if let Some(part) = place_tree(alloc, plan, inputs)? {
-        return part_bytes(alloc, part);
-    }
-    match plan {
-        MergePlan::Leaf(index) => copy_input(alloc, inputs, *index),
-        MergePlan::Both(left, right) => {
-            let left = merge(alloc, left, inputs)?;
-            let right = merge(alloc, right, inputs)?;
-            unite_bytes(alloc, &left, &right)
-        }
-    }
-}
-
-// A copy of the input at an index.
-fn copy_input(alloc: Global, inputs: &[&[u8]], index: usize) -> Result<Vec<u8>>
-    ensures { MatchResult result
-        (λ bytes. slice_get (map (λ x. x.now) inputs.now) index ≡ Some bytes.items)
-        (λ e. ((e ≡ CoreError.InvalidArguments) × (length (map (λ x. x.now) inputs.now) ≤ index))
-        ⊎ ((e ≡ CoreError.OutOfMemory) × (index < length (map (λ x. x.now) inputs.now)))) }
-{
-    if index >= inputs.len() {
-        return Err(CoreError::InvalidArguments);
-    }
-    Ok(Vec::from_slice(alloc, inputs[index])?)
-}
-
-// The bytes of the union of two shards.
-fn unite_bytes(alloc: Global, first: &[u8], second: &[u8]) -> Result<Vec<u8>>
-    ensures { MatchResult result (λ bytes. UnitesBytes first.now second.now bytes.items)
-        (BytesRefusal first.now second.now) }
-{
-    let mut r1 = MemorySource::new(first);
-    let mut r2 = MemorySource::new(second);
-    let s1 = MDBShardInfo::load_from_reader(alloc, &mut r1)?;
-    let s2 = MDBShardInfo::load_from_reader(alloc, &mut r2)?;
-    let mut bytes = Vec::new(alloc);
-    match operate::<OfUnion, MemorySource<'_>, MemorySource<'_>, Vec<u8>>(
-        alloc, &s1, &mut r1, &s2, &mut r2, &mut bytes,
-    ) {
-        Ok(_) => Ok(bytes),
-        Err(CopyFailure::Input(error)) => Err(error),
-        // Writing to a vector fails only if it is out of memory.
-        Err(CopyFailure::Output(_)) => Err(CoreError::OutOfMemory),
-    }
+    let arena = Bump::new(alloc);
+    let part = place_tree(alloc, &arena, plan, inputs)?;
+    part_bytes(alloc, part)
 }

@@ -1,12 +1,12 @@
 //! A mix of two records of one file, written as both are read.
 
-ghost use Rattle.std.specs.Prelude.{◌≡◌};
+ghost use Rattle.std.specs.Prelude.{◌≡◌, ◌*◌, ◌≤◌, IfOk};
 ghost use Rattle.xet_records.specs.FileRow.{hash_row, FitsHashRow, clear};
 ghost use Rattle.xet_records.specs.Part.{part_rows};
 ghost use Rattle.xet_records.specs.FileRecord.{file_records};
 ghost use Rattle.xet_shards.specs.Written.{HasWritten};
 ghost use Rattle.xet_core_structures.specs.SideBySide.{IsRecordHeader};
-ghost use Rattle.xet_core_structures.specs.MixedFiles.{MixesFiles, CopiesEither};
+ghost use Rattle.xet_core_structures.specs.MixedFiles.{MixesFiles, MixesRows, CopiesEither};
 ghost use Rattle.xet_core_structures.specs.Streams.{streams};
 
 use super::record_operation::refuse;
@@ -49,15 +49,32 @@ pub fn mix<S: ShardSource, T: ShardSource, W: Write>(
         return refuse::<MDBFileInfo, S, T>(alloc, Some(first), r1, Some(second), r2);
     }
     write_row(&header, out)?;
-    let size = copy_segments::<OfSource, S, W>(r1, out, first.num_entries)?;
-    skip_rows::<FileDataSequenceEntry, OfSource, T>(r2, second.num_entries)?;
-    copy_part::<S, T, W>(&first, r1, &second, r2, OptionalPart::Verification, out)?;
-    copy_part::<S, T, W>(&first, r1, &second, r2, OptionalPart::MetadataExt, out)?;
-    copy_part::<S, T, W>(&first, r1, &second, r2, OptionalPart::AuxExt, out)?;
+    let size = mix_rows::<S, T, W>(&first, r1, &second, r2, out)?;
     match written.add(first.file_hash.word0, rows, size) {
         Ok(()) => Ok(()),
         Err(error) => Err(CopyFailure::Output(error)),
     }
+}
+
+/// Writes the rows after the header of a mix, and returns the size of the file in bytes.
+pub fn mix_rows<S: ShardSource, T: ShardSource, W: Write>(
+    first: &FileDataSequenceHeader,
+    r1: &mut S,
+    second: &FileDataSequenceHeader,
+    r2: &mut T,
+    out: &mut W,
+) -> CopyResult<u64>
+    ensures rows { MixesRows first.now second.now
+        (streams (S.meaning r1.old) (T.meaning r2.old) (W.contents out.old))
+        (streams (S.meaning r1.new) (T.meaning r2.new) (W.contents out.new)) result }
+    ensures bound { IfOk result (λ size. size ≤ 4294967295 * first.now.num_entries) }
+{
+    let size = copy_segments::<OfSource, S, W>(r1, out, first.num_entries)?;
+    skip_rows::<FileDataSequenceEntry, OfSource, T>(r2, second.num_entries)?;
+    copy_part::<S, T, W>(first, r1, second, r2, OptionalPart::Verification, out)?;
+    copy_part::<S, T, W>(first, r1, second, r2, OptionalPart::MetadataExt, out)?;
+    copy_part::<S, T, W>(first, r1, second, r2, OptionalPart::AuxExt, out)?;
+    Ok(size)
 }
 
 // Copies a part of the first, or if it has no such rows, that of the second.

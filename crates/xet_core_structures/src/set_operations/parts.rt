@@ -1,7 +1,7 @@
 //! A tree of unions over inputs in memory. Records stay where they are until the tree is done, and
 //! are written once.
 
-ghost use Rattle.std.specs.Prelude.{◌≡◌, ◌⊎◌, ◌↔◌, ℕ, IsTrue, List, map, IfSome, IfOk, MatchResult};
+ghost use Rattle.std.specs.Prelude.{◌≡◌, ◌⊎◌, ◌↔◌, ℕ, IsTrue, List, map, IfOk, MatchResult};
 ghost use Rattle.std.specs.Io.KnownBytes.{Appends};
 ghost use Rattle.xet_base.specs.declared.error.CoreError.TheVariants.{OutOfMemory};
 ghost use Rattle.xet_base.specs.Errors.{IsInvalidShard};
@@ -17,6 +17,7 @@ use super::MergePlan;
 use super::placed::{PlacedRecord, place_records, unite_placed, write_placed};
 use super::record_operation::OfUnion;
 use super::results::{seek, write_header, write_tables};
+use bumpalo::Bump;
 use std::alloc::Global;
 use std::io::Write;
 use xet_base::error::{CoreError, Result};
@@ -51,15 +52,16 @@ pub enum Opened<'a> {
     United(PlacedShard<'a>),
 }
 
-/// What a tree gives, or `None` if a mix of two files would be in it.
+/// What a tree gives. Records that are in no input are placed in the arena.
 pub fn place_tree<'a>(
     alloc: Global,
+    arena: &'a Bump,
     plan: &MergePlan,
     inputs: &[&'a [u8]],
-) -> Result<Option<Part<'a>>>
+) -> Result<Part<'a>>
     ensures { MatchResult result
-        (λ found. IfSome found (λ part. (bytes : List ℕ)
-        × TreeWrites (map (λ x. x.now) inputs.now) plan.now bytes × IsPart bytes part))
+        (λ part. (bytes : List ℕ) × TreeWrites (map (λ x. x.now) inputs.now) plan.now bytes
+        × IsPart bytes part)
         (TreeRefusal (map (λ x. x.now) inputs.now) plan.now) }
 {
     match plan {
@@ -67,25 +69,25 @@ pub fn place_tree<'a>(
             if *index >= inputs.len() {
                 return Err(CoreError::InvalidArguments);
             }
-            Ok(Some(Part::Input(inputs[*index])))
+            Ok(Part::Input(inputs[*index]))
         }
         MergePlan::Both(left, right) => {
-            let Some(left) = place_tree(alloc, left, inputs)? else {
-                return Ok(None);
-            };
-            let Some(right) = place_tree(alloc, right, inputs)? else {
-                return Ok(None);
-            };
-            unite_parts(alloc, left, right)
+            let one = place_tree(alloc, arena, left, inputs)?;
+            let other = place_tree(alloc, arena, right, inputs)?;
+            unite_parts(alloc, arena, one, other)
         }
     }
 }
 
-// The union of two parts, or `None` if a mix of two files would be in it.
-fn unite_parts<'a>(alloc: Global, left: Part<'a>, right: Part<'a>) -> Result<Option<Part<'a>>>
+// The union of two parts.
+fn unite_parts<'a>(
+    alloc: Global,
+    arena: &'a Bump,
+    left: Part<'a>,
+    right: Part<'a>,
+) -> Result<Part<'a>>
     ensures { (x y : List ℕ) → IsPart x left.entry → IsPart y right.entry → MatchResult result
-        (λ found. IfSome found (λ part. (bytes : List ℕ) × UnitesBytes x y bytes
-        × IsPart bytes part))
+        (λ part. (bytes : List ℕ) × UnitesBytes x y bytes × IsPart bytes part)
         (BytesRefusal x y) }
 {
     let one = open(alloc, left)?;
@@ -97,10 +99,8 @@ fn unite_parts<'a>(alloc: Global, left: Part<'a>, right: Part<'a>) -> Result<Opt
     }
     let first = lists(alloc, one)?;
     let second = lists(alloc, other)?;
-    match unite_lists(alloc, &first, &second)? {
-        Some(shard) => Ok(Some(Part::United(shard))),
-        None => Ok(None),
-    }
+    let shard = unite_lists(alloc, arena, &first, &second)?;
+    Ok(Part::United(shard))
 }
 
 // A part, and the header and the footer if it is an input.
@@ -175,40 +175,36 @@ pub fn place_shard<'a>(
     })
 }
 
-// The union of the records of two shards, or `None` if a mix of two files would be in it.
+// The union of the records of two shards.
 fn unite_lists<'a>(
     alloc: Global,
+    arena: &'a Bump,
     first: &PlacedShard<'a>,
     second: &PlacedShard<'a>,
-) -> Result<Option<PlacedShard<'a>>>
+) -> Result<PlacedShard<'a>>
     ensures { (one other : Records) → MayBeUnited first.now one → MayBeUnited second.now other
         → MatchResult result
-        (λ found. IfSome found (λ shard. (made : Records)
-        × AreCombined IsEitherFile IsEitherXorb one other made × PlacesRecords shard made
-        × (shard.key ≡ first.now.key)))
+        (λ shard. (made : Records) × AreCombined IsEitherFile IsEitherXorb one other made
+        × PlacesRecords shard made × (shard.key ≡ first.now.key))
         (λ e. (e ≡ OutOfMemory) ⊎ (IsInvalidShard e × HaveNoRecordUnion one other)) }
 {
     let files = unite_placed::<MDBFileInfo, OfUnion>(
         alloc,
+        arena,
         first.files.as_slice(),
         second.files.as_slice(),
     )?;
-    let Some(files) = files else {
-        return Ok(None);
-    };
     let xorbs = unite_placed::<MDBXorbInfo, OfUnion>(
         alloc,
+        arena,
         first.xorbs.as_slice(),
         second.xorbs.as_slice(),
     )?;
-    let Some(xorbs) = xorbs else {
-        return Ok(None);
-    };
-    Ok(Some(PlacedShard {
+    Ok(PlacedShard {
         key: first.key,
         files,
         xorbs,
-    }))
+    })
 }
 
 /// The bytes of a part.

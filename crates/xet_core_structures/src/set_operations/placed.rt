@@ -1,18 +1,22 @@
 //! Records of sections in memory that stay where they are: reading a section as a list of them,
 //! uniting two lists, and writing one.
 
-ghost use Rattle.std.specs.Prelude.{◌≡◌, ◌⊎◌, ◌+◌, ◌<◌, ◌≤◌, ℕ, List, drop, Option, None, Some, IfSome, MatchResult, IfOk};
+ghost use Rattle.std.specs.Prelude.{◌≡◌, ◌⊎◌, ◌+◌, ◌<◌, ◌≤◌, ℕ, List, drop, Option, None, Some, MatchOption, MatchResult, IfOk};
 ghost use Rattle.std.specs.Io.KnownBytes.{Appends};
 ghost use Rattle.xet_base.specs.declared.error.CoreError.TheVariants.{OutOfMemory};
 ghost use Rattle.xet_base.specs.Errors.{IsInvalidShard};
+ghost use Rattle.xet_records.specs.FileRecord.{file_records, file_rows_bytes};
+ghost use Rattle.xet_records.specs.Merging.{mixed_header};
 ghost use Rattle.xet_shards.specs.Section.{total_rows, section_bytes};
 ghost use Rattle.xet_core_structures.specs.SideBySide.{TakesNoAscending};
 ghost use Rattle.xet_core_structures.specs.Combining.{Combines};
-ghost use Rattle.xet_core_structures.specs.ByteUnion.{IsEitherFile, IsEitherXorb};
-ghost use Rattle.xet_core_structures.specs.Placed.{PlacesAll, TakesPlaced, IsChoice, IsTurn, HaveNoListUnion, MayUnite, CountsRows};
+ghost use Rattle.xet_core_structures.specs.ByteUnion.{mixed, IsEitherFile, IsEitherXorb};
+ghost use Rattle.xet_core_structures.specs.Placed.{Places, PlacesAll, TakesPlaced, MakesPlaced, MakesNothing, IsTurn, HaveNoListUnion, MayUnite, CountsRows};
 
+use super::mix::mix_rows;
 use super::record_operation::OfUnion;
 use super::sections::{next_header, write_bookend};
+use bumpalo::Bump;
 use std::alloc::Global;
 use std::cmp::Ordering;
 use std::io::Write;
@@ -72,24 +76,24 @@ fn bytes_from(bytes: &[u8], offset: u64) -> &[u8]
     &bytes[offset as usize..]
 }
 
-/// What a union has of two records with one hash, by their headers: one of them, a mix of both, or
-/// nothing, since they have none.
-#[derive(Clone, Copy)]
-pub enum Choice {
-    First,
-    Second,
-    Mix,
-    Nothing,
-}
-
 /// A union of lists of records.
 pub trait PlacedUnion<R: SectionRecord> {
     // what is made of the records with one hash, where each list may have one
     ghost makes: { Option R → Option R → Option R → Type 0 };
 
-    /// What is made of two records with one hash.
-    fn choose(first: &R::Header, second: &R::Header) -> Choice
-        ensures { IsChoice R.kind makes first.now second.now result };
+    /// What is made of two records with one hash, or `None` if they have no union. A record that is
+    /// in neither list is placed in the arena.
+    fn make<'a>(
+        alloc: Global,
+        arena: &'a Bump,
+        first: &PlacedRecord<'a, R::Header>,
+        second: &PlacedRecord<'a, R::Header>,
+    ) -> Result<Option<PlacedRecord<'a, R::Header>>>
+        requires { R.kind.hash_of first.now.header ≡ R.kind.hash_of second.now.header }
+        ensures { MatchResult result
+            (λ made. MatchOption made (MakesNothing R.kind makes first.now second.now)
+            (MakesPlaced R.kind makes first.now second.now))
+            (λ e. e ≡ OutOfMemory) };
 
     ghost makes_nothing: { makes None None None };
 
@@ -103,15 +107,20 @@ impl PlacedUnion<MDBFileInfo> for OfUnion {
 
     ghost makes = { IsEitherFile };
 
-    fn choose(first: &FileDataSequenceHeader, second: &FileDataSequenceHeader) -> Choice {
-        match FileDataSequenceHeader::compare_flag_superset(first, second) {
-            SupersetResult::Equal | SupersetResult::SuperA => Choice::First,
-            SupersetResult::SuperB => Choice::Second,
+    fn make<'a>(
+        alloc: Global,
+        arena: &'a Bump,
+        first: &PlacedRecord<'a, FileDataSequenceHeader>,
+        second: &PlacedRecord<'a, FileDataSequenceHeader>,
+    ) -> Result<Option<PlacedRecord<'a, FileDataSequenceHeader>>> {
+        match FileDataSequenceHeader::compare_flag_superset(&first.header, &second.header) {
+            SupersetResult::Equal | SupersetResult::SuperA => Ok(Some(copied(first))),
+            SupersetResult::SuperB => Ok(Some(copied(second))),
             SupersetResult::Neither => {
-                if first.num_entries != second.num_entries {
-                    return Choice::Nothing;
+                if first.header.num_entries != second.header.num_entries {
+                    return Ok(None);
                 }
-                Choice::Mix
+                Ok(Some(place_mix(alloc, arena, first, second)?))
             }
         }
     }
@@ -123,13 +132,67 @@ impl PlacedUnion<MDBFileInfo> for OfUnion {
     ghost makes_second = { λ r. refl };
 }
 
+// A mix of two files, whose rows are written to the arena.
+fn place_mix<'a>(
+    alloc: Global,
+    arena: &'a Bump,
+    first: &PlacedRecord<'a, FileDataSequenceHeader>,
+    second: &PlacedRecord<'a, FileDataSequenceHeader>,
+) -> Result<PlacedRecord<'a, FileDataSequenceHeader>>
+    requires hash { first.now.header.file_hash ≡ second.now.header.file_hash }
+    requires count { first.now.header.num_entries ≡ second.now.header.num_entries }
+    ensures { MatchResult result
+        (λ placed. (placed.header ≡ mixed_header first.now.header second.now.header)
+        × ((r s : MDBFileInfo) → Places file_records first.now r
+        → Places file_records second.now s → Places file_records placed (mixed r s)))
+        (λ e. e ≡ OutOfMemory) }
+{
+    let header = first.header.mixed(&second.header);
+    let bytes = mixed_rows(alloc, first, second)?;
+    let rows = arena.try_alloc_slice_copy(bytes.as_slice())?;
+    Ok(PlacedRecord { header, rows })
+}
+
+// The rows of a mix of two files. They are there to be read, and writing to a vector fails only if
+// it is out of memory.
+fn mixed_rows(
+    alloc: Global,
+    first: &PlacedRecord<'_, FileDataSequenceHeader>,
+    second: &PlacedRecord<'_, FileDataSequenceHeader>,
+) -> Result<Vec<u8>>
+    requires { first.now.header.num_entries ≡ second.now.header.num_entries }
+    ensures { MatchResult result
+        (λ bytes. (r s : MDBFileInfo) → Places file_records first.now r
+        → Places file_records second.now s → bytes.items ≡ file_rows_bytes (mixed r s))
+        (λ e. e ≡ OutOfMemory) }
+{
+    let mut r1 = MemorySource::new(first.rows);
+    let mut r2 = MemorySource::new(second.rows);
+    let mut bytes = Vec::new(alloc);
+    match mix_rows::<MemorySource<'_>, MemorySource<'_>, Vec<u8>>(
+        &first.header,
+        &mut r1,
+        &second.header,
+        &mut r2,
+        &mut bytes,
+    ) {
+        Ok(_) => Ok(bytes),
+        Err(_) => Err(CoreError::OutOfMemory),
+    }
+}
+
 impl PlacedUnion<MDBXorbInfo> for OfUnion {
     ghost use Rattle.std.specs.Prelude.{refl};
 
     ghost makes = { IsEitherXorb };
 
-    fn choose(_first: &XorbChunkSequenceHeader, _second: &XorbChunkSequenceHeader) -> Choice {
-        Choice::First
+    fn make<'a>(
+        _alloc: Global,
+        _arena: &'a Bump,
+        first: &PlacedRecord<'a, XorbChunkSequenceHeader>,
+        _second: &PlacedRecord<'a, XorbChunkSequenceHeader>,
+    ) -> Result<Option<PlacedRecord<'a, XorbChunkSequenceHeader>>> {
+        Ok(Some(copied(first)))
     }
 
     ghost makes_nothing = { refl };
@@ -140,26 +203,26 @@ impl PlacedUnion<MDBXorbInfo> for OfUnion {
 }
 
 /// What comes next of the union of two lists: the end; a record, and the places in both lists from
-/// which on they are left; a mix of two records; or nothing, since two records have no union.
+/// which on they are left; or nothing, since two records have no union.
 #[derive(Clone, Copy)]
 pub enum Turn<'a, H> {
     End,
     Keep(PlacedRecord<'a, H>, usize, usize),
-    Mix,
     Nothing,
 }
 
-/// The union of two lists whose hashes strictly ascend, or `None` if a mix of two records would be
-/// in it. `InvalidShard` if two records have no union, or the rows pass 4294967295.
+/// The union of two lists whose hashes strictly ascend. `InvalidShard` if two records have no union,
+/// or the rows pass 4294967295.
 pub fn unite_placed<'a, R: SectionRecord, U: PlacedUnion<R>>(
     alloc: Global,
+    arena: &'a Bump,
     first: &[PlacedRecord<'a, R::Header>],
     second: &[PlacedRecord<'a, R::Header>],
-) -> Result<Option<Vec<PlacedRecord<'a, R::Header>>>>
+) -> Result<Vec<PlacedRecord<'a, R::Header>>>
     ensures { (xs ys : List R) → MayUnite R.kind first.now xs → MayUnite R.kind second.now ys
         → MatchResult result
-        (λ made. IfSome made (λ placed. (zs : List R) × PlacesAll R.kind placed.items zs
-        × Combines R.kind U.makes xs ys zs × (total_rows R.kind zs ≤ 4294967295)))
+        (λ placed. (zs : List R) × PlacesAll R.kind placed.items zs
+        × Combines R.kind U.makes xs ys zs × (total_rows R.kind zs ≤ 4294967295))
         (λ e. (e ≡ OutOfMemory) ⊎ (IsInvalidShard e × HaveNoListUnion R.kind U.makes xs ys)) }
 {
     R::laws();
@@ -168,17 +231,14 @@ pub fn unite_placed<'a, R: SectionRecord, U: PlacedUnion<R>>(
     let mut at_1 = 0;
     let mut at_2 = 0;
     loop {
-        match next_turn::<R, U>(first, at_1, second, at_2) {
+        match next_turn::<R, U>(alloc, arena, first, at_1, second, at_2)? {
             Turn::End => return fitting::<R::Header>(alloc, made, count),
             Turn::Keep(record, next_1, next_2) => {
-                let header = record.header;
-                let rows = record.rows;
-                count = add_rows(count, 1 + R::rows_after(&header));
-                made.push(PlacedRecord { header, rows })?;
+                count = add_rows(count, 1 + R::rows_after(&record.header));
+                made.push(record)?;
                 at_1 = next_1;
                 at_2 = next_2;
             }
-            Turn::Mix => return Ok(None),
             Turn::Nothing => return Err(CoreError::InvalidShard(String::new(alloc))),
         }
     }
@@ -186,33 +246,34 @@ pub fn unite_placed<'a, R: SectionRecord, U: PlacedUnion<R>>(
 
 // What comes next of the union of two lists, of which these places are reached.
 fn next_turn<'a, R: SectionRecord, U: PlacedUnion<R>>(
+    alloc: Global,
+    arena: &'a Bump,
     first: &[PlacedRecord<'a, R::Header>],
     at_1: usize,
     second: &[PlacedRecord<'a, R::Header>],
     at_2: usize,
-) -> Turn<'a, R::Header>
-    ensures { IsTurn R.kind U.makes first.now at_1 second.now at_2 result }
+) -> Result<Turn<'a, R::Header>>
+    ensures { MatchResult result (IsTurn R.kind U.makes first.now at_1 second.now at_2)
+        (λ e. e ≡ OutOfMemory) }
 {
     if at_1 >= first.len() {
         if at_2 >= second.len() {
-            return Turn::End;
+            return Ok(Turn::End);
         }
         let other = &second[at_2];
-        return Turn::Keep(copied(other), at_1, at_2 + 1);
+        return Ok(Turn::Keep(copied(other), at_1, at_2 + 1));
     }
     let one = &first[at_1];
     if at_2 >= second.len() {
-        return Turn::Keep(copied(one), at_1 + 1, at_2);
+        return Ok(Turn::Keep(copied(one), at_1 + 1, at_2));
     }
     let other = &second[at_2];
     match R::hash(&one.header).cmp(&R::hash(&other.header)) {
-        Ordering::Less => Turn::Keep(copied(one), at_1 + 1, at_2),
-        Ordering::Greater => Turn::Keep(copied(other), at_1, at_2 + 1),
-        Ordering::Equal => match U::choose(&one.header, &other.header) {
-            Choice::First => Turn::Keep(copied(one), at_1 + 1, at_2 + 1),
-            Choice::Second => Turn::Keep(copied(other), at_1 + 1, at_2 + 1),
-            Choice::Mix => Turn::Mix,
-            Choice::Nothing => Turn::Nothing,
+        Ordering::Less => Ok(Turn::Keep(copied(one), at_1 + 1, at_2)),
+        Ordering::Greater => Ok(Turn::Keep(copied(other), at_1, at_2 + 1)),
+        Ordering::Equal => match U::make(alloc, arena, one, other)? {
+            Some(made) => Ok(Turn::Keep(made, at_1 + 1, at_2 + 1)),
+            None => Ok(Turn::Nothing),
         },
     }
 }
@@ -242,14 +303,14 @@ fn fitting<'a, H: Copy>(
     alloc: Global,
     made: Vec<PlacedRecord<'a, H>>,
     rows: u64,
-) -> Result<Option<Vec<PlacedRecord<'a, H>>>>
-    ensures { MatchResult result (λ found. (found ≡ Some made.entry) × (rows ≤ 4294967295))
+) -> Result<Vec<PlacedRecord<'a, H>>>
+    ensures { MatchResult result (λ found. (found ≡ made.entry) × (rows ≤ 4294967295))
         (λ e. IsInvalidShard e × (4294967295 < rows)) }
 {
     if rows > u64::from(u32::MAX) {
         return Err(CoreError::InvalidShard(String::new(alloc)));
     }
-    Ok(Some(made))
+    Ok(made)
 }
 
 /// Writes a section of the records of a list.

@@ -1,16 +1,13 @@
-use Rattle.std.proofs.Common.{[], Some, ◌+◌, ◌<◌, ◌++◌, flat_map, true≢false, refl, sym, ap, ◌∙◌, subst, arith}
+use Rattle.std.proofs.Common.{Some, ◌+◌, ◌<◌, true≢false, sym, ap, ◌∙◌, subst}
 use Rattle.std.specs.Io.KnownBytes.{Appends}
 use Rattle.std.proofs.Math.Nat.{lt_of_not-le}
-use Rattle.std.proofs.lemmas.List.{length-append}
 use Rattle.std.proofs.lemmas.Result.{err_from_is_err_and}
-use Rattle.xet_base.specs.InputLaws.{Takes-nil, Takes-trans}
 use Rattle.xet_records.specs.FileRecord.{file_records, rows_after}
-use Rattle.xet_records.specs.FileRow.{header_row, segment_row, hash_row}
-use Rattle.xet_core_structures.specs.MixedFiles.EitherFails.{second_fails}
-use Rattle.xet_core_structures.proofs.Mixing.{first_not_copied}
-use Rattle.xet_core_structures.proofs.MixWriting.{part_fails, no_output, not_added, mix_written}
-use Rattle.xet_core_structures.proofs.Pairs.{refused_so}
-use Rattle.xet_core_structures.proofs.OneSection.{taken_serves, serves_on, serves_same}
+use Rattle.xet_records.specs.FileRow.{header_row}
+use Rattle.xet_core_structures.specs.MixedFiles.{MixHasNoRoom}
+use Rattle.xet_core_structures.proofs.MixWriting.{no_output, not_added, mix_written}
+use Rattle.xet_core_structures.proofs.OneSection.{taken_serves}
+use Rattle.xet_core_structures.proofs.Pairs.{fails_so, refused_so}
 use Rattle.xet_core_structures.proofs.UnitedFiles.{mix_rows}
 use Rattle.xet_core_structures.proofs.set_operations.mix.mix.Goals as goal
 
@@ -21,89 +18,13 @@ returns-in_err-write_row g c =
 
 pub returns-in_err-size : goal.returns-in_err-size
 returns-in_err-size g c =
-    let one = g.S.ShardSource.meaning in
-    let two = g.T.ShardSource.meaning in
     let p = err_from_is_err_and c.from_residual-in_err-size.result c.from_residual-in_err-size.ensures.1 in
-    rw (p.1, p.2) (part_fails c.args.first c.args.second _ _ (one c.args.r1.now) _ _ (two c.args.r2.now) _ [] [] c.args.first.num_entries 0 _ (Takes-nil _) (Takes-nil _) (omega arith) (omega arith)
-    (first_not_copied one c.args.r1.now c.copy_segments.new.input _ _ _ _ c.in_err-size.ensures.copied))
-
-pub returns-in_err-skip_rows : goal.returns-in_err-skip_rows
-returns-in_err-skip_rows g c =
-    let two = g.T.ShardSource.meaning in
-    let s = c.in_ok-size.ensures.copied.1.read in
-    let p = err_from_is_err_and c.from_residual-in_err-skip_rows.result c.from_residual-in_err-skip_rows.ensures.1 in
-    rw (p.1, p.2) (part_fails c.args.first c.args.second _ _ (g.S.ShardSource.meaning c.copy_segments.new.input) _ _ (two c.args.r2.now) _ (flat_map segment_row s.stored) [] 0 c.args.second.num_entries _
-    s.taken (Takes-nil _) (omega (arith, s.size)) (omega arith) (second_fails _ refl c.in_err-skip_rows.ensures (serves_same _ _ refl)))
-
-pub returns-in_err-copy_part : goal.returns-in_err-copy_part
-returns-in_err-copy_part g c =
-    let s = c.in_ok-size.ensures.copied.1.read in
-    let t = c.in_ok-skip_rows.ensures.1 in
-    let p = err_from_is_err_and c.from_residual-in_err-copy_part.result c.from_residual-in_err-copy_part.ensures.1 in
-    rw (p.1, p.2) (part_fails c.args.first c.args.second _ _ (g.S.ShardSource.meaning c.copy_segments.new.input) _ _ (g.T.ShardSource.meaning c.skip_rows.new.input) _
-    (flat_map segment_row s.stored) (flat_map segment_row t.stored) _ _ _ s.taken t.taken
-    (omega (arith, s.size)) (omega (arith, t.size)) c.in_err-copy_part.ensures)
-
-pub returns-in_err-copy_part-2 : goal.returns-in_err-copy_part-2
-returns-in_err-copy_part-2 g c =
-    let s = c.in_ok-size.ensures.copied.1.read in
-    let t = c.in_ok-skip_rows.ensures.1 in
-    let v = c.in_ok-copy_part.ensures in
-    let p = err_from_is_err_and c.from_residual-in_err-copy_part-2.result c.from_residual-in_err-copy_part-2.ensures.1 in
-    rw (p.1, p.2) (part_fails c.args.first c.args.second _ _ (g.S.ShardSource.meaning c.copy_part.new.r1) _ _ (g.T.ShardSource.meaning c.copy_part.new.r2) _
-    (flat_map segment_row s.stored ++ flat_map hash_row v.first.stored) (flat_map segment_row t.stored ++ flat_map hash_row v.second.stored) _ _ _
-    (Takes-trans _ (g.S.ShardSource.meaning c.copy_segments.new.input) _ _ _ s.taken v.first.taken) (Takes-trans _ (g.T.ShardSource.meaning c.skip_rows.new.input) _ _ _ t.taken v.second.taken)
-    (omega (arith, length-append (flat_map segment_row s.stored) (flat_map hash_row v.first.stored), s.size, v.first.size))
-    (omega (arith, length-append (flat_map segment_row t.stored) (flat_map hash_row v.second.stored), t.size, v.second.size))
-    c.in_err-copy_part-2.ensures)
-
-pub returns-in_err-copy_part-3 : goal.returns-in_err-copy_part-3
-returns-in_err-copy_part-3 g c =
-    let s = c.in_ok-size.ensures.copied.1.read in
-    let t = c.in_ok-skip_rows.ensures.1 in
-    let v = c.in_ok-copy_part.ensures in
-    let m = c.in_ok-copy_part-2.ensures in
-    let one = g.S.ShardSource.meaning in
-    let two = g.T.ShardSource.meaning in
-    let p = err_from_is_err_and c.from_residual-in_err-copy_part-3.result c.from_residual-in_err-copy_part-3.ensures.1 in
-    rw (p.1, p.2) (part_fails c.args.first c.args.second _ _ (one c.copy_part-2.new.r1) _ _ (two c.copy_part-2.new.r2) _
-    ((flat_map segment_row s.stored ++ flat_map hash_row v.first.stored) ++ flat_map hash_row m.first.stored)
-    ((flat_map segment_row t.stored ++ flat_map hash_row v.second.stored) ++ flat_map hash_row m.second.stored) _ _ _
-    (Takes-trans _ (one c.copy_part.new.r1) _ _ _ (Takes-trans _ (one c.copy_segments.new.input) _ _ _ s.taken v.first.taken) m.first.taken)
-    (Takes-trans _ (two c.copy_part.new.r2) _ _ _ (Takes-trans _ (two c.skip_rows.new.input) _ _ _ t.taken v.second.taken) m.second.taken)
-    (omega (
-      arith,
-      length-append (flat_map segment_row s.stored ++ flat_map hash_row v.first.stored) (flat_map hash_row m.first.stored),
-      length-append (flat_map segment_row s.stored) (flat_map hash_row v.first.stored),
-      s.size,
-      v.first.size,
-      m.first.size,
-    ))
-    (omega (
-      arith,
-      length-append (flat_map segment_row t.stored ++ flat_map hash_row v.second.stored) (flat_map hash_row m.second.stored),
-      length-append (flat_map segment_row t.stored) (flat_map hash_row v.second.stored),
-      t.size,
-      v.second.size,
-      m.second.size,
-    ))
-    c.in_err-copy_part-3.ensures)
+    rw (p.1, p.2) (fails_so file_records (Some c.args.first) (Some c.args.second) _ _ (λ _ _. ⊥) (MixHasNoRoom c.args.written.now.table.rows) (λ one other _ _ never. absurd never) _ c.in_err-size.ensures.rows)
 
 pub returns-in-Err : goal.returns-in-Err
 returns-in-Err g c =
-    let s = c.in_ok-size.ensures.copied.1.read in
-    let t = c.in_ok-skip_rows.ensures.1 in
-    let v = c.in_ok-copy_part.ensures in
-    let m = c.in_ok-copy_part-2.ensures in
-    let x = c.in_ok-copy_part-3.ensures in
-    let one = g.S.ShardSource.meaning in
-    let two = g.T.ShardSource.meaning in
-    not_added c.args.first c.args.second _ _ (one c.copy_part-3.new.r1) _ (two c.copy_part-3.new.r2) _
-    (serves_on _ (one c.copy_segments.new.input) _ (taken_serves _ _ _ s.taken) (serves_on _ (one c.copy_part.new.r1) _ (taken_serves _ _ _ v.first.taken)
-    (serves_on _ (one c.copy_part-2.new.r1) _ (taken_serves _ _ _ m.first.taken) (taken_serves _ _ _ x.first.taken))))
-    (serves_on _ (two c.skip_rows.new.input) _ (taken_serves _ _ _ t.taken) (serves_on _ (two c.copy_part.new.r2) _ (taken_serves _ _ _ v.second.taken)
-    (serves_on _ (two c.copy_part-2.new.r2) _ (taken_serves _ _ _ m.second.taken) (taken_serves _ _ _ x.second.taken))))
-    c.in-Err.ensures.causes
+    let mixed = c.in_ok-size.ensures.rows in
+    not_added c.args.first c.args.second _ _ _ _ _ _ (taken_serves _ _ _ mixed.reads_first.taken) (taken_serves _ _ _ mixed.reads_second.taken) c.in-Err.ensures.causes
 
 pub returns-then-not-has_room : goal.returns-then-not-has_room
 returns-then-not-has_room g c =
@@ -115,15 +36,10 @@ returns-then-not-has_room g c =
 
 pub returns-in-Ok : goal.returns-in-Ok
 returns-in-Ok g c =
-    let one = g.S.ShardSource.meaning in
-    let two = g.T.ShardSource.meaning in
     let contents = g.W.Write.contents in
     let room = c.has_room.ensures.0 c.if-not-has_room.false in
-    mix_written c.args.first c.args.second (one c.args.r1.now) (one c.copy_segments.new.input) (one c.copy_part.new.r1) (one c.copy_part-2.new.r1) (one c.copy_part-3.new.r1)
-    (two c.args.r2.now) (two c.skip_rows.new.input) (two c.copy_part.new.r2) (two c.copy_part-2.new.r2) (two c.copy_part-3.new.r2)
-    (contents c.args.out.now) (contents c.write_row.new.writer) (contents c.copy_segments.new.writer) (contents c.copy_part.new.out) (contents c.copy_part-2.new.out) (contents c.copy_part-3.new.out)
-    c.in_ok-size.ensures.copied.0 c.in_ok-skip_rows.ensures.0 c.in_ok-size.size c.args.written.now.table.rows (1 + c.rows_after-rows.result) c.args.written.now c.add.new.self
+    mix_written c.args.first c.args.second _ _ (contents c.args.out.now) (contents c.write_row.new.writer) (contents c.mix_rows.new.out)
+    c.in_ok-size.size c.args.written.now.table.rows (1 + c.rows_after-rows.result) c.args.written.now c.add.new.self
     c.requires.first c.requires.second c.requires.hash c.requires.count (ap (λ n. 1 + n) (c.rows_after-rows.ensures.rows ∙ ap rows_after c.mixed-header.ensures)) room
     (subst (λ h. Appends (contents c.args.out.now) (contents c.write_row.new.writer) (header_row h)) c.mixed-header.ensures c.in_ok-write_row.ensures.appended)
-    c.in_ok-size.ensures.copied.1 c.in_ok-size.ensures.copied.2 c.in_ok-skip_rows.ensures.1 c.in_ok-copy_part.ensures
-    c.in_ok-copy_part-2.ensures c.in_ok-copy_part-3.ensures c.in-Ok.ensures.written
+    c.in_ok-size.ensures.rows c.in-Ok.ensures.written

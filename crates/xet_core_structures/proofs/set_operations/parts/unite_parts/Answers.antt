@@ -1,8 +1,6 @@
-use Rattle.std.proofs.Common.{◌≡◌, inl, inr, IfSome, refl, sym, ◌∙◌, subst, true≢false}
+use Rattle.std.proofs.Common.{◌≡◌, inl, inr, refl, sym, ◌∙◌, true≢false}
 use Rattle.std.proofs.lemmas.Result.{err_from_is_err_and}
-use Rattle.xet_core_structures.specs.ByteUnion.{IsEitherFile, IsEitherXorb}
-use Rattle.xet_core_structures.specs.ByteResults.{key_of, Records, AreCombined}
-use Rattle.xet_core_structures.specs.Parts.{PlacesRecords}
+use Rattle.xet_core_structures.specs.ByteResults.{key_of}
 use Rattle.xet_core_structures.proofs.Parts.{first_refused, second_refused, may_be_united, lists_refused, shards_united}
 use Rattle.xet_core_structures.proofs.set_operations.parts.unite_parts.Goals as goal
 
@@ -63,18 +61,15 @@ returns-in_err-shard c = λ x y left right.
       ),
     )))
 
-pub returns-in-Some : goal.returns-in-Some
-returns-in-Some c = λ x y left right.
+pub returns : goal.returns
+returns c = λ x y left right.
     let one = c.in_ok-one.ensures x left in
     let other = c.in_ok-other.ensures y right in
     let equal : c.key-first_key.result ≡ c.key-second_key.result = c.are_equal.ensures.0 c.if-not-are_equal.false in
     let same : key_of one.0 ≡ key_of other.0 = sym (c.key-first_key.ensures x one.0 one.2) ∙ equal ∙ c.key-second_key.ensures y other.0 other.2 in
     let first = c.in_ok-first.ensures x one.0 one.2 in
     let second = c.in_ok-second.ensures y other.0 other.2 in
-    let found = subst
-    (λ o. IfSome o (λ shard. (made : Records) × AreCombined IsEitherFile IsEitherXorb first.records second.records made × PlacesRecords shard made × (shard.key ≡ c.in_ok-first.first.key)))
-    c.in-Some.is
-    (c.in_ok-shard.ensures first.records second.records (may_be_united x one.0 c.in_ok-first.first first) (may_be_united y other.0 c.in_ok-second.second second)) in
+    let found = c.in_ok-shard.ensures first.records second.records (may_be_united x one.0 c.in_ok-first.first first) (may_be_united y other.0 c.in_ok-second.second second) in
     let united = shards_united x one.0 y other.0 one.1 other.1 first.records second.records found.0 (record { same_key = same; first = first.lists; second = second.lists }) found.1
-    c.in-Some.shard found.2 (found.3 ∙ first.key) in
+    c.in_ok-shard.shard found.2 (found.3 ∙ first.key) in
     (united.0, united.1, (united.2, united.3))
