@@ -134,9 +134,11 @@ fn obstacle_in(findings: &[Finding]) -> Option<Finding>
     ensures { MatchOption result (All (λ f. ¬ KeepsFrom f) findings.now)
         (λ f. Contains findings.now f × KeepsFrom f) }
 {
-    let obstacle = findings.iter().find(|finding: &&Finding| -> bool
-        ensures { IsTrue result ↔ KeepsFrom finding.now.now }
-    { keeps_from(finding) });
+    let obstacle = findings.iter().find(
+        |finding: &&Finding| -> bool
+            ensures { IsTrue result ↔ KeepsFrom finding.now.now }
+        { keeps_from(finding) },
+    );
     obstacle.copied()
 }
 
