@@ -8,6 +8,7 @@ pub mod Equalities
 pub mod ExportTrees
 pub mod Handed
 pub mod Held
+pub mod InMemory
 pub mod ListMaps
 pub mod Lists
 pub mod LookupsFound

@@ -1,5 +1,5 @@
 -- Both sections of an input in memory are read as lists of records that stay where they are.
-use Rattle.std.proofs.Common.{◌≡◌, inl, inr, ℕ, List, None, drop, sym, ap, ◌∙◌, subst, arith}
+use Rattle.std.proofs.Common.{◌≡◌, inl, inr, ℕ, List, drop, sym, ap, ◌∙◌, subst, arith}
 use Rattle.xet_base.specs.declared.error.CoreError.{CoreError}
 use Rattle.xet_base.specs.declared.source.MemorySource.{MemorySource}
 use Rattle.xet_base.specs.Source.{Source, FailedBy, moved, bytes_left}
@@ -20,13 +20,10 @@ use Rattle.xet_core_structures.specs.Parts.{PlacesShard, SectionsRefusal}
 use Rattle.xet_core_structures.specs.Placed.{PlacesAll, TakesPlaced}
 use Rattle.xet_core_structures.specs.SideBySide.{SectionRefusal, TakesNoAscending}
 use Rattle.xet_core_structures.proofs.Held.{stored_ascend}
+use Rattle.xet_core_structures.proofs.InMemory.{in_memory}
 use Rattle.xet_core_structures.proofs.Lists.{lists_read}
 use Rattle.xet_core_structures.proofs.Parts.{xorbs_refused}
 use Rattle.xet_core_structures.proofs.Results.{section_serves}
-
--- what a source in memory is
-abbrev pub in_memory : MemorySource → Source
-in_memory m = record { bytes = m.bytes.now; at = m.at; seeks = m.seeks.value; read = m.read.value; failures = 0; last_failure = None }
 
 module _ (bytes : List ℕ) (info : MDBShardInfo) (start there mid : MemorySource) (files : List (PlacedRecord FileDataSequenceHeader)) (start_is : (in_memory start).bytes ≡ bytes)
     (there_is : in_memory there ≡ moved (in_memory start) info.metadata.file_info_offset) (taken : TakesPlaced file_records (version_of info.header.version) (in_memory there) (in_memory mid) files) where

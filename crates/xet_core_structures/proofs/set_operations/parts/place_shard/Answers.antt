@@ -4,7 +4,7 @@ use Rattle.xet_base.specs.Source.{Source}
 use Rattle.xet_records.specs.FileRecord.{file_records}
 use Rattle.xet_core_structures.specs.Placed.{TakesPlaced}
 use Rattle.xet_core_structures.proofs.PlacedShards.{xorbs_not_placed, shard_placed}
-use Rattle.xet_core_structures.proofs.PlacedShards.{in_memory}
+use Rattle.xet_core_structures.proofs.InMemory.{in_memory}
 use Rattle.xet_core_structures.proofs.set_operations.parts.place_shard.Goals as goal
 
 pub returns-in_err-xorbs : goal.returns-in_err-xorbs
