@@ -40,7 +40,7 @@ module _ {H R : Type 0} (K : RecordKind H R) where
       let rest = later found in
       ((suc rest.0.0, omega (arith, rest.0.1), rest.0.2), rest.1)
 
-  found_in : (q : DataHash) (xs : List R) (r : R) → with_hash K xs q ≡ Some r → Contains xs r × (key_of_record K r ≡ q)
+  pub found_in : (q : DataHash) (xs : List R) (r : R) → with_hash K xs q ≡ Some r → Contains xs r × (key_of_record K r ≡ q)
   found_in q [] r found = absurd (none-some r found)
   found_in q (x ∷ xs) r found = found_here q x xs r (eq_by_cmp hash_cmp q (key_of_record K x)) refl found (found_in q xs r)
 
@@ -62,7 +62,7 @@ module _ {H R : Type 0} (K : RecordKind H R) where
 
 -- the shard of records in memory
 module _ (shard : PlacedShard) (bytes : List ℕ) (is : IsPlacedOf shard bytes) where
-  abbrev records_in : Records
+  abbrev pub records_in : Records
   records_in = is.2.records
 
   pub united_in : MayBeUnited shard records_in
@@ -140,7 +140,7 @@ zip_held [] (x ∷ inputs) all i low = absurd all
 zip_held (p ∷ shards) (x ∷ inputs) all zero low = (shard_of (records_in p x all.0), (x, refl, has_shard p x all.0))
 zip_held (p ∷ shards) (x ∷ inputs) all (suc i) low = zip_held shards inputs all.1 i (omega (arith, low))
 
-same_input : (inputs : List (List ℕ)) (i : ℕ) → AgreeAt inputs i i
+pub same_input : (inputs : List (List ℕ)) (i : ℕ) → AgreeAt inputs i i
 same_input inputs i s t (x, x_at, x_has) (y, y_at, y_has) =
     subst (ShardsAgree s) (sym (only_shard x s t x_has (subst (HasShard t) (same_Some y x (sym y_at ∙ x_at)) y_has))) (agree_itself s)
 

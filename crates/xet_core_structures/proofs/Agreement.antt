@@ -7,11 +7,8 @@ use Rattle.std.specs.Ordering.{eq_by_cmp}
 use Rattle.std.specs.declared.cmp.Ordering.TheVariants.{Less}
 use Rattle.xet_base.specs.declared.merklehash.DataHash.{DataHash}
 use Rattle.xet_base.specs.Hash.{hash_cmp}
-use Rattle.xet_base.specs.Source.{Source, Takes, bytes_left}
 use Rattle.xet_base.proofs.HashOrder.{same_key}
-use Rattle.xet_base.proofs.Reading.{Takes-consumes}
 use Rattle.xet_records.specs.RecordKind.{RecordKind, KindLaws}
-use Rattle.xet_records.specs.Reading.{ReadsRowsAfter}
 use Rattle.xet_shards.specs.InForm.{Ascends}
 use Rattle.xet_core_structures.specs.declared.set_operations.placed.PlacedRecord.{PlacedRecord}
 use Rattle.xet_core_structures.specs.Agreement.{AllAgree, DisagreeAt, PassesNext}
@@ -20,7 +17,6 @@ use Rattle.xet_core_structures.specs.Combining.{key_of_record}
 use Rattle.xet_core_structures.specs.Placed.{Places, PlacesAll, MayUnite, hash_at, IsBefore}
 use Rattle.xet_core_structures.proofs.Combining.{ComeAfter, after_earlier, apart}
 use Rattle.xet_core_structures.proofs.PlacedUnions.{header_placed, first_placed, none_placed}
-use Rattle.xet_core_structures.proofs.PlacedWriting.{placed_once}
 
 -- what a list has is its first item or one of the others
 has_split : {X : Type 0} (x : X) (xs : List X) (y : X) → Contains (x ∷ xs) y → (y ≡ x) ⊎ Contains xs y
@@ -51,21 +47,6 @@ module _ {H R : Type 0} (K : RecordKind H R) (agree : R → R → Type 0) where
         → agree r s ⊎ (Contains after_1 r × Contains after_2 s)
 
 module _ {H R : Type 0} (K : RecordKind H R) (laws : KindLaws K) where
-  -- a record that is read where it stays
-  pub read_once : (p : PlacedRecord H) (from to : Source) (found r : R) → p.rows.now ≡ bytes_left from → ReadsRowsAfter K p.header (Takes from to) found → Places K p r → found ≡ r
-  read_once p from to found r rows_are read places =
-      placed_once K laws p found r (record {
-        header = places.header;
-        rows = record {
-          stored = read.stored;
-          same_header = read.same_header;
-          is_stored = read.is_stored;
-          size = read.size;
-          taken = (bytes_left to, rows_are ∙ Takes-consumes from to (K.bytes_after read.stored) read.taken);
-          handed = read.handed;
-        };
-      }) places
-
   key_placed : (p : PlacedRecord H) (r : R) → Places K p r → key_of_record K r ≡ hash_at K p
   key_placed p r places = ap K.hash_of (header_placed K laws p r places)
 

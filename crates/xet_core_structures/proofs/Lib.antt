@@ -6,6 +6,7 @@ pub mod ByteUnions
 pub mod Combining
 pub mod Equalities
 pub mod ExportTrees
+pub mod Gathering
 pub mod Handed
 pub mod Held
 pub mod InMemory

@@ -1,5 +1,5 @@
 -- Whether shards in memory agree, and where they do not.
-use Rattle.std.specs.Prelude.{◌≡◌, ◌⊎◌, ℕ, ◌<◌, List, [], ◌∷◌, length, drop, Contains, Some, slice_get}
+use Rattle.std.specs.Prelude.{◌≡◌, ◌⊎◌, ℕ, ◌<◌, ◌≤◌, IsTrue, List, [], ◌∷◌, length, drop, Contains, Some, slice_get}
 use Rattle.std.specs.FinMap.{get}
 use Rattle.xet_base.specs.declared.error.CoreError.{CoreError}
 use Rattle.xet_base.specs.declared.error.CoreError.TheVariants.{OutOfMemory}
@@ -9,7 +9,9 @@ use Rattle.xet_records.specs.declared.xorb_structs.MDBXorbInfo.{MDBXorbInfo}
 use Rattle.xet_records.specs.RecordKind.{RecordKind}
 use Rattle.xet_records.specs.FileRecord.{file_records}
 use Rattle.xet_records.specs.XorbRecord.{xorb_records}
-use Rattle.xet_records.specs.Merging.{Agree}
+use Rattle.xet_records.specs.Merging.{has_part, Agree}
+use Rattle.xet_records.specs.declared.file_structs.part.OptionalPart.{OptionalPart}
+use Rattle.xet_records.specs.Part.{rows_of}
 use Rattle.xet_shards.specs.declared.shard_format.info.MDBShardInfo.{MDBShardInfo}
 use Rattle.xet_shards.specs.Ends.{HasEnds}
 use Rattle.xet_shards.specs.SetOperations.{ShardsAgree}
@@ -25,10 +27,10 @@ use Rattle.xet_core_structures.specs.declared.set_operations.agreement.Pair.TheV
 use Rattle.xet_core_structures.specs.declared.set_operations.parts.PlacedShard.{PlacedShard}
 use Rattle.xet_core_structures.specs.declared.set_operations.placed.PlacedRecord.{PlacedRecord}
 use Rattle.xet_core_structures.specs.ByteResults.{key_of, LoadRefusal, Records}
-use Rattle.xet_core_structures.specs.Combining.{key_of_record}
+use Rattle.xet_core_structures.specs.Combining.{key_of_record, with_hash}
 use Rattle.xet_core_structures.specs.Held.{HasShard}
 use Rattle.xet_core_structures.specs.MergeTrees.{leaves, TreeWrites, InputIs}
-use Rattle.xet_core_structures.specs.Parts.{PlacesShard, SectionsRefusal}
+use Rattle.xet_core_structures.specs.Parts.{MayBeUnited, PlacesShard, SectionsRefusal}
 use Rattle.xet_core_structures.specs.Placed.{Places, hash_at, IsBefore}
 
 module _ {H R : Type 0} (K : RecordKind H R) (agree : R → R → Type 0) where
@@ -95,6 +97,19 @@ HoldsAt inputs i s = InputIs inputs (HasShard s) i
 abbrev pub IsHeld : List (List ℕ) → Shard → Type 0
 IsHeld inputs s = (i : ℕ) × HoldsAt inputs i s
 
+-- a file has the segments of another, and each part that this has
+pub record HasAllOf (whole some : MDBFileInfo) : Type 0 where
+  pub segments : whole.segments ≡ some.segments
+  pub parts : (part : OptionalPart) → IsTrue (has_part some part)
+      → IsTrue (has_part whole part) × (rows_of part whole ≡ rows_of part some)
+
+-- records have all files of a shard, with at least their parts, and all its xorbs
+pub record Cover (records : Records) (s : Shard) : Type 0 where
+  pub files : (q : DataHash) (a : MDBFileInfo) → get s.files q ≡ Some a
+      → (b : MDBFileInfo) × (with_hash file_records records.files q ≡ Some b) × HasAllOf b a
+  pub xorbs : (q : DataHash) (a : MDBXorbInfo) → get s.xorbs q ≡ Some a
+      → with_hash xorb_records records.xorbs q ≡ Some a
+
 -- why no shard is read from bytes
 abbrev pub ShardRefusal : List ℕ → CoreError → Type 0
 ShardRefusal bytes e =
@@ -114,6 +129,15 @@ AgreeAt inputs i j =
 pub record InputsAgree (inputs : List (List ℕ)) : Type 0 where
   pub held : (i : ℕ) → i < length inputs → (s : Shard) × HoldsAt inputs i s
   pub pairs : (i j : ℕ) → AgreeAt inputs i j
+
+-- each input of a range holds a shard, each two of these agree, and the records of a shard in memory
+-- have all that is in them
+pub record Gathers (inputs : List (List ℕ)) (from to : ℕ) (shard : PlacedShard) : Type 0 where
+  pub records : Records
+  pub may : MayBeUnited shard records
+  pub held : (i : ℕ) → from ≤ i → i < to → (s : Shard) × HoldsAt inputs i s
+  pub pairs : (i j : ℕ) → from ≤ i → i < to → from ≤ j → j < to → AgreeAt inputs i j
+  pub covers : (i : ℕ) → from ≤ i → i < to → (s : Shard) → HoldsAt inputs i s → Cover records s
 
 -- two inputs hold shards that have records with this hash that do not agree
 pub record InputsDisagree (inputs : List (List ℕ)) (d : Disagreement) : Type 0 where

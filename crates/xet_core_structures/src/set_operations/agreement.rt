@@ -1,20 +1,22 @@
 //! Whether shards in memory agree: each two xorbs with one hash are equal, and each two files with
 //! one hash have equal segments, and equal optional parts wherever both have them.
 
-ghost use Rattle.std.specs.Prelude.{◌≡◌, ◌⊎◌, ◌↔◌, ◌<◌, ℕ, IsTrue, List, length, map, Some, slice_get, MatchOption, MatchResult};
+ghost use Rattle.std.specs.Prelude.{◌≡◌, ◌⊎◌, ◌↔◌, ◌<◌, ◌≤◌, ℕ, IsTrue, List, length, map, Some, slice_get, IfSome, MatchOption, MatchResult};
 ghost use Rattle.std.specs.List.{AllZip};
 ghost use Rattle.xet_base.specs.declared.error.CoreError.TheVariants.{OutOfMemory};
 ghost use Rattle.xet_records.specs.Merging.{Agree};
-ghost use Rattle.xet_core_structures.specs.ByteResults.{Records};
+ghost use Rattle.xet_core_structures.specs.ByteResults.{Records, AreCombined};
+ghost use Rattle.xet_core_structures.specs.ByteUnion.{IsEitherFile, IsEitherXorb};
 ghost use Rattle.xet_core_structures.specs.MergeTrees.{TreeRefusal};
-ghost use Rattle.xet_core_structures.specs.Parts.{MayBeUnited};
+ghost use Rattle.xet_core_structures.specs.Parts.{MayBeUnited, PlacesRecords};
 ghost use Rattle.xet_core_structures.specs.Placed.{Places, MayUnite};
-ghost use Rattle.xet_core_structures.specs.Agreement.{AllAgree, DisagreeAt, IsPair, AreEqual, AgreeRecords, DisagreeRecords, IsPlacedOf, AgreeAt, InputsAgree, InputsDisagree, InputsRefusal, ShardRefusal, IsMerged};
+ghost use Rattle.xet_core_structures.specs.Agreement.{Gathers, AllAgree, DisagreeAt, IsPair, AreEqual, AgreeRecords, DisagreeRecords, IsPlacedOf, AgreeAt, InputsAgree, InputsDisagree, InputsRefusal, ShardRefusal, IsMerged};
 
-use super::parts::{PlacedShard, place_shard};
+use super::parts::{PlacedShard, place_shard, unite_lists};
 use super::placed::PlacedRecord;
 use super::record_operation::OfUnion;
 use super::{MergePlan, shard_union_tree};
+use bumpalo::Bump;
 use std::alloc::Global;
 use std::cmp::Ordering;
 use xet_base::error::{CoreError, Result};
@@ -277,8 +279,78 @@ pub fn find_disagreement(alloc: Global, inputs: &[&[u8]]) -> Result<Option<Disag
         (InputsDisagree (map (λ x. x.now) inputs.now)))
         (InputsRefusal (map (λ x. x.now) inputs.now)) }
 {
+    if agree_by_union(alloc, inputs)? {
+        return Ok(None);
+    }
     let shards = place_inputs(alloc, inputs)?;
     compare_all(alloc, shards.as_slice())
+}
+
+// Whether the inputs have a union of which each side agrees with the other. Then each two agree, and
+// none had to be compared with all others.
+fn agree_by_union<'a>(alloc: Global, inputs: &'a [&'a [u8]]) -> Result<bool>
+    ensures { MatchResult result
+        (λ agree. IsTrue agree → InputsAgree (map (λ x. x.now) inputs.now))
+        (InputsRefusal (map (λ x. x.now) inputs.now)) }
+{
+    if inputs.is_empty() {
+        return Ok(true);
+    }
+    let arena = Bump::new(alloc);
+    let gathered = gather(alloc, &arena, inputs, 0, inputs.len())?;
+    Ok(gathered.is_some())
+}
+
+// The union of the inputs in a range of at least one, if each two of them agree, and it has not too
+// many rows.
+fn gather<'a>(
+    alloc: Global,
+    arena: &'a Bump,
+    inputs: &[&'a [u8]],
+    from: usize,
+    to: usize,
+) -> Result<Option<PlacedShard<'a>>>
+    requires some { from < to }
+    requires within { to ≤ length inputs.now }
+    ensures { MatchResult result
+        (λ found. IfSome found (Gathers (map (λ x. x.now) inputs.now) from to))
+        (InputsRefusal (map (λ x. x.now) inputs.now)) }
+{
+    if to - from == 1 {
+        let shard = place_input(alloc, input_at(inputs, from))?;
+        return Ok(Some(shard));
+    }
+    let middle = from + (to - from) / 2;
+    let Some(first) = gather(alloc, arena, inputs, from, middle)? else {
+        return Ok(None);
+    };
+    let Some(second) = gather(alloc, arena, inputs, middle, to)? else {
+        return Ok(None);
+    };
+    unite_agreeing(alloc, arena, &first, &second)
+}
+
+// The union of two shards in memory, if they agree, and it has not too many rows.
+fn unite_agreeing<'a>(
+    alloc: Global,
+    arena: &'a Bump,
+    first: &PlacedShard<'a>,
+    second: &PlacedShard<'a>,
+) -> Result<Option<PlacedShard<'a>>>
+    ensures { (one other : Records) → MayBeUnited first.now one → MayBeUnited second.now other
+        → MatchResult result
+        (λ found. IfSome found (λ shard. (made : Records) × AgreeRecords one other
+        × AreCombined IsEitherFile IsEitherXorb one other made × PlacesRecords shard made))
+        (λ e. e ≡ OutOfMemory) }
+{
+    if compare_shards(alloc, first, second)?.is_some() {
+        return Ok(None);
+    }
+    match unite_lists(alloc, arena, first, second) {
+        Ok(shard) => Ok(Some(shard)),
+        Err(CoreError::InvalidShard(_)) => Ok(None),
+        Err(error) => Err(error),
+    }
 }
 
 // The records of the inputs.

@@ -175,8 +175,8 @@ pub fn place_shard<'a>(
     })
 }
 
-// The union of the records of two shards.
-fn unite_lists<'a>(
+/// The union of the records of two shards.
+pub fn unite_lists<'a>(
     alloc: Global,
     arena: &'a Bump,
     first: &PlacedShard<'a>,

@@ -1,10 +1,10 @@
 use Rattle.std.proofs.Common.{sym, ap}
 use Rattle.xet_base.specs.Source.{Source, bytes_left}
-use Rattle.xet_core_structures.proofs.Agreement.{read_once}
 use Rattle.xet_core_structures.proofs.InMemory.{in_memory}
+use Rattle.xet_core_structures.proofs.PlacedWriting.{placed_read}
 use Rattle.xet_core_structures.proofs.set_operations.agreement.read_placed.Goals as goal
 
 pub returns-in-Ok : goal.returns-in-Ok
 returns-in-Ok g c = λ r places.
-    read_once g.R.SectionRecord.kind c.laws.ensures c.args.placed.now (in_memory c.new-rows.result) (in_memory c.read_rows_after.new.input) c.in-Ok.record r
-    (sym (ap (λ (s : Source). bytes_left s) c.new-rows.ensures)) c.in-Ok.ensures places
+    placed_read g.R.SectionRecord.kind c.laws.ensures c.args.placed.now r c.in-Ok.record places (in_memory c.new-rows.result) (in_memory c.read_rows_after.new.input)
+    (sym (ap (λ (s : Source). bytes_left s) c.new-rows.ensures)) c.in-Ok.ensures
