@@ -1,11 +1,11 @@
--- The bytes of numbers and hashes: how many they are, and that they determine the number.
-use Rattle.std.proofs.Common.{◌≡◌, ℕ, ◌*◌, ◌<◌, ◌^◌, List, [], ◌∷◌, ◌++◌, length, flat_map, refl, sym, ap, ◌∙◌, arith}
+-- The bytes of numbers and hashes: how many they are, and that they determine the number. Parts of lists of bytes.
+use Rattle.std.proofs.Common.{◌≡◌, ℕ, zero, suc, ◌+◌, ◌*◌, ◌<◌, ◌^◌, List, [], ◌∷◌, ◌++◌, length, take, drop, flat_map, refl, sym, ap, ◌∙◌, arith}
 use Rattle.std.specs.Int.{from_le_bytes, w32, w64}
-use Rattle.std.proofs.lemmas.List.{length-append}
+use Rattle.std.proofs.lemmas.List.{length-append, get_or-drop}
 use Rattle.std.proofs.Math.Nat.{mul-suc}
 use Rattle.std.proofs.lemmas.Nat.{from_le_bytes-to_le_bytes_4, from_le_bytes-to_le_bytes_8}
 use Rattle.xet_base.specs.declared.merklehash.DataHash.{DataHash}
-use Rattle.xet_base.specs.Bytes.{u32_bytes, u64_bytes}
+use Rattle.xet_base.specs.Bytes.{u32_bytes, u64_bytes, AreBytes}
 use Rattle.xet_base.specs.Hash.{hash_bytes, IsHash}
 use Rattle.xet_base.proofs.Lists.{same_parts}
 
@@ -63,3 +63,18 @@ hash_bytes-injective a b a_fits b_fits same =
     let e2 = u64_bytes-injective a.word2 b.word2 a_fits.word2 b_fits.word2 third.1 in
     let e3 = u64_bytes-injective a.word3 b.word3 a_fits.word3 b_fits.word3 last.1 in
     λ i. record { word0 = e0 i; word1 = e1 i; word2 = e2 i; word3 = e3 i }
+
+-- parts of a list of bytes, and lists of bytes one after another
+pub take-bytes : (n : ℕ) (bytes : List ℕ) → AreBytes bytes → AreBytes (take n bytes)
+take-bytes zero bytes are i = omega arith
+take-bytes (suc n) [] are i = are i
+take-bytes (suc n) (b ∷ bytes) are zero = are zero
+take-bytes (suc n) (b ∷ bytes) are (suc i) = take-bytes n bytes (λ j. are (suc j)) i
+
+pub drop-bytes : (n : ℕ) (bytes : List ℕ) → AreBytes bytes → AreBytes (drop n bytes)
+drop-bytes n bytes are i = omega (arith, get_or-drop n bytes i 0, are (n + i))
+
+pub append-bytes : (xs ys : List ℕ) → AreBytes xs → AreBytes ys → AreBytes (xs ++ ys)
+append-bytes [] ys first last i = last i
+append-bytes (x ∷ xs) ys first last zero = first zero
+append-bytes (x ∷ xs) ys first last (suc i) = append-bytes xs ys (λ j. first (suc j)) last i

@@ -6,10 +6,10 @@ use Rattle.std.proofs.KnownBytes.{Consumes-trans, Consumes-kept}
 use Rattle.std.proofs.lemmas.Slice.{take-put_mid_below}
 use Rattle.std.specs.Io.KnownBytes.{Consumes, Keeps}
 use borrow.Rule.Slice.PartMut.{put_mid}
-use Rattle.xet_base.specs.Bytes.{HasBytes, LacksBytes}
+use Rattle.xet_base.specs.Bytes.{HasBytes, LacksBytes, AreBytes, Passes}
 use Rattle.xet_base.specs.InputLaws.{LacksBytes-consumed}
-use Rattle.xet_base.specs.Source.{Source, bytes_left, Takes}
-use Rattle.xet_base.proofs.Bytes.{length-numbers}
+use Rattle.xet_base.specs.Source.{Source, advanced, bytes_left, next_bytes, Takes}
+use Rattle.xet_base.proofs.Bytes.{length-numbers, append-bytes}
 use Rattle.xet_base.proofs.Lists.{take-put_mid_part}
 
 -- one more read of n bytes into a slice that is filled up to `filled`
@@ -55,3 +55,29 @@ Takes-consumes a b xs taken =
 -- bytes that end within the next n are fewer than n from the source's offset on
 pub lacks_left : (s : Source) (n : ℕ) → 0 < n → length s.bytes < s.at + n → length (bytes_left s) < n
 lacks_left s n some ends = omega (arith, length-drop s.at s.bytes)
+
+-- a source that moved past bytes passed them
+pub passed_next : (old new : Source) (n count : ℕ) → n ≡ count → (0 < n → old.at + n ≤ length old.bytes) → AreBytes (next_bytes old n)
+    → new ≡ advanced old n → Passes (Takes old new) count
+passed_next old new n count all there are after =
+    let len : length (next_bytes old n) ≡ n = grind (arith, length-take n (bytes_left old), length-drop old.at old.bytes, there) in
+    record {
+      passed = next_bytes old n;
+      bytes = are;
+      len = len ∙ all;
+      taken = record {
+        within = λ some. grind (arith, len, some, there);
+        there = ap (next_bytes old) (sym len);
+        after = after ∙ ap (advanced old) (sym len);
+      };
+    }
+
+-- bytes that were passed, and a part that was read after them
+pub passed_more : (First Next Both : List ℕ → Type 0) (m n : ℕ) (part : List ℕ) → ((xs ys : List ℕ) → First xs → Next ys → Both (xs ++ ys))
+    → Passes First m → AreBytes part → length part ≡ n → Next part → Passes Both (m + n)
+passed_more First Next Both m n part joins before are len taken = record {
+  passed = before.passed ++ part;
+  bytes = append-bytes before.passed part before.bytes are;
+  len = length-append before.passed part ∙ (λ i. before.len i + len i);
+  taken = joins before.passed part before.taken taken;
+}

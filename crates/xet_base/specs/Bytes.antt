@@ -1,5 +1,6 @@
--- Numbers as bytes, lowest byte first, and how many bytes a reader is known to have.
-use Rattle.std.specs.Prelude.{ℕ, ◌<◌, ◌≤◌, List, length, Option, Some, None, ⊤}
+-- Numbers as bytes, lowest byte first, how many bytes a reader is known to have, and bytes that an
+-- input passes.
+use Rattle.std.specs.Prelude.{◌≡◌, ℕ, ◌<◌, ◌≤◌, List, length, slice_index, Option, Some, None, ⊤}
 use Rattle.std.specs.Int.{to_le_bytes, from_le_bytes, w32, w64}
 
 -- the four bytes of a number below 2 ^ 32
@@ -23,3 +24,14 @@ HasBytes (Some bytes) n = n ≤ length bytes
 abbrev pub LacksBytes : Option (List ℕ) → ℕ → Type 0
 LacksBytes None n = ⊤
 LacksBytes (Some bytes) n = length bytes < n
+
+-- each number of a list is a byte
+abbrev pub AreBytes : List ℕ → Type 0
+AreBytes bytes = (i : ℕ) → slice_index bytes i < 256
+
+-- an input took so many bytes
+pub record Passes (Took : List ℕ → Type 0) (count : ℕ) : Type 0 where
+  pub passed : List ℕ
+  pub bytes : AreBytes passed
+  pub len : length passed ≡ count
+  pub taken : Took passed

@@ -6,13 +6,16 @@ ghost use Rattle.std.specs.declared.io.Error.{Error as DeviceError};
 ghost use Rattle.std.proofs.KnownBytes.{Consumes-nil, Consumes-trans};
 ghost use Rattle.xet_base.specs.declared.error.CoreError.{CoreError};
 ghost use Rattle.xet_base.specs.declared.error.CoreError.TheVariants.{OutOfMemory};
+ghost use Rattle.xet_base.specs.Bytes.{Passes};
 ghost use Rattle.xet_base.specs.Errors.{FromDevice};
 ghost use Rattle.xet_base.specs.Input.{ReaderLacks, ReaderFails};
 ghost use Rattle.xet_base.specs.Source.{Takes, FillFails, ReadFails};
 ghost use Rattle.xet_base.specs.InputLaws.{reader_fails, reader_fails_later, reader_lacks_memory, source_fails, source_fails_later, source_lacks_memory, Takes-nil, Takes-trans};
 
+use crate::error::Result;
+use crate::row::all_bytes;
 use crate::serialization_utils::read_bytes;
-use crate::source::{ShardSource, read_full};
+use crate::source::{BLOCK_SIZE, ShardSource, read_full};
 use std::io;
 use std::io::Read;
 
@@ -37,6 +40,24 @@ pub trait ByteInput<Mark> {
     fn fill(&mut self, slice: &mut [u8]) -> io::Result<()>
         ensures { MatchResult result (λ _. reads self.old self.new slice.new)
             (fill_fails self.old self.new (length slice.old)) };
+
+    /// Reads past `count` bytes. `UnexpectedEof` if fewer are left; any other error is the
+    /// device's. If an implementation does not write it, the bytes are read.
+    fn skip(&mut self, count: u64) -> Result<()>
+        ensures { MatchResult result (λ _. Passes (reads self.old self.new) count)
+            (fails self.old self.new count) }
+    {
+        let mut block = [0u8; BLOCK_SIZE];
+        let mut skipped = 0;
+        while skipped < count {
+            let most = (count - skipped).min(BLOCK_SIZE as u64) as usize;
+            let part = &mut block[..most];
+            self.fill(part)?;
+            all_bytes(part);
+            skipped += most as u64;
+        }
+        Ok(())
+    }
 
     ghost reads_nothing: { (a : Self) → reads a a [] };
 
@@ -101,5 +122,10 @@ impl<S: ShardSource> ByteInput<OfSource> for S {
     #[inline(always)]
     fn fill(&mut self, slice: &mut [u8]) -> io::Result<()> {
         read_full(self, slice)
+    }
+
+    #[inline(always)]
+    fn skip(&mut self, count: u64) -> Result<()> {
+        Ok(self.pass(count)?)
     }
 }

@@ -1,7 +1,7 @@
 //! Rows of bytes, put together from parts and taken apart again.
 
 ghost use Rattle.std.specs.Prelude.{◌≡◌, ◌+◌, ◌*◌, ◌≤◌, ◌++◌, length, take, drop, flat_map};
-ghost use Rattle.xet_base.specs.Bytes.{u32_bytes, u64_bytes};
+ghost use Rattle.xet_base.specs.Bytes.{u32_bytes, u64_bytes, AreBytes};
 ghost use Rattle.xet_base.specs.Hash.{hash_bytes};
 
 use crate::merklehash::MerkleHash;
@@ -123,3 +123,8 @@ pub(crate) fn u64_of(bytes: [u8; 8]) -> u64
 {
     u64::from_le_bytes(bytes)
 }
+
+/// Does nothing. It says that each element of a slice of bytes is below 256.
+pub fn all_bytes(bytes: &[u8])
+    ensures { AreBytes bytes.now }
+{}

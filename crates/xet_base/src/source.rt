@@ -1,17 +1,23 @@
 //! Sources of bytes that are read at any offset. Contracts count their seeks and the bytes read.
 
 ghost use Rattle.std.specs.Prelude.{◌≡◌, ℕ, length, MatchResult, None};
+ghost use Rattle.xet_base.specs.Bytes.{Passes};
 ghost use Rattle.xet_base.specs.Source.{Source, ReadsSome, Fails, Takes, FillFails, moved};
 
 use crate::count::Count;
+use crate::row::all_bytes;
 use std::io;
 use std::io::ErrorKind;
+
+// How many bytes are read at once, where bytes that are passed have to be read.
+pub(crate) const BLOCK_SIZE: usize = 768;
 
 /// Bytes with a read position. Contracts see the bytes, the position, the seeks made, the bytes
 /// read, the failures so far and the latest failure.
 ///
 /// A call that fails leaves the bytes as they are, and counts one failure and no byte as read;
-/// `seek_to` counts its seek also if it fails. The position after a failure is unspecified.
+/// `seek_to` counts its seek also if it fails, and `pass` may have counted some bytes, and counts
+/// no failure at the end of the bytes. The position after a failure is unspecified.
 pub trait ShardSource {
     ghost meaning: { Self → Source };
 
@@ -36,6 +42,29 @@ pub trait ShardSource {
     fn seek_to(&mut self, to: u64) -> io::Result<()>
         ensures { MatchResult result (λ _. meaning self.new ≡ moved (meaning self.old) to)
             (Fails (meaning self.old) (meaning self.new) 1) };
+
+    /// Moves past `count` bytes, which count as read. `UnexpectedEof` if fewer are left; the
+    /// device's own error at its first failure. Makes no seek. If an implementation does not write
+    /// it, the bytes are read.
+    fn pass(&mut self, count: u64) -> io::Result<()>
+        ensures { MatchResult result
+            (λ _. Passes (Takes (meaning self.old) (meaning self.new)) count)
+            (FillFails (meaning self.old) (meaning self.new) count) }
+    {
+        let mut block = [0u8; BLOCK_SIZE];
+        let mut passed = 0;
+        while passed < count {
+            let most = (count - passed).min(BLOCK_SIZE as u64) as usize;
+            let part = &mut block[..most];
+            let n = self.read_some(part)?;
+            if n == 0 {
+                return Err(io::Error::from(ErrorKind::UnexpectedEof));
+            }
+            all_bytes(&part[..n]);
+            passed += n as u64;
+        }
+        Ok(())
+    }
 }
 
 /// Fills `slice` from the source's position on. `UnexpectedEof` if fewer bytes are left; the
@@ -136,6 +165,17 @@ impl<'a> ShardSource for MemorySource<'a> {
     fn seek_to(&mut self, to: u64) -> io::Result<()> {
         self.at = to;
         self.seeks.add(1);
+        Ok(())
+    }
+
+    fn pass(&mut self, count: u64) -> io::Result<()> {
+        let left = (self.bytes.len() as u64).saturating_sub(self.at);
+        if count > left {
+            return Err(io::Error::from(ErrorKind::UnexpectedEof));
+        }
+        all_bytes(self.bytes);
+        self.at += count;
+        self.read.add(count);
         Ok(())
     }
 }
