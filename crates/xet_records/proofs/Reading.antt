@@ -1,7 +1,7 @@
 -- Rows and records read one after another.
-use Rattle.std.proofs.Common.{◌≡◌, ℕ, ◌+◌, List, [], ◌∷◌, ◌++◌, length, flat_map, Bool, true, false, Option, None, Some, if◌then◌else◌, refl, sym, ap, ◌∙◌, subst, arith, append-nil, append_assoc, take, drop, take-append-drop}
+use Rattle.std.proofs.Common.{◌≡◌, ℕ, ◌+◌, List, [], ◌∷◌, ◌++◌, length, flat_map, Bool, true, false, Option, None, Some, if◌then◌else◌, refl, sym, ap, ◌∙◌, subst, arith, append-nil}
 use Rattle.std.specs.Prelude.{is_some, IfSome, option_map, option_to_list}
-use Rattle.std.proofs.lemmas.List.{map-append, length-append, length-map, length-take}
+use Rattle.std.proofs.lemmas.List.{map-append, length-append, length-map}
 use Rattle.std.proofs.lemmas.List.Elements.{All-append, All-cons, All-nil}
 use Rattle.std.proofs.lemmas.Grind.{flat_map-append}
 use Rattle.xet_records.specs.Rows.{ReadsRow, ReadsRows, ReadsOptional}
@@ -25,20 +25,6 @@ module _ {T : Type 0} (row_bytes : T → List ℕ) (Fits : T → Type 0) (handed
         (joins (flat_map row_bytes before.stored) (row_bytes last.stored) before.taken last.taken);
     handed = map-append handed before.stored (last.stored ∷ []) ∙ (λ i. before.handed i ++ last.handed i ∷ []);
   }
-
-  -- one more row at the front of what is left of some bytes
-  pub row_at_front : (bytes rest row after : List ℕ) (n : ℕ) (rows : List T) (stored : T) → row ≡ take 48 rest → after ≡ drop 48 rest
-      → length after + 48 ≡ length rest → Fits stored → row_bytes stored ≡ row → ReadsRows row_bytes Fits handed (λ taken. taken ++ rest ≡ bytes) n rows
-      → ReadsRows row_bytes Fits handed (λ taken. taken ++ after ≡ bytes) (n + 1) (rows ++ handed stored ∷ [])
-  row_at_front bytes rest row after n rows stored front back len widths is before =
-      more_rows (λ taken. taken ++ rest ≡ bytes) (λ taken. taken ≡ row) (λ taken. taken ++ after ≡ bytes) n rows (handed stored)
-      (λ xs ys p q. rw append_assoc (ap (λ t. xs ++ t) ((λ i. (q ∙ front) i ++ back i) ∙ take-append-drop 48 rest) ∙ p)) before (record {
-        stored = stored;
-        widths = widths;
-        size = ap length (is ∙ front) ∙ omega (arith, length-take 48 rest, len);
-        taken = is;
-        handed = refl;
-      })
 
   pub a_row : (Took : List ℕ → Type 0) (row : T) → ReadsRow row_bytes Fits handed Took row → ReadsOptional row_bytes Fits handed Took true (Some row)
   a_row Took row read = record {

@@ -5,6 +5,8 @@ use Rattle.std.specs.List.{slice_get}
 use Rattle.std.proofs.lemmas.List.{length-append, length-take-le, length-drop, append_assoc, take-append-drop, take-append-le, take_all}
 use Rattle.std.proofs.lemmas.List.Elements.{All-take, All-drop, All-same}
 use Rattle.std.proofs.lemmas.Grind.{flat_map-append}
+use Rattle.xet_base.specs.Bytes.{AreBytes}
+use Rattle.xet_base.proofs.Bytes.{take-bytes, drop-bytes}
 use Rattle.xet_base.proofs.Lists.{front_is, rest_is}
 use Rattle.xet_records.specs.declared.file_structs.header.FileDataSequenceHeader.{FileDataSequenceHeader}
 use Rattle.xet_records.specs.declared.file_structs.part.OptionalPart.{OptionalPart}
@@ -18,11 +20,12 @@ use Rattle.xet_records.specs.FileRecord.{rows_after, file_record_bytes, file_row
 use Rattle.xet_records.specs.XorbRow.{xorb_header_row, chunk_row, FitsXorbHeader, FitsChunk}
 use Rattle.xet_records.specs.XorbRecord.{xorb_record_bytes, xorb_records}
 use Rattle.xet_records.specs.Decoding.{segment_at, hash_row_at, chunk_at, rows_at, file_at, xorb_at}
+use Rattle.xet_records.specs.DecodingLaws.{segment_spelled, hash_row_spelled, chunk_spelled}
 use Rattle.xet_records.specs.RecordKind.{RecordKind}
 use Rattle.xet_records.specs.View.{IsWholeFile, IsWholeXorb, BeginsWithHeaderRow, BeginsWithRecord, Shows, ShowsRecord}
 use Rattle.xet_records.proofs.Lengths.{length-header_row, length-segment_rows, length-hash_rows, length-xorb_header_row}
 use Rattle.xet_records.proofs.Parts.{Holds, before_part, after_part, rows_split, length-before_part, part_within, length-part_of, parts-of-rows, holds_announced, rows_of-with_parts, optional_rows-with_parts}
-use Rattle.xet_records.proofs.Decoding.{AreBytes, take-bytes, drop-bytes, rows_spelled, segment_spelled, hash_row_spelled, chunk_spelled}
+use Rattle.xet_records.proofs.Decoding.{rows_spelled}
 use Rattle.xet_records.proofs.RowsWithin.{HasRows}
 
 -- bytes that are as long as a header says, and begin with it, are the bytes of the record that they spell

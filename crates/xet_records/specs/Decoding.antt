@@ -29,6 +29,14 @@ hash_at bytes =
     }
 
 -- the row that bytes begin with
+unfoldable pub header_at : List ℕ → FileDataSequenceHeader
+header_at bytes = record {
+  file_hash = hash_at bytes;
+  file_flags = u32_at bytes 32;
+  num_entries = u32_at bytes 36;
+  _unused = u64_at bytes 40;
+}
+
 unfoldable pub segment_at : List ℕ → FileDataSequenceEntry
 segment_at bytes = record {
   xorb_hash = hash_at bytes;
@@ -41,6 +49,15 @@ segment_at bytes = record {
 unfoldable pub hash_row_at : List ℕ → HashRow
 hash_row_at bytes =
     record { hash = hash_at bytes; _unused = u64_at bytes 32 ∷ u64_at bytes 40 ∷ [] }
+
+unfoldable pub xorb_header_at : List ℕ → XorbChunkSequenceHeader
+xorb_header_at bytes = record {
+  xorb_hash = hash_at bytes;
+  xorb_flags = u32_at bytes 32;
+  num_entries = u32_at bytes 36;
+  num_bytes_in_xorb = u32_at bytes 40;
+  num_bytes_on_disk = u32_at bytes 44;
+}
 
 unfoldable pub chunk_at : List ℕ → XorbChunkSequenceEntry
 chunk_at bytes = record {

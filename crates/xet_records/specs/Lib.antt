@@ -1,5 +1,6 @@
 pub mod Copying
 pub mod Decoding
+pub mod DecodingLaws
 pub mod FileRecord
 pub mod FileRow
 pub mod Merging

@@ -1,12 +1,17 @@
--- What reading rows takes from an input. A type of rows has the bytes of a stored row, the widths
+-- What reading rows takes from an input, and what bytes spell. A type of rows has the bytes of a stored row, the widths
 -- of its numbers, and the row that reading hands out for a stored one; an input says of some bytes
 -- that it took them.
-use Rattle.std.specs.Prelude.{◌≡◌, ℕ, ◌*◌, Bool, List, length, map, flat_map, All, Option, is_some, IfSome, option_map, option_to_list, if◌then◌else◌}
+use Rattle.std.specs.Prelude.{◌≡◌, ℕ, ◌*◌, Bool, List, length, take, map, flat_map, All, Option, is_some, IfSome, option_map, option_to_list, if◌then◌else◌}
 use Rattle.std.specs.Io.KnownBytes.{Appends, Consumes}
 use Rattle.std.specs.IoError.{error_kind}
 use Rattle.std.specs.declared.io.Error.{Error}
 use Rattle.std.specs.declared.io.ErrorKind.TheVariants.{UnexpectedEof}
 use Rattle.xet_base.specs.Bytes.{HasBytes, LacksBytes}
+
+-- a row has the 48 bytes at the front of some bytes, and its numbers are within their widths
+pub record Spells {T : Type 0} (row_bytes : T → List ℕ) (Fits : T → Type 0) (bytes : List ℕ) (row : T) : Type 0 where
+  pub row_is : row_bytes row ≡ take 48 bytes
+  pub fits : Fits row
 
 -- a stored row was read, and `row` returned for it
 pub record ReadsRow {T : Type 0} (row_bytes : T → List ℕ) (Fits : T → Type 0) (handed_out : T → T)

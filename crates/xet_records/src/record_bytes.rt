@@ -1,6 +1,6 @@
 //! What views of files and xorbs share: the bytes of one record, and the rows in them.
 
-ghost use Rattle.std.specs.Prelude.{◌≡◌, ℕ, ◌+◌, ◌*◌, ◌<◌, ◌≤◌, List, length, take, drop, slice_index, MatchResult, IfOk, IfErr, IsTrue, ◌↔◌};
+ghost use Rattle.std.specs.Prelude.{◌≡◌, ◌+◌, ◌*◌, ◌<◌, ◌≤◌, List, length, take, drop, MatchResult, IfOk, IfErr, IsTrue, ◌↔◌};
 ghost use Rattle.std.specs.IoError.{error_kind};
 ghost use Rattle.xet_records.specs.Rows.{ReadsRow, ReadsRows};
 
@@ -93,8 +93,3 @@ pub fn rows<T: Row + Drop>(
     }
     Ok(rows)
 }
-
-/// Does nothing. It says that each element of a slice of bytes is below 256.
-pub fn all_bytes(bytes: &[u8])
-    ensures { (i : ℕ) → slice_index bytes.now i < 256 }
-{}

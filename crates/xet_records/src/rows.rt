@@ -1,9 +1,9 @@
 //! Lists of rows, and what all rows share: 48 bytes, written and read as a whole.
 
-ghost use Rattle.std.specs.Prelude.{◌≡◌, ℕ, ◌+◌, ◌*◌, ◌<◌, List, [], ◌∷◌, ◌++◌, length, map, flat_map, All, OnOk, OnErr, IfOk, IfErr, IsTrue, ◌↔◌, Option, is_some, IfSome, option_map, option_to_list, if◌then◌else◌};
+ghost use Rattle.std.specs.Prelude.{◌≡◌, ℕ, ◌+◌, ◌*◌, ◌<◌, ◌≤◌, List, [], ◌∷◌, ◌++◌, length, map, flat_map, All, OnOk, OnErr, IfOk, IfErr, IsTrue, ◌↔◌, Option, is_some, IfSome, option_map, option_to_list, if◌then◌else◌};
 ghost use Rattle.std.specs.Io.KnownBytes.{Appends, Consumes};
-ghost use Rattle.xet_records.specs.Rows.{ReadsRow, ReadsRows, ReadsOptional};
-ghost use Rattle.xet_base.specs.Bytes.{HasBytes, LacksBytes};
+ghost use Rattle.xet_records.specs.Rows.{Spells, ReadsRow, ReadsRows, ReadsOptional};
+ghost use Rattle.xet_base.specs.Bytes.{HasBytes, LacksBytes, AreBytes};
 ghost use Rattle.xet_base.specs.Input.{ReaderLacks};
 ghost use Rattle.xet_base.specs.Errors.{IsEndOfInput, IsDeviceError, IsNoEnd};
 
@@ -138,6 +138,9 @@ pub trait Row: Copy {
 
     ghost handed_out: { Self → Self };
 
+    // the row that bytes begin with
+    ghost row_at: { List ℕ → Self };
+
     /// The bytes of the row.
     fn to_bytes(&self) -> [u8; 48]
         ensures { result ≡ row_bytes self.now };
@@ -150,6 +153,9 @@ pub trait Row: Copy {
     /// Does nothing. It says that the numbers of a row in memory fit their widths.
     fn widths(self)
         ensures { Fits self };
+
+    ghost spelled: { (bytes : List ℕ) → AreBytes bytes → 48 ≤ length bytes
+        → Spells row_bytes Fits bytes (row_at bytes) };
 }
 
 /// Does nothing. It says that the numbers of rows in memory fit their widths.

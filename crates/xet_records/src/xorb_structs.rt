@@ -7,6 +7,8 @@ ghost use Rattle.std.specs.Io.KnownBytes.{Appends, Consumes};
 ghost use Rattle.xet_base.specs.Hash.{all_ones};
 ghost use Rattle.xet_base.specs.Errors.{IsEndOfInput, IsDeviceError, IsWriteError, IsNoEnd};
 ghost use Rattle.xet_records.specs.XorbRow.{xorb_header_row, chunk_row, FitsXorbHeader, FitsChunk, with_mark, IsEligibleChunk};
+ghost use Rattle.xet_records.specs.Decoding.{xorb_header_at, chunk_at};
+ghost use Rattle.xet_records.specs.DecodingLaws.{xorb_header_spelled, chunk_spelled};
 ghost use Rattle.xet_records.specs.XorbRecord.{xorb_bookend, xorb_row_count, xorb_record_bytes, end_of_chunk, boundaries, HasItsChunks, IsStoredXorb, xorb_records};
 ghost use Rattle.xet_records.specs.Rows.{WritesRow, ReadsWhole, LacksRow};
 ghost use Rattle.xet_records.specs.Reading.{ReadsOrEnds, IsCutShort};
@@ -101,6 +103,10 @@ impl Row for XorbChunkSequenceHeader {
     ghost Fits = { FitsXorbHeader };
 
     ghost handed_out = { λ h. h };
+
+    ghost row_at = { xorb_header_at };
+
+    ghost spelled = { xorb_header_spelled };
 
     #[tactic(auto, unfolding(crate::specs::XorbRow::xorb_header_row))]
     #[inline(always)]
@@ -220,6 +226,10 @@ impl Row for XorbChunkSequenceEntry {
     ghost Fits = { FitsChunk };
 
     ghost handed_out = { λ c. c };
+
+    ghost row_at = { chunk_at };
+
+    ghost spelled = { chunk_spelled };
 
     #[tactic(auto, unfolding(crate::specs::XorbRow::chunk_row))]
     #[inline(always)]

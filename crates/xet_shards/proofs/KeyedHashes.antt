@@ -5,14 +5,14 @@ use Rattle.std.proofs.lemmas.List.{length-map, length-append, length-take, lengt
 use Rattle.std.proofs.lemmas.List.Elements.{All-map}
 use Rattle.std.proofs.lemmas.List.Sums.{sum_by-cons}
 use Rattle.xet_base.specs.declared.merklehash.DataHash.{DataHash}
-use Rattle.xet_base.specs.Bytes.{u32_bytes, spelled_u64}
+use Rattle.xet_base.specs.Bytes.{u32_bytes, spelled_u64, AreBytes}
 use Rattle.xet_base.specs.Hash.{IsHash, hash_bytes, hash_eq}
 use Rattle.xet_base.specs.KeyedHash.{hmac, hash_of, keyed_bytes, digest, state_after, start_of, message_of, no_key, under_key}
+use Rattle.xet_base.proofs.Bytes.{take-bytes, drop-bytes, append-bytes}
 use Rattle.xet_records.specs.declared.xorb_structs.MDBXorbInfo.{MDBXorbInfo}
 use Rattle.xet_records.specs.declared.xorb_structs.XorbChunkSequenceEntry.{XorbChunkSequenceEntry}
 use Rattle.xet_records.specs.XorbRow.{FitsChunk}
 use Rattle.xet_records.specs.XorbRecord.{xorb_records, xorb_row_count, IsStoredXorb}
-use Rattle.xet_records.proofs.Decoding.{AreBytes, take-bytes, drop-bytes}
 use Rattle.xet_shards.specs.Section.{total_rows}
 use Rattle.xet_shards.specs.InForm.{FitsSection}
 use Rattle.xet_shards.specs.KeyedExport.{keyed_chunk, keyed_xorb, keyed_xorbs}
@@ -25,23 +25,18 @@ u32_are n (suc (suc zero)) = omega arith
 u32_are n (suc (suc (suc zero))) = omega arith
 u32_are n (suc (suc (suc (suc i)))) = omega arith
 
-both_are : (xs ys : List ℕ) → AreBytes xs → AreBytes ys → AreBytes (xs ++ ys)
-both_are [] ys first last i = last i
-both_are (x ∷ xs) ys first last zero = first zero
-both_are (x ∷ xs) ys first last (suc i) = both_are xs ys (λ j. first (suc j)) last i
-
 digest_are : (v : List ℕ) → AreBytes (digest v)
 unfolding digest
 digest_are v =
     let word : ℕ → List ℕ = λ i. u32_bytes (bit_xor (slice_index v i) (slice_index v (i + 8))) in
     let are : (i : ℕ) → AreBytes (word i) = λ i. u32_are (bit_xor (slice_index v i) (slice_index v (i + 8))) in
-    let two = both_are (word 0) (word 1) (are 0) (are 1) in
-    let three = both_are (word 0 ++ word 1) (word 2) two (are 2) in
-    let four = both_are ((word 0 ++ word 1) ++ word 2) (word 3) three (are 3) in
-    let five = both_are (((word 0 ++ word 1) ++ word 2) ++ word 3) (word 4) four (are 4) in
-    let six = both_are ((((word 0 ++ word 1) ++ word 2) ++ word 3) ++ word 4) (word 5) five (are 5) in
-    let seven = both_are (((((word 0 ++ word 1) ++ word 2) ++ word 3) ++ word 4) ++ word 5) (word 6) six (are 6) in
-    both_are ((((((word 0 ++ word 1) ++ word 2) ++ word 3) ++ word 4) ++ word 5) ++ word 6) (word 7) seven (are 7)
+    let two = append-bytes (word 0) (word 1) (are 0) (are 1) in
+    let three = append-bytes (word 0 ++ word 1) (word 2) two (are 2) in
+    let four = append-bytes ((word 0 ++ word 1) ++ word 2) (word 3) three (are 3) in
+    let five = append-bytes (((word 0 ++ word 1) ++ word 2) ++ word 3) (word 4) four (are 4) in
+    let six = append-bytes ((((word 0 ++ word 1) ++ word 2) ++ word 3) ++ word 4) (word 5) five (are 5) in
+    let seven = append-bytes (((((word 0 ++ word 1) ++ word 2) ++ word 3) ++ word 4) ++ word 5) (word 6) six (are 6) in
+    append-bytes ((((((word 0 ++ word 1) ++ word 2) ++ word 3) ++ word 4) ++ word 5) ++ word 6) (word 7) seven (are 7)
 
 keyed_are : (key message : List ℕ) → AreBytes (keyed_bytes key message)
 unfolding keyed_bytes

@@ -4,6 +4,8 @@ ghost use Rattle.std.specs.Prelude.{◌≡◌, ◌+◌, ◌^◌, ◌<◌, ◌≤
 ghost use Rattle.xet_base.specs.Errors.{IsNoEnd};
 ghost use Rattle.xet_base.specs.Hash.{all_ones};
 ghost use Rattle.xet_records.specs.FileRow.{header_row, FitsHeader};
+ghost use Rattle.xet_records.specs.Decoding.{header_at};
+ghost use Rattle.xet_records.specs.DecodingLaws.{header_spelled};
 ghost use Rattle.xet_records.specs.Part.{bit_of, announces, flags_of, these_parts, with_flag, part_rows, rows_before, optional_rows_after};
 ghost use Rattle.xet_records.specs.FileRecord.{has_verification, has_metadata_ext, has_aux_ext, file_bookend, rows_after};
 ghost use Rattle.xet_records.specs.Rows.{WritesRow, ReadsWhole, LacksRow};
@@ -330,6 +332,10 @@ impl Row for FileDataSequenceHeader {
     ghost Fits = { FitsHeader };
 
     ghost handed_out = { λ h. h };
+
+    ghost row_at = { header_at };
+
+    ghost spelled = { header_spelled };
 
     #[tactic(auto, unfolding(crate::specs::FileRow::header_row))]
     #[inline(always)]

@@ -3,6 +3,8 @@
 ghost use Rattle.std.specs.Prelude.{◌≡◌, ◌^◌, ◌<◌, [], ◌∷◌, length, IfOk, MatchResult, IfErr};
 ghost use Rattle.xet_base.specs.Errors.{IsNoEnd};
 ghost use Rattle.xet_records.specs.FileRow.{segment_row, hash_row, FitsSegment, FitsHashRow, clear};
+ghost use Rattle.xet_records.specs.Decoding.{segment_at, hash_row_at};
+ghost use Rattle.xet_records.specs.DecodingLaws.{segment_spelled, hash_row_spelled};
 ghost use Rattle.xet_records.specs.XorbRecord.{total_bytes, segment_of};
 ghost use Rattle.xet_records.specs.Rows.{WritesRow, ReadsWhole, ReadsCleared, LacksRow};
 
@@ -108,6 +110,10 @@ impl Row for FileDataSequenceEntry {
 
     ghost handed_out = { λ s. s };
 
+    ghost row_at = { segment_at };
+
+    ghost spelled = { segment_spelled };
+
     #[tactic(auto, unfolding(crate::specs::FileRow::segment_row))]
     #[inline(always)]
     fn to_bytes(&self) -> [u8; 48] {
@@ -153,6 +159,10 @@ impl Row for HashRow {
     ghost Fits = { FitsHashRow };
 
     ghost handed_out = { clear };
+
+    ghost row_at = { hash_row_at };
+
+    ghost spelled = { hash_row_spelled };
 
     #[tactic(auto, unfolding(crate::specs::FileRow::hash_row))]
     #[inline(always)]
@@ -256,6 +266,10 @@ impl Row for FileVerificationEntry {
 
     ghost handed_out = { clear };
 
+    ghost row_at = { hash_row_at };
+
+    ghost spelled = { hash_row_spelled };
+
     #[inline(always)]
     fn to_bytes(&self) -> [u8; 48] {
         self.row().to_bytes()
@@ -337,6 +351,10 @@ impl Row for FileMetadataExt {
     ghost Fits = { FitsHashRow };
 
     ghost handed_out = { clear };
+
+    ghost row_at = { hash_row_at };
+
+    ghost spelled = { hash_row_spelled };
 
     #[inline(always)]
     fn to_bytes(&self) -> [u8; 48] {
@@ -420,6 +438,10 @@ impl Row for FileAuxExt {
     ghost Fits = { FitsHashRow };
 
     ghost handed_out = { clear };
+
+    ghost row_at = { hash_row_at };
+
+    ghost spelled = { hash_row_spelled };
 
     #[inline(always)]
     fn to_bytes(&self) -> [u8; 48] {

@@ -25,6 +25,7 @@ use std::io::{ErrorKind, Write};
 use std::marker::Model;
 use xet_base::error::{CoreError, Result};
 use xet_base::merklehash::MerkleHash;
+use xet_base::row::all_bytes;
 use xet_base::serialization_utils::write_bytes;
 
 /// Which of a record's verification rows and auxiliary row are written; all else always is.
@@ -121,7 +122,7 @@ impl MDBFileInfoView {
             (λ view. BeginsWithFile bytes view × (view.metadata ≡ header))
             (NoView file_records bytes) }
     {
-        record_bytes::all_bytes(bytes.as_slice());
+        all_bytes(bytes.as_slice());
         if header.rows_after() > u64::from(u32::MAX) {
             return Err(CoreError::InvalidShard(String::new(alloc)));
         }
@@ -426,7 +427,7 @@ impl RecordView<MDBFileInfo> for MDBFileInfoView {
     ghost shown = { λ view. view };
 
     fn of_bytes(header: FileDataSequenceHeader, bytes: Bytes) -> MDBFileInfoView {
-        record_bytes::all_bytes(bytes.as_slice());
+        all_bytes(bytes.as_slice());
         MDBFileInfoView { header, bytes }
     }
 }

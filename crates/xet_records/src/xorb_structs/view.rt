@@ -22,6 +22,7 @@ use std::io::Write;
 use std::marker::Model;
 use xet_base::error::{CoreError, Result};
 use xet_base::merklehash::MerkleHash;
+use xet_base::row::all_bytes;
 use xet_base::serialization_utils::write_bytes;
 
 /// A xorb record as its bytes. Contracts see the record that the bytes are.
@@ -91,7 +92,7 @@ impl MDBXorbInfoView {
             (λ view. BeginsWithXorb bytes view × (view.metadata ≡ header))
             (NoView xorb_records bytes) }
     {
-        record_bytes::all_bytes(bytes.as_slice());
+        all_bytes(bytes.as_slice());
         let bytes = record_bytes::cut(bytes, header.num_entries)?;
         Ok(MDBXorbInfoView { header, bytes })
     }
@@ -232,7 +233,7 @@ impl RecordView<MDBXorbInfo> for MDBXorbInfoView {
     ghost shown = { λ view. view };
 
     fn of_bytes(header: XorbChunkSequenceHeader, bytes: Bytes) -> MDBXorbInfoView {
-        record_bytes::all_bytes(bytes.as_slice());
+        all_bytes(bytes.as_slice());
         MDBXorbInfoView { header, bytes }
     }
 }

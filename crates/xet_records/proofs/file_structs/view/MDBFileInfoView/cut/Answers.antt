@@ -1,8 +1,8 @@
 use Rattle.std.proofs.Common.{subst, arith}
+use Rattle.xet_base.specs.Bytes.{AreBytes}
 use Rattle.xet_records.specs.FileRecord.{file_records}
 use Rattle.xet_records.specs.Decoding.{file_at}
 use Rattle.xet_records.specs.View.{IsWholeFile}
-use Rattle.xet_records.proofs.Decoding.{AreBytes}
 use Rattle.xet_records.proofs.Views.{file_decoding, cut_shown, shown_begins}
 use Rattle.xet_records.proofs.file_structs.view.MDBFileInfoView.cut.Goals as goal
 

@@ -1,9 +1,9 @@
 use Rattle.std.proofs.Common.{refl, sym, subst, arith}
 use Rattle.std.proofs.lemmas.List.{take_all}
+use Rattle.xet_base.specs.Bytes.{AreBytes}
 use Rattle.xet_records.specs.FileRecord.{file_records}
 use Rattle.xet_records.specs.Decoding.{file_at}
 use Rattle.xet_records.specs.View.{IsWholeFile}
-use Rattle.xet_records.proofs.Decoding.{AreBytes}
 use Rattle.xet_records.proofs.Views.{file_decoding, cut_shown, file_stored}
 use Rattle.xet_records.proofs.file_structs.view.MDBFileInfoViewRecordViewMDBFileInfo.of_bytes.Goals as goal
 

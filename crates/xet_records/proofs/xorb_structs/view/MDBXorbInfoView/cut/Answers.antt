@@ -1,8 +1,8 @@
 use Rattle.std.proofs.Common.{refl, subst, arith}
+use Rattle.xet_base.specs.Bytes.{AreBytes}
 use Rattle.xet_records.specs.XorbRecord.{xorb_records}
 use Rattle.xet_records.specs.Decoding.{xorb_at}
 use Rattle.xet_records.specs.View.{IsWholeXorb}
-use Rattle.xet_records.proofs.Decoding.{AreBytes}
 use Rattle.xet_records.proofs.Views.{xorb_decoding, cut_shown, shown_begins}
 use Rattle.xet_records.proofs.xorb_structs.view.MDBXorbInfoView.cut.Goals as goal
 

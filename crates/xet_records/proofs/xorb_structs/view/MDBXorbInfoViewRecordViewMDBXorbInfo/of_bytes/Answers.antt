@@ -1,9 +1,9 @@
 use Rattle.std.proofs.Common.{refl, sym, subst, arith}
 use Rattle.std.proofs.lemmas.List.{take_all}
+use Rattle.xet_base.specs.Bytes.{AreBytes}
 use Rattle.xet_records.specs.XorbRecord.{xorb_records}
 use Rattle.xet_records.specs.Decoding.{xorb_at}
 use Rattle.xet_records.specs.View.{IsWholeXorb}
-use Rattle.xet_records.proofs.Decoding.{AreBytes}
 use Rattle.xet_records.proofs.Views.{xorb_decoding, cut_shown, xorb_stored}
 use Rattle.xet_records.proofs.xorb_structs.view.MDBXorbInfoViewRecordViewMDBXorbInfo.of_bytes.Goals as goal
 
