@@ -24,7 +24,7 @@ use Rattle.xet_core_structures.proofs.MergeTrees.{keyed_tree}
 use Rattle.xet_core_structures.proofs.Zipped.{zipped_append, zipped_member, zipped_and}
 
 -- two inputs that disagree are not such that agree
-of_hash : (s t : Shard) (h : RecordHash) → DisagreeShards s t h → ¬ ShardsAgree s t
+pub of_hash : (s t : Shard) (h : RecordHash) → DisagreeShards s t h → ¬ ShardsAgree s t
 of_hash s t (File q) (a, b, a_at, b_at, differ) agree = differ (agree.files q a b a_at b_at)
 of_hash s t (Xorb q) (a, b, a_at, b_at, differ) agree = differ (agree.xorbs q a b a_at b_at)
 

@@ -53,7 +53,7 @@ module _ {H R : Type 0} (K : RecordKind H R) (laws : KindLaws K) where
   pub header_placed : (p : PlacedRecord H) (r : R) → Places K p r → K.header_of r ≡ p.header
   header_placed p r places = header_of_found K laws _ p.header r places.rows
 
-  key_placed : (p : PlacedRecord H) (r : R) → Places K p r → key_of_record K r ≡ hash_at K p
+  pub key_placed : (p : PlacedRecord H) (r : R) → Places K p r → key_of_record K r ≡ hash_at K p
   key_placed p r places = ap K.hash_of (header_placed p r places)
 
   pub rows_placed : (p : PlacedRecord H) (r : R) → Places K p r → K.row_count r ≡ 1 + K.rows_after p.header

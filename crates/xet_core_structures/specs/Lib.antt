@@ -2,6 +2,7 @@ pub mod Agreement
 pub mod ByteResults
 pub mod ByteUnion
 pub mod Combining
+pub mod Differing
 pub mod Equality
 pub mod ExportTrees
 pub mod Held

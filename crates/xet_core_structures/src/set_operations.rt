@@ -16,7 +16,9 @@ mod record_operation;
 mod results;
 mod sections;
 
-pub use agreement::{Disagreement, Merged, RecordHash, find_disagreement, merge_agreeing};
+pub use agreement::{
+    Disagreement, Merged, RecordHash, find_disagreement, find_disagreements, merge_agreeing,
+};
 use bumpalo::Bump;
 use parts::{part_bytes, place_tree};
 use record_operation::{OfDifference, OfUnion};

@@ -278,8 +278,8 @@ fn next_turn<'a, R: SectionRecord, U: PlacedUnion<R>>(
     }
 }
 
-// The record of a list.
-fn copied<'a, H: Copy>(placed: &PlacedRecord<'a, H>) -> PlacedRecord<'a, H>
+/// The record of a list.
+pub fn copied<'a, H: Copy>(placed: &PlacedRecord<'a, H>) -> PlacedRecord<'a, H>
     ensures { result ≡ placed.now }
 {
     PlacedRecord {

@@ -1,7 +1,9 @@
-use Rattle.std.proofs.Common.{inr, ℕ, List, map}
+use Rattle.std.proofs.Common.{◌≤◌, inr, ℕ, List, length, map, take_all, rules, arith, subst}
 use Rattle.std.specs.Borrow.{Bor}
+use Rattle.std.proofs.lemmas.List.{length-map}
 use Rattle.std.proofs.lemmas.Result.{err_from_is_err_and}
-use Rattle.xet_core_structures.proofs.AgreeingInputs.{placed_more}
+use Rattle.xet_core_structures.specs.Agreement.{ArePlaced}
+use Rattle.xet_core_structures.proofs.AgreeingInputs.{inputs_more}
 use Rattle.xet_core_structures.proofs.set_operations.agreement.place_inputs.Goals as goal
 
 pub returns-in_err-shard : goal.returns-in_err-shard
@@ -12,4 +14,10 @@ returns-in_err-shard c =
 pub loop-at-preserved : goal.loop-at-preserved
 loop-at-preserved c =
     let inputs : List (List ℕ) = map (λ (x : Bor (List ℕ)). x.now) c.args.inputs.now in
-    rw c.in_ok-push.ensures.items (placed_more c.loop-at.shards.items inputs c.loop-at.at c.in_ok-shard.shard c.input_at-bytes.result.now c.input_at-bytes.ensures c.loop-at.invariant c.in_ok-shard.ensures)
+    inputs_more inputs c.loop-at.at (record { files = c.loop-at.files; xorbs = c.loop-at.xorbs }) _ c.in_ok-shard.shard c.input_at-bytes.result.now c.input_at-bytes.ensures c.loop-at.invariant c.in_ok-shard.ensures c.in_ok-push.ensures.items c.in_ok-push-2.ensures.items
+
+pub returns : goal.returns
+returns c =
+    let inputs : List (List ℕ) = map (λ (x : Bor (List ℕ)). x.now) c.args.inputs.now in
+    let all : length c.args.inputs.now ≤ c.loop-at.at = search rules in
+    subst (λ l. ArePlaced l (record { files = c.loop-at.files; xorbs = c.loop-at.xorbs })) (take_all c.loop-at.at inputs (omega (arith, all, length-map c.args.inputs.now (λ (x : Bor (List ℕ)). x.now)))) c.loop-at.invariant

@@ -1,0 +1,24 @@
+use Rattle.std.proofs.Common.{◌<◌, ◌≤◌, length, map, rules, refl, ap, ◌∙◌, subst, arith}
+use Rattle.std.proofs.lemmas.List.{length-map}
+use Rattle.std.specs.Prelude.{option_map}
+use Rattle.std.proofs.lemmas.Option.{slice_get_read, slice_get-map}
+use Rattle.xet_core_structures.specs.Differing.{AddsPlaces}
+use Rattle.xet_core_structures.proofs.HashRuns.{places_on, all_places, places_permuted}
+use Rattle.xet_core_structures.proofs.set_operations.agreement.runs.sorted_places.Goals as goal
+
+pub loop-input-preserved : goal.loop-input-preserved
+loop-input-preserved g c =
+    let low : c.loop-input.input < length c.args.lists.now = search rules in
+    let at = slice_get-map (λ x. x.items) c.args.lists.now c.loop-input.input
+    ∙ ap (option_map (λ x. x.items)) (slice_get_read c.args.lists.now (length c.args.lists.now) c.loop-input.input c.index-lists-input.result refl low c.index-lists-input.is) in
+    places_on g.R.SectionRecord.kind (map (λ x. x.items) c.args.lists.now) c.loop-input.input c.index-lists-input.result.items c.loop-input.places.items c.add_places.new.places.items at c.loop-input.invariant
+    (subst (λ l. AddsPlaces g.R.SectionRecord.kind c.loop-input.input l c.loop-input.places.items c.add_places.new.places.items) c.as_slice.ensures.value c.in_ok-add_places.ensures.ok)
+
+pub returns : goal.returns
+returns g c =
+    let all : length c.args.lists.now ≤ c.loop-input.input = search rules in
+    let past : length (map (λ x. x.items) c.args.lists.now) ≤ c.loop-input.input = omega (arith, all, length-map c.args.lists.now (λ x. x.items)) in (
+      places_permuted g.R.SectionRecord.kind (map (λ x. x.items) c.args.lists.now) c.loop-input.places.items c.sort_unstable.new.self.items c.sort_unstable.ensures.permutation
+          (all_places g.R.SectionRecord.kind (map (λ x. x.items) c.args.lists.now) c.loop-input.input c.loop-input.places.items past c.loop-input.invariant),
+      c.sort_unstable.ensures.sorted,
+    )

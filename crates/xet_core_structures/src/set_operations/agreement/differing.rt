@@ -1,0 +1,270 @@
+//! The hashes under which lists of records have records that do not agree.
+
+ghost use Rattle.std.specs.Prelude.{◌≡◌, ◌+◌, ◌<◌, ◌≤◌, ℕ, IsTrue, List, Contains, Some, length, map, take, slice_get, MatchOption, MatchResult};
+ghost use Rattle.std.specs.List.{AllZip};
+ghost use Rattle.std.specs.List.Sorted.{IsSorted};
+ghost use Rattle.xet_base.specs.declared.error.CoreError.TheVariants.{OutOfMemory};
+ghost use Rattle.xet_core_structures.specs.Placed.{Places, MayUnite};
+ghost use Rattle.xet_core_structures.specs.Differing.{place_cmp, IsPlace, IsRun, IsRecordAt, ComparesRun, AgreeWithin, DifferWithin, IsComparing, FindsDiffering, Covers, KeepsRecord, IsAgainst};
+
+use super::super::placed::{PlacedRecord, copied};
+use super::kinds::Agreement;
+use super::runs::{Place, run_end, sorted_places};
+use std::alloc::Global;
+use xet_base::error::{CoreError, Result};
+use xet_base::input::OfSource;
+use xet_base::merklehash::MerkleHash;
+use xet_base::source::MemorySource;
+use xet_records::record_reader::SectionRecord;
+use xet_records::rows::ROW_SIZE;
+
+/// Two lists that have records with one hash that do not agree.
+#[derive(Clone, Copy)]
+pub struct Differing {
+    pub hash: MerkleHash,
+    /// The number of the one list.
+    pub first: usize,
+    /// The number of the other.
+    pub second: usize,
+}
+
+/// A record that was read, and the number of the list that has it.
+#[derive(Drop)]
+pub struct ReadRecord<R> {
+    pub input: usize,
+    pub value: R,
+}
+
+/// For each hash under which two lists have records that do not agree, two such lists, in ascending
+/// order of the hashes.
+pub fn find_differing<R: SectionRecord + Drop, A: Agreement<R>>(
+    alloc: Global,
+    lists: &[Vec<PlacedRecord<'_, R::Header>>],
+) -> Result<Vec<Differing>>
+    ensures { MatchResult result
+        (λ found. (all : List (List R))
+        → AllZip (MayUnite R.kind) (map (λ l. l.items) lists.now) all
+        → FindsDiffering R.kind A.agree all found.items)
+        (λ e. e ≡ OutOfMemory) }
+{
+    R::laws();
+    let places = sorted_places::<R>(alloc, lists)?;
+    let mut found = Vec::new(alloc);
+    let mut from = 0;
+    while from < places.len() {
+        from = compare_run::<R, A>(alloc, lists, places.as_slice(), from, &mut found)?;
+    }
+    Ok(found)
+}
+
+// Compares the records of the run that begins at a place, and adds what differs. Where it ends.
+fn compare_run<R: SectionRecord + Drop, A: Agreement<R>>(
+    alloc: Global,
+    lists: &[Vec<PlacedRecord<'_, R::Header>>],
+    places: &[Place],
+    from: usize,
+    found: &mut Vec<Differing>,
+) -> Result<usize>
+    requires within { from < length places.now }
+    requires sorted { IsSorted place_cmp places.now }
+    requires each { (p : Place) → Contains places.now p
+        → IsPlace R.kind (map (λ l. l.items) lists.now) p }
+    ensures { MatchResult result
+        (λ to. IsRun places.now from to
+        × ComparesRun R.kind A.agree (map (λ l. l.items) lists.now) places.now from to
+        found.old.items found.new.items)
+        (λ e. e ≡ OutOfMemory) }
+{
+    let to = run_end(places, from);
+    match differ_in_run::<R, A>(alloc, lists, places, from, to)? {
+        Some(differing) => {
+            found.push(differing)?;
+            Ok(to)
+        }
+        None => Ok(to),
+    }
+}
+
+// Two records of a run that do not agree. Of those that agree, a record is kept only if it has parts
+// that no other has, so that each is read once and compared with few.
+fn differ_in_run<R: SectionRecord + Drop, A: Agreement<R>>(
+    alloc: Global,
+    lists: &[Vec<PlacedRecord<'_, R::Header>>],
+    places: &[Place],
+    from: usize,
+    to: usize,
+) -> Result<Option<Differing>>
+    requires run { IsRun places.now from to }
+    requires each { (p : Place) → Contains places.now p
+        → IsPlace R.kind (map (λ l. l.items) lists.now) p }
+    ensures { MatchResult result
+        (λ found. MatchOption found
+        (AgreeWithin R.kind A.agree (map (λ l. l.items) lists.now) places.now from to)
+        (DifferWithin R.kind A.agree (map (λ l. l.items) lists.now) places.now from to))
+        (λ e. e ≡ OutOfMemory) }
+{
+    R::laws();
+    if to - from == 1 {
+        return Ok(None);
+    }
+    let mut kept = Vec::new(alloc);
+    let mut at = from;
+    while at < to {
+        match compare_at::<R, A>(alloc, lists, places, from, at, &mut kept)? {
+            Some(differing) => return Ok(Some(differing)),
+            None => at += 1,
+        }
+    }
+    Ok(None)
+}
+
+// Compares the record at a place of a run, which begins at `from`, with those that are kept.
+fn compare_at<R: SectionRecord + Drop, A: Agreement<R>>(
+    alloc: Global,
+    lists: &[Vec<PlacedRecord<'_, R::Header>>],
+    places: &[Place],
+    from: usize,
+    at: usize,
+    kept: &mut Vec<ReadRecord<R>>,
+) -> Result<Option<Differing>>
+    requires run { (to : ℕ) × IsRun places.now from to × (at < to) }
+    requires each { (p : Place) → Contains places.now p
+        → IsPlace R.kind (map (λ l. l.items) lists.now) p }
+    requires comparing { IsComparing R.kind A.agree (map (λ l. l.items) lists.now) places.now from
+        at kept.now.items }
+    ensures { MatchResult result
+        (λ found. MatchOption found
+        (IsComparing R.kind A.agree (map (λ l. l.items) lists.now) places.now from (at + 1)
+        kept.new.items)
+        (DifferWithin R.kind A.agree (map (λ l. l.items) lists.now) places.now from (at + 1)))
+        (λ e. e ≡ OutOfMemory) }
+{
+    R::laws();
+    let place = places[at];
+    if from < at && is_copy::<R, A>(lists, places[from], place) {
+        return Ok(None);
+    }
+    let next = read_at::<R>(alloc, lists, place)?;
+    match keep_record::<R, A>(kept, place.input, next)? {
+        Some(first) => Ok(Some(Differing {
+            hash: place.hash,
+            first,
+            second: place.input,
+        })),
+        None => Ok(None),
+    }
+}
+
+// Keeps a record unless one that is kept covers it. The number of the list of one that does not
+// agree with it, or `None`.
+fn keep_record<R: SectionRecord + Drop, A: Agreement<R>>(
+    kept: &mut Vec<ReadRecord<R>>,
+    input: usize,
+    next: R,
+) -> Result<Option<usize>>
+    ensures { MatchResult result
+        (λ found. MatchOption found
+        (KeepsRecord A.agree input next kept.old.items kept.new.items)
+        (IsAgainst A.agree kept.old.items next))
+        (λ e. e ≡ OutOfMemory) }
+{
+    match find_against::<R, A>(kept.as_slice(), &next) {
+        Some(first) => Ok(Some(first)),
+        None => {
+            if is_covered::<R, A>(kept.as_slice(), &next) {
+                return Ok(None);
+            }
+            kept.push(ReadRecord { input, value: next })?;
+            Ok(None)
+        }
+    }
+}
+
+// The number of the list of a record that does not agree with this one, or `None`.
+fn find_against<R: SectionRecord, A: Agreement<R>>(
+    kept: &[ReadRecord<R>],
+    next: &R,
+) -> Option<usize>
+    ensures { MatchOption result
+        ((k : ReadRecord R) → Contains kept.now k → A.agree k.value next.now)
+        (IsAgainst A.agree kept.now next.now) }
+{
+    for one in kept {
+        if !A::are_agreed(&one.value, next) {
+            return Some(one.input);
+        }
+    }
+    None
+}
+
+// Whether a record has no parts beyond those of one that is kept.
+fn is_covered<R: SectionRecord, A: Agreement<R>>(kept: &[ReadRecord<R>], next: &R) -> bool
+    requires { (k : ReadRecord R) → Contains kept.now k → A.agree k.value next.now }
+    ensures { IsTrue result
+        → (k : ReadRecord R) × Contains kept.now k × Covers A.agree k.value next.now }
+{
+    for one in kept {
+        if A::has_parts_of(&one.value, next) {
+            return true;
+        }
+    }
+    false
+}
+
+// Whether the record at a place has the bytes of that at another.
+fn is_copy<R: SectionRecord, A: Agreement<R>>(
+    lists: &[Vec<PlacedRecord<'_, R::Header>>],
+    first: Place,
+    place: Place,
+) -> bool
+    requires first { IsPlace R.kind (map (λ l. l.items) lists.now) first }
+    requires place { IsPlace R.kind (map (λ l. l.items) lists.now) place }
+    ensures { IsTrue result → (r : R) → IsRecordAt R.kind (map (λ l. l.items) lists.now) place r
+        → IsRecordAt R.kind (map (λ l. l.items) lists.now) first r }
+{
+    R::laws();
+    let one = placed_at(lists, first);
+    let other = placed_at(lists, place);
+    let size = ROW_SIZE as u64 * R::rows_after(&one.header);
+    A::are_one_header(&one.header, &other.header) && begin_alike(one.rows, other.rows, size)
+}
+
+// Whether two byte strings have the same bytes at their front, so many of them.
+fn begin_alike(first: &[u8], second: &[u8], size: u64) -> bool
+    ensures { IsTrue result → (size ≤ length first.now) × (size ≤ length second.now)
+        × (take size first.now ≡ take size second.now) }
+{
+    if size > first.len() as u64 || size > second.len() as u64 {
+        return false;
+    }
+    first[..size as usize] == second[..size as usize]
+}
+
+// Reads the record at a place. It is there to be read, so this fails only if an allocation does.
+fn read_at<R: SectionRecord + Drop>(
+    alloc: Global,
+    lists: &[Vec<PlacedRecord<'_, R::Header>>],
+    place: Place,
+) -> Result<R>
+    requires { IsPlace R.kind (map (λ l. l.items) lists.now) place }
+    ensures { MatchResult result
+        (λ found. (r : R) → IsRecordAt R.kind (map (λ l. l.items) lists.now) place r → found ≡ r)
+        (λ e. e ≡ OutOfMemory) }
+{
+    R::laws();
+    let placed = placed_at(lists, place);
+    let mut rows = MemorySource::new(placed.rows);
+    match R::read_rows_after::<OfSource, MemorySource<'_>>(alloc, &mut rows, placed.header) {
+        Ok(record) => Ok(record),
+        Err(_) => Err(CoreError::OutOfMemory),
+    }
+}
+
+// The record at a place.
+fn placed_at<'a, H: Copy>(lists: &[Vec<PlacedRecord<'a, H>>], place: Place) -> PlacedRecord<'a, H>
+    requires input { place.input < length lists.now }
+    requires index { (l : List (PlacedRecord H)) → slice_get (map (λ l. l.items) lists.now) place.input ≡ Some l → place.index < length l }
+    ensures { (l : List (PlacedRecord H)) → slice_get (map (λ l. l.items) lists.now) place.input ≡ Some l → slice_get l place.index ≡ Some result }
+{
+    copied(&lists[place.input].as_slice()[place.index])
+}

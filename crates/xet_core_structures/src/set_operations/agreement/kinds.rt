@@ -1,0 +1,174 @@
+//! When two records with one hash agree: xorbs if they are equal, and files if they have equal
+//! segments, and an equal optional part wherever both have it.
+
+ghost use Rattle.std.specs.Prelude.{◌≡◌, ◌↔◌, IsTrue};
+ghost use Rattle.xet_base.specs.declared.merklehash.DataHash.{DataHash};
+ghost use Rattle.xet_records.specs.Merging.{Agree};
+ghost use Rattle.xet_core_structures.specs.declared.set_operations.agreement.RecordHash.{RecordHash};
+ghost use Rattle.xet_core_structures.specs.declared.set_operations.agreement.RecordHash.TheVariants.{File, Xorb};
+ghost use Rattle.xet_core_structures.specs.Agreement.{AreEqual};
+
+use super::super::record_operation::OfUnion;
+use super::RecordHash;
+use xet_base::merklehash::MerkleHash;
+use xet_records::file_structs::{FileDataSequenceHeader, MDBFileInfo, SupersetResult};
+use xet_records::record_reader::SectionRecord;
+use xet_records::xorb_structs::{MDBXorbInfo, XorbChunkSequenceHeader};
+
+/// When two records with one hash agree.
+pub trait Agreement<R: SectionRecord> {
+    ghost agree: { R → R → Type 0 };
+
+    ghost named: { DataHash → RecordHash };
+
+    /// A hash, and whose it is.
+    fn name(hash: MerkleHash) -> RecordHash
+        ensures { result ≡ named hash };
+
+    /// Whether two records agree.
+    fn are_agreed(first: &R, second: &R) -> bool
+        ensures { IsTrue result ↔ agree first.now second.now };
+
+    /// Whether a record has all parts of another. If they agree, what agrees with the first then
+    /// agrees with the second.
+    fn has_parts_of(first: &R, second: &R) -> bool
+        ensures { IsTrue result → agree first.now second.now → (r : R) → agree first.now r
+            → agree second.now r };
+
+    /// Whether two headers are equal.
+    fn are_one_header(first: &R::Header, second: &R::Header) -> bool
+        ensures { IsTrue result → first.now ≡ second.now };
+
+    ghost agrees_with_itself: { (r : R) → agree r r };
+
+    ghost either_way: { (r s : R) → agree r s → agree s r };
+}
+
+impl Agreement<MDBFileInfo> for OfUnion {
+    ghost use Rattle.std.proofs.Common.{refl, sym};
+
+    ghost agree = { Agree };
+
+    ghost named = { File };
+
+    fn name(hash: MerkleHash) -> RecordHash {
+        RecordHash::File(hash)
+    }
+
+    fn are_agreed(first: &MDBFileInfo, second: &MDBFileInfo) -> bool {
+        all_of(
+            same_segments(first, second),
+            agree_on(
+                first.contains_verification(),
+                second.contains_verification(),
+                same_verification(first, second),
+            ),
+            agree_on(
+                first.contains_metadata_ext(),
+                second.contains_metadata_ext(),
+                same_metadata_ext(first, second),
+            ),
+            agree_on(
+                first.contains_aux_ext(),
+                second.contains_aux_ext(),
+                same_aux_ext(first, second),
+            ),
+        )
+    }
+
+    fn has_parts_of(first: &MDBFileInfo, second: &MDBFileInfo) -> bool {
+        match FileDataSequenceHeader::compare_flag_superset(&first.metadata, &second.metadata) {
+            SupersetResult::Equal | SupersetResult::SuperA => true,
+            SupersetResult::SuperB | SupersetResult::Neither => false,
+        }
+    }
+
+    fn are_one_header(first: &FileDataSequenceHeader, second: &FileDataSequenceHeader) -> bool {
+        first == second
+    }
+
+    ghost agrees_with_itself = { λ r. record { segments = refl; parts = λ part has also. refl } };
+
+    ghost either_way = { λ r s agree. record {
+      segments = sym agree.segments;
+      parts = λ part has also. sym (agree.parts part also has);
+    } };
+}
+
+// Whether a part is equal if both have it.
+fn agree_on(first_has: bool, second_has: bool, same: bool) -> bool
+    ensures { IsTrue result ↔ (IsTrue first_has → IsTrue second_has → IsTrue same) }
+{
+    !first_has || !second_has || same
+}
+
+fn all_of(segments: bool, verification: bool, metadata_ext: bool, aux_ext: bool) -> bool
+    ensures { IsTrue result ↔ (IsTrue segments × IsTrue verification × IsTrue metadata_ext
+        × IsTrue aux_ext) }
+{
+    segments && verification && metadata_ext && aux_ext
+}
+
+fn same_segments(first: &MDBFileInfo, second: &MDBFileInfo) -> bool
+    ensures { IsTrue result ↔ (first.now.segments ≡ second.now.segments) }
+{
+    first.segments == second.segments
+}
+
+fn same_verification(first: &MDBFileInfo, second: &MDBFileInfo) -> bool
+    ensures { IsTrue result ↔ (first.now.verification ≡ second.now.verification) }
+{
+    first.verification == second.verification
+}
+
+fn same_metadata_ext(first: &MDBFileInfo, second: &MDBFileInfo) -> bool
+    ensures { IsTrue result ↔ (first.now.metadata_ext ≡ second.now.metadata_ext) }
+{
+    first.metadata_ext == second.metadata_ext
+}
+
+fn same_aux_ext(first: &MDBFileInfo, second: &MDBFileInfo) -> bool
+    ensures { IsTrue result ↔ (first.now.aux_ext ≡ second.now.aux_ext) }
+{
+    first.aux_ext == second.aux_ext
+}
+
+impl Agreement<MDBXorbInfo> for OfUnion {
+    ghost use Rattle.std.proofs.Common.{refl, sym};
+
+    ghost agree = { AreEqual };
+
+    ghost named = { Xorb };
+
+    fn name(hash: MerkleHash) -> RecordHash {
+        RecordHash::Xorb(hash)
+    }
+
+    fn are_agreed(first: &MDBXorbInfo, second: &MDBXorbInfo) -> bool {
+        same_header(first, second) && same_chunks(first, second)
+    }
+
+    fn has_parts_of(_first: &MDBXorbInfo, _second: &MDBXorbInfo) -> bool {
+        true
+    }
+
+    fn are_one_header(first: &XorbChunkSequenceHeader, second: &XorbChunkSequenceHeader) -> bool {
+        first == second
+    }
+
+    ghost agrees_with_itself = { λ r. refl };
+
+    ghost either_way = { λ r s agree. sym agree };
+}
+
+fn same_header(first: &MDBXorbInfo, second: &MDBXorbInfo) -> bool
+    ensures { IsTrue result ↔ (first.now.metadata ≡ second.now.metadata) }
+{
+    first.metadata == second.metadata
+}
+
+fn same_chunks(first: &MDBXorbInfo, second: &MDBXorbInfo) -> bool
+    ensures { IsTrue result ↔ (first.now.chunks ≡ second.now.chunks) }
+{
+    first.chunks == second.chunks
+}
