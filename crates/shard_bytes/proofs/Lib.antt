@@ -1,3 +1,4 @@
+pub mod Agreeing
 pub mod Checking
 pub mod Combining
 pub mod Exclusive

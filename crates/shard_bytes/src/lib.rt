@@ -2,6 +2,7 @@
 //! returns bytes or an answer. No source, reader or writer is to be made by the caller.
 #![tactic(auto)]
 
+pub mod agree;
 pub mod check;
 pub mod combine;
 pub mod export;
