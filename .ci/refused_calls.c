@@ -6,7 +6,7 @@
 #include <stdlib.h>
 #include <string.h>
 
-enum { ROOM = 1 << 20, CALLS = 14 };
+enum { ROOM = 1 << 20, CALLS = 16 };
 
 void *__real_malloc(size_t size);
 void *__real_realloc(void *block, size_t size);
@@ -45,6 +45,10 @@ static union {
         xet_file file;
         xet_file_segment segments[100];
     } found;
+    struct {
+        xet_disagreement first;
+        uint8_t bytes[ROOM];
+    } agreeing;
 } out, before;
 
 static size_t read_shard(const char *name, uint8_t *bytes) {
@@ -60,9 +64,11 @@ static uint32_t call(int number, size_t *count) {
     const xet_subset_options times = {9, 0, false};
     const xet_hash file = {{100, 1, 0, 0}}, chunks[2] = {{{21, 1, 0, 0}}, {{22, 1, 0, 0}}}, xorb = {{10, 1, 0, 0}};
     const xet_bytes both[2] = {{first, first_length}, {second, second_length}};
+    const xet_bytes twice[2] = {{first, first_length}, {first, first_length}};
+    size_t differing = 0;
     const char *name = "0000000000000001000000000000000200000000000000030000000000000004.mdb";
     /* These write no count. */
-    if (number == 6 || number > 10)
+    if (number == 6 || number > 12)
         *count = 0;
     switch (number) {
     case 0:
@@ -88,8 +94,12 @@ static uint32_t call(int number, size_t *count) {
     case 10:
         return xet_shard_name(&file, out.bytes, ROOM, count);
     case 11:
-        return xet_hash_from_hex((const uint8_t *)name, 64, out.hashes);
+        return xet_merge_agreeing(twice, 2, out.agreeing.bytes, ROOM, count, &differing, &out.agreeing.first);
     case 12:
+        return xet_find_disagreement(twice, 2, count, &out.agreeing.first);
+    case 13:
+        return xet_hash_from_hex((const uint8_t *)name, 64, out.hashes);
+    case 14:
         return xet_parse_shard_name((const uint8_t *)name, 68, out.hashes);
     default:
         return xet_load(first, first_length, &out.info);

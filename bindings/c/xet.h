@@ -56,7 +56,8 @@ enum xet_error {
     XET_HASH_PARSING = 16,            /* a text is not the digits of a hash */
     XET_CHUNK_HEADER_PARSE = 17,      /* * */
     XET_OUT_OF_MEMORY = 18,           /* an allocation failed */
-    XET_SHORT = 19                    /* the output does not fit the room that was given */
+    XET_SHORT = 19,                   /* the output does not fit the room that was given */
+    XET_DISAGREE = 20                 /* two shards that have to agree do not */
 };
 
 /* The name of an error, as "InvalidShard"; "Ok" of 0 and "Unknown" of other numbers. */
@@ -65,6 +66,7 @@ static inline const char *xet_error_name(uint32_t error) {
         "Ok", "Io", "InternalError", "Other", "TruncatedHashCollision", "ShardVersion", "BadFilename", "ShardNotFound",
         "FileNotFound", "QueryFailed", "SmudgeQueryPolicy", "InvalidShard", "InvalidRange", "InvalidArguments",
         "MalformedData", "HashMismatch", "HashParsing", "ChunkHeaderParse", "OutOfMemory", "Short",
+        "Disagree",
     };
     return error < sizeof names / sizeof *names ? names[error] : "Unknown";
 }
@@ -144,6 +146,34 @@ uint32_t xet_union(const uint8_t *first, size_t first_length, const uint8_t *sec
  * XET_INVALID_ARGUMENTS: there is no shard, or the keys differ.
  * The other errors are those of xet_union. */
 uint32_t xet_merge(const xet_bytes *shards, size_t count, uint8_t *out, size_t capacity, size_t *written);
+
+/* A hash under which two shards have records that do not agree, that of a xorb or of a file, and the places of two such
+ * shards in the list, from 0 on. */
+typedef struct xet_disagreement {
+    uint64_t hash[4];
+    bool is_xorb;
+    size_t first;
+    size_t second;
+} xet_disagreement;
+
+/* Looks for records with one hash that do not agree. Two files agree if they have equal segments, and an equal optional
+ * part wherever both have it, and two xorbs if they are equal. `*differing` is how many hashes have records in two of
+ * the shards that do not agree, and `found` is the first of them: of files before xorbs, and the least hash first. If
+ * there is none `*differing` is 0, `found` stays as it is, and each two of the shards agree. With an error `*differing`
+ * is 0, and `found` stays. The keys of the shards do not count.
+ *
+ * XET_SHARD_VERSION, XET_IO, XET_INVALID_SHARD: the errors of xet_union that one of the shards alone is the cause of.
+ * XET_OUT_OF_MEMORY. */
+uint32_t xet_find_disagreement(const xet_bytes *shards, size_t count, size_t *differing, xet_disagreement *found);
+
+/* Writes the union of one shard or more as xet_merge does, if each two of the shards agree. If they have no key it is
+ * the bytes of their join, whatever the order of the list.
+ *
+ * XET_DISAGREE: two of them do not agree. `*differing` and `found` are as xet_find_disagreement sets them, and
+ *     `*written` is 0. With any other result `*differing` is 0, and `found` stays as it is.
+ * The other errors are those of xet_merge. */
+uint32_t xet_merge_agreeing(const xet_bytes *shards, size_t count, uint8_t *out, size_t capacity, size_t *written,
+                            size_t *differing, xet_disagreement *found);
 
 /* Writes the difference of two shards of one key: the second's records whose hashes the first does not have.
  *

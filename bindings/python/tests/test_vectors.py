@@ -249,6 +249,57 @@ def test_merge():
         assert xet_shards.merge(shards * 5).hex() == first
 
 
+def shards_of(*many):
+    """Returns the bytes of shards, each of a dictionary of its files and one of its xorbs: a list of words for each."""
+    written = []
+    for files, xorbs in many:
+        shard = Shard()
+        for name, words in files.items():
+            shard.add_file(name, *words)
+        for name, words in xorbs.items():
+            shard.add_xorb(name, *words)
+        written.append(shard.written())
+    return written
+
+
+def test_disagreements():
+    one, with_parts, other = shards_of(
+        ({"100": ["200:0:5:5"]}, {"10": ["21:5", "22:5"], "11": ["23:5"]}),
+        ({"100": ["v=365", "s=9364", "200:0:5:5"]}, {"11": ["23:5"]}),
+        ({"100": ["200:0:6:5"]}, {"10": ["21:5"], "11": ["23:5"]}),
+    )
+    for shards in ([], [one], [one, one], [one, with_parts], [with_parts, one, with_parts]):
+        assert xet_shards.find_disagreement(shards) is None
+    # Of what differs files come first, and two hashes have records that differ.
+    found = xet_shards.Disagreement("file", hash_text("100"), 0, 2, 2)
+    assert xet_shards.find_disagreement([one, with_parts, other]) == found
+    assert xet_shards.find_disagreement([with_parts, other]) == xet_shards.Disagreement("file", hash_text("100"), 0, 1, 1)
+    # Parts that only one of two has are no difference, but where both have them they are compared.
+    unlike = shards_of(({"100": ["v=366", "200:0:5:5"]}, {}))[0]
+    assert xet_shards.find_disagreement([one, unlike]) is None
+    assert xet_shards.find_disagreement([one, unlike, with_parts]).second == 2
+    xorbs = shards_of(({}, {"10": ["21:5"]}), ({}, {"10": ["21:6"]}))
+    assert xet_shards.find_disagreement(xorbs) == xet_shards.Disagreement("xorb", hash_text("10"), 0, 1, 1)
+    refused("Io", xet_shards.find_disagreement, [one, one[:199]])
+
+
+def test_strict_merge():
+    one, other, again = shards_of(
+        ({"100": ["200:0:5:5"]}, {}), ({"100": ["200:0:6:5"]}, {}), ({"101": ["200:0:6:5"]}, {"10": ["21:5"]})
+    )
+    for order in itertools.permutations([one, again, again]):
+        assert xet_shards.merge(order, strict=True) == xet_shards.merge([one, again])
+    try:
+        xet_shards.merge([one, again, other], strict=True)
+        raise AssertionError("shards that differ are merged")
+    except xet_shards.DisagreementError as error:
+        assert (error.name, error.disagreement) == ("Disagree", xet_shards.find_disagreement([one, again, other]))
+        assert error.disagreement == xet_shards.Disagreement("file", hash_text("100"), 0, 2, 1)
+    assert xet_shards.merge([one, other]) == one
+    raises(ValueError, xet_shards.merge, [], strict=True)
+    refused("Io", xet_shards.merge, [one, one[:199]], strict=True)
+
+
 def test_arguments():
     for text in ("", "0" * 63, "0" * 65, "g" + "0" * 63, "0" * 64 + "\n", " " + "0" * 63, "0x" + "0" * 62):
         raises(ValueError, xet_shards.find_file, ONE_FILE, text)

@@ -16,8 +16,9 @@ from dataclasses import dataclass
 from typing import Callable, List, Optional, Sequence, Tuple, Union
 
 __all__ = [
-    "File", "Info", "NO_EXPIRY", "NO_KEY", "Run", "Segment", "XetError", "difference", "eligible", "export",
-    "find_file", "hash_of_name", "load", "merge", "minimal", "query_chunks", "shard_name", "subset", "union",
+    "Disagreement", "DisagreementError", "File", "Info", "NO_EXPIRY", "NO_KEY", "Run", "Segment", "XetError",
+    "difference", "eligible", "export", "find_disagreement", "find_file", "hash_of_name", "load", "merge", "minimal",
+    "query_chunks", "shard_name", "subset", "union",
 ]
 
 Buffer = Union[bytes, bytearray, memoryview]
@@ -31,9 +32,10 @@ NO_EXPIRY = 2**64 - 1
 _NAMES = (
     "Io", "InternalError", "Other", "TruncatedHashCollision", "ShardVersion", "BadFilename", "ShardNotFound",
     "FileNotFound", "QueryFailed", "SmudgeQueryPolicy", "InvalidShard", "InvalidRange", "InvalidArguments",
-    "MalformedData", "HashMismatch", "HashParsing", "ChunkHeaderParse", "OutOfMemory", "Short",
+    "MalformedData", "HashMismatch", "HashParsing", "ChunkHeaderParse", "OutOfMemory", "Short", "Disagree",
 )
 _SHORT = 19
+_DISAGREE = 20
 
 
 class XetError(Exception):
@@ -46,6 +48,32 @@ class XetError(Exception):
 
     def __reduce__(self) -> tuple:
         return XetError, (self.number,)
+
+
+@dataclass(frozen=True)
+class Disagreement:
+    """A hash under which two shards have records that do not agree.
+
+    `kind` is "file" or "xorb". `first` and `second` are the places of two such shards in the list. `count` is how many
+    hashes there are, of which this is the first: of files before xorbs, and the least hash first.
+    """
+
+    kind: str
+    hash: str
+    first: int
+    second: int
+    count: int
+
+
+class DisagreementError(XetError):
+    """Shards that have to agree do not: `disagreement` is where."""
+
+    def __init__(self, disagreement: Disagreement) -> None:
+        super().__init__(_DISAGREE)
+        self.disagreement = disagreement
+
+    def __reduce__(self) -> tuple:
+        return DisagreementError, (self.disagreement,)
 
 
 @dataclass(frozen=True)
@@ -141,14 +169,21 @@ class _File(ctypes.Structure):
     ]
 
 
+class _Disagreement(ctypes.Structure):
+    _fields_ = [("hash", _Words), ("is_xorb", c_bool), ("first", c_size_t), ("second", c_size_t)]
+
+
 _SHARD = [c_char_p, c_size_t]
+_LIST = [POINTER(_ShardBytes), c_size_t]
 _HASHES = [POINTER(_Hash), c_size_t]
 _OUT = [POINTER(c_char), c_size_t, POINTER(c_size_t)]
 _TEXT = [c_char_p, c_size_t]
 _CALLS = {
     "xet_load": [*_SHARD, POINTER(_Info)],
     "xet_union": [*_SHARD, *_SHARD, *_OUT],
-    "xet_merge": [POINTER(_ShardBytes), c_size_t, *_OUT],
+    "xet_merge": [*_LIST, *_OUT],
+    "xet_merge_agreeing": [*_LIST, *_OUT, POINTER(c_size_t), POINTER(_Disagreement)],
+    "xet_find_disagreement": [*_LIST, POINTER(c_size_t), POINTER(_Disagreement)],
     "xet_difference": [*_SHARD, *_SHARD, *_OUT],
     "xet_export": [*_SHARD, POINTER(_Export), *_OUT],
     "xet_minimal": [*_SHARD, c_uint64, c_bool, c_bool, *_OUT],
@@ -287,23 +322,54 @@ def _combined(operation: Callable[..., int], first: Buffer, second: Buffer) -> b
     )
 
 
-def merge(shards: Sequence[Buffer]) -> bytes:
+def merge(shards: Sequence[Buffer], strict: bool = False) -> bytes:
     """Returns the union of one shard or more, by a balanced tree of unions; a single one is united with itself.
 
     If the sections of the inputs hold shards that agree pairwise, without a key, it is the bytes of their join, which
     has no order, and any other tree of unions gives the same. Shards agree if files with one hash have equal segments,
-    and an equal optional part wherever both have it, and xorbs with one hash are equal.
+    and an equal optional part wherever both have it, and xorbs with one hash are equal. With `strict` it is a
+    `DisagreementError` if two of the shards do not agree.
     """
-    inputs = [_bytes(it) for it in shards]
-    if not inputs:
+    if not shards:
         raise ValueError("no shard is given")
+    array, size = _list(shards)
+    if not strict:
+        return _filled(
+            c_char, size, lambda out, room, written: _library.xet_merge(array, len(array), out, room, byref(written))
+        )
+    differing, found = c_size_t(), _Disagreement()
+    try:
+        return _filled(
+            c_char, size,
+            lambda out, room, written: _library.xet_merge_agreeing(
+                array, len(array), out, room, byref(written), byref(differing), byref(found)
+            ),
+        )
+    except XetError as error:
+        if error.number != _DISAGREE:
+            raise
+    raise DisagreementError(_disagreement(found, differing.value))
+
+
+def find_disagreement(shards: Sequence[Buffer]) -> Optional[Disagreement]:
+    """Returns a hash under which two of the shards have records that do not agree, or None if each two agree."""
+    array, _ = _list(shards)
+    differing, found = c_size_t(), _Disagreement()
+    _check(_library.xet_find_disagreement(array, len(shards), byref(differing), byref(found)))
+    return _disagreement(found, differing.value) if differing.value else None
+
+
+def _list(shards: Sequence[Buffer]) -> Tuple[ctypes.Array, int]:
+    """Returns the bytes of shards as calls take them, and room for their union."""
+    inputs = [_bytes(it) for it in shards]
     array = _array(_ShardBytes, len(inputs))
     for at, it in enumerate(inputs):
         array[at] = _ShardBytes(it, len(it))
-    return _filled(
-        c_char, sum(len(it) for it in inputs) + 400,
-        lambda out, room, written: _library.xet_merge(array, len(inputs), out, room, byref(written)),
-    )
+    return array, sum(len(it) for it in inputs) + 400
+
+
+def _disagreement(found: _Disagreement, count: int) -> Disagreement:
+    return Disagreement("xorb" if found.is_xorb else "file", _text(found.hash), found.first, found.second, count)
 
 
 def export(

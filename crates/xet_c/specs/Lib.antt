@@ -1,3 +1,4 @@
+pub mod Agreeing
 pub mod Arguments
 pub mod Finding
 pub mod Output

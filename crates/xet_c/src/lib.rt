@@ -6,6 +6,7 @@
 //! their order, and 19 means that the output does not fit the memory that was given.
 #![tactic(auto)]
 
+mod agree;
 mod combine;
 mod eligible;
 mod export;

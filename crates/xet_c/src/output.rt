@@ -9,6 +9,9 @@ use xet_core_structures::error::{CoreError, Result};
 /// The output does not fit the memory that was given. 1 to 18 are the library's own errors.
 pub const XET_SHORT: u32 = 19;
 
+/// Two shards that have to agree do not.
+pub const XET_DISAGREE: u32 = 20;
+
 /// The number of an error, 1 to 18.
 pub fn error_number(error: &CoreError) -> u32
     ensures { result ≡ variant_number error.now }

@@ -1,0 +1,51 @@
+-- How disagreements of shards, and a merge of those that agree, are shown.
+use Rattle.std.specs.Prelude.{◌≡◌, ◌⊎◌, ℕ, true, false, List, [], ◌∷◌, length, Ok, Err, IfOk, MatchResult}
+use Rattle.std.specs.List.{AllZip}
+use Rattle.xet_core_structures.specs.declared.set_operations.agreement.Disagreement.{Disagreement}
+use Rattle.xet_core_structures.specs.declared.set_operations.agreement.RecordHash.{RecordHash}
+use Rattle.xet_core_structures.specs.declared.set_operations.agreement.RecordHash.TheVariants.{File, Xorb}
+use Rattle.xet_core_structures.specs.Agreement.{InputsRefusal}
+use Rattle.xet_core_structures.specs.Errors.{CoreResult}
+use Rattle.xet_core_structures.specs.Hash.{words_of}
+use Rattle.xet_core_structures.specs.Held.{HoldsShard}
+use Rattle.xet_core_structures.specs.KeyedHash.{no_key}
+use Rattle.xet_core_structures.specs.Shard.{Shard}
+use Rattle.shard_bytes.specs.declared.agree.AgreeingMerge.{AgreeingMerge}
+use Rattle.shard_bytes.specs.declared.agree.AgreeingMerge.TheVariants.{Bytes, Disagreements}
+use Rattle.shard_bytes.specs.Agreeing.{MergesAgreeing, GivesJoin}
+use Rattle.shard_bytes.specs.Merging.{RefusesMerge}
+use Rattle.xet_c.specs.declared.agree.XetDisagreement.{XetDisagreement}
+use Rattle.xet_c.specs.Output.{Delivers, Refuses}
+
+-- a hash, whose it is, and two shards
+abbrev pub c_record : RecordHash → ℕ → ℕ → XetDisagreement
+c_record (File q) first second =
+    record { hash = words_of q; is_xorb = false; first = first; second = second }
+c_record (Xorb q) first second =
+    record { hash = words_of q; is_xorb = true; first = first; second = second }
+
+abbrev pub c_disagreement : Disagreement → XetDisagreement
+c_disagreement d = c_record d.record_hash d.first d.second
+
+-- a count and a disagreement show how many there are, and the first; if there is none it stays
+abbrev pub ShowsFirst : List Disagreement → (old new : XetDisagreement) → ℕ → Type 0
+ShowsFirst [] old new count = (count ≡ 0) × (new ≡ old)
+ShowsFirst (d ∷ ds) old new count = (count ≡ length (d ∷ ds)) × (new ≡ c_disagreement d)
+
+-- shards that have to agree were merged: of any bytes; and of those that hold shards without a key
+pub record MergesIfAgreeing (inputs : List (List ℕ)) (merged : CoreResult AgreeingMerge) : Type 0
+  where
+    pub any_bytes : MatchResult merged (MergesAgreeing inputs)
+        (λ e. InputsRefusal inputs e ⊎ RefusesMerge inputs e)
+    pub one_byte_string : (all : List Shard) → AllZip (HoldsShard no_key) all inputs
+        → IfOk merged (GivesJoin all)
+
+-- and this is shown of it
+abbrev pub ShowsMerge : CoreResult AgreeingMerge → (before after : List ℕ) → ℕ
+    → (old new : XetDisagreement) → ℕ → ℕ → Type 0
+ShowsMerge (Ok (Bytes bytes)) before after written old new count result =
+    Delivers bytes.items before after written result × (count ≡ 0) × (new ≡ old)
+ShowsMerge (Ok (Disagreements all)) before after written old new count result =
+    (after ≡ before) × (written ≡ 0) × ShowsFirst all.items old new count × (result ≡ 20)
+ShowsMerge (Err e) before after written old new count result =
+    Refuses e before after written result × (count ≡ 0) × (new ≡ old)

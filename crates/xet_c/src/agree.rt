@@ -1,0 +1,119 @@
+//! Whether shards agree, and the union of those that do.
+
+ghost use Rattle.std.specs.Prelude.{◌≡◌, ◌⊎◌, List, map};
+ghost use Rattle.xet_core_structures.specs.declared.error.CoreError.{CoreError};
+ghost use Rattle.xet_core_structures.specs.declared.set_operations.agreement.Disagreement.{Disagreement};
+ghost use Rattle.xet_core_structures.specs.Agreement.{HasAllDisagreements, InputsRefusal};
+ghost use Rattle.xet_core_structures.specs.Errors.{CoreResult, variant_number};
+ghost use Rattle.shard_bytes.specs.declared.agree.AgreeingMerge.{AgreeingMerge};
+ghost use Rattle.xet_c.specs.Agreeing.{c_disagreement, ShowsFirst, MergesIfAgreeing, ShowsMerge};
+
+use crate::output::{XET_DISAGREE, error_number, give};
+use shard_bytes::agree::{AgreeingMerge, merge_agreeing_bytes};
+use std::alloc::Global;
+use xet_core_structures::error::Result;
+use xet_core_structures::set_operations::{Disagreement, RecordHash, find_disagreements};
+
+/// A hash under which two shards have records that do not agree, a xorb's or a file's, and the
+/// numbers of two such shards in the list.
+#[repr(C)]
+#[derive(Clone, Copy, Drop)]
+pub struct XetDisagreement {
+    pub hash: [u64; 4],
+    pub is_xorb: bool,
+    pub first: usize,
+    pub second: usize,
+}
+
+/// Looks for hashes under which two of the shards have records that do not agree: `differing` is how
+/// many there are, and `found` the first. If there is none, or the result is not 0, `differing` is 0 and
+/// `found` stays as it is.
+#[unsafe(no_mangle)]
+pub extern "C" fn xet_find_disagreement(
+    alloc: Global,
+    shards: &[&[u8]],
+    differing: &mut usize,
+    found: &mut XetDisagreement,
+) -> u32
+    ensures { ((all : List Disagreement) × HasAllDisagreements (map (λ x. x.now) shards.now) all
+        × ShowsFirst all found.old found.new differing.new × (result ≡ 0))
+        ⊎ ((e : CoreError) × InputsRefusal (map (λ x. x.now) shards.now) e
+        × (found.new ≡ found.old) × (differing.new ≡ 0) × (result ≡ variant_number e)) }
+{
+    *differing = 0;
+    match find_disagreements(alloc, shards) {
+        Ok(all) => {
+            show_first(all.as_slice(), differing, found);
+            0
+        }
+        Err(error) => error_number(&error),
+    }
+}
+
+/// The union of one shard or more, as `xet_merge` makes it, to the front of `out`, if each two of
+/// the shards agree. If the result is 20, two of them do not: `written` is 0, `out` stays as it is,
+/// and `differing` and `found` are as `xet_find_disagreement` sets them. Else `differing` is 0 and `found`
+/// stays as it is.
+#[unsafe(no_mangle)]
+pub extern "C" fn xet_merge_agreeing(
+    alloc: Global,
+    shards: &[&[u8]],
+    out: &mut [u8],
+    written: &mut usize,
+    differing: &mut usize,
+    found: &mut XetDisagreement,
+) -> u32
+    ensures { (merged : CoreResult AgreeingMerge)
+        × MergesIfAgreeing (map (λ x. x.now) shards.now) merged
+        × ShowsMerge merged out.old out.new written.new found.old found.new differing.new result }
+{
+    let merged = merge_agreeing_bytes(alloc, shards);
+    show_merge(&merged, out, written, differing, found)
+}
+
+fn show_merge(
+    merged: &Result<AgreeingMerge>,
+    out: &mut [u8],
+    written: &mut usize,
+    differing: &mut usize,
+    found: &mut XetDisagreement,
+) -> u32
+    ensures { ShowsMerge merged.now out.old out.new written.new found.old found.new differing.new
+        result }
+{
+    *written = 0;
+    *differing = 0;
+    match merged {
+        Ok(AgreeingMerge::Bytes(bytes)) => give(bytes.as_slice(), out, written),
+        Ok(AgreeingMerge::Disagreements(all)) => {
+            show_first(all.as_slice(), differing, found);
+            XET_DISAGREE
+        }
+        Err(error) => error_number(error),
+    }
+}
+
+// Shows the first of some disagreements, and how many there are.
+fn show_first(all: &[Disagreement], differing: &mut usize, found: &mut XetDisagreement)
+    ensures { ShowsFirst all.now found.old found.new differing.new }
+{
+    *differing = all.len();
+    if let Some(first) = all.first() {
+        *found = disagreement_of(first);
+    }
+}
+
+fn disagreement_of(disagreement: &Disagreement) -> XetDisagreement
+    ensures { result ≡ c_disagreement disagreement.now }
+{
+    let (hash, is_xorb) = match disagreement.record_hash {
+        RecordHash::File(hash) => (hash, false),
+        RecordHash::Xorb(hash) => (hash, true),
+    };
+    XetDisagreement {
+        hash: [hash.word0, hash.word1, hash.word2, hash.word3],
+        is_xorb,
+        first: disagreement.first,
+        second: disagreement.second,
+    }
+}
