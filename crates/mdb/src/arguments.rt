@@ -25,10 +25,19 @@ pub enum Request<'a> {
 #[derive(Drop)]
 pub enum Making<'a> {
     Combine(Operation, &'a str, &'a str),
-    Merge(Vec<&'a str>),
+    Merge(Vec<&'a str>, Strictness),
     Export(&'a str, Export),
     Minimal(&'a str, u64, KeptParts),
     Subset(&'a str, Subset),
+}
+
+/// What is done where shards that are to be merged do not agree.
+#[derive(Clone, Copy, Debug, PartialEq, Eq)]
+pub enum Strictness {
+    /// One record is kept, and the difference is reported.
+    Lenient,
+    /// They are not merged.
+    Strict,
 }
 
 /// Why words are no request.
@@ -128,7 +137,7 @@ fn making_in<'a>(
     let making = match name {
         "union" => pair_in(Operation::Union, matches)?,
         "diff" => pair_in(Operation::Difference, matches)?,
-        "merge" => Making::Merge(texts_of(alloc, matches, id::FILE)?),
+        "merge" => Making::Merge(texts_of(alloc, matches, id::FILE)?, strictness_in(matches)),
         "export" => Making::Export(text_of(matches, id::FILE)?, export_in(matches)?),
         "minimal" => Making::Minimal(
             text_of(matches, id::FILE)?,
@@ -148,6 +157,14 @@ fn pair_in<'a>(operation: Operation, matches: &ArgMatches<'a>) -> Result<Making<
     let first = text_of(matches, id::FIRST)?;
     let second = text_of(matches, id::SECOND)?;
     Ok(Making::Combine(operation, first, second))
+}
+
+fn strictness_in(matches: &ArgMatches<'_>) -> Strictness {
+    if matches.get_flag(id::STRICT) {
+        Strictness::Strict
+    } else {
+        Strictness::Lenient
+    }
 }
 
 fn export_in<'a>(matches: &ArgMatches<'a>) -> Result<Export, Refusal<'a>> {

@@ -32,6 +32,8 @@ pub mod id {
 
     pub const COSTS: &str = "costs";
 
+    pub const STRICT: &str = "strict";
+
     pub const VERIFICATION: &str = "verification";
 
     pub const NO_FILES: &str = "no-files";
@@ -151,6 +153,11 @@ fn merge<'a>(alloc: Global) -> Result<Command<'a>, AllocError> {
         .about("Writes the union of any number of shards")
         .after_help(help::MERGE)
         .arg(files(alloc))?
+        .arg(flag(
+            alloc,
+            id::STRICT,
+            "Fails with status 3 if two shards have different records with one hash",
+        ))?
         .arg(output(alloc))
 }
 

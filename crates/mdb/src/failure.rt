@@ -29,6 +29,11 @@ impl<'a> Failure<'a> {
         }
     }
 
+    /// Whether it is that shards which have to agree do not.
+    pub fn is_disagreement(&self) -> bool {
+        matches!(self.fault, Fault::Disagree(..))
+    }
+
     /// A failure on standard output.
     pub fn on_output(fault: Fault) -> Failure<'a> {
         Failure {

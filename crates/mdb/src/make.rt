@@ -1,6 +1,6 @@
 //! The commands that write a shard.
 
-use crate::arguments::Making;
+use crate::arguments::{Making, Strictness};
 use crate::failure::{Failure, Subject};
 use crate::files::{STANDARD_OUTPUT, read, write};
 use mdb_report::fault::{
@@ -15,16 +15,17 @@ use std::alloc::{AllocError, Global};
 use std::rt::Files;
 use xet_core_structures::error::CoreError;
 use xet_core_structures::file_structs::KeptParts;
+use xet_core_structures::set_operations::{Disagreement, find_disagreements};
 
 /// Writes the shard that a command makes to a path, or to standard output if it is `-`.
-pub fn make<'a, R: Files + Print + AllocGlobal>(
+pub fn make<'a, R: Files + Print + Eprint + AllocGlobal>(
     rt: &R,
     making: &Making<'a>,
     output: &'a str,
 ) -> Result<(), Failure<'a>> {
     let bytes = match making {
         Making::Combine(operation, first, second) => combined(rt, *operation, first, second),
-        Making::Merge(files) => merged(rt, files.as_slice()),
+        Making::Merge(files, strictness) => merged(rt, files.as_slice(), *strictness),
         Making::Export(file, export) => exported(rt, file, export),
         Making::Minimal(file, now, kept) => minimal(rt, file, *now, *kept),
         Making::Subset(file, kept) => subset(rt, file, kept),
@@ -108,7 +109,11 @@ fn combined<'a, R: Files + AllocGlobal>(
     }
 }
 
-fn merged<'a, R: Files + AllocGlobal>(rt: &R, files: &[&'a str]) -> Result<Vec<u8>, Failure<'a>> {
+fn merged<'a, R: Files + Eprint + AllocGlobal>(
+    rt: &R,
+    files: &[&'a str],
+    strictness: Strictness,
+) -> Result<Vec<u8>, Failure<'a>> {
     let alloc = rt.alloc();
     let mut contents = Vec::new(alloc);
     for file in files {
@@ -125,10 +130,53 @@ fn merged<'a, R: Files + AllocGlobal>(rt: &R, files: &[&'a str]) -> Result<Vec<u
         Ok(inputs) => inputs,
         Err(_) => return Err(on_all(files, Fault::OutOfMemory)),
     };
-    match merge_bytes(alloc, inputs.as_slice()) {
-        Ok(bytes) => Ok(bytes),
-        Err(error) => Err(blamed(alloc, files, inputs.as_slice(), error)),
+    let bytes = match merge_bytes(alloc, inputs.as_slice()) {
+        Ok(bytes) => bytes,
+        Err(error) => return Err(blamed(alloc, files, inputs.as_slice(), error)),
+    };
+    if let Some(disagreement) = disagreement(alloc, files, inputs.as_slice())? {
+        match strictness {
+            Strictness::Strict => return Err(disagreement),
+            Strictness::Lenient => report_choice(rt, &disagreement),
+        }
     }
+    Ok(bytes)
+}
+
+// What differs in the records of the inputs, or `None` if they agree.
+fn disagreement<'a>(
+    alloc: Global,
+    files: &[&'a str],
+    inputs: &[&[u8]],
+) -> Result<Option<Failure<'a>>, Failure<'a>> {
+    let found = match find_disagreements(alloc, inputs) {
+        Ok(found) => found,
+        Err(error) => return Err(blamed(alloc, files, inputs, error)),
+    };
+    let Some(first) = found.as_slice().first() else {
+        return Ok(None);
+    };
+    Ok(Some(Failure {
+        subject: subject_of(files, first),
+        fault: Fault::Disagree(found.len(), first.record_hash),
+    }))
+}
+
+fn subject_of<'a>(files: &[&'a str], disagreement: &Disagreement) -> Subject<'a> {
+    match (
+        files.get(disagreement.first),
+        files.get(disagreement.second),
+    ) {
+        (Some(first), Some(second)) => Subject::Pair(first, second),
+        _ => Subject::StandardOutput,
+    }
+}
+
+// Says which of two records that differ a merge keeps.
+fn report_choice<R: Eprint>(rt: &R, disagreement: &Failure<'_>) {
+    let _ = rt.eprintln(format_args!(
+        "{disagreement}; of xorbs the first is kept, of files the one with more parts"
+    ));
 }
 
 // The failure behind an error of a union or a difference: the first input of which none can be made,

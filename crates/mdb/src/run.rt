@@ -19,7 +19,7 @@ pub enum Status {
     Failed,
     /// The words are no command.
     Misused,
-    /// A check found something.
+    /// A check found something, or shards that have to agree do not.
     Found,
 }
 
@@ -83,6 +83,10 @@ fn status_of<R: Files + Print + Eprint + AllocGlobal>(rt: &R, request: &Request<
         Request::Inspect(files, inquiry, style) => inspect(rt, files.as_slice(), inquiry, *style),
         Request::Make(making, output) => match make(rt, making, output) {
             Ok(()) => Status::Done,
+            Err(failure) if failure.is_disagreement() => {
+                let _ = rt.eprintln(&failure);
+                Status::Found
+            }
             Err(failure) => failed(rt, &failure),
         },
     }

@@ -11,6 +11,7 @@ use std::alloc::{AllocError, AllocFailed, Global};
 use std::{fmt, io};
 use xet_core_structures::error::CoreError;
 use xet_core_structures::file_structs::KeptParts;
+use xet_core_structures::set_operations::RecordHash;
 
 /// Why a command failed.
 #[derive(Drop)]
@@ -26,6 +27,9 @@ pub enum Fault {
     KeysDiffer,
     /// The shards that are to be combined have files that can't be, or too many rows.
     NoUnion,
+    /// Two shards that are to be merged have records with this hash that do not agree, the first of
+    /// so many hashes.
+    Disagree(usize, RecordHash),
     /// The shard has a key and can't be exported under another.
     HasKey,
     /// The expiry is past the last timestamp.
@@ -55,10 +59,27 @@ impl fmt::Display for Fault {
                     "the shards have a file in common that can't be combined, or too many rows"
                 )
             }
+            Fault::Disagree(1, first) => write!(f, "a record differs, of {}", Named(*first)),
+            Fault::Disagree(count, first) => {
+                write!(f, "{count} records differ, the first of {}", Named(*first))
+            }
             Fault::HasKey => write!(f, "its chunk hashes are under a key already"),
             Fault::LateExpiry => write!(f, "the expiry is past the last timestamp"),
             Fault::NoVerification => write!(f, "a file has no verification rows"),
             Fault::Other(error) => write!(f, "{error}"),
+        }
+    }
+}
+
+/// A hash, and whose it is.
+#[derive(Clone, Copy, Drop)]
+struct Named(RecordHash);
+
+impl fmt::Display for Named {
+    fn fmt<W: fmt::Write>(&self, f: &mut fmt::Formatter<W>) -> fmt::Result {
+        match self.0 {
+            RecordHash::File(hash) => write!(f, "file {hash}"),
+            RecordHash::Xorb(hash) => write!(f, "xorb {hash}"),
         }
     }
 }
