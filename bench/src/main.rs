@@ -1,17 +1,14 @@
 //! Measures the port against the original in one process, in turns, on the same shards, and compares
 //! what both write. `shard-bench [--seed S] [--turns T] [--only WORD] [N ..]`.
 
-mod clock;
-mod compare;
 mod measure;
 mod operation;
 mod original;
 mod port;
-mod shards;
 
 use measure::{Measured, Times};
 use operation::ROWS;
-use shards::shards;
+use shard_bench::shards::shards;
 
 struct Arguments {
     seed: u64,

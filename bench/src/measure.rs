@@ -1,11 +1,10 @@
 //! Measuring the rows of the table.
 
-use crate::clock::time;
-use crate::compare::compare;
 use crate::operation::{Before, Hashes, Item, Operation, Row};
-use crate::port::Hash;
-use crate::shards::{QUERY_LENGTH, Shards};
 use crate::{original, port};
+use shard_bench::clock::time;
+use shard_bench::compare::compare;
+use shard_bench::shards::{Hash, QUERY_LENGTH, Shards};
 
 /// A call takes about this long, so that the clock's grain does not show.
 const NANOSECONDS_OF_CALL: u64 = 20_000_000;

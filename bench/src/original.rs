@@ -1,12 +1,12 @@
 //! The original, with the operations that the port's `bench_run` has.
 
 use crate::operation::Operation;
-use crate::port::Hash;
+use shard_bench::combine::{Combination, combine};
+use shard_bench::shards::Hash;
 use std::io::Cursor;
 use std::time::Duration;
 use xet_core_structures::error::Result;
 use xet_core_structures::merklehash::MerkleHash;
-use xet_core_structures::metadata_shard::set_operations::{shard_set_difference, shard_set_union};
 use xet_core_structures::metadata_shard::shard_format::MDBShardInfo;
 use xet_core_structures::metadata_shard::shard_in_memory::MDBInMemoryShard;
 use xet_core_structures::metadata_shard::streaming_shard::MDBMinimalShard;
@@ -54,8 +54,8 @@ fn answer(
             let info = load(first)?;
             counted(times, || query_chunks(&info, first, hashes))
         }
-        Operation::Union => last(times, || combine(first, second, true)),
-        Operation::Difference => last(times, || combine(first, second, false)),
+        Operation::Union => last(times, || combine(Combination::Union, first, second)),
+        Operation::Difference => last(times, || combine(Combination::Difference, first, second)),
         Operation::Export => last(times, || export(first, hashes[0])),
         Operation::ReadMinimal => counted(times, || {
             let minimal = MDBMinimalShard::from_reader(&mut &first[..], true, true)?;
@@ -166,19 +166,6 @@ fn query_in_memory(shard: &MDBInMemoryShard, hashes: &[MerkleHash]) -> usize {
         .chunks(QUERY_LENGTH)
         .filter_map(|query| shard.chunk_hash_dedup_query(query));
     runs.map(|(count, _)| count).sum()
-}
-
-fn combine(first: &[u8], second: &[u8], union: bool) -> Result<Vec<u8>> {
-    let (mut r1, mut r2) = (Cursor::new(first), Cursor::new(second));
-    let s1 = MDBShardInfo::load_from_reader(&mut r1)?;
-    let s2 = MDBShardInfo::load_from_reader(&mut r2)?;
-    let mut bytes = Vec::new();
-    if union {
-        shard_set_union(&s1, &mut r1, &s2, &mut r2, &mut bytes)?;
-    } else {
-        shard_set_difference(&s1, &mut r1, &s2, &mut r2, &mut bytes)?;
-    }
-    Ok(bytes)
 }
 
 fn export(shard: &[u8], key: MerkleHash) -> Result<Vec<u8>> {

@@ -1,12 +1,7 @@
 //! The port, through the static library `crates/bench_calls`.
 
 use crate::operation::Operation;
-
-#[repr(C)]
-#[derive(Clone, Copy)]
-pub struct Hash {
-    pub words: [u64; 4],
-}
+use shard_bench::shards::Hash;
 
 unsafe extern "C" {
     // A slice is a pointer and a length.

@@ -1,6 +1,5 @@
 //! Shards from a seed.
 
-use crate::port::Hash;
 use xet_core_structures::merklehash::MerkleHash;
 use xet_core_structures::metadata_shard::file_structs::{
     FileDataSequenceEntry, FileDataSequenceHeader, FileMetadataExt, FileVerificationEntry,
@@ -14,18 +13,34 @@ use xet_core_structures::metadata_shard::xorb_structs::{
 const CHUNKS_OF_XORB: u64 = 64;
 const FILES_OF_XORB: u64 = 8;
 const QUERIES: u64 = 1000;
+/// The chunks of a query.
 pub const QUERY_LENGTH: u64 = 8;
+
+/// A hash, as the port's libraries take it.
+#[repr(C)]
+#[derive(Clone, Copy)]
+pub struct Hash {
+    /// The first eight bytes, lowest byte first, and so on.
+    pub words: [u64; 4],
+}
 
 /// The shards of one size, and what is looked up in the first.
 pub struct Shards {
+    /// A shard's bytes.
     pub first: Vec<u8>,
     /// Half of its records are in the first.
     pub second: Vec<u8>,
+    /// The files of each.
     pub files: u64,
+    /// The xorbs of each.
     pub xorbs: u64,
+    /// The chunks of each.
     pub chunks: u64,
+    /// Files of the first.
     pub present_files: Vec<Hash>,
+    /// Files that neither has.
     pub absent_files: Vec<Hash>,
+    /// Runs of `QUERY_LENGTH` chunks of the first.
     pub chunk_runs: Vec<Hash>,
 }
 
