@@ -96,8 +96,8 @@ pub fn shards(seed: u64, files: u64) -> Shards {
     let seed = Seed(seed);
     let xorbs = files / FILES_OF_XORB;
     Shards {
-        first: shard(seed, 0, files),
-        second: shard(seed, files / 2, files),
+        first: successive(seed, 0, files),
+        second: successive(seed, files / 2, files),
         files,
         xorbs,
         chunks: xorbs * CHUNKS_OF_XORB,
@@ -107,6 +107,33 @@ pub fn shards(seed: u64, files: u64) -> Shards {
         absent_files: picked(|index| seed.words(Kind::Absent, index)),
         chunk_runs: picked_runs(seed, xorbs),
     }
+}
+
+/// Shards of this many files and an eighth of as many xorbs, of whose records the first, so many
+/// percent of them, stand in all of the shards, and each other stands in one.
+pub fn overlapping(seed: u64, count: u64, files: u64, shared_percent: u64) -> Vec<Vec<u8>> {
+    let seed = Seed(seed);
+    let members = |all: u64, shard: u64| {
+        let own = own_records(all, shared_percent, shard);
+        let start = (shard + 1) * all;
+        (0..all - own).chain(start..start + own)
+    };
+    (0..count)
+        .map(|index| {
+            shard(
+                seed,
+                members(files, index),
+                members(files / FILES_OF_XORB, index),
+            )
+        })
+        .collect()
+}
+
+/// How many of all records of the shard with this index stand in it alone. It may be one more or
+/// less than in another shard, so that the sum over shards is right.
+fn own_records(all: u64, shared_percent: u64, shard: u64) -> u64 {
+    let of_first = |shards: u64| shards * all * (100 - shared_percent) / 100;
+    of_first(shard + 1) - of_first(shard)
 }
 
 fn picked(words: impl Fn(u64) -> [u64; 4]) -> Vec<Hash> {
@@ -133,14 +160,24 @@ fn picked_runs(seed: Seed, xorbs: u64) -> Vec<Hash> {
 }
 
 /// A shard of the files from the `start`th on, and their xorbs.
-fn shard(seed: Seed, start: u64, files: u64) -> Vec<u8> {
+fn successive(seed: Seed, start: u64, files: u64) -> Vec<u8> {
+    let end = start + files;
+    shard(seed, start..end, start / FILES_OF_XORB..end / FILES_OF_XORB)
+}
+
+/// A shard of these files and xorbs.
+fn shard(
+    seed: Seed,
+    files: impl IntoIterator<Item = u64>,
+    xorbs: impl IntoIterator<Item = u64>,
+) -> Vec<u8> {
     let mut shard = MDBInMemoryShard::default();
-    for index in start..start + files {
+    for index in files {
         shard
             .add_file_reconstruction_info(file(seed, index))
             .unwrap();
     }
-    for index in start / FILES_OF_XORB..(start + files) / FILES_OF_XORB {
+    for index in xorbs {
         shard.add_xorb_block(xorb(seed, index)).unwrap();
     }
     shard.to_bytes().unwrap()

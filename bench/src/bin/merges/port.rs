@@ -1,0 +1,45 @@
+//! The port, through the C library `libxet.a`, as `bindings/c/xet.h` declares it.
+
+/// `struct xet_bytes`.
+#[repr(C)]
+struct Bytes {
+    bytes: *const u8,
+    length: usize,
+}
+
+unsafe extern "C" {
+    fn xet_merge(
+        shards: *const Bytes,
+        count: usize,
+        out: *mut u8,
+        capacity: usize,
+        written: *mut usize,
+    ) -> u32;
+}
+
+/// The union of shards, made in one call.
+pub fn merge(shards: &[&[u8]]) -> Vec<u8> {
+    // The union has each record at most as often as all shards together, and one header and footer.
+    let mut out = vec![0; shards.iter().map(|shard| shard.len()).sum()];
+    let shards: Vec<_> = shards
+        .iter()
+        .map(|shard| Bytes {
+            bytes: shard.as_ptr(),
+            length: shard.len(),
+        })
+        .collect();
+    let mut written = 0;
+    // Each pointer is that of a slice with this length; no output overlaps another or an input.
+    let result = unsafe {
+        xet_merge(
+            shards.as_ptr(),
+            shards.len(),
+            out.as_mut_ptr(),
+            out.len(),
+            &mut written,
+        )
+    };
+    assert_eq!(result, 0, "the port's merge failed");
+    out.truncate(written);
+    out
+}

@@ -1,0 +1,158 @@
+//! The rows of the table.
+
+use crate::memory::peak;
+use crate::way::Way;
+use shard_bench::clock::time;
+use shard_bench::compare::compare;
+use shard_bench::shards::overlapping;
+use std::fmt;
+
+/// How many shards, their size, and the files of each that give it.
+const SIZES: [(u64, &str, u64); 3] = [(1000, "70 kB", 88), (100, "700 kB", 856), (8, "8 MB", 9760)];
+
+const SHARED_PERCENT: [u64; 3] = [0, 50, 99];
+
+/// Of so many shards or more a fold takes one turn alone, since it takes long.
+const MANY_SHARDS: u64 = 1000;
+
+/// Shards that are merged.
+pub struct Row {
+    shards: u64,
+    size: &'static str,
+    files: u64,
+    shared_percent: u64,
+}
+
+/// All rows of the table.
+pub fn rows() -> impl Iterator<Item = Row> {
+    SIZES.into_iter().flat_map(|(shards, size, files)| {
+        SHARED_PERCENT.map(|shared_percent| Row {
+            shards,
+            size,
+            files,
+            shared_percent,
+        })
+    })
+}
+
+impl Row {
+    /// What the row is called, as in `8 x 8 MB, 50 %`.
+    pub fn name(&self) -> String {
+        format!("{} x {}, {} %", self.shards, self.size, self.shared_percent)
+    }
+
+    /// Measures the ways in turns, and stops if one answers something else than the port.
+    pub fn measured(self, seed: u64, turns: u32, ways: &[Way]) -> Measured {
+        let shards = overlapping(seed, self.shards, self.files, self.shared_percent);
+        let shards: Vec<_> = shards.iter().map(Vec::as_slice).collect();
+        let expected = Way::Port.merge(&shards);
+        let mut costs: Vec<_> = ways.iter().map(|&way| Cost::new(way, &shards)).collect();
+        for turn in 0..turns {
+            for cost in &mut costs {
+                if turn == 0 {
+                    compare(&self.name(), expected.clone(), cost.turn(&shards));
+                } else if cost.way != Way::Fold || self.shards < MANY_SHARDS {
+                    cost.turn(&shards);
+                }
+            }
+        }
+        let measured = Measured {
+            inputs: shards.iter().map(|shard| shard.len()).sum(),
+            output: expected.len(),
+            costs,
+            row: self,
+        };
+        eprintln!("{measured}");
+        measured
+    }
+}
+
+/// What a way costs.
+struct Cost {
+    way: Way,
+    /// The least of the turns so far.
+    nanoseconds: u64,
+    /// The most memory, beyond what there was before.
+    peak: u64,
+}
+
+impl Cost {
+    /// Takes the memory, and no turn yet.
+    fn new(way: Way, shards: &[&[u8]]) -> Self {
+        Cost {
+            way,
+            nanoseconds: u64::MAX,
+            peak: peak(way, shards).expect("a process of its own can merge"),
+        }
+    }
+
+    /// Takes a turn, and returns the answer.
+    fn turn(&mut self, shards: &[&[u8]]) -> Vec<u8> {
+        let mut merged = Vec::new();
+        let nanoseconds = time(|| merged = self.way.merge(shards));
+        self.nanoseconds = self.nanoseconds.min(nanoseconds);
+        merged
+    }
+}
+
+/// A row, and what its ways cost.
+pub struct Measured {
+    row: Row,
+    inputs: usize,
+    output: usize,
+    costs: Vec<Cost>,
+}
+
+impl Measured {
+    /// The head of the table.
+    pub const HEAD: &str = "\
+| shards | shared | inputs | output | port | tree | fold | port / tree | port / fold \
+| peak: port | tree | fold |
+|---|---|---|---|---|---|---|---|---|---|---|---|";
+
+    /// A cell of what a way costs, or of none if the way is left out.
+    fn cell(&self, way: Way, text: impl Fn(&Cost) -> String) -> String {
+        let cost = self.costs.iter().find(|cost| cost.way == way);
+        cost.map_or_else(|| "-".to_owned(), text)
+    }
+
+    fn milliseconds(&self, way: Way) -> String {
+        self.cell(way, |cost| format!("{:.1}", cost.nanoseconds as f64 / 1e6))
+    }
+
+    /// The time of the port by that of another way.
+    fn ratio(&self, way: Way) -> String {
+        let port = self.costs.iter().find(|cost| cost.way == Way::Port);
+        let port = port.map_or(f64::NAN, |cost| cost.nanoseconds as f64);
+        self.cell(way, |cost| format!("{:.2}", port / cost.nanoseconds as f64))
+    }
+
+    fn peak(&self, way: Way) -> String {
+        self.cell(way, |cost| megabytes(cost.peak))
+    }
+}
+
+impl fmt::Display for Measured {
+    fn fmt(&self, out: &mut fmt::Formatter<'_>) -> fmt::Result {
+        let Row {
+            shards,
+            size,
+            shared_percent,
+            ..
+        } = &self.row;
+        let mut cells = vec![
+            format!("{shards} x {size}"),
+            format!("{shared_percent} %"),
+            megabytes(self.inputs as u64),
+            megabytes(self.output as u64),
+        ];
+        cells.extend(Way::ALL.map(|way| self.milliseconds(way)));
+        cells.extend([Way::Tree, Way::Fold].map(|way| self.ratio(way)));
+        cells.extend(Way::ALL.map(|way| self.peak(way)));
+        write!(out, "| {} |", cells.join(" | "))
+    }
+}
+
+fn megabytes(bytes: u64) -> String {
+    format!("{:.1}", bytes as f64 / 1e6)
+}
