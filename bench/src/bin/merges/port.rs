@@ -7,6 +7,16 @@ struct Bytes {
     length: usize,
 }
 
+/// `struct xet_disagreement`.
+#[repr(C)]
+#[derive(Default)]
+struct Disagreement {
+    hash: [u64; 4],
+    is_xorb: bool,
+    first: usize,
+    second: usize,
+}
+
 unsafe extern "C" {
     fn xet_merge(
         shards: *const Bytes,
@@ -15,19 +25,30 @@ unsafe extern "C" {
         capacity: usize,
         written: *mut usize,
     ) -> u32;
+
+    fn xet_find_disagreement(
+        shards: *const Bytes,
+        count: usize,
+        differing: *mut usize,
+        found: *mut Disagreement,
+    ) -> u32;
+}
+
+fn list(shards: &[&[u8]]) -> Vec<Bytes> {
+    shards
+        .iter()
+        .map(|shard| Bytes {
+            bytes: shard.as_ptr(),
+            length: shard.len(),
+        })
+        .collect()
 }
 
 /// The union of shards, made in one call.
 pub fn merge(shards: &[&[u8]]) -> Vec<u8> {
     // The union has each record at most as often as all shards together, and one header and footer.
     let mut out = vec![0; shards.iter().map(|shard| shard.len()).sum()];
-    let shards: Vec<_> = shards
-        .iter()
-        .map(|shard| Bytes {
-            bytes: shard.as_ptr(),
-            length: shard.len(),
-        })
-        .collect();
+    let shards = list(shards);
     let mut written = 0;
     // Each pointer is that of a slice with this length; no output overlaps another or an input.
     let result = unsafe {
@@ -42,4 +63,16 @@ pub fn merge(shards: &[&[u8]]) -> Vec<u8> {
     assert_eq!(result, 0, "the port's merge failed");
     out.truncate(written);
     out
+}
+
+/// How many hashes have records in two of the shards that do not agree.
+pub fn differing(shards: &[&[u8]]) -> usize {
+    let shards = list(shards);
+    let mut differing = 0;
+    let mut found = Disagreement::default();
+    // The pointer is that of a slice with this length; no output overlaps another or an input.
+    let result =
+        unsafe { xet_find_disagreement(shards.as_ptr(), shards.len(), &mut differing, &mut found) };
+    assert_eq!(result, 0, "the port's comparison failed");
+    differing
 }

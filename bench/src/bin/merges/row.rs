@@ -1,6 +1,7 @@
 //! The rows of the table.
 
 use crate::memory::peak;
+use crate::port;
 use crate::way::Way;
 use shard_bench::clock::time;
 use shard_bench::compare::compare;
@@ -47,7 +48,11 @@ impl Row {
         let shards: Vec<_> = shards.iter().map(Vec::as_slice).collect();
         let expected = Way::Port.merge(&shards);
         let mut costs: Vec<_> = ways.iter().map(|&way| Cost::new(way, &shards)).collect();
+        let mut comparison = u64::MAX;
         for turn in 0..turns {
+            let mut differing = 0;
+            comparison = comparison.min(time(|| differing = port::differing(&shards)));
+            assert_eq!(differing, 0, "the shards agree");
             for cost in &mut costs {
                 if turn == 0 {
                     compare(&self.name(), expected.clone(), cost.turn(&shards));
@@ -59,6 +64,7 @@ impl Row {
         let measured = Measured {
             inputs: shards.iter().map(|shard| shard.len()).sum(),
             output: expected.len(),
+            comparison,
             costs,
             row: self,
         };
@@ -100,6 +106,8 @@ pub struct Measured {
     row: Row,
     inputs: usize,
     output: usize,
+    /// The least time in which the port found that the shards agree, in nanoseconds.
+    comparison: u64,
     costs: Vec<Cost>,
 }
 
@@ -107,8 +115,8 @@ impl Measured {
     /// The head of the table.
     pub const HEAD: &str = "\
 | shards | shared | inputs | output | port | tree | fold | port / tree | port / fold \
-| peak: port | tree | fold |
-|---|---|---|---|---|---|---|---|---|---|---|---|";
+| peak: port | tree | fold | comparison |
+|---|---|---|---|---|---|---|---|---|---|---|---|---|";
 
     /// A cell of what a way costs, or of none if the way is left out.
     fn cell(&self, way: Way, text: impl Fn(&Cost) -> String) -> String {
@@ -117,7 +125,7 @@ impl Measured {
     }
 
     fn milliseconds(&self, way: Way) -> String {
-        self.cell(way, |cost| format!("{:.1}", cost.nanoseconds as f64 / 1e6))
+        self.cell(way, |cost| milliseconds(cost.nanoseconds))
     }
 
     /// The time of the port by that of another way.
@@ -149,8 +157,13 @@ impl fmt::Display for Measured {
         cells.extend(Way::ALL.map(|way| self.milliseconds(way)));
         cells.extend([Way::Tree, Way::Fold].map(|way| self.ratio(way)));
         cells.extend(Way::ALL.map(|way| self.peak(way)));
+        cells.push(milliseconds(self.comparison));
         write!(out, "| {} |", cells.join(" | "))
     }
+}
+
+fn milliseconds(nanoseconds: u64) -> String {
+    format!("{:.1}", nanoseconds as f64 / 1e6)
 }
 
 fn megabytes(bytes: u64) -> String {
