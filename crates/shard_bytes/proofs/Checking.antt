@@ -239,7 +239,7 @@ module _ (bytes : List ℕ) (info : MDBShardInfo) (files : List MDBFileInfo) (xo
       }
 
 -- bytes with a header and a footer have a header
-pub header_in : (bytes : List ℕ) (info : MDBShardInfo) → HasEnds bytes info → HasHeader bytes
+abbrev pub header_in : (bytes : List ℕ) (info : MDBShardInfo) → HasEnds bytes info → HasHeader bytes
 header_in bytes info ends = header_of bytes (drop 48 bytes) info.header (sym (take-append-drop 48 bytes) ∙ ap (λ bs. bs ++ drop 48 bytes) ends.header) ends.header_version
 
 -- a report of bytes that can be read, from the findings on the order of each section and the differences

@@ -7,5 +7,6 @@ pub mod Keeping
 pub mod MemoryErrors
 pub mod Merging
 pub mod Reading
+pub mod Sizes
 pub mod Whole
 pub mod Written

@@ -7,3 +7,4 @@ pub mod Merging
 pub mod Minimal
 pub mod Outcomes
 pub mod Query
+pub mod Sizes

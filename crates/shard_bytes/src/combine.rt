@@ -1,9 +1,10 @@
 //! Union and difference of shards in buffers.
 
-ghost use Rattle.std.specs.Prelude.{◌⊎◌, MatchResult};
+ghost use Rattle.std.specs.Prelude.{◌⊎◌, length, IfOk, MatchResult};
 ghost use Rattle.xet_core_structures.specs.Errors.{IsWriteError};
 ghost use Rattle.xet_core_structures.specs.ByteResults.{WritesResult, InputsFail};
 ghost use Rattle.shard_bytes.specs.Combining.{IsResultOf, RefusalOf, CombinesBytes, CombiningRefusal};
+ghost use Rattle.shard_bytes.specs.Sizes.{IsResultSize, sources_of};
 
 use crate::memory::in_memory;
 use crate::room::with_room;
@@ -22,7 +23,8 @@ pub enum Operation {
     Difference,
 }
 
-/// The bytes of the result of an operation on two shards, from their bytes.
+/// The bytes of the result of an operation on two shards, from their bytes: at most 344 and 8/3 of
+/// those of both, or of the second for a difference.
 ///
 /// The errors are those of [`MDBShardInfo::load_from_reader`] and of [`shard_set_union`] or
 /// [`shard_set_difference`].
@@ -32,9 +34,11 @@ pub fn combine_bytes(
     first: &[u8],
     second: &[u8],
 ) -> Result<Vec<u8>>
-    ensures { MatchResult result
+    ensures combined { MatchResult result
         (λ bytes. CombinesBytes (IsResultOf operation) first.now second.now bytes.items)
         (CombiningRefusal (RefusalOf operation) first.now second.now) }
+    ensures size { IfOk result
+        (λ bytes. IsResultSize (sources_of operation first.now second.now) (length bytes.items)) }
 {
     let mut r1 = MemorySource::new(first);
     let mut r2 = MemorySource::new(second);

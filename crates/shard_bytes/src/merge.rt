@@ -5,6 +5,7 @@ ghost use Rattle.xet_core_structures.specs.MergeTrees.{MergeRefused};
 ghost use Rattle.xet_core_structures.specs.Shard.{Shard};
 ghost use Rattle.xet_core_structures.specs.WrittenShard.{IsBytesWithoutExpiry};
 ghost use Rattle.shard_bytes.specs.Merging.{IsBalanced, IsPlanOfBoth, IsMergePlan, MergesBytes, RefusesMerge, HaveJoin};
+ghost use Rattle.shard_bytes.specs.Sizes.{IsResultSize};
 
 use std::alloc::Global;
 use xet_core_structures::error::{CoreError, Result};
@@ -13,7 +14,7 @@ use xet_core_structures::set_operations::{MergePlan, shard_union_tree};
 /// The bytes of the union of one shard or more, from their bytes, by a balanced tree of unions:
 /// that of the first half of the list with that of the second. One shard is united with itself. Of
 /// shards that agree pairwise and have no key, any other tree with a union and any other order give
-/// the same bytes.
+/// the same bytes. They are at most 344 and 8/3 of the inputs' bytes.
 ///
 /// `InvalidArguments` if the list is empty. Else the errors are those of [`shard_union_tree`].
 pub fn merge_bytes(alloc: Global, shards: &[&[u8]]) -> Result<Vec<u8>>
@@ -23,6 +24,8 @@ pub fn merge_bytes(alloc: Global, shards: &[&[u8]]) -> Result<Vec<u8>>
     ensures one_byte_string { (all : List Shard) → (join : Shard)
         → HaveJoin (map (λ x. x.now) shards.now) all join
         → MatchResult result (λ bytes. IsBytesWithoutExpiry join bytes.items) (MergeRefused join) }
+    ensures size { IfOk result
+        (λ bytes. IsResultSize (map (λ x. x.now) shards.now) (length bytes.items)) }
 {
     if shards.is_empty() {
         return Err(CoreError::InvalidArguments);

@@ -1,7 +1,9 @@
 //! Union and difference.
 
+ghost use Rattle.std.specs.Prelude.{[], ◌∷◌};
 ghost use Rattle.shard_bytes.specs.declared.combine.Operation.TheVariants.{Union, Difference};
 ghost use Rattle.shard_bytes.specs.Combining.{IsResultOf, RefusalOf, CombinesBytes, CombiningRefusal};
+ghost use Rattle.shard_bytes.specs.Sizes.{IsResultSize};
 ghost use Rattle.xet_c.specs.Output.{Outcome};
 
 use crate::output::deliver;
@@ -18,9 +20,10 @@ pub extern "C" fn xet_union(
     out: &mut [u8],
     written: &mut usize,
 ) -> u32
-    ensures { Outcome (CombinesBytes (IsResultOf Union) first.now second.now)
+    ensures combined { Outcome (CombinesBytes (IsResultOf Union) first.now second.now)
         (CombiningRefusal (RefusalOf Union) first.now second.now) out.old out.new written.new
         result }
+    ensures size { IsResultSize (first.now ∷ second.now ∷ []) written.new }
 {
     let union = combine_bytes(alloc, Operation::Union, first, second);
     deliver(union, out, written)
@@ -35,9 +38,10 @@ pub extern "C" fn xet_difference(
     out: &mut [u8],
     written: &mut usize,
 ) -> u32
-    ensures { Outcome (CombinesBytes (IsResultOf Difference) first.now second.now)
+    ensures combined { Outcome (CombinesBytes (IsResultOf Difference) first.now second.now)
         (CombiningRefusal (RefusalOf Difference) first.now second.now) out.old out.new
         written.new result }
+    ensures size { IsResultSize (second.now ∷ []) written.new }
 {
     let difference = combine_bytes(alloc, Operation::Difference, first, second);
     deliver(difference, out, written)

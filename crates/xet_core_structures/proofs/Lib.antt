@@ -40,5 +40,6 @@ pub mod SmallerShards
 pub mod TreeXorbs
 pub mod TreesOfExports
 pub mod Turns
+pub mod UnionSizes
 pub mod UnitedFiles
 pub mod Zipped

@@ -99,13 +99,20 @@ module _ (x : List ℕ) (i : MDBShardInfo) (y : List ℕ) (j : MDBShardInfo) (ol
   pub difference_in_form : WritesResult IsDifference x i y j old new info → WritesInForm IsDifference x i y j old new info
   difference_in_form = in_form IsDifference (difference_readable x i y j)
 
--- what a union of bytes writes
+-- what is written of a readable shard under the key of an input
+under_key_of : (x : List ℕ) (i : MDBShardInfo) (c : Shard) → HasEnds x i → IsReadable c → IsWrittenUnder (key_of i) c (keyed_layout c (key_of i)) (keyed_info c (key_of i))
+under_key_of x i c x_ends readable =
+    written_under (key_of i) c readable
+    (fits_in_form (values c.files) (values c.xorbs) (keyed_form (key_of i)) readable.files.fits readable.xorbs.fits x_ends.footer_widths.key (omega arith) (omega arith))
+
+-- what a union or a difference of bytes writes
 pub union_under : (x : List ℕ) (i : MDBShardInfo) (y : List ℕ) (j : MDBShardInfo) (c : Shard) → HasEnds x i → HaveResult IsByteUnion x i y j c
     → IsWrittenUnder (key_of i) c (keyed_layout c (key_of i)) (keyed_info c (key_of i))
-union_under x i y j c x_ends have =
-    let readable = union_readable x i y j c have in
-    let fits = fits_in_form (values c.files) (values c.xorbs) (keyed_form (key_of i)) readable.files.fits readable.xorbs.fits x_ends.footer_widths.key (omega arith) (omega arith) in
-    written_under (key_of i) c readable fits
+union_under x i y j c x_ends have = under_key_of x i c x_ends (union_readable x i y j c have)
+
+pub difference_under : (x : List ℕ) (i : MDBShardInfo) (y : List ℕ) (j : MDBShardInfo) (c : Shard) → HasEnds x i → HaveResult IsDifference x i y j c
+    → IsWrittenUnder (key_of i) c (keyed_layout c (key_of i)) (keyed_info c (key_of i))
+difference_under x i y j c x_ends have = under_key_of x i c x_ends (difference_readable x i y j c have)
 
 -- what a tree with a union writes, whatever its inputs
 pub tree_under : (inputs : List (List ℕ)) (plan : MergePlan) (out : List ℕ) → HasUnion plan → TreeWrites inputs plan out

@@ -13,6 +13,7 @@ pub mod Placed
 pub mod Readable
 pub mod SetOutcomes
 pub mod SideBySide
+pub mod Sizes
 pub mod Streams
 pub use Rattle.xet_base.specs.Errors
 pub use Rattle.xet_base.specs.Hash

@@ -46,6 +46,7 @@ ghost use Rattle.xet_shards.specs.WrittenShard.{HasFilesIn, IsBytesOf, IsBytesWi
 mod agreement;
 mod exports;
 mod minimal;
+mod sizes;
 
 pub use agreement::merges_of_agreeing_inputs;
 pub use exports::{
@@ -53,6 +54,7 @@ pub use exports::{
     keyed_shards_are_exported, keys_pass_to_joins, merges_keep_runs,
 };
 pub use minimal::{minimal_shards_are_written_again, subsets_keep_eligible_chunks};
+pub use sizes::results_are_bounded;
 
 /// Each two shards have exactly one union.
 pub fn unions_exist()

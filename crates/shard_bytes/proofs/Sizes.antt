@@ -1,0 +1,78 @@
+-- How large unions and differences of byte strings are.
+use Rattle.std.proofs.Common.{◌≡◌, inl, inr, ℕ, zero, suc, ◌+◌, ◌-◌, ◌/◌, List, [], ◌∷◌, length, Some, refl, ap, subst, arith}
+use Rattle.std.specs.Prelude.{sum_by, slice_get, slice_index_or}
+use Rattle.std.proofs.lemmas.List.Sums.{sum_by-append, sum_by-cons}
+use Rattle.xet_core_structures.specs.declared.set_operations.MergePlan.{MergePlan}
+use Rattle.xet_core_structures.specs.declared.set_operations.MergePlan.TheVariants.{Leaf, Both'}
+use Rattle.xet_core_structures.specs.ByteResults.{UnitesBytes}
+use Rattle.xet_core_structures.specs.MergeTrees.{leaves, TreeWrites}
+use Rattle.xet_core_structures.specs.Sizes.{bytes_at}
+use Rattle.xet_core_structures.proofs.UnionSizes.{bytes_of_union, bytes_of_tree, bytes_of_difference, bytes_of_repetition}
+use Rattle.shard_bytes.specs.declared.combine.Operation.{Operation}
+use Rattle.shard_bytes.specs.declared.combine.Operation.TheVariants.{Union, Difference}
+use Rattle.shard_bytes.specs.Combining.{IsResultOf, CombinesBytes}
+use Rattle.shard_bytes.specs.Merging.{IsBalanced, IsMergePlan}
+use Rattle.shard_bytes.specs.Sizes.{IsResultSize, sources_of}
+
+module _ {X : Type 0} where
+  -- the sizes of so many lists from an index on
+  abbrev sizes : List (List X) → (from count : ℕ) → ℕ
+  sizes xss from zero = 0
+  sizes xss from (suc n) = length (slice_index_or xss from []) + sizes xss (suc from) n
+
+  sizes_of_parts : (xss : List (List X)) (from first rest : ℕ) → sizes xss from (first + rest) ≡ sizes xss from first + sizes xss (from + first) rest
+  sizes_of_parts xss from zero rest =
+      let none : 0 + rest ≡ rest = omega arith in
+      let same : from + 0 ≡ from = omega arith in
+      omega (arith, ap (sizes xss from) none, ap (λ k. sizes xss k rest) same)
+  sizes_of_parts xss from (suc n) rest =
+      let more : suc n + rest ≡ suc (n + rest) = omega arith in
+      let next : from + suc n ≡ suc from + n = omega arith in
+      omega (arith, ap (sizes xss from) more, sizes_of_parts xss (suc from) n rest, ap (λ k. sizes xss k rest) next)
+
+  sizes_behind : (xs : List X) (xss : List (List X)) (from count : ℕ) → sizes (xs ∷ xss) (suc from) count ≡ sizes xss from count
+  sizes_behind xs xss from zero = refl
+  sizes_behind xs xss from (suc n) = ap (λ k. length (slice_index_or xss from []) + k) (sizes_behind xs xss (suc from) n)
+
+  sizes_of_all : (xss : List (List X)) → sizes xss 0 (length xss) ≡ sum_by length xss
+  sizes_of_all [] = refl
+  sizes_of_all (xs ∷ xss) = omega (arith, sum_by-cons length xs xss, sizes_behind xs xss 0 (length xss), sizes_of_all xss)
+
+-- the leaves of a balanced tree are inputs that follow one another
+balanced_bytes : (inputs : List (List ℕ)) (from count : ℕ) (plan : MergePlan) → IsBalanced from count plan → bytes_at inputs (leaves plan) ≡ sizes inputs from count
+balanced_bytes inputs from count (Leaf i) (one, is) = omega (arith, ap (sizes inputs from) one, ap (λ k. length (slice_index_or inputs k [])) is)
+balanced_bytes inputs from count (Both' p left q right) (more, first, second) =
+    let whole : count / 2 + (count - count / 2) ≡ count = omega arith in
+    omega (
+      arith,
+      sum_by-append (λ k. length (slice_index_or inputs k [])) (leaves left) (leaves right),
+      balanced_bytes inputs from (count / 2) left first,
+      balanced_bytes inputs (from + count / 2) (count - count / 2) right second,
+      sizes_of_parts inputs from (count / 2) (count - count / 2),
+      ap (sizes inputs from) whole,
+    )
+
+-- a single input is united with itself
+only_input : (inputs : List (List ℕ)) (x : List ℕ) → length inputs ≡ 1 → slice_get inputs 0 ≡ Some x → sum_by length inputs ≡ length x
+only_input [] x one is = absurd (omega (arith, one))
+only_input (y ∷ []) x one is = grind arith
+only_input (y ∷ z ∷ zs) x one is = absurd (omega (arith, one))
+
+same_input : (inputs : List (List ℕ)) (x y : List ℕ) → slice_get inputs 0 ≡ Some x → slice_get inputs 0 ≡ Some y → y ≡ x
+same_input inputs x y first second = cc
+
+pub size_of_merge : (inputs : List (List ℕ)) (plan : MergePlan) (out : List ℕ) → IsMergePlan (length inputs) plan → TreeWrites inputs plan out → IsResultSize inputs (length out)
+size_of_merge inputs (Leaf i) out (inl (one, none)) writes = absurd none
+size_of_merge inputs (Leaf i) out (inr (more, (one, is))) writes = absurd (omega arith)
+size_of_merge inputs (Both' p left q right) out (inl (one, (first, second))) (x, y, x_written, y_written, unites) =
+    let x_is = subst (λ l. TreeWrites inputs l x) first x_written in
+    let y_is = subst (λ l. TreeWrites inputs l y) second y_written in
+    omega (arith, bytes_of_repetition x out (subst (λ z. UnitesBytes x z out) (same_input inputs x y x_is y_is) unites), only_input inputs x one x_is)
+size_of_merge inputs (Both' p left q right) out (inr (more, balanced)) writes =
+    omega (arith, bytes_of_tree inputs (Both' p left q right) out tt writes, balanced_bytes inputs 0 (length inputs) (Both' p left q right) balanced, sizes_of_all inputs)
+
+-- of two byte strings
+pub size_of_result : (operation : Operation) (x y out : List ℕ) → CombinesBytes (IsResultOf operation) x y out → IsResultSize (sources_of operation x y) (length out)
+size_of_result Union x y out unites = omega (arith, bytes_of_union x y out unites, sum_by-cons length x (y ∷ []), sum_by-cons length y [])
+size_of_result Difference x y out (i, j, c, x_ends, y_ends, result, is) =
+    omega (arith, ap length is, bytes_of_difference x y i j c x_ends y_ends result, sum_by-cons length y [])

@@ -1,0 +1,32 @@
+//! A law of the sizes of unions.
+
+ghost use Rattle.std.specs.Prelude.{ℕ, ◌+◌, ◌*◌, ◌≤◌, List, length};
+ghost use Rattle.xet_shards.specs.Shard.{Shard};
+ghost use Rattle.xet_core_structures.specs.declared.set_operations.MergePlan.{MergePlan};
+ghost use Rattle.xet_shards.specs.declared.shard_format.info.MDBShardInfo.{MDBShardInfo};
+ghost use Rattle.xet_shards.specs.Ends.{HasEnds};
+ghost use Rattle.xet_shards.specs.SetOperations.{IsDifference};
+ghost use Rattle.xet_core_structures.specs.ByteResults.{keyed_layout, key_of, HaveResult, UnitesBytes};
+ghost use Rattle.xet_core_structures.specs.ByteUnion.{IsByteUnion};
+ghost use Rattle.xet_core_structures.specs.MergeTrees.{leaves, HasUnion, TreeWrites};
+ghost use Rattle.xet_core_structures.specs.Sizes.{rows_of_shard, bytes_at};
+
+/// A union has at most the rows of both shards. So the union of two byte strings, and what a tree
+/// with a union writes of the inputs at its leaves, have at most 344 bytes and 8/3 of the inputs',
+/// whatever these are: a row takes 48 bytes and at most 16 more of a table, and both sections of an
+/// input may lie in the same bytes. In a union of bytes with themselves these count once, and in a
+/// difference the second's alone.
+pub fn results_are_bounded()
+    ensures rows { (a b c : Shard) → IsByteUnion a b c
+        → rows_of_shard c ≤ rows_of_shard a + rows_of_shard b }
+    ensures bytes { (inputs : List (List ℕ)) → (plan : MergePlan) → (out : List ℕ) → HasUnion plan
+        → TreeWrites inputs plan out
+        → 3 * length out ≤ 3 * 344 + 8 * bytes_at inputs (leaves plan) }
+    ensures union { (x y out : List ℕ) → UnitesBytes x y out
+        → 3 * length out ≤ 3 * 344 + 8 * (length x + length y) }
+    ensures difference { (x y : List ℕ) → (i j : MDBShardInfo) → (c : Shard) → HasEnds x i
+        → HasEnds y j → HaveResult IsDifference x i y j c
+        → 3 * length (keyed_layout c (key_of i)) ≤ 3 * 344 + 8 * length y }
+    ensures repetition { (x out : List ℕ) → UnitesBytes x x out
+        → 3 * length out ≤ 3 * 344 + 8 * length x }
+{}
