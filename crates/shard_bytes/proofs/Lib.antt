@@ -8,5 +8,6 @@ pub mod MemoryErrors
 pub mod Merging
 pub mod Reading
 pub mod Sizes
+pub mod Versions
 pub mod Whole
 pub mod Written

@@ -8,3 +8,4 @@ pub mod Minimal
 pub mod Outcomes
 pub mod Query
 pub mod Sizes
+pub mod Versions

@@ -13,3 +13,4 @@ pub mod merge;
 pub mod minimal;
 pub mod query;
 mod room;
+pub mod version;

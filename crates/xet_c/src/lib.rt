@@ -20,3 +20,4 @@ mod query;
 mod segment;
 mod subset;
 mod text;
+mod version;

@@ -1,0 +1,23 @@
+use Rattle.std.proofs.Common.{Some, subst}
+use Rattle.xet_records.specs.declared.record_reader.FormatVersion.TheVariants.{V2}
+use Rattle.xet_shards.specs.Rewriting.{WritesAgain}
+use Rattle.shard_bytes.specs.Versions.{FindsAuxRows}
+use Rattle.shard_bytes.proofs.Combining.{in_memory}
+use Rattle.shard_bytes.proofs.Versions.{written_in_2, not_in_2}
+use Rattle.shard_bytes.proofs.version.version_2_bytes.Goals as goal
+
+pub returns-then-branch : goal.returns-then-branch
+returns-then-branch c =
+    let bytes = c.args.bytes.now in
+    let start = c.in_ok-written.written.items in
+    let again = subst (λ form. WritesAgain (record form { version = V2 }) (in_memory c.new-source.result) (Some start) (Some c.write_again.new.writer.items) c.in_default.field-0) c.of_info.ensures c.in_default.ensures in
+    not_in_2 bytes c.in_ok-info.info c.in_ok-info.ensures (in_memory c.new-source.result) c.new-source.ensures start c.write_again.new.writer.items c.in_default.field-0 c.in_ok-written.ensures.empty again
+    (subst (FindsAuxRows bytes) c.if-branch.true c.in_ok-has_aux_rows.ensures.ok)
+
+pub returns : goal.returns
+returns c =
+    let bytes = c.args.bytes.now in
+    let start = c.in_ok-written.written.items in
+    let again = subst (λ form. WritesAgain (record form { version = V2 }) (in_memory c.new-source.result) (Some start) (Some c.write_again.new.writer.items) c.in_default.field-0) c.of_info.ensures c.in_default.ensures in
+    written_in_2 bytes c.in_ok-info.info c.in_ok-info.ensures (in_memory c.new-source.result) c.new-source.ensures start c.write_again.new.writer.items c.in_default.field-0 c.in_ok-written.ensures.empty again
+    (subst (FindsAuxRows bytes) c.if-branch.false c.in_ok-has_aux_rows.ensures.ok)
