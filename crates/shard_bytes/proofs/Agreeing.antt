@@ -1,5 +1,5 @@
 -- A merge of inputs that agree gives the bytes of the join of the shards that they hold.
-use Rattle.std.proofs.Common.{◌≡◌, inl, inr, ℕ, ◌<◌, List, [], ◌∷◌, length, refl, sym, subst, arith}
+use Rattle.std.proofs.Common.{inl, inr, ℕ, ◌<◌, List, [], ◌∷◌, length, refl, sym, subst, arith}
 use Rattle.std.specs.Prelude.{Contains}
 use Rattle.std.specs.List.{AllZip}
 use Rattle.xet_core_structures.specs.declared.set_operations.agreement.Disagreement.{Disagreement}
@@ -13,10 +13,6 @@ use Rattle.xet_core_structures.proofs.Held.{only_shard}
 use Rattle.xet_core_structures.proofs.Items.{has_at, at_of}
 use Rattle.xet_core_structures.proofs.Zipped.{zip_at, zip_back}
 use Rattle.shard_bytes.specs.Merging.{IsMergePlan, MergesBytes, HaveJoin}
-
-pub no_items : {X : Type 0} (xs : List X) → length xs ≡ 0 → xs ≡ []
-no_items [] none = refl
-no_items (x ∷ xs) none = absurd (omega (arith, none))
 
 module _ (shards : List Shard) (inputs : List (List ℕ)) (hold : AllZip (HoldsShard no_key) shards inputs) where
   -- what an input holds is one of the shards, and each of them is held

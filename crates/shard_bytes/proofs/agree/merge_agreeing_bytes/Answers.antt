@@ -1,7 +1,8 @@
 use Rattle.std.proofs.Common.{◌≡◌, ◌<◌, ℕ, List, length, map, Bor, rules}
+use Rattle.std.proofs.lemmas.List.{nil_from_length}
 use Rattle.xet_core_structures.specs.Agreement.{InputsAgree}
 use Rattle.xet_core_structures.proofs.AgreeingInputs.{none_found}
-use Rattle.shard_bytes.proofs.Agreeing.{no_items, all_agree, some_disagree, have_join}
+use Rattle.shard_bytes.proofs.Agreeing.{all_agree, some_disagree, have_join}
 use Rattle.shard_bytes.proofs.agree.merge_agreeing_bytes.Goals as goal
 
 pub returns-then-not-is_empty-clause-one_byte_string : goal.returns-then-not-is_empty-clause-one_byte_string
@@ -14,13 +15,13 @@ pub returns-clause-any_bytes : goal.returns-clause-any_bytes
 returns-clause-any_bytes c =
     let inputs : List (List ℕ) = map (λ (x : Bor (List ℕ)). x.now) c.args.shards.now in
     let none : length c.in_ok-found.found.items ≡ 0 = search rules in
-    (none_found inputs c.in_ok-found.found.items c.in_ok-found.ensures (no_items c.in_ok-found.found.items none), c.in_ok-merge_bytes.ensures.any_bytes)
+    (none_found inputs c.in_ok-found.found.items c.in_ok-found.ensures (nil_from_length c.in_ok-found.found.items none), c.in_ok-merge_bytes.ensures.any_bytes)
 
 pub returns-clause-one_byte_string : goal.returns-clause-one_byte_string
 returns-clause-one_byte_string c = λ all hold.
     let inputs : List (List ℕ) = map (λ (x : Bor (List ℕ)). x.now) c.args.shards.now in
     let none : length c.in_ok-found.found.items ≡ 0 = search rules in
-    let agree : InputsAgree inputs = none_found inputs c.in_ok-found.found.items c.in_ok-found.ensures (no_items c.in_ok-found.found.items none) in (
+    let agree : InputsAgree inputs = none_found inputs c.in_ok-found.found.items c.in_ok-found.ensures (nil_from_length c.in_ok-found.found.items none) in (
       all_agree all inputs hold agree,
       λ join is_join. c.in_ok-merge_bytes.ensures.one_byte_string all join (have_join all inputs hold c.in_ok-merge_bytes.field-0.items agree c.in_ok-merge_bytes.ensures.any_bytes join is_join),
     )

@@ -1,15 +1,12 @@
-use Rattle.std.proofs.Common.{◌≡◌, ◌<◌, ◌∷◌, ℕ, List, [], length, map, get_or, subst, rules, refl, sym, ◌∙◌, arith}
+use Rattle.std.proofs.Common.{◌≡◌, ◌<◌, ℕ, List, length, map, get_or, subst, rules, sym, ◌∙◌}
 use Rattle.std.specs.Borrow.{Bor}
 use Rattle.std.specs.Prelude.{Contains}
+use Rattle.std.proofs.lemmas.List.{nil_from_length}
 use Rattle.std.proofs.lemmas.List.Elements.{Contains-get_or}
 use Rattle.xet_core_structures.specs.declared.set_operations.agreement.Disagreement.{Disagreement}
 use Rattle.xet_core_structures.specs.declared.set_operations.agreement.RecordHash.TheVariants.{File}
 use Rattle.xet_core_structures.proofs.AgreeingInputs.{none_found}
 use Rattle.xet_core_structures.proofs.set_operations.agreement.find_disagreement.Goals as goal
-
-is_nothing : (ds : List Disagreement) → length ds ≡ 0 → ds ≡ []
-is_nothing [] none = refl
-is_nothing (d ∷ ds) none = absurd (omega (arith, none))
 
 -- what stands for an item that a list does not have
 abbrev nothing : Disagreement
@@ -19,7 +16,7 @@ pub returns-then-is_empty : goal.returns-then-is_empty
 returns-then-is_empty c =
     let inputs : List (List ℕ) = map (λ (x : Bor (List ℕ)). x.now) c.args.inputs.now in
     let none : length c.as_slice-found.result.now ≡ 0 = search rules in
-    none_found inputs c.in_ok-found.found.items c.in_ok-found.ensures (sym c.as_slice-found.ensures.value ∙ is_nothing c.as_slice-found.result.now none)
+    none_found inputs c.in_ok-found.found.items c.in_ok-found.ensures (sym c.as_slice-found.ensures.value ∙ nil_from_length c.as_slice-found.result.now none)
 
 pub returns : goal.returns
 returns c =
