@@ -10,7 +10,7 @@ use Rattle.xet_core_structures.specs.declared.set_operations.agreement.differing
 use Rattle.xet_core_structures.specs.declared.set_operations.agreement.differing.ReadRecord.{ReadRecord}
 use Rattle.xet_core_structures.specs.declared.set_operations.agreement.runs.Place.{Place}
 use Rattle.xet_core_structures.specs.declared.set_operations.placed.PlacedRecord.{PlacedRecord}
-use Rattle.xet_core_structures.specs.Differing.{IsRun, IsPlace, IsRecordAt, Covers, KeepsRecord, IsAgainst, AgreeWithin, DifferWithin, IsKept, IsComparing}
+use Rattle.xet_core_structures.specs.Differing.{IsRun, IsPlace, IsRecordAt, Covers, KeepsRecord, IsAgainst, AgreeWithin, DifferWithin, PassesPlace, DiffersAt}
 use Rattle.xet_core_structures.specs.Placed.{Places}
 use Rattle.xet_core_structures.specs.SideBySide.{IsRecordHeader}
 use Rattle.xet_core_structures.proofs.Items.{below_or_at}
@@ -35,6 +35,24 @@ copied_placed {H} {R} K one other n same size front r is =
       };
     }
 
+module _ {H R : Type 0} (K : RecordKind H R) (agree : R → R → Type 0) where
+  -- a record that is kept is at one of the places from one on, up to another
+  pub record IsKept (lists : List (List (PlacedRecord H))) (places : List Place) (from at : ℕ) (k : ReadRecord R) : Type 0 where
+    pub i : ℕ
+    pub place : Place
+    pub low : (from ≤ i) × (i < at)
+    pub is_at : slice_get places i ≡ Some place
+    pub input : place.input ≡ k.input
+    pub value : (r : R) → IsRecordAt K lists place r → r ≡ k.value
+
+  -- the records at these places agree, and those that are kept cover them
+  pub record IsComparing (lists : List (List (PlacedRecord H))) (places : List Place) (from at : ℕ) (kept : List (ReadRecord R)) : Type 0 where
+    pub after : from ≤ at
+    pub each : (k : ReadRecord R) → Contains kept k → IsKept lists places from at k
+    pub covers : (i : ℕ) (p : Place) (r : R) → from ≤ i → i < at → slice_get places i ≡ Some p → IsRecordAt K lists p r
+        → (k : ReadRecord R) × Contains kept k × Covers agree k.value r
+    pub agrees : AgreeWithin K agree lists places from at
+
 module _ {H R : Type 0} (K : RecordKind H R) (laws : KindLaws K) (lists : List (List (PlacedRecord H))) where
   -- what the code finds at a place is what is there
   abbrev pub FoundAt : Place → PlacedRecord H → Type 0
@@ -56,7 +74,7 @@ module _ {H R : Type 0} (K : RecordKind H R) (laws : KindLaws K) (lists : List (
 
   module _ (agree : R → R → Type 0) (places : List Place) (from : ℕ) where
     module _ (itself : (r : R) → agree r r) (turned : (r s : R) → agree r s → agree s r) where
-      pub comparing_start : IsComparing K agree lists places from from []
+      comparing_start : IsComparing K agree lists places from from []
       comparing_start = record {
         after = omega arith;
         each = λ k has. absurd (omega (arith, has.1));
@@ -94,7 +112,7 @@ module _ {H R : Type 0} (K : RecordKind H R) (laws : KindLaws K) (lists : List (
           of (inr i_is) (inr j_is) = subst (agree r) (same_record here r s (subst (λ x. IsRecordAt K lists x r) (is_here i p p_at i_is) r_at) (subst (λ x. IsRecordAt K lists x s) (is_here j q q_at j_is) s_at)) (itself r)
 
         -- the record here is that of the first place
-        pub copy_on : (first : Place) → from < at → slice_get places from ≡ Some first → ((s : R) → IsRecordAt K lists here s → IsRecordAt K lists first s) → IsComparing K agree lists places from (at + 1) kept
+        copy_on : (first : Place) → from < at → slice_get places from ≡ Some first → ((s : R) → IsRecordAt K lists here s → IsRecordAt K lists first s) → IsComparing K agree lists places from (at + 1) kept
         copy_on first some first_at same = record {
           after = omega (arith, comparing.after);
           each = λ k has. later k (comparing.each k has);
@@ -109,7 +127,7 @@ module _ {H R : Type 0} (K : RecordKind H R) (laws : KindLaws K) (lists : List (
 
         module _ (next : R) (read : (r : R) → IsRecordAt K lists here r → next ≡ r) where
           -- the record here agrees with all that are kept, and is kept too or covered
-          pub kept_on : (kept' : List (ReadRecord R)) → KeepsRecord agree here.input next kept kept' → IsComparing K agree lists places from (at + 1) kept'
+          kept_on : (kept' : List (ReadRecord R)) → KeepsRecord agree here.input next kept kept' → IsComparing K agree lists places from (at + 1) kept'
           kept_on kept' keeps = record {
             after = omega (arith, comparing.after);
             each = λ k has. still k (keeps.keeps) has;
@@ -149,8 +167,8 @@ module _ {H R : Type 0} (K : RecordKind H R) (laws : KindLaws K) (lists : List (
                 here_covered r (read r (subst (λ x. IsRecordAt K lists x r) p_is r_at)) how
 
           -- the record here does not agree with one that is kept
-          pub differ_here : (to input : ℕ) → IsRun places from to → at < to → IsAgainst agree kept next input → DifferWithin K agree lists places from (at + 1) (record { hash = here.hash; first = input; second = here.input })
-          differ_here to input run low (k, has, input_is, against) =
+          differ_here : (to : ℕ) (d : Differing) → IsRun places from to → at < to → IsAgainst agree kept next d.first → d.second ≡ here.input → d.hash ≡ here.hash → DifferWithin K agree lists places from (at + 1) d
+          differ_here to d run low (k, has, input_is, against) second_is hash_is =
               let one = comparing.each k has in
               record {
                 i = one.i;
@@ -159,10 +177,22 @@ module _ {H R : Type 0} (K : RecordKind H R) (laws : KindLaws K) (lists : List (
                 other = here;
                 is_one = (one.low.0, omega (arith, one.low.1), one.is_at);
                 is_other = (comparing.after, omega arith, here_at);
-                inputs = (one.input ∙ input_is, refl);
-                hashes = (run.same one.i one.place one.low.0 (omega (arith, one.low.1, low)) one.is_at ∙ sym (run.same at here comparing.after low here_at), refl);
+                inputs = (one.input ∙ input_is, sym second_is);
+                hashes = (run.same one.i one.place one.low.0 (omega (arith, one.low.1, low)) one.is_at ∙ sym (run.same at here comparing.after low here_at) ∙ sym hash_is, sym hash_is);
                 differ = λ r s r_at s_at agrees. against (subst (λ p. p) (λ n. agree (one.value r r_at n) (sym (read s s_at) n)) agrees);
               }
+
+        pub compared_on : from < at → (first : Place) → slice_get places from ≡ Some first → (kept' : List (ReadRecord R)) → PassesPlace K agree lists first here kept kept' → IsComparing K agree lists places from (at + 1) kept'
+        compared_on some first first_at kept' (inl (same, copy)) = subst (IsComparing K agree lists places from (at + 1)) (sym same) (copy_on first some first_at copy)
+        compared_on some first first_at kept' (inr (next, read, keeps)) = kept_on next read kept' keeps
+
+        pub compared_unlike : (to : ℕ) → IsRun places from to → at < to → (d : Differing) → DiffersAt K agree lists here kept d → DifferWithin K agree lists places from (at + 1) d
+        compared_unlike to run low d (next, read, against, second_is, hash_is) = differ_here next read to d run low against second_is hash_is
+
+      -- the first record alone is kept
+      pub comparing_first : (first : Place) → slice_get places from ≡ Some first → (next : R) → ((r : R) → IsRecordAt K lists first r → next ≡ r) → IsComparing K agree lists places from (from + 1) (record { input = first.input; value = next } ∷ [])
+      comparing_first first first_at next read =
+          kept_on from [] comparing_start first first_at next read _ (record { agrees = λ k has. absurd (omega (arith, has.1)); keeps = inr refl })
 
     -- two records that do not agree stand before a later place too
     pub differ_before : (near to : ℕ) (d : Differing) → near ≤ to → DifferWithin K agree lists places from near d → DifferWithin K agree lists places from to d

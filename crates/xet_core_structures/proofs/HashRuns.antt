@@ -21,6 +21,10 @@ use Rattle.xet_core_structures.specs.Differing.{place_cmp, IsRun, IsIn, IsPlace,
 use Rattle.xet_core_structures.specs.Placed.{hash_at}
 use Rattle.xet_core_structures.proofs.Items.{below_or_at}
 
+-- what stands for a place that a list does not have
+abbrev pub no_place : Place
+no_place = record { hash = record { word0 = 0; word1 = 0; word2 = 0; word3 = 0 }; input = 0; index = 0 }
+
 -- the order of places is that of their hashes first
 place_total : IsTotalOrder place_cmp
 place_total =

@@ -107,25 +107,21 @@ module _ {H R : Type 0} (K : RecordKind H R) where
         ((new ≡ old) × AgreeWithin lists places from to)
         ⊎ ((d : Differing) × (new ≡ old ++ d ∷ []) × DifferWithin lists places from to d)
 
-    -- a record that is kept is at one of the places from one on, up to another
-    pub record IsKept (lists : List (List (PlacedRecord H))) (places : List Place) (from at : ℕ)
-        (k : ReadRecord R) : Type 0 where
-      pub i : ℕ
-      pub place : Place
-      pub low : (from ≤ i) × (i < at)
-      pub is_at : slice_get places i ≡ Some place
-      pub input : place.input ≡ k.input
-      pub value : (r : R) → IsRecordAt lists place r → r ≡ k.value
+    -- the record at a place is that at another, or it agrees with all that are kept, and is kept too
+    -- unless one of them covers it
+    abbrev pub PassesPlace : List (List (PlacedRecord H)) → (first p : Place)
+        → (old new : List (ReadRecord R)) → Type 0
+    PassesPlace lists first p old new =
+        ((new ≡ old) × ((r : R) → IsRecordAt lists p r → IsRecordAt lists first r))
+        ⊎ ((next : R) × ((r : R) → IsRecordAt lists p r → next ≡ r)
+        × KeepsRecord agree p.input next old new)
 
-    -- the records at these places agree, and those that are kept cover them
-    pub record IsComparing (lists : List (List (PlacedRecord H))) (places : List Place)
-        (from at : ℕ) (kept : List (ReadRecord R)) : Type 0 where
-      pub after : from ≤ at
-      pub each : (k : ReadRecord R) → Contains kept k → IsKept lists places from at k
-      pub covers : (i : ℕ) (p : Place) (r : R) → from ≤ i → i < at → slice_get places i ≡ Some p
-          → IsRecordAt lists p r
-          → (k : ReadRecord R) × Contains kept k × Covers agree k.value r
-      pub agrees : AgreeWithin lists places from at
+    -- the record at a place does not agree with one that is kept
+    abbrev pub DiffersAt : List (List (PlacedRecord H)) → Place → List (ReadRecord R) → Differing
+        → Type 0
+    DiffersAt lists p kept d =
+        (next : R) × ((r : R) → IsRecordAt lists p r → next ≡ r) × IsAgainst agree kept next d.first
+        × (d.second ≡ p.input) × (d.hash ≡ p.hash)
 
     -- two lists have records with this hash that do not agree
     pub record Differ (all : List (List R)) (d : Differing) : Type 0 where

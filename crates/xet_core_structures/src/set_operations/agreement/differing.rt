@@ -5,7 +5,7 @@ ghost use Rattle.std.specs.List.{AllZip};
 ghost use Rattle.std.specs.List.Sorted.{IsSorted};
 ghost use Rattle.xet_base.specs.declared.error.CoreError.TheVariants.{OutOfMemory};
 ghost use Rattle.xet_core_structures.specs.Placed.{Places, MayUnite};
-ghost use Rattle.xet_core_structures.specs.Differing.{place_cmp, IsPlace, IsRun, IsRecordAt, ComparesRun, AgreeWithin, DifferWithin, IsComparing, FindsDiffering, Covers, KeepsRecord, IsAgainst};
+ghost use Rattle.xet_core_structures.specs.Differing.{place_cmp, IsPlace, IsRun, IsRecordAt, ComparesRun, AgreeWithin, DifferWithin, PassesPlace, DiffersAt, FindsDiffering, Covers, KeepsRecord, IsAgainst};
 
 use super::super::placed::{PlacedRecord, copied};
 use super::kinds::Agreement;
@@ -107,10 +107,16 @@ fn differ_in_run<R: SectionRecord + Drop, A: Agreement<R>>(
     if to - from == 1 {
         return Ok(None);
     }
+    let first = places[from];
+    let value = read_at::<R>(alloc, lists, first)?;
     let mut kept = Vec::new(alloc);
-    let mut at = from;
+    kept.push(ReadRecord {
+        input: first.input,
+        value,
+    })?;
+    let mut at = from + 1;
     while at < to {
-        match compare_at::<R, A>(alloc, lists, places, from, at, &mut kept)? {
+        match compare_place::<R, A>(alloc, lists, first, places[at], &mut kept)? {
             Some(differing) => return Ok(Some(differing)),
             None => at += 1,
         }
@@ -118,30 +124,26 @@ fn differ_in_run<R: SectionRecord + Drop, A: Agreement<R>>(
     Ok(None)
 }
 
-// Compares the record at a place of a run, which begins at `from`, with those that are kept.
-fn compare_at<R: SectionRecord + Drop, A: Agreement<R>>(
+// Compares the record at a place with those that are kept, unless it has the bytes of that at the
+// first place, which is one of these.
+fn compare_place<R: SectionRecord + Drop, A: Agreement<R>>(
     alloc: Global,
     lists: &[Vec<PlacedRecord<'_, R::Header>>],
-    places: &[Place],
-    from: usize,
-    at: usize,
+    first: Place,
+    place: Place,
     kept: &mut Vec<ReadRecord<R>>,
 ) -> Result<Option<Differing>>
-    requires run { (to : ℕ) × IsRun places.now from to × (at < to) }
-    requires each { (p : Place) → Contains places.now p
-        → IsPlace R.kind (map (λ l. l.items) lists.now) p }
-    requires comparing { IsComparing R.kind A.agree (map (λ l. l.items) lists.now) places.now from
-        at kept.now.items }
+    requires first { IsPlace R.kind (map (λ l. l.items) lists.now) first }
+    requires place { IsPlace R.kind (map (λ l. l.items) lists.now) place }
     ensures { MatchResult result
         (λ found. MatchOption found
-        (IsComparing R.kind A.agree (map (λ l. l.items) lists.now) places.now from (at + 1)
+        (PassesPlace R.kind A.agree (map (λ l. l.items) lists.now) first place kept.old.items
         kept.new.items)
-        (DifferWithin R.kind A.agree (map (λ l. l.items) lists.now) places.now from (at + 1)))
+        (DiffersAt R.kind A.agree (map (λ l. l.items) lists.now) place kept.old.items))
         (λ e. e ≡ OutOfMemory) }
 {
     R::laws();
-    let place = places[at];
-    if from < at && is_copy::<R, A>(lists, places[from], place) {
+    if is_copy::<R, A>(lists, first, place) {
         return Ok(None);
     }
     let next = read_at::<R>(alloc, lists, place)?;
@@ -263,8 +265,11 @@ fn read_at<R: SectionRecord + Drop>(
 // The record at a place.
 fn placed_at<'a, H: Copy>(lists: &[Vec<PlacedRecord<'a, H>>], place: Place) -> PlacedRecord<'a, H>
     requires input { place.input < length lists.now }
-    requires index { (l : List (PlacedRecord H)) → slice_get (map (λ l. l.items) lists.now) place.input ≡ Some l → place.index < length l }
-    ensures { (l : List (PlacedRecord H)) → slice_get (map (λ l. l.items) lists.now) place.input ≡ Some l → slice_get l place.index ≡ Some result }
+    requires index { (l : List (PlacedRecord H))
+        → slice_get (map (λ l. l.items) lists.now) place.input ≡ Some l → place.index < length l }
+    ensures { (l : List (PlacedRecord H))
+        → slice_get (map (λ l. l.items) lists.now) place.input ≡ Some l
+        → slice_get l place.index ≡ Some result }
 {
     copied(&lists[place.input].as_slice()[place.index])
 }

@@ -1,7 +1,10 @@
-use Rattle.std.proofs.Common.{◌≡◌, ◌+◌, ◌<◌, ◌≤◌, map, rules, arith, subst}
+use Rattle.std.proofs.Common.{◌≡◌, ◌+◌, ◌<◌, ◌≤◌, [], ◌∷◌, ◌++◌, length, map, get_or, rules, sym, ap, ◌∙◌, arith, subst}
 use Rattle.std.specs.Prelude.{MatchOption}
-use Rattle.xet_core_structures.specs.Differing.{IsComparing, AgreeWithin, DifferWithin}
-use Rattle.xet_core_structures.proofs.Differing.{one_agrees, differ_before}
+use Rattle.std.proofs.lemmas.Option.{slice_get-get_or}
+use Rattle.xet_core_structures.specs.declared.set_operations.agreement.differing.ReadRecord.{ReadRecord}
+use Rattle.xet_core_structures.specs.Differing.{AgreeWithin, PassesPlace, DiffersAt}
+use Rattle.xet_core_structures.proofs.Differing.{IsComparing, comparing_first, compared_on, compared_unlike, one_agrees, differ_before}
+use Rattle.xet_core_structures.proofs.HashRuns.{no_place}
 use Rattle.xet_core_structures.proofs.set_operations.agreement.differing.differ_in_run.Goals as goal
 
 pub returns-then-to-from-eq1 : goal.returns-then-to-from-eq1
@@ -9,17 +12,55 @@ returns-then-to-from-eq1 g c =
     let one : c.args.to ≡ c.args.from + 1 = search rules in
     one_agrees g.R.SectionRecord.kind c.laws.ensures _ g.A.Agreement.agree c.args.places.now c.args.from g.met.A.Agreement.agrees_with_itself g.met.A.Agreement.either_way c.args.to one
 
+pub loop-at-init : goal.loop-at-init
+loop-at-init g c =
+    let low : c.args.from < length c.args.places.now = omega (arith, c.requires.run.some, c.requires.run.within) in
+    let first = get_or c.args.places.now c.args.from no_place in
+    let one : ReadRecord g.row.R.Denot = record { input = first.input; value = c.in_ok-value.value } in
+    let alone : c.push.new.self.items ≡ one ∷ [] = c.in_ok-push.ensures.items ∙ ap (λ l. l ++ one ∷ []) c.new-kept.ensures.items in (
+      omega arith,
+      omega (arith, c.requires.run.some),
+      subst (IsComparing g.R.SectionRecord.kind g.A.Agreement.agree (map (λ x. x.items) c.args.lists.now) c.args.places.now c.args.from (c.args.from + 1)) (sym alone)
+          (comparing_first g.R.SectionRecord.kind c.laws.ensures _ g.A.Agreement.agree c.args.places.now c.args.from g.met.A.Agreement.agrees_with_itself g.met.A.Agreement.either_way
+          first (slice_get-get_or c.args.places.now c.args.from no_place low) c.in_ok-value.value c.in_ok-value.ensures),
+    )
+
+pub loop-at-preserved : goal.loop-at-preserved
+loop-at-preserved g c =
+    let K = g.R.SectionRecord.kind in
+    let agree = g.A.Agreement.agree in
+    let lists = map (λ x. x.items) c.args.lists.now in
+    let places = c.args.places.now in
+    let at = c.loop-at.at in
+    let first_low : c.args.from < length places = omega (arith, c.requires.run.some, c.requires.run.within) in
+    let below : at < c.args.to = search rules in
+    let low : at < length places = omega (arith, below, c.requires.run.within) in
+    let first = get_or places c.args.from no_place in
+    let here = get_or places at no_place in (
+      omega (arith, c.loop-at.invariant.0),
+      omega (arith, below),
+      compared_on K c.laws.ensures lists agree places c.args.from g.met.A.Agreement.agrees_with_itself g.met.A.Agreement.either_way at c.loop-at.kept.items c.loop-at.invariant.2 here (slice_get-get_or places at no_place low)
+          c.loop-at.invariant.0 first (slice_get-get_or places c.args.from no_place first_low) c.compare_place.new.kept.items
+          (subst (λ o. MatchOption o (PassesPlace K agree lists first here c.loop-at.kept.items c.compare_place.new.kept.items) (DiffersAt K agree lists here c.loop-at.kept.items)) c.in-None.is c.in_ok-differing.ensures),
+    )
+
 pub returns-in-Some : goal.returns-in-Some
 returns-in-Some g c =
     let K = g.R.SectionRecord.kind in
+    let agree = g.A.Agreement.agree in
     let lists = map (λ x. x.items) c.args.lists.now in
-    let low : c.loop-at.at < c.args.to = search rules in
-    differ_before K c.laws.ensures lists g.A.Agreement.agree c.args.places.now c.args.from (c.loop-at.at + 1) c.args.to c.in-Some.differing (omega (arith, low))
-    (subst (λ o. MatchOption o (IsComparing K g.A.Agreement.agree lists c.args.places.now c.args.from (c.loop-at.at + 1) c.compare_at.new.kept.items) (DifferWithin K g.A.Agreement.agree lists c.args.places.now c.args.from (c.loop-at.at + 1))) c.in-Some.is
-    c.in_ok-differing.ensures)
+    let places = c.args.places.now in
+    let at = c.loop-at.at in
+    let below : at < c.args.to = search rules in
+    let low : at < length places = omega (arith, below, c.requires.run.within) in
+    let first = get_or places c.args.from no_place in
+    let here = get_or places at no_place in
+    differ_before K c.laws.ensures lists agree places c.args.from (at + 1) c.args.to c.in-Some.differing (omega (arith, below))
+    (compared_unlike K c.laws.ensures lists agree places c.args.from g.met.A.Agreement.agrees_with_itself g.met.A.Agreement.either_way at c.loop-at.kept.items c.loop-at.invariant.2 here (slice_get-get_or places at no_place low) c.args.to c.requires.run below c.in-Some.differing
+    (subst (λ o. MatchOption o (PassesPlace K agree lists first here c.loop-at.kept.items c.compare_place.new.kept.items) (DiffersAt K agree lists here c.loop-at.kept.items)) c.in-Some.is c.in_ok-differing.ensures))
 
 pub returns : goal.returns
 returns g c =
     let past : c.args.to ≤ c.loop-at.at = search rules in
-    let same : c.loop-at.at ≡ c.args.to = omega (arith, past, c.loop-at.invariant.0) in
-    subst (AgreeWithin g.R.SectionRecord.kind g.A.Agreement.agree (map (λ x. x.items) c.args.lists.now) c.args.places.now c.args.from) same c.loop-at.invariant.1.agrees
+    let same : c.loop-at.at ≡ c.args.to = omega (arith, past, c.loop-at.invariant.1) in
+    subst (AgreeWithin g.R.SectionRecord.kind g.A.Agreement.agree (map (λ x. x.items) c.args.lists.now) c.args.places.now c.args.from) same c.loop-at.invariant.2.agrees

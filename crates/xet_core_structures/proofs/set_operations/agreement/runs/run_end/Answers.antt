@@ -1,12 +1,8 @@
 use Rattle.std.proofs.Common.{◌<◌, ◌≤◌, length, get_or, rules, sym, ap, ◌∙◌, arith, true≢false}
 use Rattle.std.proofs.lemmas.Option.{same_Some, slice_get_within, slice_get-get_or}
 use Rattle.xet_core_structures.specs.declared.set_operations.agreement.runs.Place.{Place}
-use Rattle.xet_core_structures.proofs.HashRuns.{running_on, run_ends}
+use Rattle.xet_core_structures.proofs.HashRuns.{no_place, running_on, run_ends}
 use Rattle.xet_core_structures.proofs.set_operations.agreement.runs.run_end.Goals as goal
-
--- what stands for a place that a list does not have
-abbrev no_place : Place
-no_place = record { hash = record { word0 = 0; word1 = 0; word2 = 0; word3 = 0 }; input = 0; index = 0 }
 
 pub loop-end-preserved : goal.loop-end-preserved
 loop-end-preserved c =
