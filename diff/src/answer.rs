@@ -46,6 +46,16 @@ pub struct Export {
     pub chunk_table: bool,
 }
 
+/// A hash under which two shards have records that do not agree.
+#[repr(C)]
+#[derive(Clone, Copy, PartialEq, Eq, Debug, Default)]
+pub struct Disagreement {
+    pub hash: [u64; 4],
+    pub is_xorb: bool,
+    pub first: usize,
+    pub second: usize,
+}
+
 /// A call on two shards; most look at the first alone.
 #[derive(Clone, PartialEq, Eq, Debug)]
 pub enum Call {
@@ -54,6 +64,8 @@ pub enum Call {
     Query(Vec<Hash>),
     Union,
     Difference,
+    FindDisagreement,
+    MergeAgreeing,
     Export(Export),
     Minimal { verification: bool, aux_rows: bool },
     Eligible,
@@ -67,10 +79,25 @@ impl Call {
             Call::Query(_) => "query",
             Call::Union => "union",
             Call::Difference => "difference",
+            Call::FindDisagreement => "find_disagreement",
+            Call::MergeAgreeing => "merge_agreeing",
             Call::Export(_) => "export",
             Call::Minimal { .. } => "minimal",
             Call::Eligible => "eligible",
         }
+    }
+
+    /// Whether it reads both shards.
+    pub fn takes_both(&self) -> bool {
+        matches!(
+            self,
+            Call::Union | Call::Difference | Call::FindDisagreement | Call::MergeAgreeing
+        )
+    }
+
+    /// Whether it reads all of the first shard before it looks at the second.
+    pub fn reads_in_turn(&self) -> bool {
+        matches!(self, Call::FindDisagreement | Call::MergeAgreeing)
     }
 }
 
@@ -93,6 +120,8 @@ pub enum Answer {
     Run(Option<(usize, Segment)>),
     Shard(Vec<u8>),
     Hashes(Vec<Hash>),
+    /// How many hashes have records that do not agree, and the first; none if all agree.
+    Disagreement(Option<(usize, Disagreement)>),
     Error(Error),
     /// The original panicked.
     Panic,
@@ -135,6 +164,7 @@ impl std::fmt::Debug for Answer {
             Answer::Run(run) => run.fmt(f),
             Answer::Shard(bytes) => write!(f, "a shard of {} bytes", bytes.len()),
             Answer::Hashes(hashes) => hashes.fmt(f),
+            Answer::Disagreement(found) => found.fmt(f),
             Answer::Error(error) => error.fmt(f),
             Answer::Panic => f.write_str("a panic"),
         }

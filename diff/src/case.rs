@@ -27,7 +27,14 @@ impl Case {
         if random.once_in(4) {
             corrupt(&mut second, &mut random);
         }
-        let mut calls = vec![Call::Load, Call::Union, Call::Difference, Call::Eligible];
+        let mut calls = vec![
+            Call::Load,
+            Call::Union,
+            Call::Difference,
+            Call::FindDisagreement,
+            Call::MergeAgreeing,
+            Call::Eligible,
+        ];
         calls.push(Call::Minimal {
             verification: random.once_in(2),
             aux_rows: random.once_in(2),

@@ -38,7 +38,9 @@ fn compare_shards(call: &Call, first: &[u8], mut theirs: Vec<u8>, ours: Vec<u8>)
     theirs[32..40].copy_from_slice(&ours[32..40]);
     sort_chunk_table(&mut theirs);
     let is_right = match call {
-        Call::Union | Call::Difference => carry_key(first, &mut theirs, &ours, &mut exceptions),
+        Call::Union | Call::Difference | Call::MergeAgreeing => {
+            carry_key(first, &mut theirs, &ours, &mut exceptions)
+        }
         Call::Export(options) => {
             frame(first, &mut theirs, &mut exceptions);
             set_times(&mut theirs, &ours, options.now, Some(options))

@@ -91,17 +91,24 @@ pub struct Difference<'a> {
 impl Difference<'_> {
     /// The exception that it is, if any.
     pub fn exception(&self) -> Option<Exception> {
-        let both = matches!(self.call, Call::Union | Call::Difference);
+        let both = self.call.takes_both();
         if self.port_fails_by(Error::ShardVersion) {
             let is_other = |bytes| !matches!(version(bytes), Some(2 | 3));
-            return (is_other(self.first) || both && is_other(self.second))
-                .then_some(HeaderVersion);
+            if is_other(self.first) || both && is_other(self.second) {
+                return Some(HeaderVersion);
+            }
+            // The original may fail in the first shard, and the port, which reads it, in the second.
+            if !self.call.reads_in_turn() {
+                return None;
+            }
         }
         match self.call {
             Call::Load => None,
             Call::Find(hash) => self.in_find(hash),
             Call::Query(hashes) => self.in_query(hashes),
-            Call::Union | Call::Difference => self.in_combination(),
+            Call::Union | Call::Difference | Call::FindDisagreement | Call::MergeAgreeing => {
+                self.in_combination()
+            }
             Call::Export(options) => self.in_export(options),
             Call::Minimal { .. } | Call::Eligible => self.in_stream(),
         }
@@ -233,32 +240,43 @@ impl Difference<'_> {
     }
 
     fn in_combination(&self) -> Option<Exception> {
-        let (x, y) = (ends(self.first)?, ends(self.second)?);
-        if x.key != y.key {
-            return self
-                .port_fails_by(Error::InvalidArguments)
-                .then_some(KeysDiffer);
+        let inputs: Vec<_> = [self.first, self.second]
+            .into_iter()
+            .filter_map(|bytes| Some((bytes, ends(bytes)?)))
+            .collect();
+        let keys_differ = matches!(&inputs[..], [(_, x), (_, y)] if x.key != y.key);
+        if self.port_fails_by(Error::InvalidArguments) {
+            return keys_differ.then_some(KeysDiffer);
         }
-        let sections = [(self.first, &x), (self.second, &y)]
-            .map(|(bytes, ends)| section(bytes, ends.file_info_offset, file_at));
-        let xorbs = [(self.first, &x), (self.second, &y)]
-            .map(|(bytes, ends)| section(bytes, ends.xorb_info_offset, xorb_at));
-        for (files, version) in sections.iter().zip([x.version, y.version]) {
-            if let Some(aux) = self.aux(&files.records, version) {
+        if !self.call.reads_in_turn() && (inputs.len() < 2 || keys_differ) {
+            return None;
+        }
+        let files: Vec<_> = inputs
+            .iter()
+            .map(|(bytes, ends)| section(bytes, ends.file_info_offset, file_at))
+            .collect();
+        let xorbs: Vec<_> = inputs
+            .iter()
+            .map(|(bytes, ends)| section(bytes, ends.xorb_info_offset, xorb_at))
+            .collect();
+        for (files, (_, ends)) in files.iter().zip(&inputs) {
+            if let Some(aux) = self.aux(&files.records, ends.version) {
                 return Some(aux);
             }
         }
         if !self.is_refused() {
             return None;
         }
-        let all: Vec<&Section> = sections.iter().chain(&xorbs).collect();
+        let all: Vec<&Section> = files.iter().chain(&xorbs).collect();
         if all.iter().any(|section| section.descends()) {
             return Some(HashesDescend);
         }
         if all.iter().any(|section| section.is_too_long()) {
             return Some(TooManyRows);
         }
-        let [first, second] = &sections;
+        let [first, second] = &files[..] else {
+            return None;
+        };
         let cannot_combine = |file: &Record| {
             second.has(|other| other.hash == file.hash && have_to_be_combined(file, other))
         };

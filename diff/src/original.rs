@@ -1,16 +1,18 @@
 //! The original.
 
-use crate::answer::{Answer, Call, Error, Export, File, Hash, Info, Segment};
+use crate::answer::{Answer, Call, Disagreement, Error, Export, File, Hash, Info, Segment};
+use std::collections::BTreeMap;
 use std::io::Cursor;
 use std::panic::{AssertUnwindSafe, catch_unwind};
 use std::sync::atomic::{AtomicBool, Ordering};
 use std::time::Duration;
 use xet_core_structures::error::{CoreError, Result};
 use xet_core_structures::merklehash::MerkleHash;
-use xet_core_structures::metadata_shard::file_structs::FileDataSequenceEntry;
+use xet_core_structures::metadata_shard::file_structs::{FileDataSequenceEntry, MDBFileInfo};
 use xet_core_structures::metadata_shard::set_operations::{shard_set_difference, shard_set_union};
 use xet_core_structures::metadata_shard::shard_format::MDBShardInfo;
 use xet_core_structures::metadata_shard::streaming_shard::MDBMinimalShard;
+use xet_core_structures::metadata_shard::xorb_structs::MDBXorbInfo;
 
 /// Whether a call of the original is under way: its panics are answers.
 static IS_CALLED: AtomicBool = AtomicBool::new(false);
@@ -92,6 +94,11 @@ fn call_original(call: &Call, first: &[u8], second: &[u8]) -> Result<Answer> {
         }
         Call::Union => Answer::Shard(combine(first, second, true)?),
         Call::Difference => Answer::Shard(combine(first, second, false)?),
+        Call::FindDisagreement => Answer::Disagreement(disagreement(first, second)?),
+        Call::MergeAgreeing => match disagreement(first, second)? {
+            None => Answer::Shard(combine(first, second, true)?),
+            found => Answer::Disagreement(found),
+        },
         Call::Export(options) => Answer::Shard(export(first, options)?),
         Call::Minimal { verification, .. } => {
             let mut bytes = Vec::new();
@@ -155,6 +162,66 @@ fn combine(first: &[u8], second: &[u8], union: bool) -> Result<Vec<u8>> {
         shard_set_difference(&s1, &mut r1, &s2, &mut r2, &mut bytes)?;
     }
     Ok(bytes)
+}
+
+/// The records of a shard by their hashes, as the original reads them.
+struct Records {
+    files: BTreeMap<MerkleHash, MDBFileInfo>,
+    xorbs: BTreeMap<MerkleHash, MDBXorbInfo>,
+}
+
+/// Its calls for whole sections are not used: they reserve memory by the rows that the footer has.
+fn records(shard: &[u8]) -> Result<Records> {
+    let (info, mut source) = (load(shard)?, Cursor::new(shard));
+    let (mut files, mut xorbs) = (BTreeMap::new(), BTreeMap::new());
+    source.set_position(info.metadata.file_info_offset);
+    while let Some(file) = MDBFileInfo::deserialize(&mut source)? {
+        files.insert(file.metadata.file_hash, file);
+    }
+    source.set_position(info.metadata.xorb_info_offset);
+    while let Some(xorb) = MDBXorbInfo::deserialize(&mut source)? {
+        xorbs.insert(xorb.metadata.xorb_hash, xorb);
+    }
+    Ok(Records { files, xorbs })
+}
+
+/// What the records of both shards say: the original has no call for it.
+fn disagreement(first: &[u8], second: &[u8]) -> Result<Option<(usize, Disagreement)>> {
+    let (first, second) = (records(first)?, records(second)?);
+    let files = differing(&first.files, &second.files, files_agree).map(|hash| (hash, false));
+    let xorbs = differing(&first.xorbs, &second.xorbs, MDBXorbInfo::eq).map(|hash| (hash, true));
+    let all: Vec<_> = files.chain(xorbs).collect();
+    Ok(all.first().map(|&(hash, is_xorb)| {
+        let found = Disagreement {
+            hash: *hash,
+            is_xorb,
+            first: 0,
+            second: 1,
+        };
+        (all.len(), found)
+    }))
+}
+
+/// The hashes under which both have a record and the two do not agree.
+fn differing<R>(
+    first: &BTreeMap<MerkleHash, R>,
+    second: &BTreeMap<MerkleHash, R>,
+    agree: impl Fn(&R, &R) -> bool,
+) -> impl Iterator<Item = MerkleHash> {
+    first.iter().filter_map(move |(hash, record)| {
+        let other = second.get(hash)?;
+        (!agree(record, other)).then_some(*hash)
+    })
+}
+
+/// The segments are equal, and so is each optional part that both have.
+fn files_agree(one: &MDBFileInfo, other: &MDBFileInfo) -> bool {
+    let is_verified = |file: &MDBFileInfo| file.contains_verification();
+    one.segments == other.segments
+        && (!is_verified(one) || !is_verified(other) || one.verification == other.verification)
+        && (one.metadata_ext.is_none()
+            || other.metadata_ext.is_none()
+            || one.metadata_ext == other.metadata_ext)
 }
 
 pub fn export(shard: &[u8], export: &Export) -> Result<Vec<u8>> {

@@ -1,6 +1,6 @@
 //! The port, through its library for C.
 
-use crate::answer::{Answer, Call, Error, Export, File, Hash, Info, NOW, Segment};
+use crate::answer::{Answer, Call, Disagreement, Error, Export, File, Hash, Info, NOW, Segment};
 
 #[repr(C)]
 #[derive(Default)]
@@ -32,6 +32,12 @@ struct ExportOptions {
     chunk_table: bool,
 }
 
+#[repr(C)]
+struct Bytes {
+    bytes: *const u8,
+    length: usize,
+}
+
 // As in bindings/c/xet.h.
 unsafe extern "C" {
     fn xet_load(shard: *const u8, length: usize, info: *mut Info) -> u32;
@@ -52,6 +58,21 @@ unsafe extern "C" {
         out: *mut u8,
         capacity: usize,
         written: *mut usize,
+    ) -> u32;
+    fn xet_find_disagreement(
+        shards: *const Bytes,
+        count: usize,
+        differing: *mut usize,
+        found: *mut Disagreement,
+    ) -> u32;
+    fn xet_merge_agreeing(
+        shards: *const Bytes,
+        count: usize,
+        out: *mut u8,
+        capacity: usize,
+        written: *mut usize,
+        differing: *mut usize,
+        found: *mut Disagreement,
     ) -> u32;
     fn xet_export(
         shard: *const u8,
@@ -97,6 +118,7 @@ unsafe extern "C" {
 }
 
 const SHORT: u32 = 19;
+const DISAGREE: u32 = 20;
 const NO_HASH: Hash = Hash { words: [0; 4] };
 
 /// What the port answers. Each pointer below is that of a slice or a value that outlives the call,
@@ -128,6 +150,8 @@ pub fn answer(call: &Call, first: &[u8], second: &[u8]) -> Answer {
                 written,
             )
         }),
+        Call::FindDisagreement => find_disagreement(first, second),
+        Call::MergeAgreeing => merge_agreeing(first, second),
         Call::Export(options) => export(first, options),
         Call::Minimal {
             verification,
@@ -227,7 +251,72 @@ fn export(shard_bytes: &[u8], export: &Export) -> Answer {
     })
 }
 
-fn shard(call: impl Fn(*mut u8, usize, *mut usize) -> u32) -> Answer {
+fn list(shards: [&[u8]; 2]) -> [Bytes; 2] {
+    shards.map(|shard| Bytes {
+        bytes: shard.as_ptr(),
+        length: shard.len(),
+    })
+}
+
+/// What stands where a disagreement is shown, if there is one.
+const UNTOUCHED: Disagreement = Disagreement {
+    hash: [0xa5; 4],
+    is_xorb: false,
+    first: 2,
+    second: 2,
+};
+
+fn find_disagreement(first: &[u8], second: &[u8]) -> Answer {
+    let shards = list([first, second]);
+    let (mut differing, mut found) = (1, UNTOUCHED);
+    let result =
+        unsafe { xet_find_disagreement(shards.as_ptr(), shards.len(), &mut differing, &mut found) };
+    let found = shown(differing, found);
+    if result != 0 {
+        assert_eq!(found, None, "an error shows a disagreement");
+        return Answer::Error(Error::of_number(result));
+    }
+    Answer::Disagreement(found)
+}
+
+fn merge_agreeing(first: &[u8], second: &[u8]) -> Answer {
+    let shards = list([first, second]);
+    let (mut result, mut differing, mut found) = (0, 1, UNTOUCHED);
+    let merged = shard(|out, room, written| {
+        result = unsafe {
+            xet_merge_agreeing(
+                shards.as_ptr(),
+                shards.len(),
+                out,
+                room,
+                written,
+                &mut differing,
+                &mut found,
+            )
+        };
+        result
+    });
+    let found = shown(differing, found);
+    assert_eq!(
+        found.is_some(),
+        result == DISAGREE,
+        "a disagreement is shown with its number"
+    );
+    match found {
+        Some(_) => Answer::Disagreement(found),
+        None => merged,
+    }
+}
+
+fn shown(differing: usize, found: Disagreement) -> Option<(usize, Disagreement)> {
+    if differing == 0 {
+        assert_eq!(found, UNTOUCHED, "without a disagreement one is shown");
+        return None;
+    }
+    Some((differing, found))
+}
+
+fn shard(call: impl FnMut(*mut u8, usize, *mut usize) -> u32) -> Answer {
     items(0xa5, Answer::Shard, call)
 }
 
@@ -236,7 +325,7 @@ fn shard(call: impl Fn(*mut u8, usize, *mut usize) -> u32) -> Answer {
 fn items<T: Copy + PartialEq>(
     unwritten: T,
     made: impl Fn(Vec<T>) -> Answer,
-    call: impl Fn(*mut T, usize, *mut usize) -> u32,
+    mut call: impl FnMut(*mut T, usize, *mut usize) -> u32,
 ) -> Answer {
     let mut written = 0;
     let mut out = vec![unwritten];
