@@ -1,10 +1,10 @@
--- The bytes of a hash give it back.
-use Rattle.std.proofs.Common.{◌≡◌, [], ◌++◌, drop, refl, sym, ap, ◌∙◌, append-nil}
+-- The bytes of a hash give it back, and those of a keyed hash that.
+use Rattle.std.proofs.Common.{◌≡◌, ℕ, List, [], ◌++◌, drop, refl, sym, ap, ◌∙◌, append-nil}
 use Rattle.std.proofs.lemmas.List.{append_assoc, length-append}
 use Rattle.xet_base.specs.declared.merklehash.DataHash.{DataHash}
 use Rattle.xet_base.specs.Bytes.{u64_bytes, spelled_u64}
 use Rattle.xet_base.specs.Hash.{hash_bytes, IsHash}
-use Rattle.xet_base.specs.KeyedHash.{hash_of}
+use Rattle.xet_base.specs.KeyedHash.{hash_of, keyed_bytes, hmac}
 use Rattle.xet_base.proofs.Bytes.{length-u64_bytes}
 use Rattle.xet_base.proofs.KnownTable.{spelled_u64-bytes}
 use Rattle.xet_base.proofs.Lists.{front_is, rest_is}
@@ -28,3 +28,6 @@ hash_of-bytes h fits =
       word2 = (ap spelled_u64 (front_is 8 (drop 16 all) c d (length-u64_bytes h.word2) from_c) ∙ spelled_u64-bytes h.word2 fits.word2) i;
       word3 = (ap spelled_u64 (front_is 8 (drop 24 all) d [] (length-u64_bytes h.word3) (from_d ∙ sym (append-nil d))) ∙ spelled_u64-bytes h.word3 fits.word3) i;
     }
+
+pub hash_is : (key hash r : DataHash) (k m : List ℕ) → IsHash r → hash_bytes r ≡ keyed_bytes k m → k ≡ hash_bytes key → m ≡ hash_bytes hash → r ≡ hmac key hash
+hash_is key hash r k m fits is key_bytes bytes = sym (hash_of-bytes r fits) ∙ ap hash_of (is ∙ (λ i. keyed_bytes (key_bytes i) (bytes i)))

@@ -1,5 +1,5 @@
 -- Vectors of four words, lane by lane.
-use Rattle.std.proofs.Common.{◌≡◌, ℕ, zero, suc, ◌<◌, ◌-◌, ◌*◌, ◌/◌, ◌%◌, ◌^◌, List, [], ◌∷◌, length, slice_index, bit_or, bit_xor, arith, refl}
+use Rattle.std.proofs.Common.{◌≡◌, ℕ, zero, suc, ◌<◌, ◌-◌, ◌*◌, ◌/◌, ◌%◌, ◌^◌, List, [], ◌∷◌, length, map, slice_index, slice_index_or, bit_or, bit_xor, arith, refl}
 use Rattle.std.specs.Simd.Lanes.{zip2}
 use Rattle.xet_base.specs.KeyedHash.{xor_rotate}
 
@@ -35,3 +35,13 @@ shifts_rotate k low high =
     four_lanes (λ a. (b : List ℕ) → length b ≡ 4 → Rotates k a b) (λ a0 a1 a2 a3.
     four_lanes (Rotates k (a0 ∷ a1 ∷ a2 ∷ a3 ∷ [])) (λ b0 b1 b2 b3.
     below_four _ (rw (right, left) refl) (rw (right, left) refl) (rw (right, left) refl) (rw (right, left) refl)))
+
+-- a function of each of four
+pub map_four : {X Y : Type 0} (f : X → Y) (e : X) (xs : List X) → length xs ≡ 4
+    → f (slice_index_or xs 0 e) ∷ f (slice_index_or xs 1 e) ∷ f (slice_index_or xs 2 e) ∷ f (slice_index_or xs 3 e) ∷ [] ≡ map f xs
+map_four f e (a ∷ b ∷ c ∷ d ∷ []) h = refl
+map_four f e [] h = absurd (omega arith)
+map_four f e (a ∷ []) h = absurd (omega arith)
+map_four f e (a ∷ b ∷ []) h = absurd (omega arith)
+map_four f e (a ∷ b ∷ c ∷ []) h = absurd (omega arith)
+map_four f e (a ∷ b ∷ c ∷ d ∷ z ∷ xs) h = absurd (omega arith)

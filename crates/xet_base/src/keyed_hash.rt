@@ -4,7 +4,10 @@ ghost use Rattle.std.specs.Prelude.{◌≡◌, ℕ, ◌+◌, ◌*◌, ◌<◌, �
 ghost use Rattle.xet_base.specs.KeyedHash.{add32, xor_rotate, mix, mix_columns, mix_diagonals, permuted, state_after, message_after, word_at, words_before, start_of, message_of, digest, keyed_bytes};
 ghost use Rattle.xet_base.specs.Lanes.{words_in};
 
+mod four;
+
 use crate::row::put_u32;
+pub(crate) use four::keyed_bytes_four;
 use std::simd::u32x4;
 
 // The state or the message.

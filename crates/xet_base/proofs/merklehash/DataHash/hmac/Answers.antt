@@ -1,10 +1,9 @@
-use Rattle.std.proofs.Common.{sym, ap, ◌∙◌, arith}
+use Rattle.std.proofs.Common.{◌∙◌, arith}
 use Rattle.xet_base.specs.Hash.{IsHash}
-use Rattle.xet_base.specs.KeyedHash.{hash_of, keyed_bytes}
-use Rattle.xet_base.proofs.KeyedHash.{hash_of-bytes}
+use Rattle.xet_base.proofs.KeyedHash.{hash_is}
 use Rattle.xet_base.proofs.merklehash.DataHash.hmac.Goals as goal
 
 pub returns : goal.returns
 returns c =
     let fits : IsHash c.from_32.result = record { word0 = omega arith; word1 = omega arith; word2 = omega arith; word3 = omega arith } in
-    sym (hash_of-bytes c.from_32.result fits) ∙ ap hash_of (c.from_32.ensures ∙ c.keyed_bytes.ensures ∙ (λ i. keyed_bytes (c.as_bytes.ensures i) (c.as_bytes-2.ensures i)))
+    hash_is _ _ _ _ _ fits (c.from_32.ensures ∙ c.keyed_bytes.ensures) c.as_bytes.ensures c.as_bytes-2.ensures
