@@ -1,7 +1,8 @@
 -- A keyed hash is a hash, and a xorb stays one with its chunk hashes under a key.
-use Rattle.std.proofs.Common.{◌≡◌, Bool, true, false, ℕ, zero, suc, ◌+◌, ◌^◌, ◌<◌, List, [], ◌∷◌, ◌++◌, length, map, get_or, take, drop, refl, sym, ap, ◌∙◌, arith, add-one, if◌then◌else◌}
-use Rattle.std.specs.Prelude.{bit_xor, slice_index, slice_set}
-use Rattle.std.proofs.lemmas.List.{length-map, length-append, length-take, length-drop}
+use Rattle.std.proofs.Common.{◌≡◌, Bool, true, false, ℕ, zero, suc, ◌+◌, ◌^◌, ◌<◌, ◌≤◌, List, [], ◌∷◌, ◌++◌, length, map, get_or, take, drop, ◌-◌, append-nil, refl, ap, ◌∙◌, arith, if◌then◌else◌}
+use Rattle.std.specs.Prelude.{bit_xor, slice_index}
+use borrow.Rule.Slice.PartMut.{put_mid}
+use Rattle.std.proofs.lemmas.List.{length-map, length-drop, take_all, drop_all}
 use Rattle.std.proofs.lemmas.List.Elements.{All-map}
 use Rattle.std.proofs.lemmas.List.Sums.{sum_by-cons}
 use Rattle.xet_base.specs.declared.merklehash.DataHash.{DataHash}
@@ -103,28 +104,35 @@ keyed_section key xorbs fits = record {
   rows = omega (arith, keyed_total key xorbs, fits.rows);
 }
 
--- the elements of a list are mapped in place, one after another
-module _ {X : Type 0} (f : X → X) where
-  mapped_next : (xs : List X) (i : ℕ) (d : X) → i < length xs → slice_set (map f (take i xs) ++ drop i xs) i (f (get_or xs i d)) ≡ map f (take (suc i) xs) ++ drop (suc i) xs
-  mapped_next [] i d below = absurd (omega (arith, below))
-  mapped_next (x ∷ xs) zero d below = refl
-  mapped_next (x ∷ xs) (suc i) d below = ap (λ ys. f x ∷ ys) (mapped_next xs i d (omega (arith, below)))
+-- the elements of a list are mapped in place, some after others
+more_mapped : {X : Type 0} (f : X → X) (xs : List X) (k n m : ℕ) → m ≡ k + n → k ≤ length xs
+    → (let ys : List X = map f (take k xs) ++ drop k xs in take k ys ++ (map f (take n (drop k ys)) ++ drop n (drop k ys))) ≡ map f (take m xs) ++ drop m xs
+more_mapped f xs zero n m is within = let same : n ≡ m = omega (arith, is) in ap (λ j. map f (take j xs) ++ drop j xs) same
+more_mapped f [] (suc k) n m is within = absurd (omega (arith, within))
+more_mapped f (x ∷ xs) (suc k) n zero is within = absurd (omega (arith, is))
+more_mapped f (x ∷ xs) (suc k) n (suc m) is within = ap (λ ys. f x ∷ ys) (more_mapped f xs k n m (omega (arith, is)) (omega (arith, within)))
 
-  unmapped_next : (xs : List X) (i : ℕ) (d : X) → i < length xs → get_or (map f (take i xs) ++ drop i xs) i d ≡ get_or xs i d
-  unmapped_next [] i d below = absurd (omega (arith, below))
-  unmapped_next (x ∷ xs) zero d below = refl
-  unmapped_next (x ∷ xs) (suc i) d below = unmapped_next xs i d (omega (arith, below))
+-- as a write to the elements from a place on leaves them
+pub part_mapped : {X : Type 0} (f : X → X) (xs ys part : List X) (k n : ℕ) → ys ≡ map f (take k xs) ++ drop k xs → k ≤ length xs
+    → (let old : List X = take (length ys - k) (drop k ys) in part ≡ map f (take n old) ++ drop n old) → put_mid k (length ys - k) ys part ≡ map f (take (k + n) xs) ++ drop (k + n) xs
+part_mapped f xs ys part k n are within is =
+    let whole = take_all (length ys - k) (drop k ys) (omega (arith, length-drop k ys)) in
+    let none = drop_all (length ys - k) (drop k ys) (omega (arith, length-drop k ys)) in
+    ap (λ zs. take k ys ++ (part ++ zs)) none ∙ ap (λ zs. take k ys ++ zs) (append-nil part ∙ is ∙ ap (λ old. map f (take n old) ++ drop n old) whole)
+    ∙ ap (λ zs. take k zs ++ (map f (take n (drop k zs)) ++ drop n (drop k zs))) are ∙ more_mapped f xs k n (k + n) refl within
 
-  mapped_within : (xs items : List X) (i : ℕ) → items ≡ map f (take i xs) ++ drop i xs → i < length items → i < length xs
-  mapped_within xs items i are below =
-      omega (arith, below, ap length are, length-append (map f (take i xs)) (drop i xs), length-map (take i xs) f, length-take i xs, length-drop i xs)
+-- a function of all elements up to some place past the last is one of all
+pub all_mapped : {X : Type 0} (f : X → X) (xs : List X) (k : ℕ) → length xs ≤ k → map f (take k xs) ++ drop k xs ≡ map f xs
+all_mapped f [] zero past = refl
+all_mapped f [] (suc k) past = refl
+all_mapped f (x ∷ xs) zero past = absurd (omega (arith, past))
+all_mapped f (x ∷ xs) (suc k) past = ap (λ ys. f x ∷ ys) (all_mapped f xs k (omega (arith, past)))
 
-pub one_keyed : (key : DataHash) (xs items : List XorbChunkSequenceEntry) (i : ℕ) (d : XorbChunkSequenceEntry) (hash : DataHash)
-    → items ≡ map (keyed_chunk key) (take i xs) ++ drop i xs → i < length items → hash ≡ under_key key (get_or items i d).chunk_hash
-    → slice_set items i (record (get_or items i d) { chunk_hash = hash }) ≡ map (keyed_chunk key) (take (i + 1) xs) ++ drop (i + 1) xs
-one_keyed key xs items i d hash are below is =
-    let f = keyed_chunk key in
-    let within = mapped_within f xs items i are below in
-    let same : get_or items i d ≡ get_or xs i d = ap (λ ys. get_or ys i d) are ∙ unmapped_next f xs i d within in
-    (λ j. slice_set (are j) i (record (get_or items i d) { chunk_hash = is j }))
-    ∙ ap (λ c. slice_set (map f (take i xs) ++ drop i xs) i (keyed_chunk key c)) same ∙ mapped_next f xs i d within ∙ ap (λ n. map f (take n xs) ++ drop n xs) (sym (add-one i))
+-- four hashes under a key
+pub under_key_each : (key : DataHash) (hashes : List DataHash) → map (under_key key) hashes ≡ if hash_eq key no_key then hashes else map (hmac key) hashes
+under_key_each key hashes = by_key (hash_eq key no_key) hashes
+  where
+    by_key : (b : Bool) (hs : List DataHash) → map (λ h. if b then h else hmac key h) hs ≡ if b then hs else map (hmac key) hs
+    by_key true [] = refl
+    by_key true (h ∷ hs) = ap (λ xs. h ∷ xs) (by_key true hs)
+    by_key false hs = refl

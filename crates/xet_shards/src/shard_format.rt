@@ -9,6 +9,7 @@ mod footer_facts;
 pub(crate) mod form;
 mod header;
 pub(crate) mod info;
+mod keyed_chunks;
 mod keyed_export;
 mod record_table;
 pub(crate) mod rewriting;

@@ -13,14 +13,14 @@ ghost use Rattle.xet_shards.specs.Section.{section_bytes, total_rows};
 ghost use Rattle.xet_shards.specs.Written.{HasWritten, HasWrittenFor};
 ghost use Rattle.xet_shards.specs.WrittenLaws.{written_for};
 ghost use Rattle.xet_shards.specs.SectionReading.{RecordFails};
-ghost use Rattle.xet_shards.specs.KeyedExport.{ExportsWith, ExportFails, OutcomeOfExport, ExportsSection, CannotExport, ExportsNoSection, ExpiresTooLate, export_form, exported_file, exported_xorb, keyed_xorb};
+ghost use Rattle.xet_shards.specs.KeyedExport.{ExportsWith, ExportFails, OutcomeOfExport, ExportsSection, CannotExport, ExportsNoSection, ExpiresTooLate, export_form, exported_file, exported_xorb};
 ghost use Rattle.xet_shards.specs.ExportLaws.{file_rows, xorb_rows};
 
 use super::footer::FOOTER_SIZE;
-use super::footer_facts::keyed;
 use super::form::Form;
 use super::header::MDBShardFileHeader;
 use super::info::{MDBShardInfo, read_header};
+use super::keyed_chunks::with_keyed_hashes;
 use super::view_writer::write_file_view;
 use super::writer::write_end;
 use super::written::{WrittenFiles, WrittenSection, WrittenXorbs};
@@ -33,7 +33,6 @@ use xet_base::merklehash::HMACKey;
 use xet_base::source::ShardSource;
 use xet_records::file_structs::{KeptParts, MDBFileInfo, MDBFileInfoView};
 use xet_records::record_reader::{FormatVersion, read_record};
-use xet_records::rows::Rows;
 use xet_records::view_reader::read_view;
 use xet_records::xorb_structs::MDBXorbInfo;
 
@@ -409,19 +408,4 @@ pub(super) fn export_section<E: ExportedRecord + Drop, S: ShardSource, W: Write>
     }
     E::Section::write_bookend(writer)?;
     Ok(written)
-}
-
-// The xorb with its chunk hashes under a key, in the same memory.
-fn with_keyed_hashes(xorb: MDBXorbInfo, key: HMACKey) -> MDBXorbInfo
-    ensures { result ≡ keyed_xorb key xorb }
-{
-    let MDBXorbInfo { metadata, chunks } = xorb;
-    let mut chunks = chunks.into_vec();
-    for chunk in chunks.iter_mut() {
-        chunk.chunk_hash = keyed(chunk.chunk_hash, key);
-    }
-    MDBXorbInfo {
-        metadata,
-        chunks: Rows::from(chunks),
-    }
 }
