@@ -22,7 +22,7 @@ pub use part::OptionalPart;
 pub use rows::{
     FileAuxExt, FileDataSequenceEntry, FileMetadataExt, FileVerificationEntry, HashRow,
 };
-use std::alloc::Global;
+use std::alloc::{AllocError, Global};
 use std::io::{Read, Write};
 pub use view::{KeptParts, MDBFileInfoView};
 use xet_base::error::{CoreError, Result};
@@ -200,6 +200,20 @@ impl MDBFileInfo {
             metadata: self.metadata,
             segments: self.segments.try_clone(alloc)?,
             verification: self.verification.try_clone(alloc)?,
+            metadata_ext: self.metadata_ext,
+            aux_ext: self.aux_ext,
+        })
+    }
+}
+
+impl Clone for MDBFileInfo {
+    ghost is_clone = { λ file_info copy. copy ≡ file_info };
+
+    fn clone(&self) -> std::result::Result<MDBFileInfo, AllocError> {
+        Ok(MDBFileInfo {
+            metadata: self.metadata,
+            segments: self.segments.clone()?,
+            verification: self.verification.clone()?,
             metadata_ext: self.metadata_ext,
             aux_ext: self.aux_ext,
         })

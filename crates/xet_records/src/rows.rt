@@ -117,6 +117,14 @@ impl<T: Copy> Rows<T> {
     }
 }
 
+impl<T: Copy> Clone for Rows<T> {
+    ghost is_clone = { λ rows copy. copy ≡ rows };
+
+    fn clone(&self) -> std::result::Result<Rows<T>, AllocError> {
+        self.try_clone(*self.items.allocator())
+    }
+}
+
 impl<T: PartialEq> PartialEq for Rows<T> {
     ghost use Rattle.std.specs.Cmp.Lexicographic.{pointwise, lists_per};
 

@@ -19,6 +19,13 @@ shown-cloned f D like [] (q ∷ fs) z = absurd z
 shown-cloned f D like (p ∷ es) [] z = absurd z
 shown-cloned f D like (p ∷ es) (q ∷ fs) z = λ i. (z.0.0 i, like p.1 q.1 z.0.1 i) ∷ shown-cloned f D like es fs z.1 i
 
+-- entries whose keys and values are copies are the same
+pub cloned : {A : Type 0} (es fs : List (DataHash × A)) → AllZip (λ p q. (q.0 ≡ p.0) × (q.1 ≡ p.1)) es fs → fs ≡ es
+cloned [] [] z = refl
+cloned [] (q ∷ fs) z = absurd z
+cloned (p ∷ es) [] z = absurd z
+cloned (p ∷ es) (q ∷ fs) z = λ i. (z.0.0 i, z.0.1 i) ∷ cloned es fs z.1 i
+
 -- so lookups in them answer alike
 pub lookup-shown : {A B : Type 0} (f : A → B) (q : DataHash) (es fs : List (DataHash × A))
     → map (shown f) fs ≡ map (shown f) es → option_map f (lookup (hash_eq q) fs) ≡ option_map f (lookup (hash_eq q) es)

@@ -255,13 +255,20 @@ impl MDBInMemoryShard {
         }
     }
 
-    /// A shard with the same records. Of chunks that occur several times its lookup may keep
-    /// another location. `OutOfMemory` if an allocation fails.
-    pub fn try_clone(&self, alloc: Global) -> Result<MDBInMemoryShard>
+    /// A shard with the same records and the same chunk lookup. `OutOfMemory` if an allocation
+    /// fails.
+    pub fn try_clone(&self, _alloc: Global) -> Result<MDBInMemoryShard>
         ensures ok { IfOk result (λ s. s.content ≡ self.now.content) }
+        ensures locations { IfOk result (λ s. s.locations ≡ self.now.locations) }
         ensures causes { IfErr result (λ e. e ≡ CoreError.OutOfMemory) }
     {
-        MDBInMemoryShard::new(alloc).difference(alloc, self)
+        let copy = MDBInMemoryShard {
+            files: self.files.try_clone()?,
+            xorbs: self.xorbs.try_clone()?,
+            file_rows: self.file_rows,
+            xorb_rows: self.xorb_rows,
+        };
+        Ok(copy)
     }
 
     /// Does nothing: the size of the shard is up to date after each call.

@@ -112,6 +112,16 @@ impl FileStore {
         Ok(())
     }
 
+    /// A store with the same files. `OutOfMemory` if an allocation fails.
+    pub fn try_clone(&self) -> Result<FileStore>
+        ensures ok { IfOk result (λ t. t ≡ self.now) }
+        ensures causes { IfErr result (λ e. e ≡ CoreError.OutOfMemory) }
+    {
+        Ok(FileStore {
+            content: self.content.clone()?,
+        })
+    }
+
     /// The files of both stores. Of two files with the same hash, this store's with each optional
     /// part that only `other` has for it. `OutOfMemory` if an allocation fails.
     pub fn union(&self, alloc: Global, other: &FileStore) -> Result<FileStore>

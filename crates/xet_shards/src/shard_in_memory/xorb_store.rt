@@ -149,8 +149,8 @@ impl XorbStore {
         Ok(())
     }
 
-    // A store with the same xorbs and the same lookup. `OutOfMemory` if an allocation fails.
-    fn try_clone(&self) -> Result<XorbStore>
+    /// A store with the same xorbs and the same lookup. `OutOfMemory` if an allocation fails.
+    pub fn try_clone(&self) -> Result<XorbStore>
         ensures ok { IfOk result (λ t. t ≡ self.now) }
         ensures causes { IfErr result (λ e. e ≡ CoreError.OutOfMemory) }
     {
