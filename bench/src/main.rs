@@ -81,16 +81,24 @@ fn main() {
         }
         for ((row, measured), line) in rows.iter().zip(&measured).zip(&mut table) {
             let times = measured.times();
-            let Times { port, original } = times;
+            let Times {
+                port,
+                original,
+                with_room,
+            } = times;
+            let with_room = with_room.map_or(String::new(), |time| {
+                format!(", {time:.1} ns with its output reserved")
+            });
             eprintln!(
-                "N = {files}: {}: {port:.1} ns, the original {original:.1} ns",
+                "N = {files}: {}: {port:.1} ns, the original {original:.1} ns{with_room}",
                 row.name
             );
             line.push(times);
         }
     }
     println!(
-        "Port / original, least processor time of many turns; seed {}.\n",
+        "Port / original, least processor time of many turns; seed {}. After a stroke: / original with its output \
+         reserved.\n",
         arguments.seed
     );
     let sizes: Vec<_> = arguments
@@ -103,7 +111,7 @@ fn main() {
     for (row, line) in rows.iter().zip(&table) {
         let ratios: Vec<_> = line
             .iter()
-            .map(|times| format!("{:.2}", times.port / times.original))
+            .map(Times::ratios)
             .collect();
         println!("| {} | {} |", row.name, ratios.join(" | "));
     }

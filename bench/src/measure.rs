@@ -20,6 +20,19 @@ const KEY: [Hash; 1] = [Hash {
 pub struct Times {
     pub port: f64,
     pub original: f64,
+    /// Of the original with memory reserved for its output, where that is measured.
+    pub with_room: Option<f64>,
+}
+
+impl Times {
+    /// The port's time by the original's, and by that with memory reserved for its output.
+    pub fn ratios(&self) -> String {
+        let ratio = |original: f64| format!("{:.2}", self.port / original);
+        match self.with_room {
+            Some(time) => format!("{} / {}", ratio(self.original), ratio(time)),
+            None => ratio(self.original),
+        }
+    }
 }
 
 type Run = fn(Operation, &[u8], &[u8], &[Hash], u64, &mut [u8]) -> usize;
@@ -35,6 +48,7 @@ struct Meter<'a> {
     more: u64,
     port: Least,
     original: Least,
+    with_room: Least,
 }
 
 /// The least time of a call that repeats an operation, and of one that does it once.
@@ -70,6 +84,7 @@ impl<'a> Meter<'a> {
             more: 2,
             port: Least::NONE,
             original: Least::NONE,
+            with_room: Least::NONE,
         };
         meter.set_repetitions();
         meter
@@ -101,24 +116,31 @@ impl<'a> Meter<'a> {
 
     /// One turn: the port, then the original.
     fn turn(&mut self, out: &mut [u8]) {
-        for is_port in [true, false] {
-            let run = if is_port { port::run } else { original::run };
-            let repeated = self.call(run, self.more + 1, out);
-            let single = if self.once { self.call(run, 1, out) } else { 0 };
-            let least = if is_port {
-                &mut self.port
-            } else {
-                &mut self.original
-            };
-            least.repeated = least.repeated.min(repeated);
-            least.single = least.single.min(single);
+        self.port = self.lesser(self.port, port::run, out);
+        self.original = self.lesser(self.original, original::run, out);
+        if self.operation.is_written_to_room() {
+            self.with_room = self.lesser(self.with_room, original::run_with_room, out);
+        }
+    }
+
+    fn lesser(&self, least: Least, run: Run, out: &mut [u8]) -> Least {
+        let repeated = self.call(run, self.more + 1, out);
+        let single = if self.once { self.call(run, 1, out) } else { 0 };
+        Least {
+            repeated: least.repeated.min(repeated),
+            single: least.single.min(single),
         }
     }
 
     fn times(&self) -> Times {
+        let time = |least: Least| least.time(self.once, self.more);
         Times {
-            port: self.port.time(self.once, self.more),
-            original: self.original.time(self.once, self.more),
+            port: time(self.port),
+            original: time(self.original),
+            with_room: self
+                .operation
+                .is_written_to_room()
+                .then(|| time(self.with_room)),
         }
     }
 }
@@ -186,11 +208,13 @@ impl<'a> Measured<'a> {
             let before = before.times();
             times.port -= before.port;
             times.original -= before.original;
+            times.with_room = times.with_room.map(|time| time - before.original);
         }
         let items = self.items() as f64;
         Times {
             port: times.port / items,
             original: times.original / items,
+            with_room: times.with_room.map(|time| time / items),
         }
     }
 

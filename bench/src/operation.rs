@@ -22,6 +22,19 @@ pub enum Operation {
     UniteInMemory = 15,
     SubtractInMemory = 16,
     Hmac = 17,
+    FindFilesInBytes = 18,
+    CopyInMemory = 19,
+}
+
+impl Operation {
+    /// Whether the original is measured with memory reserved for its output too. It writes to any
+    /// writer, and the port's calls make a byte string of bytes and reserve it.
+    pub fn is_written_to_room(self) -> bool {
+        matches!(
+            self,
+            Operation::Union | Operation::Difference | Operation::Export | Operation::WriteMinimal
+        )
+    }
 }
 
 /// What the time of a row is divided by.
@@ -81,7 +94,7 @@ const fn row(
     }
 }
 
-pub const ROWS: [Row; 19] = [
+pub const ROWS: [Row; 21] = [
     row(
         "serialize_from",
         Operation::Serialize,
@@ -101,6 +114,13 @@ pub const ROWS: [Row; 19] = [
         Operation::FindFiles,
         Item::Lookup,
         Hashes::AbsentFiles,
+        Before::Nothing,
+    ),
+    row(
+        "file lookup with load",
+        Operation::FindFilesInBytes,
+        Item::Lookup,
+        Hashes::PresentFiles,
         Before::Nothing,
     ),
     row(
@@ -204,6 +224,13 @@ pub const ROWS: [Row; 19] = [
     row(
         "memory: difference",
         Operation::SubtractInMemory,
+        Item::Record,
+        Hashes::None,
+        Before::Once,
+    ),
+    row(
+        "memory: copy",
+        Operation::CopyInMemory,
         Item::Record,
         Hashes::None,
         Before::Once,

@@ -23,11 +23,40 @@ pub fn run(
     times: u64,
     out: &mut [u8],
 ) -> usize {
+    run_in(operation, first, second, hashes, times, out, 0)
+}
+
+/// The same with memory reserved for the answer, as much as the port's calls reserve.
+pub fn run_with_room(
+    operation: Operation,
+    first: &[u8],
+    second: &[u8],
+    hashes: &[Hash],
+    times: u64,
+    out: &mut [u8],
+) -> usize {
+    let room = match operation {
+        Operation::Union => first.len() + second.len(),
+        Operation::Difference => second.len(),
+        _ => first.len(),
+    };
+    run_in(operation, first, second, hashes, times, out, room)
+}
+
+fn run_in(
+    operation: Operation,
+    first: &[u8],
+    second: &[u8],
+    hashes: &[Hash],
+    times: u64,
+    out: &mut [u8],
+    room: usize,
+) -> usize {
     let hashes: Vec<MerkleHash> = hashes
         .iter()
         .map(|hash| MerkleHash::from(hash.words))
         .collect();
-    let answer = answer(operation, first, second, &hashes, times)
+    let answer = answer(operation, first, second, &hashes, times, room)
         .unwrap_or_else(|error| panic!("{operation:?} of the original failed: {error}"));
     out[..answer.len()].copy_from_slice(&answer);
     answer.len()
@@ -39,6 +68,7 @@ fn answer(
     second: &[u8],
     hashes: &[MerkleHash],
     times: u64,
+    room: usize,
 ) -> Result<Vec<u8>> {
     match operation {
         Operation::Load => counted(times, || Ok(load(first)?.num_file_entries())),
@@ -54,16 +84,18 @@ fn answer(
             let info = load(first)?;
             counted(times, || query_chunks(&info, first, hashes))
         }
-        Operation::Union => last(times, || combine(Combination::Union, first, second)),
-        Operation::Difference => last(times, || combine(Combination::Difference, first, second)),
-        Operation::Export => last(times, || export(first, hashes[0])),
+        Operation::Union => last(times, || combine(Combination::Union, first, second, room)),
+        Operation::Difference => last(times, || {
+            combine(Combination::Difference, first, second, room)
+        }),
+        Operation::Export => last(times, || export(first, hashes[0], room)),
         Operation::ReadMinimal => counted(times, || {
             let minimal = MDBMinimalShard::from_reader(&mut &first[..], true, true)?;
             Ok(minimal.num_files() + minimal.num_xorb())
         }),
         Operation::WriteMinimal => last(times, || {
             let minimal = MDBMinimalShard::from_reader(&mut &first[..], true, true)?;
-            let mut bytes = Vec::new();
+            let mut bytes = Vec::with_capacity(room);
             minimal.serialize(&mut bytes, true)?;
             Ok(bytes)
         }),
@@ -103,6 +135,11 @@ fn answer(
             let (first, second) = (in_memory(first)?, in_memory(second)?);
             last(times, || first.difference(&second))?.to_bytes()
         }
+        Operation::FindFilesInBytes => counted(times, || find_files_in_bytes(first, hashes)),
+        Operation::CopyInMemory => {
+            let shard = in_memory(first)?;
+            last(times, || Ok(shard.clone()))?.to_bytes()
+        }
         Operation::Hmac => {
             let key = hashes[0];
             let keyed = (0..times).fold(key, |hash, _| hash.hmac(key));
@@ -140,6 +177,14 @@ fn find_files(info: &MDBShardInfo, shard: &[u8], files: &[MerkleHash]) -> Result
     Ok(found)
 }
 
+fn find_files_in_bytes(shard: &[u8], files: &[MerkleHash]) -> Result<usize> {
+    let mut found = 0;
+    for file in files {
+        found += find_files(&load(shard)?, shard, &[*file])?;
+    }
+    Ok(found)
+}
+
 fn search_files(info: &MDBShardInfo, shard: &[u8], files: &[MerkleHash]) -> Result<usize> {
     let mut source = Cursor::new(shard);
     let mut dest = [0; 8];
@@ -168,9 +213,9 @@ fn query_in_memory(shard: &MDBInMemoryShard, hashes: &[MerkleHash]) -> usize {
     runs.map(|(count, _)| count).sum()
 }
 
-fn export(shard: &[u8], key: MerkleHash) -> Result<Vec<u8>> {
+fn export(shard: &[u8], key: MerkleHash, room: usize) -> Result<Vec<u8>> {
     let info = load(shard)?;
-    let mut bytes = Vec::new();
+    let mut bytes = Vec::with_capacity(room);
     let valid = Duration::from_secs(1000);
     info.export_as_keyed_shard(
         &mut Cursor::new(shard),

@@ -14,7 +14,7 @@ use Rattle.xet_core_structures.specs.KeyedHash.{hmac}
 use Rattle.xet_core_structures.specs.Layout.{layout}
 use Rattle.xet_core_structures.specs.Shard.{Shard, IsShard}
 use Rattle.bench_calls.specs.declared.operation.Operation.{Operation}
-use Rattle.bench_calls.specs.declared.operation.Operation.TheVariants.{Load, FindFiles, SearchFiles, QueryChunks, Union, Difference, Export as ExportAll, ReadMinimal, WriteMinimal, ReadFiles, ReadXorbs, Serialize, AddFiles, AddXorbs, QueryInMemory, UniteInMemory, SubtractInMemory, Hmac}
+use Rattle.bench_calls.specs.declared.operation.Operation.TheVariants.{Load, FindFiles, SearchFiles, QueryChunks, Union, Difference, Export as ExportAll, ReadMinimal, WriteMinimal, ReadFiles, ReadXorbs, Serialize, AddFiles, AddXorbs, QueryInMemory, UniteInMemory, SubtractInMemory, Hmac, FindFilesInBytes, CopyInMemory}
 
 -- the number by which the caller names an operation
 unfoldable pub number_of : Operation → ℕ
@@ -36,6 +36,8 @@ number_of QueryInMemory = 14
 number_of UniteInMemory = 15
 number_of SubtractInMemory = 16
 number_of Hmac = 17
+number_of FindFilesInBytes = 18
+number_of CopyInMemory = 19
 
 -- with files and all tables, valid for 1000 seconds from 0 on
 abbrev pub whole_export : DataHash → Export
@@ -67,6 +69,7 @@ Answers WriteMinimal times first second key bytes =
 Answers Serialize times first second key bytes = AreBytesOfSome bytes
 Answers UniteInMemory times first second key bytes = AreBytesOfSome bytes
 Answers SubtractInMemory times first second key bytes = AreBytesOfSome bytes
+Answers CopyInMemory times first second key bytes = AreBytesOfSome bytes
 Answers Hmac times first second key bytes = bytes ≡ hash_bytes (iterate (hmac key) times key)
 Answers _ times first second key bytes = IsCount bytes
 

@@ -6,6 +6,7 @@ ghost use Rattle.xet_core_structures.specs.KeyedHash.{hmac};
 ghost use Rattle.bench_calls.specs.Answers.{IsCount};
 
 use crate::answer::count_bytes;
+use shard_bytes::find::find_file;
 use shard_bytes::load::load_bytes;
 use std::alloc::Global;
 use xet_core_structures::error::Result;
@@ -41,6 +42,33 @@ fn count_files(
             .get_file_reconstruction_info(alloc, &mut source, file)?
             .is_some()
         {
+            found = found.wrapping_add(1);
+        }
+    }
+    Ok(found)
+}
+
+/// Looks up each file in the bytes of the shard, whose header and footer are read each time. The
+/// answer is how many there are.
+pub fn find_files_in_bytes(
+    alloc: Global,
+    shard: &[u8],
+    files: &[MerkleHash],
+    times: u64,
+) -> Result<Vec<u8>>
+    ensures { IfOk result (λ bytes. IsCount bytes.items) }
+{
+    let mut found = 0;
+    for _ in 0..times {
+        found = count_files_in_bytes(alloc, shard, files)?;
+    }
+    count_bytes(alloc, found)
+}
+
+fn count_files_in_bytes(alloc: Global, shard: &[u8], files: &[MerkleHash]) -> Result<u64> {
+    let mut found: u64 = 0;
+    for file in files {
+        if find_file(alloc, shard, file)?.is_some() {
             found = found.wrapping_add(1);
         }
     }

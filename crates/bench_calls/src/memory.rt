@@ -72,6 +72,17 @@ pub fn subtract(alloc: Global, first: &[u8], second: &[u8], times: u64) -> Resul
     bytes_of(alloc, &first.difference(alloc, &second)?)
 }
 
+/// Copies a shard that is in memory. The answer is the bytes of the copy.
+pub fn copy(alloc: Global, shard: &[u8], times: u64) -> Result<Vec<u8>>
+    ensures { IfOk result (λ bytes. AreBytesOfSome bytes.items) }
+{
+    let shard = in_memory(alloc, shard)?;
+    for _ in 1..times {
+        let _again = shard.try_clone(alloc)?;
+    }
+    bytes_of(alloc, &shard.try_clone(alloc)?)
+}
+
 /// Queries each run of `QUERY_LENGTH` hashes. The answer is the number of chunks in the runs that
 /// are found.
 pub fn query(alloc: Global, shard: &[u8], hashes: &[MerkleHash], times: u64) -> Result<Vec<u8>>

@@ -24,10 +24,12 @@ pub enum Operation {
     UniteInMemory,
     SubtractInMemory,
     Hmac,
+    FindFilesInBytes,
+    CopyInMemory,
 }
 
 impl Operation {
-    /// The operation with this number, 0 to 17 in the order of the variants.
+    /// The operation with this number, 0 to 19 in the order of the variants.
     #[tactic(auto, unfolding(crate::specs::Answers::number_of))]
     pub fn of_number(number: u32) -> Option<Operation>
         ensures { IfSome result (λ operation. number_of operation ≡ number) }
@@ -51,6 +53,8 @@ impl Operation {
             15 => Operation::UniteInMemory,
             16 => Operation::SubtractInMemory,
             17 => Operation::Hmac,
+            18 => Operation::FindFilesInBytes,
+            19 => Operation::CopyInMemory,
             _ => return None,
         })
     }

@@ -47,7 +47,7 @@ impl Way {
 }
 
 fn union(first: &[u8], second: &[u8]) -> Result<Vec<u8>> {
-    combine(Combination::Union, first, second)
+    combine(Combination::Union, first, second, 0)
 }
 
 fn tree<'a>(shards: &[&'a [u8]]) -> Result<Cow<'a, [u8]>> {
