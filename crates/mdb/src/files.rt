@@ -1,8 +1,10 @@
 //! Reading shards, and writing outputs so that a failure leaves what was there.
 
+use crate::beside::write_beside;
 use std::alloc::Global;
-use std::fs::{File, OpenFile};
+use std::fs::{File, Metadata, OpenOptions};
 use std::io::{ErrorKind, Write};
+use std::random::RandomSource;
 use std::rt::Files;
 use std::{fs, io};
 
@@ -14,16 +16,59 @@ pub fn read<R: Files + AllocGlobal>(rt: &R, path: &str) -> io::Result<Vec<u8>> {
 /// The path that stands for standard output.
 pub const STANDARD_OUTPUT: &str = "-";
 
-/// Writes bytes to a file, or to standard output if the path is `-`. They go to a new file beside
-/// the target, which is renamed over it: if anything fails, the target stays as it was and the new
-/// file is removed.
-pub fn write<R: Files + Print>(rt: &R, alloc: Global, path: &str, bytes: &[u8]) -> io::Result<()> {
+/// Writes bytes to a path, or to standard output if it is `-`.
+///
+/// A new name, or a regular file, also one behind symbolic links, gets a new file beside it, which is
+/// renamed over it: if anything fails, the target stays as it was and the new file is removed. What
+/// is no regular file, as a device or a pipe, is written to. A link that leads nowhere is refused.
+pub fn write<R: Files + Print + RandomSource + AllocGlobal>(
+    rt: &R,
+    alloc: Global,
+    path: &str,
+    bytes: &[u8],
+) -> io::Result<()> {
     if path == STANDARD_OUTPUT {
         let mut output = io::writer(rt);
         output.write_all(bytes)?;
         return output.flush();
     }
-    let beside = write_beside(rt, alloc, path, bytes)?;
+    match fs::metadata(rt, path) {
+        Ok(there) if there.is_file() => {
+            let file = fs::canonicalize(rt, path)?;
+            replace(rt, alloc, file.as_str(), Some(&there), bytes)
+        }
+        Ok(_) => write_into(rt, path, bytes),
+        Err(error) if error.kind() == ErrorKind::NotFound && !is_link(rt, path) => {
+            replace(rt, alloc, path, None, bytes)
+        }
+        Err(error) => Err(error),
+    }
+}
+
+fn is_link<R: Files>(rt: &R, path: &str) -> bool {
+    match fs::symlink_metadata(rt, path) {
+        Ok(there) => there.is_symlink(),
+        Err(_) => false,
+    }
+}
+
+// Writes bytes to what is at a path and is no regular file.
+fn write_into<R: Files>(rt: &R, path: &str, bytes: &[u8]) -> io::Result<()> {
+    let mut options = OpenOptions::new();
+    options.write(true);
+    let mut there = options.open(rt, path)?;
+    there.write_all(bytes)
+}
+
+// Renames a new file with these bytes over a path, at which there is nothing or a regular file.
+fn replace<R: Files + RandomSource>(
+    rt: &R,
+    alloc: Global,
+    path: &str,
+    replaced: Option<&Metadata>,
+    bytes: &[u8],
+) -> io::Result<()> {
+    let beside = write_beside(rt, alloc, path, replaced, bytes)?;
     match fs::rename(rt, beside.as_str(), path) {
         Ok(()) => Ok(()),
         Err(error) => {
@@ -31,33 +76,4 @@ pub fn write<R: Files + Print>(rt: &R, alloc: Global, path: &str, bytes: &[u8]) 
             Err(error)
         }
     }
-}
-
-/// The names of new files that are tried.
-const TRIES: u32 = 100;
-
-// Writes bytes to a new file in the target's folder and returns its path.
-fn write_beside<R: Files>(rt: &R, alloc: Global, target: &str, bytes: &[u8]) -> io::Result<String> {
-    for number in 0..TRIES {
-        let path = format!(in alloc; "{target}.new{number}")?;
-        let mut file = match File::create_new(rt, path.as_str()) {
-            Ok(file) => file,
-            Err(error) if error.kind() == ErrorKind::AlreadyExists => continue,
-            Err(error) => return Err(error),
-        };
-        return match write_all(&mut file, bytes) {
-            Ok(()) => Ok(path),
-            Err(error) => {
-                let _ = fs::remove_file(rt, path.as_str());
-                Err(error)
-            }
-        };
-    }
-    Err(io::Error::from(ErrorKind::AlreadyExists))
-}
-
-// Writes bytes, and waits until the device has them.
-fn write_all<F: Write + OpenFile>(file: &mut F, bytes: &[u8]) -> io::Result<()> {
-    file.write_all(bytes)?;
-    file.sync_all()
 }

@@ -3,6 +3,7 @@
 #![tactic(auto)]
 
 mod arguments;
+mod beside;
 mod command_line;
 mod failure;
 mod files;

@@ -1,6 +1,7 @@
 //! The commands that write a shard.
 
 use crate::arguments::{Making, Strictness};
+use crate::beside::leftovers;
 use crate::failure::{Failure, Subject};
 use crate::files::{STANDARD_OUTPUT, read, write};
 use mdb_report::fault::{
@@ -12,28 +13,60 @@ use shard_bytes::export::{Export, export_bytes};
 use shard_bytes::merge::merge_bytes;
 use shard_bytes::minimal::{Subset, minimal_bytes, subset_bytes};
 use std::alloc::{AllocError, Global};
+use std::fs;
+use std::random::RandomSource;
 use std::rt::Files;
 use xet_core_structures::error::CoreError;
 use xet_core_structures::file_structs::KeptParts;
 use xet_core_structures::set_operations::{Disagreement, find_disagreements};
 
-/// Writes the shard that a command makes to a path, or to standard output if it is `-`.
-pub fn make<'a, R: Files + Print + Eprint + AllocGlobal>(
+/// Writes the shard that a command makes to a path, or to standard output if it is `-`. Reports on
+/// standard error what runs that were ended have left there.
+pub fn make<'a, R: Files + Print + Eprint + RandomSource + AllocGlobal + Clone + Drop>(
     rt: &R,
     making: &Making<'a>,
     output: &'a str,
 ) -> Result<(), Failure<'a>> {
-    let bytes = match making {
+    let bytes = made(rt, making)?;
+    let written = write(rt, rt.alloc(), output, bytes.as_slice());
+    if output != STANDARD_OUTPUT {
+        report_leftovers(rt, output);
+    }
+    match written {
+        Ok(()) => Ok(()),
+        Err(error) if output == STANDARD_OUTPUT => Err(Failure::on_output(Fault::from(error))),
+        Err(error) => Err(Failure::on_file(output, Fault::from(error))),
+    }
+}
+
+// Names the new files that runs that were ended have left beside a target, or beside the file that it
+// leads to.
+fn report_leftovers<R: Files + Eprint + AllocGlobal + Clone + Drop>(rt: &R, target: &str) {
+    let found = match fs::canonicalize(rt, target) {
+        Ok(file) => leftovers(rt, file.as_str()),
+        Err(_) => leftovers(rt, target),
+    };
+    let Ok(names) = found else {
+        return;
+    };
+    for name in &names {
+        let _ = rt.eprintln(format_args!(
+            "{name}: left beside {target} by a run that was ended, or that still writes"
+        ));
+    }
+}
+
+// The bytes of the shard that a command makes.
+fn made<'a, R: Files + Eprint + AllocGlobal>(
+    rt: &R,
+    making: &Making<'a>,
+) -> Result<Vec<u8>, Failure<'a>> {
+    match making {
         Making::Combine(operation, first, second) => combined(rt, *operation, first, second),
         Making::Merge(files, strictness) => merged(rt, files.as_slice(), *strictness),
         Making::Export(file, export) => exported(rt, file, export),
         Making::Minimal(file, now, kept) => minimal(rt, file, *now, *kept),
         Making::Subset(file, kept) => subset(rt, file, kept),
-    }?;
-    match write(rt, rt.alloc(), output, bytes.as_slice()) {
-        Ok(()) => Ok(()),
-        Err(error) if output == STANDARD_OUTPUT => Err(Failure::on_output(Fault::from(error))),
-        Err(error) => Err(Failure::on_file(output, Fault::from(error))),
     }
 }
 

@@ -8,6 +8,7 @@ use crate::failure::Failure;
 use crate::inspect::inspect;
 use crate::make::make;
 use std::env;
+use std::random::RandomSource;
 use std::rt::{Env, Files};
 
 /// The exit status of a run.
@@ -48,13 +49,17 @@ impl Status {
 }
 
 /// Runs the program on its words.
-pub fn run<R: Env + Files + Print + Eprint + AllocGlobal>(rt: &R) -> u8
+pub fn run<R: Env + Files + Print + Eprint + RandomSource + AllocGlobal + Clone + Drop>(
+    rt: &R,
+) -> u8
     ensures { result ≤ 3 }
 {
     status_of_words(rt).number()
 }
 
-fn status_of_words<R: Env + Files + Print + Eprint + AllocGlobal>(rt: &R) -> Status {
+fn status_of_words<R: Env + Files + Print + Eprint + RandomSource + AllocGlobal + Clone + Drop>(
+    rt: &R,
+) -> Status {
     let alloc = rt.alloc();
     let collected = match env::args(rt) {
         Ok(words) => words.collect::<Vec<String>>(alloc),
@@ -78,7 +83,10 @@ fn status_of_words<R: Env + Files + Print + Eprint + AllocGlobal>(rt: &R) -> Sta
     }
 }
 
-fn status_of<R: Files + Print + Eprint + AllocGlobal>(rt: &R, request: &Request<'_>) -> Status {
+fn status_of<R: Files + Print + Eprint + RandomSource + AllocGlobal + Clone + Drop>(
+    rt: &R,
+    request: &Request<'_>,
+) -> Status {
     match request {
         Request::Inspect(files, inquiry, style) => inspect(rt, files.as_slice(), inquiry, *style),
         Request::Make(making, output) => match make(rt, making, output) {

@@ -1,0 +1,203 @@
+"""What sessions of mdb cannot show: devices, links, modes, owners, and runs that are killed. Used by .ci/mdb."""
+import os
+import re
+import resource
+import signal
+import stat
+import subprocess
+import tempfile
+import threading
+
+SKIPPED = "skipped"
+
+
+class Place:
+    """A folder with one_file.mdb and both.mdb, and the program to run there."""
+
+    def __init__(self, program, folder, made):
+        self.program, self.folder, self.made = program, folder, made
+        for name in ("one_file.mdb", "both.mdb", "both_3.mdb"):
+            self.write(name, made[name])
+
+    def path(self, name):
+        return f"{self.folder}/{name}"
+
+    def write(self, name, data):
+        with open(self.path(name), "wb") as file:
+            file.write(data)
+
+    def read(self, name):
+        with open(self.path(name), "rb") as file:
+            return file.read()
+
+    def run(self, *words, **how):
+        return subprocess.run(
+            [self.program, *words], capture_output=True, cwd=self.folder, timeout=20, check=False, **how
+        )
+
+    def merge(self, target, **how):
+        return self.run("merge", "both.mdb", "-o", target, **how)
+
+    def names(self):
+        return sorted(os.listdir(self.folder))
+
+
+def wants(said, holds):
+    """Raises what is wrong, unless it holds."""
+    if not holds:
+        raise AssertionError(said)
+
+
+def needs_root():
+    if os.geteuid() != 0:
+        raise PermissionError
+
+
+def new_file_has_the_mode_of_others(place):
+    os.umask(0o022)
+    wants("status", place.merge("out.mdb").returncode == 0)
+    wants("its bytes", place.read("out.mdb") == place.made["both_3.mdb"])
+    wants("its mode", stat.S_IMODE(os.stat(place.path("out.mdb")).st_mode) == 0o644)
+
+
+def mode_stays(place):
+    for mode in (0o600, 0o640, 0o444):
+        place.write("out.mdb", b"")
+        os.chmod(place.path("out.mdb"), mode)
+        wants("status", place.merge("out.mdb").returncode == 0)
+        wants("its bytes", place.read("out.mdb") == place.made["both_3.mdb"])
+        wants("its mode", stat.S_IMODE(os.stat(place.path("out.mdb")).st_mode) == mode)
+        os.remove(place.path("out.mdb"))
+
+
+def owner_stays(place):
+    needs_root()
+    place.write("out.mdb", b"")
+    os.chown(place.path("out.mdb"), 12345, 12346)
+    wants("status", place.merge("out.mdb").returncode == 0)
+    there = os.stat(place.path("out.mdb"))
+    wants("its owner and group", (there.st_uid, there.st_gid) == (12345, 12346))
+    wants("its bytes", place.read("out.mdb") == place.made["both_3.mdb"])
+
+
+def device_is_written_to(place):
+    needs_root()
+    os.mknod(place.path("null"), stat.S_IFCHR | 0o666, os.makedev(1, 3))
+    before = place.names()
+    run = place.merge("null")
+    wants("status", (run.returncode, run.stderr) == (0, b""))
+    wants("it is a device", stat.S_ISCHR(os.stat(place.path("null")).st_mode))
+    wants("nothing else is there", place.names() == before)
+
+
+def full_device_fails(place):
+    run = place.merge("/dev/full")
+    wants("status", run.returncode == 1)
+    wants("it says why", b"/dev/full: No space left on device" in run.stderr)
+    wants("it is a device", stat.S_ISCHR(os.stat("/dev/full").st_mode))
+
+
+def pipe_is_written_to(place):
+    os.mkfifo(place.path("pipe"))
+    got = []
+    reader = threading.Thread(target=lambda: got.append(place.read("pipe")))
+    reader.start()
+    run = place.merge("pipe")
+    reader.join(20)
+    wants("status", (run.returncode, run.stderr) == (0, b""))
+    wants("its bytes", got == [place.made["both_3.mdb"]])
+    wants("it is a pipe", stat.S_ISFIFO(os.stat(place.path("pipe")).st_mode))
+
+
+def link_is_followed(place):
+    os.mkdir(place.path("far"))
+    place.write("far/real.mdb", b"")
+    os.chmod(place.path("far/real.mdb"), 0o600)
+    os.symlink("far/real.mdb", place.path("near.mdb"))
+    os.symlink("near.mdb", place.path("link.mdb"))
+    wants("status", place.merge("link.mdb").returncode == 0)
+    for name, leads in (("link.mdb", "near.mdb"), ("near.mdb", "far/real.mdb")):
+        wants(f"{name} is a link", os.readlink(place.path(name)) == leads)
+    wants("its bytes", place.read("far/real.mdb") == place.made["both_3.mdb"])
+    wants("its mode", stat.S_IMODE(os.stat(place.path("far/real.mdb")).st_mode) == 0o600)
+    wants("nothing else is there", os.listdir(place.path("far")) == ["real.mdb"])
+
+
+def link_to_nothing_is_refused(place):
+    os.symlink("nothing.mdb", place.path("link.mdb"))
+    run = place.merge("link.mdb")
+    wants("status", run.returncode == 1)
+    wants("it is a link", os.readlink(place.path("link.mdb")) == "nothing.mdb")
+    wants("nothing else is there", place.names() == ["both.mdb", "both_3.mdb", "link.mdb", "one_file.mdb"])
+
+
+def folder_is_refused(place):
+    os.mkdir(place.path("folder"))
+    run = place.merge("folder")
+    wants("status", run.returncode == 1)
+    wants("it says why", b"folder: Is a directory" in run.stderr)
+    wants("nothing else is there", place.names() == ["both.mdb", "both_3.mdb", "folder", "one_file.mdb"])
+
+
+def taken_names_block_nothing(place):
+    for number in range(200):
+        place.write(f"out.mdb.new{number}", b"")
+    wants("status", place.merge("out.mdb").returncode == 0)
+    wants("its bytes", place.read("out.mdb") == place.made["both_3.mdb"])
+
+
+def limited(room):
+    return lambda: resource.setrlimit(resource.RLIMIT_FSIZE, (room, room))
+
+
+def full_disk_leaves_the_target(place):
+    before = place.names()
+
+    def ignore_and_limit():
+        signal.signal(signal.SIGXFSZ, signal.SIG_IGN)
+        limited(100)()
+
+    run = place.merge("one_file.mdb", preexec_fn=ignore_and_limit)
+    wants("status", run.returncode == 1)
+    wants("it says why", b"one_file.mdb: File too large" in run.stderr)
+    wants("the target", place.read("one_file.mdb") == place.made["one_file.mdb"])
+    wants("nothing else is there", place.names() == before)
+
+
+def killed_run_leaves_the_target(place):
+    before = place.names()
+    # Written bytes past the limit end the process by a signal.
+    run = place.merge("one_file.mdb", preexec_fn=limited(100))
+    wants("it was killed", run.returncode == -signal.SIGXFSZ)
+    wants("the target", place.read("one_file.mdb") == place.made["one_file.mdb"])
+    (left,) = set(place.names()) - set(before)
+    wants("the name of what is left", re.fullmatch(r"one_file\.mdb\.[0-9a-f]{16}\.new", left))
+    run = place.merge("one_file.mdb")
+    wants("the next run", run.returncode == 0)
+    said = f"{left}: left beside one_file.mdb by a run that was ended, or that still writes\n"
+    wants("it is named", run.stderr.decode() == said)
+    wants("the target is new", place.read("one_file.mdb") == place.made["both_3.mdb"])
+    wants("what is left stays", set(place.names()) - set(before) == {left})
+
+
+ROWS = (
+    new_file_has_the_mode_of_others, mode_stays, owner_stays, device_is_written_to, full_device_fails,
+    pipe_is_written_to, link_is_followed, link_to_nothing_is_refused, folder_is_refused, taken_names_block_nothing,
+    full_disk_leaves_the_target, killed_run_leaves_the_target,
+)
+
+
+def check_rows(program, made):
+    """Returns what is wrong with each row, None if nothing is, or SKIPPED if it needs what only root may do."""
+    answers = []
+    for row in ROWS:
+        with tempfile.TemporaryDirectory() as folder:
+            name = row.__name__.replace("_", " ")
+            try:
+                row(Place(program, folder, made))
+                answers.append((name, None))
+            except PermissionError:
+                answers.append((name, SKIPPED))
+            except (AssertionError, ValueError, OSError, subprocess.TimeoutExpired) as why:
+                answers.append((name, f"{type(why).__name__}: {why}"))
+    return answers
