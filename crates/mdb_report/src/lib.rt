@@ -4,6 +4,7 @@
 
 pub mod counting;
 pub mod fault;
+pub mod flags;
 pub mod hex;
 pub mod inquiry;
 pub mod line;

@@ -3,7 +3,7 @@
 ghost use Rattle.std.specs.Prelude.{◌≡◌, IfOk, IfSome, IsNone, OnOk, pos, ◌*ℤ◌};
 
 use jiff::Timestamp;
-use serde::Serialize;
+use serde::{Described, Serialize, Serializer};
 use std::alloc::{AllocError, Global};
 use std::fmt;
 
@@ -11,7 +11,9 @@ use std::fmt;
 ///
 /// 0 and the greatest number have no date, since they stand for none, and neither have seconds past
 /// the year 9999.
-#[derive(Drop, Serialize)]
+///
+/// In JSON a timestamp that stands for none is `null`.
+#[derive(Drop)]
 pub struct Moment {
     pub seconds: u64,
     pub utc: Option<String>,
@@ -25,10 +27,33 @@ impl Moment {
     {
         let utc = match instant_of(seconds) {
             Some(instant) => Some(instant.to_string(alloc)?),
-            None => None,
+            None => last_hours(alloc, seconds)?,
         };
         Ok(Moment { seconds, utc })
     }
+}
+
+/// The first second of the last day of the year 9999, and the first one after it.
+const LAST_DAY: u64 = 253402214400;
+
+const AFTER_LAST_DAY: u64 = 253402300800;
+
+/// The first second that is no instant of the calendar, which keeps the 26 hours in which the year
+/// 10000 has begun somewhere on Earth.
+const LAST_HOURS: u64 = LAST_DAY - 7199;
+
+// The date of a second in the last 26 hours of the year 9999, else none.
+fn last_hours(alloc: Global, seconds: u64) -> Result<Option<String>, AllocError>
+    ensures { seconds ≡ 0 → IfOk result IsNone }
+{
+    if seconds < LAST_HOURS || seconds >= AFTER_LAST_DAY {
+        return Ok(None);
+    }
+    let day = if seconds < LAST_DAY { 30 } else { 31 };
+    let hour = seconds / 3600 % 24;
+    let minute = seconds / 60 % 60;
+    let second = seconds % 60;
+    Ok(Some(format!(in alloc; "9999-12-{day}T{hour:02}:{minute:02}:{second:02}Z")?))
 }
 
 // The instant so many seconds after the start of 1970, if a calendar has it; none for 0.
@@ -41,6 +66,28 @@ fn instant_of(seconds: u64) -> Option<Timestamp>
     }
     let seconds = i64::try_from(seconds).ok()?;
     Timestamp::from_second(seconds).ok()
+}
+
+impl Described for Moment {}
+
+impl Serialize for Moment {
+    fn serialize<S: Serializer>(&self, out: &mut S) -> Result<(), S::Error> {
+        if self.seconds == 0 || self.seconds == u64::MAX {
+            return None::<Date<'_>>.serialize(out);
+        }
+        let date = Date {
+            seconds: self.seconds,
+            utc: self.utc.as_ref().map(|utc| utc.as_str()),
+        };
+        date.serialize(out)
+    }
+}
+
+// A timestamp that stands for a date, in JSON.
+#[derive(Clone, Copy, Serialize)]
+struct Date<'a> {
+    seconds: u64,
+    utc: Option<&'a str>,
 }
 
 impl fmt::Display for Moment {

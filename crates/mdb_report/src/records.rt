@@ -4,6 +4,7 @@ ghost use Rattle.std.specs.Prelude.{◌≡◌, All, IfOk, MatchResult, map};
 ghost use Rattle.xet_core_structures.specs.FileRecord.{FitsItsHeader};
 ghost use Rattle.mdb_report.specs.Records.{ReportsFile, ReportsFiles, ReportsRows, ReportsXorb, ReportsChunk, HoldsFiles, FilesRefusal, segment_report, chunk_row_of};
 
+use crate::flags::{ChunkFlags, FileFlags};
 use crate::hex::Hex;
 use serde::Serialize;
 use std::alloc::{AllocError, Global};
@@ -153,7 +154,7 @@ impl SegmentReport {
 impl fmt::Display for FileReport {
     fn fmt<W: fmt::Write>(&self, f: &mut fmt::Formatter<W>) -> fmt::Result {
         let file = self.file;
-        let flags = self.flags;
+        let flags = FileFlags(self.flags);
         let segments = self.segments;
         let bytes = self.bytes;
         write!(
@@ -194,7 +195,7 @@ impl fmt::Display for SegmentReport {
         let bytes = self.bytes;
         write!(
             f,
-            "segment {xorb} flags {flags} chunks {start}..{end} bytes {bytes}"
+            "segment {xorb} flags {flags:08x} chunks {start}..{end} bytes {bytes}"
         )
     }
 }
@@ -329,7 +330,7 @@ impl fmt::Display for XorbReport {
         let on_disk = self.bytes_on_disk;
         write!(
             f,
-            "xorb {xorb} flags {flags} chunks {chunks} bytes {bytes} on disk {on_disk}"
+            "xorb {xorb} flags {flags:08x} chunks {chunks} bytes {bytes} on disk {on_disk}"
         )?;
         if let Some(rows) = &self.rows {
             for row in rows {
@@ -343,7 +344,7 @@ impl fmt::Display for XorbReport {
 impl fmt::Display for ChunkRow {
     fn fmt<W: fmt::Write>(&self, f: &mut fmt::Formatter<W>) -> fmt::Result {
         let chunk = self.chunk;
-        let flags = self.flags;
+        let flags = ChunkFlags(self.flags);
         let start = self.start;
         let bytes = self.bytes;
         write!(f, "chunk {chunk} flags {flags} start {start} bytes {bytes}")
@@ -365,6 +366,7 @@ impl fmt::Display for ChunkReport {
             },
         ) = self.rest
         {
+            let flags = ChunkFlags(flags);
             write!(f, " flags {flags} start {start} eligible {eligible}")?;
         }
         Ok(())
