@@ -274,7 +274,7 @@ def load(shard: Buffer) -> Info:
 
 
 def find_file(shard: Buffer, file_hash: str) -> Optional[File]:
-    """Returns the file with this hash, or None."""
+    """Returns the file with this hash, or None. In a shard without a table of files, as a minimal one, none is found."""
     data, wanted, file = _bytes(shard), _Hash(_words(file_hash)), _File()
     room = 64
     segments = _array(_FileSegment, room)
@@ -297,7 +297,10 @@ def find_file(shard: Buffer, file_hash: str) -> Optional[File]:
 
 
 def query_chunks(shard: Buffer, hashes: Sequence[str]) -> Optional[Run]:
-    """Returns a run of chunks with these hashes, which are not keyed, or None. It has at least the first."""
+    """Returns a run of chunks with these hashes, which are not keyed, or None. It has at least the first.
+
+    In a shard without a table of chunks, as a minimal one, none is found.
+    """
     data, wanted = _bytes(shard), _hashes(hashes)
     count, run = c_size_t(), _Segment()
     _check(_library.xet_query_chunks(data, len(data), wanted, len(hashes), byref(count), byref(run)))

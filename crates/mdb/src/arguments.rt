@@ -112,7 +112,9 @@ fn inquiry_in<'a>(
     let long = matches.get_flag(id::LONG);
     match name {
         "info" => Ok(Inquiry::Summary),
-        "check" => Ok(Inquiry::Check),
+        "check" => Ok(Inquiry::Check {
+            named: matches.get_flag(id::NAME),
+        }),
         "files" => Ok(Inquiry::Files { long }),
         "xorbs" => Ok(Inquiry::Xorbs { long }),
         "chunks" => Ok(Inquiry::Chunks { long }),

@@ -32,6 +32,8 @@ pub mod id {
 
     pub const COSTS: &str = "costs";
 
+    pub const NAME: &str = "name";
+
     pub const STRICT: &str = "strict";
 
     pub const VERIFICATION: &str = "verification";
@@ -127,6 +129,11 @@ fn check<'a>(alloc: Global) -> Result<Command<'a>, AllocError> {
         .about("Checks that files are as the library would write them; exit status 3 if one is not")
         .after_help(help::CHECK)
         .arg(files(alloc))?
+        .arg(flag(
+            alloc,
+            id::NAME,
+            "Checks too that each name is 64 hexadecimal digits and .mdb",
+        ))?
         .arg(json(alloc))
 }
 

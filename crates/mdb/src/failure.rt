@@ -1,6 +1,7 @@
 //! Why a command ends without what was asked for.
 
 use mdb_report::fault::Fault;
+use mdb_report::shown::Shown;
 use std::fmt;
 
 /// What a failure is about.
@@ -46,9 +47,9 @@ impl<'a> Failure<'a> {
 impl fmt::Display for Subject<'_> {
     fn fmt<W: fmt::Write>(&self, f: &mut fmt::Formatter<W>) -> fmt::Result {
         match self {
-            Subject::File(file) => write!(f, "{file}"),
-            Subject::Pair(first, second) => write!(f, "{first} and {second}"),
-            Subject::Files(first, count) => write!(f, "{count} files, {first} the first"),
+            Subject::File(file) => write!(f, "{}", Shown(file)),
+            Subject::Pair(first, second) => write!(f, "{} and {}", Shown(first), Shown(second)),
+            Subject::Files(first, count) => write!(f, "{count} files, {} the first", Shown(first)),
             Subject::StandardOutput => write!(f, "standard output"),
         }
     }

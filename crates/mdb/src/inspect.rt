@@ -22,8 +22,11 @@ pub fn inspect<R: Files + Print + Eprint + AllocGlobal>(
         Err(error) => return failed(rt, &Failure::on_output(Fault::from(error))),
     };
     let mut status = Status::Done;
+    // Whether all lookups so far found nothing.
+    let mut nothing = !files.is_empty();
     for file in files {
         match inspect_file(rt, file, inquiry, style, &mut output) {
+            Ok(Answer::FoundNothing) => continue,
             Ok(Answer::Printed) => {}
             Ok(Answer::FoundProblems) => status = status.and_found(),
             Err(failure) if failure.subject == Subject::StandardOutput => {
@@ -31,8 +34,10 @@ pub fn inspect<R: Files + Print + Eprint + AllocGlobal>(
             }
             Err(failure) => status = failed(rt, &failure),
         }
+        nothing = false;
     }
     match output.flush() {
+        Ok(()) if nothing => Status::Nothing,
         Ok(()) => status,
         Err(error) => failed(rt, &Failure::on_output(Fault::from(error))),
     }
@@ -56,6 +61,7 @@ fn inspect_file<'a, R: Files + AllocGlobal, W: Write>(
             let fault = fault_of(alloc, bytes.as_slice(), error);
             Err(Failure::on_file(file, fault))
         }
+        Err(Trouble::NoTable(table)) => Err(Failure::on_file(file, Fault::NoTable(table))),
         Err(Trouble::Output(error)) => Err(Failure::on_output(Fault::from(error))),
     }
 }

@@ -18,6 +18,8 @@ pub enum Status {
     Done,
     /// A file or an output failed.
     Failed,
+    /// Lookups found nothing, and nothing failed.
+    Nothing,
     /// The words are no command.
     Misused,
     /// A check found something, or shards that have to agree do not.
@@ -41,7 +43,7 @@ impl Status {
     {
         match self {
             Status::Done => 0,
-            Status::Failed => 1,
+            Status::Failed | Status::Nothing => 1,
             Status::Misused => 2,
             Status::Found => 3,
         }

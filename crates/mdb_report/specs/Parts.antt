@@ -1,5 +1,5 @@
 -- The bar of a shard's parts.
-use Rattle.std.specs.Prelude.{ℕ, ◌*◌, ◌/◌, List, map, nat_lt, if◌then◌else◌}
+use Rattle.std.specs.Prelude.{ℕ, ◌*◌, ◌/◌, ◌≤◌, List, map, nat_lt, if◌then◌else◌}
 use Rattle.std.specs.List.{range_with_len}
 use Rattle.mdb_report.specs.declared.parts.Parts.{Parts}
 
@@ -16,3 +16,12 @@ letter_of parts offset =
 abbrev pub columns : Parts → ℕ → ℕ → List ℕ
 columns parts bytes count =
     map (λ column. letter_of parts (column * bytes / 60)) (range_with_len 0 count)
+
+-- each part ends where the one before it ends or later, and none after the shard
+pub record PartsAscend (parts : Parts) : Type 0 where
+  pub files : parts.header.end ≤ parts.files.end
+  pub xorbs : parts.files.end ≤ parts.xorbs.end
+  pub file_table : parts.xorbs.end ≤ parts.file_table.end
+  pub xorb_table : parts.file_table.end ≤ parts.xorb_table.end
+  pub chunk_table : parts.xorb_table.end ≤ parts.chunk_table.end
+  pub footer : parts.chunk_table.end ≤ parts.footer.end

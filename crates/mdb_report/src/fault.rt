@@ -5,6 +5,7 @@ ghost use Rattle.shard_bytes.specs.Checking.{IsFinding, IsWhole};
 ghost use Rattle.mdb_report.specs.Faults.{IsFaultOf, KeepsFrom, IsObstacle, IsUnderKey, IsUnderNoKey};
 
 use crate::problem::InWords;
+use crate::tables::Table;
 use shard_bytes::check::{Finding, Part, check_bytes};
 use shard_bytes::load::load_bytes;
 use std::alloc::{AllocError, AllocFailed, Global};
@@ -36,6 +37,8 @@ pub enum Fault {
     LateExpiry,
     /// Verification rows are asked for that a file does not have.
     NoVerification,
+    /// The shard has records, but not the table by which they are looked up.
+    NoTable(Table),
     /// Anything else that a call of the library reports.
     Other(CoreError),
 }
@@ -66,6 +69,9 @@ impl fmt::Display for Fault {
             Fault::HasKey => write!(f, "its chunk hashes are under a key already"),
             Fault::LateExpiry => write!(f, "the expiry is past the last timestamp"),
             Fault::NoVerification => write!(f, "a file has no verification rows"),
+            Fault::NoTable(table) => {
+                write!(f, "it has no {table}, by which its records would be found")
+            }
             Fault::Other(error) => write!(f, "{error}"),
         }
     }

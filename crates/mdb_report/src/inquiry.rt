@@ -1,15 +1,16 @@
 //! What a shard can be asked, and printing its answers.
 
-ghost use Rattle.std.specs.Prelude.{◌≡◌, ◌≢◌, ◌↔◌, IfOk};
-ghost use Rattle.xet_core_structures.specs.Names.{IsShardName};
+ghost use Rattle.std.specs.Prelude.{◌≡◌, ◌≢◌, IfOk};
 ghost use Rattle.shard_bytes.specs.Checking.{IsWhole};
+ghost use Rattle.mdb_report.specs.Answers.{FindsProblems, LooksUp, IsClean, HasAscendingParts};
 
 use crate::hex::{HashReport, Hex};
 use crate::line::{Style, print};
 use crate::lookup::{FoundReport, RunReport};
-use crate::problem::{ProblemReport, file_name, problems_of};
+use crate::problem::{ProblemReport, file_name, problems_of, problems_of_bytes};
 use crate::records::{ChunkReport, XorbReport, file_reports};
 use crate::summary::Summary;
+use crate::tables::{Table, lacks_chunk_table, lacks_file_table};
 use shard_bytes::load::load_bytes;
 use shard_bytes::minimal::eligible_chunks;
 use std::alloc::{AllocError, Global};
@@ -24,8 +25,11 @@ use xet_core_structures::source::MemorySource;
 pub enum Inquiry {
     /// What its header and its footer say.
     Summary,
-    /// What is not as the library would write it.
-    Check,
+    /// What is not as the library would write it, and with `named` whether the file has the name of
+    /// a shard.
+    Check {
+        named: bool,
+    },
     /// Its files, with their rows or without.
     Files {
         long: bool,
@@ -51,11 +55,14 @@ pub enum Inquiry {
     Eligible,
 }
 
-/// Whether a check found something.
+/// What came of an inquiry.
 #[derive(Clone, Copy, Debug, PartialEq, Eq)]
 pub enum Answer {
     Printed,
+    /// A check found something, or the offsets of a footer do not ascend.
     FoundProblems,
+    /// A lookup found none of what it looked for.
+    FoundNothing,
 }
 
 /// Why there is no answer.
@@ -63,6 +70,8 @@ pub enum Answer {
 pub enum Trouble {
     /// A call on the shard's bytes failed, or an allocation.
     Shard(CoreError),
+    /// The shard has records, but not the table by which they are looked up.
+    NoTable(Table),
     /// The output failed.
     Output(io::Error),
 }
@@ -95,31 +104,24 @@ pub fn print_answer<W: Write>(
     style: Style,
     output: &mut W,
 ) -> Result<Answer, Trouble>
-    ensures printed { inquiry.now ≢ Inquiry.Check
-        → IfOk result (λ answer. answer ≡ Answer.Printed) }
-    ensures whole { inquiry.now ≡ Inquiry.Check
-        → IfOk result (λ answer. answer ≡ Answer.Printed → IsWhole bytes.now) }
+    ensures problems { IfOk result
+        (λ answer. answer ≡ Answer.FoundProblems → FindsProblems inquiry.now) }
+    ensures nothing { IfOk result
+        (λ answer. answer ≡ Answer.FoundNothing → LooksUp inquiry.now) }
+    ensures clean { IfOk result
+        (λ answer. answer ≡ Answer.Printed → IsClean inquiry.now bytes.now) }
 {
     match inquiry {
-        Inquiry::Summary => print(
-            alloc,
-            &Summary::of_bytes(alloc, file, bytes)?,
-            style,
-            output,
-        )?,
-        Inquiry::Check => return check(alloc, file, file_name(file), bytes, style, output),
+        Inquiry::Summary => return summarize(alloc, file, bytes, style, output),
+        Inquiry::Check { named } => return check(alloc, file, *named, bytes, style, output),
         Inquiry::Files { long } => print_files(alloc, bytes, *long, style, output)?,
         Inquiry::Xorbs { long } => print_xorbs(alloc, bytes, *long, style, output)?,
         Inquiry::Chunks { long } => print_chunks(alloc, bytes, *long, style, output)?,
         Inquiry::Find { hashes, costs } => {
-            for hash in hashes {
-                let found = FoundReport::of_lookup(alloc, bytes, *hash, *costs)?;
-                print(alloc, &found, style, output)?;
-            }
+            return find(alloc, bytes, hashes.as_slice(), *costs, style, output);
         }
         Inquiry::Query { hashes } => {
-            let run = RunReport::of_query(alloc, bytes, hashes.as_slice())?;
-            print(alloc, &run, style, output)?;
+            return query(alloc, bytes, hashes.as_slice(), style, output);
         }
         Inquiry::Eligible => {
             let hashes = eligible_chunks(alloc, bytes)?;
@@ -131,27 +133,102 @@ pub fn print_answer<W: Write>(
     Ok(Answer::Printed)
 }
 
-// Prints the problems of a file at a path, which ends in its name.
-fn check<W: Write>(
+// Prints what header and footer say.
+fn summarize<W: Write>(
     alloc: Global,
     file: &str,
-    name: &str,
     bytes: &[u8],
     style: Style,
     output: &mut W,
 ) -> Result<Answer, Trouble>
-    ensures { IfOk result
-        (λ answer. (answer ≡ Answer.Printed) ↔ (IsWhole bytes.now × IsShardName name.now)) }
+    ensures { IfOk result (λ answer. (answer ≢ Answer.FoundNothing)
+        × (answer ≡ Answer.Printed → HasAscendingParts bytes.now)) }
 {
-    let problems = problems_of(alloc, name, bytes)?;
+    let summary = Summary::of_bytes(alloc, file, bytes)?;
+    let ascends = summary.parts.ascend();
+    print(alloc, &summary, style, output)?;
+    if ascends {
+        Ok(Answer::Printed)
+    } else {
+        Ok(Answer::FoundProblems)
+    }
+}
+
+// Prints the problems of a file at a path, with that of its name if it is to be the name of a shard.
+fn check<W: Write>(
+    alloc: Global,
+    file: &str,
+    named: bool,
+    bytes: &[u8],
+    style: Style,
+    output: &mut W,
+) -> Result<Answer, Trouble>
+    ensures { IfOk result (λ answer. (answer ≢ Answer.FoundNothing)
+        × (answer ≡ Answer.Printed → IsWhole bytes.now)) }
+{
+    let problems = if named {
+        problems_of(alloc, file_name(file), bytes)?
+    } else {
+        problems_of_bytes(alloc, bytes)?
+    };
+    let info = load_bytes(alloc, bytes).ok();
     for problem in &problems {
-        let problem = *problem;
-        print(alloc, &ProblemReport { file, problem }, style, output)?;
+        let report = ProblemReport::of_problem(file, info.as_ref(), *problem);
+        print(alloc, &report, style, output)?;
     }
     if problems.is_empty() {
         Ok(Answer::Printed)
     } else {
         Ok(Answer::FoundProblems)
+    }
+}
+
+// Looks files up.
+fn find<W: Write>(
+    alloc: Global,
+    bytes: &[u8],
+    hashes: &[MerkleHash],
+    costs: bool,
+    style: Style,
+    output: &mut W,
+) -> Result<Answer, Trouble>
+    ensures { IfOk result (λ answer. answer ≢ Answer.FoundProblems) }
+{
+    if lacks_file_table(alloc, bytes)? {
+        return Err(Trouble::NoTable(Table::Files));
+    }
+    let mut found = false;
+    for hash in hashes {
+        let report = FoundReport::of_lookup(alloc, bytes, *hash, costs)?;
+        found = found || report.found.is_some();
+        print(alloc, &report, style, output)?;
+    }
+    if found {
+        Ok(Answer::Printed)
+    } else {
+        Ok(Answer::FoundNothing)
+    }
+}
+
+// Looks for a run of chunks.
+fn query<W: Write>(
+    alloc: Global,
+    bytes: &[u8],
+    hashes: &[MerkleHash],
+    style: Style,
+    output: &mut W,
+) -> Result<Answer, Trouble>
+    ensures { IfOk result (λ answer. answer ≢ Answer.FoundProblems) }
+{
+    if lacks_chunk_table(alloc, bytes)? {
+        return Err(Trouble::NoTable(Table::Chunks));
+    }
+    let report = RunReport::of_query(alloc, bytes, hashes)?;
+    print(alloc, &report, style, output)?;
+    if report.run.is_some() {
+        Ok(Answer::Printed)
+    } else {
+        Ok(Answer::FoundNothing)
     }
 }
 

@@ -13,4 +13,6 @@ pub mod moment;
 pub mod parts;
 pub mod problem;
 pub mod records;
+pub mod shown;
 pub mod summary;
+pub mod tables;

@@ -1,7 +1,7 @@
 //! Where the parts of a shard are, and a bar of them.
 
-ghost use Rattle.std.specs.Prelude.{◌≡◌, ◌*◌, ◌/◌, ◌<◌, IfOk, string_bytes};
-ghost use Rattle.mdb_report.specs.Parts.{letter_of, columns};
+ghost use Rattle.std.specs.Prelude.{◌≡◌, ◌↔◌, ◌*◌, ◌/◌, ◌<◌, IfOk, IsTrue, string_bytes};
+ghost use Rattle.mdb_report.specs.Parts.{letter_of, columns, PartsAscend};
 ghost use Rattle.mdb_report.specs.Summary.{ArePartsOf};
 
 use serde::Serialize;
@@ -89,6 +89,18 @@ impl Parts {
                 end: bytes,
             },
         }
+    }
+
+    /// Whether no part ends before it starts, and none after the shard.
+    pub fn ascend(&self) -> bool
+        ensures { IsTrue result ↔ PartsAscend self.now }
+    {
+        self.header.end <= self.files.end
+            && self.files.end <= self.xorbs.end
+            && self.xorbs.end <= self.file_table.end
+            && self.file_table.end <= self.xorb_table.end
+            && self.xorb_table.end <= self.chunk_table.end
+            && self.chunk_table.end <= self.footer.end
     }
 
     /// The letter of the part in which a byte is.

@@ -4,13 +4,16 @@ ghost use Rattle.std.specs.Prelude.{◌≡◌, ◌↔◌, [], map, All, Contains
 ghost use Rattle.xet_core_structures.specs.Names.{IsShardName};
 ghost use Rattle.shard_bytes.specs.Checking.{IsWhole};
 ghost use Rattle.mdb_report.specs.declared.problem.Problem.{Problem};
-ghost use Rattle.mdb_report.specs.Problems.{IsProblem, IsFileName};
+ghost use Rattle.xet_core_structures.specs.declared.shard_format.MDBShardInfo.{MDBShardInfo};
+ghost use Rattle.mdb_report.specs.Problems.{IsProblem, IsFileName, AreFindings, start_in};
 
+use crate::shown::Shown;
 use serde::{Described, Serialize, Serializer};
 use shard_bytes::check::{Finding, Part, Section, check_bytes};
 use std::alloc::{AllocError, Global};
 use std::fmt;
 use xet_core_structures::error::{CoreError, Result};
+use xet_core_structures::shard_format::MDBShardInfo;
 use xet_core_structures::utils::parse_shard_filename;
 
 /// What is not as it should be with a file.
@@ -26,7 +29,83 @@ pub enum Problem {
 #[derive(Clone, Copy, Debug, PartialEq, Eq, Serialize)]
 pub struct ProblemReport<'a> {
     pub file: &'a str,
+    pub code: &'static str,
+    /// Where in the file what has the problem starts, if its footer could be read.
+    pub offset: Option<u64>,
     pub problem: Problem,
+}
+
+impl<'a> ProblemReport<'a> {
+    /// The report of a problem of a file, whose header and footer these are, if they could be read.
+    pub fn of_problem(
+        file: &'a str,
+        info: Option<&MDBShardInfo>,
+        problem: Problem,
+    ) -> ProblemReport<'a>
+        ensures file { result.file.now ≡ file.now }
+        ensures problem { result.problem ≡ problem }
+    {
+        ProblemReport {
+            file,
+            code: code_of(problem),
+            offset: offset_of(info, problem),
+            problem,
+        }
+    }
+}
+
+// The word for a kind of problem.
+fn code_of(problem: Problem) -> &'static str {
+    match problem {
+        Problem::Name => "name",
+        Problem::Bytes(finding) => match finding {
+            Finding::Unsupported => "unsupported",
+            Finding::TooShort => "too_short",
+            Finding::Cut(_) => "section_cut",
+            Finding::Refused(_) => "section_refused",
+            Finding::OutOfOrder(_, _) => "out_of_order",
+            Finding::Differs(Part::Header) => "header_differs",
+            Finding::Differs(Part::FileSection) => "file_section_differs",
+            Finding::Differs(Part::XorbSection) => "xorb_section_differs",
+            Finding::Differs(Part::FileTable) => "file_table_differs",
+            Finding::Differs(Part::XorbTable) => "xorb_table_differs",
+            Finding::Differs(Part::ChunkTable) => "chunk_table_differs",
+            Finding::Differs(Part::Footer) => "footer_differs",
+            Finding::Size(_) => "size_differs",
+        },
+    }
+}
+
+// Where what a problem is about starts; of a name, of a size and of bytes whose footer is not read
+// that is nowhere.
+fn offset_of(info: Option<&MDBShardInfo>, problem: Problem) -> Option<u64> {
+    match (info, problem) {
+        (Some(info), Problem::Bytes(finding)) => start_of(info, finding),
+        _ => None,
+    }
+}
+
+/// Where the part of a shard starts that a finding is about, as the footer has it.
+pub fn start_of(info: &MDBShardInfo, finding: Finding) -> Option<u64>
+    ensures { result ≡ start_in info.now finding }
+{
+    let footer = &info.metadata;
+    match finding {
+        Finding::Differs(Part::Header) => Some(0),
+        Finding::Cut(Section::Files)
+        | Finding::Refused(Section::Files)
+        | Finding::OutOfOrder(Section::Files, _)
+        | Finding::Differs(Part::FileSection) => Some(footer.file_info_offset),
+        Finding::Cut(Section::Xorbs)
+        | Finding::Refused(Section::Xorbs)
+        | Finding::OutOfOrder(Section::Xorbs, _)
+        | Finding::Differs(Part::XorbSection) => Some(footer.xorb_info_offset),
+        Finding::Differs(Part::FileTable) => Some(footer.file_lookup_offset),
+        Finding::Differs(Part::XorbTable) => Some(footer.xorb_lookup_offset),
+        Finding::Differs(Part::ChunkTable) => Some(footer.chunk_lookup_offset),
+        Finding::Differs(Part::Footer) => Some(footer.footer_offset),
+        Finding::Unsupported | Finding::TooShort | Finding::Size(_) => None,
+    }
 }
 
 /// The problems of a file with this name and these bytes: those of its bytes, in the order of
@@ -50,6 +129,18 @@ pub fn problems_of(alloc: Global, name: &str, bytes: &[u8]) -> Result<Vec<Proble
     Ok(problems)
 }
 
+/// The problems of bytes, whatever the name of their file is: those that [`check_bytes`] finds.
+///
+/// The only error is `OutOfMemory`.
+pub fn problems_of_bytes(alloc: Global, bytes: &[u8]) -> Result<Vec<Problem>>
+    ensures whole { IfOk result (λ problems. (problems.items ≡ []) ↔ IsWhole bytes.now) }
+    ensures findings { IfOk result (λ problems. AreFindings bytes.now problems.items) }
+    ensures causes { IfErr result (λ e. e ≡ CoreError.OutOfMemory) }
+{
+    let findings = check_bytes(alloc, bytes)?;
+    Ok(problems_in(alloc, findings.as_slice())?)
+}
+
 fn problems_in(alloc: Global, findings: &[Finding]) -> std::result::Result<Vec<Problem>, AllocError>
     ensures { IfOk result (λ problems. problems.items ≡ map Problem.Bytes findings.now) }
 {
@@ -71,7 +162,7 @@ pub fn file_name(path: &str) -> &str
 
 impl fmt::Display for ProblemReport<'_> {
     fn fmt<W: fmt::Write>(&self, f: &mut fmt::Formatter<W>) -> fmt::Result {
-        let file = self.file;
+        let file = Shown(self.file);
         let problem = self.problem;
         write!(f, "{file}: {problem}")
     }

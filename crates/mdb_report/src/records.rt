@@ -49,7 +49,7 @@ pub fn file_reports(
 }
 
 // The files of a shard, each of which fits its header.
-fn read_files(alloc: Global, bytes: &[u8]) -> Result<Vec<MDBFileInfo>, CoreError>
+pub(crate) fn read_files(alloc: Global, bytes: &[u8]) -> Result<Vec<MDBFileInfo>, CoreError>
     ensures read { MatchResult result (λ files. HoldsFiles bytes.now files.items)
         (FilesRefusal bytes.now) }
     ensures fits { IfOk result (λ files. All FitsItsHeader files.items) }

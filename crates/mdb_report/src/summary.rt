@@ -10,6 +10,7 @@ ghost use Rattle.mdb_report.specs.Summary.{Summarizes, key_in};
 use crate::hex::Hex;
 use crate::moment::Moment;
 use crate::parts::{LEGEND, Parts, bar_of};
+use crate::shown::Shown;
 use serde::Serialize;
 use shard_bytes::load::load_bytes;
 use std::alloc::Global;
@@ -24,6 +25,8 @@ pub struct Summary<'a> {
     pub file: &'a str,
     pub bytes: u64,
     pub version: u64,
+    /// Whether the offsets of the footer ascend within the file.
+    pub ascends: bool,
     pub parts: Parts,
     pub key: Option<Hex>,
     pub created: Moment,
@@ -55,6 +58,7 @@ impl<'a> Summary<'a> {
             file,
             bytes: length,
             version: info.header.version,
+            ascends: parts.ascend(),
             parts,
             key: key_of(&info),
             created: Moment::of_seconds(alloc, footer.shard_creation_timestamp)?,
@@ -76,11 +80,14 @@ fn key_of(info: &MDBShardInfo) -> Option<Hex>
 
 impl fmt::Display for Summary<'_> {
     fn fmt<W: fmt::Write>(&self, f: &mut fmt::Formatter<W>) -> fmt::Result {
-        let file = self.file;
+        let file = Shown(self.file);
         let version = self.version;
         let bytes = self.bytes;
         writeln!(f, "{file}: version {version}, {bytes} bytes")?;
         write!(f, "{}", PartLines(&self.parts))?;
+        if !self.ascends {
+            writeln!(f, "  offsets      do not ascend within the file")?;
+        }
         match self.key {
             Some(key) => writeln!(f, "  key          {key}")?,
             None => writeln!(f, "  key          none")?,

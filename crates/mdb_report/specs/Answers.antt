@@ -1,0 +1,34 @@
+-- What the answer to an inquiry says.
+use Rattle.std.specs.Prelude.{⊤, ℕ, List, length}
+use Rattle.xet_core_structures.specs.declared.shard_format.MDBShardInfo.{MDBShardInfo}
+use Rattle.xet_core_structures.specs.Ends.{HasEnds}
+use Rattle.shard_bytes.specs.Checking.{IsWhole}
+use Rattle.mdb_report.specs.declared.inquiry.Inquiry.{Inquiry}
+use Rattle.mdb_report.specs.declared.inquiry.Inquiry.TheVariants.{Summary, Check, Find, Query}
+use Rattle.mdb_report.specs.declared.parts.Parts.{Parts}
+use Rattle.mdb_report.specs.Parts.{PartsAscend}
+use Rattle.mdb_report.specs.Summary.{ArePartsOf}
+
+-- the inquiry may find problems: a summary or a check
+abbrev pub FindsProblems : Inquiry → Type 0
+FindsProblems Summary = ⊤
+FindsProblems (Check named) = ⊤
+FindsProblems _ = ⊥
+
+-- it looks something up
+abbrev pub LooksUp : Inquiry → Type 0
+LooksUp (Find hashes costs) = ⊤
+LooksUp (Query hashes) = ⊤
+LooksUp _ = ⊥
+
+-- the parts that the footer of the bytes says ascend within them
+abbrev pub HasAscendingParts : List ℕ → Type 0
+HasAscendingParts bytes =
+    (info : MDBShardInfo) × HasEnds bytes info
+    × ((parts : Parts) × ArePartsOf info (length bytes) parts × PartsAscend parts)
+
+-- what an inquiry that may find problems says of the bytes if it finds none
+abbrev pub IsClean : Inquiry → List ℕ → Type 0
+IsClean Summary bytes = HasAscendingParts bytes
+IsClean (Check named) bytes = IsWhole bytes
+IsClean _ bytes = ⊤

@@ -1,0 +1,59 @@
+//! Whether a shard has the tables by which lookups find its records.
+
+ghost use Rattle.std.specs.Prelude.{◌≡◌, true, false, IfOk, IfErr};
+ghost use Rattle.mdb_report.specs.Records.{FilesRefusal};
+ghost use Rattle.mdb_report.specs.Tables.{LacksFileTable, HasFileTable};
+
+use crate::records::read_files;
+use shard_bytes::load::load_bytes;
+use std::alloc::Global;
+use std::fmt;
+use xet_core_structures::error::Result;
+use xet_core_structures::source::MemorySource;
+
+/// A table of a shard.
+#[derive(Clone, Copy, Debug, PartialEq, Eq)]
+pub enum Table {
+    Files,
+    Chunks,
+}
+
+impl fmt::Display for Table {
+    fn fmt<W: fmt::Write>(&self, f: &mut fmt::Formatter<W>) -> fmt::Result {
+        match self {
+            Table::Files => write!(f, "file table"),
+            Table::Chunks => write!(f, "chunk table"),
+        }
+    }
+}
+
+/// Whether the bytes of a shard have files, but no rows in the file table, by which they would be
+/// found.
+///
+/// The errors are those of [`load_bytes`] and of reading the file section.
+pub fn lacks_file_table(alloc: Global, bytes: &[u8]) -> Result<bool>
+    ensures lacks { IfOk result (λ lacks. lacks ≡ true → LacksFileTable bytes.now) }
+    ensures has { IfOk result (λ lacks. lacks ≡ false → HasFileTable bytes.now) }
+    ensures refused { IfErr result (FilesRefusal bytes.now) }
+{
+    let info = load_bytes(alloc, bytes)?;
+    if info.metadata.file_lookup_num_entry != 0 {
+        return Ok(false);
+    }
+    let files = read_files(alloc, bytes)?;
+    Ok(!files.is_empty())
+}
+
+/// Whether the bytes of a shard have chunks, but no rows in the chunk table, by which they would be
+/// found.
+///
+/// The errors are those of [`load_bytes`] and of reading the xorb section.
+pub fn lacks_chunk_table(alloc: Global, bytes: &[u8]) -> Result<bool> {
+    let info = load_bytes(alloc, bytes)?;
+    if info.metadata.chunk_lookup_num_entry != 0 {
+        return Ok(false);
+    }
+    let mut source = MemorySource::new(bytes);
+    let xorbs = info.read_all_xorb_blocks(alloc, &mut source)?;
+    Ok(xorbs.iter().any(|(header, _)| header.num_entries != 0))
+}
