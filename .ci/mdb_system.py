@@ -1,4 +1,6 @@
-"""What sessions of mdb cannot show: devices, links, modes, owners, and runs that are killed. Used by .ci/mdb."""
+"""What sessions of mdb cannot show: devices, links, modes, owners, killed runs, terminals, words that are no text, the
+clock. Used by .ci/mdb."""
+import json
 import os
 import re
 import resource
@@ -7,6 +9,7 @@ import stat
 import subprocess
 import tempfile
 import threading
+import time
 
 SKIPPED = "skipped"
 
@@ -180,10 +183,64 @@ def killed_run_leaves_the_target(place):
     wants("what is left stays", set(place.names()) - set(before) == {left})
 
 
+def word_that_is_no_text(place):
+    run = place.run("info", b"a\xff.mdb", "one_file.mdb")
+    wants("status", run.returncode == 1)
+    said = b"a\\xff.mdb: the word is no UTF-8, so no file can be opened by it\n"
+    wants("it is named", run.stderr == said)
+    wants("the other file", run.stdout.startswith(b"one_file.mdb: version 3"))
+    run = place.run("merge", "both.mdb", b"a\xff.mdb", "-o", "out.mdb")
+    wants("status of a merge", (run.returncode, run.stderr) == (1, said))
+    wants("nothing is written", "out.mdb" not in place.names())
+
+
+def controls_are_not_printed(place):
+    name = "a\x1b[31m\n\x7f\u009b.mdb"
+    shown = "a\\u{1b}[31m\\u{a}\\u{7f}\\u{9b}.mdb"
+    run = place.run("info", name)
+    wants("it is named", run.stderr.decode() == f"{shown}: No such file or directory (os error 2)\n")
+    place.write(name, place.made["one_file.mdb"])
+    run = place.run("info", name)
+    wants("its summary", run.stdout.decode().startswith(f"{shown}: version 3"))
+    run = place.run("check", "--name", name)
+    wants("its check", run.stdout.decode().startswith(f"{shown}: its name is not"))
+
+
+def closed_pipe_ends_quietly(place):
+    for words, status in ((("chunks", "both.mdb"), 0), (("merge", "both.mdb", "-o", "-"), 1)):
+        reads, writes = os.pipe()
+        os.close(reads)
+        run = subprocess.run(
+            [place.program, *words], stdout=writes, stderr=subprocess.PIPE, cwd=place.folder, timeout=20, check=False
+        )
+        os.close(writes)
+        wants(f"{words[0]}", (run.returncode, run.stderr) == (status, b""))
+
+
+def terminal_gets_no_shard(place):
+    ours, terminal = os.openpty()
+    run = subprocess.run(
+        [place.program, "merge", "both.mdb", "-o", "-"], stdout=terminal, stderr=subprocess.PIPE, cwd=place.folder,
+        timeout=20, check=False,
+    )
+    os.close(terminal)
+    os.close(ours)
+    said = b"standard output: a shard is not written to a terminal\n"
+    wants("it says why", (run.returncode, run.stderr) == (1, said))
+
+
+def now_is_the_clock(place):
+    before = int(time.time())
+    wants("status", place.run("minimal", "both.mdb", "-o", "out.mdb").returncode == 0)
+    created = json.loads(place.run("info", "--json", "out.mdb").stdout)["created"]["seconds"]
+    wants("when it was created", before <= created <= time.time())
+
+
 ROWS = (
     new_file_has_the_mode_of_others, mode_stays, owner_stays, device_is_written_to, full_device_fails,
     pipe_is_written_to, link_is_followed, link_to_nothing_is_refused, folder_is_refused, taken_names_block_nothing,
-    full_disk_leaves_the_target, killed_run_leaves_the_target,
+    full_disk_leaves_the_target, killed_run_leaves_the_target, word_that_is_no_text, controls_are_not_printed,
+    closed_pipe_ends_quietly, terminal_gets_no_shard, now_is_the_clock,
 )
 
 

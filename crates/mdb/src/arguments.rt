@@ -5,6 +5,7 @@ use clap::error::ErrorKind;
 use clap::{ArgMatches, Error};
 use mdb_report::inquiry::Inquiry;
 use mdb_report::line::Style;
+use mdb_report::moment::seconds_of;
 use shard_bytes::combine::Operation;
 use shard_bytes::export::{Export, ExportParts};
 use shard_bytes::minimal::{KeptXorbs, Subset};
@@ -25,10 +26,21 @@ pub enum Request<'a> {
 #[derive(Drop)]
 pub enum Making<'a> {
     Combine(Operation, &'a str, &'a str),
-    Merge(Vec<&'a str>, Strictness),
+    Merge(Merge<'a>),
     Export(&'a str, Export),
     Minimal(&'a str, u64, KeptParts),
     Subset(&'a str, Subset),
+}
+
+/// A merge of the shards in some files.
+#[derive(Drop)]
+pub struct Merge<'a> {
+    pub files: Vec<&'a str>,
+    pub strictness: Strictness,
+    /// Whether each file is reported as it is read.
+    pub verbose: bool,
+    /// Whether the shards under each key are merged by themselves, into a folder.
+    pub by_key: bool,
 }
 
 /// What is done where shards that are to be merged do not agree.
@@ -48,6 +60,8 @@ enum Refusal<'a> {
     Missing(&'static str),
     /// The word is not the digits of a hash.
     NoHash(&'a str),
+    /// The word is no time.
+    NoTime(&'a str),
 }
 
 impl From<AllocError> for Refusal<'_> {
@@ -64,14 +78,24 @@ impl<T: Drop> From<AllocFailed<T>> for Refusal<'_> {
 
 /// The request that words make, the first of which is the program's name. Else an error of the
 /// command line, which a request for help is too.
-pub fn request_of<'a>(alloc: Global, words: &'a [String]) -> Result<Request<'a>, Error> {
+/// Times that are left out are `now`, in seconds since the start of 1970.
+pub fn request_of<'a>(
+    alloc: Global,
+    words: &'a [String],
+    now: Option<u64>,
+) -> Result<Request<'a>, Error> {
     let mut command = command_line::command_line(alloc)?;
     let matches = command.try_get_matches_from_mut(words)?;
-    match request_in(alloc, &matches) {
+    match request_in(alloc, &matches, now) {
         Ok(request) => Ok(request),
         Err(refusal) => {
             let message = message_of(alloc, &refusal)?;
-            Err(command.error(ErrorKind::ValueValidation, message.as_str())?)
+            let name = match matches.subcommand() {
+                Some((name, _)) => name,
+                None => "",
+            };
+            let mut of = command_line::command_named(alloc, name)?;
+            Err(of.error(ErrorKind::ValueValidation, message.as_str())?)
         }
     }
 }
@@ -83,15 +107,24 @@ fn message_of(alloc: Global, refusal: &Refusal<'_>) -> Result<String, AllocError
         Refusal::NoHash(word) => {
             format!(in alloc; "'{word}' is no hash: it has 64 hexadecimal digits")
         }
+        Refusal::NoTime(word) => {
+            format!(in alloc;
+                "'{word}' is no time: it is seconds since 1970, or as 2024-01-31T12:00:00Z"
+            )
+        }
     }
 }
 
-fn request_in<'a>(alloc: Global, matches: &ArgMatches<'a>) -> Result<Request<'a>, Refusal<'a>> {
+fn request_in<'a>(
+    alloc: Global,
+    matches: &ArgMatches<'a>,
+    now: Option<u64>,
+) -> Result<Request<'a>, Refusal<'a>> {
     let Some((name, matches)) = matches.subcommand() else {
         return Err(Refusal::Missing("a command"));
     };
-    match making_in(alloc, name, matches)? {
-        Some(making) => Ok(Request::Make(making, text_of(matches, id::OUTPUT)?)),
+    match making_in(alloc, name, matches, now)? {
+        Some(making) => Ok(Request::Make(making, output_in(matches)?)),
         None => {
             let inquiry = inquiry_in(alloc, name, matches)?;
             let style = if matches.get_flag(id::JSON) {
@@ -111,6 +144,7 @@ fn inquiry_in<'a>(
 ) -> Result<Inquiry, Refusal<'a>> {
     let long = matches.get_flag(id::LONG);
     match name {
+        "info" if matches.get_flag(id::BRIEF) => Ok(Inquiry::Brief),
         "info" => Ok(Inquiry::Summary),
         "check" => Ok(Inquiry::Check {
             named: matches.get_flag(id::NAME),
@@ -135,21 +169,22 @@ fn making_in<'a>(
     alloc: Global,
     name: &str,
     matches: &ArgMatches<'a>,
+    now: Option<u64>,
 ) -> Result<Option<Making<'a>>, Refusal<'a>> {
     let making = match name {
         "union" => pair_in(Operation::Union, matches)?,
         "diff" => pair_in(Operation::Difference, matches)?,
-        "merge" => Making::Merge(texts_of(alloc, matches, id::FILE)?, strictness_in(matches)),
-        "export" => Making::Export(text_of(matches, id::FILE)?, export_in(matches)?),
+        "merge" => Making::Merge(merge_in(alloc, matches)?),
+        "export" => Making::Export(text_of(matches, id::FILE)?, export_in(matches, now)?),
         "minimal" => Making::Minimal(
             text_of(matches, id::FILE)?,
-            number_of(matches, id::NOW)?,
+            now_in(matches, now)?,
             KeptParts {
                 verification: matches.get_flag(id::VERIFICATION),
                 aux_ext: !matches.get_flag(id::NO_AUX),
             },
         ),
-        "subset" => Making::Subset(text_of(matches, id::FILE)?, subset_in(alloc, matches)?),
+        "subset" => Making::Subset(text_of(matches, id::FILE)?, subset_in(alloc, matches, now)?),
         _ => return Ok(None),
     };
     Ok(Some(making))
@@ -161,6 +196,23 @@ fn pair_in<'a>(operation: Operation, matches: &ArgMatches<'a>) -> Result<Making<
     Ok(Making::Combine(operation, first, second))
 }
 
+fn merge_in<'a>(alloc: Global, matches: &ArgMatches<'a>) -> Result<Merge<'a>, Refusal<'a>> {
+    Ok(Merge {
+        files: texts_of(alloc, matches, id::FILE)?,
+        strictness: strictness_in(matches),
+        verbose: matches.get_flag(id::VERBOSE),
+        by_key: matches.contains_id(id::FOLDER),
+    })
+}
+
+// The path to write to: of a merge by keys a folder.
+fn output_in<'a>(matches: &ArgMatches<'a>) -> Result<&'a str, Refusal<'a>> {
+    match matches.get_str(id::FOLDER) {
+        Some(folder) => Ok(folder),
+        None => text_of(matches, id::OUTPUT),
+    }
+}
+
 fn strictness_in(matches: &ArgMatches<'_>) -> Strictness {
     if matches.get_flag(id::STRICT) {
         Strictness::Strict
@@ -169,10 +221,10 @@ fn strictness_in(matches: &ArgMatches<'_>) -> Strictness {
     }
 }
 
-fn export_in<'a>(matches: &ArgMatches<'a>) -> Result<Export, Refusal<'a>> {
+fn export_in<'a>(matches: &ArgMatches<'a>, now: Option<u64>) -> Result<Export, Refusal<'a>> {
     Ok(Export {
         key: hash_of(text_of(matches, id::KEY)?)?,
-        now: number_of(matches, id::NOW)?,
+        now: now_in(matches, now)?,
         valid_seconds: number_of(matches, id::VALID)?,
         parts: ExportParts {
             files: !matches.get_flag(id::NO_FILES),
@@ -183,21 +235,43 @@ fn export_in<'a>(matches: &ArgMatches<'a>) -> Result<Export, Refusal<'a>> {
     })
 }
 
-fn subset_in<'a>(alloc: Global, matches: &ArgMatches<'a>) -> Result<Subset, Refusal<'a>> {
+fn subset_in<'a>(
+    alloc: Global,
+    matches: &ArgMatches<'a>,
+    now: Option<u64>,
+) -> Result<Subset, Refusal<'a>> {
     let kept = if matches.contains_id(id::XORBS) {
         KeptXorbs::Listed(hashes_of(alloc, matches, id::XORBS)?)
     } else {
         KeptXorbs::All
     };
     Ok(Subset {
-        now: number_of(matches, id::NOW)?,
-        expiry: matches.get_one::<u64>(id::EXPIRY),
+        now: now_in(matches, now)?,
+        expiry: time_in(matches, id::EXPIRY)?,
         kept,
     })
 }
 
 fn text_of<'a>(matches: &ArgMatches<'a>, id: &'static str) -> Result<&'a str, Refusal<'a>> {
     matches.get_str(id).ok_or(Refusal::Missing(id))
+}
+
+// The time of creation, which is now if it is left out.
+fn now_in<'a>(matches: &ArgMatches<'a>, now: Option<u64>) -> Result<u64, Refusal<'a>> {
+    match time_in(matches, id::NOW)? {
+        Some(time) => Ok(time),
+        None => now.ok_or(Refusal::Missing(id::NOW)),
+    }
+}
+
+fn time_in<'a>(matches: &ArgMatches<'a>, id: &'static str) -> Result<Option<u64>, Refusal<'a>> {
+    match matches.get_str(id) {
+        Some(text) => match seconds_of(text) {
+            Some(seconds) => Ok(Some(seconds)),
+            None => Err(Refusal::NoTime(text)),
+        },
+        None => Ok(None),
+    }
 }
 
 fn number_of<'a>(matches: &ArgMatches<'a>, id: &'static str) -> Result<u64, Refusal<'a>> {

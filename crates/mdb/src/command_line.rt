@@ -32,7 +32,13 @@ pub mod id {
 
     pub const COSTS: &str = "costs";
 
+    pub const BRIEF: &str = "brief";
+
     pub const NAME: &str = "name";
+
+    pub const FOLDER: &str = "FOLDER";
+
+    pub const VERBOSE: &str = "verbose";
 
     pub const STRICT: &str = "strict";
 
@@ -47,11 +53,19 @@ pub mod id {
     pub const NO_CHUNK_TABLE: &str = "no-chunk-table";
 }
 
+/// The help on the time of creation.
+const NOW: &str =
+    "The time of creation, in seconds or as 2024-01-31T12:00:00Z; by default that of the clock";
+
+/// The version of the program.
+const VERSION: &str = "0.1.0, for versions 2 and 3 of the format";
+
 /// The command line of the program.
 pub fn command_line<'a>(alloc: Global) -> Result<Command<'a>, AllocError> {
     let command = Command::new(alloc, "mdb")
         .bin_name("mdb")?
         .about("Looks into .mdb files, checks them, and makes new ones of them")
+        .version(VERSION)
         .subcommand_required(true)
         .arg_required_else_help(true)
         .subcommand(info(alloc)?)?
@@ -76,11 +90,35 @@ pub fn command_line<'a>(alloc: Global) -> Result<Command<'a>, AllocError> {
         .subcommand(eligible(alloc)?)
 }
 
+/// A command by its name, or the whole command line if none has it.
+pub fn command_named<'a>(alloc: Global, name: &str) -> Result<Command<'a>, AllocError> {
+    let command = match name {
+        "info" => info(alloc)?,
+        "files" => listing(alloc, "files", "Lists the files", help::FILES)?,
+        "xorbs" => listing(alloc, "xorbs", "Lists the xorbs", help::XORBS)?,
+        "chunks" => listing(alloc, "chunks", "Lists the chunks", help::CHUNKS)?,
+        "find" => find(alloc)?,
+        "query" => query(alloc)?,
+        "check" => check(alloc)?,
+        "union" => union(alloc)?,
+        "diff" => diff(alloc)?,
+        "merge" => merge(alloc)?,
+        "export" => export(alloc)?,
+        "minimal" => minimal(alloc)?,
+        "subset" => subset(alloc)?,
+        "eligible" => eligible(alloc)?,
+        _ => return command_line(alloc),
+    };
+    let bin_name = format!(in alloc; "mdb {name}")?;
+    command.bin_name(bin_name.as_str())
+}
+
 fn info<'a>(alloc: Global) -> Result<Command<'a>, AllocError> {
     Command::new(alloc, "info")
         .about("Prints what headers and footers say")
         .after_help(help::INFO)
         .arg(files(alloc))?
+        .arg(flag(alloc, id::BRIEF, "Prints a line for each, and a total"))?
         .arg(json(alloc))
 }
 
@@ -157,7 +195,7 @@ fn diff<'a>(alloc: Global) -> Result<Command<'a>, AllocError> {
 
 fn merge<'a>(alloc: Global) -> Result<Command<'a>, AllocError> {
     Command::new(alloc, "merge")
-        .about("Writes the union of any number of shards")
+        .about("Writes the union of any number of shards; expiries are not kept")
         .after_help(help::MERGE)
         .arg(files(alloc))?
         .arg(flag(
@@ -165,7 +203,19 @@ fn merge<'a>(alloc: Global) -> Result<Command<'a>, AllocError> {
             id::STRICT,
             "Fails with status 3 if two shards have different records with one hash",
         ))?
-        .arg(output(alloc))
+        .arg(flag(alloc, id::VERBOSE, "Reports each file as it is read"))?
+        .arg(option(
+            alloc,
+            id::FOLDER,
+            "by-key",
+            "The folder to write to, a shard for each key, by the key's name",
+        )
+        .conflicts_with(id::OUTPUT)?)?
+        .arg(
+            output(alloc)
+                .required(false)
+                .required_unless_present(id::FOLDER)?,
+        )
 }
 
 fn export<'a>(alloc: Global) -> Result<Command<'a>, AllocError> {
@@ -174,7 +224,7 @@ fn export<'a>(alloc: Global) -> Result<Command<'a>, AllocError> {
         .after_help(help::EXPORT)
         .arg(file(alloc))?
         .arg(option(alloc, id::KEY, "key", "The key: 64 hexadecimal digits").required(true))?
-        .arg(number(alloc, id::NOW, "now", "The time of creation, in seconds").required(true))?
+        .arg(option(alloc, id::NOW, "now", NOW))?
         .arg(number(alloc, id::VALID, "valid", "The seconds until the expiry").required(true))?
         .arg(flag(alloc, id::NO_FILES, "Leaves the files out"))?
         .arg(flag(alloc, id::NO_AUX, "Leaves the files' auxiliary rows out"))?
@@ -188,7 +238,7 @@ fn minimal<'a>(alloc: Global) -> Result<Command<'a>, AllocError> {
         .about("Writes a shard without tables, with marks on the chunks at which files start")
         .after_help(help::MINIMAL)
         .arg(file(alloc))?
-        .arg(number(alloc, id::NOW, "now", "The time of creation, in seconds").required(true))?
+        .arg(option(alloc, id::NOW, "now", NOW))?
         .arg(flag(
             alloc,
             id::VERIFICATION,
@@ -209,13 +259,8 @@ fn subset<'a>(alloc: Global) -> Result<Command<'a>, AllocError> {
         .about("Writes some of the xorbs of a shard, without files and tables")
         .after_help(help::SUBSET)
         .arg(file(alloc))?
-        .arg(number(alloc, id::NOW, "now", "The time of creation, in seconds").required(true))?
-        .arg(number(
-            alloc,
-            id::EXPIRY,
-            "expiry",
-            "The time of expiry, in seconds",
-        ))?
+        .arg(option(alloc, id::NOW, "now", NOW))?
+        .arg(option(alloc, id::EXPIRY, "expiry", "The time of expiry"))?
         .arg(xorbs.action(ArgAction::Append))?
         .arg(output(alloc))
 }

@@ -3,6 +3,7 @@
 use mdb_report::fault::Fault;
 use mdb_report::shown::Shown;
 use std::fmt;
+use std::io::ErrorKind;
 
 /// What a failure is about.
 #[derive(Clone, Copy, Debug, PartialEq, Eq)]
@@ -12,6 +13,7 @@ pub enum Subject<'a> {
     /// The first of so many files.
     Files(&'a str, usize),
     StandardOutput,
+    CommandLine,
 }
 
 /// A failure: its one line is the subject and what is wrong.
@@ -35,6 +37,24 @@ impl<'a> Failure<'a> {
         matches!(self.fault, Fault::Disagree(..))
     }
 
+    /// Whether nobody reads standard output any more.
+    pub fn is_closed_pipe(&self) -> bool {
+        match &self.fault {
+            Fault::Device(error) => {
+                self.subject == Subject::StandardOutput && error.kind() == ErrorKind::BrokenPipe
+            }
+            _ => false,
+        }
+    }
+
+    /// A failure on the words of the command line.
+    pub fn on_words(fault: Fault) -> Failure<'a> {
+        Failure {
+            subject: Subject::CommandLine,
+            fault,
+        }
+    }
+
     /// A failure on standard output.
     pub fn on_output(fault: Fault) -> Failure<'a> {
         Failure {
@@ -51,6 +71,7 @@ impl fmt::Display for Subject<'_> {
             Subject::Pair(first, second) => write!(f, "{} and {}", Shown(first), Shown(second)),
             Subject::Files(first, count) => write!(f, "{count} files, {} the first", Shown(first)),
             Subject::StandardOutput => write!(f, "standard output"),
+            Subject::CommandLine => write!(f, "the command line"),
         }
     }
 }

@@ -11,9 +11,12 @@ mod help;
 mod inspect;
 mod make;
 mod run;
+mod words;
 
+use std::io::IsTerminal;
 use std::process::ExitCode;
 
 fn main(rt: HostRuntime) -> ExitCode {
-    ExitCode::from(run::run(&rt))
+    let terminal = rt.stdout().is_terminal();
+    ExitCode::from(run::run(&rt, terminal))
 }

@@ -1,15 +1,17 @@
 //! The commands that write a shard.
 
-use crate::arguments::{Making, Strictness};
+use crate::arguments::{Making, Merge, Strictness};
 use crate::beside::leftovers;
 use crate::failure::{Failure, Subject};
 use crate::files::{STANDARD_OUTPUT, read, write};
 use mdb_report::fault::{
     Fault, export_fault, fault_of, first_obstacle, has_wrong_footer, minimal_fault,
 };
+use mdb_report::shown::Shown;
 use shard_bytes::check::{Finding, Part};
 use shard_bytes::combine::{Operation, combine_bytes};
 use shard_bytes::export::{Export, export_bytes};
+use shard_bytes::load::load_bytes;
 use shard_bytes::merge::merge_bytes;
 use shard_bytes::minimal::{Subset, minimal_bytes, subset_bytes};
 use std::alloc::{AllocError, Global};
@@ -18,17 +20,36 @@ use std::random::RandomSource;
 use std::rt::Files;
 use xet_core_structures::error::CoreError;
 use xet_core_structures::file_structs::KeptParts;
+use xet_core_structures::merklehash::MerkleHash;
 use xet_core_structures::set_operations::{Disagreement, find_disagreements};
 
 /// Writes the shard that a command makes to a path, or to standard output if it is `-`. Reports on
-/// standard error what runs that were ended have left there.
+/// standard error what runs that were ended have left there. Standard output is a terminal or not.
 pub fn make<'a, R: Files + Print + Eprint + RandomSource + AllocGlobal + Clone + Drop>(
     rt: &R,
     making: &Making<'a>,
     output: &'a str,
+    terminal: bool,
 ) -> Result<(), Failure<'a>> {
-    let bytes = made(rt, making)?;
-    let written = write(rt, rt.alloc(), output, bytes.as_slice());
+    if terminal && output == STANDARD_OUTPUT {
+        return Err(Failure::on_output(Fault::Terminal));
+    }
+    match making {
+        Making::Merge(merge) if merge.by_key => merge_by_key(rt, merge, output),
+        _ => {
+            let bytes = made(rt, making)?;
+            put(rt, output, bytes.as_slice())
+        }
+    }
+}
+
+// Writes bytes to a path, or to standard output, and reports what is left there.
+fn put<'a, R: Files + Print + Eprint + RandomSource + AllocGlobal + Clone + Drop>(
+    rt: &R,
+    output: &'a str,
+    bytes: &[u8],
+) -> Result<(), Failure<'a>> {
+    let written = write(rt, rt.alloc(), output, bytes);
     if output != STANDARD_OUTPUT {
         report_leftovers(rt, output);
     }
@@ -63,7 +84,7 @@ fn made<'a, R: Files + Eprint + AllocGlobal>(
 ) -> Result<Vec<u8>, Failure<'a>> {
     match making {
         Making::Combine(operation, first, second) => combined(rt, *operation, first, second),
-        Making::Merge(files, strictness) => merged(rt, files.as_slice(), *strictness),
+        Making::Merge(merge) => merged(rt, merge.files.as_slice(), merge),
         Making::Export(file, export) => exported(rt, file, export),
         Making::Minimal(file, now, kept) => minimal(rt, file, *now, *kept),
         Making::Subset(file, kept) => subset(rt, file, kept),
@@ -142,15 +163,89 @@ fn combined<'a, R: Files + AllocGlobal>(
     }
 }
 
+// Merges the shards under each key, and writes each merge to a folder, by the digits of its key.
+fn merge_by_key<'a, R: Files + Print + Eprint + RandomSource + AllocGlobal + Clone + Drop>(
+    rt: &R,
+    merge: &Merge<'a>,
+    folder: &'a str,
+) -> Result<(), Failure<'a>> {
+    let alloc = rt.alloc();
+    let files = merge.files.as_slice();
+    let keys = keys_of(rt, files)?;
+    let mut done: Vec<MerkleHash> = Vec::new(alloc);
+    for key in &keys {
+        if done.as_slice().contains(key) {
+            continue;
+        }
+        let under_key = match files_under(alloc, files, keys.as_slice(), key) {
+            Ok(under_key) => under_key,
+            Err(_) => return Err(on_all(files, Fault::OutOfMemory)),
+        };
+        let bytes = merged(rt, under_key.as_slice(), merge)?;
+        let Ok(path) = format!(in alloc; "{folder}/{key}.mdb") else {
+            return Err(on_all(files, Fault::OutOfMemory));
+        };
+        if let Err(failure) = put(rt, path.as_str(), bytes.as_slice()) {
+            return Err(Failure::on_file(folder, failure.fault));
+        }
+        if done.push(*key).is_err() {
+            return Err(on_all(files, Fault::OutOfMemory));
+        }
+    }
+    Ok(())
+}
+
+// The key of the shard in each file.
+fn keys_of<'a, R: Files + AllocGlobal>(
+    rt: &R,
+    files: &[&'a str],
+) -> Result<Vec<MerkleHash>, Failure<'a>> {
+    let alloc = rt.alloc();
+    let mut keys = Vec::new(alloc);
+    for file in files {
+        let bytes = bytes_of(rt, file)?;
+        let key = match load_bytes(alloc, bytes.as_slice()) {
+            Ok(info) => info.metadata.chunk_hash_hmac_key,
+            Err(error) => {
+                let fault = fault_of(alloc, bytes.as_slice(), error);
+                return Err(Failure::on_file(file, fault));
+            }
+        };
+        if keys.push(key).is_err() {
+            return Err(Failure::on_file(file, Fault::OutOfMemory));
+        }
+    }
+    Ok(keys)
+}
+
+// The files whose shards are under a key.
+fn files_under<'a>(
+    alloc: Global,
+    files: &[&'a str],
+    keys: &[MerkleHash],
+    key: &MerkleHash,
+) -> Result<Vec<&'a str>, AllocError> {
+    let mut found: Vec<&'a str> = Vec::new(alloc);
+    for (file, its) in files.iter().zip(keys) {
+        if its == key {
+            found.push(*file)?;
+        }
+    }
+    Ok(found)
+}
+
 fn merged<'a, R: Files + Eprint + AllocGlobal>(
     rt: &R,
     files: &[&'a str],
-    strictness: Strictness,
+    merge: &Merge<'_>,
 ) -> Result<Vec<u8>, Failure<'a>> {
     let alloc = rt.alloc();
     let mut contents = Vec::new(alloc);
     for file in files {
         let bytes = bytes_of(rt, file)?;
+        if merge.verbose {
+            report_size(rt, file, bytes.len());
+        }
         if contents.push(bytes).is_err() {
             return Err(Failure::on_file(file, Fault::OutOfMemory));
         }
@@ -168,12 +263,17 @@ fn merged<'a, R: Files + Eprint + AllocGlobal>(
         Err(error) => return Err(blamed(alloc, files, inputs.as_slice(), error)),
     };
     if let Some(disagreement) = disagreement(alloc, files, inputs.as_slice())? {
-        match strictness {
+        match merge.strictness {
             Strictness::Strict => return Err(disagreement),
             Strictness::Lenient => report_choice(rt, &disagreement),
         }
     }
     Ok(bytes)
+}
+
+fn report_size<R: Eprint>(rt: &R, file: &str, bytes: usize) {
+    let file = Shown(file);
+    let _ = rt.eprintln(format_args!("{file}: {bytes} bytes"));
 }
 
 // What differs in the records of the inputs, or `None` if they agree.
@@ -226,9 +326,32 @@ fn blamed<'a>(alloc: Global, files: &[&'a str], inputs: &[&[u8]], error: CoreErr
         }
     }
     if error == CoreError::InvalidArguments {
-        return on_all(files, Fault::KeysDiffer);
+        return with_other_key(alloc, files, inputs);
     }
     misplaced(alloc, files, inputs)
+}
+
+// The failure of inputs under different keys: that of the first two, whose shards are under different
+// ones.
+fn with_other_key<'a>(alloc: Global, files: &[&'a str], inputs: &[&[u8]]) -> Failure<'a> {
+    let mut first: Option<(&'a str, MerkleHash)> = None;
+    for (file, bytes) in files.iter().zip(inputs) {
+        let Ok(info) = load_bytes(alloc, bytes) else {
+            break;
+        };
+        let key = info.metadata.chunk_hash_hmac_key;
+        match first {
+            None => first = Some((*file, key)),
+            Some((_, its)) if its == key => {}
+            Some((other, _)) => {
+                return Failure {
+                    subject: Subject::Pair(other, file),
+                    fault: Fault::KeysDiffer,
+                };
+            }
+        }
+    }
+    on_all(files, Fault::KeysDiffer)
 }
 
 // The failure of inputs that can all be read from their start: the first whose footer is wrong, so
@@ -241,6 +364,32 @@ fn misplaced<'a>(alloc: Global, files: &[&'a str], inputs: &[&[u8]]) -> Failure<
             }
             Ok(false) => {}
             Err(fault) => return Failure::on_file(file, fault),
+        }
+    }
+    without_union(alloc, files, inputs)
+}
+
+// The failure of inputs that have no union together: that of the first two with different records
+// under one hash that have none, else of all.
+fn without_union<'a>(alloc: Global, files: &[&'a str], inputs: &[&[u8]]) -> Failure<'a> {
+    let Ok(found) = find_disagreements(alloc, inputs) else {
+        return on_all(files, Fault::NoUnion);
+    };
+    // The pair that was tried last.
+    let mut tried = (0, 0);
+    for disagreement in &found {
+        let pair = (disagreement.first, disagreement.second);
+        if pair == tried {
+            continue;
+        }
+        tried = pair;
+        if let (Some(one), Some(other)) = (inputs.get(pair.0), inputs.get(pair.1))
+            && combine_bytes(alloc, Operation::Union, one, other).is_err()
+        {
+            return Failure {
+                subject: subject_of(files, disagreement),
+                fault: Fault::NoUnion,
+            };
         }
     }
     on_all(files, Fault::NoUnion)

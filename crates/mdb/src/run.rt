@@ -7,9 +7,11 @@ use crate::arguments::{Request, request_of};
 use crate::failure::Failure;
 use crate::inspect::inspect;
 use crate::make::make;
-use std::env;
+use crate::words::{Words, WordsError, read_words};
+use mdb_report::fault::Fault;
+use mdb_report::moment::seconds_now;
 use std::random::RandomSource;
-use std::rt::{Env, Files};
+use std::rt::{Clock, Env, Files};
 
 /// The exit status of a run.
 #[derive(Clone, Copy, Debug, PartialEq, Eq)]
@@ -50,28 +52,27 @@ impl Status {
     }
 }
 
-/// Runs the program on its words.
-pub fn run<R: Env + Files + Print + Eprint + RandomSource + AllocGlobal + Clone + Drop>(
+/// Runs the program on its words; standard output is a terminal or not.
+pub fn run<R: Env + Files + Clock + Print + Eprint + RandomSource + AllocGlobal + Clone + Drop>(
     rt: &R,
+    terminal: bool,
 ) -> u8
     ensures { result ≤ 3 }
 {
-    status_of_words(rt).number()
+    match read_words(rt) {
+        Ok(words) => status_of_words(rt, &words, terminal).number(),
+        Err(WordsError::OutOfMemory) => failed(rt, &Failure::on_words(Fault::OutOfMemory)).number(),
+        Err(WordsError::TooLong) => failed(rt, &Failure::on_words(Fault::LongWord)).number(),
+    }
 }
 
-fn status_of_words<R: Env + Files + Print + Eprint + RandomSource + AllocGlobal + Clone + Drop>(
+fn status_of_words<R: Files + Clock + Print + Eprint + RandomSource + AllocGlobal + Clone + Drop>(
     rt: &R,
+    words: &Words,
+    terminal: bool,
 ) -> Status {
-    let alloc = rt.alloc();
-    let collected = match env::args(rt) {
-        Ok(words) => words.collect::<Vec<String>>(alloc),
-        Err(_) => return Status::Failed,
-    };
-    let Ok(words) = collected else {
-        return Status::Failed;
-    };
-    match request_of(alloc, words.as_slice()) {
-        Ok(request) => status_of(rt, &request),
+    match request_of(rt.alloc(), words.texts.as_slice(), seconds_now(rt)) {
+        Ok(request) => status_of(rt, &request, words.unreadable.as_slice(), terminal),
         Err(error) => {
             if error.print(rt).is_err() {
                 return Status::Failed;
@@ -88,17 +89,32 @@ fn status_of_words<R: Env + Files + Print + Eprint + RandomSource + AllocGlobal 
 fn status_of<R: Files + Print + Eprint + RandomSource + AllocGlobal + Clone + Drop>(
     rt: &R,
     request: &Request<'_>,
+    unreadable: &[String],
+    terminal: bool,
 ) -> Status {
     match request {
-        Request::Inspect(files, inquiry, style) => inspect(rt, files.as_slice(), inquiry, *style),
-        Request::Make(making, output) => match make(rt, making, output) {
-            Ok(()) => Status::Done,
-            Err(failure) if failure.is_disagreement() => {
-                let _ = rt.eprintln(&failure);
-                Status::Found
+        Request::Inspect(files, inquiry, style) => {
+            inspect(rt, files.as_slice(), unreadable, inquiry, *style)
+        }
+        Request::Make(making, output) => {
+            if let Some(word) = unreadable.first() {
+                return failed(rt, &Failure::on_file(word.as_str(), Fault::NoText));
             }
-            Err(failure) => failed(rt, &failure),
-        },
+            status_of_making(rt, make(rt, making, output, terminal))
+        }
+    }
+}
+
+fn status_of_making<R: Eprint>(rt: &R, made: Result<(), Failure<'_>>) -> Status {
+    match made {
+        Ok(()) => Status::Done,
+        // Nobody reads what was made.
+        Err(failure) if failure.is_closed_pipe() => Status::Failed,
+        Err(failure) if failure.is_disagreement() => {
+            let _ = rt.eprintln(&failure);
+            Status::Found
+        }
+        Err(failure) => failed(rt, &failure),
     }
 }
 

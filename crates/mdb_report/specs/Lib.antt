@@ -1,4 +1,5 @@
 pub mod Answers
+pub mod Brief
 pub mod Faults
 pub mod Lookups
 pub mod Parts

@@ -39,6 +39,12 @@ pub enum Fault {
     NoVerification,
     /// The shard has records, but not the table by which they are looked up.
     NoTable(Table),
+    /// A word is no UTF-8, so that no file can be opened by it.
+    NoText,
+    /// A word has more bytes than are read.
+    LongWord,
+    /// Bytes are to be written to a terminal.
+    Terminal,
     /// Anything else that a call of the library reports.
     Other(CoreError),
 }
@@ -72,6 +78,9 @@ impl fmt::Display for Fault {
             Fault::NoTable(table) => {
                 write!(f, "it has no {table}, by which its records would be found")
             }
+            Fault::NoText => write!(f, "the word is no UTF-8, so no file can be opened by it"),
+            Fault::LongWord => write!(f, "a word is too long"),
+            Fault::Terminal => write!(f, "a shard is not written to a terminal"),
             Fault::Other(error) => write!(f, "{error}"),
         }
     }

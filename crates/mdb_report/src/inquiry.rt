@@ -4,6 +4,7 @@ ghost use Rattle.std.specs.Prelude.{◌≡◌, ◌≢◌, IfOk};
 ghost use Rattle.shard_bytes.specs.Checking.{IsWhole};
 ghost use Rattle.mdb_report.specs.Answers.{FindsProblems, LooksUp, IsClean, HasAscendingParts};
 
+use crate::brief::{Brief, Total};
 use crate::hex::{HashReport, Hex};
 use crate::line::{Style, print};
 use crate::lookup::{FoundReport, RunReport};
@@ -25,6 +26,8 @@ use xet_core_structures::source::MemorySource;
 pub enum Inquiry {
     /// What its header and its footer say.
     Summary,
+    /// The same in a line, without where the parts are.
+    Brief,
     /// What is not as the library would write it, and with `named` whether the file has the name of
     /// a shard.
     Check {
@@ -95,13 +98,15 @@ impl From<io::Error> for Trouble {
 }
 
 /// Prints the answer of the shard in a file, from its bytes, in the order of the shard: a value for
-/// each record, each lookup or each problem, or for the whole shard.
+/// each record, each lookup or each problem, or for the whole shard. A shard that is asked for a line
+/// is added to a total.
 pub fn print_answer<W: Write>(
     alloc: Global,
     inquiry: &Inquiry,
     file: &str,
     bytes: &[u8],
     style: Style,
+    total: &mut Total,
     output: &mut W,
 ) -> Result<Answer, Trouble>
     ensures problems { IfOk result
@@ -113,6 +118,11 @@ pub fn print_answer<W: Write>(
 {
     match inquiry {
         Inquiry::Summary => return summarize(alloc, file, bytes, style, output),
+        Inquiry::Brief => {
+            let brief = Brief::of_bytes(alloc, file, bytes)?;
+            total.add(&brief);
+            print(alloc, &brief, style, output)?;
+        }
         Inquiry::Check { named } => return check(alloc, file, *named, bytes, style, output),
         Inquiry::Files { long } => print_files(alloc, bytes, *long, style, output)?,
         Inquiry::Xorbs { long } => print_xorbs(alloc, bytes, *long, style, output)?,

@@ -2,6 +2,7 @@
 //! faults in words.
 #![tactic(auto)]
 
+pub mod brief;
 pub mod counting;
 pub mod fault;
 pub mod flags;

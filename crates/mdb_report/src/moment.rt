@@ -6,6 +6,7 @@ use jiff::Timestamp;
 use serde::{Described, Serialize, Serializer};
 use std::alloc::{AllocError, Global};
 use std::fmt;
+use std::rt::Clock;
 
 /// A timestamp of a footer: seconds since 1970, and the date in UTC that they are.
 ///
@@ -66,6 +67,24 @@ fn instant_of(seconds: u64) -> Option<Timestamp>
     }
     let seconds = i64::try_from(seconds).ok()?;
     Timestamp::from_second(seconds).ok()
+}
+
+/// The seconds since the start of 1970 that the clock shows, if it can be read.
+pub fn seconds_now<R: Clock>(rt: &R) -> Option<u64> {
+    let now = Timestamp::now(rt).ok()?;
+    u64::try_from(now.as_second()).ok()
+}
+
+/// The seconds since the start of 1970 that a text says: their digits, or a date and a time of RFC
+/// 3339, of which a fraction of a second is left out. None if it is neither, or before 1970.
+pub fn seconds_of(text: &str) -> Option<u64> {
+    match text.parse::<u64>() {
+        Ok(seconds) => Some(seconds),
+        Err(_) => {
+            let instant = text.parse::<Timestamp>().ok()?;
+            u64::try_from(instant.as_second()).ok()
+        }
+    }
 }
 
 impl Described for Moment {}

@@ -72,7 +72,7 @@ impl<'a> Summary<'a> {
 }
 
 // The key of the chunk hashes, if they have one.
-fn key_of(info: &MDBShardInfo) -> Option<Hex>
+pub(crate) fn key_of(info: &MDBShardInfo) -> Option<Hex>
     ensures { result ≡ key_in info.now }
 {
     info.chunk_hmac_key().map(|key| Hex(key))

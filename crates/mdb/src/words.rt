@@ -1,0 +1,80 @@
+//! The words of the command line.
+
+use std::alloc::{AllocError, Global};
+use std::env::FillError;
+use std::rt::Env;
+
+/// The most bytes of a word that are read; Linux passes at most 131071.
+const LONGEST: usize = 1 << 17;
+
+/// The words of a command line, the first of which is the program's name.
+#[derive(Drop)]
+pub struct Words {
+    /// The words, in which each byte that is no text is written as `\x` and its digits.
+    pub texts: Vec<String>,
+    /// Those of them that are no UTF-8: no file can be opened by such a word.
+    pub unreadable: Vec<String>,
+}
+
+/// Why the words cannot be read.
+#[derive(Drop)]
+pub enum WordsError {
+    OutOfMemory,
+    TooLong,
+}
+
+impl From<AllocError> for WordsError {
+    fn from(_error: AllocError) -> Self {
+        WordsError::OutOfMemory
+    }
+}
+
+impl<T: Drop> From<std::alloc::AllocFailed<T>> for WordsError {
+    fn from(_error: std::alloc::AllocFailed<T>) -> Self {
+        WordsError::OutOfMemory
+    }
+}
+
+/// The words that the program was started with.
+pub fn read_words<R: Env + AllocGlobal>(rt: &R) -> Result<Words, WordsError> {
+    let alloc = rt.alloc();
+    let mut words = Words {
+        texts: Vec::new(alloc),
+        unreadable: Vec::new(alloc),
+    };
+    let mut room = vec![in alloc; 0u8; LONGEST]?;
+    for index in 0..usize::MAX {
+        match rt.arg(index, room.as_mut_slice()) {
+            Ok(length) => words.push(alloc, &room.as_slice()[..length])?,
+            Err(FillError::NotPresent) => break,
+            Err(FillError::TooLong) => return Err(WordsError::TooLong),
+        }
+    }
+    Ok(words)
+}
+
+impl Words {
+    fn push(&mut self, alloc: Global, word: &[u8]) -> Result<(), WordsError> {
+        match str::from_utf8(word) {
+            Ok(text) => self.texts.push(String::from_str(alloc, text)?)?,
+            Err(_) => {
+                self.unreadable.push(escaped(alloc, word)?)?;
+                self.texts.push(escaped(alloc, word)?)?;
+            }
+        }
+        Ok(())
+    }
+}
+
+// The letters of a word, and the digits of its other bytes.
+fn escaped(alloc: Global, word: &[u8]) -> Result<String, AllocError> {
+    let mut text = String::new(alloc);
+    for byte in word {
+        if byte.is_ascii_graphic() {
+            text.push(char::from(*byte))?;
+        } else {
+            write!(text, "\\x{byte:02x}")?;
+        }
+    }
+    Ok(text)
+}
