@@ -10,6 +10,7 @@ ghost use Rattle.mdb_report.specs.Problems.{IsProblem, IsFileName, AreFindings, 
 use crate::shown::Shown;
 use serde::{Described, Serialize, Serializer};
 use shard_bytes::check::{Finding, Part, Section, check_bytes};
+use shard_bytes::format::Format;
 use std::alloc::{AllocError, Global};
 use std::fmt;
 use xet_core_structures::error::{CoreError, Result};
@@ -59,7 +60,9 @@ fn code_of(problem: Problem) -> &'static str {
     match problem {
         Problem::Name => "name",
         Problem::Bytes(finding) => match finding {
-            Finding::Unsupported => "unsupported",
+            Finding::Unsupported(Format::NoTag) => "no_tag",
+            Finding::Unsupported(Format::OtherVersion(_)) => "other_version",
+            Finding::Unsupported(Format::NoFooter) => "no_footer",
             Finding::TooShort => "too_short",
             Finding::Cut(_) => "section_cut",
             Finding::Refused(_) => "section_refused",
@@ -104,7 +107,7 @@ pub fn start_of(info: &MDBShardInfo, finding: Finding) -> Option<u64>
         Finding::Differs(Part::XorbTable) => Some(footer.xorb_lookup_offset),
         Finding::Differs(Part::ChunkTable) => Some(footer.chunk_lookup_offset),
         Finding::Differs(Part::Footer) => Some(footer.footer_offset),
-        Finding::Unsupported | Finding::TooShort | Finding::Size(_) => None,
+        Finding::Unsupported(_) | Finding::TooShort | Finding::Size(_) => None,
     }
 }
 
@@ -192,10 +195,16 @@ pub struct InWords(pub Finding);
 impl fmt::Display for InWords {
     fn fmt<W: fmt::Write>(&self, f: &mut fmt::Formatter<W>) -> fmt::Result {
         match self.0 {
-            Finding::Unsupported => {
+            Finding::Unsupported(Format::NoTag) => {
+                write!(f, "no shard: its first 32 bytes are no tag")
+            }
+            Finding::Unsupported(Format::OtherVersion(version)) => {
+                write!(f, "version {version}: this program reads 2 and 3")
+            }
+            Finding::Unsupported(Format::NoFooter) => {
                 write!(
                     f,
-                    "its tag, its version or its footer's version is not supported"
+                    "its last 200 bytes are no footer: it was cut or lengthened"
                 )
             }
             Finding::TooShort => write!(f, "it is too short for a header and a footer"),

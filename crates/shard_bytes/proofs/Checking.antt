@@ -32,6 +32,7 @@ use Rattle.xet_shards.proofs.SectionHashes.{ascend_adjacent}
 use Rattle.xet_shards.proofs.WholeSections.{files_not_cut, files_not_refused, xorbs_not_cut, xorbs_not_refused}
 use Rattle.xet_shards.proofs.Loading.{header_of, one_version}
 use Rattle.xet_shards.proofs.Rewriting.{only_sections, sections_fit, is_layout}
+use Rattle.shard_bytes.proofs.Formats.{unsupported_so}
 use Rattle.shard_bytes.specs.declared.check.Section.{Section}
 use Rattle.shard_bytes.specs.declared.check.Section.TheVariants.{Files, Xorbs}
 use Rattle.shard_bytes.specs.declared.check.Part.{Part}
@@ -283,7 +284,7 @@ module _ (bytes : List ℕ) (info : MDBShardInfo) (ends : HasEnds bytes info) wh
           subst (λ p. p) (λ i. ¬ IsSamePart part bytes (same_info i) (same_written i) (footer_value (same_both.0 i) (same_both.1 i) (form_of (same_info i)))) differs
 
     from_finding : (f : Finding) → IsFinding bytes f → Any f
-    from_finding Unsupported so = absurd (not_unsupported bytes info ends so)
+    from_finding (Unsupported reason) so = absurd (not_unsupported bytes info ends (unsupported_so bytes reason so))
     from_finding TooShort so = absurd (not_too_short bytes info ends so)
     from_finding (Cut Files) (i, e, header, cut) = absurd (files_not_cut bytes files xorbs have header cut)
     from_finding (Cut Xorbs) (i, e, header, (gs, there, cut)) = absurd (xorbs_not_cut bytes files xorbs have header gs there cut)

@@ -1,5 +1,5 @@
 -- Findings that exclude each other: of bytes that cannot be read one finding is true, and no other.
-use Rattle.std.proofs.Common.{◌≡◌, inl, inr, ℕ, List, drop, refl, subst, arith}
+use Rattle.std.proofs.Common.{◌≡◌, inl, inr, ℕ, List, drop, refl, ap, subst, arith}
 use Rattle.xet_core_structures.specs.declared.file_structs.MDBFileInfo.{MDBFileInfo}
 use Rattle.xet_core_structures.specs.declared.xorb_structs.MDBXorbInfo.{MDBXorbInfo}
 use Rattle.xet_core_structures.specs.declared.shard_format.MDBShardInfo.{MDBShardInfo}
@@ -15,6 +15,9 @@ use Rattle.xet_shards.proofs.EndsUnique.{not_unsupported, not_too_short}
 use Rattle.xet_shards.proofs.Loading.{one_version}
 use Rattle.xet_shards.proofs.Sections.{files_laws}
 use Rattle.xet_shards.proofs.SectionUnique.{only_list, section_or_passes, section_or_cut}
+use Rattle.shard_bytes.specs.declared.format.Format.{Format}
+use Rattle.shard_bytes.specs.Format.{IsUnsupportedFor}
+use Rattle.shard_bytes.proofs.Formats.{unsupported_so, one_reason}
 use Rattle.shard_bytes.specs.declared.check.Section.TheVariants.{Files, Xorbs}
 use Rattle.shard_bytes.specs.declared.check.Finding.{Finding}
 use Rattle.shard_bytes.specs.declared.check.Finding.TheVariants.{Unsupported, TooShort, Cut, Refused, OutOfOrder, Differs, Size}
@@ -32,19 +35,19 @@ module _ (bytes : List ℕ) where
   either_end (inr (header, some, footer)) (inl (inr (few, tag))) = omega (arith, header.size, few)
   either_end (inr (header, some, footer)) (inr (other, few)) = omega (arith, some, few)
 
-  pub only_unsupported : IsUnsupported bytes → (g : Finding) → IsFinding bytes g → g ≡ Unsupported
-  only_unsupported so Unsupported also = refl
-  only_unsupported so TooShort short = absurd (either_end so short)
-  only_unsupported so (Cut Files) (info, ends, header, rest) = absurd (not_unsupported bytes info ends so)
-  only_unsupported so (Cut Xorbs) (info, ends, header, rest) = absurd (not_unsupported bytes info ends so)
-  only_unsupported so (Refused Files) (info, ends, header, rest) = absurd (not_unsupported bytes info ends so)
-  only_unsupported so (Refused Xorbs) (info, ends, header, rest) = absurd (not_unsupported bytes info ends so)
-  only_unsupported so (OutOfOrder section n) (info, files, xorbs, read, rest) = absurd (not_unsupported bytes info read.ends so)
-  only_unsupported so (Differs part) (info, files, xorbs, read, rest) = absurd (not_unsupported bytes info read.ends so)
-  only_unsupported so (Size n) (info, files, xorbs, read, rest) = absurd (not_unsupported bytes info read.ends so)
+  pub only_unsupported : (reason : Format) → IsUnsupportedFor bytes reason → (g : Finding) → IsFinding bytes g → g ≡ Unsupported reason
+  only_unsupported reason why (Unsupported other) also = ap Unsupported (one_reason bytes reason other why also)
+  only_unsupported reason why TooShort short = absurd (either_end (unsupported_so bytes reason why) short)
+  only_unsupported reason why (Cut Files) (info, ends, header, rest) = absurd (not_unsupported bytes info ends (unsupported_so bytes reason why))
+  only_unsupported reason why (Cut Xorbs) (info, ends, header, rest) = absurd (not_unsupported bytes info ends (unsupported_so bytes reason why))
+  only_unsupported reason why (Refused Files) (info, ends, header, rest) = absurd (not_unsupported bytes info ends (unsupported_so bytes reason why))
+  only_unsupported reason why (Refused Xorbs) (info, ends, header, rest) = absurd (not_unsupported bytes info ends (unsupported_so bytes reason why))
+  only_unsupported reason why (OutOfOrder section n) (info, files, xorbs, read, rest) = absurd (not_unsupported bytes info read.ends (unsupported_so bytes reason why))
+  only_unsupported reason why (Differs part) (info, files, xorbs, read, rest) = absurd (not_unsupported bytes info read.ends (unsupported_so bytes reason why))
+  only_unsupported reason why (Size n) (info, files, xorbs, read, rest) = absurd (not_unsupported bytes info read.ends (unsupported_so bytes reason why))
 
   pub only_too_short : IsTooShort bytes → (g : Finding) → IsFinding bytes g → g ≡ TooShort
-  only_too_short so Unsupported other = absurd (either_end other so)
+  only_too_short so (Unsupported reason) why = absurd (either_end (unsupported_so bytes reason why) so)
   only_too_short so TooShort also = refl
   only_too_short so (Cut Files) (info, ends, header, rest) = absurd (not_too_short bytes info ends so)
   only_too_short so (Cut Xorbs) (info, ends, header, rest) = absurd (not_too_short bytes info ends so)
@@ -78,7 +81,7 @@ module _ (bytes : List ℕ) where
     cut_or_over = (one_way (file_records_in header.version) (files_laws header.version) (drop 48 bytes)).either
 
     pub only_cut_files : IsCutSection (file_records_in header.version) (drop 48 bytes) → (g : Finding) → IsFinding bytes g → g ≡ Cut Files
-    only_cut_files so Unsupported other = absurd (not_unsupported bytes info ends other)
+    only_cut_files so (Unsupported reason) why = absurd (not_unsupported bytes info ends (unsupported_so bytes reason why))
     only_cut_files so TooShort other = absurd (not_too_short bytes info ends other)
     only_cut_files so (Cut Files) also = refl
     only_cut_files so (Cut Xorbs) (i, e, h, (files, there, rest)) = absurd (or_cut files (files_at h files there) so)
@@ -89,7 +92,7 @@ module _ (bytes : List ℕ) where
     only_cut_files so (Size n) (i, files, xorbs, read, rest) = absurd (or_cut files (files_at read.sections.header files read.sections.file_section) so)
 
     pub only_refused_files : IsRefusedSection (file_records_in header.version) (drop 48 bytes) → (g : Finding) → IsFinding bytes g → g ≡ Refused Files
-    only_refused_files so Unsupported other = absurd (not_unsupported bytes info ends other)
+    only_refused_files so (Unsupported reason) why = absurd (not_unsupported bytes info ends (unsupported_so bytes reason why))
     only_refused_files so TooShort other = absurd (not_too_short bytes info ends other)
     only_refused_files so (Cut Files) (i, e, h, cut) = absurd (cut_or_over (cut_at h cut) so)
     only_refused_files so (Cut Xorbs) (i, e, h, (files, there, rest)) = absurd (or_over files (files_at h files there) so)
@@ -117,7 +120,7 @@ module _ (bytes : List ℕ) where
       cut_or_over_xorbs = (one_way xorb_records xorb_laws (drop (xorbs_after files) bytes)).either
 
       pub only_cut_xorbs : IsCutSection xorb_records (drop (xorbs_after files) bytes) → (g : Finding) → IsFinding bytes g → g ≡ Cut Xorbs
-      only_cut_xorbs so Unsupported other = absurd (not_unsupported bytes info ends other)
+      only_cut_xorbs so (Unsupported reason) why = absurd (not_unsupported bytes info ends (unsupported_so bytes reason why))
       only_cut_xorbs so TooShort other = absurd (not_too_short bytes info ends other)
       only_cut_xorbs so (Cut Files) (i, e, h, cut) = absurd (or_cut files there (cut_at h cut))
       only_cut_xorbs so (Cut Xorbs) also = refl
@@ -129,7 +132,7 @@ module _ (bytes : List ℕ) where
       only_cut_xorbs so (Size n) (i, others, xorbs, read, rest) = absurd (or_cut_xorbs xorbs (xorbs_at others xorbs read.sections) so)
 
       pub only_refused_xorbs : IsRefusedSection xorb_records (drop (xorbs_after files) bytes) → (g : Finding) → IsFinding bytes g → g ≡ Refused Xorbs
-      only_refused_xorbs so Unsupported other = absurd (not_unsupported bytes info ends other)
+      only_refused_xorbs so (Unsupported reason) why = absurd (not_unsupported bytes info ends (unsupported_so bytes reason why))
       only_refused_xorbs so TooShort other = absurd (not_too_short bytes info ends other)
       only_refused_xorbs so (Cut Files) (i, e, h, cut) = absurd (or_cut files there (cut_at h cut))
       only_refused_xorbs so (Cut Xorbs) (i, e, h, (others, section, cut)) =

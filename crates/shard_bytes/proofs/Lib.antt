@@ -3,6 +3,7 @@ pub mod Checking
 pub mod Combining
 pub mod Exclusive
 pub mod Exporting
+pub mod Formats
 pub mod Keeping
 pub mod MemoryErrors
 pub mod Merging

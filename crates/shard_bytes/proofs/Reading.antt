@@ -5,9 +5,7 @@ use Rattle.xet_core_structures.specs.declared.file_structs.MDBFileInfo.{MDBFileI
 use Rattle.xet_core_structures.specs.declared.xorb_structs.MDBXorbInfo.{MDBXorbInfo}
 use Rattle.xet_core_structures.specs.declared.xorb_structs.XorbChunkSequenceHeader.{XorbChunkSequenceHeader}
 use Rattle.xet_core_structures.specs.declared.shard_format.MDBShardInfo.{MDBShardInfo}
-use Rattle.xet_core_structures.specs.ByteResults.{LoadRefusal}
 use Rattle.xet_core_structures.specs.Ends.{HasHeader, HasEnds}
-use Rattle.xet_core_structures.specs.Errors.{IsShardVersion, IsEndOfInput}
 use Rattle.xet_core_structures.specs.FileRecord.{file_records, file_records_in}
 use Rattle.xet_core_structures.specs.KeyedExport.{xorbs_after, BadSection}
 use Rattle.xet_core_structures.specs.SectionReading.{IsSection, IsRefusedSection, IsCutSection, TakesNoSection}
@@ -24,17 +22,16 @@ use Rattle.xet_shards.proofs.WholeSections.{same_files}
 use Rattle.shard_bytes.specs.declared.check.Section.TheVariants.{Files, Xorbs}
 use Rattle.shard_bytes.specs.declared.check.Finding.{Finding}
 use Rattle.shard_bytes.specs.declared.check.Finding.TheVariants.{Unsupported, TooShort}
-use Rattle.shard_bytes.specs.Checking.{IsReport, IsUnreadable}
+use Rattle.shard_bytes.specs.Checking.{IsReport, IsUnloaded, IsUnreadable}
 use Rattle.shard_bytes.proofs.Checking.{header_in, one_finding, unread}
 use Rattle.shard_bytes.proofs.Exclusive.{only_unsupported, only_too_short, only_cut_files, only_refused_files, only_cut_xorbs, only_refused_xorbs}
 
 -- header and footer are not read
-pub not_loaded : (bytes : List ℕ) (e : CoreError) (f : Finding) (findings : List Finding) → LoadRefusal bytes e → (IsShardVersion e → f ≡ Unsupported) → (IsEndOfInput e → f ≡ TooShort)
-    → findings ≡ f ∷ [] → IsReport bytes findings
-not_loaded bytes e f findings (inl (version, unsupported)) is other one =
-    one_finding bytes Unsupported findings unsupported (only_unsupported bytes unsupported) (one ∙ ap (λ g. g ∷ []) (is version))
-not_loaded bytes e f findings (inr (end, short)) other is one =
-    one_finding bytes TooShort findings short (only_too_short bytes short) (one ∙ ap (λ g. g ∷ []) (is end))
+pub not_loaded : (bytes : List ℕ) (f : Finding) (findings : List Finding) → IsUnloaded bytes f → findings ≡ f ∷ [] → IsReport bytes findings
+not_loaded bytes f findings (inl (reason, is, why)) one =
+    one_finding bytes (Unsupported reason) findings why (only_unsupported bytes reason why) (one ∙ ap (λ g. g ∷ []) is)
+not_loaded bytes f findings (inr (is, short)) one =
+    one_finding bytes TooShort findings short (only_too_short bytes short) (one ∙ ap (λ g. g ∷ []) is)
 
 -- a source of these bytes, at their start
 abbrev pub source_of : List ℕ → Source

@@ -17,6 +17,7 @@ use Rattle.xet_shards.proofs.EndsUnique.{only_info, not_unsupported, not_too_sho
 use Rattle.xet_shards.proofs.Rewriting.{only_sections, sections_of_layout, form_again}
 use Rattle.xet_shards.proofs.SectionHashes.{ascend_adjacent}
 use Rattle.xet_shards.proofs.WholeSections.{version_again, layout_ends, files_not_cut, files_not_refused, xorbs_not_cut, xorbs_not_refused}
+use Rattle.shard_bytes.proofs.Formats.{unsupported_so}
 use Rattle.shard_bytes.specs.declared.check.Section.TheVariants.{Files, Xorbs}
 use Rattle.shard_bytes.specs.declared.check.Part.{Part}
 use Rattle.shard_bytes.specs.declared.check.Part.TheVariants.{Header, FileSection, XorbSection, FileTable, XorbTable, ChunkTable, Footer}
@@ -89,7 +90,7 @@ module _ (bytes : List ℕ) (w : IsWhole bytes) where
       subst (λ p. p) (λ j. IsSamePart part bytes (i j) (layout_of (sym same.0 j) (sym same.1 j) (form_of (i j))) (footer_value (sym same.0 j) (sym same.1 j) (form_of (i j)))) (part_same part)
 
   pub no_finding : (f : Finding) → ¬ IsFinding bytes f
-  no_finding Unsupported so = not_unsupported bytes info ends so
+  no_finding (Unsupported reason) so = not_unsupported bytes info ends (unsupported_so bytes reason so)
   no_finding TooShort so = not_too_short bytes info ends so
   no_finding (Cut Files) (i, e, header, cut) = files_not_cut bytes w.files w.xorbs have header cut
   no_finding (Cut Xorbs) (i, e, header, (files, there, cut)) = xorbs_not_cut bytes w.files w.xorbs have header files there cut

@@ -11,7 +11,7 @@ use Rattle.xet_core_structures.specs.declared.xorb_structs.MDBXorbInfo.{MDBXorbI
 use Rattle.xet_core_structures.specs.declared.merklehash.DataHash.{DataHash}
 use Rattle.xet_core_structures.specs.declared.shard_format.MDBShardFileFooter.{MDBShardFileFooter}
 use Rattle.xet_core_structures.specs.declared.shard_format.MDBShardInfo.{MDBShardInfo}
-use Rattle.xet_core_structures.specs.Ends.{HasHeader, HasEnds, IsUnsupported, IsTooShort}
+use Rattle.xet_core_structures.specs.Ends.{HasHeader, HasEnds, IsTooShort}
 use Rattle.xet_core_structures.specs.Errors.{IsInvalidShard}
 use Rattle.xet_core_structures.specs.FileRecord.{file_records, file_records_in}
 use Rattle.xet_core_structures.specs.Hash.{IsHash, hash_cmp}
@@ -23,6 +23,8 @@ use Rattle.xet_core_structures.specs.XorbRecord.{xorb_records}
 use Rattle.xet_shards.specs.declared.shard_writer.Form.{Form}
 use Rattle.xet_shards.specs.Rewriting.{HasSections, form_of}
 use Rattle.xet_shards.specs.Tables.{hash_in}
+use Rattle.shard_bytes.specs.declared.format.Format.{Format}
+use Rattle.shard_bytes.specs.Format.{IsUnsupportedFor}
 use Rattle.shard_bytes.specs.declared.check.Section.{Section}
 use Rattle.shard_bytes.specs.declared.check.Section.TheVariants.{Files, Xorbs}
 use Rattle.shard_bytes.specs.declared.check.Part.{Part}
@@ -108,7 +110,7 @@ WhereRead Says bytes =
 
 -- a finding is true of the bytes
 abbrev pub IsFinding : List ℕ → Finding → Type 0
-IsFinding bytes Unsupported = IsUnsupported bytes
+IsFinding bytes (Unsupported reason) = IsUnsupportedFor bytes reason
 IsFinding bytes TooShort = IsTooShort bytes
 IsFinding bytes (Cut Files) =
     AfterHeader bytes (λ header. IsCutSection (file_records_in header.version) (drop 48 bytes))
@@ -143,6 +145,12 @@ pub record Adds (Well : Type 0) (IsSo : Finding → Type 0) (old new : List Find
   pub each : All IsSo more
   pub all : (f : Finding) → IsSo f → Contains more f
   pub none : more ≡ [] → Well
+
+-- a finding that is true of bytes of which header and footer cannot be read
+abbrev pub IsUnloaded : List ℕ → Finding → Type 0
+IsUnloaded bytes f =
+    ((reason : Format) × (f ≡ Unsupported reason) × IsUnsupportedFor bytes reason)
+    ⊎ ((f ≡ TooShort) × IsTooShort bytes)
 
 -- the one finding of a section that cannot be read, by the error of reading it
 abbrev pub IsUnreadable : Section → CoreError → List Finding → Type 0

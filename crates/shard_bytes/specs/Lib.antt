@@ -3,6 +3,7 @@ pub mod Checking
 pub mod Combining
 pub mod Exporting
 pub mod Finding
+pub mod Format
 pub mod Merging
 pub mod Minimal
 pub mod Outcomes

@@ -6,11 +6,12 @@ ghost use Rattle.std.specs.List.Sorted.{IsStrictlySortedBy};
 ghost use Rattle.std.specs.declared.cmp.Ordering.TheVariants.{Less};
 ghost use Rattle.xet_core_structures.specs.declared.merklehash.DataHash.{DataHash};
 ghost use Rattle.xet_core_structures.specs.Ends.{HasEnds};
-ghost use Rattle.xet_core_structures.specs.Errors.{IsShardVersion, IsEndOfInput};
+ghost use Rattle.xet_core_structures.specs.ByteResults.{LoadRefusal};
 ghost use Rattle.xet_core_structures.specs.Hash.{hash_cmp};
 ghost use Rattle.shard_bytes.specs.declared.check.Finding.{Finding};
-ghost use Rattle.shard_bytes.specs.Checking.{IsWhole, IsFinding, IsReport, IsUnreadable, IsOutOfOrder, IsSamePart, AddsPart, AddsSize, AddsDisorder, AddsDifferences, Compares};
+ghost use Rattle.shard_bytes.specs.Checking.{IsWhole, IsFinding, IsReport, IsUnloaded, IsUnreadable, IsOutOfOrder, IsSamePart, AddsPart, AddsSize, AddsDisorder, AddsDifferences, Compares};
 
+use crate::format::{Format, unsupported_for};
 use crate::load::load_bytes;
 use std::alloc::Global;
 use std::cmp::Ordering;
@@ -43,8 +44,8 @@ pub enum Part {
 /// What is not as the library would write it.
 #[derive(Clone, Copy, Debug, PartialEq, Eq)]
 pub enum Finding {
-    /// The tag or the version of the header, or the version of the footer, is not supported.
-    Unsupported,
+    /// The format of the bytes is not supported.
+    Unsupported(Format),
     /// There are too few bytes for a header and a footer.
     TooShort,
     /// The bytes end before the section's bookend.
@@ -77,17 +78,17 @@ pub fn check_bytes(alloc: Global, bytes: &[u8]) -> Result<Vec<Finding>>
 {
     match load_bytes(alloc, bytes) {
         Ok(info) => check_sections(alloc, bytes, &info),
-        Err(error) => only(alloc, unloaded(error)),
+        Err(error) => only(alloc, unloaded(bytes, error)),
     }
 }
 
 // The finding of bytes of which header and footer cannot be read, by the error of reading them.
-fn unloaded(error: CoreError) -> Finding
-    ensures unsupported { IsShardVersion error → result ≡ Finding.Unsupported }
-    ensures short { IsEndOfInput error → result ≡ Finding.TooShort }
+fn unloaded(bytes: &[u8], error: CoreError) -> Finding
+    requires { LoadRefusal bytes.now error }
+    ensures { IsUnloaded bytes.now result }
 {
     match error {
-        CoreError::ShardVersion(_) => Finding::Unsupported,
+        CoreError::ShardVersion(_) => Finding::Unsupported(unsupported_for(bytes)),
         _ => Finding::TooShort,
     }
 }

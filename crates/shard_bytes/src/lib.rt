@@ -7,6 +7,7 @@ pub mod check;
 pub mod combine;
 pub mod export;
 pub mod find;
+pub mod format;
 pub mod load;
 mod memory;
 pub mod merge;

@@ -13,7 +13,7 @@ use Rattle.mdb_report.proofs.fault.has_wrong_footer.Goals as goal
 
 -- a finding is equal to that of the footer exactly if the derived test says so
 decides : (y : Finding) → Decides ((equality.TheImpl.ghosts).eq y (Differs Footer)) (y ≡ Differs Footer)
-decides Unsupported = (λ e. search rules, λ e. search rules)
+decides (Unsupported reason) = (λ e. search rules, λ e. search rules)
 decides TooShort = (λ e. search rules, λ e. search rules)
 decides (Cut s) = (λ e. search rules, λ e. search rules)
 decides (Refused s) = (λ e. search rules, λ e. search rules)

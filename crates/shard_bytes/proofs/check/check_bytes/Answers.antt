@@ -19,7 +19,7 @@ returns-in-Err-clause-whole c =
     let f = c.unloaded.result in
     if_ok c.only.result (λ found. found.items ≡ f ∷ []) (λ found. (found.items ≡ []) ↔ IsWhole bytes)
     (λ found one.
-    let report : IsReport bytes found.items = not_loaded bytes c.in-Err.error f found.items c.in-Err.ensures c.unloaded.ensures.unsupported c.unloaded.ensures.short one in
+    let report : IsReport bytes found.items = not_loaded bytes f found.items c.unloaded.ensures one in
     (report.none, λ whole. nothing_wrong bytes whole found.items report.each))
     c.only.ensures.ok
 
@@ -28,7 +28,7 @@ returns-in-Err-clause-each c =
     let bytes = c.args.bytes.now in
     let f = c.unloaded.result in
     if_ok c.only.result (λ found. found.items ≡ f ∷ []) (λ found. All (IsFinding bytes) found.items)
-    (λ found one. (not_loaded bytes c.in-Err.error f found.items c.in-Err.ensures c.unloaded.ensures.unsupported c.unloaded.ensures.short one).each)
+    (λ found one. (not_loaded bytes f found.items c.unloaded.ensures one).each)
     c.only.ensures.ok
 
 pub returns-in-Err-clause-all : goal.returns-in-Err-clause-all
@@ -36,5 +36,5 @@ returns-in-Err-clause-all c =
     let bytes = c.args.bytes.now in
     let f = c.unloaded.result in
     if_ok c.only.result (λ found. found.items ≡ f ∷ []) (λ found. (g : Finding) → IsFinding bytes g → Contains found.items g)
-    (λ found one. (not_loaded bytes c.in-Err.error f found.items c.in-Err.ensures c.unloaded.ensures.unsupported c.unloaded.ensures.short one).all)
+    (λ found one. (not_loaded bytes f found.items c.unloaded.ensures one).all)
     c.only.ensures.ok

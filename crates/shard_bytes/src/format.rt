@@ -1,0 +1,35 @@
+//! What is unsupported about the format of bytes.
+
+ghost use Rattle.xet_core_structures.specs.Ends.{IsUnsupported};
+ghost use Rattle.shard_bytes.specs.Format.{IsUnsupportedFor};
+
+use xet_base::row::split_u64;
+use xet_core_structures::shard_format::MDBShardFileHeader;
+use xet_records::record_reader::FormatVersion;
+
+/// Why the format of bytes is not supported.
+#[derive(Clone, Copy, Debug, PartialEq, Eq)]
+pub enum Format {
+    /// The first 32 bytes are not the tag of a shard.
+    NoTag,
+    /// The header has this version, which is neither 2 nor 3.
+    OtherVersion(u64),
+    /// The last 200 bytes do not begin with the version of a footer.
+    NoFooter,
+}
+
+/// Why the format of these bytes is not supported.
+pub(crate) fn unsupported_for(bytes: &[u8]) -> Format
+    requires { IsUnsupported bytes.now }
+    ensures { IsUnsupportedFor bytes.now result }
+{
+    let tag = MDBShardFileHeader::default().tag;
+    if &bytes[..32] != tag.as_slice() {
+        return Format::NoTag;
+    }
+    let (version, _) = split_u64(&bytes[32..]);
+    match FormatVersion::of_number(version) {
+        Some(_) => Format::NoFooter,
+        None => Format::OtherVersion(version),
+    }
+}
