@@ -258,10 +258,10 @@ typedef struct xet_file {
     uint64_t aux_hash[4];
 } xet_file;
 
-/* Looks up the file with this hash by the table of files: a shard without that table, as a minimal shard, has no file for
- * this call, whatever its section has. Writes the file's segments to the front of `segments`, which has room for `capacity`.
- * With XET_SHORT they do not fit and `segments` stays as it is, but `file` is filled: `file->segments` is the room that
- * is needed. With any other error `file` stays as well.
+/* Looks up the file with this hash by the table of files: a shard without that table, as a minimal shard, has no file
+ * for this call, whatever its section has. Writes the file's segments to the front of `segments`, which has room for
+ * `capacity`. With XET_SHORT they do not fit and `segments` stays as it is, but `file` is filled: `file->segments` is
+ * the room that is needed. With any other error `file` stays as well.
  *
  * XET_SHARD_VERSION, XET_IO: the errors of xet_load; XET_IO also if a row that is read ends too early.
  * XET_TRUNCATED_HASH_COLLISION: eight or more files share the first word of the hash.

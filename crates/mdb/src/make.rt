@@ -13,7 +13,7 @@ use shard_bytes::combine::{Operation, combine_bytes};
 use shard_bytes::export::{Export, export_bytes};
 use shard_bytes::load::load_bytes;
 use shard_bytes::merge::merge_bytes;
-use shard_bytes::minimal::{Subset, minimal_bytes, subset_bytes};
+use shard_bytes::minimal::{KeptXorbs, Subset, hashes_without_xorb, minimal_bytes, subset_bytes};
 use std::alloc::{AllocError, Global};
 use std::fs;
 use std::random::RandomSource;
@@ -132,17 +132,41 @@ fn minimal<'a, R: Files + AllocGlobal>(
     }
 }
 
-fn subset<'a, R: Files + AllocGlobal>(
+fn subset<'a, R: Files + Eprint + AllocGlobal>(
     rt: &R,
     file: &'a str,
     kept: &Subset,
 ) -> Result<Vec<u8>, Failure<'a>> {
     let alloc = rt.alloc();
     let bytes = bytes_of(rt, file)?;
+    if let KeptXorbs::Listed(hashes) = &kept.kept {
+        has_xorbs(rt, file, bytes.as_slice(), hashes.as_slice())?;
+    }
     match subset_bytes(alloc, bytes.as_slice(), kept) {
         Ok(subset) => Ok(subset),
         Err(error) => Err(Failure::on_file(file, fault_of(alloc, bytes.as_slice(), error))),
     }
+}
+
+// Reports each of some hashes that no xorb of a shard has, and fails if there is one.
+fn has_xorbs<'a, R: Eprint + AllocGlobal>(
+    rt: &R,
+    file: &'a str,
+    bytes: &[u8],
+    hashes: &[MerkleHash],
+) -> Result<(), Failure<'a>> {
+    let alloc = rt.alloc();
+    let lacking = match hashes_without_xorb(alloc, bytes, hashes) {
+        Ok(lacking) => lacking,
+        Err(error) => return Err(Failure::on_file(file, fault_of(alloc, bytes, error))),
+    };
+    let Some((last, others)) = lacking.as_slice().split_last() else {
+        return Ok(());
+    };
+    for hash in others {
+        let _ = rt.eprintln(&Failure::on_file(file, Fault::NoXorb(*hash)));
+    }
+    Err(Failure::on_file(file, Fault::NoXorb(*last)))
 }
 
 fn combined<'a, R: Files + AllocGlobal>(

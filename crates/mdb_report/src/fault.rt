@@ -12,6 +12,7 @@ use std::alloc::{AllocError, AllocFailed, Global};
 use std::{fmt, io};
 use xet_core_structures::error::CoreError;
 use xet_core_structures::file_structs::KeptParts;
+use xet_core_structures::merklehash::MerkleHash;
 use xet_core_structures::set_operations::RecordHash;
 
 /// Why a command failed.
@@ -39,6 +40,8 @@ pub enum Fault {
     NoVerification,
     /// The shard has records, but not the table by which they are looked up.
     NoTable(Table),
+    /// No xorb of the shard has this hash.
+    NoXorb(MerkleHash),
     /// A word is no UTF-8, so that no file can be opened by it.
     NoText,
     /// A word has more bytes than are read.
@@ -78,6 +81,7 @@ impl fmt::Display for Fault {
             Fault::NoTable(table) => {
                 write!(f, "it has no {table}, by which its records would be found")
             }
+            Fault::NoXorb(hash) => write!(f, "no xorb has the hash {hash}"),
             Fault::NoText => write!(f, "the word is no UTF-8, so no file can be opened by it"),
             Fault::LongWord => write!(f, "a word is too long"),
             Fault::Terminal => write!(f, "a shard is not written to a terminal"),

@@ -44,6 +44,18 @@ abbrev pub Keeps : KeptXorbs → DataHash → Type 0
 Keeps all_xorbs hash = ⊤
 Keeps (Listed hashes) hash = Contains hashes.items hash
 
+-- one of the xorbs has the hash
+abbrev pub HasXorb : MinimalShard → DataHash → Type 0
+HasXorb m hash = (x : MDBXorbInfo) × Contains m.xorbs x × (xorb_hash_of x ≡ hash)
+
+-- those of the hashes, in their order, that no xorb has
+abbrev pub AreLacked : MinimalShard → List DataHash → List DataHash → Type 0
+AreLacked m = IsKept (λ hash lacks. IsTrue lacks ↔ (¬ HasXorb m hash))
+
+abbrev pub LackXorbs : List ℕ → List DataHash → List DataHash → Type 0
+LackXorbs bytes hashes lacking =
+    (m : MinimalShard) × HoldsMinimal bytes m × AreLacked m hashes lacking
+
 -- no files, and the xorbs that a subset keeps
 abbrev pub SubsetBytes : Subset → List ℕ → List ℕ → Type 0
 SubsetBytes subset bytes out =

@@ -6,12 +6,12 @@ ghost use Rattle.xet_core_structures.specs.Errors.{IsWriteError};
 ghost use Rattle.xet_core_structures.specs.MinimalShard.{WritesMinimalKept};
 ghost use Rattle.xet_core_structures.specs.Shard.{xorb_hash_of};
 ghost use Rattle.xet_core_structures.specs.View.{LacksVerification, IsIoOther};
-ghost use Rattle.shard_bytes.specs.Minimal.{HoldsMinimal, RefusesMinimal, MinimalBytes, RefusesMinimalBytes, Keeps, SubsetBytes, EligibleIn};
+ghost use Rattle.shard_bytes.specs.Minimal.{HoldsMinimal, RefusesMinimal, MinimalBytes, RefusesMinimalBytes, Keeps, HasXorb, AreLacked, LackXorbs, SubsetBytes, EligibleIn};
 ghost use Rattle.shard_bytes.specs.Outcomes.{InMemory};
 
 use crate::memory::in_memory;
 use crate::room::with_room;
-use std::alloc::Global;
+use std::alloc::{AllocError, Global};
 use std::io::Write;
 use xet_core_structures::error::{CoreError, Result};
 use xet_core_structures::file_structs::KeptParts;
@@ -118,6 +118,52 @@ pub fn subset_bytes(alloc: Global, bytes: &[u8], subset: &Subset) -> Result<Vec<
         // Writing to a vector fails only if it is out of memory.
         Err(_) => Err(CoreError::OutOfMemory),
     }
+}
+
+/// Those of some hashes, in their order, that no xorb of a shard has, from the shard's bytes.
+///
+/// The errors are those of [`MDBMinimalShard::from_reader`].
+pub fn hashes_without_xorb(
+    alloc: Global,
+    bytes: &[u8],
+    hashes: &[MerkleHash],
+) -> Result<Vec<MerkleHash>>
+    ensures { MatchResult result (λ lacking. LackXorbs bytes.now hashes.now lacking.items)
+        (InMemory (RefusesMinimal bytes.now)) }
+{
+    let shard = read_minimal(alloc, bytes)?;
+    Ok(hashes_lacked(alloc, &shard, hashes)?)
+}
+
+// Those of some hashes, in their order, that no xorb has.
+fn hashes_lacked(
+    alloc: Global,
+    shard: &MDBMinimalShard,
+    hashes: &[MerkleHash],
+) -> std::result::Result<Vec<MerkleHash>, AllocError>
+    ensures { IfOk result (λ lacking. AreLacked shard.now hashes.now lacking.items) }
+{
+    let mut lacking = Vec::new(alloc);
+    for hash in hashes {
+        if !has_xorb(shard, hash) {
+            lacking.push(*hash)?;
+        }
+    }
+    Ok(lacking)
+}
+
+// Whether one of the xorbs has the hash.
+fn has_xorb(shard: &MDBMinimalShard, hash: &MerkleHash) -> bool
+    ensures { IsTrue result ↔ HasXorb shard.now hash.now }
+{
+    for index in 0..shard.num_xorb() {
+        if let Some(xorb) = shard.xorb(index)
+            && xorb.xorb_hash() == *hash
+        {
+            return true;
+        }
+    }
+    false
 }
 
 /// The hashes of the chunks of a shard that the global index keeps, from its bytes, in ascending
