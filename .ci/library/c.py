@@ -1,0 +1,86 @@
+"""Checks of bindings/c, and of the library that it declares."""
+import ctypes
+import os
+import re
+
+from .common import BINDINGS, TOP, error_numbers, ran, read, sources
+
+CC = os.environ.get("CC") or "cc"
+WARNINGS = ["-std=c11", "-Wall", "-Wextra", "-Werror"]
+SANITIZERS = ["-fsanitize=address,undefined", "-fno-sanitize-recover=all", "-g"]
+
+
+def check_errors():
+    """The names and the numbers of errors are those of `error_number`."""
+    header = read(f"{BINDINGS}/c/xet.h")
+    constants = {int(it[1]): it[0].title().replace("_", "") for it in re.findall(r"XET_(\w+) = (\d+)\b", header)}
+    texts = re.findall(r'"(\w+)"', header[header.index("names[]") : header.index("return error <")])
+    if len(constants) < 2 or constants != {0: "Ok", **error_numbers()}:
+        return "the errors of xet.h are not those of crates/xet_c"
+    return None if dict(enumerate(texts)) == constants else "the names of errors in xet.h are not those of its constants"
+
+
+def check_calls(library):
+    """The shared object has the calls that crates/xet_c exports, and shows nothing else of the archive."""
+    exported = set(re.findall(r'extern "C" fn (\w+)', sources()))
+    declared = set(re.findall(r"^uint32_t (\w+)\(", read(f"{BINDINGS}/c/xet.h"), re.M))
+    if exported != declared:
+        return f"crates/xet_c exports {sorted(exported)}, and xet.h declares {sorted(declared)}"
+    opened = ctypes.CDLL(library)
+    missing = [it for it in exported if not hasattr(opened, it)]
+    shown = [it for it in ("rattle_alloc", "rattle_realloc", "rattle_dealloc") if hasattr(opened, it)]
+    return f"libxet.so lacks {missing} or shows {shown}" if missing or shown else None
+
+
+def sanitizers(room):
+    """Returns the flags of the sanitizers if a program runs with them."""
+    with open(f"{room}/nothing.c", "w", encoding="ascii") as file:
+        file.write("int main(void) { return 0; }\n")
+    program = f"{room}/nothing"
+    why = ran(CC, *SANITIZERS, f"{room}/nothing.c", "-o", program)[1] or ran(program)[1]
+    if why:
+        print("bindings: a program with sanitizers can't be built or run here, so the C programs run without them")
+    return [] if why else SANITIZERS
+
+
+def check_example(room, flags, wanted):
+    """The C example writes the union, and names the error of a shard that is cut short."""
+    program = f"{room}/example"
+    _, why = ran(CC, *WARNINGS, *flags, f"{BINDINGS}/c/example.c", f"{room}/libxet.a", "-o", program)
+    why = why or ran(program, "first.mdb", "second.mdb", "c_union.mdb", cwd=room)[1]
+    if why:
+        return why
+    with open(f"{room}/c_union.mdb", "rb") as file:
+        if file.read() != wanted:
+            return "example.c writes other bytes than the vector has"
+    with open(f"{room}/cut.mdb", "wb") as file:
+        file.write(wanted[:100])
+    printed = ran(program, "first.mdb", "cut.mdb", "c_union.mdb", cwd=room)[0]
+    return None if "cut.mdb: Io\n" in printed else f"example.c prints of a shard that is cut short: {printed}"
+
+
+def check_refusals(room, flags, shard):
+    """No refused allocation is seen but in the result, on shards with many records."""
+    shards = [shard(), shard()]
+    for at in range(40):
+        segments = [f"{200 + it}:{it}:{it + 1}:9" for it in range(20)]
+        shards[0].add_file(str(100 + at), "v=" + ",".join("365" for _ in segments), "s=9364", "x=777", *segments)
+        shards[1].add_file(str(120 + at), *segments)
+        for start, it in enumerate(shards):
+            it.add_xorb(str(10 + at + 20 * start), *(f"{21 + at + chunk}:5" for chunk in range(20)))
+    names = [f"{room}/{it}.mdb" for it in ("one", "other")]
+    for name, it in zip(names, shards):
+        with open(name, "wb") as file:
+            file.write(it.written())
+    program = f"{room}/refused_calls"
+    words = [CC, *WARNINGS, *flags, f"-I{BINDINGS}/c", f"{TOP}/.ci/refused_calls.c", f"{room}/libxet.a"]
+    _, why = ran(*words, "-Wl,--wrap=malloc,--wrap=realloc", "-o", program)
+    if why:
+        return why
+    printed, why = ran(program, *names)
+    counts = [int(it) for it in re.findall(r": (\d+) refusals", printed)]
+    # Thirteen calls allocate, and the last three do not.
+    if why or [it > 0 for it in counts] != [True] * 13 + [False] * 3:
+        return why or f"refused_calls prints {printed}"
+    print(f"bindings: {sum(counts)} refused allocations in {len(counts)} calls")
+    return None

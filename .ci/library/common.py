@@ -1,0 +1,51 @@
+"""What the checks of .ci/bindings share."""
+import os
+import re
+import subprocess
+
+TOP = os.path.dirname(os.path.dirname(os.path.dirname(os.path.realpath(__file__))))
+BINDINGS = f"{TOP}/bindings"
+SOURCES = f"{TOP}/crates/xet_c/src"
+# From nothing, `rt lib` proves the crate again.
+SECONDS = 3600
+
+
+class Skip(Exception):
+    """A check can't be made here, since a tool is missing."""
+
+
+def read(path):
+    with open(path, encoding="utf-8") as file:
+        return file.read()
+
+
+def ran(*words, **named):
+    """Runs a command. Returns its output, and what is wrong with it, or None."""
+    named["env"] = {**os.environ, "PYTHONDONTWRITEBYTECODE": "1", **named.get("env", {})}
+    try:
+        run = subprocess.run(
+            words, stdout=subprocess.PIPE, stderr=subprocess.STDOUT, text=True, timeout=SECONDS, **named
+        )
+    except (OSError, subprocess.TimeoutExpired) as error:
+        return "", str(error)
+    last = "\n".join(run.stdout.splitlines()[-20:])
+    return run.stdout, f"{os.path.basename(words[0])} ends with {run.returncode}:\n{last}" if run.returncode else None
+
+
+def sources():
+    names = sorted(it for it in os.listdir(SOURCES) if it.endswith(".rt"))
+    return "".join(read(f"{SOURCES}/{it}") for it in names)
+
+
+def structs():
+    """Returns the structs of crates/xet_c: of each its name, and its fields with their types."""
+    found = re.findall(r"#\[repr\(C\)\]\n(?:#[^\n]*\n)*pub struct (\w+) \{\n(.*?)\n\}", sources(), re.S)
+    return {name: re.findall(r"^    pub (\w+): (.*),$", body, re.M) for name, body in found}
+
+
+def error_numbers():
+    """Returns the numbers of errors, with their names, by `error_number` of crates/xet_c."""
+    numbers = {int(number): name for name, number in re.findall(r"CoreError::(\w+)(?:\(_\))? => (\d+),", sources())}
+    for constant, name in (("SHORT", "Short"), ("DISAGREE", "Disagree")):
+        numbers[int(re.search(rf"XET_{constant}: u32 = (\d+);", sources())[1])] = name
+    return numbers
