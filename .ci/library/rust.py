@@ -1,0 +1,108 @@
+"""Checks of bindings/rust."""
+import os
+import re
+import shutil
+
+from .common import BINDINGS, Skip, error_numbers, ran, read, sources, structs
+
+CRATE = f"{BINDINGS}/rust"
+# Calls whose answer the crate writes itself: the text of a hash.
+NOT_CALLED = {"xet_hash_to_hex", "xet_shard_name"}
+# The shards of the examples, as the commands of a script that make them.
+EXAMPLES = {
+    "a": ["xorb 10 21:5", "file 100 10:0:1:5"],
+    "b": ["xorb 11 22:6 23:7", "file 101 11:0:2:13"],
+    "c": ["file 100 11:0:1:5"],
+}
+
+
+def source():
+    return "".join(read(f"{CRATE}/src/{it}") for it in sorted(os.listdir(f"{CRATE}/src")))
+
+
+def rust_type(text):
+    """Returns the type of the crate for one of crates/xet_c."""
+    return re.sub(r"\bXet(\w+)", r"\1", text).replace("&[&[u8]]", "&[Bytes]").replace("[u64; 4]", "Hash")
+
+
+def calls(text, start):
+    """Returns the functions that begin so, with their parameters, without the allocator."""
+    found = {}
+    for name, parameters in re.findall(rf"{start} (xet_\w+)\((.*?)\) -> u32", text, re.S):
+        words = [re.sub(r"\s+", " ", it).strip() for it in parameters.split(",")]
+        found[name] = [it for it in words if it and it != "alloc: Global"]
+    return found
+
+
+def check_declarations():
+    """The functions, structs and errors are those of crates/xet_c."""
+    text = source()
+    exported = {name: [rust_type(it) for it in words] for name, words in calls(sources(), 'extern "C" fn').items()}
+    wanted = {name: words for name, words in exported.items() if name not in NOT_CALLED}
+    if not wanted or calls(text, "    fn") != wanted:
+        return "the functions of bindings/rust are not those of crates/xet_c"
+    bodies = dict(re.findall(r"#\[repr\(C\)\]\n(?:#[^\n]*\n)*pub struct (\w+) \{\n(.*?)\n\}", text, re.S))
+    bodies = {name: re.findall(r"^    pub (\w+): (.*),$", body, re.M) for name, body in bodies.items()}
+    for name, fields in structs().items():
+        # The crate's own hash is four words and nothing else.
+        fields = [(field, rust_type(kind)) for field, kind in fields]
+        if name != "XetHash" and bodies.get(rust_type(name)) != fields:
+            return f"the fields of {rust_type(name)} in bindings/rust are not those of {name}"
+    numbers = re.findall(r"^            (\d+) => Error::(\w+),", text, re.M)
+    constants = re.findall(r"const (SHORT|DISAGREE): u32 = (\d+);", text)
+    numbers += [(number, name.title()) for name, number in constants]
+    if not numbers or any(error_numbers()[int(number)] != name for number, name in numbers):
+        return "the errors of bindings/rust are not those of crates/xet_c"
+    return None
+
+
+def check_example_shards(shard):
+    """The shards of the examples are what docs/FORMAT.md says of their records."""
+    for name, lines in EXAMPLES.items():
+        made = shard()
+        for line in lines:
+            kind, *words = line.split()
+            (made.add_file if kind == "file" else made.add_xorb)(*words)
+        with open(f"{CRATE}/examples/{name}.mdb", "rb") as file:
+            if file.read() != made.written():
+                return f"bindings/rust/examples/{name}.mdb is not the shard that it should be"
+    return None
+
+
+def cargo(room, libraries, *words):
+    """Runs cargo on the crate, without a network, and with what it builds in a room."""
+    if not shutil.which("cargo"):
+        raise Skip("cargo is not there, so nothing of bindings/rust was built or run")
+    named = {"CARGO_NET_OFFLINE": "true", "CARGO_TARGET_DIR": f"{room}/target", "XET_LIB_DIR": libraries}
+    return ran("cargo", *words, cwd=CRATE, env=named)
+
+
+def check_form(room, libraries):
+    """The crate is written as cargo's tools want it."""
+    for tool, words in (("fmt", ["--check"]), ("clippy", ["--quiet", "--all-targets", "--", "-D", "warnings"])):
+        if not shutil.which(f"cargo-{tool}"):
+            raise Skip(f"cargo {tool} is not there")
+        why = cargo(room, libraries, tool, *words)[1]
+        if why:
+            return why
+    return None
+
+
+def check_merge(room, libraries, wanted):
+    """The example merges the two files."""
+    words = ["run", "--quiet", "--example", "merge", "--", f"{room}/first.mdb", f"{room}/second.mdb"]
+    why = cargo(room, libraries, *words, "-o", f"{room}/rust_merged.mdb")[1]
+    if why:
+        return why
+    with open(f"{room}/rust_merged.mdb", "rb") as file:
+        return None if file.read() == wanted else "the example of bindings/rust writes other bytes than the vector has"
+
+
+def run_tests(room, libraries):
+    """Returns how many tests passed, those in the documentation too, and what is wrong with the others."""
+    printed, why = cargo(room, libraries, "test", "--no-fail-fast")
+    passed = sum(int(it) for it in re.findall(r"^test result: .* (\d+) passed", printed, re.M))
+    if why is None and passed == 0:
+        why = "cargo test runs no test"
+    failed = re.findall(r"^test (.*) \.\.\. FAILED$", printed, re.M)
+    return passed, [f"bindings/rust: {it} fails" for it in failed] or ([why] if why else [])

@@ -1,0 +1,115 @@
+//! The calls of `bindings/c/xet.h`, with slices and references for pointers, and the structs that only they have.
+//!
+//! All `unsafe` code of the crate is the one block in `library`.
+#![allow(unsafe_code)]
+
+use crate::{Export, Hash, Info, Segment};
+use std::marker::PhantomData;
+
+/// Defines for each call of the library a safe function of the same name.
+///
+/// Its parameters are those of the function in crates/xet_c, where the header has two for a slice: the pointer and the
+/// length. Each step takes one parameter, and adds to the lists of C's parameters, of arguments and of the function's
+/// own parameters.
+macro_rules! library {
+    ($(fn $name:ident($($parameters:tt)*) -> u32;)*) => {
+        $(library! { @ $name ($($parameters)*) [] [] [] })*
+    };
+    (@ $name:ident ($at:ident: &[$item:ty] $(, $($rest:tt)*)?) [$($c:tt)*] [$($arguments:tt)*] [$($own:tt)*]) => {
+        library! { @ $name ($($($rest)*)?) [$($c)* $at: *const $item, _: usize,]
+            [$($arguments)* $at.as_ptr(), $at.len(),] [$($own)* $at: &[$item],] }
+    };
+    (@ $name:ident ($at:ident: &mut [$item:ty] $(, $($rest:tt)*)?) [$($c:tt)*] [$($arguments:tt)*] [$($own:tt)*]) => {
+        library! { @ $name ($($($rest)*)?) [$($c)* $at: *mut $item, _: usize,]
+            [$($arguments)* $at.as_mut_ptr(), $at.len(),] [$($own)* $at: &mut [$item],] }
+    };
+    (@ $name:ident ($at:ident: $item:ty $(, $($rest:tt)*)?) [$($c:tt)*] [$($arguments:tt)*] [$($own:tt)*]) => {
+        library! { @ $name ($($($rest)*)?) [$($c)* $at: $item,] [$($arguments)* $at,] [$($own)* $at: $item,] }
+    };
+    (@ $name:ident () [$($c:tt)*] [$($arguments:tt)*] [$($own:tt)*]) => {
+        // The header has so many parameters.
+        #[allow(clippy::too_many_arguments)]
+        pub fn $name($($own)*) -> u32 {
+            unsafe extern "C" {
+                fn $name($($c)*) -> u32;
+            }
+            // SAFETY: the declaration is that of xet.h, which .ci/bindings compares. What xet.h asks of callers holds
+            // for slices and references: they are valid for their lengths until the call returns, aligned and not
+            // null, those to outputs overlap nothing, and each `bool` is 0 or 1. The library keeps no pointer, and it
+            // is proved to read nothing but its inputs, and to write nothing but its outputs, to which it writes
+            // numbers alone: of these types any bits are values, but for `bool`s, which it writes as 0 or 1.
+            unsafe { $name($($arguments)*) }
+        }
+    };
+}
+
+library! {
+    fn xet_load(shard: &[u8], info: &mut Info) -> u32;
+    fn xet_union(first: &[u8], second: &[u8], out: &mut [u8], written: &mut usize) -> u32;
+    fn xet_merge(shards: &[Bytes], out: &mut [u8], written: &mut usize) -> u32;
+    fn xet_find_disagreement(shards: &[Bytes], differing: &mut usize, found: &mut Disagreement) -> u32;
+    fn xet_merge_agreeing(
+        shards: &[Bytes], out: &mut [u8], written: &mut usize, differing: &mut usize, found: &mut Disagreement,
+    ) -> u32;
+    fn xet_difference(first: &[u8], second: &[u8], out: &mut [u8], written: &mut usize) -> u32;
+    fn xet_export(shard: &[u8], options: &Export, out: &mut [u8], written: &mut usize) -> u32;
+    fn xet_minimal(
+        shard: &[u8], now: u64, verification: bool, aux_rows: bool, out: &mut [u8], written: &mut usize,
+    ) -> u32;
+    fn xet_subset(shard: &[u8], options: &Subset, xorbs: &[Hash], out: &mut [u8], written: &mut usize) -> u32;
+    fn xet_query_chunks(shard: &[u8], hashes: &[Hash], count: &mut usize, run: &mut Segment) -> u32;
+    fn xet_eligible(shard: &[u8], out: &mut [Hash], written: &mut usize) -> u32;
+    fn xet_find_file(shard: &[u8], hash: &Hash, file: &mut File, segments: &mut [FileSegment]) -> u32;
+    fn xet_hash_from_hex(text: &[u8], hash: &mut Hash) -> u32;
+    fn xet_parse_shard_name(name: &[u8], hash: &mut Hash) -> u32;
+}
+
+/// The bytes of a shard, in a list of shards.
+#[repr(C)]
+#[derive(Clone, Copy)]
+pub struct Bytes<'a> {
+    bytes: *const u8,
+    length: usize,
+    lifetime: PhantomData<&'a [u8]>,
+}
+
+impl<'a> From<&'a [u8]> for Bytes<'a> {
+    fn from(bytes: &'a [u8]) -> Bytes<'a> {
+        Bytes { bytes: bytes.as_ptr(), length: bytes.len(), lifetime: PhantomData }
+    }
+}
+
+#[repr(C)]
+#[derive(Clone, Copy, Default)]
+pub struct FileSegment {
+    pub segment: Segment,
+    pub verification: Hash,
+}
+
+#[repr(C)]
+#[derive(Clone, Copy, Default)]
+pub struct File {
+    pub found: bool,
+    pub has_verification: bool,
+    pub has_sha256: bool,
+    pub has_aux: bool,
+    pub segments: usize,
+    pub sha256: Hash,
+    pub aux_hash: Hash,
+}
+
+#[repr(C)]
+pub struct Subset {
+    pub now: u64,
+    pub expiry: u64,
+    pub all: bool,
+}
+
+#[repr(C)]
+#[derive(Default)]
+pub struct Disagreement {
+    pub hash: Hash,
+    pub is_xorb: bool,
+    pub first: usize,
+    pub second: usize,
+}

@@ -1,0 +1,179 @@
+//! Unions, differences and disagreements.
+
+use crate::calls::{self, Bytes};
+use crate::error::{Error, check};
+use crate::output::bytes_of;
+use crate::{Hash, Result};
+use std::fmt;
+
+/// The number of the error that tells a disagreement.
+const DISAGREE: u32 = 20;
+
+/// The hash of a file or of a xorb.
+#[derive(Clone, Copy, Debug, PartialEq, Eq, Hash)]
+pub enum RecordHash {
+    /// Of a file.
+    File(Hash),
+    /// Of a xorb.
+    Xorb(Hash),
+}
+
+/// A hash under which two shards have records that do not agree.
+#[derive(Clone, Copy, Debug, PartialEq, Eq, Hash)]
+pub struct Disagreement {
+    /// The first such hash: of files before xorbs, and the least hash first.
+    pub record_hash: RecordHash,
+    /// The index of one such shard in the list.
+    pub first: usize,
+    /// The index of another.
+    pub second: usize,
+    /// How many such hashes there are.
+    pub count: usize,
+}
+
+impl Disagreement {
+    fn of(found: &calls::Disagreement, count: usize) -> Disagreement {
+        let record_hash = if found.is_xorb { RecordHash::Xorb(found.hash) } else { RecordHash::File(found.hash) };
+        Disagreement { record_hash, first: found.first, second: found.second, count }
+    }
+}
+
+impl fmt::Display for Disagreement {
+    fn fmt(&self, f: &mut fmt::Formatter<'_>) -> fmt::Result {
+        let (kind, hash) = match self.record_hash {
+            RecordHash::File(hash) => ("file", hash),
+            RecordHash::Xorb(hash) => ("xorb", hash),
+        };
+        write!(f, "the shards at {} and {} do not agree on {kind} {hash}", self.first, self.second)?;
+        match self.count {
+            0 | 1 => Ok(()),
+            count => write!(f, ", the first of {count} hashes"),
+        }
+    }
+}
+
+/// The union of two shards of one key: the records of both.
+///
+/// Of shards that agree it is the same bytes in either order and any grouping of several. `xet.h` says which of two
+/// records with one hash it has where they do not agree.
+///
+/// Errors: `ShardVersion`, `Io`, `InvalidArguments` for keys that differ, `InvalidShard`, `OutOfMemory`.
+///
+/// ```
+/// # fn main() -> Result<(), Box<dyn std::error::Error>> {
+/// let (one, other) = (std::fs::read("examples/a.mdb")?, std::fs::read("examples/b.mdb")?);
+/// let union = xet_shards::union(&one, &other)?;
+/// assert_eq!(union, xet_shards::union(&other, &one)?);
+/// assert_eq!(xet_shards::load(&union)?.files, 2);
+/// # Ok(())
+/// # }
+/// ```
+pub fn union(first: &[u8], second: &[u8]) -> Result<Vec<u8>> {
+    let length = first.len().saturating_add(second.len());
+    bytes_of(length, |out, written| calls::xet_union(first, second, out, written))
+}
+
+/// The second shard's records whose hashes the first does not have. Both have one key.
+///
+/// Errors: those of [`union`], without that of files that have to be combined.
+///
+/// ```
+/// # fn main() -> Result<(), Box<dyn std::error::Error>> {
+/// let (one, other) = (std::fs::read("examples/a.mdb")?, std::fs::read("examples/b.mdb")?);
+/// let union = xet_shards::union(&one, &other)?;
+/// assert_eq!(xet_shards::difference(&one, &union)?, other);
+/// # Ok(())
+/// # }
+/// ```
+pub fn difference(first: &[u8], second: &[u8]) -> Result<Vec<u8>> {
+    bytes_of(second.len(), |out, written| calls::xet_difference(first, second, out, written))
+}
+
+/// The union of one shard or more: that of the first half of the list with that of the second, each made in the same
+/// way; a single one is united with itself. Of shards that agree pairwise and have no key it is the same bytes in any
+/// order.
+///
+/// Errors: those of [`union`], and `InvalidArguments` if there is no shard.
+///
+/// ```
+/// # fn main() -> Result<(), Box<dyn std::error::Error>> {
+/// let (one, other) = (std::fs::read("examples/a.mdb")?, std::fs::read("examples/b.mdb")?);
+/// let merged = xet_shards::merge(&[&one, &other, &one])?;
+/// assert_eq!(merged, xet_shards::union(&one, &other)?);
+/// # Ok(())
+/// # }
+/// ```
+pub fn merge<T: AsRef<[u8]>>(shards: &[T]) -> Result<Vec<u8>> {
+    let (list, length) = listed(shards)?;
+    bytes_of(length, |out, written| calls::xet_merge(&list, out, written))
+}
+
+/// The union of one shard or more as [`merge`] makes it, if each two of the shards agree.
+///
+/// Errors: `Disagree` if two do not; else those of [`merge`].
+///
+/// ```
+/// use xet_shards::{Error, RecordHash};
+///
+/// # fn main() -> Result<(), Box<dyn std::error::Error>> {
+/// let (one, other) = (std::fs::read("examples/a.mdb")?, std::fs::read("examples/b.mdb")?);
+/// assert_eq!(xet_shards::merge_agreeing(&[&one, &other])?, xet_shards::merge(&[&one, &other])?);
+///
+/// let unlike = std::fs::read("examples/c.mdb")?;
+/// match xet_shards::merge_agreeing(&[&one, &other, &unlike]) {
+///     Err(Error::Disagree(it)) => assert_eq!(it.record_hash, RecordHash::File([100, 1, 0, 0].into())),
+///     _ => unreachable!("a.mdb and c.mdb differ in a file"),
+/// }
+/// # Ok(())
+/// # }
+/// ```
+pub fn merge_agreeing<T: AsRef<[u8]>>(shards: &[T]) -> Result<Vec<u8>> {
+    let (list, length) = listed(shards)?;
+    let mut found = None;
+    let merged = bytes_of(length, |out, written| {
+        let (mut count, mut first) = (0, calls::Disagreement::default());
+        let number = calls::xet_merge_agreeing(&list, out, written, &mut count, &mut first);
+        found = (number == DISAGREE).then(|| Disagreement::of(&first, count));
+        number
+    });
+    match found {
+        Some(disagreement) => Err(Error::Disagree(disagreement)),
+        None => merged,
+    }
+}
+
+/// Looks for a hash under which two of the shards have records that do not agree. If there is none, each two agree.
+///
+/// Two files agree if they have equal segments, and an equal optional part wherever both have it, and two xorbs if they
+/// are equal. The keys of the shards do not count.
+///
+/// Errors: `ShardVersion`, `Io`, `InvalidShard`, `OutOfMemory`.
+///
+/// ```
+/// # fn main() -> Result<(), Box<dyn std::error::Error>> {
+/// let [a, b, c] = ["a", "b", "c"].map(|it| std::fs::read(format!("examples/{it}.mdb")));
+/// let shards = [a?, b?, c?];
+/// assert_eq!(xet_shards::find_disagreement(&shards[..2])?, None);
+/// let found = xet_shards::find_disagreement(&shards)?.expect("a.mdb and c.mdb differ in a file");
+/// assert_eq!((found.first, found.second, found.count), (0, 2, 1));
+/// # Ok(())
+/// # }
+/// ```
+pub fn find_disagreement<T: AsRef<[u8]>>(shards: &[T]) -> Result<Option<Disagreement>> {
+    let (list, _) = listed(shards)?;
+    let (mut count, mut found) = (0, calls::Disagreement::default());
+    check(calls::xet_find_disagreement(&list, &mut count, &mut found))?;
+    Ok((count > 0).then(|| Disagreement::of(&found, count)))
+}
+
+/// The shards as the library takes a list of them, and the sum of their lengths.
+fn listed<T: AsRef<[u8]>>(shards: &[T]) -> Result<(Vec<Bytes<'_>>, usize)> {
+    let mut list = Vec::new();
+    list.try_reserve_exact(shards.len()).map_err(|_| Error::OutOfMemory)?;
+    let mut length = 0usize;
+    for shard in shards {
+        length = length.saturating_add(shard.as_ref().len());
+        list.push(Bytes::from(shard.as_ref()));
+    }
+    Ok((list, length))
+}

@@ -1,0 +1,43 @@
+//! Metadata shards of Xet storage: bytes in, bytes or an answer out.
+//!
+//! Each function is a call of `libxet.a`, whose functions are proved to return, for any bytes, corrupt ones too, what
+//! their contracts state; `bindings/c/xet.h` says it in words. This crate, which makes room for outputs and turns
+//! numbers into enums, is not proved. Nothing is kept between calls, and any number of threads may call at once. Times
+//! are in seconds.
+//!
+//! ```
+//! # fn main() -> Result<(), Box<dyn std::error::Error>> {
+//! let shards = [std::fs::read("examples/a.mdb")?, std::fs::read("examples/b.mdb")?];
+//! let merged = xet_shards::merge(&shards)?;
+//! assert_eq!(xet_shards::load(&merged)?.files, 2);
+//! let file = xet_shards::find_file(&merged, [101, 1, 0, 0].into())?.expect("the file is in b.mdb");
+//! assert_eq!(file.segments.len(), 1);
+//! # Ok(())
+//! # }
+//! ```
+#![deny(missing_docs, unsafe_code)]
+
+mod calls;
+mod combine;
+mod error;
+mod hash;
+mod lookup;
+mod name;
+mod output;
+mod write;
+
+pub use combine::{Disagreement, RecordHash, difference, find_disagreement, merge, merge_agreeing, union};
+pub use error::Error;
+pub use hash::Hash;
+pub use lookup::{File, Info, Run, Segment, eligible, find_file, load, query_chunks};
+pub use name::{hash_of_name, shard_name};
+pub use write::{Export, Minimal, Subset, Xorbs, export, minimal, subset};
+
+/// What a call returns.
+pub type Result<T> = std::result::Result<T, Error>;
+
+/// The key of an export that leaves chunk hashes as they are, and of a shard whose chunk hashes are not keyed.
+pub const NO_KEY: Hash = Hash([0; 4]);
+
+/// The expiry of a shard that has none.
+pub const NO_EXPIRY: u64 = u64::MAX;

@@ -1,0 +1,153 @@
+//! What a shard says, and what is looked up in it.
+
+use crate::error::check;
+use crate::output::{SHORT, hashes_of, zeros};
+use crate::{Hash, Result, calls};
+
+/// What the header and the footer of a shard say. A table that is left out has 0 rows.
+#[derive(Clone, Copy, Debug, Default, PartialEq, Eq)]
+#[repr(C)]
+pub struct Info {
+    /// The version of the format: 2 or 3.
+    pub version: u64,
+    /// The rows of the table of files.
+    pub files: u64,
+    /// The rows of the table of xorbs.
+    pub xorbs: u64,
+    /// The rows of the table of chunks.
+    pub chunks: u64,
+    /// The key of the chunk hashes, or [`NO_KEY`](crate::NO_KEY).
+    pub key: Hash,
+    /// In seconds.
+    pub creation: u64,
+    /// In seconds. If there is none it is [`NO_EXPIRY`](crate::NO_EXPIRY), or 0 in minimal shards and subsets.
+    pub expiry: u64,
+    /// Of all xorbs.
+    pub stored_bytes_on_disk: u64,
+    /// Of all files.
+    pub materialized_bytes: u64,
+    /// Of all xorbs, unpacked.
+    pub stored_bytes: u64,
+}
+
+/// Chunks `start` to `end`, without `end`, of a xorb.
+#[derive(Clone, Copy, Debug, Default, PartialEq, Eq, Hash)]
+#[repr(C)]
+pub struct Segment {
+    /// The hash of the xorb.
+    pub xorb: Hash,
+    /// The flags of the xorb, as the shard has them.
+    pub flags: u32,
+    /// The bytes of the chunks, unpacked.
+    pub bytes: u32,
+    /// The index of the first chunk.
+    pub start: u32,
+    /// The index behind the last chunk.
+    pub end: u32,
+}
+
+/// What a shard has of a file.
+#[derive(Clone, Debug, PartialEq, Eq)]
+pub struct File {
+    /// The parts of the file, in order.
+    pub segments: Vec<Segment>,
+    /// The hash of each segment's verification row, where the file has them.
+    pub verification: Option<Vec<Hash>>,
+    /// The SHA-256 of the file, where it has one.
+    pub sha256: Option<Hash>,
+    /// The hash of the auxiliary row, where the file has one.
+    pub aux_hash: Option<Hash>,
+}
+
+/// A run of chunks in one xorb.
+#[derive(Clone, Copy, Debug, PartialEq, Eq)]
+pub struct Run {
+    /// How many of the chunks that were asked for, from the first on, the xorb has one after another.
+    pub count: usize,
+    /// Where they are.
+    pub segment: Segment,
+}
+
+/// Reads the header and the footer of a shard.
+///
+/// Errors: `ShardVersion`, `Io`.
+///
+/// ```
+/// # fn main() -> Result<(), Box<dyn std::error::Error>> {
+/// let info = xet_shards::load(&std::fs::read("examples/a.mdb")?)?;
+/// assert_eq!((info.version, info.files, info.xorbs, info.chunks), (3, 1, 1, 1));
+/// assert_eq!((info.key, info.expiry), (xet_shards::NO_KEY, xet_shards::NO_EXPIRY));
+/// # Ok(())
+/// # }
+/// ```
+pub fn load(shard: &[u8]) -> Result<Info> {
+    let mut info = Info::default();
+    check(calls::xet_load(shard, &mut info))?;
+    Ok(info)
+}
+
+/// Looks up the file with this hash in the table of files. A shard without this table has no file that is found.
+///
+/// Errors: `ShardVersion`, `Io`, `TruncatedHashCollision`, `InternalError`, `InvalidShard`, `OutOfMemory`.
+///
+/// ```
+/// # fn main() -> Result<(), Box<dyn std::error::Error>> {
+/// let shard = std::fs::read("examples/a.mdb")?;
+/// let file = xet_shards::find_file(&shard, [100, 1, 0, 0].into())?.expect("the shard has the file");
+/// assert_eq!((file.segments[0].xorb, file.segments[0].bytes), ([10, 1, 0, 0].into(), 5));
+/// assert_eq!(xet_shards::find_file(&shard, [101, 1, 0, 0].into())?, None);
+/// # Ok(())
+/// # }
+/// ```
+pub fn find_file(shard: &[u8], hash: Hash) -> Result<Option<File>> {
+    let (mut file, mut segments) = (calls::File::default(), zeros(64)?);
+    let mut number = calls::xet_find_file(shard, &hash, &mut file, &mut segments);
+    if number == SHORT {
+        segments = zeros(file.segments)?;
+        number = calls::xet_find_file(shard, &hash, &mut file, &mut segments);
+    }
+    check(number)?;
+    segments.truncate(file.segments);
+    Ok(file.found.then(|| File {
+        segments: segments.iter().map(|it| it.segment).collect(),
+        verification: file.has_verification.then(|| segments.iter().map(|it| it.verification).collect()),
+        sha256: file.has_sha256.then_some(file.sha256),
+        aux_hash: file.has_aux.then_some(file.aux_hash),
+    }))
+}
+
+/// Looks for a run of chunks with these hashes, which are not keyed, also if the shard's are. It has at least the
+/// first chunk.
+///
+/// Errors: `ShardVersion`, `Io`, `InvalidShard`, `OutOfMemory`.
+///
+/// ```
+/// # fn main() -> Result<(), Box<dyn std::error::Error>> {
+/// let shard = std::fs::read("examples/b.mdb")?;
+/// let chunks = [22, 23, 24].map(|it| [it, 1, 0, 0].into());
+/// let run = xet_shards::query_chunks(&shard, &chunks)?.expect("the shard has the first chunk");
+/// assert_eq!((run.count, run.segment.start, run.segment.end), (2, 0, 2));
+/// # Ok(())
+/// # }
+/// ```
+pub fn query_chunks(shard: &[u8], hashes: &[Hash]) -> Result<Option<Run>> {
+    let (mut count, mut segment) = (0, Segment::default());
+    check(calls::xet_query_chunks(shard, hashes, &mut count, &mut segment))?;
+    Ok((count > 0).then_some(Run { count, segment }))
+}
+
+/// The hashes of the chunks that the global index keeps, each once and in ascending order.
+///
+/// Errors: `ShardVersion`, `Io`, `InvalidShard`, `OutOfMemory`.
+///
+/// ```
+/// # fn main() -> Result<(), Box<dyn std::error::Error>> {
+/// let shard = std::fs::read("examples/b.mdb")?;
+/// let hashes = [22, 23].map(|it| [it, 1, 0, 0].into());
+/// assert_eq!(xet_shards::eligible(&shard)?, hashes);
+/// # Ok(())
+/// # }
+/// ```
+pub fn eligible(shard: &[u8]) -> Result<Vec<Hash>> {
+    hashes_of(|out, written| calls::xet_eligible(shard, out, written))
+}

@@ -1,0 +1,40 @@
+//! Room for what a call writes.
+
+use crate::error::{Error, check};
+use crate::{Hash, Result};
+
+/// `XET_SHORT`: the output does not fit the room that was given.
+pub const SHORT: u32 = 19;
+
+/// So many items, each of zeros. They are written before the call writes its own, which is little work next to it.
+pub fn zeros<T: Clone + Default>(count: usize) -> Result<Vec<T>> {
+    let mut items = Vec::new();
+    items.try_reserve_exact(count).map_err(|_| Error::OutOfMemory)?;
+    items.resize(count, T::default());
+    Ok(items)
+}
+
+/// The items that a call writes to the front of what it is given. If there is no room for them it says how many they
+/// are, and is called again.
+fn filled<T: Clone + Default>(room: usize, mut call: impl FnMut(&mut [T], &mut usize) -> u32) -> Result<Vec<T>> {
+    let (mut out, mut written) = (zeros(room)?, 0);
+    let mut number = call(&mut out, &mut written);
+    if number == SHORT {
+        out = zeros(written)?;
+        number = call(&mut out, &mut written);
+    }
+    check(number)?;
+    out.truncate(written);
+    Ok(out)
+}
+
+/// The bytes that a call makes of inputs of so many bytes. Only tables that the inputs lack make them longer than the
+/// first room for them.
+pub fn bytes_of(inputs: usize, call: impl FnMut(&mut [u8], &mut usize) -> u32) -> Result<Vec<u8>> {
+    filled(inputs.saturating_add(400), call)
+}
+
+/// The hashes that a call lists.
+pub fn hashes_of(call: impl FnMut(&mut [Hash], &mut usize) -> u32) -> Result<Vec<Hash>> {
+    filled(64, call)
+}

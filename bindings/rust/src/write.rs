@@ -1,0 +1,136 @@
+//! Exports, minimal shards and subsets.
+
+use crate::output::bytes_of;
+use crate::{Hash, Result, calls};
+
+/// What an export is to have.
+#[derive(Clone, Copy, Debug, PartialEq, Eq)]
+#[repr(C)]
+pub struct Export {
+    /// The key of the chunk hashes; [`NO_KEY`](crate::NO_KEY) leaves them as they are.
+    pub key: Hash,
+    /// The creation of the export, in seconds.
+    pub now: u64,
+    /// It expires so many seconds later.
+    pub valid_seconds: u64,
+    /// It has the files and their table.
+    pub files: bool,
+    /// Files have their auxiliary rows.
+    pub aux_rows: bool,
+    /// It has the table of xorbs.
+    pub xorb_table: bool,
+    /// It has the table of chunks.
+    pub chunk_table: bool,
+}
+
+impl Export {
+    /// An export with all parts.
+    ///
+    /// ```
+    /// use xet_shards::Export;
+    ///
+    /// let without_files = Export { files: false, ..Export::new([7, 1, 0, 0].into(), 1_700_000_000, 3600) };
+    /// assert!(without_files.chunk_table && !without_files.files);
+    /// ```
+    pub fn new(key: Hash, now: u64, valid_seconds: u64) -> Export {
+        Export { key, now, valid_seconds, files: true, aux_rows: true, xorb_table: true, chunk_table: true }
+    }
+}
+
+/// What a minimal shard is to have.
+#[derive(Clone, Copy, Debug, PartialEq, Eq)]
+pub struct Minimal {
+    /// Its creation, in seconds.
+    pub now: u64,
+    /// Files keep their verification rows, which each has to have.
+    pub verification: bool,
+    /// Files keep their auxiliary rows.
+    pub aux_rows: bool,
+}
+
+/// What a subset is to have.
+#[derive(Clone, Copy, Debug, PartialEq, Eq)]
+pub struct Subset<'a> {
+    /// Its creation, in seconds.
+    pub now: u64,
+    /// In seconds; `None` and 0 mean that it does not expire.
+    pub expiry: Option<u64>,
+    /// Its xorbs.
+    pub xorbs: Xorbs<'a>,
+}
+
+/// The xorbs of a subset.
+#[derive(Clone, Copy, Debug, PartialEq, Eq)]
+pub enum Xorbs<'a> {
+    /// All xorbs of the shard.
+    All,
+    /// Those with these hashes; a hash that no xorb has is passed over.
+    Listed(&'a [Hash]),
+}
+
+/// The shard with each chunk hash replaced by its keyed hash, and with the parts that are asked for.
+///
+/// Errors: `ShardVersion`, `Io`, `InvalidArguments` if the chunk hashes are keyed already or if `now` and
+/// `valid_seconds` add up to 2^64 or more, `InvalidShard`, `OutOfMemory`.
+///
+/// ```
+/// use xet_shards::Export;
+///
+/// # fn main() -> Result<(), Box<dyn std::error::Error>> {
+/// let shard = std::fs::read("examples/a.mdb")?;
+/// let key = [7, 1, 0, 0].into();
+/// let exported = xet_shards::export(&shard, &Export::new(key, 1_700_000_000, 3600))?;
+/// let info = xet_shards::load(&exported)?;
+/// assert_eq!((info.key, info.expiry), (key, 1_700_003_600));
+/// # Ok(())
+/// # }
+/// ```
+pub fn export(shard: &[u8], options: &Export) -> Result<Vec<u8>> {
+    bytes_of(shard.len(), |out, written| calls::xet_export(shard, options, out, written))
+}
+
+/// The records of the shard without tables, with expiry 0, and with a mark at each chunk at which a file starts.
+///
+/// Errors: `ShardVersion`, `Io`, also if verification rows are asked for and a file has none, `InvalidShard`,
+/// `OutOfMemory`.
+///
+/// ```
+/// use xet_shards::Minimal;
+///
+/// # fn main() -> Result<(), Box<dyn std::error::Error>> {
+/// let shard = std::fs::read("examples/a.mdb")?;
+/// let options = Minimal { now: 1_700_000_000, verification: false, aux_rows: true };
+/// let minimal = xet_shards::minimal(&shard, &options)?;
+/// assert_eq!(xet_shards::load(&minimal)?.creation, 1_700_000_000);
+/// assert!(minimal.len() < shard.len());
+/// # Ok(())
+/// # }
+/// ```
+pub fn minimal(shard: &[u8], options: &Minimal) -> Result<Vec<u8>> {
+    let Minimal { now, verification, aux_rows } = *options;
+    bytes_of(shard.len(), |out, written| calls::xet_minimal(shard, now, verification, aux_rows, out, written))
+}
+
+/// Xorbs of the shard, without files and tables, and with a mark at each chunk at which a file starts.
+///
+/// Errors: `ShardVersion`, `Io`, `InvalidShard`, `OutOfMemory`.
+///
+/// ```
+/// use xet_shards::{Subset, Xorbs};
+///
+/// # fn main() -> Result<(), Box<dyn std::error::Error>> {
+/// let shard = std::fs::read("examples/a.mdb")?;
+/// let listed = [[10, 1, 0, 0].into(), [99, 1, 0, 0].into()];
+/// let options = Subset { now: 1_700_000_000, expiry: None, xorbs: Xorbs::Listed(&listed) };
+/// assert_eq!(xet_shards::load(&xet_shards::subset(&shard, &options)?)?.stored_bytes, 5);
+/// # Ok(())
+/// # }
+/// ```
+pub fn subset(shard: &[u8], options: &Subset<'_>) -> Result<Vec<u8>> {
+    let (all, listed) = match options.xorbs {
+        Xorbs::All => (true, &[][..]),
+        Xorbs::Listed(listed) => (false, listed),
+    };
+    let times = calls::Subset { now: options.now, expiry: options.expiry.unwrap_or(0), all };
+    bytes_of(shard.len(), |out, written| calls::xet_subset(shard, &times, listed, out, written))
+}

@@ -1,0 +1,120 @@
+//! What no script of vectors/ shows of the calls.
+
+mod common;
+
+use common::{Shard, hash};
+use std::error::Error as _;
+use std::thread;
+use xet_shards::{Disagreement, Error, Export, Hash, Minimal, NO_EXPIRY, NO_KEY, RecordHash};
+
+/// The bytes of a shard of `file` and `xorb` lines.
+fn shard_of(lines: &[&str]) -> Vec<u8> {
+    let mut shard = Shard::default();
+    for line in lines {
+        let words: Vec<&str> = line.split(' ').collect();
+        match words[0] {
+            "file" => shard.add_file(&words[1..]),
+            _ => shard.add_xorb(&words[1..]),
+        }
+    }
+    shard.written(NO_EXPIRY, 3)
+}
+
+fn one_file() -> Vec<u8> {
+    shard_of(&["file 100 200:0:5:5"])
+}
+
+#[test]
+fn inputs_that_are_no_shards() {
+    let file = one_file();
+    assert_eq!(xet_shards::load(&[]), Err(Error::Io));
+    assert_eq!(xet_shards::load(&[7; 500]), Err(Error::ShardVersion));
+    assert_eq!(xet_shards::merge::<&[u8]>(&[]), Err(Error::InvalidArguments));
+    assert_eq!(xet_shards::merge(&[&file[..], &file[..199]]), Err(Error::Io));
+    assert_eq!(xet_shards::find_disagreement(&[&file[..], &file[..199]]), Err(Error::Io));
+    assert_eq!("10".parse::<Hash>(), Err(Error::HashParsing));
+    assert_eq!(xet_shards::hash_of_name("/a.mdb"), Err(Error::BadFilename));
+}
+
+#[test]
+fn each_beginning_is_cut_short() {
+    // The header and the two sections are 240 bytes of the 452.
+    let (file, options) = (one_file(), Minimal { now: 0, verification: false, aux_rows: true });
+    for end in 0..240 {
+        assert_eq!(xet_shards::eligible(&file[..end]), Err(Error::Io));
+        assert_eq!(xet_shards::minimal(&file[..end], &options), Err(Error::Io));
+    }
+    for end in 0..200 {
+        assert_eq!(xet_shards::load(&file[..end]), Err(Error::Io));
+        assert_eq!(xet_shards::find_file(&file[..end], hash("100")), Err(Error::Io));
+    }
+}
+
+#[test]
+fn keys() {
+    let shard = one_file();
+    let keyed = xet_shards::export(&shard, &Export::new(hash("7"), 0, 0)).expect("an export");
+    assert_eq!(xet_shards::union(&keyed, &shard), Err(Error::InvalidArguments));
+    assert_eq!(xet_shards::export(&keyed, &Export::new(hash("8"), 0, 0)), Err(Error::InvalidArguments));
+}
+
+#[test]
+fn names_of_either_case() {
+    let name = format!("{:016x}{:048x}", 0xabc, 0);
+    for text in [name.clone(), name.to_uppercase()] {
+        assert_eq!(text.parse(), Ok(Hash([0xabc, 0, 0, 0])));
+        assert_eq!(xet_shards::hash_of_name(&format!("{text}.mdb")), Ok(Hash([0xabc, 0, 0, 0])));
+    }
+    assert_eq!(xet_shards::hash_of_name(&format!("{name}.MDB")), Err(Error::BadFilename));
+}
+
+#[test]
+fn outputs_longer_than_the_first_room() {
+    let chunks: String = (0..1000).map(|it| format!(" {it}:1")).collect();
+    let whole = shard_of(&[&format!("xorb 10{chunks}")]);
+    let options = Export { files: false, xorb_table: false, chunk_table: false, ..Export::new(NO_KEY, 0, 0) };
+    let bare = xet_shards::export(&whole, &options).expect("an export");
+    assert!(bare.len() + 16000 < whole.len());
+    // The union has the tables that the export lacks.
+    assert_eq!(xet_shards::merge(&[bare, shard_of(&[])]).as_ref(), Ok(&whole));
+    assert_eq!(
+        xet_shards::eligible(&whole).expect("hashes"),
+        (0..1000).map(|it| Hash([it, 1, 0, 0])).collect::<Vec<_>>()
+    );
+}
+
+#[test]
+fn more_segments_than_the_first_room() {
+    let segments: Vec<String> = (0..100).map(|it| format!("{}:{it}:{}:9", 200 + it, it + 1)).collect();
+    let shard = shard_of(&[&format!("file 100 {}", segments.join(" ")), "file 101"]);
+    let file = xet_shards::find_file(&shard, hash("100")).expect("an answer").expect("a file");
+    assert_eq!(file.segments.len(), 100);
+    assert!(file.segments.iter().zip(0..).all(|(it, at)| it.xorb == Hash([200 + at, 1, 0, 0]) && it.bytes == 9));
+    assert_eq!((file.verification, file.sha256, file.aux_hash), (None, None, None));
+}
+
+#[test]
+fn disagreements() {
+    let one = shard_of(&["file 100 200:0:5:5", "xorb 10 21:5"]);
+    let other = shard_of(&["file 100 s=7 200:0:5:5", "xorb 10 21:6"]);
+    assert_eq!(xet_shards::find_disagreement(&[&one, &one, &one]), Ok(None));
+    assert_eq!(xet_shards::merge_agreeing(&[&one, &one]).as_ref(), Ok(&one));
+    let found = Disagreement { record_hash: RecordHash::Xorb(hash("10")), first: 0, second: 2, count: 1 };
+    assert_eq!(xet_shards::find_disagreement(&[&one, &one, &other]), Ok(Some(found)));
+    let error = xet_shards::merge_agreeing(&[&one, &one, &other]).expect_err("they do not agree");
+    assert_eq!(error, Error::Disagree(found));
+    assert_eq!(error.to_string(), format!("the shards at 0 and 2 do not agree on xorb {}", hash("10")));
+    assert!(error.source().is_none());
+    // Where records do not agree a merge takes one of them.
+    assert!(xet_shards::merge(&[&one, &other]).is_ok());
+}
+
+#[test]
+fn threads() {
+    let file = one_file();
+    thread::scope(|scope| {
+        for _ in 0..4 {
+            scope.spawn(|| assert_eq!(xet_shards::merge(&[&file, &file, &file]).as_ref(), Ok(&file)));
+        }
+    });
+}
