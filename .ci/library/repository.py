@@ -1,0 +1,35 @@
+"""Checks of what holds of the whole repository: its version, and its licence."""
+import os
+import re
+
+from .common import BINDINGS, TOP, read
+
+# The files that state the version, and how. The file VERSION is where it is changed.
+VERSIONS = {
+    "CHANGELOG.md": r"^## (\S+)",
+    "bench/Cargo.toml": r'^version = "(.*)"$',
+    "bindings/python/pyproject.toml": r'^version = "(.*)"$',
+    "bindings/rust/Cargo.toml": r'^version = "(.*)"$',
+    "diff/Cargo.toml": r'^version = "(.*)"$',
+}
+
+
+def check_versions():
+    """Each version is that of the file VERSION."""
+    wanted = read(f"{TOP}/VERSION").strip()
+    for name, pattern in VERSIONS.items():
+        found = re.search(pattern, read(f"{TOP}/{name}"), re.M)
+        if not found or found[1] != wanted:
+            return f"the version in {name} is {found and found[1]}, and that in VERSION {wanted}"
+    return None
+
+
+def check_licence():
+    """Packages of the bindings carry the licence and the notice."""
+    for package in ("python", "rust"):
+        for name in ("LICENSE", "NOTICE"):
+            if not os.path.isfile(f"{BINDINGS}/{package}/{name}"):
+                return f"bindings/{package} has no {name}"
+            if read(f"{BINDINGS}/{package}/{name}") != read(f"{TOP}/{name}"):
+                return f"bindings/{package}/{name} is not that of the repository"
+    return None
