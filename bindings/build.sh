@@ -1,13 +1,23 @@
 #!/bin/sh
 # Builds libxet.a and libxet.so of the static library crates/xet_c, whose archive `rt lib` makes if it isn't there or a
-# source is newer. Both go to the folder that is given; with none, libxet.a goes to bindings/out and libxet.so beside
-# the Python module. $CC is the C compiler, else cc. Needs the Rattle toolchain on the path.
+# source is newer.
+#
+#   build.sh           puts libxet.a into bindings/out, and libxet.so.0 beside the Python module
+#   build.sh PREFIX    installs PREFIX/include/xet.h, PREFIX/lib/libxet.a and libxet.so, and PREFIX/lib/pkgconfig/xet.pc;
+#                      $DESTDIR is set before PREFIX where they are to be moved there later
+#
+# $CC is the C compiler, else cc. Needs the Rattle toolchain on the path.
 set -e
 top=$(cd "$(dirname "$0")/.." && pwd)
 archive="$top/crates/xet_c/out/libxet_c.a"
-static=${1:-$top/bindings/out} shared=${1:-$top/bindings/python/xet_shards}
-mkdir -p "$static" "$shared"
-static=$(cd "$static" && pwd) shared=$(cd "$shared" && pwd)
+version=$(cat "$top/VERSION")
+# A program that was linked with a library runs with any that has the same name of this kind.
+soname=libxet.so.${version%%.*}
+case "$1" in
+    -*) echo "usage: build.sh [PREFIX]" >&2; exit 2 ;;
+    "" | /*) prefix=$1 ;;
+    *) prefix=$(pwd)/$1 ;;
+esac
 
 command -v rt >/dev/null || { echo "build.sh: rt is not on the path" >&2; exit 1; }
 if [ ! -f "$archive" ] || [ -n "$(find "$top"/crates/*/src "$top/crates.txt" -newer "$archive" | head -n 1)" ]; then
@@ -19,12 +29,42 @@ kit=$(dirname "$(dirname "$(readlink -f "$(command -v rt)")")")
 room=$(mktemp -d)
 trap 'rm -rf "$room"' EXIT
 cd "$room"
-"$kit/toolchain/bin/llvm-ar" x "$archive"
-"$kit/toolchain/bin/llvm-ar" x "$kit/c/liblibc_c.a"
-rm -f "$static/libxet.a"
-"$kit/toolchain/bin/llvm-ar" rcs "$static/libxet.a" ./*.o
+mkdir parts
+(cd parts && "$kit/toolchain/bin/llvm-ar" x "$archive" && "$kit/toolchain/bin/llvm-ar" x "$kit/c/liblibc_c.a")
 
-# Of the shared object only the calls of xet.h are seen.
+# Of both libraries only the calls of xet.h are seen.
+"$kit/toolchain/bin/ld.lld" -r -o xet.o parts/*.o
+if command -v objcopy >/dev/null; then
+    objcopy --wildcard --keep-global-symbol='xet_*' xet.o
+else
+    echo "build.sh: objcopy is not there, so libxet.a shows names that are not in xet.h" >&2
+fi
+"$kit/toolchain/bin/llvm-ar" rcs libxet.a xet.o
 echo '{ global: xet_*; local: *; };' >exports
-${CC:-cc} -shared -o "$shared/libxet.so" -Wl,--whole-archive "$static/libxet.a" -Wl,--no-whole-archive \
+${CC:-cc} -shared -o "libxet.so.$version" -Wl,-soname,"$soname" -Wl,--whole-archive libxet.a -Wl,--no-whole-archive \
     -Wl,--version-script=exports -Wl,-z,defs -Wl,-z,noexecstack
+
+if [ -z "$prefix" ]; then
+    mkdir -p "$top/bindings/out"
+    cp libxet.a "$top/bindings/out/"
+    cp "libxet.so.$version" "$top/bindings/python/xet_shards/$soname"
+    exit
+fi
+cat >xet.pc <<END
+prefix=$prefix
+includedir=\${prefix}/include
+libdir=\${prefix}/lib
+
+Name: xet
+Description: Metadata shards of Xet storage, as bytes
+Version: $version
+Cflags: -I\${includedir}
+Libs: -L\${libdir} -lxet
+END
+to=$DESTDIR$prefix
+mkdir -p "$to/include" "$to/lib/pkgconfig"
+cp "$top/bindings/c/xet.h" "$to/include/"
+cp libxet.a "libxet.so.$version" "$to/lib/"
+ln -sf "libxet.so.$version" "$to/lib/$soname"
+ln -sf "$soname" "$to/lib/libxet.so"
+cp xet.pc "$to/lib/pkgconfig/"

@@ -2,8 +2,9 @@
 import ctypes
 import os
 import re
+import shutil
 
-from .common import BINDINGS, TOP, error_numbers, ran, read, sources
+from .common import BINDINGS, TOP, Skip, error_numbers, ran, read, sources
 
 CC = os.environ.get("CC") or "cc"
 WARNINGS = ["-std=c11", "-Wall", "-Wextra", "-Werror"]
@@ -17,7 +18,18 @@ def check_errors():
     texts = re.findall(r'"(\w+)"', header[header.index("names[]") : header.index("return error <")])
     if len(constants) < 2 or constants != {0: "Ok", **error_numbers()}:
         return "the errors of xet.h are not those of crates/xet_c"
-    return None if dict(enumerate(texts)) == constants else "the names of errors in xet.h are not those of its constants"
+    same = dict(enumerate(texts)) == constants
+    return None if same else "the names of errors in xet.h are not those of its constants"
+
+
+def check_header():
+    """The header is C99, and C++ where there is a compiler of it."""
+    strict = ["-pedantic-errors", *WARNINGS[1:], "-fsyntax-only"]
+    program = f'#include "{BINDINGS}/c/xet.h"\nint main() {{ return xet_error_name(1) == 0; }}\n'
+    why = ran(CC, "-std=c99", *strict, "-xc", "-", input=program)[1]
+    if why or not shutil.which("c++"):
+        return why
+    return ran("c++", "-std=c++11", *strict, "-xc++", "-", input=program)[1]
 
 
 def check_calls(library):
@@ -30,6 +42,38 @@ def check_calls(library):
     missing = [it for it in exported if not hasattr(opened, it)]
     shown = [it for it in ("rattle_alloc", "rattle_realloc", "rattle_dealloc") if hasattr(opened, it)]
     return f"libxet.so lacks {missing} or shows {shown}" if missing or shown else None
+
+
+def check_names(room):
+    """The archive defines no global name but those of the calls."""
+    if not shutil.which("objcopy") or not shutil.which("nm"):
+        raise Skip("objcopy and nm are not there, so the names in libxet.a were not checked")
+    printed, why = ran("nm", "--extern-only", "--defined-only", "--format=posix", f"{room}/lib/libxet.a")
+    names = [it.split()[0] for it in printed.splitlines() if " " in it]
+    others = [it for it in names if not it.startswith("xet_")]
+    return why or (None if names and not others else f"libxet.a shows {others or 'nothing'}")
+
+
+def check_installed(room, wanted):
+    """By pkg-config a program is linked with the shared object, which it finds by its name for programs."""
+    if not shutil.which("pkg-config"):
+        raise Skip("pkg-config is not there, so xet.pc was not used")
+    version = read(f"{TOP}/VERSION").strip()
+    named = {"PKG_CONFIG_PATH": f"{room}/lib/pkgconfig"}
+    printed, why = ran("pkg-config", "--cflags", "--libs", f"xet = {version}", env=named)
+    program = f"{room}/linked"
+    why = why or ran(CC, *WARNINGS, f"{BINDINGS}/c/example.c", *printed.split(), "-o", program)[1]
+    if why:
+        return why
+    soname = f"libxet.so.{version.split('.')[0]}"
+    os.makedirs(f"{room}/alone")
+    shutil.copy(f"{room}/lib/{soname}", f"{room}/alone/{soname}")
+    words = ["first.mdb", "second.mdb", "linked_union.mdb"]
+    why = ran(program, *words, cwd=room, env={"LD_LIBRARY_PATH": f"{room}/alone"})[1]
+    if why:
+        return why
+    with open(f"{room}/linked_union.mdb", "rb") as file:
+        return None if file.read() == wanted else "example.c with the shared object writes other bytes"
 
 
 def sanitizers(room):
@@ -46,7 +90,7 @@ def sanitizers(room):
 def check_example(room, flags, wanted):
     """The C example writes the union, and names the error of a shard that is cut short."""
     program = f"{room}/example"
-    _, why = ran(CC, *WARNINGS, *flags, f"{BINDINGS}/c/example.c", f"{room}/libxet.a", "-o", program)
+    _, why = ran(CC, *WARNINGS, *flags, f"{BINDINGS}/c/example.c", f"{room}/lib/libxet.a", "-o", program)
     why = why or ran(program, "first.mdb", "second.mdb", "c_union.mdb", cwd=room)[1]
     if why:
         return why
@@ -73,7 +117,7 @@ def check_refusals(room, flags, shard):
         with open(name, "wb") as file:
             file.write(it.written())
     program = f"{room}/refused_calls"
-    words = [CC, *WARNINGS, *flags, f"-I{BINDINGS}/c", f"{TOP}/.ci/refused_calls.c", f"{room}/libxet.a"]
+    words = [CC, *WARNINGS, *flags, f"-I{BINDINGS}/c", f"{TOP}/.ci/refused_calls.c", f"{room}/lib/libxet.a"]
     _, why = ran(*words, "-Wl,--wrap=malloc,--wrap=realloc", "-o", program)
     if why:
         return why

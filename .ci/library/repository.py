@@ -8,6 +8,7 @@ from .common import BINDINGS, TOP, read
 VERSIONS = {
     "CHANGELOG.md": r"^## (\S+)",
     "bench/Cargo.toml": r'^version = "(.*)"$',
+    "bindings/c/xet.h": r'^#define XET_VERSION "(.*)"$',
     "bindings/python/pyproject.toml": r'^version = "(.*)"$',
     "bindings/rust/Cargo.toml": r'^version = "(.*)"$',
     "diff/Cargo.toml": r'^version = "(.*)"$',

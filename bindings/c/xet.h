@@ -2,14 +2,14 @@
  *
  * Each call takes the bytes of shards, or a hash or its text, and writes to memory of the caller. Nothing is kept
  * between calls: there is no handle, and nothing to free. Shards of versions 2 and 3 of the format are read, and
- * version 3 is written.
+ * version 3 is written. Any number of threads may call at once. This file is C99, and C++11.
  *
  * A call returns 0 or the number of an error. If the result is not 0, every output but a count stays as it was: what
  * `out`, `info`, `run`, `file`, `segments` and `hash` point to is not touched, unless a call says otherwise below. A
  * call that fills an array of the caller, `out` of `capacity` items, sets `*written` to the number of items that it
  * wrote, from the front; what is behind them stays. If they do not fit, the result is XET_SHORT and `*written` is the
  * number that is needed: call again with so much room. With any other error `*written` is 0. So `capacity` may be 0 to
- * ask for the size.
+ * ask for the size. What an output holds before a call is not read, so it may be uninitialized.
  *
  * What callers must uphold. Each pointer is valid for as many items as its length says, or for one item if it has no
  * length, is aligned for its type, and is not null, also if the length is 0. What an output points to overlaps neither
@@ -26,6 +26,8 @@
  */
 #ifndef XET_H
 #define XET_H
+
+#define XET_VERSION "0.1.0"
 
 #include <stdbool.h>
 #include <stddef.h>

@@ -4,7 +4,7 @@ Each function calls `xet_` and its name, and `hash_of_name` calls `xet_parse_sha
 comments say what it does on which bytes, and when it fails. Shards are `bytes`, `bytearray` or `memoryview`. A hash is
 text of 64 hexadecimal digits, as shards print it: words 0, 1, 2 and 3, each as sixteen digits. Times are in seconds.
 
-The shared object is the file that the environment variable XET_LIBRARY names, else libxet.so beside this module.
+The shared object is the file that the environment variable XET_LIBRARY names, else libxet.so.0 beside this module.
 """
 from __future__ import annotations
 
@@ -199,7 +199,7 @@ _CALLS = {
 
 
 def _open() -> ctypes.CDLL:
-    beside = os.path.join(os.path.dirname(os.path.abspath(__file__)), "libxet.so")
+    beside = os.path.join(os.path.dirname(os.path.abspath(__file__)), "libxet.so.0")
     library = ctypes.CDLL(os.environ.get("XET_LIBRARY") or beside)
     for name, arguments in _CALLS.items():
         call = getattr(library, name)
