@@ -1,10 +1,15 @@
 """Checks of bindings/python."""
 import ctypes
+import os
 import re
+import shutil
 import sys
+import zipfile
 
 from .c import CC, WARNINGS
-from .common import BINDINGS, error_numbers, ran, structs
+from .common import BINDINGS, TOP, Skip, error_numbers, ran, read, structs
+
+MODULE = f"{BINDINGS}/python"
 
 # The types of fields, in Rattle and in the Python module.
 TYPES = {
@@ -54,18 +59,95 @@ def check_structs(module):
 
 
 def check_merge(room, wanted, named):
-    """The Python example merges the two files."""
-    program = f"{BINDINGS}/python/examples/merge.py"
-    _, why = ran(sys.executable, program, "first.mdb", "second.mdb", "merged.mdb", cwd=room, env=named)
+    """The example merges the two files, and leaves the output as it was where an input is no shard."""
+    program = f"{MODULE}/examples/merge.py"
+    with open(f"{room}/no_shard.mdb", "wb"):
+        pass
+    for inputs, is_refused in ((("first.mdb", "second.mdb"), False), (("first.mdb", "no_shard.mdb"), True)):
+        printed, why = ran(sys.executable, program, *inputs, "-o", "merged.mdb", cwd=room, env=named)
+        if is_refused != bool(why) or is_refused != ("merge.py: the bytes end too early" in printed):
+            return why or f"merge.py prints {printed}"
+        with open(f"{room}/merged.mdb", "rb") as file:
+            if file.read() != wanted:
+                return "merge.py writes other bytes than the vector has"
+    return "merge.py leaves a file behind" if [it for it in os.listdir(room) if it.endswith(".new")] else None
+
+
+def check_made_shards(room, named):
+    """The example writes shards that the library loads and merges to one."""
+    _, why = ran(sys.executable, f"{MODULE}/examples/made_shards.py", "made", "--shards", "3", "--xorbs", "4", cwd=room)
+    names = [f"made/{it}.mdb" for it in range(3)]
+    printed = ""
+    if not why:
+        words = [sys.executable, f"{MODULE}/examples/merge.py", *names, "-o", "made/all.mdb", "--strict"]
+        printed, why = ran(*words, cwd=room, env=named)
+    # Half of each shard's xorbs are in the next one.
+    wanted = "made/all.mdb: 64 files, 8 xorbs, 512 chunks\n"
+    return why or (None if printed == wanted else f"merge.py prints {printed}")
+
+
+def check_types():
+    """mypy finds nothing in the module and the examples."""
+    if not shutil.which("mypy"):
+        raise Skip("mypy is not there, so the types of the Python module were not checked")
+    return ran("mypy", "--strict", "--cache-dir", os.devnull, "xet_shards", "examples", cwd=MODULE)[1]
+
+
+# The library beside the module.
+SONAME = f"libxet.so.{read(f'{TOP}/VERSION').split('.')[0]}"
+
+
+def copied(room, library):
+    """Copies the Python package into a room, with the library if it is given, and returns its folder."""
+    folder = f"{room}/package"
+    shutil.rmtree(folder, ignore_errors=True)
+    left_out = shutil.ignore_patterns("libxet.so*", "__pycache__", "build", "*.egg-info")
+    shutil.copytree(MODULE, folder, ignore=left_out)
+    if library:
+        shutil.copy(library, f"{folder}/xet_shards/{SONAME}")
+    return folder
+
+
+def check_package(room, library):
+    """The module opens the library beside it, which is no module in its help."""
+    program = "import pkgutil, xet_shards as it; print(list(pkgutil.iter_modules(it.__path__)), it.__version__)"
+    folder = copied(room, library)
+    printed, why = ran(sys.executable, "-c", program, cwd=room, env={"PYTHONPATH": folder, "XET_LIBRARY": ""})
+    wanted = f"[] {read(f'{TOP}/VERSION')}"
+    return why or (None if printed == wanted else f"the package shows {printed}")
+
+
+def builder():
+    """Returns a Python that can build wheels."""
+    for python in (sys.executable, "/usr/bin/python3"):
+        if not ran(python, "-c", "import setuptools, wheel")[1]:
+            return python
+    raise Skip("no Python here has the packages setuptools and wheel, so no wheel was built")
+
+
+def check_wheel(room, library):
+    """A wheel has the platform's tag, the library and the licence, and is not built without the library."""
+    python = builder()
+    program = "import sys; from setuptools import build_meta; build_meta.build_wheel(sys.argv[1])"
+    printed, why = ran(python, "-c", program, room, cwd=copied(room, None))
+    if not why or "run bindings/build.sh" not in printed:
+        return f"a wheel is built without the library: {printed}"
+    _, why = ran(python, "-c", program, room, cwd=copied(room, library))
     if why:
         return why
-    with open(f"{room}/merged.mdb", "rb") as file:
-        return None if file.read() == wanted else "merge.py writes other bytes than the vector has"
+    version = read(f"{TOP}/VERSION").strip()
+    wheel = f"{room}/xet_shards-{version}-py3-none-linux_x86_64.whl"
+    if not os.path.isfile(wheel):
+        return f"no {os.path.basename(wheel)} is built, but {[it for it in os.listdir(room) if it.endswith('.whl')]}"
+    with zipfile.ZipFile(wheel) as file:
+        names = {os.path.basename(it) for it in file.namelist()}
+    missing = {"__init__.py", "py.typed", SONAME, "LICENSE", "NOTICE"} - names
+    return f"the wheel lacks {sorted(missing)}" if missing else None
 
 
 def run_tests(named):
     """Returns how many Python tests passed, and what is wrong with those that failed."""
-    printed, why = ran(sys.executable, f"{BINDINGS}/python/tests/test_vectors.py", env=named)
+    printed, why = ran(sys.executable, f"{MODULE}/tests/test_vectors.py", env=named)
     lines = printed.splitlines()
     counts = re.fullmatch(r"(\d+) passed, (\d+) failed", lines[-1] if lines else "")
     failed = lines[:-1] if counts and counts[2] != "0" else []

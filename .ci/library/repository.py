@@ -9,7 +9,7 @@ VERSIONS = {
     "CHANGELOG.md": r"^## (\S+)",
     "bench/Cargo.toml": r'^version = "(.*)"$',
     "bindings/c/xet.h": r'^#define XET_VERSION "(.*)"$',
-    "bindings/python/pyproject.toml": r'^version = "(.*)"$',
+    "bindings/python/xet_shards/__init__.py": r'^__version__ = "(.*)"$',
     "bindings/rust/Cargo.toml": r'^version = "(.*)"$',
     "diff/Cargo.toml": r'^version = "(.*)"$',
 }

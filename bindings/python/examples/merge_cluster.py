@@ -5,54 +5,58 @@ Any tree of unions over shards that agree and have no key gives one byte string,
 grouping.
 It makes the shards first, in a folder that is removed. Needs Dask: apt-get install python3-dask python3-distributed
 """
+from __future__ import annotations
+
 import argparse
 import os
 import pathlib
 import tempfile
 import time
 from concurrent.futures import ThreadPoolExecutor
+from typing import Any, Callable, List, Sequence
 
 import xet_shards
 from distributed import Client, LocalCluster
 from made_shards import made_shard
 
 
-def make(folder, number, xorbs):
+def make(folder: str, number: int, xorbs: int) -> int:
     """Writes a shard to its file in the folder, and returns its size."""
     return pathlib.Path(folder, f"{number}.mdb").write_bytes(made_shard(number, xorbs))
 
 
-def merge_files(folder, numbers):
+def merge_files(folder: str, numbers: Sequence[int]) -> bytes:
     return xet_shards.merge([pathlib.Path(folder, f"{it}.mdb").read_bytes() for it in numbers])
 
 
-def groups(items, size):
+def groups(items: Sequence[Any], size: int) -> List[Sequence[Any]]:
     return [items[at : at + size] for at in range(0, len(items), size)]
 
 
-def merge_in_threads(folder, count, threads):
+def merge_in_threads(folder: str, count: int, threads: int) -> bytes:
     """Merges a part of the files in each thread, and then what they give. A call of the library lets others run."""
     with ThreadPoolExecutor(threads) as pool:
         parts = groups(range(count), -(-count // threads))
         return xet_shards.merge(list(pool.map(merge_files, [folder] * len(parts), parts)))
 
 
-def merge_on(client, folder, count, size):
+def merge_on(client: Client, folder: str, count: int, size: int) -> bytes:
     """Merges the files by a tree whose nodes have so many children. Each worker reads the files of its leaves."""
     level = [client.submit(merge_files, folder, numbers) for numbers in groups(range(count), size)]
     while len(level) > 1:
         level = [client.submit(xet_shards.merge, shards) for shards in groups(level, size)]
-    return level[0].result()
+    merged: bytes = level[0].result()
+    return merged
 
 
-def timed(what, call, *arguments):
+def timed(what: str, call: Callable[..., bytes], *arguments: Any) -> bytes:
     started = time.monotonic()
     merged = call(*arguments)
     print(f"{what}: {time.monotonic() - started:.2f} s")
     return merged
 
 
-def main():
+def main() -> None:
     parser = argparse.ArgumentParser(description=__doc__, formatter_class=argparse.RawDescriptionHelpFormatter)
     parser.add_argument("--shards", type=int, default=1000)
     parser.add_argument("--xorbs", type=int, default=12, help="of each shard, with 64 chunks and 8 files each")

@@ -4,9 +4,17 @@ Runs with pytest, or as a program, which ends with the line 'N passed, M failed'
 """
 import ctypes
 import itertools
+import mmap
 import os
+import pickle
+import re
+import struct
+import subprocess
 import sys
+import tempfile
 import traceback
+import tracemalloc
+from array import array
 
 sys.dont_write_bytecode = True
 sys.path.insert(0, os.path.dirname(os.path.realpath(__file__)))
@@ -85,8 +93,97 @@ def test_load_an_export():
 
 
 def test_kinds_of_bytes():
-    for kind in (bytearray, memoryview):
-        assert xet_shards.load(kind(ONE_FILE)) == xet_shards.load(ONE_FILE)
+    words = array("I", ONE_FILE)
+    assert len(words) == 113
+    with tempfile.TemporaryFile() as file:
+        file.write(ONE_FILE)
+        file.flush()
+        with mmap.mmap(file.fileno(), 0, access=mmap.ACCESS_READ) as mapped:
+            apart = memoryview(bytes(it for byte in ONE_FILE for it in (byte, 0)))[::2]
+            for shard in (bytearray(ONE_FILE), memoryview(ONE_FILE), array("B", ONE_FILE), words, mapped, apart):
+                assert xet_shards.load(shard) == xet_shards.load(ONE_FILE)
+                assert xet_shards.find_file(shard, hash_text("100")).segments[0].bytes == 5
+                assert xet_shards.union(shard, ONE_FILE) == xet_shards.merge([shard, shard]) == ONE_FILE
+    for nothing in (b"", bytearray(), memoryview(b""), array("B")):
+        refused("Io", xet_shards.load, nothing)
+        refused("Io", xet_shards.merge, [ONE_FILE, nothing])
+
+
+def test_buffers_are_released():
+    shard = bytearray(ONE_FILE)
+    xet_shards.merge([shard, shard])
+    refused("Io", xet_shards.merge, [shard, b""])
+    raises(TypeError, xet_shards.merge, [shard, "text"])
+    # A bytearray that is in use can't grow.
+    shard.append(0)
+
+
+def with_hole(length):
+    """Returns ONE_FILE with so many zeros between its sections and its tables, as its beginning and its end."""
+    footer = list(struct.unpack("<25Q", ONE_FILE[252:]))
+    for at in (3, 5, 7, 24):
+        footer[at] += length
+    return ONE_FILE[:240], ONE_FILE[240:252] + struct.pack("<25Q", *footer)
+
+
+def test_nothing_is_copied():
+    size = 1 << 24
+    start, end = with_hole(size)
+    shard = memoryview(start + bytes(size) + end)
+    tracemalloc.start()
+    assert xet_shards.find_file(shard, hash_text("100")).segments[0].bytes == 5
+    peak = tracemalloc.get_traced_memory()[1]
+    tracemalloc.stop()
+    assert peak < 1 << 20, f"{peak} bytes"
+
+
+def resident(path):
+    """Returns how many bytes of a file that is mapped were read into memory."""
+    with open("/proc/self/smaps", encoding="utf-8") as file:
+        found = re.search(rf"{re.escape(path)}\n(?:\w+: .*\n)*?Rss: +(\d+) kB", file.read())
+    return 1024 * int(found[1])
+
+
+def test_pages_of_a_file():
+    size = 1 << 26
+    start, end = with_hole(size)
+    with tempfile.NamedTemporaryFile() as file:
+        file.write(start)
+        file.seek(size, os.SEEK_CUR)
+        file.write(end)
+        file.flush()
+        with mmap.mmap(file.fileno(), 0, access=mmap.ACCESS_READ) as shard:
+            assert xet_shards.find_file(shard, hash_text("100")).segments[0].bytes == 5
+            assert xet_shards.find_file(shard, hash_text("101")) is None
+            # Where a page is read the system also brings some that are near.
+            assert 0 < resident(file.name) < 1 << 20
+
+
+def test_sentences():
+    error = refused("ShardVersion", xet_shards.load, bytes(500))
+    assert str(error) == "the bytes are no shard of version 2 or 3 (ShardVersion)"
+    one, other = shards_of(({"100": ["200:0:5:5"]}, {}), ({"100": ["200:0:6:5"]}, {}))
+    text = f"the shards at 0 and 1 do not agree on file {hash_text('100')} (Disagree)"
+    error = raises(xet_shards.DisagreementError, xet_shards.merge, [one, other], strict=True)
+    assert str(error) == str(pickle.loads(pickle.dumps(error))) == text
+    for number in range(22):
+        assert str(pickle.loads(pickle.dumps(xet_shards.XetError(number)))) == str(xet_shards.XetError(number))
+    assert str(xet_shards.XetError(3)) == "the library returns 3 (Other)"
+
+
+def test_missing_library():
+    env = {**os.environ, "XET_LIBRARY": "/nowhere/libxet.so"}
+    words = [sys.executable, "-c", "import xet_shards"]
+    run = subprocess.run(words, cwd=os.path.dirname(scripts.HERE), env=env, capture_output=True, text=True, check=False)
+    assert "ImportError" in run.stderr and "run bindings/build.sh" in run.stderr and "/nowhere" in run.stderr
+
+
+def test_forms_without_a_file_table():
+    shard = shard_of("file 100 v=7 200:0:5:5", "xorb 10 21:5")
+    bare = xet_shards.export(shard, xet_shards.NO_KEY, 0, 0, files=False)
+    for form in (bare, xet_shards.minimal(shard, 0), xet_shards.subset(shard, 0)):
+        assert xet_shards.load(form).files == 0
+        assert xet_shards.find_file(form, hash_text("100")) is None
 
 
 def test_each_beginning_is_cut_short():
@@ -159,8 +256,10 @@ def test_times():
     raises(ValueError, xet_shards.minimal, ONE_FILE, -1)
 
 
-def test_minimal_without_verification():
-    assert refused("Io", xet_shards.minimal, ONE_FILE, 0).number == 1
+def test_minimal_with_and_without_verification():
+    assert refused("Io", xet_shards.minimal, ONE_FILE, 0, verification=True).number == 1
+    with_rows = shard_of("file 100 v=7 200:0:5:5")
+    assert len(xet_shards.minimal(with_rows, 0, verification=True)) == len(xet_shards.minimal(with_rows, 0)) + 48
 
 
 def test_many_segments():

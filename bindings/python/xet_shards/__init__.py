@@ -1,27 +1,39 @@
 """Metadata shards of Xet storage: bytes in, bytes or an answer out.
 
 Each function calls `xet_` and its name, and `hash_of_name` calls `xet_parse_shard_name`, of bindings/c/xet.h, whose
-comments say what it does on which bytes, and when it fails. Shards are `bytes`, `bytearray` or `memoryview`. A hash is
-text of 64 hexadecimal digits, as shards print it: words 0, 1, 2 and 3, each as sixteen digits. Times are in seconds.
+comments say what it does on which bytes, and when it fails. A hash is text of 64 hexadecimal digits, as shards print
+it: words 0, 1, 2 and 3, each as sixteen digits. Times are in seconds.
+
+A shard is any object with a buffer: `bytes`, `bytearray`, `memoryview`, `array`, `mmap`. It is not copied, and must not
+be changed during the call. So a lookup in a file that is mapped reads the pages that it needs, and no others:
+
+    with open(name, "rb") as file, mmap.mmap(file.fileno(), 0, access=mmap.ACCESS_READ) as shard:
+        print(xet_shards.find_file(shard, file_hash))
 
 The shared object is the file that the environment variable XET_LIBRARY names, else libxet.so.0 beside this module.
 """
 from __future__ import annotations
 
 import ctypes
+import mmap
 import os
 import re
-from ctypes import POINTER, byref, c_bool, c_char, c_char_p, c_size_t, c_uint32, c_uint64
+from array import array
+from contextlib import contextmanager
+from ctypes import POINTER, byref, c_bool, c_char, c_char_p, c_int, c_size_t, c_ssize_t, c_uint32, c_uint64, c_void_p
 from dataclasses import dataclass
-from typing import Callable, List, Optional, Sequence, Tuple, Union
+from typing import Any, Callable, Dict, Iterator, List, Optional, Sequence, Tuple, Union
 
 __all__ = [
-    "Disagreement", "DisagreementError", "File", "Info", "NO_EXPIRY", "NO_KEY", "Run", "Segment", "XetError",
+    "Buffer", "Disagreement", "DisagreementError", "File", "Info", "NO_EXPIRY", "NO_KEY", "Run", "Segment", "XetError",
     "difference", "eligible", "export", "find_disagreement", "find_file", "hash_of_name", "load", "merge", "minimal",
     "query_chunks", "shard_name", "subset", "union",
 ]
 
-Buffer = Union[bytes, bytearray, memoryview]
+__version__ = "0.1.0"
+
+Buffer = Union[bytes, bytearray, memoryview, mmap.mmap, "array[Any]"]
+"""The bytes of a shard. Other objects with a buffer are taken as well."""
 
 NO_KEY = "0" * 64
 """The key of an export that leaves chunk hashes as they are, and of a shard whose chunk hashes are not keyed."""
@@ -36,17 +48,36 @@ _NAMES = (
 )
 _SHORT = 19
 _DISAGREE = 20
+# Of the errors that calls raise.
+_SENTENCES = {
+    "Io": "the bytes end too early, or verification rows are missing",
+    "InternalError": "a row of a table leads to the end of a section",
+    "TruncatedHashCollision": "eight or more files share the first word of the hash",
+    "ShardVersion": "the bytes are no shard of version 2 or 3",
+    "BadFilename": "the text is not the name of a shard file",
+    "InvalidShard": "the bytes are not a valid shard, or two shards have no union",
+    "InvalidArguments": "the arguments do not fit the shard: keys that differ, say",
+    "HashParsing": "the text is not the 64 hexadecimal digits of a hash",
+    "OutOfMemory": "an allocation failed",
+    "Disagree": "two shards that have to agree do not",
+}
 
 
 class XetError(Exception):
-    """A call failed: `number` is that of enum xet_error in xet.h, and `name` its name, as `InvalidShard`."""
+    """A call failed: `number` is that of enum xet_error in xet.h, and `name` its name, as `InvalidShard`.
+
+    As text it is a sentence, with the name at its end.
+    """
 
     def __init__(self, number: int) -> None:
         self.number = number
         self.name = _NAMES[number - 1] if 1 <= number <= len(_NAMES) else "Unknown"
-        super().__init__(self.name)
+        super().__init__(number)
 
-    def __reduce__(self) -> tuple:
+    def __str__(self) -> str:
+        return f"{_SENTENCES.get(self.name, f'the library returns {self.number}')} ({self.name})"
+
+    def __reduce__(self) -> Tuple[Any, ...]:
         return XetError, (self.number,)
 
 
@@ -72,7 +103,12 @@ class DisagreementError(XetError):
         super().__init__(_DISAGREE)
         self.disagreement = disagreement
 
-    def __reduce__(self) -> tuple:
+    def __str__(self) -> str:
+        it = self.disagreement
+        count = f", the first of {it.count} hashes" if it.count > 1 else ""
+        return f"the shards at {it.first} and {it.second} do not agree on {it.kind} {it.hash}{count} ({self.name})"
+
+    def __reduce__(self) -> Tuple[Any, ...]:
         return DisagreementError, (self.disagreement,)
 
 
@@ -140,7 +176,7 @@ class _FileSegment(ctypes.Structure):
 
 
 class _ShardBytes(ctypes.Structure):
-    _fields_ = [("bytes", c_char_p), ("length", c_size_t)]
+    _fields_ = [("bytes", c_void_p), ("length", c_size_t)]
 
 
 class _Info(ctypes.Structure):
@@ -173,7 +209,22 @@ class _Disagreement(ctypes.Structure):
     _fields_ = [("hash", _Words), ("is_xorb", c_bool), ("first", c_size_t), ("second", c_size_t)]
 
 
-_SHARD = [c_char_p, c_size_t]
+class _View(ctypes.Structure):
+    """Py_buffer of Python's C interface: where the bytes of an object are."""
+
+    _fields_ = [
+        ("buf", c_void_p), ("obj", c_void_p), ("len", c_ssize_t), ("itemsize", c_ssize_t), ("readonly", c_int),
+        ("ndim", c_int), ("format", c_void_p), ("shape", c_void_p), ("strides", c_void_p), ("suboffsets", c_void_p),
+        ("internal", c_void_p),
+    ]
+
+
+_get_buffer = ctypes.PYFUNCTYPE(c_int, ctypes.py_object, POINTER(_View), c_int)(
+    ("PyObject_GetBuffer", ctypes.pythonapi)
+)
+_release_buffer = ctypes.PYFUNCTYPE(None, POINTER(_View))(("PyBuffer_Release", ctypes.pythonapi))
+
+_SHARD = [c_void_p, c_size_t]
 _LIST = [POINTER(_ShardBytes), c_size_t]
 _HASHES = [POINTER(_Hash), c_size_t]
 _OUT = [POINTER(c_char), c_size_t, POINTER(c_size_t)]
@@ -198,9 +249,21 @@ _CALLS = {
 }
 
 
+# By the first number the library that was built is known to have the calls of this module.
+_LIBRARY = f"libxet.so.{__version__.split('.')[0]}"
+
+
 def _open() -> ctypes.CDLL:
-    beside = os.path.join(os.path.dirname(os.path.abspath(__file__)), "libxet.so.0")
-    library = ctypes.CDLL(os.environ.get("XET_LIBRARY") or beside)
+    beside = os.path.join(os.path.dirname(os.path.abspath(__file__)), _LIBRARY)
+    path = os.environ.get("XET_LIBRARY") or beside
+    try:
+        library = ctypes.CDLL(path)
+    except OSError as error:
+        raise ImportError(
+            f"the library of xet_shards can't be loaded: {error}; run bindings/build.sh, which makes "
+            f"{_LIBRARY} beside the module, or set XET_LIBRARY to the path of a libxet.so",
+            name=__name__, path=path,
+        ) from error
     for name, arguments in _CALLS.items():
         call = getattr(library, name)
         call.argtypes, call.restype = arguments, c_uint32
@@ -215,10 +278,23 @@ def _check(number: int) -> None:
         raise XetError(number)
 
 
-def _bytes(shard: Buffer) -> bytes:
-    if not isinstance(shard, (bytes, bytearray, memoryview)):
-        raise TypeError(f"a shard is bytes, not {type(shard).__name__}")
-    return bytes(shard)
+@contextmanager
+def _addresses(*shards: Buffer) -> Iterator[List[Tuple[int, int]]]:
+    """Yields the address and the length of the bytes of each shard. They stay there meanwhile."""
+    views = (_View * len(shards))()
+    held = 0
+    try:
+        for view, shard in zip(views, shards):
+            # The bytes of a view need not be one after another: these are copied.
+            if isinstance(shard, memoryview) and not shard.c_contiguous:
+                shard = shard.tobytes()
+            _get_buffer(shard, byref(view), 0)
+            held += 1
+        # xet.h wants no null pointer, also of no bytes.
+        yield [(view.buf or ctypes.addressof(view), view.len) for view in views]
+    finally:
+        for view in views[:held]:
+            _release_buffer(byref(view))
 
 
 def _seconds(number: int) -> int:
@@ -227,7 +303,7 @@ def _seconds(number: int) -> int:
     return number
 
 
-def _words(text: str) -> ctypes.Array:
+def _words(text: str) -> ctypes.Array[c_uint64]:
     if not re.fullmatch("[0-9a-fA-F]{64}", text):
         raise ValueError("a hash has 64 hexadecimal digits")
     return _Words(*(int(text[at : at + 16], 16) for at in range(0, 64, 16)))
@@ -241,19 +317,20 @@ def _segment(it: _Segment, verification: Optional[str] = None) -> Segment:
     return Segment(_text(it.xorb), it.start, it.end, it.bytes, it.flags, verification)
 
 
-def _hashes(texts: Sequence[str]) -> ctypes.Array:
+def _hashes(texts: Sequence[str]) -> ctypes.Array[Any]:
     hashes = _array(_Hash, len(texts))
     for at, text in enumerate(texts):
         hashes[at].words = _words(text)
     return hashes
 
 
-def _array(item: type, count: int) -> ctypes.Array:
+def _array(item: Any, count: int) -> ctypes.Array[Any]:
     # An array of no items would have no address.
-    return (item * max(count, 1))()
+    array_of: ctypes.Array[Any] = (item * max(count, 1))()
+    return array_of
 
 
-def _filled(item: type, room: int, call: Callable[[ctypes.Array, int, c_size_t], int]) -> ctypes.Array:
+def _filled(item: Any, room: int, call: Callable[[ctypes.Array[Any], int, c_size_t], Any]) -> Any:
     """Returns the items that a call writes into an array, which is made anew once if they don't fit."""
     written = c_size_t()
     out = _array(item, room)
@@ -265,24 +342,32 @@ def _filled(item: type, room: int, call: Callable[[ctypes.Array, int, c_size_t],
     return out[: written.value]
 
 
+def _made(room: int, call: Callable[[ctypes.Array[Any], int, c_size_t], Any]) -> bytes:
+    """Returns the bytes that a call makes of inputs of so many bytes."""
+    made: bytes = _filled(c_char, room + 400, call)
+    return made
+
+
 def load(shard: Buffer) -> Info:
     """Returns what the header and the footer of a shard say."""
-    data, info = _bytes(shard), _Info()
-    _check(_library.xet_load(data, len(data), byref(info)))
-    numbers = {name: getattr(info, name) for name, _ in _Info._fields_}
-    return Info(**{**numbers, "key": _text(info.key)})
+    info = _Info()
+    with _addresses(shard) as [data]:
+        _check(_library.xet_load(*data, byref(info)))
+    values: Dict[str, Any] = {name: getattr(info, name) for name, *_ in _Info._fields_}
+    values["key"] = _text(info.key)
+    return Info(**values)
 
 
 def find_file(shard: Buffer, file_hash: str) -> Optional[File]:
     """Returns the file with this hash, or None. In a shard without a table of files, as a minimal one, none is found."""
-    data, wanted, file = _bytes(shard), _Hash(_words(file_hash)), _File()
-    room = 64
+    wanted, file, room = _Hash(_words(file_hash)), _File(), 64
     segments = _array(_FileSegment, room)
-    number = _library.xet_find_file(data, len(data), byref(wanted), byref(file), segments, room)
-    if number == _SHORT:
-        room = file.segments
-        segments = _array(_FileSegment, room)
-        number = _library.xet_find_file(data, len(data), byref(wanted), byref(file), segments, room)
+    with _addresses(shard) as [data]:
+        number = _library.xet_find_file(*data, byref(wanted), byref(file), segments, room)
+        if number == _SHORT:
+            room = file.segments
+            segments = _array(_FileSegment, room)
+            number = _library.xet_find_file(*data, byref(wanted), byref(file), segments, room)
     _check(number)
     if not file.found:
         return None
@@ -301,9 +386,9 @@ def query_chunks(shard: Buffer, hashes: Sequence[str]) -> Optional[Run]:
 
     In a shard without a table of chunks, as a minimal one, none is found.
     """
-    data, wanted = _bytes(shard), _hashes(hashes)
-    count, run = c_size_t(), _Segment()
-    _check(_library.xet_query_chunks(data, len(data), wanted, len(hashes), byref(count), byref(run)))
+    wanted, count, run = _hashes(hashes), c_size_t(), _Segment()
+    with _addresses(shard) as [data]:
+        _check(_library.xet_query_chunks(*data, wanted, len(hashes), byref(count), byref(run)))
     return Run(count.value, _segment(run)) if count.value else None
 
 
@@ -317,12 +402,11 @@ def difference(first: Buffer, second: Buffer) -> bytes:
     return _combined(_library.xet_difference, first, second)
 
 
-def _combined(operation: Callable[..., int], first: Buffer, second: Buffer) -> bytes:
-    one, other = _bytes(first), _bytes(second)
-    return _filled(
-        c_char, len(one) + len(other) + 400,
-        lambda out, room, written: operation(one, len(one), other, len(other), out, room, byref(written)),
-    )
+def _combined(operation: Callable[..., Any], first: Buffer, second: Buffer) -> bytes:
+    with _addresses(first, second) as [one, other]:
+        return _made(
+            one[1] + other[1], lambda out, room, written: operation(*one, *other, out, room, byref(written))
+        )
 
 
 def merge(shards: Sequence[Buffer], strict: bool = False) -> bytes:
@@ -335,40 +419,39 @@ def merge(shards: Sequence[Buffer], strict: bool = False) -> bytes:
     """
     if not shards:
         raise ValueError("no shard is given")
-    array, size = _list(shards)
-    if not strict:
-        return _filled(
-            c_char, size, lambda out, room, written: _library.xet_merge(array, len(array), out, room, byref(written))
-        )
     differing, found = c_size_t(), _Disagreement()
-    try:
-        return _filled(
-            c_char, size,
-            lambda out, room, written: _library.xet_merge_agreeing(
-                array, len(array), out, room, byref(written), byref(differing), byref(found)
-            ),
-        )
-    except XetError as error:
-        if error.number != _DISAGREE:
-            raise
+    with _addresses(*shards) as data:
+        listed, size = _list(data), sum(length for _, length in data)
+        if not strict:
+            return _made(
+                size, lambda out, room, written: _library.xet_merge(listed, len(data), out, room, byref(written))
+            )
+        try:
+            return _made(
+                size,
+                lambda out, room, written: _library.xet_merge_agreeing(
+                    listed, len(data), out, room, byref(written), byref(differing), byref(found)
+                ),
+            )
+        except XetError as error:
+            if error.number != _DISAGREE:
+                raise
     raise DisagreementError(_disagreement(found, differing.value))
 
 
 def find_disagreement(shards: Sequence[Buffer]) -> Optional[Disagreement]:
     """Returns a hash under which two of the shards have records that do not agree, or None if each two agree."""
-    array, _ = _list(shards)
     differing, found = c_size_t(), _Disagreement()
-    _check(_library.xet_find_disagreement(array, len(shards), byref(differing), byref(found)))
+    with _addresses(*shards) as data:
+        _check(_library.xet_find_disagreement(_list(data), len(data), byref(differing), byref(found)))
     return _disagreement(found, differing.value) if differing.value else None
 
 
-def _list(shards: Sequence[Buffer]) -> Tuple[ctypes.Array, int]:
-    """Returns the bytes of shards as calls take them, and room for their union."""
-    inputs = [_bytes(it) for it in shards]
-    array = _array(_ShardBytes, len(inputs))
-    for at, it in enumerate(inputs):
-        array[at] = _ShardBytes(it, len(it))
-    return array, sum(len(it) for it in inputs) + 400
+def _list(data: Sequence[Tuple[int, int]]) -> ctypes.Array[Any]:
+    listed = _array(_ShardBytes, len(data))
+    for at, (address, length) in enumerate(data):
+        listed[at] = _ShardBytes(address, length)
+    return listed
 
 
 def _disagreement(found: _Disagreement, count: int) -> Disagreement:
@@ -383,28 +466,29 @@ def export(
 
     It has its files, which keep their auxiliary rows, the table of xorbs and that of chunks, unless these are left out.
     """
-    data = _bytes(shard)
     options = _Export(
         _words(key), _seconds(now), _seconds(valid_seconds), files, aux_rows, xorb_table, chunk_table
     )
-    return _filled(
-        c_char, len(data) + 400,
-        lambda out, room, written: _library.xet_export(data, len(data), byref(options), out, room, byref(written)),
-    )
+    with _addresses(shard) as [data]:
+        return _made(
+            data[1], lambda out, room, written: _library.xet_export(*data, byref(options), out, room, byref(written))
+        )
 
 
-def minimal(shard: Buffer, now: int, verification: bool = True, aux_rows: bool = True) -> bytes:
+def minimal(shard: Buffer, now: int, verification: bool = False, aux_rows: bool = True) -> bytes:
     """Returns the records of the shard without tables, created at `now`.
 
-    Files keep their verification rows and their auxiliary rows, unless these are left out.
+    Files keep their auxiliary rows, unless these are left out, and with `verification` their verification rows, which
+    each file has to have then.
     """
-    data, now = _bytes(shard), _seconds(now)
-    return _filled(
-        c_char, len(data) + 400,
-        lambda out, room, written: _library.xet_minimal(
-            data, len(data), now, verification, aux_rows, out, room, byref(written)
-        ),
-    )
+    now = _seconds(now)
+    with _addresses(shard) as [data]:
+        return _made(
+            data[1],
+            lambda out, room, written: _library.xet_minimal(
+                *data, now, verification, aux_rows, out, room, byref(written)
+            ),
+        )
 
 
 def subset(shard: Buffer, now: int, expiry: Optional[int] = None, xorbs: Optional[Sequence[str]] = None) -> bytes:
@@ -412,31 +496,30 @@ def subset(shard: Buffer, now: int, expiry: Optional[int] = None, xorbs: Optiona
 
     A hash that no xorb has is passed over. It expires at `expiry`, in seconds; None and 0 mean that it does not.
     """
-    data, listed = _bytes(shard), _hashes(xorbs or [])
+    listed = _hashes(xorbs or [])
     options = _Subset(_seconds(now), _seconds(expiry or 0), xorbs is None)
-    return _filled(
-        c_char, len(data) + 400,
-        lambda out, room, written: _library.xet_subset(
-            data, len(data), byref(options), listed, len(xorbs or []), out, room, byref(written)
-        ),
-    )
+    with _addresses(shard) as [data]:
+        return _made(
+            data[1],
+            lambda out, room, written: _library.xet_subset(
+                *data, byref(options), listed, len(xorbs or []), out, room, byref(written)
+            ),
+        )
 
 
 def eligible(shard: Buffer) -> List[str]:
     """Returns the hashes of the chunks that the global index keeps, in ascending order."""
-    data = _bytes(shard)
-    hashes = _filled(
-        _Hash, 16, lambda out, room, written: _library.xet_eligible(data, len(data), out, room, byref(written))
-    )
+    with _addresses(shard) as [data]:
+        hashes = _filled(
+            _Hash, 16, lambda out, room, written: _library.xet_eligible(*data, out, room, byref(written))
+        )
     return [_text(it.words) for it in hashes]
 
 
 def shard_name(shard_hash: str) -> str:
     """Returns the name of the file of the shard with this hash: its 64 digits and `.mdb`."""
     wanted = _Hash(_words(shard_hash))
-    name = _filled(
-        c_char, 68, lambda out, room, written: _library.xet_shard_name(byref(wanted), out, room, byref(written))
-    )
+    name = _made(68, lambda out, room, written: _library.xet_shard_name(byref(wanted), out, room, byref(written)))
     return name.decode("ascii")
 
 
