@@ -103,6 +103,19 @@ def check_example(room, flags, wanted):
     return None if "cut.mdb: Io\n" in printed else f"example.c prints of a shard that is cut short: {printed}"
 
 
+# The results that calls on corrupted shards must have shown for a run to have tried anything.
+SEEN = """Ok Io InternalError TruncatedHashCollision ShardVersion BadFilename InvalidShard InvalidArguments HashParsing
+    Short Disagree""".split()
+
+
+def check_fuzz(room):
+    """All calls on corrupted shards, for half a minute."""
+    printed, why = ran(f"{TOP}/fuzz/run.sh", "30", env={"XET_ARCHIVE": f"{room}/lib/libxet.a"})
+    print("".join(f"bindings: {it}\n" for it in printed.splitlines() if it.startswith("fuzz: ")), end="")
+    missing = [it for it in SEEN if not re.search(rf" {it} \d", printed)]
+    return why or (f"no call on corrupted shards returned {missing}" if missing else None)
+
+
 def check_refusals(room, flags, shard):
     """No refused allocation is seen but in the result, on shards with many records."""
     shards = [shard(), shard()]

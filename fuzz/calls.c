@@ -1,0 +1,271 @@
+#include "calls.h"
+
+#include <stdio.h>
+#include <stdlib.h>
+#include <string.h>
+
+static struct tally *counts;
+static const char *called;
+
+static void require(bool holds, const char *what) {
+    if (holds)
+        return;
+    printf("fuzz: case %llu: %s: %s\n", (unsigned long long)counts->number, called, what);
+    fflush(stdout);
+    exit(1);
+}
+
+/* The errors that a call may return, as bits. An allocation of a small size does not fail. */
+#define BIT(error) ((uint32_t)1 << (error))
+enum {
+    OF_LOADING = BIT(XET_OK) | BIT(XET_IO) | BIT(XET_SHARD_VERSION),
+    OF_SECTIONS = OF_LOADING | BIT(XET_INVALID_SHARD),
+    OF_MERGING = OF_SECTIONS | BIT(XET_INVALID_ARGUMENTS),
+    OF_FINDING = OF_SECTIONS | BIT(XET_TRUNCATED_HASH_COLLISION) | BIT(XET_INTERNAL_ERROR),
+};
+
+/* Counts a result, which has to be one of those that the call may return. */
+static uint32_t result(uint32_t error, uint32_t allowed) {
+    counts->calls++;
+    require(error < RESULTS && (allowed & BIT(error)), xet_error_name(error));
+    counts->results[error]++;
+    return error;
+}
+
+/* A struct that a call is to fill. */
+static struct block new_struct(const struct input *input, size_t size) {
+    return new_block(size, input->in_pages);
+}
+
+/* A call that fills an array. */
+struct filling {
+    const char *name;
+    size_t item;
+    uint32_t allowed;
+    uint32_t (*call)(const struct input *input, void *out, size_t capacity, size_t *written);
+    bool writes_shard;
+};
+
+#define SHARD(at) input->shards[at].bytes, input->shards[at].length
+
+static uint32_t call_union(const struct input *input, void *out, size_t capacity, size_t *written) {
+    return xet_union(SHARD(0), SHARD(1), out, capacity, written);
+}
+
+static uint32_t call_difference(const struct input *input, void *out, size_t capacity, size_t *written) {
+    return xet_difference(SHARD(0), SHARD(1), out, capacity, written);
+}
+
+static void list_shards(const struct input *input, xet_bytes list[SHARDS]) {
+    for (size_t at = 0; at < input->count; at++)
+        list[at] = (xet_bytes){SHARD(at)};
+}
+
+static uint32_t call_merge(const struct input *input, void *out, size_t capacity, size_t *written) {
+    xet_bytes list[SHARDS];
+    list_shards(input, list);
+    return xet_merge(list, input->count, out, capacity, written);
+}
+
+/* A disagreement is told exactly if there is one, and names two shards of the list. */
+static void check_disagreement(const struct input *input, const struct block *found, size_t differing, bool is_told) {
+    xet_disagreement first;
+    memcpy(&first, found->bytes, sizeof first);
+    require((differing > 0) == is_told, "the count of disagreements is another");
+    require(differing > 0 || is_filled(found, 0), "the disagreement is touched");
+    bool is_pair = first.first < input->count && first.second < input->count && first.first != first.second;
+    require(differing == 0 || is_pair, "the disagreement is not of two shards");
+}
+
+static uint32_t call_merge_agreeing(const struct input *input, void *out, size_t capacity, size_t *written) {
+    xet_bytes list[SHARDS];
+    list_shards(input, list);
+    struct block found = new_struct(input, sizeof(xet_disagreement));
+    size_t differing = 12345;
+    void *first = found.bytes;
+    uint32_t error = xet_merge_agreeing(list, input->count, out, capacity, written, &differing, first);
+    check_disagreement(input, &found, differing, error == XET_DISAGREE);
+    free_block(&found);
+    return error;
+}
+
+static uint32_t call_export(const struct input *input, void *out, size_t capacity, size_t *written) {
+    return xet_export(SHARD(0), &input->export, out, capacity, written);
+}
+
+static uint32_t call_minimal(const struct input *input, void *out, size_t capacity, size_t *written) {
+    return xet_minimal(SHARD(0), input->subset.now, input->verification, input->aux_rows, out, capacity, written);
+}
+
+static uint32_t call_subset(const struct input *input, void *out, size_t capacity, size_t *written) {
+    const void *xorbs = input->xorbs.bytes;
+    size_t count = input->xorbs.length / sizeof(xet_hash);
+    return xet_subset(SHARD(0), &input->subset, xorbs, count, out, capacity, written);
+}
+
+static uint32_t call_eligible(const struct input *input, void *out, size_t capacity, size_t *written) {
+    return xet_eligible(SHARD(0), out, capacity, written);
+}
+
+static uint32_t call_hash_to_hex(const struct input *input, void *out, size_t capacity, size_t *written) {
+    return xet_hash_to_hex(&input->file, out, capacity, written);
+}
+
+static uint32_t call_shard_name(const struct input *input, void *out, size_t capacity, size_t *written) {
+    return xet_shard_name(&input->file, out, capacity, written);
+}
+
+/* The file is filled also if its segments do not fit; of no file all is zero. */
+static uint32_t call_find_file(const struct input *input, void *out, size_t capacity, size_t *written) {
+    static const xet_file none;
+    struct block file = new_struct(input, sizeof(xet_file));
+    void *there = file.bytes;
+    uint32_t error = xet_find_file(SHARD(0), &input->file, there, out, capacity);
+    *written = 0;
+    if (error == XET_OK || error == XET_SHORT) {
+        xet_file found;
+        memcpy(&found, file.bytes, sizeof found);
+        *written = found.segments;
+        require(found.found || memcmp(file.bytes, &none, sizeof none) == 0, "no file has something");
+        require(found.has_sha256 || !memcmp(found.sha256, none.sha256, 32), "no SHA-256 is not zero");
+        require(found.has_aux || !memcmp(found.aux_hash, none.aux_hash, 32), "no auxiliary hash is not zero");
+    } else {
+        require(is_filled(&file, 0), "the file is touched");
+    }
+    free_block(&file);
+    return error;
+}
+
+static const struct filling fillings[] = {
+    {"xet_union", 1, OF_MERGING, call_union, true},
+    {"xet_difference", 1, OF_MERGING, call_difference, true},
+    {"xet_merge", 1, OF_MERGING, call_merge, true},
+    {"xet_merge_agreeing", 1, OF_MERGING | BIT(XET_DISAGREE), call_merge_agreeing, true},
+    {"xet_export", 1, OF_MERGING, call_export, true},
+    {"xet_minimal", 1, OF_SECTIONS, call_minimal, true},
+    {"xet_subset", 1, OF_SECTIONS, call_subset, true},
+    {"xet_eligible", sizeof(xet_hash), OF_SECTIONS, call_eligible, false},
+    {"xet_find_file", sizeof(xet_file_segment), OF_FINDING, call_find_file, false},
+    {"xet_hash_to_hex", 1, BIT(XET_OK), call_hash_to_hex, false},
+    {"xet_shard_name", 1, BIT(XET_OK), call_shard_name, false},
+};
+
+struct outcome {
+    uint32_t error;
+    size_t written;
+};
+
+/* Makes a call with room for so many items. What it leaves alone is what xet.h says. */
+static struct block filled(const struct filling *filling, const struct input *input, size_t capacity,
+                           struct outcome *outcome) {
+    struct block out = new_block(capacity * filling->item, input->in_pages);
+    size_t written = 12345;
+    uint32_t error = filling->call(input, out.bytes, capacity, &written);
+    result(error, filling->allowed | BIT(XET_SHORT));
+    if (error == XET_OK) {
+        require(written <= capacity, "more is written than there is room for");
+        require(is_filled(&out, written * filling->item), "what is behind the output is touched");
+    } else {
+        require(error == XET_SHORT ? written > capacity : written == 0, "the count of an error is another");
+        require(is_filled(&out, 0), "an error touches the output");
+    }
+    *outcome = (struct outcome){error, written};
+    return out;
+}
+
+/* What a call writes as a shard can be loaded, in version 3. */
+static void check_shard(const struct block *out, size_t written) {
+    xet_info info;
+    require(xet_load(out->bytes, written, &info) == XET_OK && info.version == 3, "what is written can't be loaded");
+}
+
+/* Asks for the size, and makes the call with exactly as much room, with more and with too little. */
+static void check_filling(const struct filling *filling, const struct input *input, struct random *random) {
+    struct outcome asked, outcome;
+    called = filling->name;
+    struct block none = filled(filling, input, 0, &asked), first = {0};
+    free_block(&none);
+    bool is_refused = asked.error != XET_OK && asked.error != XET_SHORT;
+    size_t rooms[] = {asked.written, asked.written + 1 + below(random, 100), below(random, asked.written)};
+    for (size_t at = 0; at < sizeof rooms / sizeof *rooms; at++) {
+        struct block out = filled(filling, input, rooms[at], &outcome);
+        uint32_t wanted = is_refused ? asked.error : rooms[at] < asked.written ? XET_SHORT : XET_OK;
+        require(outcome.error == wanted && outcome.written == asked.written, "the room changes the result");
+        if (at == 0) {
+            first = out;
+            if (!is_refused && filling->writes_shard)
+                check_shard(&out, outcome.written);
+            continue;
+        }
+        bool is_same = wanted != XET_OK || !memcmp(out.bytes, first.bytes, first.length);
+        require(is_same, "the room changes what is written");
+        free_block(&out);
+    }
+    free_block(&first);
+}
+
+static void check_load(const struct input *input) {
+    called = "xet_load";
+    struct block info = new_struct(input, sizeof(xet_info));
+    void *out = info.bytes;
+    uint32_t error = result(xet_load(SHARD(0), out), OF_LOADING);
+    require(error == XET_OK || is_filled(&info, 0), "an error touches the info");
+    free_block(&info);
+}
+
+static void check_query(const struct input *input) {
+    called = "xet_query_chunks";
+    struct block run = new_struct(input, sizeof(xet_segment));
+    size_t count = 12345, hash_count = input->chunks.length / sizeof(xet_hash);
+    const void *hashes = input->chunks.bytes;
+    void *out = run.bytes;
+    uint32_t error = result(xet_query_chunks(SHARD(0), hashes, hash_count, &count, out), OF_SECTIONS);
+    require(count <= hash_count && (error == XET_OK || count == 0), "the count is another");
+    require(count > 0 || is_filled(&run, 0), "no run is written");
+    xet_segment segment;
+    memcpy(&segment, run.bytes, sizeof segment);
+    require(count == 0 || segment.end - segment.start == count, "the run has another length");
+    free_block(&run);
+}
+
+static void check_find_disagreement(const struct input *input) {
+    called = "xet_find_disagreement";
+    xet_bytes list[SHARDS];
+    list_shards(input, list);
+    struct block found = new_struct(input, sizeof(xet_disagreement));
+    size_t differing = 12345;
+    void *out = found.bytes;
+    uint32_t error = result(xet_find_disagreement(list, input->count, &differing, out), OF_SECTIONS);
+    check_disagreement(input, &found, differing, error == XET_OK && differing > 0);
+    free_block(&found);
+}
+
+static void check_texts(const struct input *input) {
+    struct {
+        const char *name;
+        uint32_t (*call)(const uint8_t *text, size_t length, xet_hash *hash);
+        uint32_t refusal;
+    } calls[] = {
+        {"xet_hash_from_hex", xet_hash_from_hex, XET_HASH_PARSING},
+        {"xet_parse_shard_name", xet_parse_shard_name, XET_BAD_FILENAME},
+    };
+    for (size_t at = 0; at < 2; at++) {
+        called = calls[at].name;
+        struct block hash = new_struct(input, sizeof(xet_hash));
+        void *out = hash.bytes;
+        uint32_t error = calls[at].call(input->text.bytes, input->text.length, out);
+        result(error, BIT(XET_OK) | BIT(calls[at].refusal));
+        require(error == XET_OK || is_filled(&hash, 0), "an error touches the hash");
+        free_block(&hash);
+    }
+}
+
+void make_calls(const struct input *input, struct random *random, struct tally *tally) {
+    counts = tally;
+    for (size_t at = 0; at < sizeof fillings / sizeof *fillings; at++)
+        check_filling(&fillings[at], input, random);
+    check_load(input);
+    check_query(input);
+    check_find_disagreement(input);
+    check_texts(input);
+}
