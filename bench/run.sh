@@ -32,6 +32,7 @@ fi
 
 set -- --release --manifest-path "$here/Cargo.toml" --bin $program -- "$@"
 [ "$folder" = - ] && exec cargo run "$@"
-# From the folder, so that its own settings of cargo hold.
+# From the folder, so that its own settings of cargo hold, and without a network.
 cd "$folder"
+export CARGO_NET_OFFLINE=true
 exec cargo run --config "patch.crates-io.xet-core-structures.path=\"$(pwd)\"" "$@"

@@ -16,7 +16,8 @@ XET_ARCHIVE=$(readlink -f "$XET_ARCHIVE")
 export XET_ARCHIVE
 
 [ "$folder" = - ] && exec cargo run --release --manifest-path "$here/Cargo.toml" -- "$@"
-# From the folder, so that its own settings of cargo hold.
+# From the folder, so that its own settings of cargo hold, and without a network.
 cd "$folder"
+export CARGO_NET_OFFLINE=true
 exec cargo run --release --manifest-path "$here/Cargo.toml" \
     --config "patch.crates-io.xet-core-structures.path=\"$(pwd)\"" -- "$@"

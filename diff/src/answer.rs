@@ -56,6 +56,13 @@ pub struct Disagreement {
     pub second: usize,
 }
 
+/// What a subset is to have: a timestamp, and the xorbs with these hashes, or all.
+#[derive(Clone, PartialEq, Eq, Debug)]
+pub struct Subset {
+    pub expiry: Option<u64>,
+    pub xorbs: Option<Vec<Hash>>,
+}
+
 /// A call on two shards; most look at the first alone.
 #[derive(Clone, PartialEq, Eq, Debug)]
 pub enum Call {
@@ -68,6 +75,7 @@ pub enum Call {
     MergeAgreeing,
     Export(Export),
     Minimal { verification: bool, aux_rows: bool },
+    Subset(Subset),
     Eligible,
 }
 
@@ -83,6 +91,7 @@ impl Call {
             Call::MergeAgreeing => "merge_agreeing",
             Call::Export(_) => "export",
             Call::Minimal { .. } => "minimal",
+            Call::Subset(_) => "subset",
             Call::Eligible => "eligible",
         }
     }
@@ -101,7 +110,7 @@ impl Call {
     }
 }
 
-/// The timestamp that minimal shards get.
+/// The timestamp that minimal shards and subsets get.
 pub const NOW: u64 = 1_700_000_000;
 
 /// A file's segments, the hashes of its verification rows and its SHA-256.

@@ -1,6 +1,6 @@
 //! A case: two shards, some of them corrupted, and calls on them.
 
-use crate::answer::{Call, Hash};
+use crate::answer::{Call, Hash, Subset};
 use crate::corrupt::corrupt;
 use crate::random::Random;
 use crate::shards;
@@ -9,6 +9,8 @@ pub struct Case {
     pub first: Vec<u8>,
     pub second: Vec<u8>,
     pub calls: Vec<Call>,
+    /// Which of the two are merged, by number.
+    pub merge: Vec<usize>,
 }
 
 impl Case {
@@ -42,12 +44,27 @@ impl Case {
         calls.push(Call::Export(shards::export(&mut random)));
         calls.extend((0..3).map(|_| Call::Find(hash(&first, &mut random))));
         calls.extend((0..3).map(|_| Call::Query(query(&first, &mut random))));
+        let merge = list(&mut random);
+        calls.push(Call::Subset(subset(&first, &mut random)));
         Case {
             first,
             second,
             calls,
+            merge,
         }
     }
+}
+
+/// One to five of the two.
+fn list(random: &mut Random) -> Vec<usize> {
+    (0..1 + random.below(5)).map(|_| random.below(2)).collect()
+}
+
+fn subset(shard: &[u8], random: &mut Random) -> Subset {
+    let expiry = random.once_in(2).then(|| random.below(1 << 40) as u64);
+    let listed = (0..random.below(4)).map(|_| hash(shard, random)).collect();
+    let xorbs = (!random.once_in(4)).then_some(listed);
+    Subset { expiry, xorbs }
 }
 
 /// One of the shard's rows, or any.

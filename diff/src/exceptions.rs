@@ -110,7 +110,7 @@ impl Difference<'_> {
                 self.in_combination()
             }
             Call::Export(options) => self.in_export(options),
-            Call::Minimal { .. } | Call::Eligible => self.in_stream(),
+            Call::Minimal { .. } | Call::Subset(_) | Call::Eligible => self.in_stream(),
         }
     }
 

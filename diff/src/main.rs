@@ -59,18 +59,20 @@ struct Tally {
     answered: BTreeMap<&'static str, u64>,
     refused: BTreeMap<&'static str, u64>,
     exceptions: BTreeMap<Exception, u64>,
+    /// Merges that tell the fault of another input than unions do.
+    other_inputs: u64,
     failures: usize,
 }
 
 impl Tally {
-    fn add(&mut self, call: &Call, port: &Answer) {
+    fn add(&mut self, name: &'static str, port: &Answer) {
         let refused = matches!(port, Answer::Error(_));
         let counts = if refused {
             &mut self.refused
         } else {
             &mut self.answered
         };
-        *counts.entry(call.name()).or_default() += 1;
+        *counts.entry(name).or_default() += 1;
         self.calls += 1;
     }
 
@@ -93,35 +95,84 @@ impl Tally {
                 self.exceptions.get(&exception).unwrap_or(&0)
             );
         }
+        println!(
+            "merges that tell the fault of another input: {}",
+            self.other_inputs
+        );
         println!("other differences: {}", self.failures);
     }
+}
+
+/// Makes a call on both, and compares the answers. Returns the port's.
+fn compared(call: &Call, first: &[u8], second: &[u8], tally: &mut Tally) -> Result<Answer, String> {
+    let original = original::answer(call, first, second);
+    let port = port::answer(call, first, second);
+    tally.add(call.name(), &port);
+    match compare(call, first, &original, &port) {
+        Comparison::Same(exceptions) => exceptions.into_iter().for_each(|it| tally.except(it)),
+        Comparison::Differ => {
+            let difference = Difference {
+                call,
+                first,
+                second,
+                original: &original,
+                port: &port,
+            };
+            let exception = difference.exception();
+            let exception = exception
+                .ok_or_else(|| format!("{call:?}\n  original: {original:?}\n  port: {port:?}"))?;
+            tally.except(exception);
+        }
+    }
+    Ok(port)
+}
+
+/// Unites what each half of a list gives, by unions that are compared. Returns the port's answer,
+/// which of one shard is that shard.
+fn united(shards: &[&[u8]], tally: &mut Tally) -> Result<Answer, String> {
+    if let [shard] = shards {
+        return Ok(Answer::Shard(shard.to_vec()));
+    }
+    let (left, right) = shards.split_at(shards.len() / 2);
+    match (united(left, tally)?, united(right, tally)?) {
+        (Answer::Shard(left), Answer::Shard(right)) => compared(&Call::Union, &left, &right, tally),
+        // What is on the left is united first.
+        (Answer::Shard(_), refused) | (refused, _) => Ok(refused),
+    }
+}
+
+/// The port's merge has to be what its unions give, each of which is compared with the original's. Where
+/// several inputs are refused, it may tell of another than the unions do.
+fn run_merge(shards: &[&[u8]], tally: &mut Tally) -> Result<(), String> {
+    let merged = port::merge(shards);
+    tally.add("merge", &merged);
+    let united = match shards {
+        [shard] => united(&[shard, shard], tally)?,
+        _ => united(shards, tally)?,
+    };
+    if merged == united {
+        return Ok(());
+    }
+    let is_refused = |shard: &&[u8]| port::answer(&Call::Union, shard, shard) == merged;
+    let are_errors = matches!((&merged, &united), (Answer::Error(_), Answer::Error(_)));
+    if are_errors && shards.iter().any(is_refused) {
+        tally.other_inputs += 1;
+        return Ok(());
+    }
+    Err(format!(
+        "a merge of {}\n  by unions: {united:?}\n  port: {merged:?}",
+        shards.len()
+    ))
 }
 
 /// Makes the calls of a case on both, and compares them.
 fn run(case: &Case, tally: &mut Tally) -> Result<(), String> {
     for call in &case.calls {
-        let original = original::answer(call, &case.first, &case.second);
-        let port = port::answer(call, &case.first, &case.second);
-        tally.add(call, &port);
-        match compare(call, &case.first, &original, &port) {
-            Comparison::Same(exceptions) => exceptions.into_iter().for_each(|it| tally.except(it)),
-            Comparison::Differ => {
-                let difference = Difference {
-                    call,
-                    first: &case.first,
-                    second: &case.second,
-                    original: &original,
-                    port: &port,
-                };
-                let exception = difference.exception();
-                let exception = exception.ok_or_else(|| {
-                    format!("{call:?}\n  original: {original:?}\n  port: {port:?}")
-                })?;
-                tally.except(exception);
-            }
-        }
+        compared(call, &case.first, &case.second, tally)?;
     }
-    Ok(())
+    let shards = [&case.first[..], &case.second[..]];
+    let list: Vec<_> = case.merge.iter().map(|&number| shards[number]).collect();
+    run_merge(&list, tally)
 }
 
 fn hex(bytes: &[u8]) -> String {

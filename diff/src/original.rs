@@ -1,11 +1,11 @@
 //! The original.
 
-use crate::answer::{Answer, Call, Disagreement, Error, Export, File, Hash, Info, Segment};
+use crate::answer::{Answer, Call, Disagreement, Error, Export, File, Hash, Info, Segment, Subset};
 use std::collections::BTreeMap;
 use std::io::Cursor;
 use std::panic::{AssertUnwindSafe, catch_unwind};
 use std::sync::atomic::{AtomicBool, Ordering};
-use std::time::Duration;
+use std::time::{Duration, UNIX_EPOCH};
 use xet_core_structures::error::{CoreError, Result};
 use xet_core_structures::merklehash::MerkleHash;
 use xet_core_structures::metadata_shard::file_structs::{FileDataSequenceEntry, MDBFileInfo};
@@ -105,6 +105,7 @@ fn call_original(call: &Call, first: &[u8], second: &[u8]) -> Result<Answer> {
             minimal(first)?.serialize(&mut bytes, *verification)?;
             Answer::Shard(bytes)
         }
+        Call::Subset(options) => Answer::Shard(subset(first, options)?),
         Call::Eligible => {
             let chunks = minimal(first)?.global_dedup_eligible_chunks();
             let mut hashes: Vec<_> = chunks
@@ -222,6 +223,17 @@ fn files_agree(one: &MDBFileInfo, other: &MDBFileInfo) -> bool {
         && (one.metadata_ext.is_none()
             || other.metadata_ext.is_none()
             || one.metadata_ext == other.metadata_ext)
+}
+
+fn subset(shard: &[u8], subset: &Subset) -> Result<Vec<u8>> {
+    let expiry = subset.expiry.map(|it| UNIX_EPOCH + Duration::from_secs(it));
+    let mut bytes = Vec::new();
+    minimal(shard)?.serialize_xorb_subset_with_expiry(&mut bytes, expiry, |xorb| {
+        let words = *xorb.xorb_hash();
+        let listed = subset.xorbs.as_ref();
+        listed.is_none_or(|listed| listed.contains(&Hash { words }))
+    })?;
+    Ok(bytes)
 }
 
 pub fn export(shard: &[u8], export: &Export) -> Result<Vec<u8>> {

@@ -1,6 +1,8 @@
 //! The port, through its library for C.
 
-use crate::answer::{Answer, Call, Disagreement, Error, Export, File, Hash, Info, NOW, Segment};
+use crate::answer::{
+    Answer, Call, Disagreement, Error, Export, File, Hash, Info, NOW, Segment, Subset,
+};
 
 #[repr(C)]
 #[derive(Default)]
@@ -32,6 +34,14 @@ struct ExportOptions {
     chunk_table: bool,
 }
 
+#[repr(C)]
+struct SubsetOptions {
+    now: u64,
+    expiry: u64,
+    all: bool,
+}
+
+/// A shard in a list.
 #[repr(C)]
 struct Bytes {
     bytes: *const u8,
@@ -88,6 +98,23 @@ unsafe extern "C" {
         now: u64,
         verification: bool,
         aux_rows: bool,
+        out: *mut u8,
+        capacity: usize,
+        written: *mut usize,
+    ) -> u32;
+    fn xet_merge(
+        shards: *const Bytes,
+        count: usize,
+        out: *mut u8,
+        capacity: usize,
+        written: *mut usize,
+    ) -> u32;
+    fn xet_subset(
+        shard: *const u8,
+        length: usize,
+        options: *const SubsetOptions,
+        xorbs: *const Hash,
+        xorb_count: usize,
         out: *mut u8,
         capacity: usize,
         written: *mut usize,
@@ -152,6 +179,7 @@ pub fn answer(call: &Call, first: &[u8], second: &[u8]) -> Answer {
         }),
         Call::FindDisagreement => find_disagreement(first, second),
         Call::MergeAgreeing => merge_agreeing(first, second),
+        Call::Subset(options) => subset(first, options),
         Call::Export(options) => export(first, options),
         Call::Minimal {
             verification,
@@ -229,6 +257,33 @@ fn query(shard: &[u8], hashes: &[Hash]) -> Answer {
     }
 }
 
+/// What the port answers of a merge.
+pub fn merge(shards: &[&[u8]]) -> Answer {
+    let list = list(shards);
+    shard(|out, room, written| unsafe { xet_merge(list.as_ptr(), list.len(), out, room, written) })
+}
+
+fn subset(shard_bytes: &[u8], subset: &Subset) -> Answer {
+    let options = SubsetOptions {
+        now: NOW,
+        expiry: subset.expiry.unwrap_or(0),
+        all: subset.xorbs.is_none(),
+    };
+    let listed = subset.xorbs.as_deref().unwrap_or(&[]);
+    shard(|out, room, written| unsafe {
+        xet_subset(
+            shard_bytes.as_ptr(),
+            shard_bytes.len(),
+            &options,
+            listed.as_ptr(),
+            listed.len(),
+            out,
+            room,
+            written,
+        )
+    })
+}
+
 fn export(shard_bytes: &[u8], export: &Export) -> Answer {
     let options = ExportOptions {
         key: export.key,
@@ -251,11 +306,12 @@ fn export(shard_bytes: &[u8], export: &Export) -> Answer {
     })
 }
 
-fn list(shards: [&[u8]; 2]) -> [Bytes; 2] {
-    shards.map(|shard| Bytes {
+fn list(shards: &[&[u8]]) -> Vec<Bytes> {
+    let bytes_of = |shard: &&[u8]| Bytes {
         bytes: shard.as_ptr(),
         length: shard.len(),
-    })
+    };
+    shards.iter().map(bytes_of).collect()
 }
 
 /// What stands where a disagreement is shown, if there is one.
@@ -267,7 +323,7 @@ const UNTOUCHED: Disagreement = Disagreement {
 };
 
 fn find_disagreement(first: &[u8], second: &[u8]) -> Answer {
-    let shards = list([first, second]);
+    let shards = list(&[first, second]);
     let (mut differing, mut found) = (1, UNTOUCHED);
     let result =
         unsafe { xet_find_disagreement(shards.as_ptr(), shards.len(), &mut differing, &mut found) };
@@ -280,7 +336,7 @@ fn find_disagreement(first: &[u8], second: &[u8]) -> Answer {
 }
 
 fn merge_agreeing(first: &[u8], second: &[u8]) -> Answer {
-    let shards = list([first, second]);
+    let shards = list(&[first, second]);
     let (mut result, mut differing, mut found) = (0, 1, UNTOUCHED);
     let merged = shard(|out, room, written| {
         result = unsafe {
