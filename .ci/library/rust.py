@@ -1,7 +1,6 @@
 """Checks of bindings/rust."""
 import os
 import re
-import shutil
 
 from .common import BINDINGS, Skip, error_numbers, ran, read, sources, structs
 
@@ -51,7 +50,10 @@ def check_declarations():
     numbers = re.findall(r"^            (\d+) => Error::(\w+),", text, re.M)
     constants = re.findall(r"const (SHORT|DISAGREE): u32 = (\d+);", text)
     numbers += [(number, name.title()) for name, number in constants]
-    if not numbers or any(error_numbers()[int(number)] != name for number, name in numbers):
+    # Those that xet.h marks with a star no call returns.
+    header = re.findall(r"^    XET_\w+ = (\d+),? +/\* (?!\* \*/)", read(f"{BINDINGS}/c/xet.h"), re.M)
+    returned = {number: error_numbers()[int(number)] for number in header}
+    if not returned or dict(numbers) != returned:
         return "the errors of bindings/rust are not those of crates/xet_c"
     return None
 
@@ -71,8 +73,10 @@ def check_example_shards(shard):
 
 def cargo(room, libraries, *words):
     """Runs cargo on the crate, without a network, and with what it builds in a room."""
-    if not shutil.which("cargo"):
-        raise Skip("cargo is not there, so nothing of bindings/rust was built or run")
+    needed = re.search(r'^rust-version = "1\.(\d+)"$', read(f"{CRATE}/Cargo.toml"), re.M)[1]
+    found = re.match(r"cargo 1\.(\d+)\.", ran("cargo", "--version")[0])
+    if not found or int(found[1]) < int(needed):
+        raise Skip(f"cargo 1.{needed} is not there, so nothing of bindings/rust was built or run")
     named = {"CARGO_NET_OFFLINE": "true", "CARGO_TARGET_DIR": f"{room}/target", "XET_LIB_DIR": libraries}
     return ran("cargo", *words, cwd=CRATE, env=named)
 
@@ -80,8 +84,8 @@ def cargo(room, libraries, *words):
 def check_form(room, libraries):
     """The crate is written as cargo's tools want it."""
     for tool, words in (("fmt", ["--check"]), ("clippy", ["--quiet", "--all-targets", "--", "-D", "warnings"])):
-        if not shutil.which(f"cargo-{tool}"):
-            raise Skip(f"cargo {tool} is not there")
+        if cargo(room, libraries, tool, "--version")[1]:
+            raise Skip(f"cargo {tool} is not there, so the form of bindings/rust was not checked whole")
         why = cargo(room, libraries, tool, *words)[1]
         if why:
             return why
