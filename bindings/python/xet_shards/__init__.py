@@ -19,10 +19,9 @@ import mmap
 import os
 import re
 from array import array
-from contextlib import contextmanager
 from ctypes import POINTER, byref, c_bool, c_char, c_char_p, c_int, c_size_t, c_ssize_t, c_uint32, c_uint64, c_void_p
 from dataclasses import dataclass
-from typing import Any, Callable, Dict, Iterator, List, Optional, Sequence, Tuple, Union
+from typing import Any, Callable, Dict, List, Optional, Sequence, Tuple, Union
 
 __all__ = [
     "Buffer", "Disagreement", "DisagreementError", "File", "Info", "NO_EXPIRY", "NO_KEY", "Run", "Segment", "XetError",
@@ -278,23 +277,31 @@ def _check(number: int) -> None:
         raise XetError(number)
 
 
-@contextmanager
-def _addresses(*shards: Buffer) -> Iterator[List[Tuple[int, int]]]:
-    """Yields the address and the length of the bytes of each shard. They stay there meanwhile."""
-    views = (_View * len(shards))()
-    held = 0
-    try:
-        for view, shard in zip(views, shards):
-            # The bytes of a view need not be one after another: these are copied.
-            if isinstance(shard, memoryview) and not shard.c_contiguous:
-                shard = shard.tobytes()
-            _get_buffer(shard, byref(view), 0)
-            held += 1
+class _Addresses:
+    """Gives the address and the length of the bytes of each shard, which stay there until it is left."""
+
+    def __init__(self, *shards: Buffer) -> None:
+        self._shards = shards
+        self._views: List[_View] = []
+
+    def __enter__(self) -> List[Tuple[int, int]]:
+        try:
+            for shard in self._shards:
+                # The bytes of a view need not be one after another: these are copied.
+                if isinstance(shard, memoryview) and not shard.c_contiguous:
+                    shard = shard.tobytes()
+                view = _View()
+                _get_buffer(shard, view, 0)
+                self._views.append(view)
+        except BaseException:
+            self.__exit__()
+            raise
         # xet.h wants no null pointer, also of no bytes.
-        yield [(view.buf or ctypes.addressof(view), view.len) for view in views]
-    finally:
-        for view in views[:held]:
-            _release_buffer(byref(view))
+        return [(view.buf or ctypes.addressof(view), view.len) for view in self._views]
+
+    def __exit__(self, *_: object) -> None:
+        for view in self._views:
+            _release_buffer(view)
 
 
 def _seconds(number: int) -> int:
@@ -351,7 +358,7 @@ def _made(room: int, call: Callable[[ctypes.Array[Any], int, c_size_t], Any]) ->
 def load(shard: Buffer) -> Info:
     """Returns what the header and the footer of a shard say."""
     info = _Info()
-    with _addresses(shard) as [data]:
+    with _Addresses(shard) as [data]:
         _check(_library.xet_load(*data, byref(info)))
     values: Dict[str, Any] = {name: getattr(info, name) for name, *_ in _Info._fields_}
     values["key"] = _text(info.key)
@@ -362,7 +369,7 @@ def find_file(shard: Buffer, file_hash: str) -> Optional[File]:
     """Returns the file with this hash, or None. In a shard without a table of files, as a minimal one, none is found."""
     wanted, file, room = _Hash(_words(file_hash)), _File(), 64
     segments = _array(_FileSegment, room)
-    with _addresses(shard) as [data]:
+    with _Addresses(shard) as [data]:
         number = _library.xet_find_file(*data, byref(wanted), byref(file), segments, room)
         if number == _SHORT:
             room = file.segments
@@ -387,7 +394,7 @@ def query_chunks(shard: Buffer, hashes: Sequence[str]) -> Optional[Run]:
     In a shard without a table of chunks, as a minimal one, none is found.
     """
     wanted, count, run = _hashes(hashes), c_size_t(), _Segment()
-    with _addresses(shard) as [data]:
+    with _Addresses(shard) as [data]:
         _check(_library.xet_query_chunks(*data, wanted, len(hashes), byref(count), byref(run)))
     return Run(count.value, _segment(run)) if count.value else None
 
@@ -403,7 +410,7 @@ def difference(first: Buffer, second: Buffer) -> bytes:
 
 
 def _combined(operation: Callable[..., Any], first: Buffer, second: Buffer) -> bytes:
-    with _addresses(first, second) as [one, other]:
+    with _Addresses(first, second) as [one, other]:
         return _made(
             one[1] + other[1], lambda out, room, written: operation(*one, *other, out, room, byref(written))
         )
@@ -420,7 +427,7 @@ def merge(shards: Sequence[Buffer], strict: bool = False) -> bytes:
     if not shards:
         raise ValueError("no shard is given")
     differing, found = c_size_t(), _Disagreement()
-    with _addresses(*shards) as data:
+    with _Addresses(*shards) as data:
         listed, size = _list(data), sum(length for _, length in data)
         if not strict:
             return _made(
@@ -442,7 +449,7 @@ def merge(shards: Sequence[Buffer], strict: bool = False) -> bytes:
 def find_disagreement(shards: Sequence[Buffer]) -> Optional[Disagreement]:
     """Returns a hash under which two of the shards have records that do not agree, or None if each two agree."""
     differing, found = c_size_t(), _Disagreement()
-    with _addresses(*shards) as data:
+    with _Addresses(*shards) as data:
         _check(_library.xet_find_disagreement(_list(data), len(data), byref(differing), byref(found)))
     return _disagreement(found, differing.value) if differing.value else None
 
@@ -469,7 +476,7 @@ def export(
     options = _Export(
         _words(key), _seconds(now), _seconds(valid_seconds), files, aux_rows, xorb_table, chunk_table
     )
-    with _addresses(shard) as [data]:
+    with _Addresses(shard) as [data]:
         return _made(
             data[1], lambda out, room, written: _library.xet_export(*data, byref(options), out, room, byref(written))
         )
@@ -482,7 +489,7 @@ def minimal(shard: Buffer, now: int, verification: bool = False, aux_rows: bool 
     each file has to have then.
     """
     now = _seconds(now)
-    with _addresses(shard) as [data]:
+    with _Addresses(shard) as [data]:
         return _made(
             data[1],
             lambda out, room, written: _library.xet_minimal(
@@ -498,7 +505,7 @@ def subset(shard: Buffer, now: int, expiry: Optional[int] = None, xorbs: Optiona
     """
     listed = _hashes(xorbs or [])
     options = _Subset(_seconds(now), _seconds(expiry or 0), xorbs is None)
-    with _addresses(shard) as [data]:
+    with _Addresses(shard) as [data]:
         return _made(
             data[1],
             lambda out, room, written: _library.xet_subset(
@@ -509,7 +516,7 @@ def subset(shard: Buffer, now: int, expiry: Optional[int] = None, xorbs: Optiona
 
 def eligible(shard: Buffer) -> List[str]:
     """Returns the hashes of the chunks that the global index keeps, in ascending order."""
-    with _addresses(shard) as [data]:
+    with _Addresses(shard) as [data]:
         hashes = _filled(
             _Hash, 16, lambda out, room, written: _library.xet_eligible(*data, out, room, byref(written))
         )
