@@ -1,21 +1,52 @@
 //! Merges the shards of several files: merge FILE.. -o OUT
 //!
-//! The output is written to a new file beside OUT, which takes its name at the end.
+//! The output is written to a new file beside OUT, which takes its name at the end: if anything fails, what was there
+//! stays.
 
 use std::error::Error;
-use std::{env, fs};
+use std::fs::File;
+use std::io::Write;
+use std::process::{self, ExitCode};
+use std::{env, fs, io};
 
-fn main() -> Result<(), Box<dyn Error>> {
-    let words: Vec<String> = env::args().skip(1).collect();
-    let (names, output) = match &words[..] {
-        [names @ .., option, output] if option == "-o" && !names.is_empty() => (names, output),
-        _ => return Err("usage: merge FILE.. -o OUT".into()),
-    };
-    let shards = names.iter().map(fs::read).collect::<Result<Vec<_>, _>>()?;
+/// Writes a file that is whole or not there.
+fn write(path: &str, bytes: &[u8]) -> Result<(), Box<dyn Error>> {
+    let new = format!("{path}.{}.new", process::id());
+    if let Err(error) = write_new(&new, bytes).and_then(|()| fs::rename(&new, path)) {
+        // It may not be there.
+        let _ = fs::remove_file(&new);
+        return Err(format!("{path}: {error}").into());
+    }
+    Ok(())
+}
+
+fn write_new(path: &str, bytes: &[u8]) -> io::Result<()> {
+    let mut file = File::create_new(path)?;
+    file.write_all(bytes)?;
+    file.sync_all()
+}
+
+fn merge(names: &[String], output: &str) -> Result<(), Box<dyn Error>> {
+    let read = |name| fs::read(name).map_err(|error| format!("{name}: {error}"));
+    let shards = names.iter().map(read).collect::<Result<Vec<_>, _>>()?;
     let merged = xet_shards::merge(&shards)?;
-    let new = format!("{output}.{}.new", std::process::id());
-    fs::write(&new, &merged).and_then(|()| fs::rename(&new, output)).inspect_err(|_| drop(fs::remove_file(&new)))?;
+    write(output, &merged)?;
     let info = xet_shards::load(&merged)?;
     println!("{output}: {} files, {} xorbs, {} chunks", info.files, info.xorbs, info.chunks);
     Ok(())
+}
+
+fn main() -> ExitCode {
+    let words: Vec<String> = env::args().skip(1).collect();
+    let done = match &words[..] {
+        [names @ .., option, output] if option == "-o" && !names.is_empty() => merge(names, output),
+        _ => Err("usage: merge FILE.. -o OUT".into()),
+    };
+    match done {
+        Ok(()) => ExitCode::SUCCESS,
+        Err(error) => {
+            eprintln!("merge: {error}");
+            ExitCode::FAILURE
+        }
+    }
 }
