@@ -22,7 +22,8 @@ struct input {
 
 /* What was done, for the process that reports it. */
 struct tally {
-    uint64_t number; /* of the case */
+    uint64_t number; /* of the case that is made */
+    uint64_t cases;
     uint64_t calls;
     uint64_t results[RESULTS];
 };

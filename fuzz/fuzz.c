@@ -149,6 +149,7 @@ static void run_case(uint64_t seed, uint64_t number, struct tally *tally) {
     alarm(LONGEST_CASE);
     struct input input = make_case(&random);
     make_calls(&input, &random, tally);
+    tally->cases++;
     for (size_t at = 0; at < input.count; at++)
         free_block(&input.shards[at]);
     free_block(&input.chunks);
@@ -199,7 +200,7 @@ int main(int count, char **words) {
     } else if (!run_cases(seed, strtod(words[1], NULL), tally)) {
         return 1;
     }
-    printf("fuzz: %llu cases, %llu calls:", (unsigned long long)tally->number, (unsigned long long)tally->calls);
+    printf("fuzz: %llu cases, %llu calls:", (unsigned long long)tally->cases, (unsigned long long)tally->calls);
     for (uint32_t error = 0; error < RESULTS; error++)
         if (tally->results[error] > 0)
             printf(" %s %llu", xet_error_name(error), (unsigned long long)tally->results[error]);

@@ -10,6 +10,8 @@ from .c import CC, WARNINGS
 from .common import BINDINGS, TOP, Skip, error_numbers, ran, read, structs
 
 MODULE = f"{BINDINGS}/python"
+# The library beside the module.
+SONAME = f"libxet.so.{read(f'{TOP}/VERSION').split('.')[0]}"
 
 # The types of fields, in Rattle and in the Python module.
 TYPES = {
@@ -93,10 +95,6 @@ def check_types():
     return ran("mypy", "--strict", "--cache-dir", os.devnull, "xet_shards", "examples", cwd=MODULE)[1]
 
 
-# The library beside the module.
-SONAME = f"libxet.so.{read(f'{TOP}/VERSION').split('.')[0]}"
-
-
 def copied(room, library):
     """Copies the Python package into a room, with the library if it is given, and returns its folder."""
     folder = f"{room}/package"
@@ -118,11 +116,12 @@ def check_package(room, library):
 
 
 def builder():
-    """Returns a Python that can build wheels."""
+    """Returns a Python that can build wheels: it has what pyproject.toml asks for."""
+    program = "import setuptools, wheel; assert int(setuptools.__version__.split('.')[0]) >= 61"
     for python in (sys.executable, "/usr/bin/python3"):
-        if not ran(python, "-c", "import setuptools, wheel")[1]:
+        if not ran(python, "-c", program)[1]:
             return python
-    raise Skip("no Python here has the packages setuptools and wheel, so no wheel was built")
+    raise Skip("no Python here has the packages setuptools, of 61 or later, and wheel, so no wheel was built")
 
 
 def check_wheel(room, library):
