@@ -33,11 +33,11 @@ macro_rules! library {
             unsafe extern "C" {
                 fn $name($($c)*) -> u32;
             }
-            // SAFETY: the declaration is that of xet.h, which .ci/bindings compares. What xet.h asks of callers holds
-            // for slices and references: they are valid for their lengths until the call returns, aligned and not
-            // null, those to outputs overlap nothing, and each `bool` is 0 or 1. The library keeps no pointer, and it
-            // is proved to read nothing but its inputs, and to write nothing but its outputs, to which it writes
-            // numbers alone: of these types any bits are values, but for `bool`s, which it writes as 0 or 1.
+            // SAFETY: the declaration is that of crates/xet_c, which .ci/bindings compares. What xet.h asks of callers
+            // holds of slices and references: they are valid for their lengths until the call returns, aligned and not
+            // null, those of outputs overlap nothing, and each `bool` is 0 or 1. The library keeps no pointer. It is
+            // proved to read nothing but its inputs and to write nothing but its outputs, and what it writes there are
+            // numbers and `bool`s, so they stay values of their types.
             unsafe { $name($($arguments)*) }
         }
     };

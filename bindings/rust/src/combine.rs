@@ -57,7 +57,14 @@ impl fmt::Display for Disagreement {
 /// Of shards that agree it is the same bytes in either order and any grouping of several. `xet.h` says which of two
 /// records with one hash it has where they do not agree.
 ///
-/// Errors: `ShardVersion`, `Io`, `InvalidArguments` for keys that differ, `InvalidShard`, `OutOfMemory`.
+/// # Errors
+///
+/// - `ShardVersion`, `Io`: as of [`load`](crate::load), of either shard; `Io` also if a section ends too early.
+/// - `InvalidArguments`: the keys differ.
+/// - `InvalidShard`: hashes of a section do not ascend, a file has a row that its version does not have, or a section,
+///   here or in the union, has more than 4294967295 rows; or two files that have to be combined have different numbers
+///   of segments.
+/// - `OutOfMemory`: an allocation failed.
 ///
 /// ```
 /// # fn main() -> Result<(), Box<dyn std::error::Error>> {
@@ -75,7 +82,9 @@ pub fn union(first: &[u8], second: &[u8]) -> Result<Vec<u8>> {
 
 /// The second shard's records whose hashes the first does not have. Both have one key.
 ///
-/// Errors: those of [`union`], without that of files that have to be combined.
+/// # Errors
+///
+/// Those of [`union`], without that of files that have to be combined.
 ///
 /// ```
 /// # fn main() -> Result<(), Box<dyn std::error::Error>> {
@@ -90,10 +99,12 @@ pub fn difference(first: &[u8], second: &[u8]) -> Result<Vec<u8>> {
 }
 
 /// The union of one shard or more: that of the first half of the list with that of the second, each made in the same
-/// way; a single one is united with itself. Of shards that agree pairwise and have no key it is the same bytes in any
-/// order.
+/// way, down to single shards; if only one is given it is united with itself. Of shards that agree pairwise and have no
+/// key it is the same bytes in any order.
 ///
-/// Errors: those of [`union`], and `InvalidArguments` if there is no shard.
+/// # Errors
+///
+/// Those of [`union`]; `InvalidArguments` also if there is no shard.
 ///
 /// ```
 /// # fn main() -> Result<(), Box<dyn std::error::Error>> {
@@ -110,7 +121,9 @@ pub fn merge<T: AsRef<[u8]>>(shards: &[T]) -> Result<Vec<u8>> {
 
 /// The union of one shard or more as [`merge`] makes it, if each two of the shards agree.
 ///
-/// Errors: `Disagree` if two do not; else those of [`merge`].
+/// # Errors
+///
+/// `Disagree`: two of them do not. Else those of [`merge`].
 ///
 /// ```
 /// use xet_shards::{Error, RecordHash};
@@ -147,7 +160,9 @@ pub fn merge_agreeing<T: AsRef<[u8]>>(shards: &[T]) -> Result<Vec<u8>> {
 /// Two files agree if they have equal segments, and an equal optional part wherever both have it, and two xorbs if they
 /// are equal. The keys of the shards do not count.
 ///
-/// Errors: `ShardVersion`, `Io`, `InvalidShard`, `OutOfMemory`.
+/// # Errors
+///
+/// Those of [`union`] that one of the shards alone is the cause of, and `OutOfMemory`.
 ///
 /// ```
 /// # fn main() -> Result<(), Box<dyn std::error::Error>> {

@@ -70,7 +70,10 @@ pub struct Run {
 
 /// Reads the header and the footer of a shard.
 ///
-/// Errors: `ShardVersion`, `Io`.
+/// # Errors
+///
+/// - `ShardVersion`: the tag is another, the version is neither 2 nor 3, or that of the footer is not 1.
+/// - `Io`: there are too few bytes for a header and a footer.
 ///
 /// ```
 /// # fn main() -> Result<(), Box<dyn std::error::Error>> {
@@ -88,7 +91,13 @@ pub fn load(shard: &[u8]) -> Result<Info> {
 
 /// Looks up the file with this hash in the table of files. A shard without this table has no file that is found.
 ///
-/// Errors: `ShardVersion`, `Io`, `TruncatedHashCollision`, `InternalError`, `InvalidShard`, `OutOfMemory`.
+/// # Errors
+///
+/// - `ShardVersion`, `Io`: as of [`load`]; `Io` also if a row that is read ends too early.
+/// - `TruncatedHashCollision`: eight or more files share the first word of the hash.
+/// - `InternalError`: a row of the table of files leads to the end of the section.
+/// - `InvalidShard`: the file has a row that the version does not have, or a number does not fit its width.
+/// - `OutOfMemory`: an allocation failed.
 ///
 /// ```
 /// # fn main() -> Result<(), Box<dyn std::error::Error>> {
@@ -119,7 +128,11 @@ pub fn find_file(shard: &[u8], hash: Hash) -> Result<Option<File>> {
 /// Looks for a run of chunks with these hashes, which are not keyed, also if the shard's are. It has at least the
 /// first chunk.
 ///
-/// Errors: `ShardVersion`, `Io`, `InvalidShard`, `OutOfMemory`.
+/// # Errors
+///
+/// - `ShardVersion`, `Io`: as of [`load`]; `Io` also if a row that is read ends too early.
+/// - `InvalidShard`: a row of the table leads to no chunk, or a number does not fit its width.
+/// - `OutOfMemory`: an allocation failed.
 ///
 /// ```
 /// # fn main() -> Result<(), Box<dyn std::error::Error>> {
@@ -138,7 +151,12 @@ pub fn query_chunks(shard: &[u8], hashes: &[Hash]) -> Result<Option<Run>> {
 
 /// The hashes of the chunks that the global index keeps, each once and in ascending order.
 ///
-/// Errors: `ShardVersion`, `Io`, `InvalidShard`, `OutOfMemory`.
+/// # Errors
+///
+/// - `ShardVersion`: the tag is another, or the version is neither 2 nor 3.
+/// - `Io`: the bytes end before the sections do.
+/// - `InvalidShard`: a file has a row that the version does not have, or a section more than 4294967295 rows.
+/// - `OutOfMemory`: an allocation failed.
 ///
 /// ```
 /// # fn main() -> Result<(), Box<dyn std::error::Error>> {

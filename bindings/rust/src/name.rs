@@ -13,8 +13,11 @@ pub fn shard_name(hash: Hash) -> String {
     format!("{hash}.mdb")
 }
 
-/// The hash in the name of a shard file, which is 64 hexadecimal digits of either case and `.mdb`. Of any other text,
-/// such as a path, the error is `BadFilename`.
+/// The hash in the name of a shard file, which is 64 hexadecimal digits of either case and `.mdb`.
+///
+/// # Errors
+///
+/// `BadFilename` of any other text, such as a path.
 ///
 /// ```
 /// use xet_shards::{Error, hash_of_name, shard_name};

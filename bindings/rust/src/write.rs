@@ -70,8 +70,12 @@ pub enum Xorbs<'a> {
 
 /// The shard with each chunk hash replaced by its keyed hash, and with the parts that are asked for.
 ///
-/// Errors: `ShardVersion`, `Io`, `InvalidArguments` if the chunk hashes are keyed already or if `now` and
-/// `valid_seconds` add up to 2^64 or more, `InvalidShard`, `OutOfMemory`.
+/// # Errors
+///
+/// - `ShardVersion`, `Io`: as of [`load`](crate::load); `Io` also if a section ends too early.
+/// - `InvalidArguments`: the chunk hashes are keyed already, or `now` and `valid_seconds` add up to 2^64 or more.
+/// - `InvalidShard`: a file has a row that the version does not have, or a section more than 4294967295 rows.
+/// - `OutOfMemory`: an allocation failed.
 ///
 /// ```
 /// use xet_shards::Export;
@@ -91,8 +95,12 @@ pub fn export(shard: &[u8], options: &Export) -> Result<Vec<u8>> {
 
 /// The records of the shard without tables, with expiry 0, and with a mark at each chunk at which a file starts.
 ///
-/// Errors: `ShardVersion`, `Io`, also if verification rows are asked for and a file has none, `InvalidShard`,
-/// `OutOfMemory`.
+/// # Errors
+///
+/// - `ShardVersion`: the tag is another, or the version is neither 2 nor 3.
+/// - `Io`: the bytes end before the sections do, or verification rows are asked for and a file has none.
+/// - `InvalidShard`: a file has a row that the version does not have, or a section more than 4294967295 rows.
+/// - `OutOfMemory`: an allocation failed.
 ///
 /// ```
 /// use xet_shards::Minimal;
@@ -113,7 +121,12 @@ pub fn minimal(shard: &[u8], options: &Minimal) -> Result<Vec<u8>> {
 
 /// Xorbs of the shard, without files and tables, and with a mark at each chunk at which a file starts.
 ///
-/// Errors: `ShardVersion`, `Io`, `InvalidShard`, `OutOfMemory`.
+/// # Errors
+///
+/// - `ShardVersion`: the tag is another, or the version is neither 2 nor 3.
+/// - `Io`: the bytes end before the sections do.
+/// - `InvalidShard`: a file has a row that the version does not have, or a section more than 4294967295 rows.
+/// - `OutOfMemory`: an allocation failed.
 ///
 /// ```
 /// use xet_shards::{Subset, Xorbs};
