@@ -10,16 +10,23 @@ use std::str::FromStr;
 ///
 /// let hash = Hash([100, 1, 0, 0]);
 /// assert_eq!(hash.to_string(), format!("{:016x}{:016x}{:032x}", 100, 1, 0));
+/// assert_eq!(format!("{hash:?}"), format!("Hash({hash})"));
 /// assert_eq!(hash.to_string().parse(), Ok(hash));
 /// assert!("100".parse::<Hash>().is_err());
 /// ```
-#[derive(Clone, Copy, Debug, Default, PartialEq, Eq, PartialOrd, Ord, Hash)]
+#[derive(Clone, Copy, Default, PartialEq, Eq, PartialOrd, Ord, Hash)]
 #[repr(transparent)]
 pub struct Hash(pub [u64; 4]);
 
 impl fmt::Display for Hash {
     fn fmt(&self, f: &mut fmt::Formatter<'_>) -> fmt::Result {
         self.0.iter().try_for_each(|word| write!(f, "{word:016x}"))
+    }
+}
+
+impl fmt::Debug for Hash {
+    fn fmt(&self, f: &mut fmt::Formatter<'_>) -> fmt::Result {
+        write!(f, "Hash({self})")
     }
 }
 
