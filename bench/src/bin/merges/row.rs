@@ -114,9 +114,9 @@ pub struct Measured {
 impl Measured {
     /// The head of the table.
     pub const HEAD: &str = "\
-| shards | shared | inputs | output | port | tree | fold | port / tree | port / fold \
-| peak: port | tree | fold | comparison |
-|---|---|---|---|---|---|---|---|---|---|---|---|---|";
+| shards | shared | inputs | output | port | tree | fold | port / tree | peak: port | tree | fold \
+| comparison |
+|---|---|---|---|---|---|---|---|---|---|---|---|";
 
     /// A cell of what a way costs, or of none if the way is left out.
     fn cell(&self, way: Way, text: impl Fn(&Cost) -> String) -> String {
@@ -155,7 +155,7 @@ impl fmt::Display for Measured {
             megabytes(self.output as u64),
         ];
         cells.extend(Way::ALL.map(|way| self.milliseconds(way)));
-        cells.extend([Way::Tree, Way::Fold].map(|way| self.ratio(way)));
+        cells.push(self.ratio(Way::Tree));
         cells.extend(Way::ALL.map(|way| self.peak(way)));
         cells.push(milliseconds(self.comparison));
         write!(out, "| {} |", cells.join(" | "))
