@@ -278,21 +278,33 @@ fn merged<'a, R: Files + Eprint + AllocGlobal>(
         .iter()
         .map(|bytes| bytes.as_slice())
         .collect(alloc);
-    let inputs = match inputs {
-        Ok(inputs) => inputs,
-        Err(_) => return Err(on_all(files, Fault::OutOfMemory)),
-    };
-    let bytes = match merge_bytes(alloc, inputs.as_slice()) {
-        Ok(bytes) => bytes,
-        Err(error) => return Err(blamed(alloc, files, inputs.as_slice(), error)),
-    };
-    if let Some(disagreement) = disagreement(alloc, files, inputs.as_slice())? {
-        match merge.strictness {
-            Strictness::Strict => return Err(disagreement),
-            Strictness::Lenient => report_choice(rt, &disagreement),
-        }
+    match inputs {
+        Ok(inputs) => united(rt, files, inputs.as_slice(), merge.strictness),
+        Err(_) => Err(on_all(files, Fault::OutOfMemory)),
     }
-    Ok(bytes)
+}
+
+// The union of the inputs. Records that differ are a failure, even if there is no union, or reported.
+fn united<'a, R: Eprint + AllocGlobal>(
+    rt: &R,
+    files: &[&'a str],
+    inputs: &[&[u8]],
+    strictness: Strictness,
+) -> Result<Vec<u8>, Failure<'a>> {
+    let alloc = rt.alloc();
+    let choice = match (disagreement(alloc, files, inputs)?, strictness) {
+        (Some(disagreement), Strictness::Strict) => return Err(disagreement),
+        (found, _) => found,
+    };
+    match merge_bytes(alloc, inputs) {
+        Ok(bytes) => {
+            if let Some(disagreement) = &choice {
+                report_choice(rt, disagreement);
+            }
+            Ok(bytes)
+        }
+        Err(error) => Err(blamed(alloc, files, inputs, error)),
+    }
 }
 
 fn report_size<R: Eprint>(rt: &R, file: &str, bytes: usize) {
