@@ -6,7 +6,7 @@
 #include <stdlib.h>
 #include <string.h>
 
-enum { ROOM = 1 << 20, CALLS = 16 };
+enum { ROOM = 1 << 20, CALLS = 17 };
 
 void *__real_malloc(size_t size);
 void *__real_realloc(void *block, size_t size);
@@ -68,7 +68,7 @@ static uint32_t call(int number, size_t *count) {
     size_t differing = 0;
     const char *name = "0000000000000001000000000000000200000000000000030000000000000004.mdb";
     /* These write no count. */
-    if (number == 6 || number > 12)
+    if (number == 6 || number > 13)
         *count = 0;
     switch (number) {
     case 0:
@@ -98,8 +98,10 @@ static uint32_t call(int number, size_t *count) {
     case 12:
         return xet_find_disagreement(twice, 2, count, &out.agreeing.first);
     case 13:
-        return xet_hash_from_hex((const uint8_t *)name, 64, out.hashes);
+        return xet_write_v2(second, second_length, out.bytes, ROOM, count);
     case 14:
+        return xet_hash_from_hex((const uint8_t *)name, 64, out.hashes);
+    case 15:
         return xet_parse_shard_name((const uint8_t *)name, 68, out.hashes);
     default:
         return xet_load(first, first_length, &out.info);

@@ -43,17 +43,24 @@ struct filling {
     size_t item;
     uint32_t allowed;
     uint32_t (*call)(const struct input *input, void *out, size_t capacity, size_t *written);
-    bool writes_shard;
+    uint64_t version; /* of the shard that it writes, or 0 */
 };
 
 #define SHARD(at) input->shards[at].bytes, input->shards[at].length
 
+static uint32_t within_room(uint32_t error, size_t bytes, size_t written) {
+    require(written <= xet_union_room(bytes), "the result needs more than xet_union_room");
+    return error;
+}
+
 static uint32_t call_union(const struct input *input, void *out, size_t capacity, size_t *written) {
-    return xet_union(SHARD(0), SHARD(1), out, capacity, written);
+    uint32_t error = xet_union(SHARD(0), SHARD(1), out, capacity, written);
+    return within_room(error, input->shards[0].length + input->shards[1].length, *written);
 }
 
 static uint32_t call_difference(const struct input *input, void *out, size_t capacity, size_t *written) {
-    return xet_difference(SHARD(0), SHARD(1), out, capacity, written);
+    uint32_t error = xet_difference(SHARD(0), SHARD(1), out, capacity, written);
+    return within_room(error, input->shards[1].length, *written);
 }
 
 static void list_shards(const struct input *input, xet_bytes list[SHARDS]) {
@@ -64,7 +71,10 @@ static void list_shards(const struct input *input, xet_bytes list[SHARDS]) {
 static uint32_t call_merge(const struct input *input, void *out, size_t capacity, size_t *written) {
     xet_bytes list[SHARDS];
     list_shards(input, list);
-    return xet_merge(list, input->count, out, capacity, written);
+    size_t bytes = 0;
+    for (size_t at = 0; at < input->count; at++)
+        bytes += list[at].length;
+    return within_room(xet_merge(list, input->count, out, capacity, written), bytes, *written);
 }
 
 /* A disagreement is told exactly if there is one, and names two shards of the list. */
@@ -103,6 +113,10 @@ static uint32_t call_subset(const struct input *input, void *out, size_t capacit
     return xet_subset(SHARD(0), &input->subset, xorbs, count, out, capacity, written);
 }
 
+static uint32_t call_write_v2(const struct input *input, void *out, size_t capacity, size_t *written) {
+    return xet_write_v2(SHARD(0), out, capacity, written);
+}
+
 static uint32_t call_eligible(const struct input *input, void *out, size_t capacity, size_t *written) {
     return xet_eligible(SHARD(0), out, capacity, written);
 }
@@ -137,17 +151,18 @@ static uint32_t call_find_file(const struct input *input, void *out, size_t capa
 }
 
 static const struct filling fillings[] = {
-    {"xet_union", 1, OF_MERGING, call_union, true},
-    {"xet_difference", 1, OF_MERGING, call_difference, true},
-    {"xet_merge", 1, OF_MERGING, call_merge, true},
-    {"xet_merge_agreeing", 1, OF_MERGING | BIT(XET_DISAGREE), call_merge_agreeing, true},
-    {"xet_export", 1, OF_MERGING, call_export, true},
-    {"xet_minimal", 1, OF_SECTIONS, call_minimal, true},
-    {"xet_subset", 1, OF_SECTIONS, call_subset, true},
-    {"xet_eligible", sizeof(xet_hash), OF_SECTIONS, call_eligible, false},
-    {"xet_find_file", sizeof(xet_file_segment), OF_FINDING, call_find_file, false},
-    {"xet_hash_to_hex", 1, BIT(XET_OK), call_hash_to_hex, false},
-    {"xet_shard_name", 1, BIT(XET_OK), call_shard_name, false},
+    {"xet_union", 1, OF_MERGING, call_union, 3},
+    {"xet_difference", 1, OF_MERGING, call_difference, 3},
+    {"xet_merge", 1, OF_MERGING, call_merge, 3},
+    {"xet_merge_agreeing", 1, OF_MERGING | BIT(XET_DISAGREE), call_merge_agreeing, 3},
+    {"xet_export", 1, OF_MERGING, call_export, 3},
+    {"xet_minimal", 1, OF_SECTIONS, call_minimal, 3},
+    {"xet_subset", 1, OF_SECTIONS, call_subset, 3},
+    {"xet_write_v2", 1, OF_MERGING, call_write_v2, 2},
+    {"xet_eligible", sizeof(xet_hash), OF_SECTIONS, call_eligible, 0},
+    {"xet_find_file", sizeof(xet_file_segment), OF_FINDING, call_find_file, 0},
+    {"xet_hash_to_hex", 1, BIT(XET_OK), call_hash_to_hex, 0},
+    {"xet_shard_name", 1, BIT(XET_OK), call_shard_name, 0},
 };
 
 struct outcome {
@@ -173,10 +188,11 @@ static struct block filled(const struct filling *filling, const struct input *in
     return out;
 }
 
-/* What a call writes as a shard can be loaded, in version 3. */
-static void check_shard(const struct block *out, size_t written) {
+/* What a call writes as a shard can be loaded, in its version. */
+static void check_shard(const struct block *out, size_t written, uint64_t version) {
     xet_info info;
-    require(xet_load(out->bytes, written, &info) == XET_OK && info.version == 3, "what is written can't be loaded");
+    bool is_loaded = xet_load(out->bytes, written, &info) == XET_OK && info.version == version;
+    require(is_loaded, "what is written can't be loaded");
 }
 
 /* Asks for the size, and makes the call with exactly as much room, with more and with too little. */
@@ -193,8 +209,8 @@ static void check_filling(const struct filling *filling, const struct input *inp
         require(outcome.error == wanted && outcome.written == asked.written, "the room changes the result");
         if (at == 0) {
             first = out;
-            if (!is_refused && filling->writes_shard)
-                check_shard(&out, outcome.written);
+            if (!is_refused && filling->version)
+                check_shard(&out, outcome.written, filling->version);
             continue;
         }
         bool is_same = wanted != XET_OK || !memcmp(out.bytes, first.bytes, first.length);

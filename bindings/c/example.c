@@ -31,14 +31,13 @@ int main(int count, char **names) {
     size_t lengths[2], written;
     uint8_t *first = read_shard(names[1], &lengths[0]), *second = read_shard(names[2], &lengths[1]);
 
-    /* The first call asks for the size: it has room for no byte. */
-    uint8_t none[1];
-    uint32_t error = xet_union(first, lengths[0], second, lengths[1], none, 0, &written);
-    uint8_t *out = error == XET_SHORT ? malloc(written) : NULL;
-    if (out)
-        error = xet_union(first, lengths[0], second, lengths[1], out, written, &written);
+    size_t room = xet_union_room(lengths[0] + lengths[1]);
+    uint8_t *out = malloc(room);
+    if (!out)
+        stop("union", xet_error_name(XET_OUT_OF_MEMORY));
+    uint32_t error = xet_union(first, lengths[0], second, lengths[1], out, room, &written);
     if (error)
-        stop("union", error == XET_SHORT ? "OutOfMemory" : xet_error_name(error));
+        stop("union", xet_error_name(error));
     FILE *file = fopen(names[3], "wb");
     if (!file || fwrite(out, 1, written, file) != written || fclose(file) != 0)
         stop(names[3], "cannot be written");

@@ -2,7 +2,7 @@
  *
  * Each call takes the bytes of shards, or a hash or its text, and writes to memory of the caller. Nothing is kept
  * between calls: there is no handle, and nothing to free. Shards of versions 2 and 3 of the format are read, and
- * version 3 is written. Any number of threads may call at once. This file is C99, and C++11.
+ * version 3 is written, but by xet_write_v2. Any number of threads may call at once. This file is C99, and C++11.
  *
  * A call returns 0 or the number of an error. If the result is not 0, every output but a count stays as it was: what
  * `out`, `info`, `run`, `file`, `segments` and `hash` point to is not touched, unless a call says otherwise below. A
@@ -125,6 +125,12 @@ typedef struct xet_export_options {
  * XET_IO: there are too few bytes for a header and a footer. */
 uint32_t xet_load(const uint8_t *shard, size_t length, xet_info *info);
 
+/* The room that is enough for xet_union and xet_merge of shards of so many bytes in all, whatever they hold, and for
+ * xet_difference where its second shard has so many: 344 bytes, and 8/3 of these. */
+static inline size_t xet_union_room(size_t bytes) {
+    return bytes / 3 > (SIZE_MAX - 352) / 8 ? SIZE_MAX : 352 + bytes / 3 * 8;
+}
+
 /* Writes the union of two shards of one key: the records of both. Creation is 0, and there is no expiry. Of shards that
  * agree it is the same bytes in either order and any grouping of several.
  *
@@ -223,6 +229,15 @@ typedef struct xet_subset_options {
  * XET_OUT_OF_MEMORY, XET_SHORT. */
 uint32_t xet_subset(const uint8_t *shard, size_t length, const xet_subset_options *options, const xet_hash *xorbs,
                     size_t xorb_count, uint8_t *out, size_t capacity, size_t *written);
+
+/* Writes the same shard in version 2, for readers that do not know version 3: its records in their order, with its key
+ * and its times, and the tables of which the footer says that they have rows.
+ *
+ * XET_SHARD_VERSION, XET_IO: the errors of xet_load; XET_IO also if a section ends too early.
+ * XET_INVALID_ARGUMENTS: a file has an auxiliary row, which version 2 does not have.
+ * XET_INVALID_SHARD: a file has a row that its version does not have, or a section more than 4294967295 rows.
+ * XET_OUT_OF_MEMORY, XET_SHORT. */
+uint32_t xet_write_v2(const uint8_t *shard, size_t length, uint8_t *out, size_t capacity, size_t *written);
 
 /* Looks for a run of chunks with these hashes, which are not keyed, also if the shard's are. `*count` is how many
  * chunks, from the first hash on, a xorb has one after another, and `run` says where. If there is none, `*count` is 0

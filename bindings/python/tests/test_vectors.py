@@ -334,6 +334,21 @@ def test_merge_of_one_and_of_none():
     refused("Io", xet_shards.merge, [ONE_FILE, ONE_FILE[:199]])
 
 
+def test_write_v2():
+    shard = Shard()
+    shard.add_file("100", "v=365", "s=9364", "200:0:5:5")
+    shard.add_xorb("10", "21:5")
+    for expiry in (7, xet_shards.NO_EXPIRY):
+        old = shard.written(expiry=expiry, version=2)
+        assert xet_shards.write_v2(shard.written(expiry=expiry)) == old
+        assert xet_shards.write_v2(old) == old
+    keyed = xet_shards.export(old, hash_text("7"), 1000, 60, files=False)
+    assert xet_shards.write_v2(keyed) == keyed[:32] + b"\2" + keyed[33:]
+    shard.add_file("101", "x=777", "200:0:5:5")
+    refused("InvalidArguments", xet_shards.write_v2, shard.written())
+    refused("Io", xet_shards.write_v2, old[:300])
+
+
 def test_merge():
     # These scripts print one byte string of three trees over three shards, and merge gives it, in any order. The shards
     # of merge_02 don't agree.

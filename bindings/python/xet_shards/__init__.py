@@ -26,7 +26,7 @@ from typing import Any, Callable, Dict, List, Optional, Sequence, Tuple, Union
 __all__ = [
     "Buffer", "Disagreement", "DisagreementError", "File", "Info", "NO_EXPIRY", "NO_KEY", "Run", "Segment", "XetError",
     "difference", "eligible", "export", "find_disagreement", "find_file", "hash_of_name", "load", "merge", "minimal",
-    "query_chunks", "shard_name", "subset", "union",
+    "query_chunks", "shard_name", "subset", "union", "write_v2",
 ]
 
 __version__ = "0.1.0"
@@ -238,6 +238,7 @@ _CALLS = {
     "xet_export": [*_SHARD, POINTER(_Export), *_OUT],
     "xet_minimal": [*_SHARD, c_uint64, c_bool, c_bool, *_OUT],
     "xet_subset": [*_SHARD, POINTER(_Subset), *_HASHES, *_OUT],
+    "xet_write_v2": [*_SHARD, *_OUT],
     "xet_query_chunks": [*_SHARD, *_HASHES, POINTER(c_size_t), POINTER(_Segment)],
     "xet_eligible": [*_SHARD, *_HASHES, POINTER(c_size_t)],
     "xet_find_file": [*_SHARD, POINTER(_Hash), POINTER(_File), POINTER(_FileSegment), c_size_t],
@@ -512,6 +513,12 @@ def subset(shard: Buffer, now: int, expiry: Optional[int] = None, xorbs: Optiona
                 *data, byref(options), listed, len(xorbs or []), out, room, byref(written)
             ),
         )
+
+
+def write_v2(shard: Buffer) -> bytes:
+    """Returns the same shard in version 2, for readers that do not know version 3. No file may have an auxiliary row."""
+    with _Addresses(shard) as [data]:
+        return _made(data[1], lambda out, room, written: _library.xet_write_v2(*data, out, room, byref(written)))
 
 
 def eligible(shard: Buffer) -> List[str]:

@@ -57,6 +57,7 @@ library! {
         shard: &[u8], now: u64, verification: bool, aux_rows: bool, out: &mut [u8], written: &mut usize,
     ) -> u32;
     fn xet_subset(shard: &[u8], options: &Subset, xorbs: &[Hash], out: &mut [u8], written: &mut usize) -> u32;
+    fn xet_write_v2(shard: &[u8], out: &mut [u8], written: &mut usize) -> u32;
     fn xet_query_chunks(shard: &[u8], hashes: &[Hash], count: &mut usize, run: &mut Segment) -> u32;
     fn xet_eligible(shard: &[u8], out: &mut [Hash], written: &mut usize) -> u32;
     fn xet_find_file(shard: &[u8], hash: &Hash, file: &mut File, segments: &mut [FileSegment]) -> u32;

@@ -31,7 +31,7 @@ pub use error::Error;
 pub use hash::Hash;
 pub use lookup::{File, Info, Run, Segment, eligible, find_file, load, query_chunks};
 pub use name::{hash_of_name, shard_name};
-pub use write::{Export, Minimal, Subset, Xorbs, export, minimal, subset};
+pub use write::{Export, Minimal, Subset, Xorbs, export, minimal, subset, write_v2};
 
 /// What a call returns.
 pub type Result<T> = std::result::Result<T, Error>;

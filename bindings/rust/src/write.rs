@@ -147,3 +147,26 @@ pub fn subset(shard: &[u8], options: &Subset<'_>) -> Result<Vec<u8>> {
     let times = calls::Subset { now: options.now, expiry: options.expiry.unwrap_or(0), all };
     bytes_of(shard.len(), |out, written| calls::xet_subset(shard, &times, listed, out, written))
 }
+
+/// The same shard in version 2, for readers that do not know version 3: its records in their order, with its key and its
+/// times, and the tables of which the footer says that they have rows.
+///
+/// # Errors
+///
+/// - `ShardVersion` and `Io`: those of [`load`](crate::load); `Io` also if a section ends too early.
+/// - `InvalidArguments`: a file has an auxiliary row, which version 2 does not have.
+/// - `InvalidShard`: a file has a row that its version does not have, or a section more than 4294967295 rows.
+/// - `OutOfMemory`: an allocation failed.
+///
+/// ```
+/// # fn main() -> Result<(), Box<dyn std::error::Error>> {
+/// let shard = std::fs::read("examples/a.mdb")?;
+/// let old = xet_shards::write_v2(&shard)?;
+/// assert_eq!(xet_shards::load(&old)?.version, 2);
+/// assert_eq!(old.len(), shard.len());
+/// # Ok(())
+/// # }
+/// ```
+pub fn write_v2(shard: &[u8]) -> Result<Vec<u8>> {
+    bytes_of(shard.len(), |out, written| calls::xet_write_v2(shard, out, written))
+}

@@ -118,3 +118,14 @@ fn threads() {
         }
     });
 }
+
+#[test]
+fn version_2_without_auxiliary_rows() {
+    let mut shard = Shard::default();
+    shard.add_file(&["100", "v=365", "s=9364", "200:0:5:5"]);
+    shard.add_xorb(&["10", "21:5"]);
+    assert_eq!(xet_shards::write_v2(&shard.written(7, 3)), Ok(shard.written(7, 2)));
+    assert_eq!(xet_shards::write_v2(&shard.written(7, 2)), Ok(shard.written(7, 2)));
+    shard.add_file(&["101", "x=777", "200:0:5:5"]);
+    assert_eq!(xet_shards::write_v2(&shard.written(7, 3)), Err(Error::InvalidArguments));
+}
