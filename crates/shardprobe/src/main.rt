@@ -2,6 +2,7 @@
 //! result of each call. So a worked example is a line of data.
 #![tactic(auto)]
 
+mod agreement;
 mod buffers;
 mod codecs;
 mod device;

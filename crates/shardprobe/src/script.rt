@@ -1,5 +1,6 @@
 //! Running a script line by line.
 
+use crate::agreement::run_on_agreement;
 use crate::buffers::{run_on_buffers, show_buffers};
 use crate::codecs::run_codecs;
 use crate::device::{Fault, Operation, Plan, Target};
@@ -101,6 +102,7 @@ impl Probe {
             || show_views(&self.workspace, alloc, words, out)?
             || show_sections(&self.workspace, alloc, words, out)?
             || show_minimal(&self.workspace, alloc, words, out)?
+            || run_on_agreement(&mut self.workspace, alloc, words, out)?
             || run_on_values(alloc, words, out)?
             || run_on_records(alloc, words, out)?;
         if is_run {

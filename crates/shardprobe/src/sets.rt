@@ -62,16 +62,26 @@ pub fn unite_tree(
 fn united(workspace: &Workspace, alloc: Global, words: &[&str]) -> Result<Vec<u8>, Stop> {
     let (tree, names) = split_at_with(words)?;
     let tree = parse_tree(alloc, tree)?;
+    let inputs = inputs_of(workspace, alloc, names)?;
+    Ok(shard_union_tree(alloc, &tree, inputs.as_slice())?)
+}
+
+/// The bytes of the buffers of these names. `Unreadable` if there is none of a name.
+pub fn inputs_of<'a>(
+    workspace: &'a Workspace,
+    alloc: Global,
+    names: &[&str],
+) -> Result<Vec<&'a [u8]>, Stop> {
     let mut inputs = Vec::new(alloc);
     for name in names {
         inputs.push(workspace.buffer(name)?)?;
     }
-    Ok(shard_union_tree(alloc, &tree, inputs.as_slice())?)
+    Ok(inputs)
 }
 
-// The tree of words in postfix order: a number is a leaf, and `+` the union of the two trees before
-// it.
-fn parse_tree(alloc: Global, words: &[&str]) -> Result<MergePlan, Stop> {
+/// The tree of words in postfix order: a number is a leaf, and `+` the union of the two trees before
+/// it.
+pub fn parse_tree(alloc: Global, words: &[&str]) -> Result<MergePlan, Stop> {
     let mut trees = Vec::new(alloc);
     for word in words {
         let tree = match *word {
