@@ -109,10 +109,7 @@ fn main() {
     println!("| operation | {} |", sizes.join(" | "));
     println!("|---|{}", "---|".repeat(sizes.len()));
     for (row, line) in rows.iter().zip(&table) {
-        let ratios: Vec<_> = line
-            .iter()
-            .map(Times::ratios)
-            .collect();
+        let ratios: Vec<_> = line.iter().map(Times::ratios).collect();
         println!("| {} | {} |", row.name, ratios.join(" | "));
     }
 }

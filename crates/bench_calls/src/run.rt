@@ -6,9 +6,7 @@ ghost use Rattle.xet_core_structures.specs.declared.merklehash.DataHash.{DataHas
 ghost use Rattle.xet_core_structures.specs.Hash.{hash_bytes};
 ghost use Rattle.bench_calls.specs.Answers.{number_of, Answers, Delivers};
 
-use crate::lookups::{
-    find_files, find_files_in_bytes, keyed_again, query_chunks, search_files,
-};
+use crate::lookups::{find_files, find_files_in_bytes, keyed_again, query_chunks, search_files};
 use crate::memory;
 use crate::operation::Operation;
 use crate::sections::{load, read_files, read_minimal, read_xorbs};
