@@ -10,19 +10,44 @@ ghost use Rattle.xet_records.specs.XorbRecord.{xorb_records};
 ghost use Rattle.xet_shards.specs.Shard.{Shard};
 ghost use Rattle.xet_shards.specs.Layout.{Form};
 ghost use Rattle.xet_shards.specs.InForm.{Ascends, IsInForm};
-ghost use Rattle.xet_shards.specs.Lookup.{FindsStarts, Searches, xorb_table, chunk_lookup_table, IsPair, LooksUpIndex};
+ghost use Rattle.xet_shards.specs.Lookup.{FindsStarts, Searches, xorb_table, chunk_lookup_table, IsPair, LooksUpIndex, ReadsInfo, ReadInfoFails};
 ghost use Rattle.xet_shards.specs.WrittenChunks.{FindsRows};
 ghost use Rattle.xet_shards.specs.WrittenShard.{IsBytesWithInfo};
 
 use super::info::MDBShardInfo;
+use super::section_reader::read_record_at;
 use super::table_search::{find_rows, search_table};
 use crate::utils::truncate_hash;
 use std::alloc::Global;
 use xet_base::error::Result;
 use xet_base::merklehash::MerkleHash;
 use xet_base::source::ShardSource;
+use xet_records::record_reader::FormatVersion;
+use xet_records::xorb_structs::MDBXorbInfo;
 
 impl MDBShardInfo {
+    /// Reads the record at a row of the xorb section.
+    ///
+    /// `InvalidShard` if the row's offset does not fit `u64`, or the rows after the record's header do
+    /// not fit `u32`; `InternalError` if there is a bookend at the row, `UnexpectedEof` if the source
+    /// ends before the record does, `OutOfMemory` if an allocation fails. Any other error is the
+    /// source's.
+    pub fn read_xorb_info<S: ShardSource>(
+        &self,
+        alloc: Global,
+        source: &mut S,
+        row: u32,
+    ) -> Result<MDBXorbInfo>
+        ensures { MatchResult result
+            (ReadsInfo xorb_records self.now.metadata.xorb_info_offset row (S.meaning source.old)
+            (S.meaning source.new))
+            (ReadInfoFails xorb_records self.now.metadata.xorb_info_offset row
+            (S.meaning source.old) (S.meaning source.new)) }
+    {
+        let offset = self.metadata.xorb_info_offset;
+        read_record_at(alloc, source, FormatVersion::V3, offset, row)
+    }
+
     /// Looks in the chunk table for the first word of a chunk's hash, under the shard's key if it
     /// has one, and puts up to eight locations at the front of `dest`: the row at which a xorb
     /// starts, and an index among its chunks. Returns how many these are; entries of `dest` past
