@@ -10,5 +10,6 @@ pub mod Merging
 pub mod Reading
 pub mod Sizes
 pub mod Versions
+pub mod Walking
 pub mod Whole
 pub mod Written

@@ -10,3 +10,4 @@ pub mod Outcomes
 pub mod Query
 pub mod Sizes
 pub mod Versions
+pub mod Walking

@@ -15,3 +15,4 @@ pub mod minimal;
 pub mod query;
 mod room;
 pub mod version;
+pub mod walk;

@@ -3,3 +3,4 @@ pub mod Arguments
 pub mod Finding
 pub mod Output
 pub mod Text
+pub mod Walking

@@ -8,8 +8,8 @@ ghost use Rattle.xet_c.specs.Arguments.{c_file, c_hash, segments_in};
 ghost use Rattle.xet_c.specs.Finding.{LooksUpFile, ShowsFile};
 
 use crate::hash::{XetHash, words_or_zero};
-use crate::output::{error_number, give};
 use crate::segment::{XetFileSegment, segments_of};
+use crate::walk::{XetPlace, show_file};
 use shard_bytes::find::find_file;
 use std::alloc::Global;
 use xet_core_structures::error::{CoreError, Result};
@@ -49,31 +49,16 @@ pub extern "C" fn xet_find_file(
 {
     let hash = MerkleHash::from(hash.words);
     let found = find_file(alloc, shard, &hash);
-    show(alloc, &found, file, segments)
+    let mut place = XetPlace {
+        hash: [0; 4],
+        flags: 0,
+        next: 0,
+    };
+    show_file(alloc, 0, &found, &mut place, file, segments)
 }
 
-fn show(
-    alloc: Global,
-    found: &Result<Option<MDBFileInfo>>,
-    file: &mut XetFile,
-    segments: &mut [XetFileSegment],
-) -> u32
-    ensures { ShowsFile found.now file.old file.new segments.old segments.new result
-        ⊎ ((result ≡ 18) × (file.new ≡ file.old) × (segments.new ≡ segments.old)) }
-{
-    let found = match found {
-        Ok(found) => found,
-        Err(error) => return error_number(error),
-    };
-    let Ok(list) = segments_found(alloc, found) else {
-        return 18;
-    };
-    *file = file_of(found);
-    let mut count = 0;
-    give(list.as_slice(), segments, &mut count)
-}
-
-fn segments_found(alloc: Global, found: &Option<MDBFileInfo>) -> Result<Vec<XetFileSegment>>
+/// The segments of what was found, for C.
+pub fn segments_found(alloc: Global, found: &Option<MDBFileInfo>) -> Result<Vec<XetFileSegment>>
     ensures ok { IfOk result (λ list. list.items ≡ segments_in found.now) }
     ensures causes { IfErr result (λ e. e ≡ CoreError.OutOfMemory) }
 {
@@ -87,7 +72,8 @@ fn segments_found(alloc: Global, found: &Option<MDBFileInfo>) -> Result<Vec<XetF
     }
 }
 
-fn file_of(found: &Option<MDBFileInfo>) -> XetFile
+/// What the record that was found has, for C.
+pub fn file_of(found: &Option<MDBFileInfo>) -> XetFile
     ensures { result ≡ c_file found.now }
 {
     let Some(record) = found else {

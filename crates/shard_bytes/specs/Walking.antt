@@ -1,0 +1,58 @@
+-- The record at a row of a section.
+use Rattle.std.specs.Prelude.{◌≡◌, ◌⊎◌, ℕ, ◌^◌, ◌<◌, ◌≤◌, List, drop, Option, None, Some, Ok, Err}
+use Rattle.xet_core_structures.specs.declared.error.CoreError.{CoreError}
+use Rattle.xet_core_structures.specs.declared.error.CoreError.TheVariants.{InternalError}
+use Rattle.xet_core_structures.specs.declared.file_structs.MDBFileInfo.{MDBFileInfo}
+use Rattle.xet_core_structures.specs.declared.xorb_structs.MDBXorbInfo.{MDBXorbInfo}
+use Rattle.xet_core_structures.specs.declared.shard_format.MDBShardInfo.{MDBShardInfo}
+use Rattle.xet_core_structures.specs.ByteResults.{LoadRefusal}
+use Rattle.xet_core_structures.specs.Ends.{HasEnds}
+use Rattle.xet_core_structures.specs.Errors.{CoreResult}
+use Rattle.xet_core_structures.specs.Lookup.{RecordAt, row_at}
+use Rattle.xet_core_structures.specs.SectionReading.{SectionCase, BeginsWithBookend, BeginsRefused, EndsEarly, files_of}
+use Rattle.xet_core_structures.specs.Table.{IsBareInvalidShard}
+use Rattle.xet_core_structures.specs.XorbRecord.{xorb_records}
+use Rattle.xet_records.specs.RecordKind.{RecordKind}
+
+module _ {H R : Type 0} (K : RecordKind H R) (bytes : List ℕ) (offset row : ℕ) where
+  -- at a row of the section at an offset is this record, or the bookend
+  abbrev pub IsAtRow : Option R → Type 0
+  IsAtRow None = BeginsWithBookend K (drop (row_at offset row) bytes)
+  IsAtRow (Some r) = RecordAt K bytes (row_at offset row) r
+
+  -- why none of them is read: the row's offset does not fit 64 bits, an allocation failed, the record
+  -- has more rows than fit 32 bits or the version does not have it, or the bytes are too few
+  abbrev pub NotAtRow : CoreError → Type 0
+  NotAtRow e =
+      (IsBareInvalidShard e × (2 ^ 64 ≤ row_at offset row))
+      ⊎ SectionCase (BeginsRefused K 4294967296) (EndsEarly K 4294967296)
+      (drop (row_at offset row) bytes) e
+
+-- what is said with the header and the footer of the bytes
+abbrev pub WithEnds : List ℕ → (MDBShardInfo → Type 0) → Type 0
+WithEnds bytes Says = (info : MDBShardInfo) × HasEnds bytes info × Says info
+
+abbrev pub HasFileAt : List ℕ → ℕ → Option MDBFileInfo → Type 0
+HasFileAt bytes row found =
+    WithEnds bytes (λ info. IsAtRow (files_of info) bytes info.metadata.file_info_offset row found)
+
+abbrev pub HasXorbAt : List ℕ → ℕ → Option MDBXorbInfo → Type 0
+HasXorbAt bytes row found =
+    WithEnds bytes (λ info. IsAtRow xorb_records bytes info.metadata.xorb_info_offset row found)
+
+-- header and footer are not read, or the record is not
+abbrev pub RefusesFileAt : List ℕ → ℕ → CoreError → Type 0
+RefusesFileAt bytes row e =
+    LoadRefusal bytes e
+    ⊎ WithEnds bytes (λ info. NotAtRow (files_of info) bytes info.metadata.file_info_offset row e)
+
+abbrev pub RefusesXorbAt : List ℕ → ℕ → CoreError → Type 0
+RefusesXorbAt bytes row e =
+    LoadRefusal bytes e
+    ⊎ WithEnds bytes (λ info. NotAtRow xorb_records bytes info.metadata.xorb_info_offset row e)
+
+-- what was read, where an `InternalError` means that there is none
+abbrev pub IsRead : {R : Type 0} → CoreResult R → CoreResult (Option R) → Type 0
+IsRead (Ok r) found = found ≡ Ok (Some r)
+IsRead (Err (InternalError text)) found = found ≡ Ok None
+IsRead (Err e) found = found ≡ Err e
