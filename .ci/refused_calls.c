@@ -6,7 +6,7 @@
 #include <stdlib.h>
 #include <string.h>
 
-enum { ROOM = 1 << 20, CALLS = 17 };
+enum { ROOM = 1 << 20, CALLS = 20 };
 
 void *__real_malloc(size_t size);
 void *__real_realloc(void *block, size_t size);
@@ -45,6 +45,13 @@ static union {
         xet_file file;
         xet_file_segment segments[100];
     } found;
+    struct {
+        xet_place place;
+        xet_file file;
+        xet_xorb xorb;
+        xet_file_segment segments[100];
+        xet_chunk chunks[100];
+    } listed;
     struct {
         xet_disagreement first;
         uint8_t bytes[ROOM];
@@ -100,8 +107,14 @@ static uint32_t call(int number, size_t *count) {
     case 13:
         return xet_write_v2(second, second_length, out.bytes, ROOM, count);
     case 14:
-        return xet_hash_from_hex((const uint8_t *)name, 64, out.hashes);
+        return xet_file_at(first, first_length, 0, &out.listed.place, &out.listed.file, out.listed.segments, 100);
     case 15:
+        return xet_xorb_at(first, first_length, 0, &out.listed.place, &out.listed.xorb, out.listed.chunks, 100);
+    case 16:
+        return xet_hash_from_hex((const uint8_t *)name, 64, out.hashes);
+    case 17:
+        return xet_version() == XET_VERSION_NUMBER ? XET_OK : XET_OTHER;
+    case 18:
         return xet_parse_shard_name((const uint8_t *)name, 68, out.hashes);
     default:
         return xet_load(first, first_length, &out.info);

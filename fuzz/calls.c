@@ -74,7 +74,8 @@ static uint32_t call_merge(const struct input *input, void *out, size_t capacity
     size_t bytes = 0;
     for (size_t at = 0; at < input->count; at++)
         bytes += list[at].length;
-    return within_room(xet_merge(list, input->count, out, capacity, written), bytes, *written);
+    uint32_t error = xet_merge(list, input->count, out, capacity, written);
+    return within_room(error, bytes, *written);
 }
 
 /* A disagreement is told exactly if there is one, and names two shards of the list. */
@@ -276,6 +277,85 @@ static void check_texts(const struct input *input) {
     }
 }
 
+/* A call that reads the record at a row of a section. */
+struct reading {
+    const char *name;
+    size_t record, item;
+    uint32_t (*call)(const uint8_t *shard, size_t length, uint32_t row, xet_place *place, void *record, void *items,
+                     size_t capacity);
+    bool (*found)(const void *record, size_t *items);
+};
+
+static uint32_t call_file_at(const uint8_t *shard, size_t length, uint32_t row, xet_place *place, void *record,
+                             void *items, size_t capacity) {
+    return xet_file_at(shard, length, row, place, record, items, capacity);
+}
+
+static bool file_found(const void *record, size_t *items) {
+    xet_file file;
+    memcpy(&file, record, sizeof file);
+    *items = file.segments;
+    return file.found;
+}
+
+static uint32_t call_xorb_at(const uint8_t *shard, size_t length, uint32_t row, xet_place *place, void *record,
+                             void *items, size_t capacity) {
+    return xet_xorb_at(shard, length, row, place, record, items, capacity);
+}
+
+static bool xorb_found(const void *record, size_t *items) {
+    xet_xorb xorb;
+    memcpy(&xorb, record, sizeof xorb);
+    *items = xorb.chunks;
+    return xorb.found;
+}
+
+static const struct reading readings[] = {
+    {"xet_file_at", sizeof(xet_file), sizeof(xet_file_segment), call_file_at, file_found},
+    {"xet_xorb_at", sizeof(xet_xorb), sizeof(xet_chunk), call_xorb_at, xorb_found},
+};
+
+/* Reads the record at a row with room for so many of its items, and returns the row of the next one, or 0 if there is
+ * none. How many items it has is told also where they do not fit. */
+static uint64_t check_row(const struct reading *reading, const struct input *input, uint32_t row, size_t capacity,
+                          size_t *items) {
+    struct block place = new_struct(input, sizeof(xet_place)), record = new_struct(input, reading->record);
+    struct block out = new_struct(input, capacity * reading->item);
+    void *there = place.bytes;
+    uint32_t error = reading->call(SHARD(0), row, there, record.bytes, out.bytes, capacity);
+    result(error, OF_SECTIONS | BIT(XET_SHORT));
+    xet_place found = {.next = 0};
+    *items = 0;
+    if (error == XET_OK || error == XET_SHORT) {
+        memcpy(&found, place.bytes, sizeof found);
+        bool is_there = reading->found(record.bytes, items);
+        require(is_there ? found.next > row + *items : found.next == row && *items == 0, "the next row is another");
+        require((*items > capacity) == (error == XET_SHORT), "the room is another");
+        require(is_filled(&out, error == XET_OK ? *items * reading->item : 0), "more is touched than items");
+        found.next = is_there ? found.next : 0;
+    } else {
+        require(is_filled(&place, 0) && is_filled(&record, 0) && is_filled(&out, 0), "an error touches an output");
+    }
+    free_block(&place);
+    free_block(&record);
+    free_block(&out);
+    return found.next;
+}
+
+/* Walks through the beginning of a section. */
+static void check_walk(const struct reading *reading, const struct input *input) {
+    called = reading->name;
+    uint64_t row = 0;
+    for (int step = 0; step < 20 && row <= UINT32_MAX; step++) {
+        size_t items, again;
+        uint64_t next = check_row(reading, input, (uint32_t)row, 0, &items);
+        if (next == 0)
+            return;
+        require(check_row(reading, input, (uint32_t)row, items, &again) == next && again == items, "a row changes");
+        row = next;
+    }
+}
+
 void make_calls(const struct input *input, struct random *random, struct tally *tally) {
     counts = tally;
     for (size_t at = 0; at < sizeof fillings / sizeof *fillings; at++)
@@ -283,5 +363,7 @@ void make_calls(const struct input *input, struct random *random, struct tally *
     check_load(input);
     check_query(input);
     check_find_disagreement(input);
+    check_walk(&readings[0], input);
+    check_walk(&readings[1], input);
     check_texts(input);
 }

@@ -136,8 +136,8 @@ def check_refusals(room, flags, shard):
         return why
     printed, why = ran(program, *names)
     counts = [int(it) for it in re.findall(r": (\d+) refusals", printed)]
-    # Fourteen calls allocate, and the last three do not.
-    if why or [it > 0 for it in counts] != [True] * 14 + [False] * 3:
+    # Sixteen calls allocate, and the last four do not.
+    if why or [it > 0 for it in counts] != [True] * 16 + [False] * 4:
         return why or f"refused_calls prints {printed}"
     print(f"bindings: {sum(counts)} refused allocations in {len(counts)} calls")
     return None

@@ -23,7 +23,8 @@ STRUCTS = {
     "XetHash": ("_Hash", "xet_hash"), "XetSegment": ("_Segment", "xet_segment"), "XetInfo": ("_Info", "xet_info"),
     "XetExport": ("_Export", "xet_export_options"), "XetFile": ("_File", "xet_file"),
     "XetFileSegment": ("_FileSegment", "xet_file_segment"), "XetSubset": ("_Subset", "xet_subset_options"),
-    "XetDisagreement": ("_Disagreement", "xet_disagreement"),
+    "XetDisagreement": ("_Disagreement", "xet_disagreement"), "XetPlace": ("_Place", "xet_place"),
+    "XetXorb": ("_Xorb", "xet_xorb"), "XetChunk": ("_Chunk", "xet_chunk"),
 }
 
 

@@ -22,6 +22,11 @@ def check_versions():
         found = re.search(pattern, read(f"{TOP}/{name}"), re.M)
         if not found or found[1] != wanted:
             return f"the version in {name} is {found and found[1]}, and that in VERSION {wanted}"
+    first, second, third = (int(it) for it in wanted.split("."))
+    numbers = [re.search(r"^#define XET_VERSION_NUMBER (\d+)", read(f"{BINDINGS}/c/xet.h"), re.M)[1]]
+    numbers += re.findall(r"result ≡ (\d+)", read(f"{TOP}/crates/xet_c/src/release.rt"))
+    if {int(it) for it in numbers} != {10000 * first + 100 * second + third} or len(numbers) != 2:
+        return f"the numbers of the version are {numbers}"
     return None
 
 

@@ -28,6 +28,7 @@
 #define XET_H
 
 #define XET_VERSION "0.1.0"
+#define XET_VERSION_NUMBER 100 /* 10000 times the first of the three, 100 times the second, and the third */
 
 #include <stdbool.h>
 #include <stddef.h>
@@ -291,6 +292,44 @@ typedef struct xet_file {
 uint32_t xet_find_file(const uint8_t *shard, size_t length, const xet_hash *hash, xet_file *file,
                        xet_file_segment *segments, size_t capacity);
 
+/* Where a record is: its hash, its flags, and the row at which the next one is. */
+typedef struct xet_place {
+    uint64_t hash[4];
+    uint32_t flags;
+    uint64_t next;
+} xet_place;
+
+/* Reads the record at a row of the file section, and writes its segments to the front of `segments`, which has room for
+ * `capacity`. The first record is at row 0, and the next one at `place->next`. At the end of the section there is no
+ * file: `file->found` is false, all else is zero, and `place->next` is the row itself. With XET_SHORT the segments do
+ * not fit and `segments` stays as it is, but `place` and `file` are filled. With any other error all outputs stay.
+ *
+ * XET_SHARD_VERSION, XET_IO: the errors of xet_load; XET_IO also if the bytes end before the record does.
+ * XET_INVALID_SHARD: the file has a row that the version does not have, or a number does not fit its width.
+ * XET_OUT_OF_MEMORY, XET_SHORT. */
+uint32_t xet_file_at(const uint8_t *shard, size_t length, uint32_t row, xet_place *place, xet_file *file,
+                     xet_file_segment *segments, size_t capacity);
+
+/* A xorb's record: its bytes, unpacked and on disk, and the number of its chunks. */
+typedef struct xet_xorb {
+    bool found;
+    uint32_t bytes;
+    uint32_t bytes_on_disk;
+    size_t chunks;
+} xet_xorb;
+
+/* A chunk of a xorb: its hash, the offset and the number of its bytes, unpacked, and its flags. */
+typedef struct xet_chunk {
+    uint64_t hash[4];
+    uint32_t start;
+    uint32_t bytes;
+    uint32_t flags;
+} xet_chunk;
+
+/* The same of the xorb section. The errors are those of xet_file_at. */
+uint32_t xet_xorb_at(const uint8_t *shard, size_t length, uint32_t row, xet_place *place, xet_xorb *xorb,
+                     xet_chunk *chunks, size_t capacity);
+
 /* Writes the 64 hexadecimal digits of a hash, in lower case. XET_OUT_OF_MEMORY, XET_SHORT. */
 uint32_t xet_hash_to_hex(const xet_hash *hash, uint8_t *out, size_t capacity, size_t *written);
 
@@ -303,6 +342,9 @@ uint32_t xet_shard_name(const xet_hash *hash, uint8_t *out, size_t capacity, siz
 /* Reads the hash in the name of a shard file, which is 64 hexadecimal digits of either case and `.mdb`.
  * XET_BAD_FILENAME: it is another text, such as a path. */
 uint32_t xet_parse_shard_name(const uint8_t *name, size_t length, xet_hash *hash);
+
+/* The version of the library, XET_VERSION_NUMBER of the header that belongs to it. */
+uint32_t xet_version(void);
 
 #ifdef __cplusplus
 }

@@ -334,6 +334,34 @@ def test_merge_of_one_and_of_none():
     refused("Io", xet_shards.merge, [ONE_FILE, ONE_FILE[:199]])
 
 
+def test_walks():
+    shard = Shard()
+    shard.add_file("100", "v=365,366", "s=9364", "x=777", "200:0:5:5", "201:1:2:7")
+    shard.add_file("101", *(f"200:{it}:{it + 1}:9" for it in range(70)))
+    shard.add_file("102")
+    shard.add_xorb("10", "21:5", "22:6")
+    shard.add_xorb("11")
+    first, second, third = xet_shards.files(shard.written())
+    assert [it.hash for it in (first, second, third)] == [hash_text(it) for it in ("100", "101", "102")]
+    assert [it.flags >> 29 for it in (first, second, third)] == [7, 0, 0]
+    for it in (first, second, third):
+        assert it.file == xet_shards.find_file(shard.written(), it.hash)
+    assert (len(second.file.segments), second.file.segments[69].start, third.file.segments) == (70, 69, ())
+    # Neither reads a table.
+    minimal = xet_shards.minimal(shard.written(), 9)
+    assert [it.hash for it in xet_shards.files(minimal)] == [hash_text(it) for it in ("100", "101", "102")]
+    one, other = xet_shards.xorbs(shard.written())
+    chunks = (xet_shards.Chunk(hash_text("21"), 0, 5, 0), xet_shards.Chunk(hash_text("22"), 5, 6, 0))
+    assert one == xet_shards.Xorb(hash_text("10"), 0, 11, 0, chunks)
+    assert other == xet_shards.Xorb(hash_text("11"), 0, 0, 0, ())
+    # A section that is cut short gives what is before: here the footer stands for its end.
+    cut = shard.written()[: 48 + 48 * 7] + shard.written()[-200:]
+    walk = xet_shards.files(cut)
+    assert next(walk).hash == hash_text("100")
+    refused("Io", list, walk)
+    refused("Io", list, xet_shards.xorbs(shard.written()[:199]))
+
+
 def test_write_v2():
     shard = Shard()
     shard.add_file("100", "v=365", "s=9364", "200:0:5:5")
@@ -346,7 +374,7 @@ def test_write_v2():
     assert xet_shards.write_v2(keyed) == keyed[:32] + b"\2" + keyed[33:]
     shard.add_file("101", "x=777", "200:0:5:5")
     refused("InvalidArguments", xet_shards.write_v2, shard.written())
-    refused("Io", xet_shards.write_v2, old[:300])
+    refused("Io", xet_shards.write_v2, old[:47])
 
 
 def test_merge():

@@ -21,12 +21,12 @@ import re
 from array import array
 from ctypes import POINTER, byref, c_bool, c_char, c_char_p, c_int, c_size_t, c_ssize_t, c_uint32, c_uint64, c_void_p
 from dataclasses import dataclass
-from typing import Any, Callable, Dict, List, Optional, Sequence, Tuple, Union
+from typing import Any, Callable, Dict, Iterator, List, Optional, Sequence, Tuple, Union
 
 __all__ = [
-    "Buffer", "Disagreement", "DisagreementError", "File", "Info", "NO_EXPIRY", "NO_KEY", "Run", "Segment", "XetError",
-    "difference", "eligible", "export", "find_disagreement", "find_file", "hash_of_name", "load", "merge", "minimal",
-    "query_chunks", "shard_name", "subset", "union", "write_v2",
+    "Buffer", "Chunk", "Disagreement", "DisagreementError", "File", "Info", "ListedFile", "NO_EXPIRY", "NO_KEY", "Run",
+    "Segment", "XetError", "Xorb", "difference", "eligible", "export", "files", "find_disagreement", "find_file",
+    "hash_of_name", "load", "merge", "minimal", "query_chunks", "shard_name", "subset", "union", "write_v2", "xorbs",
 ]
 
 __version__ = "0.1.0"
@@ -45,6 +45,7 @@ _NAMES = (
     "FileNotFound", "QueryFailed", "SmudgeQueryPolicy", "InvalidShard", "InvalidRange", "InvalidArguments",
     "MalformedData", "HashMismatch", "HashParsing", "ChunkHeaderParse", "OutOfMemory", "Short", "Disagree",
 )
+_INVALID_SHARD = 11
 _SHORT = 19
 _DISAGREE = 20
 # Of the errors that calls raise.
@@ -152,6 +153,36 @@ class File:
 
 
 @dataclass(frozen=True)
+class ListedFile:
+    """A file of a shard with its hash, and its flags as the shard has them."""
+
+    hash: str
+    flags: int
+    file: File
+
+
+@dataclass(frozen=True)
+class Chunk:
+    """A chunk of a xorb: its bytes, unpacked, and at which offset they start, and its flags."""
+
+    hash: str
+    start: int
+    bytes: int
+    flags: int
+
+
+@dataclass(frozen=True)
+class Xorb:
+    """A xorb of a shard: its bytes, unpacked and on disk, and its chunks."""
+
+    hash: str
+    flags: int
+    bytes: int
+    bytes_on_disk: int
+    chunks: Tuple[Chunk, ...]
+
+
+@dataclass(frozen=True)
 class Run:
     """How many of the chunks that were asked for, from the first on, a xorb has one after another, and where."""
 
@@ -204,6 +235,18 @@ class _File(ctypes.Structure):
     ]
 
 
+class _Place(ctypes.Structure):
+    _fields_ = [("hash", _Words), ("flags", c_uint32), ("next", c_uint64)]
+
+
+class _Xorb(ctypes.Structure):
+    _fields_ = [("found", c_bool), ("bytes", c_uint32), ("bytes_on_disk", c_uint32), ("chunks", c_size_t)]
+
+
+class _Chunk(ctypes.Structure):
+    _fields_ = [("hash", _Words), ("start", c_uint32), ("bytes", c_uint32), ("flags", c_uint32)]
+
+
 class _Disagreement(ctypes.Structure):
     _fields_ = [("hash", _Words), ("is_xorb", c_bool), ("first", c_size_t), ("second", c_size_t)]
 
@@ -242,6 +285,9 @@ _CALLS = {
     "xet_query_chunks": [*_SHARD, *_HASHES, POINTER(c_size_t), POINTER(_Segment)],
     "xet_eligible": [*_SHARD, *_HASHES, POINTER(c_size_t)],
     "xet_find_file": [*_SHARD, POINTER(_Hash), POINTER(_File), POINTER(_FileSegment), c_size_t],
+    "xet_file_at": [*_SHARD, c_uint32, POINTER(_Place), POINTER(_File), POINTER(_FileSegment), c_size_t],
+    "xet_xorb_at": [*_SHARD, c_uint32, POINTER(_Place), POINTER(_Xorb), POINTER(_Chunk), c_size_t],
+    "xet_version": [],
     "xet_hash_to_hex": [POINTER(_Hash), *_OUT],
     "xet_hash_from_hex": [*_TEXT, POINTER(_Hash)],
     "xet_shard_name": [POINTER(_Hash), *_OUT],
@@ -377,16 +423,54 @@ def find_file(shard: Buffer, file_hash: str) -> Optional[File]:
             segments = _array(_FileSegment, room)
             number = _library.xet_find_file(*data, byref(wanted), byref(file), segments, room)
     _check(number)
-    if not file.found:
-        return None
+    return _shown_file(file, segments[: file.segments]) if file.found else None
+
+
+def _shown_file(file: _File, segments: Sequence[_FileSegment]) -> File:
     return File(
         tuple(
             _segment(it.segment, _text(it.verification) if file.has_verification else None)
-            for it in segments[: file.segments]
+            for it in segments
         ),
         _text(file.sha256) if file.has_sha256 else None,
         _text(file.aux_hash) if file.has_aux else None,
     )
+
+
+def _walked(call: Callable[..., Any], shard: Buffer, record: Any, item: Any, counted: str) -> Iterator[Tuple[Any, ...]]:
+    """Gives the place, the record and the items of each record of a section, until its end. They are used again."""
+    place, row, room = _Place(), 0, 64
+    items = _array(item, room)
+    with _Addresses(shard) as [data]:
+        # A row past 32 bits is none of a section.
+        while row < 2**32:
+            number = call(*data, row, byref(place), byref(record), items, room)
+            if number == _SHORT:
+                room = getattr(record, counted)
+                items = _array(item, room)
+                number = call(*data, row, byref(place), byref(record), items, room)
+            _check(number)
+            if not record.found:
+                return
+            yield place, record, items[: getattr(record, counted)]
+            row = place.next
+    raise XetError(_INVALID_SHARD)
+
+
+def files(shard: Buffer) -> Iterator[ListedFile]:
+    """Gives the files of a shard, one after another, in the order of its file section.
+
+    Each is read when it is asked for, so a shard that is invalid may give some files before the error.
+    """
+    for place, file, segments in _walked(_library.xet_file_at, shard, _File(), _FileSegment, "segments"):
+        yield ListedFile(_text(place.hash), place.flags, _shown_file(file, segments))
+
+
+def xorbs(shard: Buffer) -> Iterator[Xorb]:
+    """Gives the xorbs of a shard, as `files` gives its files."""
+    for place, xorb, chunks in _walked(_library.xet_xorb_at, shard, _Xorb(), _Chunk, "chunks"):
+        listed = tuple(Chunk(_text(it.hash), it.start, it.bytes, it.flags) for it in chunks)
+        yield Xorb(_text(place.hash), place.flags, xorb.bytes, xorb.bytes_on_disk, listed)
 
 
 def query_chunks(shard: Buffer, hashes: Sequence[str]) -> Optional[Run]:

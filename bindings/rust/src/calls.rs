@@ -3,7 +3,7 @@
 //! All `unsafe` code of the crate is the one block in `library`.
 #![allow(unsafe_code)]
 
-use crate::{Export, Hash, Info, Segment};
+use crate::{Chunk, Export, Hash, Info, Segment};
 use std::marker::PhantomData;
 
 /// Defines for each call of the library a safe function of the same name.
@@ -61,6 +61,11 @@ library! {
     fn xet_query_chunks(shard: &[u8], hashes: &[Hash], count: &mut usize, run: &mut Segment) -> u32;
     fn xet_eligible(shard: &[u8], out: &mut [Hash], written: &mut usize) -> u32;
     fn xet_find_file(shard: &[u8], hash: &Hash, file: &mut File, segments: &mut [FileSegment]) -> u32;
+    fn xet_file_at(
+        shard: &[u8], row: u32, place: &mut Place, file: &mut File, segments: &mut [FileSegment],
+    ) -> u32;
+    fn xet_xorb_at(shard: &[u8], row: u32, place: &mut Place, xorb: &mut Xorb, chunks: &mut [Chunk]) -> u32;
+    fn xet_version() -> u32;
     fn xet_hash_from_hex(text: &[u8], hash: &mut Hash) -> u32;
     fn xet_parse_shard_name(name: &[u8], hash: &mut Hash) -> u32;
 }
@@ -113,4 +118,21 @@ pub struct Disagreement {
     pub is_xorb: bool,
     pub first: usize,
     pub second: usize,
+}
+
+#[repr(C)]
+#[derive(Default)]
+pub struct Place {
+    pub hash: Hash,
+    pub flags: u32,
+    pub next: u64,
+}
+
+#[repr(C)]
+#[derive(Default)]
+pub struct Xorb {
+    pub found: bool,
+    pub bytes: u32,
+    pub bytes_on_disk: u32,
+    pub chunks: usize,
 }

@@ -24,6 +24,7 @@ mod hash;
 mod lookup;
 mod name;
 mod output;
+mod walk;
 mod write;
 
 pub use combine::{Disagreement, RecordHash, difference, find_disagreement, merge, merge_agreeing, union};
@@ -31,7 +32,19 @@ pub use error::Error;
 pub use hash::Hash;
 pub use lookup::{File, Info, Run, Segment, eligible, find_file, load, query_chunks};
 pub use name::{hash_of_name, shard_name};
+pub use walk::{Chunk, FileIter, ListedFile, Xorb, XorbIter, files, xorbs};
 pub use write::{Export, Minimal, Subset, Xorbs, export, minimal, subset, write_v2};
+
+/// The version of the library that is linked: 10000 times the first of its three numbers, 100 times the second, and the
+/// third.
+///
+/// ```
+/// let numbers: Vec<u32> = env!("CARGO_PKG_VERSION").split('.').map(|it| it.parse().unwrap()).collect();
+/// assert_eq!(xet_shards::library_version(), 10000 * numbers[0] + 100 * numbers[1] + numbers[2]);
+/// ```
+pub fn library_version() -> u32 {
+    calls::xet_version()
+}
 
 /// What a call returns.
 pub type Result<T> = std::result::Result<T, Error>;

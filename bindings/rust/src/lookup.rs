@@ -116,13 +116,17 @@ pub fn find_file(shard: &[u8], hash: Hash) -> Result<Option<File>> {
         number = calls::xet_find_file(shard, &hash, &mut file, &mut segments);
     }
     check(number)?;
-    segments.truncate(file.segments);
-    Ok(file.found.then(|| File {
+    Ok(file.found.then(|| file_of(&file, &segments[..file.segments])))
+}
+
+/// What a call shows of a file.
+pub(crate) fn file_of(file: &calls::File, segments: &[calls::FileSegment]) -> File {
+    File {
         segments: segments.iter().map(|it| it.segment).collect(),
         verification: file.has_verification.then(|| segments.iter().map(|it| it.verification).collect()),
         sha256: file.has_sha256.then_some(file.sha256),
         aux_hash: file.has_aux.then_some(file.aux_hash),
-    }))
+    }
 }
 
 /// Looks for a run of chunks with these hashes, which are not keyed, also if the shard's are. It has at least the

@@ -129,3 +129,25 @@ fn version_2_without_auxiliary_rows() {
     shard.add_file(&["101", "x=777", "200:0:5:5"]);
     assert_eq!(xet_shards::write_v2(&shard.written(7, 3)), Err(Error::InvalidArguments));
 }
+
+#[test]
+fn walks_through_both_sections() {
+    let mut shard = Shard::default();
+    let segments: Vec<String> = (0..70).map(|it| format!("200:{it}:{}:9", it + 1)).collect();
+    let mut long: Vec<&str> = vec!["101"];
+    long.extend(segments.iter().map(String::as_str));
+    shard.add_file(&["100", "v=365,366", "s=9364", "x=777", "200:0:5:5", "201:1:2:7"]);
+    shard.add_file(&long);
+    shard.add_xorb(&["10", "21:5", "22:6"]);
+    let bytes = shard.written(NO_EXPIRY, 3);
+    let files: Vec<_> = xet_shards::files(&bytes).map(Result::unwrap).collect();
+    assert_eq!(files.iter().map(|it| it.hash).collect::<Vec<_>>(), [hash("100"), hash("101")]);
+    for listed in &files {
+        assert_eq!(xet_shards::find_file(&bytes, listed.hash), Ok(Some(listed.file.clone())));
+    }
+    assert_eq!((files[0].flags >> 29, files[1].file.segments.len()), (7, 70));
+    let xorbs: Vec<_> = xet_shards::xorbs(&bytes).map(Result::unwrap).collect();
+    assert_eq!((xorbs.len(), xorbs[0].bytes, xorbs[0].chunks[1].start), (1, 11, 5));
+    let mut cut = xet_shards::files(&bytes[..199]);
+    assert_eq!((cut.next(), cut.next()), (Some(Err(Error::Io)), None));
+}
