@@ -334,6 +334,20 @@ def test_merge_of_one_and_of_none():
     refused("Io", xet_shards.merge, [ONE_FILE, ONE_FILE[:199]])
 
 
+def test_merge_names_the_input():
+    keyed = xet_shards.export(ONE_FILE, hash_text("7"), 1000, 60)
+    assert refused("Io", xet_shards.merge, [ONE_FILE, XORB_AND_FILE, ONE_FILE[:199], b""]).index == 2
+    assert refused("InvalidArguments", xet_shards.merge, [ONE_FILE, ONE_FILE, keyed]).index == 2
+    error = refused("ShardVersion", xet_shards.merge, [b"?" * 500, ONE_FILE], strict=True)
+    assert error.index == 0
+    text = "the shard at 0: the bytes are no shard of version 2 or 3 (ShardVersion)"
+    assert str(error) == str(pickle.loads(pickle.dumps(error))) == text
+    # Files that can't be combined are those of two shards.
+    one, two = shard_of("file 100 v=365 200:0:5:5"), shard_of("file 100 s=9364 200:0:5:5 200:5:6:1")
+    assert refused("InvalidShard", xet_shards.merge, [one, two]).index is None
+
+
+
 def test_walks():
     shard = Shard()
     shard.add_file("100", "v=365,366", "s=9364", "x=777", "200:0:5:5", "201:1:2:7")

@@ -46,6 +46,7 @@ _NAMES = (
     "MalformedData", "HashMismatch", "HashParsing", "ChunkHeaderParse", "OutOfMemory", "Short", "Disagree",
 )
 _INVALID_SHARD = 11
+_INVALID_ARGUMENTS = 13
 _SHORT = 19
 _DISAGREE = 20
 # Of the errors that calls raise.
@@ -66,19 +67,24 @@ _SENTENCES = {
 class XetError(Exception):
     """A call failed: `number` is that of enum xet_error in xet.h, and `name` its name, as `InvalidShard`.
 
+    `index` is the place, in the list of a merge, of the first shard that is the cause by itself, or whose key is not
+    that of the first; it is None where several are the cause together, and of other calls.
+
     As text it is a sentence, with the name at its end.
     """
 
-    def __init__(self, number: int) -> None:
+    def __init__(self, number: int, index: Optional[int] = None) -> None:
         self.number = number
+        self.index = index
         self.name = _NAMES[number - 1] if 1 <= number <= len(_NAMES) else "Unknown"
-        super().__init__(number)
+        super().__init__(number, index)
 
     def __str__(self) -> str:
-        return f"{_SENTENCES.get(self.name, f'the library returns {self.number}')} ({self.name})"
+        place = "" if self.index is None else f"the shard at {self.index}: "
+        return f"{place}{_SENTENCES.get(self.name, f'the library returns {self.number}')} ({self.name})"
 
     def __reduce__(self) -> Tuple[Any, ...]:
-        return XetError, (self.number,)
+        return XetError, (self.number, self.index)
 
 
 @dataclass(frozen=True)
@@ -511,6 +517,32 @@ def merge(shards: Sequence[Buffer], strict: bool = False) -> bytes:
     """
     if not shards:
         raise ValueError("no shard is given")
+    try:
+        return _merged(shards, strict)
+    except DisagreementError:
+        raise
+    except XetError as error:
+        raise XetError(error.number, _to_blame(shards, error.number)) from None
+
+
+def _to_blame(shards: Sequence[Buffer], number: int) -> Optional[int]:
+    """Returns the place of the first shard by which a merge fails with this error, or None if it is no single one."""
+    key = None
+    for index, shard in enumerate(shards):
+        try:
+            _merged([shard], False)
+            its_key = load(shard).key
+        except XetError as error:
+            if error.number == number:
+                return index
+            continue
+        key = its_key if key is None else key
+        if number == _INVALID_ARGUMENTS and its_key != key:
+            return index
+    return None
+
+
+def _merged(shards: Sequence[Buffer], strict: bool) -> bytes:
     differing, found = c_size_t(), _Disagreement()
     with _Addresses(*shards) as data:
         listed, size = _list(data), sum(length for _, length in data)
