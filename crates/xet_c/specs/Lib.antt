@@ -1,5 +1,6 @@
 pub mod Agreeing
 pub mod Arguments
+pub mod Checking
 pub mod Finding
 pub mod Output
 pub mod Text

@@ -7,6 +7,7 @@
 #![tactic(auto)]
 
 mod agree;
+mod check;
 mod combine;
 mod eligible;
 mod export;

@@ -1,0 +1,108 @@
+//! What is wrong with the bytes of a shard.
+
+ghost use Rattle.std.specs.Prelude.{◌≡◌, map, IfOk, IfErr};
+ghost use Rattle.xet_core_structures.specs.declared.error.CoreError.{CoreError};
+ghost use Rattle.xet_c.specs.Checking.{c_finding, c_part, c_section, ShowsFindings};
+ghost use Rattle.xet_c.specs.Output.{Outcome};
+
+use crate::output::deliver;
+use shard_bytes::check::{Finding, Part, Section, check_bytes};
+use shard_bytes::format::Format;
+use std::alloc::Global;
+use xet_core_structures::error::{CoreError, Result};
+
+/// What is wrong, as a number, of which part, and a number that belongs to it; what a kind does not
+/// have is 0. Kinds are 1, the first 32 bytes are no tag; 2, the header has this version; 3, the last
+/// 200 bytes are no footer; 4, there are too few bytes for both; 5, a section is cut short; 6, a
+/// section has a header that the version does not have, or too many rows; 7, the hash of the record
+/// at this index does not ascend; 8, a part is not the one that the records give; 9, the size is not
+/// this one, which the records give. Parts are 1 to 7 in the order of the bytes, the header first.
+#[repr(C)]
+#[derive(Clone, Copy, Drop)]
+pub struct XetFinding {
+    pub kind: u32,
+    pub part: u32,
+    pub number: u64,
+}
+
+/// All that is wrong with the bytes of a shard, to the front of `findings`; nothing if they are, byte
+/// for byte, what the library would write of the records in them.
+#[unsafe(no_mangle)]
+pub extern "C" fn xet_check(
+    alloc: Global,
+    shard: &[u8],
+    findings: &mut [XetFinding],
+    written: &mut usize,
+) -> u32
+    ensures { Outcome (ShowsFindings shard.now) (λ e. e ≡ CoreError.OutOfMemory) findings.old
+        findings.new written.new result }
+{
+    let found = shown_findings(alloc, shard);
+    deliver(found, findings, written)
+}
+
+fn shown_findings(alloc: Global, shard: &[u8]) -> Result<Vec<XetFinding>>
+    ensures ok { IfOk result (λ shown. ShowsFindings shard.now shown.items) }
+    ensures causes { IfErr result (λ e. e ≡ CoreError.OutOfMemory) }
+{
+    let findings = check_bytes(alloc, shard)?;
+    shown(alloc, findings.as_slice())
+}
+
+fn shown(alloc: Global, findings: &[Finding]) -> Result<Vec<XetFinding>>
+    ensures ok { IfOk result (λ shown. shown.items ≡ map c_finding findings.now) }
+    ensures causes { IfErr result (λ e. e ≡ CoreError.OutOfMemory) }
+{
+    let mut shown = Vec::new(alloc);
+    for finding in findings {
+        shown.push(finding_of(*finding))?;
+    }
+    Ok(shown)
+}
+
+fn finding_of(finding: Finding) -> XetFinding
+    ensures { result ≡ c_finding finding }
+{
+    match finding {
+        Finding::Unsupported(Format::NoTag) => numbered(1, 1, 0),
+        Finding::Unsupported(Format::OtherVersion(version)) => numbered(2, 1, version),
+        Finding::Unsupported(Format::NoFooter) => numbered(3, 7, 0),
+        Finding::TooShort => numbered(4, 0, 0),
+        Finding::Cut(section) => numbered(5, number_of_section(section), 0),
+        Finding::Refused(section) => numbered(6, number_of_section(section), 0),
+        Finding::OutOfOrder(section, index) => {
+            numbered(7, number_of_section(section), index as u64)
+        }
+        Finding::Differs(part) => numbered(8, number_of_part(part), 0),
+        Finding::Size(size) => numbered(9, 0, size as u64),
+    }
+}
+
+fn numbered(kind: u32, part: u32, number: u64) -> XetFinding
+    ensures { result ≡ record { kind = kind; part = part; number = number } }
+{
+    XetFinding { kind, part, number }
+}
+
+fn number_of_section(section: Section) -> u32
+    ensures { result ≡ c_section section }
+{
+    match section {
+        Section::Files => 2,
+        Section::Xorbs => 3,
+    }
+}
+
+fn number_of_part(part: Part) -> u32
+    ensures { result ≡ c_part part }
+{
+    match part {
+        Part::Header => 1,
+        Part::FileSection => 2,
+        Part::XorbSection => 3,
+        Part::FileTable => 4,
+        Part::XorbTable => 5,
+        Part::ChunkTable => 6,
+        Part::Footer => 7,
+    }
+}
