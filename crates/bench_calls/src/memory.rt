@@ -24,7 +24,7 @@ pub fn add_files(alloc: Global, shard: &[u8], times: u64) -> Result<Vec<u8>>
     count_bytes(alloc, files)
 }
 
-/// The same of the xorbs.
+/// Reads the xorbs of a shard and adds them to one in memory. The answer is their number.
 pub fn add_xorbs(alloc: Global, shard: &[u8], times: u64) -> Result<Vec<u8>>
     ensures { IfOk result (λ bytes. IsCount bytes.items) }
 {
@@ -60,7 +60,7 @@ pub fn unite(alloc: Global, first: &[u8], second: &[u8], times: u64) -> Result<V
     bytes_of(alloc, &first.union(alloc, &second)?)
 }
 
-/// The same of the second's records that the first does not have.
+/// Makes a shard of the second's records that the first does not have. The answer is its bytes.
 pub fn subtract(alloc: Global, first: &[u8], second: &[u8], times: u64) -> Result<Vec<u8>>
     ensures { IfOk result (λ bytes. AreBytesOfSome bytes.items) }
 {

@@ -62,7 +62,7 @@ fn write_file(alloc: Global, left: usize, fault: Fault) -> Result<usize> {
     file.serialize(&mut Stream::new(&[], left, fault))
 }
 
-/// The same for the xorb record.
+/// The result of writing the xorb record if the writer fails after this many bytes.
 fn write_xorb(alloc: Global, left: usize, fault: Fault) -> Result<usize> {
     let xorb = xorb(alloc, 10, 21)?;
     xorb.serialize(&mut Stream::new(&[], left, fault))

@@ -55,7 +55,8 @@ pub fn deliver<T: Copy + Drop>(made: Result<Vec<T>>, out: &mut [T], written: &mu
     }
 }
 
-/// The same of items that were made.
+/// Copies items to the front of `out`, and sets `written` to their number, also if they do not fit.
+/// Returns 0 or, if they do not fit, 19; then `out` stays as it is.
 pub fn give<T: Copy>(items: &[T], out: &mut [T], written: &mut usize) -> u32
     ensures { Delivers items.now out.old out.new written.new result }
 {

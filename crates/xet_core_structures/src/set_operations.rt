@@ -105,8 +105,9 @@ pub enum MergePlan {
 /// repetition of its leaves.
 ///
 /// The error is that of the first leaf or union that fails, left sides first: `InvalidArguments` if
-/// a leaf has no input, `ShardVersion` or `UnexpectedEof` if a header or a footer is unsupported or
-/// cut short, or one of `shard_set_union`. `OutOfMemory` if an allocation fails.
+/// a leaf has no input; of a union `ShardVersion` or `UnexpectedEof` if the header or the footer of a
+/// side is unsupported or cut short, or an error of `shard_set_union`. `OutOfMemory` if an allocation
+/// fails. A leaf that no union reads is copied, whatever it is.
 pub fn shard_union_tree(alloc: Global, plan: &MergePlan, inputs: &[&[u8]]) -> Result<Vec<u8>>
     ensures any_bytes { MatchResult result
         (λ bytes. TreeWrites (map (λ x. x.now) inputs.now) plan.now bytes.items)

@@ -286,8 +286,9 @@ impl MDBFileInfoView {
         self.serialize_kept(writer, kept)
     }
 
-    /// The same of these parts of the record. Without its auxiliary row, a record that has one is
-    /// written under a header with bit 29 cleared and all else as it is.
+    /// Appends these parts of the record and returns their size in bytes. Verification rows are kept
+    /// or left out as by `serialize`, with the same errors; without its auxiliary row, a record that
+    /// has one is written under a header with bit 29 cleared and all else as it is.
     pub fn serialize_kept<W: Write>(&self, writer: &mut W, kept: KeptParts) -> Result<usize>
         ensures bytes { OnOk result
             (Appends (W.contents writer.old) (W.contents writer.new)

@@ -82,8 +82,8 @@ impl MDBShardInfo {
         )
     }
 
-    /// The same of a shard whose footer is not known. If its chunk hashes are keyed, the keyed
-    /// hashes are hashed again.
+    /// Writes what `export_as_keyed_shard` does, of a shard whose footer is not known. If its chunk
+    /// hashes are keyed, the keyed hashes are hashed again.
     pub fn export_as_keyed_shard_streaming<S: ShardSource, W: Write>(
         alloc: Global,
         source: &mut S,
@@ -113,7 +113,7 @@ impl MDBShardInfo {
         export(alloc, source, writer, true, &form)
     }
 
-    /// The same as `export_as_keyed_shard`, but without auxiliary rows: a file that has one is
+    /// Writes what `export_as_keyed_shard` does, but without auxiliary rows: a file that has one is
     /// written under a header with bit 29 cleared and all else as it is.
     pub fn export_as_keyed_shard_without_aux<S: ShardSource, W: Write>(
         &self,
@@ -149,7 +149,8 @@ impl MDBShardInfo {
         )
     }
 
-    /// The same of a shard whose footer is not known, as `export_as_keyed_shard_streaming`.
+    /// Writes what `export_as_keyed_shard_without_aux` does, of a shard whose footer is not known. If
+    /// its chunk hashes are keyed, the keyed hashes are hashed again.
     pub fn export_as_keyed_shard_streaming_without_aux<S: ShardSource, W: Write>(
         alloc: Global,
         source: &mut S,

@@ -145,7 +145,8 @@ impl MDBMinimalShard {
         })
     }
 
-    /// The same of what `serialize_without_aux` writes.
+    /// The size in bytes that `serialize_without_aux` writes, with the exceptions that
+    /// `serialized_size` has.
     pub fn serialized_size_without_aux(&self, with_verification: bool) -> u64
         ensures { result
             ≡ size_of_kept (record { verification = with_verification; aux_ext = false })
