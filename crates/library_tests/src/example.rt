@@ -1,4 +1,4 @@
-//! What a caller writes: the example of the README.
+//! What a caller writes: a shard in memory, a lookup on its bytes, a union.
 
 use std::alloc::Global;
 use xet_core_structures::error::{CoreError, Result};
