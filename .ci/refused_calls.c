@@ -6,7 +6,7 @@
 #include <stdlib.h>
 #include <string.h>
 
-enum { ROOM = 1 << 20, CALLS = 20 };
+enum { ROOM = 1 << 20, CALLS = 21 };
 
 void *__real_malloc(size_t size);
 void *__real_realloc(void *block, size_t size);
@@ -39,6 +39,7 @@ static size_t first_length, second_length;
 static union {
     uint8_t bytes[ROOM];
     xet_hash hashes[100];
+    xet_finding findings[100];
     xet_segment run;
     xet_info info;
     struct {
@@ -75,7 +76,7 @@ static uint32_t call(int number, size_t *count) {
     size_t differing = 0;
     const char *name = "0000000000000001000000000000000200000000000000030000000000000004.mdb";
     /* These write no count. */
-    if (number == 6 || number > 13)
+    if (number == 6 || number > 14)
         *count = 0;
     switch (number) {
     case 0:
@@ -107,14 +108,16 @@ static uint32_t call(int number, size_t *count) {
     case 13:
         return xet_write_v2(second, second_length, out.bytes, ROOM, count);
     case 14:
-        return xet_file_at(first, first_length, 0, &out.listed.place, &out.listed.file, out.listed.segments, 100);
+        return xet_check(second, second_length, out.findings, 100, count);
     case 15:
-        return xet_xorb_at(first, first_length, 0, &out.listed.place, &out.listed.xorb, out.listed.chunks, 100);
+        return xet_file_at(first, first_length, 0, &out.listed.place, &out.listed.file, out.listed.segments, 100);
     case 16:
-        return xet_hash_from_hex((const uint8_t *)name, 64, out.hashes);
+        return xet_xorb_at(first, first_length, 0, &out.listed.place, &out.listed.xorb, out.listed.chunks, 100);
     case 17:
-        return xet_version() == XET_VERSION_NUMBER ? XET_OK : XET_OTHER;
+        return xet_hash_from_hex((const uint8_t *)name, 64, out.hashes);
     case 18:
+        return xet_version() == XET_VERSION_NUMBER ? XET_OK : XET_OTHER;
+    case 19:
         return xet_parse_shard_name((const uint8_t *)name, 68, out.hashes);
     default:
         return xet_load(first, first_length, &out.info);

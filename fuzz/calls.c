@@ -122,6 +122,10 @@ static uint32_t call_eligible(const struct input *input, void *out, size_t capac
     return xet_eligible(SHARD(0), out, capacity, written);
 }
 
+static uint32_t call_check(const struct input *input, void *out, size_t capacity, size_t *written) {
+    return xet_check(SHARD(0), out, capacity, written);
+}
+
 static uint32_t call_hash_to_hex(const struct input *input, void *out, size_t capacity, size_t *written) {
     return xet_hash_to_hex(&input->file, out, capacity, written);
 }
@@ -161,6 +165,7 @@ static const struct filling fillings[] = {
     {"xet_subset", 1, OF_SECTIONS, call_subset, 3},
     {"xet_write_v2", 1, OF_MERGING, call_write_v2, 2},
     {"xet_eligible", sizeof(xet_hash), OF_SECTIONS, call_eligible, 0},
+    {"xet_check", sizeof(xet_finding), BIT(XET_OK), call_check, 0},
     {"xet_find_file", sizeof(xet_file_segment), OF_FINDING, call_find_file, 0},
     {"xet_hash_to_hex", 1, BIT(XET_OK), call_hash_to_hex, 0},
     {"xet_shard_name", 1, BIT(XET_OK), call_shard_name, 0},

@@ -43,6 +43,12 @@ def structs():
     return {name: re.findall(r"^    pub (\w+): (.*),$", body, re.M) for name, body in found}
 
 
+def error_constants():
+    """Returns the lines of xet.h that give errors their numbers."""
+    header = read(f"{BINDINGS}/c/xet.h")
+    return header[header.index("enum xet_error {") :].split("}")[0]
+
+
 def error_numbers():
     """Returns the numbers of errors, with their names, by `error_number` of crates/xet_c."""
     numbers = {int(number): name for name, number in re.findall(r"CoreError::(\w+)(?:\(_\))? => (\d+),", sources())}

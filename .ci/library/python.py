@@ -24,7 +24,7 @@ STRUCTS = {
     "XetExport": ("_Export", "xet_export_options"), "XetFile": ("_File", "xet_file"),
     "XetFileSegment": ("_FileSegment", "xet_file_segment"), "XetSubset": ("_Subset", "xet_subset_options"),
     "XetDisagreement": ("_Disagreement", "xet_disagreement"), "XetPlace": ("_Place", "xet_place"),
-    "XetXorb": ("_Xorb", "xet_xorb"), "XetChunk": ("_Chunk", "xet_chunk"),
+    "XetFinding": ("_Finding", "xet_finding"), "XetXorb": ("_Xorb", "xet_xorb"), "XetChunk": ("_Chunk", "xet_chunk"),
 }
 
 
@@ -68,7 +68,7 @@ def check_merge(room, wanted, named):
         pass
     for inputs, is_refused in ((("first.mdb", "second.mdb"), False), (("first.mdb", "no_shard.mdb"), True)):
         printed, why = ran(sys.executable, program, *inputs, "-o", "merged.mdb", cwd=room, env=named)
-        if is_refused != bool(why) or is_refused != ("merge.py: the bytes end too early" in printed):
+        if is_refused != bool(why) or is_refused != ("merge.py: the shard at 1: the bytes end" in printed):
             return why or f"merge.py prints {printed}"
         with open(f"{room}/merged.mdb", "rb") as file:
             if file.read() != wanted:

@@ -2,7 +2,7 @@
 import os
 import re
 
-from .common import BINDINGS, Skip, error_numbers, ran, read, sources, structs
+from .common import BINDINGS, Skip, error_constants, error_numbers, ran, read, sources, structs
 
 CRATE = f"{BINDINGS}/rust"
 # Calls whose answer the crate writes itself: the text of a hash.
@@ -51,7 +51,7 @@ def check_declarations():
     constants = re.findall(r"const (SHORT|DISAGREE): u32 = (\d+);", text)
     numbers += [(number, name.title()) for name, number in constants]
     # Those that xet.h marks with a star no call returns.
-    header = re.findall(r"^    XET_\w+ = (\d+),? +/\* (?!\* \*/)", read(f"{BINDINGS}/c/xet.h"), re.M)
+    header = re.findall(r"^    XET_\w+ = (\d+),? +/\* (?!\* \*/)", error_constants(), re.M)
     returned = {number: error_numbers()[int(number)] for number in header}
     if not returned or dict(numbers) != returned:
         return "the errors of bindings/rust are not those of crates/xet_c"

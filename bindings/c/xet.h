@@ -330,6 +330,43 @@ typedef struct xet_chunk {
 uint32_t xet_xorb_at(const uint8_t *shard, size_t length, uint32_t row, xet_place *place, xet_xorb *xorb,
                      xet_chunk *chunks, size_t capacity);
 
+/* What is wrong with the bytes of a shard. A kind that has no part or number has 0 there. */
+enum xet_finding_kind {
+    XET_NO_TAG = 1,       /* the first 32 bytes are not the tag of a shard */
+    XET_OTHER_VERSION,    /* the header has the version `number`, which is neither 2 nor 3 */
+    XET_NO_FOOTER,        /* the last 200 bytes are no footer: the bytes were cut or lengthened */
+    XET_TOO_SHORT,        /* there are too few bytes for a header and a footer */
+    XET_CUT,              /* the bytes end before the section `part` does */
+    XET_REFUSED,          /* the section has a header that the version does not have, or more than 4294967295 rows */
+    XET_OUT_OF_ORDER,     /* the hash of the record at `number` of the section, from 0 on, is not greater than the last */
+    XET_DIFFERS,          /* the part is not the one that the records give; of a section this is its end */
+    XET_OTHER_SIZE        /* the size is not `number`, which the records give */
+};
+
+/* The parts of a shard, in the order of its bytes. */
+enum xet_part {
+    XET_HEADER = 1,
+    XET_FILE_SECTION,
+    XET_XORB_SECTION,
+    XET_FILE_TABLE,
+    XET_XORB_TABLE,
+    XET_CHUNK_TABLE,
+    XET_FOOTER
+};
+
+typedef struct xet_finding {
+    uint32_t kind;
+    uint32_t part;
+    uint64_t number;
+} xet_finding;
+
+/* Writes all that is wrong with the bytes of a shard: nothing if they are, byte for byte, what the library writes of the
+ * records in them, with ascending hashes, in their version and with their key, their times and the tables of which the
+ * footer says that they have rows. If the bytes can't be read, nothing else is looked for.
+ *
+ * XET_OUT_OF_MEMORY, XET_SHORT. */
+uint32_t xet_check(const uint8_t *shard, size_t length, xet_finding *out, size_t capacity, size_t *written);
+
 /* Writes the 64 hexadecimal digits of a hash, in lower case. XET_OUT_OF_MEMORY, XET_SHORT. */
 uint32_t xet_hash_to_hex(const xet_hash *hash, uint8_t *out, size_t capacity, size_t *written);
 

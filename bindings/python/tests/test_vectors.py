@@ -376,6 +376,30 @@ def test_walks():
     refused("Io", list, xet_shards.xorbs(shard.written()[:199]))
 
 
+def test_check():
+    Finding = xet_shards.Finding
+    shard = shard_of("xorb 10 21:5", "xorb 11 22:5", "file 100 200:0:5:5", "file 101 200:0:5:5")
+    assert xet_shards.check(shard) == [] == xet_shards.check(xet_shards.write_v2(shard))
+    assert xet_shards.check(b"?" + shard[1:]) == [Finding("no_tag", "header", None)]
+    assert xet_shards.check(shard[:32] + b"\4" + shard[33:]) == [Finding("other_version", "header", 4)]
+    assert xet_shards.check(shard[:-1]) == [Finding("no_footer", "footer", None)]
+    assert xet_shards.check(b"") == [Finding("too_short", None, None)]
+    # The two files' records, of 96 bytes each, stand in the other order, and so do the rows of their table.
+    swapped = shard[:48] + shard[144:240] + shard[48:144] + shard[240:]
+    found = xet_shards.check(swapped)
+    assert found[0] == Finding("out_of_order", "file_section", 1)
+    assert Finding("differs", "file_table", None) in found and len(found) == 2
+    # A byte more stands between the chunk table and the footer.
+    longer = xet_shards.check(shard[:-200] + b"?" + shard[-200:])
+    assert longer == [Finding("other_size", None, len(shard))]
+    # The footer, which has 200 bytes, is read as four rows of files without segments, and ends in the fifth.
+    assert xet_shards.check(shard[:48] + shard[-200:]) == [Finding("cut", "file_section", None)]
+    # Version 2 has no auxiliary rows.
+    with_row = shard_of("file 100 x=777 200:0:5:5")
+    as_version_2 = with_row[:32] + b"\2" + with_row[33:]
+    assert xet_shards.check(as_version_2) == [Finding("refused", "file_section", None)]
+
+
 def test_write_v2():
     shard = Shard()
     shard.add_file("100", "v=365", "s=9364", "200:0:5:5")

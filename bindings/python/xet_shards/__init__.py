@@ -24,9 +24,10 @@ from dataclasses import dataclass
 from typing import Any, Callable, Dict, Iterator, List, Optional, Sequence, Tuple, Union
 
 __all__ = [
-    "Buffer", "Chunk", "Disagreement", "DisagreementError", "File", "Info", "ListedFile", "NO_EXPIRY", "NO_KEY", "Run",
-    "Segment", "XetError", "Xorb", "difference", "eligible", "export", "files", "find_disagreement", "find_file",
-    "hash_of_name", "load", "merge", "minimal", "query_chunks", "shard_name", "subset", "union", "write_v2", "xorbs",
+    "Buffer", "Chunk", "Disagreement", "DisagreementError", "File", "Finding", "Info", "ListedFile", "NO_EXPIRY",
+    "NO_KEY", "Run", "Segment", "XetError", "Xorb", "check", "difference", "eligible", "export", "files",
+    "find_disagreement", "find_file", "hash_of_name", "load", "merge", "minimal", "query_chunks", "shard_name", "subset",
+    "union", "write_v2", "xorbs",
 ]
 
 __version__ = "0.1.0"
@@ -45,6 +46,10 @@ _NAMES = (
     "FileNotFound", "QueryFailed", "SmudgeQueryPolicy", "InvalidShard", "InvalidRange", "InvalidArguments",
     "MalformedData", "HashMismatch", "HashParsing", "ChunkHeaderParse", "OutOfMemory", "Short", "Disagree",
 )
+# What enum xet_finding_kind and enum xet_part of xet.h name, and the kinds that have a number.
+_KINDS = "no_tag other_version no_footer too_short cut refused out_of_order differs other_size".split()
+_PARTS = "header file_section xorb_section file_table xorb_table chunk_table footer".split()
+_NUMBERED = (2, 7, 9)
 _INVALID_SHARD = 11
 _INVALID_ARGUMENTS = 13
 _SHORT = 19
@@ -189,6 +194,18 @@ class Xorb:
 
 
 @dataclass(frozen=True)
+class Finding:
+    """What is wrong with the bytes of a shard: `kind` is that of enum xet_finding_kind in xet.h, as `out_of_order`.
+
+    `part` is the part of the shard, as `file_section`, and `number` what belongs to the kind, where it has them.
+    """
+
+    kind: str
+    part: Optional[str]
+    number: Optional[int]
+
+
+@dataclass(frozen=True)
 class Run:
     """How many of the chunks that were asked for, from the first on, a xorb has one after another, and where."""
 
@@ -253,6 +270,10 @@ class _Chunk(ctypes.Structure):
     _fields_ = [("hash", _Words), ("start", c_uint32), ("bytes", c_uint32), ("flags", c_uint32)]
 
 
+class _Finding(ctypes.Structure):
+    _fields_ = [("kind", c_uint32), ("part", c_uint32), ("number", c_uint64)]
+
+
 class _Disagreement(ctypes.Structure):
     _fields_ = [("hash", _Words), ("is_xorb", c_bool), ("first", c_size_t), ("second", c_size_t)]
 
@@ -293,6 +314,7 @@ _CALLS = {
     "xet_find_file": [*_SHARD, POINTER(_Hash), POINTER(_File), POINTER(_FileSegment), c_size_t],
     "xet_file_at": [*_SHARD, c_uint32, POINTER(_Place), POINTER(_File), POINTER(_FileSegment), c_size_t],
     "xet_xorb_at": [*_SHARD, c_uint32, POINTER(_Place), POINTER(_Xorb), POINTER(_Chunk), c_size_t],
+    "xet_check": [*_SHARD, POINTER(_Finding), c_size_t, POINTER(c_size_t)],
     "xet_version": [],
     "xet_hash_to_hex": [POINTER(_Hash), *_OUT],
     "xet_hash_from_hex": [*_TEXT, POINTER(_Hash)],
@@ -477,6 +499,22 @@ def xorbs(shard: Buffer) -> Iterator[Xorb]:
     for place, xorb, chunks in _walked(_library.xet_xorb_at, shard, _Xorb(), _Chunk, "chunks"):
         listed = tuple(Chunk(_text(it.hash), it.start, it.bytes, it.flags) for it in chunks)
         yield Xorb(_text(place.hash), place.flags, xorb.bytes, xorb.bytes_on_disk, listed)
+
+
+def check(shard: Buffer) -> List[Finding]:
+    """Returns all that is wrong with the bytes of a shard.
+
+    The list is empty if they are, byte for byte, what the library writes of the records in them, in their version and
+    with their key, their times and the tables of which the footer says that they have rows.
+    """
+    with _Addresses(shard) as [data]:
+        found = _filled(_Finding, 16, lambda out, room, written: _library.xet_check(*data, out, room, byref(written)))
+    return [_finding(it) for it in found]
+
+
+def _finding(found: _Finding) -> Finding:
+    part = _PARTS[found.part - 1] if found.part else None
+    return Finding(_KINDS[found.kind - 1], part, found.number if found.kind in _NUMBERED else None)
 
 
 def query_chunks(shard: Buffer, hashes: Sequence[str]) -> Optional[Run]:

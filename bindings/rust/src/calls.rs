@@ -65,6 +65,7 @@ library! {
         shard: &[u8], row: u32, place: &mut Place, file: &mut File, segments: &mut [FileSegment],
     ) -> u32;
     fn xet_xorb_at(shard: &[u8], row: u32, place: &mut Place, xorb: &mut Xorb, chunks: &mut [Chunk]) -> u32;
+    fn xet_check(shard: &[u8], findings: &mut [Finding], written: &mut usize) -> u32;
     fn xet_version() -> u32;
     fn xet_hash_from_hex(text: &[u8], hash: &mut Hash) -> u32;
     fn xet_parse_shard_name(name: &[u8], hash: &mut Hash) -> u32;
@@ -118,6 +119,14 @@ pub struct Disagreement {
     pub is_xorb: bool,
     pub first: usize,
     pub second: usize,
+}
+
+#[repr(C)]
+#[derive(Clone, Default)]
+pub struct Finding {
+    pub kind: u32,
+    pub part: u32,
+    pub number: u64,
 }
 
 #[repr(C)]

@@ -20,6 +20,7 @@
 mod calls;
 mod combine;
 mod error;
+mod finding;
 mod hash;
 mod lookup;
 mod name;
@@ -29,6 +30,7 @@ mod write;
 
 pub use combine::{Disagreement, RecordHash, difference, find_disagreement, merge, merge_agreeing, union};
 pub use error::Error;
+pub use finding::{Finding, Part, check};
 pub use hash::Hash;
 pub use lookup::{File, Info, Run, Segment, eligible, find_file, load, query_chunks};
 pub use name::{hash_of_name, shard_name};

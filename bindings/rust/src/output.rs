@@ -16,7 +16,7 @@ pub fn zeros<T: Clone + Default>(count: usize) -> Result<Vec<T>> {
 
 /// The items that a call writes to the front of what it is given. If there is no room for them it says how many they
 /// are, and is called again.
-fn filled<T: Clone + Default>(room: usize, mut call: impl FnMut(&mut [T], &mut usize) -> u32) -> Result<Vec<T>> {
+pub fn filled<T: Clone + Default>(room: usize, mut call: impl FnMut(&mut [T], &mut usize) -> u32) -> Result<Vec<T>> {
     let (mut out, mut written) = (zeros(room)?, 0);
     let mut number = call(&mut out, &mut written);
     if number == SHORT {

@@ -5,7 +5,7 @@ mod common;
 use common::{Shard, hash};
 use std::error::Error as _;
 use std::thread;
-use xet_shards::{Disagreement, Error, Export, Hash, Minimal, NO_EXPIRY, NO_KEY, RecordHash};
+use xet_shards::{Disagreement, Error, Export, Finding, Hash, Minimal, NO_EXPIRY, NO_KEY, Part, RecordHash};
 
 /// The bytes of a shard of `file` and `xorb` lines.
 fn shard_of(lines: &[&str]) -> Vec<u8> {
@@ -150,4 +150,26 @@ fn walks_through_both_sections() {
     assert_eq!((xorbs.len(), xorbs[0].bytes, xorbs[0].chunks[1].start), (1, 11, 5));
     let mut cut = xet_shards::files(&bytes[..199]);
     assert_eq!((cut.next(), cut.next()), (Some(Err(Error::Io)), None));
+}
+
+#[test]
+fn findings() {
+    let shard = shard_of(&["file 100 200:0:5:5", "file 101 200:0:5:5", "xorb 10 21:5"]);
+    let changed = |at: usize, byte: u8| {
+        let mut bytes = shard.clone();
+        bytes[at] = byte;
+        xet_shards::check(&bytes).expect("findings")
+    };
+    assert_eq!(xet_shards::check(&shard), Ok(vec![]));
+    assert_eq!(xet_shards::check(&[]), Ok(vec![Finding::TooShort]));
+    assert_eq!(xet_shards::check(&shard[..shard.len() - 1]), Ok(vec![Finding::NoFooter]));
+    assert_eq!((changed(0, 0), changed(32, 4)), (vec![Finding::NoTag], vec![Finding::OtherVersion(4)]));
+    // The hash of the first file begins the file section, at 48, and the second's record follows after 96 bytes.
+    let found = changed(48, 102);
+    assert_eq!(found[0], Finding::OutOfOrder(Part::FileSection, 1));
+    assert_eq!(found[1..], [Finding::Differs(Part::FileTable)]);
+    // A byte more stands before the footer.
+    let mut longer = shard.clone();
+    longer.insert(shard.len() - 200, 0);
+    assert_eq!(xet_shards::check(&longer), Ok(vec![Finding::OtherSize(shard.len() as u64)]));
 }
