@@ -1,5 +1,5 @@
 -- What a filter keeps.
-use Rattle.std.proofs.Common.{◌≡◌, ◌↔◌, Bool, true, false, ℕ, ◌+◌, ◌<◌, List, [], ◌∷◌, ◌++◌, length, take, get_or, sym, ◌∙◌, subst, IsTrue, rules}
+use Rattle.std.proofs.Common.{◌≡◌, ◌↔◌, Bool, true, false, ℕ, ◌+◌, ◌<◌, List, [], ◌∷◌, ◌++◌, length, take, get_or, sym, subst, IsTrue, rules}
 use Rattle.std.proofs.lemmas.List.{take_more}
 use Rattle.xet_shards.proofs.MinimalWriting.{one_kept, none_kept}
 use Rattle.xet_core_structures.specs.MinimalShard.{IsKept}
@@ -26,3 +26,6 @@ not_so found P decides is = search rules
 
 pub but_so : (found : Bool) (P : Type 0) → (IsTrue found ↔ P) → found ≡ true → IsTrue false ↔ (¬ P)
 but_so found P decides is = search rules
+
+pub both_so : {P Q R : Type 0} → P ↔ Q → Q ↔ R → P ↔ R
+both_so one other = (λ p. other.0 (one.0 p), λ r. one.1 (other.1 r))

@@ -8,6 +8,7 @@ pub mod Keeping
 pub mod MemoryErrors
 pub mod Merging
 pub mod Reading
+pub mod Searching
 pub mod Sizes
 pub mod Versions
 pub mod Walking

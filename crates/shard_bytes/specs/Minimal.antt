@@ -14,6 +14,8 @@ use Rattle.xet_core_structures.specs.MinimalShard.{MinimalShard, mark_starts, is
 use Rattle.xet_core_structures.specs.Shard.{xorb_hash_of}
 use Rattle.xet_core_structures.specs.View.{as_kept, LacksVerification}
 use Rattle.shard_bytes.specs.Outcomes.{InMemory}
+use Rattle.shard_bytes.specs.declared.minimal.Filter.{Filter}
+use Rattle.shard_bytes.specs.declared.minimal.Filter.TheVariants.{All as all_hashes, Listed as listed}
 use Rattle.shard_bytes.specs.declared.minimal.KeptXorbs.{KeptXorbs}
 use Rattle.shard_bytes.specs.declared.minimal.KeptXorbs.TheVariants.{All as all_xorbs, Listed}
 use Rattle.shard_bytes.specs.declared.minimal.Subset.{Subset}
@@ -43,6 +45,15 @@ MinimalBytes kept now bytes out =
 abbrev pub Keeps : KeptXorbs → DataHash → Type 0
 Keeps all_xorbs hash = ⊤
 Keeps (Listed hashes) hash = Contains hashes.items hash
+
+-- whether a filter accepts a hash
+abbrev pub Accepts : Filter → DataHash → Type 0
+Accepts all_hashes hash = ⊤
+Accepts (listed hashes) hash = Contains hashes.hashes.items hash
+
+-- a filter accepts the hashes of the xorbs that a subset keeps
+abbrev pub FiltersAs : KeptXorbs → Filter → Type 0
+FiltersAs kept filter = (hash : DataHash) → Accepts filter hash ↔ Keeps kept hash
 
 -- one of the xorbs has the hash
 abbrev pub HasXorb : MinimalShard → DataHash → Type 0

@@ -14,5 +14,6 @@ pub mod merge;
 pub mod minimal;
 pub mod query;
 mod room;
+mod sorted_hashes;
 pub mod version;
 pub mod walk;

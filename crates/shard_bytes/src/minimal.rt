@@ -1,16 +1,17 @@
 //! Minimal shards, and the chunks that the global index keeps.
 
 ghost use Rattle.std.specs.List.{Any};
-ghost use Rattle.std.specs.Prelude.{◌≡◌, ◌⊎◌, ◌↔◌, IfErr, IfOk, IsErrAnd, IsTrue, MatchResult};
+ghost use Rattle.std.specs.Prelude.{◌≡◌, ◌⊎◌, ◌↔◌, IfErr, IfOk, IsErrAnd, IsTrue, MatchResult, map};
 ghost use Rattle.xet_core_structures.specs.Errors.{IsWriteError};
 ghost use Rattle.xet_core_structures.specs.MinimalShard.{WritesMinimalKept};
 ghost use Rattle.xet_core_structures.specs.Shard.{xorb_hash_of};
 ghost use Rattle.xet_core_structures.specs.View.{LacksVerification, IsIoOther};
-ghost use Rattle.shard_bytes.specs.Minimal.{HoldsMinimal, RefusesMinimal, MinimalBytes, RefusesMinimalBytes, Keeps, HasXorb, AreLacked, LackXorbs, SubsetBytes, EligibleIn};
+ghost use Rattle.shard_bytes.specs.Minimal.{HoldsMinimal, RefusesMinimal, MinimalBytes, RefusesMinimalBytes, Accepts, FiltersAs, AreLacked, LackXorbs, SubsetBytes, EligibleIn};
 ghost use Rattle.shard_bytes.specs.Outcomes.{InMemory};
 
 use crate::memory::in_memory;
 use crate::room::with_room;
+use crate::sorted_hashes::SortedHashes;
 use std::alloc::{AllocError, Global};
 use std::io::Write;
 use xet_core_structures::error::{CoreError, Result};
@@ -26,13 +27,32 @@ pub enum KeptXorbs {
     Listed(Vec<MerkleHash>),
 }
 
-impl KeptXorbs {
-    fn has(&self, hash: &MerkleHash) -> bool
-        ensures { IsTrue result ↔ Keeps self.now hash.now }
+// The xorbs that a subset keeps, with the listed hashes in order for searches.
+#[derive(Drop)]
+enum Filter {
+    All,
+    Listed(SortedHashes),
+}
+
+impl Filter {
+    fn new(alloc: Global, kept: &KeptXorbs) -> std::result::Result<Filter, AllocError>
+        ensures { IfOk result (λ filter. FiltersAs kept.now filter) }
+    {
+        match kept {
+            KeptXorbs::All => Ok(Filter::All),
+            KeptXorbs::Listed(hashes) => {
+                let hashes = Vec::from_slice(alloc, hashes.as_slice())?;
+                Ok(Filter::Listed(SortedHashes::of(hashes)))
+            }
+        }
+    }
+
+    fn accepts(&self, hash: &MerkleHash) -> bool
+        ensures { IsTrue result ↔ Accepts self.now hash.now }
     {
         match self {
-            KeptXorbs::All => true,
-            KeptXorbs::Listed(hashes) => hashes.as_slice().contains(hash),
+            Filter::All => true,
+            Filter::Listed(hashes) => hashes.contains(hash),
         }
     }
 }
@@ -94,7 +114,8 @@ fn writing_error(kept: KeptParts, error: CoreError) -> CoreError
     }
 }
 
-/// The bytes of a shard with some of the xorbs and none of the files of a shard, from its bytes.
+/// The bytes of a shard with some of the xorbs and none of the files of a shard, from its bytes. The
+/// listed hashes may be in any order.
 ///
 /// The errors are those of [`MDBMinimalShard::from_reader`] and
 /// [`MDBMinimalShard::serialize_xorb_subset_with_expiry`].
@@ -103,10 +124,11 @@ pub fn subset_bytes(alloc: Global, bytes: &[u8], subset: &Subset) -> Result<Vec<
         (InMemory (RefusesMinimal bytes.now)) }
 {
     let shard = read_minimal(alloc, bytes)?;
+    let filter = Filter::new(alloc, &subset.kept)?;
     let mut written = Vec::new(alloc);
     let is_kept = |xorb: &MDBXorbInfoView| -> bool
-        ensures { IsTrue result ↔ Keeps subset.entry.now.kept (xorb_hash_of xorb.now) }
-    { subset.kept.has(&xorb.xorb_hash()) };
+        ensures { IsTrue result ↔ Accepts filter (xorb_hash_of xorb.now) }
+    { filter.accepts(&xorb.xorb_hash()) };
     match shard.serialize_xorb_subset_with_expiry(
         alloc,
         &mut written,
@@ -143,27 +165,31 @@ fn hashes_lacked(
 ) -> std::result::Result<Vec<MerkleHash>, AllocError>
     ensures { IfOk result (λ lacking. AreLacked shard.now hashes.now lacking.items) }
 {
+    let present = xorb_hashes(alloc, shard)?;
+    let known = SortedHashes::of(present);
     let mut lacking = Vec::new(alloc);
     for hash in hashes {
-        if !has_xorb(shard, hash) {
+        if !known.contains(hash) {
             lacking.push(*hash)?;
         }
     }
     Ok(lacking)
 }
 
-// Whether one of the xorbs has the hash.
-fn has_xorb(shard: &MDBMinimalShard, hash: &MerkleHash) -> bool
-    ensures { IsTrue result ↔ HasXorb shard.now hash.now }
+// The hashes of the xorbs.
+fn xorb_hashes(
+    alloc: Global,
+    shard: &MDBMinimalShard,
+) -> std::result::Result<Vec<MerkleHash>, AllocError>
+    ensures { IfOk result (λ hashes. hashes.items ≡ map xorb_hash_of shard.now.xorbs) }
 {
+    let mut hashes = Vec::new(alloc);
     for index in 0..shard.num_xorb() {
-        if let Some(xorb) = shard.xorb(index)
-            && xorb.xorb_hash() == *hash
-        {
-            return true;
+        if let Some(xorb) = shard.xorb(index) {
+            hashes.push(xorb.xorb_hash())?;
         }
     }
-    false
+    Ok(hashes)
 }
 
 /// The hashes of the chunks of a shard that the global index keeps, from its bytes, in ascending
