@@ -41,6 +41,8 @@ pub struct Merge<'a> {
     pub verbose: bool,
     /// Whether the shards under each key are merged by themselves, into a folder.
     pub by_key: bool,
+    /// The expiry of what is written, in seconds; none if it is left out.
+    pub expiry: Option<u64>,
 }
 
 /// What is done where shards that are to be merged do not agree.
@@ -202,6 +204,7 @@ fn merge_in<'a>(alloc: Global, matches: &ArgMatches<'a>) -> Result<Merge<'a>, Re
         strictness: strictness_in(matches),
         verbose: matches.get_flag(id::VERBOSE),
         by_key: matches.contains_id(id::FOLDER),
+        expiry: time_in(matches, id::EXPIRY)?,
     })
 }
 

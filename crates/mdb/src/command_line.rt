@@ -195,7 +195,7 @@ fn diff<'a>(alloc: Global) -> Result<Command<'a>, AllocError> {
 
 fn merge<'a>(alloc: Global) -> Result<Command<'a>, AllocError> {
     Command::new(alloc, "merge")
-        .about("Writes the union of any number of shards; expiries are not kept")
+        .about("Writes the union of any number of shards; their expiries are not kept")
         .after_help(help::MERGE)
         .arg(files(alloc))?
         .arg(flag(
@@ -204,6 +204,12 @@ fn merge<'a>(alloc: Global) -> Result<Command<'a>, AllocError> {
             "Fails with status 3 if two shards have different records with one hash",
         ))?
         .arg(flag(alloc, id::VERBOSE, "Reports each file as it is read"))?
+        .arg(option(
+            alloc,
+            id::EXPIRY,
+            "expiry",
+            "The time of expiry of what is written; without, there is none",
+        ))?
         .arg(option(
             alloc,
             id::FOLDER,

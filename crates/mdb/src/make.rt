@@ -10,6 +10,7 @@ use mdb_report::fault::{
 use mdb_report::shown::Shown;
 use shard_bytes::check::{Finding, Part};
 use shard_bytes::combine::{Operation, combine_bytes};
+use shard_bytes::expiry::with_expiry;
 use shard_bytes::export::{Export, export_bytes};
 use shard_bytes::load::load_bytes;
 use shard_bytes::merge::merge_bytes;
@@ -278,8 +279,13 @@ fn merged<'a, R: Files + Eprint + AllocGlobal>(
         .iter()
         .map(|bytes| bytes.as_slice())
         .collect(alloc);
-    match inputs {
-        Ok(inputs) => united(rt, files, inputs.as_slice(), merge.strictness),
+    let inputs = match inputs {
+        Ok(inputs) => inputs,
+        Err(_) => return Err(on_all(files, Fault::OutOfMemory)),
+    };
+    let bytes = united(rt, files, inputs.as_slice(), merge.strictness)?;
+    match expiring(alloc, bytes, merge.expiry) {
+        Ok(bytes) => Ok(bytes),
         Err(_) => Err(on_all(files, Fault::OutOfMemory)),
     }
 }
@@ -304,6 +310,14 @@ fn united<'a, R: Eprint + AllocGlobal>(
             Ok(bytes)
         }
         Err(error) => Err(blamed(alloc, files, inputs, error)),
+    }
+}
+
+// The bytes that a merge wrote, with an expiry if one is wanted. It fails only if it is out of memory.
+fn expiring(alloc: Global, bytes: Vec<u8>, expiry: Option<u64>) -> Result<Vec<u8>, CoreError> {
+    match expiry {
+        Some(expiry) => with_expiry(alloc, bytes, expiry),
+        None => Ok(bytes),
     }
 }
 

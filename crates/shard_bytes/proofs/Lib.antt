@@ -2,6 +2,7 @@ pub mod Agreeing
 pub mod Checking
 pub mod Combining
 pub mod Exclusive
+pub mod Expiring
 pub mod Exporting
 pub mod Formats
 pub mod Keeping

@@ -1,6 +1,7 @@
 pub mod Agreeing
 pub mod Checking
 pub mod Combining
+pub mod Expiry
 pub mod Exporting
 pub mod Finding
 pub mod Format

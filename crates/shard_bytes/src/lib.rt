@@ -5,6 +5,7 @@
 pub mod agree;
 pub mod check;
 pub mod combine;
+pub mod expiry;
 pub mod export;
 pub mod find;
 pub mod format;
