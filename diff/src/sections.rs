@@ -245,6 +245,7 @@ pub fn row_offset(start: u64, row: u64) -> Option<u64> {
 /// The chunk at an offset: its hash and its bytes.
 pub fn chunk_at(bytes: &[u8], at: u64) -> Option<(Hash, u32)> {
     let unpacked = half(bytes, at.checked_add(36)?)?;
+    word(bytes, at.checked_add(40)?)?;
     Some((
         Hash {
             words: words(bytes, at)?,
