@@ -7,6 +7,7 @@ pub mod Differing
 pub mod DifferingFound
 pub mod Equalities
 pub mod ExportTrees
+pub mod Filling
 pub mod Handed
 pub mod HashRuns
 pub mod Held

@@ -19,6 +19,7 @@ use Rattle.xet_shards.proofs.AgreeingJoins.{joins_exist, lists_agree, union-of_j
 use Rattle.xet_core_structures.specs.declared.set_operations.MergePlan.{MergePlan}
 use Rattle.xet_core_structures.specs.declared.set_operations.MergePlan.TheVariants.{Leaf, Both'}
 use Rattle.xet_core_structures.specs.ByteResults.{keyed_layout, UnitesBytes, BytesRefusal}
+use Rattle.xet_core_structures.specs.Filling.{FillsWith}
 use Rattle.xet_core_structures.specs.Held.{HoldsShard}
 use Rattle.xet_core_structures.specs.MergeTrees.{leaves, HasUnion, TreeWrites, TreeRefusal, InputIs, IsMergeUnder, IsMerge, IsMergeOfWritten, MergeRefused}
 use Rattle.xet_core_structures.proofs.ByteUnions.{held_union, refused_union, written_held}
@@ -147,3 +148,9 @@ module _ (inputs : List (List ℕ)) (plan : MergePlan) (shards : List Shard) (c 
       → MatchResult result (λ bytes. IsBytesWithoutExpiry c bytes.items) (MergeRefused c)
   one_string (Ok bytes) writes = one_layout bytes.items writes
   one_string (Err e) refusal = tree_refused inputs no_key plan shards c e merge.inputs_are merge.agree merge.is_join refusal
+
+  -- the same of bytes that were put into a slice
+  pub one_string_filled : (old new : List ℕ) (result : Result ℕ CoreError) → FillsWith (TreeWrites inputs plan) (TreeRefusal inputs plan) old new result
+      → FillsWith (IsBytesWithoutExpiry c) (MergeRefused c) old new result
+  one_string_filled old new (Ok size) (bytes, writes, fills) = (bytes, one_layout bytes writes, fills)
+  one_string_filled old new (Err e) (refusal, stays) = (tree_refused inputs no_key plan shards c e merge.inputs_are merge.agree merge.is_join refusal, stays)

@@ -1,7 +1,6 @@
 -- Shards in memory whose records stay where they are, and the unions of two.
 use Rattle.std.proofs.Common.{◌≡◌, ◌⊎◌, inl, inr, ℕ, ◌<◌, ◌≤◌, List, map, Option, Some, Ok, Err, refl, sym, ap, ◌∙◌, subst, arith}
-use Rattle.std.specs.Prelude.{Contains, IfOk, MatchResult}
-use Rattle.std.specs.Io.KnownBytes.{Appends}
+use Rattle.std.specs.Prelude.{Contains, MatchResult}
 use Rattle.std.specs.FinMap.{FinMap, get, values}
 use Rattle.std.specs.declared.result.Result.{Result}
 use Rattle.std.specs.declared.vec.Vec.{Vec}
@@ -16,20 +15,12 @@ use Rattle.xet_records.specs.declared.record_reader.FormatVersion.{FormatVersion
 use Rattle.xet_records.specs.declared.record_reader.FormatVersion.TheVariants.{V3}
 use Rattle.xet_records.specs.Version.{version_of}
 use Rattle.xet_records.specs.RecordKind.{RecordKind, in_version, KindLaws}
-use Rattle.xet_records.specs.declared.file_structs.MDBFileInfo.{MDBFileInfo}
-use Rattle.xet_records.specs.declared.xorb_structs.MDBXorbInfo.{MDBXorbInfo}
-use Rattle.xet_records.specs.declared.row_copier.CopyFailure.{CopyFailure}
 use Rattle.xet_records.specs.FileRecord.{file_records}
 use Rattle.xet_records.specs.XorbRecord.{xorb_records}
 use Rattle.xet_records.proofs.RecordKinds.{laws_in, file_laws, xorb_laws}
 use Rattle.xet_shards.specs.declared.shard_format.info.MDBShardInfo.{MDBShardInfo}
-use Rattle.xet_shards.specs.declared.shard_format.written.WrittenFiles.{WrittenFiles}
-use Rattle.xet_shards.specs.declared.shard_format.written.WrittenXorbs.{WrittenXorbs}
 use Rattle.xet_shards.specs.Ends.{HasEnds}
-use Rattle.xet_shards.specs.Layout.{shard_header_bytes, header_value, layout_of}
-use Rattle.xet_shards.specs.Written.{HasWritten, HasWrittenXorbs}
-use Rattle.xet_shards.proofs.Written.{whole_layout}
-use Rattle.xet_shards.specs.Section.{total_rows, section_bytes}
+use Rattle.xet_shards.specs.Section.{total_rows}
 use Rattle.xet_shards.specs.SectionReading.{files_of}
 use Rattle.xet_shards.specs.Shard.{Shard}
 use Rattle.xet_shards.proofs.Sections.{files_laws}
@@ -39,8 +30,9 @@ use Rattle.xet_core_structures.specs.declared.set_operations.MergePlan.TheVarian
 use Rattle.xet_core_structures.specs.declared.set_operations.parts.PlacedShard.{PlacedShard}
 use Rattle.xet_core_structures.specs.declared.set_operations.parts.Part.{Part}
 use Rattle.xet_core_structures.specs.ByteUnion.{IsEitherFile, IsEitherXorb, IsByteUnion}
-use Rattle.xet_core_structures.specs.ByteResults.{keyed_form, keyed_layout, keyed_info, WritesEnd, key_of, HaveResult, HaveNoUnionOf, HaveNoUnion, InputRefusal, UnitesBytes, BytesRefusal, Records, HaveInputs, AreCombined}
+use Rattle.xet_core_structures.specs.ByteResults.{keyed_layout, keyed_info, key_of, HaveResult, HaveNoUnionOf, HaveNoUnion, InputRefusal, UnitesBytes, BytesRefusal, Records, HaveInputs, AreCombined}
 use Rattle.xet_core_structures.specs.Combining.{key_of_record, with_hash, Combines}
+use Rattle.xet_core_structures.specs.Filling.{FillsWith}
 use Rattle.xet_core_structures.specs.Held.{IsSectionOf, IsListOf, HasFiles, HoldsLists, files_at, xorbs_at}
 use Rattle.xet_core_structures.specs.MergeTrees.{TreeWrites, TreeRefusal}
 use Rattle.xet_core_structures.specs.Parts.{PlacesRecords, MayBeUnited, MayBeWritten, PlacesShard, SectionsRefusal, HaveNoRecordUnion, IsUnited, IsPart}
@@ -237,20 +229,6 @@ no_memory_after inputs (Leaf i) bytes is = inr (refl, slice_get_within inputs i 
 no_memory_after inputs (Both' p left q right) bytes (x, y, x_written, y_written, (i, j, c, x_ends, y_ends, have, is)) =
     inr (x, x_written, inr (y, y_written, inr (inr (i, j, x_ends, y_ends, inr (have.same_key, inl (inl refl))))))
 
--- all of a shard is written
-pub shard_written : (shard : PlacedShard) (files : WrittenFiles) (xorbs : WrittenXorbs) (start after_header after_files after_xorbs end : Option (List ℕ)) (r : Result MDBShardInfo CopyFailure)
-    → Appends start after_header (shard_header_bytes (header_value V3))
-    → ((rs : List MDBFileInfo) → PlacesAll file_records shard.files.items rs → HasWritten files rs × Appends after_header after_files (section_bytes file_records rs))
-    → ((rs : List MDBXorbInfo) → PlacesAll xorb_records shard.xorbs.items rs → HasWrittenXorbs xorbs rs × Appends after_files after_xorbs (section_bytes xorb_records rs))
-    → IfOk r (WritesEnd files xorbs (keyed_form shard.key) after_xorbs end)
-    → IfOk r (λ _. (records : Records) → MayBeWritten shard records → Appends start end (layout_of records.files records.xorbs (keyed_form shard.key)))
-shard_written shard files xorbs start after_header after_files after_xorbs end (Ok info) header file_section xorb_section ends = λ records may.
-    let fs = file_section records.files may.places.files in
-    let xs = xorb_section records.xorbs may.places.xorbs in
-    let rest = ends records.files records.xorbs (λ k r below. (may.files.stored k r below).widths) fs.0 xs.0 in
-    whole_layout start after_header after_files after_xorbs end records.files records.xorbs (keyed_form shard.key) header fs.1 xs.1 rest.1
-shard_written shard files xorbs start after_header after_files after_xorbs end (Err e) header file_section xorb_section ends = tt
-
 -- what a part stands for may be written
 pub union_may_be_written : (bytes : List ℕ) (info : MDBShardInfo) (shard : PlacedShard) (is : IsUnited bytes info shard) → MayBeWritten shard (record { files = values is.union.files; xorbs = values is.union.xorbs })
 union_may_be_written bytes info shard is = record {
@@ -264,3 +242,9 @@ pub tree_written : {Z : Type 0} (inputs : List (List ℕ)) (plan : MergePlan) (b
     → MatchResult r (λ written. TreeWrites inputs plan written.items) (TreeRefusal inputs plan)
 tree_written inputs plan bytes (Ok written) writes is = subst (TreeWrites inputs plan) (sym is) writes
 tree_written inputs plan bytes (Err e) writes is = subst (TreeRefusal inputs plan) (sym is) (no_memory_after inputs plan bytes writes)
+
+-- the same of bytes that are put into a slice
+pub tree_filled : (inputs : List (List ℕ)) (plan : MergePlan) (bytes old new : List ℕ) (r : Result ℕ CoreError) → TreeWrites inputs plan bytes → FillsWith (λ made. made ≡ bytes) (λ e. e ≡ OutOfMemory) old new r
+    → FillsWith (TreeWrites inputs plan) (TreeRefusal inputs plan) old new r
+tree_filled inputs plan bytes old new (Ok size) writes (made, same, fills) = (made, subst (TreeWrites inputs plan) (sym same) writes, fills)
+tree_filled inputs plan bytes old new (Err e) writes (is, stays) = (subst (TreeRefusal inputs plan) (sym is) (no_memory_after inputs plan bytes writes), stays)

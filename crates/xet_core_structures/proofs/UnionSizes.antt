@@ -1,5 +1,5 @@
 -- A union has at most the rows of both shards, and so what a tree of unions writes is bounded by its inputs.
-use Rattle.std.proofs.Common.{◌≡◌, inl, inr, ℕ, zero, suc, ◌+◌, ◌-◌, ◌*◌, ◌≤◌, Bool, true, false, List, [], ◌∷◌, length, flat_map, drop, Option, None, Some, sym, ap, ◌∙◌, subst, arith, if◌then◌else◌}
+use Rattle.std.proofs.Common.{◌≡◌, inl, inr, ℕ, zero, suc, ◌+◌, ◌*◌, ◌≤◌, Bool, true, false, List, [], ◌∷◌, length, flat_map, drop, Option, None, Some, sym, ap, ◌∙◌, subst, arith, if◌then◌else◌}
 use Rattle.std.specs.Prelude.{option_to_list, slice_get, slice_index_or}
 use Rattle.std.specs.FinMap.{FinMap, get, values, same_map}
 use Rattle.std.proofs.lemmas.List.{length-append, length-drop}

@@ -5,6 +5,7 @@ pub mod Combining
 pub mod Differing
 pub mod Equality
 pub mod ExportTrees
+pub mod Filling
 pub mod Held
 pub mod MergeTrees
 pub mod MixedFiles

@@ -4,11 +4,13 @@ ghost use Rattle.std.specs.Prelude.{◌≡◌, ◌≢◌, ◌⊎◌, ◌<◌, �
 ghost use Rattle.xet_shards.specs.Shard.{Shard};
 ghost use Rattle.xet_shards.specs.WrittenShard.{IsBytesWithoutExpiry};
 ghost use Rattle.xet_core_structures.specs.ByteResults.{key_of};
+ghost use Rattle.xet_core_structures.specs.Filling.{FillsWith};
 ghost use Rattle.xet_core_structures.specs.SetOutcomes.{Unites, Subtracts};
 ghost use Rattle.xet_core_structures.specs.Streams.{streams};
 ghost use Rattle.xet_core_structures.specs.MergeTrees.{TreeWrites, TreeRefusal, IsMerge, MergeRefused};
 
 mod agreement;
+mod filling;
 mod mix;
 mod parts;
 mod placed;
@@ -20,7 +22,7 @@ pub use agreement::{
     Disagreement, Merged, RecordHash, find_disagreement, find_disagreements, merge_agreeing,
 };
 use bumpalo::Bump;
-use parts::{part_bytes, place_tree};
+use parts::{fill_with_part, part_bytes, place_tree};
 use record_operation::{OfDifference, OfUnion};
 use results::operate;
 use std::alloc::Global;
@@ -119,6 +121,24 @@ pub fn shard_union_tree(alloc: Global, plan: &MergePlan, inputs: &[&[u8]]) -> Re
     merge(alloc, plan, inputs)
 }
 
+/// Writes the bytes that [`shard_union_tree`] makes to the front of a slice, if they fit, and returns
+/// their number. If they don't, or if the call fails, the slice stays as it is. The errors are the
+/// same.
+pub fn shard_union_tree_into(
+    alloc: Global,
+    plan: &MergePlan,
+    inputs: &[&[u8]],
+    out: &mut [u8],
+) -> Result<usize>
+    ensures any_bytes { FillsWith (TreeWrites (map (λ x. x.now) inputs.now) plan.now)
+        (TreeRefusal (map (λ x. x.now) inputs.now) plan.now) out.old out.new result }
+    ensures one_byte_string { (shards : List Shard) → (join : Shard)
+        → IsMerge (map (λ x. x.now) inputs.now) plan.now shards join
+        → FillsWith (IsBytesWithoutExpiry join) (MergeRefused join) out.old out.new result }
+{
+    merge_into(alloc, plan, inputs, out)
+}
+
 // The same, without the clause on inputs that agree. No byte is written before the tree is done. The
 // inputs have one lifetime, since the borrow checker covers no meet of theirs with the arena's.
 fn merge<'a>(alloc: Global, plan: &MergePlan, inputs: &'a [&'a [u8]]) -> Result<Vec<u8>>
@@ -129,4 +149,19 @@ fn merge<'a>(alloc: Global, plan: &MergePlan, inputs: &'a [&'a [u8]]) -> Result<
     let arena = Bump::new(alloc);
     let part = place_tree(alloc, &arena, plan, inputs)?;
     part_bytes(alloc, part)
+}
+
+// The same to a slice.
+fn merge_into<'a>(
+    alloc: Global,
+    plan: &MergePlan,
+    inputs: &'a [&'a [u8]],
+    out: &mut [u8],
+) -> Result<usize>
+    ensures { FillsWith (TreeWrites (map (λ x. x.now) inputs.now) plan.now)
+        (TreeRefusal (map (λ x. x.now) inputs.now) plan.now) out.old out.new result }
+{
+    let arena = Bump::new(alloc);
+    let part = place_tree(alloc, &arena, plan, inputs)?;
+    fill_with_part(alloc, part, out)
 }

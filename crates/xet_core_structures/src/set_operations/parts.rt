@@ -1,8 +1,7 @@
 //! A tree of unions over inputs in memory. Records stay where they are until the tree is done, and
 //! are written once.
 
-ghost use Rattle.std.specs.Prelude.{◌≡◌, ◌⊎◌, ◌↔◌, ℕ, IsTrue, List, map, IfOk, MatchResult};
-ghost use Rattle.std.specs.Io.KnownBytes.{Appends};
+ghost use Rattle.std.specs.Prelude.{◌≡◌, ◌⊎◌, ◌↔◌, ℕ, IsTrue, List, map, MatchResult};
 ghost use Rattle.xet_base.specs.declared.error.CoreError.TheVariants.{OutOfMemory};
 ghost use Rattle.xet_base.specs.Errors.{IsInvalidShard};
 ghost use Rattle.xet_shards.specs.declared.shard_format.info.MDBShardInfo.{MDBShardInfo};
@@ -10,25 +9,24 @@ ghost use Rattle.xet_shards.specs.Ends.{HasEnds};
 ghost use Rattle.xet_shards.specs.Layout.{layout_of};
 ghost use Rattle.xet_core_structures.specs.ByteUnion.{IsEitherFile, IsEitherXorb};
 ghost use Rattle.xet_core_structures.specs.ByteResults.{keyed_form, key_of, Records, AreCombined, UnitesBytes, BytesRefusal, LoadRefusal};
+ghost use Rattle.xet_core_structures.specs.Filling.{Fills, FillsWith};
 ghost use Rattle.xet_core_structures.specs.MergeTrees.{TreeWrites, TreeRefusal};
 ghost use Rattle.xet_core_structures.specs.Parts.{PlacesRecords, MayBeUnited, MayBeWritten, PlacesShard, SectionsRefusal, HaveNoRecordUnion, IsPart, IsOpened};
 
 use super::MergePlan;
-use super::placed::{PlacedRecord, place_records, unite_placed, write_placed};
+use super::filling::{frame_of, put_shard};
+use super::placed::{PlacedRecord, place_records, unite_placed};
 use super::record_operation::OfUnion;
-use super::results::{seek, write_header, write_tables};
+use super::results::seek;
 use bumpalo::Bump;
 use std::alloc::Global;
-use std::io::Write;
 use xet_base::error::{CoreError, Result};
 use xet_base::merklehash::HMACKey;
 use xet_base::source::MemorySource;
 use xet_records::file_structs::{FileDataSequenceHeader, MDBFileInfo};
 use xet_records::record_reader::FormatVersion;
-use xet_records::row_copier::CopyResult;
 use xet_records::xorb_structs::{MDBXorbInfo, XorbChunkSequenceHeader};
 use xet_shards::shard_format::MDBShardInfo;
-use xet_shards::shard_writer::{Form, WrittenFiles, WrittenXorbs};
 
 /// The records of a shard in memory, and the key of its chunk hashes.
 #[derive(Drop)]
@@ -219,8 +217,7 @@ pub fn part_bytes(alloc: Global, part: Part<'_>) -> Result<Vec<u8>>
     }
 }
 
-// The bytes of a shard. Writing to a vector fails only if it is out of memory, and the records are
-// there to be read.
+// The bytes of a shard.
 fn shard_bytes(alloc: Global, shard: &PlacedShard<'_>) -> Result<Vec<u8>>
     requires { (records : Records) × MayBeWritten shard.now records }
     ensures { (records : Records) → MayBeWritten shard.now records → MatchResult result
@@ -228,30 +225,44 @@ fn shard_bytes(alloc: Global, shard: &PlacedShard<'_>) -> Result<Vec<u8>>
         ≡ layout_of records.files records.xorbs (keyed_form shard.now.key))
         (λ e. e ≡ OutOfMemory) }
 {
-    let mut bytes = Vec::new(alloc);
-    match write_shard(alloc, shard, &mut bytes) {
-        Ok(_) => Ok(bytes),
-        Err(_) => Err(CoreError::OutOfMemory),
+    let frame = frame_of(alloc, shard)?;
+    let mut bytes = vec![in alloc; 0; frame.size]?;
+    put_shard(bytes.as_mut_slice(), shard, &frame);
+    Ok(bytes)
+}
+
+/// Writes the bytes of a part to the front of a slice, if they fit, and returns their number.
+pub fn fill_with_part(alloc: Global, part: Part<'_>, out: &mut [u8]) -> Result<usize>
+    requires { (bytes : List ℕ) × IsPart bytes part }
+    ensures { (bytes : List ℕ) → IsPart bytes part.entry
+        → FillsWith (λ made. made ≡ bytes) (λ e. e ≡ OutOfMemory) out.old out.new result }
+{
+    match part {
+        Part::Input(bytes) => Ok(fill_with(out, bytes)),
+        Part::United(shard) => fill_with_shard(alloc, &shard, out),
     }
 }
 
-// Writes a shard.
-fn write_shard<W: Write>(
-    alloc: Global,
-    shard: &PlacedShard<'_>,
-    out: &mut W,
-) -> CopyResult<MDBShardInfo>
-    requires { (records : Records) × MayBeWritten shard.now records }
-    ensures { IfOk result (λ _. (records : Records) → MayBeWritten shard.now records
-        → Appends (W.contents out.old) (W.contents out.new)
-        (layout_of records.files records.xorbs (keyed_form shard.now.key))) }
+// Writes bytes to the front of a slice, if they fit, and returns their number.
+fn fill_with(out: &mut [u8], bytes: &[u8]) -> usize
+    ensures { Fills bytes.now out.old out.new result }
 {
-    write_header(out)?;
-    let files = write_placed::<WrittenFiles, W>(alloc, shard.files.as_slice(), out)?;
-    let xorbs = write_placed::<WrittenXorbs, W>(alloc, shard.xorbs.as_slice(), out)?;
-    let form = Form {
-        key: shard.key,
-        ..Form::plain(None)
-    };
-    write_tables(out, &files, xorbs, &form)
+    if bytes.len() <= out.len() {
+        out[..bytes.len()].copy_from_slice(bytes);
+    }
+    bytes.len()
+}
+
+// Writes a shard to the front of a slice, if it fits, and returns its size.
+fn fill_with_shard(alloc: Global, shard: &PlacedShard<'_>, out: &mut [u8]) -> Result<usize>
+    requires { (records : Records) × MayBeWritten shard.now records }
+    ensures { (records : Records) → MayBeWritten shard.now records → FillsWith
+        (λ made. made ≡ layout_of records.files records.xorbs (keyed_form shard.now.key))
+        (λ e. e ≡ OutOfMemory) out.old out.new result }
+{
+    let frame = frame_of(alloc, shard)?;
+    if frame.size <= out.len() {
+        put_shard(out, shard, &frame);
+    }
+    Ok(frame.size)
 }

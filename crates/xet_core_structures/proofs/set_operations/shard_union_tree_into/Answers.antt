@@ -1,0 +1,8 @@
+use Rattle.std.proofs.Common.{ℕ, List, map}
+use Rattle.std.specs.Borrow.{Bor}
+use Rattle.xet_core_structures.proofs.MergeTrees.{one_string_filled}
+use Rattle.xet_core_structures.proofs.set_operations.shard_union_tree_into.Goals as goal
+
+pub returns-clause-one_byte_string : goal.returns-clause-one_byte_string
+returns-clause-one_byte_string c = λ shards join merge.
+    one_string_filled (map (λ (x : Bor (List ℕ)). x.now) c.args.inputs.now) c.args.plan.now shards join merge c.args.out.now c.merge_into.new.out c.merge_into.result c.merge_into.ensures
