@@ -1,8 +1,8 @@
 -- What is read of the record at a row, from a source in memory.
-use Rattle.std.proofs.Common.{◌≡◌, ◌≢◌, ◌⊎◌, inl, inr, ℕ, List, drop, Option, None, Some, Ok, Err, sym, ap, subst, arith}
+use Rattle.std.proofs.Common.{◌≡◌, ◌≢◌, ◌⊎◌, inl, inr, ℕ, List, drop, Option, Ok, Err, sym, ap, subst, arith}
 use Rattle.std.specs.Prelude.{MatchResult}
 use Rattle.xet_core_structures.specs.declared.error.CoreError.{CoreError}
-use Rattle.xet_core_structures.specs.declared.error.CoreError.TheVariants.{InternalError, OutOfMemory}
+use Rattle.xet_core_structures.specs.declared.error.CoreError.TheVariants.{InternalError}
 use Rattle.xet_core_structures.specs.declared.shard_format.MDBShardInfo.{MDBShardInfo}
 use Rattle.xet_core_structures.specs.declared.source.MemorySource.{MemorySource}
 use Rattle.xet_core_structures.specs.ByteResults.{LoadRefusal}

@@ -1,6 +1,7 @@
 //! The union of a list of shards.
 
 ghost use Rattle.std.specs.Prelude.{◌≡◌, ◌⊎◌, ◌+◌, ◌<◌, ◌^◌, List, map, length, IfOk, IfErr, MatchResult};
+ghost use Rattle.xet_core_structures.specs.Filling.{FillsWith};
 ghost use Rattle.xet_core_structures.specs.MergeTrees.{MergeRefused};
 ghost use Rattle.xet_core_structures.specs.Shard.{Shard};
 ghost use Rattle.xet_core_structures.specs.WrittenShard.{IsBytesWithoutExpiry};
@@ -9,7 +10,7 @@ ghost use Rattle.shard_bytes.specs.Sizes.{IsResultSize};
 
 use std::alloc::Global;
 use xet_core_structures::error::{CoreError, Result};
-use xet_core_structures::set_operations::{MergePlan, shard_union_tree};
+use xet_core_structures::set_operations::{MergePlan, shard_union_tree, shard_union_tree_into};
 
 /// The bytes of the union of one shard or more, from their bytes, by a balanced tree of unions:
 /// that of the first half of the list with that of the second. One shard is united with itself. Of
@@ -32,6 +33,23 @@ pub fn merge_bytes(alloc: Global, shards: &[&[u8]]) -> Result<Vec<u8>>
     }
     let plan = merge_plan(alloc, shards.len())?;
     shard_union_tree(alloc, &plan, shards)
+}
+
+/// Writes the bytes that [`merge_bytes`] makes to the front of a slice, if they fit, and returns their
+/// number. If they don't, or if the call fails, the slice stays as it is. The errors are the same.
+pub fn merge_into(alloc: Global, shards: &[&[u8]], out: &mut [u8]) -> Result<usize>
+    ensures any_bytes { FillsWith (MergesBytes (map (λ x. x.now) shards.now))
+        (RefusesMerge (map (λ x. x.now) shards.now)) out.old out.new result }
+    ensures one_byte_string { (all : List Shard) → (join : Shard)
+        → HaveJoin (map (λ x. x.now) shards.now) all join
+        → FillsWith (IsBytesWithoutExpiry join) (MergeRefused join) out.old out.new result }
+    ensures size { IfOk result (IsResultSize (map (λ x. x.now) shards.now)) }
+{
+    if shards.is_empty() {
+        return Err(CoreError::InvalidArguments);
+    }
+    let plan = merge_plan(alloc, shards.len())?;
+    shard_union_tree_into(alloc, &plan, shards, out)
 }
 
 // The tree by which so many inputs are merged.
