@@ -151,7 +151,8 @@ uint32_t xet_union(const uint8_t *first, size_t first_length, const uint8_t *sec
 /* Writes the union of one shard or more: that of the first half of the list with that of the second, each made in the
  * same way, down to single shards; if only one is given it is united with itself. If the sections of the inputs hold
  * shards that agree pairwise, without a key, it is the bytes of their join, which has no order, or fails for memory or
- * for too many rows.
+ * for too many rows. It is written to `out` itself, when all that can fail is done; the other calls make what they write
+ * first, and copy it.
  *
  * Where several inputs are refused, the error may be that of another than xet_union tells.
  *

@@ -1,9 +1,11 @@
 -- What was made is delivered, and why nothing was made is answered.
-use Rattle.std.proofs.Common.{inl, inr, ℕ, List, length, Ok, Err, Result, MatchResult, sym, subst}
+use Rattle.std.proofs.Common.{◌≡◌, ◌⊎◌, inl, inr, ℕ, ◌<◌, ◌≤◌, List, ◌++◌, length, drop, Ok, Err, Result, MatchResult, sym, ◌∙◌, subst, arith}
 use Rattle.std.specs.Prelude.{IfOk}
 use Rattle.std.specs.declared.vec.Vec.{Vec}
 use Rattle.xet_core_structures.specs.declared.error.CoreError.{CoreError}
-use Rattle.xet_c.specs.Output.{Delivers, Refuses, Outcome}
+use Rattle.xet_core_structures.specs.Errors.{variant_number}
+use Rattle.xet_core_structures.specs.Filling.{FillsWith}
+use Rattle.xet_c.specs.Output.{Answers, Delivers, Refuses, Outcome}
 
 pub outcome : {X Z : Type 0} (IsMade : List X → Type 0) (IsCause : CoreError → Type 0) (old new : List X) (written answer : ℕ) (made : Result (Vec X Z) CoreError)
     → MatchResult made (λ items. IsMade items.items) IsCause
@@ -19,3 +21,27 @@ pub count_given : {X Z : Type 0} (Says : ℕ → Type 0) (old new : List X) (wri
     → Says written
 count_given Says old new written answer (Ok items) says none delivered = subst Says (sym delivered.0) says
 count_given Says old new written answer (Err e) says none refused = subst Says (sym refused.1) none
+
+module _ (bytes old new : List ℕ) (room answer size : ℕ) (size_is : size ≡ length bytes) (room_is : room ≡ length old) where
+  fitted : ((size ≤ length old) × (new ≡ bytes ++ drop size old)) ⊎ ((length old < size) × (new ≡ old))
+      → ((answer ≡ 0) × (size ≤ room)) ⊎ ((answer ≡ 19) × (room < size))
+      → ((answer ≡ 0) × (length bytes ≤ length old) × (new ≡ bytes ++ drop (length bytes) old)) ⊎ ((answer ≡ 19) × (length old < length bytes) × (new ≡ old))
+  fitted (inl (small, new_is)) (inl (zero, fits)) = inl (zero, omega (arith, small, size_is), subst (λ n. new ≡ bytes ++ drop n old) size_is new_is)
+  fitted (inl (small, new_is)) (inr (short, large)) = absurd (omega (arith, small, large, room_is))
+  fitted (inr (large, same)) (inl (zero, fits)) = absurd (omega (arith, large, fits, room_is))
+  fitted (inr (large, same)) (inr (short, also)) = inr (short, omega (arith, large, size_is), same)
+
+-- bytes that were put into the output itself are delivered
+pub filled : (IsMade : List ℕ → Type 0) (IsCause : CoreError → Type 0) (old new : List ℕ) (room written answer : ℕ) (r : Result ℕ CoreError) → room ≡ length old
+    → FillsWith IsMade IsCause old new r
+    → MatchResult r (Answers room written answer) (λ e. (answer ≡ variant_number e) × (written ≡ 0))
+    → Outcome IsMade IsCause old new written answer
+filled IsMade IsCause old new room written answer (Ok size) room_is (bytes, made, (is, fits)) (count, answers) =
+    inl (bytes, made, (count ∙ is, fitted bytes old new room answer size is room_is fits answers))
+filled IsMade IsCause old new room written answer (Err e) room_is (cause, stays) (answers, none) = inr (e, cause, (answers, none, stays))
+
+-- what is said of the size of what was made, and of none, is said of the number that is returned
+pub size_given : (Says : ℕ → Type 0) (room written answer : ℕ) (r : Result ℕ CoreError) → IfOk r Says → Says 0
+    → MatchResult r (Answers room written answer) (λ e. (answer ≡ variant_number e) × (written ≡ 0)) → Says written
+size_given Says room written answer (Ok size) says none (count, answers) = subst Says (sym count) says
+size_given Says room written answer (Err e) says none (answers, zero) = subst Says (sym zero) none

@@ -11,6 +11,11 @@ Delivers items old new written answer =
     × (((answer ≡ 0) × (length items ≤ length old) × (new ≡ items ++ drop (length items) old))
     ⊎ ((answer ≡ 19) × (length old < length items) × (new ≡ old)))
 
+-- the number of items that were made is returned, and the answer is 0 if they fit so many, else 19
+abbrev pub Answers : (room written answer size : ℕ) → Type 0
+Answers room written answer size =
+    (written ≡ size) × (((answer ≡ 0) × (size ≤ room)) ⊎ ((answer ≡ 19) × (room < size)))
+
 -- the answer is the number of an error, none were written, and the output stays
 abbrev pub Refuses : {X : Type 0} → CoreError → (old new : List X) → (written answer : ℕ) → Type 0
 Refuses e old new written answer =

@@ -8,12 +8,12 @@ ghost use Rattle.shard_bytes.specs.Merging.{MergesBytes, RefusesMerge, HaveJoin}
 ghost use Rattle.shard_bytes.specs.Sizes.{IsResultSize};
 ghost use Rattle.xet_c.specs.Output.{Outcome};
 
-use crate::output::deliver;
-use shard_bytes::merge::merge_bytes;
+use crate::output::answer;
+use shard_bytes::merge::merge_into;
 use std::alloc::Global;
 use xet_core_structures::error::CoreError;
 
-/// The union of one shard or more, to the front of `out`.
+/// The union of one shard or more, to the front of `out`, to which it is written at once.
 #[unsafe(no_mangle)]
 pub extern "C" fn xet_merge(
     alloc: Global,
@@ -28,6 +28,6 @@ pub extern "C" fn xet_merge(
         → Outcome (IsBytesWithoutExpiry join) (MergeRefused join) out.old out.new written.new result }
     ensures size { IsResultSize (map (λ x. x.now) shards.now) written.new }
 {
-    let merged = merge_bytes(alloc, shards);
-    deliver(merged, out, written)
+    let filled = merge_into(alloc, shards, out);
+    answer(filled, out.len(), written)
 }

@@ -2,7 +2,7 @@
 
 ghost use Rattle.std.specs.Prelude.{◌≡◌, MatchResult};
 ghost use Rattle.xet_core_structures.specs.Errors.{variant_number};
-ghost use Rattle.xet_c.specs.Output.{Delivers, Refuses};
+ghost use Rattle.xet_c.specs.Output.{Answers, Delivers, Refuses};
 
 use xet_core_structures::error::{CoreError, Result};
 
@@ -66,4 +66,23 @@ pub fn give<T: Copy>(items: &[T], out: &mut [T], written: &mut usize) -> u32
     }
     out[..items.len()].copy_from_slice(items);
     0
+}
+
+/// What a call returns that has written to an output of this length itself: sets `written` to the
+/// number of bytes that were made, also if they did not fit. If none were made, `written` is 0.
+/// Returns 0, 19 or the number of the error.
+pub fn answer(filled: Result<usize>, room: usize, written: &mut usize) -> u32
+    ensures { MatchResult filled (Answers room written.new result)
+        (λ error. (result ≡ variant_number error) × (written.new ≡ 0)) }
+{
+    match filled {
+        Ok(size) => {
+            *written = size;
+            if size <= room { 0 } else { XET_SHORT }
+        }
+        Err(error) => {
+            *written = 0;
+            error_number(&error)
+        }
+    }
 }
