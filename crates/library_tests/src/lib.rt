@@ -17,3 +17,4 @@ mod records;
 mod shards;
 #[cfg(test)]
 mod stream;
+pub mod uses;

@@ -1,0 +1,7 @@
+//! Five callers of the library, each with the theorem that it gets from the contracts of its calls.
+
+pub mod export;
+pub mod find;
+pub mod merge;
+pub mod query;
+pub mod write;
