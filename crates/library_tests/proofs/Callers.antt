@@ -1,5 +1,5 @@
 -- What the proofs of src/uses cite: two calls on one source, and the exports of two shards.
-use Rattle.std.proofs.Common.{◌≡◌, ◌⊎◌, inl, inr, ℕ, ◌+◌, ◌^◌, ◌<◌, ◌≤◌, List, [], ◌∷◌, ◌++◌, length, true, Option, Ok, Err, None, refl, sym, ap, ◌∙◌, subst, arith, append_assoc}
+use Rattle.std.proofs.Common.{◌≡◌, inl, inr, ℕ, ◌+◌, ◌^◌, ◌<◌, List, [], ◌∷◌, ◌++◌, length, true, Option, Ok, Err, None, refl, sym, ap, ◌∙◌, subst, arith, append_assoc}
 use Rattle.std.specs.Prelude.{MatchResult, IsOkAnd, IfOk, Contains}
 use Rattle.std.specs.List.{AllZip}
 use Rattle.std.specs.FinMap.{values}
@@ -8,21 +8,20 @@ use Rattle.std.proofs.lemmas.List.{length-append}
 use Rattle.xet_base.specs.Bytes.{u64_bytes}
 use Rattle.xet_base.proofs.Bytes.{length-u64_bytes}
 use Rattle.xet_core_structures.specs.declared.error.CoreError.{CoreError}
-use Rattle.xet_core_structures.specs.declared.error.CoreError.TheVariants.{TruncatedHashCollision}
 use Rattle.xet_core_structures.specs.declared.file_structs.MDBFileInfo.{MDBFileInfo}
 use Rattle.xet_core_structures.specs.declared.merklehash.DataHash.{DataHash}
 use Rattle.xet_core_structures.specs.declared.shard_format.MDBShardInfo.{MDBShardInfo}
 use Rattle.xet_core_structures.specs.declared.set_operations.MergePlan.{MergePlan}
 use Rattle.xet_core_structures.specs.declared.source.MemorySource.{MemorySource}
-use Rattle.xet_core_structures.specs.Ends.{HasEnds, Loads, LoadFails}
+use Rattle.xet_core_structures.specs.Ends.{HasEnds, Loads}
 use Rattle.xet_core_structures.specs.Errors.{CoreResult}
 use Rattle.xet_core_structures.specs.ExportTrees.{IsExportOf, IsMergeOfExports}
 use Rattle.xet_core_structures.specs.FileRecord.{file_records}
 use Rattle.xet_core_structures.specs.Hash.{IsHash}
 use Rattle.xet_core_structures.specs.Joins.{IsJoinOf, AgreePairwise}
 use Rattle.xet_core_structures.specs.KeyedExport.{exported, export_form}
-use Rattle.xet_core_structures.specs.Lookup.{FoundInShard, LookupFailsAmong, WithinBounds, sharing}
-use Rattle.xet_core_structures.specs.MergeTrees.{MergeRefused, HasUnion, leaves, InputIs}
+use Rattle.xet_core_structures.specs.Lookup.{FoundInShard, LookupFailsAmong, WithinBounds}
+use Rattle.xet_core_structures.specs.MergeTrees.{HasUnion, leaves, InputIs}
 use Rattle.xet_core_structures.specs.Layout.{layout, plain_form}
 use Rattle.xet_core_structures.specs.Shard.{Shard, IsShard}
 use Rattle.xet_core_structures.specs.Source.{Source, DeviceFailure}
@@ -51,12 +50,9 @@ found_later s hash (Ok found) old mid new same is = is
 found_later s hash (Err e) old mid new same (inl failed) = inl (failed_later old mid new e same failed)
 found_later s hash (Err e) old mid new same (inr other) = inr other
 
--- what both calls cost, and the first alone where it fails
+-- what both calls cost
 pub costs_of_both : (files : List MDBFileInfo) (word : ℕ) (old mid new : Source) (info : MDBShardInfo) → Loads old mid info → WithinBounds file_records files word mid new → FindsWithin files word old new
 costs_of_both files word old mid new info loads costs = record { seeks = omega arith; read = omega arith }
-
-pub costs_of_load : (files : List MDBFileInfo) (word : ℕ) (old new : Source) (e : CoreError) → LoadFails old new e → FindsWithin files word old new
-costs_of_load files word old new e fails = record { seeks = omega arith; read = omega arith }
 
 -- a source in memory does not fail
 pub ok_in_memory : {T : Type 0} (result : CoreResult T) (IsRight : T → Type 0) (old new : MemorySource) → MatchResult result IsRight (DeviceFailure (in_memory old) (in_memory new)) → IsOkAnd result IsRight
@@ -71,13 +67,6 @@ without_expiry s bytes is = record { shard = is.shard; version = (plain_form Non
 pub written_alone : {Z : Type 0} (s t : Shard) (result : CoreResult (Vec ℕ Z)) → t ≡ s → IfOk result (λ bytes. bytes.items ≡ layout t None) → IfOk result (λ _. IsShard t) → IfOk result (λ bytes. IsBytesWithoutExpiry s bytes.items)
 written_alone s t (Ok bytes) same are shard = record { shard = subst IsShard same shard; bytes_are = are ∙ ap (λ u. layout u None) same }
 written_alone s t (Err e) same are shard = tt
-
--- a lookup in memory failed
-pub not_found : (s : Shard) (hash : DataHash) (e : CoreError) (old new : MemorySource) → LookupFailsAmong file_records (values s.files) hash (in_memory old) (in_memory new) e
-    → MergeRefused s e ⊎ ((e ≡ TruncatedHashCollision hash.word0) × (8 ≤ length (sharing file_records hash.word0 (values s.files))))
-not_found s hash e old new (inl failed) = absurd (omega (arith, failed.0))
-not_found s hash e old new (inr (inl (is, some, few))) = inl (inl is)
-not_found s hash e old new (inr (inr many)) = inr many
 
 -- an export of a shard, with its files and all tables
 pub exported_of : (s : Shard) (key : DataHash) (now valid : ℕ) (out : List ℕ) → IsHash key → now < 2 ^ 64 → now + valid < 2 ^ 64

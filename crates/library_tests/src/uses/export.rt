@@ -1,15 +1,16 @@
 //! Exporting shards under a key, and merging the exports.
 
-ghost use Rattle.std.specs.Prelude.{◌≡◌, true, [], ◌∷◌, Contains, IfOk};
+ghost use Rattle.std.specs.Prelude.{◌≡◌, true, [], ◌∷◌, Contains, IfOk, IsErrAnd};
 ghost use Rattle.xet_core_structures.specs.ExportTrees.{IsExportOf};
 ghost use Rattle.xet_core_structures.specs.Joins.{IsJoinOf, AgreePairwise};
+ghost use Rattle.xet_core_structures.specs.KeyedExport.{ExpiresTooLate};
 ghost use Rattle.xet_core_structures.specs.MergeTrees.{HasUnion, leaves};
 ghost use Rattle.xet_core_structures.specs.Shard.{Shard};
 ghost use Rattle.xet_core_structures.specs.WrittenShard.{IsBytesOf};
 ghost use Rattle.library_tests.specs.Callers.{export_of, EqualButForTimes};
 
 use std::alloc::Global;
-use xet_core_structures::error::Result;
+use xet_core_structures::error::{CoreError, Result};
 use xet_core_structures::laws::exports_merge_to_the_export_of_the_join;
 use xet_core_structures::merklehash::HMACKey;
 use xet_core_structures::set_operations::{MergePlan, shard_union_tree};
@@ -19,7 +20,8 @@ use xet_core_structures::source::MemorySource;
 /// Exports two shards under a key, created now and valid for so many seconds, and merges the
 /// exports.
 ///
-/// The errors are those of both calls.
+/// `InvalidArguments` if the expiry does not fit `u64`. Else the errors are those of
+/// [`MDBShardInfo::export_as_keyed_shard_streaming`] and of [`shard_union_tree`].
 pub fn export_and_merge(
     alloc: Global,
     one: &[u8],
@@ -36,6 +38,8 @@ pub fn export_and_merge(
         → AgreePairwise (Contains (a ∷ b ∷ [])) → IsJoinOf (Contains (a ∷ b ∷ [])) join
         → IfOk result
         (λ merged. EqualButForTimes (export_of join key now valid_seconds) merged.items) }
+    ensures late { ExpiresTooLate now valid_seconds
+        → IsErrAnd result (λ e. e ≡ CoreError.InvalidArguments) }
 {
     exports_merge_to_the_export_of_the_join();
     let first = export(alloc, one, key, now, valid_seconds)?;
@@ -52,8 +56,10 @@ fn export(
     now: u64,
     valid_seconds: u64,
 ) -> Result<Vec<u8>>
-    ensures { (s : Shard) → IsBytesOf s shard.now
+    ensures made { (s : Shard) → IsBytesOf s shard.now
         → IfOk result (λ bytes. IsExportOf true key s bytes.items) }
+    ensures late { ExpiresTooLate now valid_seconds
+        → IsErrAnd result (λ e. e ≡ CoreError.InvalidArguments) }
 {
     exports_merge_to_the_export_of_the_join();
     let mut source = MemorySource::new(shard);

@@ -17,7 +17,8 @@ use xet_core_structures::source::ShardSource;
 
 /// Opens a shard, and looks up the file with this hash: its record, or `None`.
 ///
-/// The errors are those of both calls.
+/// The errors are those of [`MDBShardInfo::load_from_reader`] and
+/// [`MDBShardInfo::get_file_reconstruction_info`].
 pub fn open_and_find<S: ShardSource>(
     alloc: Global,
     source: &mut S,

@@ -18,7 +18,7 @@ use xet_core_structures::source::MemorySource;
 
 /// Merges shards by a tree: the bytes of the result, and the file with this hash in them.
 ///
-/// The errors are those of [`shard_union_tree`] and of the lookup.
+/// The errors are those of [`shard_union_tree`] and of [`open_and_find`].
 pub fn merge_and_find(
     alloc: Global,
     plan: &MergePlan,

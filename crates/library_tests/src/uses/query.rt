@@ -17,7 +17,8 @@ use xet_core_structures::source::MemorySource;
 /// How many of these chunks, from the first on, a xorb of the shard has one after another, and the
 /// segment that they are; `None` if none has the first.
 ///
-/// The errors are those of both calls.
+/// The errors are those of [`MDBShardInfo::load_from_reader`] and
+/// [`MDBShardInfo::chunk_hash_dedup_query`].
 pub fn stored_chunks(
     alloc: Global,
     shard: &[u8],

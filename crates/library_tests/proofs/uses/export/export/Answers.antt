@@ -8,8 +8,8 @@ use Rattle.xet_core_structures.specs.WrittenShard.{IsBytesOf}
 use Rattle.library_tests.proofs.Callers.{in_memory, exported_of}
 use Rattle.library_tests.proofs.uses.export.export.Goals as goal
 
-pub returns : goal.returns
-returns c s is =
+pub returns-clause-made : goal.returns-clause-made
+returns-clause-made c s is =
     let e = c.in_ok-export_as_keyed_shard_streaming.ensures in
     let now = c.args.now in
     let valid = c.args.valid_seconds in
