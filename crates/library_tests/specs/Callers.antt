@@ -14,8 +14,8 @@ use Rattle.xet_core_structures.specs.Source.{Source}
 abbrev pub most_seeks : ℕ → ℕ → ℕ
 most_seeks n d = (n + 1) / 128 + d / 4 + d + 10
 
--- with these files they make at most so many, and read at most 248 bytes, 12 for each row of the
--- file table that is read, and the d records
+-- with these files they make at most so many, and read at most 248 bytes, 12 for each of these seeks
+-- and of 257 rows, and the d records
 pub record FindsWithin (files : List MDBFileInfo) (word : ℕ) (old new : Source) : Type 0 where
   pub seeks : new.seeks
       ≤ old.seeks + most_seeks (length files) (length (sharing file_records word files))
