@@ -194,6 +194,41 @@ def word_that_is_no_text(place):
     wants("nothing is written", "out.mdb" not in place.names())
 
 
+def standard_input_is_a_shard(place):
+    shard = place.made["one_file.mdb"]
+    run = place.run("info", "--brief", "-", input=shard)
+    said = "-: version 3, 452 bytes, stored 0, materialized 5\ntotal: 1 shards, 452 bytes, stored 0, materialized 5\n"
+    wants("its summary", (run.returncode, run.stdout.decode(), run.stderr) == (0, said, b""))
+    run = place.run("merge", "--by-key", ".", "-", "both.mdb", input=shard)
+    wants("a merge", (run.returncode, run.stderr) == (0, b""))
+    wants("the same", place.merge("out.mdb").returncode == 0)
+    run = place.run("merge", "one_file.mdb", "both.mdb", "-o", "out.mdb")
+    wants("of files", place.read("out.mdb") == place.read(f"{'0' * 64}.mdb"))
+
+
+def lists_name_shards(place):
+    os.mkdir(place.path("folder"))
+    os.mkdir(place.path("none"))
+    for name in ("b.mdb", "a.mdb", ".hidden.mdb", "a.mdb.new", "other"):
+        place.write(f"folder/{name}", place.made["one_file.mdb"])
+    listed = b"both.mdb\n\nfolder/\nfolder/other\nno\xff\nnone\n"
+    place.write("list", listed)
+    said = [f"{it}: version" for it in ("both.mdb", "folder/a.mdb", "folder/b.mdb", "folder/other")] + ["total: 4"]
+    wrong = b"no\\xff: the word is no UTF-8, so no file can be opened by it\n"
+    for words, given in (("list", b""), ("-", listed)):
+        run = place.run("info", "--brief", "--files-from", words, input=given)
+        wants("status", (run.returncode, run.stderr) == (1, wrong))
+        printed = run.stdout.decode().splitlines()
+        wants("each", len(printed) == len(said) and all(it.startswith(name) for it, name in zip(printed, said)))
+    run = place.run("merge", "--files-from", "list", "-o", "out.mdb")
+    wants("a merge", (run.returncode, run.stderr) == (1, wrong) and "out.mdb" not in place.names())
+    run = place.run("merge", "none", "-o", "out.mdb")
+    said = b"the command line: no file is named that could be merged\n"
+    wants("a merge of nothing", (run.returncode, run.stderr) == (1, said) and "out.mdb" not in place.names())
+    run = place.run("find", "none", "--hash", "0" * 64)
+    wants("none", (run.returncode, run.stdout.decode()) == (1, f"none {'0' * 64}\n"))
+
+
 def controls_are_not_printed(place):
     name = "a\x1b[31m\n\x7f\u009b.mdb"
     shown = "a\\u{1b}[31m\\u{a}\\u{7f}\\u{9b}.mdb"
@@ -239,7 +274,8 @@ def now_is_the_clock(place):
 ROWS = (
     new_file_has_the_mode_of_others, mode_stays, owner_stays, device_is_written_to, full_device_fails,
     pipe_is_written_to, link_is_followed, link_to_nothing_is_refused, folder_is_refused, taken_names_block_nothing,
-    full_disk_leaves_the_target, killed_run_leaves_the_target, word_that_is_no_text, controls_are_not_printed,
+    full_disk_leaves_the_target, killed_run_leaves_the_target, word_that_is_no_text, standard_input_is_a_shard,
+    lists_name_shards, controls_are_not_printed,
     closed_pipe_ends_quietly, terminal_gets_no_shard, now_is_the_clock,
 )
 

@@ -17,25 +17,34 @@ use xet_core_structures::merklehash::MerkleHash;
 #[derive(Drop)]
 pub enum Request<'a> {
     /// To print what shards are asked.
-    Inspect(Vec<&'a str>, Inquiry, Style),
+    Inspect(Sources<'a>, Inquiry, Style),
     /// To write a shard to a path.
     Make(Making<'a>, &'a str),
+    /// To write a merge of shards to a path.
+    Merge(Sources<'a>, Merge, &'a str),
+}
+
+/// What says which shards are read.
+#[derive(Drop)]
+pub struct Sources<'a> {
+    /// Paths of shards and of folders.
+    pub words: Vec<&'a str>,
+    /// The path of a list of such paths.
+    pub list: Option<&'a str>,
 }
 
 /// A command that writes a shard.
 #[derive(Drop)]
 pub enum Making<'a> {
     Combine(Operation, &'a str, &'a str),
-    Merge(Merge<'a>),
     Export(&'a str, Export),
     Minimal(&'a str, u64, KeptParts),
     Subset(&'a str, Subset),
 }
 
-/// A merge of the shards in some files.
-#[derive(Drop)]
-pub struct Merge<'a> {
-    pub files: Vec<&'a str>,
+/// How shards are merged.
+#[derive(Clone, Copy, Debug, PartialEq, Eq)]
+pub struct Merge {
     pub strictness: Strictness,
     /// Whether each file is reported as it is read.
     pub verbose: bool,
@@ -125,25 +134,79 @@ fn request_in<'a>(
     let Some((name, matches)) = matches.subcommand() else {
         return Err(Refusal::Missing("a command"));
     };
+    if name == "merge" {
+        let sources = sources_in(alloc, matches)?;
+        return Ok(Request::Merge(sources, merge_in(matches)?, output_in(matches)?));
+    }
     match making_in(alloc, name, matches, now)? {
-        Some(making) => Ok(Request::Make(making, output_in(matches)?)),
-        None => {
-            let inquiry = inquiry_in(alloc, name, matches)?;
-            let style = if matches.get_flag(id::JSON) {
-                Style::Json
+        Some(making) => Ok(Request::Make(making, text_of(matches, id::OUTPUT)?)),
+        None => inspection_in(alloc, name, matches),
+    }
+}
+
+fn inspection_in<'a>(
+    alloc: Global,
+    name: &str,
+    matches: &ArgMatches<'a>,
+) -> Result<Request<'a>, Refusal<'a>> {
+    let style = if matches.get_flag(id::JSON) {
+        Style::Json
+    } else {
+        Style::Text
+    };
+    match name {
+        "find" | "query" => {
+            let (sources, hashes) = lookup_in(alloc, matches)?;
+            let inquiry = if name == "find" {
+                Inquiry::Find {
+                    hashes,
+                    costs: matches.get_flag(id::COSTS),
+                }
             } else {
-                Style::Text
+                Inquiry::Query { hashes }
             };
-            Ok(Request::Inspect(texts_of(alloc, matches, id::FILE)?, inquiry, style))
+            Ok(Request::Inspect(sources, inquiry, style))
+        }
+        _ => {
+            let inquiry = inquiry_in(name, matches)?;
+            Ok(Request::Inspect(sources_in(alloc, matches)?, inquiry, style))
         }
     }
 }
 
-fn inquiry_in<'a>(
+// The shards and hashes of a lookup. Without `--hash` the first word is a shard, and the others are
+// hashes.
+fn lookup_in<'a>(
     alloc: Global,
-    name: &str,
     matches: &ArgMatches<'a>,
-) -> Result<Inquiry, Refusal<'a>> {
+) -> Result<(Sources<'a>, Vec<MerkleHash>), Refusal<'a>> {
+    let mut sources = sources_in(alloc, matches)?;
+    if matches.contains_id(id::HASHES) {
+        let texts = texts_of(alloc, matches, id::HASHES)?;
+        return Ok((sources, hashes_of(alloc, texts.as_slice())?));
+    }
+    if sources.list.is_some() || sources.words.len() < 2 {
+        return Err(Refusal::Missing(id::HASHES));
+    }
+    let hashes = hashes_of(alloc, &sources.words.as_slice()[1..])?;
+    sources.words.truncate(1);
+    Ok((sources, hashes))
+}
+
+fn sources_in<'a>(alloc: Global, matches: &ArgMatches<'a>) -> Result<Sources<'a>, Refusal<'a>> {
+    let words = if matches.contains_id(id::FILE) {
+        texts_of(alloc, matches, id::FILE)?
+    } else {
+        Vec::new(alloc)
+    };
+    Ok(Sources {
+        words,
+        list: matches.get_str(id::LIST),
+    })
+}
+
+// What the commands ask that look nothing up.
+fn inquiry_in<'a>(name: &str, matches: &ArgMatches<'a>) -> Result<Inquiry, Refusal<'a>> {
     let long = matches.get_flag(id::LONG);
     match name {
         "info" if matches.get_flag(id::BRIEF) => Ok(Inquiry::Brief),
@@ -154,13 +217,6 @@ fn inquiry_in<'a>(
         "files" => Ok(Inquiry::Files { long }),
         "xorbs" => Ok(Inquiry::Xorbs { long }),
         "chunks" => Ok(Inquiry::Chunks { long }),
-        "find" => Ok(Inquiry::Find {
-            hashes: hashes_of(alloc, matches, id::HASHES)?,
-            costs: matches.get_flag(id::COSTS),
-        }),
-        "query" => Ok(Inquiry::Query {
-            hashes: hashes_of(alloc, matches, id::HASHES)?,
-        }),
         "eligible" => Ok(Inquiry::Eligible),
         _ => Err(Refusal::Missing("a command")),
     }
@@ -176,7 +232,6 @@ fn making_in<'a>(
     let making = match name {
         "union" => pair_in(Operation::Union, matches)?,
         "diff" => pair_in(Operation::Difference, matches)?,
-        "merge" => Making::Merge(merge_in(alloc, matches)?),
         "export" => Making::Export(text_of(matches, id::FILE)?, export_in(matches, now)?),
         "minimal" => Making::Minimal(
             text_of(matches, id::FILE)?,
@@ -198,9 +253,8 @@ fn pair_in<'a>(operation: Operation, matches: &ArgMatches<'a>) -> Result<Making<
     Ok(Making::Combine(operation, first, second))
 }
 
-fn merge_in<'a>(alloc: Global, matches: &ArgMatches<'a>) -> Result<Merge<'a>, Refusal<'a>> {
+fn merge_in<'a>(matches: &ArgMatches<'a>) -> Result<Merge, Refusal<'a>> {
     Ok(Merge {
-        files: texts_of(alloc, matches, id::FILE)?,
         strictness: strictness_in(matches),
         verbose: matches.get_flag(id::VERBOSE),
         by_key: matches.contains_id(id::FOLDER),
@@ -244,7 +298,8 @@ fn subset_in<'a>(
     now: Option<u64>,
 ) -> Result<Subset, Refusal<'a>> {
     let kept = if matches.contains_id(id::XORBS) {
-        KeptXorbs::Listed(hashes_of(alloc, matches, id::XORBS)?)
+        let texts = texts_of(alloc, matches, id::XORBS)?;
+        KeptXorbs::Listed(hashes_of(alloc, texts.as_slice())?)
     } else {
         KeptXorbs::All
     };
@@ -292,13 +347,9 @@ fn texts_of<'a>(
     }
 }
 
-fn hashes_of<'a>(
-    alloc: Global,
-    matches: &ArgMatches<'a>,
-    id: &'static str,
-) -> Result<Vec<MerkleHash>, Refusal<'a>> {
+fn hashes_of<'a>(alloc: Global, texts: &[&'a str]) -> Result<Vec<MerkleHash>, Refusal<'a>> {
     let mut hashes = Vec::new(alloc);
-    for text in &texts_of(alloc, matches, id)? {
+    for text in texts {
         hashes.push(hash_of(text)?)?;
     }
     Ok(hashes)

@@ -12,6 +12,8 @@ pub mod id {
 
     pub const SECOND: &str = "B";
 
+    pub const LIST: &str = "LIST";
+
     pub const HASHES: &str = "HASH";
 
     pub const OUTPUT: &str = "OUT";
@@ -117,7 +119,8 @@ fn info<'a>(alloc: Global) -> Result<Command<'a>, AllocError> {
     Command::new(alloc, "info")
         .about("Prints what headers and footers say")
         .after_help(help::INFO)
-        .arg(files(alloc))?
+        .arg(files(alloc)?)?
+        .arg(list(alloc))?
         .arg(flag(alloc, id::BRIEF, "Prints a line for each, and a total"))?
         .arg(json(alloc))
 }
@@ -131,7 +134,8 @@ fn listing<'a>(
     Command::new(alloc, name)
         .about(about)
         .after_help(example)
-        .arg(file(alloc))?
+        .arg(files(alloc)?)?
+        .arg(list(alloc))?
         .arg(flag(alloc, id::LONG, "Prints all that is known of each"))?
         .arg(json(alloc))
 }
@@ -140,7 +144,9 @@ fn find<'a>(alloc: Global) -> Result<Command<'a>, AllocError> {
     Command::new(alloc, "find")
         .about("Looks files up by their hashes")
         .after_help(help::FIND)
-        .arg(file(alloc))?
+        .override_usage(help::FIND_USAGE)
+        .arg(looked_in(alloc)?)?
+        .arg(list(alloc))?
         .arg(hashes(alloc, "The files' hashes, of 64 hexadecimal digits each"))?
         .arg(flag(
             alloc,
@@ -154,7 +160,9 @@ fn query<'a>(alloc: Global) -> Result<Command<'a>, AllocError> {
     Command::new(alloc, "query")
         .about("Looks for a run of chunks in one xorb")
         .after_help(help::QUERY)
-        .arg(file(alloc))?
+        .override_usage(help::QUERY_USAGE)
+        .arg(looked_in(alloc)?)?
+        .arg(list(alloc))?
         .arg(hashes(
             alloc,
             "The chunks' hashes in order, of 64 hexadecimal digits each",
@@ -166,7 +174,8 @@ fn check<'a>(alloc: Global) -> Result<Command<'a>, AllocError> {
     Command::new(alloc, "check")
         .about("Checks that files are as the library would write them; exit status 3 if one is not")
         .after_help(help::CHECK)
-        .arg(files(alloc))?
+        .arg(files(alloc)?)?
+        .arg(list(alloc))?
         .arg(flag(
             alloc,
             id::NAME,
@@ -197,7 +206,8 @@ fn merge<'a>(alloc: Global) -> Result<Command<'a>, AllocError> {
     Command::new(alloc, "merge")
         .about("Writes the union of any number of shards; their expiries are not kept")
         .after_help(help::MERGE)
-        .arg(files(alloc))?
+        .arg(files(alloc)?)?
+        .arg(list(alloc))?
         .arg(flag(
             alloc,
             id::STRICT,
@@ -275,7 +285,8 @@ fn eligible<'a>(alloc: Global) -> Result<Command<'a>, AllocError> {
     Command::new(alloc, "eligible")
         .about("Lists the hashes of the chunks that the global index keeps, in ascending order")
         .after_help(help::ELIGIBLE)
-        .arg(file(alloc))?
+        .arg(files(alloc)?)?
+        .arg(list(alloc))?
         .arg(json(alloc))
 }
 
@@ -284,15 +295,44 @@ fn positional<'a>(alloc: Global, id: &'a str, help: &'a str) -> Arg<'a> {
 }
 
 fn file<'a>(alloc: Global) -> Arg<'a> {
-    positional(alloc, id::FILE, "The shard")
+    positional(alloc, id::FILE, "The shard, or - for standard input")
 }
 
-fn files<'a>(alloc: Global) -> Arg<'a> {
-    positional(alloc, id::FILE, "The shards").num_args(1..)
+fn files<'a>(alloc: Global) -> Result<Arg<'a>, AllocError> {
+    some_files(
+        alloc,
+        "The shards; a folder stands for its .mdb files, and - for standard input",
+    )
+}
+
+fn looked_in<'a>(alloc: Global) -> Result<Arg<'a>, AllocError> {
+    some_files(
+        alloc,
+        "The shards to look in, or without --hash a shard and the hashes; \
+        a folder stands for its .mdb files, and - for standard input",
+    )
+}
+
+fn some_files<'a>(alloc: Global, help: &'a str) -> Result<Arg<'a>, AllocError> {
+    Arg::new(alloc, id::FILE)
+        .help(help)
+        .num_args(1..)
+        .required_unless_present(id::LIST)
+}
+
+fn list<'a>(alloc: Global) -> Arg<'a> {
+    option(
+        alloc,
+        id::LIST,
+        "files-from",
+        "A list of shards and folders, a path a line, or - for standard input",
+    )
 }
 
 fn hashes<'a>(alloc: Global, help: &'a str) -> Arg<'a> {
-    positional(alloc, id::HASHES, help).num_args(1..)
+    option(alloc, id::HASHES, "hash", help)
+        .num_args(1..)
+        .action(ArgAction::Append)
 }
 
 fn option<'a>(alloc: Global, id: &'a str, long: &'a str, help: &'a str) -> Arg<'a> {

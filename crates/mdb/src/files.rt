@@ -3,18 +3,24 @@
 use crate::beside::write_beside;
 use std::alloc::Global;
 use std::fs::{File, Metadata, OpenOptions};
-use std::io::{ErrorKind, Write};
+use std::io::{ErrorKind, Read, Write};
 use std::random::RandomSource;
 use std::rt::Files;
 use std::{fs, io};
 
-/// The bytes of a file.
-pub fn read<R: Files + AllocGlobal>(rt: &R, path: &str) -> io::Result<Vec<u8>> {
-    fs::read(rt, path)
-}
+/// The path that stands for standard input where a file is read, and for standard output where one
+/// is written.
+pub const STANDARD_STREAM: &str = "-";
 
-/// The path that stands for standard output.
-pub const STANDARD_OUTPUT: &str = "-";
+/// The bytes of a file, or what is left of standard input if the path is `-`.
+pub fn read<R: Files + Input + AllocGlobal>(rt: &R, path: &str) -> io::Result<Vec<u8>> {
+    if path != STANDARD_STREAM {
+        return fs::read(rt, path);
+    }
+    let mut bytes = Vec::new(rt.alloc());
+    rt.reader().read_to_end(&mut bytes)?;
+    Ok(bytes)
+}
 
 /// Writes bytes to a path, or to standard output if it is `-`.
 ///
@@ -27,7 +33,7 @@ pub fn write<R: Files + Print + RandomSource + AllocGlobal>(
     path: &str,
     bytes: &[u8],
 ) -> io::Result<()> {
-    if path == STANDARD_OUTPUT {
+    if path == STANDARD_STREAM {
         let mut output = io::writer(rt);
         output.write_all(bytes)?;
         return output.flush();

@@ -1,6 +1,6 @@
 //! The examples that the commands' help shows.
 
-pub const INFO: &str = "Example:\n  mdb info a.mdb b.mdb";
+pub const INFO: &str = "Examples:\n  mdb info a.mdb b.mdb\n  mdb info --brief cache";
 
 pub const FILES: &str = "Example:\n  mdb files --long a.mdb";
 
@@ -8,19 +8,36 @@ pub const XORBS: &str = "Example:\n  mdb xorbs --json a.mdb";
 
 pub const CHUNKS: &str = "Example:\n  mdb chunks a.mdb";
 
-pub const FIND: &str = "Example:\n  mdb find --costs a.mdb \
-    0000000000000064000000000000000100000000000000000000000000000000";
+pub const FIND_USAGE: &str = "mdb find [OPTIONS] <FILE> <HASH>...
+       mdb find [OPTIONS] <FILE>... --hash <HASH>...";
 
-pub const QUERY: &str = "Example:\n  mdb query a.mdb \
-    0000000000000015000000000000000100000000000000000000000000000000";
+pub const FIND: &str =
+    "With more than one shard, or a folder or a list of them, each line begins with the shard's
+name. A hash that a shard does not have is then reported only if no shard has it, or with --costs.
 
-pub const CHECK: &str = "Example:\n  mdb check cache/*.mdb";
+Examples:
+  mdb find --costs a.mdb 0000000000000064000000000000000100000000000000000000000000000000
+  mdb find cache --hash 0000000000000064000000000000000100000000000000000000000000000000";
+
+pub const QUERY_USAGE: &str = "mdb query [OPTIONS] <FILE> <HASH>...
+       mdb query [OPTIONS] <FILE>... --hash <HASH>...";
+
+pub const QUERY: &str =
+    "With more than one shard, or a folder or a list of them, each line begins with the shard's
+name. That a shard has no such run is then reported only if no shard has one.
+
+Examples:
+  mdb query a.mdb 0000000000000015000000000000000100000000000000000000000000000000
+  mdb query cache --hash 0000000000000015000000000000000100000000000000000000000000000000";
+
+pub const CHECK: &str = "Example:\n  mdb check cache";
 
 pub const UNION: &str = "Example:\n  mdb union a.mdb b.mdb -o both.mdb";
 
 pub const DIFF: &str = "Example:\n  mdb diff old.mdb new.mdb -o added.mdb";
 
-pub const MERGE: &str = "Example:\n  mdb merge cache/*.mdb -o all.mdb";
+pub const MERGE: &str =
+    "Examples:\n  mdb merge cache -o all.mdb\n  mdb merge --files-from list -o all.mdb";
 
 pub const EXPORT: &str = "Example:\n  mdb export a.mdb --now 1700000000 --valid 86400 -o keyed.mdb \
     --key 0000000000000001000000000000000200000000000000030000000000000004";

@@ -2,22 +2,20 @@
 
 use crate::failure::{Failure, Subject};
 use crate::files::read;
+use crate::inputs::Inputs;
 use crate::run::{Status, failed};
-use mdb_report::brief::Total;
 use mdb_report::fault::{Fault, fault_of};
-use mdb_report::inquiry::{Answer, Inquiry, Trouble, print_answer};
-use mdb_report::line::{Style, print};
-use std::alloc::Global;
+use mdb_report::inquiry::{Answer, Inquiry, Trouble, print_answer, print_end};
+use mdb_report::line::{Layout, Style};
+use mdb_report::tally::Tally;
 use std::io;
 use std::io::{BufWriter, ErrorKind, Write};
 use std::rt::Files;
 
-/// Prints what each of some shards answers, and reports on standard error what fails. Some of the
-/// files are words that no file can be opened by.
-pub fn inspect<R: Files + Print + Eprint + AllocGlobal>(
+/// Prints what each of some shards answers, and reports on standard error what fails.
+pub fn inspect<R: Files + Input + Print + Eprint + AllocGlobal>(
     rt: &R,
-    files: &[&str],
-    unreadable: &[String],
+    inputs: &Inputs,
     inquiry: &Inquiry,
     style: Style,
 ) -> Status {
@@ -25,17 +23,24 @@ pub fn inspect<R: Files + Print + Eprint + AllocGlobal>(
         Ok(output) => output,
         Err(error) => return failed(rt, &Failure::on_output(Fault::from(error))),
     };
-    let mut status = Status::Done;
-    let mut total = Total::NONE;
+    let mut tally = Tally::new(rt.alloc());
+    let mut status = if inputs.failed {
+        Status::Failed
+    } else {
+        Status::Done
+    };
     // Whether all lookups so far found nothing.
-    let mut nothing = !files.is_empty();
-    for file in files {
-        if unreadable.iter().any(|word| word.as_str() == *file) {
-            status = failed(rt, &Failure::on_file(file, Fault::NoText));
-            nothing = false;
-            continue;
-        }
-        match inspect_file(rt, file, inquiry, style, &mut total, &mut output) {
+    let mut nothing = !inputs.failed && inquiry.looks_up();
+    for file in &inputs.paths {
+        let layout = Layout {
+            style,
+            shard: if inputs.named {
+                Some(file.as_str())
+            } else {
+                None
+            },
+        };
+        match inspect_file(rt, file.as_str(), inquiry, layout, &mut tally, &mut output) {
             Ok(Answer::FoundNothing) => continue,
             Ok(Answer::Printed) => {}
             Ok(Answer::FoundProblems) => status = status.and_found(),
@@ -48,7 +53,15 @@ pub fn inspect<R: Files + Print + Eprint + AllocGlobal>(
         }
         nothing = false;
     }
-    match print_total(rt.alloc(), inquiry, &total, style, &mut output) {
+    let end = print_end(
+        rt.alloc(),
+        inquiry,
+        style,
+        inputs.named,
+        &tally,
+        &mut output,
+    );
+    match end.and_then(|()| output.flush()) {
         Ok(()) if nothing => Status::Nothing,
         Ok(()) => status,
         Err(error) if error.kind() == ErrorKind::BrokenPipe => status,
@@ -56,26 +69,12 @@ pub fn inspect<R: Files + Print + Eprint + AllocGlobal>(
     }
 }
 
-// Prints the total, if the shards were asked for a line each, and what is left to print.
-fn print_total<W: Write>(
-    alloc: Global,
-    inquiry: &Inquiry,
-    total: &Total,
-    style: Style,
-    output: &mut W,
-) -> io::Result<()> {
-    if let Inquiry::Brief = inquiry {
-        print(alloc, total, style, output)?;
-    }
-    output.flush()
-}
-
-fn inspect_file<'a, R: Files + AllocGlobal, W: Write>(
+fn inspect_file<'a, R: Files + Input + AllocGlobal, W: Write>(
     rt: &R,
     file: &'a str,
     inquiry: &Inquiry,
-    style: Style,
-    total: &mut Total,
+    layout: Layout<'_>,
+    tally: &mut Tally,
     output: &mut W,
 ) -> Result<Answer, Failure<'a>> {
     let alloc = rt.alloc();
@@ -83,7 +82,15 @@ fn inspect_file<'a, R: Files + AllocGlobal, W: Write>(
         Ok(bytes) => bytes,
         Err(error) => return Err(Failure::on_file(file, Fault::from(error))),
     };
-    match print_answer(alloc, inquiry, file, bytes.as_slice(), style, total, output) {
+    match print_answer(
+        alloc,
+        inquiry,
+        file,
+        bytes.as_slice(),
+        layout,
+        tally,
+        output,
+    ) {
         Ok(answer) => Ok(answer),
         Err(Trouble::Shard(error)) => {
             let fault = fault_of(alloc, bytes.as_slice(), error);

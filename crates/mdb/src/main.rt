@@ -4,12 +4,15 @@
 
 mod arguments;
 mod beside;
+mod blame;
 mod command_line;
 mod failure;
 mod files;
 mod help;
+mod inputs;
 mod inspect;
 mod make;
+mod merge;
 mod run;
 mod words;
 

@@ -3,13 +3,16 @@
 ghost use Rattle.std.specs.Prelude.{◌≡◌, ◌≤◌};
 ghost use Rattle.mdb.specs.Status.{number_of, after_finding};
 
-use crate::arguments::{Request, request_of};
+use crate::arguments::{Merge, Request, Sources, request_of};
 use crate::failure::Failure;
+use crate::inputs::inputs_of;
 use crate::inspect::inspect;
 use crate::make::make;
+use crate::merge::merge_files;
 use crate::words::{Words, WordsError, read_words};
 use mdb_report::fault::Fault;
 use mdb_report::moment::seconds_now;
+use std::alloc::AllocError;
 use std::random::RandomSource;
 use std::rt::{Clock, Env, Files};
 
@@ -53,10 +56,9 @@ impl Status {
 }
 
 /// Runs the program on its words; standard output is a terminal or not.
-pub fn run<R: Env + Files + Clock + Print + Eprint + RandomSource + AllocGlobal + Clone + Drop>(
-    rt: &R,
-    terminal: bool,
-) -> u8
+pub fn run<
+    R: Env + Files + Input + Clock + Print + Eprint + RandomSource + AllocGlobal + Clone + Drop,
+>(rt: &R, terminal: bool) -> u8
     ensures { result ≤ 3 }
 {
     match read_words(rt) {
@@ -66,11 +68,9 @@ pub fn run<R: Env + Files + Clock + Print + Eprint + RandomSource + AllocGlobal 
     }
 }
 
-fn status_of_words<R: Files + Clock + Print + Eprint + RandomSource + AllocGlobal + Clone + Drop>(
-    rt: &R,
-    words: &Words,
-    terminal: bool,
-) -> Status {
+fn status_of_words<
+    R: Files + Input + Clock + Print + Eprint + RandomSource + AllocGlobal + Clone + Drop,
+>(rt: &R, words: &Words, terminal: bool) -> Status {
     match request_of(rt.alloc(), words.texts.as_slice(), seconds_now(rt)) {
         Ok(request) => status_of(rt, &request, words.unreadable.as_slice(), terminal),
         Err(error) => {
@@ -86,22 +86,63 @@ fn status_of_words<R: Files + Clock + Print + Eprint + RandomSource + AllocGloba
     }
 }
 
-fn status_of<R: Files + Print + Eprint + RandomSource + AllocGlobal + Clone + Drop>(
+fn status_of<R: Files + Input + Print + Eprint + RandomSource + AllocGlobal + Clone + Drop>(
     rt: &R,
     request: &Request<'_>,
     unreadable: &[String],
     terminal: bool,
 ) -> Status {
     match request {
-        Request::Inspect(files, inquiry, style) => {
-            inspect(rt, files.as_slice(), unreadable, inquiry, *style)
-        }
+        Request::Inspect(sources, inquiry, style) => match inputs_of(rt, sources, unreadable) {
+            Ok(inputs) => inspect(rt, &inputs, inquiry, *style),
+            Err(_) => failed(rt, &Failure::on_words(Fault::OutOfMemory)),
+        },
         Request::Make(making, output) => {
             if let Some(word) = unreadable.first() {
                 return failed(rt, &Failure::on_file(word.as_str(), Fault::NoText));
             }
             status_of_making(rt, make(rt, making, output, terminal))
         }
+        Request::Merge(sources, merge, output) => {
+            if let Some(word) = unreadable.first() {
+                return failed(rt, &Failure::on_file(word.as_str(), Fault::NoText));
+            }
+            status_of_merge(rt, sources, *merge, output, terminal)
+        }
+    }
+}
+
+// Merges shards, if none of what names them failed.
+fn status_of_merge<R: Files + Input + Print + Eprint + RandomSource + AllocGlobal + Clone + Drop>(
+    rt: &R,
+    sources: &Sources<'_>,
+    merge: Merge,
+    output: &str,
+    terminal: bool,
+) -> Status {
+    match inputs_of(rt, sources, &[]) {
+        Ok(inputs) if inputs.failed => Status::Failed,
+        Ok(inputs) => status_of_files(rt, inputs.paths.as_slice(), merge, output, terminal),
+        Err(_) => failed(rt, &Failure::on_words(Fault::OutOfMemory)),
+    }
+}
+
+fn status_of_files<
+    'a,
+    R: Files + Input + Print + Eprint + RandomSource + AllocGlobal + Clone + Drop,
+>(rt: &R, paths: &'a [String], merge: Merge, output: &'a str, terminal: bool) -> Status {
+    let files: Result<Vec<&'a str>, AllocError> = paths
+        .iter()
+        .map(|path| path.as_str())
+        .collect(rt.alloc());
+    match files {
+        Ok(files) => {
+            status_of_making(
+                rt,
+                merge_files(rt, files.as_slice(), merge, output, terminal),
+            )
+        }
+        Err(_) => failed(rt, &Failure::on_words(Fault::OutOfMemory)),
     }
 }
 

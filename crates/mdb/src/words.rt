@@ -66,8 +66,8 @@ impl Words {
     }
 }
 
-// The letters of a word, and the digits of its other bytes.
-fn escaped(alloc: Global, word: &[u8]) -> Result<String, AllocError> {
+/// The letters of a word, and the digits of its other bytes.
+pub fn escaped(alloc: Global, word: &[u8]) -> Result<String, AllocError> {
     let mut text = String::new(alloc);
     for byte in word {
         if byte.is_ascii_graphic() {

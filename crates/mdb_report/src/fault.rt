@@ -42,6 +42,8 @@ pub enum Fault {
     NoTable(Table),
     /// No xorb of the shard has this hash.
     NoXorb(MerkleHash),
+    /// There is nothing to merge.
+    NoFiles,
     /// A word is no UTF-8, so that no file can be opened by it.
     NoText,
     /// A word has more bytes than are read.
@@ -82,6 +84,7 @@ impl fmt::Display for Fault {
                 write!(f, "it has no {table}, by which its records would be found")
             }
             Fault::NoXorb(hash) => write!(f, "no xorb has the hash {hash}"),
+            Fault::NoFiles => write!(f, "no file is named that could be merged"),
             Fault::NoText => write!(f, "the word is no UTF-8, so no file can be opened by it"),
             Fault::LongWord => write!(f, "a word is too long"),
             Fault::Terminal => write!(f, "a shard is not written to a terminal"),

@@ -1,17 +1,18 @@
 //! What a shard can be asked, and printing its answers.
 
-ghost use Rattle.std.specs.Prelude.{◌≡◌, ◌≢◌, IfOk};
+ghost use Rattle.std.specs.Prelude.{◌≡◌, ◌≢◌, ◌↔◌, IfOk, IsTrue};
 ghost use Rattle.shard_bytes.specs.Checking.{IsWhole};
 ghost use Rattle.mdb_report.specs.Answers.{FindsProblems, LooksUp, IsClean, HasAscendingParts};
 
-use crate::brief::{Brief, Total};
+use crate::brief::Brief;
 use crate::hex::{HashReport, Hex};
-use crate::line::{Style, print};
+use crate::line::{Layout, Style, print};
 use crate::lookup::{FoundReport, RunReport};
 use crate::problem::{ProblemReport, file_name, problems_of, problems_of_bytes};
 use crate::records::{ChunkReport, XorbReport, file_reports};
 use crate::summary::Summary;
 use crate::tables::{Table, lacks_chunk_table, lacks_file_table};
+use crate::tally::Tally;
 use shard_bytes::load::load_bytes;
 use shard_bytes::minimal::eligible_chunks;
 use std::alloc::{AllocError, Global};
@@ -58,6 +59,18 @@ pub enum Inquiry {
     Eligible,
 }
 
+impl Inquiry {
+    /// Whether it looks something up, so that there may be nothing to be found.
+    pub fn looks_up(&self) -> bool
+        ensures { IsTrue result ↔ LooksUp self.now }
+    {
+        match self {
+            Inquiry::Find { .. } | Inquiry::Query { .. } => true,
+            _ => false,
+        }
+    }
+}
+
 /// What came of an inquiry.
 #[derive(Clone, Copy, Debug, PartialEq, Eq)]
 pub enum Answer {
@@ -98,15 +111,17 @@ impl From<io::Error> for Trouble {
 }
 
 /// Prints the answer of the shard in a file, from its bytes, in the order of the shard: a value for
-/// each record, each lookup or each problem, or for the whole shard. A shard that is asked for a line
-/// is added to a total.
+/// each record, each lookup or each problem, or for the whole shard. What is found is added to a
+/// tally.
+///
+/// With the name of a shard, lookups that find nothing are printed only with their costs.
 pub fn print_answer<W: Write>(
     alloc: Global,
     inquiry: &Inquiry,
     file: &str,
     bytes: &[u8],
-    style: Style,
-    total: &mut Total,
+    layout: Layout<'_>,
+    tally: &mut Tally,
     output: &mut W,
 ) -> Result<Answer, Trouble>
     ensures problems { IfOk result
@@ -117,30 +132,71 @@ pub fn print_answer<W: Write>(
         (λ answer. answer ≡ Answer.Printed → IsClean inquiry.now bytes.now) }
 {
     match inquiry {
-        Inquiry::Summary => return summarize(alloc, file, bytes, style, output),
+        Inquiry::Summary => return summarize(alloc, file, bytes, layout.style, output),
         Inquiry::Brief => {
             let brief = Brief::of_bytes(alloc, file, bytes)?;
-            total.add(&brief);
-            print(alloc, &brief, style, output)?;
+            tally.total.add(&brief);
+            print(alloc, &brief, Layout::plain(layout.style), output)?;
         }
-        Inquiry::Check { named } => return check(alloc, file, *named, bytes, style, output),
-        Inquiry::Files { long } => print_files(alloc, bytes, *long, style, output)?,
-        Inquiry::Xorbs { long } => print_xorbs(alloc, bytes, *long, style, output)?,
-        Inquiry::Chunks { long } => print_chunks(alloc, bytes, *long, style, output)?,
+        Inquiry::Check { named } => {
+            return check(alloc, file, *named, bytes, layout.style, output);
+        }
+        Inquiry::Files { long } => print_files(alloc, bytes, *long, layout, output)?,
+        Inquiry::Xorbs { long } => print_xorbs(alloc, bytes, *long, layout, output)?,
+        Inquiry::Chunks { long } => print_chunks(alloc, bytes, *long, layout, output)?,
         Inquiry::Find { hashes, costs } => {
-            return find(alloc, bytes, hashes.as_slice(), *costs, style, output);
+            return find(
+                alloc,
+                bytes,
+                hashes.as_slice(),
+                *costs,
+                layout,
+                tally,
+                output,
+            );
         }
         Inquiry::Query { hashes } => {
-            return query(alloc, bytes, hashes.as_slice(), style, output);
+            return query(alloc, bytes, hashes.as_slice(), layout, tally, output);
         }
         Inquiry::Eligible => {
             let hashes = eligible_chunks(alloc, bytes)?;
             for hash in &hashes {
-                print(alloc, &HashReport { hash: Hex(*hash) }, style, output)?;
+                print(alloc, &HashReport { hash: Hex(*hash) }, layout, output)?;
             }
         }
     }
     Ok(Answer::Printed)
+}
+
+/// Prints what is to be said once all shards were asked: the total, if they were asked for a line
+/// each; and where answers have the names of shards, what was found in none of them.
+pub fn print_end<W: Write>(
+    alloc: Global,
+    inquiry: &Inquiry,
+    style: Style,
+    named: bool,
+    tally: &Tally,
+    output: &mut W,
+) -> io::Result<()> {
+    let layout = Layout::plain(style);
+    match inquiry {
+        Inquiry::Brief => print(alloc, &tally.total, layout, output),
+        Inquiry::Find {
+            hashes,
+            costs: false,
+        } if named => {
+            for hash in hashes {
+                if !tally.has_found(hash) {
+                    print(alloc, &FoundReport::nothing(*hash), layout, output)?;
+                }
+            }
+            Ok(())
+        }
+        Inquiry::Query { .. } if named && !tally.has_run => {
+            print(alloc, &RunReport { run: None }, layout, output)
+        }
+        _ => Ok(()),
+    }
 }
 
 // Prints what header and footer say.
@@ -156,7 +212,7 @@ fn summarize<W: Write>(
 {
     let summary = Summary::of_bytes(alloc, file, bytes)?;
     let ascends = summary.parts.ascend();
-    print(alloc, &summary, style, output)?;
+    print(alloc, &summary, Layout::plain(style), output)?;
     if ascends {
         Ok(Answer::Printed)
     } else {
@@ -184,7 +240,7 @@ fn check<W: Write>(
     let info = load_bytes(alloc, bytes).ok();
     for problem in &problems {
         let report = ProblemReport::of_problem(file, info.as_ref(), *problem);
-        print(alloc, &report, style, output)?;
+        print(alloc, &report, Layout::plain(style), output)?;
     }
     if problems.is_empty() {
         Ok(Answer::Printed)
@@ -199,7 +255,8 @@ fn find<W: Write>(
     bytes: &[u8],
     hashes: &[MerkleHash],
     costs: bool,
-    style: Style,
+    layout: Layout<'_>,
+    tally: &mut Tally,
     output: &mut W,
 ) -> Result<Answer, Trouble>
     ensures { IfOk result (λ answer. answer ≢ Answer.FoundProblems) }
@@ -207,11 +264,18 @@ fn find<W: Write>(
     if lacks_file_table(alloc, bytes)? {
         return Err(Trouble::NoTable(Table::Files));
     }
+    let prints_all = layout.shard.is_none() || costs;
     let mut found = false;
     for hash in hashes {
         let report = FoundReport::of_lookup(alloc, bytes, *hash, costs)?;
-        found = found || report.found.is_some();
-        print(alloc, &report, style, output)?;
+        let is_found = report.found.is_some();
+        if is_found {
+            tally.add_found(*hash)?;
+            found = true;
+        }
+        if is_found || prints_all {
+            print(alloc, &report, layout, output)?;
+        }
     }
     if found {
         Ok(Answer::Printed)
@@ -225,7 +289,8 @@ fn query<W: Write>(
     alloc: Global,
     bytes: &[u8],
     hashes: &[MerkleHash],
-    style: Style,
+    layout: Layout<'_>,
+    tally: &mut Tally,
     output: &mut W,
 ) -> Result<Answer, Trouble>
     ensures { IfOk result (λ answer. answer ≢ Answer.FoundProblems) }
@@ -234,23 +299,26 @@ fn query<W: Write>(
         return Err(Trouble::NoTable(Table::Chunks));
     }
     let report = RunReport::of_query(alloc, bytes, hashes)?;
-    print(alloc, &report, style, output)?;
     if report.run.is_some() {
-        Ok(Answer::Printed)
-    } else {
-        Ok(Answer::FoundNothing)
+        tally.has_run = true;
+        print(alloc, &report, layout, output)?;
+        return Ok(Answer::Printed);
     }
+    if layout.shard.is_none() {
+        print(alloc, &report, layout, output)?;
+    }
+    Ok(Answer::FoundNothing)
 }
 
 fn print_files<W: Write>(
     alloc: Global,
     bytes: &[u8],
     long: bool,
-    style: Style,
+    layout: Layout<'_>,
     output: &mut W,
 ) -> Result<(), Trouble> {
     for file in &file_reports(alloc, bytes, long)? {
-        print(alloc, file, style, output)?;
+        print(alloc, file, layout, output)?;
     }
     Ok(())
 }
@@ -259,7 +327,7 @@ fn print_xorbs<W: Write>(
     alloc: Global,
     bytes: &[u8],
     long: bool,
-    style: Style,
+    layout: Layout<'_>,
     output: &mut W,
 ) -> Result<(), Trouble> {
     let info = load_bytes(alloc, bytes)?;
@@ -269,7 +337,7 @@ fn print_xorbs<W: Write>(
         print(
             alloc,
             &XorbReport::of_xorb(alloc, xorb, long)?,
-            style,
+            layout,
             output,
         )?;
     }
@@ -280,7 +348,7 @@ fn print_chunks<W: Write>(
     alloc: Global,
     bytes: &[u8],
     long: bool,
-    style: Style,
+    layout: Layout<'_>,
     output: &mut W,
 ) -> Result<(), Trouble> {
     let info = load_bytes(alloc, bytes)?;
@@ -289,7 +357,7 @@ fn print_chunks<W: Write>(
     for xorb in &xorbs {
         for (index, chunk) in xorb.chunks.as_slice().iter().enumerate() {
             let chunk = ChunkReport::of_chunk(xorb, index as u64, chunk, long);
-            print(alloc, &chunk, style, output)?;
+            print(alloc, &chunk, layout, output)?;
         }
     }
     Ok(())

@@ -17,3 +17,4 @@ pub mod records;
 pub mod shown;
 pub mod summary;
 pub mod tables;
+pub mod tally;

@@ -1,6 +1,6 @@
 //! What lookups and queries find.
 
-ghost use Rattle.std.specs.Prelude.{IfOk, IfSome, MatchResult};
+ghost use Rattle.std.specs.Prelude.{◌≡◌, None, IfOk, IfSome, IsNone, MatchResult};
 ghost use Rattle.xet_core_structures.specs.FileRecord.{FitsItsHeader};
 ghost use Rattle.shard_bytes.specs.Finding.{RefusesFile};
 ghost use Rattle.shard_bytes.specs.Query.{RefusesQuery};
@@ -37,6 +37,19 @@ pub struct Costs {
 }
 
 impl FoundReport {
+    /// The report of a lookup that found nothing, without its costs.
+    pub fn nothing(hash: MerkleHash) -> FoundReport
+        ensures hash { result.hash.0 ≡ hash }
+        ensures found { IsNone result.found }
+        ensures costs { result.costs ≡ None }
+    {
+        FoundReport {
+            hash: Hex(hash),
+            found: None,
+            costs: None,
+        }
+    }
+
     /// Looks up a file in the bytes of a shard.
     ///
     /// The errors are those of [`MDBShardInfo::load_from_reader`] and

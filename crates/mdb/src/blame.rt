@@ -1,0 +1,138 @@
+//! Which file is why shards cannot be combined.
+
+use crate::failure::{Failure, Subject};
+use mdb_report::fault::{Fault, first_obstacle, has_wrong_footer};
+use shard_bytes::check::{Finding, Part};
+use shard_bytes::combine::{Operation, combine_bytes};
+use shard_bytes::load::load_bytes;
+use std::alloc::Global;
+use xet_core_structures::error::CoreError;
+use xet_core_structures::merklehash::MerkleHash;
+use xet_core_structures::set_operations::{Disagreement, find_disagreements};
+
+/// The failure behind an error of a union or a difference: the first input of which none can be made,
+/// else what is wrong with the inputs together.
+pub fn blamed<'a>(
+    alloc: Global,
+    files: &[&'a str],
+    inputs: &[&[u8]],
+    error: CoreError,
+) -> Failure<'a> {
+    if error == CoreError::OutOfMemory {
+        return on_all(files, Fault::OutOfMemory);
+    }
+    for (file, bytes) in files.iter().zip(inputs) {
+        match first_obstacle(alloc, bytes) {
+            Ok(Some(finding)) => return Failure::on_file(file, Fault::Bytes(finding)),
+            Ok(None) => {}
+            Err(fault) => return Failure::on_file(file, fault),
+        }
+    }
+    if error == CoreError::InvalidArguments {
+        return with_other_key(alloc, files, inputs);
+    }
+    misplaced(alloc, files, inputs)
+}
+
+// The failure of inputs under different keys: that of the first two, whose shards are under different
+// ones.
+fn with_other_key<'a>(alloc: Global, files: &[&'a str], inputs: &[&[u8]]) -> Failure<'a> {
+    let mut first: Option<(&'a str, MerkleHash)> = None;
+    for (file, bytes) in files.iter().zip(inputs) {
+        let Ok(info) = load_bytes(alloc, bytes) else {
+            break;
+        };
+        let key = info.metadata.chunk_hash_hmac_key;
+        match first {
+            None => first = Some((*file, key)),
+            Some((_, its)) if its == key => {}
+            Some((other, _)) => {
+                return Failure {
+                    subject: Subject::Pair(other, file),
+                    fault: Fault::KeysDiffer,
+                };
+            }
+        }
+    }
+    on_all(files, Fault::KeysDiffer)
+}
+
+// The failure of inputs that can all be read from their start: the first whose footer is wrong, so
+// that sections are looked for elsewhere, else what is wrong with the inputs together.
+fn misplaced<'a>(alloc: Global, files: &[&'a str], inputs: &[&[u8]]) -> Failure<'a> {
+    for (file, bytes) in files.iter().zip(inputs) {
+        match has_wrong_footer(alloc, bytes) {
+            Ok(true) => {
+                return Failure::on_file(file, Fault::Bytes(Finding::Differs(Part::Footer)));
+            }
+            Ok(false) => {}
+            Err(fault) => return Failure::on_file(file, fault),
+        }
+    }
+    without_union(alloc, files, inputs)
+}
+
+// The failure of inputs that have no union together: that of the first two with different records
+// under one hash that have none, else of all.
+fn without_union<'a>(alloc: Global, files: &[&'a str], inputs: &[&[u8]]) -> Failure<'a> {
+    let Ok(found) = find_disagreements(alloc, inputs) else {
+        return on_all(files, Fault::NoUnion);
+    };
+    // The pair that was tried last.
+    let mut tried = (0, 0);
+    for disagreement in &found {
+        let pair = (disagreement.first, disagreement.second);
+        if pair == tried {
+            continue;
+        }
+        tried = pair;
+        if let (Some(one), Some(other)) = (inputs.get(pair.0), inputs.get(pair.1))
+            && combine_bytes(alloc, Operation::Union, one, other).is_err()
+        {
+            return Failure {
+                subject: subject_of(files, disagreement),
+                fault: Fault::NoUnion,
+            };
+        }
+    }
+    on_all(files, Fault::NoUnion)
+}
+
+/// A failure on all inputs together.
+pub fn on_all<'a>(files: &[&'a str], fault: Fault) -> Failure<'a> {
+    let subject = match files {
+        [first, second] => Subject::Pair(first, second),
+        [first, ..] => Subject::Files(first, files.len()),
+        [] => Subject::StandardOutput,
+    };
+    Failure { subject, fault }
+}
+
+/// What differs in the records of the inputs, or `None` if they agree.
+pub fn disagreement<'a>(
+    alloc: Global,
+    files: &[&'a str],
+    inputs: &[&[u8]],
+) -> Result<Option<Failure<'a>>, Failure<'a>> {
+    let found = match find_disagreements(alloc, inputs) {
+        Ok(found) => found,
+        Err(error) => return Err(blamed(alloc, files, inputs, error)),
+    };
+    let Some(first) = found.as_slice().first() else {
+        return Ok(None);
+    };
+    Ok(Some(Failure {
+        subject: subject_of(files, first),
+        fault: Fault::Disagree(found.len(), first.record_hash),
+    }))
+}
+
+fn subject_of<'a>(files: &[&'a str], disagreement: &Disagreement) -> Subject<'a> {
+    match (
+        files.get(disagreement.first),
+        files.get(disagreement.second),
+    ) {
+        (Some(first), Some(second)) => Subject::Pair(first, second),
+        _ => Subject::StandardOutput,
+    }
+}

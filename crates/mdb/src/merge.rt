@@ -1,0 +1,210 @@
+//! The command that merges shards.
+
+use crate::arguments::{Merge, Strictness};
+use crate::blame::{blamed, disagreement, on_all};
+use crate::failure::Failure;
+use crate::files::STANDARD_STREAM;
+use crate::make::{bytes_of, put};
+use mdb_report::fault::{Fault, fault_of};
+use mdb_report::shown::Shown;
+use shard_bytes::expiry::with_expiry;
+use shard_bytes::load::load_bytes;
+use shard_bytes::merge::merge_bytes;
+use std::alloc::{AllocError, Global};
+use std::random::RandomSource;
+use std::rt::Files;
+use xet_core_structures::error::CoreError;
+use xet_core_structures::merklehash::MerkleHash;
+
+/// Writes the merge of the shards in some files to a path, or to standard output if it is `-`. With
+/// `by_key` it writes a merge of those under each key to the folder at that path, by the digits of
+/// the key. Standard output is a terminal or not.
+pub fn merge_files<
+    'a,
+    R: Files + Input + Print + Eprint + RandomSource + AllocGlobal + Clone + Drop,
+>(
+    rt: &R,
+    files: &[&'a str],
+    merge: Merge,
+    output: &'a str,
+    terminal: bool,
+) -> Result<(), Failure<'a>> {
+    if terminal && output == STANDARD_STREAM {
+        return Err(Failure::on_output(Fault::Terminal));
+    }
+    if files.is_empty() {
+        return Err(Failure::on_words(Fault::NoFiles));
+    }
+    let contents = contents_of(rt, files, merge.verbose)?;
+    let inputs: Result<Vec<&[u8]>, AllocError> = contents
+        .iter()
+        .map(|bytes| bytes.as_slice())
+        .collect(rt.alloc());
+    let Ok(inputs) = inputs else {
+        return Err(on_all(files, Fault::OutOfMemory));
+    };
+    if merge.by_key {
+        return merge_by_key(rt, files, inputs.as_slice(), merge, output);
+    }
+    let bytes = merged(rt, files, inputs.as_slice(), merge)?;
+    put(rt, output, bytes.as_slice())
+}
+
+// The bytes of each file. All are read once, since standard input and pipes cannot be read again.
+fn contents_of<'a, R: Files + Input + Eprint + AllocGlobal>(
+    rt: &R,
+    files: &[&'a str],
+    verbose: bool,
+) -> Result<Vec<Vec<u8>>, Failure<'a>> {
+    let mut contents = Vec::new(rt.alloc());
+    for file in files {
+        let bytes = bytes_of(rt, file)?;
+        if verbose {
+            report_size(rt, file, bytes.len());
+        }
+        if contents.push(bytes).is_err() {
+            return Err(Failure::on_file(file, Fault::OutOfMemory));
+        }
+    }
+    Ok(contents)
+}
+
+// Merges the inputs under each key, and writes each merge to a folder, by the digits of its key.
+fn merge_by_key<'a, R: Files + Print + Eprint + RandomSource + AllocGlobal + Clone + Drop>(
+    rt: &R,
+    files: &[&'a str],
+    inputs: &[&[u8]],
+    merge: Merge,
+    folder: &'a str,
+) -> Result<(), Failure<'a>> {
+    let alloc = rt.alloc();
+    let keys = keys_of(alloc, files, inputs)?;
+    let mut done: Vec<MerkleHash> = Vec::new(alloc);
+    for key in &keys {
+        if done.as_slice().contains(key) {
+            continue;
+        }
+        write_under(rt, files, inputs, keys.as_slice(), key, merge, folder)?;
+        if done.push(*key).is_err() {
+            return Err(on_all(files, Fault::OutOfMemory));
+        }
+    }
+    Ok(())
+}
+
+// Merges the inputs under one key, and writes the merge to a folder.
+fn write_under<'a, R: Files + Print + Eprint + RandomSource + AllocGlobal + Clone + Drop>(
+    rt: &R,
+    files: &[&'a str],
+    inputs: &[&[u8]],
+    keys: &[MerkleHash],
+    key: &MerkleHash,
+    merge: Merge,
+    folder: &'a str,
+) -> Result<(), Failure<'a>> {
+    let alloc = rt.alloc();
+    let (Ok(files_under), Ok(inputs_under), Ok(path)) = (
+        those_under(alloc, files, keys, key),
+        those_under(alloc, inputs, keys, key),
+        format!(in alloc; "{folder}/{key}.mdb"),
+    ) else {
+        return Err(on_all(files, Fault::OutOfMemory));
+    };
+    let bytes = merged(rt, files_under.as_slice(), inputs_under.as_slice(), merge)?;
+    match put(rt, path.as_str(), bytes.as_slice()) {
+        Ok(()) => Ok(()),
+        Err(failure) => Err(Failure::on_file(folder, failure.fault)),
+    }
+}
+
+// The key of the shard in each input.
+fn keys_of<'a>(
+    alloc: Global,
+    files: &[&'a str],
+    inputs: &[&[u8]],
+) -> Result<Vec<MerkleHash>, Failure<'a>> {
+    let mut keys = Vec::new(alloc);
+    for (file, bytes) in files.iter().zip(inputs) {
+        let key = match load_bytes(alloc, bytes) {
+            Ok(info) => info.metadata.chunk_hash_hmac_key,
+            Err(error) => return Err(Failure::on_file(file, fault_of(alloc, bytes, error))),
+        };
+        if keys.push(key).is_err() {
+            return Err(Failure::on_file(file, Fault::OutOfMemory));
+        }
+    }
+    Ok(keys)
+}
+
+// Those of some values whose shards are under a key.
+fn those_under<T: Copy>(
+    alloc: Global,
+    values: &[T],
+    keys: &[MerkleHash],
+    key: &MerkleHash,
+) -> Result<Vec<T>, AllocError> {
+    let mut found = Vec::new(alloc);
+    for (value, its) in values.iter().zip(keys) {
+        if its == key {
+            found.push(*value)?;
+        }
+    }
+    Ok(found)
+}
+
+// The union of the inputs, with an expiry if one is wanted.
+fn merged<'a, R: Eprint + AllocGlobal>(
+    rt: &R,
+    files: &[&'a str],
+    inputs: &[&[u8]],
+    merge: Merge,
+) -> Result<Vec<u8>, Failure<'a>> {
+    let bytes = united(rt, files, inputs, merge.strictness)?;
+    match expiring(rt.alloc(), bytes, merge.expiry) {
+        Ok(bytes) => Ok(bytes),
+        Err(_) => Err(on_all(files, Fault::OutOfMemory)),
+    }
+}
+
+// The union of the inputs. Records that differ are a failure, even if there is no union, or reported.
+fn united<'a, R: Eprint + AllocGlobal>(
+    rt: &R,
+    files: &[&'a str],
+    inputs: &[&[u8]],
+    strictness: Strictness,
+) -> Result<Vec<u8>, Failure<'a>> {
+    let alloc = rt.alloc();
+    let choice = match (disagreement(alloc, files, inputs)?, strictness) {
+        (Some(disagreement), Strictness::Strict) => return Err(disagreement),
+        (found, _) => found,
+    };
+    match merge_bytes(alloc, inputs) {
+        Ok(bytes) => {
+            if let Some(disagreement) = &choice {
+                report_choice(rt, disagreement);
+            }
+            Ok(bytes)
+        }
+        Err(error) => Err(blamed(alloc, files, inputs, error)),
+    }
+}
+
+// The bytes that a merge wrote, with an expiry if one is wanted. It fails only if it is out of memory.
+fn expiring(alloc: Global, bytes: Vec<u8>, expiry: Option<u64>) -> Result<Vec<u8>, CoreError> {
+    match expiry {
+        Some(expiry) => with_expiry(alloc, bytes, expiry),
+        None => Ok(bytes),
+    }
+}
+
+fn report_size<R: Eprint>(rt: &R, file: &str, bytes: usize) {
+    let file = Shown(file);
+    let _ = rt.eprintln(format_args!("{file}: {bytes} bytes"));
+}
+
+// Says which of two records that differ a merge keeps.
+fn report_choice<R: Eprint>(rt: &R, disagreement: &Failure<'_>) {
+    let _ = rt.eprintln(format_args!(
+        "{disagreement}; of xorbs the first is kept, of files the one with more parts"
+    ));
+}

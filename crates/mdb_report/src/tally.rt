@@ -1,0 +1,46 @@
+//! What is kept from one shard to the next while some are asked.
+
+ghost use Rattle.std.specs.Prelude.{◌≡◌, ◌↔◌, [], ◌∷◌, ◌++◌, Contains, IsTrue, OnOk};
+
+use crate::brief::Total;
+use std::alloc::{AllocError, Global};
+use xet_core_structures::merklehash::MerkleHash;
+
+/// What was found in the shards that were asked so far.
+#[derive(Drop)]
+pub struct Tally {
+    /// The sums over the shards that were asked for a line.
+    pub total: Total,
+    /// The hashes of the files that were found.
+    pub found: Vec<MerkleHash>,
+    /// Whether a run of chunks was found.
+    pub has_run: bool,
+}
+
+impl Tally {
+    /// A tally of no shards.
+    pub fn new(alloc: Global) -> Tally
+        ensures { result.found.items ≡ [] }
+    {
+        Tally {
+            total: Total::NONE,
+            found: Vec::new(alloc),
+            has_run: false,
+        }
+    }
+
+    /// Adds the hash of a file that was found. It fails only if memory is lacking.
+    pub fn add_found(&mut self, hash: MerkleHash) -> Result<(), AllocError>
+        ensures { OnOk result (self.new.found.items ≡ self.old.found.items ++ hash ∷ []) }
+    {
+        self.found.push(hash)?;
+        Ok(())
+    }
+
+    /// Whether the file with this hash was found.
+    pub fn has_found(&self, hash: &MerkleHash) -> bool
+        ensures { IsTrue result ↔ Contains self.now.found.items hash.now }
+    {
+        self.found.as_slice().contains(hash)
+    }
+}
