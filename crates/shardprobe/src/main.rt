@@ -1,5 +1,5 @@
-//! A test tool: reads commands from standard input, one a line, calls the library and prints the
-//! result of each call. So a worked example is a line of data.
+//! A test tool: reads commands from standard input, one a line, each with what it has to print, calls
+//! the library and compares. So a worked example is a line of data.
 #![tactic(auto)]
 
 mod agreement;
@@ -13,6 +13,7 @@ mod memory;
 mod minimal;
 mod parse;
 mod reading;
+mod rows;
 mod script;
 mod search;
 mod sections;

@@ -7,6 +7,7 @@ use crate::device::{Fault, Operation, Plan, Target};
 use crate::memory::{run_on_shards, show_shards};
 use crate::minimal::show_minimal;
 use crate::reading::{Report, run_each_failure, run_reading};
+use crate::rows::{push_printed, split_row};
 use crate::search::make_table;
 use crate::sections::show_sections;
 use crate::sets::unite_tree;
@@ -17,35 +18,125 @@ use crate::workspace::Workspace;
 use crate::writing::{output_of, run_writing};
 use script_lines::lines::{is_skipped, split_words, without_end};
 use script_lines::words::parse_u64;
-use std::alloc::Global;
+use std::alloc::{AllocError, Global};
 use std::io::{BufRead, BufReader, ErrorKind, Read, Write};
 use std::{io, str};
 
-// The bytes of a line, and of its output, for which there is room before the first line is read.
+// The bytes of a line, and of what it prints, for which there is room before the first line is read.
 const ROOM: usize = 1 << 20;
 
-/// Runs the commands of `input`, one a line, and writes their results to `output`. The error is
-/// that of the input, of the output, or of an allocation.
+/// Runs the rows of `input`, one a line, and writes to `output` the headings, a line for each row
+/// whose command prints anything else than it has to, and at last the number of the rows. The error
+/// is that of the input, of the output, or of an allocation.
 pub fn run_script<R: Read, W: Write>(
     alloc: Global,
     input: &mut R,
     output: &mut W,
 ) -> io::Result<()> {
     let mut lines = BufReader::new(alloc, input)?;
-    let mut probe = Probe::new(alloc);
-    // With this room, all that is allocated while a line runs is allocated by its command.
+    let mut script = Script::new(alloc)?;
     let mut line = Vec::with_capacity(alloc, ROOM)?;
-    let mut answer = Vec::with_capacity(alloc, ROOM)?;
-    for _number in 1..u64::MAX {
+    for number in 1..u64::MAX {
         line.clear();
         if lines.read_until(b'\n', &mut line)? == 0 {
             break;
         }
-        answer.clear();
-        probe.answer(alloc, without_end(line.as_slice()), &mut answer)?;
-        output.write_all(answer.as_slice())?;
+        script.run_line(alloc, number, without_end(line.as_slice()), output)?;
     }
+    script.print_count(output)?;
     output.flush()
+}
+
+/// The rows that ran so far.
+#[derive(Drop)]
+struct Script {
+    probe: Probe,
+    compares: bool,
+    rows: u64,
+    printed: Vec<u8>,
+    came: Vec<u8>,
+}
+
+impl Script {
+    // With this room, all that is allocated while a line runs is allocated by its command.
+    fn new(alloc: Global) -> Result<Script, AllocError> {
+        Ok(Script {
+            probe: Probe::new(alloc),
+            compares: true,
+            rows: 0,
+            printed: Vec::with_capacity(alloc, ROOM)?,
+            came: Vec::with_capacity(alloc, ROOM)?,
+        })
+    }
+
+    fn run_line<W: Write>(
+        &mut self,
+        alloc: Global,
+        number: u64,
+        line: &[u8],
+        output: &mut W,
+    ) -> io::Result<()> {
+        if is_skipped(line) {
+            return Ok(());
+        }
+        let Ok(text) = str::from_utf8(line) else {
+            return writeln!(output, "line {number}: unreadable");
+        };
+        if let Some(heading) = text.strip_prefix("say ") {
+            return writeln!(output, "{heading}");
+        }
+        if text == "answers" {
+            self.compares = false;
+            return Ok(());
+        }
+        self.run_row(alloc, number, text, output)
+    }
+
+    fn run_row<W: Write>(
+        &mut self,
+        alloc: Global,
+        number: u64,
+        row: &str,
+        output: &mut W,
+    ) -> io::Result<()> {
+        let (command, wanted) = split_row(row);
+        self.printed.clear();
+        if let Err(stop) = self.probe.run(alloc, command, &mut self.printed) {
+            writeln!(self.printed, "{stop}")?;
+        }
+        self.rows = self.rows.saturating_add(1);
+        if self.compares {
+            self.compare(number, command, wanted, output)
+        } else {
+            output.write_all(self.printed.as_slice())
+        }
+    }
+
+    // Prints a line if the last command printed anything else than it had to.
+    fn compare<W: Write>(
+        &mut self,
+        number: u64,
+        command: &str,
+        wanted: &str,
+        output: &mut W,
+    ) -> io::Result<()> {
+        self.came.clear();
+        push_printed(self.printed.as_slice(), &mut self.came)?;
+        if self.came.as_slice() == wanted.as_bytes() {
+            return Ok(());
+        }
+        write!(output, "line {number}: {command}: wanted {wanted}, came ")?;
+        output.write_all(self.came.as_slice())?;
+        writeln!(output)
+    }
+
+    fn print_count<W: Write>(&self, output: &mut W) -> io::Result<()> {
+        if !self.compares {
+            return Ok(());
+        }
+        let rows = self.rows;
+        writeln!(output, "{rows} rows")
+    }
 }
 
 /// The shards and buffers made so far, and how the device works.
@@ -65,23 +156,7 @@ impl Probe {
         }
     }
 
-    // Runs a line and appends its output.
-    fn answer(&mut self, alloc: Global, line: &[u8], out: &mut Vec<u8>) -> io::Result<()> {
-        if is_skipped(line) {
-            return Ok(());
-        }
-        let Ok(text) = str::from_utf8(line) else {
-            return writeln!(out, "unreadable");
-        };
-        if let Some(heading) = text.strip_prefix("say ") {
-            return writeln!(out, "{heading}");
-        }
-        match self.run(alloc, text, out) {
-            Ok(()) => Ok(()),
-            Err(stop) => writeln!(out, "{stop}"),
-        }
-    }
-
+    // Runs a command and appends what it prints.
     fn run(&mut self, alloc: Global, text: &str, out: &mut Vec<u8>) -> Result<(), Stop> {
         let words = split_words(alloc, text)?;
         self.run_command(alloc, words.as_slice(), out)
