@@ -8,6 +8,7 @@ from .common import BINDINGS, TOP, read
 VERSIONS = {
     "CHANGELOG.md": r"^## (\S+)",
     "bench/Cargo.toml": r'^version = "(.*)"$',
+    "bench/slowest/Cargo.toml": r'^version = "(.*)"$',
     "bindings/c/xet.h": r'^#define XET_VERSION "(.*)"$',
     "bindings/python/xet_shards/__init__.py": r'^__version__ = "(.*)"$',
     "bindings/rust/Cargo.toml": r'^version = "(.*)"$',
