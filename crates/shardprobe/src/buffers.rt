@@ -1,6 +1,5 @@
 //! Commands on buffers.
 
-use crate::fields::print_info;
 use crate::parse::parse_bytes;
 use crate::show::print_bytes;
 use crate::stop::Stop;
@@ -10,7 +9,6 @@ use script_lines::words::parse_u64;
 use std::alloc::Global;
 use std::io::Write;
 use xet_core_structures::shard_format::MDBShardInfo;
-use xet_core_structures::shard_in_memory::MDBInMemoryShard;
 
 /// Runs a command that makes or changes a buffer. `false` if the words are no such command.
 pub fn run_on_buffers(
@@ -20,11 +18,15 @@ pub fn run_on_buffers(
 ) -> Result<bool, Stop> {
     match words {
         ["write", shard, name, expiry @ ..] => {
-            let (bytes, _info) = written(alloc, workspace.shard(shard)?, parse_expiry(expiry)?)?;
+            let mut bytes = Vec::new(alloc);
+            let shard = workspace.shard(shard)?;
+            MDBShardInfo::serialize_from(alloc, &mut bytes, shard, parse_expiry(expiry)?)?;
             workspace.put_buffer(alloc, name, bytes)?;
         }
         ["write2", shard, name, expiry @ ..] => {
-            let (bytes, _info) = written_v2(alloc, workspace.shard(shard)?, parse_expiry(expiry)?)?;
+            let mut bytes = Vec::new(alloc);
+            let shard = workspace.shard(shard)?;
+            MDBShardInfo::serialize_from_v2(alloc, &mut bytes, shard, parse_expiry(expiry)?)?;
             workspace.put_buffer(alloc, name, bytes)?;
         }
         ["to_bytes", shard, name] => {
@@ -55,28 +57,6 @@ fn parse_expiry(words: &[&str]) -> Result<Option<u64>, Stop> {
         [expiry] => Ok(Some(parse_u64(expiry)?)),
         _ => Err(Stop::Unreadable),
     }
-}
-
-// The bytes that `serialize_from` writes, and what it returns.
-fn written(
-    alloc: Global,
-    shard: &MDBInMemoryShard,
-    expiry: Option<u64>,
-) -> Result<(Vec<u8>, MDBShardInfo), Stop> {
-    let mut bytes = Vec::new(alloc);
-    let info = MDBShardInfo::serialize_from(alloc, &mut bytes, shard, expiry)?;
-    Ok((bytes, info))
-}
-
-// The same of `serialize_from_v2`.
-fn written_v2(
-    alloc: Global,
-    shard: &MDBInMemoryShard,
-    expiry: Option<u64>,
-) -> Result<(Vec<u8>, MDBShardInfo), Stop> {
-    let mut bytes = Vec::new(alloc);
-    let info = MDBShardInfo::serialize_from_v2(alloc, &mut bytes, shard, expiry)?;
-    Ok((bytes, info))
 }
 
 fn joined(workspace: &Workspace, alloc: Global, parts: &[&str]) -> Result<Vec<u8>, Stop> {
@@ -119,19 +99,6 @@ pub fn show_buffers(
     out: &mut Vec<u8>,
 ) -> Result<bool, Stop> {
     match words {
-        ["written", shard, expiry, fields @ ..] => {
-            let (_bytes, info) = written(
-                alloc,
-                workspace.shard(shard)?,
-                parse_expiry(&[*expiry])?,
-            )?;
-            print_info(&info, fields, out)?;
-        }
-        ["written2", shard, expiry, fields @ ..] => {
-            let expiry = parse_expiry(&[*expiry])?;
-            let (_bytes, info) = written_v2(alloc, workspace.shard(shard)?, expiry)?;
-            print_info(&info, fields, out)?;
-        }
         ["same", first, second] => {
             let is_same = workspace.buffer(first)? == workspace.buffer(second)?;
             writeln!(out, "{is_same}")?;

@@ -38,7 +38,6 @@ pub fn run_on_shards(
             let copy = workspace.shard(from)?.try_clone(alloc)?;
             workspace.put_shard(alloc, name, copy)?;
         }
-        ["recount", name] => recount(workspace, name)?,
         _ => return Ok(false),
     }
     Ok(true)
@@ -69,14 +68,6 @@ fn add_xorb(
         return Err(Stop::Unreadable);
     };
     shard.add_xorb_block(alloc, xorb)?;
-    Ok(())
-}
-
-fn recount(workspace: &mut Workspace, name: &str) -> Result<(), Stop> {
-    let Some(shard) = workspace.shards.get_mut(name) else {
-        return Err(Stop::Unreadable);
-    };
-    shard.recalculate_shard_size();
     Ok(())
 }
 

@@ -4,7 +4,6 @@ use crate::device::{Device, Output};
 use crate::sections::Zeros;
 use crate::show::{print_file, print_hash, print_if_empty, print_xorb};
 use crate::stop::Stop;
-use crate::workspace::Workspace;
 use script_lines::records::parse_hashes;
 use script_lines::words::{parse_flag, parse_u64};
 use std::alloc::Global;
@@ -148,22 +147,6 @@ fn parse_parts(parts: &str) -> Result<(bool, bool), Stop> {
     Ok((parse_flag(*files, b'f')?, parse_flag(*xorbs, b'x')?))
 }
 
-/// Runs a command that compares minimal shards, or reads one from a reader without an end. `false`
-/// if the words are no such command.
-pub fn show_minimal(
-    workspace: &Workspace,
-    alloc: Global,
-    words: &[&str],
-    out: &mut Vec<u8>,
-) -> Result<bool, Stop> {
-    match words {
-        ["same_minimal", names @ ..] => print_same(workspace, alloc, names, out)?,
-        ["endless_minimal", rest @ ..] => print_endless(alloc, rest, out)?,
-        _ => return Ok(false),
-    }
-    Ok(true)
-}
-
 /// Prints what the minimal shard has that is read from a source. The word names its parts.
 pub fn print_minimal(
     alloc: Global,
@@ -178,35 +161,14 @@ pub fn print_minimal(
     let shard = minimal_shard(alloc, source, parts)?;
     match command {
         "minimal_sums" => Ok(print_sums(&shard, out)?),
-        "dropmin_sizes" => Ok(print_sizes_without_aux(&shard, out)?),
         "minimal_records" => print_copy(&shard, alloc, out),
         _ => print_eligible(&shard, alloc, out),
     }
 }
 
-fn print_same(
-    workspace: &Workspace,
-    alloc: Global,
-    names: &[&str],
-    out: &mut Vec<u8>,
-) -> Result<(), Stop> {
-    let [first, second] = names else {
-        return Err(Stop::Unreadable);
-    };
-    let mut first = workspace.buffer(first)?;
-    let mut second = workspace.buffer(second)?;
-    let first = minimal_shard(alloc, &mut first, "fx")?;
-    let second = minimal_shard(alloc, &mut second, "fx")?;
-    let is_same = first == second;
-    writeln!(out, "{is_same}")?;
-    Ok(())
-}
-
-// Reads a minimal shard from zero bytes without an end, and prints its sums.
-fn print_endless(alloc: Global, rest: &[&str], out: &mut Vec<u8>) -> Result<(), Stop> {
-    let [parts] = rest else {
-        return Err(Stop::Unreadable);
-    };
+/// Reads a minimal shard with the parts that the word names from zero bytes without an end, and
+/// prints its sums.
+pub fn print_endless(alloc: Global, parts: &str, out: &mut Vec<u8>) -> Result<(), Stop> {
     let shard = minimal_shard(alloc, &mut Zeros {}, parts)?;
     print_sums(&shard, out)?;
     Ok(())
@@ -222,12 +184,6 @@ fn print_sums(shard: &MDBMinimalShard, out: &mut Vec<u8>) -> io::Result<()> {
     )?;
     let with = shard.serialized_size(true);
     let without = shard.serialized_size(false);
-    writeln!(out, "bytes {with} {without}")
-}
-
-fn print_sizes_without_aux(shard: &MDBMinimalShard, out: &mut Vec<u8>) -> io::Result<()> {
-    let with = shard.serialized_size_without_aux(true);
-    let without = shard.serialized_size_without_aux(false);
     writeln!(out, "bytes {with} {without}")
 }
 

@@ -72,7 +72,6 @@ pub fn set_back(command: &str, source: &mut Device<'_>) -> io::Result<()> {
         | "subset"
         | "subset_only"
         | "minimal_sums"
-        | "dropmin_sizes"
         | "minimal_records"
         | "minimal_eligible" => { source.seek_to(0) }
         _ => Ok(()),
@@ -92,7 +91,7 @@ fn call(
     match command {
         "load" => return load(alloc, source, rest, out),
         "eligible_chunks" => return print_eligible(alloc, source, rest, out),
-        "minimal_sums" | "dropmin_sizes" | "minimal_records" | "minimal_eligible" => {
+        "minimal_sums" | "minimal_records" | "minimal_eligible" => {
             return print_minimal(alloc, command, source, rest, out);
         }
         "read_file_ranges" => return read_file_ranges(alloc, source, rest, out),
@@ -172,13 +171,7 @@ fn read_whole(
     out: &mut Vec<u8>,
 ) -> Result<(), Stop> {
     match command {
-        "totals" => print_totals(&info_of(alloc, bytes)?, out)?,
-        "num_bytes" => {
-            let count = info_of(alloc, bytes)?.num_bytes(alloc)?;
-            writeln!(out, "{count}")?;
-        }
         "ranges" => print_ranges(&info_of(alloc, bytes)?, out)?,
-        "key" => print_key(&info_of(alloc, bytes)?, out)?,
         "read_files" => print_files(alloc, &info_of(alloc, bytes)?, source, out)?,
         "read_xorbs" => print_xorbs(alloc, &info_of(alloc, bytes)?, source, out)?,
         "read_xorb_headers" => print_xorb_headers(alloc, &info_of(alloc, bytes)?, source, out)?,
@@ -187,20 +180,6 @@ fn read_whole(
         _ => return Err(Stop::Unreadable),
     }
     Ok(())
-}
-
-fn print_totals(info: &MDBShardInfo, out: &mut Vec<u8>) -> io::Result<()> {
-    let files = info.num_file_entries();
-    let xorbs = info.num_xorb_entries();
-    let chunks = info.total_num_chunks();
-    write!(out, "files {files} xorbs {xorbs} chunks {chunks} ")?;
-    let stored = info.stored_bytes();
-    let disk = info.stored_bytes_on_disk();
-    let materialized = info.materialized_bytes();
-    writeln!(
-        out,
-        "stored {stored} disk {disk} materialized {materialized}"
-    )
 }
 
 fn print_ranges(info: &MDBShardInfo, out: &mut Vec<u8>) -> io::Result<()> {
@@ -217,13 +196,6 @@ fn print_ranges(info: &MDBShardInfo, out: &mut Vec<u8>) -> io::Result<()> {
         separator = " ";
     }
     writeln!(out)
-}
-
-fn print_key(info: &MDBShardInfo, out: &mut Vec<u8>) -> io::Result<()> {
-    if info.chunk_hashes_protected() {
-        write!(out, "protected ")?;
-    }
-    print_hash(info.chunk_hmac_key(), out)
 }
 
 fn print_files(
@@ -330,10 +302,6 @@ fn look_up(
             let info = info_of(alloc, bytes)?;
             let found = info.get_file_reconstruction_info(alloc, source, &hash)?;
             print_found(&found, out)?;
-        }
-        "keyed" => {
-            let hash = parse_hash(word)?;
-            print_hash(Some(info_of(alloc, bytes)?.keyed_chunk_hash(&hash)), out)?;
         }
         _ => return Err(Stop::Unreadable),
     }

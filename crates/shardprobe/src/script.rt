@@ -5,7 +5,7 @@ use crate::buffers::{run_on_buffers, show_buffers};
 use crate::codecs::run_codecs;
 use crate::device::{Fault, Operation, Plan, Target};
 use crate::memory::{run_on_shards, show_shards};
-use crate::minimal::show_minimal;
+use crate::minimal::print_endless;
 use crate::reading::{Report, run_each_failure, run_reading};
 use crate::rows::{push_printed, split_row};
 use crate::search::make_table;
@@ -176,7 +176,6 @@ impl Probe {
             || run_codecs(&mut self.workspace, alloc, words, out)?
             || show_views(&self.workspace, alloc, words, out)?
             || show_sections(&self.workspace, alloc, words, out)?
-            || show_minimal(&self.workspace, alloc, words, out)?
             || run_on_agreement(&mut self.workspace, alloc, words, out)?
             || run_on_values(alloc, words, out)?
             || run_on_records(alloc, words, out)?;
@@ -190,6 +189,7 @@ impl Probe {
             ["set_tree", name, words @ ..] => {
                 unite_tree(&mut self.workspace, alloc, name, words)
             }
+            ["endless_minimal", parts] => print_endless(alloc, parts, out),
             ["each_failure", command @ ..] => {
                 run_each_failure(&self.workspace, alloc, self.plan, command, out)
             }
