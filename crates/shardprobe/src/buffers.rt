@@ -68,9 +68,7 @@ fn joined(workspace: &Workspace, alloc: Global, parts: &[&str]) -> Result<Vec<u8
 }
 
 fn cut(workspace: &mut Workspace, name: &str, len: u64) -> Result<(), Stop> {
-    let Some(bytes) = workspace.buffers.get_mut(name) else {
-        return Err(Stop::Unreadable);
-    };
+    let bytes = workspace.buffer_mut(name)?;
     if len > bytes.len() as u64 {
         return Err(Stop::Unreadable);
     }
@@ -79,9 +77,7 @@ fn cut(workspace: &mut Workspace, name: &str, len: u64) -> Result<(), Stop> {
 }
 
 fn put(workspace: &mut Workspace, name: &str, offset: u64, new: &[u8]) -> Result<(), Stop> {
-    let Some(bytes) = workspace.buffers.get_mut(name) else {
-        return Err(Stop::Unreadable);
-    };
+    let bytes = workspace.buffer_mut(name)?;
     let size = bytes.len() as u64;
     if offset > size || new.len() as u64 > size - offset {
         return Err(Stop::Unreadable);

@@ -63,9 +63,7 @@ fn append(
     value: &[&str],
     out: &mut Vec<u8>,
 ) -> Result<(), Stop> {
-    let Some(bytes) = workspace.buffers.get_mut(name) else {
-        return Err(Stop::Unreadable);
-    };
+    let bytes = workspace.buffer_mut(name)?;
     // The buffer stays as it is if serializing fails.
     let mut written = Vec::new(alloc);
     let count = match kind {

@@ -14,6 +14,7 @@ mod minimal;
 mod parse;
 mod reading;
 mod rows;
+mod runs;
 mod script;
 mod search;
 mod sections;

@@ -20,8 +20,16 @@ pub fn run_on_shards(
 ) -> Result<bool, Stop> {
     match words {
         ["shard", name] => workspace.put_shard(alloc, name, MDBInMemoryShard::new(alloc))?,
-        ["file", name, record @ ..] => add_file(workspace, alloc, name, record)?,
-        ["xorb", name, record @ ..] => add_xorb(workspace, alloc, name, record)?,
+        ["file", name, record @ ..] => {
+            let file = parse_file(alloc, record)?;
+            workspace
+                .shard_mut(name)?
+                .add_file_reconstruction_info(alloc, file)?;
+        }
+        ["xorb", name, record @ ..] => {
+            let xorb = parse_xorb(alloc, record)?;
+            workspace.shard_mut(name)?.add_xorb_block(alloc, xorb)?;
+        }
         ["union", first, second, name] => {
             let union = workspace
                 .shard(first)?
@@ -41,34 +49,6 @@ pub fn run_on_shards(
         _ => return Ok(false),
     }
     Ok(true)
-}
-
-fn add_file(
-    workspace: &mut Workspace,
-    alloc: Global,
-    name: &str,
-    record: &[&str],
-) -> Result<(), Stop> {
-    let file = parse_file(alloc, record)?;
-    let Some(shard) = workspace.shards.get_mut(name) else {
-        return Err(Stop::Unreadable);
-    };
-    shard.add_file_reconstruction_info(alloc, file)?;
-    Ok(())
-}
-
-fn add_xorb(
-    workspace: &mut Workspace,
-    alloc: Global,
-    name: &str,
-    record: &[&str],
-) -> Result<(), Stop> {
-    let xorb = parse_xorb(alloc, record)?;
-    let Some(shard) = workspace.shards.get_mut(name) else {
-        return Err(Stop::Unreadable);
-    };
-    shard.add_xorb_block(alloc, xorb)?;
-    Ok(())
 }
 
 /// Runs a command that prints the result of a call on a shard. `false` if the words are no such

@@ -1,33 +1,24 @@
 //! Commands that read a buffer through the device.
 
-use crate::device::{Device, Fault, Operation, Plan, Target};
+use crate::device::{Device, Plan, Target};
 use crate::fields::print_info;
 use crate::lookup::{
     print_chunk_index, print_file_index, print_xorb_index, query_at, query_chunks,
 };
 use crate::minimal::{print_hashes, print_minimal};
+use crate::runs::Report;
 use crate::search::search;
 use crate::show::{
     Short, print_file, print_found, print_hash, print_if_empty, print_xorb, print_xorb_header,
 };
 use crate::stop::Stop;
 use crate::workspace::Workspace;
-use crate::writing::{Written, output_of, run_writing};
 use script_lines::words::{parse_hash, parse_u32, parse_u64};
 use std::alloc::Global;
 use std::io;
-use std::io::{ErrorKind, Write};
+use std::io::Write;
 use xet_core_structures::shard_format::MDBShardInfo;
 use xet_core_structures::source::{MemorySource, ShardSource};
-
-/// The result of a command, and its costs.
-#[derive(Drop)]
-pub struct Report {
-    pub answer: Result<(), Stop>,
-    pub seeks_made: u64,
-    pub bytes_read: u64,
-    pub has_failed: bool,
-}
 
 /// Runs a command on the buffer that its second word names, through a device. `Unreadable` if there
 /// is no such buffer.
@@ -55,6 +46,7 @@ pub fn run_reading(
         seeks_made: source.seeks_made(),
         bytes_read: source.bytes_read(),
         has_failed: source.has_failed(),
+        written: Vec::new(alloc),
     })
 }
 
@@ -96,13 +88,14 @@ fn call(
         }
         "read_file_ranges" => return read_file_ranges(alloc, source, rest, out),
         "search" => return search(alloc, source, rest, out),
-        "run" => return query_chunks(alloc, &info_of(alloc, bytes)?, source, rest, out),
-        "run_at" => return query_at(alloc, &info_of(alloc, bytes)?, source, rest, out),
         _ => {}
     }
-    match rest {
-        [] => read_whole(alloc, command, bytes, source, out),
-        [word] => look_up(alloc, command, bytes, source, word, out),
+    let info = info_of(alloc, bytes)?;
+    match (command, rest) {
+        ("run", hashes) => query_chunks(alloc, &info, source, hashes, out),
+        ("run_at", words) => query_at(alloc, &info, source, words, out),
+        (_, []) => read_whole(alloc, command, &info, source, out),
+        (_, [word]) => look_up(alloc, command, &info, source, word, out),
         _ => Err(Stop::Unreadable),
     }
 }
@@ -166,20 +159,19 @@ fn read_file_ranges(
 fn read_whole(
     alloc: Global,
     command: &str,
-    bytes: &[u8],
+    info: &MDBShardInfo,
     source: &mut Device<'_>,
     out: &mut Vec<u8>,
 ) -> Result<(), Stop> {
     match command {
-        "ranges" => print_ranges(&info_of(alloc, bytes)?, out)?,
-        "read_files" => print_files(alloc, &info_of(alloc, bytes)?, source, out)?,
-        "read_xorbs" => print_xorbs(alloc, &info_of(alloc, bytes)?, source, out)?,
-        "read_xorb_headers" => print_xorb_headers(alloc, &info_of(alloc, bytes)?, source, out)?,
-        "read_xorb_table" => print_xorb_table(alloc, &info_of(alloc, bytes)?, source, out)?,
-        "read_words" => print_first_words(alloc, &info_of(alloc, bytes)?, source, out)?,
-        _ => return Err(Stop::Unreadable),
+        "ranges" => Ok(print_ranges(info, out)?),
+        "read_files" => print_files(alloc, info, source, out),
+        "read_xorbs" => print_xorbs(alloc, info, source, out),
+        "read_xorb_headers" => print_xorb_headers(alloc, info, source, out),
+        "read_xorb_table" => print_xorb_table(alloc, info, source, out),
+        "read_words" => print_first_words(alloc, info, source, out),
+        _ => Err(Stop::Unreadable),
     }
-    Ok(())
 }
 
 fn print_ranges(info: &MDBShardInfo, out: &mut Vec<u8>) -> io::Result<()> {
@@ -274,136 +266,24 @@ fn print_first_words(
 fn look_up(
     alloc: Global,
     command: &str,
-    bytes: &[u8],
+    info: &MDBShardInfo,
     source: &mut Device<'_>,
     word: &str,
     out: &mut Vec<u8>,
 ) -> Result<(), Stop> {
+    if command == "file_at" {
+        let file = info.read_file_info(alloc, source, parse_u32(word)?)?;
+        return Ok(print_file(&file, out)?);
+    }
+    let hash = parse_hash(word)?;
     match command {
-        "file_index" => {
-            let hash = parse_hash(word)?;
-            print_file_index(alloc, &info_of(alloc, bytes)?, source, hash, out)?;
-        }
-        "xorb_index" => {
-            let hash = parse_hash(word)?;
-            print_xorb_index(alloc, &info_of(alloc, bytes)?, source, hash, out)?;
-        }
-        "chunk_index" => {
-            let hash = parse_hash(word)?;
-            print_chunk_index(alloc, &info_of(alloc, bytes)?, source, hash, out)?;
-        }
-        "file_at" => {
-            let row = parse_u32(word)?;
-            let file = info_of(alloc, bytes)?.read_file_info(alloc, source, row)?;
-            print_file(&file, out)?;
-        }
+        "file_index" => print_file_index(alloc, info, source, hash, out),
+        "xorb_index" => print_xorb_index(alloc, info, source, hash, out),
+        "chunk_index" => print_chunk_index(alloc, info, source, hash, out),
         "find" => {
-            let hash = parse_hash(word)?;
-            let info = info_of(alloc, bytes)?;
             let found = info.get_file_reconstruction_info(alloc, source, &hash)?;
-            print_found(&found, out)?;
+            Ok(print_found(&found, out)?)
         }
-        _ => return Err(Stop::Unreadable),
+        _ => Err(Stop::Unreadable),
     }
-    Ok(())
-}
-
-// Runs a command through devices, and returns the bytes that it wrote, none if it only reads.
-fn run_once(
-    workspace: &Workspace,
-    alloc: Global,
-    plan: Plan,
-    words: &[&str],
-    out: &mut Vec<u8>,
-) -> Result<Written, Stop> {
-    if output_of(words).is_some() {
-        return run_writing(workspace, alloc, plan, words, out);
-    }
-    Ok(Written {
-        report: run_reading(workspace, alloc, plan, words, out)?,
-        bytes: Vec::new(alloc),
-    })
-}
-
-/// Runs a command with each call of a device failing in turn, until a run meets no failure. Prints
-/// how many failed and the last results of these runs, one if they are all the same, `as below` if
-/// they are that of the run without failure, and then the output of that run. The result of a
-/// command that ran once more ends in `other bytes` if it did not write those of that run.
-pub fn run_each_failure(
-    workspace: &Workspace,
-    alloc: Global,
-    plan: Plan,
-    words: &[&str],
-    out: &mut Vec<u8>,
-) -> Result<(), Stop> {
-    let works = Plan {
-        fault: None,
-        ..plan
-    };
-    let wanted = run_once(workspace, alloc, works, words, &mut Vec::new(alloc))?;
-    let mut answers = Vec::new(alloc);
-    let mut last = Vec::new(alloc);
-    for turn in 1..u64::MAX {
-        let mut printed = Vec::new(alloc);
-        let fault = Fault {
-            operation: Operation::Call,
-            turn,
-            kind: ErrorKind::Other,
-        };
-        let plan = Plan {
-            fault: Some(fault),
-            ..plan
-        };
-        let Written { report, bytes } = run_once(workspace, alloc, plan, words, &mut printed)?;
-        if !report.has_failed {
-            return finish(
-                turn - 1,
-                answers.as_slice(),
-                report.answer,
-                printed.as_slice(),
-                out,
-            );
-        }
-        if let Err(stop) = report.answer {
-            write!(printed, "{stop}")?;
-        }
-        if plan.runs_again && bytes != wanted.bytes {
-            write!(printed, "other bytes")?;
-        }
-        if printed != last {
-            write_separated(&mut answers, printed.as_slice())?;
-            last = printed;
-        }
-    }
-    Ok(())
-}
-
-// Prints the results of the runs with a failure, and then the output of the run without one.
-fn finish(
-    count: u64,
-    answers: &[u8],
-    last: Result<(), Stop>,
-    printed: &[u8],
-    out: &mut Vec<u8>,
-) -> Result<(), Stop> {
-    if let Err(Stop::Unreadable) = last {
-        return last;
-    }
-    let is_same = last.is_ok() && answers == printed;
-    print_failures(count, if is_same { b"as below" } else { answers }, out)?;
-    out.extend_from_slice(printed)?;
-    last
-}
-
-fn write_separated(answers: &mut Vec<u8>, answer: &[u8]) -> io::Result<()> {
-    if !answers.is_empty() {
-        write!(answers, "; ")?;
-    }
-    answers.write_all(answer)
-}
-
-fn print_failures(count: u64, answers: &[u8], out: &mut Vec<u8>) -> io::Result<()> {
-    write!(out, "failed {count}: ")?;
-    out.write_all(answers)?;
-    writeln!(out)
 }

@@ -6,8 +6,8 @@ use crate::codecs::run_codecs;
 use crate::device::{Fault, Operation, Plan, Target};
 use crate::memory::{run_on_shards, show_shards};
 use crate::minimal::print_endless;
-use crate::reading::{Report, run_each_failure, run_reading};
 use crate::rows::{push_printed, split_row};
+use crate::runs::{Report, run_each_failure, run_once};
 use crate::search::make_table;
 use crate::sections::show_sections;
 use crate::sets::unite_tree;
@@ -15,7 +15,7 @@ use crate::stop::Stop;
 use crate::values::{run_on_records, run_on_values};
 use crate::views::show_views;
 use crate::workspace::Workspace;
-use crate::writing::{output_of, run_writing};
+use crate::writing::output_of;
 use script_lines::lines::{is_skipped, split_words, without_end};
 use script_lines::words::parse_u64;
 use std::alloc::{AllocError, Global};
@@ -211,13 +211,12 @@ impl Probe {
         words: &[&str],
         out: &mut Vec<u8>,
     ) -> Result<(), Stop> {
-        let Some(name) = output_of(words) else {
-            let report = run_reading(&self.workspace, alloc, self.plan, words, out)?;
-            return self.show(&report, out);
-        };
-        let written = run_writing(&self.workspace, alloc, self.plan, words, out)?;
-        self.show(&written.report, out)?;
-        self.workspace.put_buffer(alloc, name, written.bytes)
+        let report = run_once(&self.workspace, alloc, self.plan, words, out)?;
+        self.show(&report, out)?;
+        match output_of(words) {
+            Some(name) => self.workspace.put_buffer(alloc, name, report.written),
+            None => Ok(()),
+        }
     }
 
     // Prints why a command failed, and its costs if they are switched on.

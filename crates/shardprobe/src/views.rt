@@ -27,18 +27,6 @@ pub fn show_views(
         ["file_view_under", name, record @ ..] => {
             print_file_view_under(workspace, alloc, name, record, out)?
         }
-        _ => return show_xorb_views(workspace, alloc, words, out),
-    }
-    Ok(true)
-}
-
-fn show_xorb_views(
-    workspace: &Workspace,
-    alloc: Global,
-    words: &[&str],
-    out: &mut Vec<u8>,
-) -> Result<bool, Stop> {
-    match words {
         ["xorb_view", name, call @ ..] => {
             show_xorb_view(&xorb_view(workspace, alloc, name)?, alloc, call, out)?
         }

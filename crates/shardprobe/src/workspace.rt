@@ -9,8 +9,8 @@ use xet_core_structures::shard_in_memory::MDBInMemoryShard;
 /// The shards and buffers made so far, by name. Shards and buffers have separate names.
 #[derive(Drop)]
 pub struct Workspace {
-    pub shards: BTreeMap<String, MDBInMemoryShard>,
-    pub buffers: BTreeMap<String, Vec<u8>>,
+    shards: BTreeMap<String, MDBInMemoryShard>,
+    buffers: BTreeMap<String, Vec<u8>>,
 }
 
 impl Workspace {
@@ -29,10 +29,26 @@ impl Workspace {
         }
     }
 
+    /// The same, to be changed.
+    pub fn shard_mut(&mut self, name: &str) -> Result<&mut MDBInMemoryShard, Stop> {
+        match self.shards.get_mut(name) {
+            Some(shard) => Ok(shard),
+            None => Err(Stop::Unreadable),
+        }
+    }
+
     /// The bytes of the buffer of this name. `Unreadable` if there is none.
     pub fn buffer(&self, name: &str) -> Result<&[u8], Stop> {
         match self.buffers.get(name) {
             Some(bytes) => Ok(bytes.as_slice()),
+            None => Err(Stop::Unreadable),
+        }
+    }
+
+    /// The same, to be changed.
+    pub fn buffer_mut(&mut self, name: &str) -> Result<&mut Vec<u8>, Stop> {
+        match self.buffers.get_mut(name) {
+            Some(bytes) => Ok(bytes),
             None => Err(Stop::Unreadable),
         }
     }

@@ -3,18 +3,12 @@
 use crate::device::{Device, Output, Plan, Target};
 use crate::exports::export;
 use crate::minimal::write_minimal;
-use crate::reading::{Report, set_back};
+use crate::reading::set_back;
+use crate::runs::Report;
 use crate::sets::combine;
 use crate::stop::Stop;
 use crate::workspace::Workspace;
 use std::alloc::Global;
-
-/// The result of a command that writes, and the bytes that it wrote, also if it failed.
-#[derive(Drop)]
-pub struct Written {
-    pub report: Report,
-    pub bytes: Vec<u8>,
-}
 
 /// The name of the buffer that a command writes, or `None` if it is no command that writes.
 pub fn output_of<'a>(words: &[&'a str]) -> Option<&'a str> {
@@ -35,7 +29,7 @@ pub fn run_writing(
     plan: Plan,
     words: &[&str],
     out: &mut Vec<u8>,
-) -> Result<Written, Stop> {
+) -> Result<Report, Stop> {
     let [command, first, second, ..] = words else {
         return Err(Stop::Unreadable);
     };
@@ -50,14 +44,12 @@ pub fn run_writing(
         output.clear();
         answer = write(workspace, alloc, words, &mut r1, &mut r2, &mut output, out);
     }
-    Ok(Written {
-        report: Report {
-            answer,
-            seeks_made: r1.seeks_made().saturating_add(r2.seeks_made()),
-            bytes_read: r1.bytes_read().saturating_add(r2.bytes_read()),
-            has_failed,
-        },
-        bytes: output.into_bytes(),
+    Ok(Report {
+        answer,
+        seeks_made: r1.seeks_made().saturating_add(r2.seeks_made()),
+        bytes_read: r1.bytes_read().saturating_add(r2.bytes_read()),
+        has_failed,
+        written: output.into_bytes(),
     })
 }
 
