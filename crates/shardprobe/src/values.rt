@@ -1,4 +1,4 @@
-//! Commands on hashes, names and errors, and on single records.
+//! Commands on hashes, names and errors, and on flags and single records.
 
 ghost use Rattle.std.specs.Prelude.{◌<◌, ◌^◌, ◌↔◌, IsTrue};
 ghost use Rattle.xet_core_structures.specs.XorbRecord.{end_of_chunk};
@@ -6,9 +6,9 @@ ghost use Rattle.xet_core_structures.specs.XorbRecord.{end_of_chunk};
 use crate::parse::{parse_bytes, parse_file, parse_xorb, split_at_with};
 use crate::show::{Short, print_file, print_hash, print_words, print_xorb};
 use crate::stop::Stop;
-use script_lines::words::{parse_hash, parse_key};
+use script_lines::words::{parse_hash, parse_key, parse_u32};
 use std::alloc::Global;
-use std::io::Write;
+use std::io::{self, Write};
 use xet_core_structures::error::CoreError;
 use xet_core_structures::file_structs::FileDataSequenceHeader;
 use xet_core_structures::merklehash::MerkleHash;
@@ -61,6 +61,7 @@ fn hash_of_bytes(alloc: Global, digits: &[&str]) -> Result<MerkleHash, Stop> {
 /// Runs a command on records alone. `false` if the words are no such command.
 pub fn run_on_records(alloc: Global, words: &[&str], out: &mut Vec<u8>) -> Result<bool, Stop> {
     match words {
+        ["flags", first, second] => print_flags(parse_u32(first)?, parse_u32(second)?, out)?,
         ["merge", records @ ..] => print_merged(alloc, records, out)?,
         ["clone_file", record @ ..] => clone_file(alloc, record, out)?,
         ["clone_xorb", record @ ..] => clone_xorb(alloc, record, out)?,
@@ -80,6 +81,21 @@ fn clone_xorb(alloc: Global, record: &[&str], out: &mut Vec<u8>) -> Result<(), S
     let xorb = parse_xorb(alloc, record)?;
     print_xorb(&xorb.try_clone(alloc)?, out)?;
     Ok(())
+}
+
+fn print_flags(first: u32, second: u32, out: &mut Vec<u8>) -> io::Result<()> {
+    let compared = FileDataSequenceHeader::compare_flag_superset(
+        &header_with(first),
+        &header_with(second),
+    );
+    writeln!(out, "{compared:?}")
+}
+
+fn header_with(file_flags: u32) -> FileDataSequenceHeader {
+    FileDataSequenceHeader {
+        file_flags,
+        ..FileDataSequenceHeader::default()
+    }
 }
 
 fn print_merged(alloc: Global, records: &[&str], out: &mut Vec<u8>) -> Result<(), Stop> {
