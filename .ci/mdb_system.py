@@ -229,6 +229,23 @@ def lists_name_shards(place):
     wants("none", (run.returncode, run.stdout.decode()) == (1, f"none {'0' * 64}\n"))
 
 
+def large_file_is_not_read_whole(place):
+    # The footer of a shard of 452 bytes, 2 GiB after what is before it.
+    shard = place.made["one_file.mdb"]
+    with open(place.path("sparse.mdb"), "wb") as file:
+        file.write(shard[:252])
+        file.seek(2 << 30)
+        file.write(shard[252:])
+    size = (2 << 30) + 200
+    run = place.run("info", "--brief", "sparse.mdb")
+    wants("its summary", run.stdout.startswith(b"sparse.mdb: version 3, %d bytes, stored 0, materialized 5\n" % size))
+    for words in (("files", "--long"), ("xorbs",), ("chunks",)):
+        wants(words[0], place.run(*words, "sparse.mdb").stdout == place.run(*words, "one_file.mdb").stdout)
+    found = "0000000000000064000000000000000100000000000000000000000000000000"
+    run, whole = (place.run("find", it, found, "--costs") for it in ("sparse.mdb", "one_file.mdb"))
+    wants("a lookup", (run.returncode, run.stdout) == (0, whole.stdout))
+
+
 def controls_are_not_printed(place):
     name = "a\x1b[31m\n\x7f\u009b.mdb"
     shown = "a\\u{1b}[31m\\u{a}\\u{7f}\\u{9b}.mdb"
@@ -275,7 +292,7 @@ ROWS = (
     new_file_has_the_mode_of_others, mode_stays, owner_stays, device_is_written_to, full_device_fails,
     pipe_is_written_to, link_is_followed, link_to_nothing_is_refused, folder_is_refused, taken_names_block_nothing,
     full_disk_leaves_the_target, killed_run_leaves_the_target, word_that_is_no_text, standard_input_is_a_shard,
-    lists_name_shards, controls_are_not_printed,
+    lists_name_shards, large_file_is_not_read_whole, controls_are_not_printed,
     closed_pipe_ends_quietly, terminal_gets_no_shard, now_is_the_clock,
 )
 

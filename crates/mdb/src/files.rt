@@ -2,8 +2,8 @@
 
 use crate::beside::write_beside;
 use std::alloc::Global;
-use std::fs::{File, Metadata, OpenOptions};
-use std::io::{ErrorKind, Read, Write};
+use std::fs::{Metadata, OpenFile, OpenOptions};
+use std::io::{ErrorKind, Read, Seek, SeekFrom, Write};
 use std::random::RandomSource;
 use std::rt::Files;
 use std::{fs, io};
@@ -12,6 +12,11 @@ use std::{fs, io};
 /// is written.
 pub const STANDARD_STREAM: &str = "-";
 
+/// The bytes of a shard's header, and those of its header and its footer together.
+const HEADER_SIZE: usize = 48;
+
+const ENDS_SIZE: usize = 248;
+
 /// The bytes of a file, or what is left of standard input if the path is `-`.
 pub fn read<R: Files + Input + AllocGlobal>(rt: &R, path: &str) -> io::Result<Vec<u8>> {
     if path != STANDARD_STREAM {
@@ -19,6 +24,32 @@ pub fn read<R: Files + Input + AllocGlobal>(rt: &R, path: &str) -> io::Result<Ve
     }
     let mut bytes = Vec::new(rt.alloc());
     rt.reader().read_to_end(&mut bytes)?;
+    Ok(bytes)
+}
+
+/// A file that can be sought, and its size; `None` if what is at the path is no regular file, or has
+/// no size, as files of the system that are made as they are read.
+pub fn open_sized<R: Files>(rt: &R, path: &str) -> io::Result<Option<(R::File, u64)>> {
+    if path == STANDARD_STREAM || !fs::metadata(rt, path)?.is_file() {
+        return Ok(None);
+    }
+    let file = fs::open(rt, path)?;
+    match file.metadata()?.len() {
+        0 => Ok(None),
+        size => Ok(Some((file, size))),
+    }
+}
+
+/// The bytes of the header with which a file begins and those of the footer with which it ends.
+pub fn read_ends<R: Files + AllocGlobal>(rt: &R, path: &str) -> io::Result<Vec<u8>> {
+    let mut file = fs::open(rt, path)?;
+    let size = file.metadata()?.len();
+    let ends = size.min(ENDS_SIZE as u64) as usize;
+    let mut bytes = vec![in rt.alloc(); 0u8; ends]?;
+    let (header, footer) = bytes.as_mut_slice().split_at_mut(ends.min(HEADER_SIZE));
+    file.read_exact(header)?;
+    file.seek(SeekFrom::Start(size - footer.len() as u64))?;
+    file.read_exact(footer)?;
     Ok(bytes)
 }
 

@@ -1,16 +1,19 @@
 //! The commands that print.
 
 use crate::failure::{Failure, Subject};
-use crate::files::read;
+use crate::files::{open_sized, read, read_ends};
 use crate::inputs::Inputs;
 use crate::run::{Status, failed};
-use mdb_report::fault::{Fault, fault_of};
+use mdb_report::fault::{Fault, fault_of, section_fault};
 use mdb_report::inquiry::{Answer, Inquiry, Trouble, print_answer, print_end};
 use mdb_report::line::{Layout, Style};
+use mdb_report::paged_inquiry::print_paged_answer;
 use mdb_report::tally::Tally;
+use std::alloc::Global;
 use std::io;
 use std::io::{BufWriter, ErrorKind, Write};
 use std::rt::Files;
+use xet_core_structures::error::CoreError;
 
 /// Prints what each of some shards answers, and reports on standard error what fails.
 pub fn inspect<R: Files + Input + Print + Eprint + AllocGlobal>(
@@ -69,7 +72,31 @@ pub fn inspect<R: Files + Input + Print + Eprint + AllocGlobal>(
     }
 }
 
+// Reads of a file only what the answer needs, if it can be sought.
 fn inspect_file<'a, R: Files + Input + AllocGlobal, W: Write>(
+    rt: &R,
+    file: &'a str,
+    inquiry: &Inquiry,
+    layout: Layout<'_>,
+    tally: &mut Tally,
+    output: &mut W,
+) -> Result<Answer, Failure<'a>> {
+    let alloc = rt.alloc();
+    let (opened, size) = match open_sized(rt, file) {
+        Ok(Some(opened)) => opened,
+        Ok(None) => return inspect_whole(rt, file, inquiry, layout, tally, output),
+        Err(error) => return Err(Failure::on_file(file, Fault::from(error))),
+    };
+    match print_paged_answer(alloc, inquiry, file, opened, size, layout, tally, output) {
+        Ok(Some(answer)) => Ok(answer),
+        Ok(None) => inspect_whole(rt, file, inquiry, layout, tally, output),
+        Err(Trouble::Ends(error)) => Err(explained(alloc, file, read_ends(rt, file), error)),
+        Err(Trouble::Shard(error)) => Err(explained(alloc, file, read(rt, file), error)),
+        Err(trouble) => Err(failure_of(alloc, file, &[], trouble)),
+    }
+}
+
+fn inspect_whole<'a, R: Files + Input + AllocGlobal, W: Write>(
     rt: &R,
     file: &'a str,
     inquiry: &Inquiry,
@@ -92,11 +119,31 @@ fn inspect_file<'a, R: Files + Input + AllocGlobal, W: Write>(
         output,
     ) {
         Ok(answer) => Ok(answer),
-        Err(Trouble::Shard(error)) => {
-            let fault = fault_of(alloc, bytes.as_slice(), error);
-            Err(Failure::on_file(file, fault))
-        }
-        Err(Trouble::NoTable(table)) => Err(Failure::on_file(file, Fault::NoTable(table))),
-        Err(Trouble::Output(error)) => Err(Failure::on_output(Fault::from(error))),
+        Err(trouble) => Err(failure_of(alloc, file, bytes.as_slice(), trouble)),
     }
+}
+
+// The failure behind an error, from what was read of the file to explain it.
+fn explained<'a>(
+    alloc: Global,
+    file: &'a str,
+    bytes: io::Result<Vec<u8>>,
+    error: CoreError,
+) -> Failure<'a> {
+    match bytes {
+        Ok(bytes) => Failure::on_file(file, fault_of(alloc, bytes.as_slice(), error)),
+        Err(error) => Failure::on_file(file, Fault::from(error)),
+    }
+}
+
+// The failure behind a trouble with a file of these bytes.
+fn failure_of<'a>(alloc: Global, file: &'a str, bytes: &[u8], trouble: Trouble) -> Failure<'a> {
+    let fault = match trouble {
+        Trouble::Shard(error) | Trouble::Ends(error) => fault_of(alloc, bytes, error),
+        Trouble::Section(section, error) => section_fault(section, error),
+        Trouble::NoTable(table) => Fault::NoTable(table),
+        Trouble::Input(error) => Fault::from(error),
+        Trouble::Output(error) => return Failure::on_output(Fault::from(error)),
+    };
+    Failure::on_file(file, fault)
 }

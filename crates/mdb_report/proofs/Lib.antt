@@ -1,3 +1,4 @@
 pub mod Bar
+pub mod PageBytes
 pub mod Problems
 pub mod Reading

@@ -1,6 +1,6 @@
 -- Files that are read fit their headers, and each gets its report.
 use Rattle.std.proofs.Common.{◌≡◌, inl, inr, ℕ, ◌+◌, ◌<◌, List, [], ◌∷◌, ◌++◌, take, get_or, Ok, Err, sym, refl, ap, ◌∙◌, subst, length}
-use Rattle.std.specs.Prelude.{All, IfOk, MatchResult}
+use Rattle.std.specs.Prelude.{All, IfOk, IfSome, MatchResult, Option, None, Some}
 use Rattle.std.specs.List.{AllZip}
 use Rattle.std.proofs.lemmas.List.{take_more}
 use Rattle.std.specs.declared.vec.Vec.{Vec}
@@ -14,6 +14,7 @@ use Rattle.xet_core_structures.specs.SectionReading.{ReadsAll, ReadsFiles}
 use Rattle.xet_core_structures.specs.declared.file_structs.MDBFileInfo.{MDBFileInfo}
 use Rattle.xet_records.specs.declared.record_reader.FormatVersion.{FormatVersion}
 use Rattle.xet_records.specs.declared.file_structs.header.FileDataSequenceHeader.{FileDataSequenceHeader}
+use Rattle.xet_records.specs.Reading.{ReadsNextRecord}
 use Rattle.xet_records.specs.RecordKind.{RecordKind}
 use Rattle.shard_bytes.proofs.Combining.{in_memory}
 use Rattle.mdb_report.specs.Records.{HoldsFiles, FilesRefusal}
@@ -48,3 +49,12 @@ one_more_report R xs ys more i x y below at pushed all one =
     subst (λ zs. AllZip R (take (i + 1) xs) zs) (sym pushed)
     (subst (λ zs. AllZip R zs (ys ++ y ∷ [])) (sym (take_more xs i x below ∙ ap (λ z. take i xs ++ z ∷ []) (sym at)))
     (all_zip_pushed R (take i xs) ys x y all one))
+
+-- the next file of a section fits its header, if there is one
+pub next_file_fits : (Took : List ℕ → Type 0) (version : FormatVersion) (left after : ℕ) (found : Option MDBFileInfo)
+    → ReadsNextRecord (file_records_in version) Took left after found → IfSome found FitsItsHeader
+next_file_fits Took version left after None reads = tt
+next_file_fits Took version left after (Some file) reads =
+    let K : RecordKind FileDataSequenceHeader MDBFileInfo = file_records_in version in
+    let read = reads.reads in
+    (stored_ever file_records version file (subst K.IsStored read.handed ((laws_in file_records file_laws version).handed_stored read.stored read.is_stored))).whole

@@ -2,6 +2,7 @@ pub mod Answers
 pub mod Brief
 pub mod Faults
 pub mod Lookups
+pub mod Pages
 pub mod Parts
 pub mod Problems
 pub mod Records

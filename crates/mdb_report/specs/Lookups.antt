@@ -7,6 +7,8 @@ use Rattle.xet_core_structures.specs.declared.file_structs.MDBFileInfo.{MDBFileI
 use Rattle.xet_core_structures.specs.declared.merklehash.DataHash.{DataHash}
 use Rattle.xet_core_structures.specs.Lookup.{Finding, file_table}
 use Rattle.xet_core_structures.specs.SectionReading.{files_of}
+use Rattle.xet_core_structures.specs.declared.shard_format.MDBShardInfo.{MDBShardInfo}
+use Rattle.xet_core_structures.specs.RunReading.{QueryAnswer}
 use Rattle.xet_core_structures.specs.Source.{Source}
 use Rattle.shard_bytes.specs.Finding.{RefusesFile}
 use Rattle.shard_bytes.specs.Outcomes.{HasOutcome}
@@ -48,6 +50,24 @@ pub record ReportsLookup (bytes : List ℕ) (hash : DataHash) (with_costs : Bool
   pub has_costs : is_some report.costs ≡ with_costs
   pub costs_are : IfSome report.costs (λ c. c ≡ costs)
 
+-- what a lookup of the hash finds between two states of a source, and what it costs
+abbrev pub FindsIn : MDBShardInfo → DataHash → Source → Source → Option MDBFileInfo → Costs → Type 0
+FindsIn info hash before after found costs =
+    Finding (files_of info) (file_table info.metadata before) info.metadata.file_info_offset hash
+    before after found
+    × AreCosts before after costs
+
+-- the report of such a lookup, with its costs if they are wanted, and else without
+pub record ReportsFinding (info : MDBShardInfo) (hash : DataHash) (with_costs : Bool)
+    (before after : Source) (report : FoundReport) : Type 0 where
+  pub file : Option MDBFileInfo
+  pub costs : Costs
+  pub finds : FindsIn info hash before after file costs
+  pub looked_up : report.hash.0 ≡ hash
+  pub found : ReportsFound file report.found
+  pub has_costs : is_some report.costs ≡ with_costs
+  pub costs_are : IfSome report.costs (λ c. c ≡ costs)
+
 abbrev pub run_of : ℕ × FileDataSequenceEntry → Run
 run_of run = record { chunks = run.0; segment = segment_report run.1 }
 
@@ -56,6 +76,13 @@ pub record ReportsQuery (bytes : List ℕ) (hashes : List DataHash) (report : Ru
     : Type 0 where
   pub answer : Option (ℕ × FileDataSequenceEntry)
   pub answers : AnswersQuery bytes hashes answer
+  pub run : report.run ≡ option_map run_of answer
+
+-- the report of what a query of the chunks answers between two states of a source
+pub record ReportsRun (info : MDBShardInfo) (hashes : List DataHash) (before after : Source)
+    (report : RunReport) : Type 0 where
+  pub answer : Option (ℕ × FileDataSequenceEntry)
+  pub answers : QueryAnswer info.metadata hashes before after answer
   pub run : report.run ≡ option_map run_of answer
 
 abbrev pub LookupRefusal : List ℕ → DataHash → CoreError → Type 0

@@ -14,6 +14,7 @@ use shard_bytes::load::load_bytes;
 use std::alloc::Global;
 use std::fmt;
 use xet_core_structures::error::Result;
+use xet_core_structures::shard_format::MDBShardInfo;
 
 /// What a shard's header and footer say, without where the parts are.
 #[derive(Drop, Serialize)]
@@ -39,14 +40,21 @@ impl<'a> Brief<'a> {
             (LoadRefusal bytes.now) }
     {
         let info = load_bytes(alloc, bytes)?;
-        Ok(Brief {
+        Ok(Brief::of_info(file, &info, bytes.len() as u64))
+    }
+
+    /// What is said of a shard of so many bytes that has this header and footer.
+    pub fn of_info(file: &'a str, info: &MDBShardInfo, bytes: u64) -> Brief<'a>
+        ensures { SaysBriefly info.now file.now bytes result }
+    {
+        Brief {
             file,
             version: info.header.version,
-            bytes: bytes.len() as u64,
-            key: key_of(&info),
+            bytes,
+            key: key_of(info),
             stored_bytes: info.metadata.stored_bytes,
             materialized_bytes: info.metadata.materialized_bytes,
-        })
+        }
     }
 }
 

@@ -30,6 +30,13 @@ impl<S: ShardSource> CountingSource<S> {
         }
     }
 
+    /// The source that is counted.
+    pub fn inner(&self) -> &S
+        ensures { result.now ≡ self.now.source }
+    {
+        &self.source
+    }
+
     /// The seeks so far.
     pub fn seeks(&self) -> u64
         ensures { result ≡ min (S.meaning self.now.source).seeks (2 ^ 64 - 1) }

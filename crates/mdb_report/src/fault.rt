@@ -6,7 +6,7 @@ ghost use Rattle.mdb_report.specs.Faults.{IsFaultOf, KeepsFrom, IsObstacle, IsUn
 
 use crate::problem::InWords;
 use crate::tables::Table;
-use shard_bytes::check::{Finding, Part, check_bytes};
+use shard_bytes::check::{Finding, Part, Section, check_bytes};
 use shard_bytes::load::load_bytes;
 use std::alloc::{AllocError, AllocFailed, Global};
 use std::{fmt, io};
@@ -144,6 +144,21 @@ pub fn fault_of(alloc: Global, bytes: &[u8], error: CoreError) -> Fault
             Ok(None) => Fault::Other(error),
             Err(fault) => fault,
         },
+    }
+}
+
+/// The fault behind an error of reading a section, one record after another.
+pub fn section_fault(section: Section, error: CoreError) -> Fault
+    ensures memory { error ≡ CoreError.OutOfMemory → result ≡ Fault.OutOfMemory }
+{
+    match error {
+        CoreError::OutOfMemory => Fault::OutOfMemory,
+        CoreError::InvalidShard(_) => Fault::Bytes(Finding::Refused(section)),
+        CoreError::Io(error) if error.kind() == io::ErrorKind::UnexpectedEof => {
+            Fault::Bytes(Finding::Cut(section))
+        }
+        CoreError::Io(error) => Fault::Device(error),
+        error => Fault::Other(error),
     }
 }
 

@@ -2,6 +2,7 @@
 
 ghost use Rattle.std.specs.Prelude.{◌≡◌, ◌≢◌, ◌↔◌, IfOk, IsTrue};
 ghost use Rattle.shard_bytes.specs.Checking.{IsWhole};
+ghost use Rattle.mdb_report.specs.Parts.{PartsAscend};
 ghost use Rattle.mdb_report.specs.Answers.{FindsProblems, LooksUp, IsClean, HasAscendingParts};
 
 use crate::brief::Brief;
@@ -13,6 +14,7 @@ use crate::records::{ChunkReport, XorbReport, file_reports};
 use crate::summary::Summary;
 use crate::tables::{Table, lacks_chunk_table, lacks_file_table};
 use crate::tally::Tally;
+use shard_bytes::check::Section;
 use shard_bytes::load::load_bytes;
 use shard_bytes::minimal::eligible_chunks;
 use std::alloc::{AllocError, Global};
@@ -21,6 +23,7 @@ use std::io::Write;
 use xet_core_structures::error::CoreError;
 use xet_core_structures::merklehash::MerkleHash;
 use xet_core_structures::source::MemorySource;
+use xet_core_structures::xorb_structs::MDBXorbInfo;
 
 /// What a shard is asked.
 #[derive(Drop)]
@@ -86,6 +89,12 @@ pub enum Answer {
 pub enum Trouble {
     /// A call on the shard's bytes failed, or an allocation.
     Shard(CoreError),
+    /// Header and footer could not be read.
+    Ends(CoreError),
+    /// A section could not be read to its bookend.
+    Section(Section, CoreError),
+    /// The file could not be read.
+    Input(io::Error),
     /// The shard has records, but not the table by which they are looked up.
     NoTable(Table),
     /// The output failed.
@@ -211,9 +220,21 @@ fn summarize<W: Write>(
         × (answer ≡ Answer.Printed → HasAscendingParts bytes.now)) }
 {
     let summary = Summary::of_bytes(alloc, file, bytes)?;
-    let ascends = summary.parts.ascend();
-    print(alloc, &summary, Layout::plain(style), output)?;
-    if ascends {
+    print_summary(alloc, &summary, style, output)
+}
+
+// Prints a summary, and answers whether its parts ascend.
+pub(crate) fn print_summary<W: Write>(
+    alloc: Global,
+    summary: &Summary<'_>,
+    style: Style,
+    output: &mut W,
+) -> Result<Answer, Trouble>
+    ensures { IfOk result (λ answer. (answer ≢ Answer.FoundNothing)
+        × (answer ≡ Answer.Printed → PartsAscend summary.now.parts)) }
+{
+    print(alloc, summary, Layout::plain(style), output)?;
+    if summary.parts.ascend() {
         Ok(Answer::Printed)
     } else {
         Ok(Answer::FoundProblems)
@@ -264,24 +285,35 @@ fn find<W: Write>(
     if lacks_file_table(alloc, bytes)? {
         return Err(Trouble::NoTable(Table::Files));
     }
-    let prints_all = layout.shard.is_none() || costs;
     let mut found = false;
     for hash in hashes {
         let report = FoundReport::of_lookup(alloc, bytes, *hash, costs)?;
-        let is_found = report.found.is_some();
-        if is_found {
-            tally.add_found(*hash)?;
-            found = true;
-        }
-        if is_found || prints_all {
-            print(alloc, &report, layout, output)?;
-        }
+        found |= print_lookup(alloc, &report, layout, tally, output)?;
     }
     if found {
         Ok(Answer::Printed)
     } else {
         Ok(Answer::FoundNothing)
     }
+}
+
+// Prints what a lookup found, and answers whether it found something. If it has found nothing, it is
+// printed without the name of a shard, or with its costs.
+pub(crate) fn print_lookup<W: Write>(
+    alloc: Global,
+    report: &FoundReport,
+    layout: Layout<'_>,
+    tally: &mut Tally,
+    output: &mut W,
+) -> Result<bool, Trouble> {
+    let found = report.found.is_some();
+    if found {
+        tally.add_found(report.hash.0)?;
+    }
+    if found || report.costs.is_some() || layout.shard.is_none() {
+        print(alloc, report, layout, output)?;
+    }
+    Ok(found)
 }
 
 // Looks for a run of chunks.
@@ -299,13 +331,26 @@ fn query<W: Write>(
         return Err(Trouble::NoTable(Table::Chunks));
     }
     let report = RunReport::of_query(alloc, bytes, hashes)?;
+    print_run(alloc, &report, layout, tally, output)
+}
+
+// Prints what a query found; if that is nothing, only without the name of a shard.
+pub(crate) fn print_run<W: Write>(
+    alloc: Global,
+    report: &RunReport,
+    layout: Layout<'_>,
+    tally: &mut Tally,
+    output: &mut W,
+) -> Result<Answer, Trouble>
+    ensures { IfOk result (λ answer. answer ≢ Answer.FoundProblems) }
+{
     if report.run.is_some() {
         tally.has_run = true;
-        print(alloc, &report, layout, output)?;
+        print(alloc, report, layout, output)?;
         return Ok(Answer::Printed);
     }
     if layout.shard.is_none() {
-        print(alloc, &report, layout, output)?;
+        print(alloc, report, layout, output)?;
     }
     Ok(Answer::FoundNothing)
 }
@@ -355,10 +400,22 @@ fn print_chunks<W: Write>(
     let mut source = MemorySource::new(bytes);
     let xorbs = info.read_all_xorb_blocks_full(alloc, &mut source)?;
     for xorb in &xorbs {
-        for (index, chunk) in xorb.chunks.as_slice().iter().enumerate() {
-            let chunk = ChunkReport::of_chunk(xorb, index as u64, chunk, long);
-            print(alloc, &chunk, layout, output)?;
-        }
+        print_chunks_of(alloc, xorb, long, layout, output)?;
+    }
+    Ok(())
+}
+
+// Prints the chunks of a xorb.
+pub(crate) fn print_chunks_of<W: Write>(
+    alloc: Global,
+    xorb: &MDBXorbInfo,
+    long: bool,
+    layout: Layout<'_>,
+    output: &mut W,
+) -> io::Result<()> {
+    for (index, chunk) in xorb.chunks.as_slice().iter().enumerate() {
+        let chunk = ChunkReport::of_chunk(xorb, index as u64, chunk, long);
+        print(alloc, &chunk, layout, output)?;
     }
     Ok(())
 }

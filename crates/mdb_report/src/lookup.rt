@@ -1,10 +1,10 @@
 //! What lookups and queries find.
 
-ghost use Rattle.std.specs.Prelude.{◌≡◌, None, IfOk, IfSome, IsNone, MatchResult};
+ghost use Rattle.std.specs.Prelude.{◌≡◌, None, IfOk, IfSome, IsNone, MatchResult, option_map};
 ghost use Rattle.xet_core_structures.specs.FileRecord.{FitsItsHeader};
 ghost use Rattle.shard_bytes.specs.Finding.{RefusesFile};
 ghost use Rattle.shard_bytes.specs.Query.{RefusesQuery};
-ghost use Rattle.mdb_report.specs.Lookups.{FindsAt, ReportsLookup, ReportsQuery, LookupRefusal};
+ghost use Rattle.mdb_report.specs.Lookups.{FindsAt, FindsIn, ReportsLookup, ReportsFinding, ReportsQuery, ReportsRun, LookupRefusal, run_of};
 
 use crate::counting::CountingSource;
 use crate::hex::Hex;
@@ -14,10 +14,10 @@ use shard_bytes::query::query_chunks;
 use std::alloc::Global;
 use std::fmt;
 use xet_core_structures::error::Result;
-use xet_core_structures::file_structs::MDBFileInfo;
+use xet_core_structures::file_structs::{FileDataSequenceEntry, MDBFileInfo};
 use xet_core_structures::merklehash::MerkleHash;
 use xet_core_structures::shard_format::MDBShardInfo;
-use xet_core_structures::source::MemorySource;
+use xet_core_structures::source::{MemorySource, ShardSource};
 
 /// What a lookup of a file found.
 #[derive(Drop, Serialize)]
@@ -74,6 +74,54 @@ impl FoundReport {
             costs: if with_costs { Some(costs) } else { None },
         })
     }
+}
+
+impl FoundReport {
+    /// Looks up a file in a source of a shard that has this header and footer.
+    ///
+    /// The errors are those of [`MDBShardInfo::get_file_reconstruction_info`], and `OutOfMemory`.
+    pub fn in_source<S: ShardSource>(
+        alloc: Global,
+        info: &MDBShardInfo,
+        source: &mut CountingSource<S>,
+        hash: MerkleHash,
+        with_costs: bool,
+    ) -> Result<FoundReport>
+        ensures { IfOk result (ReportsFinding info.now hash with_costs
+            (S.meaning source.old.source) (S.meaning source.new.source)) }
+    {
+        let (file, costs) = find_in(alloc, info, source, &hash)?;
+        let found = match file {
+            Some(file) => Some(FileReport::of_file(alloc, &file, true)?),
+            None => None,
+        };
+        Ok(FoundReport {
+            hash: Hex(hash),
+            found,
+            costs: if with_costs { Some(costs) } else { None },
+        })
+    }
+}
+
+// Looks up a file in a source, and counts the seeks and the bytes read.
+fn find_in<S: ShardSource>(
+    alloc: Global,
+    info: &MDBShardInfo,
+    source: &mut CountingSource<S>,
+    hash: &MerkleHash,
+) -> Result<(Option<MDBFileInfo>, Costs)>
+    ensures finds { IfOk result (λ found. FindsIn info.now hash.now
+        (S.meaning source.old.source) (S.meaning source.new.source) found.0 found.1) }
+    ensures fits { IfOk result (λ found. IfSome found.0 FitsItsHeader) }
+{
+    let seeks = source.seeks();
+    let read = source.read();
+    let found = info.get_file_reconstruction_info(alloc, source, hash)?;
+    let costs = Costs {
+        seeks: source.seeks().saturating_sub(seeks),
+        bytes_read: source.read().saturating_sub(read),
+    };
+    Ok((found, costs))
 }
 
 // Looks up a file in the bytes of a shard, and counts the seeks and the bytes read.
@@ -135,14 +183,37 @@ impl RunReport {
         ensures { MatchResult result (ReportsQuery bytes.now hashes.now)
             (RefusesQuery bytes.now hashes.now) }
     {
-        let run = match query_chunks(alloc, bytes, hashes)? {
+        Ok(RunReport::of_answer(query_chunks(alloc, bytes, hashes)?))
+    }
+
+    /// Looks for a run of these chunks in a source of a shard that has this header and footer.
+    ///
+    /// The errors are those of [`MDBShardInfo::chunk_hash_dedup_query`].
+    pub fn in_source<S: ShardSource>(
+        alloc: Global,
+        info: &MDBShardInfo,
+        source: &mut S,
+        hashes: &[MerkleHash],
+    ) -> Result<RunReport>
+        ensures { IfOk result (ReportsRun info.now hashes.now
+            (S.meaning source.old) (S.meaning source.new)) }
+    {
+        let answer = info.chunk_hash_dedup_query(alloc, source, hashes)?;
+        Ok(RunReport::of_answer(answer))
+    }
+
+    // The report of what a query answers.
+    fn of_answer(answer: Option<(usize, FileDataSequenceEntry)>) -> RunReport
+        ensures { result.run ≡ option_map run_of answer }
+    {
+        let run = match answer {
             Some((chunks, segment)) => Some(Run {
                 chunks,
                 segment: SegmentReport::of_segment(&segment),
             }),
             None => None,
         };
-        Ok(RunReport { run })
+        RunReport { run }
     }
 }
 

@@ -1,6 +1,6 @@
 //! What a shard's header and footer say.
 
-ghost use Rattle.std.specs.Prelude.{◌≡◌, ◌⊎◌, length, MatchResult};
+ghost use Rattle.std.specs.Prelude.{◌≡◌, ◌⊎◌, length, IfOk, MatchResult};
 ghost use Rattle.xet_core_structures.specs.declared.error.CoreError.{CoreError};
 ghost use Rattle.xet_core_structures.specs.declared.shard_format.MDBShardInfo.{MDBShardInfo as Info};
 ghost use Rattle.xet_core_structures.specs.Ends.{HasEnds};
@@ -13,7 +13,7 @@ use crate::parts::{LEGEND, Parts, bar_of};
 use crate::shown::Shown;
 use serde::Serialize;
 use shard_bytes::load::load_bytes;
-use std::alloc::Global;
+use std::alloc::{AllocError, Global};
 use std::fmt;
 use xet_core_structures::error::Result;
 use xet_core_structures::shard_format::MDBShardInfo;
@@ -51,22 +51,34 @@ impl<'a> Summary<'a> {
             (λ e. LoadRefusal bytes.now e ⊎ (e ≡ CoreError.OutOfMemory)) }
     {
         let info = load_bytes(alloc, bytes)?;
-        let length = bytes.len() as u64;
-        let parts = Parts::of_shard(&info, length);
+        Ok(Summary::of_info(alloc, file, &info, bytes.len() as u64)?)
+    }
+
+    /// The summary of a shard of so many bytes that has this header and footer. It fails only if
+    /// memory is lacking.
+    pub fn of_info(
+        alloc: Global,
+        file: &'a str,
+        info: &MDBShardInfo,
+        bytes: u64,
+    ) -> std::result::Result<Summary<'a>, AllocError>
+        ensures { IfOk result (Summarizes info.now file.now bytes) }
+    {
+        let parts = Parts::of_shard(info, bytes);
         let footer = info.metadata;
         Ok(Summary {
             file,
-            bytes: length,
+            bytes,
             version: info.header.version,
             ascends: parts.ascend(),
             parts,
-            key: key_of(&info),
+            key: key_of(info),
             created: Moment::of_seconds(alloc, footer.shard_creation_timestamp)?,
             expires: Moment::of_seconds(alloc, footer.shard_key_expiry)?,
             stored_bytes: footer.stored_bytes,
             stored_bytes_on_disk: footer.stored_bytes_on_disk,
             materialized_bytes: footer.materialized_bytes,
-            bar: bar_of(alloc, &parts, length)?,
+            bar: bar_of(alloc, &parts, bytes)?,
         })
     }
 }

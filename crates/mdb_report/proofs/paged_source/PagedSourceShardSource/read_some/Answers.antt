@@ -1,0 +1,23 @@
+use Rattle.std.proofs.Common.{rules, ◌≡◌, ℕ, ◌+◌, ◌-◌, ◌*◌, ◌/◌, ◌%◌, ◌<◌, ◌≤◌, length, get_or, sym, ap, ◌∙◌, arith}
+use Rattle.std.proofs.lemmas.Nat.{div-add-mod'}
+use Rattle.std.specs.Prelude.{Option, Some}
+use Rattle.mdb_report.specs.declared.pages.Page.{Page}
+use Rattle.mdb_report.proofs.PageBytes.{size_of, bytes_of_page}
+use Rattle.mdb_report.proofs.paged_source.PagedSourceShardSource.read_some.Goals as goal
+
+pub returns : goal.returns
+returns c =
+    let s = c.args.self.now in
+    let ps = s.pages.now in
+    let e = c.copy_from-n.ensures in
+    let n = c.copy_from-n.result in
+    let apart : s.at ≡ s.at / 16384 * 16384 + s.at % 16384 = sym (div-add-mod' s.at 16384) in
+    let before : s.at < ps.size = search rules in
+    let within : s.at + n ≤ ps.size = omega (arith, before, e.most) in
+    record {
+      fits = omega (arith, e.fits, e.len);
+      within = λ some. omega (arith, size_of ps, within);
+      filled = e.filled ∙ sym (bytes_of_page ps (Some c.in-Some.page) (Some c.in-Some.page) s.at (s.at / 16384) (s.at % 16384) n (search rules) (search rules) apart e.within within);
+      end = λ none some. absurd (omega (arith, none, before, e.some (omega (arith, some, e.len)) (omega (arith, before))));
+      after = search rules;
+    }

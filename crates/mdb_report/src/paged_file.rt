@@ -1,0 +1,142 @@
+//! A file of which pages are read as they are needed.
+
+use crate::counting::CountingSource;
+use crate::inquiry::Trouble;
+use crate::lookup::{FoundReport, RunReport};
+use crate::paged_source::PagedSource;
+use crate::pages::{PAGE_SIZE, Page, Pages};
+use std::alloc::{AllocError, Global};
+use std::io;
+use std::io::{Read, Seek, SeekFrom};
+use xet_core_structures::error::CoreError;
+use xet_core_structures::merklehash::MerkleHash;
+use xet_core_structures::shard_format::MDBShardInfo;
+
+/// How often a lookup is begun again after it lacked a page: with what is read by then, no record is
+/// too long.
+const ROUNDS: u32 = 512;
+
+/// The rounds in which one page is read.
+const SINGLE_ROUNDS: u32 = 16;
+
+/// The most pages that are read in a round, as a power of two.
+const MOST_PAGES_LOG: u32 = 16;
+
+/// A file, and the pages of it that are in memory. Each call goes to them; where it lacks a page, the
+/// page is read and the call made again.
+#[derive(Drop)]
+pub struct PagedFile<F: Read + Seek + Drop> {
+    file: F,
+    pages: Pages,
+}
+
+impl<F: Read + Seek + Drop> PagedFile<F> {
+    /// A file of so many bytes, of which none is in memory.
+    pub fn new(alloc: Global, file: F, size: u64) -> Result<PagedFile<F>, AllocError> {
+        Ok(PagedFile {
+            file,
+            pages: Pages::new(alloc, size)?,
+        })
+    }
+
+    /// The header and the footer of the shard in the file. `Trouble::Ends` if they are not read.
+    pub fn load(&mut self, alloc: Global) -> Result<MDBShardInfo, Trouble> {
+        for round in 0..ROUNDS {
+            let mut source = PagedSource::new(&self.pages);
+            let error = match MDBShardInfo::load_from_reader(alloc, &mut source) {
+                Ok(info) => return Ok(info),
+                Err(error) => error,
+            };
+            match source.missing() {
+                Some(number) => self.read_from(alloc, number, round)?,
+                None => return Err(Trouble::Ends(error)),
+            }
+        }
+        Err(Trouble::Shard(CoreError::OutOfMemory))
+    }
+
+    /// Looks up a file in the shard, which has this header and footer.
+    pub fn find(
+        &mut self,
+        alloc: Global,
+        info: &MDBShardInfo,
+        hash: MerkleHash,
+        costs: bool,
+    ) -> Result<FoundReport, Trouble> {
+        for round in 0..ROUNDS {
+            let mut source = CountingSource::new(PagedSource::new(&self.pages));
+            let error = match FoundReport::in_source(alloc, info, &mut source, hash, costs) {
+                Ok(report) => return Ok(report),
+                Err(error) => error,
+            };
+            match source.inner().missing() {
+                Some(number) => self.read_from(alloc, number, round)?,
+                None => return Err(Trouble::Shard(error)),
+            }
+        }
+        Err(Trouble::Shard(CoreError::OutOfMemory))
+    }
+
+    /// Looks for a run of chunks in the shard, which has this header and footer.
+    pub fn query(
+        &mut self,
+        alloc: Global,
+        info: &MDBShardInfo,
+        hashes: &[MerkleHash],
+    ) -> Result<RunReport, Trouble> {
+        for round in 0..ROUNDS {
+            let mut source = PagedSource::new(&self.pages);
+            let error = match RunReport::in_source(alloc, info, &mut source, hashes) {
+                Ok(report) => return Ok(report),
+                Err(error) => error,
+            };
+            match source.missing() {
+                Some(number) => self.read_from(alloc, number, round)?,
+                None => return Err(Trouble::Shard(error)),
+            }
+        }
+        Err(Trouble::Shard(CoreError::OutOfMemory))
+    }
+
+    /// The file from an offset on, to be read to its end.
+    pub fn reader_at(self, offset: u64) -> Result<F, Trouble> {
+        let PagedFile { mut file, .. } = self;
+        match file.seek(SeekFrom::Start(offset)) {
+            Ok(_) => Ok(file),
+            Err(error) => Err(Trouble::Input(error)),
+        }
+    }
+
+    // Reads pages from one on that a call lacked: one in each of the first rounds, and later twice as
+    // many as in the round before, so that few rounds suffice for a long record.
+    fn read_from(&mut self, alloc: Global, first: usize, round: u32) -> Result<(), Trouble> {
+        let doubled = round.saturating_sub(SINGLE_ROUNDS).min(MOST_PAGES_LOG);
+        let count = 1usize << doubled;
+        for number in first..first.saturating_add(count) {
+            if !self.pages.has(number) {
+                match self.read_page(alloc, number) {
+                    Ok(()) => {}
+                    Err(error) => return Err(Trouble::Input(error)),
+                }
+            }
+        }
+        Ok(())
+    }
+
+    // Reads a page; nothing past the end.
+    fn read_page(&mut self, alloc: Global, number: usize) -> io::Result<()> {
+        let start = (number as u64).saturating_mul(PAGE_SIZE as u64);
+        let left = self.pages.size().saturating_sub(start);
+        if left == 0 {
+            return Ok(());
+        }
+        let count = left.min(PAGE_SIZE as u64) as usize;
+        let mut bytes = vec![in alloc; 0u8; PAGE_SIZE]?;
+        self.file.seek(SeekFrom::Start(start))?;
+        self.file.read_exact(&mut bytes.as_mut_slice()[..count])?;
+        if let Some(page) = Page::of_bytes(bytes) {
+            self.pages.put(number, page);
+        }
+        Ok(())
+    }
+}

@@ -1,0 +1,166 @@
+//! Answers of shards in files that can be sought, of which only what the answer needs is read.
+
+ghost use Rattle.std.specs.Prelude.{◌≡◌, ◌≢◌, IfOk, IfSome};
+ghost use Rattle.mdb_report.specs.Answers.{FindsProblems, LooksUp};
+
+use crate::brief::Brief;
+use crate::inquiry::{
+    Answer, Inquiry, Trouble, print_chunks_of, print_lookup, print_run, print_summary,
+};
+use crate::line::{Layout, print};
+use crate::paged_file::PagedFile;
+use crate::records::{FileReport, XorbReport};
+use crate::section::Section;
+use crate::summary::Summary;
+use crate::tally::Tally;
+use shard_bytes::check::Section as Part;
+use std::alloc::Global;
+use std::io::{BufReader, Read, Seek, Write};
+use xet_core_structures::merklehash::MerkleHash;
+use xet_core_structures::shard_format::MDBShardInfo;
+use xet_records::record_reader::FormatVersion;
+
+/// Prints the answer of the shard in a file of so many bytes, as `print_answer` does. Lookups read the
+/// pages that they need, and records are printed as they are read, also those before one that cannot
+/// be read. `None`, with nothing printed, if all of the file is to be read: for a check, for the
+/// chunks of the global index, and for a lookup without the rows of its table.
+pub fn print_paged_answer<F: Read + Seek + Drop, W: Write>(
+    alloc: Global,
+    inquiry: &Inquiry,
+    name: &str,
+    file: F,
+    size: u64,
+    layout: Layout<'_>,
+    tally: &mut Tally,
+    output: &mut W,
+) -> Result<Option<Answer>, Trouble>
+    ensures problems { IfOk result
+        (λ found. IfSome found (λ answer. answer ≡ Answer.FoundProblems → FindsProblems inquiry.now)) }
+    ensures nothing { IfOk result
+        (λ found. IfSome found (λ answer. answer ≡ Answer.FoundNothing → LooksUp inquiry.now)) }
+{
+    if let Inquiry::Check { .. } | Inquiry::Eligible = inquiry {
+        return Ok(None);
+    }
+    let mut file = PagedFile::new(alloc, file, size)?;
+    let info = file.load(alloc)?;
+    match inquiry {
+        Inquiry::Summary => {
+            let summary = Summary::of_info(alloc, name, &info, size)?;
+            return Ok(Some(print_summary(alloc, &summary, layout.style, output)?));
+        }
+        Inquiry::Brief => {
+            let brief = Brief::of_info(name, &info, size);
+            tally.total.add(&brief);
+            print(alloc, &brief, Layout::plain(layout.style), output)?;
+        }
+        Inquiry::Files { long } => {
+            let reader = file.reader_at(info.metadata.file_info_offset)?;
+            list_files(alloc, reader, &info, *long, layout, output)?;
+        }
+        Inquiry::Xorbs { .. } | Inquiry::Chunks { .. } => {
+            let reader = file.reader_at(info.metadata.xorb_info_offset)?;
+            list_xorbs(alloc, reader, inquiry, layout, output)?;
+        }
+        Inquiry::Find { hashes, costs } if info.metadata.file_lookup_num_entry != 0 => {
+            let hashes = hashes.as_slice();
+            let answer = find(
+                alloc, &mut file, &info, hashes, *costs, layout, tally, output,
+            )?;
+            return Ok(Some(answer));
+        }
+        Inquiry::Query { hashes } if info.metadata.chunk_lookup_num_entry != 0 => {
+            let report = file.query(alloc, &info, hashes.as_slice())?;
+            return Ok(Some(print_run(alloc, &report, layout, tally, output)?));
+        }
+        _ => return Ok(None),
+    }
+    Ok(Some(Answer::Printed))
+}
+
+// Looks files up.
+fn find<F: Read + Seek + Drop, W: Write>(
+    alloc: Global,
+    file: &mut PagedFile<F>,
+    info: &MDBShardInfo,
+    hashes: &[MerkleHash],
+    costs: bool,
+    layout: Layout<'_>,
+    tally: &mut Tally,
+    output: &mut W,
+) -> Result<Answer, Trouble>
+    ensures { IfOk result (λ answer. answer ≢ Answer.FoundProblems) }
+{
+    let mut found = false;
+    for hash in hashes {
+        let report = file.find(alloc, info, *hash, costs)?;
+        found |= print_lookup(alloc, &report, layout, tally, output)?;
+    }
+    if found {
+        Ok(Answer::Printed)
+    } else {
+        Ok(Answer::FoundNothing)
+    }
+}
+
+// Prints the files of a section as they are read.
+fn list_files<F: Read + Drop, W: Write>(
+    alloc: Global,
+    file: F,
+    info: &MDBShardInfo,
+    long: bool,
+    layout: Layout<'_>,
+    output: &mut W,
+) -> Result<(), Trouble> {
+    let version = FormatVersion::of_header(info.header.version);
+    let mut section = Section::new(buffered(alloc, file)?, version);
+    for _ in 0..u64::MAX {
+        let file = match section.next_file(alloc) {
+            Ok(Some(file)) => file,
+            Ok(None) => break,
+            Err(error) => return Err(Trouble::Section(Part::Files, error)),
+        };
+        print(
+            alloc,
+            &FileReport::of_file(alloc, &file, long)?,
+            layout,
+            output,
+        )?;
+    }
+    Ok(())
+}
+
+// Prints the xorbs of a section, or their chunks, as they are read.
+fn list_xorbs<F: Read + Drop, W: Write>(
+    alloc: Global,
+    file: F,
+    inquiry: &Inquiry,
+    layout: Layout<'_>,
+    output: &mut W,
+) -> Result<(), Trouble> {
+    let mut section = Section::new(buffered(alloc, file)?, FormatVersion::V3);
+    for _ in 0..u64::MAX {
+        let xorb = match section.next_xorb(alloc) {
+            Ok(Some(xorb)) => xorb,
+            Ok(None) => break,
+            Err(error) => return Err(Trouble::Section(Part::Xorbs, error)),
+        };
+        match inquiry {
+            Inquiry::Chunks { long } => print_chunks_of(alloc, &xorb, *long, layout, output)?,
+            Inquiry::Xorbs { long } => {
+                print(
+                    alloc,
+                    &XorbReport::of_xorb(alloc, &xorb, *long)?,
+                    layout,
+                    output,
+                )?;
+            }
+            _ => {}
+        }
+    }
+    Ok(())
+}
+
+fn buffered<F: Read + Drop>(alloc: Global, file: F) -> Result<BufReader<F>, Trouble> {
+    BufReader::new(alloc, file).map_err(|error| Trouble::Input(error))
+}

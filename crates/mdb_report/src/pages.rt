@@ -1,0 +1,90 @@
+//! Pages of a file that are in memory.
+
+ghost use Rattle.std.specs.Prelude.{◌≡◌, ◌+◌, ◌*◌, ◌<◌, ◌≤◌, length, take, drop, is_some, nat_eq, IfOk};
+
+use std::alloc::{AllocError, Global};
+
+/// The bytes of a page.
+pub const PAGE_SIZE: usize = 16384;
+
+/// A page that is in memory.
+#[derive(Drop)]
+pub struct Page {
+    bytes: Vec<u8>,
+    ghost whole: { length bytes.items ≡ 16384 },
+}
+
+/// Some pages of so many bytes.
+#[derive(Drop)]
+pub struct Pages {
+    pub(crate) size: u64,
+    pub(crate) pages: Vec<Option<Page>>,
+    ghost covers: { size ≤ length pages.items * 16384 },
+}
+
+impl Pages {
+    /// So many bytes, of which no page is in memory.
+    pub fn new(alloc: Global, size: u64) -> Result<Pages, AllocError>
+        ensures { IfOk result (λ pages. pages.size ≡ size) }
+    {
+        let count = size as usize / PAGE_SIZE + 1;
+        let mut pages = Vec::new(alloc);
+        for _ in 0..count {
+            pages.push(None)?;
+        }
+        Ok(Pages { size, pages })
+    }
+
+    /// The number of bytes.
+    pub fn size(&self) -> u64
+        ensures { result ≡ self.now.size }
+    {
+        self.size
+    }
+
+    /// Whether a page is in memory.
+    pub fn has(&self, number: usize) -> bool {
+        matches!(self.pages.as_slice().get(number), Some(Some(_)))
+    }
+
+    /// Puts a page in its place, unless it is past the last one.
+    pub fn put(&mut self, number: usize, page: Page)
+        ensures { self.new.size ≡ self.old.size }
+    {
+        if number < self.pages.len() {
+            self.pages.as_mut_slice()[number] = Some(page);
+        }
+    }
+}
+
+impl Page {
+    /// A page of these bytes, or none if they are not as many as a page has.
+    pub fn of_bytes(bytes: Vec<u8>) -> Option<Page>
+        ensures { is_some result ≡ nat_eq (length bytes.items) 16384 }
+    {
+        if bytes.len() == PAGE_SIZE {
+            Some(Page { bytes })
+        } else {
+            None
+        }
+    }
+
+    // Copies bytes from an offset on into a slice, as many as there are, but at most so many, and
+    // returns how many.
+    pub(crate) fn copy_from(&self, from: usize, most: u64, slice: &mut [u8]) -> usize
+        requires { from < 16384 }
+        ensures fits { result ≤ length slice.old }
+        ensures len { length slice.new ≡ length slice.old }
+        ensures within { from + result ≤ 16384 }
+        ensures most { result ≤ most }
+        ensures some { 0 < length slice.old → 0 < most → 0 < result }
+        ensures filled { take result slice.new ≡ take result (drop from self.now.bytes.items) }
+    {
+        let n = slice
+            .len()
+            .min(PAGE_SIZE - from)
+            .min(usize::try_from(most).unwrap_or(usize::MAX));
+        slice[..n].copy_from_slice(&self.bytes.as_slice()[from..from + n]);
+        n
+    }
+}

@@ -1,0 +1,57 @@
+//! A section that is read from a file, one record after another.
+
+ghost use Rattle.std.specs.Prelude.{IfOk, IfSome};
+ghost use Rattle.xet_core_structures.specs.FileRecord.{FitsItsHeader};
+
+use std::alloc::Global;
+use std::io::Read;
+use xet_base::input::OfReader;
+use xet_core_structures::error::Result;
+use xet_core_structures::file_structs::MDBFileInfo;
+use xet_core_structures::xorb_structs::MDBXorbInfo;
+use xet_records::record_reader::{FormatVersion, read_record};
+
+/// A section of a shard, of which no more than a record is in memory.
+#[derive(Drop)]
+pub struct Section<R: Read + Drop> {
+    reader: R,
+    version: FormatVersion,
+    /// The rows that the section may still have.
+    rows_left: u32,
+}
+
+impl<R: Read + Drop> Section<R> {
+    /// The section that a reader has next, in a version of the format.
+    pub fn new(reader: R, version: FormatVersion) -> Section<R> {
+        Section {
+            reader,
+            version,
+            rows_left: u32::MAX,
+        }
+    }
+
+    /// The next file of a file section, or `None` at its bookend.
+    ///
+    /// `UnexpectedEof` if the reader ends before, `InvalidShard` if the version does not have the
+    /// file's header or the rows pass 4294967295. May fail with `OutOfMemory`. Any other error is
+    /// the reader's.
+    pub fn next_file(&mut self, alloc: Global) -> Result<Option<MDBFileInfo>>
+        ensures { IfOk result (λ found. IfSome found FitsItsHeader) }
+    {
+        let mut rows = u64::from(self.rows_left);
+        let reader = &mut self.reader;
+        let file = read_record::<MDBFileInfo, OfReader, R>(alloc, reader, self.version, &mut rows)?;
+        self.rows_left = u32::try_from(rows).unwrap_or(0);
+        Ok(file)
+    }
+
+    /// The next xorb of a xorb section, or `None` at its bookend. The errors are those of
+    /// `next_file`.
+    pub fn next_xorb(&mut self, alloc: Global) -> Result<Option<MDBXorbInfo>> {
+        let mut rows = u64::from(self.rows_left);
+        let reader = &mut self.reader;
+        let xorb = read_record::<MDBXorbInfo, OfReader, R>(alloc, reader, self.version, &mut rows)?;
+        self.rows_left = u32::try_from(rows).unwrap_or(0);
+        Ok(xorb)
+    }
+}
