@@ -49,7 +49,7 @@ IsEndOfInput _ = ⊥
 abbrev pub IsNoEnd : Error → Type 0
 IsNoEnd e = error_kind e ≢ UnexpectedEof
 
--- an error of a writer, which never says so, or a failed allocation
+-- an error of a writer, which never says that the input ended, or a failed allocation
 abbrev pub IsWriteError : CoreError → Type 0
 IsWriteError e = IsDeviceError e × (¬ IsEndOfInput e)
 
@@ -63,7 +63,7 @@ abbrev pub IsShardVersion : CoreError → Type 0
 IsShardVersion (ShardVersion _) = ⊤
 IsShardVersion _ = ⊥
 
--- the same without a message
+-- an unsupported tag or version, without a message
 abbrev pub IsBareShardVersion : CoreError → Type 0
 IsBareShardVersion (ShardVersion text) = string_bytes text ≡ []
 IsBareShardVersion _ = ⊥

@@ -13,6 +13,7 @@ pub record IsHash (hash : DataHash) : Type 0 where
   pub word2 : hash.word2 < 2 ^ 64
   pub word3 : hash.word3 < 2 ^ 64
 
+-- the four words of a hash in order
 abbrev pub words_of : DataHash → List ℕ
 words_of hash = hash.word0 ∷ hash.word1 ∷ hash.word2 ∷ hash.word3 ∷ []
 

@@ -16,15 +16,18 @@ pub record Around (low low_key high high_key key : ℕ) : Type 0 where
   pub above : key ≤ high_key
   pub apart : low_key < high_key
 
+-- the key is between the keys of the rows at the two ends of a window, which differ
 abbrev pub AroundKey : Window → ℕ → Type 0
 AroundKey w key = Around w.low w.low_key w.high w.high_key key
 
--- below a probed row: the guess, or a step of 256 rows where the guess is nearer
+-- the next probe below a probed row: the guess, or where that is nearer, a step of 256 rows, as far
+-- as row `low` + 1
 pub record AfterBelow (low probe guess next : ℕ) : Type 0 where
   pub step : probe < guess + 256 → next ≡ probe - min 256 (probe - (low + 1))
   pub far : guess + 256 ≤ probe → next ≡ guess
 
--- and above it
+-- the next probe above a probed row: the guess, or where that is nearer, a step of 256 rows, as far
+-- as row `high` - 1
 pub record AfterAbove (high probe guess next : ℕ) : Type 0 where
   pub step : guess ≤ probe + 256 → next ≡ min (probe + 256) (high - 1)
   pub far : probe + 256 < guess → next ≡ guess
@@ -77,7 +80,8 @@ OnEven t key w made =
     ⊎ (((made ≡ 1) × (w.probe ≡ w.low + 256) × (key < (w.low + 2) * even_step t.rows))
     ⊎ ((made ≤ 2) × (w.high ≤ w.low + 256))))
 
--- and so it is after one more probe, which found the key of its row
+-- if `OnEven` holds of a window, and `high` is more than 256 rows above `low`, then it holds again
+-- after one more probe, which found the key of its row
 abbrev pub KeepsEven : Window → ℕ → ℕ → Window → Type 0
 KeepsEven w key found new =
     (t : Table) → (made : ℕ) → IsEven t → w.low + 256 < w.high → found ≡ w.probe * even_step t.rows

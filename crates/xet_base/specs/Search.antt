@@ -73,8 +73,11 @@ pub record Passes (t : Table) (from to : ℕ) (old new : Source) : Type 0 where
 pub record Runs (t : Table) (key from to : ℕ) (old new : Source) : Type 0 where
   pub bytes : new.bytes ≡ old.bytes
   pub seeks : new.seeks ≡ old.seeks
+  -- the row after the last of those that may have been read
   pub end : ℕ
   pub past : from ≤ end
   pub within : end ≤ to
+  -- all rows from `from` to before `end` have the key
   pub equal : end + hits_below t key from ≤ hits_below t key end + from
+  -- no more bytes were read than those of the rows from `from` to before `end`
   pub read : new.read + row_offset t from ≤ old.read + row_offset t end

@@ -18,14 +18,17 @@ pub record Table : Type 0 where
   pub rows : ℕ
   pub width : ℕ
 
+-- the table in the bytes of a source, by the offset of its first row, its number of rows and the
+-- bytes of a value
 abbrev pub table_at : Source → ℕ → ℕ → ℕ → Table
 table_at source start rows width =
     record { bytes = source.bytes; start = start; rows = rows; width = width }
 
--- the offset of row i, counted from 0
+-- the offset of row i, counted from 0, by the offset of the first row and the bytes of a value
 unfoldable pub offset_of_row : ℕ → ℕ → ℕ → ℕ
 offset_of_row start width i = start + i * (8 + width)
 
+-- the offset of row i of a table, counted from 0
 abbrev pub row_offset : Table → ℕ → ℕ
 row_offset t i = offset_of_row t.start t.width i
 
@@ -33,6 +36,7 @@ row_offset t i = offset_of_row t.start t.width i
 unfoldable pub key_at : Table → ℕ → ℕ
 key_at t i = spelled_u64 (take 8 (drop (row_offset t i) t.bytes))
 
+-- the eight bytes of row i's key are there
 abbrev pub HasKey : Table → ℕ → Type 0
 HasKey t i = row_offset t i + 8 ≤ length t.bytes
 
@@ -51,6 +55,7 @@ hits_below t key (suc n) =
     hits_below t key n
     + (if nat_le (row_offset t n + 8) (length t.bytes) && (key_at t n == key) then 1 else 0)
 
+-- how many rows of a table hold the key
 abbrev pub hits : Table → ℕ → ℕ
 hits t key = hits_below t key t.rows
 
@@ -58,8 +63,8 @@ hits t key = hits_below t key t.rows
 abbrev pub even_step : ℕ → ℕ
 even_step rows = (2 ^ 64 - 1) / (rows + 1)
 
--- keys are spread so, as far as the bytes go, and their distance is at least the number of
--- distances
+-- keys are spread evenly over 64 bits, as far as the bytes go, and their distance is at least the
+-- number of distances
 pub record IsEven (t : Table) : Type 0 where
   pub wide : t.rows + 1 ≤ even_step t.rows
   pub keys : (i : ℕ) → i < t.rows → HasKey t i → key_at t i ≡ (i + 1) * even_step t.rows
@@ -77,6 +82,7 @@ pub record IsHit {V : Type 0} (t : Table) (key : ℕ) (Gives : List ℕ → V �
   pub same_key : key_at t hit.row ≡ key
   pub gives : Gives (value_at t hit.row) hit.value
 
+-- two rows that were read are different rows of the table
 abbrev pub OtherRow : {V : Type 0} → Hit V → Hit V → Type 0
 OtherRow g h = g.row ≢ h.row
 
@@ -95,6 +101,7 @@ pub record FitsTable (t : Table) : Type 0 where
   pub countable : t.rows + 1 < 2 ^ 64
   pub placed : row_offset t t.rows < 2 ^ 64
 
+-- offsets or row numbers of the table do not fit `u64`
 abbrev pub IsPastTable : Table → Type 0
 IsPastTable t = (2 ^ 64 ≤ t.rows + 1) ⊎ (2 ^ 64 ≤ row_offset t t.rows)
 

@@ -17,7 +17,7 @@ pub record CopiesRow {T : Type 0} (row_bytes : T → List ℕ) (Fits : T → Typ
   pub read : ReadsRow row_bytes Fits handed_out Took row
   pub written : Appends old new (row_bytes row)
 
--- the same of `count` rows
+-- `count` rows were read, and written as they are returned
 pub record CopiesRows {T : Type 0} (row_bytes : T → List ℕ) (Fits : T → Type 0)
     (handed_out : T → T) (Took : List ℕ → Type 0) (old new : Option (List ℕ)) (count : ℕ)
     (rows : List T) : Type 0 where

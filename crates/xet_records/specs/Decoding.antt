@@ -11,10 +11,11 @@ use Rattle.xet_records.specs.declared.xorb_structs.XorbChunkSequenceEntry.{XorbC
 use Rattle.xet_records.specs.declared.xorb_structs.MDBXorbInfo.{MDBXorbInfo}
 use Rattle.xet_records.specs.Part.{optional_rows_after, with_parts, part_of}
 
--- the numbers that four and eight bytes from an offset on spell, lowest byte first
+-- the number that the four bytes from an offset on spell, lowest byte first
 unfoldable pub u32_at : List ℕ → ℕ → ℕ
 u32_at bytes at = from_le_bytes w32 (take 4 (drop at bytes))
 
+-- the number that the eight bytes from an offset on spell, lowest byte first
 unfoldable pub u64_at : List ℕ → ℕ → ℕ
 u64_at bytes at = from_le_bytes w64 (take 8 (drop at bytes))
 
@@ -28,7 +29,7 @@ hash_at bytes =
       word3 = u64_at bytes 24;
     }
 
--- the row that bytes begin with
+-- a file's header, which bytes begin with
 unfoldable pub header_at : List ℕ → FileDataSequenceHeader
 header_at bytes = record {
   file_hash = hash_at bytes;
@@ -37,6 +38,7 @@ header_at bytes = record {
   _unused = u64_at bytes 40;
 }
 
+-- the segment that bytes begin with
 unfoldable pub segment_at : List ℕ → FileDataSequenceEntry
 segment_at bytes = record {
   xorb_hash = hash_at bytes;
@@ -46,10 +48,12 @@ segment_at bytes = record {
   chunk_index_end = u32_at bytes 44;
 }
 
+-- the row of an optional part that bytes begin with: a hash and two reserved words
 unfoldable pub hash_row_at : List ℕ → HashRow
 hash_row_at bytes =
     record { hash = hash_at bytes; _unused = u64_at bytes 32 ∷ u64_at bytes 40 ∷ [] }
 
+-- a xorb's header, which bytes begin with
 unfoldable pub xorb_header_at : List ℕ → XorbChunkSequenceHeader
 xorb_header_at bytes = record {
   xorb_hash = hash_at bytes;
@@ -59,6 +63,7 @@ xorb_header_at bytes = record {
   num_bytes_on_disk = u32_at bytes 44;
 }
 
+-- the row of a chunk that bytes begin with
 unfoldable pub chunk_at : List ℕ → XorbChunkSequenceEntry
 chunk_at bytes = record {
   chunk_hash = hash_at bytes;
@@ -68,12 +73,12 @@ chunk_at bytes = record {
   _unused = u32_at bytes 44;
 }
 
--- so many rows, one after another
+-- the rows, so many and one after another, that bytes begin with
 unfoldable pub rows_at : {T : Type 0} → (List ℕ → T) → ℕ → List ℕ → List T
 rows_at row_at zero bytes = []
 rows_at row_at (suc n) bytes = row_at bytes ∷ rows_at row_at n (drop 48 bytes)
 
--- the record with this header that bytes spell: segments after the header, and the rows of its
+-- the file record with this header that bytes spell: segments after the header, and the rows of its
 -- parts after them
 unfoldable pub file_at : FileDataSequenceHeader → List ℕ → MDBFileInfo
 file_at header bytes =
@@ -81,6 +86,7 @@ file_at header bytes =
     let rows = rows_at hash_row_at (optional_rows_after header) (drop (48 * segments) (drop 48 bytes)) in
     with_parts header (rows_at segment_at segments (drop 48 bytes)) (λ part. part_of part header rows)
 
+-- the xorb record with this header that bytes spell: chunks after the header
 unfoldable pub xorb_at : XorbChunkSequenceHeader → List ℕ → MDBXorbInfo
 xorb_at header bytes =
     record { metadata = header; chunks = rows_at chunk_at header.num_entries (drop 48 bytes) }

@@ -10,14 +10,15 @@ use Rattle.xet_records.specs.RecordKind.{RecordKind, in_version}
 use Rattle.xet_records.specs.FileRow.{header_row, segment_row, hash_row, FitsHeader, FitsSegment, FitsHashRow, clear}
 use Rattle.xet_records.specs.Part.{announces, flags_of, part_rows, optional_rows_after, rows_of, optional_rows, with_parts}
 
--- bit 31 announces one verification row a segment, bit 30 a metadata row, and bit 29 an auxiliary
--- row, which version 2 does not have
+-- bit 31 of the flags announces one verification row a segment
 abbrev pub has_verification : ℕ → Bool
 has_verification flags = announces flags Verification
 
+-- bit 30 of the flags announces a metadata row
 abbrev pub has_metadata_ext : ℕ → Bool
 has_metadata_ext flags = announces flags MetadataExt
 
+-- bit 29 of the flags announces an auxiliary row, which version 2 does not have
 abbrev pub has_aux_ext : ℕ → Bool
 has_aux_ext flags = announces flags AuxExt
 
@@ -68,11 +69,16 @@ handed_out r = with_parts r.metadata r.segments (λ part. map clear (rows_of par
 
 -- a record that may be put into a shard
 pub record IsWellFormed (r : MDBFileInfo) : Type 0 where
+  -- the record is not a bookend
   pub is_file : r.metadata.file_hash ≢ all_ones
+  -- the flags announce optional parts and nothing else
   pub known_flags : r.metadata.file_flags ≡ flags_of (announces r.metadata.file_flags)
+  -- the header's reserved word is zero
   pub reserved : r.metadata._unused ≡ 0
   pub whole : FitsItsHeader r
+  -- the reserved words of the rows of optional parts are zero
   pub clear : All (λ row. row._unused ≡ 0 ∷ 0 ∷ []) (optional_rows r)
+  -- the rows, the header included, fit `u32`
   pub rows : row_count r ≤ 4294967295
   pub widths : FitsRecord r
 
@@ -94,6 +100,6 @@ file_records = record {
   handed_out = handed_out;
 }
 
--- the same in a shard of a version
+-- the records of the file section, in a shard of a version
 abbrev pub file_records_in : FormatVersion → RecordKind FileDataSequenceHeader MDBFileInfo
 file_records_in version = in_version file_records version

@@ -1,4 +1,5 @@
--- The rows of a file record: a hash and sixteen bytes each. Those of optional parts are of one shape.
+-- The rows of a file record: a hash and sixteen bytes each. Those of optional parts are of one
+-- shape.
 use Rattle.std.specs.Prelude.{◌≡◌, ℕ, ◌^◌, ◌<◌, List, [], ◌∷◌, ◌++◌, flat_map}
 use Rattle.xet_base.specs.Bytes.{u32_bytes, u64_bytes}
 use Rattle.xet_base.specs.Hash.{hash_bytes, IsHash}
@@ -24,13 +25,14 @@ segment_row s =
 unfoldable pub hash_row : HashRow → List ℕ
 hash_row row = hash_bytes row.hash ++ flat_map u64_bytes row._unused
 
--- the widths of a row's numbers, which a definition has to say, since its numbers are unbounded
+-- the widths of a header's numbers, which a definition has to say, since its numbers are unbounded
 pub record FitsHeader (h : FileDataSequenceHeader) : Type 0 where
   pub file_hash : IsHash h.file_hash
   pub file_flags : h.file_flags < 2 ^ 32
   pub num_entries : h.num_entries < 2 ^ 32
   pub unused : h._unused < 2 ^ 64
 
+-- the widths of a segment's numbers
 pub record FitsSegment (s : FileDataSequenceEntry) : Type 0 where
   pub xorb_hash : IsHash s.xorb_hash
   pub xorb_flags : s.xorb_flags < 2 ^ 32
@@ -46,6 +48,7 @@ pub record IsReserved (words : List ℕ) : Type 0 where
   pub first_fits : first < 2 ^ 64
   pub second_fits : second < 2 ^ 64
 
+-- the widths of the numbers of a row of an optional part
 pub record FitsHashRow (row : HashRow) : Type 0 where
   pub hash : IsHash row.hash
   pub unused : IsReserved row._unused

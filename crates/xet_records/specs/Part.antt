@@ -8,10 +8,11 @@ use Rattle.xet_records.specs.declared.file_structs.rows.FileDataSequenceEntry.{F
 use Rattle.xet_records.specs.declared.file_structs.rows.HashRow.{HashRow}
 use Rattle.xet_records.specs.declared.file_structs.MDBFileInfo.{MDBFileInfo}
 
--- the parts, in the order of their rows, and those before one of them
+-- the parts, in the order of their rows
 abbrev pub parts : List OptionalPart
 parts = Verification ∷ MetadataExt ∷ AuxExt ∷ []
 
+-- the parts whose rows come before those of a part, in the order of their rows
 abbrev pub parts_before : OptionalPart → List OptionalPart
 parts_before Verification = []
 parts_before MetadataExt = Verification ∷ []
@@ -23,6 +24,7 @@ bit_of Verification = 31
 bit_of MetadataExt = 30
 bit_of AuxExt = 29
 
+-- whether flags announce the part
 abbrev pub announces : ℕ → OptionalPart → Bool
 announces flags part = bit_at flags (bit_of part) == 1
 
@@ -30,19 +32,20 @@ announces flags part = bit_at flags (bit_of part) == 1
 abbrev pub flags_of : (OptionalPart → Bool) → ℕ
 flags_of wanted = sum_by (λ part. if wanted part then 2 ^ bit_of part else 0) parts
 
--- the rows of a part of a file with so many segments: one for each, or one row
+-- the number of rows of a part of a file with so many segments: one for each, or one row
 abbrev pub size_of_part : OptionalPart → ℕ → ℕ
 size_of_part Verification segments = segments
 size_of_part _ segments = 1
 
--- the rows of the part that a header announces
+-- the number of rows of a part under a header: 0 if the header does not announce it
 abbrev pub part_rows : OptionalPart → FileDataSequenceHeader → ℕ
 part_rows part h = if announces h.file_flags part then size_of_part part h.num_entries else 0
 
--- the rows of all parts, and of those before one of them
+-- the number of rows of all parts under a header
 abbrev pub optional_rows_after : FileDataSequenceHeader → ℕ
 optional_rows_after h = sum_by (λ part. part_rows part h) parts
 
+-- the number of rows of the parts before a part under a header
 abbrev pub rows_before : OptionalPart → FileDataSequenceHeader → ℕ
 rows_before part h = sum_by (λ before. part_rows before h) (parts_before part)
 

@@ -35,12 +35,18 @@ module _ {H R V F I : Type 0} (K : RecordKind H R) (record_of : V → R)
 
   -- the function accepted some records, and refused the one after them with this error
   pub record RefusesRecord (old new : I) (first last : F) (e : CoreError) : Type 0 where
+    -- the input before the refused record
     pub mid : I
+    -- the function before it was called with the refused record
     pub before : F
+    -- the rows that are left of 4294967295 before the refused record
     pub left : ℕ
+    -- the rows that are left after it
     pub after : ℕ
+    -- the view of the refused record
     pub refused : V
     pub records : HasProcessed K record_of (reads old mid) step first before left
+    -- the refused record was read
     pub next : CountsStored K (reads mid new) left after (record_of refused)
     pub refusal : step before refused (Err e) last
 
@@ -51,8 +57,8 @@ module _ {H R V F I : Type 0} (K : RecordKind H R) (record_of : V → R)
     pub records : HasProcessed K record_of (reads old mid) step first last left
     pub stops : Stops K reads fails left mid new e
 
--- the same of a reader that has these bytes left: every record was accepted; or one was refused, by
--- the error that is returned; or one was not read
+-- processing a section from a reader that has these bytes left, where they are known: every record
+-- was accepted; or one was refused, by the error that is returned; or one was not read
 abbrev pub Processes : {H R F : Type 0} → RecordKind H R
     → (F → R → CoreResult (Unit {0}) → F → Type 0) → Option (List ℕ) → Option (List ℕ) → F → F
     → CoreResult (Unit {0}) → Type 0

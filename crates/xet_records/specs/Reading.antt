@@ -21,8 +21,8 @@ pub record ReadsHeader {H R : Type 0} (K : RecordKind H R) (Took : List ℕ → 
   pub is_record : K.hash_of header ≢ all_ones
   pub taken : Took (K.header_bytes header)
 
--- the same, the reader does not refuse it, and the record's rows were counted down from those that
--- were left
+-- the header of a record was read, the reader does not refuse it, and the record's rows were
+-- counted down from those that were left
 pub record CountsHeader {H R : Type 0} (K : RecordKind H R) (Took : List ℕ → Type 0)
     (left after : ℕ) (header : H) : Type 0 where
   pub read : ReadsHeader K Took header
@@ -59,18 +59,19 @@ pub record ReadsEnd {H R : Type 0} (K : RecordKind H R) (Took : List ℕ → Typ
 abbrev pub ReadsOrEnds : {H R : Type 0} → RecordKind H R → (List ℕ → Type 0) → Option R → Type 0
 ReadsOrEnds K Took found = MatchOption found (ReadsBookend K Took) (ReadsRecord K Took)
 
--- the same, and its rows counted down from those that were left
+-- a record was read, and its rows counted down from those that were left
 pub record CountsRecord {H R : Type 0} (K : RecordKind H R) (Took : List ℕ → Type 0)
     (left after : ℕ) (found : R) : Type 0 where
   pub reads : ReadsRecord K Took found
   pub rows : after + (1 + K.rows_after (K.header_of found)) ≡ left
 
--- the header of the next record was read, or a bookend; and the same of the whole record
+-- the header of the next record was read, and the rows of the record counted down; or a bookend was
 abbrev pub ReadsNextHeader : {H R : Type 0} → RecordKind H R → (List ℕ → Type 0) → ℕ → ℕ → Option H
     → Type 0
 ReadsNextHeader K Took left after found =
     MatchOption found (ReadsEnd K Took left after) (CountsHeader K Took left after)
 
+-- the next record was read, and its rows counted down; or a bookend was
 abbrev pub ReadsNextRecord : {H R : Type 0} → RecordKind H R → (List ℕ → Type 0) → ℕ → ℕ → Option R
     → Type 0
 ReadsNextRecord K Took left after found =
@@ -101,7 +102,8 @@ module _ {H R : Type 0} (K : RecordKind H R) (left : ℕ) (header : H) where
     not_allowed : K.refuses header ≡ true → IsRefused
     too_many_rows : left < 1 + K.rows_after header → IsRefused
 
-  -- a reader goes on after it
+  -- a reader goes on after a header: its version has it, and the record has no more rows than are
+  -- left
   pub record IsTaken : Type 0 where
     pub allowed : K.refuses header ≡ false
     pub rows : 1 + K.rows_after header ≤ left
@@ -133,7 +135,7 @@ pub record BeginsWithHeader {H R : Type 0} (K : RecordKind H R) (bytes : List �
   pub is_record : K.hash_of header ≢ all_ones
   pub bytes_are : bytes ≡ K.header_bytes header ++ rest
 
--- a header with the all-ones hash, whatever its other fields
+-- the bytes begin with a header that has the all-ones hash, whatever its other fields
 pub record BeginsWithBookend {H R : Type 0} (K : RecordKind H R) (bytes : List ℕ) : Type 0 where
   pub header : H
   pub rest : List ℕ
@@ -142,7 +144,7 @@ pub record BeginsWithBookend {H R : Type 0} (K : RecordKind H R) (bytes : List �
   pub bytes_are : bytes ≡ K.header_bytes header ++ rest
 
 module _ {H R : Type 0} (K : RecordKind H R) where
-  -- a header, not a bookend, that is refused
+  -- the bytes begin with a header, not a bookend, that is refused
   abbrev pub BeginsRefused : ℕ → List ℕ → Type 0
   BeginsRefused left bytes =
       (header : H) × (rest : List ℕ) × BeginsWithHeader K bytes header rest

@@ -1,6 +1,6 @@
--- What reading rows takes from an input, and what bytes spell. A type of rows has the bytes of a stored row, the widths
--- of its numbers, and the row that reading hands out for a stored one; an input says of some bytes
--- that it took them.
+-- What reading rows takes from an input, and what bytes spell. A type of rows has the bytes of a
+-- stored row, the widths of its numbers, and the row that reading hands out for a stored one; an
+-- input says of some bytes that it took them.
 use Rattle.std.specs.Prelude.{◌≡◌, ℕ, ◌*◌, Bool, List, length, take, map, flat_map, All, Option, is_some, IfSome, option_map, option_to_list, if◌then◌else◌}
 use Rattle.std.specs.Io.KnownBytes.{Appends, Consumes}
 use Rattle.std.specs.IoError.{error_kind}

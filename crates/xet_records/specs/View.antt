@@ -21,12 +21,14 @@ use Rattle.xet_records.specs.Part.{announces, flags_of, rows_of, with_parts, wit
 use Rattle.xet_records.specs.FileRecord.{has_verification, FitsItsHeader, FitsRecord, file_records}
 use Rattle.xet_records.specs.XorbRecord.{end_of_chunk, HasItsChunks, FitsXorb, xorb_records}
 
--- a record that has the parts that its header announces, with its numbers within their widths; its
--- hash may be all-ones
+-- a file record that has the segments and the parts that its header announces, with its numbers
+-- within their widths; its hash may be all-ones
 pub record IsWholeFile (r : MDBFileInfo) : Type 0 where
   pub parts : FitsItsHeader r
   pub widths : FitsRecord r
 
+-- a xorb record that has the chunks that its header announces, with its numbers within their
+-- widths; its hash may be all-ones
 pub record IsWholeXorb (r : MDBXorbInfo) : Type 0 where
   pub count : HasItsChunks r
   pub widths : FitsXorb r
@@ -46,9 +48,13 @@ pub record BeginsWithRecord {H R : Type 0} (K : RecordKind H R) (IsWhole : R →
   pub rows : K.rows_after (K.header_of r) ≤ 4294967295
   pub bytes_are : bytes ≡ K.record_bytes r ++ rest
 
+-- the bytes begin with the bytes of this whole file record, which has at most 4294967295 rows after
+-- its header
 abbrev pub BeginsWithFile : List ℕ → MDBFileInfo → Type 0
 BeginsWithFile bytes r = BeginsWithRecord file_records IsWholeFile bytes r
 
+-- the bytes begin with the bytes of this whole xorb record, which has at most 4294967295 rows after
+-- its header
 abbrev pub BeginsWithXorb : List ℕ → MDBXorbInfo → Type 0
 BeginsWithXorb bytes r = BeginsWithRecord xorb_records IsWholeXorb bytes r
 
@@ -61,7 +67,8 @@ pub record Shows {H R : Type 0} (K : RecordKind H R) (IsWhole : R → Type 0) (h
   pub rows : K.rows_after header ≤ 4294967295
   pub bytes_are : bytes ≡ K.record_bytes r
 
--- the same of a record that may be in a section unless the header is a bookend
+-- a view of this header and these bytes shows a record that may be in a section unless the header
+-- is a bookend: the bytes are those of the record, and no others
 pub record ShowsRecord {H R : Type 0} (K : RecordKind H R) (header : H) (bytes : List ℕ) (r : R)
     : Type 0 where
   pub same_header : K.header_of r ≡ header
@@ -77,7 +84,7 @@ module _ {H R : Type 0} (K : RecordKind H R) where
       ⊎ ((header : H) × BeginsWithHeaderRow K bytes header × (K.rows_after header ≤ 4294967295)
       × (length bytes < 48 + 48 * K.rows_after header))
 
-  -- the bytes begin with a header that announces more rows
+  -- the bytes begin with a header that announces more than 4294967295 rows
   abbrev pub AnnouncesTooMany : List ℕ → Type 0
   AnnouncesTooMany bytes =
       (header : H) × BeginsWithHeaderRow K bytes header × (4294967295 < K.rows_after header)
@@ -122,7 +129,7 @@ without_aux r =
 abbrev pub aux_as_wanted : Bool → MDBFileInfo → MDBFileInfo
 aux_as_wanted wanted r = if wanted then r else without_aux r
 
--- the same of a list
+-- the records, without their auxiliary rows unless those are wanted
 abbrev pub auxes_as_wanted : Bool → List MDBFileInfo → List MDBFileInfo
 auxes_as_wanted wanted rs = if wanted then rs else map without_aux rs
 
@@ -130,7 +137,7 @@ auxes_as_wanted wanted rs = if wanted then rs else map without_aux rs
 abbrev pub as_kept : KeptParts → MDBFileInfo → MDBFileInfo
 as_kept kept r = aux_as_wanted kept.aux_ext (as_wanted kept.verification r)
 
--- whether it has the rows of a part that the record has
+-- whether the rows of a part stay where these parts are kept; a metadata row always does
 abbrev pub keeps : KeptParts → OptionalPart → Bool
 keeps kept part =
     (kept.verification || all_but Verification part) && (kept.aux_ext || all_but AuxExt part)

@@ -28,10 +28,11 @@ xorb_row_count r = 1 + length r.chunks
 unfoldable pub xorb_record_bytes : MDBXorbInfo → List ℕ
 xorb_record_bytes r = xorb_header_row r.metadata ++ flat_map chunk_row r.chunks
 
--- the bytes of chunks, and those of a xorb's chunks
+-- the number of bytes of these chunks together
 abbrev pub total_bytes : List XorbChunkSequenceEntry → ℕ
 total_bytes cs = sum_by (λ c. c.unpacked_segment_bytes) cs
 
+-- the number of bytes of a xorb's chunks together
 abbrev pub size_of_chunks : MDBXorbInfo → ℕ
 size_of_chunks r = total_bytes r.chunks
 

@@ -23,7 +23,7 @@ chunk_row c =
     ++ u32_bytes c.flags)
     ++ u32_bytes c._unused
 
--- the widths of a row's numbers
+-- the widths of a xorb header's numbers
 pub record FitsXorbHeader (h : XorbChunkSequenceHeader) : Type 0 where
   pub xorb_hash : IsHash h.xorb_hash
   pub xorb_flags : h.xorb_flags < 2 ^ 32
@@ -31,6 +31,7 @@ pub record FitsXorbHeader (h : XorbChunkSequenceHeader) : Type 0 where
   pub num_bytes_in_xorb : h.num_bytes_in_xorb < 2 ^ 32
   pub num_bytes_on_disk : h.num_bytes_on_disk < 2 ^ 32
 
+-- the widths of the numbers of a chunk's row
 pub record FitsChunk (c : XorbChunkSequenceEntry) : Type 0 where
   pub chunk_hash : IsHash c.chunk_hash
   pub chunk_byte_range_start : c.chunk_byte_range_start < 2 ^ 32

@@ -14,6 +14,7 @@ use Rattle.xet_shards.specs.Shard.{XorbMap, coded_xorbs, xorb_hash_of, Shard, co
 abbrev pub ChunkLocation : Type 0
 ChunkLocation = MDBXorbInfo × ℕ
 
+-- a finite map from chunk hashes to locations
 abbrev pub LocationMap : Type 0
 LocationMap = FinMap hash_cmp ChunkLocation
 
@@ -22,10 +23,11 @@ pub record XorbsWithLookup : Type 0 where
   pub xorbs : XorbMap
   pub locations : LocationMap
 
--- the encodings by which proofs distinguish such values
+-- the encoding by which proofs distinguish chunk lookups
 abbrev pub coded_locations : Coded LocationMap
 coded_locations = finite.code hash.the_row.coded (coded× xorb.the_row.coded coded_ℕ)
 
+-- the encoding by which proofs distinguish xorbs with their chunk lookup
 abbrev pub coded_xorbs_with_lookup : Coded XorbsWithLookup
 coded_xorbs_with_lookup =
     code_by (XorbMap × LocationMap) (coded× coded_xorbs coded_locations)
@@ -36,6 +38,7 @@ pub record ShardWithLookup : Type 0 where
   pub content : Shard
   pub locations : LocationMap
 
+-- the encoding by which proofs distinguish shards with their chunk lookup
 abbrev pub coded_shard_with_lookup : Coded ShardWithLookup
 coded_shard_with_lookup =
     code_by (Shard × LocationMap) (coded× coded_shard coded_locations)

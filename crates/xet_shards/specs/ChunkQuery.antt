@@ -27,7 +27,7 @@ run_at key p qs =
     let n = run_length key qs (drop p.1 p.0.chunks) in
     (n, segment_of p.0.metadata (take n (drop p.1 p.0.chunks)) p.1 (p.1 + n))
 
--- the same if it has a chunk
+-- the run at a location if it has a chunk
 abbrev pub some_run_at : DataHash → ChunkLocation → List DataHash → Option Run
 some_run_at key p qs =
     if run_length key qs (drop p.1 p.0.chunks) == 0 then None else Some (run_at key p qs)

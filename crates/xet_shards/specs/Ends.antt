@@ -53,11 +53,15 @@ pub record FitsFooter (f : MDBShardFileFooter) : Type 0 where
 
 -- the bytes begin with this header and end in this footer
 pub record HasEnds (bytes : List ℕ) (info : MDBShardInfo) : Type 0 where
+  -- the bytes are at least as many as those of a footer
   pub size : 200 ≤ length bytes
   pub tag : info.header.tag ≡ header_tag
+  -- the header's version is one that is read
   pub header_version : IsVersion info.header.version
   pub header : take 48 bytes ≡ shard_header_bytes info.header
+  -- the footer size in the header may be any number of 64 bits
   pub footer_size : info.header.footer_size < 2 ^ 64
+  -- the footer's version is 1
   pub footer_version : info.metadata.version ≡ 1
   pub footer_widths : FitsFooter info.metadata
   pub footer : last_bytes bytes ≡ shard_footer_bytes info.metadata
@@ -87,6 +91,7 @@ pub data FormatCase (Unsupported Short : List ℕ → Type 0) (bytes : List ℕ)
       → FormatCase Unsupported Short bytes e
   too_few_bytes : IsEndOfInput e → Short bytes → FormatCase Unsupported Short bytes e
 
+-- why a read failed: the device did, the format is unsupported, or the bytes are too few
 abbrev pub Refusal : (List ℕ → Type 0) → (List ℕ → Type 0) → List ℕ → Source → Source → CoreError
     → Type 0
 Refusal Unsupported Short bytes old new e = FailedBy (FormatCase Unsupported Short bytes) old new e
@@ -98,11 +103,11 @@ pub record LoadFails (old new : Source) (e : CoreError) : Type 0 where
   pub read : new.read ≤ old.read + 248
   pub cause : Refusal IsUnsupported IsTooShort old.bytes old new e
 
--- an error says that the format is unsupported, or that the input ended, only of such bytes, where
--- they are known
+-- an error says that the format is unsupported only of such bytes, where they are known
 abbrev pub SaysUnsupported : (List ℕ → Type 0) → Option (List ℕ) → CoreError → Type 0
 SaysUnsupported Unsupported remaining e = IsShardVersion e → IfSome remaining Unsupported
 
+-- an error says that the input ended only of such bytes, where they are known
 abbrev pub SaysEnd : (List ℕ → Type 0) → Option (List ℕ) → CoreError → Type 0
 SaysEnd Short remaining e = IsEndOfInput e → IfSome remaining Short
 

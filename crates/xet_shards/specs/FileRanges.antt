@@ -20,7 +20,7 @@ use Rattle.xet_shards.specs.SectionWalk.{kept_of, KeepsSection}
 abbrev pub FileRanges : Type 0
 FileRanges = DataHash × (ℕ × ℕ) × Option (ℕ × ℕ) × Option DataHash
 
--- those of a record whose rows after the header start at an offset
+-- the ranges of a record whose rows after the header start at an offset
 abbrev pub ranges_after : ℕ → FileDataSequenceHeader → Option HashRow → FileRanges
 ranges_after start h metadata_ext =
     let end = start + 48 * h.num_entries in (
@@ -30,11 +30,11 @@ ranges_after start h metadata_ext =
       option_map (λ row. row.hash) metadata_ext,
     )
 
--- those of a record at an offset
+-- the ranges of a record at an offset
 abbrev pub ranges_at : ℕ → MDBFileInfo → FileRanges
 ranges_at offset r = ranges_after (offset + 48) r.metadata r.metadata_ext
 
--- those of records whose section is at an offset
+-- the ranges of records whose section is at an offset
 abbrev pub file_ranges : ℕ → List MDBFileInfo → List FileRanges
 file_ranges at files = kept_of file_records ranges_at at files
 
@@ -48,9 +48,12 @@ pub record ReadsFileRanges (old new : Source) (found : List FileRanges) : Type 0
   pub header : MDBShardFileHeader
   pub tag : header.tag ≡ header_tag
   pub version : IsVersion header.version
+  -- the footer size in the header may be any number of 64 bits
   pub footer_size : header.footer_size < 2 ^ 64
+  -- the source after the header
   pub after_header : Source
   pub header_taken : Takes old after_header (shard_header_bytes header)
+  -- the file section after the header was read through
   pub ranges : TakesRanges (version_of header.version) after_header new found
 
 -- the header was not read, or the section after it was not

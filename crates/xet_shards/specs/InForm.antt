@@ -19,7 +19,7 @@ pub record FitsSection {H R : Type 0} (K : RecordKind H R) (records : List R) : 
   pub stored : All K.IsStored records
   pub rows : total_rows K records ≤ 4294967295
 
--- their hashes strictly ascend
+-- the hashes of records strictly ascend
 abbrev pub Ascends : {H R : Type 0} → RecordKind H R → List R → Type 0
 Ascends K records = IsStrictlySortedBy hash_cmp (map (hash_in K) records)
 
@@ -31,8 +31,8 @@ pub record IsInForm (files : List MDBFileInfo) (xorbs : List MDBXorbInfo) (form 
   pub bytes_are : bytes ≡ layout_of files xorbs form
   pub footer_is : footer ≡ footer_value files xorbs form
 
--- the same, with the file table, of files whose hashes strictly ascend; the header has the form's
--- version
+-- the bytes are those of files and xorbs in a form with the file table, and the footer is theirs;
+-- the hashes of the files strictly ascend, and the header has the form's version
 pub record HasFileTable (files : List MDBFileInfo) (xorbs : List MDBXorbInfo) (form : Form)
     (bytes : List ℕ) (info : MDBShardInfo) : Type 0 where
   pub in_form : IsInForm files xorbs form bytes info.metadata

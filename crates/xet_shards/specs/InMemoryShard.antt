@@ -7,6 +7,7 @@ use Rattle.xet_shards.specs.declared.shard_in_memory.MDBInMemoryShard.TheInside.
 use Rattle.xet_shards.specs.ChunkLookup.{ShardWithLookup}
 use Rattle.xet_shards.specs.Section.{total_rows}
 
+-- the shard that the fields hold: its files, its xorbs and its chunk lookup
 abbrev pub shard_inside : Inside → ShardWithLookup
 shard_inside s =
     record

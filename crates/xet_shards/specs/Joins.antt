@@ -10,10 +10,11 @@ use Rattle.xet_records.specs.Merging.{part_in, file_with}
 use Rattle.xet_shards.specs.Shard.{Shard, IsShard}
 use Rattle.xet_shards.specs.SetOperations.{ShardsAgree}
 
--- what a shard's file with this hash has: its segments, and each optional part
+-- the segments of a shard's file with this hash, if there is one
 abbrev pub segments_under : DataHash → Shard → Option (List FileDataSequenceEntry)
 segments_under q s = option_map (λ r. r.segments) (get s.files q)
 
+-- an optional part of a shard's file with this hash, if there is one and it has the part
 abbrev pub part_under : OptionalPart → DataHash → Shard → Option (List HashRow)
 part_under part q s = option_and_then (part_in part) (get s.files q)
 

@@ -24,21 +24,24 @@ use Rattle.xet_shards.specs.Ends.{HasHeader, HasEnds, HasUnsupportedHeader, Ends
 use Rattle.xet_shards.specs.Layout.{Form, if_in, layout_of, footer_value, info_of}
 use Rattle.xet_shards.specs.InForm.{IsInForm}
 
--- a chunk and a xorb with chunk hashes under a key, and all else as it is
+-- a chunk with its hash under a key, and all else as it is
 abbrev pub keyed_chunk : DataHash → XorbChunkSequenceEntry → XorbChunkSequenceEntry
 keyed_chunk key c = record c { chunk_hash = under_key key c.chunk_hash }
 
+-- a xorb with its chunk hashes under a key, and all else as it is
 abbrev pub keyed_xorb : DataHash → MDBXorbInfo → MDBXorbInfo
 keyed_xorb key r = record r { chunks = map (keyed_chunk key) r.chunks }
 
+-- xorbs with their chunk hashes under a key, and all else as it is
 abbrev pub keyed_xorbs : DataHash → List MDBXorbInfo → List MDBXorbInfo
 keyed_xorbs key xorbs = map (keyed_xorb key) xorbs
 
--- what an export in a form writes for a file, with or without its auxiliary row or not at all, and
--- for a xorb
+-- what an export in a form writes for a file: the file, with or without its auxiliary row, or
+-- nothing if the form has no file table
 abbrev pub exported_file : Bool → Form → MDBFileInfo → List MDBFileInfo
 exported_file aux form r = if_in form.file_table (aux_as_wanted aux r ∷ [])
 
+-- what an export in a form writes for a xorb: the xorb with its chunk hashes under the form's key
 abbrev pub exported_xorb : Bool → Form → MDBXorbInfo → List MDBXorbInfo
 exported_xorb aux form r = keyed_xorb form.key r ∷ []
 
@@ -73,15 +76,22 @@ pub record ExportsWith (aux : Bool) (form : Form) (old new : Source)
     (before after : Option (List ℕ)) (n : ℕ) : Type 0 where
   pub files : List MDBFileInfo
   pub xorbs : List MDBXorbInfo
+  -- the bytes from the source's position on begin with a valid header
   pub header : HasHeader (bytes_left old)
+  -- the file section is after the header
   pub file_section : IsSection (file_records_in header.version) (drop 48 (bytes_left old)) files
+  -- the xorb section is after the file section
   pub xorb_section : IsSection xorb_records (drop (xorbs_after files) (bytes_left old)) xorbs
+  -- the source is after the xorb section
   pub read : new ≡ advanced old (xorbs_after files + 48 * (total_rows xorb_records xorbs + 1))
   pub written : Appends before after (exported (auxes_as_wanted aux files) xorbs form)
+  -- the number of bytes written is returned
   pub count : n ≡ length (exported (auxes_as_wanted aux files) xorbs form)
+  -- the bytes written begin with a header and end in a footer
   pub ends : HasEnds (exported (auxes_as_wanted aux files) xorbs form)
       (info_of (if_in form.file_table (auxes_as_wanted aux files)) (keyed_xorbs form.key xorbs)
       form)
+  -- the bytes written are in the form, as reading and lookups require
   pub in_form : IsInForm (if_in form.file_table (auxes_as_wanted aux files))
       (keyed_xorbs form.key xorbs) form (exported (auxes_as_wanted aux files) xorbs form)
       (footer_value (if_in form.file_table (auxes_as_wanted aux files))
@@ -106,7 +116,7 @@ pub data ExportCase (bytes : List ℕ) (e : CoreError) : Type 0 where
       → BadSection xorb_records (drop (xorbs_after files) bytes) e → ExportCase bytes e
   not_written : HasHeader bytes → IsWriteError e → ExportCase bytes e
 
--- it was not, without a seek; the position is unspecified
+-- a shard was not exported, without a seek; the position is unspecified
 pub record ExportFails (old new : Source) (e : CoreError) : Type 0 where
   pub bytes : new.bytes ≡ old.bytes
   pub seeks : new.seeks ≡ old.seeks

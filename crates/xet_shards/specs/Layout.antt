@@ -30,16 +30,19 @@ header_tag =
 unfoldable pub shard_header_bytes : MDBShardFileHeader → List ℕ
 shard_header_bytes h = (header_tag ++ u64_bytes h.version) ++ u64_bytes h.footer_size
 
--- the words of a footer before the key, after it, and after the reserved words
+-- the words of a footer before the key: its version, the offsets of the sections and the tables,
+-- and the numbers of rows of the tables
 abbrev pub offsets_of : MDBShardFileFooter → List ℕ
 offsets_of f =
     f.version ∷ f.file_info_offset ∷ f.xorb_info_offset ∷ f.file_lookup_offset
     ∷ f.file_lookup_num_entry ∷ f.xorb_lookup_offset ∷ f.xorb_lookup_num_entry
     ∷ f.chunk_lookup_offset ∷ f.chunk_lookup_num_entry ∷ []
 
+-- the words of a footer between the key and the reserved words: creation and expiry
 abbrev pub timestamps_of : MDBShardFileFooter → List ℕ
 timestamps_of f = f.shard_creation_timestamp ∷ f.shard_key_expiry ∷ []
 
+-- the words of a footer after the reserved words: three byte counts, and the offset of the footer
 abbrev pub sums_of : MDBShardFileFooter → List ℕ
 sums_of f = f.stored_bytes_on_disk ∷ f.materialized_bytes ∷ f.stored_bytes ∷ f.footer_offset ∷ []
 
@@ -77,6 +80,8 @@ default_footer = record {
 abbrev pub if_in : {X : Type 0} → Bool → List X → List X
 if_in is_in xs = if is_in then xs else []
 
+-- the header of a version: the tag, the number of the version, and the 200 bytes of a footer as the
+-- footer size
 abbrev pub header_value : FormatVersion → MDBShardFileHeader
 header_value version =
     record { tag = header_tag; version = number_of version; footer_size = 200 }
@@ -146,14 +151,16 @@ layout s expiry = layout_of (values s.files) (values s.xorbs) (plain_form expiry
 abbrev pub info_value : Shard → Option ℕ → MDBShardInfo
 info_value s expiry = info_of (values s.files) (values s.xorbs) (plain_form expiry)
 
--- the same in a version
+-- a version, all tables, no key, no creation, and an expiry or none
 abbrev pub plain_form_in : FormatVersion → Option ℕ → Form
 plain_form_in version expiry = record (plain_form expiry) { version = version }
 
+-- the bytes of a shard in a version, its records in ascending order of their hashes
 abbrev pub layout_in : FormatVersion → Shard → Option ℕ → List ℕ
 layout_in version s expiry =
     layout_of (values s.files) (values s.xorbs) (plain_form_in version expiry)
 
+-- what a reader of the bytes of a shard in a version finds in header and footer
 abbrev pub info_value_in : FormatVersion → Shard → Option ℕ → MDBShardInfo
 info_value_in version s expiry =
     info_of (values s.files) (values s.xorbs) (plain_form_in version expiry)

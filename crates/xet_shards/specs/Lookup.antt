@@ -29,18 +29,22 @@ sharing K word records = filter (λ r. (hash_in K r).word0 == word) records
 abbrev pub file_table : MDBShardFileFooter → Source → Table
 file_table footer source = table_at source footer.file_lookup_offset footer.file_lookup_num_entry 4
 
--- the xorb table, likewise, and the chunk table, whose rows have two numbers after the word
+-- the xorb table at the offset that a footer gives: the first word of a hash, and four bytes of a
+-- row number
 abbrev pub xorb_table : MDBShardFileFooter → Source → Table
 xorb_table footer source = table_at source footer.xorb_lookup_offset footer.xorb_lookup_num_entry 4
 
+-- the chunk table at the offset that a footer gives: the first word of a hash, and four bytes each
+-- of a row number and of the index of a chunk
 abbrev pub chunk_lookup_table : MDBShardFileFooter → Source → Table
 chunk_lookup_table footer source =
     table_at source footer.chunk_lookup_offset footer.chunk_lookup_num_entry 8
 
--- four bytes spell a number, eight two
+-- four bytes spell a number, lowest byte first
 abbrev pub IsNumber : List ℕ → ℕ → Type 0
 IsNumber bytes n = (n < 2 ^ 32) × (bytes ≡ u32_bytes n)
 
+-- eight bytes spell two numbers of four bytes each, lowest byte first
 abbrev pub IsPair : List ℕ → ℕ × ℕ → Type 0
 IsPair bytes p = (p.0 < 2 ^ 32) × (p.1 < 2 ^ 32) × (bytes ≡ u32_bytes p.0 ++ u32_bytes p.1)
 
@@ -62,7 +66,8 @@ IsBareInternalError (InternalError text) = string_bytes text ≡ []
 IsBareInternalError _ = ⊥
 
 -- why the record in front of some bytes was not read: there is a bookend, the device failed, out of
--- memory, it has more rows than fit `u32`, or the bytes are too few
+-- memory, its header is refused (it announces more rows than fit `u32`, or the version does not
+-- have it), or the bytes are too few
 abbrev pub RecordRefusal : {H R : Type 0} → RecordKind H R → List ℕ → Source → Source → CoreError
     → Type 0
 RecordRefusal K bytes old new e =
@@ -81,37 +86,54 @@ InfoRefusal K offset row old new e =
 -- the record at a row was read
 pub record ReadsInfo {H R : Type 0} (K : RecordKind H R) (offset row : ℕ) (old new : Source)
     (found : R) : Type 0 where
+  -- the offset of the row fits 64 bits
   pub within : row_at offset row < 2 ^ 64
+  -- the record is at the row, and is handed out as `found`
   pub is_at : RecordAt K old.bytes (row_at offset row) found
+  -- the device did not fail
   pub serves : Serves old new
   pub seeks : new.seeks ≡ old.seeks + 1
+  -- the number of bytes read
   pub taken : ℕ
   pub read : new.read ≡ old.read + taken
+  -- they are at most those of a header, or of the record there
   pub may_take : MayTake K (drop (row_at offset row) old.bytes) taken
 
--- it was not; the source may then be at any offset
+-- the record at a row was not read; the source may then be at any offset
 pub record ReadInfoFails {H R : Type 0} (K : RecordKind H R) (offset row : ℕ) (old new : Source)
     (e : CoreError) : Type 0 where
   pub bytes : new.bytes ≡ old.bytes
   pub seeks : new.seeks ≤ old.seeks + 1
+  -- seeks are counted, never taken back
   pub no_fewer : old.seeks ≤ new.seeks
+  -- a bound for the number of bytes read
   pub taken : ℕ
   pub read : new.read ≤ old.read + taken
+  -- it is at most the bytes of a header, or of the record there
   pub may_take : MayTake K (drop (row_at offset row) old.bytes) taken
+  -- why the record was not read
   pub cause : InfoRefusal K offset row old new e
 
 -- a search in a table for a word, with room for so many values: how many rows were found and that
--- they are all where the table is sorted, that the device did not fail, why it was refused, that the
--- bytes of the source stay, and what it costs where the table is sorted, and where it is even
+-- they are all where the table is sorted, that the device did not fail, why it was refused, that
+-- the bytes of the source stay, and what it costs where the table is sorted, and where it is even
 pub record Searches {V : Type 0} (t : Table) (word : ℕ) (Gives : List ℕ → V → Type 0) (room : ℕ)
     (dest_old dest_new : List V) (old new : Source) (result : CoreResult ℕ) : Type 0 where
+  -- the values of different rows with the word were put in front
   pub found : IfOk result (Finds t word Gives dest_old dest_new)
+  -- they are all such rows, or as many as there is room for, where the table is sorted
   pub count : IsSorted t → IfOk result (λ n. n ≡ min (hits t word) room)
+  -- a search that succeeds met no failure of the device
   pub serves : OnOk result (Serves old new)
+  -- a search that succeeds and has room was in a table that fits 64 bits
   pub fits : OnOk result (0 < room → FitsTable t)
+  -- why the search was refused
   pub refused : IfErr result (SearchRefused t old new)
+  -- the bytes of the source stay
   pub kept : new.bytes ≡ old.bytes
+  -- seeks and bytes are bounded where the table is sorted
   pub bounds : IsSorted t → Bounded t word old new
+  -- there are at most three seeks where the table is even
   pub even : IsEven t → new.seeks ≤ old.seeks + 3
 
 -- different rows of a table with the key, all of them where it is sorted
@@ -165,7 +187,7 @@ pub record Visit {H R : Type 0} (K : RecordKind H R) (most offset row : ℕ) (ol
   pub read : new.read ≤ old.read + taken
   pub may_take : MayTake K (drop (row_at offset row) old.bytes) taken
 
--- the records at these rows were read, by at most so many seeks each
+-- calls went to these rows, by at most so many seeks each, and read at most the records there
 pub record Visits {H R : Type 0} (K : RecordKind H R) (most offset : ℕ) (rows : List ℕ)
     (old new : Source) : Type 0 where
   pub bytes : new.bytes ≡ old.bytes
@@ -175,7 +197,8 @@ pub record Visits {H R : Type 0} (K : RecordKind H R) (most offset : ℕ) (rows 
   pub may_take : AllZip (λ row n. MayTake K (drop (row_at offset row) old.bytes) n) rows taken
   pub read : new.read ≤ old.read + sum taken
 
--- the first few of them were
+-- calls went to the first few of these rows, by at most so many seeks each, and read at most the
+-- records there
 abbrev pub VisitsSome : {H R : Type 0} → RecordKind H R → ℕ → ℕ → List ℕ → Source → Source → Type 0
 VisitsSome K most offset rows old new = (n : ℕ) × Visits K most offset (take n rows) old new
 
@@ -184,13 +207,22 @@ VisitsSome K most offset rows old new = (n : ℕ) × Visits K most offset (take 
 pub record LooksUp {H R : Type 0} (K : RecordKind H R) (t : Table) (offset key : ℕ)
     (old new : Source) (Answer : List ℕ → Type 0) : Type 0 where
   pub fits : FitsTable t
+  -- the rows of the table with the first word
   pub found : List (Hit ℕ)
+  -- they are fewer than eight
   pub few : length found < 8
+  -- they are all such rows where the table is sorted
   pub are_hits : AreHits t key found
+  -- the source after the search
   pub searched : Source
+  -- the device did not fail in the search
   pub serves : Serves old searched
+  -- seeks and bytes of the search are bounded where the table is sorted
   pub bounded : IsSorted t → Bounded t key old searched
+  -- calls went to the first few of these rows, by one seek each at most, and read at most the
+  -- records there
   pub visits : VisitsSome K 1 offset (map (λ hit. hit.value) found) searched new
+  -- what the lookup says of the row numbers found
   pub answer : Answer (map (λ hit. hit.value) found)
 
 -- the first record with the hash at one of the rows, or none where each has another
@@ -216,8 +248,9 @@ abbrev pub LookupRefused : {H R : Type 0} → RecordKind H R → ℕ → Source 
 LookupRefused K offset old new e rows =
     (row : ℕ) × Contains rows row × InfoRefusal K offset row old new e
 
--- what a lookup on the bytes of a shard costs at most: the seeks that the search made, and one more
--- for each file that shares the first word; the bytes of the search and the bytes of these files
+-- what a lookup of a record by its hash costs at most: the seeks that the search made, and one more
+-- for each record that shares the first word; the bytes of the search and the bytes of these
+-- records
 pub record WithinBounds {H R : Type 0} (K : RecordKind H R) (records : List R) (word : ℕ)
     (old new : Source) : Type 0 where
   pub made : ℕ
@@ -242,13 +275,14 @@ abbrev pub SearchWithinBounds : {H R : Type 0} → RecordKind H R → List R →
 SearchWithinBounds K records word old new =
     SearchCosts (length records) (length (sharing K word records)) 12 old new
 
--- a lookup that gives an answer, and one that gives none: the search was refused, or the record at
--- a row that it found
+-- a lookup of a record by its hash that gives an answer
 abbrev pub Finding : {H R : Type 0} → RecordKind H R → Table → ℕ → DataHash → Source → Source
     → Option R → Type 0
 Finding K t offset hash old new answer =
     LooksUp K t offset hash.word0 old new (LookupAnswer K old.bytes offset hash answer)
 
+-- a lookup of a record by its hash that gives no answer: the search was refused, or the record at a
+-- row that it found was not read
 abbrev pub FindingFails : {H R : Type 0} → RecordKind H R → Table → ℕ → DataHash → Source → Source
     → CoreError → Type 0
 FindingFails K t offset hash old new e =
@@ -283,7 +317,8 @@ StartsAmong K records word rows count =
     (length (sharing K word records) < 8) × (count ≡ length (sharing K word records))
     × AreStarts K records word (take count rows)
 
--- its errors: the collision, if eight or more do, or the device's own
+-- why an index lookup in such bytes fails: the device failed; or the collision, if eight or more
+-- records share the first word
 abbrev pub IndexFailsAmong : {H R : Type 0} → RecordKind H R → List R → ℕ → Source → Source
     → CoreError → Type 0
 IndexFailsAmong K records word old new e =
@@ -335,11 +370,12 @@ pub record FindsAmong {H R : Type 0} (K : RecordKind H R) (records : List R)
       (λ e. e ≡ TruncatedHashCollision hash.word0
       → SearchWithinBounds K records hash.word0 old new)
 
--- a file lookup among files that are written in a form, and one on the bytes of a shard
+-- a file lookup among files that are written in a form
 abbrev pub FindsFileAmong : List MDBFileInfo → DataHash → Source → Source
     → CoreResult (Option MDBFileInfo) → Type 0
 FindsFileAmong files hash = FindsAmong file_records files (FoundAmong file_records files hash) hash
 
+-- a file lookup on the bytes of a shard
 abbrev pub FindsInShard : Shard → DataHash → Source → Source → CoreResult (Option MDBFileInfo)
     → Type 0
 FindsInShard s hash = FindsAmong file_records (values s.files) (FoundInShard s hash) hash

@@ -110,7 +110,8 @@ size_of_kept kept m =
     + 48 * total_rows file_records (map (as_kept kept) m.files)
     + 48 * total_rows xorb_records m.xorbs
 
--- the same with auxiliary rows
+-- the number of bytes of header, sections and footer, with auxiliary rows, and with verification
+-- rows if they are wanted; 0 if they are and there is no file or the first one has none
 abbrev pub serialized_size : Bool → MinimalShard → ℕ
 serialized_size wanted m = size_of_kept (record { verification = wanted; aux_ext = true }) m
 
@@ -126,6 +127,7 @@ minimal_form now expiry = record {
   expiry = unwrap_or expiry 0;
 }
 
+-- a form in which no table is in
 abbrev pub HasNoTables : Form → Type 0
 HasNoTables form =
     (form.file_table ≡ false) × (form.xorb_table ≡ false) × (form.chunk_table ≡ false)
@@ -144,7 +146,8 @@ WritesMinimalKept old new kept now m n =
     (minimal_form now None))
     n
 
--- the same with auxiliary rows, and with verification rows only if they are wanted
+-- the shard was written: its files with auxiliary rows, and with verification rows only if they are
+-- wanted, and marks at the starts of its files
 abbrev pub WritesMinimal : Option (List ℕ) → Option (List ℕ) → Bool → ℕ → MinimalShard → ℕ → Type 0
 WritesMinimal old new wanted now m n =
     WritesMinimalKept old new (record { verification = wanted; aux_ext = true }) now m n

@@ -50,16 +50,19 @@ query_at footer hashes location = record {
   index = location.1;
 }
 
--- the offsets of the xorb and of the chunk, and the bytes from there on
+-- the offset of the xorb of a query
 abbrev pub xorb_offset : QueryAt → ℕ
 xorb_offset q = row_at q.section q.row
 
+-- the offset of the row of the chunk of a query
 abbrev pub chunk_offset : QueryAt → ℕ
 chunk_offset q = row_at q.section (q.row + 1 + q.index)
 
+-- the bytes from the xorb of a query on
 abbrev pub xorb_at : QueryAt → List ℕ → List ℕ
 xorb_at q bytes = drop (xorb_offset q) bytes
 
+-- the bytes from the row of the chunk of a query on
 abbrev pub chunks_at : QueryAt → List ℕ → List ℕ
 chunks_at q bytes = drop (chunk_offset q) bytes
 
@@ -70,12 +73,17 @@ chunks_left q header = header.num_entries - q.index
 -- the run in a xorb with this header
 pub record IsRun (q : QueryAt) (header : XorbChunkSequenceHeader) (bytes : List ℕ)
     (run : Run) : Type 0 where
+  -- the xorb has a chunk at the index
   pub within : q.index < header.num_entries
+  -- the chunks from the index on that decide the run
   pub chunks : List XorbChunkSequenceEntry
+  -- the bytes after them
   pub rest : List ℕ
   pub there : HasChunks (chunks_left q header) (chunks_at q bytes) chunks rest
   pub decide : Decide q.key q.hashes (chunks_left q header) chunks
+  -- the number of chunks of the run
   pub count : run.0 ≡ run_length q.key q.hashes chunks
+  -- their segment
   pub segment : run.1 ≡ segment_of header (take run.0 chunks) q.index (q.index + run.0)
 
 -- the run if it has a chunk, none if it has not
@@ -163,26 +171,34 @@ pub record OutcomeAt (Absent : CoreError → Type 0) (q : QueryAt) (old new : So
 abbrev pub keyed_word : MDBShardFileFooter → DataHash → ℕ
 keyed_word footer hash = (under_key footer.chunk_hash_hmac_key hash).word0
 
--- a search for a hash in the chunk table: the table fits 64 bits, rows with the word are found, eight
--- at most, and the first few of their locations were tried
+-- a search for a hash in the chunk table: the table fits 64 bits, rows with the word are found,
+-- eight at most, and the first few of their locations were tried
 pub record Queries (footer : MDBShardFileFooter) (hash : DataHash) (old new : Source)
     (Answer : List (ℕ × ℕ) → Type 0) : Type 0 where
   pub fits : FitsTable (chunk_lookup_table footer old)
+  -- rows of the chunk table with the word, and their locations
   pub found : List (Hit (ℕ × ℕ))
   pub few : length found ≤ 8
   pub each : All (IsHit (chunk_lookup_table footer old) (keyed_word footer hash) IsPair) found
   pub distinct : AllPairs OtherRow found
+  -- they are all such rows, or eight if they are more, where the table is sorted
   pub all : IsSorted (chunk_lookup_table footer old)
       → length found ≡ min (hits (chunk_lookup_table footer old) (keyed_word footer hash)) 8
+  -- the source after the search
   pub searched : Source
+  -- the device did not fail in the search
   pub serves : Serves old searched
+  -- seeks and bytes of the search are bounded where the table is sorted
   pub bounded : IsSorted (chunk_lookup_table footer old)
       → Bounded (chunk_lookup_table footer old) (keyed_word footer hash) old searched
+  -- calls went to the xorbs of the first few locations, by two seeks each at most, and read at most
+  -- the records there
   pub visits : VisitsSome xorb_records 2 footer.xorb_info_offset
       (map (λ hit. hit.value.0) found) searched new
+  -- what the query says of the locations found
   pub answer : Answer (map (λ hit. hit.value) found)
 
--- queries at some locations: the answer at one of them, or none at any; why there is none at one
+-- queries at some locations: the answer at one of them, or none at any
 abbrev pub TriedAnswer : MDBShardFileFooter → List DataHash → List ℕ
     → Option Run → List (ℕ × ℕ) → Type 0
 TriedAnswer footer hashes bytes (Some run) locations =
@@ -191,6 +207,7 @@ TriedAnswer footer hashes bytes (Some run) locations =
 TriedAnswer footer hashes bytes None locations =
     All (λ location. AnswerAt (query_at footer hashes location) bytes None) locations
 
+-- queries at some locations: why there is no answer at one of them
 abbrev pub TriedRefused : MDBShardFileFooter → List DataHash → Source → Source → CoreError
     → List (ℕ × ℕ) → Type 0
 TriedRefused footer hashes old new e locations =

@@ -18,7 +18,8 @@ pub record MovesToRow (offset row : ℕ) (old new : Source) : Type 0 where
   pub within : row_at offset row < 2 ^ 64
   pub after : new ≡ moved old (row_at offset row)
 
--- it did not: the row's offset passes 64 bits, or the device failed
+-- the source did not go to a row of a section: the row's offset passes 64 bits, or the device
+-- failed
 pub record NotMoved (offset row : ℕ) (old new : Source) (e : CoreError) : Type 0 where
   pub bytes : new.bytes ≡ old.bytes
   pub seeks : new.seeks ≤ old.seeks + 1
@@ -60,21 +61,28 @@ pub record RowFails (offset row : ℕ) (old new : Source) (e : CoreError) : Type
 -- a run was read: how many chunks it has, and how many bytes these
 pub record ReadsRun (key : DataHash) (qs : List DataHash) (left : ℕ) (old new : Source)
     (run : ℕ × ℕ) : Type 0 where
+  -- the chunks that were read
   pub chunks : List XorbChunkSequenceEntry
   pub fit : All FitsChunk chunks
+  -- they are no more than are left of the xorb
   pub few : length chunks ≤ left
   pub taken : Takes old new (flat_map chunk_row chunks)
+  -- they decide how long the run is
   pub decide : Decide key qs left chunks
+  -- the number of chunks of the run
   pub count : run.0 ≡ run_length key qs chunks
+  -- the number of bytes of these chunks
   pub bytes : run.1 ≡ total_bytes (take run.0 chunks)
 
--- why a run was not read: the device failed, its bytes pass 32 bits, or the source's end
+-- why a run was not read: the device failed, its bytes pass 32 bits, or the source's bytes end
 abbrev pub RunFailure : DataHash → List DataHash → ℕ → List ℕ → Source → Source → CoreError → Type 0
 RunFailure key qs left bytes old new e =
     DeviceFailure old new e
     ⊎ ((new.failures ≡ old.failures) × IsBareInvalidShard e × RunPasses key qs left bytes)
     ⊎ ((new.failures ≡ old.failures) × IsEndOfInput e × RunIsCut key qs left bytes)
 
+-- a run was not read, without a seek and with no more bytes than those of the chunks that are left
+-- of the xorb; the position is unspecified
 pub record ReadRunFails (key : DataHash) (qs : List DataHash) (left : ℕ) (old new : Source)
     (e : CoreError) : Type 0 where
   pub bytes : new.bytes ≡ old.bytes
@@ -90,7 +98,7 @@ pub record ReadsRunAt (q : QueryAt) (header : XorbChunkSequenceHeader) (old new 
   pub seeks : new.seeks ≡ old.seeks + 1
   pub read : new.read ≤ old.read + 48 * chunks_left q header
 
--- it was not read
+-- the run of a query in a xorb with this header was not read, by one seek at most
 pub record RunFails (q : QueryAt) (header : XorbChunkSequenceHeader) (old new : Source)
     (e : CoreError) : Type 0 where
   pub bytes : new.bytes ≡ old.bytes
@@ -105,11 +113,17 @@ pub record RunFails (q : QueryAt) (header : XorbChunkSequenceHeader) (old new : 
 -- so many chunks were read, which have the first hashes, and their bytes were summed, in 32 bits
 pub record HasReadRun (key : DataHash) (qs : List DataHash) (left : ℕ) (start now : Source)
     (length_now bytes : ℕ) : Type 0 where
+  -- the chunks that were read
   pub chunks : List XorbChunkSequenceEntry
   pub fit : All FitsChunk chunks
+  -- their number
   pub many : length chunks ≡ length_now
+  -- they are no more than are left of the xorb
   pub few : length_now ≤ left
   pub taken : Takes start now (flat_map chunk_row chunks)
+  -- all of them have the hashes, one by one
   pub same : run_length key qs chunks ≡ length chunks
+  -- the number of their bytes
   pub sum : bytes ≡ total_bytes chunks
+  -- it fits 32 bits
   pub narrow : bytes < 2 ^ 32

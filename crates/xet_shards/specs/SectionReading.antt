@@ -66,16 +66,19 @@ pub record TakesSection {H R : Type 0} (K : RecordKind H R) (old new : Source) (
   pub handed : map K.handed_out stored ≡ found
   pub after : new ≡ advanced old (48 * (sum_by K.row_count stored + 1))
 
--- those of the section at an offset were, by one seek
+-- the records of the section at an offset were read, by one seek and without a byte past the
+-- bookend
 abbrev pub ReadsSection : {H R : Type 0} → RecordKind H R → Source → Source → ℕ → List R → Type 0
 ReadsSection K old new at found = TakesSection K (moved old at) new found
 
 -- why records were not read, if the device did not fail: an allocation failed or the bytes are too
--- few, or a record was too many
+-- few, or a header was refused
 pub data SectionCase (Passes Ends : List ℕ → Type 0) (bytes : List ℕ) (e : CoreError) : Type 0 where
   not_read : ReadCase (Ends bytes) e → SectionCase Passes Ends bytes e
   passes_limit : IsBareInvalidShard e → Passes bytes → SectionCase Passes Ends bytes e
 
+-- why records were not read: the device failed, an allocation failed, the bytes are too few, or a
+-- header was refused
 abbrev pub SectionFailure : (List ℕ → Type 0) → (List ℕ → Type 0) → List ℕ → Source → Source
     → CoreError → Type 0
 SectionFailure Passes Ends bytes old new e = FailedBy (SectionCase Passes Ends bytes) old new e
@@ -87,7 +90,8 @@ pub record TakesNoSection {H R : Type 0} (K : RecordKind H R) (old new : Source)
   pub seeks : new.seeks ≡ old.seeks
   pub cause : SectionFailure (IsRefusedSection K) (IsCutSection K) (bytes_left old) old new e
 
--- those of the section at an offset were not, by one seek
+-- the records of the section at an offset were not read, with one seek; the source may be at any
+-- offset
 abbrev pub SectionFails : {H R : Type 0} → RecordKind H R → Source → Source → ℕ → CoreError → Type 0
 SectionFails K old new at e = TakesNoSection K (moved old at) new e
 
@@ -95,11 +99,11 @@ SectionFails K old new at e = TakesNoSection K (moved old at) new e
 abbrev pub ReadsNext : {H R : Type 0} → RecordKind H R → Source → Source → ℕ → ℕ → R → Type 0
 ReadsNext K old new left after found = CountsRecord K (Takes old new) left after found
 
--- the bookend, or the next record
+-- the bookend was read, or the next record
 abbrev pub ReadsOne : {H R : Type 0} → RecordKind H R → Source → Source → ℕ → ℕ → Option R → Type 0
 ReadsOne K old new left after found = ReadsNextRecord K (Takes old new) left after found
 
--- neither was read; the source may be at any offset
+-- neither a bookend nor the next record was read; the source may be at any offset
 pub record RecordFails {H R : Type 0} (K : RecordKind H R) (left : ℕ) (old new : Source)
     (e : CoreError) : Type 0 where
   pub bytes : new.bytes ≡ old.bytes
@@ -119,12 +123,13 @@ ReadsAll K old new at result =
 abbrev pub files_of : MDBShardInfo → RecordKind FileDataSequenceHeader MDBFileInfo
 files_of info = file_records_in (version_of info.header.version)
 
--- the same of the file section and of the xorb section that a footer names
+-- all records of the file section that a footer names were read, or reading them failed
 abbrev pub ReadsFiles : {Z : Type 0} → MDBShardInfo → Source → Source
     → CoreResult (Vec MDBFileInfo Z) → Type 0
 ReadsFiles info old new result =
     ReadsAll (files_of info) old new info.metadata.file_info_offset result
 
+-- all records of the xorb section that a footer names were read, or reading them failed
 abbrev pub ReadsXorbs : {Z : Type 0} → MDBShardInfo → Source → Source
     → CoreResult (Vec MDBXorbInfo Z) → Type 0
 ReadsXorbs info old new result =

@@ -16,10 +16,12 @@ pub record FitsStart (row : ℕ × ℕ) : Type 0 where
 abbrev pub triple_of : ChunkTableRow → ℕ × (ℕ × ℕ)
 triple_of row = (row.word, (row.row, row.index))
 
--- its bytes, and the widths of its numbers
+-- the bytes of a row of the chunk table as a tuple: eight of the word, and four of each other
+-- number
 abbrev pub triple_row : ℕ × (ℕ × ℕ) → List ℕ
 triple_row row = (u64_bytes row.0 ++ u32_bytes row.1.0) ++ u32_bytes row.1.1
 
+-- the widths of the numbers of a row of the chunk table
 pub record FitsTriple (row : ℕ × (ℕ × ℕ)) : Type 0 where
   pub word : row.0 < 2 ^ 64
   pub row_number : row.1.0 < 2 ^ 32
@@ -35,13 +37,17 @@ pub record ReadsNextRow {T : Type 0} (row_bytes : T → List ℕ) (Fits : T → 
 -- the rows of a table at an offset were read, by one seek and no byte past the table
 pub record ReadsTable {T : Type 0} (row_bytes : T → List ℕ) (Fits : T → Type 0) (size : ℕ)
     (old new : Source) (at count : ℕ) (found : List T) : Type 0 where
+  -- their number fits `u32`
   pub few : count ≤ 4294967295
   pub number : length found ≡ count
   pub widths : All Fits found
+  -- the rows are in the bytes from the offset on
   pub bytes_are : (rest : List ℕ) × (drop at old.bytes ≡ flat_map row_bytes found ++ rest)
   pub bytes : new.bytes ≡ old.bytes
   pub seeks : new.seeks ≡ old.seeks + 1
+  -- no byte past the table was read
   pub read : new.read ≡ old.read + size * count
+  -- the device did not fail
   pub failures : new.failures ≡ old.failures
 
 -- why a table of so many bytes was not read from an offset on: the device failed, an allocation

@@ -45,7 +45,7 @@ chunk_table_rows_from row chunks =
     map (λ c. record { word = c.1.chunk_hash.word0; row = row; index = c.0 })
     (enumerate_from 0 chunks)
 
--- those for all chunks of a list of xorbs, in section order
+-- the rows of the chunk table for all chunks of a list of xorbs, in section order
 abbrev pub chunk_table_rows : List MDBXorbInfo → List ChunkTableRow
 chunk_table_rows xorbs =
     flat_map (λ e. chunk_table_rows_from (total_rows xorb_records e.0) e.1.chunks)
@@ -56,23 +56,26 @@ abbrev pub ascending : List ChunkTableRow → List ChunkTableRow
 ascending rows =
     finite.keys (finite.from_entries {R = chunk_table_row_cmp} (map (λ row. (row, tt {0})) rows))
 
--- rows got those of the chunks of a xorb that starts at a row
+-- the new rows are the old ones, and then those of the chunks of a xorb that starts at a row
 abbrev pub AddsChunkRows : (old new : List ChunkTableRow) → ℕ → List XorbChunkSequenceEntry → Type 0
 AddsChunkRows old new row chunks = new ≡ old ++ chunk_table_rows_from row chunks
 
+-- the rows of the chunk table for all chunks of a list of xorbs, in ascending order
 abbrev pub chunk_table : List MDBXorbInfo → List ChunkTableRow
 chunk_table xorbs = ascending (chunk_table_rows xorbs)
 
--- the bytes of a row
+-- the bytes of a row of the file table or the xorb table
 abbrev pub start_row : ℕ × ℕ → List ℕ
 start_row row = u64_bytes row.0 ++ u32_bytes row.1
 
+-- the bytes of a row of the chunk table
 abbrev pub chunk_table_row_bytes : ChunkTableRow → List ℕ
 chunk_table_row_bytes row = (u64_bytes row.word ++ u32_bytes row.row) ++ u32_bytes row.index
 
--- the bytes of the tables
+-- the bytes of the table of a section
 unfoldable pub table_bytes : {H R : Type 0} → RecordKind H R → List R → List ℕ
 table_bytes K records = flat_map start_row (starts K records)
 
+-- the bytes of the chunk table
 unfoldable pub chunk_table_bytes : List MDBXorbInfo → List ℕ
 chunk_table_bytes xorbs = flat_map chunk_table_row_bytes (chunk_table xorbs)

@@ -46,7 +46,7 @@ PassesBefore at stop bytes =
     × (at + 48 * total_rows xorb_records xorbs < stop)
     × BeginsRefused xorb_records (rows_left xorb_records xorbs) rest
 
--- the same, but there are too few bytes
+-- xorbs, and then too few bytes for what starts before the stop, as those before it do
 abbrev pub CutBefore : ℕ → ℕ → List ℕ → Type 0
 CutBefore at stop bytes =
     (xorbs : List MDBXorbInfo) × (rest : List ℕ) × HoldsRecords xorb_records bytes xorbs rest
@@ -75,7 +75,7 @@ pub record ReadsXorbBefore (stop : ℕ) (old new : Source) (left after : ℕ) (f
   pub start : found.0 + left ≡ 4294967295
   pub next : ReadsNext xorb_records old new left after found.1
 
--- that xorb, or the end of the walk
+-- the next xorb, which starts before the stop, was read, or the end of the walk reached
 abbrev pub ReadsBefore : ℕ → Source → Source → ℕ → ℕ → Option (ℕ × MDBXorbInfo) → Type 0
 ReadsBefore stop old new left after found =
     MatchOption found
@@ -83,7 +83,7 @@ ReadsBefore stop old new left after found =
     ⊎ ((stop ≤ old.at) × (new ≡ old)))
     (ReadsXorbBefore stop old new left after)
 
--- neither was read; the source may be at any offset
+-- neither the next xorb nor the end of the walk was read; the source may be at any offset
 pub record XorbBeforeFails (stop left : ℕ) (old new : Source) (e : CoreError) : Type 0 where
   pub bytes : new.bytes ≡ old.bytes
   pub seeks : new.seeks ≡ old.seeks

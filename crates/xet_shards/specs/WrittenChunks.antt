@@ -10,6 +10,7 @@ use Rattle.xet_shards.specs.Tables.{ChunkTableRow, chunk_table}
 abbrev pub rows_with_word : ℕ → List MDBXorbInfo → List ChunkTableRow
 rows_with_word word xorbs = filter (λ p. p.word == word) (chunk_table xorbs)
 
+-- two rows of the chunk table differ
 abbrev pub OtherTableRow : ChunkTableRow → ChunkTableRow → Type 0
 OtherTableRow p q = p ≢ q
 

@@ -19,7 +19,8 @@ abbrev pub RunInXorb : DataHash → List DataHash → MDBXorbInfo → ℕ → Op
 RunInXorb key qs xorb index answer =
     (answer ≡ some_run_at key (xorb, index) qs) × ((qs ≡ []) ⊎ (index < length xorb.chunks))
 
--- it is refused, which needs a hash: the device failed, or the xorb has no chunk at the index
+-- a query at a chunk of a xorb is refused, which needs a hash: the device failed, or the xorb has
+-- no chunk at the index
 abbrev pub QueryFailsInXorb : List DataHash → MDBXorbInfo → ℕ → Source → Source → CoreError → Type 0
 QueryFailsInXorb qs xorb index old new e =
     (qs ≢ [])
@@ -31,14 +32,15 @@ pub record HasChunkAt (xorbs : List MDBXorbInfo) (hash : DataHash) (p : ChunkLoc
   pub xorb : Contains xorbs p.0
   pub chunk : chunk_at p ≡ Some hash
 
--- all chunks of some xorbs, and those of them that share the first word of a hash but have another
--- hash
+-- all chunks of some xorbs
 abbrev pub all_chunks : List MDBXorbInfo → List XorbChunkSequenceEntry
 all_chunks xorbs = flat_map (λ x. x.chunks) xorbs
 
+-- whether a chunk shares the first word of a hash but has another hash
 abbrev pub is_other : DataHash → XorbChunkSequenceEntry → Bool
 is_other hash chunk = (chunk.chunk_hash.word0 == hash.word0) && not (hash_eq hash chunk.chunk_hash)
 
+-- the chunks of some xorbs that share the first word of a hash but have another hash
 abbrev pub others_sharing : DataHash → List MDBXorbInfo → List XorbChunkSequenceEntry
 others_sharing hash xorbs = filter (is_other hash) (all_chunks xorbs)
 
@@ -52,18 +54,23 @@ RunAmong key (q ∷ qs) xorbs None =
     ((p : ChunkLocation) → ¬ HasChunkAt xorbs (under_key key q) p)
     ⊎ (8 ≤ length (others_sharing (under_key key q) xorbs))
 
--- what it costs: the search, and then for each of at most eight xorbs two seeks and the bytes of
--- the xorb
+-- what a query by the chunk table costs: the search, and then for each of at most eight xorbs two
+-- seeks and the bytes of the xorb
 pub record TriesCost (xorbs : List MDBXorbInfo) (word : ℕ) (old new : Source) : Type 0 where
+  -- the source after the search
   pub searched : Source
   pub search : ChunkSearchCosts xorbs word old searched
+  -- the xorbs that were tried
   pub tried : List MDBXorbInfo
   pub few : length tried ≤ 8
   pub among : All (Contains xorbs) tried
+  -- at most two seeks for each of them
   pub seeks : new.seeks ≤ searched.seeks + 2 * length tried
+  -- at most the bytes of their records
   pub read : new.read ≤ searched.read + length (flat_map xorb_record_bytes tried)
 
--- nothing without hashes
+-- what a query costs: nothing without hashes, else the search for the first one and what is tried
+-- after it
 abbrev pub QueryCosts : DataHash → List DataHash → List MDBXorbInfo → Source → Source → Type 0
 QueryCosts key [] xorbs old new = new ≡ old
 QueryCosts key (q ∷ qs) xorbs old new = TriesCost xorbs (under_key key q).word0 old new

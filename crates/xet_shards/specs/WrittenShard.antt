@@ -26,7 +26,7 @@ pub record IsBytesOf (s : Shard) (bytes : List ℕ) : Type 0 where
   pub expiry_fits : IfSome expiry (λ e. e < 2 ^ 64)
   pub bytes_are : bytes ≡ layout_in version s expiry
 
--- the same, and this is the header and the footer in them
+-- the bytes are this shard's, and this is the header and the footer in them
 pub record IsBytesWithInfo (s : Shard) (bytes : List ℕ) (info : MDBShardInfo) : Type 0 where
   pub is_bytes : IsBytesOf s bytes
   pub ends : HasEnds bytes info

@@ -10,7 +10,7 @@ use Rattle.xet_shards.specs.SectionWalk.{kept_of, KeepsSection}
 abbrev pub header_at : ℕ → MDBXorbInfo → XorbChunkSequenceHeader × ℕ
 header_at offset xorb = (xorb.metadata, offset)
 
--- those of xorbs whose section is at an offset
+-- the headers of xorbs whose section is at an offset, each with its own offset
 abbrev pub xorb_headers : ℕ → List MDBXorbInfo → List (XorbChunkSequenceHeader × ℕ)
 xorb_headers at xorbs = kept_of xorb_records header_at at xorbs
 

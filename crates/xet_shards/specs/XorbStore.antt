@@ -11,7 +11,7 @@ use Rattle.xet_shards.specs.declared.shard_in_memory.xorb_store.XorbStore.TheIns
 use Rattle.xet_shards.specs.Shard.{AreXorbs}
 use Rattle.xet_shards.specs.ChunkLookup.{ChunkLocation, XorbsWithLookup, IsChunkLookup, chunk_at}
 
--- xorbs and locations without `Rc`
+-- the entries of xorbs without `Rc`
 abbrev pub shown_xorbs : {Z : Type 0} → List (DataHash × Rc MDBXorbInfo Z)
     → List (DataHash × MDBXorbInfo)
 shown_xorbs es = map (λ e. (e.0, e.1.value)) es
@@ -20,6 +20,7 @@ shown_xorbs es = map (λ e. (e.0, e.1.value)) es
 abbrev pub xorbs_of : {Z : Type 0} → List (DataHash × Rc MDBXorbInfo Z) → List MDBXorbInfo
 xorbs_of es = values_of (shown_xorbs es)
 
+-- a location without `Rc`
 abbrev pub shown_location : {Z : Type 0} → (Rc MDBXorbInfo Z × ℕ) → ChunkLocation
 shown_location p = (p.0.value, p.1)
 
@@ -28,6 +29,7 @@ abbrev pub location_in : {S Z : Type 0} → hash_map.HashMap DataHash (Rc MDBXor
     → DataHash → Option ChunkLocation
 location_in m q = option_map shown_location (hash_map.get hash_eq m q)
 
+-- the xorbs and the chunk lookup that the fields hold
 abbrev pub xorbs_inside : Inside → XorbsWithLookup
 xorbs_inside t =
     record {
