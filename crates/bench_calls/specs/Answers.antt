@@ -39,7 +39,7 @@ number_of Hmac = 17
 number_of FindFilesInBytes = 18
 number_of CopyInMemory = 19
 
--- with files and all tables, valid for 1000 seconds from 0 on
+-- the export with files, their auxiliary rows and all tables, valid for 1000 seconds from 0 on
 abbrev pub whole_export : DataHash → Export
 whole_export key = record {
   key = key;
@@ -48,13 +48,15 @@ whole_export key = record {
   parts = record { files = true; aux_ext = true; xorb_table = true; chunk_table = true };
 }
 
--- verification rows and auxiliary rows
+-- all optional rows of files that can be kept: verification rows and auxiliary rows
 abbrev pub all_parts : KeptParts
 all_parts = record { verification = true; aux_ext = true }
 
+-- the bytes are a count, as 64 bits in little-endian order
 abbrev pub IsCount : List ℕ → Type 0
 IsCount bytes = (count : ℕ) × (bytes ≡ to_le_bytes w64 count)
 
+-- the bytes are those of some well-formed shard, without an expiry
 abbrev pub AreBytesOfSome : List ℕ → Type 0
 AreBytesOfSome bytes = (s : Shard) × IsShard s × (bytes ≡ layout s None)
 

@@ -14,8 +14,9 @@ use Rattle.xet_core_structures.specs.Source.{Source}
 abbrev pub most_seeks : ℕ → ℕ → ℕ
 most_seeks n d = (n + 1) / 128 + d / 4 + d + 10
 
--- with these files they make at most so many, and read at most 248 bytes, 12 for each of these seeks
--- and of 257 rows, and the d records
+-- opening a shard with these files and looking up a file makes at most so many seeks, and reads at
+-- most 248 bytes, 12 for each of these seeks and of 257 rows, and the records whose hash has this
+-- first word
 pub record FindsWithin (files : List MDBFileInfo) (word : ℕ) (old new : Source) : Type 0 where
   pub seeks : new.seeks
       ≤ old.seeks + most_seeks (length files) (length (sharing file_records word files))
@@ -32,7 +33,9 @@ export_of s key now valid =
 -- the bytes are equal but for the 16 of two timestamps, 80 before the end
 pub record EqualButForTimes (one other : List ℕ) : Type 0 where
   pub before : List ℕ
+  -- the timestamps in the first
   pub times : List ℕ
+  -- the timestamps in the second
   pub other_times : List ℕ
   pub after : List ℕ
   pub sixteen : length times ≡ 16

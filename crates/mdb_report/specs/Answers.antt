@@ -15,7 +15,7 @@ FindsProblems Summary = ⊤
 FindsProblems (Check named) = ⊤
 FindsProblems _ = ⊥
 
--- it looks something up
+-- the inquiry looks something up: files by their hashes, or a run of chunks
 abbrev pub LooksUp : Inquiry → Type 0
 LooksUp (Find hashes costs) = ⊤
 LooksUp (Query hashes) = ⊤

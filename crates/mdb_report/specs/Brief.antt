@@ -5,7 +5,7 @@ use Rattle.mdb_report.specs.declared.brief.Brief.{Brief}
 use Rattle.mdb_report.specs.declared.brief.Total.{Total}
 use Rattle.mdb_report.specs.Summary.{key_in}
 
--- it says what header and footer do, of the file with this name
+-- the brief report says what header and footer do, of the file with this name and this size
 pub record SaysBriefly (info : MDBShardInfo) (file : List ℕ) (bytes : ℕ) (brief : Brief)
     : Type 0 where
   pub name : brief.file.now ≡ file

@@ -26,15 +26,16 @@ KeepsFrom (Differs _) = ⊥
 KeepsFrom (Size _) = ⊥
 KeepsFrom _ = ⊤
 
--- it is true of the bytes too
+-- a finding is true of the bytes, and keeps them from being combined
 abbrev pub IsObstacle : List ℕ → Finding → Type 0
 IsObstacle bytes finding = IsFinding bytes finding × KeepsFrom finding
 
--- the chunk hashes of a shard's bytes are under a key, and they are not
+-- the chunk hashes of a shard's bytes are under a key
 abbrev pub IsUnderKey : List ℕ → Type 0
 IsUnderKey bytes =
     (info : MDBShardInfo) × HasEnds bytes info × (info.metadata.chunk_hash_hmac_key ≢ no_key)
 
+-- the chunk hashes of a shard's bytes are under no key
 abbrev pub IsUnderNoKey : List ℕ → Type 0
 IsUnderNoKey bytes =
     (info : MDBShardInfo) × HasEnds bytes info × (info.metadata.chunk_hash_hmac_key ≡ no_key)

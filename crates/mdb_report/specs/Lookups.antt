@@ -39,15 +39,20 @@ FindsAt bytes hash found costs =
     info.metadata.file_info_offset hash before after found
     × AreCosts before after costs)
 
--- the report of such a lookup, with its costs if they are wanted, and else without
+-- the report of a lookup of the hash in the bytes, with its costs if they are wanted, and else
+-- without
 pub record ReportsLookup (bytes : List ℕ) (hash : DataHash) (with_costs : Bool)
     (report : FoundReport) : Type 0 where
+  -- what the lookup finds
   pub file : Option MDBFileInfo
+  -- what the lookup costs
   pub costs : Costs
   pub finds : FindsAt bytes hash file costs
   pub looked_up : report.hash.0 ≡ hash
   pub found : ReportsFound file report.found
+  -- the report has costs exactly if they are wanted
   pub has_costs : is_some report.costs ≡ with_costs
+  -- the costs in the report are those of the lookup
   pub costs_are : IfSome report.costs (λ c. c ≡ costs)
 
 -- what a lookup of the hash finds between two states of a source, and what it costs
@@ -57,17 +62,23 @@ FindsIn info hash before after found costs =
     before after found
     × AreCosts before after costs
 
--- the report of such a lookup, with its costs if they are wanted, and else without
+-- the report of a lookup of the hash between two states of a source, with its costs if they are
+-- wanted, and else without
 pub record ReportsFinding (info : MDBShardInfo) (hash : DataHash) (with_costs : Bool)
     (before after : Source) (report : FoundReport) : Type 0 where
+  -- what the lookup finds
   pub file : Option MDBFileInfo
+  -- what the lookup costs
   pub costs : Costs
   pub finds : FindsIn info hash before after file costs
   pub looked_up : report.hash.0 ≡ hash
   pub found : ReportsFound file report.found
+  -- the report has costs exactly if they are wanted
   pub has_costs : is_some report.costs ≡ with_costs
+  -- the costs in the report are those of the lookup
   pub costs_are : IfSome report.costs (λ c. c ≡ costs)
 
+-- the report of a run: how many chunks it has, and its segment
 abbrev pub run_of : ℕ × FileDataSequenceEntry → Run
 run_of run = record { chunks = run.0; segment = segment_report run.1 }
 
@@ -85,5 +96,7 @@ pub record ReportsRun (info : MDBShardInfo) (hashes : List DataHash) (before aft
   pub answers : QueryAnswer info.metadata hashes before after answer
   pub run : report.run ≡ option_map run_of answer
 
+-- why there is no report of a lookup: header and footer are not read, the lookup is refused, or
+-- memory is lacking
 abbrev pub LookupRefusal : List ℕ → DataHash → CoreError → Type 0
 LookupRefusal bytes hash e = RefusesFile bytes hash e ⊎ (e ≡ OutOfMemory)

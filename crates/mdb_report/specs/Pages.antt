@@ -9,6 +9,6 @@ abbrev pub page_bytes : Option Page → List ℕ
 page_bytes None = replicate 16384 0
 page_bytes (Some page) = page.bytes.items
 
--- the bytes of all pages
+-- the bytes of all pages, up to the size of the whole
 abbrev pub bytes_in : Pages → List ℕ
 bytes_in pages = take pages.size (concat (map page_bytes pages.pages.items))

@@ -20,6 +20,8 @@ use Rattle.mdb_report.specs.declared.records.ChunkReport.{ChunkReport}
 use Rattle.mdb_report.specs.declared.records.ChunkRest.{ChunkRest}
 use Rattle.mdb_report.specs.declared.records.ChunkRow.{ChunkRow}
 
+-- the report of a segment: its xorb, its flags, the index of its first chunk, that after its last,
+-- and its bytes
 abbrev pub segment_report : FileDataSequenceEntry → SegmentReport
 segment_report s =
     record {
@@ -30,6 +32,8 @@ segment_report s =
       bytes = s.unpacked_segment_bytes;
     }
 
+-- the report of a chunk in its xorb: its hash, its flags, where it starts in the xorb, and its
+-- bytes
 abbrev pub chunk_row_of : XorbChunkSequenceEntry → ChunkRow
 chunk_row_of c =
     record {
@@ -84,9 +88,12 @@ pub record ReportsXorb (xorb : MDBXorbInfo) (with_rows : Bool) (report : XorbRep
     : Type 0 where
   pub hash : report.xorb.0 ≡ xorb.metadata.xorb_hash
   pub flags : report.flags ≡ xorb.metadata.xorb_flags
+  -- how many chunks the xorb has
   pub chunks : report.chunks ≡ xorb.metadata.num_entries
+  -- its size in bytes
   pub bytes : report.bytes ≡ xorb.metadata.num_bytes_in_xorb
   pub bytes_on_disk : report.bytes_on_disk ≡ xorb.metadata.num_bytes_on_disk
+  -- the report has a row for each chunk exactly if these are wanted
   pub has_rows : is_some report.rows ≡ with_rows
   pub rows : IfSome report.rows (λ rows. rows.items ≡ map chunk_row_of xorb.chunks)
 

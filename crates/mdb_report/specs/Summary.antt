@@ -34,6 +34,7 @@ pub record ArePartsOf (info : MDBShardInfo) (bytes : ℕ) (parts : Parts) : Type
   pub chunk_table_end : parts.chunk_table.end ≡ parts.footer.start
   pub chunk_rows : parts.chunk_table.rows ≡ info.metadata.chunk_lookup_num_entry
   pub footer : parts.footer.start ≡ info.metadata.footer_offset
+  -- the footer ends with the shard
   pub footer_end : parts.footer.end ≡ bytes
 
 -- the summary says what header and footer do, of the file with this name
@@ -43,6 +44,7 @@ pub record Summarizes (info : MDBShardInfo) (file : List ℕ) (bytes : ℕ) (sum
   pub size : summary.bytes ≡ bytes
   pub version : summary.version ≡ info.header.version
   pub parts : ArePartsOf info bytes summary.parts
+  -- the whole bar of 60 letters, which shows where the parts are
   pub bar : string_bytes summary.bar ≡ columns summary.parts bytes 60
   pub key : summary.key ≡ key_in info
   pub created : summary.created.seconds ≡ info.metadata.shard_creation_timestamp

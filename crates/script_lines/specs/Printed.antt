@@ -9,7 +9,7 @@ use Rattle.xet_core_structures.specs.declared.file_structs.MDBFileInfo.{MDBFileI
 use Rattle.xet_core_structures.specs.FileRecord.{size_of_file}
 use Rattle.xet_core_structures.specs.Hex.{hash_hex, hex_digits}
 
--- two digits for each byte
+-- the text of bytes, two hexadecimal digits for each byte
 abbrev pub hex_text : List ℕ → List ℕ
 hex_text bytes = flat_map (λ byte. hex_digits 2 byte) bytes
 
@@ -23,12 +23,15 @@ segment_line s =
     printed_line (codes "seg" ∷ hash_hex s.xorb_hash ∷ decimal s.chunk_index_start
     ∷ decimal s.chunk_index_end ∷ decimal s.unpacked_segment_bytes ∷ [])
 
+-- the line of a verification row: its hash
 abbrev pub verification_line : HashRow → List ℕ
 verification_line row = printed_line (codes "ver" ∷ hash_hex row.hash ∷ [])
 
+-- the line of a metadata row: its SHA-256
 abbrev pub sha256_line : HashRow → List ℕ
 sha256_line row = printed_line (codes "sha" ∷ hash_hex row.hash ∷ [])
 
+-- the line of an auxiliary row: its hash
 abbrev pub aux_line : HashRow → List ℕ
 aux_line row = printed_line (codes "aux" ∷ hash_hex row.hash ∷ [])
 

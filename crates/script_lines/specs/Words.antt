@@ -21,16 +21,18 @@ without_last byte line =
 abbrev pub IsWordByte : ℕ → Type 0
 IsWordByte byte = (byte ≢ 32) × (byte ≢ 40) × (byte ≢ 41)
 
--- a word ends before such a rest of its line: the rest is empty, or begins with another byte
+-- a word ends before such a rest of its line: the rest is empty, or begins with a space or a
+-- parenthesis
 abbrev pub EndsWord : List ℕ → Type 0
 EndsWord [] = ⊤
 EndsWord (byte ∷ rest) = ¬ IsWordByte byte
 
--- the last byte of a part of a line is such another byte
+-- the last byte of a part of a line is a space or a parenthesis
 abbrev pub EndsInSeparator : List ℕ → Type 0
 EndsInSeparator part =
     (front : List ℕ) × (byte : ℕ) × (part ≡ front ++ byte ∷ []) × ¬ IsWordByte byte
 
+-- a word is `(` or `)`
 abbrev pub IsParenthesis : List ℕ → Type 0
 IsParenthesis word = (word ≡ 40 ∷ []) ⊎ (word ≡ 41 ∷ [])
 
@@ -51,7 +53,7 @@ AreWordsOf line (word ∷ words) =
 abbrev pub IsNameByte : ℕ → Type 0
 IsNameByte byte = IsInRange 48 57 byte ⊎ IsInRange 65 90 byte ⊎ IsInRange 97 122 byte ⊎ (byte ≡ 95)
 
--- 1 to 32 such bytes
+-- 1 to 32 ASCII digits, letters and `_`
 abbrev pub IsName : List ℕ → Type 0
 IsName word = (1 ≤ length word) × (length word ≤ 32) × All IsNameByte word
 

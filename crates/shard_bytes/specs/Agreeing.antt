@@ -14,7 +14,7 @@ MergesAgreeing inputs (Bytes bytes) = InputsAgree inputs × MergesBytes inputs b
 MergesAgreeing inputs (Disagreements found) =
     (0 < length found.items) × HasAllDisagreements inputs found.items
 
--- of these shards it gives the bytes of their join, if they agree pairwise, else no bytes
+-- of these shards the merge gives the bytes of their join, if they agree pairwise, else no bytes
 abbrev pub GivesJoin : List Shard → AgreeingMerge → Type 0
 GivesJoin shards (Bytes bytes) =
     AgreePairwise (Contains shards)

@@ -38,6 +38,7 @@ pub record IsWhole (bytes : List ℕ) : Type 0 where
   pub files : List MDBFileInfo
   pub xorbs : List MDBXorbInfo
   pub form : Form
+  -- the files may be written as a section in the version of the form
   pub files_fit : FitsSection (file_records_in form.version) files
   pub xorbs_fit : FitsSection xorb_records xorbs
   pub files_ascend : Ascends file_records files
@@ -171,7 +172,7 @@ AddsPart part bytes info written footer =
     Adds (IsSamePart part bytes info written footer)
     (λ f. (f ≡ Differs part) × (¬ IsSamePart part bytes info written footer))
 
--- the size was, if it differs
+-- the size of the bytes that were written was added, if it differs
 abbrev pub AddsSize : List ℕ → List ℕ → List Finding → List Finding → Type 0
 AddsSize bytes written =
     Adds (length bytes ≡ length written)
@@ -183,12 +184,13 @@ IsDifference bytes info written footer f =
     ((part : Part) × (f ≡ Differs part) × (¬ IsSamePart part bytes info written footer))
     ⊎ ((f ≡ Size (length written)) × (length bytes ≢ length written))
 
+-- all parts and the size are those of the bytes that were written
 abbrev pub IsSame : List ℕ → MDBShardInfo → List ℕ → MDBShardFileFooter → Type 0
 IsSame bytes info written footer =
     ((part : Part) → IsSamePart part bytes info written footer)
     × (length bytes ≡ length written)
 
--- each difference was added
+-- each difference from the bytes that were written was added
 abbrev pub Compares : List ℕ → MDBShardInfo → List ℕ → MDBShardFileFooter → List Finding
     → List Finding → Type 0
 Compares bytes info written footer =

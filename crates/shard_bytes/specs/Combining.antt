@@ -11,11 +11,12 @@ use Rattle.shard_bytes.specs.Outcomes.{InMemory}
 use Rattle.shard_bytes.specs.declared.combine.Operation.{Operation}
 use Rattle.shard_bytes.specs.declared.combine.Operation.TheVariants.{Union, Difference}
 
--- what an operation makes of two shards, and why it makes nothing of the bytes of two inputs
+-- what an operation makes of two shards
 abbrev pub IsResultOf : Operation → Shard → Shard → Shard → Type 0
 IsResultOf Union = IsByteUnion
 IsResultOf Difference = IsDifference
 
+-- why an operation makes nothing of the bytes of two inputs, given their headers and footers
 abbrev pub RefusalOf : Operation → List ℕ → MDBShardInfo → List ℕ → MDBShardInfo → CoreError
     → Type 0
 RefusalOf Union = UnionRefusal
@@ -27,14 +28,16 @@ CombinesBytes IsResult x y out =
     (i j : MDBShardInfo) × (c : Shard) × HasEnds x i × HasEnds y j × HaveResult IsResult x i y j c
     × (out ≡ keyed_layout c (key_of i))
 
--- a header or a footer is not read, those of the second after those of the first, or there is no
--- result
+-- why two byte strings are not combined, apart from a failed allocation: a header or a footer is
+-- not read, those of the second after those of the first, or there is no result
 abbrev pub NotCombined : (List ℕ → MDBShardInfo → List ℕ → MDBShardInfo → CoreError → Type 0)
     → List ℕ → List ℕ → CoreError → Type 0
 NotCombined Refusal x y e =
     LoadRefusal x e ⊎ ((i : MDBShardInfo) × HasEnds x i × LoadRefusal y e)
     ⊎ ((i j : MDBShardInfo) × HasEnds x i × HasEnds y j × Refusal x i y j e)
 
+-- why two byte strings in memory are not combined: an allocation failed, a header or a footer is
+-- not read, or there is no result
 abbrev pub CombiningRefusal : (List ℕ → MDBShardInfo → List ℕ → MDBShardInfo → CoreError → Type 0)
     → List ℕ → List ℕ → CoreError → Type 0
 CombiningRefusal Refusal x y = InMemory (NotCombined Refusal x y)

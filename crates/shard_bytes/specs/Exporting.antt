@@ -22,23 +22,28 @@ WritesExport x =
     ExportsWith x.parts.aux_ext
     (export_form x.key x.now x.valid_seconds x.parts.files x.parts.xorb_table x.parts.chunk_table)
 
--- the bytes have a footer with which the shard can be exported, a header and both sections, and what
--- these hold is written in the form that is asked for, with the files' auxiliary rows or without
+-- the bytes have a footer with which the shard can be exported, a header and both sections, and
+-- what these hold is written in the form that is asked for, with the files' auxiliary rows or
+-- without
 pub record ExportsBytes (x : Export) (bytes out : List ℕ) : Type 0 where
   pub info : MDBShardInfo
   pub ends : HasEnds bytes info
+  -- the shard can be exported with this footer
   pub can : ¬ CannotExport info x.now x.valid_seconds
   pub files : List MDBFileInfo
   pub xorbs : List MDBXorbInfo
   pub header : HasHeader bytes
+  -- the file section comes after the header
   pub file_section : IsSection (file_records_in header.version) (drop 48 bytes) files
+  -- the xorb section comes after the file section
   pub xorb_section : IsSection xorb_records (drop (xorbs_after files) bytes) xorbs
+  -- what is written is the layout in the form that is asked for
   pub written : out ≡ exported (auxes_as_wanted x.parts.aux_ext files) xorbs
       (export_form x.key x.now x.valid_seconds x.parts.files x.parts.xorb_table
       x.parts.chunk_table)
 
--- header and footer are not read; or with this footer the shard cannot be exported, or it can and a
--- section is not read
+-- why bytes are not exported: header and footer are not read; or with this footer the shard cannot
+-- be exported, or it can and a section is not read
 abbrev pub NotExported : Export → List ℕ → CoreError → Type 0
 NotExported x bytes e =
     LoadRefusal bytes e
@@ -46,5 +51,7 @@ NotExported x bytes e =
     × (((e ≡ InvalidArguments) × CannotExport i x.now x.valid_seconds)
     ⊎ ((¬ CannotExport i x.now x.valid_seconds) × ExportCase bytes e)))
 
+-- why bytes in memory are not exported: an allocation failed, header and footer are not read, the
+-- shard cannot be exported, or a section is not read
 abbrev pub RefusesExport : Export → List ℕ → CoreError → Type 0
 RefusesExport x bytes = InMemory (NotExported x bytes)

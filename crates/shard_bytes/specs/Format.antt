@@ -14,7 +14,8 @@ pub record HasVersion (bytes : List ℕ) (version : ℕ) : Type 0 where
   pub version_is : take 8 (drop 32 bytes) ≡ u64_bytes version
   pub fits : version < 2 ^ 64
 
--- it is not supported for this reason, which is the first in the order of the bytes
+-- the format of the bytes is not supported for this reason, which is the first in the order of the
+-- bytes
 abbrev pub IsUnsupportedFor : List ℕ → Format → Type 0
 IsUnsupportedFor bytes NoTag = (32 ≤ length bytes) × (take 32 bytes ≢ header_tag)
 IsUnsupportedFor bytes (OtherVersion version) = HasVersion bytes version × (¬ IsVersion version)

@@ -18,7 +18,7 @@ IsBalanced from count (Both' p left q right) =
     (1 < count) × IsBalanced from (count / 2) left
     × IsBalanced (from + count / 2) (count - count / 2) right
 
--- the union of what two trees give
+-- the plan is the union of these two trees
 abbrev pub IsPlanOfBoth : MergePlan → MergePlan → MergePlan → Type 0
 IsPlanOfBoth first second (Leaf i) = ⊥
 IsPlanOfBoth first second (Both' p left q right) = (left ≡ first) × (right ≡ second)
@@ -28,11 +28,13 @@ abbrev pub IsMergePlan : ℕ → MergePlan → Type 0
 IsMergePlan count plan =
     ((count ≡ 1) × IsPlanOfBoth (Leaf 0) (Leaf 0) plan) ⊎ ((1 < count) × IsBalanced 0 count plan)
 
--- what the tree writes, and why it writes nothing
+-- what the tree by which the inputs are merged writes
 abbrev pub MergesBytes : List (List ℕ) → List ℕ → Type 0
 MergesBytes inputs out =
     (plan : MergePlan) × IsMergePlan (length inputs) plan × TreeWrites inputs plan out
 
+-- why inputs are not merged: there are none, an allocation failed, or the tree by which they are
+-- merged writes nothing
 abbrev pub RefusesMerge : List (List ℕ) → CoreError → Type 0
 RefusesMerge inputs e =
     ((e ≡ InvalidArguments) × (inputs ≡ [])) ⊎ (e ≡ OutOfMemory)

@@ -33,7 +33,8 @@ RefusesMinimal bytes e =
     × MinimalFails Consumes (λ before after n e. ReaderFails before n e)
     (λ before after e. ReaderHeaderFails before e) true (Some bytes) left e
 
--- the minimal shard, with these parts of its files, which have the verification rows that are wanted
+-- the bytes of the minimal shard, with these parts of its files, which have the verification rows
+-- that are wanted
 abbrev pub MinimalBytes : KeptParts → ℕ → List ℕ → List ℕ → Type 0
 MinimalBytes kept now bytes out =
     (m : MinimalShard) × HoldsMinimal bytes m
@@ -63,11 +64,13 @@ HasXorb m hash = (x : MDBXorbInfo) × Contains m.xorbs x × (xorb_hash_of x ≡ 
 abbrev pub AreLacked : MinimalShard → List DataHash → List DataHash → Type 0
 AreLacked m = IsKept (λ hash lacks. IsTrue lacks ↔ (¬ HasXorb m hash))
 
+-- the bytes begin with a header and two sections, and these of the hashes, in their order, are
+-- those that none of their xorbs has
 abbrev pub LackXorbs : List ℕ → List DataHash → List DataHash → Type 0
 LackXorbs bytes hashes lacking =
     (m : MinimalShard) × HoldsMinimal bytes m × AreLacked m hashes lacking
 
--- no files, and the xorbs that a subset keeps
+-- the bytes of a subset: no files, and the xorbs that it keeps
 abbrev pub SubsetBytes : Subset → List ℕ → List ℕ → Type 0
 SubsetBytes subset bytes out =
     (m : MinimalShard) × (kept : List MDBXorbInfo) × HoldsMinimal bytes m
@@ -75,13 +78,13 @@ SubsetBytes subset bytes out =
     × (out ≡ layout_of [] (map (mark_starts (is_start m.files)) kept)
     (minimal_form subset.now subset.expiry))
 
--- the hashes of the eligible chunks
+-- the hashes of the eligible chunks of the bytes
 abbrev pub EligibleIn : List ℕ → List DataHash → Type 0
 EligibleIn bytes hashes =
     (m : MinimalShard) × HoldsMinimal bytes m × (hashes ≡ eligible_hashes m.files m.xorbs)
 
--- why there is no minimal shard: an allocation failed, or the bytes are not read, or verification rows
--- are wanted, and then writing it fails
+-- why there is no minimal shard: an allocation failed, or the bytes are not read, or verification
+-- rows are wanted, and then writing it fails
 abbrev pub RefusesMinimalBytes : KeptParts → List ℕ → CoreError → Type 0
 RefusesMinimalBytes kept bytes e =
     InMemory (RefusesMinimal bytes) e ⊎ (IsTrue kept.verification × IsWriteError e)

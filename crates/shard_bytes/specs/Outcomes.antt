@@ -7,15 +7,18 @@ use Rattle.xet_core_structures.specs.declared.shard_format.MDBShardInfo.{MDBShar
 use Rattle.xet_core_structures.specs.Ends.{HasEnds}
 use Rattle.xet_core_structures.specs.Source.{Source}
 
--- the bytes have a header and a footer, and with these a call has an outcome on a source of them that
--- does not fail
+-- the bytes have a header and a footer, and with these a call has an outcome on a source of them
+-- that does not fail
 pub record HasOutcome (bytes : List ℕ) (Outcome : MDBShardInfo → Source → Source → Type 0)
     : Type 0 where
   pub info : MDBShardInfo
   pub ends : HasEnds bytes info
+  -- the source before the call
   pub before : Source
+  -- the source after the call
   pub after : Source
   pub bytes_are : before.bytes ≡ bytes
+  -- the device did not fail
   pub works : after.failures ≡ before.failures
   pub outcome : Outcome info before after
 

@@ -42,14 +42,16 @@ HasAuxRows bytes =
     (info : MDBShardInfo) × (files : List MDBFileInfo) × (xorbs : List MDBXorbInfo)
     × IsReadAs bytes info files xorbs × (have_aux_rows files ≡ true)
 
--- why there are no such bytes: header and footer are not read; or they are, and then a section is
--- not read, or a file has an auxiliary row
+-- why there are no bytes in version 2, apart from a failed allocation: header and footer are not
+-- read; or they are, and then a section is not read, or a file has an auxiliary row
 abbrev pub NotInVersion2 : List ℕ → CoreError → Type 0
 NotInVersion2 bytes e =
     LoadRefusal bytes e
     ⊎ (((i : MDBShardInfo) × HasEnds bytes i × ExportCase bytes e)
     ⊎ ((e ≡ InvalidArguments) × HasAuxRows bytes))
 
+-- why bytes in memory are not written in version 2: an allocation failed, header and footer are not
+-- read, a section is not read, or a file has an auxiliary row
 abbrev pub RefusesVersion2 : List ℕ → CoreError → Type 0
 RefusesVersion2 bytes = InMemory (NotInVersion2 bytes)
 

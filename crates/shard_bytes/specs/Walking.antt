@@ -20,8 +20,9 @@ module _ {H R : Type 0} (K : RecordKind H R) (bytes : List ℕ) (offset row : �
   IsAtRow None = BeginsWithBookend K (drop (row_at offset row) bytes)
   IsAtRow (Some r) = RecordAt K bytes (row_at offset row) r
 
-  -- why none of them is read: the row's offset does not fit 64 bits, an allocation failed, the record
-  -- has more rows than fit 32 bits or the version does not have it, or the bytes are too few
+  -- why neither a record nor the bookend is read: the row's offset does not fit 64 bits, an
+  -- allocation failed, the record has more rows than fit 32 bits or the version does not have it,
+  -- or the bytes are too few
   abbrev pub NotAtRow : CoreError → Type 0
   NotAtRow e =
       (IsBareInvalidShard e × (2 ^ 64 ≤ row_at offset row))
@@ -32,20 +33,27 @@ module _ {H R : Type 0} (K : RecordKind H R) (bytes : List ℕ) (offset row : �
 abbrev pub WithEnds : List ℕ → (MDBShardInfo → Type 0) → Type 0
 WithEnds bytes Says = (info : MDBShardInfo) × HasEnds bytes info × Says info
 
+-- the bytes have a header and a footer, and at a row of the file section is this record, or the
+-- bookend if there is none
 abbrev pub HasFileAt : List ℕ → ℕ → Option MDBFileInfo → Type 0
 HasFileAt bytes row found =
     WithEnds bytes (λ info. IsAtRow (files_of info) bytes info.metadata.file_info_offset row found)
 
+-- the bytes have a header and a footer, and at a row of the xorb section is this record, or the
+-- bookend if there is none
 abbrev pub HasXorbAt : List ℕ → ℕ → Option MDBXorbInfo → Type 0
 HasXorbAt bytes row found =
     WithEnds bytes (λ info. IsAtRow xorb_records bytes info.metadata.xorb_info_offset row found)
 
--- header and footer are not read, or the record is not
+-- why no file is read at a row: header and footer are not read, or neither a record nor the bookend
+-- is
 abbrev pub RefusesFileAt : List ℕ → ℕ → CoreError → Type 0
 RefusesFileAt bytes row e =
     LoadRefusal bytes e
     ⊎ WithEnds bytes (λ info. NotAtRow (files_of info) bytes info.metadata.file_info_offset row e)
 
+-- why no xorb is read at a row: header and footer are not read, or neither a record nor the bookend
+-- is
 abbrev pub RefusesXorbAt : List ℕ → ℕ → CoreError → Type 0
 RefusesXorbAt bytes row e =
     LoadRefusal bytes e

@@ -15,10 +15,11 @@ use Rattle.shardtool.specs.declared.stop.Stop.TheVariants.{Refused, Unreadable, 
 use Rattle.shardtool.specs.declared.tree.NameTree.{NameTree}
 use Rattle.shardtool.specs.declared.tree.NameTree.TheVariants.{Name, Both'}
 
--- the bytes under each name
+-- the bytes under each name, if there are any
 abbrev pub Buffers : Type 0
 Buffers = List ℕ → Option (List ℕ)
 
+-- the bytes of the buffer with a name, if there is one
 abbrev pub bytes_under : {Y Z : Type 0} → BTreeMap (String Y) (Vec ℕ Z) → Buffers
 bytes_under buffers name = option_map (λ b. b.items) (get_by_text buffers name)
 
@@ -28,7 +29,7 @@ MergesTo buffers (Name name) out = buffers name.now ≡ Some out
 MergesTo buffers (Both' p left q right) out =
     (x y : List ℕ) × MergesTo buffers left x × MergesTo buffers right y × UnitesBytes x y out
 
--- why it gives nothing: an allocation failed, or there is no such union
+-- why a tree gives nothing: an allocation failed, or there is no union of what its sides give
 abbrev pub MergeRefusal : Buffers → NameTree → CoreError → Type 0
 MergeRefusal buffers (Name name) e = e ≡ OutOfMemory
 MergeRefusal buffers (Both' p left q right) e =
@@ -37,12 +38,12 @@ MergeRefusal buffers (Both' p left q right) e =
     × (MergeRefusal buffers right e
     ⊎ ((y : List ℕ) × MergesTo buffers right y × BytesRefusal x y e)))
 
--- a name in it has no buffer
+-- a name in the tree has no buffer
 abbrev pub HasUnknown : Buffers → NameTree → Type 0
 HasUnknown buffers (Name name) = buffers name.now ≡ None
 HasUnknown buffers (Both' p left q right) = HasUnknown buffers left ⊎ HasUnknown buffers right
 
--- the stop of a merge at such a name, or of an allocation before it
+-- the stop of a merge at a name without a buffer, or of an allocation before it
 abbrev pub StopsAtUnknown : Stop → Type 0
 StopsAtUnknown stop = (stop ≡ Unreadable) ⊎ (stop ≡ Refused OutOfMemory)
 
@@ -65,7 +66,7 @@ abbrev pub AddsInputs : {Z : Type 0} → Vec (Bor (List ℕ)) Z → Vec (Bor (Li
 AddsInputs old new =
     (more : List (List ℕ)) × (map (λ x. x.now) new.items ≡ map (λ x. x.now) old.items ++ more)
 
--- why there is no plan
+-- why there is no plan: an allocation failed, or a name in the tree has no buffer
 abbrev pub PlanStops : Buffers → NameTree → Stop → Type 0
 PlanStops buffers tree stop =
     (stop ≡ Refused OutOfMemory) ⊎ ((stop ≡ Unreadable) × HasUnknown buffers tree)

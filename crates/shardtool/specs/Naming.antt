@@ -7,6 +7,6 @@ use Rattle.std.specs.declared.string.String.{String}
 abbrev pub IsKnown : {X Y : Type 0} → BTreeMap (String Y) X → List ℕ → Type 0
 IsKnown values name = IsSome (get_by_text values name)
 
--- there is none
+-- there is no value of this name
 abbrev pub IsUnknown : {X Y : Type 0} → BTreeMap (String Y) X → List ℕ → Type 0
 IsUnknown values name = IsNone (get_by_text values name)

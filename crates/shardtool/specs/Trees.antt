@@ -10,7 +10,7 @@ words_of (Name name) = name.now ∷ []
 words_of (Both' p left q right) =
     (40 ∷ []) ∷ (words_of left ++ (words_of right ++ ((41 ∷ []) ∷ [])))
 
--- its leaves are names, and at most so many pairs of parentheses are in one another
+-- the leaves of a tree are names, and at most so many pairs of parentheses are in one another
 abbrev pub IsTree : NameTree → ℕ → Type 0
 IsTree (Name name) most = IsName name.now
 IsTree (Both' p left q right) most = (0 < most) × IsTree left (most - 1) × IsTree right (most - 1)

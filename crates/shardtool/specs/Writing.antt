@@ -6,6 +6,7 @@ use Rattle.xet_core_structures.specs.Version.{version_of}
 use Rattle.shardtool.specs.declared.write.Version.{Version}
 use Rattle.shardtool.specs.declared.write.Version.TheVariants.{V2, V3}
 
+-- the bytes of a shard in a version, with an expiry or none
 abbrev pub layout_for : Version → Shard → Option ℕ → List ℕ
 layout_for V2 = layout_in (version_of 2)
 layout_for V3 = layout

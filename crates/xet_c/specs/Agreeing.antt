@@ -17,13 +17,15 @@ use Rattle.shard_bytes.specs.Merging.{RefusesMerge}
 use Rattle.xet_c.specs.declared.agree.XetDisagreement.{XetDisagreement}
 use Rattle.xet_c.specs.Output.{Delivers, Refuses}
 
--- a hash, whose it is, and two shards
+-- a hash, whether it is that of a xorb, and the numbers of two shards
 abbrev pub c_record : RecordHash → ℕ → ℕ → XetDisagreement
 c_record (File q) first second =
     record { hash = words_of q; is_xorb = false; first = first; second = second }
 c_record (Xorb q) first second =
     record { hash = words_of q; is_xorb = true; first = first; second = second }
 
+-- a disagreement as it is shown: its hash, whether it is that of a xorb, and the numbers of two
+-- shards
 abbrev pub c_disagreement : Disagreement → XetDisagreement
 c_disagreement d = c_record d.record_hash d.first d.second
 
@@ -40,7 +42,7 @@ pub record MergesIfAgreeing (inputs : List (List ℕ)) (merged : CoreResult Agre
     pub one_byte_string : (all : List Shard) → AllZip (HoldsShard no_key) all inputs
         → IfOk merged (GivesJoin all)
 
--- and this is shown of it
+-- how a merge of shards that have to agree is shown
 abbrev pub ShowsMerge : CoreResult AgreeingMerge → (before after : List ℕ) → ℕ
     → (old new : XetDisagreement) → ℕ → ℕ → Type 0
 ShowsMerge (Ok (Bytes bytes)) before after written old new count result =

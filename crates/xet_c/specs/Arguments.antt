@@ -26,14 +26,16 @@ use Rattle.xet_c.specs.declared.subset.XetSubset.{XetSubset}
 -- an export has the key, the times and the parts that are asked for
 pub record AsksFor (options : XetExport) (x : Export) : Type 0 where
   pub key : words_of x.key ≡ options.key
+  -- the creation time, in seconds
   pub now : x.now ≡ options.now
+  -- the seconds from the creation to the expiry
   pub valid_seconds : x.valid_seconds ≡ options.valid_seconds
   pub files : x.parts.files ≡ options.files
   pub aux_rows : x.parts.aux_ext ≡ options.aux_rows
   pub xorb_table : x.parts.xorb_table ≡ options.xorb_table
   pub chunk_table : x.parts.chunk_table ≡ options.chunk_table
 
--- numbers of a header and a footer
+-- the numbers of a header and a footer
 abbrev pub c_info : MDBShardInfo → XetInfo
 c_info info = record {
   version = info.header.version;
@@ -96,7 +98,7 @@ c_segments [] rows = []
 c_segments (s ∷ ss) [] = c_file_segment s None ∷ c_segments ss []
 c_segments (s ∷ ss) (row ∷ rows) = c_file_segment s (Some row.hash) ∷ c_segments ss rows
 
--- those of a file, or none
+-- the segments of a file, each with the hash of its verification row or zeros; none without a file
 abbrev pub segments_in : Option MDBFileInfo → List XetFileSegment
 segments_in (Some file) = c_segments file.segments file.verification
 segments_in None = []
@@ -127,11 +129,13 @@ abbrev pub IsRun : Option (ℕ × FileDataSequenceEntry) → (old new : XetSegme
 IsRun None old new count = (count ≡ 0) × (new ≡ old)
 IsRun (Some run) old new count = (count ≡ run.0) × (new ≡ c_segment run.1)
 
--- what a query for these hashes answers, and why it is refused
+-- what a query for these hashes answers
 abbrev pub AnswersRun : List ℕ → List XetHash → Option (ℕ × FileDataSequenceEntry) → Type 0
 AnswersRun bytes cs answer =
     (hashes : List DataHash) × (map c_hash hashes ≡ cs) × AnswersQuery bytes hashes answer
 
+-- why a query for these hashes is refused: an allocation failed, or the query is refused on these
+-- bytes
 abbrev pub RefusesRun : List ℕ → List XetHash → CoreError → Type 0
 RefusesRun bytes cs e =
     (e ≡ OutOfMemory)

@@ -10,11 +10,12 @@ use Rattle.shard_bytes.specs.declared.format.Format.TheVariants.{NoTag, OtherVer
 use Rattle.shard_bytes.specs.Checking.{IsWhole, IsFinding}
 use Rattle.xet_c.specs.declared.check.XetFinding.{XetFinding}
 
--- the numbers of sections and parts
+-- the number of a section, equal to that of the part which it is
 abbrev pub c_section : Section → ℕ
 c_section Files = 2
 c_section Xorbs = 3
 
+-- the number of a part, in the order of the bytes
 abbrev pub c_part : Part → ℕ
 c_part Header = 1
 c_part FileSection = 2
@@ -24,6 +25,8 @@ c_part XorbTable = 5
 c_part ChunkTable = 6
 c_part Footer = 7
 
+-- a finding by its kind, the number of the part that it is about, or 0, and the version, the index
+-- or the size in bytes that it names, or 0
 abbrev pub c_finding : Finding → XetFinding
 c_finding (Unsupported NoTag) = record { kind = 1; part = 1; number = 0 }
 c_finding (Unsupported (OtherVersion version)) = record { kind = 2; part = 1; number = version }

@@ -21,7 +21,7 @@ abbrev pub Refuses : {X : Type 0} → CoreError → (old new : List X) → (writ
 Refuses e old new written answer =
     (answer ≡ variant_number e) × (written ≡ 0) × (new ≡ old)
 
--- such items were made and delivered, or there were none for this cause
+-- items for which `IsMade` holds were made and delivered, or there were none for a cause
 abbrev pub Outcome : {X : Type 0} → (List X → Type 0) → (CoreError → Type 0) → (old new : List X)
     → (written answer : ℕ) → Type 0
 Outcome {X} IsMade IsCause old new written answer =

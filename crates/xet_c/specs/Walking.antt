@@ -16,17 +16,20 @@ use Rattle.xet_c.specs.Arguments.{words_or_zero}
 use Rattle.xet_c.specs.Finding.{ShowsFile}
 use Rattle.xet_c.specs.Output.{Delivers}
 
--- what was read at a row is what the bytes have there, or why it was not
+-- what was read at a row of the file section is what the bytes have there, or why it was not
 abbrev pub IsFileAt : List ℕ → ℕ → CoreResult (Option MDBFileInfo) → Type 0
 IsFileAt bytes row found = MatchResult found (HasFileAt bytes row) (RefusesFileAt bytes row)
 
+-- what was read at a row of the xorb section is what the bytes have there, or why it was not
 abbrev pub IsXorbAt : List ℕ → ℕ → CoreResult (Option MDBXorbInfo) → Type 0
 IsXorbAt bytes row found = MatchResult found (HasXorbAt bytes row) (RefusesXorbAt bytes row)
 
--- hash and flags of the record at a row, and the row after it; a bookend has none, and none after it
+-- the place of a bookend: a hash of zeros, no flags, and its own row as the next one
 abbrev pub c_bookend : ℕ → XetPlace
 c_bookend row = record { hash = words_or_zero None; flags = 0; next = row }
 
+-- hash and flags of the file at a row, and the row after its record; without a file, the place of
+-- the bookend
 abbrev pub c_file_place : ℕ → Option MDBFileInfo → XetPlace
 c_file_place row (Some r) = record {
   hash = words_of r.metadata.file_hash;
@@ -35,6 +38,8 @@ c_file_place row (Some r) = record {
 }
 c_file_place row None = c_bookend row
 
+-- hash and flags of the xorb at a row, and the row after its record; without a xorb, the place of
+-- the bookend
 abbrev pub c_xorb_place : ℕ → Option MDBXorbInfo → XetPlace
 c_xorb_place row (Some r) = record {
   hash = words_of r.metadata.xorb_hash;
@@ -43,7 +48,7 @@ c_xorb_place row (Some r) = record {
 }
 c_xorb_place row None = c_bookend row
 
--- the numbers of a xorb and of a chunk
+-- the numbers of a xorb, or that there is none
 abbrev pub c_xorb : Option MDBXorbInfo → XetXorb
 c_xorb (Some r) = record {
   found = true;
@@ -53,6 +58,7 @@ c_xorb (Some r) = record {
 }
 c_xorb None = record { found = false; bytes = 0; bytes_on_disk = 0; chunks = 0 }
 
+-- the hash and the numbers of a chunk
 abbrev pub c_chunk : XorbChunkSequenceEntry → XetChunk
 c_chunk c = record {
   hash = words_of c.chunk_hash;
@@ -61,6 +67,7 @@ c_chunk c = record {
   flags = c.flags;
 }
 
+-- the chunks of a xorb, or none without a xorb
 abbrev pub chunks_in : Option MDBXorbInfo → List XetChunk
 chunks_in (Some r) = map c_chunk r.chunks
 chunks_in None = []
@@ -70,7 +77,8 @@ abbrev pub Shows : {T X : Type 0} → (T → X) → CoreResult T → (old new : 
 Shows show (Ok found) old new = new ≡ show found
 Shows show (Err e) old new = new ≡ old
 
--- a file is shown, its segments at the front of an output if they fit
+-- the place of a file at a row is shown, and the file, its segments at the front of an output if
+-- they fit
 abbrev pub ShowsFileAt : ℕ → CoreResult (Option MDBFileInfo) → (old_place new_place : XetPlace)
     → (old_file new_file : XetFile) → (old new : List XetFileSegment) → ℕ → Type 0
 ShowsFileAt row found old_place new_place old_file new_file old new answer =
@@ -86,6 +94,8 @@ ShowsXorb (Ok found) old_xorb new_xorb old new answer =
 ShowsXorb (Err e) old_xorb new_xorb old new answer =
     (new_xorb ≡ old_xorb) × (new ≡ old) × (answer ≡ variant_number e)
 
+-- the place of a xorb at a row is shown, and the xorb, its chunks at the front of an output if they
+-- fit
 abbrev pub ShowsXorbAt : ℕ → CoreResult (Option MDBXorbInfo) → (old_place new_place : XetPlace)
     → (old_xorb new_xorb : XetXorb) → (old new : List XetChunk) → ℕ → Type 0
 ShowsXorbAt row found old_place new_place old_xorb new_xorb old new answer =

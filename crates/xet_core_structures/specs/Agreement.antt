@@ -43,11 +43,12 @@ DisagreeShards s t (Xorb q) =
 abbrev pub HoldsAt : List (List ℕ) → ℕ → Shard → Type 0
 HoldsAt inputs i s = InputIs inputs (HasShard s) i
 
--- one of the inputs does
+-- one of the inputs holds a shard
 abbrev pub IsHeld : List (List ℕ) → Shard → Type 0
 IsHeld inputs s = (i : ℕ) × HoldsAt inputs i s
 
--- why no shard is read from bytes
+-- why no shard is read from bytes: header and footer are not read; or they are, and then a section
+-- is not read
 abbrev pub ShardRefusal : List ℕ → CoreError → Type 0
 ShardRefusal bytes e =
     LoadRefusal bytes e ⊎ ((info : MDBShardInfo) × HasEnds bytes info × SectionsRefusal bytes info e)
@@ -117,11 +118,11 @@ InputsRefusal inputs e =
     (e ≡ OutOfMemory)
     ⊎ ((i : ℕ) × (bytes : List ℕ) × (slice_get inputs i ≡ Some bytes) × ShardRefusal bytes e)
 
--- the key in the footer of bytes, if they have one
+-- the bytes have this key in their footer, if they have a header and a footer
 abbrev pub HasKey : List ℕ → DataHash → Type 0
 HasKey bytes key = (info : MDBShardInfo) → HasEnds bytes info → key_of info ≡ key
 
--- that of each input at a leaf
+-- each input at a leaf has this key in its footer, if it has a header and a footer
 abbrev pub HaveKey : List (List ℕ) → MergePlan → DataHash → Type 0
 HaveKey inputs plan key =
     (i : ℕ) (bytes : List ℕ) → Contains (leaves plan) i → slice_get inputs i ≡ Some bytes

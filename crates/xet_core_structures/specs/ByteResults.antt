@@ -33,16 +33,19 @@ use Rattle.xet_core_structures.specs.ByteUnion.{IsEitherFile, IsEitherXorb, IsBy
 use Rattle.xet_core_structures.specs.Combining.{Combines}
 use Rattle.xet_core_structures.specs.Held.{IsSectionOf, files_at, xorbs_at, Holds, HoldsLists, IsCut, IsBad}
 
--- all tables, this key, creation 0 and no expiry
+-- the form with all tables, this key, creation 0 and no expiry
 abbrev pub keyed_form : DataHash → Form
 keyed_form key = record (plain_form None) { key = key }
 
+-- the bytes of a shard under a key, with all tables, creation 0 and no expiry
 abbrev pub keyed_layout : Shard → DataHash → List ℕ
 keyed_layout s key = layout_of (values s.files) (values s.xorbs) (keyed_form key)
 
+-- the header and the footer in these bytes
 abbrev pub keyed_info : Shard → DataHash → MDBShardInfo
 keyed_info s key = info_of (values s.files) (values s.xorbs) (keyed_form key)
 
+-- the key in a footer
 abbrev pub key_of : MDBShardInfo → DataHash
 key_of info = info.metadata.chunk_hash_hmac_key
 
@@ -50,12 +53,15 @@ key_of info = info.metadata.chunk_hash_hmac_key
 -- `u32`
 pub record HaveResult (IsResult : Shard → Shard → Shard → Type 0) (x : List ℕ) (i : MDBShardInfo)
     (y : List ℕ) (j : MDBShardInfo) (c : Shard) : Type 0 where
+  -- the shard that the first input holds
   pub first : Shard
+  -- the shard that the second input holds
   pub second : Shard
   pub holds_first : Holds x i first
   pub holds_second : Holds y j second
   pub same_key : key_of i ≡ key_of j
   pub result : IsResult first second c
+  -- each section of the result has at most 4294967295 rows
   pub rows : HasFewRows c
 
 -- the layout of the result was written, and the header and the footer in it returned
@@ -69,18 +75,22 @@ WritesResult IsResult x i y j old new info =
 -- records whose union has more rows, or one of each that have no union under one hash
 pub record HaveNoUnionOf {H R : Type 0} (K : RecordKind H R) (version_1 version_2 : FormatVersion)
     (IsEither : Option R → Option R → Option R → Type 0) (x y : List ℕ) : Type 0 where
+  -- records that the first section begins with
   pub firsts : List R
+  -- records that the second section begins with
   pub seconds : List R
   pub after_firsts : List ℕ
   pub after_seconds : List ℕ
   pub first : HoldsRecords (in_version K version_1) x firsts after_firsts
   pub second : HoldsRecords (in_version K version_2) y seconds after_seconds
+  -- what is made of them all has too many rows, or two of them with one hash have no union
   pub clash : ((made : List R)
       × Combines K IsEither (map K.handed_out firsts) (map K.handed_out seconds) made
       × (4294967295 < total_rows K made))
       ⊎ ((r s : R) × Contains firsts r × Contains seconds s
       × (K.hash_of (K.header_of r) ≡ K.hash_of (K.header_of s))
       × ((t : Option R) → ¬ IsEither (Some (K.handed_out r)) (Some (K.handed_out s)) t))
+  -- if both are whole sections, no union of them fits a section
   pub none : (a b c : FinMap hash_cmp R) → IsSectionOf (in_version K version_1) x a
       → IsSectionOf (in_version K version_2) y b
       → ((q : DataHash) → IsEither (get a q) (get b q) (get c q))
@@ -101,15 +111,20 @@ InputRefusal x i y j e =
     ⊎ (IsEndOfInput e × (IsCut x i ⊎ IsCut y j))
     ⊎ (IsInvalidShard e × (IsBad x i ⊎ IsBad y j))
 
--- the keys differ, or they do not, and there is another cause
+-- why an operation on two inputs is refused: their keys differ, or they do not, and there is
+-- another cause
 abbrev pub KeyRefusal : (CoreError → Type 0) → MDBShardInfo → MDBShardInfo → CoreError → Type 0
 KeyRefusal Cause i j e =
     ((e ≡ InvalidArguments) × (key_of i ≢ key_of j)) ⊎ ((key_of i ≡ key_of j) × Cause e)
 
+-- why two inputs have no union: their keys differ, an allocation failed, an input ends early or is
+-- no valid shard, or their records have no union within the rows of a section
 abbrev pub UnionRefusal : List ℕ → MDBShardInfo → List ℕ → MDBShardInfo → CoreError → Type 0
 UnionRefusal x i y j =
     KeyRefusal (λ e. InputRefusal x i y j e ⊎ (IsInvalidShard e × HaveNoUnion x i y j)) i j
 
+-- why two inputs have no difference: their keys differ, an allocation failed, or an input ends
+-- early or is no valid shard
 abbrev pub DifferenceRefusal : List ℕ → MDBShardInfo → List ℕ → MDBShardInfo → CoreError → Type 0
 DifferenceRefusal x i y j = KeyRefusal (InputRefusal x i y j) i j
 
@@ -138,7 +153,7 @@ InputsFail old_1 new_1 old_2 new_2 Refusal e =
     DeviceFailure old_1 new_1 e ⊎ DeviceFailure old_2 new_2 e
     ⊎ ((new_1.failures ≡ old_1.failures) × (new_2.failures ≡ old_2.failures) × Refusal e)
 
--- such a failure has this cause, or is that of the output's device
+-- a failure of an input has this cause, and one of the output is that of its device
 abbrev pub FailsBy : (CoreError → Type 0) → CopyFailure → Type 0
 FailsBy Cause (Input e) = Cause e
 FailsBy Cause (Output e) = IsWriteError e
@@ -177,7 +192,8 @@ WritesRecords records key old new info =
     (info ≡ info_of records.files records.xorbs (keyed_form key))
     × Appends old new (layout_of records.files records.xorbs (keyed_form key))
 
--- the end of a layout in a form was, after sections of these records
+-- what comes after the sections of these records was written, as in the layout in a form, and the
+-- header and the footer in that layout returned
 abbrev pub WritesEnd : WrittenFiles → WrittenXorbs → Form → Option (List ℕ) → Option (List ℕ)
     → MDBShardInfo → Type 0
 WritesEnd files xorbs form old new info =

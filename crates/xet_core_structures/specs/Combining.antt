@@ -28,9 +28,11 @@ AreOfOneHash hash (Some g) (Some h) = hash g ≡ hash h
 AreOfOneHash hash a b = Unit {0}
 
 module _ {H R : Type 0} (K : RecordKind H R) where
+  -- the hash of a record
   abbrev pub key_of_record : R → DataHash
   key_of_record r = K.hash_of (K.header_of r)
 
+  -- the records of a list, each paired with its hash
   abbrev pub by_hash : List R → List (DataHash × R)
   by_hash rs = map (λ r. (key_of_record r, r)) rs
 
@@ -49,7 +51,7 @@ module _ {H R : Type 0} (K : RecordKind H R) where
   abbrev pub ComeBefore : DataHash → List R → Type 0
   ComeBefore k rs = AllByRecursion (λ r. hash_cmp (key_of_record r) k ≡ Less) rs
 
-  -- so have those of two lists, and those that were made of them
+  -- the records of two lists have smaller hashes, and so have those that were made of them
   pub record ArePassed (firsts seconds made : List R) (k : DataHash) : Type 0 where
     pub first : ComeBefore k firsts
     pub second : ComeBefore k seconds

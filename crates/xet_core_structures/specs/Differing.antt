@@ -46,18 +46,18 @@ module _ {R : Type 0} (agree : R → R → Type 0) where
     pub keeps : (new ≡ old × ((k : ReadRecord R) × Contains old k × Covers k.value r))
         ⊎ (new ≡ old ++ record { input = input; value = r } ∷ [])
 
-  -- one of those that are kept does not agree with it
+  -- one of the records that are kept, of this input, does not agree with a record
   abbrev pub IsAgainst : List (ReadRecord R) → R → ℕ → Type 0
   IsAgainst kept r input = (k : ReadRecord R) × Contains kept k × (k.input ≡ input) × (¬ agree k.value r)
 
 module _ {H R : Type 0} (K : RecordKind H R) where
-  -- the record with this index in a list is at this place
+  -- a place has the index and the hash of a record in a list
   pub record IsIn (list : List (PlacedRecord H)) (p : Place) : Type 0 where
     pub placed : PlacedRecord H
     pub at : slice_get list p.index ≡ Some placed
     pub hash : hash_at K placed ≡ p.hash
 
-  -- so is that of the list with the place's number
+  -- a place has the index and the hash of a record in the list with its number
   pub record IsPlace (lists : List (List (PlacedRecord H))) (p : Place) : Type 0 where
     pub list : List (PlacedRecord H)
     pub at : slice_get lists p.input ≡ Some list
@@ -87,17 +87,22 @@ module _ {H R : Type 0} (K : RecordKind H R) where
         → slice_get places i ≡ Some p → slice_get places j ≡ Some q → IsRecordAt lists p r
         → IsRecordAt lists q s → agree r s
 
-    -- records at two of these places, which have this hash, do not
+    -- records at two of the places from one on, up to another, have this hash and do not agree
     pub record DifferWithin (lists : List (List (PlacedRecord H))) (places : List Place) (from to : ℕ)
         (d : Differing) : Type 0 where
+      -- the index of the one place
       pub i : ℕ
+      -- the index of the other place
       pub j : ℕ
+      -- a place in the first input
       pub one : Place
+      -- a place in the second input
       pub other : Place
       pub is_one : (from ≤ i) × (i < to) × (slice_get places i ≡ Some one)
       pub is_other : (from ≤ j) × (j < to) × (slice_get places j ≡ Some other)
       pub inputs : (one.input ≡ d.first) × (other.input ≡ d.second)
       pub hashes : (one.hash ≡ d.hash) × (other.hash ≡ d.hash)
+      -- the records at both places do not agree
       pub differ : (r s : R) → IsRecordAt lists one r → IsRecordAt lists other s → ¬ agree r s
 
     -- the records of a run agree, or two that do not were added to what differs
@@ -107,8 +112,8 @@ module _ {H R : Type 0} (K : RecordKind H R) where
         ((new ≡ old) × AgreeWithin lists places from to)
         ⊎ ((d : Differing) × (new ≡ old ++ d ∷ []) × DifferWithin lists places from to d)
 
-    -- the record at a place is that at another, or it agrees with all that are kept, and is kept too
-    -- unless one of them covers it
+    -- the record at a place is that at another, or it agrees with all that are kept, and is kept
+    -- too unless one of them covers it
     abbrev pub PassesPlace : List (List (PlacedRecord H)) → (first p : Place)
         → (old new : List (ReadRecord R)) → Type 0
     PassesPlace lists first p old new =
@@ -125,7 +130,9 @@ module _ {H R : Type 0} (K : RecordKind H R) where
 
     -- two lists have records with this hash that do not agree
     pub record Differ (all : List (List R)) (d : Differing) : Type 0 where
+      -- a record of the list with the first number
       pub one : R
+      -- a record of the list with the second number
       pub other : R
       pub has_one : Has all d.first one
       pub has_other : Has all d.second other

@@ -14,13 +14,15 @@ use Rattle.xet_base.specs.contracts.merklehash.DataHashHash as hashing
 abbrev pub error_eq : CoreError → CoreError → Bool
 error_eq = (equality.TheImpl.ghosts).eq
 
--- the results of `==`, `partial_cmp` and `cmp` on hashes
+-- the result of `==` on hashes
 abbrev pub derived_eq : DataHash → DataHash → Bool
 derived_eq = (hash_equality.TheImpl.ghosts).eq
 
+-- the result of `partial_cmp` on hashes
 abbrev pub derived_partial_cmp : DataHash → DataHash → Option Ordering
 derived_partial_cmp = (hash_partial_order.TheImpl.ghosts).partial_cmp
 
+-- the result of `cmp` on hashes
 abbrev pub derived_cmp : DataHash → DataHash → Ordering
 derived_cmp = (hash_order.TheImpl.ghosts).cmp
 

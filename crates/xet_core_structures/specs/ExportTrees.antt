@@ -32,8 +32,8 @@ pub record IsExportForm (key : DataHash) (form : Form) : Type 0 where
 abbrev pub shard_as_wanted : Bool → Shard → Shard
 shard_as_wanted aux s = if aux then s else shard_without_aux s
 
--- the bytes are such an export of this shard, with auxiliary rows or without, in a version that has
--- its files
+-- the bytes are an export of this shard under a key, with files, with auxiliary rows or without, in
+-- a version that has its files
 pub record IsExportOf (aux : Bool) (key : DataHash) (s : Shard) (bytes : List ℕ) : Type 0 where
   pub form : Form
   pub is_form : IsExportForm key form
@@ -45,16 +45,20 @@ abbrev pub IsMergeOfExports : Bool → DataHash → List (List ℕ) → MergePla
     → Type 0
 IsMergeOfExports aux key = IsMergeOf (IsExportOf aux key)
 
--- such an export in version 3, of the bytes at an index of one list, wrote those at this index of
--- another
+-- an export under a key, with files, with auxiliary rows or without, in version 3, of the bytes at
+-- an index of one list wrote those at this index of another
 pub record IsExportedAt (aux : Bool) (key : DataHash) (inputs outs : List (List ℕ)) (i : ℕ)
     : Type 0 where
   pub form : Form
   pub is_form : IsExportForm key form
   pub version : form.version ≡ V3
+  -- the source before the export
   pub old : Source
+  -- the source after the export
   pub new : Source
+  -- the bytes that were written
   pub out : List ℕ
+  -- how many there are
   pub size : ℕ
   pub input : slice_get inputs i ≡ Some (bytes_left old)
   pub export : ExportsWith aux form old new (Some []) (Some out) size

@@ -15,16 +15,16 @@ pub record Puts (old new : List ℕ) (at end : ℕ) (bytes : List ℕ) : Type 0 
   pub front : take end new ≡ take at old ++ bytes
   pub rest : drop end new ≡ drop end old
 
--- bytes were put at the front of a slice, and what is behind them stays; or they do not fit, and all
--- of it stays; in both cases their number is returned
+-- bytes were put at the front of a slice, and what is behind them stays; or they do not fit, and
+-- all of it stays; in both cases their number is returned
 abbrev pub Fills : List ℕ → (old new : List ℕ) → (size : ℕ) → Type 0
 Fills bytes old new size =
     (size ≡ length bytes)
     × (((size ≤ length old) × (new ≡ bytes ++ drop size old))
     ⊎ ((length old < size) × (new ≡ old)))
 
--- such bytes were made, and put at the front of a slice if they fit; or none were, for a cause, and
--- all of it stays
+-- bytes for which `IsMade` holds were made, and put at the front of a slice if they fit; or none
+-- were, for a cause, and all of it stays
 abbrev pub FillsWith : (List ℕ → Type 0) → (CoreError → Type 0) → (old new : List ℕ)
     → Result ℕ CoreError → Type 0
 FillsWith IsMade IsCause old new result =

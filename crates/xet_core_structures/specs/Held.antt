@@ -36,19 +36,21 @@ module _ {H R : Type 0} (K : RecordKind H R) where
     pub records : HoldsRecords K bytes stored rest
     pub ascends : Ascends K stored
 
-  -- such records, and then too few bytes
+  -- the bytes begin with those of records whose hashes strictly ascend, and then come too few
   abbrev pub IsCutInOrder : List ℕ → Type 0
   IsCutInOrder bytes =
       (stored : List R) × (rest : List ℕ) × BeginsInOrder bytes stored rest
       × EndsEarly K (rows_left K stored) rest
 
-  -- such records, and then a header that is refused
+  -- the bytes begin with those of records whose hashes strictly ascend, and then comes a header
+  -- that is refused
   abbrev pub IsRefusedInOrder : List ℕ → Type 0
   IsRefusedInOrder bytes =
       (stored : List R) × (rest : List ℕ) × BeginsInOrder bytes stored rest
       × BeginsRefused K (rows_left K stored) rest
 
-  -- such records, and then a whole one whose hash is not greater
+  -- the bytes begin with those of records whose hashes strictly ascend, and then comes a whole
+  -- record whose hash is not greater
   pub record FallsInOrder (bytes : List ℕ) : Type 0 where
     pub stored : List R
     pub last : R
@@ -57,7 +59,7 @@ module _ {H R : Type 0} (K : RecordKind H R) where
     pub ascends : Ascends K stored
     pub falls : ¬ Ascends K (stored ++ last ∷ [])
 
-  -- a header is refused, or hashes do not strictly ascend
+  -- after records whose hashes strictly ascend, a header is refused, or a hash is not greater
   abbrev pub IsBadSection : List ℕ → Type 0
   IsBadSection bytes = IsRefusedInOrder bytes ⊎ FallsInOrder bytes
 
@@ -70,7 +72,8 @@ pub record IsSectionOf {H R : Type 0} (K : RecordKind H R) (bytes : List ℕ) (m
   pub handed : map K.handed_out stored ≡ values m
   pub keyed : All (λ e. e.0 ≡ K.hash_of (K.header_of e.1)) (entries m)
 
--- the same as a list of the records
+-- the bytes are a section: these are its records, as reading returns them, and they may be written
+-- as a section whose hashes strictly ascend
 pub record IsListOf {H R : Type 0} (K : RecordKind H R) (bytes : List ℕ) (found : List R)
     : Type 0 where
   pub stored : List R
@@ -78,10 +81,11 @@ pub record IsListOf {H R : Type 0} (K : RecordKind H R) (bytes : List ℕ) (foun
   pub handed : map K.handed_out stored ≡ found
   pub writable : AreWritable K found
 
--- the bytes from each section on
+-- the bytes from the file section on
 abbrev pub files_at : List ℕ → MDBShardInfo → List ℕ
 files_at bytes info = drop info.metadata.file_info_offset bytes
 
+-- the bytes from the xorb section on
 abbrev pub xorbs_at : List ℕ → MDBShardInfo → List ℕ
 xorbs_at bytes info = drop info.metadata.xorb_info_offset bytes
 
@@ -90,14 +94,14 @@ pub record Holds (bytes : List ℕ) (info : MDBShardInfo) (s : Shard) : Type 0 w
   pub files : IsSectionOf (files_of info) (files_at bytes info) s.files
   pub xorbs : IsSectionOf xorb_records (xorbs_at bytes info) s.xorbs
 
--- the bytes hold this shard: they have a header and a footer, and the footer leads to both sections;
--- nothing is said of tables, timestamps and sums
+-- the bytes hold this shard: they have a header and a footer, and the footer leads to both
+-- sections; nothing is said of tables, timestamps and sums
 pub record HasShard (s : Shard) (bytes : List ℕ) : Type 0 where
   pub info : MDBShardInfo
   pub ends : HasEnds bytes info
   pub holds : Holds bytes info s
 
--- the same of a well-formed shard, under a key, which the footer has
+-- the bytes hold this shard, which is well-formed, and their footer has this key
 pub record HoldsShard (key : DataHash) (s : Shard) (bytes : List ℕ) : Type 0 where
   pub shard : IsShard s
   pub has : HasShard s bytes
@@ -116,8 +120,9 @@ IsCut bytes info =
     IsCutInOrder (files_of info) (files_at bytes info)
     ⊎ (HasFiles bytes info × IsCutInOrder xorb_records (xorbs_at bytes info))
 
--- what it meets first is a header that is refused, of a record with too many rows or one that the
--- version does not have, or a hash that is not greater than the one before it
+-- of all that is wrong with the bytes, what reading meets first is a header that is refused, of a
+-- record with too many rows or one that the version does not have, or a hash that is not greater
+-- than the one before it
 abbrev pub IsBad : List ℕ → MDBShardInfo → Type 0
 IsBad bytes info =
     IsBadSection (files_of info) (files_at bytes info)

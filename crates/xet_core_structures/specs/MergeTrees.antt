@@ -33,9 +33,9 @@ TreeWrites inputs (Leaf i) out = slice_get inputs i ≡ Some out
 TreeWrites inputs (Both' p left q right) out =
     (x y : List ℕ) × TreeWrites inputs left x × TreeWrites inputs right y × UnitesBytes x y out
 
--- why it writes nothing: a leaf has no input, or it has one and an allocation failed; else the left
--- side writes nothing, or it does and the right side writes nothing, or both do and there is no
--- such union
+-- why a tree writes nothing: a leaf has no input, or it has one and an allocation failed; else the
+-- left side writes nothing, or it does and the right side writes nothing, or both do and there is
+-- no union of what they write
 abbrev pub TreeRefusal : List (List ℕ) → MergePlan → CoreError → Type 0
 TreeRefusal inputs (Leaf i) e =
     ((e ≡ InvalidArguments) × (length inputs ≤ i)) ⊎ ((e ≡ OutOfMemory) × (i < length inputs))
@@ -45,7 +45,7 @@ TreeRefusal inputs (Both' p left q right) e =
     × (TreeRefusal inputs right e
     ⊎ ((y : List ℕ) × TreeWrites inputs right y × BytesRefusal x y e)))
 
--- there is an input at an index, and it is such bytes
+-- there is an input at an index, and `Is` holds of it
 abbrev pub InputIs : List (List ℕ) → (List ℕ → Type 0) → ℕ → Type 0
 InputIs inputs Is i = (bytes : List ℕ) × (slice_get inputs i ≡ Some bytes) × Is bytes
 
@@ -64,15 +64,19 @@ pub record IsMergeOf (IsOf : Shard → List ℕ → Type 0) (inputs : List (List
   pub agree : AgreePairwise (Contains shards)
   pub is_join : IsJoinOf (Contains shards) join
 
--- of bytes that hold the shards under one key
+-- a tree with a union, whose inputs at the leaves hold these well-formed shards under one key, from
+-- left to right; each two of the shards agree, and this is their join
 abbrev pub IsMergeUnder : DataHash → List (List ℕ) → MergePlan → List Shard → Shard → Type 0
 IsMergeUnder key = IsMergeOf (HoldsShard key)
 
--- of bytes that hold them without a key
+-- a tree with a union, whose inputs at the leaves hold these well-formed shards without a key, from
+-- left to right; each two of the shards agree, and this is their join
 abbrev pub IsMerge : List (List ℕ) → MergePlan → List Shard → Shard → Type 0
 IsMerge = IsMergeUnder no_key
 
--- of bytes as they are written for shards, each in either version, with an expiry or none
+-- a tree with a union, whose inputs at the leaves are bytes as they are written for these shards,
+-- each in either version, with an expiry or none, from left to right; each two of the shards agree,
+-- and this is their join
 abbrev pub IsMergeOfWritten : List (List ℕ) → MergePlan → List Shard → Shard → Type 0
 IsMergeOfWritten = IsMergeOf IsBytesOf
 

@@ -21,12 +21,16 @@ use Rattle.xet_core_structures.specs.Streams.{Sources, Streams, inputs_of}
 -- beside those before it
 pub record WritesMix (first second : FileDataSequenceHeader) (old new : Streams) (rows : ℕ)
     (Before After : List MDBFileInfo → Type 0) : Type 0 where
+  -- the record of the first header
   pub one : MDBFileInfo
+  -- the record of the second header
   pub other : MDBFileInfo
   pub reads_first : ReadsRowsAfter file_records first (Takes old.first new.first) one
   pub reads_second : ReadsRowsAfter file_records second (Takes old.second new.second) other
+  -- the rows before, and those of the mix, fit a section
   pub few : rows + row_count (mixed one other) ≤ 4294967295
   pub bytes : Appends old.out new.out (file_record_bytes (mixed one other))
+  -- the mix was gathered after the records before it
   pub written : (front : List MDBFileInfo) → Before front → After (front ++ mixed one other ∷ [])
 
 -- both records were read, and the rows of a mix of them were written, if they have as many
@@ -41,7 +45,7 @@ pub record WritesMixRows (first second : FileDataSequenceHeader) (old new : Stre
       → Appends old.out new.out (file_rows_bytes (mixed one other))
   pub size : size_of_file (mixed one other) ≡ bytes
 
--- the outcome for the rows
+-- the outcome for the rows of a mix: they were written, or the output failed or an input
 abbrev pub MixesRows : FileDataSequenceHeader → FileDataSequenceHeader → Streams → Streams
     → Result ℕ CopyFailure → Type 0
 MixesRows first second old new result =
@@ -53,7 +57,8 @@ abbrev pub MixHasNoRoom : ℕ → Option MDBFileInfo → Option MDBFileInfo → 
 MixHasNoRoom rows one other =
     (r s : MDBFileInfo) → one ≡ Some r → other ≡ Some s → 4294967295 < rows + row_count (mixed r s)
 
--- the outcome of a mix
+-- the outcome of a mix: it was written and gathered, or the output failed or an input, or it has
+-- too many rows
 abbrev pub MixesFiles : {U : Type 0} → FileDataSequenceHeader → FileDataSequenceHeader → Streams
     → Streams → ℕ → (List MDBFileInfo → Type 0) → (List MDBFileInfo → Type 0)
     → Result U CopyFailure → Type 0
@@ -71,7 +76,7 @@ pub record WritesEither {T : Type 0} (row_bytes : T → List ℕ) (Fits : T → 
   pub second : ReadsRows row_bytes Fits handed_out (Takes old.second new.second) count_2 seconds
   pub bytes : Appends old.out new.out (flat_map row_bytes (if count_1 == 0 then seconds else firsts))
 
--- why they were not: the output failed, or an input
+-- why rows of either were not read and written: the output failed, or an input
 pub data EitherFails (old new : Sources) (count_1 count_2 : ℕ) (failure : CopyFailure)
     : Type 0 where
   output_fails : (e : CoreError) → failure ≡ Output e → IsWriteError e
@@ -83,7 +88,7 @@ pub data EitherFails (old new : Sources) (count_1 count_2 : ℕ) (failure : Copy
       → ReadFails old.second new.second (48 * count_2) e → Serves old.first new.first
       → EitherFails old new count_1 count_2 failure
 
--- the outcome for rows of either
+-- the outcome for the rows of either: they were written, or the output failed or an input
 abbrev pub CopiesEither : {T U : Type 0} → (T → List ℕ) → (T → Type 0) → (T → T) → Streams
     → Streams → ℕ → ℕ → Result U CopyFailure → Type 0
 CopiesEither row_bytes Fits handed_out old new count_1 count_2 result =

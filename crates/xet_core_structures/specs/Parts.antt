@@ -25,13 +25,13 @@ pub record PlacesRecords (shard : PlacedShard) (records : Records) : Type 0 wher
   pub files : PlacesAll file_records shard.files.items records.files
   pub xorbs : PlacesAll xorb_records shard.xorbs.items records.xorbs
 
--- the same, and their hashes strictly ascend
+-- these are the records of a shard in memory, and their hashes strictly ascend
 pub record MayBeUnited (shard : PlacedShard) (records : Records) : Type 0 where
   pub places : PlacesRecords shard records
   pub files_ascend : Ascends file_records records.files
   pub xorbs_ascend : Ascends xorb_records records.xorbs
 
--- the same, and they may be written as sections
+-- these are the records of a shard in memory, and they may be written as sections
 pub record MayBeWritten (shard : PlacedShard) (records : Records) : Type 0 where
   pub places : PlacesRecords shard records
   pub files : FitsSection file_records records.files
@@ -63,12 +63,12 @@ pub record IsUnited (bytes : List ℕ) (info : MDBShardInfo) (shard : PlacedShar
   pub files : PlacesAll file_records shard.files.items (values union.files)
   pub xorbs : PlacesAll xorb_records shard.xorbs.items (values union.xorbs)
 
--- what bytes a part stands for
+-- a part stands for these bytes
 abbrev pub IsPart : List ℕ → Part → Type 0
 IsPart bytes (Input x) = x.now ≡ bytes
 IsPart bytes (United shard) = (info : MDBShardInfo) × IsUnited bytes info shard
 
--- the same, with the header and the footer in them
+-- a part stands for these bytes, in which these are the header and the footer
 abbrev pub IsOpened : List ℕ → MDBShardInfo → Opened → Type 0
 IsOpened bytes info (OpenedInput x i) = (x.now ≡ bytes) × (i ≡ info)
 IsOpened bytes info (OpenedUnion shard) = IsUnited bytes info shard

@@ -32,6 +32,7 @@ module _ {H R : Type 0} (K : RecordKind H R) where
     pub header : IsRecordHeader K p.header
     pub rows : ReadsRowsAfter K p.header (BeginsWith p.rows.now) r
 
+  -- these are the records of a list of records in place, as reading returns them
   abbrev pub PlacesAll : List (PlacedRecord H) → List R → Type 0
   PlacesAll = AllZip Places
 
@@ -41,11 +42,12 @@ module _ {H R : Type 0} (K : RecordKind H R) where
       (found : List R) × TakesSection (in_version K version) old new found × Ascends K found
       × PlacesAll placed found
 
-  -- the records of a list, whose hashes strictly ascend
+  -- these are the records of a list of records in place, and their hashes strictly ascend
   pub record MayUnite (placed : List (PlacedRecord H)) (rs : List R) : Type 0 where
     pub places : PlacesAll placed rs
     pub ascends : Ascends K rs
 
+  -- the hash of a record in place
   abbrev pub hash_at : PlacedRecord H → DataHash
   hash_at p = K.hash_of p.header
 
@@ -55,13 +57,14 @@ module _ {H R : Type 0} (K : RecordKind H R) where
   IsBefore k (q ∷ qs) = hash_cmp k (hash_at q) ≡ Less
 
   module _ (makes : Option R → Option R → Option R → Type 0) where
-    -- what is made of two records in place is placed too, and nothing is made of them
+    -- what is made of two records in place is placed too, under the hash of the first
     abbrev pub MakesPlaced : PlacedRecord H → PlacedRecord H → PlacedRecord H → Type 0
     MakesPlaced g h p =
         (hash_at p ≡ hash_at g)
         × ((r s : R) → Places g r → Places h s
         → (t : R) × Places p t × makes (Some r) (Some s) (Some t))
 
+    -- nothing can be made of two records in place
     abbrev pub MakesNothing : PlacedRecord H → PlacedRecord H → Type 0
     MakesNothing g h = (r s : R) → Places g r → Places h s → (t : Option R) → ¬ makes (Some r) (Some s) t
 

@@ -31,7 +31,8 @@ pub record IsWrittenUnder (key : DataHash) (s : Shard) (bytes : List ℕ) (info 
   pub in_form : IsInForm (values s.files) (values s.xorbs) (keyed_form key) bytes info.metadata
   pub ends : HasEnds bytes info
 
--- such bytes of the result for two inputs were written
+-- bytes of the result for two inputs were written, under their key and with all tables, and the
+-- header and the footer in them returned
 abbrev pub WritesInForm : (Shard → Shard → Shard → Type 0) → List ℕ → MDBShardInfo → List ℕ
     → MDBShardInfo → Option (List ℕ) → Option (List ℕ) → MDBShardInfo → Type 0
 WritesInForm IsResult x i y j old new info =

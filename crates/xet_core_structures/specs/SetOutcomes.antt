@@ -38,25 +38,28 @@ pub record Operates {E : Type 0} (IsResult : Shard → Shard → Shard → Type 
   pub sources : (new.first.bytes ≡ old.first.bytes) × (new.second.bytes ≡ old.second.bytes)
   pub widths : IfOk result (λ info. FitsFooter info.metadata)
 
--- why it fails: the output's device or an allocation; or a source's device, or its refusal
+-- why an operation fails: the output's device or an allocation; or a source's device, or the
+-- refusal of what the sources have
 abbrev pub OperationFails : (CoreError → Type 0) → Streams → Streams → CoreError → Type 0
 OperationFails Refusal old new e =
     IsWriteError e ⊎ InputsFail old.first new.first old.second new.second Refusal e
 
--- the union, and the difference
+-- the union of two sources, given their headers and footers
 abbrev pub Unites : MDBShardInfo → MDBShardInfo → Streams → Streams → CoreResult MDBShardInfo
     → Type 0
 Unites i j old new =
     Operates IsByteUnion
     (OperationFails (UnionRefusal old.first.bytes i old.second.bytes j) old new) i j old new
 
+-- the difference of two sources, given their headers and footers
 abbrev pub Subtracts : MDBShardInfo → MDBShardInfo → Streams → Streams → CoreResult MDBShardInfo
     → Type 0
 Subtracts i j old new =
     Operates IsDifference
     (OperationFails (DifferenceRefusal old.first.bytes i old.second.bytes j) old new) i j old new
 
--- the same of an operation that says whether an input failed or the output
+-- an operation on two sources, given their headers and footers, whose error says whether an input
+-- failed or the output
 abbrev pub OperatesOn : (Shard → Shard → Shard → Type 0)
     → (List ℕ → MDBShardInfo → List ℕ → MDBShardInfo → CoreError → Type 0) → MDBShardInfo
     → MDBShardInfo → Streams → Streams → Result MDBShardInfo CopyFailure → Type 0
@@ -67,9 +70,9 @@ OperatesOn IsResult Refusal i j old new =
     (Refusal old.first.bytes i old.second.bytes j)))
     i j old new
 
--- what is made of the records of two inputs is the result for what their bytes hold, and lookups can
--- read what was written; each error, of reading the inputs or of records of which nothing can be
--- made, is a refusal
+-- what is made of the records of two inputs is the result for what their bytes hold, and lookups
+-- can read what was written; each error, of reading the inputs or of records of which nothing can
+-- be made, is a refusal
 pub record OperationLaws (IsResult : Shard → Shard → Shard → Type 0)
     (IsFile : Option MDBFileInfo → Option MDBFileInfo → Option MDBFileInfo → Type 0)
     (IsXorb : Option MDBXorbInfo → Option MDBXorbInfo → Option MDBXorbInfo → Type 0)

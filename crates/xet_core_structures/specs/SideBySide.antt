@@ -40,7 +40,8 @@ module _ {H R : Type 0} (K : RecordKind H R) where
     pub read : ReadsNextHeader K (Takes old new) left after next
     pub follows : IfSome next (Follows before)
 
-  -- neither was: the next record was not read, or it was and does not follow
+  -- neither a bookend nor a header that follows another was read: the next record was not read, or
+  -- it was and does not follow
   pub data FollowingFails (before : Option H) (left : ℕ) (old new : Source) (e : CoreError)
       : Type 0 where
     not_read : RecordFails K left old new e → FollowingFails before left old new e
@@ -53,6 +54,7 @@ module _ {H R : Type 0} (K : RecordKind H R) where
   Advances next (Some h) old new left after found =
       ReadsFollowing (Some h) old new left after found
 
+  -- why the next header was not read after one that was passed; if none was, there is no cause
   abbrev pub AdvanceFails : Option H → ℕ → Source → Source → CoreError → Type 0
   AdvanceFails None left old new e = ⊥
   AdvanceFails (Some h) left old new e = FollowingFails (Some h) left old new e
@@ -63,13 +65,16 @@ module _ {H R : Type 0} (K : RecordKind H R) where
   PassesRecord (Some h) old new found =
       (r : R) × (found ≡ Some r) × ReadsRowsAfter K h (Takes old new) r
 
+  -- the rows after a header were read, if there is one
   abbrev pub ReadsPast : Option H → Source → Source → Type 0
   ReadsPast header old new = (found : Option R) × PassesRecord header old new found
 
+  -- why the rows after a header were not read; there is no cause without a header
   abbrev pub ReadsNotPast : Option H → Source → Source → CoreError → Type 0
   ReadsNotPast header old new e =
       (h : H) × (header ≡ Some h) × ReadFails old new (48 * K.rows_after h) e
 
+  -- the rows after the headers of both sources were read, where there are any
   abbrev pub PassesBoth : Option H → Option H → Sources → Sources → Type 0
   PassesBoth first second old new =
       ReadsPast first old.first new.first × ReadsPast second old.second new.second
@@ -90,15 +95,20 @@ module _ {H R : Type 0} (K : RecordKind H R) where
   -- gathered, with rows that fit a section beside those before it
   pub record WritesMade (makes : Option R → Option R → Option R → Type 0) (first second : Option H)
       (old new : Streams) (rows : ℕ) (Before After : List R → Type 0) : Type 0 where
+    -- the record of the first header, if there is one
     pub one : Option R
+    -- the record of the second header, if there is one
     pub other : Option R
+    -- what is made of them, if anything
     pub made : Option R
     pub reads_first : PassesRecord first old.first new.first one
     pub reads_second : PassesRecord second old.second new.second other
     pub is_made : makes one other made
     pub made_of : IfSome made (IsMadeOf K one other)
+    -- the rows before, and those of what is made, fit a section
     pub few : IfSome made (λ r. rows + K.row_count r ≤ 4294967295)
     pub bytes : Appends old.out new.out (flat_map K.record_bytes (option_to_list made))
+    -- what is made was gathered after the records before it
     pub written : (front : List R) → Before front → After (front ++ option_to_list made)
 
   -- nothing can be made of both records, or something that has too many rows beside those before it
@@ -134,7 +144,7 @@ module _ {H R : Type 0} (K : RecordKind H R) where
       MatchResult result (λ _. WritesMade makes first second old new rows Before After)
       (PairFails first second (inputs_of old) (inputs_of new) (CannotMake makes rows))
 
-  -- the outcome where the record of one of them is kept
+  -- the outcome where the record of one of two headers is kept
   abbrev pub KeepsRecord : {U : Type 0} → H → Option H → Streams → Streams → ℕ
       → (List R → Type 0) → (List R → Type 0) → Result U CopyFailure → Type 0
   KeepsRecord kept passed old new rows Before After result =
@@ -146,15 +156,20 @@ module _ {H R : Type 0} (K : RecordKind H R) where
   pub record WritesCombined (version_1 version_2 : FormatVersion)
       (makes : Option R → Option R → Option R → Type 0) (old new : Streams)
       (Written : List R → Type 0) : Type 0 where
+    -- the records of the first section, as reading returns them
     pub firsts : List R
+    -- the records of the second section, as reading returns them
     pub seconds : List R
+    -- the records that are made of both
     pub made : List R
     pub first : TakesSection (in_version K version_1) old.first new.first firsts
     pub second : TakesSection (in_version K version_2) old.second new.second seconds
     pub first_ascends : Ascends K firsts
     pub second_ascends : Ascends K seconds
     pub combined : Combines K makes firsts seconds made
+    -- their rows fit a section
     pub few : total_rows K made ≤ 4294967295
+    -- they were gathered
     pub written : Written made
     pub bytes : Appends old.out new.out (section_bytes K made)
 
@@ -164,7 +179,7 @@ module _ {H R : Type 0} (K : RecordKind H R) where
       (e ≡ OutOfMemory) ⊎ (IsEndOfInput e × IsCutInOrder (in_version K version) bytes)
       ⊎ (IsInvalidShard e × IsBadSection (in_version K version) bytes)
 
-  -- it was not read from the source's position on
+  -- no section whose hashes strictly ascend was read from the source's position on
   pub record TakesNoAscending (version : FormatVersion) (old new : Source) (e : CoreError)
       : Type 0 where
     pub bytes : new.bytes ≡ old.bytes
@@ -181,29 +196,46 @@ module _ {H R : Type 0} (K : RecordKind H R) where
   -- one hash, after all that have smaller ones
   pub record NoneMade (version_1 version_2 : FormatVersion)
       (makes : Option R → Option R → Option R → Type 0) (x y : List ℕ) : Type 0 where
+    -- records that the first section begins with
     pub stored_1 : List R
+    -- records that the second section begins with
     pub stored_2 : List R
+    -- the bytes after those of the first section
     pub rest_1 : List ℕ
+    -- the bytes after those of the second section
     pub rest_2 : List ℕ
     pub holds_1 : HoldsRecords (in_version K version_1) x stored_1 rest_1
     pub holds_2 : HoldsRecords (in_version K version_2) y stored_2 rest_2
+    -- the first section's records with smaller hashes, as reading returns them
     pub firsts : List R
+    -- the second section's records with smaller hashes, as reading returns them
     pub seconds : List R
+    -- what is made of the records with smaller hashes
     pub made : List R
+    -- the first section's record with the hash, if it has one
     pub one : Option R
+    -- the second section's record with the hash, if it has one
     pub other : Option R
     pub first_is : map K.handed_out stored_1 ≡ firsts ++ option_to_list one
     pub second_is : map K.handed_out stored_2 ≡ seconds ++ option_to_list other
     pub first_ascends : Ascends K firsts
     pub second_ascends : Ascends K seconds
     pub combined : Combines K makes firsts seconds made
+    -- what is made has no more rows than both lists together
     pub rows : total_rows K made ≤ total_rows K firsts + total_rows K seconds
+    -- the hash of the records of which nothing can be made
     pub hash : DataHash
     pub passed : ArePassed K firsts seconds made hash
     pub one_hash : IfSome one (λ r. key_of_record K r ≡ hash)
     pub other_hash : IfSome other (λ r. key_of_record K r ≡ hash)
+    -- if the first section has no record with the hash, what comes next is its bookend or a greater
+    -- hash
     pub next_1 : one ≡ None → GoesOnAfter hash rest_1
+    -- if the second section has no record with the hash, what comes next is its bookend or a
+    -- greater hash
     pub next_2 : other ≡ None → GoesOnAfter hash rest_2
+    -- nothing can be made of the records with the hash, or something that has too many rows beside
+    -- those before it
     pub cannot : CannotMake makes (total_rows K made) one other
 
   -- why no section was written of what is made of two: the output failed, or an input; or nothing
@@ -225,7 +257,7 @@ module _ {H R : Type 0} (K : RecordKind H R) where
         → NoneMade version_1 version_2 makes (bytes_left old.first) (bytes_left old.second)
         → SectionsFail version_1 version_2 makes old new failure
 
-  -- the outcome for two sections
+  -- the outcome for two sections: what is made of them was written and gathered, or why it was not
   abbrev pub CombinesSections : {U : Type 0} → FormatVersion → FormatVersion
       → (Option R → Option R → Option R → Type 0) → Streams → Streams → (U → List R → Type 0)
       → Result U CopyFailure → Type 0

@@ -7,6 +7,7 @@ pub record Sources : Type 0 where
   pub first : Source
   pub second : Source
 
+-- the pair of these two sources
 abbrev pub sources : Source → Source → Sources
 sources first second = record { first = first; second = second }
 
@@ -16,9 +17,10 @@ pub record Streams : Type 0 where
   pub second : Source
   pub out : Option (List ℕ)
 
+-- the state that has these sources and this output
 abbrev pub streams : Source → Source → Option (List ℕ) → Streams
 streams first second out = record { first = first; second = second; out = out }
 
--- the sources of such a state
+-- the sources of a state of both sources and the output
 abbrev pub inputs_of : Streams → Sources
 inputs_of s = sources s.first s.second
