@@ -13,16 +13,16 @@ use Rattle.xet_core_structures.specs.declared.merklehash.DataHash.{DataHash}
 use Rattle.xet_core_structures.specs.declared.shard_format.MDBShardInfo.{MDBShardInfo}
 use Rattle.xet_core_structures.specs.declared.set_operations.MergePlan.{MergePlan}
 use Rattle.xet_core_structures.specs.declared.source.MemorySource.{MemorySource}
-use Rattle.xet_core_structures.specs.Ends.{HasEnds, Loads}
+use Rattle.xet_core_structures.specs.Ends.{HasHeaderAndFooter, Loads}
 use Rattle.xet_core_structures.specs.Errors.{CoreResult}
 use Rattle.xet_core_structures.specs.ExportTrees.{IsExportOf, IsMergeOfExports}
 use Rattle.xet_core_structures.specs.FileRecord.{file_records}
 use Rattle.xet_core_structures.specs.Hash.{IsHash}
 use Rattle.xet_core_structures.specs.Joins.{IsJoinOf, AgreePairwise}
-use Rattle.xet_core_structures.specs.KeyedExport.{exported, export_form}
+use Rattle.xet_core_structures.specs.KeyedExport.{exported, export_options}
 use Rattle.xet_core_structures.specs.Lookup.{FoundInShard, LookupFailsAmong, WithinBounds}
 use Rattle.xet_core_structures.specs.MergeTrees.{HasUnion, leaves, InputIs}
-use Rattle.xet_core_structures.specs.Layout.{layout, plain_form}
+use Rattle.xet_core_structures.specs.Layout.{layout, plain_options}
 use Rattle.xet_core_structures.specs.Shard.{Shard, IsShard}
 use Rattle.xet_core_structures.specs.Source.{Source, DeviceFailure}
 use Rattle.xet_core_structures.specs.WrittenShard.{IsBytesOf, IsBytesWithInfo, IsBytesWithoutExpiry}
@@ -37,7 +37,7 @@ in_memory m = record { bytes = m.bytes.now; at = m.at; seeks = m.seeks.value; re
 pub as_written : (s : Shard) (old new : Source) (info : MDBShardInfo) → IsBytesOf s old.bytes → Loads old new info → IsBytesWithInfo s new.bytes info
 as_written s old new info is loads = record {
   is_bytes = subst (IsBytesOf s) (sym loads.bytes) is;
-  ends = subst (λ bs. HasEnds bs info) (sym loads.bytes) loads.ends;
+  ends = subst (λ bs. HasHeaderAndFooter bs info) (sym loads.bytes) loads.ends;
 }
 
 -- a failure of the second call is one of both
@@ -61,7 +61,7 @@ ok_in_memory (Err e) IsRight old new failed = absurd (omega (arith, failed.0))
 
 -- bytes without expiry are bytes of the shard
 pub without_expiry : (s : Shard) (bytes : List ℕ) → IsBytesWithoutExpiry s bytes → IsBytesOf s bytes
-without_expiry s bytes is = record { shard = is.shard; version = (plain_form None).version; files = tt; expiry = None; expiry_fits = tt; bytes_are = is.bytes_are }
+without_expiry s bytes is = record { shard = is.shard; version = (plain_options None).version; files = tt; expiry = None; expiry_fits = tt; bytes_are = is.bytes_are }
 
 -- a shard in memory was written
 pub written_alone : {Z : Type 0} (s t : Shard) (result : CoreResult (Vec ℕ Z)) → t ≡ s → IfOk result (λ bytes. bytes.items ≡ layout t None) → IfOk result (λ _. IsShard t) → IfOk result (λ bytes. IsBytesWithoutExpiry s bytes.items)
@@ -70,9 +70,9 @@ written_alone s t (Err e) same are shard = tt
 
 -- an export of a shard, with its files and all tables
 pub exported_of : (s : Shard) (key : DataHash) (now valid : ℕ) (out : List ℕ) → IsHash key → now < 2 ^ 64 → now + valid < 2 ^ 64
-    → out ≡ exported (auxes_as_wanted true (values s.files)) (values s.xorbs) (export_form key now valid true true true) → IsExportOf true key s out
+    → out ≡ exported (auxes_as_wanted true (values s.files)) (values s.xorbs) (export_options key now valid true true true) → IsExportOf true key s out
 exported_of s key now valid out hash now_fits expiry_fits is = record {
-  form = export_form key now valid true true true;
+  options = export_options key now valid true true true;
   is_form = record { under = refl; files = refl; fits = record { key = hash; creation = now_fits; expiry = expiry_fits } };
   files = tt;
   bytes_are = is;
@@ -91,7 +91,7 @@ both_exported key a b join x y plan union leaves_are one other agree is_join = r
 -- the export with other times
 pub other_times : (join : Shard) (key : DataHash) (now valid : ℕ) (out : List ℕ)
     → ((before after : List ℕ) × (length after ≡ 80)
-    × ((now valid : ℕ) → exported (auxes_as_wanted true (values join.files)) (values join.xorbs) (export_form key now valid true true true) ≡ before ++ u64_bytes now ++ u64_bytes (now + valid) ++ after))
+    × ((now valid : ℕ) → exported (auxes_as_wanted true (values join.files)) (values join.xorbs) (export_options key now valid true true true) ≡ before ++ u64_bytes now ++ u64_bytes (now + valid) ++ after))
     → out ≡ export_of join key 0 18446744073709551615 → EqualButForTimes (export_of join key now valid) out
 other_times join key now valid out (before, after, eighty, all) is = record {
   before = before;

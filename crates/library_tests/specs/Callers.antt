@@ -4,8 +4,8 @@ use Rattle.std.specs.FinMap.{values}
 use Rattle.xet_core_structures.specs.declared.file_structs.MDBFileInfo.{MDBFileInfo}
 use Rattle.xet_core_structures.specs.declared.merklehash.DataHash.{DataHash}
 use Rattle.xet_core_structures.specs.FileRecord.{file_records}
-use Rattle.xet_core_structures.specs.KeyedExport.{exported, export_form}
-use Rattle.xet_core_structures.specs.Lookup.{sharing}
+use Rattle.xet_core_structures.specs.KeyedExport.{exported, export_options}
+use Rattle.xet_core_structures.specs.Lookup.{with_first_word}
 use Rattle.xet_core_structures.specs.Shard.{Shard}
 use Rattle.xet_core_structures.specs.Source.{Source}
 
@@ -19,16 +19,16 @@ most_seeks n d = (n + 1) / 128 + d / 4 + d + 10
 -- first word
 pub record FindsWithin (files : List MDBFileInfo) (word : ℕ) (old new : Source) : Type 0 where
   pub seeks : new.seeks
-      ≤ old.seeks + most_seeks (length files) (length (sharing file_records word files))
+      ≤ old.seeks + most_seeks (length files) (length (with_first_word file_records word files))
   pub read : new.read
       ≤ old.read + 248
-      + 12 * (257 + most_seeks (length files) (length (sharing file_records word files)))
-      + length (flat_map file_records.record_bytes (sharing file_records word files))
+      + 12 * (257 + most_seeks (length files) (length (with_first_word file_records word files)))
+      + length (flat_map file_records.record_bytes (with_first_word file_records word files))
 
 -- the export of a shard under a key, with its files and all tables
 abbrev pub export_of : Shard → DataHash → ℕ → ℕ → List ℕ
 export_of s key now valid =
-    exported (values s.files) (values s.xorbs) (export_form key now valid true true true)
+    exported (values s.files) (values s.xorbs) (export_options key now valid true true true)
 
 -- the bytes are equal but for the 16 of two timestamps, 80 before the end
 pub record EqualButForTimes (one other : List ℕ) : Type 0 where

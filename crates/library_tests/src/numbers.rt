@@ -4,7 +4,7 @@ use crate::stream::{Fault, Stream};
 use std::io;
 use std::io::{ErrorKind, Read, Write};
 use std::test::Fail;
-use xet_base::row::{
+use xet_base::fields::{
     put, put_hash, put_u32, put_u64, split_hash, split_u32, split_u64, split_u64s,
 };
 use xet_base::serialization_utils::{

@@ -17,8 +17,8 @@ const DIGITS: usize = 16;
 /// The names of new files that are tried.
 const TRIES: u32 = 100;
 
-/// Writes bytes to a new file beside a target and returns its path. It has the mode of the file that
-/// it is to replace, and its owner and group where the system lets them be given.
+/// Writes bytes to a new file beside a target and returns its path. It has the mode of the file
+/// that it is to replace, and its owner and group where the system lets them be given.
 ///
 /// Its name is the target's with random digits, so that no other run or user has taken it.
 pub fn write_beside<R: Files + RandomSource>(
@@ -83,8 +83,8 @@ fn fill<R: Files, F: Write + OpenFile>(
     file.sync_all()
 }
 
-/// The names in a target's folder that new files for it have: each is of a run that was ended before
-/// it could rename it or remove it, or of one that still writes.
+/// The names in a target's folder that new files for it have: each is of a run that was ended
+/// before it could rename it or remove it, or of one that still writes.
 pub fn leftovers<R: Files + AllocGlobal + Clone + Drop>(
     rt: &R,
     target: &str,

@@ -10,8 +10,8 @@ use xet_core_structures::error::CoreError;
 use xet_core_structures::merklehash::MerkleHash;
 use xet_core_structures::set_operations::{Disagreement, find_disagreements};
 
-/// The failure behind an error of a union or a difference: the first input of which none can be made,
-/// else what is wrong with the inputs together.
+/// The failure behind an error of a union or a difference: the first input of which none can be
+/// made, else what is wrong with the inputs together.
 pub fn blamed<'a>(
     alloc: Global,
     files: &[&'a str],
@@ -34,8 +34,8 @@ pub fn blamed<'a>(
     misplaced(alloc, files, inputs)
 }
 
-// The failure of inputs under different keys: that of the first two, whose shards are under different
-// ones.
+// The failure of inputs under different keys: that of the first two, whose shards are under
+// different ones.
 fn with_other_key<'a>(alloc: Global, files: &[&'a str], inputs: &[&[u8]]) -> Failure<'a> {
     let mut first: Option<(&'a str, MerkleHash)> = None;
     for (file, bytes) in files.iter().zip(inputs) {

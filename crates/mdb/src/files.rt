@@ -27,8 +27,8 @@ pub fn read<R: Files + Input + AllocGlobal>(rt: &R, path: &str) -> io::Result<Ve
     Ok(bytes)
 }
 
-/// A file that can be sought, and its size; `None` if what is at the path is no regular file, or has
-/// no size, as files of the system that are made as they are read.
+/// A file that can be sought, and its size; `None` if what is at the path is no regular file, or
+/// has no size, as files of the system that are made as they are read.
 pub fn open_sized<R: Files>(rt: &R, path: &str) -> io::Result<Option<(R::File, u64)>> {
     if path == STANDARD_STREAM || !fs::metadata(rt, path)?.is_file() {
         return Ok(None);
@@ -55,9 +55,10 @@ pub fn read_ends<R: Files + AllocGlobal>(rt: &R, path: &str) -> io::Result<Vec<u
 
 /// Writes bytes to a path, or to standard output if it is `-`.
 ///
-/// A new name, or a regular file, also one behind symbolic links, gets a new file beside it, which is
-/// renamed over it: if anything fails, the target stays as it was and the new file is removed. What
-/// is no regular file, as a device or a pipe, is written to. A link that leads nowhere is refused.
+/// A new name, or a regular file, also one behind symbolic links, gets a new file beside it, which
+/// is renamed over it: if anything fails, the target stays as it was and the new file is removed.
+/// What is no regular file, as a device or a pipe, is written to. A link that leads nowhere is
+/// refused.
 pub fn write<R: Files + Print + RandomSource + AllocGlobal>(
     rt: &R,
     alloc: Global,

@@ -39,8 +39,8 @@ impl<T: Drop> From<AllocFailed<T>> for OutOfMemory {
     }
 }
 
-/// The shards that sources name: each folder stands for the shards in it. Some words are no text, so
-/// that no file can be opened by them.
+/// The shards that sources name: each folder stands for the shards in it. Some words are no text,
+/// so that no file can be opened by them.
 pub fn inputs_of<R: Files + Input + Eprint + AllocGlobal + Clone + Drop>(
     rt: &R,
     sources: &Sources<'_>,

@@ -166,7 +166,8 @@ fn merged<'a, R: Eprint + AllocGlobal>(
     }
 }
 
-// The union of the inputs. Records that differ are a failure, even if there is no union, or reported.
+// The union of the inputs. Records that differ are a failure, even if there is no union, or
+// reported.
 fn united<'a, R: Eprint + AllocGlobal>(
     rt: &R,
     files: &[&'a str],
@@ -189,7 +190,8 @@ fn united<'a, R: Eprint + AllocGlobal>(
     }
 }
 
-// The bytes that a merge wrote, with an expiry if one is wanted. It fails only if it is out of memory.
+// The bytes that a merge wrote, with an expiry if one is wanted. It fails only if it is out of
+// memory.
 fn expiring(alloc: Global, bytes: Vec<u8>, expiry: Option<u64>) -> Result<Vec<u8>, CoreError> {
     match expiry {
         Some(expiry) => with_expiry(alloc, bytes, expiry),

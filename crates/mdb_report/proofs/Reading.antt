@@ -6,7 +6,7 @@ use Rattle.std.proofs.lemmas.List.{take_more}
 use Rattle.std.specs.declared.vec.Vec.{Vec}
 use Rattle.xet_core_structures.specs.declared.shard_format.MDBShardInfo.{MDBShardInfo}
 use Rattle.xet_core_structures.specs.declared.source.MemorySource.{MemorySource}
-use Rattle.xet_core_structures.specs.Ends.{HasEnds}
+use Rattle.xet_core_structures.specs.Ends.{HasHeaderAndFooter}
 use Rattle.xet_core_structures.specs.Errors.{CoreResult}
 use Rattle.xet_core_structures.specs.Source.{Source}
 use Rattle.xet_core_structures.specs.FileRecord.{file_records, file_records_in, FitsItsHeader}
@@ -19,17 +19,17 @@ use Rattle.xet_records.specs.RecordKind.{RecordKind}
 use Rattle.shard_bytes.proofs.Combining.{in_memory}
 use Rattle.mdb_report.specs.Records.{HoldsFiles, FilesRefusal}
 use Rattle.xet_records.proofs.RecordKinds.{file_laws, laws_in, stored_ever}
-use Rattle.xet_core_structures.proofs.Handed.{all_handed}
+use Rattle.xet_core_structures.proofs.RecordsAsRead.{all_handed}
 
 pub read_files_fit : {Z : Type 0} (version : FormatVersion) (old new : Source) (at : ℕ) (result : CoreResult (Vec MDBFileInfo Z)) → ReadsAll (file_records_in version) old new at result
     → IfOk result (λ files. All FitsItsHeader files.items)
 read_files_fit version old new at (Ok files) reads = λ k r below.
     let K : RecordKind FileDataSequenceHeader MDBFileInfo = file_records_in version in
-    (stored_ever file_records version _ (all_handed K (laws_in file_records file_laws version) reads.stored files.items reads.section.records.are_stored reads.handed k r below)).whole
+    (stored_ever file_records version _ (all_handed K (laws_in file_records file_laws version) reads.stored files.items reads.section.records.are_stored reads.returned k r below)).whole
 read_files_fit version old new at (Err e) reads = tt
 
 -- what is read of a source in memory is what its bytes hold
-pub files_in_memory : {Z : Type 0} (bytes : List ℕ) (info : MDBShardInfo) (old new : MemorySource) (result : CoreResult (Vec MDBFileInfo Z)) → HasEnds bytes info → old.bytes.now ≡ bytes
+pub files_in_memory : {Z : Type 0} (bytes : List ℕ) (info : MDBShardInfo) (old new : MemorySource) (result : CoreResult (Vec MDBFileInfo Z)) → HasHeaderAndFooter bytes info → old.bytes.now ≡ bytes
     → ReadsFiles info (in_memory old) (in_memory new) result → MatchResult result (λ files. HoldsFiles bytes files.items) (FilesRefusal bytes)
 files_in_memory bytes info old new (Ok files) ends same reads =
     record { info = info; ends = ends; before = in_memory old; after = in_memory new; bytes_are = same; works = refl; outcome = reads }
@@ -57,4 +57,4 @@ next_file_fits Took version left after None reads = tt
 next_file_fits Took version left after (Some file) reads =
     let K : RecordKind FileDataSequenceHeader MDBFileInfo = file_records_in version in
     let read = reads.reads in
-    (stored_ever file_records version file (subst K.IsStored read.handed ((laws_in file_records file_laws version).handed_stored read.stored read.is_stored))).whole
+    (stored_ever file_records version file (subst K.IsStored read.returned ((laws_in file_records file_laws version).as_read_stored read.stored read.is_stored))).whole

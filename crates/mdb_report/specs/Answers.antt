@@ -1,7 +1,7 @@
 -- What the answer to an inquiry says.
 use Rattle.std.specs.Prelude.{⊤, ℕ, List, length}
 use Rattle.xet_core_structures.specs.declared.shard_format.MDBShardInfo.{MDBShardInfo}
-use Rattle.xet_core_structures.specs.Ends.{HasEnds}
+use Rattle.xet_core_structures.specs.Ends.{HasHeaderAndFooter}
 use Rattle.shard_bytes.specs.Checking.{IsWhole}
 use Rattle.mdb_report.specs.declared.inquiry.Inquiry.{Inquiry}
 use Rattle.mdb_report.specs.declared.inquiry.Inquiry.TheVariants.{Summary, Check, Find, Query}
@@ -24,7 +24,7 @@ LooksUp _ = ⊥
 -- the parts that the footer of the bytes says ascend within them
 abbrev pub HasAscendingParts : List ℕ → Type 0
 HasAscendingParts bytes =
-    (info : MDBShardInfo) × HasEnds bytes info
+    (info : MDBShardInfo) × HasHeaderAndFooter bytes info
     × ((parts : Parts) × ArePartsOf info (length bytes) parts × PartsAscend parts)
 
 -- what an inquiry that may find problems says of the bytes if it finds none

@@ -3,7 +3,7 @@ use Rattle.std.specs.Prelude.{◌≡◌, ◌≢◌, ⊤, ℕ, List}
 use Rattle.xet_core_structures.specs.declared.error.CoreError.{CoreError}
 use Rattle.xet_core_structures.specs.declared.error.CoreError.TheVariants.{TruncatedHashCollision}
 use Rattle.xet_core_structures.specs.declared.shard_format.MDBShardInfo.{MDBShardInfo}
-use Rattle.xet_core_structures.specs.Ends.{HasEnds}
+use Rattle.xet_core_structures.specs.Ends.{HasHeaderAndFooter}
 use Rattle.xet_core_structures.specs.KeyedHash.{no_key}
 use Rattle.shard_bytes.specs.declared.check.Finding.{Finding}
 use Rattle.shard_bytes.specs.declared.check.Finding.TheVariants.{Differs, Size}
@@ -33,9 +33,9 @@ IsObstacle bytes finding = IsFinding bytes finding × KeepsFrom finding
 -- the chunk hashes of a shard's bytes are under a key
 abbrev pub IsUnderKey : List ℕ → Type 0
 IsUnderKey bytes =
-    (info : MDBShardInfo) × HasEnds bytes info × (info.metadata.chunk_hash_hmac_key ≢ no_key)
+    (info : MDBShardInfo) × HasHeaderAndFooter bytes info × (info.metadata.chunk_hash_hmac_key ≢ no_key)
 
 -- the chunk hashes of a shard's bytes are under no key
 abbrev pub IsUnderNoKey : List ℕ → Type 0
 IsUnderNoKey bytes =
-    (info : MDBShardInfo) × HasEnds bytes info × (info.metadata.chunk_hash_hmac_key ≡ no_key)
+    (info : MDBShardInfo) × HasHeaderAndFooter bytes info × (info.metadata.chunk_hash_hmac_key ≡ no_key)

@@ -5,12 +5,12 @@ use Rattle.xet_core_structures.specs.declared.error.CoreError.TheVariants.{OutOf
 use Rattle.xet_core_structures.specs.declared.file_structs.FileDataSequenceEntry.{FileDataSequenceEntry}
 use Rattle.xet_core_structures.specs.declared.file_structs.MDBFileInfo.{MDBFileInfo}
 use Rattle.xet_core_structures.specs.declared.merklehash.DataHash.{DataHash}
-use Rattle.xet_core_structures.specs.Lookup.{Finding, file_table}
+use Rattle.xet_core_structures.specs.Lookup.{FindsRecord, file_table}
 use Rattle.xet_core_structures.specs.SectionReading.{files_of}
 use Rattle.xet_core_structures.specs.declared.shard_format.MDBShardInfo.{MDBShardInfo}
 use Rattle.xet_core_structures.specs.RunReading.{QueryAnswer}
 use Rattle.xet_core_structures.specs.Source.{Source}
-use Rattle.shard_bytes.specs.Finding.{RefusesFile}
+use Rattle.shard_bytes.specs.FindsRecord.{RefusesFile}
 use Rattle.shard_bytes.specs.Outcomes.{HasOutcome}
 use Rattle.shard_bytes.specs.Query.{AnswersQuery}
 use Rattle.mdb_report.specs.declared.lookup.Costs.{Costs}
@@ -35,7 +35,7 @@ ReportsFound _ _ = ⊥
 abbrev pub FindsAt : List ℕ → DataHash → Option MDBFileInfo → Costs → Type 0
 FindsAt bytes hash found costs =
     HasOutcome bytes
-    (λ info before after. Finding (files_of info) (file_table info.metadata before)
+    (λ info before after. FindsRecord (files_of info) (file_table info.metadata before)
     info.metadata.file_info_offset hash before after found
     × AreCosts before after costs)
 
@@ -58,7 +58,7 @@ pub record ReportsLookup (bytes : List ℕ) (hash : DataHash) (with_costs : Bool
 -- what a lookup of the hash finds between two states of a source, and what it costs
 abbrev pub FindsIn : MDBShardInfo → DataHash → Source → Source → Option MDBFileInfo → Costs → Type 0
 FindsIn info hash before after found costs =
-    Finding (files_of info) (file_table info.metadata before) info.metadata.file_info_offset hash
+    FindsRecord (files_of info) (file_table info.metadata before) info.metadata.file_info_offset hash
     before after found
     × AreCosts before after costs
 

@@ -2,7 +2,7 @@
 
 ghost use Rattle.std.specs.Prelude.{◌≡◌, ◌⊎◌, length, MatchResult};
 ghost use Rattle.xet_core_structures.specs.declared.shard_format.MDBShardInfo.{MDBShardInfo as Info};
-ghost use Rattle.xet_core_structures.specs.Ends.{HasEnds};
+ghost use Rattle.xet_core_structures.specs.Ends.{HasHeaderAndFooter};
 ghost use Rattle.xet_core_structures.specs.ByteResults.{LoadRefusal};
 ghost use Rattle.mdb_report.specs.Brief.{SaysBriefly, AddsTo};
 
@@ -35,7 +35,7 @@ impl<'a> Brief<'a> {
     /// The errors are those of [`load_bytes`].
     pub fn of_bytes(alloc: Global, file: &'a str, bytes: &[u8]) -> Result<Brief<'a>>
         ensures { MatchResult result
-            (λ brief. (info : Info) × HasEnds bytes.now info
+            (λ brief. (info : Info) × HasHeaderAndFooter bytes.now info
             × SaysBriefly info file.now (length bytes.now) brief)
             (LoadRefusal bytes.now) }
     {

@@ -173,8 +173,8 @@ fn first_finding(alloc: Global, bytes: &[u8]) -> Result<Option<Finding>, Fault>
     }
 }
 
-/// The first finding for which no union and no difference is made of a shard's bytes: their sections
-/// can't be read, or their hashes do not ascend. `None` if there is no such finding.
+/// The first finding for which no union and no difference is made of a shard's bytes: their
+/// sections can't be read, or their hashes do not ascend. `None` if there is no such finding.
 pub fn first_obstacle(alloc: Global, bytes: &[u8]) -> Result<Option<Finding>, Fault>
     ensures { MatchResult result
         (λ found. MatchOption found ((f : Finding) → ¬ IsObstacle bytes.now f)
@@ -210,8 +210,8 @@ fn keeps_from(finding: &Finding) -> bool
     }
 }
 
-/// Whether the footer of a shard's bytes, by which a union or a difference finds the sections, is not
-/// the one that the records give.
+/// Whether the footer of a shard's bytes, by which a union or a difference finds the sections, is
+/// not the one that the records give.
 pub fn has_wrong_footer(alloc: Global, bytes: &[u8]) -> Result<bool, Fault>
     ensures { MatchResult result
         (λ wrong. IsTrue wrong ↔ IsFinding bytes.now (Finding.Differs Part.Footer))
@@ -227,8 +227,8 @@ pub fn has_wrong_footer(alloc: Global, bytes: &[u8]) -> Result<bool, Fault>
     }
 }
 
-/// The fault behind an error of an export: of one that is refused for its arguments, the key that the
-/// shard has, or else the expiry.
+/// The fault behind an error of an export: of one that is refused for its arguments, the key that
+/// the shard has, or else the expiry.
 pub fn export_fault(alloc: Global, bytes: &[u8], error: CoreError) -> Fault
     ensures is { (result ≡ Fault.HasKey) ⊎ (result ≡ Fault.LateExpiry)
         ⊎ IsFaultOf bytes.now error result }

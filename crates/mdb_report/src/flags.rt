@@ -6,8 +6,8 @@ use xet_core_structures::file_structs::{
 };
 use xet_core_structures::xorb_structs::MDB_CHUNK_WITH_GLOBAL_DEDUP_FLAG;
 
-/// The flags of a file, with `v` if it has verification rows, `s` if it has a SHA-256, and `a` if it
-/// has an auxiliary row, each `-` if not.
+/// The flags of a file, with `v` if it has verification rows, `s` if it has a SHA-256, and `a` if
+/// it has an auxiliary row, each `-` if not.
 #[derive(Clone, Copy)]
 pub struct FileFlags(pub u32);
 

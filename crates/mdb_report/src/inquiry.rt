@@ -241,7 +241,8 @@ pub(crate) fn print_summary<W: Write>(
     }
 }
 
-// Prints the problems of a file at a path, with that of its name if it is to be the name of a shard.
+// Prints the problems of a file at a path, with that of its name if it is to be the name of a
+// shard.
 fn check<W: Write>(
     alloc: Global,
     file: &str,
@@ -297,8 +298,8 @@ fn find<W: Write>(
     }
 }
 
-// Prints what a lookup found, and answers whether it found something. If it has found nothing, it is
-// printed without the name of a shard, or with its costs.
+// Prints what a lookup found, and answers whether it found something. If it has found nothing, it
+// is printed without the name of a shard, or with its costs.
 pub(crate) fn print_lookup<W: Write>(
     alloc: Global,
     report: &FoundReport,

@@ -12,8 +12,8 @@ use xet_core_structures::error::CoreError;
 use xet_core_structures::merklehash::MerkleHash;
 use xet_core_structures::shard_format::MDBShardInfo;
 
-/// How often a lookup is begun again after it lacked a page: with what is read by then, no record is
-/// too long.
+/// How often a lookup is begun again after it lacked a page: with what is read by then, no record
+/// is too long.
 const ROUNDS: u32 = 512;
 
 /// The rounds in which one page is read.
@@ -22,8 +22,8 @@ const SINGLE_ROUNDS: u32 = 16;
 /// The most pages that are read in a round, as a power of two.
 const MOST_PAGES_LOG: u32 = 16;
 
-/// A file, and the pages of it that are in memory. Each call goes to them; where it lacks a page, the
-/// page is read and the call made again.
+/// A file, and the pages of it that are in memory. Each call goes to them; where it lacks a page,
+/// the page is read and the call made again.
 #[derive(Drop)]
 pub struct PagedFile<F: Read + Seek + Drop> {
     file: F,
@@ -107,8 +107,8 @@ impl<F: Read + Seek + Drop> PagedFile<F> {
         }
     }
 
-    // Reads pages from one on that a call lacked: one in each of the first rounds, and later twice as
-    // many as in the round before, so that few rounds suffice for a long record.
+    // Reads pages from one on that a call lacked: one in each of the first rounds, and later twice
+    // as many as in the round before, so that few rounds suffice for a long record.
     fn read_from(&mut self, alloc: Global, first: usize, round: u32) -> Result<(), Trouble> {
         let doubled = round.saturating_sub(SINGLE_ROUNDS).min(MOST_PAGES_LOG);
         let count = 1usize << doubled;

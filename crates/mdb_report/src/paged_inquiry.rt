@@ -20,10 +20,10 @@ use xet_core_structures::merklehash::MerkleHash;
 use xet_core_structures::shard_format::MDBShardInfo;
 use xet_records::record_reader::FormatVersion;
 
-/// Prints the answer of the shard in a file of so many bytes, as `print_answer` does. Lookups read the
-/// pages that they need, and records are printed as they are read, also those before one that cannot
-/// be read. `None`, with nothing printed, if all of the file is to be read: for a check, for the
-/// chunks of the global index, and for a lookup without the rows of its table.
+/// Prints the answer of the shard in a file of so many bytes, as `print_answer` does. Lookups read
+/// the pages that they need, and records are printed as they are read, also those before one that
+/// cannot be read. `None`, with nothing printed, if all of the file is to be read: for a check, for
+/// the chunks of the global index, and for a lookup without the rows of its table.
 pub fn print_paged_answer<F: Read + Seek + Drop, W: Write>(
     alloc: Global,
     inquiry: &Inquiry,

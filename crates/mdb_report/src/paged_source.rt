@@ -9,8 +9,8 @@ use std::io::ErrorKind;
 use xet_core_structures::count::Count;
 use xet_core_structures::source::ShardSource;
 
-/// A source of bytes of which some pages are in memory. A read elsewhere fails, and `missing` is then
-/// the number of the page that has to be read first. Contracts see zeros elsewhere.
+/// A source of bytes of which some pages are in memory. A read elsewhere fails, and `missing` is
+/// then the number of the page that has to be read first. Contracts see zeros elsewhere.
 #[derive(Drop)]
 pub struct PagedSource<'a> {
     pages: &'a Pages,

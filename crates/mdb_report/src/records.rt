@@ -79,7 +79,8 @@ pub struct SegmentReport {
 }
 
 impl FileReport {
-    /// The report of a file, with its rows or without. Requires that the record's parts fit its header.
+    /// The report of a file, with its rows or without. Requires that the record's parts fit its
+    /// header.
     pub fn of_file(
         alloc: Global,
         file: &MDBFileInfo,

@@ -3,7 +3,7 @@
 ghost use Rattle.std.specs.Prelude.{◌≡◌, ◌⊎◌, length, IfOk, MatchResult};
 ghost use Rattle.xet_core_structures.specs.declared.error.CoreError.{CoreError};
 ghost use Rattle.xet_core_structures.specs.declared.shard_format.MDBShardInfo.{MDBShardInfo as Info};
-ghost use Rattle.xet_core_structures.specs.Ends.{HasEnds};
+ghost use Rattle.xet_core_structures.specs.Ends.{HasHeaderAndFooter};
 ghost use Rattle.xet_core_structures.specs.ByteResults.{LoadRefusal};
 ghost use Rattle.mdb_report.specs.Summary.{Summarizes, key_in};
 
@@ -46,7 +46,7 @@ impl<'a> Summary<'a> {
     /// The errors are those of [`load_bytes`], and `OutOfMemory`.
     pub fn of_bytes(alloc: Global, file: &'a str, bytes: &[u8]) -> Result<Summary<'a>>
         ensures { MatchResult result
-            (λ summary. (info : Info) × HasEnds bytes.now info
+            (λ summary. (info : Info) × HasHeaderAndFooter bytes.now info
             × Summarizes info file.now (length bytes.now) summary)
             (λ e. LoadRefusal bytes.now e ⊎ (e ≡ CoreError.OutOfMemory)) }
     {

@@ -4,15 +4,15 @@ use Rattle.std.specs.Prelude.{Contains}
 use Rattle.std.specs.List.{AllZip}
 use Rattle.xet_core_structures.specs.declared.set_operations.agreement.Disagreement.{Disagreement}
 use Rattle.xet_core_structures.specs.Agreement.{IsHeld, InputsAgree, InputsDisagree, HasAllDisagreements}
-use Rattle.xet_core_structures.specs.Held.{HoldsShard}
+use Rattle.xet_core_structures.specs.ShardContents.{HoldsShard}
 use Rattle.xet_core_structures.specs.Joins.{IsJoinOf, AgreePairwise}
 use Rattle.xet_core_structures.specs.KeyedHash.{no_key}
 use Rattle.xet_core_structures.specs.Shard.{Shard, IsShard}
 use Rattle.xet_core_structures.proofs.AgreeingTrees.{of_hash, held_agree}
-use Rattle.xet_core_structures.proofs.Held.{only_shard}
+use Rattle.xet_core_structures.proofs.ShardContents.{only_shard}
 use Rattle.xet_core_structures.proofs.Items.{has_at, at_of}
 use Rattle.xet_core_structures.proofs.Zipped.{zip_at, zip_back}
-use Rattle.shard_bytes.specs.Merging.{IsMergePlan, MergesBytes, HaveJoin}
+use Rattle.shard_bytes.specs.Merging.{IsMergePlan, MergesBytes, IsMergeOfList}
 
 module _ (shards : List Shard) (inputs : List (List ℕ)) (hold : AllZip (HoldsShard no_key) shards inputs) where
   -- what an input holds is one of the shards, and each of them is held
@@ -40,7 +40,7 @@ module _ (shards : List Shard) (inputs : List (List ℕ)) (hold : AllZip (HoldsS
   none_agree d at agree =
       of_hash at.one at.other d.record_hash at.differ (agree.pairs at.one at.other (held_in at.one (d.first, at.is_first)).0 (held_in at.other (d.second, at.is_second)).0)
 
-  pub have_join : (out : List ℕ) → InputsAgree inputs → MergesBytes inputs out → (join : Shard) → IsJoinOf (Contains shards) join → HaveJoin inputs shards join
+  pub have_join : (out : List ℕ) → InputsAgree inputs → MergesBytes inputs out → (join : Shard) → IsJoinOf (Contains shards) join → IsMergeOfList inputs shards join
   have_join out agree (plan, is_plan, writes) join is_join = record { some = some is_plan; are_held = hold; agree = all_agree agree; is_join = is_join } where
     some : IsMergePlan (length inputs) plan → 0 < length inputs
     some (inl (one, _)) = omega (arith, one)

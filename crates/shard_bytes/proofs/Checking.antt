@@ -14,17 +14,17 @@ use Rattle.xet_core_structures.specs.declared.xorb_structs.MDBXorbInfo.{MDBXorbI
 use Rattle.xet_core_structures.specs.declared.merklehash.DataHash.{DataHash}
 use Rattle.xet_core_structures.specs.declared.shard_format.MDBShardFileFooter.{MDBShardFileFooter}
 use Rattle.xet_core_structures.specs.declared.shard_format.MDBShardInfo.{MDBShardInfo}
-use Rattle.xet_core_structures.specs.Ends.{HasHeader, HasEnds}
+use Rattle.xet_core_structures.specs.Ends.{HasHeader, HasHeaderAndFooter}
 use Rattle.xet_core_structures.specs.Errors.{IsInvalidShard, IsEndOfInput}
 use Rattle.xet_core_structures.specs.FileRecord.{file_records, file_records_in}
 use Rattle.xet_core_structures.specs.Hash.{hash_cmp}
-use Rattle.xet_core_structures.specs.InForm.{FitsSection, Ascends}
+use Rattle.xet_core_structures.specs.WithOptions.{FitsSection, Ascends}
 use Rattle.xet_core_structures.specs.Layout.{footer_value, layout_of}
 use Rattle.xet_core_structures.specs.SectionReading.{SectionCase}
 use Rattle.xet_core_structures.specs.SectionReading.SectionCase.{not_read, passes_limit}
 use Rattle.xet_core_structures.specs.Source.ReadCase.{out_of_memory, out_of_bytes}
 use Rattle.xet_core_structures.specs.XorbRecord.{xorb_records}
-use Rattle.xet_shards.specs.Rewriting.{HasSections, form_of}
+use Rattle.xet_shards.specs.Rewriting.{HasSections, options_of}
 use Rattle.xet_shards.specs.Tables.{hash_in}
 use Rattle.xet_core_structures.specs.KeyedHash.{no_key}
 use Rattle.xet_shards.proofs.EndsUnique.{only_info, not_unsupported, not_too_short}
@@ -215,19 +215,19 @@ module _ (bytes : List ℕ) (info : MDBShardInfo) (written : List ℕ) (footer :
       }
 
 -- bytes whose parts are those of the library's are whole
-module _ (bytes : List ℕ) (info : MDBShardInfo) (files : List MDBFileInfo) (xorbs : List MDBXorbInfo) (ends : HasEnds bytes info) (have : HasSections bytes files xorbs) where
-  version_is : have.header.version ≡ (form_of info).version
+module _ (bytes : List ℕ) (info : MDBShardInfo) (files : List MDBFileInfo) (xorbs : List MDBXorbInfo) (ends : HasHeaderAndFooter bytes info) (have : HasSections bytes files xorbs) where
+  version_is : have.header.version ≡ (options_of info).version
   version_is =
       one_version bytes have.header
       (header_of bytes (drop 48 bytes) info.header (sym (take-append-drop 48 bytes) ∙ ap (λ bs. bs ++ drop 48 bytes) ends.header) ends.header_version)
 
-  pub whole : IsSame bytes info (layout_of files xorbs (form_of info)) (footer_value files xorbs (form_of info)) → Ascends file_records files → Ascends xorb_records xorbs → IsWhole bytes
+  pub whole : IsSame bytes info (layout_of files xorbs (options_of info)) (footer_value files xorbs (options_of info)) → Ascends file_records files → Ascends xorb_records xorbs → IsWhole bytes
   whole same files_ascend xorbs_ascend =
       let fit = sections_fit bytes files xorbs have in
       record {
         files = files;
         xorbs = xorbs;
-        form = form_of info;
+        options = options_of info;
         files_fit = subst (λ v. FitsSection (file_records_in v) files) version_is fit.0;
         xorbs_fit = fit.1;
         files_ascend = files_ascend;
@@ -235,23 +235,23 @@ module _ (bytes : List ℕ) (info : MDBShardInfo) (files : List MDBFileInfo) (xo
         key = ends.footer_widths.key;
         creation = ends.footer_widths.timestamps 0 0 (omega arith);
         expiry = ends.footer_widths.timestamps 1 0 (omega arith);
-        bytes_are = is_layout bytes info files xorbs (form_of info) ends (same.0 Footer) same.1 (same.0 Header) (same.0 FileSection) (same.0 XorbSection) (same.0 FileTable) (same.0 XorbTable)
+        bytes_are = is_layout bytes info files xorbs (options_of info) ends (same.0 Footer) same.1 (same.0 Header) (same.0 FileSection) (same.0 XorbSection) (same.0 FileTable) (same.0 XorbTable)
             (same.0 ChunkTable);
       }
 
 -- bytes with a header and a footer have a header
-abbrev pub header_in : (bytes : List ℕ) (info : MDBShardInfo) → HasEnds bytes info → HasHeader bytes
+abbrev pub header_in : (bytes : List ℕ) (info : MDBShardInfo) → HasHeaderAndFooter bytes info → HasHeader bytes
 header_in bytes info ends = header_of bytes (drop 48 bytes) info.header (sym (take-append-drop 48 bytes) ∙ ap (λ bs. bs ++ drop 48 bytes) ends.header) ends.header_version
 
 -- a report of bytes that can be read, from the findings on the order of each section and the differences
-module _ (bytes : List ℕ) (info : MDBShardInfo) (ends : HasEnds bytes info) where
+module _ (bytes : List ℕ) (info : MDBShardInfo) (ends : HasHeaderAndFooter bytes info) where
   module _ (fs xs : List DataHash) (files : List MDBFileInfo) (xorbs : List MDBXorbInfo) (have : HasSections bytes files xorbs)
       (fs_are : fs ≡ map (hash_in file_records) files) (xs_are : xs ≡ map (hash_in xorb_records) xorbs) where
     abbrev written_all : List ℕ
-    written_all = layout_of files xorbs (form_of info)
+    written_all = layout_of files xorbs (options_of info)
 
     abbrev footer_all : MDBShardFileFooter
-    footer_all = footer_value files xorbs (form_of info)
+    footer_all = footer_value files xorbs (options_of info)
 
     abbrev Disorder : Section → List DataHash → Finding → Type 0
     Disorder section hashes f = (n : ℕ) × (f ≡ OutOfOrder section n) × IsOutOfOrder n hashes
@@ -276,12 +276,12 @@ module _ (bytes : List ℕ) (info : MDBShardInfo) (ends : HasEnds bytes info) wh
       same_both : (gs ≡ files) × (ys ≡ xorbs)
       same_both = only_sections bytes gs files ys xorbs read.sections have
 
-      same_written : layout_of gs ys (form_of other) ≡ written_all
-      same_written = λ i. layout_of (same_both.0 i) (same_both.1 i) (form_of (same_info i))
+      same_written : layout_of gs ys (options_of other) ≡ written_all
+      same_written = λ i. layout_of (same_both.0 i) (same_both.1 i) (options_of (same_info i))
 
-      differs_too : (part : Part) → ¬ IsSamePart part bytes other (layout_of gs ys (form_of other)) (footer_value gs ys (form_of other)) → ¬ IsSamePart part bytes info written_all footer_all
+      differs_too : (part : Part) → ¬ IsSamePart part bytes other (layout_of gs ys (options_of other)) (footer_value gs ys (options_of other)) → ¬ IsSamePart part bytes info written_all footer_all
       differs_too part differs =
-          subst (λ p. p) (λ i. ¬ IsSamePart part bytes (same_info i) (same_written i) (footer_value (same_both.0 i) (same_both.1 i) (form_of (same_info i)))) differs
+          subst (λ p. p) (λ i. ¬ IsSamePart part bytes (same_info i) (same_written i) (footer_value (same_both.0 i) (same_both.1 i) (options_of (same_info i)))) differs
 
     from_finding : (f : Finding) → IsFinding bytes f → Any f
     from_finding (Unsupported reason) so = absurd (not_unsupported bytes info ends (unsupported_so bytes reason so))

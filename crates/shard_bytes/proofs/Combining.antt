@@ -6,7 +6,7 @@ use Rattle.xet_core_structures.specs.declared.shard_format.MDBShardInfo.{MDBShar
 use Rattle.xet_core_structures.specs.declared.source.MemorySource.{MemorySource}
 use Rattle.xet_core_structures.specs.Errors.{IsWriteError}
 use Rattle.xet_core_structures.specs.Source.{Source}
-use Rattle.xet_core_structures.specs.Ends.{HasEnds}
+use Rattle.xet_core_structures.specs.Ends.{HasHeaderAndFooter}
 use Rattle.xet_core_structures.specs.Shard.{Shard}
 use Rattle.xet_core_structures.specs.ByteResults.{keyed_layout, key_of, HaveResult, WritesResult, InputsFail}
 use Rattle.shard_bytes.proofs.MemoryErrors.{from_memory}
@@ -16,7 +16,7 @@ use Rattle.shard_bytes.specs.Combining.{CombinesBytes, NotCombined, CombiningRef
 abbrev pub in_memory : MemorySource → Source
 in_memory m = record { bytes = m.bytes.now; at = m.at; seeks = m.seeks.value; read = m.read.value; failures = 0; last_failure = None }
 
-module _ (x y x_read y_read : List ℕ) (i j : MDBShardInfo) (x_is : x_read ≡ x) (y_is : y_read ≡ y) (i_ends : HasEnds x i) (j_ends : HasEnds y j) where
+module _ (x y x_read y_read : List ℕ) (i j : MDBShardInfo) (x_is : x_read ≡ x) (y_is : y_read ≡ y) (i_ends : HasHeaderAndFooter x i) (j_ends : HasHeaderAndFooter y j) where
   pub bytes_combined : (IsResult : Shard → Shard → Shard → Type 0) (start out : List ℕ) (info : MDBShardInfo) → start ≡ []
       → WritesResult IsResult x_read i y_read j (Some start) (Some out) info → CombinesBytes IsResult x y out
   bytes_combined IsResult start out info empty (c, have, is, appends) = (

@@ -3,10 +3,10 @@ use Rattle.std.proofs.Common.{◌≡◌, inl, inr, ℕ, List, drop, refl, ap, su
 use Rattle.xet_core_structures.specs.declared.file_structs.MDBFileInfo.{MDBFileInfo}
 use Rattle.xet_core_structures.specs.declared.xorb_structs.MDBXorbInfo.{MDBXorbInfo}
 use Rattle.xet_core_structures.specs.declared.shard_format.MDBShardInfo.{MDBShardInfo}
-use Rattle.xet_core_structures.specs.Ends.{HasHeader, HasEnds, IsUnsupported, IsTooShort}
+use Rattle.xet_core_structures.specs.Ends.{HasHeader, HasHeaderAndFooter, IsUnsupported, IsTooShort}
 use Rattle.xet_core_structures.specs.FileRecord.{file_records_in}
 use Rattle.xet_core_structures.specs.KeyedExport.{xorbs_after}
-use Rattle.xet_core_structures.specs.SectionReading.{IsSection, IsRefusedSection, IsCutSection}
+use Rattle.xet_core_structures.specs.SectionReading.{IsSection, IsRefusedSection, IsTruncatedSection}
 use Rattle.xet_core_structures.specs.XorbRecord.{xorb_records}
 use Rattle.xet_core_structures.proofs.SectionWays.{one_way}
 use Rattle.xet_records.proofs.RecordKinds.{xorb_laws}
@@ -58,29 +58,29 @@ module _ (bytes : List ℕ) where
   only_too_short so (Size n) (info, files, xorbs, read, rest) = absurd (not_too_short bytes info read.ends so)
 
   -- after a header, in its version
-  module _ (info : MDBShardInfo) (ends : HasEnds bytes info) (header : HasHeader bytes) where
+  module _ (info : MDBShardInfo) (ends : HasHeaderAndFooter bytes info) (header : HasHeader bytes) where
     abbrev IsFiles : List MDBFileInfo → Type 0
     IsFiles = IsSection (file_records_in header.version) (drop 48 bytes)
 
     files_at : (other : HasHeader bytes) (files : List MDBFileInfo) → IsSection (file_records_in other.version) (drop 48 bytes) files → IsFiles files
     files_at other files there = subst (λ v. IsSection (file_records_in v) (drop 48 bytes) files) (one_version bytes other header) there
 
-    cut_at : (other : HasHeader bytes) → IsCutSection (file_records_in other.version) (drop 48 bytes) → IsCutSection (file_records_in header.version) (drop 48 bytes)
-    cut_at other cut = subst (λ v. IsCutSection (file_records_in v) (drop 48 bytes)) (one_version bytes other header) cut
+    cut_at : (other : HasHeader bytes) → IsTruncatedSection (file_records_in other.version) (drop 48 bytes) → IsTruncatedSection (file_records_in header.version) (drop 48 bytes)
+    cut_at other cut = subst (λ v. IsTruncatedSection (file_records_in v) (drop 48 bytes)) (one_version bytes other header) cut
 
     over_at : (other : HasHeader bytes) → IsRefusedSection (file_records_in other.version) (drop 48 bytes) → IsRefusedSection (file_records_in header.version) (drop 48 bytes)
     over_at other over = subst (λ v. IsRefusedSection (file_records_in v) (drop 48 bytes)) (one_version bytes other header) over
 
-    or_cut : (files : List MDBFileInfo) → IsFiles files → ¬ IsCutSection (file_records_in header.version) (drop 48 bytes)
+    or_cut : (files : List MDBFileInfo) → IsFiles files → ¬ IsTruncatedSection (file_records_in header.version) (drop 48 bytes)
     or_cut = section_or_cut (file_records_in header.version) (files_laws header.version) (drop 48 bytes)
 
     or_over : (files : List MDBFileInfo) → IsFiles files → ¬ IsRefusedSection (file_records_in header.version) (drop 48 bytes)
     or_over = section_or_passes (file_records_in header.version) (files_laws header.version) (drop 48 bytes)
 
-    cut_or_over : IsCutSection (file_records_in header.version) (drop 48 bytes) → ¬ IsRefusedSection (file_records_in header.version) (drop 48 bytes)
+    cut_or_over : IsTruncatedSection (file_records_in header.version) (drop 48 bytes) → ¬ IsRefusedSection (file_records_in header.version) (drop 48 bytes)
     cut_or_over = (one_way (file_records_in header.version) (files_laws header.version) (drop 48 bytes)).either
 
-    pub only_cut_files : IsCutSection (file_records_in header.version) (drop 48 bytes) → (g : Finding) → IsFinding bytes g → g ≡ Cut Files
+    pub only_cut_files : IsTruncatedSection (file_records_in header.version) (drop 48 bytes) → (g : Finding) → IsFinding bytes g → g ≡ Cut Files
     only_cut_files so (Unsupported reason) why = absurd (not_unsupported bytes info ends (unsupported_so bytes reason why))
     only_cut_files so TooShort other = absurd (not_too_short bytes info ends other)
     only_cut_files so (Cut Files) also = refl
@@ -110,16 +110,16 @@ module _ (bytes : List ℕ) where
       xorbs_at : (others : List MDBFileInfo) (xorbs : List MDBXorbInfo) → (have : HasSections bytes others xorbs) → IsSection xorb_records (drop (xorbs_after files) bytes) xorbs
       xorbs_at others xorbs have = subst (λ rs. IsSection xorb_records (drop (xorbs_after rs) bytes) xorbs) (same_files have.header others have.file_section) have.xorb_section
 
-      or_cut_xorbs : (xorbs : List MDBXorbInfo) → IsSection xorb_records (drop (xorbs_after files) bytes) xorbs → ¬ IsCutSection xorb_records (drop (xorbs_after files) bytes)
+      or_cut_xorbs : (xorbs : List MDBXorbInfo) → IsSection xorb_records (drop (xorbs_after files) bytes) xorbs → ¬ IsTruncatedSection xorb_records (drop (xorbs_after files) bytes)
       or_cut_xorbs = section_or_cut xorb_records xorb_laws (drop (xorbs_after files) bytes)
 
       or_over_xorbs : (xorbs : List MDBXorbInfo) → IsSection xorb_records (drop (xorbs_after files) bytes) xorbs → ¬ IsRefusedSection xorb_records (drop (xorbs_after files) bytes)
       or_over_xorbs = section_or_passes xorb_records xorb_laws (drop (xorbs_after files) bytes)
 
-      cut_or_over_xorbs : IsCutSection xorb_records (drop (xorbs_after files) bytes) → ¬ IsRefusedSection xorb_records (drop (xorbs_after files) bytes)
+      cut_or_over_xorbs : IsTruncatedSection xorb_records (drop (xorbs_after files) bytes) → ¬ IsRefusedSection xorb_records (drop (xorbs_after files) bytes)
       cut_or_over_xorbs = (one_way xorb_records xorb_laws (drop (xorbs_after files) bytes)).either
 
-      pub only_cut_xorbs : IsCutSection xorb_records (drop (xorbs_after files) bytes) → (g : Finding) → IsFinding bytes g → g ≡ Cut Xorbs
+      pub only_cut_xorbs : IsTruncatedSection xorb_records (drop (xorbs_after files) bytes) → (g : Finding) → IsFinding bytes g → g ≡ Cut Xorbs
       only_cut_xorbs so (Unsupported reason) why = absurd (not_unsupported bytes info ends (unsupported_so bytes reason why))
       only_cut_xorbs so TooShort other = absurd (not_too_short bytes info ends other)
       only_cut_xorbs so (Cut Files) (i, e, h, cut) = absurd (or_cut files there (cut_at h cut))
@@ -136,7 +136,7 @@ module _ (bytes : List ℕ) where
       only_refused_xorbs so TooShort other = absurd (not_too_short bytes info ends other)
       only_refused_xorbs so (Cut Files) (i, e, h, cut) = absurd (or_cut files there (cut_at h cut))
       only_refused_xorbs so (Cut Xorbs) (i, e, h, (others, section, cut)) =
-          absurd (cut_or_over_xorbs (subst (λ rs. IsCutSection xorb_records (drop (xorbs_after rs) bytes)) (same_files h others section) cut) so)
+          absurd (cut_or_over_xorbs (subst (λ rs. IsTruncatedSection xorb_records (drop (xorbs_after rs) bytes)) (same_files h others section) cut) so)
       only_refused_xorbs so (Refused Files) (i, e, h, over) = absurd (or_over files there (over_at h over))
       only_refused_xorbs so (Refused Xorbs) also = refl
       only_refused_xorbs so (OutOfOrder section n) (i, others, xorbs, read, rest) = absurd (or_over_xorbs xorbs (xorbs_at others xorbs read.sections) so)

@@ -7,14 +7,14 @@ use Rattle.std.proofs.lemmas.Bool.{cases_lt}
 use Rattle.std.proofs.lemmas.List.Elements.{Contains-push, Contains-append_left, Contains-append_right, Contains-append_cases, Contains-get_or}
 use Rattle.xet_core_structures.specs.declared.set_operations.MergePlan.{MergePlan}
 use Rattle.xet_core_structures.specs.declared.set_operations.MergePlan.TheVariants.{Leaf, Both'}
-use Rattle.xet_core_structures.specs.Held.{HoldsShard}
+use Rattle.xet_core_structures.specs.ShardContents.{HoldsShard}
 use Rattle.xet_core_structures.specs.Joins.{HasWhatAnyHas, IsJoinOf}
 use Rattle.xet_core_structures.specs.KeyedHash.{no_key}
 use Rattle.xet_core_structures.specs.MergeTrees.{leaves, HasUnion, InputIs, IsMerge}
 use Rattle.xet_core_structures.specs.Shard.{Shard, empty_shard}
 use Rattle.xet_shards.proofs.MappedShards.{mapped_member, unmapped_member}
 use Rattle.xet_core_structures.proofs.Zipped.{zipped_made}
-use Rattle.shard_bytes.specs.Merging.{IsBalanced, IsMergePlan, HaveJoin}
+use Rattle.shard_bytes.specs.Merging.{IsBalanced, IsMergePlan, IsMergeOfList}
 
 only_member : (i j : ℕ) → Contains (j ∷ []) i → j ≡ i
 only_member i j (zero, within, is) = is
@@ -101,7 +101,7 @@ within_any (x ∷ xs) zero d e below = refl
 within_any (x ∷ xs) (suc i) d e below = within_any xs i d e (omega (arith, below))
 
 -- a tree with each of the byte strings at a leaf merges them
-module _ (all : List Shard) (inputs : List (List ℕ)) (join : Shard) (have : HaveJoin inputs all join) (plan : MergePlan) (covers : Covers (length inputs) plan) where
+module _ (all : List Shard) (inputs : List (List ℕ)) (join : Shard) (have : IsMergeOfList inputs all join) (plan : MergePlan) (covers : Covers (length inputs) plan) where
   abbrev shard_at : ℕ → Shard
   shard_at i = get_or all i empty_shard
 

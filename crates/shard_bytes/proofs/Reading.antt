@@ -5,10 +5,10 @@ use Rattle.xet_core_structures.specs.declared.file_structs.MDBFileInfo.{MDBFileI
 use Rattle.xet_core_structures.specs.declared.xorb_structs.MDBXorbInfo.{MDBXorbInfo}
 use Rattle.xet_core_structures.specs.declared.xorb_structs.XorbChunkSequenceHeader.{XorbChunkSequenceHeader}
 use Rattle.xet_core_structures.specs.declared.shard_format.MDBShardInfo.{MDBShardInfo}
-use Rattle.xet_core_structures.specs.Ends.{HasHeader, HasEnds}
+use Rattle.xet_core_structures.specs.Ends.{HasHeader, HasHeaderAndFooter}
 use Rattle.xet_core_structures.specs.FileRecord.{file_records, file_records_in}
 use Rattle.xet_core_structures.specs.KeyedExport.{xorbs_after, BadSection}
-use Rattle.xet_core_structures.specs.SectionReading.{IsSection, IsRefusedSection, IsCutSection, TakesNoSection}
+use Rattle.xet_core_structures.specs.SectionReading.{IsSection, IsRefusedSection, IsTruncatedSection, SectionNotStreamed}
 use Rattle.xet_core_structures.specs.Source.{Source, DeviceFailure, FailedBy, bytes_left, moved}
 use Rattle.xet_core_structures.specs.XorbRecord.{xorb_records}
 use Rattle.xet_records.proofs.RecordKinds.{xorb_laws}
@@ -38,13 +38,13 @@ abbrev pub source_of : List ℕ → Source
 source_of bytes = record { bytes = bytes; at = 0; seeks = 0; read = 0; failures = 0; last_failure = None }
 
 -- the file section is not read
-pub files_unread : (bytes : List ℕ) (info : MDBShardInfo) (old new : Source) (e : CoreError) (findings : List Finding) → HasEnds bytes info → old ≡ source_of bytes → ¬ DeviceFailure old new e
+pub files_unread : (bytes : List ℕ) (info : MDBShardInfo) (old new : Source) (e : CoreError) (findings : List Finding) → HasHeaderAndFooter bytes info → old ≡ source_of bytes → ¬ DeviceFailure old new e
     → FileRangesFail old new e → IsUnreadable Files e findings → IsReport bytes findings
 files_unread bytes info old new e findings ends start works fails unreadable =
     let left : bytes_left old ≡ bytes = ap bytes_left start in
     let header = subst HasHeader (sym left) (header_in bytes info ends) in
     let why = subst (λ bs. (h : HasHeader bs) × BadSection (file_records_in h.version) (drop 48 bs) e) left (header, files_refused old new e header works fails) in
-    unread Files bytes (drop 48 bytes) (IsRefusedSection (file_records_in why.0.version)) (IsCutSection (file_records_in why.0.version)) e findings why.1 unreadable (λ over. ((info, ends, why.0, over), only_refused_files bytes info ends why.0 over))
+    unread Files bytes (drop 48 bytes) (IsRefusedSection (file_records_in why.0.version)) (IsTruncatedSection (file_records_in why.0.version)) e findings why.1 unreadable (λ over. ((info, ends, why.0, over), only_refused_files bytes info ends why.0 over))
     (λ cut. ((info, ends, why.0, cut), only_cut_files bytes info ends why.0 cut))
 
 -- after the file section, from the position where it ends
@@ -63,14 +63,14 @@ module _ (bytes : List ℕ) (s0 s1 s2 : Source) (found : List FileRanges) (n : �
       let same : s2.bytes ≡ bytes = ap (λ (s : Source). s.bytes) s2_is ∙ ap (λ (s : Source). s.bytes) hashes.after ∙ ap (λ (s : Source). s.bytes) start in
       λ i. drop (at i) (same i)
 
-  pub xorbs_unread : (info : MDBShardInfo) → HasEnds bytes info → (new : Source) (e : CoreError) (findings : List Finding) → ¬ DeviceFailure (moved s2 n) new e → TakesNoSection xorb_records (moved s2 n) new e → IsUnreadable Xorbs e findings
+  pub xorbs_unread : (info : MDBShardInfo) → HasHeaderAndFooter bytes info → (new : Source) (e : CoreError) (findings : List Finding) → ¬ DeviceFailure (moved s2 n) new e → SectionNotStreamed xorb_records (moved s2 n) new e → IsUnreadable Xorbs e findings
       → IsReport bytes findings
   xorbs_unread info ends new e findings works fails unreadable = by_cause fails.cause
     where
       by_cause : FailedBy (BadSection xorb_records (bytes_left (moved s2 n))) (moved s2 n) new e → IsReport bytes findings
       by_cause (inl failed) = absurd (works failed)
       by_cause (inr (same, bad)) =
-          unread Xorbs bytes (drop (xorbs_after hashes.files) bytes) (IsRefusedSection xorb_records) (IsCutSection xorb_records) e findings (subst (λ bs. BadSection xorb_records bs e) xorbs_left bad) unreadable
+          unread Xorbs bytes (drop (xorbs_after hashes.files) bytes) (IsRefusedSection xorb_records) (IsTruncatedSection xorb_records) e findings (subst (λ bs. BadSection xorb_records bs e) xorbs_left bad) unreadable
           (λ over. ((info, ends, file_part.0, (hashes.files, file_part.1, over)), only_refused_xorbs bytes info ends file_part.0 hashes.files file_part.1 over))
           (λ cut. ((info, ends, file_part.0, (hashes.files, file_part.1, cut)), only_cut_xorbs bytes info ends file_part.0 hashes.files file_part.1 cut))
 

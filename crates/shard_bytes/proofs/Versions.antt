@@ -5,41 +5,41 @@ use Rattle.xet_core_structures.specs.declared.error.CoreError.TheVariants.{Inval
 use Rattle.xet_core_structures.specs.declared.file_structs.MDBFileInfo.{MDBFileInfo}
 use Rattle.xet_core_structures.specs.declared.shard_format.MDBShardFileFooter.{MDBShardFileFooter}
 use Rattle.xet_core_structures.specs.declared.shard_format.MDBShardInfo.{MDBShardInfo}
-use Rattle.xet_core_structures.specs.Ends.{HasEnds}
+use Rattle.xet_core_structures.specs.Ends.{HasHeaderAndFooter}
 use Rattle.xet_core_structures.specs.Errors.{IsWriteError}
-use Rattle.xet_core_structures.specs.FileRecord.{handed_out, has_aux_ext}
+use Rattle.xet_core_structures.specs.FileRecord.{as_read, has_aux_ext}
 use Rattle.xet_core_structures.specs.KeyedExport.{ExportCase, ExportFails}
 use Rattle.xet_core_structures.specs.Layout.{layout_of}
 use Rattle.xet_core_structures.specs.SectionReading.{IsSection, ReadsSection, files_of}
 use Rattle.xet_core_structures.specs.Source.{Source, FailedBy, bytes_left, moved}
 use Rattle.xet_shards.specs.Rewriting.{HasSections, WritesAgain}
 use Rattle.xet_shards.proofs.WholeSections.{same_files}
-use Rattle.shard_bytes.specs.Versions.{have_aux_rows, form_in_2, IsInVersion2, NotInVersion2, RefusesVersion2, FindsAuxRows}
+use Rattle.shard_bytes.specs.Versions.{have_aux_rows, options_in_2, IsInVersion2, NotInVersion2, RefusesVersion2, FindsAuxRows}
 use Rattle.shard_bytes.proofs.Checking.{header_in}
 use Rattle.shard_bytes.proofs.MemoryErrors.{from_memory}
 use Rattle.shard_bytes.proofs.Reading.{source_of}
 
--- files keep their flags as they are handed out
-same_aux_rows : (files : List MDBFileInfo) → have_aux_rows (map handed_out files) ≡ have_aux_rows files
+-- files keep their flags as they are returned
+same_aux_rows : (files : List MDBFileInfo) → have_aux_rows (map as_read files) ≡ have_aux_rows files
 same_aux_rows [] = refl
 same_aux_rows (r ∷ rs) = λ i. has_aux_ext r.metadata.file_flags || same_aux_rows rs i
 
 -- what the file section after the header has
-pub aux_rows_found : (bytes : List ℕ) (info : MDBShardInfo) (old new : Source) (files : List MDBFileInfo) → HasEnds bytes info → old ≡ source_of bytes → ReadsSection (files_of info) old new 48 files → FindsAuxRows bytes (have_aux_rows files)
+pub aux_rows_found : (bytes : List ℕ) (info : MDBShardInfo) (old new : Source) (files : List MDBFileInfo) → HasHeaderAndFooter bytes info → old ≡ source_of bytes → ReadsSection (files_of info) old new 48 files → FindsAuxRows bytes (have_aux_rows files)
 aux_rows_found bytes info old new files ends start read =
     let left : bytes_left (moved old 48) ≡ drop 48 bytes = ap (λ (s : Source). drop 48 s.bytes) start in (
       header_in bytes info ends,
       read.stored,
       subst (λ bs. IsSection (files_of info) bs read.stored) left read.section,
-      ap have_aux_rows (sym read.handed) ∙ same_aux_rows read.stored,
+      ap have_aux_rows (sym read.returned) ∙ same_aux_rows read.stored,
     )
 
 -- a shard was written again in version 2
-module _ (bytes : List ℕ) (info : MDBShardInfo) (ends : HasEnds bytes info) (old : Source) (start : old ≡ source_of bytes) where
+module _ (bytes : List ℕ) (info : MDBShardInfo) (ends : HasHeaderAndFooter bytes info) (old : Source) (start : old ≡ source_of bytes) where
   left : bytes_left old ≡ bytes
   left = ap bytes_left start
 
-  module _ (empty out : List ℕ) (footer : MDBShardFileFooter) (none : empty ≡ []) (again : WritesAgain (form_in_2 info) old (Some empty) (Some out) footer) where
+  module _ (empty out : List ℕ) (footer : MDBShardFileFooter) (none : empty ≡ []) (again : WritesAgain (options_in_2 info) old (Some empty) (Some out) footer) where
     have : HasSections bytes again.files again.xorbs
     have = subst (λ bs. HasSections bs again.files again.xorbs) left again.sections
 
@@ -53,7 +53,7 @@ module _ (bytes : List ℕ) (info : MDBShardInfo) (ends : HasEnds bytes info) (o
       xorbs = again.xorbs;
       read = record { ends = ends; sections = have };
       none = sym (same_rows false finds);
-      written = again.written ∙ ap (λ zs. zs ++ layout_of again.files again.xorbs (form_in_2 info)) none;
+      written = again.written ∙ ap (λ zs. zs ++ layout_of again.files again.xorbs (options_in_2 info)) none;
     }
 
     pub not_in_2 : FindsAuxRows bytes true → RefusesVersion2 bytes InvalidArguments

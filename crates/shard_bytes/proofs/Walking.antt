@@ -6,7 +6,7 @@ use Rattle.xet_core_structures.specs.declared.error.CoreError.TheVariants.{Inter
 use Rattle.xet_core_structures.specs.declared.shard_format.MDBShardInfo.{MDBShardInfo}
 use Rattle.xet_core_structures.specs.declared.source.MemorySource.{MemorySource}
 use Rattle.xet_core_structures.specs.ByteResults.{LoadRefusal}
-use Rattle.xet_core_structures.specs.Ends.{HasEnds}
+use Rattle.xet_core_structures.specs.Ends.{HasHeaderAndFooter}
 use Rattle.xet_core_structures.specs.Errors.{CoreResult, variant_number}
 use Rattle.xet_core_structures.specs.Lookup.{RecordAt, row_at, InfoRefusal, ReadsInfo, ReadInfoFails}
 use Rattle.xet_core_structures.specs.SectionReading.{SectionCase, BeginsWithBookend, BeginsRefused, EndsEarly}
@@ -53,7 +53,7 @@ module _ {H R : Type 0} (K : RecordKind H R) (bytes : List ℕ) (offset row : �
   at_row (Err e) found fails is = subst (λ f. MatchResult f (IsAtRow K bytes offset row) (NotAtRow K bytes offset row)) (sym is) (not_here e (omega arith) fails.cause)
 
 -- what is said with a header and a footer is said of bytes that have them
-pub found_with_ends : {T : Type 0} (bytes : List ℕ) (info : MDBShardInfo) → HasEnds bytes info → (Is : MDBShardInfo → T → Type 0) (No : MDBShardInfo → CoreError → Type 0) (found : CoreResult T)
+pub found_with_ends : {T : Type 0} (bytes : List ℕ) (info : MDBShardInfo) → HasHeaderAndFooter bytes info → (Is : MDBShardInfo → T → Type 0) (No : MDBShardInfo → CoreError → Type 0) (found : CoreResult T)
     → MatchResult found (Is info) (No info) → MatchResult found (λ v. WithEnds bytes (λ i. Is i v)) (λ e. LoadRefusal bytes e ⊎ WithEnds bytes (λ i. No i e))
 found_with_ends bytes info ends Is No (Ok v) is = (info, ends, is)
 found_with_ends bytes info ends Is No (Err e) refused = inr (info, ends, refused)

@@ -8,7 +8,7 @@ use Rattle.xet_core_structures.specs.declared.file_structs.MDBFileInfo.{MDBFileI
 use Rattle.xet_core_structures.specs.declared.merklehash.DataHash.{DataHash}
 use Rattle.xet_core_structures.specs.declared.shard_format.MDBShardInfo.{MDBShardInfo}
 use Rattle.xet_core_structures.specs.declared.source.MemorySource.{MemorySource}
-use Rattle.xet_core_structures.specs.Ends.{HasEnds, Loads}
+use Rattle.xet_core_structures.specs.Ends.{HasHeaderAndFooter, Loads}
 use Rattle.xet_core_structures.specs.FileRecord.{file_records}
 use Rattle.xet_core_structures.specs.Lookup.{FoundInShard, LookupFailsAmong}
 use Rattle.xet_core_structures.specs.Shard.{Shard}
@@ -21,7 +21,7 @@ use Rattle.shard_bytes.proofs.Combining.{in_memory}
 pub as_written : (s : Shard) (bytes : List ℕ) (old new : Source) (info : MDBShardInfo) → IsBytesOf s bytes → old.bytes ≡ bytes → Loads old new info → IsBytesWithInfo s new.bytes info
 as_written s bytes old new info is same loads = record {
   is_bytes = subst (IsBytesOf s) (sym (loads.bytes ∙ same)) is;
-  ends = subst (λ bs. HasEnds bs info) (sym loads.bytes) loads.ends;
+  ends = subst (λ bs. HasHeaderAndFooter bs info) (sym loads.bytes) loads.ends;
 }
 
 -- a source in memory does not fail

@@ -11,17 +11,17 @@ use Rattle.xet_core_structures.specs.declared.xorb_structs.MDBXorbInfo.{MDBXorbI
 use Rattle.xet_core_structures.specs.declared.merklehash.DataHash.{DataHash}
 use Rattle.xet_core_structures.specs.declared.shard_format.MDBShardFileFooter.{MDBShardFileFooter}
 use Rattle.xet_core_structures.specs.declared.shard_format.MDBShardInfo.{MDBShardInfo}
-use Rattle.xet_core_structures.specs.Ends.{HasHeader, HasEnds, IsTooShort}
+use Rattle.xet_core_structures.specs.Ends.{HasHeader, HasHeaderAndFooter, IsTooShort}
 use Rattle.xet_core_structures.specs.Errors.{IsInvalidShard}
 use Rattle.xet_core_structures.specs.FileRecord.{file_records, file_records_in}
 use Rattle.xet_core_structures.specs.Hash.{IsHash, hash_cmp}
-use Rattle.xet_core_structures.specs.InForm.{FitsSection, Ascends}
+use Rattle.xet_core_structures.specs.WithOptions.{FitsSection, Ascends}
 use Rattle.xet_core_structures.specs.KeyedExport.{xorbs_after}
 use Rattle.xet_core_structures.specs.Layout.{footer_value, layout_of}
-use Rattle.xet_core_structures.specs.SectionReading.{IsSection, IsRefusedSection, IsCutSection}
+use Rattle.xet_core_structures.specs.SectionReading.{IsSection, IsRefusedSection, IsTruncatedSection}
 use Rattle.xet_core_structures.specs.XorbRecord.{xorb_records}
-use Rattle.xet_shards.specs.declared.shard_writer.Form.{Form}
-use Rattle.xet_shards.specs.Rewriting.{HasSections, form_of}
+use Rattle.xet_shards.specs.declared.shard_writer.LayoutOptions.{LayoutOptions}
+use Rattle.xet_shards.specs.Rewriting.{HasSections, options_of}
 use Rattle.xet_shards.specs.Tables.{hash_in}
 use Rattle.shard_bytes.specs.declared.format.Format.{Format}
 use Rattle.shard_bytes.specs.Format.{IsUnsupportedFor}
@@ -32,26 +32,26 @@ use Rattle.shard_bytes.specs.declared.check.Part.TheVariants.{Header, FileSectio
 use Rattle.shard_bytes.specs.declared.check.Finding.{Finding}
 use Rattle.shard_bytes.specs.declared.check.Finding.TheVariants.{Unsupported, TooShort, Cut, Refused, OutOfOrder, Differs, Size}
 
--- the bytes are the layout, in a form, of files and xorbs that sections may hold and whose hashes
--- strictly ascend
+-- the bytes are the layout, with layout options, of files and xorbs that sections may hold and
+-- whose hashes strictly ascend
 pub record IsWhole (bytes : List ℕ) : Type 0 where
   pub files : List MDBFileInfo
   pub xorbs : List MDBXorbInfo
-  pub form : Form
-  -- the files may be written as a section in the version of the form
-  pub files_fit : FitsSection (file_records_in form.version) files
+  pub options : LayoutOptions
+  -- the files may be written as a section in the version of the options
+  pub files_fit : FitsSection (file_records_in options.version) files
   pub xorbs_fit : FitsSection xorb_records xorbs
   pub files_ascend : Ascends file_records files
   pub xorbs_ascend : Ascends xorb_records xorbs
-  pub key : IsHash form.key
-  pub creation : form.creation < 2 ^ 64
-  pub expiry : form.expiry < 2 ^ 64
-  pub bytes_are : bytes ≡ layout_of files xorbs form
+  pub key : IsHash options.key
+  pub creation : options.creation < 2 ^ 64
+  pub expiry : options.expiry < 2 ^ 64
+  pub bytes_are : bytes ≡ layout_of files xorbs options
 
 -- the bytes can be read: they have a header and a footer, and the sections of these records
 pub record IsReadAs (bytes : List ℕ) (info : MDBShardInfo) (files : List MDBFileInfo)
     (xorbs : List MDBXorbInfo) : Type 0 where
-  pub ends : HasEnds bytes info
+  pub ends : HasHeaderAndFooter bytes info
   pub sections : HasSections bytes files xorbs
 
 -- the hash at an index is the first that is not greater than the one before it
@@ -92,7 +92,7 @@ IsSamePart Footer bytes info written f = info.metadata ≡ f
 -- the bytes have a header and a footer, and this is said with the header
 abbrev pub AfterHeader : (bytes : List ℕ) → (HasHeader bytes → Type 0) → Type 0
 AfterHeader bytes Says =
-    (info : MDBShardInfo) × HasEnds bytes info × (header : HasHeader bytes) × Says header
+    (info : MDBShardInfo) × HasHeaderAndFooter bytes info × (header : HasHeader bytes) × Says header
 
 -- the file section can be read too, and this is said of the bytes after it
 abbrev pub AfterFiles : (List ℕ → Type 0) → List ℕ → Type 0
@@ -114,8 +114,8 @@ abbrev pub IsFinding : List ℕ → Finding → Type 0
 IsFinding bytes (Unsupported reason) = IsUnsupportedFor bytes reason
 IsFinding bytes TooShort = IsTooShort bytes
 IsFinding bytes (Cut Files) =
-    AfterHeader bytes (λ header. IsCutSection (file_records_in header.version) (drop 48 bytes))
-IsFinding bytes (Cut Xorbs) = AfterFiles (IsCutSection xorb_records) bytes
+    AfterHeader bytes (λ header. IsTruncatedSection (file_records_in header.version) (drop 48 bytes))
+IsFinding bytes (Cut Xorbs) = AfterFiles (IsTruncatedSection xorb_records) bytes
 IsFinding bytes (Refused Files) =
     AfterHeader bytes (λ header. IsRefusedSection (file_records_in header.version) (drop 48 bytes))
 IsFinding bytes (Refused Xorbs) = AfterFiles (IsRefusedSection xorb_records) bytes
@@ -124,13 +124,13 @@ IsFinding bytes (OutOfOrder section n) =
 IsFinding bytes (Differs part) =
     WhereRead
     (λ info files xorbs.
-    ¬ IsSamePart part bytes info (layout_of files xorbs (form_of info))
-    (footer_value files xorbs (form_of info)))
+    ¬ IsSamePart part bytes info (layout_of files xorbs (options_of info))
+    (footer_value files xorbs (options_of info)))
     bytes
 IsFinding bytes (Size n) =
     WhereRead
     (λ info files xorbs.
-    (n ≡ length (layout_of files xorbs (form_of info))) × (length bytes ≢ n))
+    (n ≡ length (layout_of files xorbs (options_of info))) × (length bytes ≢ n))
     bytes
 
 -- these are all findings that are true of the bytes, and there is none only if the bytes are whole
@@ -200,5 +200,5 @@ Compares bytes info written footer =
 abbrev pub AddsDifferences : List ℕ → MDBShardInfo → List Finding → List Finding → Type 0
 AddsDifferences bytes info old new =
     (files : List MDBFileInfo) × (xorbs : List MDBXorbInfo) × HasSections bytes files xorbs
-    × Compares bytes info (layout_of files xorbs (form_of info))
-    (footer_value files xorbs (form_of info)) old new
+    × Compares bytes info (layout_of files xorbs (options_of info))
+    (footer_value files xorbs (options_of info)) old new

@@ -2,7 +2,7 @@
 use Rattle.std.specs.Prelude.{◌≡◌, ◌⊎◌, ℕ, List}
 use Rattle.xet_core_structures.specs.declared.error.CoreError.{CoreError}
 use Rattle.xet_core_structures.specs.declared.shard_format.MDBShardInfo.{MDBShardInfo}
-use Rattle.xet_core_structures.specs.Ends.{HasEnds}
+use Rattle.xet_core_structures.specs.Ends.{HasHeaderAndFooter}
 use Rattle.xet_core_structures.specs.Shard.{Shard}
 use Rattle.xet_core_structures.specs.SetOperations.{IsDifference}
 use Rattle.xet_core_structures.specs.ByteUnion.{IsByteUnion}
@@ -25,7 +25,7 @@ RefusalOf Difference = DifferenceRefusal
 -- the bytes of the result for what two byte strings hold, each with its own header and footer
 abbrev pub CombinesBytes : (Shard → Shard → Shard → Type 0) → List ℕ → List ℕ → List ℕ → Type 0
 CombinesBytes IsResult x y out =
-    (i j : MDBShardInfo) × (c : Shard) × HasEnds x i × HasEnds y j × HaveResult IsResult x i y j c
+    (i j : MDBShardInfo) × (c : Shard) × HasHeaderAndFooter x i × HasHeaderAndFooter y j × HaveResult IsResult x i y j c
     × (out ≡ keyed_layout c (key_of i))
 
 -- why two byte strings are not combined, apart from a failed allocation: a header or a footer is
@@ -33,8 +33,8 @@ CombinesBytes IsResult x y out =
 abbrev pub NotCombined : (List ℕ → MDBShardInfo → List ℕ → MDBShardInfo → CoreError → Type 0)
     → List ℕ → List ℕ → CoreError → Type 0
 NotCombined Refusal x y e =
-    LoadRefusal x e ⊎ ((i : MDBShardInfo) × HasEnds x i × LoadRefusal y e)
-    ⊎ ((i j : MDBShardInfo) × HasEnds x i × HasEnds y j × Refusal x i y j e)
+    LoadRefusal x e ⊎ ((i : MDBShardInfo) × HasHeaderAndFooter x i × LoadRefusal y e)
+    ⊎ ((i j : MDBShardInfo) × HasHeaderAndFooter x i × HasHeaderAndFooter y j × Refusal x i y j e)
 
 -- why two byte strings in memory are not combined: an allocation failed, a header or a footer is
 -- not read, or there is no result

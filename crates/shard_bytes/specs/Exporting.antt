@@ -5,10 +5,10 @@ use Rattle.xet_core_structures.specs.declared.error.CoreError.TheVariants.{Inval
 use Rattle.xet_core_structures.specs.declared.file_structs.MDBFileInfo.{MDBFileInfo}
 use Rattle.xet_core_structures.specs.declared.xorb_structs.MDBXorbInfo.{MDBXorbInfo}
 use Rattle.xet_core_structures.specs.declared.shard_format.MDBShardInfo.{MDBShardInfo}
-use Rattle.xet_core_structures.specs.Ends.{HasHeader, HasEnds}
+use Rattle.xet_core_structures.specs.Ends.{HasHeader, HasHeaderAndFooter}
 use Rattle.xet_core_structures.specs.FileRecord.{file_records_in}
 use Rattle.xet_core_structures.specs.XorbRecord.{xorb_records}
-use Rattle.xet_core_structures.specs.KeyedExport.{ExportsWith, export_form, exported, xorbs_after, ExportCase, CannotExport}
+use Rattle.xet_core_structures.specs.KeyedExport.{ExportsWith, export_options, exported, xorbs_after, ExportCase, CannotExport}
 use Rattle.xet_core_structures.specs.SectionReading.{IsSection}
 use Rattle.xet_core_structures.specs.Source.{Source}
 use Rattle.xet_core_structures.specs.View.{auxes_as_wanted}
@@ -20,14 +20,14 @@ use Rattle.shard_bytes.specs.Outcomes.{InMemory}
 abbrev pub WritesExport : Export → Source → Source → Option (List ℕ) → Option (List ℕ) → ℕ → Type 0
 WritesExport x =
     ExportsWith x.parts.aux_ext
-    (export_form x.key x.now x.valid_seconds x.parts.files x.parts.xorb_table x.parts.chunk_table)
+    (export_options x.key x.now x.valid_seconds x.parts.files x.parts.xorb_table x.parts.chunk_table)
 
 -- the bytes have a footer with which the shard can be exported, a header and both sections, and
--- what these hold is written in the form that is asked for, with the files' auxiliary rows or
--- without
+-- what these hold is written with the layout options that is asked for, with the files' auxiliary
+-- rows or without
 pub record ExportsBytes (x : Export) (bytes out : List ℕ) : Type 0 where
   pub info : MDBShardInfo
-  pub ends : HasEnds bytes info
+  pub ends : HasHeaderAndFooter bytes info
   -- the shard can be exported with this footer
   pub can : ¬ CannotExport info x.now x.valid_seconds
   pub files : List MDBFileInfo
@@ -37,9 +37,9 @@ pub record ExportsBytes (x : Export) (bytes out : List ℕ) : Type 0 where
   pub file_section : IsSection (file_records_in header.version) (drop 48 bytes) files
   -- the xorb section comes after the file section
   pub xorb_section : IsSection xorb_records (drop (xorbs_after files) bytes) xorbs
-  -- what is written is the layout in the form that is asked for
+  -- what is written is the layout with the layout options that is asked for
   pub written : out ≡ exported (auxes_as_wanted x.parts.aux_ext files) xorbs
-      (export_form x.key x.now x.valid_seconds x.parts.files x.parts.xorb_table
+      (export_options x.key x.now x.valid_seconds x.parts.files x.parts.xorb_table
       x.parts.chunk_table)
 
 -- why bytes are not exported: header and footer are not read; or with this footer the shard cannot
@@ -47,7 +47,7 @@ pub record ExportsBytes (x : Export) (bytes out : List ℕ) : Type 0 where
 abbrev pub NotExported : Export → List ℕ → CoreError → Type 0
 NotExported x bytes e =
     LoadRefusal bytes e
-    ⊎ ((i : MDBShardInfo) × HasEnds bytes i
+    ⊎ ((i : MDBShardInfo) × HasHeaderAndFooter bytes i
     × (((e ≡ InvalidArguments) × CannotExport i x.now x.valid_seconds)
     ⊎ ((¬ CannotExport i x.now x.valid_seconds) × ExportCase bytes e)))
 

@@ -6,7 +6,7 @@ use Rattle.xet_core_structures.specs.declared.error.CoreError.TheVariants.{OutOf
 use Rattle.xet_core_structures.specs.declared.file_structs.MDBFileInfo.{MDBFileInfo}
 use Rattle.xet_core_structures.specs.declared.merklehash.DataHash.{DataHash}
 use Rattle.xet_core_structures.specs.ByteResults.{LoadRefusal}
-use Rattle.xet_core_structures.specs.Lookup.{Finding, FindingFails, file_table, sharing}
+use Rattle.xet_core_structures.specs.Lookup.{FindsRecord, FindRecordFails, file_table, with_first_word}
 use Rattle.xet_core_structures.specs.FileRecord.{file_records}
 use Rattle.xet_core_structures.specs.SectionReading.{files_of}
 use Rattle.xet_core_structures.specs.Shard.{Shard}
@@ -17,7 +17,7 @@ use Rattle.shard_bytes.specs.Outcomes.{HasOutcome}
 abbrev pub FindsFile : List ℕ → DataHash → Option MDBFileInfo → Type 0
 FindsFile bytes hash found =
     HasOutcome bytes
-    (λ info before after. Finding (files_of info) (file_table info.metadata before)
+    (λ info before after. FindsRecord (files_of info) (file_table info.metadata before)
     info.metadata.file_info_offset hash before after found)
 
 -- header and footer are not read, or the lookup is refused
@@ -25,13 +25,13 @@ abbrev pub RefusesFile : List ℕ → DataHash → CoreError → Type 0
 RefusesFile bytes hash e =
     LoadRefusal bytes e
     ⊎ HasOutcome bytes
-    (λ info before after. FindingFails (files_of info) (file_table info.metadata before)
+    (λ info before after. FindRecordFails (files_of info) (file_table info.metadata before)
     info.metadata.file_info_offset hash before after e)
 
 -- why a file is not found in the bytes of a shard in memory: an allocation failed, if fewer than
 -- eight files share the first word, or eight or more do
 abbrev pub NotFoundInShard : Shard → DataHash → CoreError → Type 0
 NotFoundInShard s hash e =
-    ((e ≡ OutOfMemory) × (length (sharing file_records hash.word0 (values s.files)) < 8))
+    ((e ≡ OutOfMemory) × (length (with_first_word file_records hash.word0 (values s.files)) < 8))
     ⊎ ((e ≡ TruncatedHashCollision hash.word0)
-    × (8 ≤ length (sharing file_records hash.word0 (values s.files))))
+    × (8 ≤ length (with_first_word file_records hash.word0 (values s.files))))

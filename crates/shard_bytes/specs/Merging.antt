@@ -5,7 +5,7 @@ use Rattle.xet_core_structures.specs.declared.error.CoreError.{CoreError}
 use Rattle.xet_core_structures.specs.declared.error.CoreError.TheVariants.{InvalidArguments, OutOfMemory}
 use Rattle.xet_core_structures.specs.declared.set_operations.MergePlan.{MergePlan}
 use Rattle.xet_core_structures.specs.declared.set_operations.MergePlan.TheVariants.{Leaf, Both'}
-use Rattle.xet_core_structures.specs.Held.{HoldsShard}
+use Rattle.xet_core_structures.specs.ShardContents.{HoldsShard}
 use Rattle.xet_core_structures.specs.Joins.{IsJoinOf, AgreePairwise}
 use Rattle.xet_core_structures.specs.KeyedHash.{no_key}
 use Rattle.xet_core_structures.specs.MergeTrees.{TreeWrites, TreeRefusal}
@@ -42,7 +42,7 @@ RefusesMerge inputs e =
 
 -- the byte strings hold these shards, without a key; there is at least one, each two of the shards
 -- agree, and this is their join
-pub record HaveJoin (inputs : List (List ℕ)) (shards : List Shard) (join : Shard) : Type 0 where
+pub record IsMergeOfList (inputs : List (List ℕ)) (shards : List Shard) (join : Shard) : Type 0 where
   pub some : 0 < length inputs
   pub are_held : AllZip (HoldsShard no_key) shards inputs
   pub agree : AgreePairwise (Contains shards)

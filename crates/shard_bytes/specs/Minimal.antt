@@ -10,7 +10,7 @@ use Rattle.xet_core_structures.specs.Errors.{IsWriteError}
 use Rattle.xet_core_structures.specs.Input.{ReaderFails}
 use Rattle.xet_core_structures.specs.Layout.{layout_of}
 use Rattle.xet_core_structures.specs.MinimalReading.{ReadsMinimal, MinimalFails, ReaderHeaderFails}
-use Rattle.xet_core_structures.specs.MinimalShard.{MinimalShard, mark_starts, is_start, minimal_form, eligible_hashes, IsKept}
+use Rattle.xet_core_structures.specs.MinimalShard.{MinimalShard, mark_starts, is_start, minimal_options, eligible_hashes, IsKept}
 use Rattle.xet_core_structures.specs.Shard.{xorb_hash_of}
 use Rattle.xet_core_structures.specs.View.{as_kept, LacksVerification}
 use Rattle.shard_bytes.specs.Outcomes.{InMemory}
@@ -40,7 +40,7 @@ MinimalBytes kept now bytes out =
     (m : MinimalShard) × HoldsMinimal bytes m
     × (¬ Any (LacksVerification kept.verification) m.files)
     × (out ≡ layout_of (map (as_kept kept) m.files)
-    (map (mark_starts (is_start m.files)) m.xorbs) (minimal_form now None))
+    (map (mark_starts (is_start m.files)) m.xorbs) (minimal_options now None))
 
 -- whether a subset keeps a xorb of this hash
 abbrev pub Keeps : KeptXorbs → DataHash → Type 0
@@ -76,7 +76,7 @@ SubsetBytes subset bytes out =
     (m : MinimalShard) × (kept : List MDBXorbInfo) × HoldsMinimal bytes m
     × IsKept (λ x accepted. IsTrue accepted ↔ Keeps subset.kept (xorb_hash_of x)) m.xorbs kept
     × (out ≡ layout_of [] (map (mark_starts (is_start m.files)) kept)
-    (minimal_form subset.now subset.expiry))
+    (minimal_options subset.now subset.expiry))
 
 -- the hashes of the eligible chunks of the bytes
 abbrev pub EligibleIn : List ℕ → List DataHash → Type 0

@@ -4,7 +4,7 @@ use Rattle.xet_core_structures.specs.declared.error.CoreError.{CoreError}
 use Rattle.xet_core_structures.specs.declared.error.CoreError.TheVariants.{OutOfMemory}
 use Rattle.xet_core_structures.specs.Errors.{IsWriteError}
 use Rattle.xet_core_structures.specs.declared.shard_format.MDBShardInfo.{MDBShardInfo}
-use Rattle.xet_core_structures.specs.Ends.{HasEnds}
+use Rattle.xet_core_structures.specs.Ends.{HasHeaderAndFooter}
 use Rattle.xet_core_structures.specs.Source.{Source}
 
 -- the bytes have a header and a footer, and with these a call has an outcome on a source of them
@@ -12,7 +12,7 @@ use Rattle.xet_core_structures.specs.Source.{Source}
 pub record HasOutcome (bytes : List ℕ) (Outcome : MDBShardInfo → Source → Source → Type 0)
     : Type 0 where
   pub info : MDBShardInfo
-  pub ends : HasEnds bytes info
+  pub ends : HasHeaderAndFooter bytes info
   -- the source before the call
   pub before : Source
   -- the source after the call

@@ -13,7 +13,7 @@ AnswersQuery bytes hashes answer =
     HasOutcome bytes
     (λ info before after. QueryAnswer info.metadata hashes before after answer)
 
--- why a query has no answer: the format is unsupported or cut short, or the query is refused
+-- why a query has no answer: the format is unsupported or truncated, or the query is refused
 abbrev pub RefusesQuery : List ℕ → List DataHash → CoreError → Type 0
 RefusesQuery bytes hashes e =
     FormatCase IsUnsupported IsTooShort bytes e

@@ -7,14 +7,14 @@ use Rattle.xet_core_structures.specs.declared.file_structs.MDBFileInfo.{MDBFileI
 use Rattle.xet_core_structures.specs.declared.xorb_structs.MDBXorbInfo.{MDBXorbInfo}
 use Rattle.xet_core_structures.specs.declared.shard_format.MDBShardInfo.{MDBShardInfo}
 use Rattle.xet_core_structures.specs.ByteResults.{LoadRefusal}
-use Rattle.xet_core_structures.specs.Ends.{HasHeader, HasEnds}
+use Rattle.xet_core_structures.specs.Ends.{HasHeader, HasHeaderAndFooter}
 use Rattle.xet_core_structures.specs.FileRecord.{file_records_in, has_aux_ext}
 use Rattle.xet_core_structures.specs.KeyedExport.{ExportCase}
 use Rattle.xet_core_structures.specs.Layout.{layout_of}
 use Rattle.xet_core_structures.specs.SectionReading.{IsSection}
 use Rattle.xet_records.specs.declared.record_reader.FormatVersion.TheVariants.{V2}
-use Rattle.xet_shards.specs.declared.shard_writer.Form.{Form}
-use Rattle.xet_shards.specs.Rewriting.{form_of}
+use Rattle.xet_shards.specs.declared.shard_writer.LayoutOptions.{LayoutOptions}
+use Rattle.xet_shards.specs.Rewriting.{options_of}
 use Rattle.shard_bytes.specs.Checking.{IsReadAs}
 use Rattle.shard_bytes.specs.Outcomes.{InMemory}
 
@@ -22,9 +22,9 @@ use Rattle.shard_bytes.specs.Outcomes.{InMemory}
 abbrev pub have_aux_rows : List MDBFileInfo → Bool
 have_aux_rows files = list_any (λ r. has_aux_ext r.metadata.file_flags) files
 
--- the form that header and footer name, in version 2
-abbrev pub form_in_2 : MDBShardInfo → Form
-form_in_2 info = record (form_of info) { version = V2 }
+-- the layout options that header and footer name, in version 2
+abbrev pub options_in_2 : MDBShardInfo → LayoutOptions
+options_in_2 info = record (options_of info) { version = V2 }
 
 -- the bytes can be read, their files have no auxiliary rows, and these are the layout of the same
 -- records in version 2
@@ -34,7 +34,7 @@ pub record IsInVersion2 (bytes out : List ℕ) : Type 0 where
   pub xorbs : List MDBXorbInfo
   pub read : IsReadAs bytes info files xorbs
   pub none : have_aux_rows files ≡ false
-  pub written : out ≡ layout_of files xorbs (form_in_2 info)
+  pub written : out ≡ layout_of files xorbs (options_in_2 info)
 
 -- the bytes can be read, and a file has an auxiliary row
 abbrev pub HasAuxRows : List ℕ → Type 0
@@ -47,7 +47,7 @@ HasAuxRows bytes =
 abbrev pub NotInVersion2 : List ℕ → CoreError → Type 0
 NotInVersion2 bytes e =
     LoadRefusal bytes e
-    ⊎ (((i : MDBShardInfo) × HasEnds bytes i × ExportCase bytes e)
+    ⊎ (((i : MDBShardInfo) × HasHeaderAndFooter bytes i × ExportCase bytes e)
     ⊎ ((e ≡ InvalidArguments) × HasAuxRows bytes))
 
 -- why bytes in memory are not written in version 2: an allocation failed, header and footer are not

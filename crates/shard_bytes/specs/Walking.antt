@@ -6,7 +6,7 @@ use Rattle.xet_core_structures.specs.declared.file_structs.MDBFileInfo.{MDBFileI
 use Rattle.xet_core_structures.specs.declared.xorb_structs.MDBXorbInfo.{MDBXorbInfo}
 use Rattle.xet_core_structures.specs.declared.shard_format.MDBShardInfo.{MDBShardInfo}
 use Rattle.xet_core_structures.specs.ByteResults.{LoadRefusal}
-use Rattle.xet_core_structures.specs.Ends.{HasEnds}
+use Rattle.xet_core_structures.specs.Ends.{HasHeaderAndFooter}
 use Rattle.xet_core_structures.specs.Errors.{CoreResult}
 use Rattle.xet_core_structures.specs.Lookup.{RecordAt, row_at}
 use Rattle.xet_core_structures.specs.SectionReading.{SectionCase, BeginsWithBookend, BeginsRefused, EndsEarly, files_of}
@@ -31,7 +31,7 @@ module _ {H R : Type 0} (K : RecordKind H R) (bytes : List ℕ) (offset row : �
 
 -- what is said with the header and the footer of the bytes
 abbrev pub WithEnds : List ℕ → (MDBShardInfo → Type 0) → Type 0
-WithEnds bytes Says = (info : MDBShardInfo) × HasEnds bytes info × Says info
+WithEnds bytes Says = (info : MDBShardInfo) × HasHeaderAndFooter bytes info × Says info
 
 -- the bytes have a header and a footer, and at a row of the file section is this record, or the
 -- bookend if there is none

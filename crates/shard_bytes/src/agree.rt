@@ -3,7 +3,7 @@
 ghost use Rattle.std.specs.Prelude.{◌⊎◌, List, map, Contains, IfOk, MatchResult};
 ghost use Rattle.std.specs.List.{AllZip};
 ghost use Rattle.xet_core_structures.specs.Agreement.{InputsRefusal};
-ghost use Rattle.xet_core_structures.specs.Held.{HoldsShard};
+ghost use Rattle.xet_core_structures.specs.ShardContents.{HoldsShard};
 ghost use Rattle.xet_core_structures.specs.KeyedHash.{no_key};
 ghost use Rattle.xet_core_structures.specs.Shard.{Shard};
 ghost use Rattle.shard_bytes.specs.Agreeing.{MergesAgreeing, GivesJoin};

@@ -5,7 +5,7 @@ ghost use Rattle.std.specs.List.{slice_range};
 ghost use Rattle.std.specs.List.Sorted.{IsStrictlySortedBy};
 ghost use Rattle.std.specs.declared.cmp.Ordering.TheVariants.{Less};
 ghost use Rattle.xet_core_structures.specs.declared.merklehash.DataHash.{DataHash};
-ghost use Rattle.xet_core_structures.specs.Ends.{HasEnds};
+ghost use Rattle.xet_core_structures.specs.Ends.{HasHeaderAndFooter};
 ghost use Rattle.xet_core_structures.specs.ByteResults.{LoadRefusal};
 ghost use Rattle.xet_core_structures.specs.Hash.{hash_cmp};
 ghost use Rattle.shard_bytes.specs.declared.check.Finding.{Finding};
@@ -20,7 +20,7 @@ use xet_core_structures::merklehash::MerkleHash;
 use xet_core_structures::shard_format::{MDBShardFileFooter, MDBShardInfo};
 use xet_core_structures::source::{MemorySource, ShardSource};
 use xet_core_structures::xorb_structs::XorbChunkSequenceHeader;
-use xet_shards::shard_writer::{Form, write_again};
+use xet_shards::shard_writer::{LayoutOptions, write_again};
 
 /// One of the two sections of a shard.
 #[derive(Clone, Copy, Debug, PartialEq, Eq)]
@@ -95,7 +95,7 @@ fn unloaded(bytes: &[u8], error: CoreError) -> Finding
 
 // Checks the bytes of a shard with this header and footer.
 fn check_sections(alloc: Global, bytes: &[u8], info: &MDBShardInfo) -> Result<Vec<Finding>>
-    requires { HasEnds bytes.now info.now }
+    requires { HasHeaderAndFooter bytes.now info.now }
     ensures report { IfOk result (λ findings. IsReport bytes.now findings.items) }
     ensures causes { IfErr result (λ e. e ≡ CoreError.OutOfMemory) }
 {
@@ -215,15 +215,15 @@ fn push_differences(
     bytes: &[u8],
     info: &MDBShardInfo,
 ) -> Result<()>
-    requires { HasEnds bytes.now info.now }
+    requires { HasHeaderAndFooter bytes.now info.now }
     ensures added { OnOk result
         (AddsDifferences bytes.now info.now findings.old.items findings.new.items) }
     ensures causes { IfErr result (λ e. e ≡ CoreError.OutOfMemory) }
 {
     let mut source = MemorySource::new(bytes);
     let mut written = Vec::new(alloc);
-    let form = Form::of_info(info);
-    match write_again(alloc, &mut source, &mut written, &form) {
+    let options = LayoutOptions::of_info(info);
+    match write_again(alloc, &mut source, &mut written, &options) {
         Ok(footer) => compare(findings, bytes, info, written.as_slice(), &footer),
         // Both sections were read before, so only memory can be lacking.
         Err(_) => Err(CoreError::OutOfMemory),

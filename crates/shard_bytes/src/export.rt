@@ -23,7 +23,8 @@ pub struct Export {
     pub parts: ExportParts,
 }
 
-/// Whether an export has files, with their auxiliary rows or without, and which of the other tables.
+/// Whether an export has files, with their auxiliary rows or without, and which of the other
+/// tables.
 #[derive(Clone, Copy)]
 pub struct ExportParts {
     pub files: bool,

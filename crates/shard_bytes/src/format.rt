@@ -3,7 +3,7 @@
 ghost use Rattle.xet_core_structures.specs.Ends.{IsUnsupported};
 ghost use Rattle.shard_bytes.specs.Format.{IsUnsupportedFor};
 
-use xet_base::row::split_u64;
+use xet_base::fields::split_u64;
 use xet_core_structures::shard_format::MDBShardFileHeader;
 use xet_records::record_reader::FormatVersion;
 

@@ -1,7 +1,7 @@
 //! Header and footer of a shard's bytes.
 
 ghost use Rattle.std.specs.Prelude.{MatchResult};
-ghost use Rattle.xet_core_structures.specs.Ends.{HasEnds};
+ghost use Rattle.xet_core_structures.specs.Ends.{HasHeaderAndFooter};
 ghost use Rattle.xet_core_structures.specs.ByteResults.{LoadRefusal};
 
 use std::alloc::Global;
@@ -13,7 +13,7 @@ use xet_core_structures::source::MemorySource;
 ///
 /// The errors are those of [`MDBShardInfo::load_from_reader`].
 pub fn load_bytes(alloc: Global, bytes: &[u8]) -> Result<MDBShardInfo>
-    ensures { MatchResult result (HasEnds bytes.now) (LoadRefusal bytes.now) }
+    ensures { MatchResult result (HasHeaderAndFooter bytes.now) (LoadRefusal bytes.now) }
 {
     let mut source = MemorySource::new(bytes);
     MDBShardInfo::load_from_reader(alloc, &mut source)

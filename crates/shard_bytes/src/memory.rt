@@ -6,8 +6,8 @@ ghost use Rattle.xet_core_structures.specs.Errors.{IsWriteError};
 use std::io::ErrorKind;
 use xet_core_structures::error::CoreError;
 
-/// The error of a call that reads slices and writes vectors. No device enters it, so an `Io` that is
-/// not the end of the input is a failed allocation.
+/// The error of a call that reads slices and writes vectors. No device enters it, so an `Io` that
+/// is not the end of the input is a failed allocation.
 pub fn in_memory(error: CoreError) -> CoreError
     ensures { ((result ≡ CoreError.OutOfMemory) × IsWriteError error)
         ⊎ ((result ≡ error) × (¬ IsWriteError error)) }

@@ -5,7 +5,7 @@ ghost use Rattle.xet_core_structures.specs.Filling.{FillsWith};
 ghost use Rattle.xet_core_structures.specs.MergeTrees.{MergeRefused};
 ghost use Rattle.xet_core_structures.specs.Shard.{Shard};
 ghost use Rattle.xet_core_structures.specs.WrittenShard.{IsBytesWithoutExpiry};
-ghost use Rattle.shard_bytes.specs.Merging.{IsBalanced, IsPlanOfBoth, IsMergePlan, MergesBytes, RefusesMerge, HaveJoin};
+ghost use Rattle.shard_bytes.specs.Merging.{IsBalanced, IsPlanOfBoth, IsMergePlan, MergesBytes, RefusesMerge, IsMergeOfList};
 ghost use Rattle.shard_bytes.specs.Sizes.{IsResultSize};
 
 use std::alloc::Global;
@@ -23,7 +23,7 @@ pub fn merge_bytes(alloc: Global, shards: &[&[u8]]) -> Result<Vec<u8>>
         (λ bytes. MergesBytes (map (λ x. x.now) shards.now) bytes.items)
         (RefusesMerge (map (λ x. x.now) shards.now)) }
     ensures one_byte_string { (all : List Shard) → (join : Shard)
-        → HaveJoin (map (λ x. x.now) shards.now) all join
+        → IsMergeOfList (map (λ x. x.now) shards.now) all join
         → MatchResult result (λ bytes. IsBytesWithoutExpiry join bytes.items) (MergeRefused join) }
     ensures size { IfOk result
         (λ bytes. IsResultSize (map (λ x. x.now) shards.now) (length bytes.items)) }
@@ -35,13 +35,14 @@ pub fn merge_bytes(alloc: Global, shards: &[&[u8]]) -> Result<Vec<u8>>
     shard_union_tree(alloc, &plan, shards)
 }
 
-/// Writes the bytes that [`merge_bytes`] makes to the front of a slice, if they fit, and returns their
-/// number. If they don't, or if the call fails, the slice stays as it is. The errors are the same.
+/// Writes the bytes that [`merge_bytes`] makes to the front of a slice, if they fit, and returns
+/// their number. If they don't, or if the call fails, the slice stays as it is. The errors are the
+/// same.
 pub fn merge_into(alloc: Global, shards: &[&[u8]], out: &mut [u8]) -> Result<usize>
     ensures any_bytes { FillsWith (MergesBytes (map (λ x. x.now) shards.now))
         (RefusesMerge (map (λ x. x.now) shards.now)) out.old out.new result }
     ensures one_byte_string { (all : List Shard) → (join : Shard)
-        → HaveJoin (map (λ x. x.now) shards.now) all join
+        → IsMergeOfList (map (λ x. x.now) shards.now) all join
         → FillsWith (IsBytesWithoutExpiry join) (MergeRefused join) out.old out.new result }
     ensures size { IfOk result (IsResultSize (map (λ x. x.now) shards.now)) }
 {

@@ -114,8 +114,8 @@ fn writing_error(kept: KeptParts, error: CoreError) -> CoreError
     }
 }
 
-/// The bytes of a shard with some of the xorbs and none of the files of a shard, from its bytes. The
-/// listed hashes may be in any order.
+/// The bytes of a shard with some of the xorbs and none of the files of a shard, from its bytes.
+/// The listed hashes may be in any order.
 ///
 /// The errors are those of [`MDBMinimalShard::from_reader`] and
 /// [`MDBMinimalShard::serialize_xorb_subset_with_expiry`].

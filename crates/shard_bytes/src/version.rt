@@ -2,7 +2,7 @@
 
 ghost use Rattle.std.specs.Prelude.{◌≡◌, IfErr, IfOk, MatchResult};
 ghost use Rattle.xet_core_structures.specs.declared.error.CoreError.{CoreError};
-ghost use Rattle.xet_core_structures.specs.Ends.{HasEnds};
+ghost use Rattle.xet_core_structures.specs.Ends.{HasHeaderAndFooter};
 ghost use Rattle.shard_bytes.specs.Versions.{have_aux_rows, FindsAuxRows, IsInVersion2, RefusesVersion2};
 
 use crate::load::load_bytes;
@@ -14,26 +14,26 @@ use xet_core_structures::file_structs::MDBFileInfo;
 use xet_core_structures::shard_format::MDBShardInfo;
 use xet_core_structures::source::MemorySource;
 use xet_records::record_reader::FormatVersion;
-use xet_shards::shard_writer::{Form, write_again};
+use xet_shards::shard_writer::{LayoutOptions, write_again};
 
-/// The bytes of the same shard in version 2, from its bytes in either version: its records, in their
-/// order, under its key and with its timestamps, and the tables of which its footer says that they
-/// have rows.
+/// The bytes of the same shard in version 2, from its bytes in either version: its records, in
+/// their order, under its key and with its timestamps, and the tables of which its footer says that
+/// they have rows.
 ///
-/// `InvalidArguments` if a file has an auxiliary row, which version 2 does not have. Else the errors
-/// are those of [`MDBShardInfo::load_from_reader`], and of reading header and sections.
+/// `InvalidArguments` if a file has an auxiliary row, which version 2 does not have. Else the
+/// errors are those of [`MDBShardInfo::load_from_reader`], and of reading header and sections.
 pub fn version_2_bytes(alloc: Global, bytes: &[u8]) -> Result<Vec<u8>>
     ensures { MatchResult result (λ written. IsInVersion2 bytes.now written.items)
         (RefusesVersion2 bytes.now) }
 {
     let info = load_bytes(alloc, bytes)?;
-    let form = Form {
+    let options = LayoutOptions {
         version: FormatVersion::V2,
-        ..Form::of_info(&info)
+        ..LayoutOptions::of_info(&info)
     };
     let mut written = with_room(alloc, bytes.len())?;
     let mut source = MemorySource::new(bytes);
-    if let Err(error) = write_again(alloc, &mut source, &mut written, &form) {
+    if let Err(error) = write_again(alloc, &mut source, &mut written, &options) {
         return Err(in_memory(error));
     }
     if has_aux_rows(alloc, bytes, &info)? {
@@ -45,7 +45,7 @@ pub fn version_2_bytes(alloc: Global, bytes: &[u8]) -> Result<Vec<u8>>
 // Whether a file of a shard with this header and footer, whose file section can be read, has an
 // auxiliary row.
 fn has_aux_rows(alloc: Global, bytes: &[u8], info: &MDBShardInfo) -> Result<bool>
-    requires { HasEnds bytes.now info.now }
+    requires { HasHeaderAndFooter bytes.now info.now }
     ensures ok { IfOk result (FindsAuxRows bytes.now) }
     ensures causes { IfErr result (λ e. e ≡ CoreError.OutOfMemory) }
 {

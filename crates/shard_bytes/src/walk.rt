@@ -10,8 +10,9 @@ use xet_core_structures::shard_format::MDBShardInfo;
 use xet_core_structures::source::MemorySource;
 use xet_core_structures::xorb_structs::MDBXorbInfo;
 
-/// The record at a row of the file section, from a shard's bytes, or `None` if the section's bookend
-/// is there. The first record is at row 0, and the next one as many rows later as a record has.
+/// The record at a row of the file section, from a shard's bytes, or `None` if the section's
+/// bookend is there. The first record is at row 0, and the next one as many rows later as a record
+/// has.
 ///
 /// The errors are those of [`MDBShardInfo::load_from_reader`] and [`MDBShardInfo::read_file_info`].
 pub fn file_at(alloc: Global, bytes: &[u8], row: u32) -> Result<Option<MDBFileInfo>>
@@ -22,8 +23,9 @@ pub fn file_at(alloc: Global, bytes: &[u8], row: u32) -> Result<Option<MDBFileIn
     unless_bookend(info.read_file_info(alloc, &mut source, row))
 }
 
-/// The record at a row of the xorb section, from a shard's bytes, or `None` if the section's bookend
-/// is there. The first record is at row 0, and the next one as many rows later as a record has.
+/// The record at a row of the xorb section, from a shard's bytes, or `None` if the section's
+/// bookend is there. The first record is at row 0, and the next one as many rows later as a record
+/// has.
 ///
 /// The errors are those of [`MDBShardInfo::load_from_reader`] and [`MDBShardInfo::read_xorb_info`].
 pub fn xorb_at(alloc: Global, bytes: &[u8], row: u32) -> Result<Option<MDBXorbInfo>>

@@ -57,8 +57,8 @@ fn show_one(
     Ok(())
 }
 
-// Makes the union that a tree describes, `TREE with B1 B2 ..`, in a buffer if the others agree, else
-// prints two of them that do not.
+// Makes the union that a tree describes, `TREE with B1 B2 ..`, in a buffer if the others agree,
+// else prints two of them that do not.
 fn unite_agreeing(
     workspace: &mut Workspace,
     alloc: Global,

@@ -23,9 +23,9 @@ struct Options {
     chunk_table: bool,
 }
 
-/// Runs `export B1 B KEY NOW VALID PARTS`, or `drop ..` without auxiliary rows, on the source of B1,
-/// and prints the number that the call returns. The header and the footer are read before, from the
-/// bytes of B1, but not for `export_streaming ..` and `drop_streaming ..`.
+/// Runs `export B1 B KEY NOW VALID PARTS`, or `drop ..` without auxiliary rows, on the source of
+/// B1, and prints the number that the call returns. The header and the footer are read before, from
+/// the bytes of B1, but not for `export_streaming ..` and `drop_streaming ..`.
 pub fn export(
     workspace: &Workspace,
     alloc: Global,

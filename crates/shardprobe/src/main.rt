@@ -1,5 +1,5 @@
-//! A test tool: reads commands from standard input, one a line, each with what it has to print, calls
-//! the library and compares. So a worked example is a line of data.
+//! A test tool: reads commands from standard input, one a line, each with what it has to print,
+//! calls the library and compares. So a worked example is a line of data.
 #![tactic(auto)]
 
 mod agreement;

@@ -13,9 +13,9 @@ use xet_core_structures::merklehash::MerkleHash;
 use xet_core_structures::streaming_shard::MDBMinimalShard;
 use xet_core_structures::xorb_structs::MDBXorbInfoView;
 
-/// Runs `minimal B1 B NOW ROWS`, or `dropmin ..` without auxiliary rows, `subset B1 B NOW EXPIRY LIST`
-/// or `subset_only B1 B NOW LIST` on the minimal shard that is read from the source of B1, and prints
-/// the number that the call returns.
+/// Runs `minimal B1 B NOW ROWS`, or `dropmin ..` without auxiliary rows, `subset B1 B NOW EXPIRY
+/// LIST` or `subset_only B1 B NOW LIST` on the minimal shard that is read from the source of B1,
+/// and prints the number that the call returns.
 pub fn write_minimal(
     alloc: Global,
     words: &[&str],

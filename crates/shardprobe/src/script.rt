@@ -22,7 +22,8 @@ use std::alloc::{AllocError, Global};
 use std::io::{BufRead, BufReader, ErrorKind, Read, Write};
 use std::{io, str};
 
-// The bytes of a line, and of what it prints, for which there is room before the first line is read.
+// The bytes of a line, and of what it prints, for which there is room before the first line is
+// read.
 const ROOM: usize = 1 << 20;
 
 /// Runs the rows of `input`, one a line, and writes to `output` the headings, a line for each row

@@ -2,7 +2,7 @@
 
 ghost use Rattle.std.specs.Prelude.{◌≤◌, MatchResult, IfOk};
 ghost use Rattle.xet_core_structures.specs.Source.{FillFails};
-ghost use Rattle.xet_core_structures.specs.Table.{ReadsOn};
+ghost use Rattle.xet_core_structures.specs.Table.{ReadsCount};
 
 use crate::device::Device;
 use crate::parse::parse_u64s;
@@ -129,7 +129,7 @@ pub fn search(
 // Reads a value of so many bytes: the number that its first eight spell.
 fn read_value<S: ShardSource>(source: &mut S, width: usize) -> io::Result<u64>
     requires { width ≤ 64 }
-    ensures { MatchResult result (λ _. ReadsOn (S.meaning source.old) (S.meaning source.new) width)
+    ensures { MatchResult result (λ _. ReadsCount (S.meaning source.old) (S.meaning source.new) width)
         (FillFails (S.meaning source.old) (S.meaning source.new) width) }
 {
     let mut bytes = [0u8; 64];

@@ -79,8 +79,8 @@ pub fn inputs_of<'a>(
     Ok(inputs)
 }
 
-/// The tree of words in postfix order: a number is a leaf, and `+` the union of the two trees before
-/// it.
+/// The tree of words in postfix order: a number is a leaf, and `+` the union of the two trees
+/// before it.
 pub fn parse_tree(alloc: Global, words: &[&str]) -> Result<MergePlan, Stop> {
     let mut trees = Vec::new(alloc);
     for word in words {

@@ -5,7 +5,7 @@ use Rattle.std.proofs.lemmas.List.{append_assoc}
 use Rattle.script_lines.specs.Words.{IsName, IsNameByte}
 use Rattle.shardtool.specs.declared.tree.NameTree.{NameTree}
 use Rattle.shardtool.specs.declared.tree.NameTree.TheVariants.{Name, Both'}
-use Rattle.shardtool.specs.Trees.{words_of, IsTree}
+use Rattle.shardtool.specs.Trees.{words_of_line, IsTree}
 
 abbrev pub opening : List ℕ
 opening = 40 ∷ []
@@ -32,9 +32,9 @@ pub record IsPair (most : ℕ) (words rest : List (List ℕ)) : Type 0 where
   pub positive : 0 < most
   pub left_is : IsTree left (most - 1)
   pub right_is : IsTree right (most - 1)
-  pub are : words ≡ words_of left ++ (words_of right ++ (closing ∷ rest))
+  pub are : words ≡ words_of_line left ++ (words_of_line right ++ (closing ∷ rest))
 
-pub pair_after : (tree : NameTree) (most : ℕ) (others rest : List (List ℕ)) → IsTree tree most → opening ∷ others ≡ words_of tree ++ rest → IsPair most others rest
+pub pair_after : (tree : NameTree) (most : ℕ) (others rest : List (List ℕ)) → IsTree tree most → opening ∷ others ≡ words_of_line tree ++ rest → IsPair most others rest
 pair_after (Name name) most others rest is same = absurd (no_name (subst IsName (sym (ap (λ words. get_or words 0 []) same)) is))
 pair_after (Both' p left q right) most others rest (positive, left_is, right_is) same = record {
   left = left;
@@ -42,32 +42,32 @@ pair_after (Both' p left q right) most others rest (positive, left_is, right_is)
   positive = positive;
   left_is = left_is;
   right_is = right_is;
-  are = ap (λ words. drop 1 words) same ∙ pair_words (words_of left) (words_of right) rest;
+  are = ap (λ words. drop 1 words) same ∙ pair_words (words_of_line left) (words_of_line right) rest;
 }
 
-pub name_before : (tree : NameTree) (most : ℕ) (first : List ℕ) (others rest : List (List ℕ)) → IsTree tree most → first ∷ others ≡ words_of tree ++ rest → (first ≡ opening → ⊥)
+pub name_before : (tree : NameTree) (most : ℕ) (first : List ℕ) (others rest : List (List ℕ)) → IsTree tree most → first ∷ others ≡ words_of_line tree ++ rest → (first ≡ opening → ⊥)
     → IsName first × (others ≡ rest)
 name_before (Name name) most first others rest is same other = (subst IsName (sym (ap (λ words. get_or words 0 []) same)) is, ap (λ words. drop 1 words) same)
 name_before (Both' p left q right) most first others rest is same other = absurd (other (ap (λ words. get_or words 0 []) same))
 
-pub some_words : (words : List (Bor (List ℕ))) (tree : NameTree) (rest : List (List ℕ)) → length words ≡ 0 → map (λ word. word.now) words ≡ words_of tree ++ rest → ⊥
+pub some_words : (words : List (Bor (List ℕ))) (tree : NameTree) (rest : List (List ℕ)) → length words ≡ 0 → map (λ word. word.now) words ≡ words_of_line tree ++ rest → ⊥
 some_words [] (Name name) rest none same = omega (arith, ap (λ (words : List (List ℕ)). length words) same)
 some_words [] (Both' p left q right) rest none same = omega (arith, ap (λ (words : List (List ℕ)). length words) same)
 some_words (word ∷ words) tree rest none same = omega (arith, none)
 
-pub words_of_pair : (left right : NameTree) (words after_left after_right rest : List (List ℕ)) → words ≡ words_of left ++ after_left → after_left ≡ words_of right ++ after_right → after_right ≡ closing ∷ rest
-    → opening ∷ words ≡ opening ∷ ((words_of left ++ (words_of right ++ (closing ∷ []))) ++ rest)
+pub words_of_pair : (left right : NameTree) (words after_left after_right rest : List (List ℕ)) → words ≡ words_of_line left ++ after_left → after_left ≡ words_of_line right ++ after_right → after_right ≡ closing ∷ rest
+    → opening ∷ words ≡ opening ∷ ((words_of_line left ++ (words_of_line right ++ (closing ∷ []))) ++ rest)
 words_of_pair left right words after_left after_right rest first second end =
-    ap (λ (zs : List (List ℕ)). opening ∷ zs) (first ∙ ap (λ zs. words_of left ++ zs) (second ∙ ap (λ zs. words_of right ++ zs) end) ∙ sym (pair_words (words_of left) (words_of right) rest))
+    ap (λ (zs : List (List ℕ)). opening ∷ zs) (first ∙ ap (λ zs. words_of_line left ++ zs) (second ∙ ap (λ zs. words_of_line right ++ zs) end) ∙ sym (pair_words (words_of_line left) (words_of_line right) rest))
 
 -- two trees in parentheses, in boxes
 pub pair_found : (depth : ℕ) (left right l r : NameTree) (words after_left after_right rest : List (List ℕ)) → l ≡ left → r ≡ right → 0 < depth
-    → IsTree left (depth - 1) × (words ≡ words_of left ++ after_left) → IsTree right (depth - 1) × (after_left ≡ words_of right ++ after_right) → after_right ≡ closing ∷ rest
-    → (0 < depth × IsTree l (depth - 1) × IsTree r (depth - 1)) × (opening ∷ words ≡ opening ∷ ((words_of l ++ (words_of r ++ (closing ∷ []))) ++ rest))
+    → IsTree left (depth - 1) × (words ≡ words_of_line left ++ after_left) → IsTree right (depth - 1) × (after_left ≡ words_of_line right ++ after_right) → after_right ≡ closing ∷ rest
+    → (0 < depth × IsTree l (depth - 1) × IsTree r (depth - 1)) × (opening ∷ words ≡ opening ∷ ((words_of_line l ++ (words_of_line r ++ (closing ∷ []))) ++ rest))
 pair_found depth left right l r words after_left after_right rest l_is r_is positive first second end = (
   (positive, subst (λ t. IsTree t (depth - 1)) (sym l_is) first.0, subst (λ t. IsTree t (depth - 1)) (sym r_is) second.0),
-  subst (λ (t : NameTree). opening ∷ words ≡ opening ∷ ((words_of t ++ (words_of r ++ (closing ∷ []))) ++ rest)) (sym l_is)
-      (subst (λ (t : NameTree). opening ∷ words ≡ opening ∷ ((words_of left ++ (words_of t ++ (closing ∷ []))) ++ rest)) (sym r_is)
+  subst (λ (t : NameTree). opening ∷ words ≡ opening ∷ ((words_of_line t ++ (words_of_line r ++ (closing ∷ []))) ++ rest)) (sym l_is)
+      (subst (λ (t : NameTree). opening ∷ words ≡ opening ∷ ((words_of_line left ++ (words_of_line t ++ (closing ∷ []))) ++ rest)) (sym r_is)
       (words_of_pair left right words after_left after_right rest first.1 second.1 end)),
 )
 

@@ -5,10 +5,10 @@ use Rattle.shardtool.specs.declared.tree.NameTree.{NameTree}
 use Rattle.shardtool.specs.declared.tree.NameTree.TheVariants.{Name, Both'}
 
 -- a name, or the words of two trees in parentheses
-abbrev pub words_of : NameTree → List (List ℕ)
-words_of (Name name) = name.now ∷ []
-words_of (Both' p left q right) =
-    (40 ∷ []) ∷ (words_of left ++ (words_of right ++ ((41 ∷ []) ∷ [])))
+abbrev pub words_of_line : NameTree → List (List ℕ)
+words_of_line (Name name) = name.now ∷ []
+words_of_line (Both' p left q right) =
+    (40 ∷ []) ∷ (words_of_line left ++ (words_of_line right ++ ((41 ∷ []) ∷ [])))
 
 -- the leaves of a tree are names, and at most so many pairs of parentheses are in one another
 abbrev pub IsTree : NameTree → ℕ → Type 0

@@ -2,7 +2,7 @@
 
 ghost use Rattle.std.specs.Prelude.{◌≡◌, ◌∷◌, ◌++◌, ℕ, List, [], map, IfOk, IfErr, IsOkAnd, MatchResult};
 ghost use Rattle.shardtool.specs.declared.tree.NameTree.{NameTree as Tree};
-ghost use Rattle.shardtool.specs.Trees.{words_of, IsTree};
+ghost use Rattle.shardtool.specs.Trees.{words_of_line, IsTree};
 
 use script_lines::words::{ParseError, parse_name};
 use std::alloc::Global;
@@ -21,9 +21,9 @@ const MAX_DEPTH: u8 = 64;
 /// another. `Unreadable` if the words are no tree.
 pub fn parse_tree<'a>(alloc: Global, words: &[&'a str]) -> Result<NameTree<'a>, ParseError>
     ensures found { IfOk result
-        (λ tree. IsTree tree 64 × (words_of tree ≡ map (λ word. word.now) words.now)) }
+        (λ tree. IsTree tree 64 × (words_of_line tree ≡ map (λ word. word.now) words.now)) }
     ensures every { (tree : Tree) → IsTree tree 64
-        → words_of tree ≡ map (λ word. word.now) words.now
+        → words_of_line tree ≡ map (λ word. word.now) words.now
         → IfErr result (λ e. e ≡ ParseError.OutOfMemory) }
 {
     let (tree, rest) = parse_front(alloc, words, MAX_DEPTH)?;
@@ -42,9 +42,9 @@ fn parse_front<'w, 'a>(
     ensures found { IfOk result
         (λ found. IsTree found.0 depth
         × (map (λ word. word.now) words.now
-        ≡ words_of found.0 ++ map (λ word. word.now) found.1.now)) }
+        ≡ words_of_line found.0 ++ map (λ word. word.now) found.1.now)) }
     ensures every { (tree : Tree) → (rest : List (List ℕ)) → IsTree tree depth
-        → map (λ word. word.now) words.now ≡ words_of tree ++ rest
+        → map (λ word. word.now) words.now ≡ words_of_line tree ++ rest
         → MatchResult result (λ found. map (λ word. word.now) found.1.now ≡ rest)
         (λ e. e ≡ ParseError.OutOfMemory) }
 {

@@ -4,7 +4,7 @@ use Rattle.xet_base.specs.declared.interpolation_search.window.Window.{Window}
 use Rattle.std.specs.declared.io.Error.{Error}
 use Rattle.xet_base.specs.Source.{Source, Fails, moved}
 use Rattle.xet_base.specs.Table.{Table, row_offset, IsSorted, hits_below, hits, Bounded}
-use Rattle.xet_base.specs.Search.{ReadsKey, Stops, IsRow, Counts, Passes, Runs}
+use Rattle.xet_base.specs.Search.{ReadsKey, StopsWithin, IsRow, Counts, ReadsThrough, Runs}
 use Rattle.xet_base.proofs.Progress.{AllSmaller, Searches}
 use Rattle.xet_base.proofs.Tables.{offset_of_row-add, hits_below-le, hits_below-none}
 use Rattle.xet_base.proofs.Course.{course_end}
@@ -33,7 +33,7 @@ module _ {V : Type 0} (t : Table) (key : ℕ) (Gives : List ℕ → V → Type 0
       }
 
   -- a probed row's key was not read
-  pub bounded_key_not : (sorted : IsSorted t) (new : Source) (e : Error) → Stops t 1 8 now new e → Bounded t key old new
+  pub bounded_key_not : (sorted : IsSorted t) (new : Source) (e : Error) → StopsWithin t 1 8 now new e → Bounded t key old new
   bounded_key_not sorted new e stops = bounded sorted new 1 stops.seeks (omega (arith, stops.read)) (omega (arith, (so_far.sorted sorted).left))
 
   -- the search ended in a run of rows with the key
@@ -60,7 +60,7 @@ module _ {V : Type 0} (t : Table) (key : ℕ) (Gives : List ℕ → V → Type 0
 
   -- the last rows were read
   pub bounded_passes : (sorted : IsSorted t) (mid new : Source) → w.high ≤ w.low + 256 → mid ≡ moved now (row_offset t w.low)
-      → Passes t w.low (w.high - 1) mid new → Bounded t key old new
+      → ReadsThrough t w.low (w.high - 1) mid new → Bounded t key old new
   bounded_passes sorted mid new small sought passes =
       let rows = w.high - 1 - w.low in
       let end_is : w.low + rows ≡ w.high - 1 = omega (arith, so_far.around.rows) in

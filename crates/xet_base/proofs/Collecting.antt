@@ -7,9 +7,9 @@ use Rattle.std.proofs.Math.Seq.{take-suc-set, drop-append-add}
 use Rattle.std.proofs.Math.Nat.{eq-zero-or-pos}
 use Rattle.std.proofs.lemmas.Bool.{cases_lt}
 use Rattle.xet_base.specs.Source.{Source, next_bytes}
-use Rattle.xet_base.specs.Bytes.{spelled_u64}
-use Rattle.xet_base.specs.Table.{Table, row_offset, key_at, value_at, HasKey, hits_below, Hit, IsHit, OtherRow, Finds, ReadsOn}
-use Rattle.xet_base.specs.Search.{IsRow, Kept, FindsFrom, Counts, Passes, Runs}
+use Rattle.xet_base.specs.Bytes.{u64_from_bytes}
+use Rattle.xet_base.specs.Table.{Table, row_offset, key_at, value_at, HasKey, hits_below, Hit, IsHit, OtherRow, Finds, ReadsCount}
+use Rattle.xet_base.specs.Search.{IsRow, Kept, FindsFrom, Counts, ReadsThrough, Runs}
 use Rattle.xet_base.proofs.Progress.{FindsAround, Collected, Keeps}
 use Rattle.xet_base.proofs.Lists.{front_is}
 use Rattle.xet_base.proofs.Tables.{offset_of_row-next, offset_of_row-le, hits_below-hit, hits_below-miss}
@@ -56,7 +56,7 @@ finds_push t key Gives old new count hit so_far room is_hit others =
     }
 
 -- bytes that were read are there
-pub reads_within : (old new : Source) (n : ℕ) → ReadsOn old new n → old.at ≤ length old.bytes → old.at + n ≤ length old.bytes
+pub reads_within : (old new : Source) (n : ℕ) → ReadsCount old new n → old.at ≤ length old.bytes → old.at + n ≤ length old.bytes
 reads_within old new n reads inside = elim (eq-zero-or-pos n) [
   | inl none ↦ omega (arith, none, inside)
   | inr some ↦ reads.within some
@@ -111,10 +111,10 @@ module _ {V : Type 0} (t : Table) (key : ℕ) (Gives : List ℕ → V → Type 0
   ]
 
 -- the key that is read at a row's offset
-module _ (t : Table) (i : ℕ) (now mid : Source) (same : now.bytes ≡ t.bytes) (at : now.at ≡ row_offset t i) (reads : ReadsOn now mid 8) where
-  pub key_is : (found : ℕ) → found ≡ spelled_u64 (next_bytes now 8) → found ≡ key_at t i
+module _ (t : Table) (i : ℕ) (now mid : Source) (same : now.bytes ≡ t.bytes) (at : now.at ≡ row_offset t i) (reads : ReadsCount now mid 8) where
+  pub key_is : (found : ℕ) → found ≡ u64_from_bytes (next_bytes now 8) → found ≡ key_at t i
   unfolding key_at
-  key_is found is_key = is_key ∙ (λ j. spelled_u64 (take 8 (drop (at j) (same j))))
+  key_is found is_key = is_key ∙ (λ j. u64_from_bytes (take 8 (drop (at j) (same j))))
 
   pub key_there : HasKey t i
   key_there = omega (arith, reads.within (omega arith), at, ap length same)
@@ -126,7 +126,7 @@ module _ (t : Table) (i : ℕ) (now mid : Source) (same : now.bytes ≡ t.bytes)
   key_bytes = ap (λ s. s.bytes) reads.after ∙ same
 
 -- the value that is read behind a row's key
-module _ (t : Table) (i : ℕ) (mid after : Source) (same : mid.bytes ≡ t.bytes) (at : mid.at ≡ row_offset t i + 8) (reads : ReadsOn mid after t.width) where
+module _ (t : Table) (i : ℕ) (mid after : Source) (same : mid.bytes ≡ t.bytes) (at : mid.at ≡ row_offset t i + 8) (reads : ReadsCount mid after t.width) where
   pub value_is : next_bytes mid t.width ≡ value_at t i
   value_is = λ j. take t.width (drop (at j) (same j))
 
@@ -146,7 +146,7 @@ module _ (t : Table) (i : ℕ) (mid after : Source) (same : mid.bytes ≡ t.byte
 pub collected_start : {V : Type 0} (t : Table) (key : ℕ) (Gives : List ℕ → V → Type 0) (from to : ℕ) (old : Source) (results : List V) (had : ℕ)
     → old.at ≡ row_offset t from → had ≤ length results → Collected t key Gives from from to 0 old old results results had had
 collected_start t key Gives from to old results had at room = record {
-  serves = serves_still old;
+  no_failure = serves_still old;
   at = at;
   seeks = refl;
   read = omega arith;
@@ -164,10 +164,10 @@ counts_keep t key from i had value results new room count count_new counted ther
 
 -- the first of a run of rows with the key, whose key was read before
 pub collected_first : {V : Type 0} (t : Table) (key : ℕ) (Gives : List ℕ → V → Type 0) (from to : ℕ) (old after : Source) (results new : List V) (had count : ℕ) (value : V)
-    → old.bytes ≡ t.bytes → old.at ≡ row_offset t from + 8 → IsRow t key from → from < to → had ≤ length results → ReadsOn old after t.width
+    → old.bytes ≡ t.bytes → old.at ≡ row_offset t from + 8 → IsRow t key from → from < to → had ≤ length results → ReadsCount old after t.width
     → Gives (value_at t from) value → Kept results new had value count → Collected t key Gives from (from + 1) to 8 old after results new had count
 collected_first t key Gives from to old after results new had count value same at is_row lt room reads gives kept = record {
-  serves = serves_advanced old old after t.width (serves_still old) reads.after;
+  no_failure = serves_advanced old old after t.width (serves_still old) reads.after;
   at = past_row t from old after same at reads;
   seeks = ap (λ s. s.seeks) reads.after;
   read = omega (arith, ap (λ s. s.read) reads.after, offset_of_row-next t.start t.width from);
@@ -179,15 +179,15 @@ collected_first t key Gives from to old after results new had count value same a
 
 module _ {V : Type 0} (t : Table) (key : ℕ) (Gives : List ℕ → V → Type 0) (from i to skip : ℕ) (old now mid after : Source) (results_old results : List V) (had count : ℕ)
     (same : old.bytes ≡ t.bytes) (so_far : Collected t key Gives from i to skip old now results_old results had count)
-    (reads : ReadsOn now mid 8) (reads_value : ReadsOn mid after t.width) where
+    (reads : ReadsCount now mid 8) (reads_value : ReadsCount mid after t.width) where
   now_same : now.bytes ≡ t.bytes
-  now_same = so_far.serves.bytes ∙ same
+  now_same = so_far.no_failure.bytes ∙ same
 
   collected_next : (new : List V) (count_new : ℕ)
       → ((before : List V) → FindsAround t key Gives from i to before results count → FindsAround t key Gives from (i + 1) to before new count_new)
       → Counts t key from (i + 1) (length results_old) had count_new → Collected t key Gives from (i + 1) to skip old after results_old new had count_new
   collected_next new count_new finds counted = record {
-    serves = serves_advanced old mid after t.width (serves_advanced old now mid 8 so_far.serves reads.after) reads_value.after;
+    no_failure = serves_advanced old mid after t.width (serves_advanced old now mid 8 so_far.no_failure reads.after) reads_value.after;
     at = past_row t i mid after (key_bytes t i now mid now_same so_far.at reads) (past_key t i now mid now_same so_far.at reads) reads_value;
     seeks = ap (λ s. s.seeks) reads_value.after ∙ ap (λ s. s.seeks) reads.after ∙ so_far.seeks;
     read = omega (arith, ap (λ s. s.read) reads_value.after, ap (λ s. s.read) reads.after, so_far.read, offset_of_row-next t.start t.width i);
@@ -220,9 +220,9 @@ module _ {V : Type 0} (t : Table) (key : ℕ) (Gives : List ℕ → V → Type 0
     (so_far : Collected t key Gives from i to 0 old now results_old results had count) where
   -- in row i, of which no more than all was read
   pub passes_part : (new : Source) (part : ℕ) → new.bytes ≡ now.bytes → new.seeks ≡ now.seeks → new.read ≤ now.read + part → part ≤ 8 + t.width
-      → i < to → Passes t from to old new
+      → i < to → ReadsThrough t from to old new
   passes_part new part bytes seeks read most lt = record {
-    bytes = bytes ∙ so_far.serves.bytes;
+    bytes = bytes ∙ so_far.no_failure.bytes;
     seeks = seeks ∙ so_far.seeks;
     read = omega (arith, read, most, so_far.read, offset_of_row-next t.start t.width i, offset_of_row-le t.start t.width (i + 1) to (omega (arith, lt)));
   }
@@ -233,7 +233,7 @@ module _ {V : Type 0} (t : Table) (key : ℕ) (Gives : List ℕ → V → Type 0
   -- in the key of row i
   pub runs_part : (new : Source) (part : ℕ) → new.bytes ≡ now.bytes → new.seeks ≡ now.seeks → new.read ≤ now.read + part → part ≤ 8 → i ≤ to → Runs t key from to old new
   runs_part new part bytes seeks read most le = record {
-    bytes = bytes ∙ so_far.collected.serves.bytes;
+    bytes = bytes ∙ so_far.collected.no_failure.bytes;
     seeks = seeks ∙ so_far.collected.seeks;
     end = i;
     past = start;
@@ -246,7 +246,7 @@ module _ {V : Type 0} (t : Table) (key : ℕ) (Gives : List ℕ → V → Type 0
   pub runs_row : (new : Source) → new.bytes ≡ now.bytes → new.seeks ≡ now.seeks → new.read ≤ now.read + (8 + t.width) → HasKey t i → key_at t i ≡ key
       → i < to → Runs t key from to old new
   runs_row new bytes seeks read there same_key lt = record {
-    bytes = bytes ∙ so_far.collected.serves.bytes;
+    bytes = bytes ∙ so_far.collected.no_failure.bytes;
     seeks = seeks ∙ so_far.collected.seeks;
     end = i + 1;
     past = omega (arith, start);

@@ -4,7 +4,7 @@ use Rattle.std.proofs.lemmas.Bool.{cases_lt}
 use Rattle.std.proofs.Math.Nat.{lt-div-mul-add}
 use Rattle.xet_base.specs.declared.interpolation_search.window.Window.{Window}
 use Rattle.xet_base.specs.Table.{Table, even_step, IsEven}
-use Rattle.xet_base.specs.Probes.{guess_of, AroundKey, IsWhole, TurnsBelow, TurnsAbove, TurnsEqual, Turns, OnEven, KeepsEven}
+use Rattle.xet_base.specs.Probes.{guess_of, AroundKey, IsWhole, NarrowsBelow, NarrowsAbove, NarrowsEqual, Narrows, OnEven, KeepsEven}
 use Rattle.xet_base.proofs.Probing.{guess_quotient}
 
 -- the quotient q of the first guess, in a table of `all` - 1 keys that are s apart: q * s is not past the key
@@ -109,49 +109,49 @@ module _ (t : Table) (key : ℕ) (w : Window) (found : ℕ) (even : IsEven t) (a
   step_short : key ≡ w.high * even_step t.rows → found < key
   step_short key_is = omega (arith, key_is, found_is, mul-lt-mul_of_pos_right {k = even_step t.rows} below (omega (arith, even.wide)))
 
-  even_below : (made : ℕ) (new : Window) → OnEven t key w made → key < found → TurnsBelow w key found new → OnEven t key new (made + 1)
-  even_below made new (inl (none, whole)) past turns =
-      inr (inr (inr (omega (arith, none), omega (arith, turns.high, turns.low, whole.low, first_below whole past))))
-  even_below made new (inr (inl (one, key_is, stepped))) past turns = absurd (omega (arith, past, step_short key_is))
-  even_below made new (inr (inr (inl (one, stepped, near)))) past turns =
-      inr (inr (inr (omega (arith, one), omega (arith, turns.high, turns.low, stepped))))
-  even_below made new (inr (inr (inr (few, small)))) past turns = absurd (omega (arith, small, running))
+  even_below : (made : ℕ) (new : Window) → OnEven t key w made → key < found → NarrowsBelow w key found new → OnEven t key new (made + 1)
+  even_below made new (inl (none, whole)) past narrows =
+      inr (inr (inr (omega (arith, none), omega (arith, narrows.high, narrows.low, whole.low, first_below whole past))))
+  even_below made new (inr (inl (one, key_is, stepped))) past narrows = absurd (omega (arith, past, step_short key_is))
+  even_below made new (inr (inr (inl (one, stepped, near)))) past narrows =
+      inr (inr (inr (omega (arith, one), omega (arith, narrows.high, narrows.low, stepped))))
+  even_below made new (inr (inr (inr (few, small)))) past narrows = absurd (omega (arith, small, running))
 
-  even_above : (made : ℕ) (new : Window) → OnEven t key w made → found < key → TurnsAbove w key found new → OnEven t key new (made + 1)
-  even_above made new (inl (none, whole)) past turns = elim (cases_lt (w.probe + 256) w.high) [
+  even_above : (made : ℕ) (new : Window) → OnEven t key w made → found < key → NarrowsAbove w key found new → OnEven t key new (made + 1)
+  even_above made new (inl (none, whole)) past narrows = elim (cases_lt (w.probe + 256) w.high) [
     | inl wide ↦ let f = first_above whole past (omega (arith, wide)) in
         inr (inr (inl (
           omega (arith, none),
-          omega (arith, turns.low, wide, turns.probe.step (omega (arith, f.1))),
-          rw turns.low f.0,
+          omega (arith, narrows.low, wide, narrows.probe.step (omega (arith, f.1))),
+          rw narrows.low f.0,
         )))
-    | inr small ↦ inr (inr (inr (omega (arith, none), omega (arith, turns.high, turns.low, small))))
+    | inr small ↦ inr (inr (inr (omega (arith, none), omega (arith, narrows.high, narrows.low, small))))
   ]
-  even_above made new (inr (inl (one, key_is, stepped))) past turns =
-      inr (inr (inr (omega (arith, one), omega (arith, turns.high, turns.low, stepped))))
-  even_above made new (inr (inr (inl (one, stepped, near)))) past turns = absurd (omega (arith, past, step_past stepped near))
-  even_above made new (inr (inr (inr (few, small)))) past turns = absurd (omega (arith, small, running))
+  even_above made new (inr (inl (one, key_is, stepped))) past narrows =
+      inr (inr (inr (omega (arith, one), omega (arith, narrows.high, narrows.low, stepped))))
+  even_above made new (inr (inr (inl (one, stepped, near)))) past narrows = absurd (omega (arith, past, step_past stepped near))
+  even_above made new (inr (inr (inr (few, small)))) past narrows = absurd (omega (arith, small, running))
 
-  even_equal : (made : ℕ) (new : Window) → OnEven t key w made → found ≡ key → TurnsEqual w new → OnEven t key new (made + 1)
-  even_equal made new (inl (none, whole)) same turns = elim (cases_lt (w.low + 256) w.probe) [
+  even_equal : (made : ℕ) (new : Window) → OnEven t key w made → found ≡ key → NarrowsEqual w new → OnEven t key new (made + 1)
+  even_equal made new (inl (none, whole)) same narrows = elim (cases_lt (w.low + 256) w.probe) [
     | inl wide ↦ inr (inl (
       omega (arith, none),
-      rw turns.high (sym same ∙ found_is),
-      omega (arith, turns.high, turns.probe, wide),
+      rw narrows.high (sym same ∙ found_is),
+      omega (arith, narrows.high, narrows.probe, wide),
     ))
-    | inr small ↦ inr (inr (inr (omega (arith, none), omega (arith, turns.high, turns.low, small))))
+    | inr small ↦ inr (inr (inr (omega (arith, none), omega (arith, narrows.high, narrows.low, small))))
   ]
-  even_equal made new (inr (inl (one, key_is, stepped))) same turns = absurd (omega (arith, same, step_short key_is))
-  even_equal made new (inr (inr (inl (one, stepped, near)))) same turns = absurd (omega (arith, same, step_past stepped near))
-  even_equal made new (inr (inr (inr (few, small)))) same turns = absurd (omega (arith, small, running))
+  even_equal made new (inr (inl (one, key_is, stepped))) same narrows = absurd (omega (arith, same, step_short key_is))
+  even_equal made new (inr (inr (inl (one, stepped, near)))) same narrows = absurd (omega (arith, same, step_past stepped near))
+  even_equal made new (inr (inr (inr (few, small)))) same narrows = absurd (omega (arith, small, running))
 
 -- a turn of the window, whichever of the keys is greater
-pub keeps_even : (w : Window) (key found : ℕ) (new : Window) → AroundKey w key → w.low < w.probe → w.probe < w.high → Turns w key found new → KeepsEven w key found new
-keeps_even w key found new around above below turns = λ t made even running found_is before. elim (cases_lt key found) [
-  | inl past ↦ even_below t key w found even around running above below found_is made new before past (turns.below past)
+pub keeps_even : (w : Window) (key found : ℕ) (new : Window) → AroundKey w key → w.low < w.probe → w.probe < w.high → Narrows w key found new → KeepsEven w key found new
+keeps_even w key found new around above below narrows = λ t made even running found_is before. elim (cases_lt key found) [
+  | inl past ↦ even_below t key w found even around running above below found_is made new before past (narrows.below past)
   | inr not_past ↦ elim (cases_lt found key) [
-    | inl past ↦ even_above t key w found even around running above below found_is made new before past (turns.above past)
+    | inl past ↦ even_above t key w found even around running above below found_is made new before past (narrows.above past)
     | inr not_short ↦ let same : found ≡ key = omega (arith, not_past, not_short) in
-        even_equal t key w found even around running above below found_is made new before same (turns.equal same)
+        even_equal t key w found even around running above below found_is made new before same (narrows.equal same)
   ]
 ]

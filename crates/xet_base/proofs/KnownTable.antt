@@ -4,15 +4,15 @@ use Rattle.std.proofs.lemmas.List.{drop-drop, length-append, length-drop}
 use Rattle.std.proofs.Math.Nat.{add-mul}
 use Rattle.std.proofs.lemmas.Bool.{cases_eq, eq-eqb, ne_eqb, cond-true, cond-false}
 use Rattle.std.proofs.lemmas.Nat.{from_le_bytes-to_le_bytes_8}
-use Rattle.xet_base.specs.Bytes.{u64_bytes, spelled_u64}
+use Rattle.xet_base.specs.Bytes.{u64_bytes, u64_from_bytes}
 use Rattle.xet_base.specs.Table.{Table, offset_of_row, row_offset, key_at, value_at, HasKey, hits_below}
 use Rattle.xet_base.proofs.Bytes.{length-u64_bytes}
 use Rattle.xet_base.proofs.Lists.{front_is, rest_is}
 use Rattle.xet_base.proofs.Tables.{hits_below-hit, hits_below-miss, offset_of_row-next}
 
-pub spelled_u64-bytes : (n : ℕ) → n < 2 ^ 64 → spelled_u64 (u64_bytes n) ≡ n
-unfolding spelled_u64 u64_bytes
-spelled_u64-bytes n fits = from_le_bytes-to_le_bytes_8 n fits
+pub u64_from_bytes-bytes : (n : ℕ) → n < 2 ^ 64 → u64_from_bytes (u64_bytes n) ≡ n
+unfolding u64_from_bytes u64_bytes
+u64_from_bytes-bytes n fits = from_le_bytes-to_le_bytes_8 n fits
 
 module _ {X : Type 0} (key : X → ℕ) (value : X → List ℕ) (width : ℕ) (length-value : (x : X) → length (value x) ≡ width) where
   abbrev row : X → List ℕ
@@ -62,8 +62,8 @@ module _ {X : Type 0} (key : X → ℕ) (value : X → List ℕ) (width : ℕ) (
         let x = get_or xs i d in
         let found = row_is_at i d within in
         let split = found.1 ∙ append_assoc (u64_bytes (key x)) (value x) found.0 in
-        ap spelled_u64 (front_is 8 (drop (row_offset t i) t.bytes) (u64_bytes (key x)) (value x ++ found.0) (length-u64_bytes (key x)) split)
-        ∙ spelled_u64-bytes (key x) fits
+        ap u64_from_bytes (front_is 8 (drop (row_offset t i) t.bytes) (u64_bytes (key x)) (value x ++ found.0) (length-u64_bytes (key x)) split)
+        ∙ u64_from_bytes-bytes (key x) fits
 
     pub value_is : (i : ℕ) (d : X) → i < length xs → value_at t i ≡ value (get_or xs i d)
     value_is i d within =

@@ -3,7 +3,7 @@ use Rattle.std.proofs.Common.{◌≡◌, inl, inr, ℕ, ◌+◌, ◌-◌, ◌*�
 use Rattle.std.proofs.lemmas.Bool.{cases_lt}
 use Rattle.std.proofs.Math.Nat.{lt-div-mul-add, add-mul}
 use Rattle.xet_base.specs.declared.interpolation_search.window.Window.{Window}
-use Rattle.xet_base.specs.Probes.{guess_of, AfterBelow, AfterAbove, TurnsBelow, TurnsAbove, TurnsEqual}
+use Rattle.xet_base.specs.Probes.{guess_of, AfterBelow, AfterAbove, NarrowsBelow, NarrowsAbove, NarrowsEqual}
 
 -- the quotient that a guess takes, in a window of `all` rows with keys d apart, for a key k past the lower
 pub guess_quotient : (low low_key high high_key key k all d : ℕ) → low_key + k ≡ key → low + all ≡ high → low_key + d ≡ high_key → 0 < d
@@ -47,11 +47,11 @@ above_within probe found high high_key key next after wide = elim (cases_lt (pro
 abbrev pub window : ℕ → ℕ → ℕ → ℕ → ℕ → Window
 window low low_key high high_key probe = record { low = low; low_key = low_key; high = high; high_key = high_key; probe = probe }
 
-pub is_below : (w : Window) (key found : ℕ) (new : Window) → TurnsBelow w key found new → new ≡ window w.low w.low_key w.probe found new.probe
-is_below w key found new turns = λ i. window (turns.low i) (turns.low_key i) (turns.high i) (turns.high_key i) new.probe
+pub is_below : (w : Window) (key found : ℕ) (new : Window) → NarrowsBelow w key found new → new ≡ window w.low w.low_key w.probe found new.probe
+is_below w key found new narrows = λ i. window (narrows.low i) (narrows.low_key i) (narrows.high i) (narrows.high_key i) new.probe
 
-pub is_above : (w : Window) (key found : ℕ) (new : Window) → TurnsAbove w key found new → new ≡ window w.probe found w.high w.high_key new.probe
-is_above w key found new turns = λ i. window (turns.low i) (turns.low_key i) (turns.high i) (turns.high_key i) new.probe
+pub is_above : (w : Window) (key found : ℕ) (new : Window) → NarrowsAbove w key found new → new ≡ window w.probe found w.high w.high_key new.probe
+is_above w key found new narrows = λ i. window (narrows.low i) (narrows.low_key i) (narrows.high i) (narrows.high_key i) new.probe
 
-pub is_equal : (w new : Window) → TurnsEqual w new → new ≡ window w.low w.low_key w.probe w.high_key new.probe
-is_equal w new turns = λ i. window (turns.low i) (turns.low_key i) (turns.high i) (turns.high_key i) new.probe
+pub is_equal : (w new : Window) → NarrowsEqual w new → new ≡ window w.low w.low_key w.probe w.high_key new.probe
+is_equal w new narrows = λ i. window (narrows.low i) (narrows.low_key i) (narrows.high i) (narrows.high_key i) new.probe

@@ -2,7 +2,7 @@
 use Rattle.std.specs.Prelude.{◌≡◌, ◌⊎◌, ℕ, ◌+◌, ◌-◌, ◌*◌, ◌^◌, ◌<◌, ◌≤◌, List, length, min, All}
 use Rattle.xet_base.specs.declared.interpolation_search.window.Window.{Window}
 use Rattle.xet_base.specs.Source.{Source}
-use Rattle.xet_base.specs.Table.{Table, row_offset, key_at, HasKey, IsSorted, hits_below, hits, Finds, Serves, IsEven}
+use Rattle.xet_base.specs.Table.{Table, row_offset, key_at, HasKey, IsSorted, hits_below, hits, Finds, NoFailure, IsEven}
 use Rattle.xet_base.specs.Search.{IsRow, FindsFrom, Counts}
 use Rattle.xet_base.specs.Probes.{guess_of, AroundKey, OnEven}
 
@@ -14,7 +14,7 @@ pub record FindsAround {V : Type 0} (t : Table) (key : ℕ) (Gives : List ℕ �
 -- rows from `from` to before `i` were read but for the first `skip` bytes, and those with the key kept
 pub record Collected {V : Type 0} (t : Table) (key : ℕ) (Gives : List ℕ → V → Type 0) (from i to skip : ℕ) (old new : Source)
     (results_old results : List V) (had count : ℕ) : Type 0 where
-  pub serves : Serves old new
+  pub no_failure : NoFailure old new
   pub at : new.at ≡ row_offset t i
   pub seeks : new.seeks ≡ old.seeks
   pub read : new.read + (row_offset t from + skip) ≡ old.read + row_offset t i
@@ -85,7 +85,7 @@ pub record Searches {V : Type 0} (t : Table) (key : ℕ) (Gives : List ℕ → V
   pub around : AroundKey w key
   pub within : w.high ≤ t.rows + 1
   pub inside : w.low + 256 < w.high → (w.low < w.probe) × (w.probe < w.high)
-  pub serves : Serves old now
+  pub no_failure : NoFailure old now
   pub made : ℕ
   pub seeks : now.seeks ≡ old.seeks + made
   pub finds : FindsFrom t key Gives (w.high - 1) results_old results count

@@ -6,9 +6,9 @@ use Rattle.std.proofs.KnownBytes.{Consumes-trans, Consumes-kept}
 use Rattle.std.proofs.lemmas.Slice.{take-put_mid_below}
 use Rattle.std.specs.Io.KnownBytes.{Consumes, Keeps}
 use borrow.Rule.Slice.PartMut.{put_mid}
-use Rattle.xet_base.specs.Bytes.{HasBytes, LacksBytes, AreBytes, Passes}
+use Rattle.xet_base.specs.Bytes.{HasBytes, LacksBytes, AreBytes, ReadsThrough}
 use Rattle.xet_base.specs.InputLaws.{LacksBytes-consumed}
-use Rattle.xet_base.specs.Source.{Source, advanced, bytes_left, next_bytes, Takes}
+use Rattle.xet_base.specs.Source.{Source, advanced, bytes_left, next_bytes, ReadsBytes}
 use Rattle.xet_base.proofs.Bytes.{length-numbers, append-bytes}
 use Rattle.xet_base.proofs.Lists.{take-put_mid_part}
 
@@ -46,8 +46,8 @@ module _ (number_bytes : ℕ → List ℕ) (size : ℕ) (len : (n : ℕ) → len
       HasBytes-consumed a b (flat_map number_bytes (take i ns)) _ (length-numbers number_bytes size len (take i ns) ∙ ap (λ n. size * n) count) taken
 
 -- what was read from a source was consumed from the bytes that it had left
-pub Takes-consumes : (a b : Source) (xs : List ℕ) → Takes a b xs → Consumes (Some (bytes_left a)) (Some (bytes_left b)) xs
-Takes-consumes a b xs taken =
+pub ReadsBytes-consumes : (a b : Source) (xs : List ℕ) → ReadsBytes a b xs → Consumes (Some (bytes_left a)) (Some (bytes_left b)) xs
+ReadsBytes-consumes a b xs taken =
     sym (take-append-drop (length xs) (bytes_left a))
     ∙ (λ i. sym taken.there i ++ drop-drop (length xs) a.at a.bytes i)
     ∙ ap (λ (s : Source). xs ++ bytes_left s) (sym taken.after)
@@ -58,7 +58,7 @@ lacks_left s n some ends = omega (arith, length-drop s.at s.bytes)
 
 -- a source that moved past bytes passed them
 pub passed_next : (old new : Source) (n count : ℕ) → n ≡ count → (0 < n → old.at + n ≤ length old.bytes) → AreBytes (next_bytes old n)
-    → new ≡ advanced old n → Passes (Takes old new) count
+    → new ≡ advanced old n → ReadsThrough (ReadsBytes old new) count
 passed_next old new n count all there are after =
     let len : length (next_bytes old n) ≡ n = grind (arith, length-take n (bytes_left old), length-drop old.at old.bytes, there) in
     record {
@@ -74,7 +74,7 @@ passed_next old new n count all there are after =
 
 -- bytes that were passed, and a part that was read after them
 pub passed_more : (First Next Both : List ℕ → Type 0) (m n : ℕ) (part : List ℕ) → ((xs ys : List ℕ) → First xs → Next ys → Both (xs ++ ys))
-    → Passes First m → AreBytes part → length part ≡ n → Next part → Passes Both (m + n)
+    → ReadsThrough First m → AreBytes part → length part ≡ n → Next part → ReadsThrough Both (m + n)
 passed_more First Next Both m n part joins before are len taken = record {
   passed = before.passed ++ part;
   bytes = append-bytes before.passed part before.bytes are;

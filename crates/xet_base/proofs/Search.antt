@@ -5,9 +5,9 @@ use Rattle.xet_base.specs.declared.interpolation_search.table_range.TableRange.{
 use Rattle.std.specs.declared.result.Result.{Result}
 use Rattle.std.specs.declared.io.Error.{Error}
 use Rattle.xet_base.specs.Source.{Source, advanced, moved, next_bytes, FillFailure, FillFails}
-use Rattle.xet_base.specs.Bytes.{spelled_u64}
-use Rattle.xet_base.specs.Table.{Table, table_at, Answers, Finds, row_offset, key_at, Serves, TableFailure, ReadsOn}
-use Rattle.xet_base.specs.Search.{table_in, ReadsKey, Stops}
+use Rattle.xet_base.specs.Bytes.{u64_from_bytes}
+use Rattle.xet_base.specs.Table.{Table, table_at, Answers, Finds, row_offset, key_at, NoFailure, TableFailure, ReadsCount}
+use Rattle.xet_base.specs.Search.{table_in, ReadsKey, StopsWithin}
 use Rattle.xet_base.proofs.Tables.{offset_of_row-next, offset_of_row-le}
 
 -- the bytes of a row are within the table
@@ -15,37 +15,37 @@ pub row_within : (t : Table) (i : ℕ) → i < t.rows → row_offset t i + (8 + 
 row_within t i within = omega (arith, offset_of_row-next t.start t.width i, offset_of_row-le t.start t.width (i + 1) t.rows (omega arith))
 
 -- a read within a row failed, after reads that did not
-pub read_failure : (t : Table) (i : ℕ) (old mid new : Source) (n : ℕ) (e : Error) → Serves old mid → i < t.rows → mid.at + n ≤ row_offset t i + (8 + t.width)
+pub read_failure : (t : Table) (i : ℕ) (old mid new : Source) (n : ℕ) (e : Error) → NoFailure old mid → i < t.rows → mid.at + n ≤ row_offset t i + (8 + t.width)
     → FillFailure mid new n e → TableFailure t old new e
-read_failure t i old mid new n e serves row within (inl failed) = inl (failed.0 ∙ ap (λ k. k + 1) serves.failures, failed.1)
-read_failure t i old mid new n e serves row within (inr ended) =
-    inr (ended.0 ∙ serves.failures, ended.1, omega (arith, row), omega (arith, ended.2, ap length serves.bytes, within, row_within t i row))
+read_failure t i old mid new n e no_failure row within (inl failed) = inl (failed.0 ∙ ap (λ k. k + 1) no_failure.failures, failed.1)
+read_failure t i old mid new n e no_failure row within (inr ended) =
+    inr (ended.0 ∙ no_failure.failures, ended.1, omega (arith, row), omega (arith, ended.2, ap length no_failure.bytes, within, row_within t i row))
 
-pub serves_still : (s : Source) → Serves s s
+pub serves_still : (s : Source) → NoFailure s s
 serves_still s = record { bytes = refl; failures = refl; last_failure = refl }
 
-pub serves_advanced : (old mid new : Source) (n : ℕ) → Serves old mid → new ≡ advanced mid n → Serves old new
-serves_advanced old mid new n serves after = record {
-  bytes = ap (λ s. s.bytes) after ∙ serves.bytes;
-  failures = ap (λ s. s.failures) after ∙ serves.failures;
-  last_failure = ap (λ s. s.last_failure) after ∙ serves.last_failure;
+pub serves_advanced : (old mid new : Source) (n : ℕ) → NoFailure old mid → new ≡ advanced mid n → NoFailure old new
+serves_advanced old mid new n no_failure after = record {
+  bytes = ap (λ s. s.bytes) after ∙ no_failure.bytes;
+  failures = ap (λ s. s.failures) after ∙ no_failure.failures;
+  last_failure = ap (λ s. s.last_failure) after ∙ no_failure.last_failure;
 }
 
-pub serves_moved : (old mid new : Source) (to : ℕ) → Serves old mid → new ≡ moved mid to → Serves old new
-serves_moved old mid new to serves after = record {
-  bytes = ap (λ s. s.bytes) after ∙ serves.bytes;
-  failures = ap (λ s. s.failures) after ∙ serves.failures;
-  last_failure = ap (λ s. s.last_failure) after ∙ serves.last_failure;
+pub serves_moved : (old mid new : Source) (to : ℕ) → NoFailure old mid → new ≡ moved mid to → NoFailure old new
+serves_moved old mid new to no_failure after = record {
+  bytes = ap (λ s. s.bytes) after ∙ no_failure.bytes;
+  failures = ap (λ s. s.failures) after ∙ no_failure.failures;
+  last_failure = ap (λ s. s.last_failure) after ∙ no_failure.last_failure;
 }
 
 -- after a seek to a row, its key is what is read
 pub key_read : (t : Table) (i : ℕ) (old mid new : Source) (r : Result ℕ Error) → t.bytes ≡ old.bytes → i < t.rows → mid ≡ moved old (row_offset t i)
-    → MatchResult r (λ key. ReadsOn mid new 8 × (key ≡ spelled_u64 (next_bytes mid 8))) (FillFails mid new 8)
-    → MatchResult r (ReadsKey t i old new) (Stops t 1 8 old new)
+    → MatchResult r (λ key. ReadsCount mid new 8 × (key ≡ u64_from_bytes (next_bytes mid 8))) (FillFails mid new 8)
+    → MatchResult r (ReadsKey t i old new) (StopsWithin t 1 8 old new)
 unfolding key_at
 key_read t i old mid new (Ok key) same within sought (reads, is_key) = record {
   there = omega (arith, reads.within (omega arith), ap (λ s. s.at) sought, ap (λ s. length s.bytes) sought, ap length same);
-  is_key = is_key ∙ ap (λ s. spelled_u64 (next_bytes s 8)) sought ∙ ap (λ bytes. spelled_u64 (take 8 (drop (row_offset t i) bytes))) (sym same);
+  is_key = is_key ∙ ap (λ s. u64_from_bytes (next_bytes s 8)) sought ∙ ap (λ bytes. u64_from_bytes (take 8 (drop (row_offset t i) bytes))) (sym same);
   after = reads.after ∙ ap (λ s. advanced s 8) sought;
 }
 key_read t i old mid new (Err e) same within sought fails = record {

@@ -2,9 +2,9 @@
 use Rattle.std.proofs.Common.{◌≡◌, inl, inr, ℕ, ◌+◌, ◌-◌, ◌*◌, ◌^◌, ◌<◌, ◌≤◌, List, length, refl, sym, ap, ◌∙◌, subst, arith, add-mul, mul-le-mul_right}
 use Rattle.xet_base.specs.declared.interpolation_search.window.Window.{Window}
 use Rattle.xet_base.specs.Source.{Source}
-use Rattle.xet_base.specs.Table.{Table, row_offset, key_at, HasKey, IsSorted, hits_below, hits, Serves, even_step, IsEven}
+use Rattle.xet_base.specs.Table.{Table, row_offset, key_at, HasKey, IsSorted, hits_below, hits, NoFailure, even_step, IsEven}
 use Rattle.xet_base.specs.Search.{ReadsKey, IsRow, FindsFrom, Counts, Runs}
-use Rattle.xet_base.specs.Probes.{guess_of, IsWhole, TurnsBelow, TurnsAbove, TurnsEqual, OnEven, KeepsEven}
+use Rattle.xet_base.specs.Probes.{guess_of, IsWhole, NarrowsBelow, NarrowsAbove, NarrowsEqual, OnEven, KeepsEven}
 use Rattle.xet_base.proofs.Progress.{Matching, OnSorted, Searches}
 use Rattle.xet_base.proofs.Tables.{offset_of_row-add, offset_of_row-le, hits_below-hit, hits_below-le, keys_ascend, none_after}
 use Rattle.xet_base.proofs.Search.{serves_still, serves_moved, serves_advanced}
@@ -69,7 +69,7 @@ searches_start t key Gives w old results fits whole =
       around = record { rows = omega arith; below = omega arith; above = omega (arith, fits); apart = omega arith };
       within = omega arith;
       inside = λ wide. guess_within 0 0 (t.rows + 1) (2 ^ 64 - 1) key (omega (arith, wide));
-      serves = serves_still old;
+      no_failure = serves_still old;
       made = 0;
       seeks = omega arith;
       finds = from_none t key Gives (t.rows + 1 - 1) results;
@@ -109,8 +109,8 @@ module _ {V : Type 0} (t : Table) (key : ℕ) (Gives : List ℕ → V → Type 0
   found_even : (even : IsEven t) → found ≡ w.probe * even_step t.rows
   found_even even = reads.is_key ∙ even.keys (w.probe - 1) row_within reads.there ∙ ap (λ n. n * even_step t.rows) row_is
 
-  pub mid_serves : Serves old mid
-  mid_serves = serves_advanced old _ mid 8 (serves_moved old now _ (row_offset t (w.probe - 1)) so_far.serves refl) reads.after
+  pub mid_serves : NoFailure old mid
+  mid_serves = serves_advanced old _ mid 8 (serves_moved old now _ (row_offset t (w.probe - 1)) so_far.no_failure refl) reads.after
 
   pub mid_seeks : mid.seeks ≡ old.seeks + (so_far.made + 1)
   mid_seeks = omega (arith, ap (λ s. s.seeks) reads.after, so_far.seeks)
@@ -118,17 +118,17 @@ module _ {V : Type 0} (t : Table) (key : ℕ) (Gives : List ℕ → V → Type 0
   mid_read : mid.read ≡ now.read + 8
   mid_read = omega (arith, ap (λ s. s.read) reads.after)
 
-  pub searches_below : (new : Window) → key < found → TurnsBelow w key found new → KeepsEven w key found new → Searches t key Gives new old mid results_old results count
-  searches_below new past turns steps = subst (λ v. Searches t key Gives v old mid results_old results count) (sym (is_below w key found new turns)) (record {
+  pub searches_below : (new : Window) → key < found → NarrowsBelow w key found new → KeepsEven w key found new → Searches t key Gives new old mid results_old results count
+  searches_below new past narrows steps = subst (λ v. Searches t key Gives v old mid results_old results count) (sym (is_below w key found new narrows)) (record {
     around = record { rows = above; below = so_far.around.below; above = omega (arith, past); apart = omega (arith, past, so_far.around.below) };
     within = omega (arith, below, so_far.within);
-    inside = λ wide. below_within w.low w.low_key w.probe found key new.probe turns.probe (omega (arith, wide));
-    serves = mid_serves;
+    inside = λ wide. below_within w.low w.low_key w.probe found key new.probe narrows.probe (omega (arith, wide));
+    no_failure = mid_serves;
     made = so_far.made + 1;
     seeks = mid_seeks;
     finds = from_weaker t key Gives (w.probe - 1) (w.high - 1) results_old results count (omega (arith, below)) so_far.finds;
     sorted = on_sorted;
-    even = λ even. subst (λ v. OnEven t key v (so_far.made + 1)) (is_below w key found new turns)
+    even = λ even. subst (λ v. OnEven t key v (so_far.made + 1)) (is_below w key found new narrows)
         (steps t so_far.made even running (found_even even) (so_far.even even));
   })
     where
@@ -145,7 +145,7 @@ module _ {V : Type 0} (t : Table) (key : ℕ) (Gives : List ℕ → V → Type 0
             keys_ascend t (w.probe - 1) (w.high - 1) sorted (omega (arith, below)) row.within row.there,
           )) in
           let under : found ≤ w.high_key = elim before.to_high [
-            | inl greatest ↦ omega (arith, greatest, turns.fits)
+            | inl greatest ↦ omega (arith, greatest, narrows.fits)
             | inr most ↦ omega (arith, reads.is_key, most (w.probe - 1) (omega (arith, above, below)) reads.there)
           ] in
           record {
@@ -160,21 +160,21 @@ module _ {V : Type 0} (t : Table) (key : ℕ) (Gives : List ℕ → V → Type 0
             later = before.later;
             left = omega (arith, before.left, none);
             course = course_below (IsRow t key (w.high - 1)) (IsRow t key (w.probe - 1)) (t.rows + 1) before.later w.low w.low_key w.high w.high_key key w.probe so_far.made
-                found new.probe so_far.around running above below before.course not_equal under past turns.probe before.later;
+                found new.probe so_far.around running above below before.course not_equal under past narrows.probe before.later;
             read = costs so_far.made before.later before.later 0 now.read mid.read mid.read t.width mid_read (omega arith) (omega arith) old.read before.read;
           }
 
-  pub searches_above : (new : Window) → found < key → TurnsAbove w key found new → KeepsEven w key found new → Searches t key Gives new old mid results_old results count
-  searches_above new past turns steps = subst (λ v. Searches t key Gives v old mid results_old results count) (sym (is_above w key found new turns)) (record {
+  pub searches_above : (new : Window) → found < key → NarrowsAbove w key found new → KeepsEven w key found new → Searches t key Gives new old mid results_old results count
+  searches_above new past narrows steps = subst (λ v. Searches t key Gives v old mid results_old results count) (sym (is_above w key found new narrows)) (record {
     around = record { rows = below; below = omega (arith, past); above = so_far.around.above; apart = omega (arith, past, so_far.around.above) };
     within = so_far.within;
-    inside = λ wide. above_within w.probe found w.high w.high_key key new.probe turns.probe (omega (arith, wide));
-    serves = mid_serves;
+    inside = λ wide. above_within w.probe found w.high w.high_key key new.probe narrows.probe (omega (arith, wide));
+    no_failure = mid_serves;
     made = so_far.made + 1;
     seeks = mid_seeks;
     finds = so_far.finds;
     sorted = on_sorted;
-    even = λ even. subst (λ v. OnEven t key v (so_far.made + 1)) (is_above w key found new turns)
+    even = λ even. subst (λ v. OnEven t key v (so_far.made + 1)) (is_above w key found new narrows)
         (steps t so_far.made even running (found_even even) (so_far.even even));
   })
     where
@@ -199,30 +199,30 @@ module _ {V : Type 0} (t : Table) (key : ℕ) (Gives : List ℕ → V → Type 0
             later = before.later;
             left = before.left;
             course = course_above (IsRow t key (w.high - 1)) (IsRow t key (w.high - 1)) (t.rows + 1) before.later w.low w.low_key w.high w.high_key key w.probe so_far.made
-                found new.probe so_far.around running above below before.course over past turns.probe;
+                found new.probe so_far.around running above below before.course over past narrows.probe;
             read = costs so_far.made before.later before.later 0 now.read mid.read mid.read t.width mid_read (omega arith) (omega arith) old.read before.read;
           }
 
-  pub searches_equal : (new : Window) (after : Source) (results_new : List V) (count_new : ℕ) → found ≡ key → TurnsEqual w new → KeepsEven w key found new → Serves mid after
+  pub searches_equal : (new : Window) (after : Source) (results_new : List V) (count_new : ℕ) → found ≡ key → NarrowsEqual w new → KeepsEven w key found new → NoFailure mid after
       → Runs t key (w.probe - 1) (w.high - 1) mid after → FindsFrom t key Gives (w.probe - 1) results_old results_new count_new
       → length results ≡ length results_old
       → (IsSorted t → Counts t key (w.probe - 1) (w.high - 1) (length results) count count_new)
       → Searches t key Gives new old after results_old results_new count_new
-  searches_equal new after results_new count_new same turns steps serves runs finds len counts =
-      subst (λ v. Searches t key Gives v old after results_old results_new count_new) (sym (is_equal w new turns)) (record {
+  searches_equal new after results_new count_new same narrows steps no_failure runs finds len counts =
+      subst (λ v. Searches t key Gives v old after results_old results_new count_new) (sym (is_equal w new narrows)) (record {
         around = record { rows = above; below = so_far.around.below; above = so_far.around.above; apart = so_far.around.apart };
         within = omega (arith, below, so_far.within);
-        inside = λ wide. (omega (arith, turns.probe, wide), omega (arith, turns.probe, wide));
-        serves = record {
-          bytes = serves.bytes ∙ mid_serves.bytes;
-          failures = serves.failures ∙ mid_serves.failures;
-          last_failure = serves.last_failure ∙ mid_serves.last_failure;
+        inside = λ wide. (omega (arith, narrows.probe, wide), omega (arith, narrows.probe, wide));
+        no_failure = record {
+          bytes = no_failure.bytes ∙ mid_serves.bytes;
+          failures = no_failure.failures ∙ mid_serves.failures;
+          last_failure = no_failure.last_failure ∙ mid_serves.last_failure;
         };
         made = so_far.made + 1;
         seeks = runs.seeks ∙ mid_seeks;
         finds = finds;
         sorted = on_sorted;
-        even = λ even. subst (λ v. OnEven t key v (so_far.made + 1)) (is_equal w new turns)
+        even = λ even. subst (λ v. OnEven t key v (so_far.made + 1)) (is_equal w new narrows)
             (steps t so_far.made even running (found_even even) (so_far.even even));
       })
     where
@@ -259,6 +259,6 @@ module _ {V : Type 0} (t : Table) (key : ℕ) (Gives : List ℕ → V → Type 0
             later = later_new;
             left = omega (arith, before.left, less);
             course = course_equal (IsRow t key (w.high - 1)) (IsRow t key (w.probe - 1)) (t.rows + 1) before.later w.low w.low_key w.high w.high_key key w.probe so_far.made
-                found new.probe so_far.around running above below before.course row turns.probe later_new (omega (arith, one)) more;
+                found new.probe so_far.around running above below before.course row narrows.probe later_new (omega (arith, one)) more;
             read = costs so_far.made before.later later_new rows now.read mid.read after.read t.width mid_read read few old.read before.read;
           }

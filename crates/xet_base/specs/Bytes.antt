@@ -12,8 +12,8 @@ unfoldable pub u64_bytes : ℕ → List ℕ
 u64_bytes n = to_le_bytes w64 n
 
 -- the number that eight bytes spell, lowest byte first
-unfoldable pub spelled_u64 : List ℕ → ℕ
-spelled_u64 bytes = from_le_bytes w64 bytes
+unfoldable pub u64_from_bytes : List ℕ → ℕ
+u64_from_bytes bytes = from_le_bytes w64 bytes
 
 -- a reader has at least n bytes, if its bytes are known
 abbrev pub HasBytes : Option (List ℕ) → ℕ → Type 0
@@ -30,7 +30,7 @@ abbrev pub AreBytes : List ℕ → Type 0
 AreBytes bytes = (i : ℕ) → slice_index bytes i < 256
 
 -- an input took so many bytes
-pub record Passes (Took : List ℕ → Type 0) (count : ℕ) : Type 0 where
+pub record ReadsThrough (Took : List ℕ → Type 0) (count : ℕ) : Type 0 where
   pub passed : List ℕ
   pub bytes : AreBytes passed
   pub len : length passed ≡ count

@@ -11,7 +11,7 @@ use Rattle.xet_base.specs.declared.error.CoreError.TheVariants.{Io, OutOfMemory}
 use Rattle.xet_base.specs.Bytes.{LacksBytes}
 use Rattle.xet_base.specs.Errors.{FromDevice}
 use Rattle.xet_base.specs.Input.{ReaderLacks, ReaderFails}
-use Rattle.xet_base.specs.Source.{Source, advanced, next_bytes, Takes, FailedBy, ReadCase, FillFailure, FillFails, ReadFails}
+use Rattle.xet_base.specs.Source.{Source, advanced, next_bytes, ReadsBytes, FailedBy, ReadCase, FillFailure, FillFails, ReadFails}
 use Rattle.xet_base.specs.Source.ReadCase.{out_of_memory, out_of_bytes}
 
 pub advanced-advanced : (s : Source) (m n : ℕ) → advanced (advanced s m) n ≡ advanced s (m + n)
@@ -32,16 +32,16 @@ LacksBytes-consumed (Some xs) (Some ys) bytes n most within taken lacks =
     omega (arith, ap length taken ∙ length-append bytes ys)
 
 -- bytes that were read one after another
-pub Takes-nil : (s : Source) → Takes s s []
-Takes-nil s = record {
+pub ReadsBytes-nil : (s : Source) → ReadsBytes s s []
+ReadsBytes-nil s = record {
   within = λ some. absurd (omega arith);
   there = refl;
   after = λ i. record s { at = sym (add-zero s.at) i; read = sym (add-zero s.read) i };
 }
 
-pub Takes-trans : (a b c : Source) (xs ys : List ℕ) → Takes a b xs → Takes b c ys
-    → Takes a c (xs ++ ys)
-Takes-trans a b c xs ys first last =
+pub ReadsBytes-trans : (a b c : Source) (xs ys : List ℕ) → ReadsBytes a b xs → ReadsBytes b c ys
+    → ReadsBytes a c (xs ++ ys)
+ReadsBytes-trans a b c xs ys first last =
     let at_is : b.at ≡ a.at + length xs = ap (λ s. s.at) first.after in
     let bytes : length b.bytes ≡ length a.bytes = ap (λ s. length s.bytes) first.after in
     record {
@@ -126,12 +126,12 @@ later old new k n most f within fails = record {
       fails.cause;
 }
 
-pub source_fails_later : (a b c : Source) (xs : List ℕ) (n most : ℕ) (f : CoreError) → Takes a b xs
+pub source_fails_later : (a b c : Source) (xs : List ℕ) (n most : ℕ) (f : CoreError) → ReadsBytes a b xs
     → ReadFails b c n f → length xs + n ≤ most → ReadFails a c most f
 source_fails_later a b c xs n most f taken fails within =
     later a c (length xs) n most f within (subst (λ s. ReadFails s c n f) taken.after fails)
 
-pub source_lacks_memory : (a b : Source) (xs : List ℕ) (most : ℕ) (f : CoreError) → Takes a b xs
+pub source_lacks_memory : (a b : Source) (xs : List ℕ) (most : ℕ) (f : CoreError) → ReadsBytes a b xs
     → length xs ≤ most → 0 < most → f ≡ OutOfMemory → ReadFails a b most f
 source_lacks_memory a b xs most f taken within some memory = record {
   some = some;

@@ -41,7 +41,7 @@ pub record IsWhole (rows key : ℕ) (w : Window) : Type 0 where
   pub probe : w.probe ≡ guess_of 0 0 (rows + 1) (2 ^ 64 - 1) key
 
 -- the probed row has a greater key
-pub record TurnsBelow (w : Window) (key found : ℕ) (new : Window) : Type 0 where
+pub record NarrowsBelow (w : Window) (key found : ℕ) (new : Window) : Type 0 where
   pub low : new.low ≡ w.low
   pub low_key : new.low_key ≡ w.low_key
   pub high : new.high ≡ w.probe
@@ -50,7 +50,7 @@ pub record TurnsBelow (w : Window) (key found : ℕ) (new : Window) : Type 0 whe
   pub probe : AfterBelow w.low w.probe (guess_of w.low w.low_key w.probe found key) new.probe
 
 -- the probed row has a smaller key
-pub record TurnsAbove (w : Window) (key found : ℕ) (new : Window) : Type 0 where
+pub record NarrowsAbove (w : Window) (key found : ℕ) (new : Window) : Type 0 where
   pub low : new.low ≡ w.probe
   pub low_key : new.low_key ≡ found
   pub high : new.high ≡ w.high
@@ -58,7 +58,7 @@ pub record TurnsAbove (w : Window) (key found : ℕ) (new : Window) : Type 0 whe
   pub probe : AfterAbove w.high w.probe (guess_of w.probe found w.high w.high_key key) new.probe
 
 -- the probed row has the key
-pub record TurnsEqual (w new : Window) : Type 0 where
+pub record NarrowsEqual (w new : Window) : Type 0 where
   pub low : new.low ≡ w.low
   pub low_key : new.low_key ≡ w.low_key
   pub high : new.high ≡ w.probe
@@ -66,10 +66,10 @@ pub record TurnsEqual (w new : Window) : Type 0 where
   pub probe : new.probe ≡ w.probe - min 4 (w.probe - (w.low + 1))
 
 -- what is left once the probed row's key was found
-pub record Turns (w : Window) (key found : ℕ) (new : Window) : Type 0 where
-  pub below : key < found → TurnsBelow w key found new
-  pub above : found < key → TurnsAbove w key found new
-  pub equal : found ≡ key → TurnsEqual w new
+pub record Narrows (w : Window) (key found : ℕ) (new : Window) : Type 0 where
+  pub below : key < found → NarrowsBelow w key found new
+  pub above : found < key → NarrowsAbove w key found new
+  pub equal : found ≡ key → NarrowsEqual w new
 
 -- on an even table the first guess is at most one row off: nothing was probed; the key was found,
 -- or a row a little below it; or few rows are left

@@ -25,7 +25,7 @@ ReadsValues {R} {V} width meaning post =
     → ActsAsReadFull width (meaning s) r (meaning t)
 
 -- reading was cut off after so many seeks and at most so many bytes
-pub record Stops (t : Table) (made most : ℕ) (old new : Source) (e : Error) : Type 0 where
+pub record StopsWithin (t : Table) (made most : ℕ) (old new : Source) (e : Error) : Type 0 where
   pub bytes : new.bytes ≡ old.bytes
   pub seeks : new.seeks ≡ old.seeks + made
   pub read : new.read ≤ old.read + most
@@ -64,7 +64,7 @@ Counts t key from to room had count =
     count + hits_below t key from ≡ min (had + hits_below t key to) (room + hits_below t key from)
 
 -- rows from `from` to before `to` were read, or some of the first of them
-pub record Passes (t : Table) (from to : ℕ) (old new : Source) : Type 0 where
+pub record ReadsThrough (t : Table) (from to : ℕ) (old new : Source) : Type 0 where
   pub bytes : new.bytes ≡ old.bytes
   pub seeks : new.seeks ≡ old.seeks
   pub read : new.read + row_offset t from ≤ old.read + row_offset t to

@@ -50,7 +50,7 @@ abbrev pub bytes_left : Source → List ℕ
 bytes_left s = drop s.at s.bytes
 
 -- these bytes were read, from the source's position on
-pub record Takes (old new : Source) (taken : List ℕ) : Type 0 where
+pub record ReadsBytes (old new : Source) (taken : List ℕ) : Type 0 where
   pub within : 0 < length taken → old.at + length taken ≤ length old.bytes
   pub there : taken ≡ next_bytes old (length taken)
   pub after : new ≡ advanced old (length taken)

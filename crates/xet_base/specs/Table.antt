@@ -5,7 +5,7 @@ use Rattle.std.specs.declared.result.Result.{Result}
 use Rattle.std.specs.IoError.{error_kind}
 use Rattle.std.specs.declared.io.Error.{Error}
 use Rattle.std.specs.declared.io.ErrorKind.TheVariants.{UnexpectedEof}
-use Rattle.xet_base.specs.Bytes.{spelled_u64}
+use Rattle.xet_base.specs.Bytes.{u64_from_bytes}
 use Rattle.xet_base.specs.declared.error.CoreError.{CoreError}
 use Rattle.xet_base.specs.declared.error.CoreError.TheVariants.{InvalidShard}
 use Rattle.xet_base.specs.Errors.{IsEndOfInput}
@@ -34,7 +34,7 @@ row_offset t i = offset_of_row t.start t.width i
 
 -- the key of row i, where its bytes are there
 unfoldable pub key_at : Table → ℕ → ℕ
-key_at t i = spelled_u64 (take 8 (drop (row_offset t i) t.bytes))
+key_at t i = u64_from_bytes (take 8 (drop (row_offset t i) t.bytes))
 
 -- the eight bytes of row i's key are there
 abbrev pub HasKey : Table → ℕ → Type 0
@@ -102,11 +102,11 @@ pub record FitsTable (t : Table) : Type 0 where
   pub placed : row_offset t t.rows < 2 ^ 64
 
 -- offsets or row numbers of the table do not fit `u64`
-abbrev pub IsPastTable : Table → Type 0
-IsPastTable t = (2 ^ 64 ≤ t.rows + 1) ⊎ (2 ^ 64 ≤ row_offset t t.rows)
+abbrev pub TableExceedsU64 : Table → Type 0
+TableExceedsU64 t = (2 ^ 64 ≤ t.rows + 1) ⊎ (2 ^ 64 ≤ row_offset t t.rows)
 
 -- the device did not fail, and the bytes are the same
-pub record Serves (old new : Source) : Type 0 where
+pub record NoFailure (old new : Source) : Type 0 where
   pub bytes : new.bytes ≡ old.bytes
   pub failures : new.failures ≡ old.failures
   pub last_failure : new.last_failure ≡ old.last_failure
@@ -128,7 +128,7 @@ IsBareInvalidShard _ = ⊥
 -- failed; or there are rows, and the bytes end before the table does
 abbrev pub SearchRefused : Table → Source → Source → CoreError → Type 0
 SearchRefused t old new e =
-    (IsBareInvalidShard e × IsPastTable t × (new ≡ old))
+    (IsBareInvalidShard e × TableExceedsU64 t × (new ≡ old))
     ⊎ (FitsTable t
     × (DeviceFailure old new e
     ⊎ ((new.failures ≡ old.failures) × IsEndOfInput e × (0 < t.rows)
@@ -142,13 +142,13 @@ pub record Bounded (t : Table) (key : ℕ) (old new : Source) : Type 0 where
   pub read : new.read ≤ old.read + (257 + hits t key + made) * (8 + t.width)
 
 -- n bytes were read
-pub record ReadsOn (old new : Source) (n : ℕ) : Type 0 where
+pub record ReadsCount (old new : Source) (n : ℕ) : Type 0 where
   pub within : 0 < n → old.at + n ≤ length old.bytes
   pub after : new ≡ advanced old n
 
 -- a call acts on the source as filling a slice of `width` bytes does
 abbrev pub ActsAsReadFull : {V : Type 0} → ℕ → Source → Result V Error → Source → Type 0
-ActsAsReadFull width old (Ok v) new = ReadsOn old new width
+ActsAsReadFull width old (Ok v) new = ReadsCount old new width
 ActsAsReadFull width old (Err e) new = FillFails old new width e
 
 -- some call, at a source whose next bytes are these, answers the value

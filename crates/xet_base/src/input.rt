@@ -6,14 +6,14 @@ ghost use Rattle.std.specs.declared.io.Error.{Error as DeviceError};
 ghost use Rattle.std.proofs.KnownBytes.{Consumes-nil, Consumes-trans};
 ghost use Rattle.xet_base.specs.declared.error.CoreError.{CoreError};
 ghost use Rattle.xet_base.specs.declared.error.CoreError.TheVariants.{OutOfMemory};
-ghost use Rattle.xet_base.specs.Bytes.{Passes};
+ghost use Rattle.xet_base.specs.Bytes.{ReadsThrough};
 ghost use Rattle.xet_base.specs.Errors.{FromDevice};
 ghost use Rattle.xet_base.specs.Input.{ReaderLacks, ReaderFails};
-ghost use Rattle.xet_base.specs.Source.{Takes, FillFails, ReadFails};
-ghost use Rattle.xet_base.specs.InputLaws.{reader_fails, reader_fails_later, reader_lacks_memory, source_fails, source_fails_later, source_lacks_memory, Takes-nil, Takes-trans};
+ghost use Rattle.xet_base.specs.Source.{ReadsBytes, FillFails, ReadFails};
+ghost use Rattle.xet_base.specs.InputLaws.{reader_fails, reader_fails_later, reader_lacks_memory, source_fails, source_fails_later, source_lacks_memory, ReadsBytes-nil, ReadsBytes-trans};
 
 use crate::error::Result;
-use crate::row::all_bytes;
+use crate::fields::all_bytes;
 use crate::serialization_utils::read_bytes;
 use crate::source::{BLOCK_SIZE, ShardSource, read_full};
 use std::io;
@@ -44,7 +44,7 @@ pub trait ByteInput<Mark> {
     /// Reads past `count` bytes. `UnexpectedEof` if fewer are left; any other error is the
     /// device's. If an implementation does not write it, the bytes are read.
     fn skip(&mut self, count: u64) -> Result<()>
-        ensures { MatchResult result (λ _. Passes (reads self.old self.new) count)
+        ensures { MatchResult result (λ _. ReadsThrough (reads self.old self.new) count)
             (fails self.old self.new count) }
     {
         let mut block = [0u8; BLOCK_SIZE];
@@ -100,15 +100,15 @@ impl<R: Read> ByteInput<OfReader> for R {
 }
 
 impl<S: ShardSource> ByteInput<OfSource> for S {
-    ghost reads = { λ a b xs. Takes (S.meaning a) (S.meaning b) xs };
+    ghost reads = { λ a b xs. ReadsBytes (S.meaning a) (S.meaning b) xs };
 
     ghost fill_fails = { λ a b n e. FillFails (S.meaning a) (S.meaning b) n e };
 
     ghost fails = { λ a b n f. ReadFails (S.meaning a) (S.meaning b) n f };
 
-    ghost reads_nothing = { λ a. Takes-nil (S.meaning a) };
+    ghost reads_nothing = { λ a. ReadsBytes-nil (S.meaning a) };
 
-    ghost joins = { λ a b c xs ys p q. Takes-trans (S.meaning a) (S.meaning b) (S.meaning c) xs ys p
+    ghost joins = { λ a b c xs ys p q. ReadsBytes-trans (S.meaning a) (S.meaning b) (S.meaning c) xs ys p
         q };
 
     ghost fails_once = { λ a b n e f p q. source_fails (S.meaning a) (S.meaning b) n e f p q };

@@ -2,9 +2,9 @@
 
 ghost use Rattle.std.specs.Prelude.{◌≡◌, ◌+◌, ◌<◌, ◌≤◌, List, length, min, MatchResult, IfOk, OnOk, IfErr};
 ghost use Rattle.xet_base.specs.Source.{FillFails, next_bytes};
-ghost use Rattle.xet_base.specs.Bytes.{spelled_u64};
-ghost use Rattle.xet_base.specs.Table.{table_at, row_offset, hits_below, hits, IsSorted, Finds, FitsTable, Serves, TableFailure, SearchRefused, Bounded, ReadsOn, ActsAsReadFull, Answers, IsEven};
-ghost use Rattle.xet_base.specs.Search.{table_in, ReadsKey, ReadsValues, Stops, IsRow, Kept, Extends, Counts, Passes, Runs};
+ghost use Rattle.xet_base.specs.Bytes.{u64_from_bytes};
+ghost use Rattle.xet_base.specs.Table.{table_at, row_offset, hits_below, hits, IsSorted, Finds, FitsTable, NoFailure, TableFailure, SearchRefused, Bounded, ReadsCount, ActsAsReadFull, Answers, IsEven};
+ghost use Rattle.xet_base.specs.Search.{table_in, ReadsKey, ReadsValues, StopsWithin, IsRow, Kept, Extends, Counts, ReadsThrough, Runs};
 
 mod table_range;
 mod window;
@@ -52,7 +52,7 @@ pub fn search_on_sorted_u64s<S: ShardSource, V: Default + Copy, F: Fn(&mut S) ->
         results.new) }
     ensures count { let t = table_at (S.meaning source.old) read_start num_entries value_width in
         IsSorted t → IfOk result (λ n. n ≡ min (hits t key) (length results.old)) }
-    ensures serves { OnOk result (Serves (S.meaning source.old) (S.meaning source.new)) }
+    ensures no_failure { OnOk result (NoFailure (S.meaning source.old) (S.meaning source.new)) }
     ensures fits { let t = table_at (S.meaning source.old) read_start num_entries value_width in
         OnOk result (0 < length results.old → FitsTable t) }
     ensures refused { IfErr result (SearchRefused
@@ -91,7 +91,7 @@ fn search_rows<S: ShardSource, V: Copy, F: Fn(&mut S) -> io::Result<V>>(
         → IfOk result
         (λ n. n ≡ min (hits (table_in range (S.meaning source.old).bytes) key)
         (length results.old)) }
-    ensures serves { OnOk result (Serves (S.meaning source.old) (S.meaning source.new)) }
+    ensures no_failure { OnOk result (NoFailure (S.meaning source.old) (S.meaning source.new)) }
     ensures refused { IfErr result
         (TableFailure (table_in range (S.meaning source.old).bytes) (S.meaning source.old)
         (S.meaning source.new)) }
@@ -142,7 +142,7 @@ fn keep_equal<S: ShardSource, V: Copy, F: Fn(&mut S) -> io::Result<V>>(
         rows.start rows.end had results.old results.new result }
     ensures count { let t = table_in range (S.meaning source.old).bytes in
         IsSorted t → IfOk result (Counts t key rows.start rows.end (length results.old) had) }
-    ensures serves { OnOk result (Serves (S.meaning source.old) (S.meaning source.new)) }
+    ensures no_failure { OnOk result (NoFailure (S.meaning source.old) (S.meaning source.new)) }
     ensures refused { let t = table_in range (S.meaning source.old).bytes in
         IfErr result (TableFailure t (S.meaning source.old) (S.meaning source.new)) }
     ensures runs { let t = table_in range (S.meaning source.old).bytes in
@@ -184,11 +184,11 @@ fn collect<S: ShardSource, V: Copy, F: Fn(&mut S) -> io::Result<V>>(
         rows.start rows.end had results.old results.new result }
     ensures count { let t = table_in range (S.meaning source.old).bytes in
         IsSorted t → IfOk result (Counts t key rows.start rows.end (length results.old) had) }
-    ensures serves { OnOk result (Serves (S.meaning source.old) (S.meaning source.new)) }
+    ensures no_failure { OnOk result (NoFailure (S.meaning source.old) (S.meaning source.new)) }
     ensures refused { let t = table_in range (S.meaning source.old).bytes in
         IfErr result (TableFailure t (S.meaning source.old) (S.meaning source.new)) }
     ensures passes { let t = table_in range (S.meaning source.old).bytes in
-        Passes t rows.start rows.end (S.meaning source.old) (S.meaning source.new) }
+        ReadsThrough t rows.start rows.end (S.meaning source.old) (S.meaning source.new) }
 {
     let mut count = had;
     for row in rows.start..rows.end {
@@ -222,7 +222,7 @@ fn read_key_of<S: ShardSource>(source: &mut S, range: TableRange, row: u64) -> i
     ensures { MatchResult result
         (ReadsKey (table_in range (S.meaning source.old).bytes) row (S.meaning source.old)
         (S.meaning source.new))
-        (Stops (table_in range (S.meaning source.old).bytes) 1 8 (S.meaning source.old)
+        (StopsWithin (table_in range (S.meaning source.old).bytes) 1 8 (S.meaning source.old)
         (S.meaning source.new)) }
 {
     source.seek_to(range.row_offset(row))?;
@@ -230,12 +230,12 @@ fn read_key_of<S: ShardSource>(source: &mut S, range: TableRange, row: u64) -> i
 }
 
 // Reads a key at the source's position.
-#[tactic(auto, unfolding(crate::specs::Bytes::spelled_u64))]
+#[tactic(auto, unfolding(crate::specs::Bytes::u64_from_bytes))]
 #[inline(always)]
 fn read_key<S: ShardSource>(source: &mut S) -> io::Result<u64>
     ensures { MatchResult result
-        (λ key. ReadsOn (S.meaning source.old) (S.meaning source.new) 8
-        × (key ≡ spelled_u64 (next_bytes (S.meaning source.old) 8)))
+        (λ key. ReadsCount (S.meaning source.old) (S.meaning source.new) 8
+        × (key ≡ u64_from_bytes (next_bytes (S.meaning source.old) 8)))
         (FillFails (S.meaning source.old) (S.meaning source.new) 8) }
 {
     let mut bytes = [0u8; 8];

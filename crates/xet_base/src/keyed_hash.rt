@@ -1,12 +1,12 @@
 //! The keyed hash: BLAKE3's keyed mode for one block of 32 bytes.
 
 ghost use Rattle.std.specs.Prelude.{◌≡◌, ℕ, ◌+◌, ◌*◌, ◌<◌, ◌≤◌, [], ◌∷◌, length, slice_index};
-ghost use Rattle.xet_base.specs.KeyedHash.{add32, xor_rotate, mix, mix_columns, mix_diagonals, permuted, state_after, message_after, word_at, words_before, start_of, message_of, digest, keyed_bytes};
+ghost use Rattle.xet_base.specs.KeyedHash.{add32, xor_rotate, mix, mix_columns, mix_diagonals, permuted, state_after, message_after, word_at, words_before, initial_state, message_of, digest, keyed_bytes};
 ghost use Rattle.xet_base.specs.Lanes.{words_in};
 
 mod four;
 
-use crate::row::put_u32;
+use crate::fields::put_u32;
 pub(crate) use four::keyed_bytes_four;
 use std::simd::u32x4;
 
@@ -21,14 +21,14 @@ type Rows = (u32x4, u32x4, u32x4, u32x4);
 pub(crate) fn keyed_bytes(key: &[u8; 32], message: &[u8; 32]) -> [u8; 32]
     ensures { result ≡ keyed_bytes key.now message.now }
 {
-    digest(&words_in(compress(start_of(key), message_of(message))))
+    digest(&words_in(compress(initial_state(key), message_of(message))))
 }
 
 // The state that begins with a key: four words of the function, a counter of 0, the length of the
 // block, and flags.
 #[inline(always)]
-fn start_of(key: &[u8; 32]) -> Rows
-    ensures { words_in result ≡ start_of key.now }
+fn initial_state(key: &[u8; 32]) -> Rows
+    ensures { words_in result ≡ initial_state key.now }
 {
     let k = words_of(key);
     (

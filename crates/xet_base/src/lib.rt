@@ -3,10 +3,10 @@
 
 pub mod count;
 pub mod error;
+pub mod fields;
 pub mod input;
 pub mod interpolation_search;
 mod keyed_hash;
 pub mod merklehash;
-pub mod row;
 pub mod serialization_utils;
 pub mod source;

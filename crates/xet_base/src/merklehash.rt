@@ -9,8 +9,8 @@ ghost use Rattle.xet_base.specs.KeyedHash.{hmac};
 ghost use Rattle.xet_base.specs.Hex.{hex_digit, hex_digits, hash_hex, IsHexDigit, IsHexText, Spells};
 
 use crate::error::{CoreError, Result};
+use crate::fields::split_u64;
 use crate::keyed_hash::{keyed_bytes, keyed_bytes_four};
-use crate::row::split_u64;
 use std::alloc::{AllocError, Global};
 use std::fmt;
 use std::ops::Index;

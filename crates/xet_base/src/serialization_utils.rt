@@ -13,8 +13,8 @@ ghost use Rattle.xet_base.specs.Bytes.{u32_bytes, u64_bytes, HasBytes};
 ghost use Rattle.xet_base.specs.Input.{ReaderLacks};
 ghost use Rattle.xet_base.specs.Hash.{hash_bytes};
 
+use crate::fields::{u32_of, u64_of};
 use crate::merklehash::MerkleHash;
-use crate::row::{u32_of, u64_of};
 use std::io;
 use std::io::{ErrorKind, Read, Write};
 

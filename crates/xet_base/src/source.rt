@@ -1,11 +1,11 @@
 //! Sources of bytes that are read at any offset. Contracts count their seeks and the bytes read.
 
 ghost use Rattle.std.specs.Prelude.{◌≡◌, ℕ, length, MatchResult, None};
-ghost use Rattle.xet_base.specs.Bytes.{Passes};
-ghost use Rattle.xet_base.specs.Source.{Source, ReadsSome, Fails, Takes, FillFails, moved};
+ghost use Rattle.xet_base.specs.Bytes.{ReadsThrough};
+ghost use Rattle.xet_base.specs.Source.{Source, ReadsSome, Fails, ReadsBytes, FillFails, moved};
 
 use crate::count::Count;
-use crate::row::all_bytes;
+use crate::fields::all_bytes;
 use std::io;
 use std::io::ErrorKind;
 
@@ -48,7 +48,7 @@ pub trait ShardSource {
     /// it, the bytes are read.
     fn pass(&mut self, count: u64) -> io::Result<()>
         ensures { MatchResult result
-            (λ _. Passes (Takes (meaning self.old) (meaning self.new)) count)
+            (λ _. ReadsThrough (ReadsBytes (meaning self.old) (meaning self.new)) count)
             (FillFails (meaning self.old) (meaning self.new) count) }
     {
         let mut block = [0u8; BLOCK_SIZE];
@@ -72,7 +72,7 @@ pub trait ShardSource {
 #[inline(always)]
 pub fn read_full<S: ShardSource>(source: &mut S, slice: &mut [u8]) -> io::Result<()>
     ensures { MatchResult result
-        (λ _. Takes (S.meaning source.old) (S.meaning source.new) slice.new)
+        (λ _. ReadsBytes (S.meaning source.old) (S.meaning source.new) slice.new)
         (FillFails (S.meaning source.old) (S.meaning source.new) (length slice.old)) }
 {
     if slice.is_empty() {

@@ -13,7 +13,7 @@ use Rattle.xet_c.specs.Arguments.{c_file, segments_in}
 use Rattle.xet_c.specs.Output.{Delivers}
 
 -- a file was looked up: on any bytes; and on those of a shard, where it is what the shard's map has
-pub record LooksUpFile (bytes : List ℕ) (hash : DataHash) (result : CoreResult (Option MDBFileInfo))
+pub record FindsFileInBytes (bytes : List ℕ) (hash : DataHash) (result : CoreResult (Option MDBFileInfo))
     : Type 0 where
   pub any_bytes : MatchResult result (FindsFile bytes hash) (RefusesFile bytes hash)
   pub written : (s : Shard) → IsBytesOf s bytes

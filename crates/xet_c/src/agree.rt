@@ -25,9 +25,9 @@ pub struct XetDisagreement {
     pub second: usize,
 }
 
-/// Looks for hashes under which two of the shards have records that do not agree: `differing` is how
-/// many there are, and `found` the first. If there is none, or the result is not 0, `differing` is 0 and
-/// `found` stays as it is.
+/// Looks for hashes under which two of the shards have records that do not agree: `differing` is
+/// how many there are, and `found` the first. If there is none, or the result is not 0, `differing`
+/// is 0 and `found` stays as it is.
 #[unsafe(no_mangle)]
 pub extern "C" fn xet_find_disagreement(
     alloc: Global,
@@ -52,8 +52,8 @@ pub extern "C" fn xet_find_disagreement(
 
 /// The union of one shard or more, as `xet_merge` makes it, to the front of `out`, if each two of
 /// the shards agree. If the result is 20, two of them do not: `written` is 0, `out` stays as it is,
-/// and `differing` and `found` are as `xet_find_disagreement` sets them. Else `differing` is 0 and `found`
-/// stays as it is.
+/// and `differing` and `found` are as `xet_find_disagreement` sets them. Else `differing` is 0 and
+/// `found` stays as it is.
 #[unsafe(no_mangle)]
 pub extern "C" fn xet_merge_agreeing(
     alloc: Global,

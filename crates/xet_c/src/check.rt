@@ -12,11 +12,12 @@ use std::alloc::Global;
 use xet_core_structures::error::{CoreError, Result};
 
 /// What is wrong, as a number, of which part, and a number that belongs to it; what a kind does not
-/// have is 0. Kinds are 1, the first 32 bytes are no tag; 2, the header has this version; 3, the last
-/// 200 bytes are no footer; 4, there are too few bytes for both; 5, a section is cut short; 6, a
-/// section has a header that the version does not have, or too many rows; 7, the hash of the record
-/// at this index does not ascend; 8, a part is not the one that the records give; 9, the size is not
-/// this one, which the records give. Parts are 1 to 7 in the order of the bytes, the header first.
+/// have is 0. Kinds are 1, the first 32 bytes are no tag; 2, the header has this version; 3, the
+/// last 200 bytes are no footer; 4, there are too few bytes for both; 5, a section is truncated; 6,
+/// a section has a header that the version does not have, or too many rows; 7, the hash of the
+/// record at this index does not ascend; 8, a part is not the one that the records give; 9, the
+/// size is not this one, which the records give. Parts are 1 to 7 in the order of the bytes, the
+/// header first.
 #[repr(C)]
 #[derive(Clone, Copy, Drop)]
 pub struct XetFinding {
@@ -25,8 +26,8 @@ pub struct XetFinding {
     pub number: u64,
 }
 
-/// All that is wrong with the bytes of a shard, to the front of `findings`; nothing if they are, byte
-/// for byte, what the library would write of the records in them.
+/// All that is wrong with the bytes of a shard, to the front of `findings`; nothing if they are,
+/// byte for byte, what the library would write of the records in them.
 #[unsafe(no_mangle)]
 pub extern "C" fn xet_check(
     alloc: Global,

@@ -5,7 +5,7 @@ ghost use Rattle.xet_core_structures.specs.declared.file_structs.MDBFileInfo.{MD
 ghost use Rattle.xet_core_structures.specs.declared.merklehash.DataHash.{DataHash};
 ghost use Rattle.xet_core_structures.specs.Errors.{CoreResult};
 ghost use Rattle.xet_c.specs.Arguments.{c_file, c_hash, segments_in};
-ghost use Rattle.xet_c.specs.Finding.{LooksUpFile, ShowsFile};
+ghost use Rattle.xet_c.specs.Finding.{FindsFileInBytes, ShowsFile};
 
 use crate::hash::{XetHash, words_or_zero};
 use crate::segment::{XetFileSegment, segments_of};
@@ -16,9 +16,9 @@ use xet_core_structures::error::{CoreError, Result};
 use xet_core_structures::file_structs::MDBFileInfo;
 use xet_core_structures::merklehash::MerkleHash;
 
-/// What a file's record has: the number of its segments, whether these have verification hashes, and
-/// its SHA-256 and its auxiliary hash, or zeros if it has none. If there is no such file, `found` is
-/// false and all else is zero.
+/// What a file's record has: the number of its segments, whether these have verification hashes,
+/// and its SHA-256 and its auxiliary hash, or zeros if it has none. If there is no such file,
+/// `found` is false and all else is zero.
 #[repr(C)]
 #[derive(Clone, Copy, Drop)]
 pub struct XetFile {
@@ -43,7 +43,7 @@ pub extern "C" fn xet_find_file(
     segments: &mut [XetFileSegment],
 ) -> u32
     ensures { (h : DataHash) × (found : CoreResult (Option MDBFileInfo)) × (c_hash h ≡ hash.now)
-        × LooksUpFile shard.now h found
+        × FindsFileInBytes shard.now h found
         × (ShowsFile found file.old file.new segments.old segments.new result
         ⊎ ((result ≡ 18) × (file.new ≡ file.old) × (segments.new ≡ segments.old))) }
 {

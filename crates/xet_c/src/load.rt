@@ -4,7 +4,7 @@ ghost use Rattle.std.specs.Prelude.{◌≡◌, ◌⊎◌};
 ghost use Rattle.xet_core_structures.specs.declared.error.CoreError.{CoreError};
 ghost use Rattle.xet_core_structures.specs.declared.shard_format.MDBShardInfo.{MDBShardInfo};
 ghost use Rattle.xet_core_structures.specs.Errors.{variant_number};
-ghost use Rattle.xet_core_structures.specs.Ends.{HasEnds};
+ghost use Rattle.xet_core_structures.specs.Ends.{HasHeaderAndFooter};
 ghost use Rattle.xet_core_structures.specs.ByteResults.{LoadRefusal};
 ghost use Rattle.xet_c.specs.Arguments.{c_info};
 
@@ -34,7 +34,7 @@ pub struct XetInfo {
 /// Reads header and footer of a shard. If the result is not 0, `info` stays as it is.
 #[unsafe(no_mangle)]
 pub extern "C" fn xet_load(alloc: Global, shard: &[u8], info: &mut XetInfo) -> u32
-    ensures { ((i : MDBShardInfo) × HasEnds shard.now i × (info.new ≡ c_info i) × (result ≡ 0))
+    ensures { ((i : MDBShardInfo) × HasHeaderAndFooter shard.now i × (info.new ≡ c_info i) × (result ≡ 0))
         ⊎ ((e : CoreError) × LoadRefusal shard.now e × (info.new ≡ info.old)
         × (result ≡ variant_number e)) }
 {

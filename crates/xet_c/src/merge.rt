@@ -4,7 +4,7 @@ ghost use Rattle.std.specs.Prelude.{◌≡◌, ◌⊎◌, List, map};
 ghost use Rattle.xet_core_structures.specs.MergeTrees.{MergeRefused};
 ghost use Rattle.xet_core_structures.specs.Shard.{Shard};
 ghost use Rattle.xet_core_structures.specs.WrittenShard.{IsBytesWithoutExpiry};
-ghost use Rattle.shard_bytes.specs.Merging.{MergesBytes, RefusesMerge, HaveJoin};
+ghost use Rattle.shard_bytes.specs.Merging.{MergesBytes, RefusesMerge, IsMergeOfList};
 ghost use Rattle.shard_bytes.specs.Sizes.{IsResultSize};
 ghost use Rattle.xet_c.specs.Output.{Outcome};
 
@@ -24,7 +24,7 @@ pub extern "C" fn xet_merge(
     ensures any_bytes { Outcome (MergesBytes (map (λ x. x.now) shards.now))
         (RefusesMerge (map (λ x. x.now) shards.now)) out.old out.new written.new result }
     ensures one_byte_string { (all : List Shard) → (join : Shard)
-        → HaveJoin (map (λ x. x.now) shards.now) all join
+        → IsMergeOfList (map (λ x. x.now) shards.now) all join
         → Outcome (IsBytesWithoutExpiry join) (MergeRefused join) out.old out.new written.new result }
     ensures size { IsResultSize (map (λ x. x.now) shards.now) written.new }
 {

@@ -12,8 +12,8 @@ use shard_bytes::minimal::{KeptXorbs, Subset, subset_bytes};
 use std::alloc::Global;
 use xet_core_structures::error::{CoreError, Result};
 
-/// The times of a subset in seconds, where an expiry of 0 means none, and whether it has all xorbs or
-/// only those that are listed.
+/// The times of a subset in seconds, where an expiry of 0 means none, and whether it has all xorbs
+/// or only those that are listed.
 #[repr(C)]
 #[derive(Clone, Copy, Drop)]
 pub struct XetSubset {

@@ -62,8 +62,9 @@ pub extern "C" fn xet_shard_name(
     deliver(bytes_of(name), out, written)
 }
 
-/// Reads the hash in the name of a shard file: 64 hexadecimal digits of either case, and `.mdb`. The
-/// error of any other text, such as a path, is that of `BadFilename`, and `hash` stays as it is.
+/// Reads the hash in the name of a shard file: 64 hexadecimal digits of either case, and `.mdb`.
+/// The error of any other text, such as a path, is that of `BadFilename`, and `hash` stays as it
+/// is.
 #[unsafe(no_mangle)]
 pub extern "C" fn xet_parse_shard_name(name: &[u8], hash: &mut XetHash) -> u32
     ensures { Reads NamesShard IsShardName name.now 6 hash.old hash.new result }

@@ -133,9 +133,9 @@ fn bookend(row: u32) -> XetPlace
     }
 }
 
-/// Reads the record at a row of the xorb section, and puts its chunks to the front of `chunks`. If the
-/// result is 19 they do not fit, `xorb` says how many there are, and `chunks` stays as it is. After
-/// any other number but 0 all outputs stay as they are.
+/// Reads the record at a row of the xorb section, and puts its chunks to the front of `chunks`. If
+/// the result is 19 they do not fit, `xorb` says how many there are, and `chunks` stays as it is.
+/// After any other number but 0 all outputs stay as they are.
 #[unsafe(no_mangle)]
 pub extern "C" fn xet_xorb_at(
     alloc: Global,

@@ -16,7 +16,7 @@ use Rattle.xet_records.specs.RecordKind.{RecordKind}
 use Rattle.xet_records.specs.FileRecord.{file_records}
 use Rattle.xet_records.specs.XorbRecord.{xorb_records}
 use Rattle.xet_records.specs.Merging.{Agree}
-use Rattle.xet_shards.specs.InForm.{Ascends}
+use Rattle.xet_shards.specs.WithOptions.{Ascends}
 use Rattle.xet_shards.specs.Shard.{Shard}
 use Rattle.xet_core_structures.specs.declared.set_operations.agreement.Disagreement.{Disagreement}
 use Rattle.xet_core_structures.specs.declared.set_operations.agreement.PlacedInputs.{PlacedInputs}
@@ -27,13 +27,13 @@ use Rattle.xet_core_structures.specs.declared.set_operations.parts.PlacedShard.{
 use Rattle.xet_core_structures.specs.declared.set_operations.placed.PlacedRecord.{PlacedRecord}
 use Rattle.xet_core_structures.specs.Agreement.{AreEqual, HoldsAt, IsPlacedOf, ArePlaced, InputsAgree, InputsDisagree, AgreeOn, HasAllDisagreements, disagreement_of}
 use Rattle.xet_core_structures.specs.ByteResults.{Records}
-use Rattle.xet_core_structures.specs.Combining.{key_of_record, with_hash}
-use Rattle.xet_core_structures.specs.Differing.{Has, Differ, AgreeUnder, FindsDiffering}
-use Rattle.xet_core_structures.specs.Held.{HasShard}
+use Rattle.xet_core_structures.specs.RecordPairs.{key_of_record, with_hash}
+use Rattle.xet_core_structures.specs.Differing.{HasRecord, Differ, AgreeUnder, FindsDiffering}
+use Rattle.xet_core_structures.specs.ShardContents.{HasShard}
 use Rattle.xet_core_structures.specs.Parts.{MayBeUnited}
 use Rattle.xet_core_structures.specs.Placed.{MayUnite}
 use Rattle.xet_core_structures.proofs.Items.{has_mapped, mapped_back}
-use Rattle.xet_core_structures.proofs.Held.{only_shard}
+use Rattle.xet_core_structures.proofs.ShardContents.{only_shard}
 use Rattle.xet_core_structures.proofs.ListMaps.{list_map, get-list_map, with_hash_of, shard_of, lists_hold}
 use Rattle.xet_core_structures.proofs.Parts.{may_be_united}
 use Rattle.xet_core_structures.proofs.Zipped.{zipped_append}
@@ -111,7 +111,7 @@ module _ {R : Type 0} (listed : Records → List R) where
       holds : HoldsAt inputs i shard
       has : get (records_of shard) (key_of_record K r) ≡ Some r
 
-    held_by : (i : ℕ) (r : R) → Has (lists_of shards inputs all) i r → IsHeldBy i r
+    held_by : (i : ℕ) (r : R) → HasRecord (lists_of shards inputs all) i r → IsHeldBy i r
     held_by i r (rs, rs_at, has) =
         let from = input_of shards inputs all i rs rs_at in
         let records = records_in from.2 from.0 from.3 in
@@ -123,7 +123,7 @@ module _ {R : Type 0} (listed : Records → List R) where
         }
 
     -- a record of a shard that an input holds is one of its list
-    has_record : (i : ℕ) (s : Shard) (q : DataHash) (r : R) → HoldsAt inputs i s → get (records_of s) q ≡ Some r → Has (lists_of shards inputs all) i r × (key_of_record K r ≡ q)
+    has_record : (i : ℕ) (s : Shard) (q : DataHash) (r : R) → HoldsAt inputs i s → get (records_of s) q ≡ Some r → HasRecord (lists_of shards inputs all) i r × (key_of_record K r ≡ q)
     has_record i s q r (x, x_at, holds) r_at =
         let list = list_of shards inputs all i x x_at in
         let records = records_in list.0 x list.1 in

@@ -16,10 +16,10 @@ use Rattle.xet_core_structures.specs.declared.set_operations.MergePlan.{MergePla
 use Rattle.xet_core_structures.specs.declared.set_operations.MergePlan.TheVariants.{Leaf, Both'}
 use Rattle.xet_core_structures.specs.Agreement.{HoldsAt, IsHeld, HasKey, HaveKey, DisagreeShards, InputsAgree, InputsDisagree}
 use Rattle.xet_core_structures.specs.ByteResults.{keyed_layout, keyed_info, key_of}
-use Rattle.xet_core_structures.specs.Held.{HoldsShard}
+use Rattle.xet_core_structures.specs.ShardContents.{HoldsShard}
 use Rattle.xet_core_structures.specs.MergeTrees.{leaves, HasUnion, TreeWrites, InputIs}
-use Rattle.xet_core_structures.specs.Readable.{IsWrittenUnder}
-use Rattle.xet_core_structures.proofs.LookupsFound.{union_under, tree_under}
+use Rattle.xet_core_structures.specs.Readable.{IsBytesUnderKey}
+use Rattle.xet_core_structures.proofs.FileLookups.{union_under, tree_under}
 use Rattle.xet_core_structures.proofs.MergeTrees.{keyed_tree}
 use Rattle.xet_core_structures.proofs.Zipped.{zipped_append, zipped_member, zipped_and}
 
@@ -41,7 +41,7 @@ module _ (inputs : List (List ℕ)) where
   tree_keys key (Leaf i) out writes has =
       All-cons (HasKeyAt key) i [] (λ bytes at. subst (λ bs. HasKey bs key) (same_Some out bytes (sym writes ∙ at)) has) (All-nil (HasKeyAt key))
   tree_keys key (Both' p left q right) out (x, y, x_written, y_written, (i, j, d, i_ends, j_ends, have, is)) has =
-      let under = subst (λ bs. IsWrittenUnder (key_of i) d bs (keyed_info d (key_of i))) (sym is) (union_under x i y j d i_ends have) in
+      let under = subst (λ bs. IsBytesUnderKey (key_of i) d bs (keyed_info d (key_of i))) (sym is) (union_under x i y j d i_ends have) in
       let key_is : key_of i ≡ key = has (keyed_info d (key_of i)) under.ends in
       All-append (HasKeyAt key) (leaves left) (leaves right)
       (tree_keys key left x x_written (λ info ends. ap key_of (only_info x info i ends i_ends) ∙ key_is))

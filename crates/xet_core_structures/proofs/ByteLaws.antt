@@ -19,7 +19,7 @@ use Rattle.xet_shards.proofs.Overlays.{united_shard, union_exists}
 use Rattle.xet_shards.proofs.Unions.{union-comm, union-assoc, union-idem, union-empty, union-of_empty, union_agrees}
 use Rattle.xet_core_structures.specs.ByteUnion.{HasPartsOf}
 use Rattle.xet_core_structures.specs.ByteResults.{keyed_layout, UnitesBytes}
-use Rattle.xet_core_structures.specs.Held.{HoldsShard}
+use Rattle.xet_core_structures.specs.ShardContents.{HoldsShard}
 use Rattle.xet_core_structures.proofs.ByteUnions.{held_union}
 
 -- agreement has no order, and a shard agrees with itself

@@ -1,6 +1,6 @@
 -- On shards that agree the byte union is their union, and the union of their bytes the layout of it.
 use Rattle.std.proofs.Common.{◌≡◌, ◌⊎◌, inl, inr, ℕ, zero, suc, ◌^◌, ◌<◌, ◌≤◌, Bool, true, false, ◌||◌, List, Option, None, Some, IfSome, refl, sym, ap, ◌∙◌, subst, if◌then◌else◌, ◌==◌, true≢false, arith}
-use Rattle.xet_shards.specs.InForm.{FitsSection}
+use Rattle.xet_shards.specs.WithOptions.{FitsSection}
 use Rattle.std.specs.Int.{bit_at}
 use Rattle.std.specs.FinMap.{get, values}
 use Rattle.std.proofs.lemmas.Bool.Decides.{nat_tests}
@@ -14,15 +14,15 @@ use Rattle.xet_records.specs.declared.record_reader.FormatVersion.{FormatVersion
 use Rattle.xet_records.specs.declared.file_structs.part.OptionalPart.{OptionalPart}
 use Rattle.xet_records.specs.FileRecord.{file_records_in}
 use Rattle.xet_records.specs.Part.{bit_of, flags_of, rows_of, with_parts}
-use Rattle.xet_records.specs.Merging.{Includes, has_part, Agree, joined}
+use Rattle.xet_records.specs.Merging.{IncludesBits, has_part, Agree, joined}
 use Rattle.xet_records.proofs.Parts.{with_parts-rows_of}
 use Rattle.xet_records.proofs.Merging.{bit_within, part_absent, joined-comm, same_file_if_agree, merged_is_joined}
 use Rattle.xet_shards.specs.declared.shard_format.info.MDBShardInfo.{MDBShardInfo}
-use Rattle.xet_shards.specs.Ends.{HasEnds}
+use Rattle.xet_shards.specs.Ends.{HasHeaderAndFooter}
 use Rattle.xet_shards.specs.Joining.{either_file}
-use Rattle.xet_shards.specs.declared.shard_format.form.Form.{Form}
-use Rattle.xet_shards.specs.Layout.{layout_of, plain_form, plain_form_in, info_of}
-use Rattle.xet_shards.specs.SetOperations.{IsUnion, ShardsAgree, HasFewRows}
+use Rattle.xet_shards.specs.declared.shard_format.options.LayoutOptions.{LayoutOptions}
+use Rattle.xet_shards.specs.Layout.{layout_of, plain_options, plain_options_in, info_of}
+use Rattle.xet_shards.specs.SetOperations.{IsUnion, ShardsAgree, RowsFitU32}
 use Rattle.xet_shards.specs.Shard.{Shard, IsShard}
 use Rattle.xet_shards.specs.WrittenShard.{HasFilesIn, IsBytesOf}
 use Rattle.xet_shards.proofs.AgreeingJoins.{union_is_shard}
@@ -32,11 +32,11 @@ use Rattle.xet_shards.proofs.Sections.{files_fit, files_fit_in, xorbs_fit}
 use Rattle.xet_shards.proofs.Unions.{IsKnown, known, same_either}
 use Rattle.xet_shards.proofs.Widths.{fits_in_form}
 use Rattle.xet_core_structures.specs.ByteUnion.{mixed, IsUnitedFile, IsEitherFile, IsByteUnion}
-use Rattle.xet_core_structures.specs.ByteResults.{keyed_form, keyed_layout, key_of, HaveNoUnion, UnionRefusal, UnitesBytes, LoadRefusal, BytesRefusal}
-use Rattle.xet_core_structures.specs.ExportTrees.{FitsForm}
-use Rattle.xet_core_structures.specs.Held.{HoldsShard}
+use Rattle.xet_core_structures.specs.ByteResults.{keyed_options, keyed_layout, key_of, HaveNoUnion, UnionRefusal, UnitesBytes, LoadRefusal, BytesRefusal}
+use Rattle.xet_core_structures.specs.ExportTrees.{FitsOptions}
+use Rattle.xet_core_structures.specs.ShardContents.{HoldsShard}
 use Rattle.xet_core_structures.specs.MergeTrees.{MergeRefused}
-use Rattle.xet_core_structures.proofs.Held.{only_shard, held_whole, held_well, holds_in_form}
+use Rattle.xet_core_structures.proofs.ShardContents.{only_shard, held_whole, held_well, holds_in_form}
 
 -- whether one set of bits includes another is decided
 bit_is : (x : ℕ) → x < 2 → (x ≡ 0) ⊎ (x ≡ 1)
@@ -61,7 +61,7 @@ module _ (a b : ℕ) where
       apart (suc i) zero low = absurd (omega (arith, low))
       apart (suc i) (suc n) low = elim (apart i n (omega (arith, low))) [ inl less ↦ inl (omega (arith, less)) | inr is ↦ inr (ap suc is) ]
 
-  included_below : (n : ℕ) → n ≤ 32 → IncludesBelow n ⊎ (¬ Includes a b)
+  included_below : (n : ℕ) → n ≤ 32 → IncludesBelow n ⊎ (¬ IncludesBits a b)
   included_below zero low = inl (λ i none set. absurd (omega (arith, none)))
   included_below (suc n) low = elim (included_below n (omega (arith, low))) [
     | inr lacks ↦ inr lacks
@@ -74,11 +74,11 @@ module _ (a b : ℕ) where
     ]
   ]
 
-  pub included : Includes a b ⊎ (¬ Includes a b)
+  pub included : IncludesBits a b ⊎ (¬ IncludesBits a b)
   included = included_below 32 (omega arith)
 
 -- a record whose flags include the other's is the join of both
-bit_kept : (a b : ℕ) (k : ℕ) → k < 32 → Includes a b → ((bit_at b k == 1) ≡ true → (bit_at a k == 1) ≡ true)
+bit_kept : (a b : ℕ) (k : ℕ) → k < 32 → IncludesBits a b → ((bit_at b k == 1) ≡ true → (bit_at a k == 1) ≡ true)
 bit_kept a b k low all set = ap (λ n. n == 1) (all k low (is_one (bit_at b k) set)) where
   is_one : (n : ℕ) → (n == 1) ≡ true → n ≡ 1
   is_one n is = grind (arith, nat_tests, is)
@@ -94,7 +94,7 @@ part_more false true x y more none = absurd (true≢false (sym (more refl)))
 part_more false false x y more none = sym (none refl refl)
 
 module _ (q : DataHash) (a b : MDBFileInfo) (one : IsKnown q a) (other : IsKnown q b) where
-  joined-more : Includes a.metadata.file_flags b.metadata.file_flags → joined a b ≡ a
+  joined-more : IncludesBits a.metadata.file_flags b.metadata.file_flags → joined a b ≡ a
   joined-more all =
       let more : (part : OptionalPart) → has_part b part ≡ true → has_part a part ≡ true =
       λ part. bit_kept a.metadata.file_flags b.metadata.file_flags (bit_of part) (bit_within part) all in
@@ -108,7 +108,7 @@ module _ (q : DataHash) (a b : MDBFileInfo) (one : IsKnown q a) (other : IsKnown
   mixed_is_joined = λ i. record (joined a b) { metadata = record (joined a b).metadata { _unused = sym one.well_formed.reserved i } }
 
 module _ (q : DataHash) (a b : MDBFileInfo) (one : IsKnown q a) (other : IsKnown q b) (agree : Agree a b) where
-  joined-less : Includes b.metadata.file_flags a.metadata.file_flags → joined a b ≡ b
+  joined-less : IncludesBits b.metadata.file_flags a.metadata.file_flags → joined a b ≡ b
   joined-less all = joined-comm a b one.well_formed other.well_formed (sym one.keyed ∙ other.keyed) agree ∙ joined-more q b a other one all
 
   united_is_joined : (c : MDBFileInfo) → IsUnitedFile a b c → c ≡ joined a b
@@ -164,26 +164,26 @@ module _ (a b c : Shard) (first : IsShard a) (second : IsShard b) (agree : Shard
     xorbs = λ q. union.xorbs q ∙ same_either (get a.xorbs q) (get b.xorbs q) (agree.xorbs q);
   }
 
--- the bytes of a shard in a form
-abbrev pub layout_in : Shard → Form → List ℕ
-layout_in s form = layout_of (values s.files) (values s.xorbs) form
+-- the bytes of a shard with layout options
+abbrev pub layout_in : Shard → LayoutOptions → List ℕ
+layout_in s options = layout_of (values s.files) (values s.xorbs) options
 
-abbrev info_in : Shard → Form → MDBShardInfo
-info_in s form = info_of (values s.files) (values s.xorbs) form
+abbrev info_in : Shard → LayoutOptions → MDBShardInfo
+info_in s options = info_of (values s.files) (values s.xorbs) options
 
-module _ (s : Shard) (form : Form) (shard : IsShard s) (fits : FitsForm form) where
-  ends_in_form : HasEnds (layout_in s form) (info_in s form)
+module _ (s : Shard) (options : LayoutOptions) (shard : IsShard s) (fits : FitsOptions options) where
+  ends_in_form : HasHeaderAndFooter (layout_in s options) (info_in s options)
   ends_in_form =
-      ends_of_layout (values s.files) (values s.xorbs) form
-      (fits_in_form (values s.files) (values s.xorbs) form (files_fit s shard) (xorbs_fit s shard) fits.key fits.creation fits.expiry)
+      ends_of_layout (values s.files) (values s.xorbs) options
+      (fits_in_form (values s.files) (values s.xorbs) options (files_fit s shard) (xorbs_fit s shard) fits.key fits.creation fits.expiry)
 
-  -- the bytes of a shard in a form hold it, under the form's key
-  held_in_form : FitsSection (file_records_in form.version) (values s.files) → HoldsShard form.key s (layout_in s form)
-  held_in_form files = record { shard = shard; has = record { info = info_in s form; ends = ends_in_form; holds = holds_in_form s form shard files }; under = refl }
+  -- the bytes of a shard with layout options hold it, under the options' key
+  held_in_form : FitsSection (file_records_in options.version) (values s.files) → HoldsShard options.key s (layout_in s options)
+  held_in_form files = record { shard = shard; has = record { info = info_in s options; ends = ends_in_form; holds = holds_in_form s options shard files }; under = refl }
 
 module _ (key : DataHash) (s : Shard) (bytes : List ℕ) (held : HoldsShard key s bytes) where
   -- they have no other header and footer
-  info_found : (i : MDBShardInfo) → HasEnds bytes i → i ≡ held.has.info
+  info_found : (i : MDBShardInfo) → HasHeaderAndFooter bytes i → i ≡ held.has.info
   info_found i ends = only_info bytes i held.has.info ends held.has.ends
 
   loads_well : (e : CoreError) → ¬ LoadRefusal bytes e
@@ -195,23 +195,23 @@ module _ (key : DataHash) (s : Shard) (bytes : List ℕ) (held : HoldsShard key 
 
 -- the union of bytes that hold two shards that agree, under one key
 module _ (a b c : Shard) (key : DataHash) (x y : List ℕ) (one : HoldsShard key a x) (other : HoldsShard key b y) (agree : ShardsAgree a b) (union : IsUnion a b c) where
-  union_found : (out : List ℕ) → UnitesBytes x y out → (out ≡ keyed_layout c key) × HasFewRows c
+  union_found : (out : List ℕ) → UnitesBytes x y out → (out ≡ keyed_layout c key) × RowsFitU32 c
   union_found out (i, j, d, i_ends, j_ends, have, is) =
       let a_is = only_shard x a have.first one.has (record { info = i; ends = i_ends; holds = have.holds_first }) in
       let b_is = only_shard y b have.second other.has (record { info = j; ends = j_ends; holds = have.holds_second }) in
       let bytes : IsByteUnion a b d = subst (λ p. p) (λ k. IsByteUnion (a_is k) (b_is k) d) have.result in
       let d_is = union_unique a b d c (byte_union_is_union a b d one.shard other.shard agree bytes) union in
-      (is ∙ (λ k. keyed_layout (d_is k) (key_of (info_found key a x one i i_ends k))) ∙ ap (keyed_layout c) one.under, subst HasFewRows d_is have.rows)
+      (is ∙ (λ k. keyed_layout (d_is k) (key_of (info_found key a x one i i_ends k))) ∙ ap (keyed_layout c) one.under, subst RowsFitU32 d_is have.rows)
 
   -- it is the layout of their union under the key, and holds it
   pub held_union : (out : List ℕ) → UnitesBytes x y out → (out ≡ keyed_layout c key) × HoldsShard key c out
   held_union out unites =
       let found = union_found out unites in
       let shard = union_is_shard a b c one.shard other.shard agree union found.1 in
-      let fits : FitsForm (keyed_form key) = record { key = fits_key key a x one; creation = omega arith; expiry = omega arith } in
-      (found.0, subst (HoldsShard key c) (sym found.0) (held_in_form c (keyed_form key) shard fits (files_fit c shard)))
+      let fits : FitsOptions (keyed_options key) = record { key = fits_key key a x one; creation = omega arith; expiry = omega arith } in
+      (found.0, subst (HoldsShard key c) (sym found.0) (held_in_form c (keyed_options key) shard fits (files_fit c shard)))
 
-  no_union : HasFewRows c → ¬ HaveNoUnion x one.has.info y other.has.info
+  no_union : RowsFitU32 c → ¬ HaveNoUnion x one.has.info y other.has.info
   no_union few (inl files) = files.none a.files b.files c.files one.has.holds.files other.has.holds.files (union_is_byte_union a b c one.shard other.shard agree union).files few.files
   no_union few (inr xorbs) = xorbs.none a.xorbs b.xorbs c.xorbs one.has.holds.xorbs other.has.holds.xorbs (union_is_byte_union a b c one.shard other.shard agree union).xorbs few.xorbs
 
@@ -230,16 +230,16 @@ module _ (a b c : Shard) (key : DataHash) (x y : List ℕ) (one : HoldsShard key
   refused_union err (inr (inr (i, j, i_ends, j_ends, why))) =
       refused err (subst (λ p. p) (λ k. UnionRefusal x (info_found key a x one i i_ends k) y (info_found key b y other j j_ends k) err) why)
 
--- the bytes of a shard hold it, in any form whose version has its files
-pub form_held : (s : Shard) (form : Form) → IsShard s → HasFilesIn form.version s → FitsForm form → HoldsShard form.key s (layout_in s form)
-form_held s form shard has fits = held_in_form s form shard fits (files_fit_in form.version s shard has)
+-- the bytes of a shard hold it, with any layout options whose version has its files
+pub form_held : (s : Shard) (options : LayoutOptions) → IsShard s → HasFilesIn options.version s → FitsOptions options → HoldsShard options.key s (layout_in s options)
+form_held s options shard has fits = held_in_form s options shard fits (files_fit_in options.version s shard has)
 
 -- those that are written without options hold it without a key
-expiry_fits : (expiry : Option ℕ) → IfSome expiry (λ e. e < 2 ^ 64) → (plain_form expiry).expiry < 2 ^ 64
+expiry_fits : (expiry : Option ℕ) → IfSome expiry (λ e. e < 2 ^ 64) → (plain_options expiry).expiry < 2 ^ 64
 expiry_fits None fits = omega arith
 expiry_fits (Some e) fits = fits
 
-plain_fits : (version : FormatVersion) (expiry : Option ℕ) → IfSome expiry (λ e. e < 2 ^ 64) → FitsForm (plain_form_in version expiry)
+plain_fits : (version : FormatVersion) (expiry : Option ℕ) → IfSome expiry (λ e. e < 2 ^ 64) → FitsOptions (plain_options_in version expiry)
 plain_fits version expiry fits = record {
   key = record { word0 = omega arith; word1 = omega arith; word2 = omega arith; word3 = omega arith };
   creation = omega arith;
@@ -248,4 +248,4 @@ plain_fits version expiry fits = record {
 
 pub written_held : (s : Shard) (bytes : List ℕ) → IsBytesOf s bytes → HoldsShard no_key s bytes
 written_held s bytes is =
-    subst (HoldsShard no_key s) (sym is.bytes_are) (form_held s (plain_form_in is.version is.expiry) is.shard is.files (plain_fits is.version is.expiry is.expiry_fits))
+    subst (HoldsShard no_key s) (sym is.bytes_are) (form_held s (plain_options_in is.version is.expiry) is.shard is.files (plain_fits is.version is.expiry is.expiry_fits))

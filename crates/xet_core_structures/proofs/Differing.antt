@@ -10,9 +10,9 @@ use Rattle.xet_core_structures.specs.declared.set_operations.agreement.differing
 use Rattle.xet_core_structures.specs.declared.set_operations.agreement.differing.ReadRecord.{ReadRecord}
 use Rattle.xet_core_structures.specs.declared.set_operations.agreement.runs.Place.{Place}
 use Rattle.xet_core_structures.specs.declared.set_operations.placed.PlacedRecord.{PlacedRecord}
-use Rattle.xet_core_structures.specs.Differing.{IsRun, IsPlace, IsRecordAt, Covers, KeepsRecord, IsAgainst, AgreeWithin, DifferWithin, PassesPlace, DiffersAt}
+use Rattle.xet_core_structures.specs.Differing.{IsRun, IsPlace, IsRecordAt, Covers, KeepsRecord, IsAgainst, AgreeWithin, DifferWithin, ComparesPlace, DiffersAt}
 use Rattle.xet_core_structures.specs.Placed.{Places}
-use Rattle.xet_core_structures.specs.SideBySide.{IsRecordHeader}
+use Rattle.xet_core_structures.specs.MergeJoin.{IsRecordHeader}
 use Rattle.xet_core_structures.proofs.Items.{below_or_at}
 use Rattle.xet_core_structures.proofs.PlacedWriting.{placed_once}
 
@@ -31,7 +31,7 @@ copied_placed {H} {R} K one other n same size front r is =
         is_stored = subst (λ (h : H). K.hash_of h ≢ all_ones → K.Fits h → K.IsStored stored) (sym same) is.rows.is_stored;
         size = is.rows.size ∙ ap (λ h. 48 * K.rows_after h) (sym same);
         taken = (drop n one.rows.now, sym (take-append-drop n one.rows.now) ∙ ap (λ bs. bs ++ drop n one.rows.now) front_is);
-        handed = is.rows.handed;
+        returned = is.rows.returned;
       };
     }
 
@@ -182,7 +182,7 @@ module _ {H R : Type 0} (K : RecordKind H R) (laws : KindLaws K) (lists : List (
                 differ = λ r s r_at s_at agrees. against (subst (λ p. p) (λ n. agree (one.value r r_at n) (sym (read s s_at) n)) agrees);
               }
 
-        pub compared_on : from < at → (first : Place) → slice_get places from ≡ Some first → (kept' : List (ReadRecord R)) → PassesPlace K agree lists first here kept kept' → IsComparing K agree lists places from (at + 1) kept'
+        pub compared_on : from < at → (first : Place) → slice_get places from ≡ Some first → (kept' : List (ReadRecord R)) → ComparesPlace K agree lists first here kept kept' → IsComparing K agree lists places from (at + 1) kept'
         compared_on some first first_at kept' (inl (same, copy)) = subst (IsComparing K agree lists places from (at + 1)) (sym same) (copy_on first some first_at copy)
         compared_on some first first_at kept' (inr (next, read, keeps)) = kept_on next read kept' keeps
 

@@ -13,8 +13,8 @@ use Rattle.xet_records.specs.RecordKind.{RecordKind, KindLaws}
 use Rattle.xet_core_structures.specs.declared.set_operations.agreement.differing.Differing.{Differing}
 use Rattle.xet_core_structures.specs.declared.set_operations.agreement.runs.Place.{Place}
 use Rattle.xet_core_structures.specs.declared.set_operations.placed.PlacedRecord.{PlacedRecord}
-use Rattle.xet_core_structures.specs.Combining.{key_of_record}
-use Rattle.xet_core_structures.specs.Differing.{IsRun, IsPlace, HasPlaces, IsRecordAt, AgreeWithin, DifferWithin, ComparesRun, Has, Differ, FindsDiffering}
+use Rattle.xet_core_structures.specs.RecordPairs.{key_of_record}
+use Rattle.xet_core_structures.specs.Differing.{IsRun, IsPlace, HasPlaces, IsRecordAt, AgreeWithin, DifferWithin, ComparesRun, HasRecord, Differ, FindsDiffering}
 use Rattle.xet_core_structures.specs.Placed.{Places, MayUnite, hash_at}
 use Rattle.xet_core_structures.proofs.HashRuns.{less_apart, ascends_more}
 use Rattle.xet_core_structures.proofs.Items.{has_at, at_of, mapped_back, below_or_from}
@@ -121,7 +121,7 @@ module _ {H R : Type 0} (K : RecordKind H R) (laws : KindLaws K) (agree : R → 
   record IsRecordOf (p : Place) : Type 0 where
     value : R
     at : IsRecordAt K lists p value
-    has : Has all p.input value
+    has : HasRecord all p.input value
     hash : key_of_record K value ≡ p.hash
 
   record_of : (p : Place) → IsPlace K lists p → IsRecordOf p
@@ -141,7 +141,7 @@ module _ {H R : Type 0} (K : RecordKind H R) (laws : KindLaws K) (agree : R → 
     at : IsRecordAt K lists place r
     hash : place.hash ≡ key_of_record K r
 
-  found_at : (i : ℕ) (r : R) → Has all i r → IsFoundAt i r
+  found_at : (i : ℕ) (r : R) → HasRecord all i r → IsFoundAt i r
   found_at i r (rs, rs_at, has) =
       let list = zip_back (λ l rs. MayUnite K l rs) lists all i rs united rs_at in
       let index = at_of rs r has in
@@ -167,8 +167,8 @@ module _ {H R : Type 0} (K : RecordKind H R) (laws : KindLaws K) (agree : R → 
           record {
             one = one.value;
             other = other.value;
-            has_one = subst (λ i. Has all i one.value) is.inputs.0 one.has;
-            has_other = subst (λ i. Has all i other.value) is.inputs.1 other.has;
+            has_one = subst (λ i. HasRecord all i one.value) is.inputs.0 one.has;
+            has_other = subst (λ i. HasRecord all i other.value) is.inputs.1 other.has;
             one_hash = one.hash ∙ is.hashes.0;
             other_hash = other.hash ∙ is.hashes.1;
             differ = is.differ one.value other.value one.at other.at;

@@ -6,7 +6,7 @@ use Rattle.std.specs.Int.{bit_at}
 use Rattle.xet_records.specs.declared.file_structs.part.OptionalPart.{OptionalPart}
 use Rattle.xet_records.specs.declared.file_structs.part.OptionalPart.TheVariants.{Verification, MetadataExt, AuxExt}
 use Rattle.xet_records.specs.declared.file_structs.MDBFileInfo.{MDBFileInfo}
-use Rattle.xet_records.specs.Merging.{Includes, Agree, has_part}
+use Rattle.xet_records.specs.Merging.{IncludesBits, Agree, has_part}
 use Rattle.xet_records.specs.Part.{bit_of, announces, rows_of}
 use Rattle.xet_records.proofs.Merging.{one, one_announced, bit_within}
 use Rattle.xet_records.specs.declared.file_structs.rows.FileDataSequenceEntry.{FileDataSequenceEntry}
@@ -73,14 +73,14 @@ files_agreed a b r s v m x r_is s_is v_is m_is x_is = (
   each one two three AuxExt = three
 
 -- what agrees with a file agrees with one that has no other parts, if these agree
-announces_more : (f g : ℕ) (part : OptionalPart) → Includes f g → IsTrue (announces g part) → IsTrue (announces f part)
+announces_more : (f g : ℕ) (part : OptionalPart) → IncludesBits f g → IsTrue (announces g part) → IsTrue (announces f part)
 announces_more f g part includes = of (announces g part) (announces f part) (one_announced g part) (one_announced f part) where
   of : (v w : Bool) → bit_at g (bit_of part) ≡ one v → bit_at f (bit_of part) ≡ one w → IsTrue v → IsTrue w
   of v true g_bit f_bit has = refl
   of true false g_bit f_bit has = absurd (omega (arith, f_bit, includes (bit_of part) (bit_within part) g_bit))
   of false false g_bit f_bit has = absurd (true≢false (sym has))
 
-pub agrees_with_less : (a b : MDBFileInfo) → Includes a.metadata.file_flags b.metadata.file_flags → Agree a b → (r : MDBFileInfo) → Agree a r → Agree b r
+pub agrees_with_less : (a b : MDBFileInfo) → IncludesBits a.metadata.file_flags b.metadata.file_flags → Agree a b → (r : MDBFileInfo) → Agree a r → Agree b r
 agrees_with_less a b includes agree r other = record {
   segments = sym agree.segments ∙ other.segments;
   parts = λ part has_b has_r. let has_a = announces_more a.metadata.file_flags b.metadata.file_flags part includes has_b in sym (agree.parts part has_a has_b) ∙ other.parts part has_a has_r;

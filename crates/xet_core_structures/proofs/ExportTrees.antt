@@ -26,17 +26,17 @@ use Rattle.xet_records.specs.View.{auxes_as_wanted}
 use Rattle.xet_records.specs.XorbRecord.{xorb_records}
 use Rattle.xet_records.proofs.RecordKinds.{xorb_laws, version_known}
 use Rattle.xet_shards.specs.declared.shard_format.footer.MDBShardFileFooter.{MDBShardFileFooter}
-use Rattle.xet_shards.specs.declared.shard_format.form.Form.{Form}
+use Rattle.xet_shards.specs.declared.shard_format.options.LayoutOptions.{LayoutOptions}
 use Rattle.xet_shards.specs.ChunkLookup.{ChunkLocation}
 use Rattle.xet_shards.specs.ChunkQuery.{run_at, run_length}
-use Rattle.xet_shards.specs.Layout.{if_in, layout_of, header_value, shard_header_bytes, shard_footer_bytes, offsets_of, sums_of, footer_value, plain_form_in, layout_in as layout_in_version}
+use Rattle.xet_shards.specs.Layout.{if_included, layout_of, header_value, shard_header_bytes, shard_footer_bytes, offsets_of, sums_of, footer_value, plain_options_in, layout_in as layout_in_version}
 use Rattle.xet_shards.specs.WrittenShard.{HasFilesIn, IsBytesOf}
 use Rattle.xet_shards.specs.Joins.{IsJoinOf, AgreePairwise}
-use Rattle.xet_shards.specs.KeyedExport.{exported, Exports, ExportsWith, export_form, xorbs_after, keyed_chunk, keyed_xorb, keyed_xorbs}
+use Rattle.xet_shards.specs.KeyedExport.{exported, Exports, ExportsWith, export_options, xorbs_after, keyed_chunk, keyed_xorb, keyed_xorbs}
 use Rattle.xet_shards.specs.KeyedShards.{keyed_shard}
 use Rattle.xet_shards.specs.Section.{section_bytes, total_rows}
 use Rattle.xet_shards.specs.SectionReading.{IsSection}
-use Rattle.xet_shards.specs.SetOperations.{HasFewRows}
+use Rattle.xet_shards.specs.SetOperations.{RowsFitU32}
 use Rattle.xet_shards.specs.Shard.{Shard, IsShard}
 use Rattle.xet_shards.specs.Tables.{table_bytes, chunk_table_bytes}
 use Rattle.xet_shards.specs.WrittenQueries.{HasChunkAt, RunAmong}
@@ -50,12 +50,12 @@ use Rattle.xet_shards.proofs.Sections.{files_laws, files_fit, files_fit_in}
 use Rattle.xet_shards.proofs.SectionUnique.{only_list}
 use Rattle.xet_shards.proofs.Sums.{all_of_map}
 use Rattle.xet_core_structures.specs.declared.set_operations.MergePlan.{MergePlan}
-use Rattle.xet_core_structures.specs.ByteResults.{keyed_form, keyed_layout}
+use Rattle.xet_core_structures.specs.ByteResults.{keyed_options, keyed_layout}
 use Rattle.xet_core_structures.specs.ExportTrees.{IsExportOf, IsMergeOfExports, run_under}
-use Rattle.xet_core_structures.specs.Held.{HoldsShard}
+use Rattle.xet_core_structures.specs.ShardContents.{HoldsShard}
 use Rattle.xet_core_structures.specs.MergeTrees.{TreeWrites, TreeRefusal, IsMergeUnder, MergeRefused}
 use Rattle.xet_core_structures.proofs.ByteUnions.{form_held}
-use Rattle.xet_core_structures.proofs.MappedJoins.{PassesToJoins, mapped_agree, mapped_merge}
+use Rattle.xet_core_structures.proofs.MappedJoins.{PreservesJoins, mapped_agree, mapped_merge}
 use Rattle.xet_core_structures.proofs.MergeTrees.{keyed_tree, tree_refused}
 
 -- the values of a map are what it has under its keys
@@ -77,7 +77,7 @@ value_at {X} m q x (k, within, is) =
     ((get_or (entries m) k (q, x)).0, found ∙ ap Some same)
 
 -- exports with auxiliary rows of shards that agree, under one key
-keys_pass : (key : DataHash) → PassesToJoins (keyed_shard key)
+keys_pass : (key : DataHash) → PreservesJoins (keyed_shard key)
 keys_pass key = record { shards = keyed_is_shard key; agree = keyed_agree key; join = keyed_join key }
 
 pub keyed_leaves : (key : DataHash) (shards : List Shard) (join : Shard) → AgreePairwise (Contains shards) → IsJoinOf (Contains shards) join
@@ -90,15 +90,15 @@ keyed_files key s V3 has = tt
 
 pub export_held : (key : DataHash) (s : Shard) (bytes : List ℕ) → IsShard s → IsExportOf true key s bytes → HoldsShard key (keyed_shard key s) bytes
 export_held key s bytes shard export =
-    let form = export.form in
+    let options = export.options in
     let here = export.is_form.under in
-    let keyed = keyed_is_shard form.key s shard in
-    let held = form_held (keyed_shard form.key s) form keyed (keyed_files form.key s form.version export.files) export.is_form.fits in
-    let bytes_are = export.bytes_are ∙ exported_is s form export.is_form.files in
-    subst (λ k. HoldsShard k (keyed_shard k s) bytes) here (subst (HoldsShard form.key (keyed_shard form.key s)) (sym bytes_are) held)
+    let keyed = keyed_is_shard options.key s shard in
+    let held = form_held (keyed_shard options.key s) options keyed (keyed_files options.key s options.version export.files) export.is_form.fits in
+    let bytes_are = export.bytes_are ∙ exported_is s options export.is_form.files in
+    subst (λ k. HoldsShard k (keyed_shard k s) bytes) here (subst (HoldsShard options.key (keyed_shard options.key s)) (sym bytes_are) held)
 
 module _ (key : DataHash) (inputs : List (List ℕ)) (plan : MergePlan) (shards : List Shard) (join : Shard) (merge : IsMergeOfExports true key inputs plan shards join) where
-  few_keyed : HasFewRows join → HasFewRows (keyed_shard key join)
+  few_keyed : RowsFitU32 join → RowsFitU32 (keyed_shard key join)
   few_keyed few = record {
     files = few.files;
     xorbs = omega (arith, ap (total_rows xorb_records) (values-keyed key join), keyed_total key (values join.xorbs), few.xorbs);
@@ -110,8 +110,8 @@ module _ (key : DataHash) (inputs : List (List ℕ)) (plan : MergePlan) (shards 
   pub tree_of_exports : (out : List ℕ) → TreeWrites inputs plan out → out ≡ keyed_layout (keyed_shard key join) key
   tree_of_exports out writes = (keyed_tree inputs key plan (map (keyed_shard key) shards) (keyed_shard key join) out held writes).0
 
-  pub export_of_join : (out : List ℕ) → TreeWrites inputs plan out → out ≡ exported (values join.files) (values join.xorbs) (export_form key 0 18446744073709551615 true true true)
-  export_of_join out writes = tree_of_exports out writes ∙ sym (exported_is join (keyed_form key) refl)
+  pub export_of_join : (out : List ℕ) → TreeWrites inputs plan out → out ≡ exported (values join.files) (values join.xorbs) (export_options key 0 18446744073709551615 true true true)
+  export_of_join out writes = tree_of_exports out writes ∙ sym (exported_is join (keyed_options key) refl)
 
   pub exports_refused : (e : CoreError) → TreeRefusal inputs plan e → MergeRefused join e
   exports_refused e refusal = elim (tree_refused inputs key plan (map (keyed_shard key) shards) (keyed_shard key join) e held.inputs_are held.agree held.is_join refusal) [
@@ -120,13 +120,13 @@ module _ (key : DataHash) (inputs : List (List ℕ)) (plan : MergePlan) (shards 
   ]
 
 -- an export of a shard is the layout of the shard under the key, without files where they are not asked for
-exported_in : (s : Shard) (form : Form) → exported (values s.files) (values s.xorbs) form ≡ layout_of (if_in form.file_table (values s.files)) (values (keyed_shard form.key s).xorbs) form
-exported_in s form = λ i. layout_of (if_in form.file_table (values s.files)) (sym (values-keyed form.key s) i) form
+exported_in : (s : Shard) (options : LayoutOptions) → exported (values s.files) (values s.xorbs) options ≡ layout_of (if_included options.file_table (values s.files)) (values (keyed_shard options.key s).xorbs) options
+exported_in s options = λ i. layout_of (if_included options.file_table (values s.files)) (sym (values-keyed options.key s) i) options
 
 -- what an export of the shard's bytes writes, in whichever version they are, with auxiliary rows or without
-module _ (aux : Bool) (s : Shard) (form : Form) (old new : Source) (before after : Option (List ℕ)) (n : ℕ) (is : IsBytesOf s (bytes_left old)) (exports : ExportsWith aux form old new before after n) where
+module _ (aux : Bool) (s : Shard) (options : LayoutOptions) (old new : Source) (before after : Option (List ℕ)) (n : ℕ) (is : IsBytesOf s (bytes_left old)) (exports : ExportsWith aux options old new before after n) where
   abbrev own_header : HasHeader (bytes_left old)
-  own_header = header_of (bytes_left old) _ (header_value is.version) (is.bytes_are ∙ layout_from_48 (values s.files) (values s.xorbs) (plain_form_in is.version is.expiry)) (is.version, refl)
+  own_header = header_of (bytes_left old) _ (header_value is.version) (is.bytes_are ∙ layout_from_48 (values s.files) (values s.xorbs) (plain_options_in is.version is.expiry)) (is.version, refl)
 
   section_in : IsSection (file_records_in is.version) (drop 48 (bytes_left old)) exports.files
   section_in =
@@ -147,13 +147,13 @@ module _ (aux : Bool) (s : Shard) (form : Form) (old new : Source) (before after
       only_list xorb_records xorb_laws (drop (48 + length (section_bytes file_records (values s.files))) (layout_in_version is.version s is.expiry)) exports.xorbs (values s.xorbs)
       (subst (λ bytes. IsSection xorb_records bytes exports.xorbs) (λ i. drop (after_files i) (is.bytes_are i)) exports.xorb_section) (xorb_section_of_shard is.version s is.expiry is.shard)
 
-  pub export_of_bytes : Appends before after (exported (auxes_as_wanted aux (values s.files)) (values s.xorbs) form)
-  export_of_bytes = subst (Appends before after) (λ i. exported (auxes_as_wanted aux (files_read i)) (xorbs_read i) form) exports.written
+  pub export_of_bytes : Appends before after (exported (auxes_as_wanted aux (values s.files)) (values s.xorbs) options)
+  export_of_bytes = subst (Appends before after) (λ i. exported (auxes_as_wanted aux (files_read i)) (xorbs_read i) options) exports.written
 
-pub export_written : (s : Shard) (form : Form) (old new : Source) (before after : Option (List ℕ)) (n : ℕ) → IsBytesOf s (bytes_left old)
-    → Exports form old new before after n → Appends before after (layout_of (if_in form.file_table (values s.files)) (values (keyed_shard form.key s).xorbs) form)
-export_written s form old new before after n is exports =
-    subst (Appends before after) (exported_in s form) (export_of_bytes true s form old new before after n is exports)
+pub export_written : (s : Shard) (options : LayoutOptions) (old new : Source) (before after : Option (List ℕ)) (n : ℕ) → IsBytesOf s (bytes_left old)
+    → Exports options old new before after n → Appends before after (layout_of (if_included options.file_table (values s.files)) (values (keyed_shard options.key s).xorbs) options)
+export_written s options old new before after n is exports =
+    subst (Appends before after) (exported_in s options) (export_of_bytes true s options old new before after n is exports)
 
 -- under a key a run is at least as long
 pub longer_under : (key : DataHash) (s : Shard) (q : DataHash) (index : ℕ) (qs : List DataHash) (run : ℕ × FileDataSequenceEntry) → run_under no_key s q index qs ≡ Some run
@@ -216,8 +216,8 @@ module _ (shards : List Shard) (join : Shard) (is_join : IsJoinOf (Contains shar
 
 -- two exports of the same records differ in the two timestamps of the footer alone
 module _ (files : List MDBFileInfo) (xorbs : List MDBXorbInfo) (key : DataHash) where
-  abbrev full_form : ℕ → ℕ → Form
-  full_form now valid = export_form key now valid true true true
+  abbrev full_form : ℕ → ℕ → LayoutOptions
+  full_form now valid = export_options key now valid true true true
 
   abbrev front_of : MDBShardFileFooter → List ℕ
   front_of f = flat_map u64_bytes (offsets_of f) ++ hash_bytes f.chunk_hash_hmac_key

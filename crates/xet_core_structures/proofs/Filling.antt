@@ -18,14 +18,14 @@ use Rattle.xet_records.specs.declared.xorb_structs.MDBXorbInfo.{MDBXorbInfo}
 use Rattle.xet_records.specs.RecordKind.{RecordKind, KindLaws}
 use Rattle.xet_records.specs.FileRow.{segment_row, hash_row, FitsHashRow, clear}
 use Rattle.xet_records.specs.Part.{parts, rows_of, optional_rows}
-use Rattle.xet_records.specs.FileRecord.{file_records, file_rows_bytes, handed_out, rows_after}
+use Rattle.xet_records.specs.FileRecord.{file_records, file_rows_bytes, as_read, rows_after}
 use Rattle.xet_records.specs.XorbRow.{chunk_row}
 use Rattle.xet_records.specs.XorbRecord.{xorb_records}
 use Rattle.xet_records.proofs.Lengths.{length-segment_rows, length-hash_row, length-hash_rows}
-use Rattle.xet_records.proofs.Parts.{rows_of-handed}
+use Rattle.xet_records.proofs.Parts.{rows_of-returned}
 use Rattle.xet_records.proofs.RecordKinds.{length-record_bytes}
 use Rattle.xet_records.specs.declared.record_reader.FormatVersion.TheVariants.{V3}
-use Rattle.xet_shards.specs.declared.shard_format.form.Form.{Form}
+use Rattle.xet_shards.specs.declared.shard_format.options.LayoutOptions.{LayoutOptions}
 use Rattle.xet_shards.specs.declared.shard_format.written.WrittenFiles.{WrittenFiles}
 use Rattle.xet_shards.specs.declared.shard_format.written.WrittenXorbs.{WrittenXorbs}
 use Rattle.xet_shards.specs.Layout.{layout_of, shard_header_bytes, header_value}
@@ -36,7 +36,7 @@ use Rattle.xet_shards.proofs.Written.{layout-parts}
 use Rattle.xet_core_structures.specs.declared.set_operations.filling.Frame.{Frame}
 use Rattle.xet_core_structures.specs.declared.set_operations.parts.PlacedShard.{PlacedShard}
 use Rattle.xet_core_structures.specs.declared.set_operations.placed.PlacedRecord.{PlacedRecord}
-use Rattle.xet_core_structures.specs.ByteResults.{keyed_form, Records}
+use Rattle.xet_core_structures.specs.ByteResults.{keyed_options, Records}
 use Rattle.xet_core_structures.specs.Filling.{Puts, IsFrame}
 use Rattle.xet_core_structures.specs.Parts.{MayBeWritten}
 use Rattle.xet_core_structures.specs.Placed.{Places, PlacesAll}
@@ -101,8 +101,8 @@ cleared rows [] = refl
 cleared rows (part ∷ ps) = ap (λ ys. map clear (rows part) ++ ys) (cleared rows ps) ∙ sym (map-append clear (rows part) (flat_map rows ps))
 
 -- the rows of optional parts, as reading returns them
-optional_rows-cleared : (r : MDBFileInfo) → optional_rows (handed_out r) ≡ map clear (optional_rows r)
-optional_rows-cleared r = (λ i. flat_map (λ part. rows_of-handed r part i) parts) ∙ cleared (λ part. rows_of part r) parts
+optional_rows-cleared : (r : MDBFileInfo) → optional_rows (as_read r) ≡ map clear (optional_rows r)
+optional_rows-cleared r = (λ i. flat_map (λ part. rows_of-returned r part i) parts) ∙ cleared (λ part. rows_of part r) parts
 
 -- the rows of a file that is placed, as they are stored
 pub record HasFileRows (p : PlacedRecord FileDataSequenceHeader) (r : MDBFileInfo) : Type 0 where
@@ -128,7 +128,7 @@ file_rows_placed p r places =
     let size_2 : length second ≡ 48 * length (optional_rows stored) = length-hash_rows (optional_rows stored) is.widths.parts in
     let total : length (first ++ second) ≡ 48 * rows_after p.header = places.rows.size in
     let rows_are : p.rows.now ≡ first ++ (second ++ rest) = places.rows.taken.1 ∙ append_assoc first second rest in
-    let same : handed_out stored ≡ r = places.rows.handed in
+    let same : as_read stored ≡ r = places.rows.returned in
     record {
       optional = optional_rows stored;
       rest = rest;
@@ -145,7 +145,7 @@ file_rows_placed p r places =
 pub xorb_rows_placed : (p : PlacedRecord XorbChunkSequenceHeader) (r : MDBXorbInfo) → Places xorb_records p r → take (48 * p.header.num_entries) p.rows.now ≡ flat_map chunk_row r.chunks
 xorb_rows_placed p r places =
     front_is (48 * p.header.num_entries) p.rows.now (flat_map chunk_row places.rows.stored.chunks) places.rows.taken.0 places.rows.size places.rows.taken.1
-    ∙ ap (λ (x : MDBXorbInfo). flat_map chunk_row x.chunks) places.rows.handed
+    ∙ ap (λ (x : MDBXorbInfo). flat_map chunk_row x.chunks) places.rows.returned
 
 module _ {H R : Type 0} (K : RecordKind H R) where
   -- the front of a list is put, and these are left
@@ -209,8 +209,8 @@ pub record HasSizes (shard : PlacedShard) (records : Records) (frame : Frame) : 
   pub total : frame.size ≡ 48 + 48 * (total_rows file_records records.files + 1) + 48 * (total_rows xorb_records records.xorbs + 1) + length frame.tables.items
 
 module _ (shard : PlacedShard) (records : Records) (may : MayBeWritten shard records) where
-  abbrev form : Form
-  form = keyed_form shard.key
+  abbrev options : LayoutOptions
+  options = keyed_options shard.key
 
   abbrev header : List ℕ
   header = shard_header_bytes (header_value V3)
@@ -222,14 +222,14 @@ module _ (shard : PlacedShard) (records : Records) (may : MayBeWritten shard rec
   xorbs = section_bytes xorb_records records.xorbs
 
   abbrev tables : List ℕ
-  tables = end_of_layout records.files records.xorbs form
+  tables = end_of_layout records.files records.xorbs options
 
   size_of_files : length files ≡ 48 * total_rows file_records records.files + 48
   size_of_files = length-file_section records.files (λ k r below. (may.files.stored k r below).widths)
 
-  size_of_all : length (layout_of records.files records.xorbs form) ≡ 48 * (total_rows file_records records.files + total_rows xorb_records records.xorbs + 3) + length tables
+  size_of_all : length (layout_of records.files records.xorbs options) ≡ 48 * (total_rows file_records records.files + total_rows xorb_records records.xorbs + 3) + length tables
   size_of_all =
-      let parts = ap length (sym (layout-parts records.files records.xorbs form)) in
+      let parts = ap length (sym (layout-parts records.files records.xorbs options)) in
       omega (
         arith,
         parts,
@@ -251,15 +251,15 @@ module _ (shard : PlacedShard) (records : Records) (may : MayBeWritten shard rec
 
   -- the parts of a shard one after another
   pub shard_put : (frame : Frame) → IsFrame shard.key records frame → (old one two three new : List ℕ) (a b c end : ℕ) → Puts old one 0 a frame.header.items → Puts one two a b files → Puts two three b c xorbs
-      → Puts three new c end frame.tables.items → new ≡ layout_of records.files records.xorbs form ++ drop frame.size old
+      → Puts three new c end frame.tables.items → new ≡ layout_of records.files records.xorbs options ++ drop frame.size old
   shard_put frame is old one two three new a b c end first second third fourth =
       let all = puts_then old three new 0 c end ((frame.header.items ++ files) ++ xorbs) frame.tables.items
       (puts_then old two three 0 b c (frame.header.items ++ files) xorbs (puts_then old one two 0 a b frame.header.items files first second) third) fourth in
-      let bytes : ((frame.header.items ++ files) ++ xorbs) ++ frame.tables.items ≡ layout_of records.files records.xorbs form =
-      (λ i. ((is.header i ++ files) ++ xorbs) ++ is.tables i) ∙ layout-parts records.files records.xorbs form in
+      let bytes : ((frame.header.items ++ files) ++ xorbs) ++ frame.tables.items ≡ layout_of records.files records.xorbs options =
+      (λ i. ((is.header i ++ files) ++ xorbs) ++ is.tables i) ∙ layout-parts records.files records.xorbs options in
       let whole = subst (Puts old new 0 end) bytes all in
-      put_at_front old new end (layout_of records.files records.xorbs form) whole
-      ∙ ap (λ n. layout_of records.files records.xorbs form ++ drop n old) (whole.end_is ∙ omega (arith, is.size))
+      put_at_front old new end (layout_of records.files records.xorbs options) whole
+      ∙ ap (λ n. layout_of records.files records.xorbs options ++ drop n old) (whole.end_is ∙ omega (arith, is.size))
 
   -- what was collected and written apart from the sections is the frame
   pub frame_made : (frame : Frame) (written_files : WrittenFiles) (written_xorbs : WrittenXorbs) → HasWritten written_files records.files → HasWrittenXorbs written_xorbs records.xorbs

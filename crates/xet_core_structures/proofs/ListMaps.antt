@@ -15,13 +15,13 @@ use Rattle.xet_records.specs.RecordKind.{RecordKind}
 use Rattle.xet_records.specs.FileRecord.{file_records}
 use Rattle.xet_records.specs.XorbRecord.{xorb_records}
 use Rattle.xet_shards.specs.declared.shard_format.info.MDBShardInfo.{MDBShardInfo}
-use Rattle.xet_shards.specs.InForm.{Ascends}
+use Rattle.xet_shards.specs.WithOptions.{Ascends}
 use Rattle.xet_shards.specs.SectionReading.{files_of, IsSection}
 use Rattle.xet_shards.specs.Shard.{Shard}
 use Rattle.xet_core_structures.specs.ByteResults.{Records}
-use Rattle.xet_core_structures.specs.Combining.{key_of_record, by_hash, with_hash, Combines}
-use Rattle.xet_core_structures.specs.Held.{IsSectionOf, IsListOf, files_at, xorbs_at, Holds, HoldsLists}
-use Rattle.xet_core_structures.proofs.Combining.{apart}
+use Rattle.xet_core_structures.specs.RecordPairs.{key_of_record, by_hash, with_hash, Combines}
+use Rattle.xet_core_structures.specs.ShardContents.{IsSectionOf, IsListOf, files_at, xorbs_at, Holds, HoldsLists}
+use Rattle.xet_core_structures.proofs.RecordPairs.{apart}
 
 both : (a b : Bool) → T a → T b → T (a && b)
 both true b first second = second
@@ -80,11 +80,11 @@ module _ {H R : Type 0} (K : RecordKind H R) where
     get-list_map q = get-from_sorted hash_cmp (by_hash K rs) q (sorted_is rs ascends)
 
     -- a section that is read as the list is one of its map
-    pub section_of_list : (bytes : List ℕ) (stored : List R) → IsSection K bytes stored → map K.handed_out stored ≡ rs → IsSectionOf K bytes (list_map rs)
-    section_of_list bytes stored section handed = record {
+    pub section_of_list : (bytes : List ℕ) (stored : List R) → IsSection K bytes stored → map K.as_read stored ≡ rs → IsSectionOf K bytes (list_map rs)
+    section_of_list bytes stored section returned = record {
       stored = stored;
       section = section;
-      handed = handed ∙ sym values-list_map;
+      returned = returned ∙ sym values-list_map;
       keyed = subst (All (λ e. e.0 ≡ key_of_record K e.1)) (sym entries-list_map) (keyed_by_hash rs);
     }
 
@@ -99,7 +99,7 @@ abbrev pub shard_of : Records → Shard
 shard_of records = record { files = list_map file_records records.files; xorbs = list_map xorb_records records.xorbs }
 
 section_of : {H R : Type 0} (K : RecordKind H R) (bytes : List ℕ) (rs : List R) → IsListOf K bytes rs → IsSectionOf K bytes (list_map K rs)
-section_of K bytes rs is = section_of_list K rs is.writable.ascends bytes is.stored is.section is.handed
+section_of K bytes rs is = section_of_list K rs is.writable.ascends bytes is.stored is.section is.returned
 
 pub lists_hold : (bytes : List ℕ) (info : MDBShardInfo) (records : Records) → HoldsLists bytes info records.files records.xorbs → Holds bytes info (shard_of records)
 lists_hold bytes info records lists = record {

@@ -9,24 +9,24 @@ use Rattle.xet_records.specs.Version.{version_of}
 use Rattle.xet_records.specs.XorbRecord.{xorb_records}
 use Rattle.xet_records.proofs.RecordKinds.{KindLaws, xorb_laws}
 use Rattle.xet_shards.specs.declared.shard_format.info.MDBShardInfo.{MDBShardInfo}
-use Rattle.xet_shards.specs.InForm.{Ascends}
+use Rattle.xet_shards.specs.WithOptions.{Ascends}
 use Rattle.xet_shards.specs.SectionReading.{files_of, IsSection, ReadsSection}
 use Rattle.xet_shards.specs.Section.{total_rows}
 use Rattle.xet_shards.proofs.Sections.{files_laws}
-use Rattle.xet_core_structures.specs.Held.{IsListOf, xorbs_at, HoldsLists, ReadsSections}
-use Rattle.xet_core_structures.proofs.Held.{rows_handed}
-use Rattle.xet_core_structures.proofs.Handed.{all_handed}
+use Rattle.xet_core_structures.specs.ShardContents.{IsListOf, xorbs_at, HoldsLists, ReadsOnlySections}
+use Rattle.xet_core_structures.proofs.ShardContents.{rows_handed}
+use Rattle.xet_core_structures.proofs.RecordsAsRead.{all_handed}
 
 module _ {H R : Type 0} (K : RecordKind H R) (laws : KindLaws K) (old new : Source) (at : ℕ) where
   list_read : (found : List R) → ReadsSection K old new at found → Ascends K found → IsListOf K (drop at old.bytes) found
   list_read found reads ascends = record {
     stored = reads.stored;
     section = reads.section;
-    handed = reads.handed;
+    returned = reads.returned;
     writable = record {
-      stored = all_handed K laws reads.stored found reads.section.records.are_stored reads.handed;
+      stored = all_handed K laws reads.stored found reads.section.records.are_stored reads.returned;
       ascends = ascends;
-      rows = omega (arith, reads.section.records.rows, rows_handed K laws reads.stored, ap (total_rows K) reads.handed);
+      rows = omega (arith, reads.section.records.rows, rows_handed K laws reads.stored, ap (total_rows K) reads.returned);
     };
   }
 
@@ -36,7 +36,7 @@ module _ (old mid new : Source) (info : MDBShardInfo) (files : List MDBFileInfo)
   same_bytes : mid.bytes ≡ old.bytes
   same_bytes = ap (λ (s : Source). s.bytes) read.after
 
-  pub sections_read : ReadsSections info old new
+  pub sections_read : ReadsOnlySections info old new
   sections_read = record {
     files = read.stored;
     xorbs = further.stored;

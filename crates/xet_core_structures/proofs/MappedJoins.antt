@@ -10,12 +10,12 @@ use Rattle.xet_core_structures.specs.declared.set_operations.MergePlan.{MergePla
 use Rattle.xet_core_structures.specs.MergeTrees.{leaves, InputIs, IsMergeOf}
 use Rattle.xet_core_structures.proofs.Zipped.{zipped_with}
 
-pub record PassesToJoins (f : Shard → Shard) : Type 0 where
+pub record PreservesJoins (f : Shard → Shard) : Type 0 where
   pub shards : (s : Shard) → IsShard s → IsShard (f s)
   pub agree : (a b : Shard) → ShardsAgree a b → ShardsAgree (f a) (f b)
   pub join : (shards : List Shard) (c : Shard) → IsJoinOf (Contains shards) c → IsJoinOf (Contains (map f shards)) (f c)
 
-module _ (f : Shard → Shard) (passes : PassesToJoins f) where
+module _ (f : Shard → Shard) (passes : PreservesJoins f) where
   pub mapped_agree : (shards : List Shard) → AgreePairwise (Contains shards) → AgreePairwise (Contains (map f shards))
   mapped_agree shards agree = record {
     shards = λ s member.

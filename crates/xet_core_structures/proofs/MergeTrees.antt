@@ -11,7 +11,7 @@ use Rattle.xet_base.specs.declared.error.CoreError.{CoreError}
 use Rattle.xet_base.specs.declared.merklehash.DataHash.{DataHash}
 use Rattle.xet_base.specs.KeyedHash.{no_key}
 use Rattle.xet_shards.specs.Joins.{IsJoinOf, AgreePairwise}
-use Rattle.xet_shards.specs.SetOperations.{HasFewRows}
+use Rattle.xet_shards.specs.SetOperations.{RowsFitU32}
 use Rattle.xet_shards.specs.Shard.{Shard}
 use Rattle.xet_shards.specs.WrittenShard.{IsBytesOf, IsBytesWithoutExpiry}
 use Rattle.xet_shards.proofs.Joins.{join-unique, join-one, follows_parts}
@@ -20,7 +20,7 @@ use Rattle.xet_core_structures.specs.declared.set_operations.MergePlan.{MergePla
 use Rattle.xet_core_structures.specs.declared.set_operations.MergePlan.TheVariants.{Leaf, Both'}
 use Rattle.xet_core_structures.specs.ByteResults.{keyed_layout, UnitesBytes, BytesRefusal}
 use Rattle.xet_core_structures.specs.Filling.{FillsWith}
-use Rattle.xet_core_structures.specs.Held.{HoldsShard}
+use Rattle.xet_core_structures.specs.ShardContents.{HoldsShard}
 use Rattle.xet_core_structures.specs.MergeTrees.{leaves, HasUnion, TreeWrites, TreeRefusal, InputIs, IsMergeUnder, IsMerge, IsMergeOfWritten, MergeRefused}
 use Rattle.xet_core_structures.proofs.ByteUnions.{held_union, refused_union, written_held}
 use Rattle.xet_core_structures.proofs.Zipped.{zipped_parts, zipped_as}
@@ -43,10 +43,10 @@ module _ (inputs : List (List ℕ)) (key : DataHash) where
     agree_r : AgreePairwise (Contains ys)
     agree_r = agree_right xs ys agree
 
-    few_left : (a : Shard) → IsJoinOf (Contains xs) a → HasFewRows c → HasFewRows a
+    few_left : (a : Shard) → IsJoinOf (Contains xs) a → RowsFitU32 c → RowsFitU32 a
     few_left a one = fewer_if_more (Contains xs) (Contains (xs ++ ys)) a c one join (λ s. Contains-append_left xs ys s)
 
-    few_right : (a : Shard) → IsJoinOf (Contains ys) a → HasFewRows c → HasFewRows a
+    few_right : (a : Shard) → IsJoinOf (Contains ys) a → RowsFitU32 c → RowsFitU32 a
     few_right a one = fewer_if_more (Contains ys) (Contains (xs ++ ys)) a c one join (λ s. Contains-append_right xs ys s)
 
     -- the union of what both sides write

@@ -9,8 +9,8 @@ use Rattle.std.proofs.lemmas.List.{append_assoc}
 use Rattle.std.proofs.lemmas.List.Elements.{All-nil, All-cons, All-drop, All-map, All-weaker}
 use Rattle.xet_base.specs.declared.merklehash.DataHash.{DataHash}
 use Rattle.xet_base.specs.Hash.{all_ones}
-use Rattle.xet_base.specs.Source.{Source, Takes, bytes_left}
-use Rattle.xet_base.proofs.Reading.{Takes-consumes}
+use Rattle.xet_base.specs.Source.{Source, ReadsBytes, bytes_left}
+use Rattle.xet_base.proofs.Reading.{ReadsBytes-consumes}
 use Rattle.xet_base.proofs.Lists.{same_parts}
 use Rattle.xet_records.specs.declared.file_structs.MDBFileInfo.{MDBFileInfo}
 use Rattle.xet_records.specs.declared.xorb_structs.MDBXorbInfo.{MDBXorbInfo}
@@ -27,11 +27,11 @@ use Rattle.xet_records.proofs.KeptParts.{keeping-whole, without_aux-stored}
 use Rattle.xet_records.proofs.Merging.{announces-flags_of}
 use Rattle.xet_records.proofs.RecordKinds.{xorb_laws, version_known}
 use Rattle.xet_shards.specs.declared.streaming_shard.file_start.FileStart.{FileStart}
-use Rattle.xet_shards.specs.InForm.{FitsSection}
-use Rattle.xet_shards.specs.declared.shard_format.form.Form.{Form}
-use Rattle.xet_shards.specs.Layout.{if_in, layout_of, header_value, shard_header_bytes}
+use Rattle.xet_shards.specs.WithOptions.{FitsSection}
+use Rattle.xet_shards.specs.declared.shard_format.options.LayoutOptions.{LayoutOptions}
+use Rattle.xet_shards.specs.Layout.{if_included, layout_of, header_value, shard_header_bytes}
 use Rattle.xet_shards.specs.MinimalReading.{ReadsViews, ReadsWantedXorbs, ReadsMinimal, ReadsEligible}
-use Rattle.xet_shards.specs.MinimalShard.{MinimalShard, FitsSections, IsKept, is_start, chunk_of, marked_if, mark_starts, eligible_in, eligible_hashes, ascending_hashes, minimal_form, WritesMinimalKept, WritesKept}
+use Rattle.xet_shards.specs.MinimalShard.{MinimalShard, FitsSections, IsKept, is_start, chunk_of, marked_if, mark_starts, eligible_in, eligible_hashes, ascending_hashes, minimal_options, WritesMinimalKept, WritesKept}
 use Rattle.xet_shards.specs.Section.{section_bytes}
 use Rattle.xet_shards.specs.SectionReading.{IsSection}
 use Rattle.xet_shards.proofs.Layouts.{length-shard_header_bytes}
@@ -71,23 +71,23 @@ module _ {H R : Type 0} (K : RecordKind H R) (laws : KindLaws K) where
       (same, last.1 ∙ ap (λ bs. Some bs) end)
 
 -- from a layout, its files, where they are wanted, and its xorbs are read
-layout_read : (files : List MDBFileInfo) (xorbs : List MDBXorbInfo) (form : Form) (y : List ℕ) (new : Option (List ℕ)) (with_files : Bool) (n : MinimalShard)
-    → FitsSection (file_records_in form.version) files → FitsSection xorb_records xorbs → y ≡ layout_of files xorbs form → ReadsMinimal Consumes with_files true (Some y) new n
-    → (n.files ≡ if_in with_files files) × (n.xorbs ≡ xorbs)
-layout_read files xorbs form y new with_files n files_fit xorbs_fit are (mid, header, sections) =
+layout_read : (files : List MDBFileInfo) (xorbs : List MDBXorbInfo) (options : LayoutOptions) (y : List ℕ) (new : Option (List ℕ)) (with_files : Bool) (n : MinimalShard)
+    → FitsSection (file_records_in options.version) files → FitsSection xorb_records xorbs → y ≡ layout_of files xorbs options → ReadsMinimal Consumes with_files true (Some y) new n
+    → (n.files ≡ if_included with_files files) × (n.xorbs ≡ xorbs)
+layout_read files xorbs options y new with_files n files_fit xorbs_fit are (mid, header, sections) =
     let first = known_rest y mid (shard_header_bytes header.header) header.taken in
     let z = first.0 in
-    let after : z ≡ section_bytes file_records files ++ after_section files xorbs form =
-    (same_parts (shard_header_bytes header.header) (shard_header_bytes (header_value form.version)) z (section_bytes file_records files ++ after_section files xorbs form)
-    (length-shard_header_bytes header.header ∙ sym (length-shard_header_bytes (header_value form.version))) (sym first.2 ∙ are ∙ layout_from_48 files xorbs form)).1 in
-    let same : version_of header.header.version ≡ form.version =
-    one_version y (header_of y z header.header first.2 header.version) (header_of y _ (header_value form.version) (are ∙ layout_from_48 files xorbs form) (form.version, refl))
-    ∙ version_known form.version in
-    let file_part = section_read (file_records_in form.version) (files_laws form.version) z sections.mid sections.files files (after_section files xorbs form) files_fit (after ∙ ap (λ bs. bs ++ after_section files xorbs form) (sym (section_bytes_in file_records form.version files)))
+    let after : z ≡ section_bytes file_records files ++ after_section files xorbs options =
+    (same_parts (shard_header_bytes header.header) (shard_header_bytes (header_value options.version)) z (section_bytes file_records files ++ after_section files xorbs options)
+    (length-shard_header_bytes header.header ∙ sym (length-shard_header_bytes (header_value options.version))) (sym first.2 ∙ are ∙ layout_from_48 files xorbs options)).1 in
+    let same : version_of header.header.version ≡ options.version =
+    one_version y (header_of y z header.header first.2 header.version) (header_of y _ (header_value options.version) (are ∙ layout_from_48 files xorbs options) (options.version, refl))
+    ∙ version_known options.version in
+    let file_part = section_read (file_records_in options.version) (files_laws options.version) z sections.mid sections.files files (after_section files xorbs options) files_fit (after ∙ ap (λ bs. bs ++ after_section files xorbs options) (sym (section_bytes_in file_records options.version files)))
     (subst (λ p. p) (λ i. ReadsViews (file_records_in (same i)) (λ r. r) Consumes (first.1 i) sections.mid sections.files) sections.file_section) in
-    let xorb_part = section_read xorb_records xorb_laws (after_section files xorbs form) new n.xorbs xorbs (after_xorbs files xorbs form) xorbs_fit refl
+    let xorb_part = section_read xorb_records xorb_laws (after_section files xorbs options) new n.xorbs xorbs (after_xorbs files xorbs options) xorbs_fit refl
     (subst (λ b. ReadsViews xorb_records (λ r. r) Consumes b new n.xorbs) file_part.1 sections.xorb_section) in
-    (sections.kept ∙ ap (λ rs. if_in with_files rs) file_part.0, xorb_part.0)
+    (sections.kept ∙ ap (λ rs. if_included with_files rs) file_part.0, xorb_part.0)
 
 -- what was read, from whatever reader, fits its sections
 pub read_fits : (with_files with_xorbs : Bool) (old new : Option (List ℕ)) (m : MinimalShard) → ReadsMinimal Consumes with_files with_xorbs old new m → FitsSections m
@@ -166,17 +166,17 @@ module _ (starts : FileStart → Bool) where
     xorbs_marked : (xs kept : List MDBXorbInfo) → IsKept answers xs kept → FitsSection xorb_records xs → FitsSection xorb_records (map (mark_starts starts) kept)
     xorbs_marked xs kept is fits = record { stored = all_marked xs kept is fits.stored; rows = omega (arith, rows_kept answers starts xs kept is, fits.rows) }
 
-none_in : (is_in : Bool) (none : List MDBFileInfo) → none ≡ if_in is_in [] → none ≡ []
+none_in : (is_in : Bool) (none : List MDBFileInfo) → none ≡ if_included is_in [] → none ≡ []
 none_in true none is = is
 none_in false none is = is
 
 -- a subset that is read again
-pub subset_read : (answers : MDBXorbInfo → Bool → Type 0) (with_files : Bool) (m n : MinimalShard) (form : Form) (y : List ℕ) (new : Option (List ℕ)) (k : ℕ) → FitsSections m
-    → (kept : WritesKept answers (Some []) (Some y) [] m form k) → ReadsMinimal Consumes with_files true (Some y) new n
+pub subset_read : (answers : MDBXorbInfo → Bool → Type 0) (with_files : Bool) (m n : MinimalShard) (options : LayoutOptions) (y : List ℕ) (new : Option (List ℕ)) (k : ℕ) → FitsSections m
+    → (kept : WritesKept answers (Some []) (Some y) [] m options k) → ReadsMinimal Consumes with_files true (Some y) new n
     → (n.files ≡ []) × (n.xorbs ≡ map (mark_starts (is_start m.files)) kept.kept) × (eligible_hashes n.files n.xorbs ≡ ascending_hashes (flat_map (eligible_in (is_start m.files)) kept.kept))
-subset_read answers with_files m n form y new k fits kept read =
+subset_read answers with_files m n options y new k fits kept read =
     let marked = map (mark_starts (is_start m.files)) kept.kept in
-    let back = layout_read [] marked form y new with_files n (none_fit (file_records_in form.version)) (xorbs_marked (is_start m.files) answers m.xorbs kept.kept kept.is_kept fits.xorbs) kept.written.appended read in
+    let back = layout_read [] marked options y new with_files n (none_fit (file_records_in options.version)) (xorbs_marked (is_start m.files) answers m.xorbs kept.kept kept.is_kept fits.xorbs) kept.written.appended read in
     let no_files : n.files ≡ [] = none_in with_files n.files back.0 in
     (no_files, back.1, (λ i. eligible_hashes (no_files i) (back.1 i)) ∙ subset_again m.files kept.kept)
 
@@ -204,12 +204,12 @@ module _ {I J : Type 0} (view : I → J) (one : I → I → List ℕ → Type 0)
   )
 
 -- a subset that is read again from a source
-pub subset_eligible : (answers : MDBXorbInfo → Bool → Type 0) (m : MinimalShard) (form : Form) (y : List ℕ) (old new : Source) (hashes : List DataHash) (k : ℕ) → FitsSections m
-    → (kept : WritesKept answers (Some []) (Some y) [] m form k) → bytes_left old ≡ y → ReadsEligible old new hashes
+pub subset_eligible : (answers : MDBXorbInfo → Bool → Type 0) (m : MinimalShard) (options : LayoutOptions) (y : List ℕ) (old new : Source) (hashes : List DataHash) (k : ℕ) → FitsSections m
+    → (kept : WritesKept answers (Some []) (Some y) [] m options k) → bytes_left old ≡ y → ReadsEligible old new hashes
     → hashes ≡ ascending_hashes (flat_map (eligible_in (is_start m.files)) kept.kept)
-subset_eligible answers m form y old new hashes k fits kept are (n, read, hashes_are) =
-    let taken : ReadsMinimal Consumes true true (Some (bytes_left old)) (Some (bytes_left new)) n = sections_left (λ s. Some (bytes_left s)) Takes Consumes Takes-consumes true old new n read in
-    hashes_are ∙ (subset_read answers true m n form y (Some (bytes_left new)) k fits kept (subst (λ bs. ReadsMinimal Consumes true true (Some bs) (Some (bytes_left new)) n) are taken)).2
+subset_eligible answers m options y old new hashes k fits kept are (n, read, hashes_are) =
+    let taken : ReadsMinimal Consumes true true (Some (bytes_left old)) (Some (bytes_left new)) n = sections_left (λ s. Some (bytes_left s)) ReadsBytes Consumes ReadsBytes-consumes true old new n read in
+    hashes_are ∙ (subset_read answers true m n options y (Some (bytes_left new)) k fits kept (subst (λ bs. ReadsMinimal Consumes true true (Some bs) (Some (bytes_left new)) n) are taken)).2
 
 -- each xorb is accepted
 each_kept : (xs : List MDBXorbInfo) → IsKept (λ x b. Unit {0}) xs xs
@@ -221,7 +221,7 @@ pub shard_read : (kept : KeptParts) (now : ℕ) (m n : MinimalShard) (y : List �
     → WritesMinimalKept (Some []) (Some y) kept now m k → ReadsMinimal Consumes true true (Some y) new n
     → (n.files ≡ map (as_kept kept) m.files) × (n.xorbs ≡ map (mark_starts (is_start m.files)) m.xorbs)
 shard_read kept now m n y new k fits written read =
-    layout_read (map (as_kept kept) m.files) (map (mark_starts (is_start m.files)) m.xorbs) (minimal_form now None) y new true n (files_as_kept kept m.files fits.files)
+    layout_read (map (as_kept kept) m.files) (map (mark_starts (is_start m.files)) m.xorbs) (minimal_options now None) y new true n (files_as_kept kept m.files fits.files)
     (xorbs_marked (is_start m.files) (λ x b. Unit {0}) m.xorbs m.xorbs (each_kept m.xorbs) fits.xorbs) written.appended read
 
 pub shard_again : (kept : KeptParts) (now : ℕ) (m n : MinimalShard) (y z : List ℕ) (new : Option (List ℕ)) (k l : ℕ) → FitsSections m
@@ -230,6 +230,6 @@ shard_again kept now m n y z new k l fits written read again =
     let back = shard_read kept now m n y new k fits written read in
     let same = written_again kept m.files m.xorbs in
     again.appended
-    ∙ (λ i. layout_of (map (as_kept kept) (back.0 i)) (map (mark_starts (is_start (back.0 i))) (back.1 i)) (minimal_form now None))
-    ∙ (λ i. layout_of (same.0 i) (same.1 i) (minimal_form now None))
+    ∙ (λ i. layout_of (map (as_kept kept) (back.0 i)) (map (mark_starts (is_start (back.0 i))) (back.1 i)) (minimal_options now None))
+    ∙ (λ i. layout_of (same.0 i) (same.1 i) (minimal_options now None))
     ∙ sym written.appended

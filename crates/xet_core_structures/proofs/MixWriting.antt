@@ -6,9 +6,9 @@ use Rattle.std.proofs.KnownBytes.{Appends-trans}
 use Rattle.xet_base.specs.declared.error.CoreError.{CoreError}
 use Rattle.xet_base.specs.declared.error.CoreError.TheVariants.{OutOfMemory}
 use Rattle.xet_base.specs.Errors.{IsWriteError}
-use Rattle.xet_base.specs.InputLaws.{Takes-nil, Takes-trans, source_fails_later}
-use Rattle.xet_base.specs.Source.{Source, Takes}
-use Rattle.xet_base.specs.Table.{Serves}
+use Rattle.xet_base.specs.InputLaws.{ReadsBytes-nil, ReadsBytes-trans, source_fails_later}
+use Rattle.xet_base.specs.Source.{Source, ReadsBytes}
+use Rattle.xet_base.specs.Table.{NoFailure}
 use Rattle.xet_records.specs.declared.file_structs.header.FileDataSequenceHeader.{FileDataSequenceHeader}
 use Rattle.xet_records.specs.declared.file_structs.rows.FileDataSequenceEntry.{FileDataSequenceEntry}
 use Rattle.xet_records.specs.declared.file_structs.MDBFileInfo.{MDBFileInfo}
@@ -31,8 +31,8 @@ use Rattle.xet_shards.specs.Written.{IsFileOf, HasWritten}
 use Rattle.xet_core_structures.specs.ByteUnion.{mixed}
 use Rattle.xet_core_structures.specs.MixedFiles.{WritesMix, WritesMixRows, WritesEither, EitherFails}
 use Rattle.xet_core_structures.specs.MixedFiles.EitherFails.{output_fails as either_output_fails, first_fails as either_first_fails, second_fails as either_second_fails}
-use Rattle.xet_core_structures.specs.SideBySide.{IsRecordHeader, PairFails}
-use Rattle.xet_core_structures.specs.SideBySide.PairFails.{output_fails, first_fails, second_fails}
+use Rattle.xet_core_structures.specs.MergeJoin.{IsRecordHeader, PairFails}
+use Rattle.xet_core_structures.specs.MergeJoin.PairFails.{output_fails, first_fails, second_fails}
 use Rattle.xet_core_structures.specs.Streams.{Sources, sources, streams}
 use Rattle.xet_core_structures.proofs.Mixing.{rows_of_mix, rows_chosen}
 use Rattle.xet_core_structures.proofs.Pairs.{record_of}
@@ -40,27 +40,27 @@ use Rattle.xet_core_structures.proofs.OneSection.{serves_on, taken_serves, heade
 
 -- a failure at some part is one of the whole
 module _ (g h : FileDataSequenceHeader) (Refused : Option MDBFileInfo → Option MDBFileInfo → Type 0) where
-  pub part_fails : (old_1 mid_1 new_1 old_2 mid_2 new_2 : Source) (xs ys : List ℕ) (count_1 count_2 : ℕ) (failure : CopyFailure) → Takes old_1 mid_1 xs → Takes old_2 mid_2 ys
+  pub part_fails : (old_1 mid_1 new_1 old_2 mid_2 new_2 : Source) (xs ys : List ℕ) (count_1 count_2 : ℕ) (failure : CopyFailure) → ReadsBytes old_1 mid_1 xs → ReadsBytes old_2 mid_2 ys
       → length xs + 48 * count_1 ≤ 48 * rows_after g → length ys + 48 * count_2 ≤ 48 * rows_after h → EitherFails (sources mid_1 mid_2) (sources new_1 new_2) count_1 count_2 failure
       → PairFails file_records (Some g) (Some h) (sources old_1 old_2) (sources new_1 new_2) Refused failure
   part_fails old_1 mid_1 new_1 old_2 mid_2 new_2 xs ys count_1 count_2 failure first second in_1 in_2 (either_output_fails e is device one two) =
       output_fails e is device (one ∙ (taken_serves old_1 mid_1 xs first).bytes) (two ∙ (taken_serves old_2 mid_2 ys second).bytes)
-  part_fails old_1 mid_1 new_1 old_2 mid_2 new_2 xs ys count_1 count_2 failure first second in_1 in_2 (either_first_fails e is fails serves) =
-      first_fails e is g refl (source_fails_later old_1 mid_1 new_1 xs (48 * count_1) (48 * rows_after g) e first fails in_1) (serves_on old_2 mid_2 new_2 (taken_serves old_2 mid_2 ys second) serves)
-  part_fails old_1 mid_1 new_1 old_2 mid_2 new_2 xs ys count_1 count_2 failure first second in_1 in_2 (either_second_fails e is fails serves) =
-      second_fails e is h refl (source_fails_later old_2 mid_2 new_2 ys (48 * count_2) (48 * rows_after h) e second fails in_2) (serves_on old_1 mid_1 new_1 (taken_serves old_1 mid_1 xs first) serves)
+  part_fails old_1 mid_1 new_1 old_2 mid_2 new_2 xs ys count_1 count_2 failure first second in_1 in_2 (either_first_fails e is fails no_failure) =
+      first_fails e is g refl (source_fails_later old_1 mid_1 new_1 xs (48 * count_1) (48 * rows_after g) e first fails in_1) (serves_on old_2 mid_2 new_2 (taken_serves old_2 mid_2 ys second) no_failure)
+  part_fails old_1 mid_1 new_1 old_2 mid_2 new_2 xs ys count_1 count_2 failure first second in_1 in_2 (either_second_fails e is fails no_failure) =
+      second_fails e is h refl (source_fails_later old_2 mid_2 new_2 ys (48 * count_2) (48 * rows_after h) e second fails in_2) (serves_on old_1 mid_1 new_1 (taken_serves old_1 mid_1 xs first) no_failure)
 
   pub no_output : (one two : Source) (failure : CopyFailure) → IsOutputFailure failure → PairFails file_records (Some g) (Some h) (sources one two) (sources one two) Refused failure
   no_output one two (Input e) none = absurd none
   no_output one two (Output e) is = output_fails e refl is refl refl
 
-  pub not_added : (old_1 new_1 old_2 new_2 : Source) (e : CoreError) → Serves old_1 new_1 → Serves old_2 new_2 → e ≡ OutOfMemory → PairFails file_records (Some g) (Some h) (sources old_1 old_2) (sources new_1 new_2) Refused (Output e)
+  pub not_added : (old_1 new_1 old_2 new_2 : Source) (e : CoreError) → NoFailure old_1 new_1 → NoFailure old_2 new_2 → e ≡ OutOfMemory → PairFails file_records (Some g) (Some h) (sources old_1 old_2) (sources new_1 new_2) Refused (Output e)
   not_added old_1 new_1 old_2 new_2 e first second is = output_fails e refl (subst IsWriteError (sym is) (tt, λ none. none)) first.bytes second.bytes
 
 module _ (g h : FileDataSequenceHeader) (old_1 a_1 b_1 c_1 new_1 old_2 a_2 b_2 c_2 new_2 : Source) (w0 w1 w2 w3 w4 : Option (List ℕ)) where
   pub rows_mixed : (ss ts : List FileDataSequenceEntry) (size : ℕ)
-      → CopiesRows segment_row FitsSegment (λ s. s) (Takes old_1 a_1) w0 w1 g.num_entries ss → size ≡ sum_by (λ s. s.unpacked_segment_bytes) ss
-      → ReadsRows segment_row FitsSegment (λ s. s) (Takes old_2 a_2) h.num_entries ts
+      → CopiesRows segment_row FitsSegment (λ s. s) (ReadsBytes old_1 a_1) w0 w1 g.num_entries ss → size ≡ sum_by (λ s. s.unpacked_segment_bytes) ss
+      → ReadsRows segment_row FitsSegment (λ s. s) (ReadsBytes old_2 a_2) h.num_entries ts
       → WritesEither hash_row FitsHashRow clear (streams a_1 a_2 w1) (streams b_1 b_2 w2) (part_rows Verification g) (part_rows Verification h)
       → WritesEither hash_row FitsHashRow clear (streams b_1 b_2 w2) (streams c_1 c_2 w3) (part_rows MetadataExt g) (part_rows MetadataExt h)
       → WritesEither hash_row FitsHashRow clear (streams c_1 c_2 w3) (streams new_1 new_2 w4) (part_rows AuxExt g) (part_rows AuxExt h)
@@ -84,8 +84,8 @@ module _ (g h : FileDataSequenceHeader) (old_1 a_1 b_1 c_1 new_1 old_2 a_2 b_2 c
       record {
         one = one;
         other = two;
-        reads_first = parts_read (λ a b bytes. Takes a b bytes) Takes-nil Takes-trans g old_1 a_1 b_1 c_1 new_1 ss vs.firsts ms.firsts xs.firsts segments.read vs.first ms.first xs.first;
-        reads_second = parts_read (λ a b bytes. Takes a b bytes) Takes-nil Takes-trans h old_2 a_2 b_2 c_2 new_2 ts vs.seconds ms.seconds xs.seconds skipped vs.second ms.second xs.second;
+        reads_first = parts_read (λ a b bytes. ReadsBytes a b bytes) ReadsBytes-nil ReadsBytes-trans g old_1 a_1 b_1 c_1 new_1 ss vs.firsts ms.firsts xs.firsts segments.read vs.first ms.first xs.first;
+        reads_second = parts_read (λ a b bytes. ReadsBytes a b bytes) ReadsBytes-nil ReadsBytes-trans h old_2 a_2 b_2 c_2 new_2 ts vs.seconds ms.seconds xs.seconds skipped vs.second ms.second xs.second;
         rows = λ count. subst (λ bs. Appends w0 w4 (flat_map segment_row ss ++ bs)) (sym (ap (flat_map hash_row) (all count) ∙ rows_bytes hash_row chosen parts))
             (subst (λ bs. Appends w0 w4 (flat_map segment_row ss ++ (flat_map hash_row (chosen Verification) ++ (flat_map hash_row (chosen MetadataExt) ++ bs))))
             (sym (append-nil (flat_map hash_row (chosen AuxExt))))

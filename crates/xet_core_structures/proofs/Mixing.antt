@@ -3,8 +3,8 @@ use Rattle.std.proofs.Common.{◌≡◌, ◌≢◌, ℕ, zero, suc, ◌+◌, ◌
 use Rattle.std.specs.Prelude.{◌==◌}
 use Rattle.std.specs.Io.KnownBytes.{Appends}
 use Rattle.std.proofs.Math.Dec.{eqb-suc-zero}
-use Rattle.xet_base.specs.InputLaws.{Takes-nil}
-use Rattle.xet_base.specs.Source.{Source, Takes, ReadFails}
+use Rattle.xet_base.specs.InputLaws.{ReadsBytes-nil}
+use Rattle.xet_base.specs.Source.{Source, ReadsBytes, ReadFails}
 use Rattle.xet_records.specs.declared.file_structs.header.FileDataSequenceHeader.{FileDataSequenceHeader}
 use Rattle.xet_records.specs.declared.file_structs.MDBFileInfo.{MDBFileInfo}
 use Rattle.xet_records.specs.declared.row_copier.CopyFailure.{CopyFailure}
@@ -71,21 +71,21 @@ not_zero zero some = absurd (some refl)
 not_zero (suc n) some = eqb-suc-zero n
 
 -- the rows of either
-module _ {T : Type 0} (row_bytes : T → List ℕ) (Fits : T → Type 0) (handed : T → T) where
+module _ {T : Type 0} (row_bytes : T → List ℕ) (Fits : T → Type 0) (returned : T → T) where
   pub second_copied : (one old_2 new_2 : Source) (count_1 count_2 : ℕ) (old new : Option (List ℕ)) (rows : List T) → count_1 ≡ 0
-      → CopiesRows row_bytes Fits handed (Takes old_2 new_2) old new count_2 rows → WritesEither row_bytes Fits handed (streams one old_2 old) (streams one new_2 new) count_1 count_2
+      → CopiesRows row_bytes Fits returned (ReadsBytes old_2 new_2) old new count_2 rows → WritesEither row_bytes Fits returned (streams one old_2 old) (streams one new_2 new) count_1 count_2
   second_copied one old_2 new_2 count_1 count_2 old new rows none copied =
-      subst (λ n. WritesEither row_bytes Fits handed (streams one old_2 old) (streams one new_2 new) n count_2) (sym none) (record {
+      subst (λ n. WritesEither row_bytes Fits returned (streams one old_2 old) (streams one new_2 new) n count_2) (sym none) (record {
         firsts = [];
         seconds = rows;
-        first = no_rows row_bytes Fits handed (Takes one one) (Takes-nil one);
+        first = no_rows row_bytes Fits returned (ReadsBytes one one) (ReadsBytes-nil one);
         second = copied.read;
         bytes = copied.written;
       })
 
   pub first_copied : (old_1 new_1 old_2 new_2 : Source) (count_1 count_2 : ℕ) (old new : Option (List ℕ)) (firsts seconds : List T) → count_1 ≢ 0
-      → CopiesRows row_bytes Fits handed (Takes old_1 new_1) old new count_1 firsts → ReadsRows row_bytes Fits handed (Takes old_2 new_2) count_2 seconds
-      → WritesEither row_bytes Fits handed (streams old_1 old_2 old) (streams new_1 new_2 new) count_1 count_2
+      → CopiesRows row_bytes Fits returned (ReadsBytes old_1 new_1) old new count_1 firsts → ReadsRows row_bytes Fits returned (ReadsBytes old_2 new_2) count_2 seconds
+      → WritesEither row_bytes Fits returned (streams old_1 old_2 old) (streams new_1 new_2 new) count_1 count_2
   first_copied old_1 new_1 old_2 new_2 count_1 count_2 old new firsts seconds some copied skipped = record {
     firsts = firsts;
     seconds = seconds;
@@ -96,13 +96,13 @@ module _ {T : Type 0} (row_bytes : T → List ℕ) (Fits : T → Type 0) (handed
 
 -- why neither was copied
 pub second_not_copied : {S : Type 0} (meaning : S → Source) (s t : S) (one : Source) (count_1 count_2 : ℕ) (failure : CopyFailure)
-    → CopyFails (λ a b xs. Takes (meaning a) (meaning b) xs) (λ a b n e. ReadFails (meaning a) (meaning b) n e) s t (48 * count_2) failure
+    → CopyFails (λ a b xs. ReadsBytes (meaning a) (meaning b) xs) (λ a b n e. ReadFails (meaning a) (meaning b) n e) s t (48 * count_2) failure
     → EitherFails (sources one (meaning s)) (sources one (meaning t)) count_1 count_2 failure
 second_not_copied meaning s t one count_1 count_2 (Input e) fails = second_fails e refl fails (serves_same one one refl)
 second_not_copied meaning s t one count_1 count_2 (Output e) (is, taken, read) = output_fails e refl is refl (taken_serves (meaning s) (meaning t) taken read).bytes
 
 pub first_not_copied : {S : Type 0} (meaning : S → Source) (s t : S) (two : Source) (count_1 count_2 : ℕ) (failure : CopyFailure)
-    → CopyFails (λ a b xs. Takes (meaning a) (meaning b) xs) (λ a b n e. ReadFails (meaning a) (meaning b) n e) s t (48 * count_1) failure
+    → CopyFails (λ a b xs. ReadsBytes (meaning a) (meaning b) xs) (λ a b n e. ReadFails (meaning a) (meaning b) n e) s t (48 * count_1) failure
     → EitherFails (sources (meaning s) two) (sources (meaning t) two) count_1 count_2 failure
 first_not_copied meaning s t two count_1 count_2 (Input e) fails = first_fails e refl fails (serves_same two two refl)
 first_not_copied meaning s t two count_1 count_2 (Output e) (is, taken, read) = output_fails e refl is (taken_serves (meaning s) (meaning t) taken read).bytes refl

@@ -8,7 +8,7 @@ use Rattle.xet_shards.specs.Shard.{Shard}
 use Rattle.xet_shards.proofs.EndsUnique.{only_info}
 use Rattle.xet_core_structures.specs.ByteUnion.{IsByteUnion}
 use Rattle.xet_core_structures.specs.ByteResults.{key_of, keyed_layout, HaveResult, UnitesBytes}
-use Rattle.xet_core_structures.proofs.Held.{held_once}
+use Rattle.xet_core_structures.proofs.ShardContents.{held_once}
 use Rattle.xet_core_structures.proofs.Results.{files_unique, xorbs_unique}
 
 pub one_union : (a b c d : Shard) → IsByteUnion a b c → IsByteUnion a b d → c ≡ d

@@ -19,7 +19,7 @@ use Rattle.xet_records.specs.FileRecord.{file_records}
 use Rattle.xet_records.specs.XorbRecord.{xorb_records}
 use Rattle.xet_records.proofs.RecordKinds.{laws_in, file_laws, xorb_laws}
 use Rattle.xet_shards.specs.declared.shard_format.info.MDBShardInfo.{MDBShardInfo}
-use Rattle.xet_shards.specs.Ends.{HasEnds}
+use Rattle.xet_shards.specs.Ends.{HasHeaderAndFooter}
 use Rattle.xet_shards.specs.Section.{total_rows}
 use Rattle.xet_shards.specs.SectionReading.{files_of}
 use Rattle.xet_shards.specs.Shard.{Shard}
@@ -31,18 +31,18 @@ use Rattle.xet_core_structures.specs.declared.set_operations.parts.PlacedShard.{
 use Rattle.xet_core_structures.specs.declared.set_operations.parts.Part.{Part}
 use Rattle.xet_core_structures.specs.ByteUnion.{IsEitherFile, IsEitherXorb, IsByteUnion}
 use Rattle.xet_core_structures.specs.ByteResults.{keyed_layout, keyed_info, key_of, HaveResult, HaveNoUnionOf, HaveNoUnion, InputRefusal, UnitesBytes, BytesRefusal, Records, HaveInputs, AreCombined}
-use Rattle.xet_core_structures.specs.Combining.{key_of_record, with_hash, Combines}
+use Rattle.xet_core_structures.specs.RecordPairs.{key_of_record, with_hash, Combines}
 use Rattle.xet_core_structures.specs.Filling.{FillsWith}
-use Rattle.xet_core_structures.specs.Held.{IsSectionOf, IsListOf, HasFiles, HoldsLists, files_at, xorbs_at}
+use Rattle.xet_core_structures.specs.ShardContents.{IsSectionOf, IsListOf, HasFiles, HoldsLists, files_at, xorbs_at}
 use Rattle.xet_core_structures.specs.MergeTrees.{TreeWrites, TreeRefusal}
 use Rattle.xet_core_structures.specs.Parts.{PlacesRecords, MayBeUnited, MayBeWritten, PlacesShard, SectionsRefusal, HaveNoRecordUnion, IsUnited, IsPart}
 use Rattle.xet_core_structures.specs.Placed.{PlacesAll, HaveNoListUnion}
-use Rattle.xet_core_structures.specs.SideBySide.{SectionRefusal}
-use Rattle.xet_core_structures.proofs.Handed.{all_handed}
-use Rattle.xet_core_structures.proofs.Held.{one_map}
+use Rattle.xet_core_structures.specs.MergeJoin.{SectionRefusal}
+use Rattle.xet_core_structures.proofs.RecordsAsRead.{all_handed}
+use Rattle.xet_core_structures.proofs.ShardContents.{one_map}
 use Rattle.xet_core_structures.proofs.ListMaps.{list_map, values-list_map, get-list_map, with_hash_of, section_of_list, combined_maps, shard_of, lists_hold}
-use Rattle.xet_core_structures.proofs.LookupsFound.{union_under}
-use Rattle.xet_core_structures.proofs.Refusing.{mapped_at}
+use Rattle.xet_core_structures.proofs.FileLookups.{union_under}
+use Rattle.xet_core_structures.proofs.Refusals.{mapped_at}
 use Rattle.xet_core_structures.proofs.Results.{files_unique, xorbs_unique}
 use Rattle.xet_core_structures.proofs.TreeXorbs.{held_under}
 
@@ -73,20 +73,20 @@ module _ {H R : Type 0} (K : RecordKind H R) (laws : KindLaws K) (v w : FormatVe
     (x y : List ℕ) (xs ys : List R) (first : IsListOf (in_version K v) x xs) (second : IsListOf (in_version K w) y ys) where
   at_list : (version : FormatVersion) (bytes : List ℕ) (rs : List R) (is : IsListOf (in_version K version) bytes rs) (m : FinMap hash_cmp R) → IsSectionOf (in_version K version) bytes m → (q : DataHash) → get m q ≡ with_hash K rs q
   at_list version bytes rs is m m_is q =
-      ap (λ n. get n q) (one_map (in_version K version) (laws_in K laws version) bytes (list_map K rs) (section_of_list (in_version K version) rs is.writable.ascends bytes is.stored is.section is.handed) m m_is)
+      ap (λ n. get n q) (one_map (in_version K version) (laws_in K laws version) bytes (list_map K rs) (section_of_list (in_version K version) rs is.writable.ascends bytes is.stored is.section is.returned) m m_is)
       ∙ get-list_map K rs is.writable.ascends q
 
-  stored_in : (version : FormatVersion) (bytes : List ℕ) (rs : List R) (is : IsListOf (in_version K version) bytes rs) (r : R) → Contains rs r → (s : R) × Contains is.stored s × (K.handed_out s ≡ r)
+  stored_in : (version : FormatVersion) (bytes : List ℕ) (rs : List R) (is : IsListOf (in_version K version) bytes rs) (r : R) → Contains rs r → (s : R) × Contains is.stored s × (K.as_read s ≡ r)
   stored_in version bytes rs is r has =
-      let in_map = subst (λ l. Contains l r) (sym is.handed) has in
-      mapped_at K.handed_out is.stored in_map.0 r in_map.1 in_map.2
+      let in_map = subst (λ l. Contains l r) (sym is.returned) has in
+      mapped_at K.as_read is.stored in_map.0 r in_map.1 in_map.2
 
   module _ (none : HaveNoListUnion K makes xs ys) where
     clash : HaveNoListUnion K makes xs ys
-        → ((made : List R) × Combines K makes (map K.handed_out first.stored) (map K.handed_out second.stored) made × (4294967295 < total_rows K made))
+        → ((made : List R) × Combines K makes (map K.as_read first.stored) (map K.as_read second.stored) made × (4294967295 < total_rows K made))
         ⊎ ((r s : R) × Contains first.stored r × Contains second.stored s × (K.hash_of (K.header_of r) ≡ K.hash_of (K.header_of s))
-        × ((t : Option R) → ¬ makes (Some (K.handed_out r)) (Some (K.handed_out s)) t))
-    clash (inl (zs, combined, many)) = inl (zs, subst (λ p. p) (λ k. Combines K makes (sym first.handed k) (sym second.handed k) zs) combined, many)
+        × ((t : Option R) → ¬ makes (Some (K.as_read r)) (Some (K.as_read s)) t))
+    clash (inl (zs, combined, many)) = inl (zs, subst (λ p. p) (λ k. Combines K makes (sym first.returned k) (sym second.returned k) zs) combined, many)
     clash (inr (r, s, r_in, s_in, same, never)) =
         let one = stored_in v x xs first r r_in in
         let other = stored_in w y ys second s s_in in
@@ -139,9 +139,9 @@ united_lists bytes info shard is =
         files = record {
           stored = holds.files.stored;
           section = holds.files.section;
-          handed = holds.files.handed;
+          returned = holds.files.returned;
           writable = record {
-            stored = all_handed (files_of info) (files_laws (version_of info.header.version)) holds.files.stored (values is.union.files) holds.files.section.records.are_stored holds.files.handed;
+            stored = all_handed (files_of info) (files_laws (version_of info.header.version)) holds.files.stored (values is.union.files) holds.files.section.records.are_stored holds.files.returned;
             ascends = is.written.files_ascend;
             rows = is.written.files.fits.rows;
           };
@@ -149,9 +149,9 @@ united_lists bytes info shard is =
         xorbs = record {
           stored = holds.xorbs.stored;
           section = holds.xorbs.section;
-          handed = holds.xorbs.handed;
+          returned = holds.xorbs.returned;
           writable = record {
-            stored = all_handed xorb_records xorb_laws holds.xorbs.stored (values is.union.xorbs) holds.xorbs.section.records.are_stored holds.xorbs.handed;
+            stored = all_handed xorb_records xorb_laws holds.xorbs.stored (values is.union.xorbs) holds.xorbs.section.records.are_stored holds.xorbs.returned;
             ascends = is.written.xorbs_ascend;
             rows = is.written.xorbs.fits.rows;
           };
@@ -165,7 +165,7 @@ pub may_be_united : (bytes : List ℕ) (info : MDBShardInfo) (shard : PlacedShar
 may_be_united bytes info shard places = record { places = places.places; files_ascend = places.lists.files.writable.ascends; xorbs_ascend = places.lists.xorbs.writable.ascends }
 
 -- the union of two
-module _ (x : List ℕ) (i : MDBShardInfo) (y : List ℕ) (j : MDBShardInfo) (x_ends : HasEnds x i) (y_ends : HasEnds y j) (one other made : Records) (have : HaveInputs x i y j one other)
+module _ (x : List ℕ) (i : MDBShardInfo) (y : List ℕ) (j : MDBShardInfo) (x_ends : HasHeaderAndFooter x i) (y_ends : HasHeaderAndFooter y j) (one other made : Records) (have : HaveInputs x i y j one other)
     (combined : AreCombined IsEitherFile IsEitherXorb one other made) where
   abbrev union : Shard
   union = shard_of made

@@ -3,13 +3,13 @@ use Rattle.std.proofs.Common.{◌≡◌, ◌*◌, [], refl, sym, ap, ◌∙◌, 
 use Rattle.xet_base.specs.declared.merklehash.DataHash.{DataHash}
 use Rattle.xet_records.specs.declared.file_structs.header.FileDataSequenceHeader.{FileDataSequenceHeader}
 use Rattle.xet_records.specs.declared.file_structs.MDBFileInfo.{MDBFileInfo}
-use Rattle.xet_records.specs.FileRecord.{file_records, file_rows_bytes, handed_out, rows_after}
-use Rattle.xet_records.specs.Merging.{Includes, mixed_header}
+use Rattle.xet_records.specs.FileRecord.{file_records, file_rows_bytes, as_read, rows_after}
+use Rattle.xet_records.specs.Merging.{IncludesBits, mixed_header}
 use Rattle.xet_records.proofs.RecordKinds.{file_laws}
 use Rattle.xet_core_structures.specs.declared.set_operations.placed.PlacedRecord.{PlacedRecord}
 use Rattle.xet_core_structures.specs.ByteUnion.{mixed, IsEitherFile}
 use Rattle.xet_core_structures.specs.Placed.{Places, MakesPlaced}
-use Rattle.xet_core_structures.specs.SideBySide.{IsRecordHeader}
+use Rattle.xet_core_structures.specs.MergeJoin.{IsRecordHeader}
 use Rattle.xet_core_structures.proofs.PlacedUnions.{header_placed, stored_placed}
 use Rattle.xet_core_structures.proofs.Readable.{IsReadableAs, handed_twice, mixed_readable}
 use Rattle.xet_core_structures.proofs.UnitedFiles.{makes_mix}
@@ -19,7 +19,7 @@ readable : (p : PlacedRecord FileDataSequenceHeader) (q : DataHash) (r : MDBFile
 readable p q r hash places = record {
   keyed = hash ∙ ap (λ (k : FileDataSequenceHeader). k.file_hash) (sym (header_placed file_records file_laws p r places));
   stored = stored_placed file_records file_laws p r places;
-  unchanged = ap handed_out (sym places.rows.handed) ∙ handed_twice places.rows.stored ∙ places.rows.handed;
+  unchanged = ap as_read (sym places.rows.returned) ∙ handed_twice places.rows.stored ∙ places.rows.returned;
 }
 
 module _ (g h : PlacedRecord FileDataSequenceHeader) where
@@ -45,11 +45,11 @@ module _ (g h : PlacedRecord FileDataSequenceHeader) where
             is_stored = λ is_record fits. mix.stored;
             size = file_laws.size_after (mixed r s) mix.stored ∙ ap (λ k. 48 * rows_after k) header_is;
             taken = ([], rows ∙ sym (append-nil (file_rows_bytes (mixed r s))));
-            handed = mix.unchanged;
+            returned = mix.unchanged;
           };
         }
 
-  pub mix_made : (¬ Includes g.header.file_flags h.header.file_flags) × (¬ Includes h.header.file_flags g.header.file_flags) → g.header.num_entries ≡ h.header.num_entries
+  pub mix_made : (¬ IncludesBits g.header.file_flags h.header.file_flags) × (¬ IncludesBits h.header.file_flags g.header.file_flags) → g.header.num_entries ≡ h.header.num_entries
       → (p : PlacedRecord FileDataSequenceHeader) → p.header ≡ mixed_header g.header h.header
       → ((r s : MDBFileInfo) → Places file_records g r → Places file_records h s → Places file_records p (mixed r s)) → MakesPlaced file_records IsEitherFile g h p
   mix_made neither count p header mixes = (

@@ -12,14 +12,14 @@ use Rattle.xet_base.specs.declared.merklehash.DataHash.{DataHash}
 use Rattle.xet_base.specs.Errors.{IsInvalidShard}
 use Rattle.xet_base.specs.Hash.{hash_cmp}
 use Rattle.xet_records.specs.RecordKind.{RecordKind, KindLaws}
-use Rattle.xet_shards.specs.InForm.{Ascends}
+use Rattle.xet_shards.specs.WithOptions.{Ascends}
 use Rattle.xet_shards.specs.Section.{total_rows}
 use Rattle.xet_shards.proofs.Copying.{rows_returned}
 use Rattle.xet_core_structures.specs.declared.set_operations.placed.PlacedRecord.{PlacedRecord}
-use Rattle.xet_core_structures.specs.Combining.{key_of_record, ArePassed, Combines}
+use Rattle.xet_core_structures.specs.RecordPairs.{key_of_record, ArePassed, Combines}
 use Rattle.xet_core_structures.specs.Placed.{CountsRows, Places, PlacesAll, MayUnite, hash_at, IsBefore, MakesNothing, KeepsNext, HaveNoListUnion}
 use Rattle.xet_core_structures.specs.Placed.KeepsNext.{takes_first, takes_second, takes_both}
-use Rattle.xet_core_structures.proofs.Combining.{HasHash, IsUnder, none_combined, more_combined, passed_on}
+use Rattle.xet_core_structures.proofs.RecordPairs.{HasHash, IsUnder, none_combined, more_combined, passed_on}
 use Rattle.xet_core_structures.proofs.OneSection.{header_of_found}
 use Rattle.xet_core_structures.proofs.Zipped.{zipped_append}
 
@@ -60,7 +60,7 @@ module _ {H R : Type 0} (K : RecordKind H R) (laws : KindLaws K) where
   rows_placed p r places = rows_returned K laws _ p.header r places.rows places.header.is_record places.header.fits
 
   pub stored_placed : (p : PlacedRecord H) (r : R) → Places K p r → K.IsStored r
-  stored_placed p r places = subst K.IsStored places.rows.handed (laws.handed_stored places.rows.stored (places.rows.is_stored places.header.is_record places.header.fits))
+  stored_placed p r places = subst K.IsStored places.rows.returned (laws.as_read_stored places.rows.stored (places.rows.is_stored places.header.is_record places.header.fits))
 
   -- a hash is less than the first of a list
   abbrev ComesAfter : DataHash → List R → Type 0

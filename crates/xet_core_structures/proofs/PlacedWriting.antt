@@ -4,8 +4,8 @@ use Rattle.std.specs.Io.KnownBytes.{Appends}
 use Rattle.std.proofs.KnownBytes.{Appends-nil, Appends-trans}
 use Rattle.std.proofs.lemmas.Grind.{flat_map-append}
 use Rattle.std.proofs.lemmas.List.Sums.{sum_by-append, sum_by-cons}
-use Rattle.xet_base.specs.Source.{Source, Takes, bytes_left}
-use Rattle.xet_base.proofs.Reading.{Takes-consumes}
+use Rattle.xet_base.specs.Source.{Source, ReadsBytes, bytes_left}
+use Rattle.xet_base.proofs.Reading.{ReadsBytes-consumes}
 use Rattle.xet_records.specs.RecordKind.{RecordKind, KindLaws}
 use Rattle.xet_records.specs.Reading.{ReadsRowsAfter}
 use Rattle.xet_shards.specs.Copying.{CopiesRecord}
@@ -34,10 +34,10 @@ module _ {H R : Type 0} (K : RecordKind H R) (laws : KindLaws K) where
       λ t rest header rows_are. ap (λ bs. bs ++ rest) (laws.record_bytes_are t) ∙ append_assoc (K.header_bytes (K.header_of t)) (K.bytes_after t) rest ∙ (λ i. K.header_bytes (header i) ++ sym rows_are i) in
       let same = laws.front a.stored b.stored a.taken.0 b.taken.0 (a.is_stored one.header.is_record one.header.fits) (b.is_stored other.header.is_record other.header.fits)
       (bytes a.stored a.taken.0 a.same_header a.taken.1 ∙ sym (bytes b.stored b.taken.0 b.same_header b.taken.1)) in
-      sym a.handed ∙ ap K.handed_out same.0 ∙ b.handed
+      sym a.returned ∙ ap K.as_read same.0 ∙ b.returned
 
   -- a record that is read from the rows of one that is placed
-  pub placed_read : (p : PlacedRecord H) (r found : R) → Places K p r → (from to : Source) → p.rows.now ≡ bytes_left from → ReadsRowsAfter K p.header (Takes from to) found → found ≡ r
+  pub placed_read : (p : PlacedRecord H) (r found : R) → Places K p r → (from to : Source) → p.rows.now ≡ bytes_left from → ReadsRowsAfter K p.header (ReadsBytes from to) found → found ≡ r
   placed_read p r found here from to rows_are read =
       placed_once p found r (record {
         header = here.header;
@@ -46,8 +46,8 @@ module _ {H R : Type 0} (K : RecordKind H R) (laws : KindLaws K) where
           same_header = read.same_header;
           is_stored = read.is_stored;
           size = read.size;
-          taken = (bytes_left to, rows_are ∙ Takes-consumes from to (K.bytes_after read.stored) read.taken);
-          handed = read.handed;
+          taken = (bytes_left to, rows_are ∙ ReadsBytes-consumes from to (K.bytes_after read.stored) read.taken);
+          returned = read.returned;
         };
       }) here
 
@@ -65,7 +65,7 @@ module _ {H R : Type 0} (K : RecordKind H R) (laws : KindLaws K) where
         let next : total_rows K writing.rest ≡ K.row_count first.record_of + total_rows K first.others = ap (total_rows K) first.is ∙ sum_by-cons K.row_count first.record_of first.others in
         omega (arith, counted, few, parts, next, rows_placed K laws p first.record_of first.here)
 
-    pub writing_on : (from to : Source) (After : List R → Type 0) (new : Option (List ℕ)) → p.rows.now ≡ bytes_left from → CopiesRecord K p.header (Takes from to) old new Before After → IsWriting K rs ps After start new
+    pub writing_on : (from to : Source) (After : List R → Type 0) (new : Option (List ℕ)) → p.rows.now ≡ bytes_left from → CopiesRecord K p.header (ReadsBytes from to) old new Before After → IsWriting K rs ps After start new
     writing_on from to After new rows_are copies =
         let same = placed_read p first.record_of copies.found first.here from to rows_are copies.read in
         record {

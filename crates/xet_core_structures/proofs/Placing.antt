@@ -4,20 +4,20 @@ use Rattle.std.specs.List.Sorted.{IsStrictlySortedBy}
 use Rattle.std.proofs.lemmas.Option.{same_Some}
 use Rattle.xet_base.specs.declared.error.CoreError.{CoreError}
 use Rattle.xet_base.specs.declared.error.CoreError.TheVariants.{OutOfMemory}
-use Rattle.xet_base.specs.Source.{Source, Takes, DeviceFailure, bytes_left}
-use Rattle.xet_base.specs.Table.{Serves}
-use Rattle.xet_base.proofs.Reading.{Takes-consumes}
+use Rattle.xet_base.specs.Source.{Source, ReadsBytes, DeviceFailure, bytes_left}
+use Rattle.xet_base.specs.Table.{NoFailure}
+use Rattle.xet_base.proofs.Reading.{ReadsBytes-consumes}
 use Rattle.xet_records.specs.declared.record_reader.FormatVersion.{FormatVersion}
 use Rattle.xet_records.specs.RecordKind.{RecordKind, in_version, KindLaws}
 use Rattle.xet_records.specs.Reading.{ReadsNextHeader, ReadsRowsAfter}
 use Rattle.xet_records.proofs.RecordKinds.{laws_in}
-use Rattle.xet_shards.specs.InForm.{Ascends}
+use Rattle.xet_shards.specs.WithOptions.{Ascends}
 use Rattle.xet_shards.proofs.SectionReading.{section_ends}
 use Rattle.xet_core_structures.specs.declared.set_operations.placed.PlacedRecord.{PlacedRecord}
-use Rattle.xet_core_structures.specs.Combining.{ComeBefore}
-use Rattle.xet_core_structures.specs.Placed.{Places, PlacesAll, TakesPlaced}
-use Rattle.xet_core_structures.specs.SideBySide.{Follows, ReadsFollowing, FollowingFails, TakesNoAscending}
-use Rattle.xet_core_structures.proofs.Combining.{IsUnder, before_later, before_push, ascends_push}
+use Rattle.xet_core_structures.specs.RecordPairs.{ComeBefore}
+use Rattle.xet_core_structures.specs.Placed.{Places, PlacesAll, ReadsPlaced}
+use Rattle.xet_core_structures.specs.MergeJoin.{Follows, ReadsFollowing, FollowingFails, AscendingNotStreamed}
+use Rattle.xet_core_structures.proofs.RecordPairs.{IsUnder, before_later, before_push, ascends_push}
 use Rattle.xet_core_structures.proofs.OneSection.{HasPending, pending_start, pending_on, pending_header, pending_serves, under_pending, no_next}
 use Rattle.xet_core_structures.proofs.Zipped.{zipped_append}
 
@@ -46,10 +46,10 @@ module _ {H R : Type 0} (K : RecordKind H R) (laws : KindLaws K) (version : Form
   }
 
   module _ (start now : Source) (left : ℕ) (next : Option H) (placed : List (PlacedRecord H)) (placing : IsPlacing K version start now left next placed) where
-    pub placing_serves : Serves start now
+    pub placing_serves : NoFailure start now
     placing_serves = pending_serves K laws version start now left next placing.found placing.pending
 
-    module _ (h : H) (is : next ≡ Some h) (mid : Source) (r : R) (read : ReadsRowsAfter K h (Takes now mid) r) where
+    module _ (h : H) (is : next ≡ Some h) (mid : Source) (r : R) (read : ReadsRowsAfter K h (ReadsBytes now mid) r) where
       before : ComeBefore K (K.hash_of h) placing.found
       before = subst (λ o. IfSome o (λ h. ComeBefore K (K.hash_of h) placing.found)) is placing.passed
 
@@ -76,8 +76,8 @@ module _ {H R : Type 0} (K : RecordKind H R) (laws : KindLaws K) (version : Form
               same_header = read.same_header;
               is_stored = read.is_stored;
               size = read.size;
-              taken = (bytes_left mid, rows_is ∙ Takes-consumes now mid (K.bytes_after read.stored) read.taken);
-              handed = read.handed;
+              taken = (bytes_left mid, rows_is ∙ ReadsBytes-consumes now mid (K.bytes_after read.stored) read.taken);
+              returned = read.returned;
             });
           },
           tt,
@@ -85,27 +85,27 @@ module _ {H R : Type 0} (K : RecordKind H R) (laws : KindLaws K) (version : Form
       }
 
       -- the one after it is not read, or does not follow
-      pub placing_stops : (new : Source) (e : CoreError) → FollowingFails (in_version K version) (Some h) left mid new e → TakesNoAscending K version start new e
+      pub placing_stops : (new : Source) (e : CoreError) → FollowingFails (in_version K version) (Some h) left mid new e → AscendingNotStreamed K version start new e
       placing_stops new e fails = no_next K laws version start now left next placing.found placing.pending placing.ascends h mid new r e is before (r, refl, read) fails
 
     -- all records are read
-    pub placing_ends : next ≡ None → TakesPlaced K version start now placed
+    pub placing_ends : next ≡ None → ReadsPlaced K version start now placed
     placing_ends none = (
       placing.found,
       section_ends (in_version K version) (laws_in K laws version) start placing.pending.mid placing.found placing.pending.before placing.pending.records now
-          (subst (ReadsNextHeader (in_version K version) (Takes placing.pending.mid now) placing.pending.before left) none placing.pending.header).bookend,
+          (subst (ReadsNextHeader (in_version K version) (ReadsBytes placing.pending.mid now) placing.pending.before left) none placing.pending.header).bookend,
       placing.ascends,
       placing.places,
     )
 
     -- an allocation fails, or the device does
-    pub placing_no_memory : (new : Source) (e : CoreError) → new ≡ now → e ≡ OutOfMemory → TakesNoAscending K version start new e
+    pub placing_no_memory : (new : Source) (e : CoreError) → new ≡ now → e ≡ OutOfMemory → AscendingNotStreamed K version start new e
     placing_no_memory new e same is = record {
       bytes = ap (λ (s : Source). s.bytes) same ∙ placing_serves.bytes;
       cause = inr (ap (λ (s : Source). s.failures) same ∙ placing_serves.failures, inl is);
     }
 
-    pub placing_device : (new : Source) (e : CoreError) → new.bytes ≡ now.bytes → DeviceFailure now new e → TakesNoAscending K version start new e
+    pub placing_device : (new : Source) (e : CoreError) → new.bytes ≡ now.bytes → DeviceFailure now new e → AscendingNotStreamed K version start new e
     placing_device new e same failed = record {
       bytes = same ∙ placing_serves.bytes;
       cause = inl (failed.0 ∙ ap (λ n. n + 1) placing_serves.failures, failed.1, failed.2, failed.3);

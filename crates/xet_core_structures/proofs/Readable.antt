@@ -20,9 +20,9 @@ use Rattle.xet_records.specs.declared.file_structs.part.OptionalPart.{OptionalPa
 use Rattle.xet_records.specs.declared.file_structs.rows.HashRow.{HashRow}
 use Rattle.xet_records.specs.FileRow.{clear}
 use Rattle.xet_records.specs.Part.{rows_of, with_parts}
-use Rattle.xet_records.proofs.Parts.{rows_of-handed, with_parts-rows_of}
+use Rattle.xet_records.proofs.Parts.{rows_of-returned, with_parts-rows_of}
 use Rattle.xet_records.proofs.Merging.{rows_of-joined}
-use Rattle.xet_records.specs.FileRecord.{file_records, handed_out}
+use Rattle.xet_records.specs.FileRecord.{file_records, as_read}
 use Rattle.xet_records.specs.XorbRecord.{xorb_records, IsXorb}
 use Rattle.xet_records.specs.Merging.{has_part}
 use Rattle.xet_shards.specs.declared.shard_format.info.MDBShardInfo.{MDBShardInfo}
@@ -34,10 +34,10 @@ use Rattle.xet_shards.proofs.FileUnions.{entry-holds}
 use Rattle.xet_shards.proofs.Sums.{all_of_map}
 use Rattle.xet_core_structures.specs.ByteResults.{HaveResult}
 use Rattle.xet_core_structures.specs.ByteUnion.{mixed, IsUnitedFile, IsEitherFile, IsEitherXorb, IsByteUnion}
-use Rattle.xet_core_structures.specs.Combining.{IsRest}
-use Rattle.xet_core_structures.specs.Held.{IsSectionOf}
+use Rattle.xet_core_structures.specs.RecordPairs.{IsRest}
+use Rattle.xet_core_structures.specs.ShardContents.{IsSectionOf}
 use Rattle.xet_core_structures.specs.Readable.{AreReadable}
-use Rattle.xet_core_structures.proofs.Handed.{all_handed}
+use Rattle.xet_core_structures.proofs.RecordsAsRead.{all_handed}
 use Rattle.xet_core_structures.proofs.Mixing.{mixed_stored, rows_of-mixed}
 
 -- reading returns again what it returned
@@ -45,14 +45,14 @@ cleared_twice : (rows : List HashRow) → map clear (map clear rows) ≡ map cle
 cleared_twice [] = refl
 cleared_twice (row ∷ rows) = ap (λ xs. clear row ∷ xs) (cleared_twice rows)
 
-pub handed_twice : (r : MDBFileInfo) → handed_out (handed_out r) ≡ handed_out r
-handed_twice r = λ i. with_parts r.metadata r.segments (λ part. (ap (map clear) (rows_of-handed r part) ∙ cleared_twice (rows_of part r)) i)
+pub handed_twice : (r : MDBFileInfo) → as_read (as_read r) ≡ as_read r
+handed_twice r = λ i. with_parts r.metadata r.segments (λ part. (ap (map clear) (rows_of-returned r part) ∙ cleared_twice (rows_of part r)) i)
 
--- a record is handed out as it is if its rows are
-rows_unchanged : (r : MDBFileInfo) → handed_out r ≡ r → (part : OptionalPart) → map clear (rows_of part r) ≡ rows_of part r
-rows_unchanged r same part = sym (rows_of-handed r part) ∙ ap (rows_of part) same
+-- a record is returned as it is if its rows are
+rows_unchanged : (r : MDBFileInfo) → as_read r ≡ r → (part : OptionalPart) → map clear (rows_of part r) ≡ rows_of part r
+rows_unchanged r same part = sym (rows_of-returned r part) ∙ ap (rows_of part) same
 
-unchanged_if : (r : MDBFileInfo) → ((part : OptionalPart) → map clear (rows_of part r) ≡ rows_of part r) → handed_out r ≡ r
+unchanged_if : (r : MDBFileInfo) → ((part : OptionalPart) → map clear (rows_of part r) ≡ rows_of part r) → as_read r ≡ r
 unchanged_if r each = (λ i. with_parts r.metadata r.segments (λ part. each part i)) ∙ with_parts-rows_of r
 
 module _ {H R : Type 0} (K : RecordKind H R) where
@@ -60,7 +60,7 @@ module _ {H R : Type 0} (K : RecordKind H R) where
   pub record IsReadableAs (q : DataHash) (r : R) : Type 0 where
     pub keyed : q ≡ hash_in K r
     pub stored : K.IsStored r
-    pub unchanged : K.handed_out r ≡ r
+    pub unchanged : K.as_read r ≡ r
 
   unmapped : (P : R → Type 0) (es : List (DataHash × R)) → All P (map (λ e. e.1) es) → All (λ e. P e.1) es
   unmapped P es all = λ k e below.
@@ -73,16 +73,16 @@ module _ {H R : Type 0} (K : RecordKind H R) where
   all_values P m each = All-map P (λ e. e.1) (entries m) (all_of_map hash_cmp-IsTotalOrder hash_cmp-IsAntisymmetric (λ e. P e.1) m each)
 
   -- the records of a section are such
-  module _ (laws : KindLaws K) (twice : (r : R) → K.handed_out (K.handed_out r) ≡ K.handed_out r)
+  module _ (laws : KindLaws K) (twice : (r : R) → K.as_read (K.as_read r) ≡ K.as_read r)
       (bytes : List ℕ) (m : FinMap hash_cmp R) (is : IsSectionOf K bytes m) where
     pub section_readable : (q : DataHash) (r : R) → get m q ≡ Some r → IsReadableAs q r
     section_readable q r at =
-        let all_stored = all_handed K laws is.stored (values m) is.section.records.are_stored is.handed in
-        let all_unchanged = subst (All (λ s. K.handed_out s ≡ s)) is.handed (All-map (λ s. K.handed_out s ≡ s) K.handed_out is.stored (λ k s below. twice (get_or is.stored k s))) in
+        let all_stored = all_handed K laws is.stored (values m) is.section.records.are_stored is.returned in
+        let all_unchanged = subst (All (λ s. K.as_read s ≡ s)) is.returned (All-map (λ s. K.as_read s ≡ s) K.as_read is.stored (λ k s below. twice (get_or is.stored k s))) in
         record {
           keyed = entry-holds (λ e. e.0 ≡ hash_in K e.1) (entries m) q r is.keyed (sym (get-entries m q) ∙ at);
           stored = each_value K.IsStored m all_stored q r at;
-          unchanged = each_value (λ s. K.handed_out s ≡ s) m all_unchanged q r at;
+          unchanged = each_value (λ s. K.as_read s ≡ s) m all_unchanged q r at;
         }
 
   pub readable_if_each : (m : FinMap hash_cmp R) → ((q : DataHash) (r : R) → get m q ≡ Some r → IsReadableAs q r) → total_rows K (values m) ≤ 4294967295 → AreReadable K m
@@ -92,7 +92,7 @@ module _ {H R : Type 0} (K : RecordKind H R) where
       stored = all_values K.IsStored m (λ q r at. (each q r at).stored);
       rows = rows;
     };
-    unchanged = all_values (λ r. K.handed_out r ≡ r) m (λ q r at. (each q r at).unchanged);
+    unchanged = all_values (λ r. K.as_read r ≡ r) m (λ q r at. (each q r at).unchanged);
   }
 
   -- what is made of such records, where there are any

@@ -4,7 +4,7 @@ use Rattle.std.specs.Io.KnownBytes.{Appends}
 use Rattle.xet_base.specs.declared.error.CoreError.{CoreError}
 use Rattle.xet_base.specs.Errors.{IsWriteError, IsInvalidShard}
 use Rattle.xet_base.specs.Source.{Source, FailedBy, bytes_left}
-use Rattle.xet_base.specs.Table.{Serves}
+use Rattle.xet_base.specs.Table.{NoFailure}
 use Rattle.xet_records.specs.declared.file_structs.MDBFileInfo.{MDBFileInfo}
 use Rattle.xet_records.specs.declared.xorb_structs.MDBXorbInfo.{MDBXorbInfo}
 use Rattle.xet_records.specs.declared.row_copier.CopyFailure.{CopyFailure}
@@ -20,20 +20,20 @@ use Rattle.xet_records.proofs.RecordKinds.{file_laws, xorb_laws}
 use Rattle.xet_shards.specs.declared.shard_format.info.MDBShardInfo.{MDBShardInfo}
 use Rattle.xet_shards.specs.Layout.{layout_of, info_of}
 use Rattle.xet_shards.specs.Section.{total_rows}
-use Rattle.xet_shards.specs.SectionReading.{TakesSection}
+use Rattle.xet_shards.specs.SectionReading.{StreamsSection}
 use Rattle.xet_shards.specs.SetOperations.{IsDifference}
 use Rattle.xet_shards.specs.Shard.{Shard}
 use Rattle.xet_core_structures.specs.ByteUnion.{IsUnitedFile, IsEitherFile, IsEitherXorb, IsByteUnion}
-use Rattle.xet_core_structures.specs.ByteResults.{keyed_form, key_of, InputRefusal, DifferenceRefusal, UnionRefusal, InputsFail, FailsBy, WritesResult, Records, HaveInputs, AreCombined, WritesRecords}
-use Rattle.xet_core_structures.specs.Combining.{IsRest}
-use Rattle.xet_core_structures.specs.Held.{HasFiles, files_at, xorbs_at}
+use Rattle.xet_core_structures.specs.ByteResults.{keyed_options, key_of, InputRefusal, DifferenceRefusal, UnionRefusal, InputsFail, FailsBy, WritesResult, Records, HaveInputs, AreCombined, WritesRecords}
+use Rattle.xet_core_structures.specs.RecordPairs.{IsRest}
+use Rattle.xet_core_structures.specs.ShardContents.{HasFiles, files_at, xorbs_at}
 use Rattle.xet_core_structures.specs.SetOutcomes.{OperationLaws}
-use Rattle.xet_core_structures.specs.SideBySide.{SectionRefusal, NoneMade, SectionsFail}
-use Rattle.xet_core_structures.specs.SideBySide.SectionsFail.{output_fails, first_fails, second_fails, refused}
+use Rattle.xet_core_structures.specs.MergeJoin.{SectionRefusal, CannotCombine, SectionsFail}
+use Rattle.xet_core_structures.specs.MergeJoin.SectionsFail.{output_fails, first_fails, second_fails, refused}
 use Rattle.xet_core_structures.specs.Streams.{sources}
 use Rattle.xet_core_structures.proofs.ListMaps.{values-list_map, combined_maps, shard_of, lists_hold}
-use Rattle.xet_core_structures.proofs.LookupsFound.{union_in_form, difference_in_form}
-use Rattle.xet_core_structures.proofs.Refusing.{no_union, always_rest}
+use Rattle.xet_core_structures.proofs.FileLookups.{union_in_form, difference_in_form}
+use Rattle.xet_core_structures.proofs.Refusals.{no_union, always_rest}
 
 -- at most one record is made of two
 united_unique : (a b c d : MDBFileInfo) → IsUnitedFile a b c → IsUnitedFile a b d → c ≡ d
@@ -64,32 +64,32 @@ failed_by Cause (Output f) e is failed = inl (subst IsWriteError (sym is) failed
 module _ {H R : Type 0} (K : RecordKind H R) (v w : FormatVersion) (makes : Option R → Option R → Option R → Type 0) (mid_1 new_1 mid_2 new_2 : Source) where
   pub sections_failed : (old_1 old_2 : Source) (Cause : CoreError → Type 0) → mid_1.failures ≡ old_1.failures → mid_2.failures ≡ old_2.failures
       → ((e : CoreError) → SectionRefusal K v (bytes_left mid_1) e → Cause e) → ((e : CoreError) → SectionRefusal K w (bytes_left mid_2) e → Cause e)
-      → ((e : CoreError) → IsInvalidShard e → NoneMade K v w makes (bytes_left mid_1) (bytes_left mid_2) → Cause e)
+      → ((e : CoreError) → IsInvalidShard e → CannotCombine K v w makes (bytes_left mid_1) (bytes_left mid_2) → Cause e)
       → (failure : CopyFailure) → SectionsFail K v w makes (sources mid_1 mid_2) (sources new_1 new_2) failure → FailsBy (InputsFail old_1 new_1 old_2 new_2 Cause) failure
   sections_failed old_1 old_2 Cause same_1 same_2 first second none failure (output_fails e is device _ _) = subst (FailsBy (InputsFail old_1 new_1 old_2 new_2 Cause)) (sym is) device
-  sections_failed old_1 old_2 Cause same_1 same_2 first second none failure (first_fails e is fails serves) =
+  sections_failed old_1 old_2 Cause same_1 same_2 first second none failure (first_fails e is fails no_failure) =
       subst (FailsBy (InputsFail old_1 new_1 old_2 new_2 Cause)) (sym is) (of_first fails.cause)
     where
       of_first : FailedBy (SectionRefusal K v (bytes_left mid_1)) mid_1 new_1 e → InputsFail old_1 new_1 old_2 new_2 Cause e
       of_first (inl failed) = inl (failed.0 ∙ ap (λ n. n + 1) same_1, failed.1, failed.2, failed.3)
-      of_first (inr (still, refusal)) = inr (inr (still ∙ same_1, serves.failures ∙ same_2, first e refusal))
-  sections_failed old_1 old_2 Cause same_1 same_2 first second none failure (second_fails e is fails serves) =
+      of_first (inr (still, refusal)) = inr (inr (still ∙ same_1, no_failure.failures ∙ same_2, first e refusal))
+  sections_failed old_1 old_2 Cause same_1 same_2 first second none failure (second_fails e is fails no_failure) =
       subst (FailsBy (InputsFail old_1 new_1 old_2 new_2 Cause)) (sym is) (of_second fails.cause)
     where
       of_second : FailedBy (SectionRefusal K w (bytes_left mid_2)) mid_2 new_2 e → InputsFail old_1 new_1 old_2 new_2 Cause e
       of_second (inl failed) = inr (inl (failed.0 ∙ ap (λ n. n + 1) same_2, failed.1, failed.2, failed.3))
-      of_second (inr (still, refusal)) = inr (inr (serves.failures ∙ same_1, still ∙ same_2, second e refusal))
+      of_second (inr (still, refusal)) = inr (inr (no_failure.failures ∙ same_1, still ∙ same_2, second e refusal))
   sections_failed old_1 old_2 Cause same_1 same_2 first second none failure (refused e is invalid serves_1 serves_2 nothing) =
       subst (FailsBy (InputsFail old_1 new_1 old_2 new_2 Cause)) (sym is) (inr (inr (serves_1.failures ∙ same_1, serves_2.failures ∙ same_2, none e invalid nothing)))
 
   pub sections_kept : (failure : CopyFailure) → SectionsFail K v w makes (sources mid_1 mid_2) (sources new_1 new_2) failure → (new_1.bytes ≡ mid_1.bytes) × (new_2.bytes ≡ mid_2.bytes)
   sections_kept failure (output_fails e is device first second) = (first, second)
-  sections_kept failure (first_fails e is fails serves) = (fails.bytes, serves.bytes)
-  sections_kept failure (second_fails e is fails serves) = (serves.bytes, fails.bytes)
+  sections_kept failure (first_fails e is fails no_failure) = (fails.bytes, no_failure.bytes)
+  sections_kept failure (second_fails e is fails no_failure) = (no_failure.bytes, fails.bytes)
   sections_kept failure (refused e is invalid serves_1 serves_2 nothing) = (serves_1.bytes, serves_2.bytes)
 
 -- a section that was read whole did not fail
-pub section_serves : {H R : Type 0} (K : RecordKind H R) (old new : Source) (found : List R) → TakesSection K old new found → Serves old new
+pub section_serves : {H R : Type 0} (K : RecordKind H R) (old new : Source) (found : List R) → StreamsSection K old new found → NoFailure old new
 section_serves K old new found read = record {
   bytes = ap (λ (s : Source). s.bytes) read.after;
   failures = ap (λ (s : Source). s.failures) read.after;
@@ -145,8 +145,8 @@ module _ (x : List ℕ) (i : MDBShardInfo) (y : List ℕ) (j : MDBShardInfo) (on
               xorbs = omega (arith, ap (total_rows xorb_records) xorbs, made.few_xorbs);
             };
           },
-          written.0 ∙ (λ k. info_of (sym files k) (sym xorbs k) (keyed_form (key_of i))),
-          subst (λ p. p) (λ k. Appends old new (layout_of (sym files k) (sym xorbs k) (keyed_form (key_of i)))) written.1,
+          written.0 ∙ (λ k. info_of (sym files k) (sym xorbs k) (keyed_options (key_of i))),
+          subst (λ p. p) (λ k. Appends old new (layout_of (sym files k) (sym xorbs k) (keyed_options (key_of i)))) written.1,
         )
 
   union_written : (result : Records) (old new : Option (List ℕ)) (info : MDBShardInfo) → AreCombined IsEitherFile IsEitherXorb one other result → WritesRecords result (key_of i) old new info
@@ -166,7 +166,7 @@ module _ (x : List ℕ) (i : MDBShardInfo) (y : List ℕ) (j : MDBShardInfo) (on
 pub union_laws : OperationLaws IsByteUnion IsEitherFile IsEitherXorb UnionRefusal
 union_laws = record {
   written = λ x i y j one other result old new info have made written. union_written x i y j one other have result old new info made written;
-  in_form = union_in_form;
+  with_options = union_in_form;
   not_read = not_read;
   no_files = λ x i y j e same invalid none. inr (same, inr (invalid, inl (no_union file_records file_laws (version_of i.header.version) (version_of j.header.version) IsEitherFile files_unique (files_at x i) (files_at y j) none)));
   no_xorbs = λ x i y j e same invalid none. inr (same, inr (invalid, inr (no_union xorb_records xorb_laws V3 V3 IsEitherXorb xorbs_unique (xorbs_at x i) (xorbs_at y j) none)));
@@ -175,7 +175,7 @@ union_laws = record {
 pub difference_laws : OperationLaws IsDifference IsRest IsRest DifferenceRefusal
 difference_laws = record {
   written = λ x i y j one other result old new info have made written. difference_written x i y j one other have result old new info made written;
-  in_form = difference_in_form;
+  with_options = difference_in_form;
   not_read = λ x i y j e refusal. refusal;
   no_files = λ x i y j e same invalid none. absurd (always_rest file_records file_laws (version_of i.header.version) (version_of j.header.version) (files_at x i) (files_at y j) none);
   no_xorbs = λ x i y j e same invalid none. absurd (always_rest xorb_records xorb_laws V3 V3 (xorbs_at x i) (xorbs_at y j) none);

@@ -1,4 +1,4 @@
--- Bytes are to a reader one thing only: a section, cut short or with a header that is refused; and of an input one thing
+-- Bytes are to a reader one thing only: a section, truncated or with a header that is refused; and of an input one thing
 -- only is met first.
 use Rattle.std.proofs.Common.{◌≡◌, true≢false, inl, inr, ℕ, ◌-◌, ◌≤◌, List, [], ◌∷◌, ◌++◌, map, flat_map, append_assoc, refl, sym, ap, ◌∙◌, subst, arith}
 use Rattle.std.specs.Prelude.{All, sum_by}
@@ -15,13 +15,13 @@ use Rattle.xet_records.specs.FileRecord.{file_records}
 use Rattle.xet_records.specs.XorbRecord.{xorb_records}
 use Rattle.xet_records.proofs.RecordKinds.{KindLaws, StopsAt, same_front, header_within, no_record, xorb_laws}
 use Rattle.xet_shards.specs.declared.shard_format.info.MDBShardInfo.{MDBShardInfo}
-use Rattle.xet_shards.specs.InForm.{Ascends}
-use Rattle.xet_shards.specs.SectionReading.{files_of, HoldsRecords, IsSection, IsRefusedSection, IsCutSection, BeginsRefused, EndsEarly, rows_left}
+use Rattle.xet_shards.specs.WithOptions.{Ascends}
+use Rattle.xet_shards.specs.SectionReading.{files_of, HoldsRecords, IsSection, IsRefusedSection, IsTruncatedSection, BeginsRefused, EndsEarly, rows_left}
 use Rattle.xet_shards.specs.Tables.{hash_in}
 use Rattle.xet_shards.proofs.Sections.{files_laws}
 use Rattle.xet_shards.proofs.SectionUnique.{same_reading, only_list, first_of_section, section_or_passes, section_or_cut}
-use Rattle.xet_core_structures.specs.Held.{IsReadInOneWay, IsCutInOrder, IsBadSection, files_at, xorbs_at, IsCut, IsBad}
-use Rattle.xet_core_structures.proofs.Held.{sorted_front}
+use Rattle.xet_core_structures.specs.ShardContents.{IsReadInOneWay, IsTruncatedInOrder, IsMalformedSection, files_at, xorbs_at, IsTruncated, IsMalformed}
+use Rattle.xet_core_structures.proofs.ShardContents.{sorted_front}
 
 module _ {H R : Type 0} (K : RecordKind H R) (laws : KindLaws K) where
   passes_or_ends : (left : ℕ) (bytes : List ℕ) → BeginsRefused K left bytes → ¬ EndsEarly K left bytes
@@ -53,7 +53,7 @@ module _ {H R : Type 0} (K : RecordKind H R) (laws : KindLaws K) where
   front_of : (bytes : List ℕ) (xs ys : List R) (a b : List ℕ) → HoldsRecords K bytes xs a → HoldsRecords K bytes ys b → StopsAt K (rows_left K xs) a → (zs : List R) × (xs ≡ ys ++ zs)
   front_of bytes xs ys a b x y stop = first_of 4294967295 xs ys a b x.are_stored y.are_stored x.rows y.rows stop (sym x.bytes_are ∙ y.bytes_are)
 
-  cut_or_passes : (bytes : List ℕ) → IsCutSection K bytes → ¬ IsRefusedSection K bytes
+  cut_or_passes : (bytes : List ℕ) → IsTruncatedSection K bytes → ¬ IsRefusedSection K bytes
   cut_or_passes bytes (xs, a, x, ends) (ys, b, y, passes) =
       let same = same_reading K laws bytes xs ys a b x y (inr (inr ends)) (inr (inl passes)) in
       passes_or_ends (rows_left K ys) b passes (subst (λ p. p) (λ i. EndsEarly K (rows_left K (same.0 i)) (same.1 i)) ends)
@@ -66,7 +66,7 @@ module _ {H R : Type 0} (K : RecordKind H R) (laws : KindLaws K) where
     either = cut_or_passes bytes;
   }
 
-  cut_or_bad : (bytes : List ℕ) → IsCutInOrder K bytes → ¬ IsBadSection K bytes
+  cut_or_bad : (bytes : List ℕ) → IsTruncatedInOrder K bytes → ¬ IsMalformedSection K bytes
   cut_or_bad bytes (xs, a, x, ends) (inl (ys, b, y, passes)) = cut_or_passes bytes (xs, a, x.records, ends) (ys, b, y.records, passes)
   cut_or_bad bytes (xs, a, x, ends) (inr falls) =
       let ys = falls.stored ++ falls.last ∷ [] in
@@ -74,11 +74,11 @@ module _ {H R : Type 0} (K : RecordKind H R) (laws : KindLaws K) where
       falls.falls (sorted_front hash_cmp (map (hash_in K) ys) (map (hash_in K) whole.0)
       (subst (IsStrictlySortedBy hash_cmp) (ap (map (hash_in K)) whole.1 ∙ map-append (hash_in K) ys whole.0) x.ascends))
 
-pub one_cause : (bytes : List ℕ) (info : MDBShardInfo) → IsCut bytes info → ¬ IsBad bytes info
+pub one_cause : (bytes : List ℕ) (info : MDBShardInfo) → IsTruncated bytes info → ¬ IsMalformed bytes info
 one_cause bytes info (inl cut) (inl bad) = cut_or_bad (files_of info) (files_laws (version_of info.header.version)) (files_at bytes info) cut bad
 one_cause bytes info (inl (xs, a, x, ends)) (inr ((files, section, ascends), bad)) = section_or_cut (files_of info) (files_laws (version_of info.header.version)) (files_at bytes info) files section (xs, a, x.records, ends)
 one_cause bytes info (inr ((files, section, ascends), cut)) (inl bad) = whole_or_bad files section ascends bad where
-  whole_or_bad : (files : List MDBFileInfo) → IsSection (files_of info) (files_at bytes info) files → Ascends file_records files → ¬ IsBadSection (files_of info) (files_at bytes info)
+  whole_or_bad : (files : List MDBFileInfo) → IsSection (files_of info) (files_at bytes info) files → Ascends file_records files → ¬ IsMalformedSection (files_of info) (files_at bytes info)
   whole_or_bad files section ascends (inl (ys, b, y, passes)) = section_or_passes (files_of info) (files_laws (version_of info.header.version)) (files_at bytes info) files section (ys, b, y.records, passes)
   whole_or_bad files section ascends (inr falls) =
       let ys = falls.stored ++ falls.last ∷ [] in

@@ -6,18 +6,18 @@ use Rattle.std.proofs.lemmas.List.Elements.{All-drop, Contains-push, Contains-ap
 use Rattle.xet_base.specs.declared.merklehash.DataHash.{DataHash}
 use Rattle.xet_records.specs.XorbRecord.{IsXorb}
 use Rattle.xet_shards.specs.declared.shard_format.info.MDBShardInfo.{MDBShardInfo}
-use Rattle.xet_shards.specs.Ends.{FitsFooter, HasEnds}
+use Rattle.xet_shards.specs.Ends.{FitsFooter, HasHeaderAndFooter}
 use Rattle.xet_shards.specs.Shard.{Shard}
 use Rattle.xet_shards.proofs.EndsUnique.{only_info, ends_of_layout}
 use Rattle.xet_shards.proofs.Readback.{file_section_in, xorb_section_in}
 use Rattle.xet_core_structures.specs.declared.set_operations.MergePlan.{MergePlan}
 use Rattle.xet_core_structures.specs.declared.set_operations.MergePlan.TheVariants.{Leaf, Both'}
-use Rattle.xet_core_structures.specs.ByteResults.{keyed_form, keyed_layout, keyed_info, key_of}
-use Rattle.xet_core_structures.specs.Held.{Holds, HasShard}
+use Rattle.xet_core_structures.specs.ByteResults.{keyed_options, keyed_layout, keyed_info, key_of}
+use Rattle.xet_core_structures.specs.ShardContents.{Holds, HasShard}
 use Rattle.xet_core_structures.specs.MergeTrees.{leaves, TreeWrites, HaveXorbs}
-use Rattle.xet_core_structures.specs.Readable.{IsWrittenUnder}
-use Rattle.xet_core_structures.proofs.Held.{only_shard}
-use Rattle.xet_core_structures.proofs.LookupsFound.{union_under}
+use Rattle.xet_core_structures.specs.Readable.{IsBytesUnderKey}
+use Rattle.xet_core_structures.proofs.ShardContents.{only_shard}
+use Rattle.xet_core_structures.proofs.FileLookups.{union_under}
 use Rattle.xet_core_structures.proofs.Readable.{united_xorbs}
 
 -- what stays as it is in each element stays in the list
@@ -27,31 +27,31 @@ all_same f (x ∷ xs) same =
     let here : f x ≡ x = same 0 x (omega arith) in
     λ i. here i ∷ all_same f xs (All-drop (λ y. f y ≡ y) 1 (x ∷ xs) same) i
 
-module _ (key : DataHash) (c : Shard) (bytes : List ℕ) (info : MDBShardInfo) (written : IsWrittenUnder key c bytes info) where
+module _ (key : DataHash) (c : Shard) (bytes : List ℕ) (info : MDBShardInfo) (written : IsBytesUnderKey key c bytes info) where
   -- header and footer are those of the layout, so files are read in version 3
   info_under : info ≡ keyed_info c key
-  info_under = only_info bytes info (keyed_info c key) written.ends (subst (λ bs. HasEnds bs (keyed_info c key)) (sym written.in_form.bytes_are)
-      (ends_of_layout (values c.files) (values c.xorbs) (keyed_form key) (subst FitsFooter written.in_form.footer_is written.ends.footer_widths)))
+  info_under = only_info bytes info (keyed_info c key) written.ends (subst (λ bs. HasHeaderAndFooter bs (keyed_info c key)) (sym written.with_options.bytes_are)
+      (ends_of_layout (values c.files) (values c.xorbs) (keyed_options key) (subst FitsFooter written.with_options.footer_is written.ends.footer_widths)))
 
   in_layout : Holds (keyed_layout c key) (keyed_info c key) c
   in_layout = record {
     files = record {
       stored = values c.files;
-      section = file_section_in (values c.files) (values c.xorbs) (keyed_form key) written.files.fits;
-      handed = all_same _ (values c.files) written.files.unchanged;
+      section = file_section_in (values c.files) (values c.xorbs) (keyed_options key) written.files.fits;
+      returned = all_same _ (values c.files) written.files.unchanged;
       keyed = written.files.keyed;
     };
     xorbs = record {
       stored = values c.xorbs;
-      section = xorb_section_in (values c.files) (values c.xorbs) (keyed_form key) written.xorbs.fits;
-      handed = all_same _ (values c.xorbs) written.xorbs.unchanged;
+      section = xorb_section_in (values c.files) (values c.xorbs) (keyed_options key) written.xorbs.fits;
+      returned = all_same _ (values c.xorbs) written.xorbs.unchanged;
       keyed = written.xorbs.keyed;
     };
   }
 
   pub held_under : Holds bytes info c
   held_under =
-      let bytes_are = sym written.in_form.bytes_are in
+      let bytes_are = sym written.with_options.bytes_are in
       let info_is = sym info_under in
       subst (λ p. p) (λ k. Holds (bytes_are k) (info_is k) c) in_layout
 
@@ -65,9 +65,9 @@ module _ (inputs : List (List ℕ)) where
   tree_holds (Both' p left q right) bytes s have (x, y, x_written, y_written, (i, j, c, x_ends, y_ends, result, is)) holds =
       let first = tree_holds left x result.first (λ k t member. have k t (Contains-append_left (leaves left) (leaves right) k member)) x_written (record { info = i; ends = x_ends; holds = result.holds_first }) in
       let second = tree_holds right y result.second (λ k t member. have k t (Contains-append_right (leaves left) (leaves right) k member)) y_written (record { info = j; ends = y_ends; holds = result.holds_second }) in
-      let under = subst (λ bytes. IsWrittenUnder (key_of i) c bytes (keyed_info c (key_of i))) (sym is) (union_under x i y j c x_ends result) in
+      let under = subst (λ bytes. IsBytesUnderKey (key_of i) c bytes (keyed_info c (key_of i))) (sym is) (union_under x i y j c x_ends result) in
       subst (λ (t : Shard). All IsXorb (values t.xorbs)) (only_shard bytes s c holds (shard_under (key_of i) c bytes (keyed_info c (key_of i)) under)) (united_xorbs x i y j c result first second)
 
-  pub tree_xorbs : (plan : MergePlan) (key : DataHash) (c : Shard) (bytes : List ℕ) (info : MDBShardInfo) → HaveXorbs inputs plan → TreeWrites inputs plan bytes → IsWrittenUnder key c bytes info
+  pub tree_xorbs : (plan : MergePlan) (key : DataHash) (c : Shard) (bytes : List ℕ) (info : MDBShardInfo) → HaveXorbs inputs plan → TreeWrites inputs plan bytes → IsBytesUnderKey key c bytes info
       → All IsXorb (values c.xorbs)
   tree_xorbs plan key c bytes info have writes under = tree_holds plan bytes c have writes (shard_under key c bytes info under)

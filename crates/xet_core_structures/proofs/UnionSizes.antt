@@ -13,7 +13,7 @@ use Rattle.xet_records.specs.declared.file_structs.rows.HashRow.{HashRow}
 use Rattle.xet_records.specs.declared.xorb_structs.MDBXorbInfo.{MDBXorbInfo}
 use Rattle.xet_records.specs.RecordKind.{RecordKind}
 use Rattle.xet_records.specs.FileRecord.{row_count}
-use Rattle.xet_records.specs.Merging.{Includes}
+use Rattle.xet_records.specs.Merging.{IncludesBits}
 use Rattle.xet_records.specs.Part.{parts, rows_of}
 use Rattle.xet_records.specs.Version.{version_of}
 use Rattle.xet_records.specs.XorbRecord.{xorb_records}
@@ -26,21 +26,21 @@ use Rattle.xet_shards.specs.SectionReading.{files_of}
 use Rattle.xet_shards.specs.Shard.{Shard}
 use Rattle.xet_shards.proofs.Files.{length-le-rows}
 use Rattle.xet_shards.proofs.Sections.{files_laws}
-use Rattle.xet_shards.specs.Ends.{HasEnds}
+use Rattle.xet_shards.specs.Ends.{HasHeaderAndFooter}
 use Rattle.xet_shards.specs.SetOperations.{IsDifference}
 use Rattle.xet_shards.proofs.Joining.{but_found}
 use Rattle.xet_shards.proofs.Sums.{counted, sum-of_both, sub-sum}
-use Rattle.xet_shards.proofs.XorbLayouts.{length-in_form, length-chunk_table, xorb_rows-chunks}
+use Rattle.xet_shards.proofs.XorbLayouts.{length-with_options, length-chunk_table, xorb_rows-chunks}
 use Rattle.xet_core_structures.specs.declared.set_operations.MergePlan.{MergePlan}
 use Rattle.xet_core_structures.specs.declared.set_operations.MergePlan.TheVariants.{Leaf, Both'}
-use Rattle.xet_core_structures.specs.ByteResults.{keyed_form, keyed_info, keyed_layout, key_of, HaveResult, UnitesBytes}
+use Rattle.xet_core_structures.specs.ByteResults.{keyed_options, keyed_info, keyed_layout, key_of, HaveResult, UnitesBytes}
 use Rattle.xet_core_structures.specs.ByteUnion.{mixed, IsUnitedFile, IsEitherFile, IsEitherXorb, IsByteUnion}
-use Rattle.xet_core_structures.specs.Held.{IsSectionOf, HasShard}
+use Rattle.xet_core_structures.specs.ShardContents.{IsSectionOf, HasShard}
 use Rattle.xet_core_structures.specs.MergeTrees.{leaves, HasUnion, TreeWrites}
-use Rattle.xet_core_structures.specs.Readable.{IsWrittenUnder}
+use Rattle.xet_core_structures.specs.Readable.{IsBytesUnderKey}
 use Rattle.xet_core_structures.specs.Sizes.{rows_of_shard, bytes_at}
-use Rattle.xet_core_structures.proofs.Held.{rows_handed, only_shard}
-use Rattle.xet_core_structures.proofs.LookupsFound.{tree_under, union_under, difference_under}
+use Rattle.xet_core_structures.proofs.ShardContents.{rows_handed, only_shard}
+use Rattle.xet_core_structures.proofs.FileLookups.{tree_under, union_under, difference_under}
 use Rattle.xet_core_structures.proofs.TreeXorbs.{shard_under}
 
 -- each part of a mix has at most the rows that both records have of it
@@ -102,7 +102,7 @@ rows_in_section K laws n bytes m is =
       length-append (flat_map K.record_bytes stored) is.section.rest,
       length-all_record_bytes K.record_bytes K.row_count K.IsStored (length-record_bytes K laws) stored records.are_stored,
       rows_handed K laws stored,
-      ap (total_rows K) is.handed,
+      ap (total_rows K) is.returned,
     )
 
 rows_held : (bytes : List ℕ) (s : Shard) → HasShard s bytes → 48 * rows_of_shard s ≤ 2 * length bytes
@@ -115,14 +115,14 @@ rows_held bytes s has =
     )
 
 -- what is written of a shard has 344 bytes and at most 64 for each row, a row's part of a table among them
-bytes_written : (key : DataHash) (s : Shard) (bytes : List ℕ) (info : MDBShardInfo) → IsWrittenUnder key s bytes info → length bytes ≤ 344 + 64 * rows_of_shard s
+bytes_written : (key : DataHash) (s : Shard) (bytes : List ℕ) (info : MDBShardInfo) → IsBytesUnderKey key s bytes info → length bytes ≤ 344 + 64 * rows_of_shard s
 bytes_written key s bytes info written =
     let files = values s.files in
     let xorbs = values s.xorbs in
     omega (
       arith,
-      ap length written.in_form.bytes_are,
-      length-in_form files xorbs (keyed_form key) (λ k r below. (written.files.fits.stored k r below).widths),
+      ap length written.with_options.bytes_are,
+      length-with_options files xorbs (keyed_options key) (λ k r below. (written.files.fits.stored k r below).widths),
       length-le-rows files,
       length-chunk_table xorbs,
       xorb_rows-chunks xorbs,
@@ -135,7 +135,7 @@ same_file (Some a) r (c, is, inl (includes, same)) = is ∙ ap Some same
 same_file (Some a) r (c, is, inr (inl (less, includes, same))) = is ∙ ap Some same
 same_file (Some a) r (c, is, inr (inr (less, neither, counts, same))) = absurd (less includes_itself)
   where
-    includes_itself : Includes a.metadata.file_flags a.metadata.file_flags
+    includes_itself : IncludesBits a.metadata.file_flags a.metadata.file_flags
     includes_itself = λ i below is. is
 
 same_xorb : (o r : Option MDBXorbInfo) → IsEitherXorb o o r → r ≡ o
@@ -176,7 +176,7 @@ bytes_of_union x y out (i, j, c, x_ends, y_ends, result, is) =
     )
 
 -- their difference
-pub bytes_of_difference : (x y : List ℕ) (i j : MDBShardInfo) (c : Shard) → HasEnds x i → HasEnds y j → HaveResult IsDifference x i y j c
+pub bytes_of_difference : (x y : List ℕ) (i j : MDBShardInfo) (c : Shard) → HasHeaderAndFooter x i → HasHeaderAndFooter y j → HaveResult IsDifference x i y j c
     → 3 * length (keyed_layout c (key_of i)) ≤ 1032 + 8 * length y
 bytes_of_difference x y i j c x_ends y_ends result =
     omega (
@@ -196,7 +196,7 @@ module _ (inputs : List (List ℕ)) where
   rows_of_tree : (plan : MergePlan) (bytes : List ℕ) (s : Shard) → TreeWrites inputs plan bytes → HasShard s bytes → 48 * rows_of_shard s ≤ 2 * bytes_at inputs (leaves plan)
   rows_of_tree (Leaf i) bytes s is has = omega (arith, rows_held bytes s has, ap length (input_there inputs i bytes is))
   rows_of_tree (Both' p left q right) bytes s (x, y, x_written, y_written, (i, j, c, x_ends, y_ends, result, is)) has =
-      let under = subst (λ bytes. IsWrittenUnder (key_of i) c bytes (keyed_info c (key_of i))) (sym is) (union_under x i y j c x_ends result) in
+      let under = subst (λ bytes. IsBytesUnderKey (key_of i) c bytes (keyed_info c (key_of i))) (sym is) (union_under x i y j c x_ends result) in
       omega (
         arith,
         rows_of_tree left x result.first x_written (record { info = i; ends = x_ends; holds = result.holds_first }),

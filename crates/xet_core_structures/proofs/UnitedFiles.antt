@@ -3,14 +3,14 @@ use Rattle.std.proofs.Common.{◌≡◌, ◌⊎◌, inl, inr, ℕ, ◌+◌, ◌<
 use Rattle.std.specs.declared.result.Result.{Result}
 use Rattle.std.specs.Io.KnownBytes.{Appends}
 use Rattle.std.proofs.lemmas.Option.{same_Some}
-use Rattle.xet_base.specs.Source.{Source, Takes}
+use Rattle.xet_base.specs.Source.{Source, ReadsBytes}
 use Rattle.xet_records.specs.declared.file_structs.header.FileDataSequenceHeader.{FileDataSequenceHeader}
 use Rattle.xet_records.specs.declared.file_structs.header.SupersetResult.{SupersetResult}
 use Rattle.xet_records.specs.declared.file_structs.header.SupersetResult.TheVariants.{SuperA, SuperB, Neither, Equal}
 use Rattle.xet_records.specs.declared.file_structs.MDBFileInfo.{MDBFileInfo}
 use Rattle.xet_records.specs.declared.row_copier.CopyFailure.{CopyFailure}
 use Rattle.xet_records.specs.FileRecord.{file_records, file_record_bytes, row_count, rows_after}
-use Rattle.xet_records.specs.Merging.{Includes, Compares, has_part, mixed_header}
+use Rattle.xet_records.specs.Merging.{IncludesBits, Compares, has_part, mixed_header}
 use Rattle.xet_records.specs.declared.file_structs.rows.HashRow.{HashRow}
 use Rattle.xet_records.specs.Part.{parts, rows_of}
 use Rattle.xet_records.proofs.Parts.{rows_of_both}
@@ -18,34 +18,34 @@ use Rattle.xet_records.proofs.Merging.{rows_of-joined}
 use Rattle.xet_records.specs.Reading.{ReadsRowsAfter}
 use Rattle.xet_records.proofs.RecordKinds.{file_laws}
 use Rattle.xet_core_structures.specs.ByteUnion.{mixed, IsEitherFile}
-use Rattle.xet_core_structures.specs.Combining.{IsMadeOf}
-use Rattle.xet_core_structures.specs.MixedFiles.{MixesFiles, MixHasNoRoom}
-use Rattle.xet_core_structures.specs.SideBySide.{IsRecordHeader, PassesRecord, MakesRecord, CannotMake}
-use Rattle.xet_core_structures.specs.SideBySide.CannotMake.{nothing_made, too_many_rows}
+use Rattle.xet_core_structures.specs.RecordPairs.{IsMadeOf}
+use Rattle.xet_core_structures.specs.MixedFiles.{MixesFiles, MixHasTooManyRows}
+use Rattle.xet_core_structures.specs.MergeJoin.{IsRecordHeader, ReadsOptionalRecord, MakesRecord, CannotMake}
+use Rattle.xet_core_structures.specs.MergeJoin.CannotMake.{nothing_made, too_many_rows}
 use Rattle.xet_core_structures.specs.Streams.{sources, streams}
 use Rattle.xet_core_structures.proofs.Mixing.{mixed_stored, rows_of_mix, rows_of-mixed}
 use Rattle.xet_core_structures.proofs.Pairs.{fails_so, record_of}
 use Rattle.xet_core_structures.proofs.OneSection.{header_of_found}
 
 -- which flags include the other's
-pub first_includes : (a b : ℕ) (r : SupersetResult) → Compares a b r → (r ≡ Equal) ⊎ (r ≡ SuperA) → Includes a b
+pub first_includes : (a b : ℕ) (r : SupersetResult) → Compares a b r → (r ≡ Equal) ⊎ (r ≡ SuperA) → IncludesBits a b
 first_includes a b r compares (inl is) = (subst (Compares a b) is compares).0
 first_includes a b r compares (inr is) = (subst (Compares a b) is compares).0
 
-pub second_includes : (a b : ℕ) (r : SupersetResult) → Compares a b r → r ≡ SuperB → (¬ Includes a b) × Includes b a
+pub second_includes : (a b : ℕ) (r : SupersetResult) → Compares a b r → r ≡ SuperB → (¬ IncludesBits a b) × IncludesBits b a
 second_includes a b r compares is = subst (Compares a b) is compares
 
-pub neither_includes : (a b : ℕ) (r : SupersetResult) → Compares a b r → r ≡ Neither → (¬ Includes a b) × (¬ Includes b a)
+pub neither_includes : (a b : ℕ) (r : SupersetResult) → Compares a b r → r ≡ Neither → (¬ IncludesBits a b) × (¬ IncludesBits b a)
 neither_includes a b r compares is = subst (Compares a b) is compares
 
 -- two files neither of whose flags include the other's
-module _ (g h : FileDataSequenceHeader) (lacks : ¬ Includes g.file_flags h.file_flags) (wants : ¬ Includes h.file_flags g.file_flags) (r s : MDBFileInfo)
+module _ (g h : FileDataSequenceHeader) (lacks : ¬ IncludesBits g.file_flags h.file_flags) (wants : ¬ IncludesBits h.file_flags g.file_flags) (r s : MDBFileInfo)
     (r_is : g ≡ r.metadata) (s_is : h ≡ s.metadata) where
-  lacks_all : ¬ Includes r.metadata.file_flags s.metadata.file_flags
-  lacks_all all = lacks (subst (λ p. p) (λ i. Includes (sym r_is i).file_flags (sym s_is i).file_flags) all)
+  lacks_all : ¬ IncludesBits r.metadata.file_flags s.metadata.file_flags
+  lacks_all all = lacks (subst (λ p. p) (λ i. IncludesBits (sym r_is i).file_flags (sym s_is i).file_flags) all)
 
-  wants_all : ¬ Includes s.metadata.file_flags r.metadata.file_flags
-  wants_all all = wants (subst (λ p. p) (λ i. Includes (sym s_is i).file_flags (sym r_is i).file_flags) all)
+  wants_all : ¬ IncludesBits s.metadata.file_flags r.metadata.file_flags
+  wants_all all = wants (subst (λ p. p) (λ i. IncludesBits (sym s_is i).file_flags (sym r_is i).file_flags) all)
 
   pub makes_mix : g.num_entries ≡ h.num_entries → IsEitherFile (Some r) (Some s) (Some (mixed r s))
   makes_mix count = (
@@ -67,35 +67,35 @@ module _ (g h : FileDataSequenceHeader) (lacks : ¬ Includes g.file_flags h.file
 
 -- what is made of two files, by their headers
 module _ (g h : FileDataSequenceHeader) (old_1 new_1 old_2 new_2 : Source) where
-  flags_1 : (r : MDBFileInfo) → ReadsRowsAfter file_records g (Takes old_1 new_1) r → g ≡ r.metadata
-  flags_1 r read = sym (header_of_found file_records file_laws (Takes old_1 new_1) g r read)
+  flags_1 : (r : MDBFileInfo) → ReadsRowsAfter file_records g (ReadsBytes old_1 new_1) r → g ≡ r.metadata
+  flags_1 r read = sym (header_of_found file_records file_laws (ReadsBytes old_1 new_1) g r read)
 
-  flags_2 : (r : MDBFileInfo) → ReadsRowsAfter file_records h (Takes old_2 new_2) r → h ≡ r.metadata
-  flags_2 r read = sym (header_of_found file_records file_laws (Takes old_2 new_2) h r read)
+  flags_2 : (r : MDBFileInfo) → ReadsRowsAfter file_records h (ReadsBytes old_2 new_2) r → h ≡ r.metadata
+  flags_2 r read = sym (header_of_found file_records file_laws (ReadsBytes old_2 new_2) h r read)
 
-  pub makes_first : Includes g.file_flags h.file_flags → (r : MDBFileInfo) (other : Option MDBFileInfo) → ReadsRowsAfter file_records g (Takes old_1 new_1) r
-      → PassesRecord file_records (Some h) old_2 new_2 other → IsEitherFile (Some r) other (Some r)
+  pub makes_first : IncludesBits g.file_flags h.file_flags → (r : MDBFileInfo) (other : Option MDBFileInfo) → ReadsRowsAfter file_records g (ReadsBytes old_1 new_1) r
+      → ReadsOptionalRecord file_records (Some h) old_2 new_2 other → IsEitherFile (Some r) other (Some r)
   makes_first includes r other read (s, is, also) =
       subst (λ o. IsEitherFile (Some r) o (Some r)) (sym is)
-      (r, refl, inl (subst (λ p. p) (λ i. Includes (flags_1 r read i).file_flags (flags_2 s also i).file_flags) includes, refl))
+      (r, refl, inl (subst (λ p. p) (λ i. IncludesBits (flags_1 r read i).file_flags (flags_2 s also i).file_flags) includes, refl))
 
   -- the second is written, where its flags have more
-  pub makes_second : (¬ Includes h.file_flags g.file_flags) → Includes g.file_flags h.file_flags → (r : MDBFileInfo) (other : Option MDBFileInfo) → ReadsRowsAfter file_records g (Takes old_1 new_1) r
-      → PassesRecord file_records (Some h) old_2 new_2 other → IsEitherFile other (Some r) (Some r)
+  pub makes_second : (¬ IncludesBits h.file_flags g.file_flags) → IncludesBits g.file_flags h.file_flags → (r : MDBFileInfo) (other : Option MDBFileInfo) → ReadsRowsAfter file_records g (ReadsBytes old_1 new_1) r
+      → ReadsOptionalRecord file_records (Some h) old_2 new_2 other → IsEitherFile other (Some r) (Some r)
   makes_second lacks includes r other read (s, is, also) =
       subst (λ o. IsEitherFile o (Some r) (Some r)) (sym is) (
         r,
         refl,
         inr (inl (
-          λ all. lacks (subst (λ p. p) (λ i. Includes (sym (flags_2 s also) i).file_flags (sym (flags_1 r read) i).file_flags) all),
-          subst (λ p. p) (λ i. Includes (flags_1 r read i).file_flags (flags_2 s also i).file_flags) includes,
+          λ all. lacks (subst (λ p. p) (λ i. IncludesBits (sym (flags_2 s also) i).file_flags (sym (flags_1 r read) i).file_flags) all),
+          subst (λ p. p) (λ i. IncludesBits (flags_1 r read i).file_flags (flags_2 s also i).file_flags) includes,
           refl,
         )),
       )
 
   -- no file is made of both, if their counts differ
-  pub cannot_unite : (rows : ℕ) → (¬ Includes g.file_flags h.file_flags) × (¬ Includes h.file_flags g.file_flags) → ¬ (g.num_entries ≡ h.num_entries) → (one other : Option MDBFileInfo)
-      → PassesRecord file_records (Some g) old_1 new_1 one → PassesRecord file_records (Some h) old_2 new_2 other → CannotMake file_records IsEitherFile rows one other
+  pub cannot_unite : (rows : ℕ) → (¬ IncludesBits g.file_flags h.file_flags) × (¬ IncludesBits h.file_flags g.file_flags) → ¬ (g.num_entries ≡ h.num_entries) → (one other : Option MDBFileInfo)
+      → ReadsOptionalRecord file_records (Some g) old_1 new_1 one → ReadsOptionalRecord file_records (Some h) old_2 new_2 other → CannotMake file_records IsEitherFile rows one other
   cannot_unite rows neither counts one other (r, is, read) (s, at, also) = nothing_made r s is at (makes_none g h neither.0 neither.1 r s (flags_1 r read) (flags_2 s also) counts)
 
   -- a mix of both is made
@@ -104,8 +104,8 @@ module _ (g h : FileDataSequenceHeader) (old_1 new_1 old_2 new_2 : Source) where
   either_rows false xs ys = omega arith
 
   module _ (first : IsRecordHeader file_records g) (second : IsRecordHeader file_records h) (hash : g.file_hash ≡ h.file_hash) (count : g.num_entries ≡ h.num_entries)
-      (neither : (¬ Includes g.file_flags h.file_flags) × (¬ Includes h.file_flags g.file_flags)) where
-    mix_of : (r s : MDBFileInfo) → ReadsRowsAfter file_records g (Takes old_1 new_1) r → ReadsRowsAfter file_records h (Takes old_2 new_2) s → IsMadeOf file_records (Some r) (Some s) (mixed r s)
+      (neither : (¬ IncludesBits g.file_flags h.file_flags) × (¬ IncludesBits h.file_flags g.file_flags)) where
+    mix_of : (r s : MDBFileInfo) → ReadsRowsAfter file_records g (ReadsBytes old_1 new_1) r → ReadsRowsAfter file_records h (ReadsBytes old_2 new_2) s → IsMadeOf file_records (Some r) (Some s) (mixed r s)
     mix_of r s read also =
         let r_is = sym (flags_1 r read) in
         let s_is = sym (flags_2 s also) in
@@ -140,9 +140,9 @@ module _ (g h : FileDataSequenceHeader) (old_1 new_1 old_2 new_2 : Source) where
       written = mixes.written;
     }
     mix_made rows Before After old new (Err failure) fails =
-        fails_so file_records (Some g) (Some h) (sources old_1 old_2) (sources new_1 new_2) (MixHasNoRoom rows) (CannotMake file_records IsEitherFile rows) cannot failure fails
+        fails_so file_records (Some g) (Some h) (sources old_1 old_2) (sources new_1 new_2) (MixHasTooManyRows rows) (CannotMake file_records IsEitherFile rows) cannot failure fails
       where
-        cannot : (one other : Option MDBFileInfo) → PassesRecord file_records (Some g) old_1 new_1 one → PassesRecord file_records (Some h) old_2 new_2 other → MixHasNoRoom rows one other
+        cannot : (one other : Option MDBFileInfo) → ReadsOptionalRecord file_records (Some g) old_1 new_1 one → ReadsOptionalRecord file_records (Some h) old_2 new_2 other → MixHasTooManyRows rows one other
             → CannotMake file_records IsEitherFile rows one other
         cannot one other (r, is, read) (s, at, also) many =
             subst (λ p. p) (λ i. CannotMake file_records IsEitherFile rows (sym is i) (sym at i))
@@ -151,7 +151,7 @@ module _ (g h : FileDataSequenceHeader) (old_1 new_1 old_2 new_2 : Source) where
   -- the rows of a mix have no room
   module _ (first : IsRecordHeader file_records g) (second : IsRecordHeader file_records h) (hash : g.file_hash ≡ h.file_hash) (count : g.num_entries ≡ h.num_entries) where
     pub mix_rows : (rows total : ℕ) → total ≡ 1 + rows_after (mixed_header g h) → 4294967295 < rows + total → (one other : Option MDBFileInfo)
-        → PassesRecord file_records (Some g) old_1 new_1 one → PassesRecord file_records (Some h) old_2 new_2 other → MixHasNoRoom rows one other
+        → ReadsOptionalRecord file_records (Some g) old_1 new_1 one → ReadsOptionalRecord file_records (Some h) old_2 new_2 other → MixHasTooManyRows rows one other
     mix_rows rows total counted many one other (r, is, read) (s, at, also) = λ x y x_is y_is.
         subst (λ p. p) (λ i. 4294967295 < rows + row_count (mixed (same_Some r x (sym is ∙ x_is) i) (same_Some s y (sym at ∙ y_is) i)))
         (omega (

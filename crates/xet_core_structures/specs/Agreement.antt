@@ -11,7 +11,7 @@ use Rattle.xet_records.specs.declared.file_structs.MDBFileInfo.{MDBFileInfo}
 use Rattle.xet_records.specs.declared.xorb_structs.MDBXorbInfo.{MDBXorbInfo}
 use Rattle.xet_records.specs.Merging.{Agree}
 use Rattle.xet_shards.specs.declared.shard_format.info.MDBShardInfo.{MDBShardInfo}
-use Rattle.xet_shards.specs.Ends.{HasEnds}
+use Rattle.xet_shards.specs.Ends.{HasHeaderAndFooter}
 use Rattle.xet_shards.specs.SetOperations.{ShardsAgree}
 use Rattle.xet_shards.specs.Shard.{Shard}
 use Rattle.xet_core_structures.specs.declared.set_operations.agreement.Disagreement.{Disagreement}
@@ -24,7 +24,7 @@ use Rattle.xet_core_structures.specs.declared.set_operations.agreement.Merged.{M
 use Rattle.xet_core_structures.specs.declared.set_operations.agreement.Merged.TheVariants.{Bytes, Disagreement as Disagreed}
 use Rattle.xet_core_structures.specs.declared.set_operations.parts.PlacedShard.{PlacedShard}
 use Rattle.xet_core_structures.specs.ByteResults.{key_of, LoadRefusal}
-use Rattle.xet_core_structures.specs.Held.{HasShard}
+use Rattle.xet_core_structures.specs.ShardContents.{HasShard}
 use Rattle.xet_core_structures.specs.MergeTrees.{leaves, TreeWrites, InputIs}
 use Rattle.xet_core_structures.specs.Parts.{PlacesShard, SectionsRefusal}
 
@@ -51,12 +51,12 @@ IsHeld inputs s = (i : ℕ) × HoldsAt inputs i s
 -- is not read
 abbrev pub ShardRefusal : List ℕ → CoreError → Type 0
 ShardRefusal bytes e =
-    LoadRefusal bytes e ⊎ ((info : MDBShardInfo) × HasEnds bytes info × SectionsRefusal bytes info e)
+    LoadRefusal bytes e ⊎ ((info : MDBShardInfo) × HasHeaderAndFooter bytes info × SectionsRefusal bytes info e)
 
 -- a shard in memory is one that bytes hold
 abbrev pub IsPlacedOf : PlacedShard → List ℕ → Type 0
 IsPlacedOf shard bytes =
-    (info : MDBShardInfo) × HasEnds bytes info × PlacesShard bytes info shard
+    (info : MDBShardInfo) × HasHeaderAndFooter bytes info × PlacesShard bytes info shard
 
 -- these are the records of inputs in memory
 pub record ArePlaced (inputs : List (List ℕ)) (placed : PlacedInputs) : Type 0 where
@@ -120,7 +120,7 @@ InputsRefusal inputs e =
 
 -- the bytes have this key in their footer, if they have a header and a footer
 abbrev pub HasKey : List ℕ → DataHash → Type 0
-HasKey bytes key = (info : MDBShardInfo) → HasEnds bytes info → key_of info ≡ key
+HasKey bytes key = (info : MDBShardInfo) → HasHeaderAndFooter bytes info → key_of info ≡ key
 
 -- each input at a leaf has this key in its footer, if it has a header and a footer
 abbrev pub HaveKey : List (List ℕ) → MergePlan → DataHash → Type 0

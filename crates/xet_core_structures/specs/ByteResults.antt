@@ -22,28 +22,29 @@ use Rattle.xet_shards.specs.declared.shard_format.info.MDBShardInfo.{MDBShardInf
 use Rattle.xet_shards.specs.declared.shard_format.written.WrittenFiles.{WrittenFiles}
 use Rattle.xet_shards.specs.declared.shard_format.written.WrittenXorbs.{WrittenXorbs}
 use Rattle.xet_shards.specs.Written.{HasWritten, HasWrittenXorbs, end_of_layout}
-use Rattle.xet_shards.specs.Ends.{HasEnds, IsUnsupported, IsTooShort}
-use Rattle.xet_shards.specs.declared.shard_format.form.Form.{Form}
-use Rattle.xet_shards.specs.Layout.{plain_form, layout_of, info_of}
+use Rattle.xet_shards.specs.Ends.{HasHeaderAndFooter, IsUnsupported, IsTooShort}
+use Rattle.xet_shards.specs.declared.shard_format.options.LayoutOptions.{LayoutOptions}
+use Rattle.xet_shards.specs.Layout.{plain_options, layout_of, info_of}
 use Rattle.xet_shards.specs.Section.{total_rows}
 use Rattle.xet_shards.specs.SectionReading.{HoldsRecords}
-use Rattle.xet_shards.specs.SetOperations.{HasFewRows}
+use Rattle.xet_shards.specs.SetOperations.{RowsFitU32}
 use Rattle.xet_shards.specs.Shard.{Shard}
 use Rattle.xet_core_structures.specs.ByteUnion.{IsEitherFile, IsEitherXorb, IsByteUnion}
-use Rattle.xet_core_structures.specs.Combining.{Combines}
-use Rattle.xet_core_structures.specs.Held.{IsSectionOf, files_at, xorbs_at, Holds, HoldsLists, IsCut, IsBad}
+use Rattle.xet_core_structures.specs.RecordPairs.{Combines}
+use Rattle.xet_core_structures.specs.ShardContents.{IsSectionOf, files_at, xorbs_at, Holds, HoldsLists, IsTruncated, IsMalformed}
+use Rattle.xet_records.specs.Limits.{MAX_ROWS}
 
--- the form with all tables, this key, creation 0 and no expiry
-abbrev pub keyed_form : DataHash → Form
-keyed_form key = record (plain_form None) { key = key }
+-- the layout options with all tables, this key, creation 0 and no expiry
+abbrev pub keyed_options : DataHash → LayoutOptions
+keyed_options key = record (plain_options None) { key = key }
 
 -- the bytes of a shard under a key, with all tables, creation 0 and no expiry
 abbrev pub keyed_layout : Shard → DataHash → List ℕ
-keyed_layout s key = layout_of (values s.files) (values s.xorbs) (keyed_form key)
+keyed_layout s key = layout_of (values s.files) (values s.xorbs) (keyed_options key)
 
 -- the header and the footer in these bytes
 abbrev pub keyed_info : Shard → DataHash → MDBShardInfo
-keyed_info s key = info_of (values s.files) (values s.xorbs) (keyed_form key)
+keyed_info s key = info_of (values s.files) (values s.xorbs) (keyed_options key)
 
 -- the key in a footer
 abbrev pub key_of : MDBShardInfo → DataHash
@@ -62,7 +63,7 @@ pub record HaveResult (IsResult : Shard → Shard → Shard → Type 0) (x : Lis
   pub same_key : key_of i ≡ key_of j
   pub result : IsResult first second c
   -- each section of the result has at most 4294967295 rows
-  pub rows : HasFewRows c
+  pub rows : RowsFitU32 c
 
 -- the layout of the result was written, and the header and the footer in it returned
 abbrev pub WritesResult : (Shard → Shard → Shard → Type 0) → List ℕ → MDBShardInfo → List ℕ
@@ -85,16 +86,16 @@ pub record HaveNoUnionOf {H R : Type 0} (K : RecordKind H R) (version_1 version_
   pub second : HoldsRecords (in_version K version_2) y seconds after_seconds
   -- what is made of them all has too many rows, or two of them with one hash have no union
   pub clash : ((made : List R)
-      × Combines K IsEither (map K.handed_out firsts) (map K.handed_out seconds) made
-      × (4294967295 < total_rows K made))
+      × Combines K IsEither (map K.as_read firsts) (map K.as_read seconds) made
+      × (MAX_ROWS < total_rows K made))
       ⊎ ((r s : R) × Contains firsts r × Contains seconds s
       × (K.hash_of (K.header_of r) ≡ K.hash_of (K.header_of s))
-      × ((t : Option R) → ¬ IsEither (Some (K.handed_out r)) (Some (K.handed_out s)) t))
+      × ((t : Option R) → ¬ IsEither (Some (K.as_read r)) (Some (K.as_read s)) t))
   -- if both are whole sections, no union of them fits a section
   pub none : (a b c : FinMap hash_cmp R) → IsSectionOf (in_version K version_1) x a
       → IsSectionOf (in_version K version_2) y b
       → ((q : DataHash) → IsEither (get a q) (get b q) (get c q))
-      → ¬ (total_rows K (values c) ≤ 4294967295)
+      → ¬ (total_rows K (values c) ≤ MAX_ROWS)
 
 -- the files of both inputs have no union, or their xorbs have too many rows
 abbrev pub HaveNoUnion : List ℕ → MDBShardInfo → List ℕ → MDBShardInfo → Type 0
@@ -108,8 +109,8 @@ HaveNoUnion x i y j =
 abbrev pub InputRefusal : List ℕ → MDBShardInfo → List ℕ → MDBShardInfo → CoreError → Type 0
 InputRefusal x i y j e =
     (e ≡ OutOfMemory)
-    ⊎ (IsEndOfInput e × (IsCut x i ⊎ IsCut y j))
-    ⊎ (IsInvalidShard e × (IsBad x i ⊎ IsBad y j))
+    ⊎ (IsEndOfInput e × (IsTruncated x i ⊎ IsTruncated y j))
+    ⊎ (IsInvalidShard e × (IsMalformed x i ⊎ IsMalformed y j))
 
 -- why an operation on two inputs is refused: their keys differ, or they do not, and there is
 -- another cause
@@ -131,7 +132,7 @@ DifferenceRefusal x i y j = KeyRefusal (InputRefusal x i y j) i j
 -- the bytes of the union of two byte strings, each with its own header and footer
 abbrev pub UnitesBytes : List ℕ → List ℕ → List ℕ → Type 0
 UnitesBytes x y out =
-    (i j : MDBShardInfo) × (c : Shard) × HasEnds x i × HasEnds y j
+    (i j : MDBShardInfo) × (c : Shard) × HasHeaderAndFooter x i × HasHeaderAndFooter y j
     × HaveResult IsByteUnion x i y j c × (out ≡ keyed_layout c (key_of i))
 
 -- why header and footer are not read
@@ -142,8 +143,8 @@ LoadRefusal x e = (IsShardVersion e × IsUnsupported x) ⊎ (IsEndOfInput e × I
 -- the second are not, or both are and their shards have no union
 abbrev pub BytesRefusal : List ℕ → List ℕ → CoreError → Type 0
 BytesRefusal x y e =
-    LoadRefusal x e ⊎ ((i : MDBShardInfo) × HasEnds x i × LoadRefusal y e)
-    ⊎ ((i j : MDBShardInfo) × HasEnds x i × HasEnds y j × UnionRefusal x i y j e)
+    LoadRefusal x e ⊎ ((i : MDBShardInfo) × HasHeaderAndFooter x i × LoadRefusal y e)
+    ⊎ ((i j : MDBShardInfo) × HasHeaderAndFooter x i × HasHeaderAndFooter y j × UnionRefusal x i y j e)
 
 -- why an operation on two sources fails: the device of either did, or neither did and there is
 -- another cause
@@ -182,21 +183,21 @@ pub record AreCombined
     (first second result : Records) : Type 0 where
   pub files : Combines file_records IsFile first.files second.files result.files
   pub xorbs : Combines xorb_records IsXorb first.xorbs second.xorbs result.xorbs
-  pub few_files : total_rows file_records result.files ≤ 4294967295
-  pub few_xorbs : total_rows xorb_records result.xorbs ≤ 4294967295
+  pub few_files : total_rows file_records result.files ≤ MAX_ROWS
+  pub few_xorbs : total_rows xorb_records result.xorbs ≤ MAX_ROWS
 
 -- the layout of the records under a key was written, and the header and the footer in it returned
 abbrev pub WritesRecords : Records → DataHash → Option (List ℕ) → Option (List ℕ) → MDBShardInfo
     → Type 0
 WritesRecords records key old new info =
-    (info ≡ info_of records.files records.xorbs (keyed_form key))
-    × Appends old new (layout_of records.files records.xorbs (keyed_form key))
+    (info ≡ info_of records.files records.xorbs (keyed_options key))
+    × Appends old new (layout_of records.files records.xorbs (keyed_options key))
 
--- what comes after the sections of these records was written, as in the layout in a form, and the
--- header and the footer in that layout returned
-abbrev pub WritesEnd : WrittenFiles → WrittenXorbs → Form → Option (List ℕ) → Option (List ℕ)
+-- what comes after the sections of these records was written, as in a layout with these options,
+-- and the header and the footer in that layout returned
+abbrev pub WritesEnd : WrittenFiles → WrittenXorbs → LayoutOptions → Option (List ℕ) → Option (List ℕ)
     → MDBShardInfo → Type 0
-WritesEnd files xorbs form old new info =
+WritesEnd files xorbs options old new info =
     (rs : List MDBFileInfo) → (xs : List MDBXorbInfo) → All FitsRecord rs → HasWritten files rs
     → HasWrittenXorbs xorbs xs
-    → (info ≡ info_of rs xs form) × Appends old new (end_of_layout rs xs form)
+    → (info ≡ info_of rs xs options) × Appends old new (end_of_layout rs xs options)

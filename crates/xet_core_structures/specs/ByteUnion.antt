@@ -6,7 +6,7 @@ use Rattle.xet_base.specs.declared.merklehash.DataHash.{DataHash}
 use Rattle.xet_records.specs.declared.file_structs.MDBFileInfo.{MDBFileInfo}
 use Rattle.xet_records.specs.declared.xorb_structs.MDBXorbInfo.{MDBXorbInfo}
 use Rattle.xet_records.specs.declared.file_structs.part.OptionalPart.{OptionalPart}
-use Rattle.xet_records.specs.Merging.{Includes, has_part, joined}
+use Rattle.xet_records.specs.Merging.{IncludesBits, has_part, joined}
 use Rattle.xet_shards.specs.Shard.{Shard}
 
 -- a header with the known flags that either record has, the first's segments, and each
@@ -19,11 +19,11 @@ mixed a b = record (joined a b) { metadata = record (joined a b).metadata { _unu
 -- counts of segments
 abbrev pub IsUnitedFile : MDBFileInfo → MDBFileInfo → MDBFileInfo → Type 0
 IsUnitedFile a b c =
-    (Includes a.metadata.file_flags b.metadata.file_flags × (c ≡ a))
-    ⊎ ((¬ Includes a.metadata.file_flags b.metadata.file_flags)
-    × Includes b.metadata.file_flags a.metadata.file_flags × (c ≡ b))
-    ⊎ ((¬ Includes a.metadata.file_flags b.metadata.file_flags)
-    × (¬ Includes b.metadata.file_flags a.metadata.file_flags)
+    (IncludesBits a.metadata.file_flags b.metadata.file_flags × (c ≡ a))
+    ⊎ ((¬ IncludesBits a.metadata.file_flags b.metadata.file_flags)
+    × IncludesBits b.metadata.file_flags a.metadata.file_flags × (c ≡ b))
+    ⊎ ((¬ IncludesBits a.metadata.file_flags b.metadata.file_flags)
+    × (¬ IncludesBits b.metadata.file_flags a.metadata.file_flags)
     × (a.metadata.num_entries ≡ b.metadata.num_entries) × (c ≡ mixed a b))
 
 -- the file of a hash, where each shard may have one

@@ -12,7 +12,7 @@ use Rattle.xet_core_structures.specs.declared.set_operations.agreement.differing
 use Rattle.xet_core_structures.specs.declared.set_operations.agreement.differing.ReadRecord.{ReadRecord}
 use Rattle.xet_core_structures.specs.declared.set_operations.agreement.runs.Place.{Place}
 use Rattle.xet_core_structures.specs.declared.set_operations.placed.PlacedRecord.{PlacedRecord}
-use Rattle.xet_core_structures.specs.Combining.{key_of_record}
+use Rattle.xet_core_structures.specs.RecordPairs.{key_of_record}
 use Rattle.xet_core_structures.specs.Placed.{Places, hash_at}
 
 -- places in the order of hashes, inputs and indices
@@ -32,8 +32,8 @@ pub record IsRun (places : List Place) (from to : ℕ) : Type 0 where
       → hash_cmp hash p.hash ≡ Less
 
 -- a record of one of the lists
-abbrev pub Has : {R : Type 0} → List (List R) → ℕ → R → Type 0
-Has {R = R} all i r = (rs : List R) × (slice_get all i ≡ Some rs) × Contains rs r
+abbrev pub HasRecord : {R : Type 0} → List (List R) → ℕ → R → Type 0
+HasRecord {R = R} all i r = (rs : List R) × (slice_get all i ≡ Some rs) × Contains rs r
 
 module _ {R : Type 0} (agree : R → R → Type 0) where
   -- what agrees with a record agrees with another
@@ -114,9 +114,9 @@ module _ {H R : Type 0} (K : RecordKind H R) where
 
     -- the record at a place is that at another, or it agrees with all that are kept, and is kept
     -- too unless one of them covers it
-    abbrev pub PassesPlace : List (List (PlacedRecord H)) → (first p : Place)
+    abbrev pub ComparesPlace : List (List (PlacedRecord H)) → (first p : Place)
         → (old new : List (ReadRecord R)) → Type 0
-    PassesPlace lists first p old new =
+    ComparesPlace lists first p old new =
         ((new ≡ old) × ((r : R) → IsRecordAt lists p r → IsRecordAt lists first r))
         ⊎ ((next : R) × ((r : R) → IsRecordAt lists p r → next ≡ r)
         × KeepsRecord agree p.input next old new)
@@ -134,8 +134,8 @@ module _ {H R : Type 0} (K : RecordKind H R) where
       pub one : R
       -- a record of the list with the second number
       pub other : R
-      pub has_one : Has all d.first one
-      pub has_other : Has all d.second other
+      pub has_one : HasRecord all d.first one
+      pub has_other : HasRecord all d.second other
       pub one_hash : key_of_record K one ≡ d.hash
       pub other_hash : key_of_record K other ≡ d.hash
       pub differ : ¬ agree one other
@@ -143,7 +143,7 @@ module _ {H R : Type 0} (K : RecordKind H R) where
     -- each two records with this hash agree
     abbrev pub AgreeUnder : List (List R) → DataHash → Type 0
     AgreeUnder all q =
-        (i j : ℕ) (r s : R) → Has all i r → Has all j s → key_of_record K r ≡ q
+        (i j : ℕ) (r s : R) → HasRecord all i r → HasRecord all j s → key_of_record K r ≡ q
         → key_of_record K s ≡ q → agree r s
 
     -- under these hashes, which ascend, two lists have records that do not agree, and under no

@@ -7,7 +7,7 @@ use Rattle.xet_records.specs.View.{auxes_as_wanted}
 use Rattle.xet_base.specs.declared.merklehash.DataHash.{DataHash}
 use Rattle.xet_base.specs.Hash.{IsHash}
 use Rattle.xet_records.specs.declared.file_structs.rows.FileDataSequenceEntry.{FileDataSequenceEntry}
-use Rattle.xet_shards.specs.declared.shard_format.form.Form.{Form}
+use Rattle.xet_shards.specs.declared.shard_format.options.LayoutOptions.{LayoutOptions}
 use Rattle.xet_shards.specs.ChunkQuery.{run_at}
 use Rattle.xet_shards.specs.KeyedExport.{exported, ExportsWith}
 use Rattle.xet_shards.specs.Shard.{Shard}
@@ -16,17 +16,17 @@ use Rattle.xet_shards.specs.WrittenShard.{HasFilesIn}
 use Rattle.xet_core_structures.specs.declared.set_operations.MergePlan.{MergePlan}
 use Rattle.xet_core_structures.specs.MergeTrees.{IsMergeOf}
 
--- the numbers of a form are within their widths
-pub record FitsForm (form : Form) : Type 0 where
-  pub key : IsHash form.key
-  pub creation : form.creation < 2 ^ 64
-  pub expiry : form.expiry < 2 ^ 64
+-- the numbers of layout options are within their widths
+pub record FitsOptions (options : LayoutOptions) : Type 0 where
+  pub key : IsHash options.key
+  pub creation : options.creation < 2 ^ 64
+  pub expiry : options.expiry < 2 ^ 64
 
--- the form of an export with files under a key, with tables and timestamps of its own
-pub record IsExportForm (key : DataHash) (form : Form) : Type 0 where
-  pub under : form.key ≡ key
-  pub files : form.file_table ≡ true
-  pub fits : FitsForm form
+-- the layout options of an export with files under a key, with tables and timestamps of its own
+pub record IsExportOptions (key : DataHash) (options : LayoutOptions) : Type 0 where
+  pub under : options.key ≡ key
+  pub files : options.file_table ≡ true
+  pub fits : FitsOptions options
 
 -- a shard with its auxiliary rows or without
 abbrev pub shard_as_wanted : Bool → Shard → Shard
@@ -35,10 +35,10 @@ shard_as_wanted aux s = if aux then s else shard_without_aux s
 -- the bytes are an export of this shard under a key, with files, with auxiliary rows or without, in
 -- a version that has its files
 pub record IsExportOf (aux : Bool) (key : DataHash) (s : Shard) (bytes : List ℕ) : Type 0 where
-  pub form : Form
-  pub is_form : IsExportForm key form
-  pub files : HasFilesIn form.version (shard_as_wanted aux s)
-  pub bytes_are : bytes ≡ exported (auxes_as_wanted aux (values s.files)) (values s.xorbs) form
+  pub options : LayoutOptions
+  pub is_form : IsExportOptions key options
+  pub files : HasFilesIn options.version (shard_as_wanted aux s)
+  pub bytes_are : bytes ≡ exported (auxes_as_wanted aux (values s.files)) (values s.xorbs) options
 
 -- a tree with a union, over exports under one key of shards that agree, and their join
 abbrev pub IsMergeOfExports : Bool → DataHash → List (List ℕ) → MergePlan → List Shard → Shard
@@ -49,9 +49,9 @@ IsMergeOfExports aux key = IsMergeOf (IsExportOf aux key)
 -- an index of one list wrote those at this index of another
 pub record IsExportedAt (aux : Bool) (key : DataHash) (inputs outs : List (List ℕ)) (i : ℕ)
     : Type 0 where
-  pub form : Form
-  pub is_form : IsExportForm key form
-  pub version : form.version ≡ V3
+  pub options : LayoutOptions
+  pub is_form : IsExportOptions key options
+  pub version : options.version ≡ V3
   -- the source before the export
   pub old : Source
   -- the source after the export
@@ -61,7 +61,7 @@ pub record IsExportedAt (aux : Bool) (key : DataHash) (inputs outs : List (List 
   -- how many there are
   pub size : ℕ
   pub input : slice_get inputs i ≡ Some (bytes_left old)
-  pub export : ExportsWith aux form old new (Some []) (Some out) size
+  pub export : ExportsWith aux options old new (Some []) (Some out) size
   pub written : slice_get outs i ≡ Some out
 
 -- the run at an index of the xorb that a shard has under a hash, if it has one

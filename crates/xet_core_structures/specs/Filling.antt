@@ -7,7 +7,7 @@ use Rattle.xet_records.specs.declared.record_reader.FormatVersion.TheVariants.{V
 use Rattle.xet_shards.specs.Layout.{layout_of, shard_header_bytes, header_value}
 use Rattle.xet_shards.specs.Written.{end_of_layout}
 use Rattle.xet_core_structures.specs.declared.set_operations.filling.Frame.{Frame}
-use Rattle.xet_core_structures.specs.ByteResults.{keyed_form, Records}
+use Rattle.xet_core_structures.specs.ByteResults.{keyed_options, Records}
 
 -- bytes were put at an offset, `end` is the offset after them, and what is behind it stays
 pub record Puts (old new : List ℕ) (at end : ℕ) (bytes : List ℕ) : Type 0 where
@@ -34,5 +34,5 @@ FillsWith IsMade IsCause old new result =
 -- what stands before the sections of a shard and after them, and the size of the whole
 pub record IsFrame (key : DataHash) (records : Records) (frame : Frame) : Type 0 where
   pub header : frame.header.items ≡ shard_header_bytes (header_value V3)
-  pub tables : frame.tables.items ≡ end_of_layout records.files records.xorbs (keyed_form key)
-  pub size : frame.size ≡ length (layout_of records.files records.xorbs (keyed_form key))
+  pub tables : frame.tables.items ≡ end_of_layout records.files records.xorbs (keyed_options key)
+  pub size : frame.size ≡ length (layout_of records.files records.xorbs (keyed_options key))

@@ -9,13 +9,13 @@ use Rattle.xet_base.specs.Errors.{IsInvalidShard}
 use Rattle.xet_base.specs.KeyedHash.{no_key}
 use Rattle.xet_records.specs.XorbRecord.{IsXorb}
 use Rattle.xet_shards.specs.Joins.{IsJoinOf, AgreePairwise}
-use Rattle.xet_shards.specs.SetOperations.{HasFewRows}
+use Rattle.xet_shards.specs.SetOperations.{RowsFitU32}
 use Rattle.xet_shards.specs.Shard.{Shard}
 use Rattle.xet_shards.specs.WrittenShard.{IsBytesOf}
 use Rattle.xet_core_structures.specs.declared.set_operations.MergePlan.{MergePlan}
 use Rattle.xet_core_structures.specs.declared.set_operations.MergePlan.TheVariants.{Leaf, Both'}
 use Rattle.xet_core_structures.specs.ByteResults.{UnitesBytes, BytesRefusal}
-use Rattle.xet_core_structures.specs.Held.{HasShard, HoldsShard}
+use Rattle.xet_core_structures.specs.ShardContents.{HasShard, HoldsShard}
 
 -- the inputs at the leaves, from left to right
 abbrev pub leaves : MergePlan → List ℕ
@@ -83,4 +83,4 @@ IsMergeOfWritten = IsMergeOf IsBytesOf
 -- why shards that agree are not merged: an allocation failed, or a section of the join has too many
 -- rows
 abbrev pub MergeRefused : Shard → CoreError → Type 0
-MergeRefused join e = (e ≡ OutOfMemory) ⊎ (IsInvalidShard e × (¬ HasFewRows join))
+MergeRefused join e = (e ≡ OutOfMemory) ⊎ (IsInvalidShard e × (¬ RowsFitU32 join))

@@ -7,7 +7,7 @@ use Rattle.xet_base.specs.Errors.{IsEndOfInput, IsInvalidShard}
 use Rattle.xet_records.specs.FileRecord.{file_records}
 use Rattle.xet_records.specs.XorbRecord.{xorb_records}
 use Rattle.xet_shards.specs.declared.shard_format.info.MDBShardInfo.{MDBShardInfo}
-use Rattle.xet_shards.specs.InForm.{Ascends, FitsSection}
+use Rattle.xet_shards.specs.WithOptions.{Ascends, FitsSection}
 use Rattle.xet_shards.specs.Shard.{Shard}
 use Rattle.xet_core_structures.specs.declared.set_operations.parts.PlacedShard.{PlacedShard}
 use Rattle.xet_core_structures.specs.declared.set_operations.parts.Part.{Part}
@@ -16,9 +16,9 @@ use Rattle.xet_core_structures.specs.declared.set_operations.parts.Opened.{Opene
 use Rattle.xet_core_structures.specs.declared.set_operations.parts.Opened.TheVariants.{Input as OpenedInput, United as OpenedUnion}
 use Rattle.xet_core_structures.specs.ByteResults.{key_of, keyed_info, Records}
 use Rattle.xet_core_structures.specs.ByteUnion.{IsEitherFile, IsEitherXorb}
-use Rattle.xet_core_structures.specs.Held.{HoldsLists, IsCut, IsBad}
+use Rattle.xet_core_structures.specs.ShardContents.{HoldsLists, IsTruncated, IsMalformed}
 use Rattle.xet_core_structures.specs.Placed.{PlacesAll, HaveNoListUnion}
-use Rattle.xet_core_structures.specs.Readable.{IsWrittenUnder}
+use Rattle.xet_core_structures.specs.Readable.{IsBytesUnderKey}
 
 -- these are the records of a shard in memory
 pub record PlacesRecords (shard : PlacedShard) (records : Records) : Type 0 where
@@ -47,7 +47,7 @@ pub record PlacesShard (bytes : List ℕ) (info : MDBShardInfo) (shard : PlacedS
 -- why sections are not read from memory
 abbrev pub SectionsRefusal : List ℕ → MDBShardInfo → CoreError → Type 0
 SectionsRefusal bytes info e =
-    (e ≡ OutOfMemory) ⊎ (IsEndOfInput e × IsCut bytes info) ⊎ (IsInvalidShard e × IsBad bytes info)
+    (e ≡ OutOfMemory) ⊎ (IsEndOfInput e × IsTruncated bytes info) ⊎ (IsInvalidShard e × IsMalformed bytes info)
 
 -- files or xorbs have no union within the rows of a section
 abbrev pub HaveNoRecordUnion : Records → Records → Type 0
@@ -59,7 +59,7 @@ HaveNoRecordUnion one other =
 pub record IsUnited (bytes : List ℕ) (info : MDBShardInfo) (shard : PlacedShard) : Type 0 where
   pub union : Shard
   pub info_is : info ≡ keyed_info union shard.key
-  pub written : IsWrittenUnder shard.key union bytes info
+  pub written : IsBytesUnderKey shard.key union bytes info
   pub files : PlacesAll file_records shard.files.items (values union.files)
   pub xorbs : PlacesAll xorb_records shard.xorbs.items (values union.xorbs)
 

@@ -8,14 +8,15 @@ use Rattle.xet_base.specs.Source.{Source}
 use Rattle.xet_records.specs.declared.record_reader.FormatVersion.{FormatVersion}
 use Rattle.xet_records.specs.RecordKind.{RecordKind, in_version}
 use Rattle.xet_records.specs.Reading.{ReadsRowsAfter}
-use Rattle.xet_shards.specs.InForm.{Ascends}
+use Rattle.xet_shards.specs.WithOptions.{Ascends}
 use Rattle.xet_shards.specs.Section.{total_rows}
-use Rattle.xet_shards.specs.SectionReading.{TakesSection}
+use Rattle.xet_shards.specs.SectionReading.{StreamsSection}
 use Rattle.xet_core_structures.specs.declared.set_operations.placed.PlacedRecord.{PlacedRecord}
-use Rattle.xet_core_structures.specs.declared.set_operations.placed.Turn.{Turn}
-use Rattle.xet_core_structures.specs.declared.set_operations.placed.Turn.TheVariants.{End, Keep, Nothing}
-use Rattle.xet_core_structures.specs.Combining.{key_of_record, Combines}
-use Rattle.xet_core_structures.specs.SideBySide.{IsRecordHeader}
+use Rattle.xet_core_structures.specs.declared.set_operations.placed.MergeStep.{MergeStep}
+use Rattle.xet_core_structures.specs.declared.set_operations.placed.MergeStep.TheVariants.{End, Keep, Nothing}
+use Rattle.xet_core_structures.specs.RecordPairs.{key_of_record, Combines}
+use Rattle.xet_core_structures.specs.MergeJoin.{IsRecordHeader}
+use Rattle.xet_records.specs.Limits.{MAX_ROWS}
 
 -- bytes begin with others
 abbrev pub BeginsWith : List ℕ → List ℕ → Type 0
@@ -24,7 +25,7 @@ BeginsWith bytes front = (rest : List ℕ) × (bytes ≡ front ++ rest)
 -- rows are counted exactly, or are more than a section has
 abbrev pub CountsRows : ℕ → ℕ → Type 0
 CountsRows total counted =
-    (counted ≡ total) ⊎ ((4294967295 < total) × (4294967295 < counted))
+    (counted ≡ total) ⊎ ((MAX_ROWS < total) × (MAX_ROWS < counted))
 
 module _ {H R : Type 0} (K : RecordKind H R) where
   -- a header, and bytes from the rows after it on, are those of a record, as reading returns it
@@ -37,9 +38,9 @@ module _ {H R : Type 0} (K : RecordKind H R) where
   PlacesAll = AllZip Places
 
   -- the section of a source was read, its hashes strictly ascend, and these are its records
-  abbrev pub TakesPlaced : FormatVersion → Source → Source → List (PlacedRecord H) → Type 0
-  TakesPlaced version old new placed =
-      (found : List R) × TakesSection (in_version K version) old new found × Ascends K found
+  abbrev pub ReadsPlaced : FormatVersion → Source → Source → List (PlacedRecord H) → Type 0
+  ReadsPlaced version old new placed =
+      (found : List R) × StreamsSection (in_version K version) old new found × Ascends K found
       × PlacesAll placed found
 
   -- these are the records of a list of records in place, and their hashes strictly ascend
@@ -78,10 +79,10 @@ module _ {H R : Type 0} (K : RecordKind H R) where
           → MakesPlaced g h p → KeepsNext ps qs p xs ys
 
     -- what comes next of the union of two lists, of which these places are reached
-    abbrev pub IsTurn : List (PlacedRecord H) → ℕ → List (PlacedRecord H) → ℕ → Turn H → Type 0
-    IsTurn ps i qs j End = (drop i ps ≡ []) × (drop j qs ≡ [])
-    IsTurn ps i qs j (Keep p n m) = KeepsNext (drop i ps) (drop j qs) p (drop n ps) (drop m qs)
-    IsTurn ps i qs j Nothing =
+    abbrev pub IsMergeStep : List (PlacedRecord H) → ℕ → List (PlacedRecord H) → ℕ → MergeStep H → Type 0
+    IsMergeStep ps i qs j End = (drop i ps ≡ []) × (drop j qs ≡ [])
+    IsMergeStep ps i qs j (Keep p n m) = KeepsNext (drop i ps) (drop j qs) p (drop n ps) (drop m qs)
+    IsMergeStep ps i qs j Nothing =
         (g h : PlacedRecord H) × (gs hs : List (PlacedRecord H)) × (drop i ps ≡ g ∷ gs)
         × (drop j qs ≡ h ∷ hs) × (hash_at g ≡ hash_at h) × MakesNothing g h
 
@@ -89,6 +90,6 @@ module _ {H R : Type 0} (K : RecordKind H R) where
     -- with one hash that have none
     abbrev pub HaveNoListUnion : List R → List R → Type 0
     HaveNoListUnion xs ys =
-        ((zs : List R) × Combines K makes xs ys zs × (4294967295 < total_rows K zs))
+        ((zs : List R) × Combines K makes xs ys zs × (MAX_ROWS < total_rows K zs))
         ⊎ ((r s : R) × Contains xs r × Contains ys s × (key_of_record K r ≡ key_of_record K s)
         × ((t : Option R) → ¬ makes (Some r) (Some s) t))

@@ -8,33 +8,33 @@ use Rattle.xet_records.specs.RecordKind.{RecordKind}
 use Rattle.xet_records.specs.FileRecord.{file_records}
 use Rattle.xet_records.specs.XorbRecord.{xorb_records}
 use Rattle.xet_shards.specs.declared.shard_format.info.MDBShardInfo.{MDBShardInfo}
-use Rattle.xet_shards.specs.Ends.{HasEnds}
-use Rattle.xet_shards.specs.InForm.{FitsSection, Ascends, IsInForm}
+use Rattle.xet_shards.specs.Ends.{HasHeaderAndFooter}
+use Rattle.xet_shards.specs.WithOptions.{FitsSection, Ascends, IsBytesWithOptions}
 use Rattle.xet_shards.specs.Shard.{Shard}
 use Rattle.xet_shards.specs.Tables.{hash_in}
-use Rattle.xet_core_structures.specs.ByteResults.{keyed_form, key_of, HaveResult}
+use Rattle.xet_core_structures.specs.ByteResults.{keyed_options, key_of, HaveResult}
 
 -- the records of a map, each under its hash, may be written as a section, and reading it returns
 -- them as they are
 pub record AreReadable {H R : Type 0} (K : RecordKind H R) (m : FinMap hash_cmp R) : Type 0 where
   pub keyed : All (λ e. e.0 ≡ hash_in K e.1) (entries m)
   pub fits : FitsSection K (values m)
-  pub unchanged : All (λ r. K.handed_out r ≡ r) (values m)
+  pub unchanged : All (λ r. K.as_read r ≡ r) (values m)
 
 -- the bytes of a shard under a key, with all tables, and the header and the footer in them
-pub record IsWrittenUnder (key : DataHash) (s : Shard) (bytes : List ℕ) (info : MDBShardInfo)
+pub record IsBytesUnderKey (key : DataHash) (s : Shard) (bytes : List ℕ) (info : MDBShardInfo)
     : Type 0 where
   pub files : AreReadable file_records s.files
   pub xorbs : AreReadable xorb_records s.xorbs
   pub files_ascend : Ascends file_records (values s.files)
   pub xorbs_ascend : Ascends xorb_records (values s.xorbs)
-  pub in_form : IsInForm (values s.files) (values s.xorbs) (keyed_form key) bytes info.metadata
-  pub ends : HasEnds bytes info
+  pub with_options : IsBytesWithOptions (values s.files) (values s.xorbs) (keyed_options key) bytes info.metadata
+  pub ends : HasHeaderAndFooter bytes info
 
 -- bytes of the result for two inputs were written, under their key and with all tables, and the
 -- header and the footer in them returned
-abbrev pub WritesInForm : (Shard → Shard → Shard → Type 0) → List ℕ → MDBShardInfo → List ℕ
+abbrev pub WritesReadable : (Shard → Shard → Shard → Type 0) → List ℕ → MDBShardInfo → List ℕ
     → MDBShardInfo → Option (List ℕ) → Option (List ℕ) → MDBShardInfo → Type 0
-WritesInForm IsResult x i y j old new info =
+WritesReadable IsResult x i y j old new info =
     (c : Shard) × (bytes : List ℕ) × HaveResult IsResult x i y j c
-    × IsWrittenUnder (key_of i) c bytes info × Appends old new bytes
+    × IsBytesUnderKey (key_of i) c bytes info × Appends old new bytes

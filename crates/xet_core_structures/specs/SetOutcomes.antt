@@ -3,7 +3,7 @@ use Rattle.std.specs.Prelude.{◌≡◌, ◌⊎◌, ℕ, List, Option, IfOk, OnO
 use Rattle.std.specs.declared.result.Result.{Result}
 use Rattle.xet_base.specs.declared.error.CoreError.{CoreError}
 use Rattle.xet_base.specs.Errors.{CoreResult, IsWriteError, IsInvalidShard}
-use Rattle.xet_base.specs.Table.{Serves}
+use Rattle.xet_base.specs.Table.{NoFailure}
 use Rattle.xet_records.specs.declared.file_structs.MDBFileInfo.{MDBFileInfo}
 use Rattle.xet_records.specs.declared.xorb_structs.MDBXorbInfo.{MDBXorbInfo}
 use Rattle.xet_records.specs.declared.row_copier.CopyFailure.{CopyFailure}
@@ -17,9 +17,9 @@ use Rattle.xet_shards.specs.SetOperations.{IsDifference}
 use Rattle.xet_shards.specs.Shard.{Shard}
 use Rattle.xet_core_structures.specs.ByteUnion.{IsByteUnion}
 use Rattle.xet_core_structures.specs.ByteResults.{key_of, WritesResult, InputsFail, FailsBy, UnionRefusal, DifferenceRefusal, Records, HaveInputs, AreCombined, WritesRecords}
-use Rattle.xet_core_structures.specs.Held.{files_at, xorbs_at, ReadsSections}
-use Rattle.xet_core_structures.specs.Readable.{WritesInForm}
-use Rattle.xet_core_structures.specs.SideBySide.{NoneMade}
+use Rattle.xet_core_structures.specs.ShardContents.{files_at, xorbs_at, ReadsOnlySections}
+use Rattle.xet_core_structures.specs.Readable.{WritesReadable}
+use Rattle.xet_core_structures.specs.MergeJoin.{CannotCombine}
 use Rattle.xet_core_structures.specs.Streams.{Streams}
 
 -- an operation between two states of its sources and its output, with the headers and footers of
@@ -30,11 +30,11 @@ pub record Operates {E : Type 0} (IsResult : Shard → Shard → Shard → Type 
     (i j : MDBShardInfo) (old new : Streams) (result : Result MDBShardInfo E) : Type 0 where
   pub written : MatchResult result
       (WritesResult IsResult old.first.bytes i old.second.bytes j old.out new.out) Fails
-  pub in_form : IfOk result
-      (WritesInForm IsResult old.first.bytes i old.second.bytes j old.out new.out)
+  pub with_options : IfOk result
+      (WritesReadable IsResult old.first.bytes i old.second.bytes j old.out new.out)
   pub costs : OnOk result
-      (ReadsSections i old.first new.first × ReadsSections j old.second new.second)
-  pub serves : OnOk result (Serves old.first new.first × Serves old.second new.second)
+      (ReadsOnlySections i old.first new.first × ReadsOnlySections j old.second new.second)
+  pub no_failure : OnOk result (NoFailure old.first new.first × NoFailure old.second new.second)
   pub sources : (new.first.bytes ≡ old.first.bytes) × (new.second.bytes ≡ old.second.bytes)
   pub widths : IfOk result (λ info. FitsFooter info.metadata)
 
@@ -81,15 +81,15 @@ pub record OperationLaws (IsResult : Shard → Shard → Shard → Type 0)
       (first second result : Records) (old new : Option (List ℕ)) (info : MDBShardInfo)
       → HaveInputs x i y j first second → AreCombined IsFile IsXorb first second result
       → WritesRecords result (key_of i) old new info → WritesResult IsResult x i y j old new info
-  pub in_form : (x : List ℕ) (i : MDBShardInfo) (y : List ℕ) (j : MDBShardInfo)
+  pub with_options : (x : List ℕ) (i : MDBShardInfo) (y : List ℕ) (j : MDBShardInfo)
       (old new : Option (List ℕ)) (info : MDBShardInfo) → FitsFooter info.metadata
-      → WritesResult IsResult x i y j old new info → WritesInForm IsResult x i y j old new info
+      → WritesResult IsResult x i y j old new info → WritesReadable IsResult x i y j old new info
   pub not_read : (x : List ℕ) (i : MDBShardInfo) (y : List ℕ) (j : MDBShardInfo) (e : CoreError)
       → DifferenceRefusal x i y j e → Refusal x i y j e
   pub no_files : (x : List ℕ) (i : MDBShardInfo) (y : List ℕ) (j : MDBShardInfo) (e : CoreError)
       → key_of i ≡ key_of j → IsInvalidShard e
-      → NoneMade file_records (version_of i.header.version) (version_of j.header.version) IsFile
+      → CannotCombine file_records (version_of i.header.version) (version_of j.header.version) IsFile
       (files_at x i) (files_at y j) → Refusal x i y j e
   pub no_xorbs : (x : List ℕ) (i : MDBShardInfo) (y : List ℕ) (j : MDBShardInfo) (e : CoreError)
       → key_of i ≡ key_of j → IsInvalidShard e
-      → NoneMade xorb_records V3 V3 IsXorb (xorbs_at x i) (xorbs_at y j) → Refusal x i y j e
+      → CannotCombine xorb_records V3 V3 IsXorb (xorbs_at x i) (xorbs_at y j) → Refusal x i y j e

@@ -22,15 +22,15 @@ ghost use Rattle.xet_core_structures.specs.declared.set_operations.MergePlan.{Me
 ghost use Rattle.xet_core_structures.specs.ByteResults.{keyed_info, keyed_layout, HaveResult, UnitesBytes};
 ghost use Rattle.xet_core_structures.specs.ByteUnion.{IsByteUnion, HasPartsOf};
 ghost use Rattle.xet_core_structures.specs.Equality.{error_eq, derived_eq, derived_partial_cmp, derived_cmp, derived_input};
-ghost use Rattle.xet_core_structures.specs.ExportTrees.{FitsForm, IsExportOf, shard_as_wanted};
-ghost use Rattle.xet_core_structures.specs.Held.{Holds, HoldsShard, IsReadInOneWay, IsCut, IsBad};
+ghost use Rattle.xet_core_structures.specs.ExportTrees.{FitsOptions, IsExportOf, shard_as_wanted};
+ghost use Rattle.xet_core_structures.specs.ShardContents.{Holds, HoldsShard, IsReadInOneWay, IsTruncated, IsMalformed};
 ghost use Rattle.xet_core_structures.specs.MergeTrees.{HasUnion, TreeWrites, TreeRefusal, HaveXorbs, IsMerge, IsMergeUnder, MergeRefused};
-ghost use Rattle.xet_core_structures.specs.Readable.{IsWrittenUnder};
+ghost use Rattle.xet_core_structures.specs.Readable.{IsBytesUnderKey};
 ghost use Rattle.xet_records.specs.declared.file_structs.MDBFileInfo.{MDBFileInfo};
 ghost use Rattle.xet_shards.specs.declared.shard_format.info.MDBShardInfo.{MDBShardInfo};
 ghost use Rattle.xet_shards.specs.Ends.{Loads};
 ghost use Rattle.xet_shards.specs.KeyedShards.{keyed_shard};
-ghost use Rattle.xet_shards.specs.declared.shard_format.form.Form.{Form};
+ghost use Rattle.xet_shards.specs.declared.shard_format.options.LayoutOptions.{LayoutOptions};
 ghost use Rattle.xet_shards.specs.Layout.{layout, layout_of};
 ghost use Rattle.xet_shards.specs.Lookup.{LooksUpFile, FindsInShard};
 ghost use Rattle.xet_shards.specs.Names.{shard_name, NamesShard};
@@ -39,7 +39,7 @@ ghost use Rattle.xet_shards.specs.declared.shard_format.xorb_writer.ChunkTableRo
 ghost use Rattle.xet_shards.specs.Section.{total_rows};
 ghost use Rattle.xet_shards.specs.Shard.{Shard, IsShard, empty_shard, file_hash_of, xorb_hash_of};
 ghost use Rattle.xet_shards.specs.Tables.{chunk_table_row_cmp, chunk_table_rows, chunk_table, starts, records_below};
-ghost use Rattle.xet_shards.specs.SetOperations.{IsUnion, IsDifference, ShardsAgree, HasFewRows, CanUnite};
+ghost use Rattle.xet_shards.specs.SetOperations.{IsUnion, IsDifference, ShardsAgree, RowsFitU32, CanUnite};
 ghost use Rattle.xet_shards.specs.Joins.{IsJoinOf, AgreePairwise};
 ghost use Rattle.xet_shards.specs.WrittenShard.{HasFilesIn, IsBytesOf, IsBytesWithInfo, IsBytesWithoutExpiry};
 
@@ -82,7 +82,7 @@ pub fn joins_exist()
         → IsJoinOf (Contains xs) a → IsJoinOf (Contains ys) b → IsUnion a b c
         → IsJoinOf (Contains (xs ++ ys)) c }
     ensures few { (xs ys : List Shard) → (a c : Shard) → IsJoinOf (Contains xs) a
-        → IsJoinOf (Contains (xs ++ ys)) c → HasFewRows c → HasFewRows a }
+        → IsJoinOf (Contains (xs ++ ys)) c → RowsFitU32 c → RowsFitU32 a }
 {}
 
 /// The union of three shards is the same in either grouping.
@@ -111,7 +111,7 @@ pub fn empty_and_differences_are_shards()
 /// Shards that agree can be united if the rows of their union fit `u32`.
 pub fn agreeing_shards_unite()
     ensures { (a b : Shard) → IsShard a → IsShard b → ShardsAgree a b
-        → ((c : Shard) → IsUnion a b c → HasFewRows c) → CanUnite a b }
+        → ((c : Shard) → IsUnion a b c → RowsFitU32 c) → CanUnite a b }
 {}
 
 /// A shard that agrees with each of two agrees with their union.
@@ -206,17 +206,18 @@ pub fn errors_are_equal_by_variant()
 /// whether their inputs agree or not. From such bytes `load_from_reader` reads the header and the
 /// footer that were returned, and a file lookup finds what the shard has, within bounds. The xorbs
 /// of a union are well-formed, as queries for chunks require, if those of both inputs are; those of
-/// a difference, if the second's are; and those of a tree, if those of the inputs at its leaves are.
+/// a difference, if the second's are; and those of a tree, if those of the inputs at its leaves
+/// are.
 pub fn lookups_on_results()
     ensures trees { (inputs : List (List ℕ)) → (plan : MergePlan) → (bytes : List ℕ) → HasUnion plan
         → TreeWrites inputs plan bytes
-        → (key : DataHash) × (c : Shard) × IsWrittenUnder key c bytes (keyed_info c key) }
+        → (key : DataHash) × (c : Shard) × IsBytesUnderKey key c bytes (keyed_info c key) }
     ensures loaded { (key : DataHash) → (c : Shard) → (info found : MDBShardInfo)
-        → (old new : Source) → IsWrittenUnder key c old.bytes info → Loads old new found
+        → (old new : Source) → IsBytesUnderKey key c old.bytes info → Loads old new found
         → found ≡ info }
     ensures files { (key : DataHash) → (c : Shard) → (info : MDBShardInfo) → (hash : DataHash)
         → (old new : Source) → (found : Result (Option MDBFileInfo) CoreError)
-        → IsWrittenUnder key c old.bytes info → LooksUpFile info hash old new found
+        → IsBytesUnderKey key c old.bytes info → LooksUpFile info hash old new found
         → FindsInShard c hash old new found }
     ensures union_xorbs { (x y : List ℕ) → (i j : MDBShardInfo) → (c : Shard)
         → (have : HaveResult IsByteUnion x i y j c) → All IsXorb (values have.first.xorbs)
@@ -226,10 +227,10 @@ pub fn lookups_on_results()
         → All IsXorb (values c.xorbs) }
     ensures tree_xorbs { (inputs : List (List ℕ)) → (plan : MergePlan) → (key : DataHash)
         → (c : Shard) → (bytes : List ℕ) → (info : MDBShardInfo) → HaveXorbs inputs plan
-        → TreeWrites inputs plan bytes → IsWrittenUnder key c bytes info
+        → TreeWrites inputs plan bytes → IsBytesUnderKey key c bytes info
         → All IsXorb (values c.xorbs) }
     ensures held { (key : DataHash) → (c : Shard) → (bytes : List ℕ) → (info : MDBShardInfo)
-        → IsWrittenUnder key c bytes info → Holds bytes info c }
+        → IsBytesUnderKey key c bytes info → Holds bytes info c }
 {}
 
 /// The inputs at the leaves of a tree with a union hold shards that agree pairwise, without a key.
@@ -249,17 +250,17 @@ pub fn lookups_on_trees()
 
 /// A union reads the key and the sections of its inputs, and nothing else: so any bytes that hold
 /// shards that agree pairwise, under one key, merge by any tree with a union to the layout of their
-/// join under this key, whatever tables, timestamps and sums they have (`bytes`). It refuses only if
-/// an allocation fails or the join has too many rows (`refusals`). Such bytes are those of a shard
-/// in either version (`written`), its layout in any form whose version has its files (`forms`), and
-/// its exports under the key, in either version, with any tables and timestamps (`exports`); and
-/// what a tree writes is such again (`again`).
+/// join under this key, whatever tables, timestamps and sums they have (`bytes`). It refuses only
+/// if an allocation fails or the join has too many rows (`refusals`). Such bytes are those of a
+/// shard in either version (`written`), its layout with any options whose version has its files
+/// (`any_options`), and its exports under the key, in either version, with any tables and
+/// timestamps (`exports`); and what a tree writes is such again (`again`).
 pub fn trees_of_held_shards()
     ensures written { (s : Shard) → (bytes : List ℕ) → IsBytesOf s bytes
         → HoldsShard no_key s bytes }
-    ensures forms { (s : Shard) → (form : Form) → IsShard s → HasFilesIn form.version s
-        → FitsForm form
-        → HoldsShard form.key s (layout_of (values s.files) (values s.xorbs) form) }
+    ensures any_options { (s : Shard) → (options : LayoutOptions) → IsShard s → HasFilesIn options.version s
+        → FitsOptions options
+        → HoldsShard options.key s (layout_of (values s.files) (values s.xorbs) options) }
     ensures exports { (aux : Bool) → (key : DataHash) → (s : Shard) → (bytes : List ℕ)
         → IsShard s → IsExportOf aux key s bytes
         → HoldsShard key (keyed_shard key (shard_as_wanted aux s)) bytes }
@@ -278,10 +279,10 @@ pub fn trees_of_held_shards()
 {}
 
 /// A reader of a section finds one thing in bytes: a list of records with a bookend after them, or
-/// an end before that, or a header that is refused, of a record with too many rows or, in version 2,
-/// with an auxiliary row. So bytes hold at most one shard (`holds`), and a set operation does not
-/// refuse its sections (`whole`). In bytes that it refuses, an early end or something invalid comes
-/// first, and not the other too (`first`).
+/// an end before that, or a header that is refused, of a record with too many rows or, in version
+/// 2, with an auxiliary row. So bytes hold at most one shard (`holds`), and a set operation does
+/// not refuse its sections (`whole`). In bytes that it refuses, an early end or something invalid
+/// comes first, and not the other too (`first`).
 pub fn sections_are_read_in_one_way()
     ensures files { (version : FormatVersion) → (bytes : List ℕ)
         → IsReadInOneWay (file_records_in version) bytes }
@@ -289,9 +290,9 @@ pub fn sections_are_read_in_one_way()
     ensures holds { (bytes : List ℕ) → (info : MDBShardInfo) → (s t : Shard)
         → Holds bytes info s → Holds bytes info t → s ≡ t }
     ensures whole { (bytes : List ℕ) → (info : MDBShardInfo) → (s : Shard) → Holds bytes info s
-        → (¬ IsCut bytes info) × (¬ IsBad bytes info) }
-    ensures first { (bytes : List ℕ) → (info : MDBShardInfo) → IsCut bytes info
-        → ¬ IsBad bytes info }
+        → (¬ IsTruncated bytes info) × (¬ IsMalformed bytes info) }
+    ensures first { (bytes : List ℕ) → (info : MDBShardInfo) → IsTruncated bytes info
+        → ¬ IsMalformed bytes info }
 {}
 
 /// Two shards have at most one union of the kind that `shard_set_union` writes and at most one

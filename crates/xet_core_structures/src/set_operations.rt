@@ -33,10 +33,10 @@ use xet_shards::shard_format::MDBShardInfo;
 
 /// Writes the union of two shards, each of either version, in version 3: header, sections, lookup
 /// tables and footer, with the key of both, creation 0 and no expiry. Returns the header and the
-/// footer, as `load_from_reader` reads them from these bytes. Of the inputs' footers it uses the key
-/// and the offsets of the sections, and it reads each section once, by one seek. Each row is written
-/// as it is read, and only the rows of the lookup tables are held. So the output may be begun when
-/// the call fails.
+/// footer, as `load_from_reader` reads them from these bytes. Of the inputs' footers it uses the
+/// key and the offsets of the sections, and it reads each section once, by one seek. Each row is
+/// written as it is read, and only the rows of the lookup tables are held. So the output may be
+/// begun when the call fails.
 ///
 /// Of two files with one hash it takes the record whose flags have all bits of the other's, the
 /// first's if both have the same; else the first's segments with each optional part from the first
@@ -45,9 +45,9 @@ use xet_shards::shard_format::MDBShardInfo;
 /// `InvalidArguments` if the keys differ, before anything is read or written. `UnexpectedEof` if a
 /// section ends before its bookend, `InvalidShard` if its version does not have the header of a
 /// file, its rows pass 4294967295 or its hashes do not strictly ascend. `InvalidShard` too if files
-/// that have to be combined differ in their count of segments, or the rows of a section of the union
-/// pass 4294967295. Of several faults of an input, the one that reading meets first is answered. Else
-/// the error is a device's, or `OutOfMemory` if an allocation fails.
+/// that have to be combined differ in their count of segments, or the rows of a section of the
+/// union pass 4294967295. Of several faults of an input, the one that reading meets first is
+/// answered. Else the error is a device's, or `OutOfMemory` if an allocation fails.
 pub fn shard_set_union<S: ShardSource, T: ShardSource, W: Write>(
     alloc: Global,
     s1: &MDBShardInfo,
@@ -107,9 +107,9 @@ pub enum MergePlan {
 /// repetition of its leaves.
 ///
 /// The error is that of the first leaf or union that fails, left sides first: `InvalidArguments` if
-/// a leaf has no input; of a union `ShardVersion` or `UnexpectedEof` if the header or the footer of a
-/// side is unsupported or cut short, or an error of `shard_set_union`. `OutOfMemory` if an allocation
-/// fails. A leaf that no union reads is copied, whatever it is.
+/// a leaf has no input; of a union `ShardVersion` or `UnexpectedEof` if the header or the footer of
+/// a side is unsupported or truncated, or an error of `shard_set_union`. `OutOfMemory` if an
+/// allocation fails. A leaf that no union reads is copied, whatever it is.
 pub fn shard_union_tree(alloc: Global, plan: &MergePlan, inputs: &[&[u8]]) -> Result<Vec<u8>>
     ensures any_bytes { MatchResult result
         (λ bytes. TreeWrites (map (λ x. x.now) inputs.now) plan.now bytes.items)
@@ -121,9 +121,9 @@ pub fn shard_union_tree(alloc: Global, plan: &MergePlan, inputs: &[&[u8]]) -> Re
     merge(alloc, plan, inputs)
 }
 
-/// Writes the bytes that [`shard_union_tree`] makes to the front of a slice, if they fit, and returns
-/// their number. If they don't, or if the call fails, the slice stays as it is. The errors are the
-/// same.
+/// Writes the bytes that [`shard_union_tree`] makes to the front of a slice, if they fit, and
+/// returns their number. If they don't, or if the call fails, the slice stays as it is. The errors
+/// are the same.
 pub fn shard_union_tree_into(
     alloc: Global,
     plan: &MergePlan,
@@ -139,8 +139,8 @@ pub fn shard_union_tree_into(
     merge_into(alloc, plan, inputs, out)
 }
 
-// The same, without the clause on inputs that agree. No byte is written before the tree is done. The
-// inputs have one lifetime, since the borrow checker covers no meet of theirs with the arena's.
+// The same, without the clause on inputs that agree. No byte is written before the tree is done.
+// The inputs have one lifetime, since the borrow checker covers no meet of theirs with the arena's.
 fn merge<'a>(alloc: Global, plan: &MergePlan, inputs: &'a [&'a [u8]]) -> Result<Vec<u8>>
     ensures { MatchResult result
         (λ bytes. TreeWrites (map (λ x. x.now) inputs.now) plan.now bytes.items)

@@ -20,16 +20,16 @@ use Rattle.xet_records.proofs.Parts.{Holds, length-part_of, parts-of-rows, holds
 use Rattle.xet_records.proofs.Reading.{no_rows, more_rows, length-read}
 use Rattle.xet_records.proofs.RecordKinds.{parts_after}
 
-module _ {T : Type 0} (row_bytes : T → List ℕ) (Fits : T → Type 0) (handed : T → T) where
-  pub none_copied : (Took : List ℕ → Type 0) (old : Option (List ℕ)) → Took [] → CopiesRows row_bytes Fits handed Took old old 0 []
-  none_copied Took old nothing = record { read = no_rows row_bytes Fits handed Took nothing; written = Appends-nil old }
+module _ {T : Type 0} (row_bytes : T → List ℕ) (Fits : T → Type 0) (returned : T → T) where
+  pub none_copied : (Took : List ℕ → Type 0) (old : Option (List ℕ)) → Took [] → CopiesRows row_bytes Fits returned Took old old 0 []
+  none_copied Took old nothing = record { read = no_rows row_bytes Fits returned Took nothing; written = Appends-nil old }
 
   -- after rows that were copied, and a row that was copied after them
   pub more_copied : (First Next Both : List ℕ → Type 0) (start now new : Option (List ℕ)) (n : ℕ) (rows : List T) (row : T)
-      → ((xs ys : List ℕ) → First xs → Next ys → Both (xs ++ ys)) → CopiesRows row_bytes Fits handed First start now n rows
-      → CopiesRow row_bytes Fits handed Next now new row → CopiesRows row_bytes Fits handed Both start new (n + 1) (rows ++ row ∷ [])
+      → ((xs ys : List ℕ) → First xs → Next ys → Both (xs ++ ys)) → CopiesRows row_bytes Fits returned First start now n rows
+      → CopiesRow row_bytes Fits returned Next now new row → CopiesRows row_bytes Fits returned Both start new (n + 1) (rows ++ row ∷ [])
   more_copied First Next Both start now new n rows row joins before last = record {
-    read = more_rows row_bytes Fits handed First Next Both n rows row joins before.read last.read;
+    read = more_rows row_bytes Fits returned First Next Both n rows row joins before.read last.read;
     written = subst (Appends start new)
         (ap (λ bs. flat_map row_bytes rows ++ bs) (sym (append-nil (row_bytes row))) ∙ sym (flat_map-append row_bytes rows (row ∷ [])))
         (Appends-trans start now new (flat_map row_bytes rows) (row_bytes row) before.written last.written);

@@ -4,7 +4,7 @@ use Rattle.std.specs.Prelude.{All, map}
 use Rattle.std.proofs.Math.Seq.{take-add}
 use Rattle.std.proofs.lemmas.List.{length-drop, drop-drop, take_all}
 use Rattle.std.proofs.lemmas.List.Elements.{All-cons, All-nil}
-use Rattle.xet_base.specs.Bytes.{AreBytes, Passes}
+use Rattle.xet_base.specs.Bytes.{AreBytes, ReadsThrough}
 use Rattle.xet_base.proofs.Bytes.{drop-bytes}
 use Rattle.xet_records.specs.Decoding.{rows_at}
 use Rattle.xet_records.specs.Rows.{Spells, ReadsRows}
@@ -30,20 +30,20 @@ module _ {T : Type 0} (row_bytes : T → List ℕ) (Fits : T → Type 0) (row_at
       }
 
   -- so many times 48 bytes that an input passed are those of stored rows
-  pub rows_passed : (handed_out : T → T) (Took : List ℕ → Type 0) (count : ℕ) → Passes Took (48 * count)
-      → (rows : List T) × ReadsRows row_bytes Fits handed_out Took count rows
-  rows_passed handed_out Took count passes =
+  pub rows_passed : (as_read : T → T) (Took : List ℕ → Type 0) (count : ℕ) → ReadsThrough Took (48 * count)
+      → (rows : List T) × ReadsRows row_bytes Fits as_read Took count rows
+  rows_passed as_read Took count passes =
       let stored = rows_at row_at count passes.passed in
       let rows = rows_spelled count passes.passed passes.bytes (omega (arith, passes.len)) in
       let same : flat_map row_bytes stored ≡ passes.passed = rows.rows_are ∙ take_all (48 * count) passes.passed (omega (arith, passes.len)) in (
-        map handed_out stored,
+        map as_read stored,
         record {
           stored = stored;
           len = rows.len;
           widths = rows.fit;
           size = ap length same ∙ passes.len;
           taken = subst Took (sym same) passes.taken;
-          handed = refl;
+          returned = refl;
         },
       )
 

@@ -8,7 +8,7 @@ use Rattle.std.proofs.lemmas.Bool.Decides.{nat_tests}
 use Rattle.xet_records.specs.declared.file_structs.part.OptionalPart.{OptionalPart}
 use Rattle.xet_records.specs.declared.file_structs.part.OptionalPart.TheVariants.{Verification, MetadataExt, AuxExt}
 use Rattle.xet_records.specs.Part.{bit_of, announces}
-use Rattle.xet_records.specs.Merging.{Includes}
+use Rattle.xet_records.specs.Merging.{IncludesBits}
 
 masked_bit : (b k : ℕ) → b < 2 → 0 < k → not (nat_eq (b * k) 0) ≡ nat_eq b 1
 masked_bit b k small above = grind (arith, nat_tests)
@@ -42,18 +42,18 @@ bits_in_common x zero small in_x = omega arith
 bits_in_common x (suc zero) small in_x = ap (λ n. min n 1) (in_x refl)
 bits_in_common x (suc (suc y)) small in_x = omega arith
 
-pub included_if_common : (a b : ℕ) → bit_and a b ≡ b → Includes a b
+pub included_if_common : (a b : ℕ) → bit_and a b ≡ b → IncludesBits a b
 included_if_common a b common i low set =
     omega (arith, bit_at_and a b i, ap (λ n. bit_at n i) common, set, bit_at-lt a i)
 
-pub common_if_included : (a b : ℕ) → b < 2 ^ 32 → Includes a b → bit_and a b ≡ b
+pub common_if_included : (a b : ℕ) → b < 2 ^ 32 → IncludesBits a b → bit_and a b ≡ b
 common_if_included a b b_fits included =
     same_from_bits_below 32 (bit_and a b) b (omega (arith, and_le_r a b)) b_fits
     (λ i low. bit_at_and a b i ∙ bits_in_common (bit_at a i) (bit_at b i) (bit_at-lt b i) (included i low))
 
 -- the same for the other of the two
-pub included_if_common_l : (a b : ℕ) → bit_and a b ≡ a → Includes b a
+pub included_if_common_l : (a b : ℕ) → bit_and a b ≡ a → IncludesBits b a
 included_if_common_l a b common = included_if_common b a (and_comm b a ∙ common)
 
-pub common_if_included_l : (a b : ℕ) → a < 2 ^ 32 → Includes b a → bit_and a b ≡ a
+pub common_if_included_l : (a b : ℕ) → a < 2 ^ 32 → IncludesBits b a → bit_and a b ≡ a
 common_if_included_l a b a_fits included = and_comm a b ∙ common_if_included b a a_fits included

@@ -1,7 +1,7 @@
 pub mod Copying
 pub mod Decoding
 pub mod Flags
-pub mod Handed
+pub mod RecordsAsRead
 pub mod Lengths
 pub mod Parts
 pub mod Processing

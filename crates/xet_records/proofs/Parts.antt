@@ -14,7 +14,7 @@ use Rattle.xet_records.specs.declared.file_structs.rows.HashRow.{HashRow}
 use Rattle.xet_records.specs.declared.file_structs.MDBFileInfo.{MDBFileInfo}
 use Rattle.xet_records.specs.FileRow.{clear}
 use Rattle.xet_records.specs.Part.{parts, parts_before, part_rows, rows_before, optional_rows_after, rows_of, optional_rows, with_parts, part_of}
-use Rattle.xet_records.specs.FileRecord.{FitsItsHeader, handed_out}
+use Rattle.xet_records.specs.FileRecord.{FitsItsHeader, as_read}
 use Rattle.xet_records.specs.View.{keeping}
 
 -- a fact for each part
@@ -170,8 +170,8 @@ All-parts P rows each = all parts
     all (part ∷ ps) = All-append P (rows part) (flat_map rows ps) (each part) (all ps)
 
 -- the rows of a record as reading returns it
-pub rows_of-handed : (r : MDBFileInfo) (part : OptionalPart) → rows_of part (handed_out r) ≡ map clear (rows_of part r)
-rows_of-handed r part =
+pub rows_of-returned : (r : MDBFileInfo) (part : OptionalPart) → rows_of part (as_read r) ≡ map clear (rows_of part r)
+rows_of-returned r part =
     rows_of-with_parts r.metadata r.segments (λ p. map clear (rows_of p r))
     (λ p. holds_as_many p (rows_of p r) (map clear (rows_of p r)) (omega (arith, length-map (rows_of p r) clear)) (held r p)) part
 
@@ -195,9 +195,9 @@ rows_of-keeping stays h r part =
     (λ p. holds_as_many p (rows_of p r) (if stays p then rows_of p r else []) (fewer (stays p) (rows_of p r)) (held r p)) part
 
 -- an optional row as reading returns it
-pub row-handed : (row : Option HashRow) → slice_get (map clear (option_to_list row)) 0 ≡ option_map clear row
-row-handed None = refl
-row-handed (Some row) = refl
+pub row-returned : (row : Option HashRow) → slice_get (map clear (option_to_list row)) 0 ≡ option_map clear row
+row-returned None = refl
+row-returned (Some row) = refl
 
 -- an optional row that is one of two
 pub either_row : (b : Bool) (x y : Option HashRow) → slice_get (if b then option_to_list x else option_to_list y) 0 ≡ (if b then x else y)

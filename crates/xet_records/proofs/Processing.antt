@@ -10,8 +10,8 @@ use Rattle.xet_base.specs.declared.error.CoreError.{CoreError}
 use Rattle.xet_base.specs.Errors.{CoreResult}
 use Rattle.xet_base.specs.Input.{ReaderFails}
 use Rattle.xet_records.specs.RecordKind.{RecordKind, KindLaws}
-use Rattle.xet_records.specs.Reading.{Stops}
-use Rattle.xet_records.specs.Reading.Stops.{no_header, refused_header, no_rows}
+use Rattle.xet_records.specs.Reading.{NextRecordNotRead}
+use Rattle.xet_records.specs.Reading.NextRecordNotRead.{no_header, refused_header, no_rows}
 use Rattle.xet_records.specs.ViewReading.{CountsStored}
 use Rattle.xet_records.specs.Processing.{HasProcessed, ProcessesSection, RefusesRecord, StopsReading, Processes}
 
@@ -39,8 +39,8 @@ module _ {H R V F : Type 0} (K : RecordKind H R) (laws : KindLaws K) (record_of 
 -- what is said of an input's states, of what a function makes of them
 module _ {H R V F I J : Type 0} (K : RecordKind H R) (record_of : V → R) (view : I → J) (reads : J → J → List ℕ → Type 0) (fails : J → J → ℕ → CoreError → Type 0)
     (step : F → V → CoreResult (Unit {0}) → F → Type 0) where
-  stops_seen : (left : ℕ) (old new : I) (e : CoreError) → Stops K (λ a b xs. reads (view a) (view b) xs) (λ a b n f. fails (view a) (view b) n f) left old new e
-      → Stops K reads fails left (view old) (view new) e
+  stops_seen : (left : ℕ) (old new : I) (e : CoreError) → NextRecordNotRead K (λ a b xs. reads (view a) (view b) xs) (λ a b n f. fails (view a) (view b) n f) left old new e
+      → NextRecordNotRead K reads fails left (view old) (view new) e
   stops_seen left old new e (no_header failed) = no_header failed
   stops_seen left old new e (refused_header h read refused bare) = refused_header h read refused bare
   stops_seen left old new e (no_rows h mid after begun failed) = no_rows h (view mid) after begun failed

@@ -21,13 +21,13 @@ use Rattle.xet_records.specs.FileRow.{header_row, segment_row, hash_row, FitsSeg
 use Rattle.xet_records.specs.Rows.{ReadsRows, ReadsOptional}
 use Rattle.xet_records.specs.XorbRow.{chunk_row, FitsChunk}
 use Rattle.xet_records.specs.Part.{parts, announces, part_rows, optional_rows_after, rows_of, optional_rows, with_parts, part_of}
-use Rattle.xet_records.specs.FileRecord.{rows_after, file_record_bytes, file_rows_bytes, handed_out, file_records}
+use Rattle.xet_records.specs.FileRecord.{rows_after, file_record_bytes, file_rows_bytes, as_read, file_records}
 use Rattle.xet_records.specs.XorbRecord.{xorb_record_bytes, xorb_records}
 use Rattle.xet_records.specs.Reading.{ReadsRowsAfter, ReadsRecord, BeginsWithHeader, BeginsWithBookend, BeginsRefused, EndsEarly}
 use Rattle.xet_records.specs.Reading.IsRefused.{not_allowed, too_many_rows}
-use Rattle.xet_records.proofs.Handed.{row_count-handed, file_handed}
+use Rattle.xet_records.proofs.RecordsAsRead.{row_count-returned, file_handed}
 use Rattle.xet_records.proofs.Lengths.{length-header_row, length-file_record_bytes, length-xorb_header_row, length-chunk_rows}
-use Rattle.xet_records.proofs.Parts.{Holds, these_rows, these_counted, rows_of-counted, with_parts-rows_of, part-of-parts, length-part_of, parts-of-rows, holds_announced, rows_of-with_parts, optional_rows-with_parts, same_record, rows_of-handed, part_of-map}
+use Rattle.xet_records.proofs.Parts.{Holds, these_rows, these_counted, rows_of-counted, with_parts-rows_of, part-of-parts, length-part_of, parts-of-rows, holds_announced, rows_of-with_parts, optional_rows-with_parts, same_record, rows_of-returned, part_of-map}
 use Rattle.xet_records.proofs.Reading.{no_rows, length-read, rows_after_rows, optional_read}
 use Rattle.xet_records.proofs.Record.{header_row-front, rows_whole}
 use Rattle.xet_records.proofs.Unique.{record_front}
@@ -48,8 +48,8 @@ file_laws = record {
   is_record = λ r stored. stored.is_file;
   allowed = λ r stored. refl;
   same_header = λ r. refl;
-  same_rows = row_count-handed;
-  handed_stored = file_handed;
+  same_rows = row_count-returned;
+  as_read_stored = file_handed;
   front = record_front;
 }
 
@@ -74,7 +74,7 @@ xorb_laws = record {
   allowed = λ r stored. refl;
   same_header = λ r. refl;
   same_rows = λ r. refl;
-  handed_stored = λ r stored. stored;
+  as_read_stored = λ r stored. stored;
   front = xorb_front;
 }
 
@@ -107,8 +107,8 @@ module _ {H R : Type 0} (K : RecordKind H R) where
     allowed = allowed_in version;
     same_header = laws.same_header;
     same_rows = laws.same_rows;
-    handed_stored = λ r stored. stored_in version (K.handed_out r)
-        (ap (λ (h : H). (in_version K version).refuses h) (laws.same_header r) ∙ allowed_in version r stored) (laws.handed_stored r (stored_ever version r stored));
+    as_read_stored = λ r stored. stored_in version (K.as_read r)
+        (ap (λ (h : H). (in_version K version).refuses h) (laws.same_header r) ∙ allowed_in version r stored) (laws.as_read_stored r (stored_ever version r stored));
     front = λ r s x y r_stored s_stored. laws.front r s x y (stored_ever version r r_stored) (stored_ever version s s_stored);
   }
 
@@ -193,7 +193,7 @@ module _ {H R : Type 0} (K : RecordKind H R) (laws : KindLaws K) where
     rows = subst (λ (h : H). K.rows_after h ≤ 4294967295) (sym read.same_header) few;
     taken = subst Both (ap (λ (h : H). K.header_bytes h ++ K.bytes_after read.stored) (sym read.same_header) ∙ sym (laws.record_bytes_are read.stored))
         (joins (K.header_bytes g) (K.bytes_after read.stored) taken read.taken);
-    handed = read.handed;
+    returned = read.returned;
   }
 
 -- the segments after a file's header, and the rows of its parts after them
@@ -221,8 +221,8 @@ module _ (First Next Whole : List ℕ → Type 0) (joins : (xs ys : List ℕ) �
         size = ap (λ (xs : List HashRow). length (flat_map segment_row s.stored ++ flat_map hash_row xs)) all
             ∙ length-append (flat_map segment_row s.stored) (flat_map hash_row e.stored) ∙ omega (arith, s.size, e.size);
         taken = subst (λ (xs : List HashRow). Whole (flat_map segment_row s.stored ++ flat_map hash_row xs)) (sym all) (joins _ _ s.taken e.taken);
-        handed = same_record (handed_out stored) r refl (sym (map-id s.stored) ∙ s.handed) (λ part.
-            rows_of-handed stored part ∙ ap (map clear) (found part) ∙ sym (part_of-map part h e.stored) ∙ ap (part_of part h) e.handed
+        returned = same_record (as_read stored) r refl (sym (map-id s.stored) ∙ s.returned) (λ part.
+            rows_of-returned stored part ∙ ap (map clear) (found part) ∙ sym (part_of-map part h e.stored) ∙ ap (part_of part h) e.returned
             ∙ part-of-parts (λ p. rows_of p r) h each part);
       }
 
@@ -301,5 +301,5 @@ chunks_after Took g cs read = record {
   is_stored = λ is_xorb fits. record { is_xorb = is_xorb; count = read.len; widths = record { metadata = fits; chunks = read.widths } };
   size = read.size;
   taken = read.taken;
-  handed = λ i. record { metadata = g; chunks = (sym (map-id read.stored) ∙ read.handed) i };
+  returned = λ i. record { metadata = g; chunks = (sym (map-id read.stored) ∙ read.returned) i };
 }

@@ -78,14 +78,14 @@ module _ {T : Type 0} (row_bytes : T → List ℕ) (Fits : T → Type 0) (laws :
       ap (λ n. drop n bytes) (omega arith) ∙ sym (drop-drop (48 * i) (48 * start) bytes)
       ∙ ap (drop (48 * i)) (rest_is (48 * start) bytes has.before (flat_map row_bytes rows ++ has.after) has.start_is has.bytes_are)
 
-  pub row_at_index : (handed_out : T → T) (bytes : List ℕ) (start : ℕ) (rows : List T) (i at : ℕ) (result : T) → HasRows row_bytes Fits bytes start rows
-      → i < length rows → at ≡ start + i → ReadsRow row_bytes Fits handed_out (λ row. row ≡ take 48 (drop (48 * at) bytes)) result
-      → (stored : T) × (slice_get rows i ≡ Some stored) × (handed_out stored ≡ result)
-  row_at_index handed_out bytes start rows i at result has within at_is read = (
+  pub row_at_index : (as_read : T → T) (bytes : List ℕ) (start : ℕ) (rows : List T) (i at : ℕ) (result : T) → HasRows row_bytes Fits bytes start rows
+      → i < length rows → at ≡ start + i → ReadsRow row_bytes Fits as_read (λ row. row ≡ take 48 (drop (48 * at) bytes)) result
+      → (stored : T) × (slice_get rows i ≡ Some stored) × (as_read stored ≡ result)
+  row_at_index as_read bytes start rows i at result has within at_is read = (
     read.stored,
     row_among rows i has.after read.stored has.fit within read.widths
         (read.taken ∙ ap (λ n. take 48 (drop (48 * n) bytes)) at_is ∙ ap (take 48) (there bytes start rows has i)),
-    read.handed,
+    read.returned,
   )
 
   -- the bytes of rows from an index on
@@ -114,10 +114,10 @@ module _ {T : Type 0} (row_bytes : T → List ℕ) (Fits : T → Type 0) (laws :
         bytes_are = has.bytes_are ∙ ap (λ bs. has.before ++ (bs ++ has.after)) parts ∙ simp append_assoc;
       }
 
-  pub rows_from_index : (handed_out : T → T) (bytes : List ℕ) (start : ℕ) (rows : List T) (at count : ℕ) (result : List T) → HasRows row_bytes Fits bytes start rows
-      → at ≡ start → count ≡ length rows → ReadsRows row_bytes Fits handed_out (λ taken. taken ≡ take (48 * count) (drop (48 * at) bytes)) count result
-      → result ≡ map handed_out rows
-  rows_from_index handed_out bytes start rows at count result has at_is count_is read =
+  pub rows_from_index : (as_read : T → T) (bytes : List ℕ) (start : ℕ) (rows : List T) (at count : ℕ) (result : List T) → HasRows row_bytes Fits bytes start rows
+      → at ≡ start → count ≡ length rows → ReadsRows row_bytes Fits as_read (λ taken. taken ≡ take (48 * count) (drop (48 * at) bytes)) count result
+      → result ≡ map as_read rows
+  rows_from_index as_read bytes start rows at count result has at_is count_is read =
       let same : read.stored ≡ rows = (parts_front 48 row_bytes Fits laws.size laws.determined read.stored rows [] [] (read.len ∙ count_is) read.widths has.fit
       (append-nil (flat_map row_bytes read.stored) ∙ read.taken ∙ bytes_of_rows bytes start rows at count has at_is count_is ∙ sym (append-nil (flat_map row_bytes rows)))).0 in
-      sym read.handed ∙ ap (map handed_out) same
+      sym read.returned ∙ ap (map as_read) same

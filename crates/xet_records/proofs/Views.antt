@@ -190,8 +190,8 @@ no_row (Some row) none = absurd (omega (arith, none))
 
 pub the_row : (row : Option HashRow) (stored found : HashRow) → slice_get (option_to_list row) 0 ≡ Some stored
     → clear stored ≡ found → Some found ≡ option_map clear row
-the_row None stored found there handed = cc
-the_row (Some row) stored found there handed = ap Some (sym handed) ∙ ap (option_map clear) (sym there)
+the_row None stored found there returned = cc
+the_row (Some row) stored found there returned = ap Some (sym returned) ∙ ap (option_map clear) (sym there)
 
 pub has_chunks : (header : XorbChunkSequenceHeader) (bytes : List ℕ) (r : MDBXorbInfo) → Shows xorb_records IsWholeXorb header bytes r
     → HasRows chunk_row FitsChunk bytes 1 r.chunks

@@ -12,16 +12,16 @@ use Rattle.xet_records.specs.Reading.{ReadsRowsAfter}
 use Rattle.xet_records.specs.Rows.{ReadsRow, ReadsRows}
 
 -- a row was read, and written as it is returned
-pub record CopiesRow {T : Type 0} (row_bytes : T → List ℕ) (Fits : T → Type 0) (handed_out : T → T)
+pub record CopiesRow {T : Type 0} (row_bytes : T → List ℕ) (Fits : T → Type 0) (as_read : T → T)
     (Took : List ℕ → Type 0) (old new : Option (List ℕ)) (row : T) : Type 0 where
-  pub read : ReadsRow row_bytes Fits handed_out Took row
+  pub read : ReadsRow row_bytes Fits as_read Took row
   pub written : Appends old new (row_bytes row)
 
 -- `count` rows were read, and written as they are returned
 pub record CopiesRows {T : Type 0} (row_bytes : T → List ℕ) (Fits : T → Type 0)
-    (handed_out : T → T) (Took : List ℕ → Type 0) (old new : Option (List ℕ)) (count : ℕ)
+    (as_read : T → T) (Took : List ℕ → Type 0) (old new : Option (List ℕ)) (count : ℕ)
     (rows : List T) : Type 0 where
-  pub read : ReadsRows row_bytes Fits handed_out Took count rows
+  pub read : ReadsRows row_bytes Fits as_read Took count rows
   pub written : Appends old new (flat_map row_bytes rows)
 
 -- the error of a failure, whether the input's or the output's

@@ -9,6 +9,7 @@ use Rattle.xet_records.specs.declared.record_reader.FormatVersion.{FormatVersion
 use Rattle.xet_records.specs.RecordKind.{RecordKind, in_version}
 use Rattle.xet_records.specs.FileRow.{header_row, segment_row, hash_row, FitsHeader, FitsSegment, FitsHashRow, clear}
 use Rattle.xet_records.specs.Part.{announces, flags_of, part_rows, optional_rows_after, rows_of, optional_rows, with_parts}
+use Rattle.xet_records.specs.Limits.{MAX_ROWS}
 
 -- bit 31 of the flags announces one verification row a segment
 abbrev pub has_verification : ℕ → Bool
@@ -63,9 +64,9 @@ pub record IsStored (r : MDBFileInfo) : Type 0 where
   pub whole : FitsItsHeader r
   pub widths : FitsRecord r
 
--- a record as reading hands it out: reserved words of the rows of optional parts are zero
-abbrev pub handed_out : MDBFileInfo → MDBFileInfo
-handed_out r = with_parts r.metadata r.segments (λ part. map clear (rows_of part r))
+-- a record as reading returns it: reserved words of the rows of optional parts are zero
+abbrev pub as_read : MDBFileInfo → MDBFileInfo
+as_read r = with_parts r.metadata r.segments (λ part. map clear (rows_of part r))
 
 -- a record that may be put into a shard
 pub record IsWellFormed (r : MDBFileInfo) : Type 0 where
@@ -79,7 +80,7 @@ pub record IsWellFormed (r : MDBFileInfo) : Type 0 where
   -- the reserved words of the rows of optional parts are zero
   pub clear : All (λ row. row._unused ≡ 0 ∷ 0 ∷ []) (optional_rows r)
   -- the rows, the header included, fit `u32`
-  pub rows : row_count r ≤ 4294967295
+  pub rows : row_count r ≤ MAX_ROWS
   pub widths : FitsRecord r
 
 -- the records of the file section, in version 3
@@ -97,7 +98,7 @@ file_records = record {
   record_bytes = file_record_bytes;
   row_count = row_count;
   IsStored = IsStored;
-  handed_out = handed_out;
+  as_read = as_read;
 }
 
 -- the records of the file section, in a shard of a version

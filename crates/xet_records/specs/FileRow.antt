@@ -53,6 +53,6 @@ pub record FitsHashRow (row : HashRow) : Type 0 where
   pub hash : IsHash row.hash
   pub unused : IsReserved row._unused
 
--- reading hands out a row of an optional part with zero reserved words
+-- reading returns a row of an optional part with zero reserved words
 abbrev pub clear : HashRow → HashRow
 clear row = record row { _unused = 0 ∷ 0 ∷ [] }

@@ -3,6 +3,7 @@ pub mod Decoding
 pub mod DecodingLaws
 pub mod FileRecord
 pub mod FileRow
+pub mod Limits
 pub mod Merging
 pub mod Part
 pub mod Processing

@@ -13,15 +13,15 @@ use Rattle.xet_records.specs.declared.file_structs.part.OptionalPart.{OptionalPa
 use Rattle.xet_records.specs.Part.{announces, flags_of, rows_of, with_parts}
 
 -- each of the 32 bits that is set in `b` is set in `a`
-abbrev pub Includes : ℕ → ℕ → Type 0
-Includes a b = (i : ℕ) → i < 32 → bit_at b i ≡ 1 → bit_at a i ≡ 1
+abbrev pub IncludesBits : ℕ → ℕ → Type 0
+IncludesBits a b = (i : ℕ) → i < 32 → bit_at b i ≡ 1 → bit_at a i ≡ 1
 
 -- how two sets of bits compare
 abbrev pub Compares : ℕ → ℕ → SupersetResult → Type 0
-Compares a b Equal = Includes a b × Includes b a
-Compares a b SuperA = Includes a b × (¬ Includes b a)
-Compares a b SuperB = (¬ Includes a b) × Includes b a
-Compares a b Neither = (¬ Includes a b) × (¬ Includes b a)
+Compares a b Equal = IncludesBits a b × IncludesBits b a
+Compares a b SuperA = IncludesBits a b × (¬ IncludesBits b a)
+Compares a b SuperB = (¬ IncludesBits a b) × IncludesBits b a
+Compares a b Neither = (¬ IncludesBits a b) × (¬ IncludesBits b a)
 
 -- the header of a mix of two records: the flags of the parts that either announces, no others, and
 -- a zero reserved word

@@ -6,8 +6,9 @@ use Rattle.xet_base.specs.declared.error.CoreError.{CoreError}
 use Rattle.xet_base.specs.Errors.{CoreResult}
 use Rattle.xet_base.specs.Input.{ReaderFails}
 use Rattle.xet_records.specs.RecordKind.{RecordKind}
-use Rattle.xet_records.specs.Reading.{ReadsBookend, Stops}
+use Rattle.xet_records.specs.Reading.{ReadsBookend, NextRecordNotRead}
 use Rattle.xet_records.specs.ViewReading.{CountsStored}
+use Rattle.xet_records.specs.Limits.{MAX_ROWS}
 
 -- `step` says what a call of the function with a view returns, and what it makes of the function:
 -- records were read, their rows counted down from 4294967295, and the function was called with each
@@ -18,7 +19,7 @@ pub record HasProcessed {H R V F : Type 0} (K : RecordKind H R) (record_of : V �
   pub given : List V
   pub are_stored : All (λ view. K.IsStored (record_of view)) given
   pub taken : Took (flat_map (λ view. K.record_bytes (record_of view)) given)
-  pub rows : sum_by (λ view. K.row_count (record_of view)) given + left ≡ 4294967295
+  pub rows : sum_by (λ view. K.row_count (record_of view)) given + left ≡ MAX_ROWS
   pub calls : FoldsTo (λ before view after. step before view (Ok tt) after) old given new
 
 -- `reads a b bytes` says that an input read these bytes between its states `a` and `b`, and
@@ -55,7 +56,7 @@ module _ {H R V F I : Type 0} (K : RecordKind H R) (record_of : V → R)
     pub mid : I
     pub left : ℕ
     pub records : HasProcessed K record_of (reads old mid) step first last left
-    pub stops : Stops K reads fails left mid new e
+    pub stops : NextRecordNotRead K reads fails left mid new e
 
 -- processing a section from a reader that has these bytes left, where they are known: every record
 -- was accepted; or one was refused, by the error that is returned; or one was not read

@@ -1,11 +1,12 @@
 -- What the bytes at the front of an input are to a reader of records: a bookend, a whole record, a
--- record that is cut short, or a header that is refused, since the version does not have it or it
+-- record that is truncated, or a header that is refused, since the version does not have it or it
 -- announces too many rows.
 use Rattle.std.specs.Prelude.{◌≡◌, ◌≢◌, ◌⊎◌, ℕ, ◌+◌, ◌*◌, ◌<◌, ◌≤◌, true, false, List, ◌++◌, length, map, flat_map, sum_by, All, Option, MatchOption}
 use Rattle.xet_base.specs.declared.error.CoreError.{CoreError}
 use Rattle.xet_base.specs.Table.{IsBareInvalidShard}
 use Rattle.xet_base.specs.Hash.{all_ones}
 use Rattle.xet_records.specs.RecordKind.{RecordKind}
+use Rattle.xet_records.specs.Limits.{MAX_ROWS}
 
 -- a header with the all-ones hash was read, whatever its other fields
 pub record ReadsBookend {H R : Type 0} (K : RecordKind H R) (Took : List ℕ → Type 0) : Type 0 where
@@ -38,16 +39,16 @@ pub record ReadsRowsAfter {H R : Type 0} (K : RecordKind H R) (header : H) (Took
   pub is_stored : K.hash_of header ≢ all_ones → K.Fits header → K.IsStored stored
   pub size : length (K.bytes_after stored) ≡ 48 * K.rows_after header
   pub taken : Took (K.bytes_after stored)
-  pub handed : K.handed_out stored ≡ found
+  pub returned : K.as_read stored ≡ found
 
 -- a stored record was read, and `found` returned for it
 pub record ReadsRecord {H R : Type 0} (K : RecordKind H R) (Took : List ℕ → Type 0) (found : R)
     : Type 0 where
   pub stored : R
   pub is_stored : K.IsStored stored
-  pub rows : K.rows_after (K.header_of stored) ≤ 4294967295
+  pub rows : K.rows_after (K.header_of stored) ≤ MAX_ROWS
   pub taken : Took (K.record_bytes stored)
-  pub handed : K.handed_out stored ≡ found
+  pub returned : K.as_read stored ≡ found
 
 -- a bookend was read, and no row is counted
 pub record ReadsEnd {H R : Type 0} (K : RecordKind H R) (Took : List ℕ → Type 0) (left after : ℕ)
@@ -83,8 +84,8 @@ pub record HasRead {H R : Type 0} (K : RecordKind H R) (Took : List ℕ → Type
   pub stored : List R
   pub are_stored : All K.IsStored stored
   pub taken : Took (flat_map K.record_bytes stored)
-  pub rows : sum_by K.row_count stored + left ≡ 4294967295
-  pub handed : map K.handed_out stored ≡ found
+  pub rows : sum_by K.row_count stored + left ≡ MAX_ROWS
+  pub returned : map K.as_read stored ≡ found
 
 -- `reads a b bytes` says that an input read these bytes between its states `a` and `b`. The records
 -- of a section were read, and the bookend after them
@@ -104,7 +105,7 @@ module _ {H R : Type 0} (K : RecordKind H R) (left : ℕ) (header : H) where
 
   -- a reader goes on after a header: its version has it, and the record has no more rows than are
   -- left
-  pub record IsTaken : Type 0 where
+  pub record IsAccepted : Type 0 where
     pub allowed : K.refuses header ≡ false
     pub rows : 1 + K.rows_after header ≤ left
 
@@ -113,12 +114,12 @@ module _ {H R I : Type 0} (K : RecordKind H R) (reads : I → I → List ℕ →
     (fails : I → I → ℕ → CoreError → Type 0) where
   -- why the next record was not read: its header was not, or is refused, or the rows after it were
   -- not
-  pub data Stops (left : ℕ) (old new : I) (e : CoreError) : Type 0 where
-    no_header : fails old new 48 e → Stops left old new e
+  pub data NextRecordNotRead (left : ℕ) (old new : I) (e : CoreError) : Type 0 where
+    no_header : fails old new 48 e → NextRecordNotRead left old new e
     refused_header : (header : H) → ReadsHeader K (reads old new) header
-        → IsRefused K left header → IsBareInvalidShard e → Stops left old new e
+        → IsRefused K left header → IsBareInvalidShard e → NextRecordNotRead left old new e
     no_rows : (header : H) (mid : I) (after : ℕ) → CountsHeader K (reads old mid) left after header
-        → fails mid new (48 * K.rows_after header) e → Stops left old new e
+        → fails mid new (48 * K.rows_after header) e → NextRecordNotRead left old new e
 
   -- records of a section were read, and the one after them was not
   pub record StopsAfter (old new : I) (e : CoreError) : Type 0 where
@@ -126,7 +127,7 @@ module _ {H R I : Type 0} (K : RecordKind H R) (reads : I → I → List ℕ →
     pub found : List R
     pub left : ℕ
     pub records : HasRead K (reads old mid) found left
-    pub stops : Stops left mid new e
+    pub stops : NextRecordNotRead left mid new e
 
 -- the bytes begin with the header of a record, not with a bookend
 pub record BeginsWithHeader {H R : Type 0} (K : RecordKind H R) (bytes : List ℕ) (header : H)
@@ -156,11 +157,11 @@ module _ {H R : Type 0} (K : RecordKind H R) where
   EndsEarly left bytes =
       (length bytes < 48)
       ⊎ ((header : H) × (rest : List ℕ) × BeginsWithHeader K bytes header rest
-      × IsTaken K left header × (length rest < 48 * K.rows_after header))
+      × IsAccepted K left header × (length rest < 48 * K.rows_after header))
 
   -- the bytes end before a header is complete, or before its rows, at most 4294967295, are
-  abbrev pub IsCutShort : List ℕ → Type 0
-  IsCutShort bytes = EndsEarly 4294967296 bytes
+  abbrev pub IsTruncatedRecord : List ℕ → Type 0
+  IsTruncatedRecord bytes = EndsEarly 4294967296 bytes
 
   -- the bytes begin with a header that is refused; in version 3 it announces more than 4294967295
   -- rows

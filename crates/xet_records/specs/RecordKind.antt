@@ -33,7 +33,7 @@ pub record RecordKind (Header Record : Type 0) : Type 1 where
   -- it may be in a section
   pub IsStored : Record → Type 0
   -- what reading the record returns
-  pub handed_out : Record → Record
+  pub as_read : Record → Record
 
 -- whether a reader refuses a header: in version 2 those that are new in version 3, in version 3
 -- none
@@ -80,18 +80,18 @@ pub record KindLaws {H R : Type 0} (K : RecordKind H R) : Type 0 where
   -- a reader does not refuse the header of a stored record
   pub allowed : (r : R) → K.IsStored r → K.refuses (K.header_of r) ≡ false
   -- reading returns the header that is stored
-  pub same_header : (r : R) → K.header_of (K.handed_out r) ≡ K.header_of r
+  pub same_header : (r : R) → K.header_of (K.as_read r) ≡ K.header_of r
   -- reading returns as many rows as are stored
-  pub same_rows : (r : R) → K.row_count (K.handed_out r) ≡ K.row_count r
+  pub same_rows : (r : R) → K.row_count (K.as_read r) ≡ K.row_count r
   -- what reading returns may be in a section
-  pub handed_stored : (r : R) → K.IsStored r → K.IsStored (K.handed_out r)
+  pub as_read_stored : (r : R) → K.IsStored r → K.IsStored (K.as_read r)
   -- bytes that begin with a stored record determine it and what follows it
   pub front : (r s : R) (x y : List ℕ) → K.IsStored r → K.IsStored s
       → K.record_bytes r ++ x ≡ K.record_bytes s ++ y → (r ≡ s) × (x ≡ y)
 
 -- a type of rows is that of the headers of a kind, which reading returns as they are stored
 pub record IsHeaderRow {H R : Type 0} (K : RecordKind H R) (row_bytes : H → List ℕ)
-    (Fits : H → Type 0) (handed_out : H → H) : Type 0 where
+    (Fits : H → Type 0) (as_read : H → H) : Type 0 where
   pub bytes : (h : H) → row_bytes h ≡ K.header_bytes h
   pub widths : (h : H) → Fits h → K.Fits h
-  pub same : (h : H) → handed_out h ≡ h
+  pub same : (h : H) → as_read h ≡ h

@@ -1,5 +1,5 @@
 -- What reading rows takes from an input, and what bytes spell. A type of rows has the bytes of a
--- stored row, the widths of its numbers, and the row that reading hands out for a stored one; an
+-- stored row, the widths of its numbers, and the row that reading returns for a stored one; an
 -- input says of some bytes that it took them.
 use Rattle.std.specs.Prelude.{◌≡◌, ℕ, ◌*◌, Bool, List, length, take, map, flat_map, All, Option, is_some, IfSome, option_map, option_to_list, if◌then◌else◌}
 use Rattle.std.specs.Io.KnownBytes.{Appends, Consumes}
@@ -14,33 +14,33 @@ pub record Spells {T : Type 0} (row_bytes : T → List ℕ) (Fits : T → Type 0
   pub fits : Fits row
 
 -- a stored row was read, and `row` returned for it
-pub record ReadsRow {T : Type 0} (row_bytes : T → List ℕ) (Fits : T → Type 0) (handed_out : T → T)
+pub record ReadsRow {T : Type 0} (row_bytes : T → List ℕ) (Fits : T → Type 0) (as_read : T → T)
     (Took : List ℕ → Type 0) (row : T) : Type 0 where
   pub stored : T
   pub widths : Fits stored
   pub size : length (row_bytes stored) ≡ 48
   pub taken : Took (row_bytes stored)
-  pub handed : handed_out stored ≡ row
+  pub returned : as_read stored ≡ row
 
 -- `count` stored rows were read, and `rows` returned for them
-pub record ReadsRows {T : Type 0} (row_bytes : T → List ℕ) (Fits : T → Type 0) (handed_out : T → T)
+pub record ReadsRows {T : Type 0} (row_bytes : T → List ℕ) (Fits : T → Type 0) (as_read : T → T)
     (Took : List ℕ → Type 0) (count : ℕ) (rows : List T) : Type 0 where
   pub stored : List T
   pub len : length stored ≡ count
   pub widths : All Fits stored
   pub size : length (flat_map row_bytes stored) ≡ 48 * count
   pub taken : Took (flat_map row_bytes stored)
-  pub handed : map handed_out stored ≡ rows
+  pub returned : map as_read stored ≡ rows
 
 -- a stored row was read if it was wanted, and `row` returned for it
 pub record ReadsOptional {T : Type 0} (row_bytes : T → List ℕ) (Fits : T → Type 0)
-    (handed_out : T → T) (Took : List ℕ → Type 0) (wanted : Bool) (row : Option T) : Type 0 where
+    (as_read : T → T) (Took : List ℕ → Type 0) (wanted : Bool) (row : Option T) : Type 0 where
   pub stored : Option T
   pub present : is_some stored ≡ wanted
   pub widths : IfSome stored Fits
   pub size : length (flat_map row_bytes (option_to_list stored)) ≡ (if wanted then 48 else 0)
   pub taken : Took (flat_map row_bytes (option_to_list stored))
-  pub handed : option_map handed_out stored ≡ row
+  pub returned : option_map as_read stored ≡ row
 
 -- a row was written: its bytes were appended, and their number returned
 pub record WritesRow (old new : Option (List ℕ)) (row_bytes : List ℕ) (n : ℕ) : Type 0 where

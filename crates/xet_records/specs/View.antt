@@ -10,6 +10,7 @@ use Rattle.xet_base.specs.Hash.{all_ones}
 use Rattle.xet_base.specs.Table.{IsBareInvalidShard}
 use Rattle.xet_records.specs.declared.file_structs.header.FileDataSequenceHeader.{FileDataSequenceHeader}
 use Rattle.xet_records.specs.declared.file_structs.MDBFileInfo.{MDBFileInfo}
+use Rattle.xet_records.specs.Limits.{MAX_ROWS}
 -- which of a record's verification rows and auxiliary row are written
 pub use Rattle.xet_records.specs.declared.file_structs.view.KeptParts.{KeptParts}
 use Rattle.xet_records.specs.declared.xorb_structs.XorbChunkSequenceEntry.{XorbChunkSequenceEntry}
@@ -45,7 +46,7 @@ pub record BeginsWithRecord {H R : Type 0} (K : RecordKind H R) (IsWhole : R →
     (bytes : List ℕ) (r : R) : Type 0 where
   pub rest : List ℕ
   pub whole : IsWhole r
-  pub rows : K.rows_after (K.header_of r) ≤ 4294967295
+  pub rows : K.rows_after (K.header_of r) ≤ MAX_ROWS
   pub bytes_are : bytes ≡ K.record_bytes r ++ rest
 
 -- the bytes begin with the bytes of this whole file record, which has at most 4294967295 rows after
@@ -64,7 +65,7 @@ pub record Shows {H R : Type 0} (K : RecordKind H R) (IsWhole : R → Type 0) (h
     (bytes : List ℕ) (r : R) : Type 0 where
   pub same_header : K.header_of r ≡ header
   pub whole : IsWhole r
-  pub rows : K.rows_after header ≤ 4294967295
+  pub rows : K.rows_after header ≤ MAX_ROWS
   pub bytes_are : bytes ≡ K.record_bytes r
 
 -- a view of this header and these bytes shows a record that may be in a section unless the header
@@ -81,13 +82,13 @@ module _ {H R : Type 0} (K : RecordKind H R) where
   abbrev pub EndsInRecord : List ℕ → Type 0
   EndsInRecord bytes =
       (length bytes < 48)
-      ⊎ ((header : H) × BeginsWithHeaderRow K bytes header × (K.rows_after header ≤ 4294967295)
+      ⊎ ((header : H) × BeginsWithHeaderRow K bytes header × (K.rows_after header ≤ MAX_ROWS)
       × (length bytes < 48 + 48 * K.rows_after header))
 
   -- the bytes begin with a header that announces more than 4294967295 rows
   abbrev pub AnnouncesTooMany : List ℕ → Type 0
   AnnouncesTooMany bytes =
-      (header : H) × BeginsWithHeaderRow K bytes header × (4294967295 < K.rows_after header)
+      (header : H) × BeginsWithHeaderRow K bytes header × (MAX_ROWS < K.rows_after header)
 
   -- why the bytes begin with no record: they are too few, or the header announces too many rows
   abbrev pub NoView : List ℕ → CoreError → Type 0

@@ -8,6 +8,7 @@ use Rattle.xet_records.specs.declared.xorb_structs.XorbChunkSequenceHeader.{Xorb
 use Rattle.xet_records.specs.declared.xorb_structs.MDBXorbInfo.{MDBXorbInfo}
 use Rattle.xet_records.specs.RecordKind.{RecordKind}
 use Rattle.xet_records.specs.XorbRow.{xorb_header_row, chunk_row, FitsXorbHeader, FitsChunk}
+use Rattle.xet_records.specs.Limits.{MAX_ROWS}
 
 -- the header that ends a section: the all-ones hash, all else zero
 abbrev pub xorb_bookend : XorbChunkSequenceHeader
@@ -87,7 +88,7 @@ pub record IsStoredXorb (r : MDBXorbInfo) : Type 0 where
 pub record IsXorb (r : MDBXorbInfo) : Type 0 where
   pub is_xorb : r.metadata.xorb_hash ≢ all_ones
   pub count : HasItsChunks r
-  pub rows : xorb_row_count r ≤ 4294967295
+  pub rows : xorb_row_count r ≤ MAX_ROWS
   pub bytes : size_of_chunks r ≤ 4294967295
   pub widths : FitsXorb r
 
@@ -106,5 +107,5 @@ xorb_records = record {
   record_bytes = xorb_record_bytes;
   row_count = xorb_row_count;
   IsStored = IsStoredXorb;
-  handed_out = λ r. r;
+  as_read = λ r. r;
 }

@@ -7,15 +7,15 @@ mod view;
 
 ghost use Rattle.std.specs.Prelude.{◌≡◌, ℕ, List, Some, ◌++◌, ◌*◌, ◌≤◌, ◌⊎◌, length, MatchResult, IfSome, OnOk, OnErr, IfOk, IfErr, IsTrue, not, ◌&&◌, if◌then◌else◌};
 ghost use Rattle.std.specs.Io.KnownBytes.{Appends, Consumes};
-ghost use Rattle.xet_records.specs.FileRecord.{has_verification, has_metadata_ext, has_aux_ext, rows_after, row_count, file_record_bytes, size_of_file, FitsItsHeader, IsStored, handed_out, file_records};
+ghost use Rattle.xet_records.specs.FileRecord.{has_verification, has_metadata_ext, has_aux_ext, rows_after, row_count, file_record_bytes, size_of_file, FitsItsHeader, IsStored, as_read, file_records};
 ghost use Rattle.xet_records.specs.Part.{rows_of};
 ghost use Rattle.xet_records.specs.Merging.{IsSameFile, has_part, merged};
-ghost use Rattle.xet_records.specs.Reading.{ReadsOrEnds, ReadsRowsAfter, IsCutShort, HasRefusedHeader};
+ghost use Rattle.xet_records.specs.Reading.{ReadsOrEnds, ReadsRowsAfter, IsTruncatedRecord, HasRefusedHeader};
 ghost use Rattle.xet_base.specs.Table.{IsBareInvalidShard};
 ghost use Rattle.xet_base.specs.Errors.{IsEndOfInput, IsDeviceError, IsWriteError, IsInvalidShard};
 
-use crate::input_rows;
 use crate::record_reader::{FormatVersion, MAX_ROWS_OF_RECORD, SectionRecord, read_record};
+use crate::row_reader;
 use crate::rows::{ROW_SIZE, Rows, write_optional, write_row, write_rows};
 pub use header::{FileDataSequenceHeader, SupersetResult};
 pub use part::OptionalPart;
@@ -131,19 +131,19 @@ impl MDBFileInfo {
             (ReadsOrEnds file_records
             (Consumes (R.remaining reader.old) (R.remaining reader.new))) }
         ensures end { IfErr result
-            (λ e. IsEndOfInput e → IfSome (R.remaining reader.old) (IsCutShort file_records)) }
+            (λ e. IsEndOfInput e → IfSome (R.remaining reader.old) (IsTruncatedRecord file_records)) }
         ensures invalid { IfErr result
             (λ e. IsInvalidShard e
             → IfSome (R.remaining reader.old) (HasRefusedHeader file_records)) }
         ensures causes { IfErr result (λ e. IsDeviceError e ⊎ IsBareInvalidShard e) }
         ensures whole { OnOk result
-            (IfSome (R.remaining reader.old) (λ bytes. ¬ IsCutShort file_records bytes)) }
+            (IfSome (R.remaining reader.old) (λ bytes. ¬ IsTruncatedRecord file_records bytes)) }
         ensures fits { OnOk result
             (IfSome (R.remaining reader.old) (λ bytes. ¬ HasRefusedHeader file_records bytes)) }
         ensures again { (r : MDBFileInfo) → (rest : List ℕ) → IsStored r
             → R.remaining reader.old ≡ Some (file_record_bytes r ++ rest)
             → IfOk result
-            (λ found. (found ≡ Some (handed_out r)) × (R.remaining reader.new ≡ Some rest)) }
+            (λ found. (found ≡ Some (as_read r)) × (R.remaining reader.new ≡ Some rest)) }
     {
         let mut rows_left = MAX_ROWS_OF_RECORD;
         read_record::<MDBFileInfo, OfReader, R>(alloc, reader, FormatVersion::V3, &mut rows_left)
@@ -262,14 +262,14 @@ impl SectionRecord for MDBFileInfo {
         input: &mut I,
         header: FileDataSequenceHeader,
     ) -> Result<MDBFileInfo> {
-        let segments = input_rows::read_rows(alloc, input, header.num_entries)?;
-        let verification = input_rows::read_rows(
+        let segments = row_reader::read_rows(alloc, input, header.num_entries)?;
+        let verification = row_reader::read_rows(
             alloc,
             input,
             header.part_rows(OptionalPart::Verification),
         )?;
-        let metadata_ext = input_rows::read_optional(input, header.contains_metadata_ext())?;
-        let aux_ext = input_rows::read_optional(input, header.contains_aux_ext())?;
+        let metadata_ext = row_reader::read_optional(input, header.contains_metadata_ext())?;
+        let aux_ext = row_reader::read_optional(input, header.contains_aux_ext())?;
         Ok(MDBFileInfo {
             metadata: header,
             segments,
@@ -284,13 +284,13 @@ impl SectionRecord for MDBFileInfo {
         input: &mut I,
         header: FileDataSequenceHeader,
     ) -> Result<Option<FileMetadataExt>> {
-        input_rows::skip_rows::<FileDataSequenceEntry, M, I>(input, header.num_entries)?;
-        input_rows::skip_rows::<FileVerificationEntry, M, I>(
+        row_reader::skip_rows::<FileDataSequenceEntry, M, I>(input, header.num_entries)?;
+        row_reader::skip_rows::<FileVerificationEntry, M, I>(
             input,
             header.part_rows(OptionalPart::Verification),
         )?;
-        let metadata_ext = input_rows::read_optional(input, header.contains_metadata_ext())?;
-        let _aux_ext: Option<FileAuxExt> = input_rows::read_optional(
+        let metadata_ext = row_reader::read_optional(input, header.contains_metadata_ext())?;
+        let _aux_ext: Option<FileAuxExt> = row_reader::read_optional(
             input,
             header.contains_aux_ext(),
         )?;

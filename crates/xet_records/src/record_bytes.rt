@@ -28,7 +28,7 @@ pub fn cut(mut bytes: Bytes, rows_after: u32) -> io::Result<Bytes>
 /// The row that bytes begin with. `UnexpectedEof` if there are fewer than 48.
 pub fn first_row<T: Row>(bytes: &[u8]) -> io::Result<T>
     ensures { MatchResult result
-        (ReadsRow T.row_bytes T.Fits T.handed_out
+        (ReadsRow T.row_bytes T.Fits T.as_read
         (λ row. (48 ≤ length bytes.now) × (row ≡ take 48 bytes.now)))
         (λ e. (error_kind e ≡ ErrorKind.UnexpectedEof) × (length bytes.now < 48)) }
 {
@@ -55,7 +55,7 @@ pub fn begins_with<T: Row>(bytes: &[u8], row: &T) -> io::Result<bool>
 /// The row at an index, counted from the header on. Requires that it is there.
 pub fn row<T: Row>(bytes: &[u8], index: usize) -> T
     requires { 48 * index + 48 ≤ length bytes.now }
-    ensures { ReadsRow T.row_bytes T.Fits T.handed_out
+    ensures { ReadsRow T.row_bytes T.Fits T.as_read
         (λ row. row ≡ take 48 (drop (48 * index) bytes.now)) result }
 {
     let mut row = [0u8; ROW_SIZE];
@@ -83,7 +83,7 @@ pub fn rows<T: Row + Drop>(
 ) -> Result<Rows<T>>
     requires { 48 * start + 48 * count ≤ length bytes.now }
     ensures ok { IfOk result
-        (ReadsRows T.row_bytes T.Fits T.handed_out
+        (ReadsRows T.row_bytes T.Fits T.as_read
         (λ rows. rows ≡ take (48 * count) (drop (48 * start) bytes.now)) count) }
     ensures causes { IfErr result (λ e. e ≡ CoreError.OutOfMemory) }
 {

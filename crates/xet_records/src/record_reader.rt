@@ -4,9 +4,9 @@ ghost use Rattle.std.specs.Prelude.{◌≡◌, ◌≤◌, ◌<◌, ◌*◌, ◌^
 ghost use Rattle.xet_base.specs.Hash.{all_ones};
 ghost use Rattle.xet_records.specs.RecordKind.{RecordKind, in_version, KindLaws, IsHeaderRow};
 ghost use Rattle.xet_records.specs.Version.{number_of, IsVersion, version_of};
-ghost use Rattle.xet_records.specs.Reading.{ReadsRowsAfter, ReadsNextHeader, ReadsNextRecord, Stops, ReadsRecords, StopsAfter};
+ghost use Rattle.xet_records.specs.Reading.{ReadsRowsAfter, ReadsNextHeader, ReadsNextRecord, NextRecordNotRead, ReadsRecords, StopsAfter};
 
-use crate::input_rows;
+use crate::row_reader;
 use crate::rows::Row;
 use std::alloc::Global;
 use xet_base::error::{CoreError, Result};
@@ -115,7 +115,7 @@ pub trait SectionRecord {
         ensures { KindLaws kind };
 
     ghost header_row: { IsHeaderRow kind Self.Header.row_bytes Self.Header.Fits
-        Self.Header.handed_out };
+        Self.Header.as_read };
 }
 
 /// Reads the header of the next record of a section, or `None` at its bookend, and counts the
@@ -132,9 +132,9 @@ pub fn read_header<R: SectionRecord, M, I: ByteInput<M>>(
     ensures { MatchResult result
         (ReadsNextHeader (in_version R.kind version) (I.reads input.old input.new) rows_left.old
         rows_left.new)
-        (Stops (in_version R.kind version) I.reads I.fails rows_left.old input.old input.new) }
+        (NextRecordNotRead (in_version R.kind version) I.reads I.fails rows_left.old input.old input.new) }
 {
-    let header: R::Header = input_rows::read_row(input)?;
+    let header: R::Header = row_reader::read_row(input)?;
     if R::is_bookend(&header) {
         return Ok(None);
     }
@@ -174,7 +174,7 @@ pub fn read_record<R: SectionRecord, M, I: ByteInput<M>>(
     ensures { MatchResult result
         (ReadsNextRecord (in_version R.kind version) (I.reads input.old input.new) rows_left.old
         rows_left.new)
-        (Stops (in_version R.kind version) I.reads I.fails rows_left.old input.old input.new) }
+        (NextRecordNotRead (in_version R.kind version) I.reads I.fails rows_left.old input.old input.new) }
 {
     R::laws();
     let Some(header) = read_header::<R, M, I>(alloc, input, version, rows_left)? else {

@@ -1,5 +1,5 @@
-//! Copying rows from any input, reader or source, to a writer: each row is written as it is read, so
-//! that no more than one is held.
+//! Copying rows from any input, reader or source, to a writer: each row is written as it is read,
+//! so that no more than one is held.
 
 ghost use Rattle.std.specs.Prelude.{◌≡◌, ◌*◌, List, MatchResult, IfErr, OnOk};
 ghost use Rattle.std.specs.Io.KnownBytes.{Appends};
@@ -7,7 +7,7 @@ ghost use Rattle.xet_base.specs.declared.error.CoreError.{CoreError};
 ghost use Rattle.xet_records.specs.Rows.{ReadsRow};
 ghost use Rattle.xet_records.specs.Copying.{CopiesRow, CopiesRows, CopyFails, IsOutputFailure};
 
-use crate::input_rows;
+use crate::row_reader;
 use crate::rows::{self, Row};
 use std::io::Write;
 use xet_base::error::{CoreError, Result};
@@ -56,7 +56,7 @@ pub fn copy_row<T: Row, M, I: ByteInput<M>, W: Write>(
     writer: &mut W,
 ) -> CopyResult<T>
     ensures { MatchResult result
-        (CopiesRow T.row_bytes T.Fits T.handed_out (I.reads input.old input.new)
+        (CopiesRow T.row_bytes T.Fits T.as_read (I.reads input.old input.new)
         (W.contents writer.old) (W.contents writer.new))
         (CopyFails I.reads I.fails input.old input.new 48) }
 {
@@ -69,10 +69,10 @@ pub fn copy_row<T: Row, M, I: ByteInput<M>, W: Write>(
 #[inline(always)]
 fn read_row<T: Row, M, I: ByteInput<M>>(input: &mut I) -> Result<T>
     ensures { MatchResult result
-        (ReadsRow T.row_bytes T.Fits T.handed_out (I.reads input.old input.new))
+        (ReadsRow T.row_bytes T.Fits T.as_read (I.reads input.old input.new))
         (I.fails input.old input.new 48) }
 {
-    Ok(input_rows::read_row::<T, M, I>(input)?)
+    Ok(row_reader::read_row::<T, M, I>(input)?)
 }
 
 /// Writes a row. The failure is the output's.
@@ -95,7 +95,7 @@ pub fn copy_rows<T: Row, M, I: ByteInput<M>, W: Write>(
     count: u32,
 ) -> CopyResult<()>
     ensures { MatchResult result
-        (λ _. (rows : List T) × CopiesRows T.row_bytes T.Fits T.handed_out
+        (λ _. (rows : List T) × CopiesRows T.row_bytes T.Fits T.as_read
         (I.reads input.old input.new) (W.contents writer.old) (W.contents writer.new) count rows)
         (CopyFails I.reads I.fails input.old input.new (48 * count)) }
 {
@@ -109,7 +109,7 @@ pub(crate) fn copy_all_rows<T: Row, M, I: ByteInput<M>, W: Write>(
     count: u64,
 ) -> CopyResult<()>
     ensures { MatchResult result
-        (λ _. (rows : List T) × CopiesRows T.row_bytes T.Fits T.handed_out
+        (λ _. (rows : List T) × CopiesRows T.row_bytes T.Fits T.as_read
         (I.reads input.old input.new) (W.contents writer.old) (W.contents writer.new) count rows)
         (CopyFails I.reads I.fails input.old input.new (48 * count)) }
 {

@@ -7,7 +7,7 @@ ghost use Rattle.xet_base.specs.Bytes.{HasBytes, LacksBytes, AreBytes};
 ghost use Rattle.xet_base.specs.Input.{ReaderLacks};
 ghost use Rattle.xet_base.specs.Errors.{IsEndOfInput, IsDeviceError, IsNoEnd};
 
-use crate::input_rows;
+use crate::row_reader;
 use std::alloc::{AllocError, AllocFailed, Global};
 use std::io;
 use std::io::{Read, Write};
@@ -137,14 +137,14 @@ impl<T: PartialEq> PartialEq for Rows<T> {
     }
 }
 
-/// A row of a shard. What a row stores and what reading hands out differ in the reserved words that
+/// A row of a shard. What a row stores and what reading returns differ in the reserved words that
 /// reading drops.
 pub trait Row: Copy {
     ghost row_bytes: { Self → List ℕ };
 
     ghost Fits: { Self → Type 0 };
 
-    ghost handed_out: { Self → Self };
+    ghost as_read: { Self → Self };
 
     // the row that bytes begin with
     ghost row_at: { List ℕ → Self };
@@ -156,7 +156,7 @@ pub trait Row: Copy {
     /// The row with these bytes, as reading returns it.
     fn from_bytes(bytes: &[u8; 48]) -> Self
         ensures { (stored : Self) × Fits stored × (row_bytes stored ≡ bytes.now) ×
-            (handed_out stored ≡ result) };
+            (as_read stored ≡ result) };
 
     /// Does nothing. It says that the numbers of a row in memory fit their widths.
     fn widths(self)
@@ -214,13 +214,13 @@ pub fn write_optional<T: Row, W: Write>(row: &Option<T>, writer: &mut W) -> io::
 /// Reads a row. `UnexpectedEof` if fewer than 48 bytes are left.
 pub fn read_row<T: Row, R: Read>(reader: &mut R) -> io::Result<T>
     ensures value { IfOk result
-        (ReadsRow T.row_bytes T.Fits T.handed_out
+        (ReadsRow T.row_bytes T.Fits T.as_read
         (Consumes (R.remaining reader.old) (R.remaining reader.new))) }
     ensures enough { OnOk result (HasBytes (R.remaining reader.old) 48) }
     ensures end { IfErr result
         (ReaderLacks (R.remaining reader.old) 48) }
 {
-    input_rows::read_row::<T, OfReader, R>(reader)
+    row_reader::read_row::<T, OfReader, R>(reader)
 }
 
 /// Reads `count` rows. `UnexpectedEof` if fewer are left. May fail with `OutOfMemory`.
@@ -230,23 +230,23 @@ pub fn read_rows<T: Row + Drop, R: Read>(
     count: u32,
 ) -> Result<Rows<T>>
     ensures value { IfOk result
-        (ReadsRows T.row_bytes T.Fits T.handed_out
+        (ReadsRows T.row_bytes T.Fits T.as_read
         (Consumes (R.remaining reader.old) (R.remaining reader.new)) count) }
     ensures end { IfErr result
         (λ e. IsEndOfInput e → LacksBytes (R.remaining reader.old) (48 * count)) }
     ensures causes { IfErr result IsDeviceError }
 {
-    input_rows::read_rows::<T, OfReader, R>(alloc, reader, count)
+    row_reader::read_rows::<T, OfReader, R>(alloc, reader, count)
 }
 
 /// Reads a row if it is `wanted`. `UnexpectedEof` if it is and fewer than 48 bytes are left.
 pub fn read_optional<T: Row, R: Read>(reader: &mut R, wanted: bool) -> io::Result<Option<T>>
     ensures value { IfOk result
-        (ReadsOptional T.row_bytes T.Fits T.handed_out
+        (ReadsOptional T.row_bytes T.Fits T.as_read
         (Consumes (R.remaining reader.old) (R.remaining reader.new)) wanted) }
     ensures end { IfErr result
         (ReaderLacks (R.remaining reader.old) (if wanted then 48 else 0)) }
     ensures touched { IfErr result (λ _. IsTrue wanted) }
 {
-    input_rows::read_optional::<T, OfReader, R>(reader, wanted)
+    row_reader::read_optional::<T, OfReader, R>(reader, wanted)
 }

@@ -3,10 +3,11 @@
 ghost use Rattle.std.specs.Prelude.{◌≡◌, ◌⊎◌, ℕ, ◌+◌, ◌*◌, ◌≤◌, List, ◌++◌, length, MatchResult};
 ghost use Rattle.xet_base.specs.declared.error.CoreError.TheVariants.{OutOfMemory};
 ghost use Rattle.xet_records.specs.Processing.{ProcessesSection, RefusesRecord, StopsReading};
-ghost use Rattle.xet_records.specs.Reading.{Stops};
+ghost use Rattle.xet_records.specs.Reading.{NextRecordNotRead};
 ghost use Rattle.xet_records.specs.RecordKind.{in_version};
 ghost use Rattle.xet_records.specs.View.{BeginsWithHeaderRow, ShowsRecord};
 ghost use Rattle.xet_records.specs.ViewReading.{ReadsNextView, AddsRows, LacksMemory};
+ghost use Rattle.xet_records.specs.Limits.{MAX_ROWS};
 
 use crate::record_reader::{FormatVersion, SectionRecord, read_header};
 use crate::rows::{ROW_SIZE, ROWS_AT_ONCE, Row};
@@ -22,7 +23,7 @@ pub trait RecordView<R: SectionRecord> {
     /// The view of the record with this header that the bytes are, no more and no fewer.
     fn of_bytes(header: R::Header, bytes: Bytes) -> Self
         requires begins { BeginsWithHeaderRow R.kind bytes header }
-        requires few { R.kind.rows_after header ≤ 4294967295 }
+        requires few { R.kind.rows_after header ≤ MAX_ROWS }
         requires size { length bytes ≡ 48 + 48 * R.kind.rows_after header }
         ensures { ShowsRecord R.kind header bytes (shown result) };
 }
@@ -44,7 +45,7 @@ pub fn read_view<R: SectionRecord, V: RecordView<R>, M, I: ByteInput<M>>(
     ensures { MatchResult result
         (ReadsNextView (in_version R.kind version) V.shown (I.reads input.old input.new)
         rows_left.old rows_left.new)
-        (Stops (in_version R.kind version) I.reads I.fails rows_left.old input.old input.new) }
+        (NextRecordNotRead (in_version R.kind version) I.reads I.fails rows_left.old input.old input.new) }
 {
     R::laws();
     let Some(header) = read_header::<R, M, I>(alloc, input, version, rows_left)? else {

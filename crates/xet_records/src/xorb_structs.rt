@@ -11,19 +11,19 @@ ghost use Rattle.xet_records.specs.Decoding.{xorb_header_at, chunk_at};
 ghost use Rattle.xet_records.specs.DecodingLaws.{xorb_header_spelled, chunk_spelled};
 ghost use Rattle.xet_records.specs.XorbRecord.{xorb_bookend, xorb_row_count, xorb_record_bytes, end_of_chunk, boundaries, HasItsChunks, IsStoredXorb, xorb_records};
 ghost use Rattle.xet_records.specs.Rows.{WritesRow, ReadsWhole, LacksRow};
-ghost use Rattle.xet_records.specs.Reading.{ReadsOrEnds, IsCutShort};
+ghost use Rattle.xet_records.specs.Reading.{ReadsOrEnds, IsTruncatedRecord};
 
-use crate::input_rows;
 use crate::record_reader::{FormatVersion, MAX_ROWS_OF_RECORD, SectionRecord, read_record};
+use crate::row_reader;
 use crate::rows::{ROW_SIZE, Row, Rows, read_row, write_row, write_rows};
 use std::alloc::Global;
 use std::io;
 use std::io::{Read, Write};
 pub use view::MDBXorbInfoView;
 use xet_base::error::{CoreError, Result};
+use xet_base::fields::{put_hash, put_u32, split_hash, split_u32};
 use xet_base::input::{ByteInput, OfReader};
 use xet_base::merklehash::{MerkleHash, hash_is_global_dedup_eligible};
-use xet_base::row::{put_hash, put_u32, split_hash, split_u32};
 
 /// The flags of a xorb.
 pub const MDB_DEFAULT_XORB_FLAG: u32 = 0;
@@ -102,7 +102,7 @@ impl Row for XorbChunkSequenceHeader {
 
     ghost Fits = { FitsXorbHeader };
 
-    ghost handed_out = { λ h. h };
+    ghost as_read = { λ h. h };
 
     ghost row_at = { xorb_header_at };
 
@@ -225,7 +225,7 @@ impl Row for XorbChunkSequenceEntry {
 
     ghost Fits = { FitsChunk };
 
-    ghost handed_out = { λ c. c };
+    ghost as_read = { λ c. c };
 
     ghost row_at = { chunk_at };
 
@@ -306,10 +306,10 @@ impl MDBXorbInfo {
             (ReadsOrEnds xorb_records
             (Consumes (R.remaining reader.old) (R.remaining reader.new))) }
         ensures end { IfErr result
-            (λ e. IsEndOfInput e → IfSome (R.remaining reader.old) (IsCutShort xorb_records)) }
+            (λ e. IsEndOfInput e → IfSome (R.remaining reader.old) (IsTruncatedRecord xorb_records)) }
         ensures causes { IfErr result IsDeviceError }
         ensures whole { OnOk result
-            (IfSome (R.remaining reader.old) (λ bytes. ¬ IsCutShort xorb_records bytes)) }
+            (IfSome (R.remaining reader.old) (λ bytes. ¬ IsTruncatedRecord xorb_records bytes)) }
         ensures again { (r : MDBXorbInfo) → (rest : List ℕ) → IsStoredXorb r
             → R.remaining reader.old ≡ Some (xorb_record_bytes r ++ rest)
             → IfOk result (λ found. (found ≡ Some r) × (R.remaining reader.new ≡ Some rest)) }
@@ -379,7 +379,7 @@ impl SectionRecord for MDBXorbInfo {
         input: &mut I,
         header: XorbChunkSequenceHeader,
     ) -> Result<MDBXorbInfo> {
-        let chunks = input_rows::read_rows(alloc, input, header.num_entries)?;
+        let chunks = row_reader::read_rows(alloc, input, header.num_entries)?;
         Ok(MDBXorbInfo {
             metadata: header,
             chunks,
@@ -390,7 +390,7 @@ impl SectionRecord for MDBXorbInfo {
         input: &mut I,
         header: XorbChunkSequenceHeader,
     ) -> Result<()> {
-        input_rows::skip_rows::<XorbChunkSequenceEntry, M, I>(input, header.num_entries)
+        row_reader::skip_rows::<XorbChunkSequenceEntry, M, I>(input, header.num_entries)
     }
 
     fn laws() {}

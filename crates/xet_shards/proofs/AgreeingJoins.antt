@@ -20,7 +20,7 @@ use Rattle.xet_records.proofs.Parts.{fewer_rows}
 use Rattle.xet_records.proofs.Merging.{same_file_if_agree, merged_well_formed}
 use Rattle.xet_shards.specs.Shard.{Shard, IsShard, file_hash_of, xorb_hash_of}
 use Rattle.xet_shards.specs.Joining.{either_file}
-use Rattle.xet_shards.specs.SetOperations.{IsUnion, ShardsAgree, HasFewRows}
+use Rattle.xet_shards.specs.SetOperations.{IsUnion, ShardsAgree, RowsFitU32}
 use Rattle.xet_shards.specs.Joins.{segments_under, part_under, HasWhatAnyHas, IsJoinOf, AgreePairwise}
 use Rattle.xet_shards.proofs.FileUnions.{holds_in_map}
 use Rattle.xet_shards.proofs.Sums.{all_of_map, part-le-sum, sum-below}
@@ -82,7 +82,7 @@ module _ (A C : Shard → Type 0) (a c : Shard) (few : IsJoinOf A a) (more : IsJ
       (sym (ap (option_and_then (part_in part)) there.1) ∙ has_more (part_under part q) (few.parts part q) (more.parts part q) (rows_of part r) (ap (option_and_then (part_in part)) at ∙ part_is part r has))) in
       (t, there.1, omega (arith, ap length there.2, fewer_rows (λ p. rows_of p r) (λ p. rows_of p t) fewer parts))
 
-  pub fewer_if_more : HasFewRows c → HasFewRows a
+  pub fewer_if_more : RowsFitU32 c → RowsFitU32 a
   fewer_if_more all = record {
     files = omega (arith, all.files, sum-below hash_cmp-IsTotalOrder hash_cmp-IsAntisymmetric row_count a.files c.files file_more);
     xorbs = omega (
@@ -113,7 +113,7 @@ known_either q (Some r) (Some s) t first second agree few is =
           (subst (λ n. row_count n ≤ 4294967295) (sym same) few));
     }
 
-module _ (a b c : Shard) (first : IsShard a) (second : IsShard b) (agree : ShardsAgree a b) (union : IsUnion a b c) (few : HasFewRows c) where
+module _ (a b c : Shard) (first : IsShard a) (second : IsShard b) (agree : ShardsAgree a b) (union : IsUnion a b c) (few : RowsFitU32 c) where
   file_known : (q : DataHash) (t : MDBFileInfo) → get c.files q ≡ Some t → IsKnown q t
   file_known q t at = known_either q (get a.files q) (get b.files q) t (λ r. known a q r first) (λ r. known b q r second) (agree.files q)
       (omega (arith, few.files, part-le-sum hash_cmp-IsTotalOrder hash_cmp-IsAntisymmetric row_count c.files q t at)) (sym (union.files q) ∙ at)

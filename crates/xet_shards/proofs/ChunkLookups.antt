@@ -12,7 +12,7 @@ use Rattle.xet_base.proofs.HashOrder.{hash_cmp-IsTotalOrder, same_hash, same_key
 use Rattle.xet_records.specs.declared.xorb_structs.XorbChunkSequenceEntry.{XorbChunkSequenceEntry}
 use Rattle.xet_records.specs.declared.xorb_structs.MDBXorbInfo.{MDBXorbInfo}
 use Rattle.xet_shards.specs.Shard.{XorbMap, xorb_hash_of}
-use Rattle.xet_shards.specs.ChunkLookup.{ChunkLocation, IsLocation, IsChunkLookup, chunk_at, put_xorb}
+use Rattle.xet_shards.specs.ChunkLookup.{ChunkLocation, IsLocation, IsChunkLookup, chunk_hash_at, put_xorb}
 use Rattle.xet_shards.specs.XorbStore.{IsEntered}
 
 -- at the key that was inserted
@@ -28,28 +28,28 @@ last_or_before (suc i) zero below = absurd (omega (arith, below))
 last_or_before (suc i) (suc n) below = elim (last_or_before i n (omega (arith, below))) [ inl less ↦ inl (omega (arith, less)) | inr same ↦ inr (ap suc same) ]
 
 -- one more chunk
-pub entered-more : (f g h : DataHash → Option ChunkLocation) (r : MDBXorbInfo) (n : ℕ) (k : DataHash) → chunk_at (r, n) ≡ Some k
+pub entered-more : (f g h : DataHash → Option ChunkLocation) (r : MDBXorbInfo) (n : ℕ) (k : DataHash) → chunk_hash_at (r, n) ≡ Some k
     → ((q : DataHash) → h q ≡ cond (hash_eq k q) (Some (r, n)) (g q)) → IsEntered f g r n → IsEntered f h r (n + 1)
 entered-more f g h r n k here updates before = record {
   present = λ q p at. present_at q p (hash_eq k q) refl (sym (updates q) ∙ at);
   kept = λ q some. subst IsSome (sym (updates q)) (kept_at q (hash_eq k q) (before.kept q some));
   complete = λ q i below at. subst IsSome (sym (updates q)) (complete_at q i (hash_eq k q) refl below at);
 } where
-  present_at : (q : DataHash) (p : ChunkLocation) (b : Bool) → hash_eq k q ≡ b → cond b (Some (r, n)) (g q) ≡ Some p → (f q ≡ Some p) ⊎ ((p.0 ≡ r) × (p.1 < n + 1) × (chunk_at p ≡ Some q))
+  present_at : (q : DataHash) (p : ChunkLocation) (b : Bool) → hash_eq k q ≡ b → cond b (Some (r, n)) (g q) ≡ Some p → (f q ≡ Some p) ⊎ ((p.0 ≡ r) × (p.1 < n + 1) × (chunk_hash_at p ≡ Some q))
   present_at q p true is at =
       let same : (r, n) ≡ p = same_Some (r, n) p at in
-      inr (sym (ap (λ (t : ChunkLocation). t.0) same), omega (arith, ap (λ (t : ChunkLocation). t.1) same), ap chunk_at (sym same) ∙ here ∙ ap Some ((same_hash k q).0 is))
+      inr (sym (ap (λ (t : ChunkLocation). t.0) same), omega (arith, ap (λ (t : ChunkLocation). t.1) same), ap chunk_hash_at (sym same) ∙ here ∙ ap Some ((same_hash k q).0 is))
   present_at q p false is at = elim (before.present q p at) [ inl old ↦ inl old | inr (own, below, chunk) ↦ inr (own, omega (arith, below), chunk) ]
 
   kept_at : (q : DataHash) (b : Bool) → IsSome (g q) → IsSome (cond b (Some (r, n)) (g q))
   kept_at q true some = refl
   kept_at q false some = some
 
-  complete_at : (q : DataHash) (i : ℕ) (b : Bool) → hash_eq k q ≡ b → i < n + 1 → chunk_at (r, i) ≡ Some q → IsSome (cond b (Some (r, n)) (g q))
+  complete_at : (q : DataHash) (i : ℕ) (b : Bool) → hash_eq k q ≡ b → i < n + 1 → chunk_hash_at (r, i) ≡ Some q → IsSome (cond b (Some (r, n)) (g q))
   complete_at q i true is below at = refl
   complete_at q i false is below at = elim (last_or_before i n below) [
     | inl less ↦ before.complete q i less at
-    | inr last ↦ absurd (true≢false (sym ((same_hash k q).1 (same_Some k q (sym here ∙ ap (λ j. chunk_at (r, j)) (sym last) ∙ at))) ∙ is))
+    | inr last ↦ absurd (true≢false (sym ((same_hash k q).1 (same_Some k q (sym here ∙ ap (λ j. chunk_hash_at (r, j)) (sym last) ∙ at))) ∙ is))
   ]
 
 pub chunk_within : (cs : List XorbChunkSequenceEntry) (i : ℕ) (q : DataHash) → option_map (λ (c : XorbChunkSequenceEntry). c.chunk_hash) (slice_get cs i) ≡ Some q → i < length cs
@@ -78,7 +78,7 @@ lookup-append xorbs f g r absent lookup entered = record {
   complete_at : (q : DataHash) (p : ChunkLocation) → IsLocation (put_xorb xorbs r) q p → (b : Bool) → eq_by_cmp hash_cmp (xorb_hash_of p.0) (xorb_hash_of r) ≡ b → IsSome (g q)
   complete_at q p location true is =
       let own : r ≡ p.0 = same_Some r p.0 (sym (get-added xorbs r) ∙ ap (get (put_xorb xorbs r)) (sym ((same_key (xorb_hash_of p.0) (xorb_hash_of r)).0 is)) ∙ location.xorb) in
-      let here : chunk_at (r, p.1) ≡ Some q = ap (λ s. chunk_at (s, p.1)) own ∙ location.chunk in
+      let here : chunk_hash_at (r, p.1) ≡ Some q = ap (λ s. chunk_hash_at (s, p.1)) own ∙ location.chunk in
       entered.complete q p.1 (chunk_within r.chunks p.1 q here) here
   complete_at q p location false is = entered.kept q (lookup.complete q p (record { xorb = sym (other p.0 is) ∙ location.xorb; chunk = location.chunk }))
 

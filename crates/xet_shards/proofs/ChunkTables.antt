@@ -17,13 +17,13 @@ use Rattle.xet_records.specs.declared.file_structs.MDBFileInfo.{MDBFileInfo}
 use Rattle.xet_records.specs.declared.xorb_structs.MDBXorbInfo.{MDBXorbInfo}
 use Rattle.xet_shards.specs.declared.shard_format.footer.MDBShardFileFooter.{MDBShardFileFooter}
 use Rattle.xet_shards.specs.Tables.{ChunkTableRow, chunk_table_row_cmp, chunk_table}
-use Rattle.xet_shards.specs.Layout.{Form, if_in, footer_value}
-use Rattle.xet_shards.specs.InForm.{IsInForm}
-use Rattle.xet_shards.specs.Lookup.{IsPair}
+use Rattle.xet_shards.specs.Layout.{LayoutOptions, if_included, footer_value}
+use Rattle.xet_shards.specs.WithOptions.{IsBytesWithOptions}
+use Rattle.xet_shards.specs.Lookup.{IsRowAndIndex}
 use Rattle.xet_shards.specs.TableReading.{triple_of, triple_row, FitsTriple}
 use Rattle.xet_shards.specs.WrittenChunks.{rows_with_word, RowsAmong, ChunkSearchCosts}
 use Rattle.xet_shards.proofs.Found.{first_ascends}
-use Rattle.xet_shards.proofs.InForm.{chunk_table_starts}
+use Rattle.xet_shards.proofs.WithOptions.{chunk_table_starts}
 use Rattle.xet_shards.proofs.KnownRows.{IsKnown, rows_sorted, rows_hit, search_served, row_hit}
 use Rattle.xet_shards.proofs.TableOrder.{chunk_table-sorted}
 use Rattle.xet_shards.proofs.Tables.{chunk_table_row_total}
@@ -54,8 +54,8 @@ module _ (xorbs : List MDBXorbInfo) where
   rows_differ i j i_in j_in other same =
       grind (arith, before i j, before j i, tied_itself chunk_table_row_total (get_or (chunk_table xorbs) i no_table_row))
 
-module _ (files : List MDBFileInfo) (xorbs : List MDBXorbInfo) (form : Form) (old : Source) (footer : MDBShardFileFooter) (is : IsInForm files xorbs form old.bytes footer)
-    (with_table : form.chunk_table ≡ true) where
+module _ (files : List MDBFileInfo) (xorbs : List MDBXorbInfo) (options : LayoutOptions) (old : Source) (footer : MDBShardFileFooter) (is : IsBytesWithOptions files xorbs options old.bytes footer)
+    (with_table : options.chunk_table ≡ true) where
   abbrev rows : List ChunkTableRow
   rows = chunk_table xorbs
 
@@ -76,13 +76,13 @@ module _ (files : List MDBFileInfo) (xorbs : List MDBXorbInfo) (form : Form) (ol
         few = omega (arith, length-chunk_table xorbs, xorb_rows-chunks xorbs, is.xorbs_fit.rows);
         keys_fit = λ i d below. (row_fits i d below).word;
         ascend = rows_ascend xorbs;
-        count_is = ap (λ b. length (if_in b rows)) with_table;
-        start_fits = omega (arith, chunk_table_starts files xorbs form old footer is);
-        start_there = omega (arith, chunk_table_there files xorbs form, ap length is.bytes_are);
-        after = after_tables files xorbs form;
-        table_is = ap (drop (footer_value files xorbs form).chunk_lookup_offset) is.bytes_are ∙ chunk_table_is_at files xorbs form
-            ∙ ap (λ b. flat_map triple_row (map triple_of (if_in b rows)) ++ after_tables files xorbs form) with_table
-            ∙ ap (λ bs. bs ++ after_tables files xorbs form) (same_rows rows);
+        count_is = ap (λ b. length (if_included b rows)) with_table;
+        start_fits = omega (arith, chunk_table_starts files xorbs options old footer is);
+        start_there = omega (arith, chunk_table_there files xorbs options, ap length is.bytes_are);
+        after = after_tables files xorbs options;
+        table_is = ap (drop (footer_value files xorbs options).chunk_lookup_offset) is.bytes_are ∙ chunk_table_is_at files xorbs options
+            ∙ ap (λ b. flat_map triple_row (map triple_of (if_included b rows)) ++ after_tables files xorbs options) with_table
+            ∙ ap (λ bs. bs ++ after_tables files xorbs options) (same_rows rows);
       })
 
   abbrev table : Table
@@ -98,9 +98,9 @@ module _ (files : List MDBFileInfo) (xorbs : List MDBXorbInfo) (form : Form) (ol
   row_of_hit h = get_or rows h.row no_table_row
 
   -- a hit is a row with the word, and has its numbers
-  pub hit_row : (word : ℕ) (h : Hit (ℕ × ℕ)) → IsHit table word IsPair h → (h.row < length rows) × ((row_of_hit h).word ≡ word) × (h.value ≡ ((row_of_hit h).row, (row_of_hit h).index))
+  pub hit_row : (word : ℕ) (h : Hit (ℕ × ℕ)) → IsHit table word IsRowAndIndex h → (h.row < length rows) × ((row_of_hit h).word ≡ word) × (h.value ≡ ((row_of_hit h).row, (row_of_hit h).index))
   hit_row word h hit =
-      let row = row_hit word_of numbers_of 8 no_table_row rows footer.chunk_lookup_offset footer.chunk_lookup_num_entry old rows_known IsPair word h hit in
+      let row = row_hit word_of numbers_of 8 no_table_row rows footer.chunk_lookup_offset footer.chunk_lookup_num_entry old rows_known IsRowAndIndex word h hit in
       let fits = row_fits h.row no_table_row row.0 in
       let start = u32_bytes-front h.value.0 (row_of_hit h).row (u32_bytes h.value.1) (u32_bytes (row_of_hit h).index) row.2.0 fits.row_number (sym row.2.2) in
       let location = u32_bytes-injective h.value.1 (row_of_hit h).index row.2.1 fits.index start.1 in
@@ -112,20 +112,20 @@ module _ (files : List MDBFileInfo) (xorbs : List MDBXorbInfo) (form : Form) (ol
       let known : table.rows ≡ length rows = rows_known.count_is in
       record { made = bounded.made; few = omega (arith, bounded.few, known, table_hits word); seeks = bounded.seeks; read = omega (arith, bounded.read, table_hits word) }
 
-  values_are : (word : ℕ) (found : List (Hit (ℕ × ℕ))) → All (IsHit table word IsPair) found
+  values_are : (word : ℕ) (found : List (Hit (ℕ × ℕ))) → All (IsHit table word IsRowAndIndex) found
       → map (λ (h : Hit (ℕ × ℕ)). h.value) found ≡ map (λ (p : ChunkTableRow). (p.row, p.index)) (map row_of_hit found)
   values_are word [] each = refl
   values_are word (h ∷ found) each =
-      λ i. (hit_row word h (each 0 h (omega arith))).2 i ∷ values_are word found (All-drop (IsHit table word IsPair) 1 (h ∷ found) each) i
+      λ i. (hit_row word h (each 0 h (omega arith))).2 i ∷ values_are word found (All-drop (IsHit table word IsRowAndIndex) 1 (h ∷ found) each) i
 
-  pub rows_found : (word count : ℕ) (dest_old dest_new : List (ℕ × ℕ)) → Finds table word IsPair dest_old dest_new count → count ≡ min (hits table word) 8
+  pub rows_found : (word count : ℕ) (dest_old dest_new : List (ℕ × ℕ)) → Finds table word IsRowAndIndex dest_old dest_new count → count ≡ min (hits table word) 8
       → RowsAmong xorbs word dest_old dest_new count
   rows_found word count dest_old dest_new finds all = record {
     found = map row_of_hit finds.found;
     number = length-map finds.found row_of_hit ∙ finds.number;
     all = all ∙ ap (λ n. min n 8) (table_hits word);
     each = All-map (λ p. Contains rows p × (p.word ≡ word)) row_of_hit finds.found
-        (All-weaker (IsHit table word IsPair) (λ h. Contains rows (row_of_hit h) × ((row_of_hit h).word ≡ word))
+        (All-weaker (IsHit table word IsRowAndIndex) (λ h. Contains rows (row_of_hit h) × ((row_of_hit h).word ≡ word))
         (λ h hit. let known = hit_row word h hit in (Contains-get_or rows h.row no_table_row known.0, known.1)) finds.found finds.each);
     distinct = λ i j d less below.
         let j_in : j < length finds.found = omega (arith, below, length-map finds.found row_of_hit) in
@@ -138,7 +138,7 @@ module _ (files : List MDBFileInfo) (xorbs : List MDBXorbInfo) (form : Form) (ol
     written = finds.written ∙ ap (λ vs. vs ++ drop count dest_old) (values_are word finds.found finds.each);
   }
 
-  pub chunk_index_written : (word : ℕ) (new : Source) (dest_old dest_new : List (ℕ × ℕ)) (r : Result ℕ CoreError) → IfOk r (Finds table word IsPair dest_old dest_new)
+  pub chunk_index_written : (word : ℕ) (new : Source) (dest_old dest_new : List (ℕ × ℕ)) (r : Result ℕ CoreError) → IfOk r (Finds table word IsRowAndIndex dest_old dest_new)
       → (IsSorted table → IfOk r (λ n. n ≡ min (hits table word) 8)) → IfErr r (SearchRefused table old new)
       → MatchResult r (RowsAmong xorbs word dest_old dest_new) (DeviceFailure old new)
   chunk_index_written word new dest_old dest_new (Ok count) finds all refused = rows_found word count dest_old dest_new finds (all table_sorted)

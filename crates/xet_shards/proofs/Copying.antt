@@ -28,11 +28,11 @@ use Rattle.xet_shards.proofs.Written.{xorb_written}
 -- the header and the rows of a record, as reading returns it
 module _ {H R : Type 0} (K : RecordKind H R) (laws : KindLaws K) (Took : List ℕ → Type 0) (h : H) (found : R) (read : ReadsRowsAfter K h Took found) where
   pub header_returned : K.header_of found ≡ h
-  header_returned = ap K.header_of (sym read.handed) ∙ laws.same_header read.stored ∙ read.same_header
+  header_returned = ap K.header_of (sym read.returned) ∙ laws.same_header read.stored ∙ read.same_header
 
   pub rows_returned : K.hash_of h ≢ all_ones → K.Fits h → K.row_count found ≡ 1 + K.rows_after h
   rows_returned is_record fits =
-      ap K.row_count (sym read.handed) ∙ laws.same_rows read.stored ∙ laws.rows read.stored (read.is_stored is_record fits) ∙ ap (λ g. 1 + K.rows_after g) read.same_header
+      ap K.row_count (sym read.returned) ∙ laws.same_rows read.stored ∙ laws.rows read.stored (read.is_stored is_record fits) ∙ ap (λ g. 1 + K.rows_after g) read.same_header
 
 module _ (Took : List ℕ → Type 0) (start mid new : Option (List ℕ)) where
   pub file_record_copied : (h : FileDataSequenceHeader) (total size : ℕ) (v w : WrittenFiles) → h.file_hash ≢ all_ones → file_records.Fits h → total ≡ 1 + rows_after h
@@ -59,7 +59,7 @@ module _ (Took : List ℕ → Type 0) (start mid new : Option (List ℕ)) where
       → w.stored_bytes_on_disk ≡ v.stored_bytes_on_disk + h.num_bytes_on_disk → CopiesRecord xorb_records h Took start new (HasWrittenXorbs v) (HasWrittenXorbs w)
   unfolding xorb_record_bytes
   xorb_record_copied h chunks v w front copied table chunk_rows bytes bytes_on_disk =
-      let count : length chunks ≡ h.num_entries = ap length (sym copied.read.handed) ∙ length-map copied.read.stored (λ c. c) ∙ copied.read.len in
+      let count : length chunks ≡ h.num_entries = ap length (sym copied.read.returned) ∙ length-map copied.read.stored (λ c. c) ∙ copied.read.len in
       record {
         found = record { metadata = h; chunks = chunks };
         read = chunks_after Took h chunks copied.read;
@@ -76,7 +76,7 @@ pub more_chunk_rows : (Took : List ℕ → Type 0) (old now new : List ChunkTabl
     → ReadsRows chunk_row FitsChunk (λ c. c) Took index chunks → AddsChunkRows old now row chunks
     → new ≡ now ++ chunk_table_row row index chunk ∷ [] → AddsChunkRows old new row (chunks ++ chunk ∷ [])
 more_chunk_rows Took old now new row index chunks chunk read so_far one =
-    let count : index ≡ length chunks = sym read.len ∙ sym (length-map read.stored (λ c. c)) ∙ ap length read.handed in
+    let count : index ≡ length chunks = sym read.len ∙ sym (length-map read.stored (λ c. c)) ∙ ap length read.returned in
     one ∙ (λ i. so_far i ++ chunk_table_row row (count i) chunk ∷ [])
     ∙ append_assoc old (chunk_table_rows_from row chunks) (chunk_table_row row (length chunks) chunk ∷ [])
     ∙ ap (λ rows. old ++ rows) (sym (chunk_table_rows_from-push row chunks chunk))

@@ -27,8 +27,8 @@ use Rattle.xet_shards.specs.Shard.{Shard}
 use Rattle.xet_shards.specs.WrittenShard.{IsBytesOf, IsBytesWithInfo, IsBytesWithoutExpiry}
 use Rattle.xet_shards.specs.Section.{section_bytes}
 use Rattle.xet_shards.specs.Tables.{table_bytes, chunk_table_bytes}
-use Rattle.xet_shards.specs.Layout.{Form, if_in, header_tag, shard_header_bytes, header_value, offsets_of, timestamps_of, sums_of, shard_footer_bytes, footer_value, layout_of, layout_in, plain_form_in, info_value_in}
-use Rattle.xet_shards.specs.Ends.{HasHeader, FitsFooter, HasEnds, IsUnsupported, IsTooShort, last_bytes, Loads, LoadFails, Refusal}
+use Rattle.xet_shards.specs.Layout.{LayoutOptions, if_included, header_tag, shard_header_bytes, header_value, offsets_of, timestamps_of, sums_of, shard_footer_bytes, footer_value, layout_of, layout_in, plain_options_in, info_value_in}
+use Rattle.xet_shards.specs.Ends.{HasHeader, FitsFooter, HasHeaderAndFooter, IsUnsupported, IsTooShort, last_bytes, Loads, LoadFails, Refusal}
 use Rattle.xet_shards.proofs.Layouts.{length-shard_header_bytes, length-shard_footer_bytes}
 use Rattle.xet_shards.proofs.Loading.{header_of}
 use Rattle.xet_shards.proofs.Readback.{layout_from_48}
@@ -106,11 +106,11 @@ footer_again old new found f rest found_fits fits are taken =
     (footer_unique found f found_fits fits same.0, same.1)
 
 -- at most one header and footer have these bytes
-pub only_info : (bytes : List ℕ) (x y : MDBShardInfo) → HasEnds bytes x → HasEnds bytes y → x ≡ y
+pub only_info : (bytes : List ℕ) (x y : MDBShardInfo) → HasHeaderAndFooter bytes x → HasHeaderAndFooter bytes y → x ≡ y
 only_info bytes x y a b = search (rules, header_unique, footer_unique)
 
 -- such bytes are neither unsupported nor too short
-module _ (bytes : List ℕ) (info : MDBShardInfo) (ends : HasEnds bytes info) where
+module _ (bytes : List ℕ) (info : MDBShardInfo) (ends : HasHeaderAndFooter bytes info) where
   header_is : HasHeader bytes
   header_is =
       header_of bytes (drop 48 bytes) info.header (sym (take-append-drop 48 bytes) ∙ ap (λ bs. bs ++ drop 48 bytes) ends.header) ends.header_version
@@ -132,39 +132,39 @@ module _ (bytes : List ℕ) (info : MDBShardInfo) (ends : HasEnds bytes info) wh
   not_too_short short = search (rules, ends.size)
 
 -- the ends of a shard's bytes
-module _ (files : List MDBFileInfo) (xorbs : List MDBXorbInfo) (form : Form) where
+module _ (files : List MDBFileInfo) (xorbs : List MDBXorbInfo) (options : LayoutOptions) where
   before_footer : List ℕ
   before_footer =
-      ((((shard_header_bytes (header_value form.version) ++ section_bytes file_records files) ++ section_bytes xorb_records xorbs) ++ if_in form.file_table (table_bytes file_records files)) ++ if_in form.xorb_table (table_bytes xorb_records xorbs))
-      ++ if_in form.chunk_table (chunk_table_bytes xorbs)
+      ((((shard_header_bytes (header_value options.version) ++ section_bytes file_records files) ++ section_bytes xorb_records xorbs) ++ if_included options.file_table (table_bytes file_records files)) ++ if_included options.xorb_table (table_bytes xorb_records xorbs))
+      ++ if_included options.chunk_table (chunk_table_bytes xorbs)
 
-  layout_is : layout_of files xorbs form ≡ before_footer ++ shard_footer_bytes (footer_value files xorbs form)
+  layout_is : layout_of files xorbs options ≡ before_footer ++ shard_footer_bytes (footer_value files xorbs options)
   unfolding layout_of before_footer
   layout_is = refl
 
-  pub ends_of_layout : FitsFooter (footer_value files xorbs form) → HasEnds (layout_of files xorbs form) (record { header = header_value form.version; metadata = footer_value files xorbs form })
+  pub ends_of_layout : FitsFooter (footer_value files xorbs options) → HasHeaderAndFooter (layout_of files xorbs options) (record { header = header_value options.version; metadata = footer_value files xorbs options })
   ends_of_layout fits =
-      let bytes = layout_of files xorbs form in
-      let footer = shard_footer_bytes (footer_value files xorbs form) in
-      let size : length footer ≡ 200 = length-shard_footer_bytes (footer_value files xorbs form) fits.buffer_size in
+      let bytes = layout_of files xorbs options in
+      let footer = shard_footer_bytes (footer_value files xorbs options) in
+      let size : length footer ≡ 200 = length-shard_footer_bytes (footer_value files xorbs options) fits.buffer_size in
       let whole : length bytes ≡ length before_footer + 200 = ap length layout_is ∙ length-append before_footer footer ∙ ap (λ n. length before_footer + n) size in
       record {
         size = omega (arith, whole);
         tag = refl;
-        header_version = (form.version, refl);
+        header_version = (options.version, refl);
         footer_size = omega arith;
-        header = front_is 48 bytes (shard_header_bytes (header_value form.version)) _ (length-shard_header_bytes (header_value form.version)) (layout_from_48 files xorbs form);
+        header = front_is 48 bytes (shard_header_bytes (header_value options.version)) _ (length-shard_header_bytes (header_value options.version)) (layout_from_48 files xorbs options);
         footer_version = refl;
         footer_widths = fits;
         footer = rest_is (length bytes - 200) bytes before_footer footer (omega (arith, whole)) layout_is;
       }
 
-why_not_loaded : (bytes : List ℕ) (info : MDBShardInfo) (old new : Source) (e : CoreError) → HasEnds bytes info → Refusal IsUnsupported IsTooShort bytes old new e → DeviceFailure old new e
+why_not_loaded : (bytes : List ℕ) (info : MDBShardInfo) (old new : Source) (e : CoreError) → HasHeaderAndFooter bytes info → Refusal IsUnsupported IsTooShort bytes old new e → DeviceFailure old new e
 why_not_loaded bytes info old new e ends refusal =
     search (rules, not_unsupported bytes info ends, not_too_short bytes info ends)
 
 -- from bytes with such ends these are read, unless the device fails
-pub loads_ends : (old new : Source) (info : MDBShardInfo) (r : Result MDBShardInfo CoreError) → HasEnds old.bytes info → MatchResult r (Loads old new) (LoadFails old new)
+pub loads_ends : (old new : Source) (info : MDBShardInfo) (r : Result MDBShardInfo CoreError) → HasHeaderAndFooter old.bytes info → MatchResult r (Loads old new) (LoadFails old new)
     → MatchResult r (λ found. found ≡ info) (DeviceFailure old new)
 loads_ends old new info r ends loads =
     MatchResult-weaker r loads (λ x found. only_info old.bytes x info found.ends ends) (λ e fails. why_not_loaded old.bytes info old new e ends fails.cause)
@@ -173,13 +173,13 @@ pub loads_written : (old new : Source) (version : FormatVersion) (s : Shard) (ex
     → FitsFooter (info_value_in version s expiry).metadata → MatchResult r (Loads old new) (LoadFails old new) → MatchResult r (λ info. info ≡ info_value_in version s expiry) (DeviceFailure old new)
 loads_written old new version s expiry r are fits =
     loads_ends old new (info_value_in version s expiry) r
-    (subst (λ bs. HasEnds bs (info_value_in version s expiry)) (sym are) (ends_of_layout (values s.files) (values s.xorbs) (plain_form_in version expiry) fits))
+    (subst (λ bs. HasHeaderAndFooter bs (info_value_in version s expiry)) (sym are) (ends_of_layout (values s.files) (values s.xorbs) (plain_options_in version expiry) fits))
 
 -- the header and the footer in the bytes of a shard are those of its layout
-pub ends_of_bytes : (s : Shard) (bytes : List ℕ) (is : IsBytesOf s bytes) → HasEnds bytes (info_value_in is.version s is.expiry)
+pub ends_of_bytes : (s : Shard) (bytes : List ℕ) (is : IsBytesOf s bytes) → HasHeaderAndFooter bytes (info_value_in is.version s is.expiry)
 ends_of_bytes s bytes is =
-    subst (λ bs. HasEnds bs (info_value_in is.version s is.expiry)) (sym is.bytes_are)
-    (ends_of_layout (values s.files) (values s.xorbs) (plain_form_in is.version is.expiry) (fits_written s is.expiry is.shard is.expiry_fits))
+    subst (λ bs. HasHeaderAndFooter bs (info_value_in is.version s is.expiry)) (sym is.bytes_are)
+    (ends_of_layout (values s.files) (values s.xorbs) (plain_options_in is.version is.expiry) (fits_written s is.expiry is.shard is.expiry_fits))
 
 pub info_of_bytes : {s : Shard} {bytes : List ℕ} {info : MDBShardInfo} → (is : IsBytesWithInfo s bytes info) → info ≡ info_value_in is.is_bytes.version s is.is_bytes.expiry
 info_of_bytes {s} {bytes} {info} is = only_info bytes info (info_value_in is.is_bytes.version s is.is_bytes.expiry) is.ends (ends_of_bytes s bytes is.is_bytes)

@@ -15,7 +15,7 @@ use Rattle.xet_records.specs.FileRecord.{IsWellFormed}
 use Rattle.xet_records.specs.Merging.{merged}
 use Rattle.xet_records.proofs.Merging.{merged_well_formed}
 use Rattle.xet_shards.specs.Shard.{FileMap, file_hash_of}
-use Rattle.xet_shards.specs.Joining.{but, entry, CanJoinFile, CanJoinFiles, either_file, own_file}
+use Rattle.xet_shards.specs.Joining.{unless_in, entry, CanJoinFile, CanJoinFiles, either_file, own_file}
 use Rattle.xet_shards.proofs.Found.{found_entry, entry_found}
 use Rattle.xet_shards.proofs.Maps.{less, both_left, both_right}
 use Rattle.xet_shards.proofs.Joining.{entry-append}
@@ -95,5 +95,5 @@ merged-more front rest k r m b c sorted is before = λ q.
 -- own files merged, then the missing ones
 
 pub united : (a b m n none : FileMap) → none ≡ empty → ((q : DataHash) → get m q ≡ own_file (get a q) (get b q))
-    → ((q : DataHash) → get n q ≡ option_or (get m q) (but none (get b) q)) → (q : DataHash) → get n q ≡ either_file (get a q) (get b q)
+    → ((q : DataHash) → get n q ≡ option_or (get m q) (unless_in none (get b) q)) → (q : DataHash) → get n q ≡ either_file (get a q) (get b q)
 united a b m n none is merged filled q = grind (arith, merged q, filled q, ap (λ e. get e q) is, get-empty {X = MDBFileInfo} hash_cmp q)

@@ -5,7 +5,7 @@ use Rattle.xet_records.specs.declared.file_structs.MDBFileInfo.{MDBFileInfo}
 use Rattle.xet_records.specs.FileRecord.{file_records, row_count, IsStored}
 use Rattle.xet_records.specs.View.{without_aux, auxes_as_wanted}
 use Rattle.xet_records.proofs.KeptParts.{without_aux-stored, without_aux-rows}
-use Rattle.xet_shards.specs.InForm.{FitsSection}
+use Rattle.xet_shards.specs.WithOptions.{FitsSection}
 use Rattle.xet_shards.specs.Section.{total_rows}
 use Rattle.xet_shards.proofs.Sums.{sum-mapped}
 

@@ -8,13 +8,13 @@ use Rattle.std.specs.FinMap.{FinMap, get, find, insert, empty, entries, get-inse
 use Rattle.xet_base.specs.declared.merklehash.DataHash.{DataHash}
 use Rattle.xet_base.specs.Hash.{hash_cmp}
 use Rattle.xet_base.proofs.HashOrder.{hash_cmp-IsTotalOrder, hash_cmp-IsAntisymmetric, same_key}
-use Rattle.xet_shards.specs.Joining.{but, entry}
+use Rattle.xet_shards.specs.Joining.{unless_in, entry}
 use Rattle.xet_shards.proofs.Walks.{All-middle}
 
 module _ {X : Type 0} where
   -- the loop has passed the entries `es`: from `f` to `m`
   abbrev pub IsFilled : (f : DataHash → Option X) (except m : FinMap hash_cmp X) (es : List (DataHash × X)) → Type 0
-  IsFilled f except m es = (q : DataHash) → get m q ≡ option_or (f q) (but except (entry es) q)
+  IsFilled f except m es = (q : DataHash) → get m q ≡ option_or (f q) (unless_in except (entry es) q)
 
   pub or_none : (o : Option X) → option_or o None ≡ o
   or_none o = grind arith
@@ -42,11 +42,11 @@ module _ {X : Type 0} where
     pub filled-all : except ≡ empty → (q : DataHash) → get n q ≡ option_or (get m q) (get from q)
     filled-all none q = grind (arith, filled q, get-empty {X = X} hash_cmp q, entry_is q)
 
-    pub filled-new : m ≡ empty → (q : DataHash) → get n q ≡ but except (get from) q
+    pub filled-new : m ≡ empty → (q : DataHash) → get n q ≡ unless_in except (get from) q
     filled-new none q = grind (arith, filled q, get-empty {X = X} hash_cmp q, entry_is q)
 
   -- the values of hashes that a map does not have
-  pub but_found : (except : FinMap hash_cmp X) (f : DataHash → Option X) (q : DataHash) (v : X) → but except f q ≡ Some v → f q ≡ Some v
+  pub but_found : (except : FinMap hash_cmp X) (f : DataHash → Option X) (q : DataHash) (v : X) → unless_in except f q ≡ Some v → f q ≡ Some v
   but_found except f q v found = grind arith
 
   -- one entry and then the rest of a map

@@ -13,9 +13,9 @@ use Rattle.std.proofs.lemmas.Grind.{flat_map-append}
 use Rattle.xet_base.specs.declared.error.CoreError.{CoreError}
 use Rattle.xet_base.specs.Errors.{CoreResult, IsWriteError}
 use Rattle.xet_base.specs.KeyedHash.{no_key}
-use Rattle.xet_base.specs.Source.{Source, Takes, advanced, bytes_left}
+use Rattle.xet_base.specs.Source.{Source, ReadsBytes, advanced, bytes_left}
 use Rattle.xet_base.specs.InputLaws.{failed_after, advanced-advanced}
-use Rattle.xet_base.proofs.Reading.{Takes-consumes}
+use Rattle.xet_base.proofs.Reading.{ReadsBytes-consumes}
 use Rattle.xet_records.specs.declared.file_structs.MDBFileInfo.{MDBFileInfo}
 use Rattle.xet_records.specs.declared.xorb_structs.MDBXorbInfo.{MDBXorbInfo}
 use Rattle.xet_records.specs.RecordKind.{RecordKind, in_version, KindLaws}
@@ -33,12 +33,12 @@ use Rattle.xet_shards.specs.declared.shard_format.header.MDBShardFileHeader.{MDB
 use Rattle.xet_shards.specs.declared.shard_format.info.MDBShardInfo.{MDBShardInfo}
 use Rattle.xet_shards.specs.Section.{total_rows, section_bytes}
 use Rattle.xet_shards.specs.Tables.{chunk_table, table_bytes, chunk_table_bytes}
-use Rattle.xet_shards.specs.Layout.{Form, if_in, shard_header_bytes, header_value, shard_footer_bytes, footer_value, layout_of}
+use Rattle.xet_shards.specs.Layout.{LayoutOptions, if_included, shard_header_bytes, header_value, shard_footer_bytes, footer_value, layout_of}
 use Rattle.xet_shards.specs.Written.{end_of_layout}
-use Rattle.xet_shards.specs.InForm.{FitsSection}
+use Rattle.xet_shards.specs.WithOptions.{FitsSection}
 use Rattle.xet_shards.specs.Ends.{HasHeader, FitsFooter}
-use Rattle.xet_shards.specs.SectionReading.{IsSection, TakesNoSection, RecordFails}
-use Rattle.xet_shards.specs.KeyedExport.{ExportsWith, ExportFails, ExportCase, OutcomeOfExport, CannotExport, ExpiresTooLate, BadSection, PassesSection, ExportsSection, WritingFails, ExportsNoSection, HasExported, exported_file, exported_xorb, xorbs_after, keyed_xorb, keyed_xorbs}
+use Rattle.xet_shards.specs.SectionReading.{IsSection, SectionNotStreamed, RecordFails}
+use Rattle.xet_shards.specs.KeyedExport.{ExportsWith, ExportFails, ExportCase, OutcomeOfExport, CannotExport, ExpiresTooLate, BadSection, ReadsThroughSection, ExportsSection, WritingFails, ExportsNoSection, HasExported, exported_file, exported_xorb, xorbs_after, keyed_xorb, keyed_xorbs}
 use Rattle.xet_shards.specs.KeyedExport.ExportCase.{bad_files, bad_xorbs, not_written}
 use Rattle.xet_shards.specs.Rewriting.{HasSections}
 use Rattle.xet_shards.proofs.EndsUnique.{ends_of_layout}
@@ -50,26 +50,26 @@ use Rattle.xet_shards.proofs.Loading.{header_of}
 use Rattle.xet_shards.proofs.SectionReading.{section_passed, section_fails}
 use Rattle.xet_shards.proofs.Walks.{flat_map-push}
 use Rattle.xet_shards.proofs.Written.{whole_layout}
-use Rattle.xet_shards.proofs.XorbLayouts.{length-in_form, xorb_rows-chunks, length-chunk_table}
+use Rattle.xet_shards.proofs.XorbLayouts.{length-with_options, xorb_rows-chunks, length-chunk_table}
 
 -- records were written one after another, and collected
 pub record SectionWritten {H R : Type 0} (K : RecordKind H R) (Collected : List R → Type 0) (before after : Option (List ℕ)) (written : List R) : Type 0 where
   pub collected : Collected written
   pub bytes : Appends before after (flat_map K.record_bytes written)
 
-if_in-size : {X : Type 0} (b : Bool) (xs : List X) → length (if_in b xs) ≤ length xs
-if_in-size true xs = omega arith
-if_in-size false xs = omega arith
+if_included-size : {X : Type 0} (b : Bool) (xs : List X) → length (if_included b xs) ≤ length xs
+if_included-size true xs = omega arith
+if_included-size false xs = omega arith
 
-if_in-section : (b : Bool) (files : List MDBFileInfo) → FitsSection file_records files → FitsSection file_records (if_in b files)
-if_in-section true files fits = fits
-if_in-section false files fits = record { stored = All-nil file_records.IsStored; rows = omega arith }
+if_included-section : (b : Bool) (files : List MDBFileInfo) → FitsSection file_records files → FitsSection file_records (if_included b files)
+if_included-section true files fits = fits
+if_included-section false files fits = record { stored = All-nil file_records.IsStored; rows = omega arith }
 
 -- what an export writes of files is all of them or none, and of xorbs all, under the key
-pub files_exported : (aux : Bool) (form : Form) (files : List MDBFileInfo) → flat_map (exported_file aux form) files ≡ if_in form.file_table (auxes_as_wanted aux files)
-files_exported aux form files = by_table form.file_table files ∙ ap (if_in form.file_table) (each aux files)
+pub files_exported : (aux : Bool) (options : LayoutOptions) (files : List MDBFileInfo) → flat_map (exported_file aux options) files ≡ if_included options.file_table (auxes_as_wanted aux files)
+files_exported aux options files = by_table options.file_table files ∙ ap (if_included options.file_table) (each aux files)
   where
-    by_table : (b : Bool) (rs : List MDBFileInfo) → flat_map (λ r. if_in b (aux_as_wanted aux r ∷ [])) rs ≡ if_in b (map (aux_as_wanted aux) rs)
+    by_table : (b : Bool) (rs : List MDBFileInfo) → flat_map (λ r. if_included b (aux_as_wanted aux r ∷ [])) rs ≡ if_included b (map (aux_as_wanted aux) rs)
     by_table true [] = refl
     by_table true (r ∷ rs) = ap (λ xs. aux_as_wanted aux r ∷ xs) (by_table true rs)
     by_table false [] = refl
@@ -79,15 +79,15 @@ files_exported aux form files = by_table form.file_table files ∙ ap (if_in for
     each true rs = map-id rs
     each false rs = refl
 
-pub xorbs_exported : (aux : Bool) (form : Form) (xorbs : List MDBXorbInfo) → flat_map (exported_xorb aux form) xorbs ≡ keyed_xorbs form.key xorbs
-xorbs_exported aux form xorbs = flat_map_single (keyed_xorb form.key) xorbs
+pub xorbs_exported : (aux : Bool) (options : LayoutOptions) (xorbs : List MDBXorbInfo) → flat_map (exported_xorb aux options) xorbs ≡ keyed_xorbs options.key xorbs
+xorbs_exported aux options xorbs = flat_map_single (keyed_xorb options.key) xorbs
 
 -- a xorb that was read is as it is stored
 xorb_as_stored : (version : FormatVersion) (Took : List ℕ → Type 0) (left after : ℕ) (r : MDBXorbInfo)
     → CountsRecord (in_version xorb_records version) Took left after r → CountsStored (in_version xorb_records version) Took left after r
 xorb_as_stored version Took left after r next = record {
-  is_stored = subst (in_version xorb_records version).IsStored next.reads.handed next.reads.is_stored;
-  taken = subst (λ (x : MDBXorbInfo). Took (xorb_record_bytes x)) next.reads.handed next.reads.taken;
+  is_stored = subst (in_version xorb_records version).IsStored next.reads.returned next.reads.is_stored;
+  taken = subst (λ (x : MDBXorbInfo). Took (xorb_record_bytes x)) next.reads.returned next.reads.taken;
   rows = next.rows;
 }
 
@@ -98,19 +98,19 @@ result_as (Err e) P Q F G ok err holds = err e holds
 
 -- outcomes of exports
 module _ {S W : Type 0} {aux : Bool} {meaning : S → Source} {contents : W → Option (List ℕ)} {source_old source_new : S} {writer_old writer_new : W} {r : CoreResult ℕ} (now valid : ℕ) where
-  -- in its form, if it does not expire too late
-  pub export_in_time : {form same : Form} → (form ≡ same) × (¬ ExpiresTooLate now valid)
-      → MatchResult r (ExportsWith aux form (meaning source_old) (meaning source_new) (contents writer_old) (contents writer_new)) (ExportFails (meaning source_old) (meaning source_new))
+  -- with its options, if it does not expire too late
+  pub export_in_time : {options same : LayoutOptions} → (options ≡ same) × (¬ ExpiresTooLate now valid)
+      → MatchResult r (ExportsWith aux options (meaning source_old) (meaning source_new) (contents writer_old) (contents writer_new)) (ExportFails (meaning source_old) (meaning source_new))
       → OutcomeOfExport (ExpiresTooLate now valid) aux same meaning contents source_old source_new writer_old writer_new r
   export_in_time (is, in_time) exports =
-      subst (λ form. OutcomeOfExport (ExpiresTooLate now valid) aux form meaning contents source_old source_new writer_old writer_new r) is
+      subst (λ options. OutcomeOfExport (ExpiresTooLate now valid) aux options meaning contents source_old source_new writer_old writer_new r) is
       (record { written = result_as r _ _ _ _ (λ n made. made) (λ e fails. inr fails) exports; untouched = λ late. absurd (in_time late) })
 
   -- and of a shard whose chunk hashes are not keyed
-  pub export_unkeyed : (info : MDBShardInfo) {form : Form} {b : Bool} → IsTrue b ↔ (info.metadata.chunk_hash_hmac_key ≢ no_key) → b ≡ false
-      → OutcomeOfExport (ExpiresTooLate now valid) aux form meaning contents source_old source_new writer_old writer_new r
-      → OutcomeOfExport (CannotExport info now valid) aux form meaning contents source_old source_new writer_old writer_new r
-  export_unkeyed info {form} {b} is unkeyed outcome = record {
+  pub export_unkeyed : (info : MDBShardInfo) {options : LayoutOptions} {b : Bool} → IsTrue b ↔ (info.metadata.chunk_hash_hmac_key ≢ no_key) → b ≡ false
+      → OutcomeOfExport (ExpiresTooLate now valid) aux options meaning contents source_old source_new writer_old writer_new r
+      → OutcomeOfExport (CannotExport info now valid) aux options meaning contents source_old source_new writer_old writer_new r
+  export_unkeyed info {options} {b} is unkeyed outcome = record {
     written = result_as r _ _ _ _ (λ n made. made) (λ e fails. elim fails [
       | inl late ↦ inl (late.0, inr late.1)
       | inr other ↦ inr other
@@ -147,7 +147,7 @@ module _ {H R : Type 0} (K : RecordKind H R) (exports : R → List R) where
 pub record Exported {H R : Type 0} (K : RecordKind H R) (version : FormatVersion) (out : List R → List R) (Collected : List R → Type 0) (old new : Source) (before after : Option (List ℕ))
     : Type 0 where
   pub stored : List R
-  pub passed : PassesSection (in_version K version) old new stored
+  pub passed : ReadsThroughSection (in_version K version) old new stored
   pub collected : Collected (out stored)
   pub written : Appends before after (section_bytes K (out stored))
 
@@ -178,20 +178,20 @@ module _ {H R : Type 0} (K : RecordKind H R) (laws : KindLaws K) where
       → total_rows K before.stored + K.row_count r ≤ 4294967295
   next_fits First Next Made left after r before next = omega (arith, before.rows, next.rows, laws.rows r next.is_stored)
 
-  abbrev read_of : (Took : List ℕ → Type 0) (Made : List R → Type 0) (left : ℕ) (before : HasExported K Took Made left) → HasRead K Took (map K.handed_out before.stored) left
-  read_of Took Made left before = record { stored = before.stored; are_stored = before.are_stored; taken = before.taken; rows = before.rows; handed = refl }
+  abbrev read_of : (Took : List ℕ → Type 0) (Made : List R → Type 0) (left : ℕ) (before : HasExported K Took Made left) → HasRead K Took (map K.as_read before.stored) left
+  read_of Took Made left before = record { stored = before.stored; are_stored = before.are_stored; taken = before.taken; rows = before.rows; returned = refl }
 
-  module _ (start now : Source) (Made : List R → Type 0) (left : ℕ) (before : HasExported K (Takes start now) Made left) where
-    pub all_passed : (new : Source) → ReadsBookend K (Takes now new) → PassesSection K start new before.stored
+  module _ (start now : Source) (Made : List R → Type 0) (left : ℕ) (before : HasExported K (ReadsBytes start now) Made left) where
+    pub all_passed : (new : Source) → ReadsBookend K (ReadsBytes now new) → ReadsThroughSection K start new before.stored
     all_passed new last =
-        let passed = section_passed K laws start now (map K.handed_out before.stored) left (read_of (Takes start now) Made left before) new last in
+        let passed = section_passed K laws start now (map K.as_read before.stored) left (read_of (ReadsBytes start now) Made left before) new last in
         record { section = passed.0; after = passed.1 }
 
-    pub not_passed : (new : Source) (e : CoreError) → RecordFails K left now new e → TakesNoSection K start new e
-    not_passed new e fails = section_fails K laws start now (map K.handed_out before.stored) left (read_of (Takes start now) Made left before) new e fails
+    pub not_passed : (new : Source) (e : CoreError) → RecordFails K left now new e → SectionNotStreamed K start new e
+    not_passed new e fails = section_fails K laws start now (map K.as_read before.stored) left (read_of (ReadsBytes start now) Made left before) new e fails
 
 -- the writer failed after bytes that were read
-pub writing_failed : (old new : Source) (taken : List ℕ) (e : CoreError) → Takes old new taken → IsWriteError e → WritingFails old new e
+pub writing_failed : (old new : Source) (taken : List ℕ) (e : CoreError) → ReadsBytes old new taken → IsWriteError e → WritingFails old new e
 writing_failed old new taken e read cause = record {
   bytes = ap (λ (s : Source). s.bytes) read.after;
   seeks = ap (λ (s : Source). s.seeks) read.after;
@@ -218,15 +218,15 @@ section_not_exported K version old mid new n e at header bad (inr fails) = recor
 }
 
 -- the layout ends after the footer
-pub footer_last : (files : List MDBFileInfo) (xorbs : List MDBXorbInfo) (form : Form) → length (layout_of files xorbs form) ≡ (footer_value files xorbs form).footer_offset + 200
+pub footer_last : (files : List MDBFileInfo) (xorbs : List MDBXorbInfo) (options : LayoutOptions) → length (layout_of files xorbs options) ≡ (footer_value files xorbs options).footer_offset + 200
 unfolding layout_of
-footer_last files xorbs form =
-    let header = shard_header_bytes (header_value form.version) in
-    let footer = footer_value files xorbs form in
+footer_last files xorbs options =
+    let header = shard_header_bytes (header_value options.version) in
+    let footer = footer_value files xorbs options in
     let sections = (header ++ section_bytes file_records files) ++ section_bytes xorb_records xorbs in
-    let file_table = if_in form.file_table (table_bytes file_records files) in
-    let xorb_table = if_in form.xorb_table (table_bytes xorb_records xorbs) in
-    let chunks = if_in form.chunk_table (chunk_table_bytes xorbs) in
+    let file_table = if_included options.file_table (table_bytes file_records files) in
+    let xorb_table = if_included options.xorb_table (table_bytes xorb_records xorbs) in
+    let chunks = if_included options.chunk_table (chunk_table_bytes xorbs) in
     omega (
       arith,
       length-append (((sections ++ file_table) ++ xorb_table) ++ chunks) (shard_footer_bytes footer),
@@ -235,18 +235,18 @@ footer_last files xorbs form =
       length-append sections file_table,
       length-append (header ++ section_bytes file_records files) (section_bytes xorb_records xorbs),
       length-append header (section_bytes file_records files),
-      length-shard_header_bytes (header_value form.version),
+      length-shard_header_bytes (header_value options.version),
       length-shard_footer_bytes footer refl,
     )
 
-layout_small : (files : List MDBFileInfo) (xorbs : List MDBXorbInfo) (form : Form) → FitsSection file_records files → FitsSection xorb_records xorbs
-    → length (layout_of files xorbs form) ≤ 2 ^ 50
-layout_small files xorbs form files_fit xorbs_fit = omega (
+layout_small : (files : List MDBFileInfo) (xorbs : List MDBXorbInfo) (options : LayoutOptions) → FitsSection file_records files → FitsSection xorb_records xorbs
+    → length (layout_of files xorbs options) ≤ 2 ^ 50
+layout_small files xorbs options files_fit xorbs_fit = omega (
   arith,
-  length-in_form files xorbs form (λ k r below. (files_fit.stored k r below).widths),
-  if_in-size form.file_table files,
-  if_in-size form.xorb_table xorbs,
-  if_in-size form.chunk_table (chunk_table xorbs),
+  length-with_options files xorbs options (λ k r below. (files_fit.stored k r below).widths),
+  if_included-size options.file_table files,
+  if_included-size options.xorb_table xorbs,
+  if_included-size options.chunk_table (chunk_table xorbs),
   length-le-rows files,
   xorb_rows-chunks xorbs,
   length-chunk_table xorbs,
@@ -255,12 +255,12 @@ layout_small files xorbs form files_fit xorbs_fit = omega (
 )
 
 -- after the header
-module _ {old s1 : Source} (h : MDBShardFileHeader) (taken : Takes old s1 (shard_header_bytes h)) (two : IsVersion h.version) where
+module _ {old s1 : Source} (h : MDBShardFileHeader) (taken : ReadsBytes old s1 (shard_header_bytes h)) (two : IsVersion h.version) where
   abbrev version : FormatVersion
   version = version_of h.version
 
   abbrev header_there : HasHeader (bytes_left old)
-  header_there = header_of (bytes_left old) (bytes_left s1) h (Takes-consumes old s1 (shard_header_bytes h) taken) two
+  header_there = header_of (bytes_left old) (bytes_left s1) h (ReadsBytes-consumes old s1 (shard_header_bytes h) taken) two
 
   at_files : s1 ≡ advanced old 48
   at_files = taken.after ∙ ap (advanced old) (length-shard_header_bytes h)
@@ -277,7 +277,7 @@ module _ {old s1 : Source} (h : MDBShardFileHeader) (taken : Takes old s1 (shard
   header_not_written e cause = files_not_exported s1 e (inr (record { bytes = refl; seeks = refl; failures = refl; cause = cause }))
 
   -- after the files
-  module _ {s2 : Source} {files : List MDBFileInfo} (passed : PassesSection (file_records_in version) s1 s2 files) where
+  module _ {s2 : Source} {files : List MDBFileInfo} (passed : ReadsThroughSection (file_records_in version) s1 s2 files) where
     file_section : IsSection (file_records_in version) (drop 48 (bytes_left old)) files
     file_section = subst (λ bs. IsSection (file_records_in version) bs files) files_left passed.section
 
@@ -296,7 +296,7 @@ module _ {old s1 : Source} (h : MDBShardFileHeader) (taken : Takes old s1 (shard
         (λ bad. bad_xorbs header_there files file_section (subst (λ bs. BadSection xorb_records bs e) xorbs_left bad)) why
 
     -- after the xorbs
-    module _ {s3 : Source} {xorbs : List MDBXorbInfo} (rest : PassesSection xorb_records s2 s3 xorbs) where
+    module _ {s3 : Source} {xorbs : List MDBXorbInfo} (rest : ReadsThroughSection xorb_records s2 s3 xorbs) where
       pub sections_there : HasSections (bytes_left old) files xorbs
       sections_there = record { header = header_there; file_section = file_section; xorb_section = subst (λ bs. IsSection xorb_records bs xorbs) xorbs_left rest.section }
 
@@ -314,32 +314,32 @@ module _ {old s1 : Source} (h : MDBShardFileHeader) (taken : Takes old s1 (shard
       }))
 
       -- what is written of them
-      module _ (aux : Bool) (form : Form) where
+      module _ (aux : Bool) (options : LayoutOptions) where
         abbrev files_out : List MDBFileInfo
-        files_out = if_in form.file_table (auxes_as_wanted aux files)
+        files_out = if_included options.file_table (auxes_as_wanted aux files)
 
         abbrev xorbs_out : List MDBXorbInfo
-        xorbs_out = keyed_xorbs form.key xorbs
+        xorbs_out = keyed_xorbs options.key xorbs
 
         files_fit : FitsSection file_records files_out
-        files_fit = if_in-section form.file_table (auxes_as_wanted aux files)
+        files_fit = if_included-section options.file_table (auxes_as_wanted aux files)
             (section-aux_as_wanted aux files (fits_ever file_records version files (record { stored = file_section.records.are_stored; rows = file_section.records.rows })))
 
         xorbs_fit : FitsSection xorb_records xorbs_out
-        xorbs_fit = keyed_section form.key xorbs (record { stored = rest.section.records.are_stored; rows = rest.section.records.rows })
+        xorbs_fit = keyed_section options.key xorbs (record { stored = rest.section.records.are_stored; rows = rest.section.records.rows })
 
         pub widths_out : All FitsRecord files_out
         widths_out = λ k r below. (files_fit.stored k r below).widths
 
-        pub export_small : (footer : MDBShardFileFooter) → footer ≡ footer_value files_out xorbs_out form → footer.footer_offset + 200 ≤ 2 ^ 50
+        pub export_small : (footer : MDBShardFileFooter) → footer ≡ footer_value files_out xorbs_out options → footer.footer_offset + 200 ≤ 2 ^ 50
         export_small footer is =
-            omega (arith, footer_last files_out xorbs_out form, layout_small files_out xorbs_out form files_fit xorbs_fit, ap (λ (f : MDBShardFileFooter). f.footer_offset) is)
+            omega (arith, footer_last files_out xorbs_out options, layout_small files_out xorbs_out options files_fit xorbs_fit, ap (λ (f : MDBShardFileFooter). f.footer_offset) is)
 
-        pub all_exported : form.version ≡ V3 → {footer : MDBShardFileFooter} (start after_header after_files after_xorbs end : Option (List ℕ)) {n : ℕ}
-            → footer ≡ footer_value files_out xorbs_out form → FitsFooter footer → n ≡ footer.footer_offset + 200
-            → Appends start after_header (shard_header_bytes (header_value form.version)) → Appends after_header after_files (section_bytes file_records files_out)
-            → Appends after_files after_xorbs (section_bytes xorb_records xorbs_out) → Appends after_xorbs end (end_of_layout files_out xorbs_out form)
-            → ExportsWith aux form old s3 start end n
+        pub all_exported : options.version ≡ V3 → {footer : MDBShardFileFooter} (start after_header after_files after_xorbs end : Option (List ℕ)) {n : ℕ}
+            → footer ≡ footer_value files_out xorbs_out options → FitsFooter footer → n ≡ footer.footer_offset + 200
+            → Appends start after_header (shard_header_bytes (header_value options.version)) → Appends after_header after_files (section_bytes file_records files_out)
+            → Appends after_files after_xorbs (section_bytes xorb_records xorbs_out) → Appends after_xorbs end (end_of_layout files_out xorbs_out options)
+            → ExportsWith aux options old s3 start end n
         all_exported is_3 start after_header after_files after_xorbs end is fits count header_out files_bytes xorbs_bytes end_bytes = record {
           files = files;
           xorbs = xorbs;
@@ -347,8 +347,8 @@ module _ {old s1 : Source} (h : MDBShardFileHeader) (taken : Takes old s1 (shard
           file_section = sections_there.file_section;
           xorb_section = sections_there.xorb_section;
           read = at_end;
-          written = whole_layout start after_header after_files after_xorbs end files_out xorbs_out form header_out files_bytes xorbs_bytes end_bytes;
-          count = count ∙ ap (λ (f : MDBShardFileFooter). f.footer_offset + 200) is ∙ sym (footer_last files_out xorbs_out form);
-          ends = ends_of_layout files_out xorbs_out form (subst FitsFooter is fits);
-          in_form = record { files_fit = subst (λ v. FitsSection (file_records_in v) files_out) (sym is_3) files_fit; xorbs_fit = xorbs_fit; bytes_are = refl; footer_is = refl };
+          written = whole_layout start after_header after_files after_xorbs end files_out xorbs_out options header_out files_bytes xorbs_bytes end_bytes;
+          count = count ∙ ap (λ (f : MDBShardFileFooter). f.footer_offset + 200) is ∙ sym (footer_last files_out xorbs_out options);
+          ends = ends_of_layout files_out xorbs_out options (subst FitsFooter is fits);
+          with_options = record { files_fit = subst (λ v. FitsSection (file_records_in v) files_out) (sym is_3) files_fit; xorbs_fit = xorbs_fit; bytes_are = refl; footer_is = refl };
         }

@@ -6,7 +6,7 @@ use Rattle.std.proofs.lemmas.List.{length-map, length-drop, take_all, drop_all}
 use Rattle.std.proofs.lemmas.List.Elements.{All-map}
 use Rattle.std.proofs.lemmas.List.Sums.{sum_by-cons}
 use Rattle.xet_base.specs.declared.merklehash.DataHash.{DataHash}
-use Rattle.xet_base.specs.Bytes.{u32_bytes, spelled_u64, AreBytes}
+use Rattle.xet_base.specs.Bytes.{u32_bytes, u64_from_bytes, AreBytes}
 use Rattle.xet_base.specs.Hash.{IsHash, hash_bytes, hash_eq}
 use Rattle.xet_base.specs.KeyedHash.{hmac, hash_of, keyed_bytes, digest, state_after, start_of, message_of, no_key, under_key}
 use Rattle.xet_base.proofs.Bytes.{take-bytes, drop-bytes, append-bytes}
@@ -15,7 +15,7 @@ use Rattle.xet_records.specs.declared.xorb_structs.XorbChunkSequenceEntry.{XorbC
 use Rattle.xet_records.specs.XorbRow.{FitsChunk}
 use Rattle.xet_records.specs.XorbRecord.{xorb_records, xorb_row_count, IsStoredXorb}
 use Rattle.xet_shards.specs.Section.{total_rows}
-use Rattle.xet_shards.specs.InForm.{FitsSection}
+use Rattle.xet_shards.specs.WithOptions.{FitsSection}
 use Rattle.xet_shards.specs.KeyedExport.{keyed_chunk, keyed_xorb, keyed_xorbs}
 
 u32_are : (n : ℕ) → AreBytes (u32_bytes n)
@@ -43,8 +43,8 @@ keyed_are : (key message : List ℕ) → AreBytes (keyed_bytes key message)
 unfolding keyed_bytes
 keyed_are key message = digest_are (state_after 7 (start_of key) (message_of message))
 
-below_64 : (bytes : List ℕ) → AreBytes bytes → spelled_u64 bytes < 2 ^ 64
-unfolding spelled_u64
+below_64 : (bytes : List ℕ) → AreBytes bytes → u64_from_bytes bytes < 2 ^ 64
+unfolding u64_from_bytes
 below_64 bytes are = omega (arith, are 0, are 1, are 2, are 3, are 4, are 5, are 6, are 7)
 
 hash_of_fits : (bytes : List ℕ) → AreBytes bytes → IsHash (hash_of bytes)

@@ -18,7 +18,7 @@ use Rattle.xet_shards.specs.Shard.{Shard, IsShard, AreXorbs, xorb_hash_of}
 use Rattle.xet_shards.specs.SetOperations.{IsUnion, ShardsAgree}
 use Rattle.xet_shards.specs.Joins.{IsJoinOf}
 use Rattle.xet_shards.specs.ChunkQuery.{run_length}
-use Rattle.xet_shards.specs.Layout.{Form, if_in, layout_of}
+use Rattle.xet_shards.specs.Layout.{LayoutOptions, if_included, layout_of}
 use Rattle.xet_shards.specs.KeyedExport.{keyed_chunk, keyed_xorb, keyed_xorbs, exported}
 use Rattle.xet_shards.specs.KeyedShards.{keyed_entries, keyed_shard}
 use Rattle.xet_shards.proofs.KeyedHashes.{keyed_stored, keyed_rows, keyed_total}
@@ -114,9 +114,9 @@ module _ (key : DataHash) (shards : List Shard) (c : Shard) where
   }
 
 -- an export of a shard's lists with files is the layout of the shard under the key
-pub exported_is : (s : Shard) (form : Form) → form.file_table ≡ true
-    → exported (values s.files) (values s.xorbs) form ≡ layout_of (values (keyed_shard form.key s).files) (values (keyed_shard form.key s).xorbs) form
-exported_is s form with_files = λ i. layout_of (if_in (with_files i) (values s.files)) (sym (values-keyed form.key s) i) form
+pub exported_is : (s : Shard) (options : LayoutOptions) → options.file_table ≡ true
+    → exported (values s.files) (values s.xorbs) options ≡ layout_of (values (keyed_shard options.key s).files) (values (keyed_shard options.key s).xorbs) options
+exported_is s options with_files = λ i. layout_of (if_included (with_files i) (values s.files)) (sym (values-keyed options.key s) i) options
 
 -- a run of hashes under no key is at most as long as under a key, at the chunks with hashes under it
 pub run_no_shorter : (key : DataHash) (qs : List DataHash) (cs : List XorbChunkSequenceEntry) → run_length no_key qs cs ≤ run_length key qs (map (keyed_chunk key) cs)

@@ -14,7 +14,7 @@ pub mod Files
 pub mod FilesWithoutAux
 pub mod Found
 pub mod ChunkLookups
-pub mod InForm
+pub mod WithOptions
 pub mod Joining
 pub mod Joins
 pub mod KeyedExport

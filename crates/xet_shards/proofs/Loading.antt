@@ -6,11 +6,11 @@ use Rattle.std.specs.declared.io.Error.{Error}
 use Rattle.xet_base.specs.declared.error.CoreError.{CoreError}
 use Rattle.xet_base.specs.Bytes.{u64_bytes}
 use Rattle.xet_base.specs.Errors.{IsEndOfInput, IsBareShardVersion, FromDevice}
-use Rattle.xet_base.specs.Source.{Source, Takes, Fails, moved, bytes_left}
+use Rattle.xet_base.specs.Source.{Source, ReadsBytes, Fails, moved, bytes_left}
 use Rattle.xet_base.proofs.Bytes.{length-u64_bytes, u64_bytes-injective}
 use Rattle.xet_base.proofs.Lists.{front_is}
-use Rattle.xet_base.specs.InputLaws.{Takes-trans}
-use Rattle.xet_base.proofs.Reading.{Takes-consumes}
+use Rattle.xet_base.specs.InputLaws.{ReadsBytes-trans}
+use Rattle.xet_base.proofs.Reading.{ReadsBytes-consumes}
 use Rattle.xet_records.specs.declared.record_reader.FormatVersion.{FormatVersion}
 use Rattle.xet_shards.proofs.Versions.{number_fits}
 use Rattle.xet_records.specs.Version.{number_of, IsVersion, version_of}
@@ -32,12 +32,12 @@ refusal_of Unsupported Short Unsupported' Short' bytes bytes' old mid new e same
 
 -- a header in two steps
 pub read_in_two : (a b c : Source) (tag rest : List ℕ) (h : MDBShardFileHeader) → tag ≡ header_tag → rest ≡ u64_bytes h.version ++ u64_bytes h.footer_size
-    → Takes a b tag → Takes b c rest → Takes a c (shard_header_bytes h)
+    → ReadsBytes a b tag → ReadsBytes b c rest → ReadsBytes a c (shard_header_bytes h)
 unfolding shard_header_bytes
 read_in_two a b c tag rest h is_tag rest_is first last =
-    subst (Takes a c) (λ i. is_tag i ++ rest_is i) (Takes-trans a b c tag rest first last)
+    subst (ReadsBytes a c) (λ i. is_tag i ++ rest_is i) (ReadsBytes-trans a b c tag rest first last)
 
-pub other_version_read : (a b c : Source) (tag rest : List ℕ) (e : CoreError) → length tag ≡ 32 → length rest ≡ 16 → Takes a b tag → Takes b c rest → IsBareShardVersion e
+pub other_version_read : (a b c : Source) (tag rest : List ℕ) (e : CoreError) → length tag ≡ 32 → length rest ≡ 16 → ReadsBytes a b tag → ReadsBytes b c rest → IsBareShardVersion e
     → ((version : FormatVersion) → take 8 rest ≢ u64_bytes (number_of version)) → PartFails HasUnsupportedHeader EndsInHeader 48 a c e
 other_version_read a b c tag rest e tag_len len first last is differs = record {
   bytes = ap (λ (s : Source). s.bytes) last.after ∙ ap (λ (s : Source). s.bytes) first.after;
@@ -46,7 +46,7 @@ other_version_read a b c tag rest e tag_len len first last is differs = record {
   cause = inr (
     ap (λ (s : Source). s.failures) last.after ∙ ap (λ (s : Source). s.failures) first.after,
     unsupported_format is
-        (unsupported_version (Some (bytes_left a)) (Some (bytes_left b)) (Some (bytes_left c)) tag rest tag_len len (Takes-consumes a b tag first) (Takes-consumes b c rest last) differs),
+        (unsupported_version (Some (bytes_left a)) (Some (bytes_left b)) (Some (bytes_left c)) tag rest tag_len len (ReadsBytes-consumes a b tag first) (ReadsBytes-consumes b c rest last) differs),
   );
 }
 
@@ -82,15 +82,15 @@ one_version bytes a b =
     ∙ version_known b.version
 
 -- the first 48 bytes were read, as a header
-module _ (old start mid : Source) (h : MDBShardFileHeader) (first : start ≡ moved old 0) (read : Takes start mid (shard_header_bytes h)) where
-  taken : Takes (moved old 0) mid (shard_header_bytes h)
-  taken = subst (λ s. Takes s mid (shard_header_bytes h)) first read
+module _ (old start mid : Source) (h : MDBShardFileHeader) (first : start ≡ moved old 0) (read : ReadsBytes start mid (shard_header_bytes h)) where
+  taken : ReadsBytes (moved old 0) mid (shard_header_bytes h)
+  taken = subst (λ s. ReadsBytes s mid (shard_header_bytes h)) first read
 
   bytes_same : mid.bytes ≡ old.bytes
   bytes_same = ap (λ (s : Source). s.bytes) taken.after
 
   begins : old.bytes ≡ shard_header_bytes h ++ bytes_left mid
-  begins = Takes-consumes (moved old 0) mid (shard_header_bytes h) taken
+  begins = ReadsBytes-consumes (moved old 0) mid (shard_header_bytes h) taken
 
   front_is_header : take 48 old.bytes ≡ shard_header_bytes h
   front_is_header = front_is 48 old.bytes (shard_header_bytes h) (bytes_left mid) (length-shard_header_bytes h) begins
@@ -143,7 +143,7 @@ module _ (old start mid : Source) (h : MDBShardFileHeader) (first : start ≡ mo
             length_last,
           )
 
-      pub found_both : (new : Source) (f : MDBShardFileFooter) → h.tag ≡ header_tag → h.footer_size < 2 ^ 64 → f.version ≡ 1 → FitsFooter f → Takes end new (shard_footer_bytes f)
+      pub found_both : (new : Source) (f : MDBShardFileFooter) → h.tag ≡ header_tag → h.footer_size < 2 ^ 64 → f.version ≡ 1 → FitsFooter f → ReadsBytes end new (shard_footer_bytes f)
           → Loads old new (record { header = h; metadata = f })
       found_both new f tag footer_size one widths took =
           grind (
@@ -151,7 +151,7 @@ module _ (old start mid : Source) (h : MDBShardFileHeader) (first : start ≡ mo
             common_steps,
             there,
             length-shard_footer_bytes,
-            Takes-consumes,
+            ReadsBytes-consumes,
             nil_from_length,
             length-append,
             last_is,

@@ -4,7 +4,7 @@ use Rattle.std.specs.Prelude.{IfOk}
 use Rattle.std.specs.declared.result.Result.{Result}
 use Rattle.std.proofs.lemmas.Grind.{common_steps}
 use Rattle.std.proofs.lemmas.List.{length-append}
-use Rattle.xet_base.specs.Table.{Table, Serves, IsSorted, Bounded, Hit, Finds}
+use Rattle.xet_base.specs.Table.{Table, NoFailure, IsSorted, Bounded, Hit, Finds}
 use Rattle.std.proofs.lemmas.List.Elements.{AllZip-push, All-push}
 use Rattle.std.proofs.lemmas.List.Sums.{sum_by-append}
 use Rattle.xet_base.specs.declared.error.CoreError.{CoreError}
@@ -12,17 +12,17 @@ use Rattle.xet_base.specs.declared.merklehash.DataHash.{DataHash}
 use Rattle.xet_shards.specs.Tables.{hash_in}
 use Rattle.std.specs.declared.io.Error.{Error}
 use Rattle.xet_base.specs.Errors.{FromDevice}
-use Rattle.xet_base.specs.Source.{Source, Takes, Fails, moved, bytes_left}
-use Rattle.xet_base.proofs.Reading.{Takes-consumes}
+use Rattle.xet_base.specs.Source.{Source, ReadsBytes, Fails, moved, bytes_left}
+use Rattle.xet_base.proofs.Reading.{ReadsBytes-consumes}
 use Rattle.xet_base.proofs.Search.{serves_still, serves_moved, serves_advanced}
 use Rattle.xet_records.specs.RecordKind.{RecordKind}
 use Rattle.xet_records.specs.Reading.{ReadsBookend}
 use Rattle.xet_records.proofs.RecordKinds.{KindLaws, length-record_bytes, stored_begins}
-use Rattle.xet_shards.specs.SectionReading.{MayTake, ReadsNext, RecordFails}
-use Rattle.xet_shards.specs.Lookup.{IndexFinds, VisitsSome, LooksUp, LookupAnswer, LookupRefused, Finding, FindingFails, row_at, RecordAt, IsBareInternalError, InfoRefusal, ReadsInfo, ReadInfoFails, Visit, Visits, Missed}
+use Rattle.xet_shards.specs.SectionReading.{MayRead, ReadsNext, RecordFails}
+use Rattle.xet_shards.specs.Lookup.{IndexFinds, VisitsSome, LooksUp, LookupAnswer, LookupRefused, FindsRecord, FindRecordFails, row_at, RecordAt, IsBareInternalError, InfoRefusal, ReadsInfo, ReadInfoFails, Visit, Visits, NoneHasHash}
 
 -- calls that did not fail, after others
-pub serves_after : (old now new : Source) → Serves old now → Serves now new → Serves old new
+pub serves_after : (old now new : Source) → NoFailure old now → NoFailure now new → NoFailure old new
 serves_after old now new first last = search rules
 
 -- what some readings gave, others give too
@@ -52,11 +52,11 @@ module _ {H R : Type 0} (K : RecordKind H R) (laws : KindLaws K) where
     pub info_read : (left after : ℕ) (found : R) → ReadsNext K mid new left after found → ReadsInfo K offset row old new found
     info_read left after found next =
         let read = next.reads in
-        let are : drop (row_at offset row) old.bytes ≡ K.record_bytes read.stored ++ bytes_left new = sym left_is ∙ Takes-consumes mid new (K.record_bytes read.stored) read.taken in
+        let are : drop (row_at offset row) old.bytes ≡ K.record_bytes read.stored ++ bytes_left new = sym left_is ∙ ReadsBytes-consumes mid new (K.record_bytes read.stored) read.taken in
         record {
           within = fits;
-          is_at = record { stored = read.stored; is_stored = read.is_stored; rows = read.rows; taken = (bytes_left new, are); handed = read.handed };
-          serves = serves_advanced old mid new (length (K.record_bytes read.stored)) (serves_moved old old mid (row_at offset row) (serves_still old) sought) read.taken.after;
+          is_at = record { stored = read.stored; is_stored = read.is_stored; rows = read.rows; taken = (bytes_left new, are); returned = read.returned };
+          no_failure = serves_advanced old mid new (length (K.record_bytes read.stored)) (serves_moved old old mid (row_at offset row) (serves_still old) sought) read.taken.after;
           seeks = ap (λ (s : Source). s.seeks) read.taken.after ∙ ap (λ (s : Source). s.seeks) sought;
           taken = length (K.record_bytes read.stored);
           read = ap (λ (s : Source). s.read) read.taken.after ∙ ap (λ (s : Source). s.read + length (K.record_bytes read.stored)) sought;
@@ -68,7 +68,7 @@ module _ {H R : Type 0} (K : RecordKind H R) (laws : KindLaws K) where
           );
         }
 
-    pub info_bookend : (e : CoreError) → IsBareInternalError e → ReadsBookend K (Takes mid new) → ReadInfoFails K offset row old new e
+    pub info_bookend : (e : CoreError) → IsBareInternalError e → ReadsBookend K (ReadsBytes mid new) → ReadInfoFails K offset row old new e
     info_bookend e bare read = record {
       bytes = ap (λ (s : Source). s.bytes) read.taken.after ∙ ap (λ (s : Source). s.bytes) sought;
       seeks = omega (arith, ap (λ (s : Source). s.seeks) read.taken.after, ap (λ (s : Source). s.seeks) sought);
@@ -86,7 +86,7 @@ module _ {H R : Type 0} (K : RecordKind H R) (laws : KindLaws K) where
             rest = bytes_left new;
             widths = read.widths;
             is_bookend = read.is_bookend;
-            bytes_are = sym left_is ∙ Takes-consumes mid new (K.header_bytes read.header) read.taken;
+            bytes_are = sym left_is ∙ ReadsBytes-consumes mid new (K.header_bytes read.header) read.taken;
           },
         ),
       );
@@ -103,8 +103,8 @@ module _ {H R : Type 0} (K : RecordKind H R) (laws : KindLaws K) where
     seeks = omega (arith, visit.seeks, before.seeks, ap (λ n. most * n) (length-append rows (row ∷ [])), mul-add most (length rows) 1, mul-one most);
     no_fewer = omega (arith, visit.no_fewer, before.no_fewer);
     taken = before.taken ++ visit.taken ∷ [];
-    may_take = AllZip-push (λ r k. MayTake K (drop (row_at offset r) old.bytes) k) rows before.taken row visit.taken before.may_take
-        (subst (λ bs. MayTake K (drop (row_at offset row) bs) visit.taken) before.bytes visit.may_take);
+    may_take = AllZip-push (λ r k. MayRead K (drop (row_at offset r) old.bytes) k) rows before.taken row visit.taken before.may_take
+        (subst (λ bs. MayRead K (drop (row_at offset row) bs) visit.taken) before.bytes visit.may_take);
     read = omega (arith, visit.read, before.read, sum_by-append (λ k. k) before.taken (visit.taken ∷ []));
   }
 
@@ -117,11 +117,11 @@ module _ {H R : Type 0} (K : RecordKind H R) (laws : KindLaws K) where
   visits_read_not offset row rows old now new e before read = search (rules, visits_more)
 
   -- one record more
-  pub missed_more : (offset row : ℕ) (hash : DataHash) (rows : List ℕ) (old now new : Source) (found : R) → Missed K offset hash rows old now
-      → ReadsInfo K offset row now new found → hash_in K found ≢ hash → Missed K offset hash (rows ++ row ∷ []) old new
+  pub missed_more : (offset row : ℕ) (hash : DataHash) (rows : List ℕ) (old now new : Source) (found : R) → NoneHasHash K offset hash rows old now
+      → ReadsInfo K offset row now new found → hash_in K found ≢ hash → NoneHasHash K offset hash (rows ++ row ∷ []) old new
   missed_more offset row hash rows old now new found before read other = record {
     visits = visits_read offset row rows old now new found before.visits read;
-    serves = serves_after old now new before.serves read.serves;
+    no_failure = serves_after old now new before.no_failure read.no_failure;
     others = All-push (λ r. (info : R) × RecordAt K old.bytes (row_at offset r) info × (hash_in K info ≢ hash)) rows row before.others
         (found, subst (λ bytes. RecordAt K bytes (row_at offset row) found) before.visits.bytes read.is_at, other);
   }
@@ -133,14 +133,14 @@ module _ {H R : Type 0} (K : RecordKind H R) (laws : KindLaws K) where
 
   -- the search answered, and the records at its rows were read
   module _ (t : Table) (offset count : ℕ) (hash : DataHash) (old mid new : Source) (dest_old dest_new : List ℕ)
-      (finds : IndexFinds t hash.word0 dest_old dest_new count) (serves : Serves old mid) (bounded : IsSorted t → Bounded t hash.word0 old mid)
+      (finds : IndexFinds t hash.word0 dest_old dest_new count) (no_failure : NoFailure old mid) (bounded : IsSorted t → Bounded t hash.word0 old mid)
       (visits : VisitsSome K 1 offset (take count dest_new) mid new) where
     looked_up : (Answer : List ℕ → Type 0) → Answer (take count dest_new) → LooksUp K t offset hash.word0 old new Answer
     looked_up Answer answer = grind (arith, common_steps)
 
-    pub finding : (answer : Option R) → LookupAnswer K mid.bytes offset hash answer (take count dest_new) → Finding K t offset hash old new answer
+    pub finding : (answer : Option R) → LookupAnswer K mid.bytes offset hash answer (take count dest_new) → FindsRecord K t offset hash old new answer
     finding answer read = grind (arith, common_steps)
 
-    pub finding_not : (e : CoreError) → LookupRefused K offset mid new e (take count dest_new) → FindingFails K t offset hash old new e
+    pub finding_not : (e : CoreError) → LookupRefused K offset mid new e (take count dest_new) → FindRecordFails K t offset hash old new e
     finding_not e (row, contains, refusal) =
-        inr (looked_up (LookupRefused K offset old new e) (row, contains, refusal_after offset row old mid new e serves.bytes serves.failures refusal))
+        inr (looked_up (LookupRefused K offset old new e) (row, contains, refusal_after offset row old mid new e no_failure.bytes no_failure.failures refusal))

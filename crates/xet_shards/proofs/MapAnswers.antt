@@ -11,9 +11,9 @@ use Rattle.xet_shards.specs.Tables.{hash_in}
 use Rattle.xet_shards.proofs.Found.{found_entry, entry_found}
 use Rattle.xet_shards.proofs.TableLookups.{IsAnswer}
 
--- for records that are each under their hash and are handed out as they are
+-- for records that are each under their hash and are returned as they are
 module _ {H R : Type 0} (K : RecordKind H R) (d : R) (m : FinMap hash_cmp R)
-    (keyed : All (λ e. e.0 ≡ hash_in K e.1) (entries m)) (unchanged : All (λ r. K.handed_out r ≡ r) (values m)) where
+    (keyed : All (λ e. e.0 ≡ hash_in K e.1) (entries m)) (unchanged : All (λ r. K.as_read r ≡ r) (values m)) where
   abbrev no_entry : DataHash × R
   no_entry = (hash_in K d, d)
 
@@ -27,8 +27,8 @@ module _ {H R : Type 0} (K : RecordKind H R) (d : R) (m : FinMap hash_cmp R)
   hash_of i within = keyed i no_entry (entry_in i within) ∙ ap (hash_in K) (sym (value_of i within))
 
   pub map_answers : (hash : DataHash) (answer : Option R) → IsAnswer K d (values m) hash answer → answer ≡ get m hash
-  map_answers hash (Some found) (i, within, handed, same) =
-      let value : found ≡ get_or (values m) i d = handed ∙ unchanged i d within in
+  map_answers hash (Some found) (i, within, returned, same) =
+      let value : found ≡ get_or (values m) i d = returned ∙ unchanged i d within in
       sym (get-entries m hash
       ∙ entry_found hash_cmp hash_cmp-IsTotalOrder (entries m) i hash found no_entry (entries_sorted m) (entry_in i within)
       (λ k. ((hash_of i within ∙ ap (hash_in K) (sym value) ∙ same) k, (sym (value_of i within) ∙ sym value) k)))

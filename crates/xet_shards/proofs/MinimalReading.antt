@@ -9,18 +9,18 @@ use Rattle.xet_base.specs.declared.error.CoreError.{CoreError}
 use Rattle.xet_base.specs.declared.error.CoreError.TheVariants.{OutOfMemory}
 use Rattle.xet_base.specs.declared.merklehash.DataHash.{DataHash}
 use Rattle.xet_base.specs.Errors.{CoreResult}
-use Rattle.xet_base.specs.Source.{Source, Takes}
+use Rattle.xet_base.specs.Source.{Source, ReadsBytes}
 use Rattle.xet_records.specs.declared.record_reader.FormatVersion.{FormatVersion}
 use Rattle.xet_records.specs.Version.{version_of}
 use Rattle.xet_records.specs.RecordKind.{RecordKind, KindLaws}
-use Rattle.xet_records.specs.Reading.{Stops}
-use Rattle.xet_records.specs.Reading.Stops.{no_header, refused_header, no_rows}
+use Rattle.xet_records.specs.Reading.{NextRecordNotRead}
+use Rattle.xet_records.specs.Reading.NextRecordNotRead.{no_header, refused_header, no_rows}
 use Rattle.xet_records.specs.ViewReading.{CountsStored}
-use Rattle.xet_shards.specs.InForm.{FitsSection}
+use Rattle.xet_shards.specs.WithOptions.{FitsSection}
 use Rattle.xet_shards.specs.MinimalShard.{MinimalShard, eligible_hashes}
-use Rattle.xet_shards.specs.Layout.{if_in}
-use Rattle.xet_shards.specs.MinimalReading.{HasReadViews, ReadsViews, StopsAfterViews, ReadsWantedXorbs, ReadsSections, ReadsShardHeader, ReadsMinimal, SectionsFail, MinimalFails, ReadsEligible, EligibleFails}
-use Rattle.xet_shards.specs.MinimalReading.SectionsFail.{no_files, no_xorbs}
+use Rattle.xet_shards.specs.Layout.{if_included}
+use Rattle.xet_shards.specs.MinimalReading.{HasReadViews, ReadsViews, StopsAfterViews, ReadsWantedXorbs, ReadsSections, ReadsShardHeader, ReadsMinimal, SectionsNotRead, MinimalFails, ReadsEligible, EligibleFails}
+use Rattle.xet_shards.specs.MinimalReading.SectionsNotRead.{no_files, no_xorbs}
 
 module _ {H R V : Type 0} (K : RecordKind H R) (laws : KindLaws K) (record_of : V → R) where
   -- before the first record
@@ -77,7 +77,7 @@ module _ {I J : Type 0} (view : I → J) (reads : J → J → List ℕ → Type 
 
   module _ (fails : J → J → ℕ → CoreError → Type 0) where
     next_seen : {H R : Type 0} (K : RecordKind H R) (left : ℕ) (old new : I) (e : CoreError)
-        → Stops K (λ a b xs. reads (view a) (view b) xs) (λ a b n f. fails (view a) (view b) n f) left old new e → Stops K reads fails left (view old) (view new) e
+        → NextRecordNotRead K (λ a b xs. reads (view a) (view b) xs) (λ a b n f. fails (view a) (view b) n f) left old new e → NextRecordNotRead K reads fails left (view old) (view new) e
     next_seen K left old new e (no_header failed) = no_header failed
     next_seen K left old new e (refused_header h read refused bare) = refused_header h read refused bare
     next_seen K left old new e (no_rows h mid after begun failed) = no_rows h (view mid) after begun failed
@@ -89,14 +89,14 @@ module _ {I J : Type 0} (view : I → J) (reads : J → J → List ℕ → Type 
         record { mid = view stops.mid; views = stops.views; left = stops.left; records = stops.records; stops = next_seen K stops.left stops.mid new e stops.stops }
 
     sections_seen : (version : FormatVersion) (with_xorbs : Bool) (old new : I) (e : CoreError)
-        → SectionsFail (λ a b xs. reads (view a) (view b) xs) (λ a b n f. fails (view a) (view b) n f) version with_xorbs old new e
-        → SectionsFail reads fails version with_xorbs (view old) (view new) e
+        → SectionsNotRead (λ a b xs. reads (view a) (view b) xs) (λ a b n f. fails (view a) (view b) n f) version with_xorbs old new e
+        → SectionsNotRead reads fails version with_xorbs (view old) (view new) e
     sections_seen version with_xorbs old new e (no_files stops) = no_files (stops_seen _ old new e stops)
     sections_seen version with_xorbs old new e (no_xorbs wanted mid files read stops) = no_xorbs wanted (view mid) files (views_seen _ old mid files read) (stops_seen _ mid new e stops)
 
     pub failure_seen : (header_fails : J → J → CoreError → Type 0) (with_xorbs : Bool) (old new mid : I) (e : CoreError)
         → (header : ReadsShardHeader (λ a b xs. reads (view a) (view b) xs) old mid)
-        → SectionsFail (λ a b xs. reads (view a) (view b) xs) (λ a b n f. fails (view a) (view b) n f) (version_of header.header.version) with_xorbs mid new e
+        → SectionsNotRead (λ a b xs. reads (view a) (view b) xs) (λ a b n f. fails (view a) (view b) n f) (version_of header.header.version) with_xorbs mid new e
         → MinimalFails reads fails header_fails with_xorbs (view old) (view new) e
     failure_seen header_fails with_xorbs old new mid e header failed = inr (view mid, header_seen old mid header, sections_seen (version_of header.header.version) with_xorbs mid new e failed)
 
@@ -104,24 +104,24 @@ module _ {I J : Type 0} (view : I → J) (reads : J → J → List ℕ → Type 
     pub after_header : (header_fails : J → J → CoreError → Type 0) (with_files with_xorbs : Bool) (old mid new : I) (r : CoreResult MinimalShard)
         → (header : ReadsShardHeader (λ a b xs. reads (view a) (view b) xs) old mid)
         → MatchResult r (ReadsSections (λ a b xs. reads (view a) (view b) xs) (version_of header.header.version) with_files with_xorbs mid new)
-        (SectionsFail (λ a b xs. reads (view a) (view b) xs) (λ a b n f. fails (view a) (view b) n f) (version_of header.header.version) with_xorbs mid new)
+        (SectionsNotRead (λ a b xs. reads (view a) (view b) xs) (λ a b n f. fails (view a) (view b) n f) (version_of header.header.version) with_xorbs mid new)
         → MatchResult r (ReadsMinimal reads with_files with_xorbs (view old) (view new)) (MinimalFails reads fails header_fails with_xorbs (view old) (view new))
     after_header header_fails with_files with_xorbs old mid new (Ok m) header sections = minimal_seen with_files with_xorbs old new m (mid, header, sections)
     after_header header_fails with_files with_xorbs old mid new (Err e) header failed = failure_seen header_fails with_xorbs old new mid e header failed
 
 -- the records of a section, or none if they are not kept, fit a section
-pub kept_fit : {H R : Type 0} (K : RecordKind H R) (is_kept : Bool) (records : List R) → FitsSection K records → FitsSection K (if_in is_kept records)
+pub kept_fit : {H R : Type 0} (K : RecordKind H R) (is_kept : Bool) (records : List R) → FitsSection K records → FitsSection K (if_included is_kept records)
 kept_fit K true records fits = fits
 kept_fit K false records fits = none_fit K
 
 -- what is kept so far, after one record more
-pub kept_more : {X : Type 0} (is_kept : Bool) (read : List X) (x : X) (before after : List X) → before ≡ if_in is_kept read
-    → after ≡ (if is_kept then before ++ x ∷ [] else before) → after ≡ if_in is_kept (read ++ x ∷ [])
+pub kept_more : {X : Type 0} (is_kept : Bool) (read : List X) (x : X) (before after : List X) → before ≡ if_included is_kept read
+    → after ≡ (if is_kept then before ++ x ∷ [] else before) → after ≡ if_included is_kept (read ++ x ∷ [])
 kept_more true read x before after is more = more ∙ ap (λ vs. vs ++ x ∷ []) is
 kept_more false read x before after is more = more ∙ is
 
 -- the hashes of what was read were collected, or memory ran out
-pub eligible_read : {Z : Type 0} (old new : Source) (m : MinimalShard) (r : CoreResult (Vec DataHash Z)) → ReadsMinimal Takes true true old new m
+pub eligible_read : {Z : Type 0} (old new : Source) (m : MinimalShard) (r : CoreResult (Vec DataHash Z)) → ReadsMinimal ReadsBytes true true old new m
     → IfOk r (λ hashes. hashes.items ≡ eligible_hashes m.files m.xorbs) → IfErr r (λ e. e ≡ OutOfMemory)
     → MatchResult r (λ hashes. ReadsEligible old new hashes.items) (EligibleFails old new)
 eligible_read old new m (Ok hashes) read same causes = (m, read, same)

@@ -30,9 +30,9 @@ use Rattle.xet_shards.specs.Tables.{table_bytes, chunk_table_bytes}
 use Rattle.xet_shards.specs.Written.{HasWritten, HasWrittenFor, end_of_layout}
 use Rattle.xet_shards.specs.MinimalWriting.{WritesMarked}
 use Rattle.xet_shards.proofs.Written.{whole_layout}
-use Rattle.xet_shards.specs.InForm.{FitsSection}
-use Rattle.xet_shards.specs.Layout.{Form, if_in, layout_of, header_value, footer_value, shard_header_bytes}
-use Rattle.xet_shards.specs.MinimalShard.{MinimalShard, is_start, chunk_of, marked_if, mark_starts, minimal_form, HasNoTables, IsKept, WritesBytes, WritesKept, WritesMinimalKept}
+use Rattle.xet_shards.specs.WithOptions.{FitsSection}
+use Rattle.xet_shards.specs.Layout.{LayoutOptions, if_included, layout_of, header_value, footer_value, shard_header_bytes}
+use Rattle.xet_shards.specs.MinimalShard.{MinimalShard, is_start, chunk_of, marked_if, mark_starts, minimal_options, HasNoTables, IsKept, WritesBytes, WritesKept, WritesMinimalKept}
 use Rattle.xet_shards.proofs.Layouts.{length-file_section, length-xorb_section, length-shard_header_bytes, length-shard_footer_bytes}
 use Rattle.xet_shards.proofs.Sums.{sum-mapped}
 use Rattle.xet_shards.proofs.XorbLayouts.{length-parts}
@@ -132,51 +132,51 @@ fit_as_kept kept files stored =
     All-map FitsRecord (as_kept kept) files (All-weaker IsStored (λ r. FitsRecord (as_kept kept r)) (λ r s. as_kept-fits kept r s.widths) files stored)
 
 -- the length of a layout without tables
-none_in : {X : Type 0} (is_in : Bool) (xs : List X) → is_in ≡ false → length (if_in is_in xs) ≡ 0
-none_in is_in xs out = ap (λ b. length (if_in b xs)) out
+none_in : {X : Type 0} (is_in : Bool) (xs : List X) → is_in ≡ false → length (if_included is_in xs) ≡ 0
+none_in is_in xs out = ap (λ b. length (if_included b xs)) out
 
-pub length-without_tables : (files : List MDBFileInfo) (xorbs : List MDBXorbInfo) (form : Form) → HasNoTables form → All FitsRecord files
-    → length (layout_of files xorbs form) ≡ 344 + 48 * total_rows file_records files + 48 * total_rows xorb_records xorbs
-length-without_tables files xorbs form tables fit =
+pub length-without_tables : (files : List MDBFileInfo) (xorbs : List MDBXorbInfo) (options : LayoutOptions) → HasNoTables options → All FitsRecord files
+    → length (layout_of files xorbs options) ≡ 344 + 48 * total_rows file_records files + 48 * total_rows xorb_records xorbs
+length-without_tables files xorbs options tables fit =
     omega (
       arith,
-      length-parts files xorbs form,
-      length-shard_header_bytes (header_value form.version),
+      length-parts files xorbs options,
+      length-shard_header_bytes (header_value options.version),
       length-file_section files fit,
       length-xorb_section xorbs,
-      none_in form.file_table (table_bytes file_records files) tables.0,
-      none_in form.xorb_table (table_bytes xorb_records xorbs) tables.1,
-      none_in form.chunk_table (chunk_table_bytes xorbs) tables.2,
-      length-shard_footer_bytes (footer_value files xorbs form) refl,
+      none_in options.file_table (table_bytes file_records files) tables.0,
+      none_in options.xorb_table (table_bytes xorb_records xorbs) tables.1,
+      none_in options.chunk_table (chunk_table_bytes xorbs) tables.2,
+      length-shard_footer_bytes (footer_value files xorbs options) refl,
     )
 
 -- header, sections and end of a shard with the xorbs that a filter accepts
-pub shard_written : (answers : MDBXorbInfo → Bool → Type 0) (m : MinimalShard) (files : List MDBFileInfo) (form : Form) (start after_header after_files after_xorbs end : Option (List ℕ))
+pub shard_written : (answers : MDBXorbInfo → Bool → Type 0) (m : MinimalShard) (files : List MDBFileInfo) (options : LayoutOptions) (start after_header after_files after_xorbs end : Option (List ℕ))
     (wf : WrittenFiles) (wx : WrittenXorbs) (starts : FileStart → Bool) (xorbs : List MDBXorbInfo) (n : ℕ)
-    → HasNoTables form → All FitsRecord files → starts ≡ is_start m.files → xorbs ≡ m.xorbs
-    → Appends start after_header (shard_header_bytes (header_value form.version)) → Appends after_header after_files (section_bytes file_records files) → HasWritten wf files
+    → HasNoTables options → All FitsRecord files → starts ≡ is_start m.files → xorbs ≡ m.xorbs
+    → Appends start after_header (shard_header_bytes (header_value options.version)) → Appends after_header after_files (section_bytes file_records files) → HasWritten wf files
     → WritesMarked answers starts after_files after_xorbs xorbs wx
-    → ((rs : List MDBFileInfo) (xs : List MDBXorbInfo) → All FitsRecord rs → HasWritten wf rs → HasWrittenFor form.chunk_table wx xs → Appends after_xorbs end (end_of_layout rs xs form))
-    → n ≡ 344 + 48 * wf.table.rows + 48 * wx.table.rows → WritesKept answers start end files m form n
-shard_written answers m files form start after_header after_files after_xorbs end wf wx starts xorbs n tables fit same_starts same_xorbs header section written marked rest count =
+    → ((rs : List MDBFileInfo) (xs : List MDBXorbInfo) → All FitsRecord rs → HasWritten wf rs → HasWrittenFor options.chunk_table wx xs → Appends after_xorbs end (end_of_layout rs xs options))
+    → n ≡ 344 + 48 * wf.table.rows + 48 * wx.table.rows → WritesKept answers start end files m options n
+shard_written answers m files options start after_header after_files after_xorbs end wf wx starts xorbs n tables fit same_starts same_xorbs header section written marked rest count =
     let xs = map (mark_starts (is_start m.files)) marked.kept in
     let without : HasWrittenFor false wx xs = subst (λ s. HasWrittenFor false wx (map (mark_starts s) marked.kept)) same_starts marked.collected in
-    let collected : HasWrittenFor form.chunk_table wx xs = subst (λ b. HasWrittenFor b wx xs) (sym tables.2) without in
+    let collected : HasWrittenFor options.chunk_table wx xs = subst (λ b. HasWrittenFor b wx xs) (sym tables.2) without in
     let bytes : Appends after_files after_xorbs (section_bytes xorb_records xs) =
     subst (λ s. Appends after_files after_xorbs (section_bytes xorb_records (map (mark_starts s) marked.kept))) same_starts marked.bytes in
     record {
       kept = marked.kept;
       is_kept = subst (λ ys. IsKept answers ys marked.kept) same_xorbs marked.is_kept;
       written = record {
-        appended = whole_layout start after_header after_files after_xorbs end files xs form header section bytes (rest files xs fit written collected);
-        count = omega (arith, count, written.table.rows, collected.table.rows, length-without_tables files xs form tables fit);
+        appended = whole_layout start after_header after_files after_xorbs end files xs options header section bytes (rest files xs fit written collected);
+        count = omega (arith, count, written.table.rows, collected.table.rows, length-without_tables files xs options tables fit);
       };
     }
 
 -- a filter that accepts each xorb writes the whole shard
 pub all_written : (answers : MDBXorbInfo → Bool → Type 0) → ((x : MDBXorbInfo) (b : Bool) → answers x b → b ≡ true) → (old new : Option (List ℕ)) (kept : KeptParts) (now : ℕ) (m : MinimalShard)
-    (r : CoreResult ℕ) → IfOk r (WritesKept answers old new (map (as_kept kept) m.files) m (minimal_form now None)) → IfOk r (WritesMinimalKept old new kept now m)
+    (r : CoreResult ℕ) → IfOk r (WritesKept answers old new (map (as_kept kept) m.files) m (minimal_options now None)) → IfOk r (WritesMinimalKept old new kept now m)
 all_written answers each old new kept now m (Ok n) written =
-    subst (λ xs. WritesBytes old new (layout_of (map (as_kept kept) m.files) (map (mark_starts (is_start m.files)) xs) (minimal_form now None)) n)
+    subst (λ xs. WritesBytes old new (layout_of (map (as_kept kept) m.files) (map (mark_starts (is_start m.files)) xs) (minimal_options now None)) n)
     (all_kept answers each m.xorbs written.kept written.is_kept) written.written
 all_written answers each old new kept now m (Err e) written = tt

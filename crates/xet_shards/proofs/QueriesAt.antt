@@ -6,7 +6,7 @@ use Rattle.xet_base.specs.declared.error.CoreError.{CoreError}
 use Rattle.xet_base.specs.Errors.{CoreResult}
 use Rattle.xet_base.specs.Hash.{all_ones}
 use Rattle.xet_base.specs.Source.{Source, DeviceFailure, bytes_left, moved}
-use Rattle.xet_base.proofs.Reading.{Takes-consumes}
+use Rattle.xet_base.proofs.Reading.{ReadsBytes-consumes}
 use Rattle.xet_records.specs.declared.xorb_structs.XorbChunkSequenceHeader.{XorbChunkSequenceHeader}
 use Rattle.xet_records.specs.XorbRow.{xorb_header_row}
 use Rattle.xet_records.specs.XorbRecord.{xorb_records}
@@ -35,7 +35,7 @@ header_fails q some fails = record {
     ],
   );
   nothing = λ none. absurd (some_hashes q some none);
-  serves = tt;
+  no_failure = tt;
   visit = record { bytes = fails.bytes; seeks = omega (arith, fails.seeks); no_fewer = fails.no_fewer; taken = 48; read = fails.read; may_take = inl (omega arith) };
 }
 
@@ -43,7 +43,7 @@ header_fails q some fails = record {
 module _ (q : QueryAt) {old mid : Source} {header : XorbChunkSequenceHeader} (some : false ≡ (length q.hashes == 0)) (read : ReadsHeaderAt q.section q.row old mid header)
     {b : Bool} (is : IsTrue b ↔ (header.xorb_hash ≡ all_ones)) where
   bytes_are : xorb_at q old.bytes ≡ xorb_header_row header ++ bytes_left mid
-  bytes_are = Takes-consumes (moved old (xorb_offset q)) mid (xorb_header_row header) read.taken
+  bytes_are = ReadsBytes-consumes (moved old (xorb_offset q)) mid (xorb_header_row header) read.taken
 
   bytes_same : mid.bytes ≡ old.bytes
   bytes_same = ap (λ (s : Source). s.bytes) read.taken.after
@@ -70,7 +70,7 @@ module _ (q : QueryAt) {old mid : Source} {header : XorbChunkSequenceHeader} (so
     answer = tt;
     refused = (some_hashes q some, inr (inr (inl (failures_same, is_absent, announces_none none))));
     nothing = λ none. absurd (some_hashes q some none);
-    serves = tt;
+    no_failure = tt;
     visit = record { bytes = bytes_same; seeks = omega (arith, seeks_then); no_fewer = omega (arith, seeks_then); taken = 48; read = omega (arith, read_then); may_take = inl (omega arith) };
   }
 
@@ -111,13 +111,13 @@ module _ (q : QueryAt) {old mid : Source} {header : XorbChunkSequenceHeader} (so
       answer = inr (some_hashes q some, header, location, subst (λ bytes. FoundRun q header bytes answer) bytes_same reads.found);
       refused = tt;
       nothing = λ none. absurd (some_hashes q some none);
-      serves = serves_after old mid new (record { bytes = bytes_same; failures = failures_same; last_failure = ap (λ (s : Source). s.last_failure) read.taken.after }) reads.serves;
-      visit = visit_run new reads.serves.bytes (omega (arith, reads.seeks)) (omega (arith, reads.seeks)) reads.read;
+      no_failure = serves_after old mid new (record { bytes = bytes_same; failures = failures_same; last_failure = ap (λ (s : Source). s.last_failure) read.taken.after }) reads.no_failure;
+      visit = visit_run new reads.no_failure.bytes (omega (arith, reads.seeks)) (omega (arith, reads.seeks)) reads.read;
     }
     run_read {Absent} {new} (Err e) fails = record {
       answer = tt;
       refused = (some_hashes q some, refused_here Absent new e fails);
       nothing = λ none. absurd (some_hashes q some none);
-      serves = tt;
+      no_failure = tt;
       visit = visit_run new fails.bytes fails.seeks fails.no_fewer fails.read;
     }

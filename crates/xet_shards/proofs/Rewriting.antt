@@ -15,11 +15,11 @@ use Rattle.xet_records.specs.XorbRecord.{xorb_records}
 use Rattle.xet_records.proofs.RecordKinds.{xorb_laws, version_known}
 use Rattle.xet_shards.specs.declared.shard_format.footer.MDBShardFileFooter.{MDBShardFileFooter}
 use Rattle.xet_shards.specs.declared.shard_format.info.MDBShardInfo.{MDBShardInfo}
-use Rattle.xet_shards.specs.Ends.{HasEnds, FitsFooter}
-use Rattle.xet_shards.specs.InForm.{FitsSection}
+use Rattle.xet_shards.specs.Ends.{HasHeaderAndFooter, FitsFooter}
+use Rattle.xet_shards.specs.WithOptions.{FitsSection}
 use Rattle.xet_shards.specs.KeyedExport.{keyed_xorb, exported_file, exported_xorb, xorbs_after}
-use Rattle.xet_shards.specs.Layout.{Form, if_in, footer_value, header_value, info_of, layout_of, shard_footer_bytes}
-use Rattle.xet_shards.specs.Rewriting.{HasSections, form_of}
+use Rattle.xet_shards.specs.Layout.{LayoutOptions, if_included, footer_value, header_value, info_of, layout_of, shard_footer_bytes}
+use Rattle.xet_shards.specs.Rewriting.{HasSections, options_of}
 use Rattle.xet_shards.specs.Section.{section_bytes}
 use Rattle.xet_shards.specs.SectionReading.{IsSection}
 use Rattle.xet_shards.specs.Tables.{ChunkTableRow, starts, chunk_table, table_bytes, chunk_table_bytes, chunk_table_row_bytes}
@@ -32,14 +32,14 @@ use Rattle.xet_shards.proofs.Sections.{files_laws, fits_ever}
 use Rattle.xet_shards.proofs.SectionUnique.{only_list}
 
 -- with a table and all rows, files are as they were
-pub files_as_stored : (form : Form) → form.file_table ≡ true → (files : List MDBFileInfo) → flat_map (exported_file true form) files ≡ files
-files_as_stored form table files =
-    ap (λ b. flat_map (exported_file true (record form { file_table = b })) files) table ∙ flat_map_single (λ (r : MDBFileInfo). r) files ∙ map-id files
+pub files_as_stored : (options : LayoutOptions) → options.file_table ≡ true → (files : List MDBFileInfo) → flat_map (exported_file true options) files ≡ files
+files_as_stored options table files =
+    ap (λ b. flat_map (exported_file true (record options { file_table = b })) files) table ∙ flat_map_single (λ (r : MDBFileInfo). r) files ∙ map-id files
 
 -- without a key, xorbs are
-pub xorbs_as_stored : (form : Form) → form.key ≡ no_key → (xorbs : List MDBXorbInfo) → flat_map (exported_xorb true form) xorbs ≡ xorbs
-xorbs_as_stored form none xorbs =
-    ap (λ k. flat_map (exported_xorb true (record form { key = k })) xorbs) none ∙ flat_map_single (keyed_xorb no_key) xorbs ∙ each xorbs
+pub xorbs_as_stored : (options : LayoutOptions) → options.key ≡ no_key → (xorbs : List MDBXorbInfo) → flat_map (exported_xorb true options) xorbs ≡ xorbs
+xorbs_as_stored options none xorbs =
+    ap (λ k. flat_map (exported_xorb true (record options { key = k })) xorbs) none ∙ flat_map_single (keyed_xorb no_key) xorbs ∙ each xorbs
   where
     each : (xs : List MDBXorbInfo) → map (keyed_xorb no_key) xs ≡ xs
     each [] = refl
@@ -60,16 +60,16 @@ only_sections bytes fs gs xs ys a b =
     (files, only_list xorb_records xorb_laws (drop (xorbs_after gs) bytes) xs ys (subst (λ rs. IsSection xorb_records (drop (xorbs_after rs) bytes) xs) files a.xorb_section) b.xorb_section)
 
 -- a layout has the sections of its records
-pub sections_of_layout : (files : List MDBFileInfo) (xorbs : List MDBXorbInfo) (form : Form) → FitsSection (file_records_in form.version) files → FitsSection xorb_records xorbs
-    → HasSections (layout_of files xorbs form) files xorbs
-sections_of_layout files xorbs form files_fit xorbs_fit =
-    let bytes = layout_of files xorbs form in
-    let fits = fits_ever file_records form.version files files_fit in
+pub sections_of_layout : (files : List MDBFileInfo) (xorbs : List MDBXorbInfo) (options : LayoutOptions) → FitsSection (file_records_in options.version) files → FitsSection xorb_records xorbs
+    → HasSections (layout_of files xorbs options) files xorbs
+sections_of_layout files xorbs options files_fit xorbs_fit =
+    let bytes = layout_of files xorbs options in
+    let fits = fits_ever file_records options.version files files_fit in
     let size : 48 + length (section_bytes file_records files) ≡ xorbs_after files = omega (arith, length-file_section files (λ k r below. (fits.stored k r below).widths)) in
     record {
-      header = header_of bytes _ (header_value form.version) (layout_from_48 files xorbs form) (form.version, refl);
-      file_section = subst (λ v. IsSection (file_records_in v) (drop 48 bytes) files) (sym (version_known form.version)) (file_section_in files xorbs form files_fit);
-      xorb_section = subst (λ n. IsSection xorb_records (drop n bytes) xorbs) size (xorb_section_in files xorbs form xorbs_fit);
+      header = header_of bytes _ (header_value options.version) (layout_from_48 files xorbs options) (options.version, refl);
+      file_section = subst (λ v. IsSection (file_records_in v) (drop 48 bytes) files) (sym (version_known options.version)) (file_section_in files xorbs options files_fit);
+      xorb_section = subst (λ n. IsSection xorb_records (drop n bytes) xorbs) size (xorb_section_in files xorbs options xorbs_fit);
     }
 
 -- sections may hold what they hold
@@ -85,18 +85,18 @@ more_same : (xs ys : List ℕ) (a b : ℕ) → a ≤ b → slice_range xs a b �
 more_same xs ys a b below here rest = drop_split xs a b below ∙ (λ i. here i ++ rest i) ∙ sym (drop_split ys a b below)
 
 -- bytes with all parts of a layout, its footer and its size are this layout
-module _ (bytes : List ℕ) (info : MDBShardInfo) (files : List MDBFileInfo) (xorbs : List MDBXorbInfo) (form : Form) (ends : HasEnds bytes info) (same : info.metadata ≡ footer_value files xorbs form)
-    (size : length bytes ≡ length (layout_of files xorbs form)) where
+module _ (bytes : List ℕ) (info : MDBShardInfo) (files : List MDBFileInfo) (xorbs : List MDBXorbInfo) (options : LayoutOptions) (ends : HasHeaderAndFooter bytes info) (same : info.metadata ≡ footer_value files xorbs options)
+    (size : length bytes ≡ length (layout_of files xorbs options)) where
   abbrev written : List ℕ
-  written = layout_of files xorbs form
+  written = layout_of files xorbs options
 
   abbrev footer : MDBShardFileFooter
-  footer = footer_value files xorbs form
+  footer = footer_value files xorbs options
 
   same_end : drop footer.footer_offset bytes ≡ drop footer.footer_offset written
   same_end =
-      let other = ends_of_layout files xorbs form (subst FitsFooter same ends.footer_widths) in
-      let at : length written - 200 ≡ footer.footer_offset = omega (arith, footer_last files xorbs form) in
+      let other = ends_of_layout files xorbs options (subst FitsFooter same ends.footer_widths) in
+      let at : length written - 200 ≡ footer.footer_offset = omega (arith, footer_last files xorbs options) in
       ap (λ n. drop n bytes) (sym at ∙ ap (λ n. n - 200) (sym size)) ∙ ends.footer ∙ ap shard_footer_bytes same ∙ sym other.footer ∙ ap (λ n. drop n written) at
 
   abbrev pub SamePart : ℕ → ℕ → Type 0
@@ -117,40 +117,40 @@ positive n some = grind (arith, nat_tests)
 
 -- a table without rows may be in or not
 module _ (files : List MDBFileInfo) (xorbs : List MDBXorbInfo) where
-  file_flag : (b : Bool) (rs : List MDBFileInfo) (form : Form) → layout_of rs xorbs (record form { file_table = nat_lt 0 (length (if_in b (starts file_records rs))) }) ≡ layout_of rs xorbs (record form { file_table = b })
+  file_flag : (b : Bool) (rs : List MDBFileInfo) (options : LayoutOptions) → layout_of rs xorbs (record options { file_table = nat_lt 0 (length (if_included b (starts file_records rs))) }) ≡ layout_of rs xorbs (record options { file_table = b })
   unfolding layout_of table_bytes
-  file_flag false rs form = refl
-  file_flag true [] form = refl
-  file_flag true (r ∷ rs) form = ap (λ t. layout_of (r ∷ rs) xorbs (record form { file_table = t })) (positive (length (starts file_records (r ∷ rs))) (omega arith))
+  file_flag false rs options = refl
+  file_flag true [] options = refl
+  file_flag true (r ∷ rs) options = ap (λ t. layout_of (r ∷ rs) xorbs (record options { file_table = t })) (positive (length (starts file_records (r ∷ rs))) (omega arith))
 
-  xorb_flag : (b : Bool) (xs : List MDBXorbInfo) (form : Form) → layout_of files xs (record form { xorb_table = nat_lt 0 (length (if_in b (starts xorb_records xs))) }) ≡ layout_of files xs (record form { xorb_table = b })
+  xorb_flag : (b : Bool) (xs : List MDBXorbInfo) (options : LayoutOptions) → layout_of files xs (record options { xorb_table = nat_lt 0 (length (if_included b (starts xorb_records xs))) }) ≡ layout_of files xs (record options { xorb_table = b })
   unfolding layout_of table_bytes
-  xorb_flag false xs form = refl
-  xorb_flag true [] form = refl
-  xorb_flag true (x ∷ xs) form = ap (λ t. layout_of files (x ∷ xs) (record form { xorb_table = t })) (positive (length (starts xorb_records (x ∷ xs))) (omega arith))
+  xorb_flag false xs options = refl
+  xorb_flag true [] options = refl
+  xorb_flag true (x ∷ xs) options = ap (λ t. layout_of files (x ∷ xs) (record options { xorb_table = t })) (positive (length (starts xorb_records (x ∷ xs))) (omega arith))
 
   no_chunk_bytes : chunk_table xorbs ≡ [] → chunk_table_bytes xorbs ≡ []
   unfolding chunk_table_bytes
   no_chunk_bytes none = ap (flat_map chunk_table_row_bytes) none
 
-  no_chunks : (form : Form) → chunk_table xorbs ≡ [] → layout_of files xorbs (record form { chunk_table = false }) ≡ layout_of files xorbs (record form { chunk_table = true })
+  no_chunks : (options : LayoutOptions) → chunk_table xorbs ≡ [] → layout_of files xorbs (record options { chunk_table = false }) ≡ layout_of files xorbs (record options { chunk_table = true })
   unfolding layout_of
-  no_chunks form none = let bytes = no_chunk_bytes none in rw (none, bytes) refl
+  no_chunks options none = let bytes = no_chunk_bytes none in rw (none, bytes) refl
 
-  chunk_flag : (b : Bool) (rows : List ChunkTableRow) (form : Form) → chunk_table xorbs ≡ rows
-      → layout_of files xorbs (record form { chunk_table = nat_lt 0 (length (if_in b (chunk_table xorbs))) }) ≡ layout_of files xorbs (record form { chunk_table = b })
-  chunk_flag false rows form is = refl
-  chunk_flag true [] form is = ap (λ (rows : List ChunkTableRow). layout_of files xorbs (record form { chunk_table = nat_lt 0 (length rows) })) is ∙ no_chunks form is
-  chunk_flag true (r ∷ rows) form is =
-      ap (λ t. layout_of files xorbs (record form { chunk_table = t })) (positive (length (chunk_table xorbs)) (omega (arith, ap length is)))
+  chunk_flag : (b : Bool) (rows : List ChunkTableRow) (options : LayoutOptions) → chunk_table xorbs ≡ rows
+      → layout_of files xorbs (record options { chunk_table = nat_lt 0 (length (if_included b (chunk_table xorbs))) }) ≡ layout_of files xorbs (record options { chunk_table = b })
+  chunk_flag false rows options is = refl
+  chunk_flag true [] options is = ap (λ (rows : List ChunkTableRow). layout_of files xorbs (record options { chunk_table = nat_lt 0 (length rows) })) is ∙ no_chunks options is
+  chunk_flag true (r ∷ rows) options is =
+      ap (λ t. layout_of files xorbs (record options { chunk_table = t })) (positive (length (chunk_table xorbs)) (omega (arith, ap length is)))
 
-  -- so a layout is that in the form that its header and footer name
-  pub form_again : (form : Form) → layout_of files xorbs (form_of (info_of files xorbs form)) ≡ layout_of files xorbs form
-  form_again form =
-      let f = nat_lt 0 (length (if_in form.file_table (starts file_records files))) in
-      let x = nat_lt 0 (length (if_in form.xorb_table (starts xorb_records xorbs))) in
-      let c = nat_lt 0 (length (if_in form.chunk_table (chunk_table xorbs))) in
-      ap (λ v. layout_of files xorbs (record form { version = v; file_table = f; xorb_table = x; chunk_table = c })) (version_known form.version)
-      ∙ file_flag form.file_table files (record form { xorb_table = x; chunk_table = c })
-      ∙ xorb_flag form.xorb_table xorbs (record form { chunk_table = c })
-      ∙ chunk_flag form.chunk_table (chunk_table xorbs) form refl
+  -- so a layout is that with the layout options that its header and footer name
+  pub form_again : (options : LayoutOptions) → layout_of files xorbs (options_of (info_of files xorbs options)) ≡ layout_of files xorbs options
+  form_again options =
+      let f = nat_lt 0 (length (if_included options.file_table (starts file_records files))) in
+      let x = nat_lt 0 (length (if_included options.xorb_table (starts xorb_records xorbs))) in
+      let c = nat_lt 0 (length (if_included options.chunk_table (chunk_table xorbs))) in
+      ap (λ v. layout_of files xorbs (record options { version = v; file_table = f; xorb_table = x; chunk_table = c })) (version_known options.version)
+      ∙ file_flag options.file_table files (record options { xorb_table = x; chunk_table = c })
+      ∙ xorb_flag options.xorb_table xorbs (record options { chunk_table = c })
+      ∙ chunk_flag options.chunk_table (chunk_table xorbs) options refl

@@ -7,19 +7,19 @@ use Rattle.std.proofs.lemmas.List.Sums.{common_prefix_len-le, sum_by_push}
 use Rattle.xet_base.specs.declared.error.CoreError.{CoreError}
 use Rattle.xet_base.specs.declared.merklehash.DataHash.{DataHash}
 use Rattle.xet_base.specs.Hash.{hash_eq}
-use Rattle.xet_base.specs.InputLaws.{Takes-nil, Takes-trans}
+use Rattle.xet_base.specs.InputLaws.{ReadsBytes-nil, ReadsBytes-trans}
 use Rattle.xet_base.specs.KeyedHash.{under_key}
-use Rattle.xet_base.specs.Source.{Source, Takes, bytes_left}
+use Rattle.xet_base.specs.Source.{Source, ReadsBytes, bytes_left}
 use Rattle.xet_base.specs.Table.{IsBareInvalidShard}
 use Rattle.xet_base.proofs.Lists.{front_is}
-use Rattle.xet_base.proofs.Reading.{Takes-consumes, lacks_left}
+use Rattle.xet_base.proofs.Reading.{ReadsBytes-consumes, lacks_left}
 use Rattle.xet_records.specs.declared.xorb_structs.XorbChunkSequenceEntry.{XorbChunkSequenceEntry}
 use Rattle.xet_records.specs.Rows.{ReadsRow}
 use Rattle.xet_records.specs.XorbRow.{chunk_row, FitsChunk}
 use Rattle.xet_records.specs.XorbRecord.{total_bytes}
 use Rattle.xet_records.proofs.Lengths.{length-chunk_rows}
 use Rattle.xet_shards.specs.ChunkQuery.{run_length}
-use Rattle.xet_shards.specs.RunReading.{Decide}
+use Rattle.xet_shards.specs.RunReading.{DetermineRun}
 use Rattle.xet_shards.specs.RunSteps.{RowFailure, RowNotRead, ReadsRun, RunFailure, ReadRunFails, HasReadRun}
 use Rattle.xet_shards.proofs.Walks.{flat_map-push}
 
@@ -55,7 +55,7 @@ module _ (key : DataHash) where
   run_of_all (q ∷ qs) [] more many = absurd (omega (arith, many))
   run_of_all (q ∷ qs) (c ∷ cs) more many = ap (λ n. cond (hash_eq (under_key key q) c.chunk_hash) (1 + n) 0) (run_of_all qs cs more (omega (arith, many)))
 
-  pub run_decided : (qs : List DataHash) (left : ℕ) (cs more : List XorbChunkSequenceEntry) → Decide key qs left cs → length cs + length more ≡ left
+  pub run_decided : (qs : List DataHash) (left : ℕ) (cs more : List XorbChunkSequenceEntry) → DetermineRun key qs left cs → length cs + length more ≡ left
       → run_length key qs (cs ++ more) ≡ run_length key qs cs
   run_decided qs left cs more (inl ended) all = run_ended qs cs more ended
   run_decided qs left cs more (inr (inl hashes)) all = run_of_all qs cs more hashes
@@ -65,7 +65,7 @@ module _ (key : DataHash) where
 
 pub no_run : {key : DataHash} {qs : List DataHash} {left : ℕ} {start : Source} → HasReadRun key qs left start start 0 0
 no_run {key} {qs} {left} {start} =
-    record { chunks = []; fit = All-nil FitsChunk; many = refl; few = omega arith; taken = Takes-nil start; same = run_of_none key qs; sum = refl; narrow = omega arith }
+    record { chunks = []; fit = All-nil FitsChunk; many = refl; few = omega arith; taken = ReadsBytes-nil start; same = run_of_none key qs; sum = refl; narrow = omega arith }
 
 -- reading a run, where there are more hashes and more chunks
 module _ {key : DataHash} {qs : List DataHash} {left : ℕ} {start now : Source} {n bytes : ℕ} (before : HasReadRun key qs left start now n bytes) {i : ℕ} (at : n ≡ i)
@@ -90,7 +90,7 @@ module _ {key : DataHash} {qs : List DataHash} {left : ℕ} {start now : Source}
         (
           before.chunks,
           bytes_left now,
-          record { fit = before.fit; few = omega (arith, before.many, before.few); bytes_are = Takes-consumes start now (flat_map chunk_row before.chunks) before.taken },
+          record { fit = before.fit; few = omega (arith, before.many, before.few); bytes_are = ReadsBytes-consumes start now (flat_map chunk_row before.chunks) before.taken },
           before.same,
           omega (arith, before.sum, before.narrow),
           omega (arith, before.many, at, below),
@@ -100,22 +100,22 @@ module _ {key : DataHash} {qs : List DataHash} {left : ℕ} {start now : Source}
       ))
 
   -- it was, and is tested for the next hash under the key
-  module _ {new : Source} {c : XorbChunkSequenceEntry} (read : ReadsRow chunk_row FitsChunk (λ x. x) (Takes now new) c) {keyed : DataHash} (d : DataHash)
+  module _ {new : Source} {c : XorbChunkSequenceEntry} (read : ReadsRow chunk_row FitsChunk (λ x. x) (ReadsBytes now new) c) {keyed : DataHash} (d : DataHash)
       (is : keyed ≡ under_key key (get_or qs i d)) where
     abbrev chunks : List XorbChunkSequenceEntry
     chunks = before.chunks ++ c ∷ []
 
     fit : All FitsChunk chunks
-    fit = All-append FitsChunk before.chunks (c ∷ []) before.fit (All-cons FitsChunk c [] (subst FitsChunk read.handed read.widths) (All-nil FitsChunk))
+    fit = All-append FitsChunk before.chunks (c ∷ []) before.fit (All-cons FitsChunk c [] (subst FitsChunk read.returned read.widths) (All-nil FitsChunk))
 
     many : length chunks ≡ n + 1
     many = length-append before.chunks (c ∷ []) ∙ ap (λ k. k + 1) before.many
 
     both_bytes : flat_map chunk_row before.chunks ++ chunk_row read.stored ≡ flat_map chunk_row chunks
-    both_bytes = ap (λ x. flat_map chunk_row before.chunks ++ chunk_row x) read.handed ∙ sym (flat_map-push chunk_row before.chunks c)
+    both_bytes = ap (λ x. flat_map chunk_row before.chunks ++ chunk_row x) read.returned ∙ sym (flat_map-push chunk_row before.chunks c)
 
-    taken : Takes start new (flat_map chunk_row chunks)
-    taken = subst (Takes start new) both_bytes (Takes-trans start now new (flat_map chunk_row before.chunks) (chunk_row read.stored) before.taken read.taken)
+    taken : ReadsBytes start new (flat_map chunk_row chunks)
+    taken = subst (ReadsBytes start new) both_bytes (ReadsBytes-trans start now new (flat_map chunk_row before.chunks) (chunk_row read.stored) before.taken read.taken)
 
     length_is : run_length key qs chunks ≡ n + cond (hash_eq keyed c.chunk_hash) 1 0
     length_is =
@@ -169,7 +169,7 @@ module _ {key : DataHash} {qs : List DataHash} {left : ℕ} {start now : Source}
           (
             chunks,
             bytes_left new,
-            record { fit = fit; few = omega (arith, many, before.few, more); bytes_are = Takes-consumes start new (flat_map chunk_row chunks) taken },
+            record { fit = fit; few = omega (arith, many, before.few, more); bytes_are = ReadsBytes-consumes start new (flat_map chunk_row chunks) taken },
             goes_on,
             omega (arith, past, sum_is),
           ),

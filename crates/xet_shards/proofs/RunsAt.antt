@@ -3,7 +3,7 @@ use Rattle.std.proofs.Common.{◌≡◌, ◌≢◌, ℕ, ◌+◌, ◌<◌, ◌�
 use Rattle.std.proofs.lemmas.List.{length-take}
 use Rattle.xet_base.specs.declared.merklehash.DataHash.{DataHash}
 use Rattle.xet_base.specs.Source.{Source, bytes_left}
-use Rattle.xet_base.proofs.Reading.{Takes-consumes}
+use Rattle.xet_base.proofs.Reading.{ReadsBytes-consumes}
 use Rattle.xet_records.specs.declared.file_structs.rows.FileDataSequenceEntry.{FileDataSequenceEntry}
 use Rattle.xet_records.specs.declared.xorb_structs.XorbChunkSequenceEntry.{XorbChunkSequenceEntry}
 use Rattle.xet_records.specs.declared.xorb_structs.XorbChunkSequenceHeader.{XorbChunkSequenceHeader}
@@ -13,7 +13,7 @@ use Rattle.xet_records.proofs.Lengths.{length-chunk_rows}
 use Rattle.xet_shards.specs.ChunkQuery.{Run}
 use Rattle.xet_shards.specs.Lookup.{row_at}
 use Rattle.xet_shards.specs.RunReading.{QueryAt, chunks_at, chunks_left, IsRun, FoundRun}
-use Rattle.xet_shards.specs.RunSteps.{MovesToRow, ReadsRun, ReadsRunAt}
+use Rattle.xet_shards.specs.RunSteps.{SeeksToRow, ReadsRun, ReadsRunAt}
 use Rattle.xet_shards.proofs.Runs.{run_within}
 
 -- the segment of some chunks
@@ -35,12 +35,12 @@ module _ {key : DataHash} {qs : List DataHash} {left : ℕ} {mid new : Source} {
   run_chunks = omega (arith, read.count, run_within key qs read.chunks)
 
 -- after a seek to the chunk of a query
-module _ (q : QueryAt) (header : XorbChunkSequenceHeader) {first : ℕ} (at : first ≡ q.row + 1 + q.index) {old mid : Source} (moves : MovesToRow q.section first old mid)
+module _ (q : QueryAt) (header : XorbChunkSequenceHeader) {first : ℕ} (at : first ≡ q.row + 1 + q.index) {old mid : Source} (moves : SeeksToRow q.section first old mid)
     {new : Source} {n bytes : ℕ} (read : ReadsRun q.key q.hashes (chunks_left q header) mid new (n, bytes)) (within : q.index < header.num_entries) where
   run_reads : {answer : Option Run} → FoundRun q header old.bytes answer → ReadsRunAt q header old new answer
   run_reads found = record {
     found = found;
-    serves = search rules;
+    no_failure = search rules;
     seeks = search rules;
     read = omega (arith, ap (λ (s : Source). s.read) read.taken.after, ap (λ (s : Source). s.read) moves.after, length-chunk_rows read.chunks, read.few);
   }
@@ -53,7 +53,7 @@ module _ (q : QueryAt) (header : XorbChunkSequenceHeader) {first : ℕ} (at : fi
     within = within;
     chunks = read.chunks;
     rest = bytes_left new;
-    there = record { fit = read.fit; few = read.few; bytes_are = sym left_is ∙ Takes-consumes mid new (flat_map chunk_row read.chunks) read.taken };
+    there = record { fit = read.fit; few = read.few; bytes_are = sym left_is ∙ ReadsBytes-consumes mid new (flat_map chunk_row read.chunks) read.taken };
     decide = read.decide;
     count = read.count;
     segment = refl;

@@ -14,8 +14,8 @@ use Rattle.xet_shards.specs.declared.shard_format.info.MDBShardInfo.{MDBShardInf
 use Rattle.xet_shards.specs.Shard.{Shard, IsShard, file_hash_of, xorb_hash_of}
 use Rattle.xet_shards.specs.Section.{section_bytes}
 use Rattle.xet_shards.specs.SectionReading.{IsSection}
-use Rattle.xet_shards.specs.Layout.{layout_of, layout, plain_form, info_value}
-use Rattle.xet_shards.specs.Ends.{HasEnds}
+use Rattle.xet_shards.specs.Layout.{layout_of, layout, plain_options, info_value}
+use Rattle.xet_shards.specs.Ends.{HasHeaderAndFooter}
 use Rattle.xet_shards.proofs.SectionUnique.{only_list}
 use Rattle.xet_shards.proofs.Readback.{section_of_shard, xorb_section_of_shard}
 use Rattle.xet_shards.proofs.EndsUnique.{only_info, ends_of_layout}
@@ -53,14 +53,14 @@ module _ (s t : Shard) (e f : Option ℕ) (s_shard : IsShard s) (t_shard : IsSha
       λ i. record { files = files i; xorbs = xorbs i }
 
   -- no expiry is stored as the greatest `u64`
-  pub same_expiry : IfSome e (λ m. m < 2 ^ 64) → IfSome f (λ m. m < 2 ^ 64) → (plain_form e).expiry ≡ (plain_form f).expiry
+  pub same_expiry : IfSome e (λ m. m < 2 ^ 64) → IfSome f (λ m. m < 2 ^ 64) → (plain_options e).expiry ≡ (plain_options f).expiry
   same_expiry e_fits f_fits =
       ap (λ (x : MDBShardInfo). x.metadata.shard_key_expiry)
       (only_info (layout t f) (info_value s e) (info_value t f)
-      (subst (λ bs. HasEnds bs (info_value s e)) same (ends_of_layout (values s.files) (values s.xorbs) (plain_form e) (fits_written s e s_shard e_fits)))
-      (ends_of_layout (values t.files) (values t.xorbs) (plain_form f) (fits_written t f t_shard f_fits)))
+      (subst (λ bs. HasHeaderAndFooter bs (info_value s e)) same (ends_of_layout (values s.files) (values s.xorbs) (plain_options e) (fits_written s e s_shard e_fits)))
+      (ends_of_layout (values t.files) (values t.xorbs) (plain_options f) (fits_written t f t_shard f_fits)))
 
 -- the converse
-pub same_layout : (s t : Shard) (e f : Option ℕ) → s ≡ t → (plain_form e).expiry ≡ (plain_form f).expiry → layout s e ≡ layout t f
+pub same_layout : (s t : Shard) (e f : Option ℕ) → s ≡ t → (plain_options e).expiry ≡ (plain_options f).expiry → layout s e ≡ layout t f
 same_layout s t e f same timestamp =
-    λ i. layout_of (values (same i).files) (values (same i).xorbs) (record (plain_form e) { expiry = timestamp i })
+    λ i. layout_of (values (same i).files) (values (same i).xorbs) (record (plain_options e) { expiry = timestamp i })

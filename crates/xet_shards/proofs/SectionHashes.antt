@@ -8,10 +8,10 @@ use Rattle.xet_base.specs.declared.merklehash.DataHash.{DataHash}
 use Rattle.xet_base.specs.Hash.{hash_cmp}
 use Rattle.xet_base.specs.KeyedHash.{no_key}
 use Rattle.xet_base.specs.InputLaws.{advanced-advanced}
-use Rattle.xet_base.specs.Source.{Source, Takes, DeviceFailure, FailedBy, advanced, bytes_left}
+use Rattle.xet_base.specs.Source.{Source, ReadsBytes, DeviceFailure, FailedBy, advanced, bytes_left}
 use Rattle.xet_base.proofs.HashOrder.{hash_cmp-IsTotalOrder}
 use Rattle.xet_base.proofs.Lists.{rest_is}
-use Rattle.xet_base.proofs.Reading.{Takes-consumes}
+use Rattle.xet_base.proofs.Reading.{ReadsBytes-consumes}
 use Rattle.xet_records.specs.declared.file_structs.MDBFileInfo.{MDBFileInfo}
 use Rattle.xet_records.specs.RecordKind.{RecordKind, KindLaws}
 use Rattle.xet_records.specs.Version.{version_of}
@@ -46,14 +46,14 @@ module _ {H R T : Type 0} (K : RecordKind H R) (laws : KindLaws K) (keep : ℕ �
   hashes_kept at front [] = refl
   hashes_kept at front (r ∷ rs) = λ i. keeps (at + 48 * total_rows K front) r i ∷ hashes_kept at (front ++ r ∷ []) rs i
 
-  handed_hashes : (stored : List R) → map (hash_in K) (map K.handed_out stored) ≡ map (hash_in K) stored
+  handed_hashes : (stored : List R) → map (hash_in K) (map K.as_read stored) ≡ map (hash_in K) stored
   handed_hashes [] = refl
   handed_hashes (r ∷ rs) = λ i. K.hash_of (laws.same_header r i) ∷ handed_hashes rs i
 
   -- so it is where the section is known
   pub hashes_of_section : (old new : Source) (found : List T) (records : List R) → IsSection K (bytes_left old) records → KeepsSection K keep old new found → map hash found ≡ map (hash_in K) records
-  hashes_of_section old new found records section (handed, taken, kept) =
-      ap (map hash) kept ∙ hashes_kept old.at [] handed ∙ ap (map (hash_in K)) (sym taken.handed) ∙ handed_hashes taken.stored
+  hashes_of_section old new found records section (returned, taken, kept) =
+      ap (map hash) kept ∙ hashes_kept old.at [] returned ∙ ap (map (hash_in K)) (sym taken.returned) ∙ handed_hashes taken.stored
       ∙ ap (map (hash_in K)) (only_list K laws (bytes_left old) taken.stored records taken.section section)
 
 -- a file section was read after a header: its files, and where it ends
@@ -65,8 +65,8 @@ pub record ReadsHashes (old new : Source) (hashes : List DataHash) : Type 0 wher
   pub hashes_are : hashes ≡ map (hash_in file_records) files
 
 -- the bytes after a header that was read
-after_header : (old mid : Source) (h : MDBShardFileHeader) → Takes old mid (shard_header_bytes h) → drop 48 (bytes_left old) ≡ bytes_left mid
-after_header old mid h taken = rest_is 48 (bytes_left old) (shard_header_bytes h) (bytes_left mid) (length-shard_header_bytes h) (Takes-consumes old mid (shard_header_bytes h) taken)
+after_header : (old mid : Source) (h : MDBShardFileHeader) → ReadsBytes old mid (shard_header_bytes h) → drop 48 (bytes_left old) ≡ bytes_left mid
+after_header old mid h taken = rest_is 48 (bytes_left old) (shard_header_bytes h) (bytes_left mid) (length-shard_header_bytes h) (ReadsBytes-consumes old mid (shard_header_bytes h) taken)
 
 pub file_hashes : (old new : Source) (found : List FileRanges) → ReadsFileRanges old new found → ReadsHashes old new (map (λ (r : FileRanges). r.0) found)
 file_hashes old new found read =
@@ -78,7 +78,7 @@ file_hashes old new found read =
     let n = 48 * (total_rows file_records files + 1) in
     let sum : 48 + 48 * (total_rows file_records files + 1) ≡ xorbs_after files = omega arith in
     record {
-      header = header_of (bytes_left old) (bytes_left mid) read.header (Takes-consumes old mid (shard_header_bytes read.header) read.header_taken) read.version;
+      header = header_of (bytes_left old) (bytes_left mid) read.header (ReadsBytes-consumes old mid (shard_header_bytes read.header) read.header_taken) read.version;
       files = files;
       section = subst (λ bs. IsSection (file_records_in version) bs files) (sym (after_header old mid read.header read.header_taken)) taken.section;
       after = taken.after ∙ ap (λ s. advanced s n) at ∙ advanced-advanced old 48 n ∙ ap (advanced old) sum;
@@ -90,7 +90,7 @@ pub files_refused : (old new : Source) (e : CoreError) → (header : HasHeader (
     → BadSection (file_records_in header.version) (drop 48 (bytes_left old)) e
 files_refused old new e header works (inl part) = search (rules, header, works)
 files_refused old new e header works (inr (h, mid, known, taken, fails)) =
-    let here = header_of (bytes_left old) (bytes_left mid) h (Takes-consumes old mid (shard_header_bytes h) taken) known in
+    let here = header_of (bytes_left old) (bytes_left mid) h (ReadsBytes-consumes old mid (shard_header_bytes h) taken) known in
     subst (λ v. BadSection (file_records_in v) (drop 48 (bytes_left old)) e) (one_version (bytes_left old) here header)
     (subst (λ bs. BadSection (file_records_in (version_of h.version)) bs e) (sym (after_header old mid h taken)) (cause fails.cause))
   where

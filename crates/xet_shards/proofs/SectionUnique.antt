@@ -8,7 +8,7 @@ use Rattle.std.proofs.lemmas.List.Sums.{sum_by-cons}
 use Rattle.xet_records.specs.RecordKind.{RecordKind}
 use Rattle.xet_records.specs.Reading.{BeginsWithBookend}
 use Rattle.xet_records.proofs.RecordKinds.{KindLaws, StopsAt, stored_begins, bookend_or_header, bookend_or_passes, bookend_or_ends, no_record}
-use Rattle.xet_shards.specs.SectionReading.{HoldsRecords, IsSection, IsRefusedSection, IsCutSection, rows_left}
+use Rattle.xet_shards.specs.SectionReading.{HoldsRecords, IsSection, IsRefusedSection, IsTruncatedSection, rows_left}
 
 module _ {H R : Type 0} (K : RecordKind H R) (laws : KindLaws K) where
   none : (left : ℕ) → left - sum_by K.row_count [] ≡ left
@@ -66,6 +66,6 @@ module _ {H R : Type 0} (K : RecordKind H R) (laws : KindLaws K) where
   section_or_passes bytes xs x (ys, b, y, passes) =
       bookend_or_passes K laws (rows_left K ys) b (subst (BeginsWithBookend K) (same_reading bytes xs ys x.rest b x.records y (inl x.bookend) (inr (inl passes))).1 x.bookend) passes
 
-  pub section_or_cut : (bytes : List ℕ) (xs : List R) → IsSection K bytes xs → ¬ IsCutSection K bytes
+  pub section_or_cut : (bytes : List ℕ) (xs : List R) → IsSection K bytes xs → ¬ IsTruncatedSection K bytes
   section_or_cut bytes xs x (ys, b, y, ends) =
       bookend_or_ends K laws (rows_left K ys) b (subst (BeginsWithBookend K) (same_reading bytes xs ys x.rest b x.records y (inl x.bookend) (inr (inr ends))).1 x.bookend) ends

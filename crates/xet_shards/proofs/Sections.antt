@@ -14,7 +14,7 @@ use Rattle.xet_records.specs.XorbRecord.{xorb_records}
 use Rattle.xet_records.proofs.RecordKinds.{KindLaws, file_laws, laws_in, stored_ever}
 use Rattle.xet_shards.specs.Section.{section_bytes}
 use Rattle.xet_shards.specs.Shard.{Shard, IsShard}
-pub use Rattle.xet_shards.specs.InForm.{FitsSection}
+pub use Rattle.xet_shards.specs.WithOptions.{FitsSection}
 use Rattle.xet_shards.specs.WrittenShard.{HasFilesIn}
 use Rattle.xet_shards.specs.SectionReading.{IsSection}
 use Rattle.xet_shards.proofs.Files.{well_formed_values}

@@ -19,18 +19,18 @@ use Rattle.xet_shards.specs.Shard.{Shard, IsShard}
 use Rattle.xet_shards.specs.Lookup.{LooksUpRecord, LookupAnswer, IsOneOf, FoundAmong, FoundInShard, LookupFailsAmong, WithinBounds}
 use Rattle.xet_shards.specs.Tables.{hash_in}
 use Rattle.xet_shards.proofs.Files.{well_formed_values}
-use Rattle.xet_shards.proofs.InForm.{no_file}
+use Rattle.xet_shards.proofs.WithOptions.{no_file}
 use Rattle.xet_shards.proofs.MapAnswers.{map_answers}
-use Rattle.xet_shards.proofs.Readback.{handed_one}
+use Rattle.xet_shards.proofs.Readback.{one_as_read}
 use Rattle.xet_shards.proofs.TableLookups.{IsLookedUp, IsAnswer, answered, not_answered}
 
 -- the answer among records is one of them with the hash, or none has it
 one_of : {H R : Type 0} (K : RecordKind H R) (laws : KindLaws K) (d : R) (records : List R) (hash : DataHash) (answer : Option R)
     → IsAnswer K d records hash answer → IsOneOf K records hash answer
-one_of K laws d records hash (Some found) (i, within, handed, same) =
+one_of K laws d records hash (Some found) (i, within, returned, same) =
     let r = get_or records i d in
-    let hash_is : hash_in K r ≡ hash = sym (ap (hash_in K) handed ∙ ap K.hash_of (laws.same_header r)) ∙ same in
-    (r, Contains-get_or records i d within, hash_is, handed)
+    let hash_is : hash_in K r ≡ hash = sym (ap (hash_in K) returned ∙ ap K.hash_of (laws.same_header r)) ∙ same in
+    (r, Contains-get_or records i d within, hash_is, returned)
 one_of K laws d records hash None others =
     λ i e within. subst (λ r. hash_in K r ≢ hash) (get_or_default records i d e within) (others i within)
 
@@ -44,12 +44,12 @@ module _ {H R : Type 0} (K : RecordKind H R) (laws : KindLaws K) (d : R) (record
       (found.0, one_of K laws d records hash answer found.1)
   lookup_in_form new hash (Err e) looks = not_answered K laws d records offset start count old is hash new e looks.read
 
--- a file that a lookup hands out fits its header
+-- a file that a lookup returns fits its header
 found_fits : (version : FormatVersion) (bytes : List ℕ) (offset : ℕ) (hash : DataHash) (answer : Option MDBFileInfo) (rows : List ℕ)
     → LookupAnswer (file_records_in version) bytes offset hash answer rows → IfSome answer FitsItsHeader
 found_fits version bytes offset hash None rows is = tt
 found_fits version bytes offset hash (Some found) rows (same, row, among, at) =
-    subst FitsItsHeader at.handed (file_laws.handed_stored at.stored (stored_ever file_records version at.stored at.is_stored)).whole
+    subst FitsItsHeader at.returned (file_laws.as_read_stored at.stored (stored_ever file_records version at.stored at.is_stored)).whole
 
 pub lookup_fits : (version : FormatVersion) (t : Table) (offset : ℕ) (hash : DataHash) (old new : Source) (r : Result (Option MDBFileInfo) CoreError)
     → LooksUpRecord (file_records_in version) t offset hash old new r → IfOk r (λ found. IfSome found FitsItsHeader)
@@ -66,7 +66,7 @@ bounds_ever K version records word old new bounds =
 module _ (s : Shard) (shard : IsShard s) (version : FormatVersion) where
   -- the answer among the files is that of the map
   answers : (hash : DataHash) (answer : Option MDBFileInfo) → IsAnswer (file_records_in version) no_file (values s.files) hash answer → answer ≡ get s.files hash
-  answers = map_answers (file_records_in version) no_file s.files shard.files.keyed (λ i d within. handed_one (get_or (values s.files) i d) (well_formed_values (entries s.files) shard.files i d within))
+  answers = map_answers (file_records_in version) no_file s.files shard.files.keyed (λ i d within. one_as_read (get_or (values s.files) i d) (well_formed_values (entries s.files) shard.files i d within))
 
   pub lookup_written : (offset start count : ℕ) (old : Source) → IsLookedUp (file_records_in version) no_file (values s.files) offset start count old
       → (new : Source) (hash : DataHash) (r : Result (Option MDBFileInfo) CoreError)

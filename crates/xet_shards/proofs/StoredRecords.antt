@@ -12,9 +12,9 @@ use Rattle.xet_records.specs.RecordKind.{RecordKind}
 use Rattle.xet_records.specs.Reading.{BeginsWithHeader}
 use Rattle.xet_records.proofs.Lengths.{length-all_record_bytes}
 use Rattle.xet_records.proofs.RecordKinds.{KindLaws, length-record_bytes, stored_begins, same_front, no_record}
-use Rattle.xet_shards.specs.InForm.{FitsSection}
+use Rattle.xet_shards.specs.WithOptions.{FitsSection}
 use Rattle.xet_shards.specs.Section.{total_rows, StartsAt}
-use Rattle.xet_shards.specs.SectionReading.{MayTake}
+use Rattle.xet_shards.specs.SectionReading.{MayRead}
 use Rattle.xet_shards.specs.Lookup.{row_at, RecordAt, InfoRefusal}
 use Rattle.xet_shards.proofs.Lookups.{length-stored}
 
@@ -63,9 +63,9 @@ module _ {H R : Type 0} (K : RecordKind H R) (laws : KindLaws K) (records : List
       )
 
   -- a record that is read there is this one
-  pub record_is : (found : R) → RecordAt K old.bytes (row_at offset row) found → found ≡ K.handed_out r
+  pub record_is : (found : R) → RecordAt K old.bytes (row_at offset row) found → found ≡ K.as_read r
   record_is found reads =
-      sym reads.handed ∙ ap K.handed_out (laws.front reads.stored r reads.taken.0 record_there.0 reads.is_stored is_stored (sym reads.taken.1 ∙ record_there.1)).0
+      sym reads.returned ∙ ap K.as_read (laws.front reads.stored r reads.taken.0 record_there.0 reads.is_stored is_stored (sym reads.taken.1 ∙ record_there.1)).0
 
   -- a header that begins there is this record's
   header_is : (h : H) (rest : List ℕ) → BeginsWithHeader K (drop (row_at offset row) old.bytes) h rest → h ≡ K.header_of r
@@ -78,7 +78,7 @@ module _ {H R : Type 0} (K : RecordKind H R) (laws : KindLaws K) (records : List
   end_bound = grind (arith, common_steps)
 
   -- reading it takes no more than its bytes
-  pub record_is_enough : (n : ℕ) → MayTake K (drop (row_at offset row) old.bytes) n → n ≤ length (K.record_bytes r)
+  pub record_is_enough : (n : ℕ) → MayRead K (drop (row_at offset row) old.bytes) n → n ≤ length (K.record_bytes r)
   record_is_enough n takes = search (rules, length-stored K laws r is_stored, header_is)
 
   -- it is read, unless the device fails or an allocation does

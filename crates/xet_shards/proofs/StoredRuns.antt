@@ -19,7 +19,7 @@ use Rattle.xet_records.proofs.RecordKinds.{xorb_laws, stored_begins, same_front,
 use Rattle.xet_records.proofs.XorbUnique.{chunk_row-injective}
 use Rattle.xet_shards.specs.ChunkQuery.{Run, run_length, run_at, some_run_at}
 use Rattle.xet_shards.specs.Lookup.{row_at}
-use Rattle.xet_shards.specs.RunReading.{HasChunks, RunPasses, RunIsCut, QueryAt, xorb_offset, chunk_offset, xorb_at, chunks_at, chunks_left, IsRun, FoundRun, AnnouncesNoChunk, PassesAt, IsCutAt, AnswerAt, RefusedAt}
+use Rattle.xet_shards.specs.RunReading.{HasChunks, RunExceeds, RunIsTruncated, QueryAt, xorb_offset, chunk_offset, xorb_at, chunks_at, chunks_left, IsRun, FoundRun, AnnouncesNoChunk, ExceedsAt, IsTruncatedAt, AnswerAt, RefusedAt}
 use Rattle.xet_shards.specs.WrittenQueries.{RunInXorb}
 use Rattle.xet_shards.proofs.Runs.{run_within, run_decided}
 
@@ -116,27 +116,27 @@ module _ {x : MDBXorbInfo} (stored : IsStoredXorb x) (q : QueryAt) (old : Source
 
   -- and it is refused only if the device fails or there is no such chunk
   module _ (few : size_of_chunks x ≤ 4294967295) where
-    not_past : ¬ PassesAt q old.bytes
+    not_past : ¬ ExceedsAt q old.bytes
     not_past (inl past) = omega (arith, past, fits)
     not_past (inr (header, location, past)) =
         let is = header_is header location.rest location.begins in
         let within : q.index < x.metadata.num_entries = omega (arith, location.within, ap (λ (h : XorbChunkSequenceHeader). h.num_entries) is) in
         elim past [
           | inl far ↦ omega (arith, far, fits, within, stored.count)
-          | inr passes ↦ within_not_past within (subst (λ (h : XorbChunkSequenceHeader). RunPasses q.key q.hashes (chunks_left q h) (chunks_at q old.bytes)) is passes)
+          | inr passes ↦ within_not_past within (subst (λ (h : XorbChunkSequenceHeader). RunExceeds q.key q.hashes (chunks_left q h) (chunks_at q old.bytes)) is passes)
         ]
       where
-        within_not_past : q.index < x.metadata.num_entries → ¬ RunPasses q.key q.hashes left (chunks_at q old.bytes)
+        within_not_past : q.index < x.metadata.num_entries → ¬ RunExceeds q.key q.hashes left (chunks_at q old.bytes)
         within_not_past within (cs, after, there, all, past) = omega (arith, few, past, bytes_within (omega (arith, within, stored.count)) there)
 
-    not_cut : ¬ IsCutAt q old.bytes
+    not_cut : ¬ IsTruncatedAt q old.bytes
     not_cut (inl (at, short)) = omega (arith, short, header_within xorb_records xorb_laws at_header x.metadata (flat_map chunk_row x.chunks ++ rest) begins.bytes_are)
     not_cut (inr (header, location, at, cut)) =
         let is = header_is header location.rest location.begins in
         let within : q.index < x.metadata.num_entries = omega (arith, location.within, ap (λ (h : XorbChunkSequenceHeader). h.num_entries) is) in
-        within_not_cut within (subst (λ (h : XorbChunkSequenceHeader). RunIsCut q.key q.hashes (chunks_left q h) (chunks_at q old.bytes)) is cut)
+        within_not_cut within (subst (λ (h : XorbChunkSequenceHeader). RunIsTruncated q.key q.hashes (chunks_left q h) (chunks_at q old.bytes)) is cut)
       where
-        within_not_cut : q.index < x.metadata.num_entries → ¬ RunIsCut q.key q.hashes left (chunks_at q old.bytes)
+        within_not_cut : q.index < x.metadata.num_entries → ¬ RunIsTruncated q.key q.hashes left (chunks_at q old.bytes)
         within_not_cut within (cs, after, there, all, fit, more_hashes, more, short) =
             let at : q.index ≤ length x.chunks = omega (arith, within, stored.count) in
             let next = drop (length cs) from in

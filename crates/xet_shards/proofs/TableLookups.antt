@@ -18,8 +18,8 @@ use Rattle.xet_records.specs.RecordKind.{RecordKind}
 use Rattle.xet_records.proofs.RecordKinds.{KindLaws}
 use Rattle.xet_shards.specs.Section.{total_rows, with_fronts, StartsAt}
 use Rattle.xet_shards.specs.Tables.{hash_in, start_of, starts, start_row}
-use Rattle.xet_shards.specs.SectionReading.{MayTake}
-use Rattle.xet_shards.specs.Lookup.{sharing, IsNumber, row_at, RecordAt, InfoRefusal, LooksUp, LooksUpIndex, LooksUpRecord, LookupAnswer, LookupRefused, Finding, FindingFails, WithinBounds, SearchWithinBounds, IndexFinds, IndexRefused, AreStarts, StartsAmong, IndexFailsAmong, LookupFailsAmong}
+use Rattle.xet_shards.specs.SectionReading.{MayRead}
+use Rattle.xet_shards.specs.Lookup.{with_first_word, IsRowNumber, row_at, RecordAt, InfoRefusal, LooksUp, LooksUpIndex, LooksUpRecord, LookupAnswer, LookupRefused, FindsRecord, FindRecordFails, WithinBounds, SearchWithinBounds, IndexFinds, IndexRefused, AreStarts, StartsAmong, IndexFailsAmong, LookupFailsAmong}
 use Rattle.xet_shards.proofs.Tables.{length-starts}
 use Rattle.xet_shards.proofs.Distinct.{sum_distinct, sum_marked}
 use Rattle.xet_shards.proofs.KnownRows.{IsKnown, rows_sorted, rows_hit, search_served, row_hit, hits_few, hits_all}
@@ -36,22 +36,22 @@ starts_at K front (r ∷ records) (suc i) d e within =
     ∙ ap (λ rs. ((hash_in K (get_or records i d)).word0, total_rows K rs)) (append_assoc front (r ∷ []) (take i records))
 
 -- what was read at some of the rows is no more than what may be read at all of them
-sum-taken : (Takes : ℕ → ℕ → Type 0) (cost : Hit ℕ → ℕ) (found : List (Hit ℕ)) (n : ℕ) (taken : List ℕ) → All (λ h. (k : ℕ) → Takes h.value k → k ≤ cost h) found
-    → AllZip Takes (take n (map (λ h. h.value) found)) taken → sum taken ≤ sum_by cost found
-sum-taken Takes cost [] zero [] most zip = omega arith
-sum-taken Takes cost [] (suc n) [] most zip = omega arith
-sum-taken Takes cost [] zero (k ∷ taken) most zip = absurd zip
-sum-taken Takes cost [] (suc n) (k ∷ taken) most zip = absurd zip
-sum-taken Takes cost (h ∷ found) zero [] most zip = omega arith
-sum-taken Takes cost (h ∷ found) zero (k ∷ taken) most zip = absurd zip
-sum-taken Takes cost (h ∷ found) (suc n) [] most zip = absurd zip
-sum-taken Takes cost (h ∷ found) (suc n) (k ∷ taken) most zip =
+sum-taken : (ReadsBytes : ℕ → ℕ → Type 0) (cost : Hit ℕ → ℕ) (found : List (Hit ℕ)) (n : ℕ) (taken : List ℕ) → All (λ h. (k : ℕ) → ReadsBytes h.value k → k ≤ cost h) found
+    → AllZip ReadsBytes (take n (map (λ h. h.value) found)) taken → sum taken ≤ sum_by cost found
+sum-taken ReadsBytes cost [] zero [] most zip = omega arith
+sum-taken ReadsBytes cost [] (suc n) [] most zip = omega arith
+sum-taken ReadsBytes cost [] zero (k ∷ taken) most zip = absurd zip
+sum-taken ReadsBytes cost [] (suc n) (k ∷ taken) most zip = absurd zip
+sum-taken ReadsBytes cost (h ∷ found) zero [] most zip = omega arith
+sum-taken ReadsBytes cost (h ∷ found) zero (k ∷ taken) most zip = absurd zip
+sum-taken ReadsBytes cost (h ∷ found) (suc n) [] most zip = absurd zip
+sum-taken ReadsBytes cost (h ∷ found) (suc n) (k ∷ taken) most zip =
     omega (
       arith,
       most 0 h (omega arith) k zip.0,
       sum_by-cons (λ (j : ℕ). j) k taken,
       sum_by-cons cost h found,
-      sum-taken Takes cost found n taken (All-drop (λ (g : Hit ℕ). (j : ℕ) → Takes g.value j → j ≤ cost g) 1 (h ∷ found) most) zip.1,
+      sum-taken ReadsBytes cost found n taken (All-drop (λ (g : Hit ℕ). (j : ℕ) → ReadsBytes g.value j → j ≤ cost g) 1 (h ∷ found) most) zip.1,
     )
 
 sum-lengths : {X : Type 0} (f : X → List ℕ) (xs : List X) → sum_by (λ x. length (f x)) xs ≡ length (flat_map f xs)
@@ -59,11 +59,11 @@ sum-lengths f [] = refl
 sum-lengths f (x ∷ xs) = sum_by-cons (λ y. length (f y)) x xs ∙ omega (arith, sum-lengths f xs, length-append (f x) (flat_map f xs))
 
 -- rows of the table with a word are as many as records that share it
-length-sharing : {H R : Type 0} (K : RecordKind H R) (word : ℕ) (front records : List R)
-    → length (filter (λ (row : ℕ × ℕ). row.0 == word) (map (start_of K) (with_fronts front records))) ≡ length (sharing K word records)
-length-sharing K word front [] = refl
-length-sharing K word front (r ∷ records) =
-    search (rules, (length-sharing K word (front ++ r ∷ []) records))
+length-with_first_word : {H R : Type 0} (K : RecordKind H R) (word : ℕ) (front records : List R)
+    → length (filter (λ (row : ℕ × ℕ). row.0 == word) (map (start_of K) (with_fronts front records))) ≡ length (with_first_word K word records)
+length-with_first_word K word front [] = refl
+length-with_first_word K word front (r ∷ records) =
+    search (rules, (length-with_first_word K word (front ++ r ∷ []) records))
 
 -- stored records, in ascending order of the first words of their hashes, with their section at an offset of a source, and
 -- a table of their starts at another; `d` is a record for where a list has none
@@ -78,9 +78,9 @@ pub record IsLookedUp {H R : Type 0} (K : RecordKind H R) (d : R) (records : Lis
   pub after : List ℕ
   pub table_is : drop start old.bytes ≡ flat_map start_row (starts K records) ++ after
 
--- the answer to a lookup among records: one with the hash, as it is handed out, or none where each has another
+-- the answer to a lookup among records: one with the hash, as it is returned, or none where each has another
 abbrev pub IsAnswer : {H R : Type 0} → RecordKind H R → R → List R → DataHash → Option R → Type 0
-IsAnswer {R = R} K d records hash (Some found) = (i : ℕ) × (i < length records) × (found ≡ K.handed_out (get_or records i d)) × (hash_in K found ≡ hash)
+IsAnswer {R = R} K d records hash (Some found) = (i : ℕ) × (i < length records) × (found ≡ K.as_read (get_or records i d)) × (hash_in K found ≡ hash)
 IsAnswer {R = R} K d records hash None = (i : ℕ) → i < length records → hash_in K (get_or records i d) ≢ hash
 
 module _ {H R : Type 0} (K : RecordKind H R) (laws : KindLaws K) (d : R) (records : List R) (offset start count : ℕ) (old : Source) (is : IsLookedUp K d records offset start count old) where
@@ -137,36 +137,36 @@ module _ {H R : Type 0} (K : RecordKind H R) (laws : KindLaws K) (d : R) (record
   pub table_sorted : IsSorted table
   table_sorted = rows_sorted word_of start_bytes 4 (0, 0) (starts K records) start count old known_rows
 
-  pub table_hits : (word : ℕ) → hits table word ≡ length (sharing K word records)
-  table_hits word = rows_hit word_of start_bytes 4 (0, 0) (starts K records) start count old known_rows word ∙ length-sharing K word [] records
+  pub table_hits : (word : ℕ) → hits table word ≡ length (with_first_word K word records)
+  table_hits word = rows_hit word_of start_bytes 4 (0, 0) (starts K records) start count old known_rows word ∙ length-with_first_word K word [] records
 
   -- a hit of the table: a record that shares the word, and its start
-  pub hit_is : (word : ℕ) (h : Hit ℕ) → IsHit table word IsNumber h
+  pub hit_is : (word : ℕ) (h : Hit ℕ) → IsHit table word IsRowNumber h
       → (h.row < length records) × ((hash_in K (record_at h.row)).word0 ≡ word) × (h.value ≡ start_at h.row)
   hit_is word h hit =
-      let row = row_hit word_of start_bytes 4 (0, 0) (starts K records) start count old known_rows IsNumber word h hit in
+      let row = row_hit word_of start_bytes 4 (0, 0) (starts K records) start count old known_rows IsRowNumber word h hit in
       let within : h.row < length records = omega (arith, row.0, length-starts K records) in (
         within,
         sym (word_at h.row within) ∙ row.1,
         u32_bytes-injective h.value (start_at h.row) row.2.0 (omega (arith, end_bound K laws records offset old is.section (start_at h.row) (record_at h.row) (at_row h.row within))) (sym row.2.1 ∙ ap start_bytes (row_is h.row within)),
       )
 
-  module _ (word : ℕ) (found : List (Hit ℕ)) (each : All (IsHit table word IsNumber) found) (distinct : AllPairs OtherRow found) where
+  module _ (word : ℕ) (found : List (Hit ℕ)) (each : All (IsHit table word IsRowNumber) found) (distinct : AllPairs OtherRow found) where
     rows_below : All (λ h. h.row < length records) found
-    rows_below = All-weaker (IsHit table word IsNumber) (λ h. h.row < length records) (λ h hit. (hit_is word h hit).0) found each
+    rows_below = All-weaker (IsHit table word IsRowNumber) (λ h. h.row < length records) (λ h hit. (hit_is word h hit).0) found each
 
-    pub hits_share : length found ≤ length (sharing K word records)
+    pub hits_share : length found ≤ length (with_first_word K word records)
     hits_share =
-        omega (arith, hits_few word_of start_bytes 4 (0, 0) (starts K records) start count old known_rows IsNumber word found each distinct, length-sharing K word [] records)
+        omega (arith, hits_few word_of start_bytes 4 (0, 0) (starts K records) start count old known_rows IsRowNumber word found each distinct, length-with_first_word K word [] records)
 
     -- where they are all hits, each record that shares the word is at one of them
     all_share : length found ≡ hits table word → (i : ℕ) → i < length records → (hash_in K (record_at i)).word0 ≡ word
         → (k : ℕ) × (k < length found) × ((h : Hit ℕ) → (get_or found k h).row ≡ i)
     all_share all i within same =
-        hits_all word_of start_bytes 4 (0, 0) (starts K records) start count old known_rows IsNumber word found each distinct all i (in_table i within) (word_at i within ∙ same)
+        hits_all word_of start_bytes 4 (0, 0) (starts K records) start count old known_rows IsRowNumber word found each distinct all i (in_table i within) (word_at i within ∙ same)
 
     -- a record that is at the start of a hit is the one of that row
-    hit_reads : (h : Hit ℕ) (r : R) → IsHit table word IsNumber h → RecordAt K old.bytes (row_at offset h.value) r → r ≡ K.handed_out (record_at h.row)
+    hit_reads : (h : Hit ℕ) (r : R) → IsHit table word IsRowNumber h → RecordAt K old.bytes (row_at offset h.value) r → r ≡ K.as_read (record_at h.row)
     hit_reads h r hit is_at =
         let known = hit_is word h hit in
         record_is K laws records offset old is.section (start_at h.row) (record_at h.row) (at_row h.row known.0) r (subst (λ v. RecordAt K old.bytes (row_at offset v) r) known.2 is_at)
@@ -176,7 +176,7 @@ module _ {H R : Type 0} (K : RecordKind H R) (laws : KindLaws K) (d : R) (record
     found_is hash r row same contains is_at =
         All-contains (λ v. RecordAt K old.bytes (row_at offset v) r → IsAnswer K d records hash (Some r)) (map (λ h. h.value) found) row
         (All-map (λ v. RecordAt K old.bytes (row_at offset v) r → IsAnswer K d records hash (Some r)) (λ (h : Hit ℕ). h.value) found
-        (All-weaker (IsHit table word IsNumber) (λ h. RecordAt K old.bytes (row_at offset h.value) r → IsAnswer K d records hash (Some r))
+        (All-weaker (IsHit table word IsRowNumber) (λ h. RecordAt K old.bytes (row_at offset h.value) r → IsAnswer K d records hash (Some r))
         (λ h hit at. (h.row, (hit_is word h hit).0, hit_reads h r hit at, same)) found each))
         contains is_at
 
@@ -197,7 +197,7 @@ module _ {H R : Type 0} (K : RecordKind H R) (laws : KindLaws K) (d : R) (record
         in_starts row contains =
             All-contains (λ v. Contains (starts K records) (word, v)) (map (λ (h : Hit ℕ). h.value) found) row
             (All-map (λ v. Contains (starts K records) (word, v)) (λ (h : Hit ℕ). h.value) found
-            (All-weaker (IsHit table word IsNumber) (λ h. Contains (starts K records) (word, h.value))
+            (All-weaker (IsHit table word IsRowNumber) (λ h. Contains (starts K records) (word, h.value))
             (λ h hit. let known = hit_is word h hit in
             subst (λ e. Contains (starts K records) e) (row_is h.row known.0 ∙ (λ k. (known.1 k, sym known.2 k)))
             (Contains-get_or (starts K records) h.row (0, 0) (in_table h.row known.0))) found each))
@@ -221,30 +221,30 @@ module _ {H R : Type 0} (K : RecordKind H R) (laws : KindLaws K) (d : R) (record
     hits_are_read new e row contains refusal =
         All-contains (λ v. InfoRefusal K offset v old new e → DeviceFailure old new e ⊎ (e ≡ OutOfMemory)) (map (λ h. h.value) found) row
         (All-map (λ v. InfoRefusal K offset v old new e → DeviceFailure old new e ⊎ (e ≡ OutOfMemory)) (λ (h : Hit ℕ). h.value) found
-        (All-weaker (IsHit table word IsNumber) (λ h. InfoRefusal K offset h.value old new e → DeviceFailure old new e ⊎ (e ≡ OutOfMemory))
+        (All-weaker (IsHit table word IsRowNumber) (λ h. InfoRefusal K offset h.value old new e → DeviceFailure old new e ⊎ (e ≡ OutOfMemory))
         (λ h hit refused. let known = hit_is word h hit in record_is_read K laws records offset old is.section (start_at h.row) (record_at h.row) (at_row h.row known.0) new e (subst (λ v. InfoRefusal K offset v old new e) known.2 refused)) found each))
         contains refusal
 
     -- the bytes of the records that were read are those of records that share the word
-    pub records_share : (n : ℕ) (taken : List ℕ) → AllZip (λ row k. MayTake K (drop (row_at offset row) old.bytes) k) (take n (map (λ h. h.value) found)) taken
-        → sum taken ≤ length (flat_map K.record_bytes (sharing K word records))
+    pub records_share : (n : ℕ) (taken : List ℕ) → AllZip (λ row k. MayRead K (drop (row_at offset row) old.bytes) k) (take n (map (λ h. h.value) found)) taken
+        → sum taken ≤ length (flat_map K.record_bytes (with_first_word K word records))
     records_share n taken zip =
         let weight : R → ℕ = λ r. length (K.record_bytes r) in
         let f : ℕ → ℕ = λ i. if (hash_in K (record_at i)).word0 == word then weight (record_at i) else 0 in
-        let most : All (λ h. (k : ℕ) → MayTake K (drop (row_at offset h.value) old.bytes) k → k ≤ f h.row) found =
-        All-weaker (IsHit table word IsNumber) (λ h. (k : ℕ) → MayTake K (drop (row_at offset h.value) old.bytes) k → k ≤ f h.row)
+        let most : All (λ h. (k : ℕ) → MayRead K (drop (row_at offset h.value) old.bytes) k → k ≤ f h.row) found =
+        All-weaker (IsHit table word IsRowNumber) (λ h. (k : ℕ) → MayRead K (drop (row_at offset h.value) old.bytes) k → k ≤ f h.row)
         (λ h hit k takes. let known = hit_is word h hit in omega (
           arith,
           cond-true {A = ℕ} _ (weight (record_at h.row)) 0 (eq-eqb _ _ known.1),
-          record_is_enough K laws records offset old is.section (start_at h.row) (record_at h.row) (at_row h.row known.0) k (subst (λ v. MayTake K (drop (row_at offset v) old.bytes) k) known.2 takes),
+          record_is_enough K laws records offset old is.section (start_at h.row) (record_at h.row) (at_row h.row known.0) k (subst (λ v. MayRead K (drop (row_at offset v) old.bytes) k) known.2 takes),
         )) found each in
         omega (
           arith,
-          sum-taken (λ row k. MayTake K (drop (row_at offset row) old.bytes) k) (λ h. f h.row) found n taken most zip,
+          sum-taken (λ row k. MayRead K (drop (row_at offset row) old.bytes) k) (λ h. f h.row) found n taken most zip,
           sum_distinct f (length records) found distinct rows_below,
           sum_marked (λ r. (hash_in K r).word0 == word) weight records d (length records) (omega arith),
-          ap (λ rs. sum_by weight (sharing K word rs)) (take_all (length records) records (omega arith)),
-          sum-lengths K.record_bytes (sharing K word records),
+          ap (λ rs. sum_by weight (with_first_word K word rs)) (take_all (length records) records (omega arith)),
+          sum-lengths K.record_bytes (with_first_word K word records),
         )
 
   -- the search is refused only if the device fails
@@ -275,13 +275,13 @@ module _ {H R : Type 0} (K : RecordKind H R) (laws : KindLaws K) (d : R) (record
           bounded.read,
           table_hits word,
           records_share word looks.found looks.are_hits.each looks.are_hits.distinct n visits.taken
-              (subst (λ bytes. AllZip (λ row k. MayTake K (drop (row_at offset row) bytes) k) (take n rows) visits.taken) looks.serves.bytes visits.may_take),
+              (subst (λ bytes. AllZip (λ row k. MayRead K (drop (row_at offset row) bytes) k) (take n rows) visits.taken) looks.no_failure.bytes visits.may_take),
         );
       }
 
   -- a lookup that answers
-  pub answered : (hash : DataHash) (new : Source) (answer : Option R) → Finding K table offset hash old new answer
-      → (length (sharing K hash.word0 records) < 8) × IsAnswer K d records hash answer
+  pub answered : (hash : DataHash) (new : Source) (answer : Option R) → FindsRecord K table offset hash old new answer
+      → (length (with_first_word K hash.word0 records) < 8) × IsAnswer K d records hash answer
   answered hash new answer looks =
       let all = looks.are_hits.all table_sorted in
       (omega (arith, looks.few, all, table_hits hash.word0), answer_is answer looks.answer)
@@ -291,7 +291,7 @@ module _ {H R : Type 0} (K : RecordKind H R) (laws : KindLaws K) (d : R) (record
       answer_is (Some r) (same, row, contains, is_at) = found_is hash.word0 looks.found looks.are_hits.each looks.are_hits.distinct hash r row same contains is_at
 
   -- a lookup that is refused
-  pub not_answered : (hash : DataHash) (new : Source) (e : CoreError) → FindingFails K table offset hash old new e
+  pub not_answered : (hash : DataHash) (new : Source) (e : CoreError) → FindRecordFails K table offset hash old new e
       → LookupFailsAmong K records hash old new e
   not_answered hash new e (inl (inl (none, collision, collides), bounded)) =
       inr (inr (collision, omega (arith, collides.eight, hits_share hash.word0 collides.found collides.each collides.distinct)))
@@ -302,20 +302,20 @@ module _ {H R : Type 0} (K : RecordKind H R) (laws : KindLaws K) (d : R) (record
         | inr no_memory ↦ inr (inl (no_memory, omega (arith, one, all), omega (arith, looks.few, all)))
       ]
     where
-      all : length looks.found ≡ length (sharing K hash.word0 records)
+      all : length looks.found ≡ length (with_first_word K hash.word0 records)
       all = looks.are_hits.all table_sorted ∙ table_hits hash.word0
 
       one : 0 < length looks.found
       one = omega (arith, looks.answer.1.1, length-map looks.found (λ (h : Hit ℕ). h.value))
 
-  pub costs_refused : (hash : DataHash) (new : Source) (e : CoreError) → FindingFails K table offset hash old new e → WithinBounds K records hash.word0 old new
+  pub costs_refused : (hash : DataHash) (new : Source) (e : CoreError) → FindRecordFails K table offset hash old new e → WithinBounds K records hash.word0 old new
   costs_refused hash new e (inl (refused, bounded)) =
       let costs = search_costs hash.word0 new (bounded table_sorted) in
       record { made = costs.made; more = 0; few = costs.few; few_more = omega arith; seeks = omega (arith, costs.seeks); read = omega (arith, costs.read) }
   costs_refused hash new e (inr looks) = lookup_costs hash.word0 new (LookupRefused K offset old new e) looks
 
   -- a collision is answered after the search alone
-  pub costs_collision : (hash : DataHash) (new : Source) (e : CoreError) → FindingFails K table offset hash old new e → e ≡ TruncatedHashCollision hash.word0
+  pub costs_collision : (hash : DataHash) (new : Source) (e : CoreError) → FindRecordFails K table offset hash old new e → e ≡ TruncatedHashCollision hash.word0
       → SearchWithinBounds K records hash.word0 old new
   costs_collision hash new e (inl (refused, bounded)) collision = search_costs hash.word0 new (bounded table_sorted)
   costs_collision hash new e (inr looks) collision = search rules

@@ -9,10 +9,10 @@ use Rattle.std.proofs.lemmas.Grind.{common_steps, flat_map-append}
 use Rattle.std.proofs.Math.Nat.{mul-suc, mul-le-mul_left}
 use Rattle.xet_base.specs.declared.error.CoreError.{CoreError}
 use Rattle.xet_base.specs.declared.error.CoreError.TheVariants.{OutOfMemory}
-use Rattle.xet_base.specs.Source.{Source, Takes, DeviceFailure, FailedBy, ReadCase, ReadFails, moved, bytes_left}
+use Rattle.xet_base.specs.Source.{Source, ReadsBytes, DeviceFailure, FailedBy, ReadCase, ReadFails, moved, bytes_left}
 use Rattle.xet_base.proofs.Lists.{parts_front}
-use Rattle.xet_base.specs.InputLaws.{Takes-trans}
-use Rattle.xet_base.proofs.Reading.{Takes-consumes}
+use Rattle.xet_base.specs.InputLaws.{ReadsBytes-trans}
+use Rattle.xet_base.proofs.Reading.{ReadsBytes-consumes}
 use Rattle.xet_shards.specs.TableReading.{ReadsNextRow, ReadsTable, RowsFailure, TableFails}
 
 -- the rows that were read so far
@@ -20,7 +20,7 @@ pub record HasReadRows {T : Type 0} (row_bytes : T → List ℕ) (Fits : T → T
   pub number : length found ≡ count
   pub widths : All Fits found
   pub bytes : length (flat_map row_bytes found) ≡ size * count
-  pub taken : Takes start now (flat_map row_bytes found)
+  pub taken : ReadsBytes start now (flat_map row_bytes found)
 
 module _ {T : Type 0} (row_bytes : T → List ℕ) (Fits : T → Type 0) (size : ℕ) where
   pub more_rows_read : (start now new : Source) (count : ℕ) (found : List T) (row : T) → HasReadRows row_bytes Fits size start now count found
@@ -32,13 +32,13 @@ module _ {T : Type 0} (row_bytes : T → List ℕ) (Fits : T → Type 0) (size :
         number = length-append found (row ∷ []) ∙ ap (λ k. k + 1) before.number;
         widths = All-append Fits found (row ∷ []) before.widths (All-cons Fits row [] next.widths (All-nil Fits));
         bytes = sym (ap length joined) ∙ length-append (flat_map row_bytes found) (row_bytes row) ∙ omega (arith, before.bytes, next.bytes, mul-suc size count);
-        taken = subst (Takes start new) joined (Takes-trans start now new (flat_map row_bytes found) (row_bytes row) before.taken next.taken);
+        taken = subst (ReadsBytes start new) joined (ReadsBytes-trans start now new (flat_map row_bytes found) (row_bytes row) before.taken next.taken);
       }
 
   -- what is at an offset, as far as its rows were read
   module _ (old now : Source) (at count : ℕ) (found : List T) (read : HasReadRows row_bytes Fits size (moved old at) now count found) where
     bytes_are_then : drop at old.bytes ≡ flat_map row_bytes found ++ bytes_left now
-    bytes_are_then = Takes-consumes (moved old at) now (flat_map row_bytes found) read.taken
+    bytes_are_then = ReadsBytes-consumes (moved old at) now (flat_map row_bytes found) read.taken
 
     pub table_read : count ≤ 4294967295 → ReadsTable row_bytes Fits size old now at count found
     table_read few =

@@ -10,13 +10,13 @@ use Rattle.xet_base.specs.Errors.{CoreResult}
 use Rattle.xet_base.specs.declared.error.CoreError.TheVariants.{InvalidShard}
 use Rattle.xet_base.specs.declared.merklehash.DataHash.{DataHash}
 use Rattle.xet_base.specs.Source.{Source}
-use Rattle.xet_base.specs.Table.{Table, Hit, Finds, Serves, IsBareInvalidShard}
+use Rattle.xet_base.specs.Table.{Table, Hit, Finds, NoFailure, IsBareInvalidShard}
 use Rattle.xet_base.proofs.Lists.{front_is}
 use Rattle.xet_records.specs.XorbRecord.{xorb_records}
 use Rattle.xet_records.proofs.RecordKinds.{xorb_laws}
 use Rattle.xet_shards.specs.ChunkQuery.{Run}
 use Rattle.xet_shards.specs.declared.shard_format.footer.MDBShardFileFooter.{MDBShardFileFooter}
-use Rattle.xet_shards.specs.Lookup.{chunk_lookup_table, IsPair, Searches, Visits, VisitsSome}
+use Rattle.xet_shards.specs.Lookup.{chunk_lookup_table, IsRowAndIndex, Searches, Visits, VisitsSome}
 use Rattle.xet_shards.specs.RunReading.{QueryAt, query_at, AnswerAt, RefusedAt, OutcomeAt, keyed_word, Queries, TriedAnswer, TriedRefused, OutcomeOfTries, QueryOutcome, NoneTried}
 use Rattle.xet_shards.proofs.Lookups.{serves_after, visits_more}
 
@@ -31,8 +31,8 @@ if_none P None none holds = holds
 if_none P (Some x) some holds = absurd (true≢false some)
 
 -- a refusal after calls that did not fail is one over all
-refused_later : (q : QueryAt) (old now new : Source) (e : CoreError) → Serves old now → RefusedAt IsBareInvalidShard q now new e → RefusedAt IsBareInvalidShard q old new e
-refused_later q old now new e serves refused = search rules
+refused_later : (q : QueryAt) (old now new : Source) (e : CoreError) → NoFailure old now → RefusedAt IsBareInvalidShard q now new e → RefusedAt IsBareInvalidShard q old new e
+refused_later q old now new e no_failure refused = search rules
 
 rows_of_values : (found : List (Hit (ℕ × ℕ))) → map (λ (location : ℕ × ℕ). location.0) (map (λ (h : Hit (ℕ × ℕ)). h.value) found) ≡ map (λ (h : Hit (ℕ × ℕ)). h.value.0) found
 rows_of_values [] = refl
@@ -65,7 +65,7 @@ module _ {footer : MDBShardFileFooter} {hashes : List DataHash} (locations : Lis
 
   -- it has a run, or was refused
   pub stops_next : IfOk r (λ answer. true ≡ is_some answer) → OutcomeOfTries footer hashes locations old new r
-  stops_next some = record { answer = found r some outcome.answer; refused = refused r outcome.refused; serves = serves r outcome.serves; visits = visits }
+  stops_next some = record { answer = found r some outcome.answer; refused = refused r outcome.refused; no_failure = no_failure r outcome.no_failure; visits = visits }
     where
       found : (o : CoreResult (Option Run)) → IfOk o (λ answer. true ≡ is_some answer) → IfOk o (AnswerAt (query_at footer hashes next) now.bytes)
           → IfOk o (λ answer. TriedAnswer footer hashes old.bytes answer locations)
@@ -76,11 +76,11 @@ module _ {footer : MDBShardFileFooter} {hashes : List DataHash} (locations : Lis
       refused : (o : CoreResult (Option Run)) → IfErr o (RefusedAt (λ e. e ≡ InvalidShard text) (query_at footer hashes next) now new)
           → IfErr o (λ e. TriedRefused footer hashes old new e locations)
       refused (Ok answer) none = tt
-      refused (Err e) why = (next, contains, refused_later (query_at footer hashes next) old now new e before.serves (if_corrupt (query_at footer hashes next) now new e text bare why))
+      refused (Err e) why = (next, contains, refused_later (query_at footer hashes next) old now new e before.no_failure (if_corrupt (query_at footer hashes next) now new e text bare why))
 
-      serves : (o : CoreResult (Option Run)) → OnOk o (Serves now new) → OnOk o (Serves old new)
-      serves (Ok answer) is = serves_after old now new before.serves is
-      serves (Err e) none = tt
+      no_failure : (o : CoreResult (Option Run)) → OnOk o (NoFailure now new) → OnOk o (NoFailure old new)
+      no_failure (Ok answer) is = serves_after old now new before.no_failure is
+      no_failure (Err e) none = tt
 
 -- it has none
 pub none_next : {footer : MDBShardFileFooter} {hashes : List DataHash} (locations : List (ℕ × ℕ)) (i : ℕ) → i < length locations → {old now new : Source}
@@ -91,7 +91,7 @@ none_next {footer} {hashes} locations i below {old} {now} {new} before {text} ba
     let next = get_or locations i (0, 0) in
     subst (λ ps. NoneTried footer hashes ps old new) (sym (more locations i below before bare outcome)) (record {
       visits = visits_next locations i below before bare outcome;
-      serves = serves_after old now new before.serves outcome.serves;
+      no_failure = serves_after old now new before.no_failure outcome.no_failure;
       none = All-push (λ location. AnswerAt (query_at footer hashes location) old.bytes None) (take i locations) next before.none
           (answered locations i below before bare outcome None (if_none (AnswerAt (query_at footer hashes next) now.bytes) answer (sym none) outcome.answer));
     })
@@ -102,19 +102,19 @@ pub none_found : {footer : MDBShardFileFooter} {hashes : List DataHash} (locatio
 none_found {footer} {hashes} locations i all {old} {new} tried = record {
   answer = subst (TriedAnswer footer hashes old.bytes None) (take_all i locations all) tried.none;
   refused = tt;
-  serves = tried.serves;
+  no_failure = tried.no_failure;
   visits = (i, subst (λ rows. Visits xorb_records 2 footer.xorb_info_offset rows old new) (sym (take-map row_of i locations)) tried.visits);
 }
 
 -- what was found is no more than there is room for
-found_fit : {t : Table} {word count : ℕ} {dest_old dest_new : List (ℕ × ℕ)} → Finds t word IsPair dest_old dest_new count → count ≤ length dest_new
+found_fit : {t : Table} {word count : ℕ} {dest_old dest_new : List (ℕ × ℕ)} → Finds t word IsRowAndIndex dest_old dest_new count → count ≤ length dest_new
 found_fit finds = grind (arith, common_steps)
 
 -- the search for a hash answered, and locations that it found were tried
 module _ (footer : MDBShardFileFooter) (hash : DataHash) {count : ℕ} {old mid new : Source} {dest_old dest_new : List (ℕ × ℕ)}
-    (search_gave : Searches (chunk_lookup_table footer old) (keyed_word footer hash) IsPair 8 dest_old dest_new old mid (Ok count)) (room : length dest_new ≡ 8)
+    (search_gave : Searches (chunk_lookup_table footer old) (keyed_word footer hash) IsRowAndIndex 8 dest_old dest_new old mid (Ok count)) (room : length dest_new ≡ 8)
     {hashes : List DataHash} {r : CoreResult (Option Run)} (tried : OutcomeOfTries footer hashes (take count dest_new) mid new r) where
-  finds : Finds (chunk_lookup_table footer old) (keyed_word footer hash) IsPair dest_old dest_new count
+  finds : Finds (chunk_lookup_table footer old) (keyed_word footer hash) IsRowAndIndex dest_old dest_new count
   finds = search_gave.found
 
   in_front : take count dest_new ≡ map (λ (h : Hit (ℕ × ℕ)). h.value) finds.found
@@ -132,7 +132,7 @@ module _ (footer : MDBShardFileFooter) (hash : DataHash) {count : ℕ} {old mid 
     distinct = finds.distinct;
     all = λ sorted. finds.number ∙ search_gave.count sorted;
     searched = mid;
-    serves = search_gave.serves;
+    no_failure = search_gave.no_failure;
     bounded = search_gave.bounds;
     visits = subst (λ rows. VisitsSome xorb_records 2 footer.xorb_info_offset rows mid new) rows_are tried.visits;
     answer = subst Answer in_front answer;
@@ -140,23 +140,23 @@ module _ (footer : MDBShardFileFooter) (hash : DataHash) {count : ℕ} {old mid 
 
   pub query_refused : (e : CoreError) → TriedRefused footer hashes mid new e (take count dest_new) → Queries footer hash old new (TriedRefused footer hashes old new e)
   query_refused e (location, contains, refused) =
-      queried (TriedRefused footer hashes old new e) (location, contains, refused_later (query_at footer hashes location) old mid new e search_gave.serves refused)
+      queried (TriedRefused footer hashes old new e) (location, contains, refused_later (query_at footer hashes location) old mid new e search_gave.no_failure refused)
 
   pub query_answered : (answer : Option Run) → TriedAnswer footer hashes mid.bytes answer (take count dest_new)
       → Queries footer hash old new (TriedAnswer footer hashes old.bytes answer)
   query_answered answer found =
-      queried (TriedAnswer footer hashes old.bytes answer) (subst (λ bytes. TriedAnswer footer hashes bytes answer (take count dest_new)) search_gave.serves.bytes found)
+      queried (TriedAnswer footer hashes old.bytes answer) (subst (λ bytes. TriedAnswer footer hashes bytes answer (take count dest_new)) search_gave.no_failure.bytes found)
 
 -- the query by the first hash
 pub query_read : (footer : MDBShardFileFooter) (hash : DataHash) {hashes : List DataHash} {count : ℕ} {old mid new : Source} {dest_old dest_new : List (ℕ × ℕ)}
     {r : CoreResult (Option Run)} → Some hash ≡ slice_get hashes 0 → footer.chunk_lookup_num_entry ≢ 0
-    → Searches (chunk_lookup_table footer old) (keyed_word footer hash) IsPair 8 dest_old dest_new old mid (Ok count) → length dest_new ≡ 8
+    → Searches (chunk_lookup_table footer old) (keyed_word footer hash) IsRowAndIndex 8 dest_old dest_new old mid (Ok count) → length dest_new ≡ 8
     → OutcomeOfTries footer hashes (take count dest_new) mid new r → QueryOutcome footer hashes old new r
 query_read footer hash {hashes = []} first some gave room tried = absurd (none-some hash (sym first))
 query_read footer hash {hashes = h ∷ qs} {count} {old} {mid} {new} {dest_old} {dest_new} {r} first some gave room tried = go r tried
   where
-    same : Searches (chunk_lookup_table footer old) (keyed_word footer h) IsPair 8 dest_old dest_new old mid (Ok count)
-    same = subst (λ x. Searches (chunk_lookup_table footer old) (keyed_word footer x) IsPair 8 dest_old dest_new old mid (Ok count)) (same_Some hash h first) gave
+    same : Searches (chunk_lookup_table footer old) (keyed_word footer h) IsRowAndIndex 8 dest_old dest_new old mid (Ok count)
+    same = subst (λ x. Searches (chunk_lookup_table footer old) (keyed_word footer x) IsRowAndIndex 8 dest_old dest_new old mid (Ok count)) (same_Some hash h first) gave
 
     go : (o : CoreResult (Option Run)) → OutcomeOfTries footer (h ∷ qs) (take count dest_new) mid new o → QueryOutcome footer (h ∷ qs) old new o
     go (Ok answer) outcome = inr (some, query_answered footer h same room outcome answer outcome.answer)

@@ -8,8 +8,8 @@ use Rattle.std.proofs.lemmas.List.{length-map, map-append, map-id, nil_from_leng
 use Rattle.std.proofs.lemmas.List.Sums.{sum_by-append}
 use Rattle.std.proofs.lemmas.List.Elements.{All-append, All-cons, All-nil}
 use Rattle.xet_base.specs.declared.error.CoreError.{CoreError}
-use Rattle.xet_base.specs.Source.{Source, Takes, advanced, moved, bytes_left}
-use Rattle.xet_base.proofs.Reading.{Takes-consumes}
+use Rattle.xet_base.specs.Source.{Source, ReadsBytes, advanced, moved, bytes_left}
+use Rattle.xet_base.proofs.Reading.{ReadsBytes-consumes}
 use Rattle.xet_records.specs.declared.xorb_structs.MDBXorbInfo.{MDBXorbInfo}
 use Rattle.xet_records.specs.declared.xorb_structs.XorbChunkSequenceEntry.{XorbChunkSequenceEntry}
 use Rattle.xet_records.specs.Reading.{ReadsBookend}
@@ -23,7 +23,7 @@ use Rattle.xet_shards.specs.SectionReading.{HoldsRecords, RecordFails, IsSection
 use Rattle.xet_shards.specs.TruncatedHashes.{hashes_of, StartBefore, ReadsHashes, HashesFail, HasReadHashes, ReadsXorbBefore, XorbBeforeFails}
 use Rattle.xet_shards.proofs.ChunkTableRows.{chunk_table_rows-push, chunk_table_rows_from-more, chunk_table_row, no_chunk}
 use Rattle.xet_records.proofs.SectionRecords.{more_read}
-use Rattle.xet_base.specs.InputLaws.{Takes-trans}
+use Rattle.xet_base.specs.InputLaws.{ReadsBytes-trans}
 use Rattle.xet_shards.proofs.SectionReading.{offset_after, section_ends, section_failure}
 use Rattle.xet_shards.proofs.Readback.{why_not}
 use Rattle.xet_shards.proofs.SectionUnique.{first_of_section}
@@ -62,24 +62,24 @@ more_hashes stop start now new found left after next before read =
     let row : next.0 ≡ total_rows xorb_records before.xorbs = omega (arith, read.start, rows_of before) in
     record {
       xorbs = before.xorbs ++ next.1 ∷ [];
-      read = more_read xorb_records xorb_laws _ _ _ before.xorbs left after next.1 (Takes-trans start now new) before.read read.next;
+      read = more_read xorb_records xorb_laws _ _ _ before.xorbs left after next.1 (ReadsBytes-trans start now new) before.read read.next;
       before = StartBefore-push start.at stop before.xorbs next.1 before.before (omega (arith, read.before, at_is));
       hashes = (λ i. before.hashes i ++ map triple_of (chunk_table_rows_from (row i) next.1.chunks)) ∙ sym (hashes_of-push before.xorbs next.1);
     }
   where
     rows_of : (b : HasReadHashes stop start now found left) → total_rows xorb_records b.xorbs + left ≡ 4294967295
-    rows_of b = omega (arith, b.read.rows, ap (total_rows xorb_records) (sym (map-id b.read.stored) ∙ b.read.handed))
+    rows_of b = omega (arith, b.read.rows, ap (total_rows xorb_records) (sym (map-id b.read.stored) ∙ b.read.returned))
 
 -- after the xorbs that were read
 module _ (stop : ℕ) (old now : Source) (at : ℕ) (found : List (ℕ × (ℕ × ℕ))) (left : ℕ) (before : HasReadHashes stop (moved old at) now found left) where
-  -- they are handed out as they are
+  -- they are returned as they are
   same_xorbs : before.read.stored ≡ before.xorbs
-  same_xorbs = sym (map-id before.read.stored) ∙ before.read.handed
+  same_xorbs = sym (map-id before.read.stored) ∙ before.read.returned
 
   -- these xorbs are there
   holds : HoldsRecords xorb_records (bytes_left (moved old at)) before.xorbs (bytes_left now)
   holds = subst (λ xorbs. HoldsRecords xorb_records (bytes_left (moved old at)) xorbs (bytes_left now)) same_xorbs
-      (record { are_stored = before.read.are_stored; rows = omega (arith, before.read.rows); bytes_are = Takes-consumes (moved old at) now (flat_map xorb_record_bytes before.read.stored) before.read.taken })
+      (record { are_stored = before.read.are_stored; rows = omega (arith, before.read.rows); bytes_are = ReadsBytes-consumes (moved old at) now (flat_map xorb_record_bytes before.read.stored) before.read.taken })
 
   at_is : now.at ≡ at + 48 * total_rows xorb_records before.xorbs
   at_is = offset_after xorb_records xorb_laws (moved old at) now before.xorbs left before.read
@@ -88,10 +88,10 @@ module _ (stop : ℕ) (old now : Source) (at : ℕ) (found : List (ℕ × (ℕ �
   left_is = omega (arith, before.read.rows, ap (total_rows xorb_records) same_xorbs)
 
   -- the bookend, or the stop
-  pub hashes_end : (new : Source) → ((now.at < stop) × ReadsBookend xorb_records (Takes now new)) ⊎ ((stop ≤ now.at) × (new ≡ now)) → ReadsHashes old new at stop found
+  pub hashes_end : (new : Source) → ((now.at < stop) × ReadsBookend xorb_records (ReadsBytes now new)) ⊎ ((stop ≤ now.at) × (new ≡ now)) → ReadsHashes old new at stop found
   hashes_end new (inl (below, last)) =
       let ended = section_ends xorb_records xorb_laws (moved old at) now before.xorbs left before.read new last in
-      let same : ended.stored ≡ before.xorbs = sym (map-id ended.stored) ∙ ended.handed in
+      let same : ended.stored ≡ before.xorbs = sym (map-id ended.stored) ∙ ended.returned in
       record {
         xorbs = before.xorbs;
         rest = ended.section.rest;

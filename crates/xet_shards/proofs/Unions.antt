@@ -12,7 +12,7 @@ use Rattle.xet_records.specs.Merging.{Agree, merged}
 use Rattle.xet_records.proofs.Merging.{merged_is_joined, merged-assoc, agree-merged, joined-comm, joined-idem, same_file_if_agree}
 use Rattle.xet_shards.specs.Shard.{Shard, IsShard, empty_shard, file_hash_of}
 use Rattle.xet_shards.specs.Joining.{either_file}
-use Rattle.xet_shards.specs.SetOperations.{IsUnion, ShardsAgree, HasFewRows, CanUnite}
+use Rattle.xet_shards.specs.SetOperations.{IsUnion, ShardsAgree, RowsFitU32, CanUnite}
 use Rattle.xet_shards.proofs.FileUnions.{holds_in_map}
 
 pub same_shard : (c d : Shard) → ((q : DataHash) → get c.files q ≡ get d.files q) → ((q : DataHash) → get c.xorbs q ≡ get d.xorbs q) → c ≡ d
@@ -92,7 +92,7 @@ pub union-of_empty : (a c : Shard) → IsUnion empty_shard a c → c ≡ a
 union-of_empty a c union = same_shard c a (λ q. grind (arith, union.files q, no_file q)) (λ q. grind (arith, union.xorbs q, no_xorb q))
 
 -- shards that agree can be united if the rows of their union fit `u32`
-pub agreeing_unite : (a b : Shard) → IsShard a → IsShard b → ShardsAgree a b → ((c : Shard) → IsUnion a b c → HasFewRows c) → CanUnite a b
+pub agreeing_unite : (a b : Shard) → IsShard a → IsShard b → ShardsAgree a b → ((c : Shard) → IsUnion a b c → RowsFitU32 c) → CanUnite a b
 agreeing_unite a b first second agree few = record {
   same = λ q r s own other.
       let mine = known a q r first own in

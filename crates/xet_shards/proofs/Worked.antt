@@ -18,7 +18,7 @@ use Rattle.xet_base.specs.KeyedHash.{no_key}
 use Rattle.xet_shards.specs.ChunkQuery.{run_at}
 use Rattle.xet_shards.proofs.Tables.{chunk_table_row_total}
 use Rattle.xet_shards.specs.Tables.{ChunkTableRow, chunk_table_row_cmp, chunk_table_rows, ascending, chunk_table, chunk_table_row_bytes, table_bytes, chunk_table_bytes}
-use Rattle.xet_shards.specs.Layout.{footer_value, layout_of, plain_form}
+use Rattle.xet_shards.specs.Layout.{footer_value, layout_of, plain_options}
 use Rattle.xet_shards.proofs.ChunkTableRows.{ascending-nil}
 use Rattle.xet_shards.proofs.Maps.{puts, entries-from_entries}
 use Rattle.xet_shards.proofs.XorbLayouts.{length-layout_of}
@@ -66,25 +66,25 @@ chunks_of_q : chunk_table (xorb 10 21 ∷ xorb 11 22 ∷ []) ≡ record { word =
 chunks_of_q = ascending_is (chunk_table_rows (xorb 10 21 ∷ xorb 11 22 ∷ []))
 
 -- the empty shard
-pub offsets_of_empty : offsets (footer_value [] [] (plain_form None)) ≡ 48 ∷ 96 ∷ 144 ∷ 144 ∷ 144 ∷ 144 ∷ []
+pub offsets_of_empty : offsets (footer_value [] [] (plain_options None)) ≡ 48 ∷ 96 ∷ 144 ∷ 144 ∷ 144 ∷ 144 ∷ []
 unfolding section_bytes table_bytes chunk_table_bytes file_record_bytes file_rows_bytes header_row segment_row hash_bytes u64_bytes u32_bytes xorb_record_bytes xorb_header_row chunk_row
 offsets_of_empty = λ i. 48 ∷ 96 ∷ 144 ∷ 144 ∷ 144 ∷ (144 + length (flat_map chunk_table_row_bytes (ascending-nil i))) ∷ []
 
 -- a xorb with one chunk, and a file
-pub offsets_of_p : offsets (footer_value (file 100 200 ∷ []) (xorb 10 21 ∷ []) (plain_form None)) ≡ 48 ∷ 192 ∷ 336 ∷ 348 ∷ 360 ∷ 376 ∷ []
+pub offsets_of_p : offsets (footer_value (file 100 200 ∷ []) (xorb 10 21 ∷ []) (plain_options None)) ≡ 48 ∷ 192 ∷ 336 ∷ 348 ∷ 360 ∷ 376 ∷ []
 unfolding section_bytes table_bytes chunk_table_bytes file_record_bytes file_rows_bytes header_row segment_row hash_bytes u64_bytes u32_bytes xorb_record_bytes xorb_header_row chunk_row
 offsets_of_p = λ i. 48 ∷ 192 ∷ 336 ∷ 348 ∷ 360 ∷ (360 + length (flat_map chunk_table_row_bytes (chunks_of_p i))) ∷ []
 
-pub sums_of_p : sums (footer_value (file 100 200 ∷ []) (xorb 10 21 ∷ []) (plain_form None)) ≡ 5 ∷ 5 ∷ 0 ∷ []
+pub sums_of_p : sums (footer_value (file 100 200 ∷ []) (xorb 10 21 ∷ []) (plain_options None)) ≡ 5 ∷ 5 ∷ 0 ∷ []
 sums_of_p = refl
 
 -- a second of each
-pub offsets_of_q : offsets (footer_value (file 100 200 ∷ file 101 201 ∷ []) (xorb 10 21 ∷ xorb 11 22 ∷ []) (plain_form None)) ≡ 48 ∷ 288 ∷ 528 ∷ 552 ∷ 576 ∷ 608 ∷ []
+pub offsets_of_q : offsets (footer_value (file 100 200 ∷ file 101 201 ∷ []) (xorb 10 21 ∷ xorb 11 22 ∷ []) (plain_options None)) ≡ 48 ∷ 288 ∷ 528 ∷ 552 ∷ 576 ∷ 608 ∷ []
 unfolding section_bytes table_bytes chunk_table_bytes file_record_bytes file_rows_bytes header_row segment_row hash_bytes u64_bytes u32_bytes xorb_record_bytes xorb_header_row chunk_row
 offsets_of_q = λ i. 48 ∷ 288 ∷ 528 ∷ 552 ∷ 576 ∷ (576 + length (flat_map chunk_table_row_bytes (chunks_of_q i))) ∷ []
 
 -- the sizes of two xorbs with the same chunk
-pub size_of_two : length (layout_of [] (xorb 10 21 ∷ xorb 11 21 ∷ []) (plain_form None)) ≡ 592
+pub size_of_two : length (layout_of [] (xorb 10 21 ∷ xorb 11 21 ∷ []) (plain_options None)) ≡ 592
 size_of_two = length-layout_of [] (xorb 10 21 ∷ xorb 11 21 ∷ []) None (All-nil FitsRecord)
 
 -- a chunk, and a xorb of three chunks of 5, 6 and 7 bytes

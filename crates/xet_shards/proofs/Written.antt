@@ -17,7 +17,7 @@ use Rattle.xet_shards.specs.declared.shard_format.written.WrittenXorbs.{WrittenX
 use Rattle.xet_shards.specs.Shard.{xorb_hash_of}
 use Rattle.xet_shards.specs.Section.{section_bytes}
 use Rattle.xet_shards.specs.Tables.{AddsChunkRows, hash_in, starts, table_bytes, chunk_table_rows_from, chunk_table_rows}
-use Rattle.xet_shards.specs.Layout.{Form, if_in, shard_header_bytes, header_value, layout_of}
+use Rattle.xet_shards.specs.Layout.{LayoutOptions, if_included, shard_header_bytes, header_value, layout_of}
 use Rattle.xet_shards.specs.Written.{AddsRecord, IsTableOf, IsFileOf, HasWritten, HasWrittenFor, end_of_layout}
 use Rattle.xet_shards.proofs.ChunkTableRows.{chunk_table_rows-push}
 use Rattle.xet_shards.proofs.Tables.{table_bytes-push, table_bytes-nil, length-starts, length-table_bytes}
@@ -53,24 +53,24 @@ xorb_written wanted v w xorbs r before added chunk_rows bytes bytes_on_disk = re
 }
 
 -- the rows of a table that is in, or none, and their bytes
-pub rows_of_table : {X : Type 0} (b : Bool) (rows : List X) (n : ℕ) → n ≡ length rows → (if b then n else 0) ≡ length (if_in b rows)
+pub rows_of_table : {X : Type 0} (b : Bool) (rows : List X) (n : ℕ) → n ≡ length rows → (if b then n else 0) ≡ length (if_included b rows)
 rows_of_table true rows n is = is
 rows_of_table false rows n is = refl
 
-pub bytes_of_table : {H R : Type 0} (K : RecordKind H R) (b : Bool) (records : List R) → length (if_in b (table_bytes K records)) ≡ 12 * length (if_in b (starts K records))
+pub bytes_of_table : {H R : Type 0} (K : RecordKind H R) (b : Bool) (records : List R) → length (if_included b (table_bytes K records)) ≡ 12 * length (if_included b (starts K records))
 bytes_of_table K true records = length-table_bytes K records ∙ ap (λ n. 12 * n) (sym (length-starts K records))
 bytes_of_table K false records = refl
 
 -- header, sections and end are the layout
-pub layout-parts : (files : List MDBFileInfo) (xorbs : List MDBXorbInfo) (form : Form)
-    → ((shard_header_bytes (header_value form.version) ++ section_bytes file_records files) ++ section_bytes xorb_records xorbs) ++ end_of_layout files xorbs form ≡ layout_of files xorbs form
+pub layout-parts : (files : List MDBFileInfo) (xorbs : List MDBXorbInfo) (options : LayoutOptions)
+    → ((shard_header_bytes (header_value options.version) ++ section_bytes file_records files) ++ section_bytes xorb_records xorbs) ++ end_of_layout files xorbs options ≡ layout_of files xorbs options
 unfolding layout_of
-layout-parts files xorbs form = simp (append_assoc)
+layout-parts files xorbs options = simp (append_assoc)
 
 -- so are they where they were written one after another
-pub whole_layout : (start after_header after_files after_xorbs end : Option (List ℕ)) (files : List MDBFileInfo) (xorbs : List MDBXorbInfo) (form : Form)
-    → Appends start after_header (shard_header_bytes (header_value form.version)) → Appends after_header after_files (section_bytes file_records files)
-    → Appends after_files after_xorbs (section_bytes xorb_records xorbs) → Appends after_xorbs end (end_of_layout files xorbs form)
-    → Appends start end (layout_of files xorbs form)
-whole_layout start after_header after_files after_xorbs end files xorbs form header file_section xorb_section rest =
+pub whole_layout : (start after_header after_files after_xorbs end : Option (List ℕ)) (files : List MDBFileInfo) (xorbs : List MDBXorbInfo) (options : LayoutOptions)
+    → Appends start after_header (shard_header_bytes (header_value options.version)) → Appends after_header after_files (section_bytes file_records files)
+    → Appends after_files after_xorbs (section_bytes xorb_records xorbs) → Appends after_xorbs end (end_of_layout files xorbs options)
+    → Appends start end (layout_of files xorbs options)
+whole_layout start after_header after_files after_xorbs end files xorbs options header file_section xorb_section rest =
     grind (arith, common_steps, layout-parts, Appends-trans)

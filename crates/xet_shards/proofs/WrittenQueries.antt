@@ -21,23 +21,23 @@ use Rattle.xet_records.specs.declared.xorb_structs.XorbChunkSequenceEntry.{XorbC
 use Rattle.xet_records.specs.XorbRecord.{xorb_records, xorb_record_bytes, IsXorb}
 use Rattle.xet_records.proofs.RecordKinds.{xorb_laws}
 use Rattle.xet_shards.specs.declared.shard_format.footer.MDBShardFileFooter.{MDBShardFileFooter}
-use Rattle.xet_shards.specs.ChunkLookup.{ChunkLocation, chunk_at}
+use Rattle.xet_shards.specs.ChunkLookup.{ChunkLocation, chunk_hash_at}
 use Rattle.xet_shards.specs.ChunkQuery.{Run, run_length, run_at, some_run_at}
 use Rattle.xet_shards.specs.Section.{total_rows, StartsAt}
-use Rattle.xet_shards.specs.SectionReading.{MayTake}
+use Rattle.xet_shards.specs.SectionReading.{MayRead}
 use Rattle.xet_shards.specs.Tables.{ChunkTableRow, chunk_table_rows, chunk_table}
-use Rattle.xet_shards.specs.Layout.{Form}
-use Rattle.xet_shards.specs.InForm.{IsInForm}
-use Rattle.xet_shards.specs.Lookup.{row_at, chunk_lookup_table, IsPair}
+use Rattle.xet_shards.specs.Layout.{LayoutOptions}
+use Rattle.xet_shards.specs.WithOptions.{IsBytesWithOptions}
+use Rattle.xet_shards.specs.Lookup.{row_at, chunk_lookup_table, IsRowAndIndex}
 use Rattle.xet_shards.specs.RunReading.{query_at, AnswerAt, RefusedAt, Queries, TriedAnswer, TriedRefused, QueryAnswer, QueryRefused, QueryOutcome}
 use Rattle.xet_shards.specs.WrittenChunks.{ChunkSearchCosts}
-use Rattle.xet_shards.specs.WrittenQueries.{HasChunkAt, all_chunks, is_other, others_sharing, RunAmong, TriesCost, QueryCosts}
+use Rattle.xet_shards.specs.WrittenQueries.{HasChunkAt, all_chunks, is_other, others_with_first_word, RunAmong, TriesCost, QueryCosts}
 use Rattle.xet_shards.proofs.ChunkLocations.{IsLocated, located, has_row}
 use Rattle.xet_shards.proofs.ChunkLookups.{chunk_within}
 use Rattle.xet_shards.proofs.ChunkTableRows.{chunk_table_row, no_chunk}
 use Rattle.xet_shards.proofs.ChunkTables.{no_table_row, word_of, numbers_of, rows_differ, rows_known, hit_row, table_sorted, chunk_search_costs}
 use Rattle.xet_shards.proofs.Distinct.{few_marked}
-use Rattle.xet_shards.proofs.InForm.{xorbs_stored}
+use Rattle.xet_shards.proofs.WithOptions.{xorbs_stored}
 use Rattle.xet_shards.proofs.KnownRows.{search_served, hits_all}
 use Rattle.xet_shards.proofs.StoredRecords.{starts_at_index, in_records, record_is_enough}
 use Rattle.xet_shards.proofs.TableOrder.{in_table_rows, in_table}
@@ -82,7 +82,7 @@ module _ (key q : DataHash) (qs : List DataHash) (x : MDBXorbInfo) (index : ℕ)
       go true same = (refl, same_Some run (run_at key (x, index) (q ∷ qs)) (some ∙ if_same same))
       go false other = absurd (none-some run (sym (if_other other) ∙ sym some))
 
-  chunk_here : chunk_at (x, index) ≡ Some here.chunk_hash
+  chunk_here : chunk_hash_at (x, index) ≡ Some here.chunk_hash
   chunk_here = ap (option_map (λ (c : XorbChunkSequenceEntry). c.chunk_hash)) (slice_get-get_or x.chunks index no_chunk within)
 
 length-all_chunks : (xorbs : List MDBXorbInfo) → length (all_chunks xorbs) ≡ total_chunks xorbs
@@ -90,8 +90,8 @@ length-all_chunks [] = refl
 length-all_chunks (x ∷ xorbs) =
     length-append x.chunks (all_chunks xorbs) ∙ omega (arith, length-all_chunks xorbs, sum_by-cons (λ (r : MDBXorbInfo). length r.chunks) x xorbs)
 
-module _ {files : List MDBFileInfo} {xorbs : List MDBXorbInfo} {form : Form} (old : Source) {footer : MDBShardFileFooter} (is : IsInForm files xorbs form old.bytes footer)
-    (with_table : form.chunk_table ≡ true) where
+module _ {files : List MDBFileInfo} {xorbs : List MDBXorbInfo} {options : LayoutOptions} (old : Source) {footer : MDBShardFileFooter} (is : IsBytesWithOptions files xorbs options old.bytes footer)
+    (with_table : options.chunk_table ≡ true) where
   abbrev rows : List ChunkTableRow
   rows = chunk_table xorbs
 
@@ -137,9 +137,9 @@ module _ {files : List MDBFileInfo} {xorbs : List MDBXorbInfo} {form : Form} (ol
     chunk_is : get_or (all_chunks xorbs) (chunk_of h.row) no_chunk ≡ get_or spot.xorb.chunks h.value.1 no_chunk
     word_is : (get_or (all_chunks xorbs) (chunk_of h.row) no_chunk).chunk_hash.word0 ≡ word
 
-  of_chunk : (word : ℕ) (h : Hit (ℕ × ℕ)) → IsHit t word IsPair h → IsOfChunk word h
+  of_chunk : (word : ℕ) (h : Hit (ℕ × ℕ)) → IsHit t word IsRowAndIndex h → IsOfChunk word h
   of_chunk word h hit =
-      let known = hit_row files xorbs form old footer is with_table word h hit in
+      let known = hit_row files xorbs options old footer is with_table word h hit in
       let spot = located [] xorbs (chunk_of h.row) (chunk_below h.row known.0) in
       let row : chunk_table_row (total_rows xorb_records spot.before) spot.index (get_or spot.xorb.chunks spot.index no_chunk) ≡ row_of h.row = sym spot.row_is ∙ row_of_chunk h.row known.0 in
       let index : h.value.1 ≡ spot.index = ap (λ (v : ℕ × ℕ). v.1) known.2 ∙ sym (ap (λ (p : ChunkTableRow). p.index) row) in
@@ -160,7 +160,7 @@ module _ {files : List MDBFileInfo} {xorbs : List MDBXorbInfo} {form : Form} (ol
     Answered v answer = AnswerAt (query_at footer (q ∷ qs) v) old.bytes answer
 
     -- no run at a hit: its chunk has another hash
-    no_run_at : (h : Hit (ℕ × ℕ)) → IsHit t hash.word0 IsPair h → Answered h.value None → is_other hash (get_or (all_chunks xorbs) (chunk_of h.row) no_chunk) ≡ true
+    no_run_at : (h : Hit (ℕ × ℕ)) → IsHit t hash.word0 IsRowAndIndex h → Answered h.value None → is_other hash (get_or (all_chunks xorbs) (chunk_of h.row) no_chunk) ≡ true
     no_run_at h hit none =
         let of = of_chunk hash.word0 h hit in
         let run = run_there old is of.starts (q ∷ qs) h.value.1 None none in
@@ -170,7 +170,7 @@ module _ {files : List MDBFileInfo} {xorbs : List MDBXorbInfo} {form : Form} (ol
         λ i. eq-eqb (get_or (all_chunks xorbs) (chunk_of h.row) no_chunk).chunk_hash.word0 hash.word0 of.word_is i && not (not_same i)
 
     -- a run at a hit
-    run_at_hit : (h : Hit (ℕ × ℕ)) (run : Run) → IsHit t hash.word0 IsPair h → Answered h.value (Some run) → RunAmong key (q ∷ qs) xorbs (Some run)
+    run_at_hit : (h : Hit (ℕ × ℕ)) (run : Run) → IsHit t hash.word0 IsRowAndIndex h → Answered h.value (Some run) → RunAmong key (q ∷ qs) xorbs (Some run)
     run_at_hit h run hit some =
         let of = of_chunk hash.word0 h hit in
         let x = of.spot.xorb in
@@ -178,7 +178,7 @@ module _ {files : List MDBFileInfo} {xorbs : List MDBXorbInfo} {form : Form} (ol
         let found = some_is_same key q qs x h.value.1 of.within run answer.0 in (
           (x, h.value.1),
           record {
-            xorb = in_records xorb_records xorb_laws xorbs footer.xorb_info_offset old (xorbs_stored files xorbs form old footer is) h.value.0 x of.starts;
+            xorb = in_records xorb_records xorb_laws xorbs footer.xorb_info_offset old (xorbs_stored files xorbs options old footer is) h.value.0 x of.starts;
             chunk = chunk_here key q qs x h.value.1 of.within ∙ ap Some (sym ((same_hash hash (get_or x.chunks h.value.1 no_chunk).chunk_hash).0 found.0));
           },
           found.1,
@@ -207,7 +207,7 @@ module _ {files : List MDBFileInfo} {xorbs : List MDBXorbInfo} {form : Form} (ol
           same ∙ ap (λ n. chunk_table_row n p.1 chunk) (sym starts.row_is),
         )
 
-    module _ (found : List (Hit (ℕ × ℕ))) (each : All (IsHit t hash.word0 IsPair) found) (distinct : AllPairs OtherRow found) where
+    module _ (found : List (Hit (ℕ × ℕ))) (each : All (IsHit t hash.word0 IsRowAndIndex) found) (distinct : AllPairs OtherRow found) where
       abbrev values : List (ℕ × ℕ)
       values = map (λ h. h.value) found
 
@@ -218,7 +218,7 @@ module _ {files : List MDBFileInfo} {xorbs : List MDBXorbInfo} {form : Form} (ol
       found_run run (location, contains, some) =
           let P : ℕ × ℕ → Type 0 = λ v. Answered v (Some run) → RunAmong key (q ∷ qs) xorbs (Some run) in
           All-contains P values location
-          (All-map P (λ (h : Hit (ℕ × ℕ)). h.value) found (All-weaker (IsHit t hash.word0 IsPair) (λ h. P h.value) (λ h hit. run_at_hit h run hit) found each))
+          (All-map P (λ (h : Hit (ℕ × ℕ)). h.value) found (All-weaker (IsHit t hash.word0 IsRowAndIndex) (λ h. P h.value) (λ h hit. run_at_hit h run hit) found each))
           contains some
 
       module _ (none : TriedAnswer footer (q ∷ qs) old.bytes None values) where
@@ -243,7 +243,7 @@ module _ {files : List MDBFileInfo} {xorbs : List MDBXorbInfo} {form : Form} (ol
             rows_differ xorbs g.row h.row (row i i_in) (row j j_in) (distinct i j no_hit less j_in)
             (sym (row_of_chunk g.row (row i i_in)) ∙ ap (λ k. get_or (chunk_table_rows xorbs) k no_table_row) chunks ∙ row_of_chunk h.row (row j j_in))
 
-        found_others : length found ≤ length (others_sharing hash xorbs)
+        found_others : length found ≤ length (others_with_first_word hash xorbs)
         found_others =
             omega (
               arith,
@@ -260,11 +260,11 @@ module _ {files : List MDBFileInfo} {xorbs : List MDBXorbInfo} {form : Form} (ol
         nowhere all p at =
             let within = chunk_within p.0.chunks p.1 hash at.chunk in
             let row = row_of_location p at in
-            let m = hits_all word_of numbers_of 8 no_table_row rows footer.chunk_lookup_offset footer.chunk_lookup_num_entry old (rows_known files xorbs form old footer is with_table) IsPair
+            let m = hits_all word_of numbers_of 8 no_table_row rows footer.chunk_lookup_offset footer.chunk_lookup_num_entry old (rows_known files xorbs options old footer is with_table) IsRowAndIndex
             hash.word0 found each distinct all row.2 row.3 row.4 in
             let h = get_or found m.0 no_hit in
             let value : h.value ≡ (row.0, p.1) =
-            (hit_row files xorbs form old footer is with_table hash.word0 h (each m.0 no_hit m.1)).2
+            (hit_row files xorbs options old footer is with_table hash.word0 h (each m.0 no_hit m.1)).2
             ∙ ap (λ k. ((row_of k).row, (row_of k).index)) (m.2 no_hit) ∙ ap (λ (s : ChunkTableRow). (s.row, s.index)) row.5 in
             let run = run_there old is row.1 (q ∷ qs) p.1 None (subst (λ v. Answered v None) value (none_at m.0 no_hit m.1)) in
             let other = none_is_other key q qs p.0 p.1 within run.0 in
@@ -282,13 +282,13 @@ module _ {files : List MDBFileInfo} {xorbs : List MDBXorbInfo} {form : Form} (ol
       hit_refused good new e (location, contains, refused) =
           let P : ℕ × ℕ → Type 0 = λ v. RefusedAt IsBareInvalidShard (query_at footer (q ∷ qs) v) old new e → DeviceFailure old new e in
           All-contains P values location
-          (All-map P (λ (h : Hit (ℕ × ℕ)). h.value) found (All-weaker (IsHit t hash.word0 IsPair) (λ h. P h.value) at_hit found each))
+          (All-map P (λ (h : Hit (ℕ × ℕ)). h.value) found (All-weaker (IsHit t hash.word0 IsRowAndIndex) (λ h. P h.value) at_hit found each))
           contains refused
         where
-          at_hit : (h : Hit (ℕ × ℕ)) → IsHit t hash.word0 IsPair h → RefusedAt IsBareInvalidShard (query_at footer (q ∷ qs) h.value) old new e → DeviceFailure old new e
+          at_hit : (h : Hit (ℕ × ℕ)) → IsHit t hash.word0 IsRowAndIndex h → RefusedAt IsBareInvalidShard (query_at footer (q ∷ qs) h.value) old new e → DeviceFailure old new e
           at_hit h hit refused =
               let of = of_chunk hash.word0 h hit in
-              let section = xorbs_stored files xorbs form old footer is in
+              let section = xorbs_stored files xorbs options old footer is in
               let is_xorb = All-contains IsXorb xorbs of.spot.xorb good (in_records xorb_records xorb_laws xorbs footer.xorb_info_offset old section h.value.0 of.spot.xorb of.starts) in
               elim (no_run_there old is of.starts (q ∷ qs) h.value.1 IsBareInvalidShard new e is_xorb.bytes refused) [
                 | inl device ↦ device
@@ -303,14 +303,14 @@ module _ {files : List MDBFileInfo} {xorbs : List MDBXorbInfo} {form : Form} (ol
       most : read ≤ length (flat_map xorb_record_bytes tried)
 
     are_tried : (starts : List ℕ) (taken : List ℕ) → All (λ row. (x : MDBXorbInfo) × StartsAt xorb_records xorbs row x) starts
-        → AllZip (λ row n. MayTake xorb_records (drop (row_at footer.xorb_info_offset row) old.bytes) n) starts taken → AreTried (length starts) (sum taken)
+        → AllZip (λ row n. MayRead xorb_records (drop (row_at footer.xorb_info_offset row) old.bytes) n) starts taken → AreTried (length starts) (sum taken)
     are_tried [] [] at zip = record { tried = []; number = refl; among = All-nil (Contains xorbs); most = omega arith }
     are_tried [] (n ∷ taken) at zip = absurd zip
     are_tried (row ∷ starts) [] at zip = absurd zip
     are_tried (row ∷ starts) (n ∷ taken) at zip =
         let rest = are_tried starts taken (All-drop (λ r. (x : MDBXorbInfo) × StartsAt xorb_records xorbs r x) 1 (row ∷ starts) at) zip.1 in
         let here = at 0 row (omega arith) in
-        let section = xorbs_stored files xorbs form old footer is in
+        let section = xorbs_stored files xorbs options old footer is in
         record {
           tried = here.0 ∷ rest.tried;
           number = omega (arith, rest.number);
@@ -332,13 +332,13 @@ module _ {files : List MDBFileInfo} {xorbs : List MDBXorbInfo} {form : Form} (ol
         let visits = queries.visits.1 in
         let at : All (λ row. (x : MDBXorbInfo) × StartsAt xorb_records xorbs row x) starts =
         All-map (λ row. (x : MDBXorbInfo) × StartsAt xorb_records xorbs row x) (λ (h : Hit (ℕ × ℕ)). h.value.0) queries.found
-        (All-weaker (IsHit t hash.word0 IsPair) (λ h. (x : MDBXorbInfo) × StartsAt xorb_records xorbs h.value.0 x)
+        (All-weaker (IsHit t hash.word0 IsRowAndIndex) (λ h. (x : MDBXorbInfo) × StartsAt xorb_records xorbs h.value.0 x)
         (λ h hit. let of = of_chunk hash.word0 h hit in (of.spot.xorb, of.starts)) queries.found queries.each) in
         let tries = are_tried (take n starts) visits.taken (All-take (λ row. (x : MDBXorbInfo) × StartsAt xorb_records xorbs row x) n starts at)
-        (subst (λ bytes. AllZip (λ row k. MayTake xorb_records (drop (row_at footer.xorb_info_offset row) bytes) k) (take n starts) visits.taken) queries.serves.bytes visits.may_take) in
+        (subst (λ bytes. AllZip (λ row k. MayRead xorb_records (drop (row_at footer.xorb_info_offset row) bytes) k) (take n starts) visits.taken) queries.no_failure.bytes visits.may_take) in
         record {
           searched = queries.searched;
-          search = chunk_search_costs files xorbs form old footer is with_table hash.word0 queries.searched queries.bounded;
+          search = chunk_search_costs files xorbs options old footer is with_table hash.word0 queries.searched queries.bounded;
           tried = tries.tried;
           few = omega (arith, tries.number, length-take n starts, length-map queries.found (λ (h : Hit (ℕ × ℕ)). h.value.0), queries.few);
           among = tries.among;
@@ -359,16 +359,16 @@ module _ {files : List MDBFileInfo} {xorbs : List MDBXorbInfo} {form : Form} (ol
     }
 
     no_rows : footer.chunk_lookup_num_entry ≡ 0 → RunAmong key (q ∷ qs) xorbs None
-    no_rows none = inl (λ p at. absurd (omega (arith, none, (row_of_location p at).3, (rows_known files xorbs form old footer is with_table).count_is)))
+    no_rows none = inl (λ p at. absurd (omega (arith, none, (row_of_location p at).3, (rows_known files xorbs options old footer is with_table).count_is)))
 
     query_gives : (new : Source) (answer : Option Run) → QueryAnswer footer (q ∷ qs) old new answer → RunAmong key (q ∷ qs) xorbs answer
     query_gives new answer (inl (none, nothing, same)) = subst (RunAmong key (q ∷ qs) xorbs) (sym nothing) (no_rows none)
     query_gives new (Some run) (inr (some, queries)) = found_run queries.found queries.each queries.distinct run queries.answer
-    query_gives new None (inr (some, queries)) = found_none queries.found queries.each queries.distinct queries.answer (queries.all (table_sorted files xorbs form old footer is with_table))
+    query_gives new None (inr (some, queries)) = found_none queries.found queries.each queries.distinct queries.answer (queries.all (table_sorted files xorbs options old footer is with_table))
 
     query_refuses : All IsXorb xorbs → (new : Source) (e : CoreError) → QueryRefused footer (q ∷ qs) old new e → DeviceFailure old new e
     query_refuses good new e (some, inl (refused, bounded)) =
-        search_served word_of numbers_of 8 no_table_row rows footer.chunk_lookup_offset footer.chunk_lookup_num_entry old (rows_known files xorbs form old footer is with_table) new e refused
+        search_served word_of numbers_of 8 no_table_row rows footer.chunk_lookup_offset footer.chunk_lookup_num_entry old (rows_known files xorbs options old footer is with_table) new e refused
     query_refuses good new e (some, inr queries) = hit_refused queries.found queries.each queries.distinct good new e queries.answer
 
     query_costs : (new : Source) (r : CoreResult (Option Run)) → QueryOutcome footer (q ∷ qs) old new r
@@ -376,11 +376,11 @@ module _ {files : List MDBFileInfo} {xorbs : List MDBXorbInfo} {form : Form} (ol
     query_costs new (Ok answer) (inl (none, nothing, same)) =
         none_tried old new (record { made = 0; few = omega arith; seeks = omega arith; read = omega arith }) same
     query_costs new (Ok answer) (inr (some, queries)) = tries_cost new _ queries
-    query_costs new (Err e) (some, inl (refused, bounded)) = none_tried new new (chunk_search_costs files xorbs form old footer is with_table hash.word0 new bounded) refl
+    query_costs new (Err e) (some, inl (refused, bounded)) = none_tried new new (chunk_search_costs files xorbs options old footer is with_table hash.word0 new bounded) refl
     query_costs new (Err e) (some, inr queries) = tries_cost new _ queries
 
   pub query_in_form : All IsXorb xorbs → (qs : List DataHash) (new : Source) (r : CoreResult (Option Run))
-      → QueryOutcome footer qs old new r → MatchResult r (RunAmong form.key qs xorbs) (DeviceFailure old new)
+      → QueryOutcome footer qs old new r → MatchResult r (RunAmong options.key qs xorbs) (DeviceFailure old new)
   query_in_form good [] new (Ok answer) read = read.0
   query_in_form good [] new (Err e) read = absurd read
   query_in_form good (q ∷ qs) new (Ok answer) read =
@@ -388,7 +388,7 @@ module _ {files : List MDBFileInfo} {xorbs : List MDBXorbInfo} {form : Form} (ol
   query_in_form good (q ∷ qs) new (Err e) read = query_refuses q qs good new e read
 
   pub query_costs_in_form : (qs : List DataHash) (new : Source) (r : CoreResult (Option Run))
-      → QueryOutcome footer qs old new r → QueryCosts form.key qs xorbs old new
+      → QueryOutcome footer qs old new r → QueryCosts options.key qs xorbs old new
   query_costs_in_form [] new (Ok answer) read = read.1
   query_costs_in_form [] new (Err e) read = absurd read
   query_costs_in_form (q ∷ qs) new r read = subst (λ (f : MDBShardFileFooter). QueryCosts f.chunk_hash_hmac_key (q ∷ qs) xorbs old new) is.footer_is (query_costs q qs new r read)

@@ -17,12 +17,12 @@ use Rattle.xet_shards.specs.ChunkQuery.{Run}
 use Rattle.xet_shards.specs.declared.shard_format.footer.MDBShardFileFooter.{MDBShardFileFooter}
 use Rattle.xet_shards.specs.Section.{total_rows, StartsAt}
 use Rattle.xet_shards.specs.Shard.{Shard, IsShard}
-use Rattle.xet_shards.specs.Layout.{Form}
-use Rattle.xet_shards.specs.InForm.{IsInForm}
+use Rattle.xet_shards.specs.Layout.{LayoutOptions}
+use Rattle.xet_shards.specs.WithOptions.{IsBytesWithOptions}
 use Rattle.xet_shards.specs.Lookup.{row_at}
 use Rattle.xet_shards.specs.RunReading.{QueryAt, query_at, AnswerAt, RefusedAt, OutcomeAt}
 use Rattle.xet_shards.specs.WrittenQueries.{RunInXorb, QueryFailsInXorb}
-use Rattle.xet_shards.proofs.InForm.{xorbs_stored}
+use Rattle.xet_shards.proofs.WithOptions.{xorbs_stored}
 use Rattle.xet_shards.proofs.StoredRecords.{AreStoredAt, is_stored, record_there, bookend_there, end_bound}
 use Rattle.xet_shards.proofs.StoredRuns.{answers_at, refuses_at, bookend_answers, bookend_refuses}
 use Rattle.xet_shards.proofs.Xorbs.{xorb_values}
@@ -32,9 +32,9 @@ xorb_of_shard s shard row x at =
     All-contains IsXorb (values s.xorbs) x (xorb_values (entries s.xorbs) shard.xorbs)
     (subst (λ xs. Contains xs x) (sym at.records_are) (Contains-append_right at.before (x ∷ at.after) x (0, omega arith, refl)))
 
-module _ {files : List MDBFileInfo} {xorbs : List MDBXorbInfo} {form : Form} (old : Source) {footer : MDBShardFileFooter} (is : IsInForm files xorbs form old.bytes footer) where
+module _ {files : List MDBFileInfo} {xorbs : List MDBXorbInfo} {options : LayoutOptions} (old : Source) {footer : MDBShardFileFooter} (is : IsBytesWithOptions files xorbs options old.bytes footer) where
   section : AreStoredAt xorb_records xorbs footer.xorb_info_offset old.bytes
-  section = xorbs_stored files xorbs form old footer is
+  section = xorbs_stored files xorbs options old footer is
 
   -- where a xorb starts
   module _ {row : ℕ} {x : MDBXorbInfo} (at : StartsAt xorb_records xorbs row x) where
@@ -60,7 +60,7 @@ module _ {files : List MDBFileInfo} {xorbs : List MDBXorbInfo} {form : Form} (ol
       no_run_there Absent new e few refused = refuses_at stored q old there.0 there.1 fits few Absent new e refused
 
       pub direct_in_form : size_of_chunks x ≤ 4294967295 → (new : Source) (r : CoreResult (Option Run)) → OutcomeAt (λ e. e ≡ InvalidArguments) q old new r
-          → MatchResult r (RunInXorb form.key qs x index) (QueryFailsInXorb qs x index old new)
+          → MatchResult r (RunInXorb options.key qs x index) (QueryFailsInXorb qs x index old new)
       direct_in_form few new (Ok answer) outcome =
           subst (λ (f : MDBShardFileFooter). RunInXorb f.chunk_hash_hmac_key qs x index answer) is.footer_is (run_there answer outcome.answer)
       direct_in_form few new (Err e) outcome = (outcome.refused.0, no_run_there (λ e. e ≡ InvalidArguments) new e few outcome.refused)

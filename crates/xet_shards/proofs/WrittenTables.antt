@@ -28,7 +28,7 @@ use Rattle.xet_shards.specs.declared.shard_format.info.MDBShardInfo.{MDBShardInf
 use Rattle.xet_shards.specs.Shard.{Shard, IsShard}
 use Rattle.xet_shards.specs.Section.{total_rows, with_fronts, section_bytes}
 use Rattle.xet_shards.specs.Tables.{ChunkTableRow, hash_in, chunk_table_rows_from, chunk_table_rows, chunk_table, start_of, starts, start_row, chunk_table_row_bytes, table_bytes, chunk_table_bytes}
-use Rattle.xet_shards.specs.Layout.{Form, if_in, shard_header_bytes, header_value, shard_footer_bytes, footer_value, layout_of, layout_in, info_value_in, plain_form_in}
+use Rattle.xet_shards.specs.Layout.{LayoutOptions, if_included, shard_header_bytes, header_value, shard_footer_bytes, footer_value, layout_of, layout_in, info_value_in, plain_options_in}
 use Rattle.xet_shards.specs.TableReading.{FitsStart, triple_of, triple_row, FitsTriple}
 use Rattle.xet_shards.proofs.ChunkTableRows.{alone, keys-alone, chunk_table_row}
 use Rattle.xet_shards.proofs.Layouts.{length-shard_header_bytes}
@@ -53,73 +53,73 @@ triple_injective a b a_fits b_fits same =
     search (rules, u64_bytes-front, append_assoc, u32_bytes-front, u32_bytes-injective)
 
 -- the rows of a table, if it is in
-rows_in : {X : Type 0} (b : Bool) (row : X → List ℕ) (rows : List X) → if_in b (flat_map row rows) ≡ flat_map row (if_in b rows)
+rows_in : {X : Type 0} (b : Bool) (row : X → List ℕ) (rows : List X) → if_included b (flat_map row rows) ≡ flat_map row (if_included b rows)
 rows_in true row rows = refl
 rows_in false row rows = refl
 
 -- where the tables are
-module _ (files : List MDBFileInfo) (xorbs : List MDBXorbInfo) (form : Form) where
+module _ (files : List MDBFileInfo) (xorbs : List MDBXorbInfo) (options : LayoutOptions) where
   abbrev before_file_table : List ℕ
-  before_file_table = (shard_header_bytes (header_value form.version) ++ section_bytes file_records files) ++ section_bytes xorb_records xorbs
+  before_file_table = (shard_header_bytes (header_value options.version) ++ section_bytes file_records files) ++ section_bytes xorb_records xorbs
 
   abbrev before_tables : List ℕ
-  before_tables = before_file_table ++ if_in form.file_table (table_bytes file_records files)
+  before_tables = before_file_table ++ if_included options.file_table (table_bytes file_records files)
 
   abbrev pub after_tables : List ℕ
-  after_tables = shard_footer_bytes (footer_value files xorbs form)
+  after_tables = shard_footer_bytes (footer_value files xorbs options)
 
   abbrev pub after_file_table : List ℕ
-  after_file_table = if_in form.xorb_table (table_bytes xorb_records xorbs) ++ (if_in form.chunk_table (chunk_table_bytes xorbs) ++ after_tables)
+  after_file_table = if_included options.xorb_table (table_bytes xorb_records xorbs) ++ (if_included options.chunk_table (chunk_table_bytes xorbs) ++ after_tables)
 
-  length-before_file_table : length before_file_table ≡ (footer_value files xorbs form).file_lookup_offset
+  length-before_file_table : length before_file_table ≡ (footer_value files xorbs options).file_lookup_offset
   length-before_file_table = search (rules, length-append, length-shard_header_bytes)
 
-  length-before : length before_tables ≡ (footer_value files xorbs form).xorb_lookup_offset
+  length-before : length before_tables ≡ (footer_value files xorbs options).xorb_lookup_offset
   length-before = search (rules, length-append, length-before_file_table)
 
-  split_at_file_table : layout_of files xorbs form ≡ before_file_table ++ (if_in form.file_table (table_bytes file_records files) ++ after_file_table)
+  split_at_file_table : layout_of files xorbs options ≡ before_file_table ++ (if_included options.file_table (table_bytes file_records files) ++ after_file_table)
   unfolding layout_of
   split_at_file_table = simp (append_assoc)
 
-  pub file_table_there : (footer_value files xorbs form).file_lookup_offset ≤ length (layout_of files xorbs form)
+  pub file_table_there : (footer_value files xorbs options).file_lookup_offset ≤ length (layout_of files xorbs options)
   file_table_there = search (rules, split_at_file_table, length-append, length-before_file_table)
 
-  pub file_table_is_at : drop (footer_value files xorbs form).file_lookup_offset (layout_of files xorbs form)
-      ≡ flat_map start_row (if_in form.file_table (starts file_records files)) ++ after_file_table
+  pub file_table_is_at : drop (footer_value files xorbs options).file_lookup_offset (layout_of files xorbs options)
+      ≡ flat_map start_row (if_included options.file_table (starts file_records files)) ++ after_file_table
   unfolding table_bytes
   file_table_is_at = search (rules, rest_is, length-before_file_table, split_at_file_table, rows_in)
 
   abbrev pub after_xorb_table : List ℕ
-  after_xorb_table = if_in form.chunk_table (chunk_table_bytes xorbs) ++ after_tables
+  after_xorb_table = if_included options.chunk_table (chunk_table_bytes xorbs) ++ after_tables
 
-  split_at_xorb_table : layout_of files xorbs form ≡ before_tables ++ (if_in form.xorb_table (table_bytes xorb_records xorbs) ++ after_xorb_table)
+  split_at_xorb_table : layout_of files xorbs options ≡ before_tables ++ (if_included options.xorb_table (table_bytes xorb_records xorbs) ++ after_xorb_table)
   unfolding layout_of
   split_at_xorb_table = simp (append_assoc)
 
-  pub xorb_table_there : (footer_value files xorbs form).xorb_lookup_offset ≤ length (layout_of files xorbs form)
+  pub xorb_table_there : (footer_value files xorbs options).xorb_lookup_offset ≤ length (layout_of files xorbs options)
   xorb_table_there = search (rules, split_at_xorb_table, length-append, length-before)
 
-  split_at_chunk_table : layout_of files xorbs form
-      ≡ (before_tables ++ if_in form.xorb_table (table_bytes xorb_records xorbs)) ++ (if_in form.chunk_table (chunk_table_bytes xorbs) ++ after_tables)
+  split_at_chunk_table : layout_of files xorbs options
+      ≡ (before_tables ++ if_included options.xorb_table (table_bytes xorb_records xorbs)) ++ (if_included options.chunk_table (chunk_table_bytes xorbs) ++ after_tables)
   unfolding layout_of
   split_at_chunk_table = simp (append_assoc)
 
-  pub chunk_table_there : (footer_value files xorbs form).chunk_lookup_offset ≤ length (layout_of files xorbs form)
+  pub chunk_table_there : (footer_value files xorbs options).chunk_lookup_offset ≤ length (layout_of files xorbs options)
   chunk_table_there = search (rules, split_at_chunk_table, length-append, length-before)
 
-  pub xorb_table_is_at : drop (footer_value files xorbs form).xorb_lookup_offset (layout_of files xorbs form)
-      ≡ flat_map start_row (if_in form.xorb_table (starts xorb_records xorbs)) ++ after_xorb_table
+  pub xorb_table_is_at : drop (footer_value files xorbs options).xorb_lookup_offset (layout_of files xorbs options)
+      ≡ flat_map start_row (if_included options.xorb_table (starts xorb_records xorbs)) ++ after_xorb_table
   unfolding layout_of table_bytes
   xorb_table_is_at = search (rules, rest_is, length-before, append_assoc, rows_in)
 
-  pub chunk_table_is_at : drop (footer_value files xorbs form).chunk_lookup_offset (layout_of files xorbs form)
-      ≡ flat_map triple_row (map triple_of (if_in form.chunk_table (chunk_table xorbs))) ++ after_tables
+  pub chunk_table_is_at : drop (footer_value files xorbs options).chunk_lookup_offset (layout_of files xorbs options)
+      ≡ flat_map triple_row (map triple_of (if_included options.chunk_table (chunk_table xorbs))) ++ after_tables
   unfolding layout_of chunk_table_bytes
   chunk_table_is_at =
-      rest_is _ (layout_of files xorbs form) (before_tables ++ if_in form.xorb_table (table_bytes xorb_records xorbs)) _
-      (length-append before_tables (if_in form.xorb_table (table_bytes xorb_records xorbs)) ∙ ap (λ n. n + length (if_in form.xorb_table (table_bytes xorb_records xorbs))) length-before)
-      (append_assoc (before_tables ++ if_in form.xorb_table (table_bytes xorb_records xorbs)) (if_in form.chunk_table (chunk_table_bytes xorbs)) after_tables)
-      ∙ ap (λ bs. bs ++ after_tables) (rows_in form.chunk_table chunk_table_row_bytes (chunk_table xorbs) ∙ sym (flat_map-map triple_row triple_of (if_in form.chunk_table (chunk_table xorbs))))
+      rest_is _ (layout_of files xorbs options) (before_tables ++ if_included options.xorb_table (table_bytes xorb_records xorbs)) _
+      (length-append before_tables (if_included options.xorb_table (table_bytes xorb_records xorbs)) ∙ ap (λ n. n + length (if_included options.xorb_table (table_bytes xorb_records xorbs))) length-before)
+      (append_assoc (before_tables ++ if_included options.xorb_table (table_bytes xorb_records xorbs)) (if_included options.chunk_table (chunk_table_bytes xorbs)) after_tables)
+      ∙ ap (λ bs. bs ++ after_tables) (rows_in options.chunk_table chunk_table_row_bytes (chunk_table xorbs) ∙ sym (flat_map-map triple_row triple_of (if_included options.chunk_table (chunk_table xorbs))))
 
 -- the numbers of the rows are within their widths
 abbrev FitsTableRow : ChunkTableRow → Type 0
@@ -170,29 +170,29 @@ module _ (xorbs : List MDBXorbInfo) (fit : All FitsXorb xorbs) (few : total_rows
   few_table_rows = omega (arith, few, length-map (chunk_table xorbs) triple_of, length-chunk_table xorbs, xorb_rows-chunks xorbs)
 
 -- rows of a table that is in, or none
-in_fits : {X : Type 0} (Fits : X → Type 0) (b : Bool) (rows : List X) → All Fits rows → All Fits (if_in b rows)
+in_fits : {X : Type 0} (Fits : X → Type 0) (b : Bool) (rows : List X) → All Fits rows → All Fits (if_included b rows)
 in_fits Fits true rows fit = fit
 in_fits Fits false rows fit = All-nil Fits
 
-in_few : {X : Type 0} (b : Bool) (rows : List X) → length rows ≤ 4294967295 → length (if_in b rows) ≤ 4294967295
+in_few : {X : Type 0} (b : Bool) (rows : List X) → length rows ≤ 4294967295 → length (if_included b rows) ≤ 4294967295
 in_few true rows few = few
 in_few false rows few = omega arith
 
-map_in : {X Y : Type 0} (f : X → Y) (b : Bool) (rows : List X) → map f (if_in b rows) ≡ if_in b (map f rows)
+map_in : {X Y : Type 0} (f : X → Y) (b : Bool) (rows : List X) → map f (if_included b rows) ≡ if_included b (map f rows)
 map_in f true rows = refl
 map_in f false rows = refl
 
--- the tables of such records in any form
-module _ (files : List MDBFileInfo) (xorbs : List MDBXorbInfo) (form : Form) (fits : FitsSection xorb_records xorbs)
-    (old new : Source) (are : old.bytes ≡ layout_of files xorbs form) where
+-- the tables of such records with any layout options
+module _ (files : List MDBFileInfo) (xorbs : List MDBXorbInfo) (options : LayoutOptions) (fits : FitsSection xorb_records xorbs)
+    (old new : Source) (are : old.bytes ≡ layout_of files xorbs options) where
   abbrev written : MDBShardFileFooter
-  written = footer_value files xorbs form
+  written = footer_value files xorbs options
 
   widths : All FitsXorb xorbs
   widths k r below = (fits.stored k r below).widths
 
   pub xorb_table_in : {Z : Type 0} (r : Result (Vec (ℕ × ℕ) Z) CoreError)
-      → ReadsOrFails start_row FitsStart 12 old new written.xorb_lookup_offset written.xorb_lookup_num_entry r → IsReadAs old new (if_in form.xorb_table (starts xorb_records xorbs)) r
+      → ReadsOrFails start_row FitsStart 12 old new written.xorb_lookup_offset written.xorb_lookup_num_entry r → IsReadAs old new (if_included options.xorb_table (starts xorb_records xorbs)) r
   xorb_table_in r read =
       search (
         rules,
@@ -208,7 +208,7 @@ module _ (files : List MDBFileInfo) (xorbs : List MDBXorbInfo) (form : Form) (fi
       )
 
   pub chunk_table_in : {Z : Type 0} (r : Result (Vec (ℕ × (ℕ × ℕ)) Z) CoreError)
-      → ReadsOrFails triple_row FitsTriple 16 old new written.chunk_lookup_offset written.chunk_lookup_num_entry r → IsReadAs old new (map triple_of (if_in form.chunk_table (chunk_table xorbs))) r
+      → ReadsOrFails triple_row FitsTriple 16 old new written.chunk_lookup_offset written.chunk_lookup_num_entry r → IsReadAs old new (map triple_of (if_included options.chunk_table (chunk_table xorbs))) r
   chunk_table_in r read =
       search (
         rules,
@@ -233,12 +233,12 @@ module _ (s : Shard) (shard : IsShard s) (version : FormatVersion) (expiry : Opt
       → ReadsOrFails start_row FitsStart 12 old new info.metadata.xorb_lookup_offset info.metadata.xorb_lookup_num_entry r
       → IsReadAs old new (starts xorb_records (values s.xorbs)) r
   xorb_table_read r read =
-      xorb_table_in (values s.files) (values s.xorbs) (plain_form_in version expiry) (xorbs_fit s shard) old new are r
+      xorb_table_in (values s.files) (values s.xorbs) (plain_options_in version expiry) (xorbs_fit s shard) old new are r
       (subst (λ (i : MDBShardInfo). ReadsOrFails start_row FitsStart 12 old new i.metadata.xorb_lookup_offset i.metadata.xorb_lookup_num_entry r) is read)
 
   pub chunk_table_read : {Z : Type 0} (r : Result (Vec (ℕ × (ℕ × ℕ)) Z) CoreError)
       → ReadsOrFails triple_row FitsTriple 16 old new info.metadata.chunk_lookup_offset info.metadata.chunk_lookup_num_entry r
       → IsReadAs old new (map triple_of (chunk_table (values s.xorbs))) r
   chunk_table_read r read =
-      chunk_table_in (values s.files) (values s.xorbs) (plain_form_in version expiry) (xorbs_fit s shard) old new are r
+      chunk_table_in (values s.files) (values s.xorbs) (plain_options_in version expiry) (xorbs_fit s shard) old new are r
       (subst (λ (i : MDBShardInfo). ReadsOrFails triple_row FitsTriple 16 old new i.metadata.chunk_lookup_offset i.metadata.chunk_lookup_num_entry r) is read)

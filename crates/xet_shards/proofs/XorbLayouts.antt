@@ -13,7 +13,7 @@ use Rattle.xet_records.specs.FileRecord.{file_records, FitsRecord}
 use Rattle.xet_records.specs.XorbRecord.{xorb_records, xorb_row_count}
 use Rattle.xet_shards.specs.Section.{section_bytes, total_rows, with_fronts}
 use Rattle.xet_shards.specs.Tables.{ChunkTableRow, chunk_table_row_cmp, chunk_table_rows_from, chunk_table_rows, chunk_table, table_bytes, chunk_table_bytes}
-use Rattle.xet_shards.specs.Layout.{Form, if_in, header_value, footer_value, shard_header_bytes, shard_footer_bytes, layout_of, plain_form}
+use Rattle.xet_shards.specs.Layout.{LayoutOptions, if_included, header_value, footer_value, shard_header_bytes, shard_footer_bytes, layout_of, plain_options}
 use Rattle.xet_shards.proofs.ChunkTableRows.{alone, keys-alone, chunk_table_row}
 use Rattle.xet_shards.proofs.Maps.{IsRising, rising_lower, length-from_entries}
 use Rattle.xet_shards.proofs.Tables.{length-table_bytes, length-chunk_table_row_bytes, chunk_table_row_total, chunk_table_row_exact}
@@ -90,42 +90,42 @@ pub length-chunk_table_bytes : (xorbs : List MDBXorbInfo) → length (chunk_tabl
 length-chunk_table_bytes xorbs = length-chunk_rows xorbs ∙ ap (λ n. 16 * n) (length-chunk_table xorbs)
 
 -- the bytes of a table that is in, or none
-length-in : {X : Type 0} (b : Bool) (bytes : List ℕ) (rows : List X) (size : ℕ) → length bytes ≡ size * length rows → length (if_in b bytes) ≡ size * length (if_in b rows)
+length-in : {X : Type 0} (b : Bool) (bytes : List ℕ) (rows : List X) (size : ℕ) → length bytes ≡ size * length rows → length (if_included b bytes) ≡ size * length (if_included b rows)
 length-in b bytes rows size len = grind arith
 
 -- the bytes of the chunk table, if it is in
-pub length-chunks_in : (b : Bool) (xorbs : List MDBXorbInfo) → length (if_in b (chunk_table_bytes xorbs)) ≡ 16 * length (if_in b (chunk_table xorbs))
+pub length-chunks_in : (b : Bool) (xorbs : List MDBXorbInfo) → length (if_included b (chunk_table_bytes xorbs)) ≡ 16 * length (if_included b (chunk_table xorbs))
 length-chunks_in b xorbs = length-in b (chunk_table_bytes xorbs) (chunk_table xorbs) 16 (length-chunk_rows xorbs)
 
 -- the bytes of a layout are those of its parts
-pub length-parts : (files : List MDBFileInfo) (xorbs : List MDBXorbInfo) (form : Form) → length (layout_of files xorbs form)
-    ≡ length (shard_header_bytes (header_value form.version)) + length (section_bytes file_records files) + length (section_bytes xorb_records xorbs)
-    + length (if_in form.file_table (table_bytes file_records files)) + length (if_in form.xorb_table (table_bytes xorb_records xorbs))
-    + length (if_in form.chunk_table (chunk_table_bytes xorbs)) + length (shard_footer_bytes (footer_value files xorbs form))
+pub length-parts : (files : List MDBFileInfo) (xorbs : List MDBXorbInfo) (options : LayoutOptions) → length (layout_of files xorbs options)
+    ≡ length (shard_header_bytes (header_value options.version)) + length (section_bytes file_records files) + length (section_bytes xorb_records xorbs)
+    + length (if_included options.file_table (table_bytes file_records files)) + length (if_included options.xorb_table (table_bytes xorb_records xorbs))
+    + length (if_included options.chunk_table (chunk_table_bytes xorbs)) + length (shard_footer_bytes (footer_value files xorbs options))
 unfolding layout_of
-length-parts files xorbs form = simp length-append (omega arith)
+length-parts files xorbs options = simp length-append (omega arith)
 
 -- header, footer and two bookends have 344 bytes; there are 48 for each row of the records, and in the tables that are
 -- in, 12 for each record and 16 for each chunk
-pub length-in_form : (files : List MDBFileInfo) (xorbs : List MDBXorbInfo) (form : Form) → All FitsRecord files
-    → length (layout_of files xorbs form)
-    ≡ 344 + 48 * (total_rows file_records files + total_rows xorb_records xorbs) + 12 * (length (if_in form.file_table files) + length (if_in form.xorb_table xorbs))
-    + 16 * length (if_in form.chunk_table (chunk_table xorbs))
-length-in_form files xorbs form fit =
+pub length-with_options : (files : List MDBFileInfo) (xorbs : List MDBXorbInfo) (options : LayoutOptions) → All FitsRecord files
+    → length (layout_of files xorbs options)
+    ≡ 344 + 48 * (total_rows file_records files + total_rows xorb_records xorbs) + 12 * (length (if_included options.file_table files) + length (if_included options.xorb_table xorbs))
+    + 16 * length (if_included options.chunk_table (chunk_table xorbs))
+length-with_options files xorbs options fit =
     omega (
       arith,
-      length-parts files xorbs form,
-      length-shard_header_bytes (header_value form.version),
+      length-parts files xorbs options,
+      length-shard_header_bytes (header_value options.version),
       length-file_section files fit,
       length-xorb_section xorbs,
-      length-in form.file_table (table_bytes file_records files) files 12 (length-table_bytes file_records files),
-      length-in form.xorb_table (table_bytes xorb_records xorbs) xorbs 12 (length-table_bytes xorb_records xorbs),
-      length-chunks_in form.chunk_table xorbs,
-      length-shard_footer_bytes (footer_value files xorbs form) refl,
+      length-in options.file_table (table_bytes file_records files) files 12 (length-table_bytes file_records files),
+      length-in options.xorb_table (table_bytes xorb_records xorbs) xorbs 12 (length-table_bytes xorb_records xorbs),
+      length-chunks_in options.chunk_table xorbs,
+      length-shard_footer_bytes (footer_value files xorbs options) refl,
     )
 
--- in the plain form all tables are in
+-- with the plain options all tables are in
 pub length-layout_of : (files : List MDBFileInfo) (xorbs : List MDBXorbInfo) (expiry : Option ℕ) → All FitsRecord files
-    → length (layout_of files xorbs (plain_form expiry))
+    → length (layout_of files xorbs (plain_options expiry))
     ≡ 344 + 48 * (total_rows file_records files + total_rows xorb_records xorbs) + 12 * (length files + length xorbs) + 16 * (sum_by (λ (r : MDBXorbInfo). length r.chunks) xorbs)
-length-layout_of files xorbs expiry fit = length-in_form files xorbs (plain_form expiry) fit ∙ omega (arith, length-chunk_table xorbs)
+length-layout_of files xorbs expiry fit = length-with_options files xorbs (plain_options expiry) fit ∙ omega (arith, length-chunk_table xorbs)

@@ -45,13 +45,13 @@ coded_shard_with_lookup =
     (λ s. (s.content, s.locations)) (λ p. record { content = p.0; locations = p.1 }) (λ _. refl)
 
 -- the hash of the chunk at a location, if there is one
-abbrev pub chunk_at : ChunkLocation → Option DataHash
-chunk_at p = option_map (λ c. c.chunk_hash) (slice_get p.0.chunks p.1)
+abbrev pub chunk_hash_at : ChunkLocation → Option DataHash
+chunk_hash_at p = option_map (λ c. c.chunk_hash) (slice_get p.0.chunks p.1)
 
 -- a location in one of these xorbs, whose chunk has this hash
 pub record IsLocation (xorbs : XorbMap) (q : DataHash) (p : ChunkLocation) : Type 0 where
   pub xorb : get xorbs (xorb_hash_of p.0) ≡ Some p.0
-  pub chunk : chunk_at p ≡ Some q
+  pub chunk : chunk_hash_at p ≡ Some q
 
 -- the lookup has exactly the chunk hashes of the xorbs, and for each a location of such a chunk
 pub record IsChunkLookup (xorbs : XorbMap) (locations : DataHash → Option ChunkLocation)

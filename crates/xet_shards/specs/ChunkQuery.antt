@@ -38,6 +38,6 @@ query_answer locations [] = None
 query_answer locations (q ∷ qs) = option_map (λ p. run_at no_key p (q ∷ qs)) (get locations q)
 
 -- no xorb has a chunk with the first of these hashes, or there are no hashes
-abbrev pub IsUnknown : XorbMap → List DataHash → Type 0
-IsUnknown xorbs qs =
+abbrev pub HasNoChunk : XorbMap → List DataHash → Type 0
+HasNoChunk xorbs qs =
     (q : DataHash) → (p : ChunkLocation) → slice_get qs 0 ≡ Some q → ¬ IsLocation xorbs q p

@@ -1,4 +1,4 @@
--- The header and the footer at the ends of a shard's bytes: valid, unsupported, or cut short.
+-- The header and the footer at the ends of a shard's bytes: valid, unsupported, or truncated.
 use Rattle.std.specs.Prelude.{◌≡◌, ◌≢◌, ◌⊎◌, ℕ, ◌+◌, ◌-◌, ◌^◌, ◌<◌, ◌≤◌, List, length, take, drop, All, Option, IfSome}
 use Rattle.xet_base.specs.declared.error.CoreError.{CoreError}
 use Rattle.xet_base.specs.Bytes.{u64_bytes}
@@ -52,7 +52,7 @@ pub record FitsFooter (f : MDBShardFileFooter) : Type 0 where
   pub sums : All (λ n. n < 2 ^ 64) (sums_of f)
 
 -- the bytes begin with this header and end in this footer
-pub record HasEnds (bytes : List ℕ) (info : MDBShardInfo) : Type 0 where
+pub record HasHeaderAndFooter (bytes : List ℕ) (info : MDBShardInfo) : Type 0 where
   -- the bytes are at least as many as those of a footer
   pub size : 200 ≤ length bytes
   pub tag : info.header.tag ≡ header_tag
@@ -82,7 +82,7 @@ pub record Loads (old new : Source) (found : MDBShardInfo) : Type 0 where
   pub seeks : new.seeks ≡ old.seeks + 2
   pub read : new.read ≡ old.read + 248
   pub failures : new.failures ≡ old.failures
-  pub ends : HasEnds old.bytes found
+  pub ends : HasHeaderAndFooter old.bytes found
 
 -- why a read failed, if the device did not: the format is unsupported, or the bytes are too few
 pub data FormatCase (Unsupported Short : List ℕ → Type 0) (bytes : List ℕ) (e : CoreError)
@@ -108,8 +108,8 @@ abbrev pub SaysUnsupported : (List ℕ → Type 0) → Option (List ℕ) → Cor
 SaysUnsupported Unsupported remaining e = IsShardVersion e → IfSome remaining Unsupported
 
 -- an error says that the input ended only of such bytes, where they are known
-abbrev pub SaysEnd : (List ℕ → Type 0) → Option (List ℕ) → CoreError → Type 0
-SaysEnd Short remaining e = IsEndOfInput e → IfSome remaining Short
+abbrev pub SaysEndOfInput : (List ℕ → Type 0) → Option (List ℕ) → CoreError → Type 0
+SaysEndOfInput Short remaining e = IsEndOfInput e → IfSome remaining Short
 
 -- reading a header or a footer from the source's position on failed, after at most `most` bytes;
 -- the position afterwards is unspecified

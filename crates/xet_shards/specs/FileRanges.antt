@@ -2,7 +2,7 @@
 use Rattle.std.specs.Prelude.{◌≡◌, ◌⊎◌, ℕ, ◌+◌, ◌*◌, ◌^◌, ◌<◌, List, Option, None, Some, option_map, if◌then◌else◌}
 use Rattle.xet_base.specs.declared.error.CoreError.{CoreError}
 use Rattle.xet_base.specs.declared.merklehash.DataHash.{DataHash}
-use Rattle.xet_base.specs.Source.{Source, Takes}
+use Rattle.xet_base.specs.Source.{Source, ReadsBytes}
 use Rattle.xet_records.specs.declared.file_structs.header.FileDataSequenceHeader.{FileDataSequenceHeader}
 use Rattle.xet_records.specs.declared.file_structs.rows.HashRow.{HashRow}
 use Rattle.xet_records.specs.declared.file_structs.MDBFileInfo.{MDBFileInfo}
@@ -12,7 +12,7 @@ use Rattle.xet_records.specs.Version.{IsVersion, version_of}
 use Rattle.xet_shards.specs.declared.shard_format.header.MDBShardFileHeader.{MDBShardFileHeader}
 use Rattle.xet_shards.specs.Layout.{header_tag, shard_header_bytes}
 use Rattle.xet_shards.specs.Ends.{HasUnsupportedHeader, EndsInHeader, PartFails}
-use Rattle.xet_shards.specs.SectionReading.{TakesNoSection}
+use Rattle.xet_shards.specs.SectionReading.{SectionNotStreamed}
 use Rattle.xet_shards.specs.SectionWalk.{kept_of, KeepsSection}
 
 -- a file's hash, the offset of its first segment and the one after its last, those of its
@@ -40,8 +40,8 @@ file_ranges at files = kept_of file_records ranges_at at files
 
 -- the file section was read through from the source's position on, and these are the ranges of its
 -- files
-abbrev pub TakesRanges : FormatVersion → Source → Source → List FileRanges → Type 0
-TakesRanges version old new found = KeepsSection (file_records_in version) ranges_at old new found
+abbrev pub StreamsRanges : FormatVersion → Source → Source → List FileRanges → Type 0
+StreamsRanges version old new found = KeepsSection (file_records_in version) ranges_at old new found
 
 -- a shard's header, and after it the file section, were read from the source's position on
 pub record ReadsFileRanges (old new : Source) (found : List FileRanges) : Type 0 where
@@ -52,14 +52,14 @@ pub record ReadsFileRanges (old new : Source) (found : List FileRanges) : Type 0
   pub footer_size : header.footer_size < 2 ^ 64
   -- the source after the header
   pub after_header : Source
-  pub header_taken : Takes old after_header (shard_header_bytes header)
+  pub header_taken : ReadsBytes old after_header (shard_header_bytes header)
   -- the file section after the header was read through
-  pub ranges : TakesRanges (version_of header.version) after_header new found
+  pub ranges : StreamsRanges (version_of header.version) after_header new found
 
 -- the header was not read, or the section after it was not
 abbrev pub FileRangesFail : Source → Source → CoreError → Type 0
 FileRangesFail old new e =
     PartFails HasUnsupportedHeader EndsInHeader 48 old new e
     ⊎ ((header : MDBShardFileHeader) × (after_header : Source) × IsVersion header.version
-    × Takes old after_header (shard_header_bytes header)
-    × TakesNoSection (file_records_in (version_of header.version)) after_header new e)
+    × ReadsBytes old after_header (shard_header_bytes header)
+    × SectionNotStreamed (file_records_in (version_of header.version)) after_header new e)

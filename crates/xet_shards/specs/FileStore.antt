@@ -10,7 +10,7 @@ use Rattle.xet_records.specs.Part.{part_rows, rows_of}
 use Rattle.xet_shards.specs.Shard.{AreFiles}
 
 -- the keys ascend, each is its record's hash, and the records are well-formed
-pub record IsSound (t : Inside) : Type 0 where
+pub record IsSoundFileStore (t : Inside) : Type 0 where
   pub sorted : T (is_sorted hash_cmp t.content.entries)
   pub files : AreFiles t.content.entries
 

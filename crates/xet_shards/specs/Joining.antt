@@ -7,10 +7,11 @@ use Rattle.xet_records.specs.declared.file_structs.MDBFileInfo.{MDBFileInfo}
 use Rattle.xet_records.specs.FileRecord.{row_count}
 use Rattle.xet_records.specs.Merging.{IsSameFile, merged}
 use Rattle.xet_shards.specs.Shard.{FileMap}
+use Rattle.xet_records.specs.Limits.{MAX_ROWS}
 
 -- the value of a hash, unless a map has the hash
-abbrev pub but : {X : Type 0} → FinMap hash_cmp X → (DataHash → Option X) → DataHash → Option X
-but except f q = if is_some (get except q) then None else f q
+abbrev pub unless_in : {X : Type 0} → FinMap hash_cmp X → (DataHash → Option X) → DataHash → Option X
+unless_in except f q = if is_some (get except q) then None else f q
 
 -- the value of a hash in a list of entries
 abbrev pub entry : {X : Type 0} → List (DataHash × X) → DataHash → Option X
@@ -19,7 +20,7 @@ entry es q = find hash_cmp q es
 -- two records of one file; the rows of the first with the parts that only the second has fit `u32`
 pub record CanJoinFile (a b : MDBFileInfo) : Type 0 where
   pub same : IsSameFile a.metadata b.metadata
-  pub rows : row_count (merged a b) ≤ 4294967295
+  pub rows : row_count (merged a b) ≤ MAX_ROWS
 
 -- the files that both maps have can be joined
 abbrev pub CanJoinFiles : FileMap → FileMap → Type 0

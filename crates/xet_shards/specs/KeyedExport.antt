@@ -19,10 +19,11 @@ use Rattle.xet_records.specs.declared.record_reader.FormatVersion.TheVariants.{V
 use Rattle.xet_records.specs.XorbRecord.{xorb_records}
 use Rattle.xet_shards.specs.declared.shard_format.info.MDBShardInfo.{MDBShardInfo}
 use Rattle.xet_shards.specs.Section.{total_rows, section_bytes}
-use Rattle.xet_shards.specs.SectionReading.{IsSection, TakesNoSection, IsRefusedSection, IsCutSection, SectionCase}
-use Rattle.xet_shards.specs.Ends.{HasHeader, HasEnds, HasUnsupportedHeader, EndsInHeader, FormatCase}
-use Rattle.xet_shards.specs.Layout.{Form, if_in, layout_of, footer_value, info_of}
-use Rattle.xet_shards.specs.InForm.{IsInForm}
+use Rattle.xet_shards.specs.SectionReading.{IsSection, SectionNotStreamed, IsRefusedSection, IsTruncatedSection, SectionCase}
+use Rattle.xet_shards.specs.Ends.{HasHeader, HasHeaderAndFooter, HasUnsupportedHeader, EndsInHeader, FormatCase}
+use Rattle.xet_shards.specs.Layout.{LayoutOptions, if_included, layout_of, footer_value, info_of}
+use Rattle.xet_shards.specs.WithOptions.{IsBytesWithOptions}
+use Rattle.xet_records.specs.Limits.{MAX_ROWS}
 
 -- a chunk with its hash under a key, and all else as it is
 abbrev pub keyed_chunk : DataHash → XorbChunkSequenceEntry → XorbChunkSequenceEntry
@@ -36,20 +37,21 @@ keyed_xorb key r = record r { chunks = map (keyed_chunk key) r.chunks }
 abbrev pub keyed_xorbs : DataHash → List MDBXorbInfo → List MDBXorbInfo
 keyed_xorbs key xorbs = map (keyed_xorb key) xorbs
 
--- what an export in a form writes for a file: the file, with or without its auxiliary row, or
--- nothing if the form has no file table
-abbrev pub exported_file : Bool → Form → MDBFileInfo → List MDBFileInfo
-exported_file aux form r = if_in form.file_table (aux_as_wanted aux r ∷ [])
+-- what an export with layout options writes for a file: the file, with or without its auxiliary
+-- row, or nothing if the options have no file table
+abbrev pub exported_file : Bool → LayoutOptions → MDBFileInfo → List MDBFileInfo
+exported_file aux options r = if_included options.file_table (aux_as_wanted aux r ∷ [])
 
--- what an export in a form writes for a xorb: the xorb with its chunk hashes under the form's key
-abbrev pub exported_xorb : Bool → Form → MDBXorbInfo → List MDBXorbInfo
-exported_xorb aux form r = keyed_xorb form.key r ∷ []
+-- what an export with layout options writes for a xorb: the xorb with its chunk hashes under the
+-- options' key
+abbrev pub exported_xorb : Bool → LayoutOptions → MDBXorbInfo → List MDBXorbInfo
+exported_xorb aux options r = keyed_xorb options.key r ∷ []
 
--- the form of an export: the tables asked for, the key, now, and the expiry so many seconds later;
--- the file table is in if the files are
-abbrev pub export_form : (key : DataHash) (now valid : ℕ) (files xorb_table chunk_table : Bool)
-    → Form
-export_form key now valid files xorb_table chunk_table = record {
+-- the layout options of an export: the tables asked for, the key, now, and the expiry so many
+-- seconds later; the file table is in if the files are
+abbrev pub export_options : (key : DataHash) (now valid : ℕ) (files xorb_table chunk_table : Bool)
+    → LayoutOptions
+export_options key now valid files xorb_table chunk_table = record {
   version = V3;
   file_table = files;
   xorb_table = xorb_table;
@@ -59,10 +61,10 @@ export_form key now valid files xorb_table chunk_table = record {
   expiry = now + valid;
 }
 
--- what an export in a form writes of files and xorbs
-abbrev pub exported : List MDBFileInfo → List MDBXorbInfo → Form → List ℕ
-exported files xorbs form =
-    layout_of (if_in form.file_table files) (keyed_xorbs form.key xorbs) form
+-- what an export with layout options writes of files and xorbs
+abbrev pub exported : List MDBFileInfo → List MDBXorbInfo → LayoutOptions → List ℕ
+exported files xorbs options =
+    layout_of (if_included options.file_table files) (keyed_xorbs options.key xorbs) options
 
 -- the offset of the xorb section after a header and a section of files
 abbrev pub xorbs_after : List MDBFileInfo → ℕ
@@ -70,9 +72,9 @@ xorbs_after files = 48 * (total_rows file_records files + 2)
 
 -- a shard was exported, with auxiliary rows or without: header and sections were read from the
 -- source's position on, without a seek and without a byte past the xorb section, and what they hold
--- was written in the form; these bytes have a header and a footer, and are in that form, as reading
--- and lookups require
-pub record ExportsWith (aux : Bool) (form : Form) (old new : Source)
+-- was written with these options; the bytes written have a header and a footer, and reading and
+-- lookups can use them
+pub record ExportsWith (aux : Bool) (options : LayoutOptions) (old new : Source)
     (before after : Option (List ℕ)) (n : ℕ) : Type 0 where
   pub files : List MDBFileInfo
   pub xorbs : List MDBXorbInfo
@@ -84,26 +86,26 @@ pub record ExportsWith (aux : Bool) (form : Form) (old new : Source)
   pub xorb_section : IsSection xorb_records (drop (xorbs_after files) (bytes_left old)) xorbs
   -- the source is after the xorb section
   pub read : new ≡ advanced old (xorbs_after files + 48 * (total_rows xorb_records xorbs + 1))
-  pub written : Appends before after (exported (auxes_as_wanted aux files) xorbs form)
+  pub written : Appends before after (exported (auxes_as_wanted aux files) xorbs options)
   -- the number of bytes written is returned
-  pub count : n ≡ length (exported (auxes_as_wanted aux files) xorbs form)
+  pub count : n ≡ length (exported (auxes_as_wanted aux files) xorbs options)
   -- the bytes written begin with a header and end in a footer
-  pub ends : HasEnds (exported (auxes_as_wanted aux files) xorbs form)
-      (info_of (if_in form.file_table (auxes_as_wanted aux files)) (keyed_xorbs form.key xorbs)
-      form)
-  -- the bytes written are in the form, as reading and lookups require
-  pub in_form : IsInForm (if_in form.file_table (auxes_as_wanted aux files))
-      (keyed_xorbs form.key xorbs) form (exported (auxes_as_wanted aux files) xorbs form)
-      (footer_value (if_in form.file_table (auxes_as_wanted aux files))
-      (keyed_xorbs form.key xorbs) form)
+  pub ends : HasHeaderAndFooter (exported (auxes_as_wanted aux files) xorbs options)
+      (info_of (if_included options.file_table (auxes_as_wanted aux files)) (keyed_xorbs options.key xorbs)
+      options)
+  -- the bytes written are with the options, as reading and lookups require
+  pub with_options : IsBytesWithOptions (if_included options.file_table (auxes_as_wanted aux files))
+      (keyed_xorbs options.key xorbs) options (exported (auxes_as_wanted aux files) xorbs options)
+      (footer_value (if_included options.file_table (auxes_as_wanted aux files))
+      (keyed_xorbs options.key xorbs) options)
 
 -- a shard was exported with all rows
-abbrev pub Exports : Form → Source → Source → Option (List ℕ) → Option (List ℕ) → ℕ → Type 0
-Exports form = ExportsWith true form
+abbrev pub Exports : LayoutOptions → Source → Source → Option (List ℕ) → Option (List ℕ) → ℕ → Type 0
+Exports options = ExportsWith true options
 
 -- why a section was not read, if the device did not fail
 abbrev pub BadSection : {H R : Type 0} → RecordKind H R → List ℕ → CoreError → Type 0
-BadSection K bytes e = SectionCase (IsRefusedSection K) (IsCutSection K) bytes e
+BadSection K bytes e = SectionCase (IsRefusedSection K) (IsTruncatedSection K) bytes e
 
 -- why a shard was not exported, if the source's device did not fail: the header or a section was
 -- not read, or the writer failed or an allocation did
@@ -133,11 +135,11 @@ CannotExport info now valid =
 
 -- the outcome of an export, with auxiliary rows or without: it was made, or why not; and if the
 -- arguments are refused, then neither the source nor the writer is touched
-pub record OutcomeOfExport {S W : Type 0} (Refused : Type 0) (aux : Bool) (form : Form)
+pub record OutcomeOfExport {S W : Type 0} (Refused : Type 0) (aux : Bool) (options : LayoutOptions)
     (meaning : S → Source) (contents : W → Option (List ℕ)) (source_old source_new : S)
     (writer_old writer_new : W) (result : CoreResult ℕ) : Type 0 where
   pub written : MatchResult result
-      (ExportsWith aux form (meaning source_old) (meaning source_new) (contents writer_old)
+      (ExportsWith aux options (meaning source_old) (meaning source_new) (contents writer_old)
       (contents writer_new))
       (λ e. ((e ≡ InvalidArguments) × Refused)
       ⊎ ExportFails (meaning source_old) (meaning source_new) e)
@@ -146,7 +148,7 @@ pub record OutcomeOfExport {S W : Type 0} (Refused : Type 0) (aux : Bool) (form 
       × (writer_new ≡ writer_old)
 
 -- the records of the section at the source's position are these, and it was read up to its end
-pub record PassesSection {H R : Type 0} (K : RecordKind H R) (old new : Source) (stored : List R)
+pub record ReadsThroughSection {H R : Type 0} (K : RecordKind H R) (old new : Source) (stored : List R)
     : Type 0 where
   pub section : IsSection K (bytes_left old) stored
   pub after : new ≡ advanced old (48 * (sum_by K.row_count stored + 1))
@@ -157,7 +159,7 @@ pub record ExportsSection {H R : Type 0} (K : RecordKind H R) (version : FormatV
     (exports : R → List R) (Collected : List R → Type 0) (old new : Source)
     (before after : Option (List ℕ)) : Type 0 where
   pub stored : List R
-  pub passed : PassesSection (in_version K version) old new stored
+  pub passed : ReadsThroughSection (in_version K version) old new stored
   pub collected : Collected (flat_map exports stored)
   pub written : Appends before after (section_bytes K (flat_map exports stored))
 
@@ -172,7 +174,7 @@ pub record WritingFails (old new : Source) (e : CoreError) : Type 0 where
 abbrev pub ExportsNoSection : {H R : Type 0} → RecordKind H R → FormatVersion → Source → Source
     → CoreError → Type 0
 ExportsNoSection K version old new e =
-    TakesNoSection (in_version K version) old new e ⊎ WritingFails old new e
+    SectionNotStreamed (in_version K version) old new e ⊎ WritingFails old new e
 
 -- records were read from the source, their rows counted down from 4294967295, and this was made of
 -- them
@@ -181,5 +183,5 @@ pub record HasExported {H R : Type 0} (K : RecordKind H R) (Took : List ℕ → 
   pub stored : List R
   pub are_stored : All K.IsStored stored
   pub taken : Took (flat_map K.record_bytes stored)
-  pub rows : sum_by K.row_count stored + left ≡ 4294967295
+  pub rows : sum_by K.row_count stored + left ≡ MAX_ROWS
   pub made : Made stored

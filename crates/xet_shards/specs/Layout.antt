@@ -15,7 +15,7 @@ use Rattle.xet_shards.specs.declared.shard_format.footer.MDBShardFileFooter.{MDB
 use Rattle.xet_shards.specs.declared.shard_format.info.MDBShardInfo.{MDBShardInfo}
 -- what a writer chooses beside the records: the version, which tables are in, the key of the chunk
 -- hashes and two timestamps
-pub use Rattle.xet_shards.specs.declared.shard_format.form.Form.{Form}
+pub use Rattle.xet_shards.specs.declared.shard_format.options.LayoutOptions.{LayoutOptions}
 use Rattle.xet_shards.specs.Shard.{Shard}
 use Rattle.xet_shards.specs.Section.{section_bytes}
 use Rattle.xet_shards.specs.Tables.{starts, chunk_table, table_bytes, chunk_table_bytes}
@@ -77,8 +77,8 @@ default_footer = record {
 }
 
 -- a list, or the empty list if it is not in
-abbrev pub if_in : {X : Type 0} → Bool → List X → List X
-if_in is_in xs = if is_in then xs else []
+abbrev pub if_included : {X : Type 0} → Bool → List X → List X
+if_included is_in xs = if is_in then xs else []
 
 -- the header of a version: the tag, the number of the version, and the 200 bytes of a footer as the
 -- footer size
@@ -88,52 +88,52 @@ header_value version =
 
 -- the footer: offsets are sums of lengths, counts those of the tables that are in, byte counts sums
 -- over the records
-abbrev pub footer_value : List MDBFileInfo → List MDBXorbInfo → Form → MDBShardFileFooter
-footer_value files xorbs form =
+abbrev pub footer_value : List MDBFileInfo → List MDBXorbInfo → LayoutOptions → MDBShardFileFooter
+footer_value files xorbs options =
     let xorb_info = 48 + length (section_bytes file_records files) in
     let file_lookup = xorb_info + length (section_bytes xorb_records xorbs) in
     let xorb_lookup =
-    file_lookup + length (if_in form.file_table (table_bytes file_records files)) in
+    file_lookup + length (if_included options.file_table (table_bytes file_records files)) in
     let chunk_lookup =
-    xorb_lookup + length (if_in form.xorb_table (table_bytes xorb_records xorbs)) in
+    xorb_lookup + length (if_included options.xorb_table (table_bytes xorb_records xorbs)) in
     record {
       version = 1;
       file_info_offset = 48;
       xorb_info_offset = xorb_info;
       file_lookup_offset = file_lookup;
-      file_lookup_num_entry = length (if_in form.file_table (starts file_records files));
+      file_lookup_num_entry = length (if_included options.file_table (starts file_records files));
       xorb_lookup_offset = xorb_lookup;
-      xorb_lookup_num_entry = length (if_in form.xorb_table (starts xorb_records xorbs));
+      xorb_lookup_num_entry = length (if_included options.xorb_table (starts xorb_records xorbs));
       chunk_lookup_offset = chunk_lookup;
-      chunk_lookup_num_entry = length (if_in form.chunk_table (chunk_table xorbs));
-      chunk_hash_hmac_key = form.key;
-      shard_creation_timestamp = form.creation;
-      shard_key_expiry = form.expiry;
+      chunk_lookup_num_entry = length (if_included options.chunk_table (chunk_table xorbs));
+      chunk_hash_hmac_key = options.key;
+      shard_creation_timestamp = options.creation;
+      shard_key_expiry = options.expiry;
       _buffer = 0 ∷ 0 ∷ 0 ∷ 0 ∷ 0 ∷ 0 ∷ [];
       stored_bytes_on_disk = sum_by (λ (x : MDBXorbInfo). x.metadata.num_bytes_on_disk) xorbs;
       materialized_bytes = sum_by size_of_file files;
       stored_bytes = sum_by (λ (x : MDBXorbInfo). x.metadata.num_bytes_in_xorb) xorbs;
-      footer_offset = chunk_lookup + length (if_in form.chunk_table (chunk_table_bytes xorbs));
+      footer_offset = chunk_lookup + length (if_included options.chunk_table (chunk_table_bytes xorbs));
     }
 
--- all the bytes of a list of files and a list of xorbs in a form
-unfoldable pub layout_of : List MDBFileInfo → List MDBXorbInfo → Form → List ℕ
-layout_of files xorbs form =
-    (((((shard_header_bytes (header_value form.version) ++ section_bytes file_records files)
+-- all the bytes of a list of files and a list of xorbs with layout options
+unfoldable pub layout_of : List MDBFileInfo → List MDBXorbInfo → LayoutOptions → List ℕ
+layout_of files xorbs options =
+    (((((shard_header_bytes (header_value options.version) ++ section_bytes file_records files)
     ++ section_bytes xorb_records xorbs)
-    ++ if_in form.file_table (table_bytes file_records files))
-    ++ if_in form.xorb_table (table_bytes xorb_records xorbs))
-    ++ if_in form.chunk_table (chunk_table_bytes xorbs))
-    ++ shard_footer_bytes (footer_value files xorbs form)
+    ++ if_included options.file_table (table_bytes file_records files))
+    ++ if_included options.xorb_table (table_bytes xorb_records xorbs))
+    ++ if_included options.chunk_table (chunk_table_bytes xorbs))
+    ++ shard_footer_bytes (footer_value files xorbs options)
 
 -- what a reader of these bytes finds in header and footer
-abbrev pub info_of : List MDBFileInfo → List MDBXorbInfo → Form → MDBShardInfo
-info_of files xorbs form =
-    record { header = header_value form.version; metadata = footer_value files xorbs form }
+abbrev pub info_of : List MDBFileInfo → List MDBXorbInfo → LayoutOptions → MDBShardInfo
+info_of files xorbs options =
+    record { header = header_value options.version; metadata = footer_value files xorbs options }
 
 -- version 3, all tables, no key, no creation, and an expiry or none
-abbrev pub plain_form : Option ℕ → Form
-plain_form expiry = record {
+abbrev pub plain_options : Option ℕ → LayoutOptions
+plain_options expiry = record {
   version = V3;
   file_table = true;
   xorb_table = true;
@@ -145,22 +145,22 @@ plain_form expiry = record {
 
 -- the bytes of a shard, its records in ascending order of their hashes
 abbrev pub layout : Shard → Option ℕ → List ℕ
-layout s expiry = layout_of (values s.files) (values s.xorbs) (plain_form expiry)
+layout s expiry = layout_of (values s.files) (values s.xorbs) (plain_options expiry)
 
 -- what a reader of the bytes of a shard finds in header and footer
 abbrev pub info_value : Shard → Option ℕ → MDBShardInfo
-info_value s expiry = info_of (values s.files) (values s.xorbs) (plain_form expiry)
+info_value s expiry = info_of (values s.files) (values s.xorbs) (plain_options expiry)
 
 -- a version, all tables, no key, no creation, and an expiry or none
-abbrev pub plain_form_in : FormatVersion → Option ℕ → Form
-plain_form_in version expiry = record (plain_form expiry) { version = version }
+abbrev pub plain_options_in : FormatVersion → Option ℕ → LayoutOptions
+plain_options_in version expiry = record (plain_options expiry) { version = version }
 
 -- the bytes of a shard in a version, its records in ascending order of their hashes
 abbrev pub layout_in : FormatVersion → Shard → Option ℕ → List ℕ
 layout_in version s expiry =
-    layout_of (values s.files) (values s.xorbs) (plain_form_in version expiry)
+    layout_of (values s.files) (values s.xorbs) (plain_options_in version expiry)
 
 -- what a reader of the bytes of a shard in a version finds in header and footer
 abbrev pub info_value_in : FormatVersion → Shard → Option ℕ → MDBShardInfo
 info_value_in version s expiry =
-    info_of (values s.files) (values s.xorbs) (plain_form_in version expiry)
+    info_of (values s.files) (values s.xorbs) (plain_options_in version expiry)

@@ -5,7 +5,7 @@ pub mod Ends
 pub mod ExportLaws
 pub mod FileRanges
 pub mod FileStore
-pub mod InForm
+pub mod WithOptions
 pub mod InMemoryShard
 pub mod Joining
 pub mod Joins

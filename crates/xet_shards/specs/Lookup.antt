@@ -9,7 +9,7 @@ use Rattle.xet_base.specs.declared.merklehash.DataHash.{DataHash}
 use Rattle.xet_base.specs.Bytes.{u32_bytes}
 use Rattle.xet_base.specs.Errors.{CoreResult}
 use Rattle.xet_base.specs.Source.{Source, DeviceFailure}
-use Rattle.xet_base.specs.Table.{Table, table_at, Hit, IsHit, OtherRow, IsSorted, hits, Finds, FitsTable, Serves, Bounded, IsEven, SearchRefused, IsBareInvalidShard}
+use Rattle.xet_base.specs.Table.{Table, table_at, Hit, IsHit, OtherRow, IsSorted, hits, Finds, FitsTable, NoFailure, Bounded, IsEven, SearchRefused, IsBareInvalidShard}
 use Rattle.xet_records.specs.declared.file_structs.MDBFileInfo.{MDBFileInfo}
 use Rattle.xet_records.specs.RecordKind.{RecordKind}
 use Rattle.xet_records.specs.FileRecord.{file_records}
@@ -18,11 +18,11 @@ use Rattle.xet_shards.specs.declared.shard_format.footer.MDBShardFileFooter.{MDB
 use Rattle.xet_shards.specs.declared.shard_format.info.MDBShardInfo.{MDBShardInfo}
 use Rattle.xet_shards.specs.Shard.{Shard}
 use Rattle.xet_shards.specs.Tables.{hash_in, starts}
-use Rattle.xet_shards.specs.SectionReading.{files_of, MayTake, BeginsWithBookend, BeginsRefused, EndsEarly, SectionFailure}
+use Rattle.xet_shards.specs.SectionReading.{files_of, MayRead, BeginsWithBookend, BeginsRefused, EndsEarly, SectionFailure}
 
 -- the records whose hashes have this first word
-abbrev pub sharing : {H R : Type 0} → RecordKind H R → ℕ → List R → List R
-sharing K word records = filter (λ r. (hash_in K r).word0 == word) records
+abbrev pub with_first_word : {H R : Type 0} → RecordKind H R → ℕ → List R → List R
+with_first_word K word records = filter (λ r. (hash_in K r).word0 == word) records
 
 -- the file table at the offset that a footer gives: the first word of a hash, and four bytes of a
 -- row number
@@ -41,12 +41,12 @@ chunk_lookup_table footer source =
     table_at source footer.chunk_lookup_offset footer.chunk_lookup_num_entry 8
 
 -- four bytes spell a number, lowest byte first
-abbrev pub IsNumber : List ℕ → ℕ → Type 0
-IsNumber bytes n = (n < 2 ^ 32) × (bytes ≡ u32_bytes n)
+abbrev pub IsRowNumber : List ℕ → ℕ → Type 0
+IsRowNumber bytes n = (n < 2 ^ 32) × (bytes ≡ u32_bytes n)
 
 -- eight bytes spell two numbers of four bytes each, lowest byte first
-abbrev pub IsPair : List ℕ → ℕ × ℕ → Type 0
-IsPair bytes p = (p.0 < 2 ^ 32) × (p.1 < 2 ^ 32) × (bytes ≡ u32_bytes p.0 ++ u32_bytes p.1)
+abbrev pub IsRowAndIndex : List ℕ → ℕ × ℕ → Type 0
+IsRowAndIndex bytes p = (p.0 < 2 ^ 32) × (p.1 < 2 ^ 32) × (bytes ≡ u32_bytes p.0 ++ u32_bytes p.1)
 
 -- the offset of a row of a section
 abbrev pub row_at : ℕ → ℕ → ℕ
@@ -56,7 +56,7 @@ row_at offset row = offset + 48 * row
 abbrev pub HasAt : List ℕ → ℕ → List ℕ → Type 0
 HasAt bytes offset part = (rest : List ℕ) × (drop offset bytes ≡ part ++ rest)
 
--- a record that is at an offset is handed out as `found`
+-- a record that is at an offset is returned as `found`
 abbrev pub RecordAt : {H R : Type 0} → RecordKind H R → List ℕ → ℕ → R → Type 0
 RecordAt K bytes offset found = ReadsRecord K (HasAt bytes offset) found
 
@@ -88,16 +88,16 @@ pub record ReadsInfo {H R : Type 0} (K : RecordKind H R) (offset row : ℕ) (old
     (found : R) : Type 0 where
   -- the offset of the row fits 64 bits
   pub within : row_at offset row < 2 ^ 64
-  -- the record is at the row, and is handed out as `found`
+  -- the record is at the row, and is returned as `found`
   pub is_at : RecordAt K old.bytes (row_at offset row) found
   -- the device did not fail
-  pub serves : Serves old new
+  pub no_failure : NoFailure old new
   pub seeks : new.seeks ≡ old.seeks + 1
   -- the number of bytes read
   pub taken : ℕ
   pub read : new.read ≡ old.read + taken
   -- they are at most those of a header, or of the record there
-  pub may_take : MayTake K (drop (row_at offset row) old.bytes) taken
+  pub may_take : MayRead K (drop (row_at offset row) old.bytes) taken
 
 -- the record at a row was not read; the source may then be at any offset
 pub record ReadInfoFails {H R : Type 0} (K : RecordKind H R) (offset row : ℕ) (old new : Source)
@@ -110,7 +110,7 @@ pub record ReadInfoFails {H R : Type 0} (K : RecordKind H R) (offset row : ℕ) 
   pub taken : ℕ
   pub read : new.read ≤ old.read + taken
   -- it is at most the bytes of a header, or of the record there
-  pub may_take : MayTake K (drop (row_at offset row) old.bytes) taken
+  pub may_take : MayRead K (drop (row_at offset row) old.bytes) taken
   -- why the record was not read
   pub cause : InfoRefusal K offset row old new e
 
@@ -124,7 +124,7 @@ pub record Searches {V : Type 0} (t : Table) (word : ℕ) (Gives : List ℕ → 
   -- they are all such rows, or as many as there is room for, where the table is sorted
   pub count : IsSorted t → IfOk result (λ n. n ≡ min (hits t word) room)
   -- a search that succeeds met no failure of the device
-  pub serves : OnOk result (Serves old new)
+  pub no_failure : OnOk result (NoFailure old new)
   -- a search that succeeds and has room was in a table that fits 64 bits
   pub fits : OnOk result (0 < room → FitsTable t)
   -- why the search was refused
@@ -138,7 +138,7 @@ pub record Searches {V : Type 0} (t : Table) (word : ℕ) (Gives : List ℕ → 
 
 -- different rows of a table with the key, all of them where it is sorted
 pub record AreHits (t : Table) (key : ℕ) (found : List (Hit ℕ)) : Type 0 where
-  pub each : All (IsHit t key IsNumber) found
+  pub each : All (IsHit t key IsRowNumber) found
   pub distinct : AllPairs OtherRow found
   pub all : IsSorted t → length found ≡ hits t key
 
@@ -147,7 +147,7 @@ pub record Collides (t : Table) (key : ℕ) : Type 0 where
   pub fits : FitsTable t
   pub found : List (Hit ℕ)
   pub eight : length found ≡ 8
-  pub each : All (IsHit t key IsNumber) found
+  pub each : All (IsHit t key IsRowNumber) found
   pub distinct : AllPairs OtherRow found
 
 -- an index lookup was refused: eight rows have the key, or the search was
@@ -156,7 +156,7 @@ IndexRefused t key old new e =
     ((new.failures ≡ old.failures) × (e ≡ TruncatedHashCollision key) × Collides t key)
     ⊎ SearchRefused t old new e
 
--- the table fits 64 bits, fewer than eight rows have the key, and their row numbers are handed out
+-- the table fits 64 bits, fewer than eight rows have the key, and their row numbers are returned
 pub record IndexFinds (t : Table) (key : ℕ) (old new : List ℕ) (count : ℕ) : Type 0 where
   pub fits : FitsTable t
   pub found : List (Hit ℕ)
@@ -165,13 +165,13 @@ pub record IndexFinds (t : Table) (key : ℕ) (old new : List ℕ) (count : ℕ)
   pub are_hits : AreHits t key found
   pub written : new ≡ map (λ hit. hit.value) found ++ drop count old
 
--- an index lookup: the row numbers behind a key of a table, or why they are not handed out; the
+-- an index lookup: the row numbers behind a key of a table, or why they are not returned; the
 -- bytes of the source stay, and the seeks are bounded where the table is sorted, and where it is
 -- even
 pub record LooksUpIndex (t : Table) (key : ℕ) (dest_old dest_new : List ℕ) (old new : Source)
     (result : CoreResult ℕ) : Type 0 where
   pub found : IfOk result (IndexFinds t key dest_old dest_new)
-  pub serves : OnOk result (Serves old new)
+  pub no_failure : OnOk result (NoFailure old new)
   pub refused : IfErr result (IndexRefused t key old new)
   pub kept : new.bytes ≡ old.bytes
   pub bounds : IsSorted t → Bounded t key old new
@@ -185,7 +185,7 @@ pub record Visit {H R : Type 0} (K : RecordKind H R) (most offset row : ℕ) (ol
   pub no_fewer : old.seeks ≤ new.seeks
   pub taken : ℕ
   pub read : new.read ≤ old.read + taken
-  pub may_take : MayTake K (drop (row_at offset row) old.bytes) taken
+  pub may_take : MayRead K (drop (row_at offset row) old.bytes) taken
 
 -- calls went to these rows, by at most so many seeks each, and read at most the records there
 pub record Visits {H R : Type 0} (K : RecordKind H R) (most offset : ℕ) (rows : List ℕ)
@@ -194,7 +194,7 @@ pub record Visits {H R : Type 0} (K : RecordKind H R) (most offset : ℕ) (rows 
   pub seeks : new.seeks ≤ old.seeks + most * length rows
   pub no_fewer : old.seeks ≤ new.seeks
   pub taken : List ℕ
-  pub may_take : AllZip (λ row n. MayTake K (drop (row_at offset row) old.bytes) n) rows taken
+  pub may_take : AllZip (λ row n. MayRead K (drop (row_at offset row) old.bytes) n) rows taken
   pub read : new.read ≤ old.read + sum taken
 
 -- calls went to the first few of these rows, by at most so many seeks each, and read at most the
@@ -216,7 +216,7 @@ pub record LooksUp {H R : Type 0} (K : RecordKind H R) (t : Table) (offset key :
   -- the source after the search
   pub searched : Source
   -- the device did not fail in the search
-  pub serves : Serves old searched
+  pub no_failure : NoFailure old searched
   -- seeks and bytes of the search are bounded where the table is sorted
   pub bounded : IsSorted t → Bounded t key old searched
   -- calls went to the first few of these rows, by one seek each at most, and read at most the
@@ -236,10 +236,10 @@ LookupAnswer {R = R} K bytes offset hash None rows =
     rows
 
 -- the records at these rows were read, and none of them has the hash
-pub record Missed {H R : Type 0} (K : RecordKind H R) (offset : ℕ) (hash : DataHash) (rows : List ℕ)
+pub record NoneHasHash {H R : Type 0} (K : RecordKind H R) (offset : ℕ) (hash : DataHash) (rows : List ℕ)
     (old new : Source) : Type 0 where
   pub visits : Visits K 1 offset rows old new
-  pub serves : Serves old new
+  pub no_failure : NoFailure old new
   pub others : LookupAnswer K old.bytes offset hash None rows
 
 -- the record at one of the rows was not read
@@ -255,11 +255,11 @@ pub record WithinBounds {H R : Type 0} (K : RecordKind H R) (records : List R) (
     (old new : Source) : Type 0 where
   pub made : ℕ
   pub more : ℕ
-  pub few : made ≤ (length records + 1) / 128 + length (sharing K word records) / 4 + 8
-  pub few_more : more ≤ length (sharing K word records)
+  pub few : made ≤ (length records + 1) / 128 + length (with_first_word K word records) / 4 + 8
+  pub few_more : more ≤ length (with_first_word K word records)
   pub seeks : new.seeks ≡ old.seeks + made + more
-  pub read : new.read ≤ old.read + (257 + length (sharing K word records) + made) * 12
-      + length (flat_map K.record_bytes (sharing K word records))
+  pub read : new.read ≤ old.read + (257 + length (with_first_word K word records) + made) * 12
+      + length (flat_map K.record_bytes (with_first_word K word records))
 
 -- what a search in a sorted table costs at most, by its rows, how many of them have the key, and
 -- the bytes of a row
@@ -273,28 +273,28 @@ pub record SearchCosts (rows hits size : ℕ) (old new : Source) : Type 0 where
 abbrev pub SearchWithinBounds : {H R : Type 0} → RecordKind H R → List R → ℕ → Source → Source
     → Type 0
 SearchWithinBounds K records word old new =
-    SearchCosts (length records) (length (sharing K word records)) 12 old new
+    SearchCosts (length records) (length (with_first_word K word records)) 12 old new
 
 -- a lookup of a record by its hash that gives an answer
-abbrev pub Finding : {H R : Type 0} → RecordKind H R → Table → ℕ → DataHash → Source → Source
+abbrev pub FindsRecord : {H R : Type 0} → RecordKind H R → Table → ℕ → DataHash → Source → Source
     → Option R → Type 0
-Finding K t offset hash old new answer =
+FindsRecord K t offset hash old new answer =
     LooksUp K t offset hash.word0 old new (LookupAnswer K old.bytes offset hash answer)
 
 -- a lookup of a record by its hash that gives no answer: the search was refused, or the record at a
 -- row that it found was not read
-abbrev pub FindingFails : {H R : Type 0} → RecordKind H R → Table → ℕ → DataHash → Source → Source
+abbrev pub FindRecordFails : {H R : Type 0} → RecordKind H R → Table → ℕ → DataHash → Source → Source
     → CoreError → Type 0
-FindingFails K t offset hash old new e =
+FindRecordFails K t offset hash old new e =
     (IndexRefused t hash.word0 old new e × (IsSorted t → Bounded t hash.word0 old new))
     ⊎ LooksUp K t offset hash.word0 old new (LookupRefused K offset old new e)
 
 -- a lookup of a record by its hash: the answer or the error, and the bytes of the source stay
 pub record LooksUpRecord {H R : Type 0} (K : RecordKind H R) (t : Table) (offset : ℕ)
     (hash : DataHash) (old new : Source) (result : CoreResult (Option R)) : Type 0 where
-  pub read : MatchResult result (Finding K t offset hash old new)
-      (FindingFails K t offset hash old new)
-  pub serves : OnOk result (Serves old new)
+  pub read : MatchResult result (FindsRecord K t offset hash old new)
+      (FindRecordFails K t offset hash old new)
+  pub no_failure : OnOk result (NoFailure old new)
   pub kept : new.bytes ≡ old.bytes
 
 -- a file lookup by this header and footer, on any bytes
@@ -314,7 +314,7 @@ AreStarts K records word rows =
 -- than eight records share the first word
 abbrev pub StartsAmong : {H R : Type 0} → RecordKind H R → List R → ℕ → List ℕ → ℕ → Type 0
 StartsAmong K records word rows count =
-    (length (sharing K word records) < 8) × (count ≡ length (sharing K word records))
+    (length (with_first_word K word records) < 8) × (count ≡ length (with_first_word K word records))
     × AreStarts K records word (take count rows)
 
 -- why an index lookup in such bytes fails: the device failed; or the collision, if eight or more
@@ -323,7 +323,7 @@ abbrev pub IndexFailsAmong : {H R : Type 0} → RecordKind H R → List R → �
     → CoreError → Type 0
 IndexFailsAmong K records word old new e =
     DeviceFailure old new e
-    ⊎ ((e ≡ TruncatedHashCollision word) × (8 ≤ length (sharing K word records)))
+    ⊎ ((e ≡ TruncatedHashCollision word) × (8 ≤ length (with_first_word K word records)))
 
 -- why a record lookup in such bytes fails: the device failed; out of memory, if one to seven
 -- records share the first word, since only then a record is read; or the collision, if eight or
@@ -332,26 +332,26 @@ abbrev pub LookupFailsAmong : {H R : Type 0} → RecordKind H R → List R → D
     → CoreError → Type 0
 LookupFailsAmong K records hash old new e =
     DeviceFailure old new e
-    ⊎ ((e ≡ OutOfMemory) × (1 ≤ length (sharing K hash.word0 records))
-    × (length (sharing K hash.word0 records) < 8))
-    ⊎ ((e ≡ TruncatedHashCollision hash.word0) × (8 ≤ length (sharing K hash.word0 records)))
+    ⊎ ((e ≡ OutOfMemory) × (1 ≤ length (with_first_word K hash.word0 records))
+    × (length (with_first_word K hash.word0 records) < 8))
+    ⊎ ((e ≡ TruncatedHashCollision hash.word0) × (8 ≤ length (with_first_word K hash.word0 records)))
 
--- one of these records with the hash, as reading hands it out, or none if none has the hash
+-- one of these records with the hash, as reading returns it, or none if none has the hash
 abbrev pub IsOneOf : {H R : Type 0} → RecordKind H R → List R → DataHash → Option R → Type 0
 IsOneOf {R = R} K records hash (Some found) =
-    (r : R) × Contains records r × (hash_in K r ≡ hash) × (found ≡ K.handed_out r)
+    (r : R) × Contains records r × (hash_in K r ≡ hash) × (found ≡ K.as_read r)
 IsOneOf K records hash None = All (λ r. hash_in K r ≢ hash) records
 
 -- a record lookup in such bytes gave an answer: fewer than eight records share the first word
 abbrev pub FoundAmong : {H R : Type 0} → RecordKind H R → List R → DataHash → Option R → Type 0
 FoundAmong K records hash answer =
-    (length (sharing K hash.word0 records) < 8) × IsOneOf K records hash answer
+    (length (with_first_word K hash.word0 records) < 8) × IsOneOf K records hash answer
 
 -- a file lookup on the bytes of a shard that gave an answer: fewer than eight files share the first
 -- word, and it is the map's
 abbrev pub FoundInShard : Shard → DataHash → Option MDBFileInfo → Type 0
 FoundInShard s hash answer =
-    (length (sharing file_records hash.word0 (values s.files)) < 8) × (answer ≡ get s.files hash)
+    (length (with_first_word file_records hash.word0 (values s.files)) < 8) × (answer ≡ get s.files hash)
 
 -- an index lookup in such bytes: the starts or why there are none, and its cost
 pub record FindsStarts {H R : Type 0} (K : RecordKind H R) (records : List R) (word : ℕ)
@@ -370,7 +370,7 @@ pub record FindsAmong {H R : Type 0} (K : RecordKind H R) (records : List R)
       (λ e. e ≡ TruncatedHashCollision hash.word0
       → SearchWithinBounds K records hash.word0 old new)
 
--- a file lookup among files that are written in a form
+-- a file lookup among files that are written with layout options
 abbrev pub FindsFileAmong : List MDBFileInfo → DataHash → Source → Source
     → CoreResult (Option MDBFileInfo) → Type 0
 FindsFileAmong files hash = FindsAmong file_records files (FoundAmong file_records files hash) hash

@@ -23,8 +23,8 @@ use Rattle.std.specs.Io.KnownBytes.{Appends}
 use Rattle.xet_records.specs.declared.file_structs.view.KeptParts.{KeptParts}
 use Rattle.xet_records.specs.View.{as_kept}
 use Rattle.xet_shards.specs.declared.streaming_shard.file_start.FileStart.{FileStart}
-use Rattle.xet_shards.specs.InForm.{FitsSection}
-use Rattle.xet_shards.specs.Layout.{Form, layout_of}
+use Rattle.xet_shards.specs.WithOptions.{FitsSection}
+use Rattle.xet_shards.specs.Layout.{LayoutOptions, layout_of}
 use Rattle.xet_shards.specs.Section.{total_rows}
 use Rattle.xet_shards.specs.Shard.{xorb_hash_of}
 
@@ -116,8 +116,8 @@ abbrev pub serialized_size : Bool → MinimalShard → ℕ
 serialized_size wanted m = size_of_kept (record { verification = wanted; aux_ext = true }) m
 
 -- no tables, no key, the creation, and an expiry or 0
-abbrev pub minimal_form : ℕ → Option ℕ → Form
-minimal_form now expiry = record {
+abbrev pub minimal_options : ℕ → Option ℕ → LayoutOptions
+minimal_options now expiry = record {
   version = V3;
   file_table = false;
   xorb_table = false;
@@ -127,10 +127,10 @@ minimal_form now expiry = record {
   expiry = unwrap_or expiry 0;
 }
 
--- a form in which no table is in
-abbrev pub HasNoTables : Form → Type 0
-HasNoTables form =
-    (form.file_table ≡ false) × (form.xorb_table ≡ false) × (form.chunk_table ≡ false)
+-- layout options without tables
+abbrev pub HasNoTables : LayoutOptions → Type 0
+HasNoTables options =
+    (options.file_table ≡ false) × (options.xorb_table ≡ false) × (options.chunk_table ≡ false)
 
 -- bytes were appended, and their number returned
 pub record WritesBytes (old new : Option (List ℕ)) (bytes : List ℕ) (n : ℕ) : Type 0 where
@@ -143,7 +143,7 @@ abbrev pub WritesMinimalKept : Option (List ℕ) → Option (List ℕ) → KeptP
 WritesMinimalKept old new kept now m n =
     WritesBytes old new
     (layout_of (map (as_kept kept) m.files) (map (mark_starts (is_start m.files)) m.xorbs)
-    (minimal_form now None))
+    (minimal_options now None))
     n
 
 -- the shard was written: its files with auxiliary rows, and with verification rows only if they are
@@ -166,8 +166,8 @@ IsKept {X} answers (x ∷ xs) kept =
 -- files were written, and of a shard's xorbs those that a filter accepts, with marks at the starts
 -- of all its files
 pub record WritesKept (answers : MDBXorbInfo → Bool → Type 0) (old new : Option (List ℕ))
-    (files : List MDBFileInfo) (m : MinimalShard) (form : Form) (n : ℕ) : Type 0 where
+    (files : List MDBFileInfo) (m : MinimalShard) (options : LayoutOptions) (n : ℕ) : Type 0 where
   pub kept : List MDBXorbInfo
   pub is_kept : IsKept answers m.xorbs kept
   pub written : WritesBytes old new
-      (layout_of files (map (mark_starts (is_start m.files)) kept) form) n
+      (layout_of files (map (mark_starts (is_start m.files)) kept) options) n

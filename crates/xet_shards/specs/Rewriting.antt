@@ -1,4 +1,4 @@
--- A shard that is written again in a form, of the records that are read.
+-- A shard that is written again with layout options, of the records that are read.
 use Rattle.std.specs.Prelude.{◌≡◌, ℕ, List, drop, nat_lt, Option}
 use Rattle.std.specs.Io.KnownBytes.{Appends}
 use Rattle.xet_base.specs.Source.{Source, bytes_left}
@@ -11,7 +11,7 @@ use Rattle.xet_shards.specs.declared.shard_format.footer.MDBShardFileFooter.{MDB
 use Rattle.xet_shards.specs.declared.shard_format.info.MDBShardInfo.{MDBShardInfo}
 use Rattle.xet_shards.specs.Ends.{HasHeader}
 use Rattle.xet_shards.specs.KeyedExport.{xorbs_after}
-use Rattle.xet_shards.specs.Layout.{Form, footer_value, layout_of}
+use Rattle.xet_shards.specs.Layout.{LayoutOptions, footer_value, layout_of}
 use Rattle.xet_shards.specs.SectionReading.{IsSection}
 
 -- the bytes begin with a header and the sections of these files and xorbs
@@ -21,18 +21,19 @@ pub record HasSections (bytes : List ℕ) (files : List MDBFileInfo) (xorbs : Li
   pub file_section : IsSection (file_records_in header.version) (drop 48 bytes) files
   pub xorb_section : IsSection xorb_records (drop (xorbs_after files) bytes) xorbs
 
--- the records from the source's position on were written in a form, and this is the footer
-pub record WritesAgain (form : Form) (old : Source) (before after : Option (List ℕ))
+-- the records from the source's position on were written with layout options, and this is the
+-- footer
+pub record WritesAgain (options : LayoutOptions) (old : Source) (before after : Option (List ℕ))
     (footer : MDBShardFileFooter) : Type 0 where
   pub files : List MDBFileInfo
   pub xorbs : List MDBXorbInfo
   pub sections : HasSections (bytes_left old) files xorbs
-  pub written : Appends before after (layout_of files xorbs form)
-  pub footer_is : footer ≡ footer_value files xorbs form
+  pub written : Appends before after (layout_of files xorbs options)
+  pub footer_is : footer ≡ footer_value files xorbs options
 
--- the form that a header and a footer name: a table is in if it has a row
-abbrev pub form_of : MDBShardInfo → Form
-form_of info = record {
+-- the layout options that a header and a footer name: a table is in if it has a row
+abbrev pub options_of : MDBShardInfo → LayoutOptions
+options_of info = record {
   version = version_of info.header.version;
   file_table = nat_lt 0 info.metadata.file_lookup_num_entry;
   xorb_table = nat_lt 0 info.metadata.xorb_lookup_num_entry;

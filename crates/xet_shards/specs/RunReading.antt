@@ -6,7 +6,7 @@ use Rattle.xet_base.specs.declared.merklehash.DataHash.{DataHash}
 use Rattle.xet_base.specs.Errors.{CoreResult, IsEndOfInput}
 use Rattle.xet_base.specs.KeyedHash.{under_key}
 use Rattle.xet_base.specs.Source.{Source, DeviceFailure}
-use Rattle.xet_base.specs.Table.{Hit, IsHit, OtherRow, IsSorted, hits, FitsTable, Serves, Bounded, SearchRefused, IsBareInvalidShard}
+use Rattle.xet_base.specs.Table.{Hit, IsHit, OtherRow, IsSorted, hits, FitsTable, NoFailure, Bounded, SearchRefused, IsBareInvalidShard}
 use Rattle.xet_records.specs.declared.xorb_structs.XorbChunkSequenceEntry.{XorbChunkSequenceEntry}
 use Rattle.xet_records.specs.declared.xorb_structs.XorbChunkSequenceHeader.{XorbChunkSequenceHeader}
 use Rattle.xet_records.specs.Reading.{BeginsWithHeader}
@@ -14,7 +14,7 @@ use Rattle.xet_records.specs.XorbRow.{chunk_row, FitsChunk}
 use Rattle.xet_records.specs.XorbRecord.{xorb_records, total_bytes, default_segment, segment_of}
 use Rattle.xet_shards.specs.declared.shard_format.footer.MDBShardFileFooter.{MDBShardFileFooter}
 use Rattle.xet_shards.specs.ChunkQuery.{Run, run_length}
-use Rattle.xet_shards.specs.Lookup.{row_at, chunk_lookup_table, IsPair, Visit, Visits, VisitsSome}
+use Rattle.xet_shards.specs.Lookup.{row_at, chunk_lookup_table, IsRowAndIndex, Visit, Visits, VisitsSome}
 use Rattle.xet_shards.specs.SectionReading.{BeginsWithBookend}
 
 -- chunks in front of some bytes, no more than are left of their xorb
@@ -26,8 +26,8 @@ pub record HasChunks (left : ℕ) (bytes : List ℕ) (chunks : List XorbChunkSeq
 
 -- they decide how long the run is: it ends before they do, or they are as many as the hashes, or
 -- all that are left
-abbrev pub Decide : DataHash → List DataHash → ℕ → List XorbChunkSequenceEntry → Type 0
-Decide key qs left chunks =
+abbrev pub DetermineRun : DataHash → List DataHash → ℕ → List XorbChunkSequenceEntry → Type 0
+DetermineRun key qs left chunks =
     (run_length key qs chunks < length chunks) ⊎ (length chunks ≡ length qs)
     ⊎ (length chunks ≡ left)
 
@@ -80,7 +80,7 @@ pub record IsRun (q : QueryAt) (header : XorbChunkSequenceHeader) (bytes : List 
   -- the bytes after them
   pub rest : List ℕ
   pub there : HasChunks (chunks_left q header) (chunks_at q bytes) chunks rest
-  pub decide : Decide q.key q.hashes (chunks_left q header) chunks
+  pub decide : DetermineRun q.key q.hashes (chunks_left q header) chunks
   -- the number of chunks of the run
   pub count : run.0 ≡ run_length q.key q.hashes chunks
   -- their segment
@@ -92,15 +92,15 @@ FoundRun q header bytes (Some run) = (0 < run.0) × IsRun q header bytes run
 FoundRun q header bytes None = IsRun q header bytes (0, default_segment)
 
 -- chunks that have the hashes, one by one, and more bytes than fit `u32`
-abbrev pub RunPasses : DataHash → List DataHash → ℕ → List ℕ → Type 0
-RunPasses key qs left bytes =
+abbrev pub RunExceeds : DataHash → List DataHash → ℕ → List ℕ → Type 0
+RunExceeds key qs left bytes =
     (chunks : List XorbChunkSequenceEntry) × (rest : List ℕ) × HasChunks left bytes chunks rest
     × (run_length key qs chunks ≡ length chunks) × (2 ^ 32 ≤ total_bytes chunks)
 
 -- chunks that have the hashes, one by one, whose bytes fit `u32`, after which there are more hashes
 -- and should be more chunks, but not the bytes of one
-abbrev pub RunIsCut : DataHash → List DataHash → ℕ → List ℕ → Type 0
-RunIsCut key qs left bytes =
+abbrev pub RunIsTruncated : DataHash → List DataHash → ℕ → List ℕ → Type 0
+RunIsTruncated key qs left bytes =
     (chunks : List XorbChunkSequenceEntry) × (rest : List ℕ) × HasChunks left bytes chunks rest
     × (run_length key qs chunks ≡ length chunks) × (total_bytes chunks < 2 ^ 32)
     × (length chunks < length qs) × (length chunks < left) × (length rest < 48)
@@ -121,21 +121,21 @@ AnnouncesNoChunk q bytes =
     × (header.num_entries ≤ q.index))
 
 -- the offset of the xorb or of the chunk passes 64 bits, or the bytes of the run pass 32
-abbrev pub PassesAt : QueryAt → List ℕ → Type 0
-PassesAt q bytes =
+abbrev pub ExceedsAt : QueryAt → List ℕ → Type 0
+ExceedsAt q bytes =
     (2 ^ 64 ≤ xorb_offset q)
     ⊎ ((header : XorbChunkSequenceHeader) × AnnouncesChunk q bytes header
     × ((2 ^ 64 ≤ chunk_offset q)
-    ⊎ RunPasses q.key q.hashes (chunks_left q header) (chunks_at q bytes)))
+    ⊎ RunExceeds q.key q.hashes (chunks_left q header) (chunks_at q bytes)))
 
 -- the offset of the xorb or of the chunk fits 64 bits, and the bytes end before the header does, or
 -- before a chunk that has to be read
-abbrev pub IsCutAt : QueryAt → List ℕ → Type 0
-IsCutAt q bytes =
+abbrev pub IsTruncatedAt : QueryAt → List ℕ → Type 0
+IsTruncatedAt q bytes =
     ((xorb_offset q < 2 ^ 64) × (length (xorb_at q bytes) < 48))
     ⊎ ((header : XorbChunkSequenceHeader) × AnnouncesChunk q bytes header
     × (chunk_offset q < 2 ^ 64)
-    × RunIsCut q.key q.hashes (chunks_left q header) (chunks_at q bytes))
+    × RunIsTruncated q.key q.hashes (chunks_left q header) (chunks_at q bytes))
 
 -- the answer: none without hashes, else the run there
 abbrev pub AnswerAt : QueryAt → List ℕ → Option Run → Type 0
@@ -149,9 +149,9 @@ AnswerAt q bytes answer =
 abbrev pub RefusalAt : (CoreError → Type 0) → QueryAt → Source → Source → CoreError → Type 0
 RefusalAt Absent q old new e =
     DeviceFailure old new e
-    ⊎ ((new.failures ≡ old.failures) × IsBareInvalidShard e × PassesAt q old.bytes)
+    ⊎ ((new.failures ≡ old.failures) × IsBareInvalidShard e × ExceedsAt q old.bytes)
     ⊎ ((new.failures ≡ old.failures) × Absent e × AnnouncesNoChunk q old.bytes)
-    ⊎ ((new.failures ≡ old.failures) × IsEndOfInput e × IsCutAt q old.bytes)
+    ⊎ ((new.failures ≡ old.failures) × IsEndOfInput e × IsTruncatedAt q old.bytes)
 
 -- there is none: there are hashes, and one of these causes
 abbrev pub RefusedAt : (CoreError → Type 0) → QueryAt → Source → Source → CoreError → Type 0
@@ -164,7 +164,7 @@ pub record OutcomeAt (Absent : CoreError → Type 0) (q : QueryAt) (old new : So
   pub answer : IfOk result (AnswerAt q old.bytes)
   pub refused : IfErr result (RefusedAt Absent q old new)
   pub nothing : q.hashes ≡ [] → (result ≡ Ok None) × (new ≡ old)
-  pub serves : OnOk result (Serves old new)
+  pub no_failure : OnOk result (NoFailure old new)
   pub visit : Visit xorb_records 2 q.section q.row old new
 
 -- the first word of a hash under a footer's key, by which the chunk table is searched
@@ -179,7 +179,7 @@ pub record Queries (footer : MDBShardFileFooter) (hash : DataHash) (old new : So
   -- rows of the chunk table with the word, and their locations
   pub found : List (Hit (ℕ × ℕ))
   pub few : length found ≤ 8
-  pub each : All (IsHit (chunk_lookup_table footer old) (keyed_word footer hash) IsPair) found
+  pub each : All (IsHit (chunk_lookup_table footer old) (keyed_word footer hash) IsRowAndIndex) found
   pub distinct : AllPairs OtherRow found
   -- they are all such rows, or eight if they are more, where the table is sorted
   pub all : IsSorted (chunk_lookup_table footer old)
@@ -187,7 +187,7 @@ pub record Queries (footer : MDBShardFileFooter) (hash : DataHash) (old new : So
   -- the source after the search
   pub searched : Source
   -- the device did not fail in the search
-  pub serves : Serves old searched
+  pub no_failure : NoFailure old searched
   -- seeks and bytes of the search are bounded where the table is sorted
   pub bounded : IsSorted (chunk_lookup_table footer old)
       → Bounded (chunk_lookup_table footer old) (keyed_word footer hash) old searched
@@ -219,7 +219,7 @@ pub record OutcomeOfTries (footer : MDBShardFileFooter) (hashes : List DataHash)
     (locations : List (ℕ × ℕ)) (old new : Source) (result : CoreResult (Option Run)) : Type 0 where
   pub answer : IfOk result (λ answer. TriedAnswer footer hashes old.bytes answer locations)
   pub refused : IfErr result (λ e. TriedRefused footer hashes old new e locations)
-  pub serves : OnOk result (Serves old new)
+  pub no_failure : OnOk result (NoFailure old new)
   pub visits : VisitsSome xorb_records 2 footer.xorb_info_offset
       (map (λ location. location.0) locations) old new
 
@@ -254,5 +254,5 @@ pub record NoneTried (footer : MDBShardFileFooter) (hashes : List DataHash)
     (locations : List (ℕ × ℕ)) (old new : Source) : Type 0 where
   pub visits : Visits xorb_records 2 footer.xorb_info_offset
       (map (λ location. location.0) locations) old new
-  pub serves : Serves old new
+  pub no_failure : NoFailure old new
   pub none : TriedAnswer footer hashes old.bytes None locations

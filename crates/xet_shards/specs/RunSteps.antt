@@ -3,24 +3,24 @@ use Rattle.std.specs.Prelude.{◌≡◌, ◌⊎◌, ℕ, ◌+◌, ◌*◌, ◌^�
 use Rattle.xet_base.specs.declared.error.CoreError.{CoreError}
 use Rattle.xet_base.specs.declared.merklehash.DataHash.{DataHash}
 use Rattle.xet_base.specs.Errors.{IsEndOfInput}
-use Rattle.xet_base.specs.Source.{Source, DeviceFailure, Takes, bytes_left, moved}
-use Rattle.xet_base.specs.Table.{Serves, IsBareInvalidShard}
+use Rattle.xet_base.specs.Source.{Source, DeviceFailure, ReadsBytes, bytes_left, moved}
+use Rattle.xet_base.specs.Table.{NoFailure, IsBareInvalidShard}
 use Rattle.xet_records.specs.declared.xorb_structs.XorbChunkSequenceEntry.{XorbChunkSequenceEntry}
 use Rattle.xet_records.specs.declared.xorb_structs.XorbChunkSequenceHeader.{XorbChunkSequenceHeader}
 use Rattle.xet_records.specs.XorbRow.{xorb_header_row, chunk_row, FitsXorbHeader, FitsChunk}
 use Rattle.xet_records.specs.XorbRecord.{total_bytes}
 use Rattle.xet_shards.specs.ChunkQuery.{Run, run_length}
 use Rattle.xet_shards.specs.Lookup.{row_at}
-use Rattle.xet_shards.specs.RunReading.{Decide, RunPasses, RunIsCut, QueryAt, chunk_offset, chunks_at, chunks_left, FoundRun}
+use Rattle.xet_shards.specs.RunReading.{DetermineRun, RunExceeds, RunIsTruncated, QueryAt, chunk_offset, chunks_at, chunks_left, FoundRun}
 
 -- the source went to a row of a section
-pub record MovesToRow (offset row : ℕ) (old new : Source) : Type 0 where
+pub record SeeksToRow (offset row : ℕ) (old new : Source) : Type 0 where
   pub within : row_at offset row < 2 ^ 64
   pub after : new ≡ moved old (row_at offset row)
 
 -- the source did not go to a row of a section: the row's offset passes 64 bits, or the device
 -- failed
-pub record NotMoved (offset row : ℕ) (old new : Source) (e : CoreError) : Type 0 where
+pub record NotSought (offset row : ℕ) (old new : Source) (e : CoreError) : Type 0 where
   pub bytes : new.bytes ≡ old.bytes
   pub seeks : new.seeks ≤ old.seeks + 1
   pub no_fewer : old.seeks ≤ new.seeks
@@ -45,7 +45,7 @@ pub record RowNotRead (old new : Source) (e : CoreError) : Type 0 where
 pub record ReadsHeaderAt (offset row : ℕ) (old new : Source) (header : XorbChunkSequenceHeader)
     : Type 0 where
   pub fits : FitsXorbHeader header
-  pub taken : Takes (moved old (row_at offset row)) new (xorb_header_row header)
+  pub taken : ReadsBytes (moved old (row_at offset row)) new (xorb_header_row header)
 
 -- a row of a section was not read
 pub record RowFails (offset row : ℕ) (old new : Source) (e : CoreError) : Type 0 where
@@ -66,9 +66,9 @@ pub record ReadsRun (key : DataHash) (qs : List DataHash) (left : ℕ) (old new 
   pub fit : All FitsChunk chunks
   -- they are no more than are left of the xorb
   pub few : length chunks ≤ left
-  pub taken : Takes old new (flat_map chunk_row chunks)
+  pub taken : ReadsBytes old new (flat_map chunk_row chunks)
   -- they decide how long the run is
-  pub decide : Decide key qs left chunks
+  pub decide : DetermineRun key qs left chunks
   -- the number of chunks of the run
   pub count : run.0 ≡ run_length key qs chunks
   -- the number of bytes of these chunks
@@ -78,8 +78,8 @@ pub record ReadsRun (key : DataHash) (qs : List DataHash) (left : ℕ) (old new 
 abbrev pub RunFailure : DataHash → List DataHash → ℕ → List ℕ → Source → Source → CoreError → Type 0
 RunFailure key qs left bytes old new e =
     DeviceFailure old new e
-    ⊎ ((new.failures ≡ old.failures) × IsBareInvalidShard e × RunPasses key qs left bytes)
-    ⊎ ((new.failures ≡ old.failures) × IsEndOfInput e × RunIsCut key qs left bytes)
+    ⊎ ((new.failures ≡ old.failures) × IsBareInvalidShard e × RunExceeds key qs left bytes)
+    ⊎ ((new.failures ≡ old.failures) × IsEndOfInput e × RunIsTruncated key qs left bytes)
 
 -- a run was not read, without a seek and with no more bytes than those of the chunks that are left
 -- of the xorb; the position is unspecified
@@ -94,7 +94,7 @@ pub record ReadRunFails (key : DataHash) (qs : List DataHash) (left : ℕ) (old 
 pub record ReadsRunAt (q : QueryAt) (header : XorbChunkSequenceHeader) (old new : Source)
     (answer : Option Run) : Type 0 where
   pub found : FoundRun q header old.bytes answer
-  pub serves : Serves old new
+  pub no_failure : NoFailure old new
   pub seeks : new.seeks ≡ old.seeks + 1
   pub read : new.read ≤ old.read + 48 * chunks_left q header
 
@@ -120,7 +120,7 @@ pub record HasReadRun (key : DataHash) (qs : List DataHash) (left : ℕ) (start 
   pub many : length chunks ≡ length_now
   -- they are no more than are left of the xorb
   pub few : length_now ≤ left
-  pub taken : Takes start now (flat_map chunk_row chunks)
+  pub taken : ReadsBytes start now (flat_map chunk_row chunks)
   -- all of them have the hashes, one by one
   pub same : run_length key qs chunks ≡ length chunks
   -- the number of their bytes

@@ -1,11 +1,11 @@
 -- A walk through a section that reads past the rows after each header, and keeps something of each
 -- record: `keep` says what, of a record at an offset in the source.
 use Rattle.std.specs.Prelude.{◌≡◌, ℕ, ◌+◌, ◌*◌, List, [], map, Option, MatchOption}
-use Rattle.xet_base.specs.Source.{Source, Takes}
+use Rattle.xet_base.specs.Source.{Source, ReadsBytes}
 use Rattle.xet_records.specs.RecordKind.{RecordKind}
 use Rattle.xet_records.specs.Reading.{ReadsBookend, HasRead}
 use Rattle.xet_shards.specs.Section.{total_rows, with_fronts}
-use Rattle.xet_shards.specs.SectionReading.{TakesSection, ReadsNext}
+use Rattle.xet_shards.specs.SectionReading.{StreamsSection, ReadsNext}
 
 module _ {H R T : Type 0} (K : RecordKind H R) (keep : ℕ → R → T) where
   -- what is kept of records whose section is at an offset
@@ -15,16 +15,16 @@ module _ {H R T : Type 0} (K : RecordKind H R) (keep : ℕ → R → T) where
   -- the section was read through from the source's position on, and this was kept of its records
   abbrev pub KeepsSection : Source → Source → List T → Type 0
   KeepsSection old new found =
-      (records : List R) × TakesSection K old new records × (found ≡ kept_of old.at records)
+      (records : List R) × StreamsSection K old new records × (found ≡ kept_of old.at records)
 
   -- the records that were read past so far
   pub record HasKept (start now : Source) (found : List T) (left : ℕ) : Type 0 where
     pub records : List R
-    pub read : HasRead K (Takes start now) records left
+    pub read : HasRead K (ReadsBytes start now) records left
     pub kept : found ≡ kept_of start.at records
 
   -- the bookend was read, or the next record was read past
   abbrev pub KeepsNext : Source → Source → ℕ → ℕ → Option T → Type 0
   KeepsNext old new left after found =
-      MatchOption found (ReadsBookend K (Takes old new))
+      MatchOption found (ReadsBookend K (ReadsBytes old new))
       (λ value. (r : R) × (value ≡ keep old.at r) × ReadsNext K old new left after r)

@@ -14,6 +14,7 @@ use Rattle.xet_records.specs.contracts.xorb_structs.MDBXorbInfo as xorb
 use Rattle.xet_records.specs.FileRecord.{file_records, IsWellFormed, has_aux_ext}
 use Rattle.xet_records.specs.XorbRecord.{xorb_records, IsXorb}
 use Rattle.xet_shards.specs.Section.{total_rows}
+use Rattle.xet_records.specs.Limits.{MAX_ROWS}
 
 -- a finite map from file hashes to file records
 abbrev pub FileMap : Type 0
@@ -63,9 +64,9 @@ pub record AreXorbs (es : List (DataHash × MDBXorbInfo)) : Type 0 where
 -- maps whose keys are the hashes of their well-formed records, the rows of each of which fit `u32`
 pub record IsShard (s : Shard) : Type 0 where
   pub files : AreFiles (entries s.files)
-  pub file_rows : total_rows file_records (values s.files) ≤ 4294967295
+  pub file_rows : total_rows file_records (values s.files) ≤ MAX_ROWS
   pub xorbs : AreXorbs (entries s.xorbs)
-  pub xorb_rows : total_rows xorb_records (values s.xorbs) ≤ 4294967295
+  pub xorb_rows : total_rows xorb_records (values s.xorbs) ≤ MAX_ROWS
 
 -- the shard without files and xorbs
 abbrev pub empty_shard : Shard
@@ -82,13 +83,13 @@ add_xorb s r = record s { xorbs = insert s.xorbs (xorb_hash_of r) r }
 -- a file record that can be inserted: it is well-formed, and then the rows of all files fit `u32`
 pub record CanAddFile (s : Shard) (r : MDBFileInfo) : Type 0 where
   pub well_formed : IsWellFormed r
-  pub rows : total_rows file_records (values (add_file s r).files) ≤ 4294967295
+  pub rows : total_rows file_records (values (add_file s r).files) ≤ MAX_ROWS
 
 -- a xorb record that can be inserted: it may be put into a shard, and then the rows of all xorbs
 -- fit `u32`
 pub record CanAddXorb (s : Shard) (r : MDBXorbInfo) : Type 0 where
   pub well_formed : IsXorb r
-  pub rows : total_rows xorb_records (values (add_xorb s r).xorbs) ≤ 4294967295
+  pub rows : total_rows xorb_records (values (add_xorb s r).xorbs) ≤ MAX_ROWS
 
 -- a file of the shard has an auxiliary row, which version 2 does not have
 abbrev pub has_aux_rows : Shard → Bool

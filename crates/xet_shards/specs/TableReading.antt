@@ -2,9 +2,10 @@
 use Rattle.std.specs.Prelude.{◌≡◌, ◌⊎◌, ℕ, ◌+◌, ◌*◌, ◌^◌, ◌<◌, ◌≤◌, List, ◌++◌, length, flat_map, drop, All}
 use Rattle.xet_base.specs.declared.error.CoreError.{CoreError}
 use Rattle.xet_base.specs.Bytes.{u32_bytes, u64_bytes}
-use Rattle.xet_base.specs.Source.{Source, Takes, FailedBy, ReadCase}
+use Rattle.xet_base.specs.Source.{Source, ReadsBytes, FailedBy, ReadCase}
 use Rattle.xet_base.specs.Table.{IsBareInvalidShard}
 use Rattle.xet_shards.specs.Tables.{ChunkTableRow}
+use Rattle.xet_records.specs.Limits.{MAX_ROWS}
 
 -- the widths of the numbers of a row of the file table or the xorb table: a word and a row number
 pub record FitsStart (row : ℕ × ℕ) : Type 0 where
@@ -32,13 +33,13 @@ pub record ReadsNextRow {T : Type 0} (row_bytes : T → List ℕ) (Fits : T → 
     (old new : Source) (row : T) : Type 0 where
   pub widths : Fits row
   pub bytes : length (row_bytes row) ≡ size
-  pub taken : Takes old new (row_bytes row)
+  pub taken : ReadsBytes old new (row_bytes row)
 
 -- the rows of a table at an offset were read, by one seek and no byte past the table
 pub record ReadsTable {T : Type 0} (row_bytes : T → List ℕ) (Fits : T → Type 0) (size : ℕ)
     (old new : Source) (at count : ℕ) (found : List T) : Type 0 where
   -- their number fits `u32`
-  pub few : count ≤ 4294967295
+  pub few : count ≤ MAX_ROWS
   pub number : length found ≡ count
   pub widths : All Fits found
   -- the rows are in the bytes from the offset on
@@ -61,5 +62,5 @@ pub record TableFails (size : ℕ) (old new : Source) (at count : ℕ) (e : Core
   pub bytes : new.bytes ≡ old.bytes
   pub seeks : new.seeks ≤ old.seeks + 1
   pub read : new.read ≤ old.read + size * count
-  pub cause : (IsBareInvalidShard e × (4294967295 < count) × (new ≡ old))
-      ⊎ ((count ≤ 4294967295) × RowsFailure old new at (size * count) e)
+  pub cause : (IsBareInvalidShard e × (MAX_ROWS < count) × (new ≡ old))
+      ⊎ ((count ≤ MAX_ROWS) × RowsFailure old new at (size * count) e)

@@ -3,7 +3,7 @@
 -- stop.
 use Rattle.std.specs.Prelude.{◌≡◌, ◌⊎◌, ℕ, ◌+◌, ◌*◌, ◌<◌, ◌≤◌, List, [], map, drop, All, Option, MatchOption}
 use Rattle.xet_base.specs.declared.error.CoreError.{CoreError}
-use Rattle.xet_base.specs.Source.{Source, Takes, advanced, moved, bytes_left}
+use Rattle.xet_base.specs.Source.{Source, ReadsBytes, advanced, moved, bytes_left}
 use Rattle.xet_records.specs.declared.xorb_structs.MDBXorbInfo.{MDBXorbInfo}
 use Rattle.xet_records.specs.Reading.{ReadsBookend, HasRead}
 use Rattle.xet_records.specs.XorbRecord.{xorb_records}
@@ -11,6 +11,7 @@ use Rattle.xet_shards.specs.Section.{total_rows, with_fronts}
 use Rattle.xet_shards.specs.Tables.{chunk_table_rows}
 use Rattle.xet_shards.specs.TableReading.{triple_of}
 use Rattle.xet_shards.specs.SectionReading.{HoldsRecords, BeginsWithBookend, BeginsRefused, EndsEarly, SectionFailure, ReadsNext, rows_left}
+use Rattle.xet_records.specs.Limits.{MAX_ROWS}
 
 -- the rows that a chunk table would have for these xorbs, in section order
 abbrev pub hashes_of : List MDBXorbInfo → List (ℕ × (ℕ × ℕ))
@@ -40,15 +41,15 @@ pub record ReadsHashes (old new : Source) (at stop : ℕ) (found : List (ℕ × 
   pub hashes : found ≡ hashes_of xorbs
 
 -- xorbs, and then one that starts before the stop, as those before it do, and is too many
-abbrev pub PassesBefore : ℕ → ℕ → List ℕ → Type 0
-PassesBefore at stop bytes =
+abbrev pub ExceedsBefore : ℕ → ℕ → List ℕ → Type 0
+ExceedsBefore at stop bytes =
     (xorbs : List MDBXorbInfo) × (rest : List ℕ) × HoldsRecords xorb_records bytes xorbs rest
     × (at + 48 * total_rows xorb_records xorbs < stop)
     × BeginsRefused xorb_records (rows_left xorb_records xorbs) rest
 
 -- xorbs, and then too few bytes for what starts before the stop, as those before it do
-abbrev pub CutBefore : ℕ → ℕ → List ℕ → Type 0
-CutBefore at stop bytes =
+abbrev pub TruncatedBefore : ℕ → ℕ → List ℕ → Type 0
+TruncatedBefore at stop bytes =
     (xorbs : List MDBXorbInfo) × (rest : List ℕ) × HoldsRecords xorb_records bytes xorbs rest
     × (at + 48 * total_rows xorb_records xorbs < stop)
     × EndsEarly xorb_records (rows_left xorb_records xorbs) rest
@@ -57,14 +58,14 @@ CutBefore at stop bytes =
 pub record HashesFail (old new : Source) (at stop : ℕ) (e : CoreError) : Type 0 where
   pub bytes : new.bytes ≡ old.bytes
   pub seeks : new.seeks ≡ old.seeks + 1
-  pub cause : SectionFailure (PassesBefore at stop) (CutBefore at stop) (drop at old.bytes) old new
+  pub cause : SectionFailure (ExceedsBefore at stop) (TruncatedBefore at stop) (drop at old.bytes) old new
       e
 
 -- the hashes that were read so far
 pub record HasReadHashes (stop : ℕ) (start now : Source) (found : List (ℕ × (ℕ × ℕ))) (left : ℕ)
     : Type 0 where
   pub xorbs : List MDBXorbInfo
-  pub read : HasRead xorb_records (Takes start now) xorbs left
+  pub read : HasRead xorb_records (ReadsBytes start now) xorbs left
   pub before : StartBefore start.at stop xorbs
   pub hashes : found ≡ hashes_of xorbs
 
@@ -72,14 +73,14 @@ pub record HasReadHashes (stop : ℕ) (start now : Source) (found : List (ℕ ×
 pub record ReadsXorbBefore (stop : ℕ) (old new : Source) (left after : ℕ) (found : ℕ × MDBXorbInfo)
     : Type 0 where
   pub before : old.at < stop
-  pub start : found.0 + left ≡ 4294967295
+  pub start : found.0 + left ≡ MAX_ROWS
   pub next : ReadsNext xorb_records old new left after found.1
 
 -- the next xorb, which starts before the stop, was read, or the end of the walk reached
 abbrev pub ReadsBefore : ℕ → Source → Source → ℕ → ℕ → Option (ℕ × MDBXorbInfo) → Type 0
 ReadsBefore stop old new left after found =
     MatchOption found
-    (((old.at < stop) × ReadsBookend xorb_records (Takes old new))
+    (((old.at < stop) × ReadsBookend xorb_records (ReadsBytes old new))
     ⊎ ((stop ≤ old.at) × (new ≡ old)))
     (ReadsXorbBefore stop old new left after)
 

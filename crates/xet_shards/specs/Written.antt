@@ -11,7 +11,7 @@ use Rattle.xet_shards.specs.declared.shard_format.written.WrittenXorbs.{WrittenX
 use Rattle.xet_shards.specs.Shard.{file_hash_of}
 use Rattle.xet_shards.specs.Section.{total_rows}
 use Rattle.xet_shards.specs.Tables.{start_row, table_bytes, chunk_table_rows, chunk_table_bytes}
-use Rattle.xet_shards.specs.Layout.{Form, if_in, footer_value, shard_footer_bytes}
+use Rattle.xet_shards.specs.Layout.{LayoutOptions, if_included, footer_value, shard_footer_bytes}
 
 -- the second table is the first with the row of one more record, which has this word and so many
 -- rows
@@ -52,9 +52,9 @@ abbrev pub HasWrittenXorbs : WrittenXorbs → List MDBXorbInfo → Type 0
 HasWrittenXorbs w xorbs = HasWrittenFor true w xorbs
 
 -- the bytes of a layout after its sections: the tables that are in, and the footer
-abbrev pub end_of_layout : List MDBFileInfo → List MDBXorbInfo → Form → List ℕ
-end_of_layout files xorbs form =
-    ((if_in form.file_table (table_bytes file_records files)
-    ++ if_in form.xorb_table (table_bytes xorb_records xorbs))
-    ++ if_in form.chunk_table (chunk_table_bytes xorbs))
-    ++ shard_footer_bytes (footer_value files xorbs form)
+abbrev pub end_of_layout : List MDBFileInfo → List MDBXorbInfo → LayoutOptions → List ℕ
+end_of_layout files xorbs options =
+    ((if_included options.file_table (table_bytes file_records files)
+    ++ if_included options.xorb_table (table_bytes xorb_records xorbs))
+    ++ if_included options.chunk_table (chunk_table_bytes xorbs))
+    ++ shard_footer_bytes (footer_value files xorbs options)

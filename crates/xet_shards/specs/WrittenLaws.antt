@@ -1,4 +1,5 @@
--- What was collected for a chunk table serves also where none is written: a law that an export cites.
+-- What was collected for a chunk table serves also where none is written: a law that an export
+-- cites.
 use Rattle.std.specs.Prelude.{Bool, List, refl}
 use Rattle.xet_records.specs.declared.xorb_structs.MDBXorbInfo.{MDBXorbInfo}
 use Rattle.xet_shards.specs.declared.shard_format.written.WrittenXorbs.{WrittenXorbs}

@@ -9,7 +9,7 @@ use Rattle.xet_base.specs.Source.{Source, DeviceFailure}
 use Rattle.xet_records.specs.declared.xorb_structs.MDBXorbInfo.{MDBXorbInfo}
 use Rattle.xet_records.specs.declared.xorb_structs.XorbChunkSequenceEntry.{XorbChunkSequenceEntry}
 use Rattle.xet_records.specs.XorbRecord.{xorb_record_bytes}
-use Rattle.xet_shards.specs.ChunkLookup.{ChunkLocation, chunk_at}
+use Rattle.xet_shards.specs.ChunkLookup.{ChunkLocation, chunk_hash_at}
 use Rattle.xet_shards.specs.ChunkQuery.{Run, run_at, some_run_at}
 use Rattle.xet_shards.specs.WrittenChunks.{ChunkSearchCosts}
 
@@ -30,7 +30,7 @@ QueryFailsInXorb qs xorb index old new e =
 pub record HasChunkAt (xorbs : List MDBXorbInfo) (hash : DataHash) (p : ChunkLocation)
     : Type 0 where
   pub xorb : Contains xorbs p.0
-  pub chunk : chunk_at p ≡ Some hash
+  pub chunk : chunk_hash_at p ≡ Some hash
 
 -- all chunks of some xorbs
 abbrev pub all_chunks : List MDBXorbInfo → List XorbChunkSequenceEntry
@@ -41,8 +41,8 @@ abbrev pub is_other : DataHash → XorbChunkSequenceEntry → Bool
 is_other hash chunk = (chunk.chunk_hash.word0 == hash.word0) && not (hash_eq hash chunk.chunk_hash)
 
 -- the chunks of some xorbs that share the first word of a hash but have another hash
-abbrev pub others_sharing : DataHash → List MDBXorbInfo → List XorbChunkSequenceEntry
-others_sharing hash xorbs = filter (is_other hash) (all_chunks xorbs)
+abbrev pub others_with_first_word : DataHash → List MDBXorbInfo → List XorbChunkSequenceEntry
+others_with_first_word hash xorbs = filter (is_other hash) (all_chunks xorbs)
 
 -- a query by the chunk table: the run at a chunk with the first hash; none without hashes, if no
 -- chunk has the first, or if eight others share its first word
@@ -52,7 +52,7 @@ RunAmong key (q ∷ qs) xorbs (Some run) =
     (p : ChunkLocation) × HasChunkAt xorbs (under_key key q) p × (run ≡ run_at key p (q ∷ qs))
 RunAmong key (q ∷ qs) xorbs None =
     ((p : ChunkLocation) → ¬ HasChunkAt xorbs (under_key key q) p)
-    ⊎ (8 ≤ length (others_sharing (under_key key q) xorbs))
+    ⊎ (8 ≤ length (others_with_first_word (under_key key q) xorbs))
 
 -- what a query by the chunk table costs: the search, and then for each of at most eight xorbs two
 -- seeks and the bytes of the xorb

@@ -7,7 +7,7 @@ use Rattle.xet_base.specs.Source.{Source, DeviceFailure}
 use Rattle.xet_records.specs.declared.record_reader.FormatVersion.{FormatVersion}
 use Rattle.xet_records.specs.declared.record_reader.FormatVersion.TheVariants.{V2, V3}
 use Rattle.xet_shards.specs.declared.shard_format.info.MDBShardInfo.{MDBShardInfo}
-use Rattle.xet_shards.specs.Ends.{HasEnds}
+use Rattle.xet_shards.specs.Ends.{HasHeaderAndFooter}
 use Rattle.xet_shards.specs.Shard.{Shard, IsShard, has_aux_rows}
 use Rattle.xet_shards.specs.Layout.{layout, layout_in}
 
@@ -29,7 +29,7 @@ pub record IsBytesOf (s : Shard) (bytes : List ℕ) : Type 0 where
 -- the bytes are this shard's, and this is the header and the footer in them
 pub record IsBytesWithInfo (s : Shard) (bytes : List ℕ) (info : MDBShardInfo) : Type 0 where
   pub is_bytes : IsBytesOf s bytes
-  pub ends : HasEnds bytes info
+  pub ends : HasHeaderAndFooter bytes info
 
 -- the bytes are this shard's in version 3 and without expiry
 pub record IsBytesWithoutExpiry (s : Shard) (bytes : List ℕ) : Type 0 where

@@ -9,7 +9,7 @@ use Rattle.xet_base.specs.Hash.{hash_cmp, hash_eq}
 use Rattle.xet_records.specs.declared.xorb_structs.MDBXorbInfo.{MDBXorbInfo}
 use Rattle.xet_shards.specs.declared.shard_in_memory.xorb_store.XorbStore.TheInside.{Inside}
 use Rattle.xet_shards.specs.Shard.{AreXorbs}
-use Rattle.xet_shards.specs.ChunkLookup.{ChunkLocation, XorbsWithLookup, IsChunkLookup, chunk_at}
+use Rattle.xet_shards.specs.ChunkLookup.{ChunkLocation, XorbsWithLookup, IsChunkLookup, chunk_hash_at}
 
 -- the entries of xorbs without `Rc`
 abbrev pub shown_xorbs : {Z : Type 0} → List (DataHash × Rc MDBXorbInfo Z)
@@ -39,7 +39,7 @@ xorbs_inside t =
 
 -- the keys ascend, each is its record's hash, the records are well-formed, and the lookup is that
 -- of the xorbs
-pub record IsSound (t : Inside) : Type 0 where
+pub record IsSoundXorbStore (t : Inside) : Type 0 where
   pub sorted : T (is_sorted hash_cmp (shown_xorbs t.content.entries))
   pub xorbs : AreXorbs (shown_xorbs t.content.entries)
   pub lookup : IsChunkLookup (from_sorted (shown_xorbs t.content.entries)) (location_in t.lookup)
@@ -48,6 +48,6 @@ pub record IsSound (t : Inside) : Type 0 where
 pub record IsEntered (old new : DataHash → Option ChunkLocation) (r : MDBXorbInfo) (n : ℕ)
     : Type 0 where
   pub present : (q : DataHash) → (p : ChunkLocation) → new q ≡ Some p
-      → (old q ≡ Some p) ⊎ ((p.0 ≡ r) × (p.1 < n) × (chunk_at p ≡ Some q))
+      → (old q ≡ Some p) ⊎ ((p.0 ≡ r) × (p.1 < n) × (chunk_hash_at p ≡ Some q))
   pub kept : (q : DataHash) → IsSome (old q) → IsSome (new q)
-  pub complete : (q : DataHash) → (i : ℕ) → i < n → chunk_at (r, i) ≡ Some q → IsSome (new q)
+  pub complete : (q : DataHash) → (i : ℕ) → i < n → chunk_hash_at (r, i) ≡ Some q → IsSome (new q)

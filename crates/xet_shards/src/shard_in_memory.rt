@@ -10,10 +10,11 @@ ghost use Rattle.xet_shards.specs.Section.{total_rows};
 ghost use Rattle.xet_shards.specs.Shard.{IsShard, has_aux_rows, empty_shard, AreFiles, AreXorbs, add_file, add_xorb, CanAddFile, CanAddXorb};
 ghost use Rattle.xet_shards.specs.ChunkLookup.{IsChunkLookup};
 ghost use Rattle.xet_shards.specs.XorbStore.{shown_xorbs, location_in};
-ghost use Rattle.xet_shards.specs.SetOperations.{IsUnion, IsDifference, HasFewRows, CanUnite, ShardsAgree};
+ghost use Rattle.xet_shards.specs.SetOperations.{IsUnion, IsDifference, RowsFitU32, CanUnite, ShardsAgree};
 ghost use Rattle.xet_shards.specs.Joins.{IsJoinOf};
-ghost use Rattle.xet_shards.specs.ChunkQuery.{query_answer, IsUnknown};
+ghost use Rattle.xet_shards.specs.ChunkQuery.{query_answer, HasNoChunk};
 ghost use Rattle.xet_shards.specs.Layout.{layout};
+ghost use Rattle.xet_records.specs.Limits.{MAX_ROWS};
 
 mod chunk_query;
 mod file_store;
@@ -126,13 +127,13 @@ impl MDBInMemoryShard {
         Ok(())
     }
 
-    // Whether the rows of all files fit `u32` once this one is inserted. The file that it replaces is
-    // looked up only where that decides.
+    // Whether the rows of all files fit `u32` once this one is inserted. The file that it replaces
+    // is looked up only where that decides.
     fn has_room_for(&self, file_info: &MDBFileInfo) -> bool
         requires { IsWellFormed file_info.now }
         ensures { IsTrue result ↔ (total_rows file_records
             (finite.values (add_file self.now.content file_info.now).files)
-            ≤ 4294967295) }
+            ≤ MAX_ROWS) }
     {
         let most = u64::from(u32::MAX);
         let rows = self.file_rows + 1 + file_info.metadata.rows_after();
@@ -146,7 +147,7 @@ impl MDBInMemoryShard {
     pub fn xorb_content(&self) -> &BTreeMap<MerkleHash, Rc<MDBXorbInfo>>
         ensures entries { shown_xorbs result.now.entries ≡ finite.entries self.now.content.xorbs }
         ensures xorbs { AreXorbs (shown_xorbs result.now.entries) }
-        ensures rows { total_rows xorb_records (finite.values self.now.content.xorbs) ≤ 4294967295 }
+        ensures rows { total_rows xorb_records (finite.values self.now.content.xorbs) ≤ MAX_ROWS }
     {
         // The count is named so that the proof has its bound.
         let _rows = self.xorb_rows;
@@ -157,7 +158,7 @@ impl MDBInMemoryShard {
     pub fn file_content(&self) -> &BTreeMap<MerkleHash, MDBFileInfo>
         ensures entries { result.now.entries ≡ finite.entries self.now.content.files }
         ensures files { AreFiles result.now.entries }
-        ensures rows { total_rows file_records (finite.values self.now.content.files) ≤ 4294967295 }
+        ensures rows { total_rows file_records (finite.values self.now.content.files) ≤ MAX_ROWS }
     {
         // The count is named so that the proof has its bound.
         let _rows = self.file_rows;
@@ -239,7 +240,7 @@ impl MDBInMemoryShard {
 
     // The shard of these stores, whose rows fit `u32`.
     fn from_stores(files: FileStore, xorbs: XorbStore) -> MDBInMemoryShard
-        requires { HasFewRows (record { files = files; xorbs = xorbs.xorbs }) }
+        requires { RowsFitU32 (record { files = files; xorbs = xorbs.xorbs }) }
         ensures { result ≡ record {
           content = record { files = files; xorbs = xorbs.xorbs };
           locations = xorbs.locations;
@@ -302,7 +303,7 @@ impl MDBInMemoryShard {
         query_hashes: &[MerkleHash],
     ) -> Option<(usize, FileDataSequenceEntry)>
         ensures answer { result ≡ query_answer self.now.locations query_hashes.now }
-        ensures none { (result ≡ None) ↔ IsUnknown self.now.content.xorbs query_hashes.now }
+        ensures none { (result ≡ None) ↔ HasNoChunk self.now.content.xorbs query_hashes.now }
     {
         chunk_hash_dedup_query(&self.xorbs, query_hashes)
     }
@@ -365,8 +366,8 @@ impl MDBInMemoryShard {
 // This number of rows, which fits `u32`, or `InvalidArguments`.
 fn within_limit(rows: u64) -> Result<u64>
     ensures { MatchResult result
-        (λ n. (n ≡ rows) × (rows ≤ 4294967295))
-        (λ e. (e ≡ CoreError.InvalidArguments) × (4294967295 < rows)) }
+        (λ n. (n ≡ rows) × (rows ≤ MAX_ROWS))
+        (λ e. (e ≡ CoreError.InvalidArguments) × (MAX_ROWS < rows)) }
 {
     if rows > u64::from(u32::MAX) {
         return Err(CoreError::InvalidArguments);

@@ -1,7 +1,7 @@
-//! Writing shards in any form, for the crates that make shards from other shards: one record after
-//! another, and then the end of the shard; or all records of a shard that is read.
+//! Writing shards with any layout options, for the crates that make shards from other shards: one
+//! record after another, and then the end of the shard; or all records of a shard that is read.
 
-pub use crate::shard_format::form::Form;
+pub use crate::shard_format::options::LayoutOptions;
 pub use crate::shard_format::rewriting::write_again;
 pub use crate::shard_format::writer::write_end;
 pub use crate::shard_format::written::{RecordTable, WrittenFiles, WrittenSection, WrittenXorbs};

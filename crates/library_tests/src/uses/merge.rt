@@ -3,7 +3,7 @@
 ghost use Rattle.std.specs.Prelude.{◌≡◌, ◌⊎◌, ◌≤◌, List, length, map, MatchResult};
 ghost use Rattle.std.specs.FinMap as finite;
 ghost use Rattle.xet_core_structures.specs.FileRecord.{file_records};
-ghost use Rattle.xet_core_structures.specs.Lookup.{FoundInShard, sharing};
+ghost use Rattle.xet_core_structures.specs.Lookup.{FoundInShard, with_first_word};
 ghost use Rattle.xet_core_structures.specs.MergeTrees.{IsMerge, MergeRefused};
 ghost use Rattle.xet_core_structures.specs.Shard.{Shard};
 ghost use Rattle.xet_core_structures.specs.WrittenShard.{IsBytesWithoutExpiry};
@@ -30,7 +30,7 @@ pub fn merge_and_find(
         → MatchResult result
         (λ made. IsBytesWithoutExpiry join made.0.items × FoundInShard join hash.now made.1)
         (λ e. MergeRefused join e ⊎ ((e ≡ CoreError.TruncatedHashCollision hash.now.word0)
-        × (8 ≤ length (sharing file_records hash.now.word0 (finite.values join.files))))) }
+        × (8 ≤ length (with_first_word file_records hash.now.word0 (finite.values join.files))))) }
 {
     let merged = shard_union_tree(alloc, plan, inputs)?;
     let found = open_and_find(alloc, &mut MemorySource::new(merged.as_slice()), hash)?;

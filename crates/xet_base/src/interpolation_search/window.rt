@@ -1,7 +1,7 @@
 //! The rows that a search has still to look at, and which of them it probes next.
 
 ghost use Rattle.std.specs.Prelude.{◌≡◌, ◌+◌, ◌^◌, ◌<◌};
-ghost use Rattle.xet_base.specs.Probes.{guess_of, Around, AroundKey, AfterBelow, AfterAbove, IsWhole, Turns, KeepsEven};
+ghost use Rattle.xet_base.specs.Probes.{guess_of, Around, AroundKey, AfterBelow, AfterAbove, IsWhole, Narrows, KeepsEven};
 
 /// The rows after `low` and before `high`, counted from 1, with the keys at both ends. Row 0,
 /// before the table, has the key 0, and the row after the table the key `u64::MAX`. Row `probe` is
@@ -38,18 +38,18 @@ impl Window {
         requires around { AroundKey self key }
         requires above_low { self.low < self.probe }
         requires below_high { self.probe < self.high }
-        ensures turns { Turns self key found result }
+        ensures narrows { Narrows self key found result }
         ensures even { KeepsEven self key found result }
     {
-        self.turn(found, key)
+        self.narrow(found, key)
     }
 
     // The rows that are left, and the next probe: a guess, or a step from the probed row.
-    fn turn(self, found: u64, key: u64) -> Window
+    fn narrow(self, found: u64, key: u64) -> Window
         requires around { AroundKey self key }
         requires above_low { self.low < self.probe }
         requires below_high { self.probe < self.high }
-        ensures { Turns self key found result }
+        ensures { Narrows self key found result }
     {
         if key < found {
             let next = probe_below(self.low, self.low_key, self.probe, found, key);

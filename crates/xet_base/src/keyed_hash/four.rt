@@ -1,7 +1,7 @@
 //! Four keyed hashes at once: each word of a state is a vector, with one lane for each hash.
 
 ghost use Rattle.std.specs.Prelude.{◌≡◌, ℕ, ◌<◌, [], ◌∷◌, map, slice_index, slice_index_or};
-ghost use Rattle.xet_base.specs.KeyedHash.{mix_columns, mix_diagonals, permuted, state_after, start_of, message_of, keyed_bytes};
+ghost use Rattle.xet_base.specs.KeyedHash.{mix_columns, mix_diagonals, permuted, state_after, initial_state, message_of, keyed_bytes};
 ghost use Rattle.xet_base.specs.Lanes.{lane};
 
 use super::{Words, digest, mix, words_of};
@@ -26,7 +26,7 @@ pub(crate) fn keyed_bytes_four(key: &[u8; 32], messages: &[[u8; 32]; 4]) -> [[u8
 // The state that begins with a key, in each lane.
 #[inline(always)]
 fn starts_of(key: &[u8; 32]) -> Lanes
-    ensures { (j : ℕ) → j < 4 → lane j result ≡ start_of key.now }
+    ensures { (j : ℕ) → j < 4 → lane j result ≡ initial_state key.now }
 {
     let k = words_of(key);
     [

@@ -17,10 +17,10 @@ ghost use Rattle.xet_shards.specs.ChunkLookup.{ChunkLocation};
 ghost use Rattle.xet_shards.specs.ChunkQuery.{run_length};
 ghost use Rattle.xet_shards.specs.Joins.{IsJoinOf, AgreePairwise};
 ghost use Rattle.xet_shards.specs.ShardsWithoutAux.{shard_without_aux};
-ghost use Rattle.xet_shards.specs.KeyedExport.{keyed_chunk, exported, export_form, Exports, ExportsWith};
+ghost use Rattle.xet_shards.specs.KeyedExport.{keyed_chunk, exported, export_options, Exports, ExportsWith};
 ghost use Rattle.xet_shards.specs.KeyedShards.{keyed_shard};
-ghost use Rattle.xet_shards.specs.declared.shard_format.form.Form.{Form};
-ghost use Rattle.xet_shards.specs.Layout.{if_in, layout_of};
+ghost use Rattle.xet_shards.specs.declared.shard_format.options.LayoutOptions.{LayoutOptions};
+ghost use Rattle.xet_shards.specs.Layout.{if_included, layout_of};
 ghost use Rattle.xet_shards.specs.SetOperations.{IsUnion, ShardsAgree};
 ghost use Rattle.xet_shards.specs.Shard.{Shard, IsShard};
 ghost use Rattle.xet_shards.specs.WrittenQueries.{HasChunkAt, RunAmong};
@@ -33,10 +33,10 @@ ghost use Rattle.xet_core_structures.specs.MergeTrees.{leaves, TreeWrites, TreeR
 /// A shard with its chunk hashes under a key is a shard, and an export with files is its layout.
 pub fn keyed_shards_are_exported()
     ensures shards { (key : DataHash) → (s : Shard) → IsShard s → IsShard (keyed_shard key s) }
-    ensures bytes { (s : Shard) → (form : Form) → form.file_table ≡ true
-        → let keyed = keyed_shard form.key s in
-        exported (values s.files) (values s.xorbs) form
-        ≡ layout_of (values keyed.files) (values keyed.xorbs) form }
+    ensures bytes { (s : Shard) → (options : LayoutOptions) → options.file_table ≡ true
+        → let keyed = keyed_shard options.key s in
+        exported (values s.files) (values s.xorbs) options
+        ≡ layout_of (values keyed.files) (values keyed.xorbs) options }
 {}
 
 /// Chunk hashes can be put under a key before shards are merged or after: unions, joins and
@@ -71,27 +71,27 @@ pub fn joins_keep_runs()
 /// Nothing is written only if an allocation fails or what is joined, with these rows or without,
 /// has too many (`refusals`).
 pub fn exports_merge_to_the_export_of_the_join()
-    ensures exports { (aux : Bool) → (s : Shard) → (form : Form) → (old new : Source)
+    ensures exports { (aux : Bool) → (s : Shard) → (options : LayoutOptions) → (old new : Source)
         → (before after : Option (List ℕ)) → (size : ℕ) → IsBytesOf s (bytes_left old)
-        → ExportsWith aux form old new before after size
+        → ExportsWith aux options old new before after size
         → Appends before after
-        (exported (auxes_as_wanted aux (values s.files)) (values s.xorbs) form) }
+        (exported (auxes_as_wanted aux (values s.files)) (values s.xorbs) options) }
     ensures bytes { (aux : Bool) → (inputs : List (List ℕ)) → (plan : MergePlan)
         → (key : DataHash) → (shards : List Shard) → (join : Shard) → (out : List ℕ)
         → IsMergeOfExports aux key inputs plan shards join → TreeWrites inputs plan out
         → out ≡ exported (auxes_as_wanted aux (values join.files)) (values join.xorbs)
-        (export_form key 0 18446744073709551615 true true true) }
+        (export_options key 0 18446744073709551615 true true true) }
     ensures timestamps { (aux : Bool) → (s : Shard) → (key : DataHash)
         → (before after : List ℕ) × (length after ≡ 80)
         × ((now valid : ℕ)
         → exported (auxes_as_wanted aux (values s.files)) (values s.xorbs)
-        (export_form key now valid true true true)
+        (export_options key now valid true true true)
         ≡ before ++ u64_bytes now ++ u64_bytes (now + valid) ++ after) }
     ensures exchanged { (aux : Bool) → (inputs outs : List (List ℕ)) → (plan : MergePlan)
         → (key : DataHash) → (shards : List Shard) → (join : Shard) → (out bytes : List ℕ)
         → (now valid size : ℕ) → (old new : Source) → IsMergeOfWritten inputs plan shards join
         → TreeWrites inputs plan (bytes_left old)
-        → ExportsWith aux (export_form key now valid true true true) old new (Some [])
+        → ExportsWith aux (export_options key now valid true true true) old new (Some [])
         (Some bytes) size
         → All (IsExportedAt aux key inputs outs) (leaves plan) → TreeWrites outs plan out
         → (before after : List ℕ) × (length after ≡ 80)
@@ -105,9 +105,9 @@ pub fn exports_merge_to_the_export_of_the_join()
 
 /// The bytes that a tree writes for shards that agree have the runs of chunks of these shards, and
 /// no others. In those of their exports under a key a run is at least as long, and the shards under
-/// the key have such a join again. An export of the bytes, in any form, writes the layout of the
-/// join under the form's key, without files where they are not asked for (`exported`), and in that
-/// a run is at least as long as in the join (`exported_runs`).
+/// the key have such a join again. An export of the bytes, with any layout options, writes the
+/// layout of the join under the options' key, without files where they are not asked for
+/// (`exported`), and in that a run is at least as long as in the join (`exported_runs`).
 pub fn merges_keep_runs()
     ensures kept { (inputs : List (List ℕ)) → (plan : MergePlan) → (shards : List Shard)
         → (join s : Shard) → (out : List ℕ) → (q : DataHash) → (index : ℕ)
@@ -137,12 +137,12 @@ pub fn merges_keep_runs()
         × (run_under key (keyed_shard key join) q index hashes ≡ Some longer)
         × (run.0 ≤ longer.0)) }
     ensures exported { (inputs : List (List ℕ)) → (plan : MergePlan) → (shards : List Shard)
-        → (join : Shard) → (form : Form) → (old new : Source) → (before after : Option (List ℕ))
+        → (join : Shard) → (options : LayoutOptions) → (old new : Source) → (before after : Option (List ℕ))
         → (size : ℕ) → IsMerge inputs plan shards join → TreeWrites inputs plan (bytes_left old)
-        → Exports form old new before after size
-        → let keyed = keyed_shard form.key join in
+        → Exports options old new before after size
+        → let keyed = keyed_shard options.key join in
         Appends before after
-        (layout_of (if_in form.file_table (values keyed.files)) (values keyed.xorbs) form) }
+        (layout_of (if_included options.file_table (values keyed.files)) (values keyed.xorbs) options) }
     ensures exported_runs { (key : DataHash) → (join : Shard) → (q : DataHash) → (index : ℕ)
         → (hashes : List DataHash) → (run : ℕ × FileDataSequenceEntry)
         → run_under no_key join q index hashes ≡ Some run

@@ -9,7 +9,7 @@ ghost use Rattle.xet_base.specs.Source.{Source, bytes_left};
 ghost use Rattle.xet_records.specs.declared.file_structs.view.KeptParts.{KeptParts};
 ghost use Rattle.xet_records.specs.View.{as_kept};
 ghost use Rattle.xet_shards.specs.MinimalReading.{ReadsMinimal, ReadsEligible};
-ghost use Rattle.xet_shards.specs.MinimalShard.{MinimalShard, is_start, mark_starts, eligible_in, eligible_hashes, ascending_hashes, minimal_form, WritesMinimalKept, WritesKept};
+ghost use Rattle.xet_shards.specs.MinimalShard.{MinimalShard, is_start, mark_starts, eligible_in, eligible_hashes, ascending_hashes, minimal_options, WritesMinimalKept, WritesKept};
 
 use xet_records::xorb_structs::MDBXorbInfoView;
 
@@ -24,7 +24,7 @@ pub fn subsets_keep_eligible_chunks<F: Fn(&MDBXorbInfoView) -> bool>()
         → (with_files with_xorbs files_again : Bool)
         → ReadsMinimal Consumes with_files with_xorbs first rest m
         → (subset : WritesKept (FnReturnsAt F.Fn filter) (Some []) (Some bytes) [] m
-        (minimal_form now expiry) size)
+        (minimal_options now expiry) size)
         → ReadsMinimal Consumes files_again true (Some bytes) left n
         → eligible_hashes n.files n.xorbs
         ≡ ascending_hashes (flat_map (eligible_in (is_start m.files)) subset.kept) }
@@ -33,7 +33,7 @@ pub fn subsets_keep_eligible_chunks<F: Fn(&MDBXorbInfoView) -> bool>()
         → (hashes : List DataHash) → (with_files with_xorbs : Bool)
         → ReadsMinimal Consumes with_files with_xorbs first rest m
         → (subset : WritesKept (FnReturnsAt F.Fn filter) (Some []) (Some bytes) [] m
-        (minimal_form now expiry) size)
+        (minimal_options now expiry) size)
         → bytes_left old ≡ bytes → ReadsEligible old new hashes
         → hashes ≡ ascending_hashes (flat_map (eligible_in (is_start m.files)) subset.kept) }
 {}

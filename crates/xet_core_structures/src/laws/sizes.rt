@@ -4,7 +4,7 @@ ghost use Rattle.std.specs.Prelude.{ℕ, ◌+◌, ◌*◌, ◌≤◌, List, leng
 ghost use Rattle.xet_shards.specs.Shard.{Shard};
 ghost use Rattle.xet_core_structures.specs.declared.set_operations.MergePlan.{MergePlan};
 ghost use Rattle.xet_shards.specs.declared.shard_format.info.MDBShardInfo.{MDBShardInfo};
-ghost use Rattle.xet_shards.specs.Ends.{HasEnds};
+ghost use Rattle.xet_shards.specs.Ends.{HasHeaderAndFooter};
 ghost use Rattle.xet_shards.specs.SetOperations.{IsDifference};
 ghost use Rattle.xet_core_structures.specs.ByteResults.{keyed_layout, key_of, HaveResult, UnitesBytes};
 ghost use Rattle.xet_core_structures.specs.ByteUnion.{IsByteUnion};
@@ -24,8 +24,8 @@ pub fn results_are_bounded()
         → 3 * length out ≤ 3 * 344 + 8 * bytes_at inputs (leaves plan) }
     ensures union { (x y out : List ℕ) → UnitesBytes x y out
         → 3 * length out ≤ 3 * 344 + 8 * (length x + length y) }
-    ensures difference { (x y : List ℕ) → (i j : MDBShardInfo) → (c : Shard) → HasEnds x i
-        → HasEnds y j → HaveResult IsDifference x i y j c
+    ensures difference { (x y : List ℕ) → (i j : MDBShardInfo) → (c : Shard) → HasHeaderAndFooter x i
+        → HasHeaderAndFooter y j → HaveResult IsDifference x i y j c
         → 3 * length (keyed_layout c (key_of i)) ≤ 3 * 344 + 8 * length y }
     ensures repetition { (x out : List ℕ) → UnitesBytes x x out
         → 3 * length out ≤ 3 * 344 + 8 * length x }

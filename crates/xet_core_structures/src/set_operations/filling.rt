@@ -8,7 +8,7 @@ ghost use Rattle.xet_records.specs.declared.file_structs.rows.HashRow.{HashRow};
 ghost use Rattle.xet_records.specs.FileRow.{hash_row, FitsHashRow, clear};
 ghost use Rattle.xet_shards.specs.Layout.{layout_of};
 ghost use Rattle.xet_shards.specs.Section.{total_rows, section_bytes};
-ghost use Rattle.xet_core_structures.specs.ByteResults.{keyed_form, Records};
+ghost use Rattle.xet_core_structures.specs.ByteResults.{keyed_options, Records};
 ghost use Rattle.xet_core_structures.specs.Filling.{Puts, IsFrame};
 ghost use Rattle.xet_core_structures.specs.Parts.{MayBeWritten};
 ghost use Rattle.xet_core_structures.specs.Placed.{Places, PlacesAll};
@@ -19,13 +19,13 @@ use super::results::{write_header, write_tables};
 use std::alloc::Global;
 use std::io::{self, Sink};
 use xet_base::error::{CoreError, Result};
-use xet_base::row::{put, put_u64};
+use xet_base::fields::{put, put_u64};
 use xet_records::file_structs::{FileDataSequenceHeader, MDBFileInfo};
 use xet_records::record_reader::SectionRecord;
 use xet_records::row_copier::CopyResult;
 use xet_records::rows::{ROW_SIZE, Row};
 use xet_records::xorb_structs::{MDBXorbInfo, XorbChunkSequenceHeader};
-use xet_shards::shard_writer::{Form, WrittenFiles, WrittenXorbs};
+use xet_shards::shard_writer::{LayoutOptions, WrittenFiles, WrittenXorbs};
 
 /// What stands before the sections of a shard and after them, and the size of the whole.
 #[derive(Drop)]
@@ -61,12 +61,12 @@ fn collected_frame(alloc: Global, shard: &PlacedShard<'_>) -> CopyResult<Frame>
     let xorbs = write_placed::<WrittenXorbs, Sink>(alloc, shard.xorbs.as_slice(), &mut nowhere)?;
     // The header has the size of a row, and each section ends in a bookend.
     let rows = files.table.rows as usize + xorbs.table.rows as usize + 3;
-    let form = Form {
+    let options = LayoutOptions {
         key: shard.key,
-        ..Form::plain(None)
+        ..LayoutOptions::plain(None)
     };
     let mut tables = Vec::new(alloc);
-    write_tables(&mut tables, &files, xorbs, &form)?;
+    write_tables(&mut tables, &files, xorbs, &options)?;
     let size = ROW_SIZE * rows + tables.len();
     Ok(Frame {
         header,
@@ -81,7 +81,7 @@ pub fn put_shard(out: &mut [u8], shard: &PlacedShard<'_>, frame: &Frame)
         × IsFrame shard.now.key records frame.now × (frame.now.size ≤ length out.old) }
     ensures { (records : Records) → MayBeWritten shard.now records
         → IsFrame shard.now.key records frame.now
-        → out.new ≡ layout_of records.files records.xorbs (keyed_form shard.now.key)
+        → out.new ≡ layout_of records.files records.xorbs (keyed_options shard.now.key)
         ++ drop frame.now.size out.old }
 {
     let at = put_bytes(out, 0, frame.header.as_slice());

@@ -5,7 +5,7 @@ ghost use Rattle.xet_records.specs.FileRow.{hash_row, FitsHashRow, clear};
 ghost use Rattle.xet_records.specs.Part.{part_rows};
 ghost use Rattle.xet_records.specs.FileRecord.{file_records};
 ghost use Rattle.xet_shards.specs.Written.{HasWritten};
-ghost use Rattle.xet_core_structures.specs.SideBySide.{IsRecordHeader};
+ghost use Rattle.xet_core_structures.specs.MergeJoin.{IsRecordHeader};
 ghost use Rattle.xet_core_structures.specs.MixedFiles.{MixesFiles, MixesRows, CopiesEither};
 ghost use Rattle.xet_core_structures.specs.Streams.{streams};
 
@@ -18,8 +18,8 @@ use xet_records::file_copier::copy_segments;
 use xet_records::file_structs::{
     FileDataSequenceEntry, FileDataSequenceHeader, HashRow, MDBFileInfo, OptionalPart,
 };
-use xet_records::input_rows::skip_rows;
 use xet_records::row_copier::{CopyFailure, CopyResult, copy_rows, write_row};
+use xet_records::row_reader::skip_rows;
 use xet_records::rows::Row;
 use xet_shards::shard_writer::{WrittenFiles, WrittenSection};
 
@@ -102,7 +102,7 @@ fn copy_either<R: Row, S: ShardSource, T: ShardSource, W: Write>(
     count_2: u32,
     out: &mut W,
 ) -> CopyResult<()>
-    ensures { CopiesEither R.row_bytes R.Fits R.handed_out
+    ensures { CopiesEither R.row_bytes R.Fits R.as_read
         (streams (S.meaning r1.old) (T.meaning r2.old) (W.contents out.old))
         (streams (S.meaning r1.new) (T.meaning r2.new) (W.contents out.new)) count_1 count_2
         result }

@@ -5,10 +5,10 @@ ghost use Rattle.std.specs.Prelude.{◌≡◌, ◌⊎◌, ◌↔◌, ℕ, IsTrue
 ghost use Rattle.xet_base.specs.declared.error.CoreError.TheVariants.{OutOfMemory};
 ghost use Rattle.xet_base.specs.Errors.{IsInvalidShard};
 ghost use Rattle.xet_shards.specs.declared.shard_format.info.MDBShardInfo.{MDBShardInfo};
-ghost use Rattle.xet_shards.specs.Ends.{HasEnds};
+ghost use Rattle.xet_shards.specs.Ends.{HasHeaderAndFooter};
 ghost use Rattle.xet_shards.specs.Layout.{layout_of};
 ghost use Rattle.xet_core_structures.specs.ByteUnion.{IsEitherFile, IsEitherXorb};
-ghost use Rattle.xet_core_structures.specs.ByteResults.{keyed_form, key_of, Records, AreCombined, UnitesBytes, BytesRefusal, LoadRefusal};
+ghost use Rattle.xet_core_structures.specs.ByteResults.{keyed_options, key_of, Records, AreCombined, UnitesBytes, BytesRefusal, LoadRefusal};
 ghost use Rattle.xet_core_structures.specs.Filling.{Fills, FillsWith};
 ghost use Rattle.xet_core_structures.specs.MergeTrees.{TreeWrites, TreeRefusal};
 ghost use Rattle.xet_core_structures.specs.Parts.{PlacesRecords, MayBeUnited, MayBeWritten, PlacesShard, SectionsRefusal, HaveNoRecordUnion, IsPart, IsOpened};
@@ -104,7 +104,7 @@ fn unite_parts<'a>(
 // A part, and the header and the footer if it is an input.
 fn open<'a>(alloc: Global, part: Part<'a>) -> Result<Opened<'a>>
     ensures { (bytes : List ℕ) → IsPart bytes part.entry → MatchResult result
-        (λ opened. (info : MDBShardInfo) × HasEnds bytes info × IsOpened bytes info opened)
+        (λ opened. (info : MDBShardInfo) × HasHeaderAndFooter bytes info × IsOpened bytes info opened)
         (LoadRefusal bytes) }
 {
     match part {
@@ -222,7 +222,7 @@ fn shard_bytes(alloc: Global, shard: &PlacedShard<'_>) -> Result<Vec<u8>>
     requires { (records : Records) × MayBeWritten shard.now records }
     ensures { (records : Records) → MayBeWritten shard.now records → MatchResult result
         (λ written. written.items
-        ≡ layout_of records.files records.xorbs (keyed_form shard.now.key))
+        ≡ layout_of records.files records.xorbs (keyed_options shard.now.key))
         (λ e. e ≡ OutOfMemory) }
 {
     let frame = frame_of(alloc, shard)?;
@@ -257,7 +257,7 @@ fn fill_with(out: &mut [u8], bytes: &[u8]) -> usize
 fn fill_with_shard(alloc: Global, shard: &PlacedShard<'_>, out: &mut [u8]) -> Result<usize>
     requires { (records : Records) × MayBeWritten shard.now records }
     ensures { (records : Records) → MayBeWritten shard.now records → FillsWith
-        (λ made. made ≡ layout_of records.files records.xorbs (keyed_form shard.now.key))
+        (λ made. made ≡ layout_of records.files records.xorbs (keyed_options shard.now.key))
         (λ e. e ≡ OutOfMemory) out.old out.new result }
 {
     let frame = frame_of(alloc, shard)?;

@@ -8,10 +8,11 @@ ghost use Rattle.xet_base.specs.Errors.{IsInvalidShard};
 ghost use Rattle.xet_records.specs.FileRecord.{file_records, file_rows_bytes};
 ghost use Rattle.xet_records.specs.Merging.{mixed_header};
 ghost use Rattle.xet_shards.specs.Section.{total_rows, section_bytes};
-ghost use Rattle.xet_core_structures.specs.SideBySide.{TakesNoAscending};
-ghost use Rattle.xet_core_structures.specs.Combining.{Combines};
+ghost use Rattle.xet_core_structures.specs.MergeJoin.{AscendingNotStreamed};
+ghost use Rattle.xet_core_structures.specs.RecordPairs.{Combines};
 ghost use Rattle.xet_core_structures.specs.ByteUnion.{mixed, IsEitherFile, IsEitherXorb};
-ghost use Rattle.xet_core_structures.specs.Placed.{Places, PlacesAll, TakesPlaced, MakesPlaced, MakesNothing, IsTurn, HaveNoListUnion, MayUnite, CountsRows};
+ghost use Rattle.xet_core_structures.specs.Placed.{Places, PlacesAll, ReadsPlaced, MakesPlaced, MakesNothing, IsMergeStep, HaveNoListUnion, MayUnite, CountsRows};
+ghost use Rattle.xet_records.specs.Limits.{MAX_ROWS};
 
 use super::mix::mix_rows;
 use super::record_operation::OfUnion;
@@ -49,9 +50,9 @@ pub fn place_records<'a, R: SectionRecord, S: ShardSource>(
 ) -> Result<Vec<PlacedRecord<'a, R::Header>>>
     requires { (S.meaning source.old).bytes ≡ bytes.now }
     ensures { MatchResult result
-        (λ placed. TakesPlaced R.kind version (S.meaning source.old) (S.meaning source.new)
+        (λ placed. ReadsPlaced R.kind version (S.meaning source.old) (S.meaning source.new)
         placed.items)
-        (TakesNoAscending R.kind version (S.meaning source.old) (S.meaning source.new)) }
+        (AscendingNotStreamed R.kind version (S.meaning source.old) (S.meaning source.new)) }
 {
     R::laws();
     let mut placed = Vec::new(alloc);
@@ -205,14 +206,14 @@ impl PlacedUnion<MDBXorbInfo> for OfUnion {
 /// What comes next of the union of two lists: the end; a record, and the places in both lists from
 /// which on they are left; or nothing, since two records have no union.
 #[derive(Clone, Copy)]
-pub enum Turn<'a, H> {
+pub enum MergeStep<'a, H> {
     End,
     Keep(PlacedRecord<'a, H>, usize, usize),
     Nothing,
 }
 
-/// The union of two lists whose hashes strictly ascend. `InvalidShard` if two records have no union,
-/// or the rows pass 4294967295.
+/// The union of two lists whose hashes strictly ascend. `InvalidShard` if two records have no
+/// union, or the rows pass 4294967295.
 pub fn unite_placed<'a, R: SectionRecord, U: PlacedUnion<R>>(
     alloc: Global,
     arena: &'a Bump,
@@ -222,7 +223,7 @@ pub fn unite_placed<'a, R: SectionRecord, U: PlacedUnion<R>>(
     ensures { (xs ys : List R) → MayUnite R.kind first.now xs → MayUnite R.kind second.now ys
         → MatchResult result
         (λ placed. (zs : List R) × PlacesAll R.kind placed.items zs
-        × Combines R.kind U.makes xs ys zs × (total_rows R.kind zs ≤ 4294967295))
+        × Combines R.kind U.makes xs ys zs × (total_rows R.kind zs ≤ MAX_ROWS))
         (λ e. (e ≡ OutOfMemory) ⊎ (IsInvalidShard e × HaveNoListUnion R.kind U.makes xs ys)) }
 {
     R::laws();
@@ -232,14 +233,14 @@ pub fn unite_placed<'a, R: SectionRecord, U: PlacedUnion<R>>(
     let mut at_2 = 0;
     loop {
         match next_turn::<R, U>(alloc, arena, first, at_1, second, at_2)? {
-            Turn::End => return fitting::<R::Header>(alloc, made, count),
-            Turn::Keep(record, next_1, next_2) => {
+            MergeStep::End => return fitting::<R::Header>(alloc, made, count),
+            MergeStep::Keep(record, next_1, next_2) => {
                 count = add_rows(count, 1 + R::rows_after(&record.header));
                 made.push(record)?;
                 at_1 = next_1;
                 at_2 = next_2;
             }
-            Turn::Nothing => return Err(CoreError::InvalidShard(String::new(alloc))),
+            MergeStep::Nothing => return Err(CoreError::InvalidShard(String::new(alloc))),
         }
     }
 }
@@ -252,28 +253,28 @@ fn next_turn<'a, R: SectionRecord, U: PlacedUnion<R>>(
     at_1: usize,
     second: &[PlacedRecord<'a, R::Header>],
     at_2: usize,
-) -> Result<Turn<'a, R::Header>>
-    ensures { MatchResult result (IsTurn R.kind U.makes first.now at_1 second.now at_2)
+) -> Result<MergeStep<'a, R::Header>>
+    ensures { MatchResult result (IsMergeStep R.kind U.makes first.now at_1 second.now at_2)
         (λ e. e ≡ OutOfMemory) }
 {
     if at_1 >= first.len() {
         if at_2 >= second.len() {
-            return Ok(Turn::End);
+            return Ok(MergeStep::End);
         }
         let other = &second[at_2];
-        return Ok(Turn::Keep(copied(other), at_1, at_2 + 1));
+        return Ok(MergeStep::Keep(copied(other), at_1, at_2 + 1));
     }
     let one = &first[at_1];
     if at_2 >= second.len() {
-        return Ok(Turn::Keep(copied(one), at_1 + 1, at_2));
+        return Ok(MergeStep::Keep(copied(one), at_1 + 1, at_2));
     }
     let other = &second[at_2];
     match R::hash(&one.header).cmp(&R::hash(&other.header)) {
-        Ordering::Less => Ok(Turn::Keep(copied(one), at_1 + 1, at_2)),
-        Ordering::Greater => Ok(Turn::Keep(copied(other), at_1, at_2 + 1)),
+        Ordering::Less => Ok(MergeStep::Keep(copied(one), at_1 + 1, at_2)),
+        Ordering::Greater => Ok(MergeStep::Keep(copied(other), at_1, at_2 + 1)),
         Ordering::Equal => match U::make(alloc, arena, one, other)? {
-            Some(made) => Ok(Turn::Keep(made, at_1 + 1, at_2 + 1)),
-            None => Ok(Turn::Nothing),
+            Some(made) => Ok(MergeStep::Keep(made, at_1 + 1, at_2 + 1)),
+            None => Ok(MergeStep::Nothing),
         },
     }
 }
@@ -304,8 +305,8 @@ fn fitting<'a, H: Copy>(
     made: Vec<PlacedRecord<'a, H>>,
     rows: u64,
 ) -> Result<Vec<PlacedRecord<'a, H>>>
-    ensures { MatchResult result (λ found. (found ≡ made.entry) × (rows ≤ 4294967295))
-        (λ e. IsInvalidShard e × (4294967295 < rows)) }
+    ensures { MatchResult result (λ found. (found ≡ made.entry) × (rows ≤ MAX_ROWS))
+        (λ e. IsInvalidShard e × (MAX_ROWS < rows)) }
 {
     if rows > u64::from(u32::MAX) {
         return Err(CoreError::InvalidShard(String::new(alloc)));
@@ -320,7 +321,7 @@ pub fn write_placed<Sec: WrittenSection + Drop, W: Write>(
     out: &mut W,
 ) -> CopyResult<Sec>
     requires { (rs : List Sec.Record) × PlacesAll Sec.Record.kind placed.now rs
-        × (total_rows Sec.Record.kind rs ≤ 4294967295) }
+        × (total_rows Sec.Record.kind rs ≤ MAX_ROWS) }
     ensures { IfOk result (λ written. (rs : List Sec.Record)
         → PlacesAll Sec.Record.kind placed.now rs → Sec.has_written written rs
         × Appends (W.contents out.old) (W.contents out.new) (section_bytes Sec.Record.kind rs)) }

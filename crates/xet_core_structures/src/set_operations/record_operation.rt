@@ -5,8 +5,8 @@ ghost use Rattle.xet_records.specs.FileRecord.{file_records};
 ghost use Rattle.xet_records.specs.XorbRecord.{xorb_records};
 ghost use Rattle.xet_shards.specs.Written.{HasWritten, HasWrittenXorbs};
 ghost use Rattle.xet_core_structures.specs.ByteUnion.{IsEitherFile, IsEitherXorb};
-ghost use Rattle.xet_core_structures.specs.Combining.{IsRest, AreOfOneHash};
-ghost use Rattle.xet_core_structures.specs.SideBySide.{IsRecordHeader, PairFails, KeepsRecord, PassesBoth, ReadsPast, ReadsNotPast, MakesRecord};
+ghost use Rattle.xet_core_structures.specs.RecordPairs.{IsRest, AreOfOneHash};
+ghost use Rattle.xet_core_structures.specs.MergeJoin.{IsRecordHeader, PairFails, KeepsRecord, SkipsBoth, SkipsRecord, SkipFails, MakesRecord};
 ghost use Rattle.xet_core_structures.specs.Streams.{sources, streams};
 
 use super::mix::mix;
@@ -150,7 +150,7 @@ impl<Sec: WrittenSection> RecordOperation<Sec> for OfDifference {
     {
         Sec::Record::laws();
         match (first, second) {
-            (Some(_), _) => pass_both::<Sec::Record, S, T>(first, r1, second, r2),
+            (Some(_), _) => skip_both::<Sec::Record, S, T>(first, r1, second, r2),
             (None, Some(kept)) => keep(alloc, kept, r2, None, r1, written, out),
             (None, None) => Ok(()),
         }
@@ -229,19 +229,19 @@ pub fn refuse<R: SectionRecord, S: ShardSource, T: ShardSource>(
         (PairFails R.kind first second (sources (S.meaning r1.old) (T.meaning r2.old))
         (sources (S.meaning r1.new) (T.meaning r2.new)) (λ one other. ⊤)) }
 {
-    pass_both::<R, S, T>(first, r1, second, r2)?;
+    skip_both::<R, S, T>(first, r1, second, r2)?;
     Err(CopyFailure::Input(CoreError::InvalidShard(String::new(alloc))))
 }
 
 // Reads past the records of both headers.
-fn pass_both<R: SectionRecord, S: ShardSource, T: ShardSource>(
+fn skip_both<R: SectionRecord, S: ShardSource, T: ShardSource>(
     first: Option<R::Header>,
     r1: &mut S,
     second: Option<R::Header>,
     r2: &mut T,
 ) -> CopyResult<()>
     ensures { MatchResult result
-        (λ _. PassesBoth R.kind first second (sources (S.meaning r1.old) (T.meaning r2.old))
+        (λ _. SkipsBoth R.kind first second (sources (S.meaning r1.old) (T.meaning r2.old))
         (sources (S.meaning r1.new) (T.meaning r2.new)))
         (PairFails R.kind first second (sources (S.meaning r1.old) (T.meaning r2.old))
         (sources (S.meaning r1.new) (T.meaning r2.new)) (λ one other. ⊥)) }
@@ -254,8 +254,8 @@ fn pass_both<R: SectionRecord, S: ShardSource, T: ShardSource>(
 // Reads past the record of a header, if there is one.
 fn pass<R: SectionRecord, S: ShardSource>(header: Option<R::Header>, source: &mut S) -> Result<()>
     ensures { MatchResult result
-        (λ _. ReadsPast R.kind header (S.meaning source.old) (S.meaning source.new))
-        (ReadsNotPast R.kind header (S.meaning source.old) (S.meaning source.new)) }
+        (λ _. SkipsRecord R.kind header (S.meaning source.old) (S.meaning source.new))
+        (SkipFails R.kind header (S.meaning source.old) (S.meaning source.new)) }
 {
     match header {
         Some(header) => {

@@ -16,7 +16,7 @@ ghost use Rattle.xet_shards.specs.Shard.{Shard};
 ghost use Rattle.xet_core_structures.specs.ByteUnion.{IsByteUnion};
 ghost use Rattle.xet_core_structures.specs.ByteResults.{key_of, WritesEnd, IsOutput, UnionRefusal, DifferenceRefusal};
 ghost use Rattle.xet_core_structures.specs.SetOutcomes.{OperatesOn, OperationLaws};
-ghost use Rattle.xet_core_structures.specs.SideBySide.{CombinesSections};
+ghost use Rattle.xet_core_structures.specs.MergeJoin.{CombinesSections};
 ghost use Rattle.xet_core_structures.specs.Streams.{streams};
 
 use super::record_operation::{OfDifference, OfUnion, RecordOperation};
@@ -28,7 +28,9 @@ use xet_base::source::ShardSource;
 use xet_records::record_reader::FormatVersion;
 use xet_records::row_copier::{CopyFailure, CopyResult};
 use xet_shards::shard_format::{MDBShardFileHeader, MDBShardInfo};
-use xet_shards::shard_writer::{Form, WrittenFiles, WrittenSection, WrittenXorbs, write_end};
+use xet_shards::shard_writer::{
+    LayoutOptions, WrittenFiles, WrittenSection, WrittenXorbs, write_end,
+};
 
 /// An operation on two shards: `OfUnion` or `OfDifference`.
 pub trait SetOperation {
@@ -110,11 +112,11 @@ pub fn operate<O: SetOperation, S: ShardSource, T: ShardSource, W: Write>(
     let xorbs = combine_at::<O::Xorbs, WrittenXorbs, S, T, W>(
         alloc, r1, xorbs_1, r2, xorbs_2, out,
     )?;
-    let form = Form {
+    let options = LayoutOptions {
         key,
-        ..Form::plain(None)
+        ..LayoutOptions::plain(None)
     };
-    write_tables(out, &files, xorbs, &form)
+    write_tables(out, &files, xorbs, &options)
 }
 
 // Where a section is in a source, and the version in which it is read.
@@ -196,22 +198,22 @@ pub fn write_header<W: Write>(out: &mut W) -> CopyResult<()>
     }
 }
 
-// Writes the lookup tables and the footer of a shard in a form, and returns its header and footer.
-// The failure is the output's.
+// Writes the lookup tables and the footer of a shard with layout options, and returns its header
+// and footer. The failure is the output's.
 pub fn write_tables<W: Write>(
     out: &mut W,
     files: &WrittenFiles,
     xorbs: WrittenXorbs,
-    form: &Form,
+    options: &LayoutOptions,
 ) -> CopyResult<MDBShardInfo>
     ensures written { IfOk result
-        (WritesEnd files.now xorbs form.now (W.contents out.old) (W.contents out.new)) }
+        (WritesEnd files.now xorbs options.now (W.contents out.old) (W.contents out.new)) }
     ensures widths { IfOk result (λ info. FitsFooter info.metadata) }
     ensures causes { IfErr result IsOutputFailure }
 {
-    match write_end(out, files, xorbs, form) {
+    match write_end(out, files, xorbs, options) {
         Ok(metadata) => Ok(MDBShardInfo {
-            header: MDBShardFileHeader::of_version(form.version),
+            header: MDBShardFileHeader::of_version(options.version),
             metadata,
         }),
         Err(error) => Err(CopyFailure::Output(error)),

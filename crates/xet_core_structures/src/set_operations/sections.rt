@@ -5,8 +5,8 @@ ghost use Rattle.std.specs.Prelude.{◌≤◌, ◌⊎◌, ◌↔◌, IsTrue, IfS
 ghost use Rattle.std.specs.Io.KnownBytes.{Appends};
 ghost use Rattle.xet_records.specs.RecordKind.{in_version};
 ghost use Rattle.xet_records.specs.Copying.{IsOutputFailure};
-ghost use Rattle.xet_core_structures.specs.Combining.{IsNextPair};
-ghost use Rattle.xet_core_structures.specs.SideBySide.{Follows, ReadsFollowing, FollowingFails, Advances, AdvanceFails, CombinesSections};
+ghost use Rattle.xet_core_structures.specs.RecordPairs.{IsNextPair};
+ghost use Rattle.xet_core_structures.specs.MergeJoin.{Follows, ReadsFollowing, FollowingFails, Advances, AdvanceFails, CombinesSections};
 ghost use Rattle.xet_core_structures.specs.Streams.{streams};
 
 use super::record_operation::RecordOperation;

@@ -16,8 +16,8 @@ use super::{MDB_DEFAULT_FILE_FLAG, MDB_FILE_FLAG_WITH_AUX_EXT, MDB_FILE_INFO_ENT
 use crate::rows::{Row, read_row, write_row};
 use std::io;
 use std::io::{Read, Write};
+use xet_base::fields::{put_hash, put_u32, put_u64, split_hash, split_u32, split_u64};
 use xet_base::merklehash::MerkleHash;
-use xet_base::row::{put_hash, put_u32, put_u64, split_hash, split_u32, split_u64};
 
 /// The first row of a file record: which file it is, which parts follow and how many segments.
 #[derive(Clone, Copy, Default, Debug, PartialEq, Eq)]
@@ -331,7 +331,7 @@ impl Row for FileDataSequenceHeader {
 
     ghost Fits = { FitsHeader };
 
-    ghost handed_out = { λ h. h };
+    ghost as_read = { λ h. h };
 
     ghost row_at = { header_at };
 

@@ -14,8 +14,8 @@ use crate::xorb_structs::{XorbChunkSequenceEntry, XorbChunkSequenceHeader};
 use std::io;
 use std::io::{Read, Write};
 use std::marker::Model;
+use xet_base::fields::{put_hash, put_u32, put_u64, split_hash, split_u32, split_u64};
 use xet_base::merklehash::{MerkleHash, Sha256};
-use xet_base::row::{put_hash, put_u32, put_u64, split_hash, split_u32, split_u64};
 
 /// A run of chunks of one xorb that a file consists of, in order.
 #[derive(Clone, Copy, Default, Debug, PartialEq, Eq)]
@@ -108,7 +108,7 @@ impl Row for FileDataSequenceEntry {
 
     ghost Fits = { FitsSegment };
 
-    ghost handed_out = { λ s. s };
+    ghost as_read = { λ s. s };
 
     ghost row_at = { segment_at };
 
@@ -158,7 +158,7 @@ impl Row for HashRow {
 
     ghost Fits = { FitsHashRow };
 
-    ghost handed_out = { clear };
+    ghost as_read = { clear };
 
     ghost row_at = { hash_row_at };
 
@@ -264,7 +264,7 @@ impl Row for FileVerificationEntry {
 
     ghost Fits = { FitsHashRow };
 
-    ghost handed_out = { clear };
+    ghost as_read = { clear };
 
     ghost row_at = { hash_row_at };
 
@@ -350,7 +350,7 @@ impl Row for FileMetadataExt {
 
     ghost Fits = { FitsHashRow };
 
-    ghost handed_out = { clear };
+    ghost as_read = { clear };
 
     ghost row_at = { hash_row_at };
 
@@ -437,7 +437,7 @@ impl Row for FileAuxExt {
 
     ghost Fits = { FitsHashRow };
 
-    ghost handed_out = { clear };
+    ghost as_read = { clear };
 
     ghost row_at = { hash_row_at };
 

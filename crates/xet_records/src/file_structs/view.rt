@@ -8,8 +8,9 @@ ghost use Rattle.std.specs.Io.KnownBytes.{Appends};
 ghost use Rattle.xet_base.specs.Errors.{IsWriteError, IsNoEnd};
 ghost use Rattle.xet_records.specs.FileRow.{header_row, hash_row, clear};
 ghost use Rattle.xet_records.specs.Part.{rows_of, rows_before};
-ghost use Rattle.xet_records.specs.FileRecord.{has_verification, has_metadata_ext, has_aux_ext, row_count, file_record_bytes, handed_out, file_records, rows_after, IsStored};
+ghost use Rattle.xet_records.specs.FileRecord.{has_verification, has_metadata_ext, has_aux_ext, row_count, file_record_bytes, as_read, file_records, rows_after, IsStored};
 ghost use Rattle.xet_records.specs.View.{BeginsWithHeaderRow, BeginsWithFile, NoView, without_verification, as_wanted, as_kept, keeps, LacksVerification, IsIoOther};
+ghost use Rattle.xet_records.specs.Limits.{MAX_ROWS};
 
 use super::{
     FileAuxExt, FileDataSequenceEntry, FileDataSequenceHeader, FileMetadataExt,
@@ -24,8 +25,8 @@ use std::io;
 use std::io::{ErrorKind, Write};
 use std::marker::Model;
 use xet_base::error::{CoreError, Result};
+use xet_base::fields::all_bytes;
 use xet_base::merklehash::MerkleHash;
-use xet_base::row::all_bytes;
 use xet_base::serialization_utils::write_bytes;
 
 /// Which of a record's verification rows and auxiliary row are written; all else always is.
@@ -79,7 +80,7 @@ impl MDBFileInfoView {
     pub fn new(alloc: Global, bytes: Bytes) -> Result<Self>
         ensures shows { MatchResult result (BeginsWithFile bytes) (NoView file_records bytes) }
         ensures again { (r : MDBFileInfo) → (rest : List ℕ) → IsStored r
-            → rows_after r.metadata ≤ 4294967295 → bytes ≡ file_record_bytes r ++ rest
+            → rows_after r.metadata ≤ MAX_ROWS → bytes ≡ file_record_bytes r ++ rest
             → IsOkAnd result (λ view. view ≡ r) }
     {
         MDBFileInfoView::of_front(alloc, bytes)
@@ -286,9 +287,9 @@ impl MDBFileInfoView {
         self.serialize_kept(writer, kept)
     }
 
-    /// Appends these parts of the record and returns their size in bytes. Verification rows are kept
-    /// or left out as by `serialize`, with the same errors; without its auxiliary row, a record that
-    /// has one is written under a header with bit 29 cleared and all else as it is.
+    /// Appends these parts of the record and returns their size in bytes. Verification rows are
+    /// kept or left out as by `serialize`, with the same errors; without its auxiliary row, a
+    /// record that has one is written under a header with bit 29 cleared and all else as it is.
     pub fn serialize_kept<W: Write>(&self, writer: &mut W, kept: KeptParts) -> Result<usize>
         ensures bytes { OnOk result
             (Appends (W.contents writer.old) (W.contents writer.new)
@@ -396,7 +397,7 @@ impl MDBFileInfoView {
     /// The record, with zero reserved words in the rows of its optional parts. `OutOfMemory` is the
     /// only error.
     pub fn to_info(&self, alloc: Global) -> Result<MDBFileInfo>
-        ensures ok { IfOk result (λ info. info ≡ handed_out self.now) }
+        ensures ok { IfOk result (λ info. info ≡ as_read self.now) }
         ensures causes { IfErr result (λ e. e ≡ CoreError.OutOfMemory) }
     {
         let bytes = self.bytes.as_slice();

@@ -21,8 +21,8 @@ use std::alloc::Global;
 use std::io::Write;
 use std::marker::Model;
 use xet_base::error::{CoreError, Result};
+use xet_base::fields::all_bytes;
 use xet_base::merklehash::MerkleHash;
-use xet_base::row::all_bytes;
 use xet_base::serialization_utils::write_bytes;
 
 /// A xorb record as its bytes. Contracts see the record that the bytes are.
@@ -144,8 +144,8 @@ impl MDBXorbInfoView {
         Ok(self.byte_size())
     }
 
-    /// Appends the chunks from one index up to another, without the header, as they are. The error is
-    /// the writer's.
+    /// Appends the chunks from one index up to another, without the header, as they are. The error
+    /// is the writer's.
     pub fn serialize_chunks<W: Write>(&self, writer: &mut W, from: usize, to: usize) -> Result<()>
         requires { from ≤ to × to ≤ length self.now.chunks }
         ensures bytes { OnOk result
@@ -159,8 +159,8 @@ impl MDBXorbInfoView {
     }
 
     /// Appends the record with the chunk at each index replaced by what `rewrite` returns for the
-    /// index and the chunk, and returns its size in bytes. `rewrite` is called with these alone. The
-    /// error is the writer's.
+    /// index and the chunk, and returns its size in bytes. `rewrite` is called with these alone.
+    /// The error is the writer's.
     #[tactic(auto, unfolding(crate::specs::XorbRecord::xorb_record_bytes))]
     pub fn serialize_with_chunk_rewrite<
         W: Write,

@@ -4,14 +4,14 @@ ghost use Rattle.std.specs.Prelude.{◌≡◌, ◌≢◌, ◌⊎◌, true, ℕ, 
 ghost use Rattle.std.specs.FinMap as finite;
 ghost use Rattle.xet_base.specs.KeyedHash.{no_key};
 ghost use Rattle.xet_base.specs.Source.{DeviceFailure};
-ghost use Rattle.xet_base.specs.Table.{Serves};
+ghost use Rattle.xet_base.specs.Table.{NoFailure};
 ghost use Rattle.xet_records.specs.declared.file_structs.MDBFileInfo.{MDBFileInfo as File};
 ghost use Rattle.xet_records.specs.declared.xorb_structs.MDBXorbInfo.{MDBXorbInfo as Xorb};
 ghost use Rattle.xet_records.specs.XorbRecord.{xorb_records, IsXorb};
 ghost use Rattle.xet_shards.specs.Shard.{Shard};
 ghost use Rattle.xet_shards.specs.Section.{total_rows, StartsAt};
-ghost use Rattle.xet_shards.specs.Layout.{Form};
-ghost use Rattle.xet_shards.specs.InForm.{IsInForm};
+ghost use Rattle.xet_shards.specs.Layout.{LayoutOptions};
+ghost use Rattle.xet_shards.specs.WithOptions.{IsBytesWithOptions};
 ghost use Rattle.xet_shards.specs.Lookup.{Visit};
 ghost use Rattle.xet_shards.specs.WrittenQueries.{RunInXorb, QueryFailsInXorb, RunAmong, QueryCosts};
 ghost use Rattle.xet_shards.specs.RunReading.{query_at, AnswerAt, RefusedAt, OutcomeAt, OutcomeOfTries, QueryOutcome};
@@ -52,11 +52,11 @@ impl MDBShardInfo {
             (RefusedAt (λ e. e ≡ CoreError.InvalidArguments)
             (query_at self.now.metadata unkeyed_query_hashes.now (xorb_row, chunk_index))
             (S.meaning source.old) (S.meaning source.new)) }
-        ensures serves { OnOk result (Serves (S.meaning source.old) (S.meaning source.new)) }
-        ensures in_form { (files : List File) → (xorbs : List Xorb) → (form : Form) → (xorb : Xorb)
-            → IsInForm files xorbs form (S.meaning source.old).bytes self.now.metadata
+        ensures no_failure { OnOk result (NoFailure (S.meaning source.old) (S.meaning source.new)) }
+        ensures with_options { (files : List File) → (xorbs : List Xorb) → (options : LayoutOptions) → (xorb : Xorb)
+            → IsBytesWithOptions files xorbs options (S.meaning source.old).bytes self.now.metadata
             → StartsAt xorb_records xorbs xorb_row xorb → IsXorb xorb
-            → MatchResult result (RunInXorb form.key unkeyed_query_hashes.now xorb chunk_index)
+            → MatchResult result (RunInXorb options.key unkeyed_query_hashes.now xorb chunk_index)
             (QueryFailsInXorb unkeyed_query_hashes.now xorb chunk_index (S.meaning source.old)
             (S.meaning source.new)) }
         ensures written { (s : Shard) → (xorb : Xorb)
@@ -65,8 +65,8 @@ impl MDBShardInfo {
             → MatchResult result (RunInXorb no_key unkeyed_query_hashes.now xorb chunk_index)
             (QueryFailsInXorb unkeyed_query_hashes.now xorb chunk_index (S.meaning source.old)
             (S.meaning source.new)) }
-        ensures bookend { (files : List File) → (xorbs : List Xorb) → (form : Form)
-            → IsInForm files xorbs form (S.meaning source.old).bytes self.now.metadata
+        ensures bookend { (files : List File) → (xorbs : List Xorb) → (options : LayoutOptions)
+            → IsBytesWithOptions files xorbs options (S.meaning source.old).bytes self.now.metadata
             → xorb_row ≡ total_rows xorb_records xorbs
             → MatchResult result (λ answer. (unkeyed_query_hashes.now ≡ []) × (answer ≡ None))
             (λ e. (unkeyed_query_hashes.now ≢ [])
@@ -93,10 +93,10 @@ impl MDBShardInfo {
     /// they are compared under it. `None` if no hash is given, there is no chunk table, or none of
     /// the locations has the hash. Does not allocate.
     ///
-    /// `InvalidShard` if the table's end or a row's offset does not fit `u64`, there is a bookend at
-    /// the row of a location, the xorb there has no chunk at the location's index, or the bytes of
-    /// the run do not fit `u32`; `UnexpectedEof` if the source ends before the end of a row that has
-    /// to be read. Any other error is the source's.
+    /// `InvalidShard` if the table's end or a row's offset does not fit `u64`, there is a bookend
+    /// at the row of a location, the xorb there has no chunk at the location's index, or the bytes
+    /// of the run do not fit `u32`; `UnexpectedEof` if the source ends before the end of a row that
+    /// has to be read. Any other error is the source's.
     pub fn chunk_hash_dedup_query<S: ShardSource>(
         &self,
         alloc: Global,
@@ -108,21 +108,21 @@ impl MDBShardInfo {
         ensures nothing { (unkeyed_query_hashes.now ≡ [])
             ⊎ (self.now.metadata.chunk_lookup_num_entry ≡ 0)
             → (result ≡ Ok None) × (S.meaning source.new ≡ S.meaning source.old) }
-        ensures serves { OnOk result (Serves (S.meaning source.old) (S.meaning source.new)) }
+        ensures no_failure { OnOk result (NoFailure (S.meaning source.old) (S.meaning source.new)) }
         ensures kept { (S.meaning source.new).bytes ≡ (S.meaning source.old).bytes }
-        ensures in_form { (files : List File) → (xorbs : List Xorb) → (form : Form)
-            → IsInForm files xorbs form (S.meaning source.old).bytes self.now.metadata
-            → form.chunk_table ≡ true → All IsXorb xorbs
-            → MatchResult result (RunAmong form.key unkeyed_query_hashes.now xorbs)
+        ensures with_options { (files : List File) → (xorbs : List Xorb) → (options : LayoutOptions)
+            → IsBytesWithOptions files xorbs options (S.meaning source.old).bytes self.now.metadata
+            → options.chunk_table ≡ true → All IsXorb xorbs
+            → MatchResult result (RunAmong options.key unkeyed_query_hashes.now xorbs)
             (DeviceFailure (S.meaning source.old) (S.meaning source.new)) }
         ensures written { (s : Shard)
             → IsBytesWithInfo s (S.meaning source.old).bytes self.now
             → MatchResult result (RunAmong no_key unkeyed_query_hashes.now (finite.values s.xorbs))
             (DeviceFailure (S.meaning source.old) (S.meaning source.new)) }
-        ensures in_form_costs { (files : List File) → (xorbs : List Xorb) → (form : Form)
-            → IsInForm files xorbs form (S.meaning source.old).bytes self.now.metadata
-            → form.chunk_table ≡ true
-            → QueryCosts form.key unkeyed_query_hashes.now xorbs (S.meaning source.old)
+        ensures in_form_costs { (files : List File) → (xorbs : List Xorb) → (options : LayoutOptions)
+            → IsBytesWithOptions files xorbs options (S.meaning source.old).bytes self.now.metadata
+            → options.chunk_table ≡ true
+            → QueryCosts options.key unkeyed_query_hashes.now xorbs (S.meaning source.old)
             (S.meaning source.new) }
         ensures costs { (s : Shard)
             → IsBytesWithInfo s (S.meaning source.old).bytes self.now
@@ -142,7 +142,7 @@ fn query_by_table<S: ShardSource>(
 ) -> Result<Option<(usize, FileDataSequenceEntry)>>
     ensures read { QueryOutcome info.now.metadata query_hashes.now (S.meaning source.old)
         (S.meaning source.new) result }
-    ensures serves { OnOk result (Serves (S.meaning source.old) (S.meaning source.new)) }
+    ensures no_failure { OnOk result (NoFailure (S.meaning source.old) (S.meaning source.new)) }
     ensures kept { (S.meaning source.new).bytes ≡ (S.meaning source.old).bytes }
 {
     let Some(first) = query_hashes.first() else {

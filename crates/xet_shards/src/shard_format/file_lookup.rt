@@ -2,15 +2,15 @@
 
 ghost use Rattle.std.specs.Prelude.{◌≡◌, ℕ, List, Option, MatchResult, OnOk, IfOk, IfErr, IfSome};
 ghost use Rattle.std.specs.FinMap as finite;
-ghost use Rattle.xet_base.specs.Table.{Serves};
+ghost use Rattle.xet_base.specs.Table.{NoFailure};
 ghost use Rattle.xet_records.specs.declared.file_structs.MDBFileInfo.{MDBFileInfo};
 ghost use Rattle.xet_records.specs.declared.xorb_structs.MDBXorbInfo.{MDBXorbInfo};
 ghost use Rattle.xet_records.specs.FileRecord.{file_records, FitsItsHeader};
 ghost use Rattle.xet_shards.specs.SectionReading.{files_of};
 ghost use Rattle.xet_shards.specs.Shard.{Shard};
-ghost use Rattle.xet_shards.specs.Layout.{Form};
-ghost use Rattle.xet_shards.specs.InForm.{HasFileTable};
-ghost use Rattle.xet_shards.specs.Lookup.{FindsStarts, FindsFileAmong, FindsInShard, file_table, LooksUpIndex, LooksUpFile, ReadsInfo, ReadInfoFails, VisitsSome, Finding, FindingFails, LookupAnswer, LookupRefused};
+ghost use Rattle.xet_shards.specs.Layout.{LayoutOptions};
+ghost use Rattle.xet_shards.specs.WithOptions.{IsBytesWithFileTable};
+ghost use Rattle.xet_shards.specs.Lookup.{FindsStarts, FindsFileAmong, FindsInShard, file_table, LooksUpIndex, LooksUpFile, ReadsInfo, ReadInfoFails, VisitsSome, FindsRecord, FindRecordFails, LookupAnswer, LookupRefused};
 ghost use Rattle.xet_shards.specs.WrittenShard.{IsBytesWithInfo};
 
 use super::info::MDBShardInfo;
@@ -40,8 +40,8 @@ impl MDBShardInfo {
     ) -> Result<usize>
         ensures looks { LooksUpIndex (file_table self.now.metadata (S.meaning source.old))
             hash.now.word0 dest.old dest.new (S.meaning source.old) (S.meaning source.new) result }
-        ensures in_form { (files : List MDBFileInfo) → (xorbs : List MDBXorbInfo) → (form : Form)
-            → HasFileTable files xorbs form (S.meaning source.old).bytes self.now
+        ensures with_options { (files : List MDBFileInfo) → (xorbs : List MDBXorbInfo) → (options : LayoutOptions)
+            → IsBytesWithFileTable files xorbs options (S.meaning source.old).bytes self.now
             → FindsStarts file_records files hash.now.word0 dest.new (S.meaning source.old)
             (S.meaning source.new) result }
         ensures written { (s : Shard)
@@ -57,9 +57,9 @@ impl MDBShardInfo {
     /// Reads the record at a row of the file section.
     ///
     /// `InvalidShard` if the row's offset does not fit `u64`, the shard's version does not have the
-    /// record's header, or the rows after it do not fit `u32`; `InternalError` if there is a bookend
-    /// at the row, `UnexpectedEof` if the source ends before the record does, `OutOfMemory` if an
-    /// allocation fails. Any other error is the source's.
+    /// record's header, or the rows after it do not fit `u32`; `InternalError` if there is a
+    /// bookend at the row, `UnexpectedEof` if the source ends before the record does, `OutOfMemory`
+    /// if an allocation fails. Any other error is the source's.
     pub fn read_file_info<S: ShardSource>(
         &self,
         alloc: Global,
@@ -90,8 +90,8 @@ impl MDBShardInfo {
         ensures looks { LooksUpFile self.now hash.now (S.meaning source.old) (S.meaning source.new)
             result }
         ensures fits { IfOk result (λ found. IfSome found FitsItsHeader) }
-        ensures in_form { (files : List MDBFileInfo) → (xorbs : List MDBXorbInfo) → (form : Form)
-            → HasFileTable files xorbs form (S.meaning source.old).bytes self.now
+        ensures with_options { (files : List MDBFileInfo) → (xorbs : List MDBXorbInfo) → (options : LayoutOptions)
+            → IsBytesWithFileTable files xorbs options (S.meaning source.old).bytes self.now
             → FindsFileAmong files hash.now (S.meaning source.old) (S.meaning source.new) result }
         ensures written { (s : Shard)
             → IsBytesWithInfo s (S.meaning source.old).bytes self.now
@@ -109,11 +109,11 @@ fn look_up<S: ShardSource>(
     hash: &MerkleHash,
 ) -> Result<Option<MDBFileInfo>>
     ensures read { MatchResult result
-        (Finding (files_of info.now) (file_table info.now.metadata (S.meaning source.old))
+        (FindsRecord (files_of info.now) (file_table info.now.metadata (S.meaning source.old))
         info.now.metadata.file_info_offset hash.now (S.meaning source.old) (S.meaning source.new))
-        (FindingFails (files_of info.now) (file_table info.now.metadata (S.meaning source.old))
+        (FindRecordFails (files_of info.now) (file_table info.now.metadata (S.meaning source.old))
         info.now.metadata.file_info_offset hash.now (S.meaning source.old) (S.meaning source.new)) }
-    ensures serves { OnOk result (Serves (S.meaning source.old) (S.meaning source.new)) }
+    ensures no_failure { OnOk result (NoFailure (S.meaning source.old) (S.meaning source.new)) }
     ensures kept { (S.meaning source.new).bytes ≡ (S.meaning source.old).bytes }
 {
     let mut rows = [0; 8];
@@ -135,7 +135,7 @@ fn first_with_hash<S: ShardSource>(
     ensures refused { IfErr result
         (λ e. LookupRefused (files_of info.now) info.now.metadata.file_info_offset
         (S.meaning source.old) (S.meaning source.new) e rows.now) }
-    ensures serves { OnOk result (Serves (S.meaning source.old) (S.meaning source.new)) }
+    ensures no_failure { OnOk result (NoFailure (S.meaning source.old) (S.meaning source.new)) }
     ensures visits { VisitsSome (files_of info.now) 1 info.now.metadata.file_info_offset rows.now
         (S.meaning source.old) (S.meaning source.new) }
 {

@@ -6,6 +6,7 @@ ghost use Rattle.xet_base.specs.Errors.{IsWriteError};
 ghost use Rattle.xet_records.specs.declared.file_structs.MDBFileInfo.{MDBFileInfo};
 ghost use Rattle.xet_records.specs.FileRecord.{file_record_bytes, row_count, FitsItsHeader};
 ghost use Rattle.xet_shards.specs.Written.{IsFileOf, HasWritten};
+ghost use Rattle.xet_records.specs.Limits.{MAX_ROWS};
 
 use super::written::{RecordTable, WrittenFiles, WrittenSection};
 use std::alloc::Global;
@@ -22,7 +23,7 @@ impl WrittenFiles {
     /// allocation fails.
     pub fn add(&mut self, word: u64, rows: u64, bytes: u64) -> Result<()>
         requires header { 1 ≤ rows }
-        requires rows { self.old.table.rows + rows ≤ 4294967295 }
+        requires rows { self.old.table.rows + rows ≤ MAX_ROWS }
         requires bytes { bytes ≤ 4294967295 * rows }
         ensures written { OnOk result
             ((before : List MDBFileInfo) → (file : MDBFileInfo) → HasWritten self.old before

@@ -4,14 +4,14 @@ ghost use Rattle.std.specs.Prelude.{◌≡◌, ◌≢◌, ◌⊎◌, ℕ, List, 
 ghost use Rattle.std.specs.Io.KnownBytes.{Appends, Consumes};
 ghost use Rattle.xet_base.specs.Bytes.{u64_bytes};
 ghost use Rattle.xet_base.specs.Errors.{IsBareShardVersion, IsDeviceError, IsWriteError};
-ghost use Rattle.xet_shards.specs.Ends.{HasUnsupportedFooter, EndsInFooter, FitsFooter, SaysUnsupported, SaysEnd};
+ghost use Rattle.xet_shards.specs.Ends.{HasUnsupportedFooter, EndsInFooter, FitsFooter, SaysUnsupported, SaysEndOfInput};
 ghost use Rattle.xet_shards.specs.Layout.{shard_footer_bytes, default_footer};
 
 use std::alloc::Global;
 use std::io::{Read, Write};
 use xet_base::error::{CoreError, Result};
+use xet_base::fields::{split_hash, split_u64, split_u64s};
 use xet_base::merklehash::HMACKey;
-use xet_base::row::{split_hash, split_u64, split_u64s};
 use xet_base::serialization_utils::{read_bytes, write_hash, write_u64s};
 
 const MDB_SHARD_FOOTER_VERSION: u64 = 1;
@@ -124,7 +124,7 @@ impl MDBShardFileFooter {
             → IfOk result (λ found. (found ≡ f) × (R.remaining reader.new ≡ Some rest)) }
         ensures unsupported { IfErr result
             (SaysUnsupported HasUnsupportedFooter (R.remaining reader.old)) }
-        ensures end { IfErr result (SaysEnd EndsInFooter (R.remaining reader.old)) }
+        ensures end { IfErr result (SaysEndOfInput EndsInFooter (R.remaining reader.old)) }
         ensures causes { IfErr result (λ e. IsDeviceError e ⊎ IsBareShardVersion e) }
     {
         let mut version = [0u8; 8];

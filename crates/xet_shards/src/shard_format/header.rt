@@ -4,7 +4,7 @@ ghost use Rattle.std.specs.Prelude.{◌≡◌, ◌≢◌, ◌⊎◌, ℕ, ◌^�
 ghost use Rattle.std.specs.Io.KnownBytes.{Appends, Consumes};
 ghost use Rattle.xet_base.specs.Bytes.{u64_bytes};
 ghost use Rattle.xet_base.specs.Errors.{IsBareShardVersion, IsDeviceError, IsWriteError};
-ghost use Rattle.xet_shards.specs.Ends.{HasUnsupportedHeader, EndsInHeader, SaysUnsupported, SaysEnd};
+ghost use Rattle.xet_shards.specs.Ends.{HasUnsupportedHeader, EndsInHeader, SaysUnsupported, SaysEndOfInput};
 ghost use Rattle.xet_records.specs.declared.record_reader.FormatVersion.{FormatVersion};
 ghost use Rattle.xet_records.specs.Version.{number_of, IsVersion, version_of};
 ghost use Rattle.xet_shards.specs.Layout.{header_tag, shard_header_bytes, header_value};
@@ -13,7 +13,7 @@ use super::footer::FOOTER_SIZE;
 use std::alloc::Global;
 use std::io::{Read, Write};
 use xet_base::error::{CoreError, Result};
-use xet_base::row::split_u64;
+use xet_base::fields::split_u64;
 use xet_base::serialization_utils::{read_bytes, write_bytes, write_u64};
 use xet_records::record_reader::FormatVersion;
 
@@ -80,8 +80,8 @@ impl MDBShardFileHeader {
 
     /// Reads the header.
     ///
-    /// `ShardVersion` if the tag differs, which is checked after 32 bytes, or the version is neither
-    /// 2 nor 3; `UnexpectedEof` if the bytes end before that.
+    /// `ShardVersion` if the tag differs, which is checked after 32 bytes, or the version is
+    /// neither 2 nor 3; `UnexpectedEof` if the bytes end before that.
     #[tactic(auto, unfolding(crate::specs::Layout::shard_header_bytes))]
     pub fn deserialize<R: Read>(alloc: Global, reader: &mut R) -> Result<Self>
         ensures bytes { IfOk result
@@ -95,7 +95,7 @@ impl MDBShardFileHeader {
             → IfOk result (λ found. (found ≡ h) × (R.remaining reader.new ≡ Some rest)) }
         ensures unsupported { IfErr result
             (SaysUnsupported HasUnsupportedHeader (R.remaining reader.old)) }
-        ensures end { IfErr result (SaysEnd EndsInHeader (R.remaining reader.old)) }
+        ensures end { IfErr result (SaysEndOfInput EndsInHeader (R.remaining reader.old)) }
         ensures causes { IfErr result (λ e. IsDeviceError e ⊎ IsBareShardVersion e) }
     {
         let mut tag = [0u8; 32];

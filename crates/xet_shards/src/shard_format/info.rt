@@ -8,17 +8,17 @@ ghost use Rattle.xet_base.specs.Table.{IsBareInvalidShard};
 ghost use Rattle.xet_shards.specs.Shard.{Shard, IsShard, has_aux_rows};
 ghost use Rattle.xet_shards.specs.Layout.{layout, layout_in, layout_of, info_of, info_value, info_value_in, header_tag, shard_header_bytes, shard_footer_bytes};
 ghost use Rattle.xet_shards.specs.WrittenShard.{IsBytesWithInfo, ReadsBack, ReadsOfShard};
-ghost use Rattle.xet_base.specs.Source.{Takes, DeviceFailure};
+ghost use Rattle.xet_base.specs.Source.{ReadsBytes, DeviceFailure};
 ghost use Rattle.xet_records.specs.Version.{IsVersion};
 ghost use Rattle.xet_records.specs.declared.record_reader.FormatVersion.{FormatVersion};
 ghost use Rattle.xet_records.specs.XorbRecord.{xorb_records};
 ghost use Rattle.xet_shards.specs.SectionReading.{ReadsFiles, ReadsXorbs, SectionFails};
 ghost use Rattle.xet_shards.specs.XorbHeaders.{xorb_headers, ReadsXorbHeaders};
-ghost use Rattle.xet_shards.specs.Ends.{HasEnds, HasUnsupportedHeader, EndsInHeader, HasUnsupportedFooter, EndsInFooter, FitsFooter, PartFails, Loads, LoadFails};
+ghost use Rattle.xet_shards.specs.Ends.{HasHeaderAndFooter, HasUnsupportedHeader, EndsInHeader, HasUnsupportedFooter, EndsInFooter, FitsFooter, PartFails, Loads, LoadFails};
 
 use super::footer::{FOOTER_SIZE, MDBShardFileFooter, check_version};
-use super::form::Form;
 use super::header::{MDBShardFileHeader, check_tag};
+use super::options::LayoutOptions;
 use super::section_reader::{read_section_at, read_xorb_headers};
 use super::writer::{write_end, write_values};
 use super::written::{WrittenFiles, WrittenXorbs};
@@ -46,12 +46,12 @@ impl MDBShardInfo {
     /// Reads the header at the front of the source and the footer in its last 200 bytes. Does not
     /// allocate.
     ///
-    /// `ShardVersion` if the tag differs, the header's version is neither 2 nor 3 or the footer's is
-    /// not 1, `UnexpectedEof` if the source has too few bytes. Any other error is the source's.
+    /// `ShardVersion` if the tag differs, the header's version is neither 2 nor 3 or the footer's
+    /// is not 1, `UnexpectedEof` if the source has too few bytes. Any other error is the source's.
     pub fn load_from_reader<S: ShardSource>(alloc: Global, source: &mut S) -> Result<Self>
         ensures read { MatchResult result (Loads (S.meaning source.old) (S.meaning source.new))
             (LoadFails (S.meaning source.old) (S.meaning source.new)) }
-        ensures ends { (info : MDBShardInfo) → HasEnds (S.meaning source.old).bytes info
+        ensures ends { (info : MDBShardInfo) → HasHeaderAndFooter (S.meaning source.old).bytes info
             → MatchResult result (λ found. found ≡ info)
             (DeviceFailure (S.meaning source.old) (S.meaning source.new)) }
         ensures written { (version : FormatVersion) → (s : Shard) → (expiry : Option ℕ) → IsShard s
@@ -64,8 +64,8 @@ impl MDBShardInfo {
     }
 
     /// Writes a shard in version 3: header, sections, tables and footer. The expiry is a timestamp
-    /// in seconds, or none. Returns the header and the footer, as `load_from_reader` reads them from
-    /// these bytes.
+    /// in seconds, or none. Returns the header and the footer, as `load_from_reader` reads them
+    /// from these bytes.
     ///
     /// The error is the writer's, or `OutOfMemory` if an allocation fails.
     pub fn serialize_from<W: Write>(
@@ -82,7 +82,7 @@ impl MDBShardInfo {
         ensures shard { IfOk result (λ _. IsShard shard.now.content) }
         ensures causes { IfErr result IsWriteError }
     {
-        write_shard(alloc, writer, shard, &Form::plain(expiry))
+        write_shard(alloc, writer, shard, &LayoutOptions::plain(expiry))
     }
 
     /// Writes a shard as `serialize_from` does, but in version 2, which has no auxiliary rows.
@@ -112,11 +112,11 @@ impl MDBShardInfo {
         if shard.has_aux_rows() {
             return Err(CoreError::InvalidArguments);
         }
-        let form = Form {
+        let options = LayoutOptions {
             version: FormatVersion::V2,
-            ..Form::plain(expiry)
+            ..LayoutOptions::plain(expiry)
         };
-        write_shard(alloc, writer, shard, &form)
+        write_shard(alloc, writer, shard, &options)
     }
 
     /// The number of rows of the file table, 0 if the shard has none.
@@ -198,29 +198,29 @@ impl MDBShardInfo {
     }
 }
 
-// Writes a shard in a form: header, sections, tables and footer.
+// Writes a shard with layout options: header, sections, tables and footer.
 fn write_shard<W: Write>(
     alloc: Global,
     writer: &mut W,
     shard: &MDBInMemoryShard,
-    form: &Form,
+    options: &LayoutOptions,
 ) -> Result<MDBShardInfo>
     ensures bytes { OnOk result
         (Appends (W.contents writer.old) (W.contents writer.new)
         (layout_of (finite.values shard.now.content.files)
-        (finite.values shard.now.content.xorbs) form.now)) }
+        (finite.values shard.now.content.xorbs) options.now)) }
     ensures info { IfOk result
         (λ info. info ≡ info_of (finite.values shard.now.content.files)
-        (finite.values shard.now.content.xorbs) form.now) }
+        (finite.values shard.now.content.xorbs) options.now) }
     ensures widths { IfOk result (λ info. FitsFooter info.metadata) }
     ensures shard { IfOk result (λ _. IsShard shard.now.content) }
     ensures causes { IfErr result IsWriteError }
 {
-    let header = MDBShardFileHeader::of_version(form.version);
+    let header = MDBShardFileHeader::of_version(options.version);
     header.serialize(writer)?;
     let files: WrittenFiles = write_values(alloc, writer, shard.file_content())?;
     let xorbs: WrittenXorbs = write_values(alloc, writer, shard.xorb_content())?;
-    let metadata = write_end(writer, &files, xorbs, form)?;
+    let metadata = write_end(writer, &files, xorbs, options)?;
     Ok(MDBShardInfo { header, metadata })
 }
 
@@ -247,7 +247,7 @@ pub(crate) fn read_header<S: ShardSource>(
     source: &mut S,
 ) -> Result<MDBShardFileHeader>
     ensures read { IfOk result
-        (λ h. Takes (S.meaning source.old) (S.meaning source.new) (shard_header_bytes h)) }
+        (λ h. ReadsBytes (S.meaning source.old) (S.meaning source.new) (shard_header_bytes h)) }
     ensures known { IfOk result
         (λ h. (h.tag ≡ header_tag) × IsVersion h.version × (h.footer_size < 2 ^ 64)) }
     ensures refused { IfErr result
@@ -265,7 +265,7 @@ pub(crate) fn read_header<S: ShardSource>(
 // Reads a footer from the source's position on.
 fn read_footer<S: ShardSource>(alloc: Global, source: &mut S) -> Result<MDBShardFileFooter>
     ensures read { IfOk result
-        (λ f. Takes (S.meaning source.old) (S.meaning source.new) (shard_footer_bytes f)) }
+        (λ f. ReadsBytes (S.meaning source.old) (S.meaning source.new) (shard_footer_bytes f)) }
     ensures known { IfOk result (λ f. (f.version ≡ 1) × FitsFooter f) }
     ensures refused { IfErr result
         (PartFails HasUnsupportedFooter EndsInFooter 200 (S.meaning source.old)

@@ -31,8 +31,8 @@ fn key_chunks(chunks: &mut [XorbChunkSequenceEntry], key: HMACKey)
     }
 }
 
-// Puts the hashes of the first four chunks under a key, or that of the first if there are fewer, and
-// returns how many these are.
+// Puts the hashes of the first four chunks under a key, or that of the first if there are fewer,
+// and returns how many these are.
 fn key_first(chunks: &mut [XorbChunkSequenceEntry], key: HMACKey) -> usize
     requires { 0 < length chunks.old }
     ensures some { 0 < result }

@@ -4,23 +4,24 @@
 ghost use Rattle.std.specs.Prelude.{◌≡◌, ◌+◌, ◌≤◌, ◌++◌, Bool, true, false, List, [], flat_map, MatchOption, MatchResult, OnOk, IfErr};
 ghost use Rattle.std.specs.Io.KnownBytes.{Appends};
 ghost use Rattle.xet_base.specs.Errors.{IsWriteError};
-ghost use Rattle.xet_base.specs.Source.{Takes};
+ghost use Rattle.xet_base.specs.Source.{ReadsBytes};
 ghost use Rattle.xet_records.specs.RecordKind.{KindLaws, in_version};
 ghost use Rattle.xet_records.specs.ViewReading.{ReadsNextView};
 ghost use Rattle.xet_records.proofs.RecordKinds.{file_laws, xorb_laws};
-ghost use Rattle.xet_shards.specs.declared.shard_format.form.Form.{Form};
+ghost use Rattle.xet_shards.specs.declared.shard_format.options.LayoutOptions.{LayoutOptions};
 ghost use Rattle.xet_shards.specs.Section.{section_bytes, total_rows};
 ghost use Rattle.xet_shards.specs.Written.{HasWritten, HasWrittenFor};
 ghost use Rattle.xet_shards.specs.WrittenLaws.{written_for};
 ghost use Rattle.xet_shards.specs.SectionReading.{RecordFails};
-ghost use Rattle.xet_shards.specs.KeyedExport.{ExportsWith, ExportFails, OutcomeOfExport, ExportsSection, CannotExport, ExportsNoSection, ExpiresTooLate, export_form, exported_file, exported_xorb};
+ghost use Rattle.xet_shards.specs.KeyedExport.{ExportsWith, ExportFails, OutcomeOfExport, ExportsSection, CannotExport, ExportsNoSection, ExpiresTooLate, export_options, exported_file, exported_xorb};
 ghost use Rattle.xet_shards.specs.ExportLaws.{file_rows, xorb_rows};
+ghost use Rattle.xet_records.specs.Limits.{MAX_ROWS};
 
 use super::footer::FOOTER_SIZE;
-use super::form::Form;
 use super::header::MDBShardFileHeader;
 use super::info::{MDBShardInfo, read_header};
 use super::keyed_chunks::with_keyed_hashes;
+use super::options::LayoutOptions;
 use super::view_writer::write_file_view;
 use super::writer::write_end;
 use super::written::{WrittenFiles, WrittenSection, WrittenXorbs};
@@ -62,7 +63,7 @@ impl MDBShardInfo {
         include_chunk_lookup_table: bool,
     ) -> Result<usize>
         ensures { OutcomeOfExport (CannotExport self.now now valid_seconds) true
-            (export_form key now valid_seconds include_file_info include_xorb_lookup_table
+            (export_options key now valid_seconds include_file_info include_xorb_lookup_table
             include_chunk_lookup_table)
             S.meaning W.contents source.old source.new writer.old writer.new result }
     {
@@ -96,11 +97,11 @@ impl MDBShardInfo {
         include_chunk_lookup_table: bool,
     ) -> Result<usize>
         ensures { OutcomeOfExport (ExpiresTooLate now valid_seconds) true
-            (export_form key now valid_seconds include_file_info include_xorb_lookup_table
+            (export_options key now valid_seconds include_file_info include_xorb_lookup_table
             include_chunk_lookup_table)
             S.meaning W.contents source.old source.new writer.old writer.new result }
     {
-        let Some(form) = export_form(
+        let Some(options) = export_options(
             key,
             now,
             valid_seconds,
@@ -110,7 +111,7 @@ impl MDBShardInfo {
         ) else {
             return Err(CoreError::InvalidArguments);
         };
-        export(alloc, source, writer, true, &form)
+        export(alloc, source, writer, true, &options)
     }
 
     /// Writes what `export_as_keyed_shard` does, but without auxiliary rows: a file that has one is
@@ -128,7 +129,7 @@ impl MDBShardInfo {
         include_chunk_lookup_table: bool,
     ) -> Result<usize>
         ensures { OutcomeOfExport (CannotExport self.now now valid_seconds) false
-            (export_form key now valid_seconds include_file_info include_xorb_lookup_table
+            (export_options key now valid_seconds include_file_info include_xorb_lookup_table
             include_chunk_lookup_table)
             S.meaning W.contents source.old source.new writer.old writer.new result }
     {
@@ -149,8 +150,8 @@ impl MDBShardInfo {
         )
     }
 
-    /// Writes what `export_as_keyed_shard_without_aux` does, of a shard whose footer is not known. If
-    /// its chunk hashes are keyed, the keyed hashes are hashed again.
+    /// Writes what `export_as_keyed_shard_without_aux` does, of a shard whose footer is not known.
+    /// If its chunk hashes are keyed, the keyed hashes are hashed again.
     pub fn export_as_keyed_shard_streaming_without_aux<S: ShardSource, W: Write>(
         alloc: Global,
         source: &mut S,
@@ -163,11 +164,11 @@ impl MDBShardInfo {
         include_chunk_lookup_table: bool,
     ) -> Result<usize>
         ensures { OutcomeOfExport (ExpiresTooLate now valid_seconds) false
-            (export_form key now valid_seconds include_file_info include_xorb_lookup_table
+            (export_options key now valid_seconds include_file_info include_xorb_lookup_table
             include_chunk_lookup_table)
             S.meaning W.contents source.old source.new writer.old writer.new result }
     {
-        let Some(form) = export_form(
+        let Some(options) = export_options(
             key,
             now,
             valid_seconds,
@@ -177,25 +178,25 @@ impl MDBShardInfo {
         ) else {
             return Err(CoreError::InvalidArguments);
         };
-        export(alloc, source, writer, false, &form)
+        export(alloc, source, writer, false, &options)
     }
 }
 
-// The form of an export, or `None` if its expiry does not fit `u64`.
-fn export_form(
+// The layout options of an export, or `None` if its expiry does not fit `u64`.
+fn export_options(
     key: HMACKey,
     now: u64,
     valid_seconds: u64,
     file_table: bool,
     xorb_table: bool,
     chunk_table: bool,
-) -> Option<Form>
+) -> Option<LayoutOptions>
     ensures { MatchOption result (ExpiresTooLate now valid_seconds)
-        (λ form. (form ≡ export_form key now valid_seconds file_table xorb_table chunk_table)
+        (λ options. (options ≡ export_options key now valid_seconds file_table xorb_table chunk_table)
         × (¬ ExpiresTooLate now valid_seconds)) }
 {
     let expiry = now.checked_add(valid_seconds)?;
-    Some(Form {
+    Some(LayoutOptions {
         version: FormatVersion::V3,
         file_table,
         xorb_table,
@@ -206,45 +207,47 @@ fn export_form(
     })
 }
 
-// Reads header and sections, and writes the shard with auxiliary rows or without, in a form. That is
-// of version 3, in which files of either version can be stored.
+// Reads header and sections, and writes the shard with auxiliary rows or without, with layout
+// options. That is of version 3, in which files of either version can be stored.
 fn export<S: ShardSource, W: Write>(
     alloc: Global,
     source: &mut S,
     writer: &mut W,
     aux_ext: bool,
-    form: &Form,
+    options: &LayoutOptions,
 ) -> Result<usize>
-    requires { form.now.version ≡ FormatVersion.V3 }
+    requires { options.now.version ≡ FormatVersion.V3 }
     ensures { MatchResult result
-        (ExportsWith aux_ext form.now (S.meaning source.old) (S.meaning source.new)
+        (ExportsWith aux_ext options.now (S.meaning source.old) (S.meaning source.new)
         (W.contents writer.old) (W.contents writer.new))
         (ExportFails (S.meaning source.old) (S.meaning source.new)) }
 {
     let version = read_header(alloc, source)?.format_version();
-    MDBShardFileHeader::of_version(form.version).serialize(writer)?;
+    MDBShardFileHeader::of_version(options.version).serialize(writer)?;
     let files = export_section::<MDBFileInfoView, S, W>(
-        alloc, source, version, writer, aux_ext, form,
+        alloc, source, version, writer, aux_ext, options,
     )?;
     let newest = FormatVersion::V3;
-    let xorbs = export_section::<MDBXorbInfo, S, W>(alloc, source, newest, writer, aux_ext, form)?;
-    let footer = write_end(writer, &files, xorbs, form)?;
+    let xorbs = export_section::<MDBXorbInfo, S, W>(
+        alloc, source, newest, writer, aux_ext, options,
+    )?;
+    let footer = write_end(writer, &files, xorbs, options)?;
     let size = footer.footer_offset + FOOTER_SIZE;
     Ok(size as usize)
 }
 
-// A record as an export reads it from a source, and writes it in a form.
+// A record as an export reads it from a source, and writes it with layout options.
 pub(super) trait ExportedRecord {
     type Section: WrittenSection + Drop;
 
     // the stored record that was read
     ghost stored: { Self → Self.Section.Record };
 
-    // what is written for it in a form, with auxiliary rows or without: a record, or none
-    ghost exports: { Bool → Form → Self.Section.Record → List Self.Section.Record };
+    // what is written for it with layout options, with auxiliary rows or without: a record, or none
+    ghost exports: { Bool → LayoutOptions → Self.Section.Record → List Self.Section.Record };
 
-    // these records were written, and what a form needs of them was collected
-    ghost has_written: { Form → Self.Section → List Self.Section.Record → Type 0 };
+    // these records were written, and what layout options need of them was collected
+    ghost has_written: { LayoutOptions → Self.Section → List Self.Section.Record → Type 0 };
 
     // Reads the next record, or `None` at the bookend, and counts its rows down from those left. A
     // view is read into the buffer.
@@ -258,47 +261,47 @@ pub(super) trait ExportedRecord {
         requires { left.old ≤ 4294967296 }
         ensures { MatchResult result
             (ReadsNextView (in_version Self.Section.Record.kind version) stored
-            (Takes (S.meaning source.old) (S.meaning source.new)) left.old left.new)
+            (ReadsBytes (S.meaning source.old) (S.meaning source.new)) left.old left.new)
             (RecordFails (in_version Self.Section.Record.kind version) left.old
             (S.meaning source.old) (S.meaning source.new)) };
 
-    // Adds and writes what the form has of the record.
+    // Adds and writes what the options have of the record.
     fn export<W: Write>(
         self,
         writer: &mut W,
         written: &mut Self::Section,
         aux_ext: bool,
-        form: &Form,
+        options: &LayoutOptions,
     ) -> Result<()>
         requires stored { Self.Section.Record.kind.IsStored (stored self) }
         requires rows { Self.Section.rows written.old
             + Self.Section.Record.kind.row_count (stored self)
-            ≤ 4294967295 }
+            ≤ MAX_ROWS }
         ensures appended { OnOk result
             (Appends (W.contents writer.old) (W.contents writer.new)
             (flat_map Self.Section.Record.kind.record_bytes
-            (exports aux_ext form.now (stored self)))) }
+            (exports aux_ext options.now (stored self)))) }
         ensures written { OnOk result
-            ((before : List Self.Section.Record) → has_written form.now written.old before
-            → has_written form.now written.new
-            (before ++ exports aux_ext form.now (stored self))) }
+            ((before : List Self.Section.Record) → has_written options.now written.old before
+            → has_written options.now written.new
+            (before ++ exports aux_ext options.now (stored self))) }
         ensures causes { IfErr result IsWriteError };
 
     ghost laws: { KindLaws Self.Section.Record.kind };
 
-    ghost no_more_rows: { (aux : Bool) (form : Form) (r : Self.Section.Record)
-        → total_rows Self.Section.Record.kind (exports aux form r)
+    ghost no_more_rows: { (aux : Bool) (options : LayoutOptions) (r : Self.Section.Record)
+        → total_rows Self.Section.Record.kind (exports aux options r)
         ≤ Self.Section.Record.kind.row_count r };
 
-    ghost begins: { (form : Form) (written : Self.Section)
-        → Self.Section.has_written written [] → has_written form written [] };
+    ghost begins: { (options : LayoutOptions) (written : Self.Section)
+        → Self.Section.has_written written [] → has_written options written [] };
 
-    ghost counts_rows: { (form : Form) (written : Self.Section) (records : List Self.Section.Record)
-        → has_written form written records
+    ghost counts_rows: { (options : LayoutOptions) (written : Self.Section) (records : List Self.Section.Record)
+        → has_written options written records
         → Self.Section.rows written ≡ total_rows Self.Section.Record.kind records };
 }
 
-// A file is written as it is stored, or without its auxiliary row, if the form has files.
+// A file is written as it is stored, or without its auxiliary row, if the options have files.
 impl ExportedRecord for MDBFileInfoView {
     type Section = WrittenFiles;
 
@@ -306,15 +309,15 @@ impl ExportedRecord for MDBFileInfoView {
 
     ghost exports = { exported_file };
 
-    ghost has_written = { λ form. HasWritten };
+    ghost has_written = { λ options. HasWritten };
 
     ghost laws = { file_laws };
 
     ghost no_more_rows = { file_rows };
 
-    ghost begins = { λ form written have. have };
+    ghost begins = { λ options written have. have };
 
-    ghost counts_rows = { λ form written files have. have.table.rows };
+    ghost counts_rows = { λ options written files have. have.table.rows };
 
     fn read<S: ShardSource>(
         alloc: Global,
@@ -331,9 +334,9 @@ impl ExportedRecord for MDBFileInfoView {
         writer: &mut W,
         written: &mut WrittenFiles,
         aux_ext: bool,
-        form: &Form,
+        options: &LayoutOptions,
     ) -> Result<()> {
-        if !form.file_table {
+        if !options.file_table {
             return Ok(());
         }
         let kept = KeptParts {
@@ -344,7 +347,7 @@ impl ExportedRecord for MDBFileInfoView {
     }
 }
 
-// A xorb is written with its chunk hashes under the form's key.
+// A xorb is written with its chunk hashes under the options' key.
 impl ExportedRecord for MDBXorbInfo {
     type Section = WrittenXorbs;
 
@@ -352,15 +355,15 @@ impl ExportedRecord for MDBXorbInfo {
 
     ghost exports = { exported_xorb };
 
-    ghost has_written = { λ form. HasWrittenFor form.chunk_table };
+    ghost has_written = { λ options. HasWrittenFor options.chunk_table };
 
     ghost laws = { xorb_laws };
 
     ghost no_more_rows = { xorb_rows };
 
-    ghost begins = { λ form written have. written_for form.chunk_table written [] have };
+    ghost begins = { λ options written have. written_for options.chunk_table written [] have };
 
-    ghost counts_rows = { λ form written xorbs have. have.table.rows };
+    ghost counts_rows = { λ options written xorbs have. have.table.rows };
 
     fn read<S: ShardSource>(
         alloc: Global,
@@ -377,14 +380,14 @@ impl ExportedRecord for MDBXorbInfo {
         writer: &mut W,
         written: &mut WrittenXorbs,
         _aux_ext: bool,
-        form: &Form,
+        options: &LayoutOptions,
     ) -> Result<()> {
-        let xorb = with_keyed_hashes(self, form.key);
-        written.write_for(writer, &xorb, form.chunk_table)
+        let xorb = with_keyed_hashes(self, options.key);
+        written.write_for(writer, &xorb, options.chunk_table)
     }
 }
 
-// Reads a section, and writes what the form has of each record as it is read.
+// Reads a section, and writes what the options have of each record as it is read.
 #[tactic(auto, unfolding(crate::specs::Section::section_bytes))]
 pub(super) fn export_section<E: ExportedRecord + Drop, S: ShardSource, W: Write>(
     alloc: Global,
@@ -392,11 +395,11 @@ pub(super) fn export_section<E: ExportedRecord + Drop, S: ShardSource, W: Write>
     version: FormatVersion,
     writer: &mut W,
     aux_ext: bool,
-    form: &Form,
+    options: &LayoutOptions,
 ) -> Result<E::Section>
     ensures { MatchResult result
-        (λ written. ExportsSection E.Section.Record.kind version (E.exports aux_ext form.now)
-        (E.has_written form.now written) (S.meaning source.old) (S.meaning source.new)
+        (λ written. ExportsSection E.Section.Record.kind version (E.exports aux_ext options.now)
+        (E.has_written options.now written) (S.meaning source.old) (S.meaning source.new)
         (W.contents writer.old) (W.contents writer.new))
         (ExportsNoSection E.Section.Record.kind version (S.meaning source.old)
         (S.meaning source.new)) }
@@ -405,7 +408,7 @@ pub(super) fn export_section<E: ExportedRecord + Drop, S: ShardSource, W: Write>
     let mut buffer = BytesMut::new(alloc);
     let mut rows_left = u64::from(u32::MAX);
     while let Some(next) = E::read(alloc, &mut buffer, source, version, &mut rows_left)? {
-        next.export(writer, &mut written, aux_ext, form)?;
+        next.export(writer, &mut written, aux_ext, options)?;
     }
     E::Section::write_bookend(writer)?;
     Ok(written)

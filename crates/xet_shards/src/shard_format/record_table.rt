@@ -2,11 +2,12 @@
 
 ghost use Rattle.std.specs.Prelude.{◌≡◌, ◌+◌, ◌≤◌, [], IsTrue, ◌↔◌, OnOk, OnErr, IfErr};
 ghost use Rattle.xet_shards.specs.Written.{AddsRecord};
+ghost use Rattle.xet_records.specs.Limits.{MAX_ROWS};
 
 use super::written::RecordTable;
 use std::alloc::Global;
 use xet_base::error::{CoreError, Result};
-use xet_base::row::{put_u32, put_u64};
+use xet_base::fields::{put_u32, put_u64};
 
 impl RecordTable {
     /// The table of no record.
@@ -24,7 +25,7 @@ impl RecordTable {
 
     /// Whether so many rows more fit the section.
     pub fn has_room(&self, more: u64) -> bool
-        ensures { IsTrue result ↔ (self.now.rows + more ≤ 4294967295) }
+        ensures { IsTrue result ↔ (self.now.rows + more ≤ MAX_ROWS) }
     {
         more <= u64::from(u32::MAX) - self.rows
     }
@@ -34,7 +35,7 @@ impl RecordTable {
     /// an allocation fails.
     pub fn add(&mut self, word: u64, rows: u64) -> Result<()>
         requires header { 1 ≤ rows }
-        requires rows { self.old.rows + rows ≤ 4294967295 }
+        requires rows { self.old.rows + rows ≤ MAX_ROWS }
         ensures added { OnOk result (AddsRecord self.old self.new word rows) }
         ensures kept { OnErr result (self.new.rows ≡ self.old.rows) }
         ensures causes { IfErr result (λ e. e ≡ CoreError.OutOfMemory) }

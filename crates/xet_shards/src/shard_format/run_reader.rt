@@ -1,10 +1,10 @@
 //! Reading the chunks of a xorb as long as they have the hashes that are queried.
 
 ghost use Rattle.std.specs.Prelude.{◌*◌, ◌^◌, ◌<◌, ◌≤◌, MatchResult};
-ghost use Rattle.xet_base.specs.Source.{Takes};
+ghost use Rattle.xet_base.specs.Source.{ReadsBytes};
 ghost use Rattle.xet_records.specs.Rows.{ReadsRow};
 ghost use Rattle.xet_shards.specs.RunReading.{query_at};
-ghost use Rattle.xet_shards.specs.RunSteps.{RowNotRead, RowFails, ReadsHeaderAt, ReadsRun, ReadRunFails, ReadsRunAt, RunFails, MovesToRow, NotMoved};
+ghost use Rattle.xet_shards.specs.RunSteps.{RowNotRead, RowFails, ReadsHeaderAt, ReadsRun, ReadRunFails, ReadsRunAt, RunFails, SeeksToRow, NotSought};
 
 use super::info::MDBShardInfo;
 use std::alloc::Global;
@@ -104,8 +104,8 @@ fn read_run<S: ShardSource>(
 fn seek_to_row<S: ShardSource>(alloc: Global, source: &mut S, offset: u64, row: u64) -> Result<()>
     requires { row ≤ 2 ^ 34 }
     ensures { MatchResult result
-        (λ _. MovesToRow offset row (S.meaning source.old) (S.meaning source.new))
-        (NotMoved offset row (S.meaning source.old) (S.meaning source.new)) }
+        (λ _. SeeksToRow offset row (S.meaning source.old) (S.meaning source.new))
+        (NotSought offset row (S.meaning source.old) (S.meaning source.new)) }
 {
     let Some(start) = offset.checked_add(48 * row) else {
         return Err(CoreError::InvalidShard(String::new(alloc)));
@@ -118,8 +118,8 @@ fn seek_to_row<S: ShardSource>(alloc: Global, source: &mut S, offset: u64, row: 
 // are left.
 fn read_row<T: Row, S: ShardSource>(source: &mut S) -> Result<T>
     ensures { MatchResult result
-        (ReadsRow T.row_bytes T.Fits T.handed_out
-        (Takes (S.meaning source.old) (S.meaning source.new)))
+        (ReadsRow T.row_bytes T.Fits T.as_read
+        (ReadsBytes (S.meaning source.old) (S.meaning source.new)))
         (RowNotRead (S.meaning source.old) (S.meaning source.new)) }
 {
     let mut bytes = [0u8; 48];

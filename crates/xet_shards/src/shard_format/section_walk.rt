@@ -3,7 +3,7 @@
 
 ghost use Rattle.std.specs.Prelude.{◌≡◌, ℕ, ◌+◌, ◌*◌, ◌^◌, ◌<◌, ◌≤◌, MatchResult};
 ghost use Rattle.xet_records.specs.RecordKind.{in_version};
-ghost use Rattle.xet_shards.specs.SectionReading.{TakesNoSection, RecordFails};
+ghost use Rattle.xet_shards.specs.SectionReading.{SectionNotStreamed, RecordFails};
 ghost use Rattle.xet_shards.specs.SectionWalk.{KeepsSection, KeepsNext};
 
 use std::alloc::Global;
@@ -33,7 +33,7 @@ pub(super) fn walk_section<R: SectionRecord, T: Kept<R> + Drop, S: ShardSource>(
     ensures { MatchResult result
         (λ found. KeepsSection (in_version R.kind version) T.keep (S.meaning source.old)
         (S.meaning source.new) found.items)
-        (TakesNoSection (in_version R.kind version) (S.meaning source.old) (S.meaning source.new)) }
+        (SectionNotStreamed (in_version R.kind version) (S.meaning source.old) (S.meaning source.new)) }
 {
     R::laws();
     let mut found = Vec::new(alloc);

@@ -13,7 +13,7 @@ ghost use Rattle.xet_shards.specs.WrittenShard.{IsBytesWithInfo, ReadsBack};
 use super::info::MDBShardInfo;
 use std::alloc::Global;
 use xet_base::error::{CoreError, Result};
-use xet_base::row::{split_u32, split_u64};
+use xet_base::fields::{split_u32, split_u64};
 use xet_base::source::{ShardSource, read_full};
 
 impl MDBShardInfo {

@@ -2,14 +2,14 @@
 
 ghost use Rattle.std.specs.Prelude.{◌≡◌, ◌⊎◌, ℕ, List, ◌+◌, ◌<◌, ◌≤◌, length, min, MatchResult, OnOk, IfOk, IfErr};
 ghost use Rattle.xet_base.specs.Source.{FillFails, next_bytes};
-ghost use Rattle.xet_base.specs.Table.{table_at, Finds, FitsTable, SearchRefused, hits, IsSorted, Serves, Bounded, IsEven, ReadsOn};
-ghost use Rattle.xet_shards.specs.Lookup.{IsNumber, IsPair, Searches, LooksUpIndex};
+ghost use Rattle.xet_base.specs.Table.{table_at, Finds, FitsTable, SearchRefused, hits, IsSorted, NoFailure, Bounded, IsEven, ReadsCount};
+ghost use Rattle.xet_shards.specs.Lookup.{IsRowNumber, IsRowAndIndex, Searches, LooksUpIndex};
 
 use std::alloc::Global;
 use std::io;
 use xet_base::error::{CoreError, Result};
+use xet_base::fields::split_u32;
 use xet_base::interpolation_search::search_on_sorted_u64s;
-use xet_base::row::split_u32;
 use xet_base::source::{ShardSource, read_full};
 
 /// What a row of a lookup table has behind its first word.
@@ -23,7 +23,7 @@ pub(super) trait TableValue: Default + Copy {
     /// Reads a value from the source's position on. `UnexpectedEof` if too few bytes are left.
     fn read<S: ShardSource>(source: &mut S) -> io::Result<Self>
         ensures { MatchResult result
-            (λ value. ReadsOn (S.meaning source.old) (S.meaning source.new) WIDTH
+            (λ value. ReadsCount (S.meaning source.old) (S.meaning source.new) WIDTH
             × Spells (next_bytes (S.meaning source.old) WIDTH) value)
             (FillFails (S.meaning source.old) (S.meaning source.new) WIDTH) };
 }
@@ -32,7 +32,7 @@ pub(super) trait TableValue: Default + Copy {
 impl TableValue for u32 {
     ghost WIDTH = { 4 };
 
-    ghost Spells = { IsNumber };
+    ghost Spells = { IsRowNumber };
 
     const WIDTH: u64 = 4;
 
@@ -48,7 +48,7 @@ impl TableValue for u32 {
 impl TableValue for (u32, u32) {
     ghost WIDTH = { 8 };
 
-    ghost Spells = { IsPair };
+    ghost Spells = { IsRowAndIndex };
 
     const WIDTH: u64 = 8;
 

@@ -7,6 +7,7 @@ ghost use Rattle.xet_shards.specs.Tables.{chunk_table_rows_from, chunk_table};
 ghost use Rattle.xet_shards.specs.WrittenShard.{IsBytesWithInfo, ReadsBack};
 ghost use Rattle.xet_shards.specs.TableReading.{triple_of, triple_row, FitsTriple, ReadsTable, TableFails};
 ghost use Rattle.xet_shards.specs.TruncatedHashes.{ReadsHashes, HashesFail, ReadsBefore, XorbBeforeFails};
+ghost use Rattle.xet_records.specs.Limits.{MAX_ROWS};
 
 use super::info::MDBShardInfo;
 use super::table_reader::read_chunk_table;
@@ -88,7 +89,7 @@ fn read_xorb_before<S: ShardSource>(
     stop: u64,
     rows_left: &mut u64,
 ) -> Result<Option<(u32, MDBXorbInfo)>>
-    requires { rows_left.old ≤ 4294967295 }
+    requires { rows_left.old ≤ MAX_ROWS }
     ensures read { IfOk result
         (ReadsBefore stop (S.meaning source.old) (S.meaning source.new) rows_left.old
         rows_left.new) }
@@ -118,7 +119,7 @@ fn push_hashes(
     start: u32,
     chunks: &[XorbChunkSequenceEntry],
 ) -> Result<()>
-    requires { length chunks.now ≤ 4294967295 }
+    requires { length chunks.now ≤ MAX_ROWS }
     ensures pushed { OnOk result
         (hashes.new.items
         ≡ hashes.old.items ++ map triple_of (chunk_table_rows_from start chunks.now)) }

@@ -7,6 +7,7 @@ ghost use Rattle.xet_records.specs.declared.file_structs.MDBFileInfo.{MDBFileInf
 ghost use Rattle.xet_records.specs.FileRecord.{file_record_bytes, row_count, size_of_file};
 ghost use Rattle.xet_records.specs.View.{as_kept};
 ghost use Rattle.xet_shards.specs.Written.{HasWritten};
+ghost use Rattle.xet_records.specs.Limits.{MAX_ROWS};
 
 use super::written::WrittenFiles;
 use std::io::Write;
@@ -23,7 +24,7 @@ pub fn write_file_view<W: Write>(
     kept: KeptParts,
 ) -> Result<()>
     requires rows { written.old.table.rows + row_count (as_kept kept view.now)
-        ≤ 4294967295 }
+        ≤ MAX_ROWS }
     ensures appended { OnOk result
         (Appends (W.contents writer.old) (W.contents writer.new)
         (file_record_bytes (as_kept kept view.now))) }
@@ -45,7 +46,7 @@ pub fn write_file_view<W: Write>(
 
 // The size of the file, in bytes.
 fn file_size(view: &MDBFileInfoView) -> u64
-    requires { length view.now.segments ≤ 4294967295 }
+    requires { length view.now.segments ≤ MAX_ROWS }
     ensures size { result ≡ size_of_file view.now }
     ensures bound { result ≤ 4294967295 * length view.now.segments }
 {

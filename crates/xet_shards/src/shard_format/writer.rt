@@ -1,4 +1,4 @@
-//! Writing a shard in any form: sections, lookup tables and footer.
+//! Writing a shard with any layout options: sections, lookup tables and footer.
 
 ghost use Rattle.std.specs.Prelude.{◌≡◌, ◌≤◌, true, None, List, All, OnOk, IfOk, IfErr, map, flat_map, if◌then◌else◌};
 ghost use Rattle.std.specs.Io.KnownBytes.{Appends};
@@ -11,13 +11,14 @@ ghost use Rattle.xet_shards.specs.Shard.{IsShard};
 ghost use Rattle.xet_shards.specs.Section.{total_rows, section_bytes};
 ghost use Rattle.xet_shards.specs.Tables.{chunk_table_row_bytes, chunk_table_rows, chunk_table_bytes};
 ghost use Rattle.xet_shards.specs.Written.{HasWritten, HasWrittenFor, end_of_layout};
-ghost use Rattle.xet_shards.specs.Layout.{if_in, layout, footer_value};
+ghost use Rattle.xet_shards.specs.Layout.{if_included, layout, footer_value};
 ghost use Rattle.xet_shards.specs.Ends.{FitsFooter};
+ghost use Rattle.xet_records.specs.Limits.{MAX_ROWS};
 
 use super::footer::MDBShardFileFooter;
-use super::form::Form;
 use super::header::HEADER_SIZE;
 use super::info::MDBShardInfo;
+use super::options::LayoutOptions;
 use super::written::{RecordTable, WrittenFiles, WrittenSection, WrittenXorbs};
 use super::xorb_writer::ChunkTableRow;
 use crate::shard_in_memory::MDBInMemoryShard;
@@ -82,7 +83,7 @@ pub fn write_values<S: WrittenSection + Drop, V: HoldsRecord<S::Record>, W: Writ
     records: &BTreeMap<MerkleHash, V>,
 ) -> Result<S>
     requires whole { All S.is_whole (map V.held (values records.now)) }
-    requires rows { total_rows S.Record.kind (map V.held (values records.now)) ≤ 4294967295 }
+    requires rows { total_rows S.Record.kind (map V.held (values records.now)) ≤ MAX_ROWS }
     ensures bytes { OnOk result
         (Appends (W.contents writer.old) (W.contents writer.new)
         (section_bytes S.Record.kind (map V.held (values records.now)))) }
@@ -104,23 +105,23 @@ pub fn write_end<W: Write>(
     writer: &mut W,
     files: &WrittenFiles,
     xorbs: WrittenXorbs,
-    form: &Form,
+    options: &LayoutOptions,
 ) -> Result<MDBShardFileFooter>
     ensures bytes { OnOk result ((rs : List MDBFileInfo) → (xs : List MDBXorbInfo)
         → All FitsRecord rs → HasWritten files.now rs
-        → HasWrittenFor form.now.chunk_table xorbs xs
-        → Appends (W.contents writer.old) (W.contents writer.new) (end_of_layout rs xs form.now)) }
+        → HasWrittenFor options.now.chunk_table xorbs xs
+        → Appends (W.contents writer.old) (W.contents writer.new) (end_of_layout rs xs options.now)) }
     ensures footer { IfOk result (λ footer. (rs : List MDBFileInfo) → (xs : List MDBXorbInfo)
         → All FitsRecord rs → HasWritten files.now rs
-        → HasWrittenFor form.now.chunk_table xorbs xs
-        → footer ≡ footer_value rs xs form.now) }
+        → HasWrittenFor options.now.chunk_table xorbs xs
+        → footer ≡ footer_value rs xs options.now) }
     ensures widths { IfOk result FitsFooter }
     ensures causes { IfErr result IsWriteError }
 {
-    let footer = footer_of(files, &xorbs, form);
-    write_table(writer, form.file_table, &files.table)?;
-    write_table(writer, form.xorb_table, &xorbs.table)?;
-    write_chunk_table(writer, form.chunk_table, xorbs.chunk_rows)?;
+    let footer = footer_of(files, &xorbs, options);
+    write_table(writer, options.file_table, &files.table)?;
+    write_table(writer, options.xorb_table, &xorbs.table)?;
+    write_chunk_table(writer, options.chunk_table, xorbs.chunk_rows)?;
     footer.serialize(writer)?;
     Ok(footer)
 }
@@ -129,7 +130,7 @@ pub fn write_end<W: Write>(
 fn write_table<W: Write>(writer: &mut W, is_in: bool, table: &RecordTable) -> Result<()>
     ensures bytes { OnOk result
         (Appends (W.contents writer.old) (W.contents writer.new)
-        (if_in is_in table.now.bytes.items)) }
+        (if_included is_in table.now.bytes.items)) }
     ensures causes { IfErr result IsWriteError }
 {
     if is_in {
@@ -143,7 +144,7 @@ fn write_chunk_table<W: Write>(writer: &mut W, is_in: bool, rows: Vec<ChunkTable
     ensures bytes { OnOk result ((xorbs : List MDBXorbInfo)
         → (is_in ≡ true → rows.items ≡ chunk_table_rows xorbs)
         → Appends (W.contents writer.old) (W.contents writer.new)
-        (if_in is_in (chunk_table_bytes xorbs))) }
+        (if_included is_in (chunk_table_bytes xorbs))) }
     ensures causes { IfErr result IsWriteError }
 {
     if is_in {
@@ -176,22 +177,26 @@ fn write_chunk_rows<W: Write>(writer: &mut W, rows: &[ChunkTableRow]) -> Result<
     Ok(())
 }
 
-// The footer of a shard with these files and xorbs, in this form.
-fn footer_of(files: &WrittenFiles, xorbs: &WrittenXorbs, form: &Form) -> MDBShardFileFooter
+// The footer of a shard with these files and xorbs, with these options.
+fn footer_of(
+    files: &WrittenFiles,
+    xorbs: &WrittenXorbs,
+    options: &LayoutOptions,
+) -> MDBShardFileFooter
     ensures widths { FitsFooter result }
     ensures value { (rs : List MDBFileInfo) → (xs : List MDBXorbInfo) → All FitsRecord rs
-        → HasWritten files.now rs → HasWrittenFor form.now.chunk_table xorbs.now xs
-        → result ≡ footer_value rs xs form.now }
+        → HasWritten files.now rs → HasWrittenFor options.now.chunk_table xorbs.now xs
+        → result ≡ footer_value rs xs options.now }
 {
     let row_size = ROW_SIZE as u64;
     let xorb_info_offset = HEADER_SIZE + row_size * files.table.rows + row_size;
     let file_lookup_offset = xorb_info_offset + row_size * xorbs.table.rows + row_size;
-    let file_starts = rows_in(form.file_table, files.table.records);
+    let file_starts = rows_in(options.file_table, files.table.records);
     let xorb_lookup_offset = file_lookup_offset + 12 * file_starts;
-    let xorb_starts = rows_in(form.xorb_table, xorbs.table.records);
+    let xorb_starts = rows_in(options.xorb_table, xorbs.table.records);
     let chunk_lookup_offset = xorb_lookup_offset + 12 * xorb_starts;
     // Each row of the xorb section that is no header is a chunk.
-    let chunks = rows_in(form.chunk_table, xorbs.table.rows - xorbs.table.records);
+    let chunks = rows_in(options.chunk_table, xorbs.table.rows - xorbs.table.records);
     let footer = MDBShardFileFooter {
         file_info_offset: HEADER_SIZE,
         xorb_info_offset,
@@ -201,9 +206,9 @@ fn footer_of(files: &WrittenFiles, xorbs: &WrittenXorbs, form: &Form) -> MDBShar
         xorb_lookup_num_entry: xorb_starts,
         chunk_lookup_offset,
         chunk_lookup_num_entry: chunks,
-        chunk_hash_hmac_key: form.key,
-        shard_creation_timestamp: form.creation,
-        shard_key_expiry: form.expiry,
+        chunk_hash_hmac_key: options.key,
+        shard_creation_timestamp: options.creation,
+        shard_key_expiry: options.expiry,
         stored_bytes_on_disk: xorbs.stored_bytes_on_disk,
         materialized_bytes: files.materialized_bytes,
         stored_bytes: xorbs.stored_bytes,

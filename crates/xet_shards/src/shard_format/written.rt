@@ -7,6 +7,7 @@ ghost use Rattle.xet_base.specs.Hash.{all_ones};
 ghost use Rattle.xet_records.specs.Copying.{CopyFails};
 ghost use Rattle.xet_shards.specs.Section.{total_rows};
 ghost use Rattle.xet_shards.specs.Copying.{CopiesRecord};
+ghost use Rattle.xet_records.specs.Limits.{MAX_ROWS};
 
 use super::xorb_writer::ChunkTableRow;
 use std::alloc::Global;
@@ -35,13 +36,13 @@ pub trait WrittenSection {
 
     /// Whether so many rows more fit the section.
     fn has_room(&self, more: u64) -> bool
-        ensures { IsTrue result ↔ (rows self.now + more ≤ 4294967295) };
+        ensures { IsTrue result ↔ (rows self.now + more ≤ MAX_ROWS) };
 
     /// Adds and writes the next record. The error is the writer's, or `OutOfMemory` if an
     /// allocation fails.
     fn write<W: Write>(&mut self, writer: &mut W, next: &Self::Record) -> Result<()>
         requires whole { is_whole next.now }
-        requires rows { rows self.old + Self.Record.kind.row_count next.now ≤ 4294967295 }
+        requires rows { rows self.old + Self.Record.kind.row_count next.now ≤ MAX_ROWS }
         ensures appended { OnOk result
             (Appends (W.contents writer.old) (W.contents writer.new)
             (Self.Record.kind.record_bytes next.now)) }
@@ -51,8 +52,8 @@ pub trait WrittenSection {
         ensures causes { IfErr result IsWriteError };
 
     /// Adds and writes the record of a header that was read, each row after it as it is read, as
-    /// reading returns it. The failure is the input's, `UnexpectedEof` if fewer rows are left; or the
-    /// output's, `OutOfMemory` if an allocation fails.
+    /// reading returns it. The failure is the input's, `UnexpectedEof` if fewer rows are left; or
+    /// the output's, `OutOfMemory` if an allocation fails.
     fn copy<M, I: ByteInput<M>, W: Write>(
         &mut self,
         input: &mut I,
@@ -61,7 +62,7 @@ pub trait WrittenSection {
     ) -> CopyResult<()>
         requires is_record { Self.Record.kind.hash_of header ≢ all_ones }
         requires fits { Self.Record.kind.Fits header }
-        requires rows { rows self.old + (1 + Self.Record.kind.rows_after header) ≤ 4294967295 }
+        requires rows { rows self.old + (1 + Self.Record.kind.rows_after header) ≤ MAX_ROWS }
         ensures { MatchResult result
             (λ _. CopiesRecord Self.Record.kind header (I.reads input.old input.new)
             (W.contents writer.old) (W.contents writer.new) (has_written self.old)
@@ -87,7 +88,7 @@ pub struct RecordTable {
     pub rows: u64,
     pub bytes: Vec<u8>,
     ghost records_fit: { records ≤ rows },
-    ghost rows_fit: { rows ≤ 4294967295 },
+    ghost rows_fit: { rows ≤ MAX_ROWS },
 }
 
 /// The files written so far: their lookup table, and their sizes in sum.
@@ -99,7 +100,8 @@ pub struct WrittenFiles {
 }
 
 /// The xorbs written so far: their lookup table, the rows of the chunk table, in the order of the
-/// section, if they are wanted, and the sums of their sizes, unpacked and on disk, by their headers.
+/// section, if they are wanted, and the sums of their sizes, unpacked and on disk, by their
+/// headers.
 #[derive(Drop)]
 pub struct WrittenXorbs {
     pub table: RecordTable,

@@ -3,14 +3,14 @@
 ghost use Rattle.std.specs.Prelude.{◌≡◌, ℕ, List, Option, true, ◌+◌, ◌≤◌, min, MatchResult, OnOk, IfOk, IfErr};
 ghost use Rattle.std.specs.FinMap as finite;
 ghost use Rattle.xet_base.specs.KeyedHash.{under_key};
-ghost use Rattle.xet_base.specs.Table.{IsSorted, Serves};
+ghost use Rattle.xet_base.specs.Table.{IsSorted, NoFailure};
 ghost use Rattle.xet_records.specs.declared.file_structs.MDBFileInfo.{MDBFileInfo as File};
 ghost use Rattle.xet_records.specs.declared.xorb_structs.MDBXorbInfo.{MDBXorbInfo as Xorb};
 ghost use Rattle.xet_records.specs.XorbRecord.{xorb_records};
 ghost use Rattle.xet_shards.specs.Shard.{Shard};
-ghost use Rattle.xet_shards.specs.Layout.{Form};
-ghost use Rattle.xet_shards.specs.InForm.{Ascends, IsInForm};
-ghost use Rattle.xet_shards.specs.Lookup.{FindsStarts, Searches, xorb_table, chunk_lookup_table, IsPair, LooksUpIndex, ReadsInfo, ReadInfoFails};
+ghost use Rattle.xet_shards.specs.Layout.{LayoutOptions};
+ghost use Rattle.xet_shards.specs.WithOptions.{Ascends, IsBytesWithOptions};
+ghost use Rattle.xet_shards.specs.Lookup.{FindsStarts, Searches, xorb_table, chunk_lookup_table, IsRowAndIndex, LooksUpIndex, ReadsInfo, ReadInfoFails};
 ghost use Rattle.xet_shards.specs.WrittenChunks.{FindsRows};
 ghost use Rattle.xet_shards.specs.WrittenShard.{IsBytesWithInfo};
 
@@ -28,10 +28,10 @@ use xet_records::xorb_structs::MDBXorbInfo;
 impl MDBShardInfo {
     /// Reads the record at a row of the xorb section.
     ///
-    /// `InvalidShard` if the row's offset does not fit `u64`, or the rows after the record's header do
-    /// not fit `u32`; `InternalError` if there is a bookend at the row, `UnexpectedEof` if the source
-    /// ends before the record does, `OutOfMemory` if an allocation fails. Any other error is the
-    /// source's.
+    /// `InvalidShard` if the row's offset does not fit `u64`, or the rows after the record's header
+    /// do not fit `u32`; `InternalError` if there is a bookend at the row, `UnexpectedEof` if the
+    /// source ends before the record does, `OutOfMemory` if an allocation fails. Any other error is
+    /// the source's.
     pub fn read_xorb_info<S: ShardSource>(
         &self,
         alloc: Global,
@@ -63,12 +63,12 @@ impl MDBShardInfo {
         dest: &mut [(u32, u32); 8],
     ) -> Result<usize>
         ensures looks { Searches (chunk_lookup_table self.now.metadata (S.meaning source.old))
-            (under_key self.now.metadata.chunk_hash_hmac_key unkeyed_hash.now).word0 IsPair 8
+            (under_key self.now.metadata.chunk_hash_hmac_key unkeyed_hash.now).word0 IsRowAndIndex 8
             dest.old dest.new (S.meaning source.old) (S.meaning source.new) result }
-        ensures in_form { (files : List File) → (xorbs : List Xorb) → (form : Form)
-            → IsInForm files xorbs form (S.meaning source.old).bytes self.now.metadata
-            → form.chunk_table ≡ true
-            → FindsRows xorbs (under_key form.key unkeyed_hash.now).word0 dest.old dest.new
+        ensures with_options { (files : List File) → (xorbs : List Xorb) → (options : LayoutOptions)
+            → IsBytesWithOptions files xorbs options (S.meaning source.old).bytes self.now.metadata
+            → options.chunk_table ≡ true
+            → FindsRows xorbs (under_key options.key unkeyed_hash.now).word0 dest.old dest.new
             (S.meaning source.old) (S.meaning source.new) result }
         ensures written { (s : Shard) → IsBytesWithInfo s (S.meaning source.old).bytes self.now
             → FindsRows (finite.values s.xorbs) unkeyed_hash.now.word0 dest.old dest.new
@@ -96,9 +96,9 @@ impl MDBShardInfo {
     ) -> Result<usize>
         ensures looks { LooksUpIndex (xorb_table self.now.metadata (S.meaning source.old))
             hash.now.word0 dest.old dest.new (S.meaning source.old) (S.meaning source.new) result }
-        ensures in_form { (files : List File) → (xorbs : List Xorb) → (form : Form)
-            → IsInForm files xorbs form (S.meaning source.old).bytes self.now.metadata
-            → Ascends xorb_records xorbs → form.xorb_table ≡ true
+        ensures with_options { (files : List File) → (xorbs : List Xorb) → (options : LayoutOptions)
+            → IsBytesWithOptions files xorbs options (S.meaning source.old).bytes self.now.metadata
+            → Ascends xorb_records xorbs → options.xorb_table ≡ true
             → FindsStarts xorb_records xorbs hash.now.word0 dest.new (S.meaning source.old)
             (S.meaning source.new) result }
         ensures written { (s : Shard)

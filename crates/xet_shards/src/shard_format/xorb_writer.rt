@@ -11,13 +11,14 @@ ghost use Rattle.xet_records.specs.XorbRecord.{xorb_record_bytes, xorb_row_count
 ghost use Rattle.xet_records.specs.XorbRow.{chunk_row, FitsChunk};
 ghost use Rattle.xet_shards.specs.Tables.{chunk_table_row_bytes, AddsChunkRows};
 ghost use Rattle.xet_shards.specs.Written.{AddsRecord, HasWrittenFor, HasWrittenXorbs};
+ghost use Rattle.xet_records.specs.Limits.{MAX_ROWS};
 
 use super::written::{RecordTable, WrittenSection, WrittenXorbs};
 use std::alloc::Global;
 use std::io::Write;
 use xet_base::error::{CoreError, Result};
+use xet_base::fields::{put_u32, put_u64};
 use xet_base::input::ByteInput;
-use xet_base::row::{put_u32, put_u64};
 use xet_records::row_copier::{CopyFailure, CopyResult, copy_row, write_row};
 use xet_records::xorb_structs::{MDBXorbInfo, XorbChunkSequenceEntry, XorbChunkSequenceHeader};
 
@@ -47,7 +48,7 @@ impl WrittenXorbs {
     /// Adds the next xorb by its header, and not yet its chunks, and returns the row at which its
     /// record starts. `OutOfMemory` if an allocation fails.
     pub fn add(&mut self, header: &XorbChunkSequenceHeader) -> Result<u32>
-        requires rows { self.old.table.rows + (1 + header.now.num_entries) ≤ 4294967295 }
+        requires rows { self.old.table.rows + (1 + header.now.num_entries) ≤ MAX_ROWS }
         ensures row { IfOk result (λ row. row ≡ self.old.table.rows) }
         ensures table { OnOk result
             (AddsRecord self.old.table self.new.table header.now.xorb_hash.word0
@@ -77,7 +78,7 @@ impl WrittenXorbs {
         chunk_table: bool,
     ) -> Result<()>
         requires whole { HasItsChunks xorb.now }
-        requires rows { self.old.table.rows + xorb_row_count xorb.now ≤ 4294967295 }
+        requires rows { self.old.table.rows + xorb_row_count xorb.now ≤ MAX_ROWS }
         ensures appended { OnOk result
             (Appends (W.contents writer.old) (W.contents writer.new) (xorb_record_bytes xorb.now)) }
         ensures written { OnOk result ((before : List MDBXorbInfo)
@@ -154,7 +155,7 @@ fn collect_chunk_rows(
     row: u32,
     chunks: &[XorbChunkSequenceEntry],
 ) -> Result<()>
-    requires { length chunks.now ≤ 4294967295 }
+    requires { length chunks.now ≤ MAX_ROWS }
     ensures ok { OnOk result
         (wanted ≡ true → AddsChunkRows chunk_rows.old.items chunk_rows.new.items row chunks.now) }
     ensures no_rows { wanted ≡ false → chunk_rows.new ≡ chunk_rows.old }
@@ -172,7 +173,7 @@ fn push_chunk_rows(
     row: u32,
     chunks: &[XorbChunkSequenceEntry],
 ) -> Result<()>
-    requires { length chunks.now ≤ 4294967295 }
+    requires { length chunks.now ≤ MAX_ROWS }
     ensures ok { OnOk result
         (AddsChunkRows chunk_rows.old.items chunk_rows.new.items row chunks.now) }
     ensures causes { IfErr result (λ e. e ≡ CoreError.OutOfMemory) }

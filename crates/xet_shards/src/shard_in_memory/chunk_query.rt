@@ -3,7 +3,7 @@
 ghost use Rattle.std.specs.Prelude.{◌≡◌, ◌≤◌, ◌↔◌, None, length};
 ghost use Rattle.xet_base.specs.KeyedHash.{no_key};
 ghost use Rattle.xet_records.specs.XorbRecord.{IsXorb};
-ghost use Rattle.xet_shards.specs.ChunkQuery.{run_length, run_at, query_answer, IsUnknown};
+ghost use Rattle.xet_shards.specs.ChunkQuery.{run_length, run_at, query_answer, HasNoChunk};
 
 use super::xorb_store::XorbStore;
 use xet_base::merklehash::MerkleHash;
@@ -18,7 +18,7 @@ pub fn chunk_hash_dedup_query(
     query_hashes: &[MerkleHash],
 ) -> Option<(usize, FileDataSequenceEntry)>
     ensures answer { result ≡ query_answer xorbs.now.locations query_hashes.now }
-    ensures none { (result ≡ None) ↔ IsUnknown xorbs.now.xorbs query_hashes.now }
+    ensures none { (result ≡ None) ↔ HasNoChunk xorbs.now.xorbs query_hashes.now }
 {
     let (xorb, index) = xorbs.lookup().get(query_hashes.first()?)?;
     Some(run_at(xorb.as_ref(), *index, query_hashes))

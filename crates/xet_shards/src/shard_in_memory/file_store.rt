@@ -11,7 +11,7 @@ ghost use Rattle.xet_records.specs.Merging.{IsSameFile, merged};
 ghost use Rattle.xet_records.specs.Part.{rows_of, optional_rows};
 ghost use Rattle.xet_shards.specs.FileStore.{HasAnnounced, AreClear};
 ghost use Rattle.xet_shards.specs.Shard.{AreFiles, file_hash_of};
-ghost use Rattle.xet_shards.specs.Joining.{but, entry, CanJoinFile, CanJoinFiles, either_file, own_file};
+ghost use Rattle.xet_shards.specs.Joining.{unless_in, entry, CanJoinFile, CanJoinFiles, either_file, own_file};
 
 use std::alloc::Global;
 use std::collections::BTreeMap;
@@ -35,11 +35,11 @@ impl Model for FileStore {
     ghost coded = { coded_files };
 
     ghost use Rattle.std.specs.FinMap.{from_sorted};
-    ghost use Rattle.xet_shards.specs.FileStore.{IsSound};
+    ghost use Rattle.xet_shards.specs.FileStore.{IsSoundFileStore};
 
     ghost view = { λ t. from_sorted t.content.entries };
 
-    ghost invariant = { IsSound };
+    ghost invariant = { IsSoundFileStore };
 }
 
 impl FileStore {
@@ -101,7 +101,7 @@ impl FileStore {
     ) -> Result<()>
         requires { AreFiles others.now.entries }
         ensures ok { OnOk result ((q : DataHash) → finite.get self.new q
-            ≡ option_or (finite.get self.old q) (but except.now (entry others.now.entries) q)) }
+            ≡ option_or (finite.get self.old q) (unless_in except.now (entry others.now.entries) q)) }
         ensures causes { IfErr result (λ e. e ≡ CoreError.OutOfMemory) }
     {
         for (file_hash, file_info) in others {
@@ -139,7 +139,7 @@ impl FileStore {
     /// fails.
     pub fn difference(&self, alloc: Global, other: &FileStore) -> Result<FileStore>
         ensures ok { IfOk result (λ t. (q : DataHash) → finite.get t q
-            ≡ but self.now (finite.get other.now) q) }
+            ≡ unless_in self.now (finite.get other.now) q) }
         ensures causes { IfErr result (λ e. e ≡ CoreError.OutOfMemory) }
     {
         let mut rest = FileStore::new(alloc);

@@ -8,6 +8,7 @@ ghost use Rattle.xet_records.specs.XorbRecord.{xorb_records};
 ghost use Rattle.xet_shards.specs.Section.{total_rows};
 ghost use Rattle.xet_shards.specs.Shard.{AreFiles, AreXorbs};
 ghost use Rattle.xet_shards.specs.XorbStore.{shown_xorbs, xorbs_of};
+ghost use Rattle.xet_records.specs.Limits.{MAX_ROWS};
 
 use std::collections::BTreeMap;
 use std::rc::Rc;
@@ -18,7 +19,7 @@ use xet_records::xorb_structs::MDBXorbInfo;
 /// The rows of files, which fit `u32`.
 pub fn file_rows(files: &BTreeMap<MerkleHash, MDBFileInfo>) -> u64
     requires files { AreFiles files.now.entries }
-    requires rows { total_rows file_records (values files.now) ≤ 4294967295 }
+    requires rows { total_rows file_records (values files.now) ≤ MAX_ROWS }
     ensures { result ≡ total_rows file_records (values files.now) }
 {
     let mut rows = 0;
@@ -38,7 +39,7 @@ pub fn have_aux_rows(files: &BTreeMap<MerkleHash, MDBFileInfo>) -> bool
 /// The rows of xorbs, which fit `u32`.
 pub fn xorb_rows(xorbs: &BTreeMap<MerkleHash, Rc<MDBXorbInfo>>) -> u64
     requires xorbs { AreXorbs (shown_xorbs xorbs.now.entries) }
-    requires rows { total_rows xorb_records (xorbs_of xorbs.now.entries) ≤ 4294967295 }
+    requires rows { total_rows xorb_records (xorbs_of xorbs.now.entries) ≤ MAX_ROWS }
     ensures { result ≡ total_rows xorb_records (xorbs_of xorbs.now.entries) }
 {
     let mut rows = 0;
@@ -51,7 +52,7 @@ pub fn xorb_rows(xorbs: &BTreeMap<MerkleHash, Rc<MDBXorbInfo>>) -> u64
 /// The size of files, in bytes. Their rows fit `u32`, so the sum fits `u64`.
 pub fn materialized_bytes(files: &BTreeMap<MerkleHash, MDBFileInfo>) -> u64
     requires files { AreFiles files.now.entries }
-    requires rows { total_rows file_records (values files.now) ≤ 4294967295 }
+    requires rows { total_rows file_records (values files.now) ≤ MAX_ROWS }
     ensures { result ≡ sum_by size_of_file (values files.now) }
 {
     let mut bytes = 0;
@@ -64,7 +65,7 @@ pub fn materialized_bytes(files: &BTreeMap<MerkleHash, MDBFileInfo>) -> u64
 /// The size of xorbs on disk, in bytes. Their rows fit `u32`, so the sum fits `u64`.
 pub fn stored_bytes_on_disk(xorbs: &BTreeMap<MerkleHash, Rc<MDBXorbInfo>>) -> u64
     requires xorbs { AreXorbs (shown_xorbs xorbs.now.entries) }
-    requires rows { total_rows xorb_records (xorbs_of xorbs.now.entries) ≤ 4294967295 }
+    requires rows { total_rows xorb_records (xorbs_of xorbs.now.entries) ≤ MAX_ROWS }
     ensures { result ≡ sum_by (λ x. x.metadata.num_bytes_on_disk) (xorbs_of xorbs.now.entries) }
 {
     let mut bytes = 0;
@@ -77,7 +78,7 @@ pub fn stored_bytes_on_disk(xorbs: &BTreeMap<MerkleHash, Rc<MDBXorbInfo>>) -> u6
 /// The unpacked size of xorbs, in bytes. Their rows fit `u32`, so the sum fits `u64`.
 pub fn stored_bytes(xorbs: &BTreeMap<MerkleHash, Rc<MDBXorbInfo>>) -> u64
     requires xorbs { AreXorbs (shown_xorbs xorbs.now.entries) }
-    requires rows { total_rows xorb_records (xorbs_of xorbs.now.entries) ≤ 4294967295 }
+    requires rows { total_rows xorb_records (xorbs_of xorbs.now.entries) ≤ MAX_ROWS }
     ensures { result ≡ sum_by (λ x. x.metadata.num_bytes_in_xorb) (xorbs_of xorbs.now.entries) }
 {
     let mut bytes = 0;

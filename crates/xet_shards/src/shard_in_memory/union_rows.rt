@@ -15,6 +15,7 @@ ghost use Rattle.xet_shards.specs.Section.{total_rows};
 ghost use Rattle.xet_shards.specs.Shard.{FileMap, XorbMap, AreFiles, AreXorbs};
 ghost use Rattle.xet_shards.specs.Joining.{entry, CanJoinFile, CanJoinFiles, either_file};
 ghost use Rattle.xet_shards.specs.XorbStore.{shown_xorbs};
+ghost use Rattle.xet_records.specs.Limits.{MAX_ROWS};
 
 use super::file_store::{FileStore, can_join, joined_rows};
 use super::xorb_store::XorbStore;
@@ -33,9 +34,9 @@ pub fn united_file_rows(
 ) -> Option<u64>
     requires sorted { T (is_sorted hash_cmp files.now.entries) }
     requires files { AreFiles files.now.entries }
-    requires rows { total_rows file_records (values files.now) ≤ 4294967295 }
+    requires rows { total_rows file_records (values files.now) ≤ MAX_ROWS }
     requires others { other_rows ≡ total_rows file_records (finite.values other.now) }
-    requires other_rows { other_rows ≤ 4294967295 }
+    requires other_rows { other_rows ≤ MAX_ROWS }
     ensures { MatchOption result
         (CanJoinFiles (from_sorted files.now.entries) other.now → ⊥)
         (λ united. CanJoinFiles (from_sorted files.now.entries) other.now
@@ -92,9 +93,9 @@ pub fn united_xorb_rows(
     requires sorted { T (is_sorted hash_cmp (shown_xorbs xorbs.now.entries)) }
     requires xorbs { AreXorbs (shown_xorbs xorbs.now.entries) }
     requires rows { total_rows xorb_records (values_of (shown_xorbs xorbs.now.entries))
-        ≤ 4294967295 }
+        ≤ MAX_ROWS }
     requires others { other_rows ≡ total_rows xorb_records (finite.values other.now.xorbs) }
-    requires other_rows { other_rows ≤ 4294967295 }
+    requires other_rows { other_rows ≤ MAX_ROWS }
     ensures { (c : XorbMap) → ((q : DataHash) → finite.get c q
         ≡ option_or (finite.get other.now.xorbs q) (entry (shown_xorbs xorbs.now.entries) q))
         → result ≡ total_rows xorb_records (finite.values c) }

@@ -8,7 +8,7 @@ ghost use Rattle.xet_base.specs.declared.merklehash.DataHash.{DataHash};
 ghost use Rattle.xet_records.specs.XorbRecord.{xorb_row_count, IsXorb, FitsXorb, HasItsChunks, size_of_chunks};
 ghost use Rattle.xet_shards.specs.Shard.{AreXorbs, xorb_hash_of};
 ghost use Rattle.xet_shards.specs.ChunkLookup.{ChunkLocation, IsChunkLookup, put_xorb};
-ghost use Rattle.xet_shards.specs.Joining.{but, entry};
+ghost use Rattle.xet_shards.specs.Joining.{unless_in, entry};
 ghost use Rattle.xet_shards.specs.XorbStore.{shown_xorbs, location_in, IsEntered};
 
 use std::alloc::Global;
@@ -35,11 +35,11 @@ impl Model for XorbStore {
 
     ghost coded = { coded_xorbs_with_lookup };
 
-    ghost use Rattle.xet_shards.specs.XorbStore.{xorbs_inside, IsSound};
+    ghost use Rattle.xet_shards.specs.XorbStore.{xorbs_inside, IsSoundXorbStore};
 
     ghost view = { xorbs_inside };
 
-    ghost invariant = { IsSound };
+    ghost invariant = { IsSoundXorbStore };
 }
 
 impl XorbStore {
@@ -138,7 +138,7 @@ impl XorbStore {
         requires { AreXorbs (shown_xorbs others.now.entries) }
         ensures ok { OnOk result ((q : DataHash) → finite.get self.new.xorbs q
             ≡ option_or (finite.get self.old.xorbs q)
-            (but except.now.xorbs (entry (shown_xorbs others.now.entries)) q)) }
+            (unless_in except.now.xorbs (entry (shown_xorbs others.now.entries)) q)) }
         ensures causes { IfErr result (λ e. e ≡ CoreError.OutOfMemory) }
     {
         for (xorb_hash, xorb) in others {
@@ -176,7 +176,7 @@ impl XorbStore {
     /// fails.
     pub fn difference(&self, alloc: Global, other: &XorbStore) -> Result<XorbStore>
         ensures ok { IfOk result (λ t. (q : DataHash) → finite.get t.xorbs q
-            ≡ but self.now.xorbs (finite.get other.now.xorbs) q) }
+            ≡ unless_in self.now.xorbs (finite.get other.now.xorbs) q) }
         ensures causes { IfErr result (λ e. e ≡ CoreError.OutOfMemory) }
     {
         let mut rest = XorbStore::new(alloc);

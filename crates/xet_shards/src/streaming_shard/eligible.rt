@@ -65,8 +65,8 @@ impl MDBShardInfo {
     }
 }
 
-// The hashes of a set in ascending order. `collect` would go on if its first allocation, of room for
-// all of them, fails.
+// The hashes of a set in ascending order. `collect` would go on if its first allocation, of room
+// for all of them, fails.
 fn list_of(alloc: Global, hashes: BTreeSet<MerkleHash>) -> Result<Vec<MerkleHash>>
     ensures ok { IfOk result (λ listed. listed.items ≡ hashes.keys) }
     ensures causes { IfErr result (λ e. e ≡ CoreError.OutOfMemory) }

@@ -85,8 +85,8 @@ fn place_of(starts: &[FileStart], first: &FileStart) -> usize
     }
 }
 
-/// Writes a xorb with a mark on each chunk that is a start, and its other marks as they are. The rows
-/// between starts are written as they are stored. The error is the writer's.
+/// Writes a xorb with a mark on each chunk that is a start, and its other marks as they are. The
+/// rows between starts are written as they are stored. The error is the writer's.
 pub(super) fn write_marked<W: Write>(
     writer: &mut W,
     xorb: &MDBXorbInfoView,

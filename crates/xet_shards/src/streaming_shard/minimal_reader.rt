@@ -2,8 +2,8 @@
 
 ghost use Rattle.std.specs.Prelude.{◌≡◌, List, [], ◌∷◌, ◌++◌, MatchResult, OnOk, IfErr, if◌then◌else◌};
 ghost use Rattle.xet_records.specs.RecordKind.{in_version};
-ghost use Rattle.xet_shards.specs.Layout.{if_in};
-ghost use Rattle.xet_shards.specs.MinimalReading.{ReadsViews, StopsAfterViews, ReadsSections, SectionsFail};
+ghost use Rattle.xet_shards.specs.Layout.{if_included};
+ghost use Rattle.xet_shards.specs.MinimalReading.{ReadsViews, StopsAfterViews, ReadsSections, SectionsNotRead};
 
 use super::minimal_shard::MDBMinimalShard;
 use bytes::BytesMut;
@@ -29,7 +29,7 @@ pub(super) fn read_sections<M, I: ByteInput<M>>(
 ) -> Result<MDBMinimalShard>
     ensures { MatchResult result
         (ReadsSections I.reads version with_files with_xorbs input.old input.new)
-        (SectionsFail I.reads I.fails version with_xorbs input.old input.new) }
+        (SectionsNotRead I.reads I.fails version with_xorbs input.old input.new) }
 {
     let files = read_views::<MDBFileInfo, MDBFileInfoView, M, I>(
         alloc, input, version, with_files,
@@ -52,7 +52,7 @@ fn read_views<R: SectionRecord, V: RecordView<R> + Drop, M, I: ByteInput<M>>(
     ensures { MatchResult result
         (λ kept. (views : List V)
         × ReadsViews (in_version R.kind version) V.shown I.reads input.old input.new views
-        × (kept.items ≡ if_in is_kept views))
+        × (kept.items ≡ if_included is_kept views))
         (StopsAfterViews (in_version R.kind version) V.shown I.reads I.fails input.old input.new) }
 {
     R::laws();

@@ -10,11 +10,12 @@ ghost use Rattle.xet_records.specs.View.{as_kept};
 ghost use Rattle.std.specs.Option.{option_copied};
 ghost use Rattle.xet_base.specs.Input.{ReaderFails};
 ghost use Rattle.std.specs.Io.KnownBytes.{Consumes};
-ghost use Rattle.xet_shards.specs.InForm.{FitsSection};
+ghost use Rattle.xet_shards.specs.WithOptions.{FitsSection};
 ghost use Rattle.xet_shards.specs.MinimalShard.{FitsSections, has_file_verification, serialized_size, size_of_kept};
 ghost use Rattle.xet_shards.specs.MinimalReading.{ReadsMinimal, MinimalFails, ReaderHeaderFails};
 ghost use Rattle.xet_records.specs.FileRecord.{file_records, file_record_bytes, row_count};
 ghost use Rattle.xet_records.specs.XorbRecord.{xorb_records, xorb_record_bytes, xorb_row_count};
+ghost use Rattle.xet_records.specs.Limits.{MAX_ROWS};
 
 use super::minimal_reader::read_sections;
 use crate::shard_format::{MDBShardFileHeader, MDBShardInfo};
@@ -133,9 +134,9 @@ impl MDBMinimalShard {
         self.xorbs.get(index)
     }
 
-    /// The size in bytes that `serialize` writes, but 0 if verification rows are wanted and there is
-    /// no file, or the first one has none. Of a shard in which only a later file has none, it is the
-    /// size of the records, although `serialize` refuses the shard.
+    /// The size in bytes that `serialize` writes, but 0 if verification rows are wanted and there
+    /// is no file, or the first one has none. Of a shard in which only a later file has none, it is
+    /// the size of the records, although `serialize` refuses the shard.
     pub fn serialized_size(&self, with_verification: bool) -> u64
         ensures { result ≡ serialized_size with_verification self.now }
     {
@@ -243,7 +244,7 @@ fn copies<V: KeptView + Drop>(alloc: Global, views: &[V]) -> Result<Vec<V>>
 
 // The bytes of these parts of the records of views.
 fn bytes_of<V: KeptView>(views: &[V], kept: KeptParts) -> u64
-    requires { sum_by (V.rows kept) views.now ≤ 4294967295 }
+    requires { sum_by (V.rows kept) views.now ≤ MAX_ROWS }
     ensures { result ≡ 48 * sum_by (V.rows kept) views.now }
 {
     let mut bytes = 0;

@@ -9,15 +9,15 @@ ghost use Rattle.xet_base.specs.Errors.{IsWriteError};
 ghost use Rattle.xet_records.specs.FileRecord.{file_records, has_verification};
 ghost use Rattle.xet_records.specs.XorbRecord.{xorb_records};
 ghost use Rattle.xet_records.specs.View.{as_kept, LacksVerification, IsIoOther};
-ghost use Rattle.xet_shards.specs.InForm.{FitsSection};
+ghost use Rattle.xet_shards.specs.WithOptions.{FitsSection};
 ghost use Rattle.xet_shards.specs.Section.{section_bytes};
 ghost use Rattle.xet_shards.specs.Written.{HasWritten};
-ghost use Rattle.xet_shards.specs.MinimalShard.{start_cmp, has_start, minimal_form, HasNoTables, WritesMinimal, WritesMinimalKept, WritesKept, FiltersAt};
+ghost use Rattle.xet_shards.specs.MinimalShard.{start_cmp, has_start, minimal_options, HasNoTables, WritesMinimal, WritesMinimalKept, WritesKept, FiltersAt};
 ghost use Rattle.xet_shards.specs.MinimalWriting.{WritesMarked};
 
 use super::file_start::{FileStart, starts_of, write_marked};
 use super::minimal_shard::MDBMinimalShard;
-use crate::shard_format::form::Form;
+use crate::shard_format::options::LayoutOptions;
 use crate::shard_format::view_writer::write_file_view;
 use crate::shard_format::writer::write_end;
 use crate::shard_format::written::{WrittenFiles, WrittenSection, WrittenXorbs};
@@ -61,8 +61,8 @@ impl MDBMinimalShard {
     }
 
     /// The same without auxiliary rows. A file that has one is written under a header with bit 29
-    /// cleared and all else as it is; where its verification rows are left out too, with the flag of
-    /// a metadata row alone.
+    /// cleared and all else as it is; where its verification rows are left out too, with the flag
+    /// of a metadata row alone.
     pub fn serialize_without_aux<W: Write>(
         &self,
         alloc: Global,
@@ -102,11 +102,11 @@ impl MDBMinimalShard {
         if kept.verification && !all_have_verification(files) {
             return Err(CoreError::Io(io::Error::from(ErrorKind::Other)));
         }
-        let form = minimal_form(now, None);
+        let options = minimal_options(now, None);
         let all = |_xorb: &MDBXorbInfoView| -> bool
             ensures { IsTrue result }
         { true };
-        self.write(alloc, writer, files, kept, &form, all)
+        self.write(alloc, writer, files, kept, &options, all)
     }
 
     /// Writes the xorbs that `filter`, called once with each in order, accepts, and no files, with
@@ -123,7 +123,7 @@ impl MDBMinimalShard {
         requires { All (FiltersAt F.Fn filter) self.now.xorbs }
         ensures written { IfOk result
             (WritesKept (FnReturnsAt F.Fn filter) (W.contents writer.old) (W.contents writer.new) []
-            self.now (minimal_form now None)) }
+            self.now (minimal_options now None)) }
         ensures causes { IfErr result IsWriteError }
     {
         self.serialize_xorb_subset_with_expiry(alloc, writer, now, None, filter)
@@ -141,15 +141,15 @@ impl MDBMinimalShard {
         requires { All (FiltersAt F.Fn filter) self.now.xorbs }
         ensures written { IfOk result
             (WritesKept (FnReturnsAt F.Fn filter) (W.contents writer.old) (W.contents writer.new) []
-            self.now (minimal_form now expiry)) }
+            self.now (minimal_options now expiry)) }
         ensures causes { IfErr result IsWriteError }
     {
-        let form = minimal_form(now, expiry);
+        let options = minimal_options(now, expiry);
         let kept = KeptParts {
             verification: false,
             aux_ext: true,
         };
-        self.write(alloc, writer, &[], kept, &form, filter)
+        self.write(alloc, writer, &[], kept, &options, filter)
     }
 
     // Writes these parts of files, and the xorbs that a filter accepts, with marks at the starts of
@@ -160,23 +160,23 @@ impl MDBMinimalShard {
         writer: &mut W,
         files: &[MDBFileInfoView],
         kept: KeptParts,
-        form: &Form,
+        options: &LayoutOptions,
         filter: F,
     ) -> Result<usize>
         requires callable { All (FiltersAt F.Fn filter) self.now.xorbs }
         requires files { FitsSection file_records files.now }
-        requires form { HasNoTables form.now }
+        requires options { HasNoTables options.now }
         ensures written { IfOk result
             (WritesKept (FnReturnsAt F.Fn filter) (W.contents writer.old) (W.contents writer.new)
-            (map (as_kept kept) files.now) self.now form.now) }
+            (map (as_kept kept) files.now) self.now options.now) }
         ensures causes { IfErr result IsWriteError }
     {
         let starts = starts_of(alloc, self.files())?;
-        MDBShardFileHeader::of_version(form.version).serialize(writer)?;
+        MDBShardFileHeader::of_version(options.version).serialize(writer)?;
         let files = write_files(alloc, writer, files, kept)?;
         let xorbs = write_xorbs(alloc, writer, self.xorbs(), starts.as_slice(), filter)?;
         let size = size_of(&files, &xorbs);
-        write_end(writer, &files, xorbs, form)?;
+        write_end(writer, &files, xorbs, options)?;
         Ok(size)
     }
 }
@@ -194,10 +194,10 @@ fn all_have_verification(files: &[MDBFileInfoView]) -> bool
 }
 
 // Version 3, no tables, no key, the creation, and an expiry or 0.
-fn minimal_form(now: u64, expiry: Option<u64>) -> Form
-    ensures { result ≡ minimal_form now expiry }
+fn minimal_options(now: u64, expiry: Option<u64>) -> LayoutOptions
+    ensures { result ≡ minimal_options now expiry }
 {
-    Form {
+    LayoutOptions {
         version: FormatVersion::V3,
         file_table: false,
         xorb_table: false,

@@ -1,5 +1,5 @@
 use Rattle.std.proofs.Common.{◌≡◌, ap, ◌∙◌, subst}
-use Rattle.xet_core_structures.specs.Ends.{HasEnds}
+use Rattle.xet_core_structures.specs.Ends.{HasHeaderAndFooter}
 use Rattle.xet_core_structures.specs.Source.{Source}
 use Rattle.xet_core_structures.specs.Version.{version_of}
 use Rattle.shard_bytes.proofs.Combining.{in_memory}
@@ -14,5 +14,5 @@ pub returns-clause-read : goal.returns-clause-read
 returns-clause-read c =
     let x : c.new-source.result.bytes.now ≡ c.args.bytes.now = ap (λ (s : Source). s.bytes) c.new-source.ensures in
     files_in_memory c.args.bytes.now c.in_ok-info.info c.load_from_reader.new.source c.read_all_file_info_sections.new.source c.read_all_file_info_sections.result
-    (subst (λ bytes. HasEnds bytes c.in_ok-info.info) x c.in_ok-info.ensures.read.ends) (c.in_ok-info.ensures.read.bytes ∙ x)
+    (subst (λ bytes. HasHeaderAndFooter bytes c.in_ok-info.info) x c.in_ok-info.ensures.read.ends) (c.in_ok-info.ensures.read.bytes ∙ x)
     c.read_all_file_info_sections.ensures.read

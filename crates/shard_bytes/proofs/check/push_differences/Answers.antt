@@ -14,9 +14,9 @@ returns-in-Ok-clause-added c =
     let left = ap bytes_left c.new-source.ensures in
     let old = c.args.findings.now.items in
     let new = c.compare.new.findings.items in
-    let out = c.as_slice.ensures.value ∙ again.written ∙ ap (λ zs. zs ++ layout_of again.files again.xorbs c.of_info-form.result) c.new-written.ensures.items
-    ∙ ap (layout_of again.files again.xorbs) c.of_info-form.ensures in
-    let footer = again.footer_is ∙ ap (footer_value again.files again.xorbs) c.of_info-form.ensures in
+    let out = c.as_slice.ensures.value ∙ again.written ∙ ap (λ zs. zs ++ layout_of again.files again.xorbs c.of_info-options.result) c.new-written.ensures.items
+    ∙ ap (layout_of again.files again.xorbs) c.of_info-options.ensures in
+    let footer = again.footer_is ∙ ap (footer_value again.files again.xorbs) c.of_info-options.ensures in
     on_ok c.compare.result (Compares bytes info c.as_slice.result.now c.in-Ok.footer old new) (AddsDifferences bytes info old new)
     (λ compares. (
       again.files,

@@ -1,7 +1,7 @@
 use Rattle.std.proofs.Common.{◌≡◌, inl, inr, ap, ◌∙◌, subst}
 use Rattle.std.proofs.lemmas.Result.{err_from_is_err_and}
 use Rattle.xet_core_structures.specs.Source.{Source}
-use Rattle.xet_core_structures.specs.Ends.{HasEnds}
+use Rattle.xet_core_structures.specs.Ends.{HasHeaderAndFooter}
 use Rattle.xet_core_structures.proofs.InMemory.{not_loaded}
 use Rattle.shard_bytes.specs.Combining.{IsResultOf, RefusalOf}
 use Rattle.shard_bytes.proofs.MemoryErrors.{load_no_write}
@@ -24,7 +24,7 @@ returns-in_err-s2-clause-combined c =
     let load = not_loaded c.args.second.now c.new-r2.result c.load_from_reader-2.new.source _ y c.in_err-s2.ensures.read in
     rw (p.1, p.2) (inr (
       load_no_write c.args.second.now _ load,
-      inr (inl (c.in_ok-s1.s1, subst (λ bytes. HasEnds bytes c.in_ok-s1.s1) x c.in_ok-s1.ensures.read.ends, load)),
+      inr (inl (c.in_ok-s1.s1, subst (λ bytes. HasHeaderAndFooter bytes c.in_ok-s1.s1) x c.in_ok-s1.ensures.read.ends, load)),
     ))
 
 pub returns-in_err-bytes-clause-combined : goal.returns-in_err-bytes-clause-combined
@@ -38,7 +38,7 @@ returns-in-Err-clause-combined c =
     let y : c.new-r2.result.bytes.now ≡ c.args.second.now = ap (λ (s : Source). s.bytes) c.new-r2.ensures in
     combining_refused c.args.first.now c.args.second.now c.load_from_reader.new.source.bytes.now c.load_from_reader-2.new.source.bytes.now c.in_ok-s1.s1 c.in_ok-s2.s2
     (c.in_ok-s1.ensures.read.bytes ∙ x) (c.in_ok-s2.ensures.read.bytes ∙ y)
-    (subst (λ bytes. HasEnds bytes c.in_ok-s1.s1) x c.in_ok-s1.ensures.read.ends) (subst (λ bytes. HasEnds bytes c.in_ok-s2.s2) y c.in_ok-s2.ensures.read.ends)
+    (subst (λ bytes. HasHeaderAndFooter bytes c.in_ok-s1.s1) x c.in_ok-s1.ensures.read.ends) (subst (λ bytes. HasHeaderAndFooter bytes c.in_ok-s2.s2) y c.in_ok-s2.ensures.read.ends)
     (RefusalOf c.args.operation) c.load_from_reader.new.source c.combine.new.r1 c.load_from_reader-2.new.source c.combine.new.r2 c.in-Err.error c.in_memory.result c.in-Err.ensures c.in_memory.ensures
 
 pub returns-in-Ok-clause-combined : goal.returns-in-Ok-clause-combined
@@ -47,7 +47,7 @@ returns-in-Ok-clause-combined c =
     let y : c.new-r2.result.bytes.now ≡ c.args.second.now = ap (λ (s : Source). s.bytes) c.new-r2.ensures in
     bytes_combined c.args.first.now c.args.second.now c.load_from_reader.new.source.bytes.now c.load_from_reader-2.new.source.bytes.now c.in_ok-s1.s1 c.in_ok-s2.s2
     (c.in_ok-s1.ensures.read.bytes ∙ x) (c.in_ok-s2.ensures.read.bytes ∙ y)
-    (subst (λ bytes. HasEnds bytes c.in_ok-s1.s1) x c.in_ok-s1.ensures.read.ends) (subst (λ bytes. HasEnds bytes c.in_ok-s2.s2) y c.in_ok-s2.ensures.read.ends)
+    (subst (λ bytes. HasHeaderAndFooter bytes c.in_ok-s1.s1) x c.in_ok-s1.ensures.read.ends) (subst (λ bytes. HasHeaderAndFooter bytes c.in_ok-s2.s2) y c.in_ok-s2.ensures.read.ends)
     (IsResultOf c.args.operation) c.in_ok-bytes.bytes.items c.combine.new.out.items c.in-Ok.field-0 c.in_ok-bytes.ensures.empty c.in-Ok.ensures
 
 pub returns-in-Ok-clause-size : goal.returns-in-Ok-clause-size

@@ -10,7 +10,7 @@ pub returns-then-branch : goal.returns-then-branch
 returns-then-branch c =
     let bytes = c.args.bytes.now in
     let start = c.in_ok-written.written.items in
-    let again = subst (λ form. WritesAgain (record form { version = V2 }) (in_memory c.new-source.result) (Some start) (Some c.write_again.new.writer.items) c.in_default.field-0) c.of_info.ensures c.in_default.ensures in
+    let again = subst (λ options. WritesAgain (record options { version = V2 }) (in_memory c.new-source.result) (Some start) (Some c.write_again.new.writer.items) c.in_default.field-0) c.of_info.ensures c.in_default.ensures in
     not_in_2 bytes c.in_ok-info.info c.in_ok-info.ensures (in_memory c.new-source.result) c.new-source.ensures start c.write_again.new.writer.items c.in_default.field-0 c.in_ok-written.ensures.empty again
     (subst (FindsAuxRows bytes) c.if-branch.true c.in_ok-has_aux_rows.ensures.ok)
 
@@ -18,6 +18,6 @@ pub returns : goal.returns
 returns c =
     let bytes = c.args.bytes.now in
     let start = c.in_ok-written.written.items in
-    let again = subst (λ form. WritesAgain (record form { version = V2 }) (in_memory c.new-source.result) (Some start) (Some c.write_again.new.writer.items) c.in_default.field-0) c.of_info.ensures c.in_default.ensures in
+    let again = subst (λ options. WritesAgain (record options { version = V2 }) (in_memory c.new-source.result) (Some start) (Some c.write_again.new.writer.items) c.in_default.field-0) c.of_info.ensures c.in_default.ensures in
     written_in_2 bytes c.in_ok-info.info c.in_ok-info.ensures (in_memory c.new-source.result) c.new-source.ensures start c.write_again.new.writer.items c.in_default.field-0 c.in_ok-written.ensures.empty again
     (subst (FindsAuxRows bytes) c.if-branch.false c.in_ok-has_aux_rows.ensures.ok)

@@ -1,5 +1,5 @@
 use Rattle.std.proofs.Common.{◌≡◌, ap, ◌∙◌, subst}
-use Rattle.xet_core_structures.specs.Ends.{HasEnds}
+use Rattle.xet_core_structures.specs.Ends.{HasHeaderAndFooter}
 use Rattle.xet_core_structures.specs.XorbRecord.{xorb_records}
 use Rattle.xet_core_structures.specs.Source.{Source}
 use Rattle.shard_bytes.specs.Walking.{IsAtRow, NotAtRow}
@@ -12,7 +12,7 @@ returns c =
     let info = c.in_ok-info.info in
     let x : c.new-source.result.bytes.now ≡ bytes = ap (λ (s : Source). s.bytes) c.new-source.ensures in
     let same : c.load_from_reader.new.source.bytes.now ≡ bytes = c.in_ok-info.ensures.read.bytes ∙ x in
-    let ends = subst (λ all. HasEnds all info) x c.in_ok-info.ensures.read.ends in
+    let ends = subst (λ all. HasHeaderAndFooter all info) x c.in_ok-info.ensures.read.ends in
     found_with_ends bytes info ends (λ i found. IsAtRow (xorb_records) bytes i.metadata.xorb_info_offset c.args.row found) (λ i e. NotAtRow (xorb_records) bytes i.metadata.xorb_info_offset c.args.row e)
     c.unless_bookend.result
     (at_row xorb_records bytes info.metadata.xorb_info_offset c.args.row c.load_from_reader.new.source c.read_xorb_info.new.source same c.read_xorb_info.result c.unless_bookend.result c.read_xorb_info.ensures c.unless_bookend.ensures)

@@ -1,6 +1,6 @@
 use Rattle.std.proofs.Common.{rules, ◌≡◌, ◌∷◌, ◌++◌, ℕ, List, map, Bor, sym, ap, ◌∙◌, arith}
 use Rattle.std.proofs.lemmas.Result.{err_from_is_err_and}
-use Rattle.shardtool.specs.Trees.{words_of}
+use Rattle.shardtool.specs.Trees.{words_of_line}
 use Rattle.shardtool.proofs.Trees.{opening, closing, pair_after, name_before, some_words, pair_found}
 use Rattle.shardtool.proofs.tree.+parse_front.Goals as goal
 
@@ -34,7 +34,7 @@ returns-in_err-left-clause-every t c = λ tree rest is same.
     let first : c.in-Some.first.now.now ≡ opening = search (rules, c.if-ne.false, c.if-ne.ensures) in
     let pair = pair_after tree c.args.depth others rest is (sym (ap (λ (w : List ℕ). w ∷ others) first) ∙ sym words ∙ same) in
     let p = err_from_is_err_and c.from_residual-in_err-left.result c.from_residual-in_err-left.ensures.1 in
-    rw (p.1, p.2) (c.in_err-left.ensures.every pair.left (words_of pair.right ++ (closing ∷ rest)) pair.left_is pair.are)
+    rw (p.1, p.2) (c.in_err-left.ensures.every pair.left (words_of_line pair.right ++ (closing ∷ rest)) pair.left_is pair.are)
 
 pub returns-in_err-right-clause-every : goal.returns-in_err-right-clause-every
 returns-in_err-right-clause-every t c = λ tree rest is same.
@@ -42,7 +42,7 @@ returns-in_err-right-clause-every t c = λ tree rest is same.
     let others = map (λ w. w.now) c.in-Some.rest.now in
     let first : c.in-Some.first.now.now ≡ opening = search (rules, c.if-ne.false, c.if-ne.ensures) in
     let pair = pair_after tree c.args.depth others rest is (sym (ap (λ (w : List ℕ). w ∷ others) first) ∙ sym words ∙ same) in
-    let left = c.in_ok-left.ensures.every pair.left (words_of pair.right ++ (closing ∷ rest)) pair.left_is pair.are in
+    let left = c.in_ok-left.ensures.every pair.left (words_of_line pair.right ++ (closing ∷ rest)) pair.left_is pair.are in
     let p = err_from_is_err_and c.from_residual-in_err-right.result c.from_residual-in_err-right.ensures.1 in
     rw (p.1, p.2) (c.in_err-right.ensures.every pair.right (closing ∷ rest) pair.right_is left)
 
@@ -52,7 +52,7 @@ returns-in_err-rest-clause-every t c = λ tree rest is same.
     let others = map (λ w. w.now) c.in-Some.rest.now in
     let first : c.in-Some.first.now.now ≡ opening = search (rules, c.if-ne.false, c.if-ne.ensures) in
     let pair = pair_after tree c.args.depth others rest is (sym (ap (λ (w : List ℕ). w ∷ others) first) ∙ sym words ∙ same) in
-    let left = c.in_ok-left.ensures.every pair.left (words_of pair.right ++ (closing ∷ rest)) pair.left_is pair.are in
+    let left = c.in_ok-left.ensures.every pair.left (words_of_line pair.right ++ (closing ∷ rest)) pair.left_is pair.are in
     let right = c.in_ok-right.ensures.every pair.right (closing ∷ rest) pair.right_is left in
     absurd (c.in_err-rest.ensures.every rest right)
 
@@ -62,7 +62,7 @@ returns-clause-every t c = λ tree rest is same.
     let others = map (λ w. w.now) c.in-Some.rest.now in
     let first : c.in-Some.first.now.now ≡ opening = search (rules, c.if-ne.false, c.if-ne.ensures) in
     let pair = pair_after tree c.args.depth others rest is (sym (ap (λ (w : List ℕ). w ∷ others) first) ∙ sym words ∙ same) in
-    let left = c.in_ok-left.ensures.every pair.left (words_of pair.right ++ (closing ∷ rest)) pair.left_is pair.are in
+    let left = c.in_ok-left.ensures.every pair.left (words_of_line pair.right ++ (closing ∷ rest)) pair.left_is pair.are in
     let right = c.in_ok-right.ensures.every pair.right (closing ∷ rest) pair.right_is left in
     c.in_ok-rest.ensures.every rest right
 

@@ -14,7 +14,7 @@ pub returns-in_err-found-clause-refused : goal.returns-in_err-found-clause-refus
 returns-in_err-found-clause-refused g c =
     let t = table_in c.args.range (g.S.ShardSource.meaning c.args.source.now).bytes in
     let p = err_from_is_err_and c.from_residual.result c.from_residual.ensures.1 in
-    rw (p.1, p.2) (read_failure t c.loop-row.row (g.S.ShardSource.meaning c.args.source.now) (g.S.ShardSource.meaning c.loop-row.source) (g.S.ShardSource.meaning c.read_key.new.source) 8 _ c.loop-row.invariant.serves
+    rw (p.1, p.2) (read_failure t c.loop-row.row (g.S.ShardSource.meaning c.args.source.now) (g.S.ShardSource.meaning c.loop-row.source) (g.S.ShardSource.meaning c.read_key.new.source) 8 _ c.loop-row.invariant.no_failure
     (omega (arith, c.loop-row-test.true, c.requires.within)) (omega (arith, c.loop-row.invariant.at)) c.in_err-found.ensures.cause)
 
 pub returns-in_err-found-clause-passes : goal.returns-in_err-found-clause-passes
@@ -29,7 +29,7 @@ returns-in_err-value-clause-refused g c =
     let p = err_from_is_err_and c.from_residual-in_err-value.result c.from_residual-in_err-value.ensures.1 in
     let fails = c.requires.reads _ _ _ c.in_err-value.ensures in
     let after = c.in_ok-found.ensures.0.after in
-    rw (p.1, p.2) (read_failure t c.loop-row.row (g.S.ShardSource.meaning c.args.source.now) (g.S.ShardSource.meaning c.read_key.new.source) (g.S.ShardSource.meaning c.read_value.new.arg2) t.width _ (serves_advanced _ (g.S.ShardSource.meaning c.loop-row.source) _ 8 c.loop-row.invariant.serves after)
+    rw (p.1, p.2) (read_failure t c.loop-row.row (g.S.ShardSource.meaning c.args.source.now) (g.S.ShardSource.meaning c.read_key.new.source) (g.S.ShardSource.meaning c.read_value.new.arg2) t.width _ (serves_advanced _ (g.S.ShardSource.meaning c.loop-row.source) _ 8 c.loop-row.invariant.no_failure after)
     (omega (arith, c.loop-row-test.true, c.requires.within)) (omega (arith, ap (λ s. s.at) after, c.loop-row.invariant.at)) fails.cause)
 
 pub returns-in_err-value-clause-passes : goal.returns-in_err-value-clause-passes
@@ -51,7 +51,7 @@ returns-then-found-key-clause-count g c sorted =
     let now = g.S.ShardSource.meaning c.loop-row.source in
     let mid = g.S.ShardSource.meaning c.read_key.new.source in
     let reads = c.in_ok-found.ensures.0 in
-    let same = c.loop-row.invariant.serves.bytes in
+    let same = c.loop-row.invariant.no_failure.bytes in
     let key = key_is t row now mid same c.loop-row.invariant.at reads c.in_ok-found.found c.in_ok-found.ensures.1 in
     counts_rest t c.args.key c.args.rows.start row c.args.rows.end _ c.args.had c.loop-row.count c.loop-row.invariant.counted
     (none_after t c.args.key row c.args.rows.end sorted (key_there t row now mid same c.loop-row.invariant.at reads) (omega (arith, key, c.if-found-key.true))
@@ -81,7 +81,7 @@ loop-row-preserved g c =
     let after = meaning c.read_value.new.arg2 in
     let reads = c.in_ok-found.ensures.0 in
     let reads_value = c.requires.reads _ _ _ c.in_ok-value.ensures in
-    let key = key_is t row now mid c.loop-row.invariant.serves.bytes c.loop-row.invariant.at reads c.in_ok-found.found c.in_ok-found.ensures.1 in
+    let key = key_is t row now mid c.loop-row.invariant.no_failure.bytes c.loop-row.invariant.at reads c.in_ok-found.found c.in_ok-found.ensures.1 in
     elim c.if-found-key-2.branch [
       | then-found-key-2 w ↦ rw (w.results-is, w.count-is)
           (collected_keep t c.args.key _ c.args.rows.start row c.args.rows.end 0 old now mid after c.args.results.now c.loop-row.results c.args.had c.loop-row.count refl c.loop-row.invariant

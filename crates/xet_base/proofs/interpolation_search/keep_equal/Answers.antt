@@ -40,7 +40,7 @@ returns-in_err-read_key-clause-refused g c =
     let t = table_in c.args.range (g.S.ShardSource.meaning c.args.source.now).bytes in
     let p = err_from_is_err_and c.from_residual-in_err-read_key.result c.from_residual-in_err-read_key.ensures.1 in
     let so_far = c.loop-row.invariant.collected in
-    rw (p.1, p.2) (read_failure t c.loop-row.row (g.S.ShardSource.meaning c.args.source.now) (g.S.ShardSource.meaning c.loop-row.source) (g.S.ShardSource.meaning c.read_key.new.source) 8 _ so_far.serves
+    rw (p.1, p.2) (read_failure t c.loop-row.row (g.S.ShardSource.meaning c.args.source.now) (g.S.ShardSource.meaning c.loop-row.source) (g.S.ShardSource.meaning c.read_key.new.source) 8 _ so_far.no_failure
     (omega (arith, c.loop-row-test.true, c.requires.within)) (omega (arith, so_far.at)) c.in_err-read_key.ensures.cause)
 
 pub returns-in_err-read_key-clause-runs : goal.returns-in_err-read_key-clause-runs
@@ -63,7 +63,7 @@ returns-then-branch-key-clause-count g c sorted =
     let mid = g.S.ShardSource.meaning c.read_key.new.source in
     let so_far = c.loop-row.invariant.collected in
     let reads = c.in_ok-read_key.ensures.0 in
-    let same = so_far.serves.bytes in
+    let same = so_far.no_failure.bytes in
     let key = key_is t row now mid same so_far.at reads c.in_ok-read_key.field-0 c.in_ok-read_key.ensures.1 in
     let there = key_there t row now mid same so_far.at reads in
     let within : row < c.args.range.rows = omega (arith, c.loop-row-test.true, c.requires.within) in
@@ -89,7 +89,7 @@ returns-in_err-value-2-clause-refused g c =
     let so_far = c.loop-row.invariant.collected in
     let fails = c.requires.reads _ _ _ c.in_err-value-2.ensures in
     let after = c.in_ok-read_key.ensures.0.after in
-    rw (p.1, p.2) (read_failure t c.loop-row.row (g.S.ShardSource.meaning c.args.source.now) (g.S.ShardSource.meaning c.read_key.new.source) (g.S.ShardSource.meaning c.read_value-in-loop-row.new.arg2) t.width _ (serves_advanced _ (g.S.ShardSource.meaning c.loop-row.source) _ 8 so_far.serves after)
+    rw (p.1, p.2) (read_failure t c.loop-row.row (g.S.ShardSource.meaning c.args.source.now) (g.S.ShardSource.meaning c.read_key.new.source) (g.S.ShardSource.meaning c.read_value-in-loop-row.new.arg2) t.width _ (serves_advanced _ (g.S.ShardSource.meaning c.loop-row.source) _ 8 so_far.no_failure after)
     (omega (arith, c.loop-row-test.true, c.requires.within)) (omega (arith, ap (λ s. s.at) after, so_far.at)) fails.cause)
 
 pub returns-in_err-value-2-clause-runs : goal.returns-in_err-value-2-clause-runs
@@ -101,10 +101,10 @@ returns-in_err-value-2-clause-runs g c =
     let so_far = c.loop-row.invariant.collected in
     let reads = c.in_ok-read_key.ensures.0 in
     let fails = c.requires.reads _ _ _ c.in_err-value-2.ensures in
-    let key = key_is t row now mid so_far.serves.bytes so_far.at reads c.in_ok-read_key.field-0 c.in_ok-read_key.ensures.1 in
+    let key = key_is t row now mid so_far.no_failure.bytes so_far.at reads c.in_ok-read_key.field-0 c.in_ok-read_key.ensures.1 in
     runs_row t c.args.key _ c.args.rows.start row c.args.rows.end _ now c.args.results.now c.loop-row.results c.args.had c.loop-row.count c.loop-row.invariant
     (omega (arith, c.loop-row.auto.row)) (g.S.ShardSource.meaning c.read_value-in-loop-row.new.arg2) (fails.bytes ∙ ap (λ s. s.bytes) reads.after)
-    (fails.seeks ∙ ap (λ s. s.seeks) reads.after) (omega (arith, fails.read, ap (λ s. s.read) reads.after)) (key_there t row now mid so_far.serves.bytes so_far.at reads)
+    (fails.seeks ∙ ap (λ s. s.seeks) reads.after) (omega (arith, fails.read, ap (λ s. s.read) reads.after)) (key_there t row now mid so_far.no_failure.bytes so_far.at reads)
     (sym key ∙ c.if-branch-key.false) c.loop-row-test.true
 
 pub loop-row-preserved : goal.loop-row-preserved
@@ -119,7 +119,7 @@ loop-row-preserved g c =
     let so_far = c.loop-row.invariant.collected in
     let reads = c.in_ok-read_key.ensures.0 in
     let reads_value = c.requires.reads _ _ _ c.in_ok-value-2.ensures in
-    let key = key_is t row now mid so_far.serves.bytes so_far.at reads c.in_ok-read_key.field-0 c.in_ok-read_key.ensures.1 in
+    let key = key_is t row now mid so_far.no_failure.bytes so_far.at reads c.in_ok-read_key.field-0 c.in_ok-read_key.ensures.1 in
     let same_key : key_at t row ≡ c.args.key = sym key ∙ c.if-branch-key.false in
     record {
       collected = collected_keep t c.args.key _ c.args.rows.start row c.args.rows.end 8 old now mid after c.args.results.now c.loop-row.results c.args.had c.loop-row.count refl so_far
@@ -128,7 +128,7 @@ loop-row-preserved g c =
       equal = omega (
         arith,
         c.loop-row.invariant.equal,
-        hits_below-hit t c.args.key row (key_there t row now mid so_far.serves.bytes so_far.at reads) same_key,
+        hits_below-hit t c.args.key row (key_there t row now mid so_far.no_failure.bytes so_far.at reads) same_key,
       );
     }
 

@@ -4,7 +4,7 @@ use Rattle.std.proofs.lemmas.Bool.{cases_lt}
 use Rattle.std.proofs.lemmas.Result.{IfOk-weaker}
 use Rattle.xet_base.specs.Source.{moved}
 use Rattle.xet_base.specs.Table.{IsSorted, Answers}
-use Rattle.xet_base.specs.Search.{table_in, ReadsKey, Stops, FindsFrom, Counts, Passes, Runs}
+use Rattle.xet_base.specs.Search.{table_in, ReadsKey, StopsWithin, FindsFrom, Counts, ReadsThrough, Runs}
 use Rattle.xet_base.proofs.Searching.{mid_serves, searches_start, searches_below, searches_above, searches_equal}
 use Rattle.xet_base.proofs.Bounds.{bounded_key_not, bounded_runs, bounded_seek_not, bounded_passes, count_at_last}
 use Rattle.xet_base.proofs.interpolation_search.search_rows.Goals as goal
@@ -20,7 +20,7 @@ returns-in_err-found-clause-bounds g c sorted =
     let new = g.S.ShardSource.meaning c.read_key_of.new.source in
     bounded_key_not t c.args.key _ c.loop-window.window _ now c.args.results.now c.loop-window.results c.loop-window.count c.loop-window.invariant sorted new
     c.in_err-found.field-0.0
-    (subst (λ bytes. Stops (table_in c.args.range bytes) 1 8 now new c.in_err-found.field-0.0) c.loop-window.invariant.serves.bytes c.in_err-found.ensures)
+    (subst (λ bytes. StopsWithin (table_in c.args.range bytes) 1 8 now new c.in_err-found.field-0.0) c.loop-window.invariant.no_failure.bytes c.in_err-found.ensures)
 
 pub returns-in_err-count-clause-bounds : goal.returns-in_err-count-clause-bounds
 returns-in_err-count-clause-bounds g c sorted =
@@ -32,7 +32,7 @@ returns-in_err-count-clause-bounds g c sorted =
     let so_far = c.loop-window.invariant in
     let found = c.in_ok-found.found in
     let running : w.low + 256 < w.high = omega (arith, c.loop-window-test.true) in
-    let reads = subst (λ bytes. ReadsKey (table_in c.args.range bytes) (w.probe - 1) now mid found) so_far.serves.bytes c.in_ok-found.ensures in
+    let reads = subst (λ bytes. ReadsKey (table_in c.args.range bytes) (w.probe - 1) now mid found) so_far.no_failure.bytes c.in_ok-found.ensures in
     let same = (mid_serves t c.args.key _ w _ now mid c.args.results.now c.loop-window.results c.loop-window.count found so_far running reads).bytes in
     bounded_runs t c.args.key _ w _ now c.args.results.now c.loop-window.results c.loop-window.count so_far sorted mid new found running reads
     (subst (λ bytes. Runs (table_in c.args.range bytes) c.args.key (w.probe - 1) (w.high - 1) mid new) same c.keep_equal.ensures.runs)
@@ -49,8 +49,8 @@ loop-window-preserved g c =
     let so_far = c.loop-window.invariant in
     let found = c.in_ok-found.found in
     let running : w.low + 256 < w.high = omega (arith, c.loop-window-test.true) in
-    let reads = subst (λ bytes. ReadsKey (table_in c.args.range bytes) (w.probe - 1) now mid found) so_far.serves.bytes c.in_ok-found.ensures in
-    let turns = c.after-window.ensures.turns in
+    let reads = subst (λ bytes. ReadsKey (table_in c.args.range bytes) (w.probe - 1) now mid found) so_far.no_failure.bytes c.in_ok-found.ensures in
+    let narrows = c.after-window.ensures.narrows in
     let steps = c.after-window.ensures.even in
     let next = c.after-window.result in
     elim c.if-found-key.branch [
@@ -59,7 +59,7 @@ loop-window-preserved g c =
           let new = meaning v.keep_equal.new.source in
           rw (v.source-is, v.results-is, v.count-is)
           (searches_equal t c.args.key Gives w old now mid c.args.results.now c.loop-window.results c.loop-window.count found so_far running reads
-          next new v.keep_equal.new.results v.in_ok-count.count v.if-found-key.true (turns.equal v.if-found-key.true) steps v.in_ok-count.ensures.serves
+          next new v.keep_equal.new.results v.in_ok-count.count v.if-found-key.true (narrows.equal v.if-found-key.true) steps v.in_ok-count.ensures.no_failure
           (subst (λ bytes. Runs (table_in c.args.range bytes) c.args.key (w.probe - 1) (w.high - 1) mid new) same v.keep_equal.ensures.runs)
           (subst (λ bytes. (before : List g.row.V.Denot) → FindsFrom (table_in c.args.range bytes) c.args.key Gives (w.high - 1) before c.loop-window.results c.loop-window.count
           → FindsFrom (table_in c.args.range bytes) c.args.key Gives (w.probe - 1) before v.keep_equal.new.results v.in_ok-count.count) same v.in_ok-count.ensures.found
@@ -68,9 +68,9 @@ loop-window-preserved g c =
           (subst (λ bytes. IsSorted (table_in c.args.range bytes) → Counts (table_in c.args.range bytes) c.args.key (w.probe - 1) (w.high - 1) (length c.loop-window.results)
           c.loop-window.count v.in_ok-count.count) same v.in_ok-count.ensures.count))
       | else-found-key v ↦ rw (v.source-is, v.results-is, v.count-is) (elim (cases_lt c.args.key found) [
-        | inl past ↦ searches_below t c.args.key Gives w old now mid c.args.results.now c.loop-window.results c.loop-window.count found so_far running reads next past (turns.below past) steps
+        | inl past ↦ searches_below t c.args.key Gives w old now mid c.args.results.now c.loop-window.results c.loop-window.count found so_far running reads next past (narrows.below past) steps
         | inr not_past ↦ let past : found < c.args.key = omega (arith, not_past, v.if-found-key.false) in
-            searches_above t c.args.key Gives w old now mid c.args.results.now c.loop-window.results c.loop-window.count found so_far running reads next past (turns.above past) steps
+            searches_above t c.args.key Gives w old now mid c.args.results.now c.loop-window.results c.loop-window.count found so_far running reads next past (narrows.above past) steps
       ])
     ]
 
@@ -84,7 +84,7 @@ returns-clause-found g c =
     let Gives = Answers (λ s. g.S.ShardSource.meaning s.now) (goal.F-post g c.args.read_value.now) c.args.range.width in
     let w = c.loop-window.window in
     let new = c.collect.new.results in
-    let same = ap (λ s. s.bytes) c.in_ok-seek_to.ensures ∙ c.loop-window.invariant.serves.bytes in
+    let same = ap (λ s. s.bytes) c.in_ok-seek_to.ensures ∙ c.loop-window.invariant.no_failure.bytes in
     IfOk-weaker c.collect.result (FindsFrom t c.args.key Gives w.low c.args.results.now new) _ (λ n found. found.finds)
     (subst (λ bytes. (before : List g.row.V.Denot) → FindsFrom (table_in c.args.range bytes) c.args.key Gives (w.high - 1) before c.loop-window.results c.loop-window.count
     → IfOk c.collect.result (FindsFrom (table_in c.args.range bytes) c.args.key Gives w.low before new)) same c.collect.ensures.found
@@ -94,7 +94,7 @@ pub returns-clause-count : goal.returns-clause-count
 returns-clause-count g c sorted =
     let t = table_in c.args.range (g.S.ShardSource.meaning c.args.source.now).bytes in
     let w = c.loop-window.window in
-    let same = ap (λ s. s.bytes) c.in_ok-seek_to.ensures ∙ c.loop-window.invariant.serves.bytes in
+    let same = ap (λ s. s.bytes) c.in_ok-seek_to.ensures ∙ c.loop-window.invariant.no_failure.bytes in
     IfOk-weaker c.collect.result (Counts t c.args.key w.low (w.high - 1) (length c.loop-window.results) c.loop-window.count) _
     (λ n counts. count_at_last t c.args.key _ w _ _ c.args.results.now c.loop-window.results c.loop-window.count c.loop-window.invariant sorted n c.loop-window.auto.results counts)
     (subst (λ bytes. IsSorted (table_in c.args.range bytes) → IfOk c.collect.result
@@ -107,7 +107,7 @@ returns-clause-bounds g c sorted =
     let now = g.S.ShardSource.meaning c.loop-window.source in
     let mid = g.S.ShardSource.meaning c.seek_to.new.self in
     let new = g.S.ShardSource.meaning c.collect.new.source in
-    let same = ap (λ s. s.bytes) c.in_ok-seek_to.ensures ∙ c.loop-window.invariant.serves.bytes in
+    let same = ap (λ s. s.bytes) c.in_ok-seek_to.ensures ∙ c.loop-window.invariant.no_failure.bytes in
     bounded_passes t c.args.key _ w _ now c.args.results.now c.loop-window.results c.loop-window.count c.loop-window.invariant sorted mid new
     (omega (arith, c.loop-window-test.false)) (c.in_ok-seek_to.ensures ∙ ap (moved now) c.row_offset.ensures)
-    (subst (λ bytes. Passes (table_in c.args.range bytes) w.low (w.high - 1) mid new) same c.collect.ensures.passes)
+    (subst (λ bytes. ReadsThrough (table_in c.args.range bytes) w.low (w.high - 1) mid new) same c.collect.ensures.passes)

@@ -6,8 +6,8 @@ use Rattle.xet_core_structures.proofs.laws.trees_of_held_shards.Goals as goal
 pub returns-clause-written : goal.returns-clause-written
 returns-clause-written c = written_held
 
-pub returns-clause-forms : goal.returns-clause-forms
-returns-clause-forms c = form_held
+pub returns-clause-any_options : goal.returns-clause-any_options
+returns-clause-any_options c = form_held
 
 pub returns-clause-exports : goal.returns-clause-exports
 returns-clause-exports c = any_export_held

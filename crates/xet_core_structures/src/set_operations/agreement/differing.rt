@@ -5,7 +5,7 @@ ghost use Rattle.std.specs.List.{AllZip};
 ghost use Rattle.std.specs.List.Sorted.{IsSorted};
 ghost use Rattle.xet_base.specs.declared.error.CoreError.TheVariants.{OutOfMemory};
 ghost use Rattle.xet_core_structures.specs.Placed.{Places, MayUnite};
-ghost use Rattle.xet_core_structures.specs.Differing.{place_cmp, IsPlace, IsRun, IsRecordAt, ComparesRun, AgreeWithin, DifferWithin, PassesPlace, DiffersAt, FindsDiffering, Covers, KeepsRecord, IsAgainst};
+ghost use Rattle.xet_core_structures.specs.Differing.{place_cmp, IsPlace, IsRun, IsRecordAt, ComparesRun, AgreeWithin, DifferWithin, ComparesPlace, DiffersAt, FindsDiffering, Covers, KeepsRecord, IsAgainst};
 
 use super::super::placed::{PlacedRecord, copied};
 use super::kinds::Agreement;
@@ -85,8 +85,8 @@ fn compare_run<R: SectionRecord + Drop, A: Agreement<R>>(
     }
 }
 
-// Two records of a run that do not agree. Of those that agree, a record is kept only if it has parts
-// that no other has, so that each is read once and compared with few.
+// Two records of a run that do not agree. Of those that agree, a record is kept only if it has
+// parts that no other has, so that each is read once and compared with few.
 fn differ_in_run<R: SectionRecord + Drop, A: Agreement<R>>(
     alloc: Global,
     lists: &[Vec<PlacedRecord<'_, R::Header>>],
@@ -137,7 +137,7 @@ fn compare_place<R: SectionRecord + Drop, A: Agreement<R>>(
     requires place { IsPlace R.kind (map (λ l. l.items) lists.now) place }
     ensures { MatchResult result
         (λ found. MatchOption found
-        (PassesPlace R.kind A.agree (map (λ l. l.items) lists.now) first place kept.old.items
+        (ComparesPlace R.kind A.agree (map (λ l. l.items) lists.now) first place kept.old.items
         kept.new.items)
         (DiffersAt R.kind A.agree (map (λ l. l.items) lists.now) place kept.old.items))
         (λ e. e ≡ OutOfMemory) }

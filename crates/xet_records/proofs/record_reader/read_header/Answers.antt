@@ -1,7 +1,7 @@
 use Rattle.std.proofs.Common.{◌≢◌, ◌+◌, ◌<◌, true≢false, sym, ◌∙◌, arith}
 use Rattle.xet_base.specs.Hash.{all_ones}
 use Rattle.xet_records.specs.Reading.IsRefused.{not_allowed, too_many_rows}
-use Rattle.xet_records.specs.Reading.Stops.{refused_header}
+use Rattle.xet_records.specs.Reading.NextRecordNotRead.{refused_header}
 use Rattle.xet_records.proofs.SectionRecords.{header_read, header_in}
 use Rattle.xet_records.proofs.record_reader.read_header.Goals as goal
 

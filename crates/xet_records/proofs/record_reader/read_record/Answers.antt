@@ -2,7 +2,7 @@ use Rattle.std.proofs.Common.{subst}
 use Rattle.std.proofs.lemmas.Result.{err_from_is_err_and}
 use Rattle.xet_records.specs.RecordKind.{in_version}
 use Rattle.xet_records.specs.Reading.{ReadsNextHeader}
-use Rattle.xet_records.specs.Reading.Stops.{no_rows}
+use Rattle.xet_records.specs.Reading.NextRecordNotRead.{no_rows}
 use Rattle.xet_records.proofs.SectionRecords.{rows_after_header}
 use Rattle.xet_records.proofs.record_reader.read_record.Goals as goal
 

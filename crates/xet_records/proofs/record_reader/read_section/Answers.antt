@@ -2,7 +2,7 @@ use Rattle.std.proofs.Common.{[], subst, arith}
 use Rattle.std.proofs.lemmas.Result.{err_from_is_err_and}
 use Rattle.xet_records.specs.RecordKind.{in_version}
 use Rattle.xet_records.specs.Reading.{ReadsNextRecord}
-use Rattle.xet_records.specs.Reading.Stops.{no_header}
+use Rattle.xet_records.specs.Reading.NextRecordNotRead.{no_header}
 use Rattle.xet_records.proofs.RecordKinds.{laws_in}
 use Rattle.xet_records.proofs.SectionRecords.{more_read}
 use Rattle.xet_records.proofs.record_reader.read_section.Goals as goal

@@ -3,7 +3,7 @@ use Rattle.xet_core_structures.proofs.TreesOfExports.{timestamps_differ, tree_of
 use Rattle.xet_core_structures.proofs.laws.exports.exports_merge_to_the_export_of_the_join.Goals as goal
 
 pub returns-clause-exports : goal.returns-clause-exports
-returns-clause-exports c = λ aux s form old new before after size is exports. export_of_bytes aux s form old new before after size is exports
+returns-clause-exports c = λ aux s options old new before after size is exports. export_of_bytes aux s options old new before after size is exports
 
 pub returns-clause-bytes : goal.returns-clause-bytes
 returns-clause-bytes c = λ aux inputs plan key shards join out merge writes. tree_of_exports_with key inputs plan shards join aux out merge writes

@@ -26,8 +26,8 @@ returns-clause-keyed c = λ inputs plan key shards join s out q index hashes run
 )
 
 pub returns-clause-exported : goal.returns-clause-exported
-returns-clause-exported c = λ inputs plan shards join form old new before after size merge writes exports.
-    export_written join form old new before after size (bytes_without_expiry (one_layout inputs plan shards join merge _ writes)) exports
+returns-clause-exported c = λ inputs plan shards join options old new before after size merge writes exports.
+    export_written join options old new before after size (bytes_without_expiry (one_layout inputs plan shards join merge _ writes)) exports
 
 pub returns-clause-exported_runs : goal.returns-clause-exported_runs
 returns-clause-exported_runs c = longer_under

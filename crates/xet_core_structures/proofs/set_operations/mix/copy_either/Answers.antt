@@ -12,7 +12,7 @@ returns-in_err-copy_rows g c =
 
 pub returns-then-count_1-eq0 : goal.returns-then-count_1-eq0
 returns-then-count_1-eq0 g c =
-    second_copied g.R.Row.row_bytes g.R.Row.Fits g.R.Row.handed_out _ _ _ _ _ _ _ c.in_ok-copy_rows.ensures.0 c.if-count_1-eq0.true c.in_ok-copy_rows.ensures.1
+    second_copied g.R.Row.row_bytes g.R.Row.Fits g.R.Row.as_read _ _ _ _ _ _ _ c.in_ok-copy_rows.ensures.0 c.if-count_1-eq0.true c.in_ok-copy_rows.ensures.1
 
 pub returns-in_err-copy_rows-2 : goal.returns-in_err-copy_rows-2
 returns-in_err-copy_rows-2 g c =
@@ -26,5 +26,5 @@ returns-in_err-skip_rows g c =
 
 pub returns : goal.returns
 returns g c =
-    first_copied g.R.Row.row_bytes g.R.Row.Fits g.R.Row.handed_out _ _ _ _ _ _ _ _ c.in_ok-copy_rows-2.ensures.0 c.in_ok-skip_rows.ensures.0 c.if-count_1-eq0.false
+    first_copied g.R.Row.row_bytes g.R.Row.Fits g.R.Row.as_read _ _ _ _ _ _ _ _ c.in_ok-copy_rows-2.ensures.0 c.in_ok-skip_rows.ensures.0 c.if-count_1-eq0.false
     c.in_ok-copy_rows-2.ensures.1 c.in_ok-skip_rows.ensures.1

@@ -4,7 +4,7 @@ use Rattle.std.proofs.Math.Nat.{lt_of_not-le}
 use Rattle.std.proofs.lemmas.Result.{err_from_is_err_and}
 use Rattle.xet_records.specs.FileRecord.{file_records, rows_after}
 use Rattle.xet_records.specs.FileRow.{header_row}
-use Rattle.xet_core_structures.specs.MixedFiles.{MixHasNoRoom}
+use Rattle.xet_core_structures.specs.MixedFiles.{MixHasTooManyRows}
 use Rattle.xet_core_structures.proofs.MixWriting.{no_output, not_added, mix_written}
 use Rattle.xet_core_structures.proofs.OneSection.{taken_serves}
 use Rattle.xet_core_structures.proofs.Pairs.{fails_so, refused_so}
@@ -19,7 +19,7 @@ returns-in_err-write_row g c =
 pub returns-in_err-size : goal.returns-in_err-size
 returns-in_err-size g c =
     let p = err_from_is_err_and c.from_residual-in_err-size.result c.from_residual-in_err-size.ensures.1 in
-    rw (p.1, p.2) (fails_so file_records (Some c.args.first) (Some c.args.second) _ _ (λ _ _. ⊥) (MixHasNoRoom c.args.written.now.table.rows) (λ one other _ _ never. absurd never) _ c.in_err-size.ensures.rows)
+    rw (p.1, p.2) (fails_so file_records (Some c.args.first) (Some c.args.second) _ _ (λ _ _. ⊥) (MixHasTooManyRows c.args.written.now.table.rows) (λ one other _ _ never. absurd never) _ c.in_err-size.ensures.rows)
 
 pub returns-in-Err : goal.returns-in-Err
 returns-in-Err g c =

@@ -1,7 +1,7 @@
 use Rattle.std.proofs.Common.{[], ◌++◌, flat_map, refl, arith}
 use Rattle.std.proofs.lemmas.List.{length-append}
 use Rattle.std.proofs.lemmas.Result.{err_from_is_err_and}
-use Rattle.xet_base.specs.InputLaws.{Takes-nil, Takes-trans}
+use Rattle.xet_base.specs.InputLaws.{ReadsBytes-nil, ReadsBytes-trans}
 use Rattle.xet_records.specs.FileRow.{segment_row, hash_row}
 use Rattle.xet_core_structures.specs.MixedFiles.EitherFails.{second_fails}
 use Rattle.xet_core_structures.proofs.Mixing.{first_not_copied}
@@ -15,7 +15,7 @@ returns-in_err-size g c =
     let two = g.T.ShardSource.meaning in
     let p = err_from_is_err_and c.from_residual.result c.from_residual.ensures.1 in
     rw (p.1, p.2) (record {
-      rows = part_fails c.args.first.now c.args.second.now _ _ (one c.args.r1.now) _ _ (two c.args.r2.now) _ [] [] c.args.first.now.num_entries 0 _ (Takes-nil _) (Takes-nil _) (omega arith) (omega arith)
+      rows = part_fails c.args.first.now c.args.second.now _ _ (one c.args.r1.now) _ _ (two c.args.r2.now) _ [] [] c.args.first.now.num_entries 0 _ (ReadsBytes-nil _) (ReadsBytes-nil _) (omega arith) (omega arith)
           (first_not_copied one c.args.r1.now c.copy_segments.new.input _ _ _ _ c.in_err-size.ensures.copied);
       bound = tt;
     })
@@ -27,7 +27,7 @@ returns-in_err-skip_rows g c =
     let p = err_from_is_err_and c.from_residual-in_err-skip_rows.result c.from_residual-in_err-skip_rows.ensures.1 in
     rw (p.1, p.2) (record {
       rows = part_fails c.args.first.now c.args.second.now _ _ (g.S.ShardSource.meaning c.copy_segments.new.input) _ _ (two c.args.r2.now) _ (flat_map segment_row s.stored) [] 0 c.args.second.now.num_entries _
-          s.taken (Takes-nil _) (omega (arith, s.size)) (omega arith) (second_fails _ refl c.in_err-skip_rows.ensures (serves_same _ _ refl));
+          s.taken (ReadsBytes-nil _) (omega (arith, s.size)) (omega arith) (second_fails _ refl c.in_err-skip_rows.ensures (serves_same _ _ refl));
       bound = tt;
     })
 
@@ -52,7 +52,7 @@ returns-in_err-copy_part-2 g c =
     rw (p.1, p.2) (record {
       rows = part_fails c.args.first.now c.args.second.now _ _ (g.S.ShardSource.meaning c.copy_part.new.r1) _ _ (g.T.ShardSource.meaning c.copy_part.new.r2) _
           (flat_map segment_row s.stored ++ flat_map hash_row v.first.stored) (flat_map segment_row t.stored ++ flat_map hash_row v.second.stored) _ _ _
-          (Takes-trans _ (g.S.ShardSource.meaning c.copy_segments.new.input) _ _ _ s.taken v.first.taken) (Takes-trans _ (g.T.ShardSource.meaning c.skip_rows.new.input) _ _ _ t.taken v.second.taken)
+          (ReadsBytes-trans _ (g.S.ShardSource.meaning c.copy_segments.new.input) _ _ _ s.taken v.first.taken) (ReadsBytes-trans _ (g.T.ShardSource.meaning c.skip_rows.new.input) _ _ _ t.taken v.second.taken)
           (omega (arith, length-append (flat_map segment_row s.stored) (flat_map hash_row v.first.stored), s.size, v.first.size))
           (omega (arith, length-append (flat_map segment_row t.stored) (flat_map hash_row v.second.stored), t.size, v.second.size))
           c.in_err-copy_part-2.ensures;
@@ -72,8 +72,8 @@ returns-in_err-copy_part-3 g c =
       rows = part_fails c.args.first.now c.args.second.now _ _ (one c.copy_part-2.new.r1) _ _ (two c.copy_part-2.new.r2) _
           ((flat_map segment_row s.stored ++ flat_map hash_row v.first.stored) ++ flat_map hash_row m.first.stored)
           ((flat_map segment_row t.stored ++ flat_map hash_row v.second.stored) ++ flat_map hash_row m.second.stored) _ _ _
-          (Takes-trans _ (one c.copy_part.new.r1) _ _ _ (Takes-trans _ (one c.copy_segments.new.input) _ _ _ s.taken v.first.taken) m.first.taken)
-          (Takes-trans _ (two c.copy_part.new.r2) _ _ _ (Takes-trans _ (two c.skip_rows.new.input) _ _ _ t.taken v.second.taken) m.second.taken)
+          (ReadsBytes-trans _ (one c.copy_part.new.r1) _ _ _ (ReadsBytes-trans _ (one c.copy_segments.new.input) _ _ _ s.taken v.first.taken) m.first.taken)
+          (ReadsBytes-trans _ (two c.copy_part.new.r2) _ _ _ (ReadsBytes-trans _ (two c.skip_rows.new.input) _ _ _ t.taken v.second.taken) m.second.taken)
           (omega (
             arith,
             length-append (flat_map segment_row s.stored ++ flat_map hash_row v.first.stored) (flat_map hash_row m.first.stored),

@@ -16,5 +16,5 @@ fill_with_shard-requires c =
 pub returns-in-United : goal.returns-in-United
 returns-in-United c = λ bytes is.
     let united = subst (IsPart bytes) c.in-United.is is in
-    subst (λ b. FillsWith (λ made. made ≡ b) (λ e. e ≡ OutOfMemory) c.args.out.now c.fill_with_shard.new.out c.fill_with_shard.result) (sym united.1.written.in_form.bytes_are)
+    subst (λ b. FillsWith (λ made. made ≡ b) (λ e. e ≡ OutOfMemory) c.args.out.now c.fill_with_shard.new.out c.fill_with_shard.result) (sym united.1.written.with_options.bytes_are)
     (c.fill_with_shard.ensures (record { files = values united.1.union.files; xorbs = values united.1.union.xorbs }) (union_may_be_written bytes united.0 c.in-United.shard united.1))

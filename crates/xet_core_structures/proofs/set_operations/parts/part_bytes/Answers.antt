@@ -16,5 +16,5 @@ shard_bytes-requires c =
 pub returns-in-United : goal.returns-in-United
 returns-in-United c = λ bytes is.
     let united = subst (IsPart bytes) c.in-United.is is in
-    subst (λ b. MatchResult c.shard_bytes.result (λ written. written.items ≡ b) (λ e. e ≡ OutOfMemory)) (sym united.1.written.in_form.bytes_are)
+    subst (λ b. MatchResult c.shard_bytes.result (λ written. written.items ≡ b) (λ e. e ≡ OutOfMemory)) (sym united.1.written.with_options.bytes_are)
     (c.shard_bytes.ensures (record { files = values united.1.union.files; xorbs = values united.1.union.xorbs }) (union_may_be_written bytes united.0 c.in-United.shard united.1))

@@ -1,9 +1,9 @@
 use Rattle.std.proofs.Common.{◌≡◌, None, ◌*◌, drop, refl, sym, subst, ◌∙◌}
 use Rattle.std.proofs.lemmas.Result.{err_from_is_err_and}
-use Rattle.xet_base.specs.Source.{Takes, ReadFails, bytes_left}
+use Rattle.xet_base.specs.Source.{ReadsBytes, ReadFails, bytes_left}
 use Rattle.xet_records.specs.RecordKind.{in_version}
 use Rattle.xet_records.specs.Reading.{ReadsRowsAfter}
-use Rattle.xet_core_structures.specs.SideBySide.{ReadsFollowing, FollowingFails}
+use Rattle.xet_core_structures.specs.MergeJoin.{ReadsFollowing, FollowingFails}
 use Rattle.xet_core_structures.proofs.OneSection.{no_first, rows_not_read}
 use Rattle.xet_core_structures.proofs.Placing.{placing_start, placing_serves, placing_on, placing_stops, placing_ends}
 use Rattle.xet_core_structures.proofs.set_operations.placed.place_records.Goals as goal
@@ -44,7 +44,7 @@ returns-in_err-next-2 g c =
     let mid = g.S.ShardSource.meaning c.skip_rows_after.new.input in
     let new = g.S.ShardSource.meaning c.next_header-in-Some.new.source in
     let skipped = c.in_ok-skip_rows_after.ensures in
-    let read = subst (λ s. ReadsRowsAfter K c.in-Some.header (Takes s mid) skipped.0) c.in_ok-position.ensures.1 skipped.2 in
+    let read = subst (λ s. ReadsRowsAfter K c.in-Some.header (ReadsBytes s mid) skipped.0) c.in_ok-position.ensures.1 skipped.2 in
     let p = err_from_is_err_and c.from_residual-in_err-next-2.result c.from_residual-in_err-next-2.ensures.1 in
     rw (p.1, p.2) (placing_stops K c.laws.ensures c.args.version start now c.loop-next.rows_left c.loop-next.next c.loop-next.placed.items c.loop-next.invariant.0 c.in-Some.header c.in-Some.is mid skipped.0 read new _ c.in_err-next-2.ensures)
 
@@ -56,7 +56,7 @@ loop-next-preserved g c =
     let mid = g.S.ShardSource.meaning c.skip_rows_after.new.input in
     let new = g.S.ShardSource.meaning c.next_header-in-Some.new.source in
     let skipped = c.in_ok-skip_rows_after.ensures in
-    let read = subst (λ s. ReadsRowsAfter K c.in-Some.header (Takes s mid) skipped.0) c.in_ok-position.ensures.1 skipped.2 in
+    let read = subst (λ s. ReadsRowsAfter K c.in-Some.header (ReadsBytes s mid) skipped.0) c.in_ok-position.ensures.1 skipped.2 in
     let rows_are : c.bytes_from-rows.result.now ≡ bytes_left now = c.bytes_from-rows.ensures ∙ (λ i. drop (c.in_ok-position.ensures.0 i) (sym c.loop-next.invariant.1 i)) in
     let placing = placing_on K c.laws.ensures c.args.version start now c.loop-next.rows_left c.loop-next.next c.loop-next.placed.items c.loop-next.invariant.0 c.in-Some.header c.in-Some.is mid skipped.0 read
     (record { header = c.in-Some.header; rows = c.bytes_from-rows.result }) refl rows_are new c.next_header-in-Some.new.rows_left c.in_ok-next-2.next c.in_ok-next-2.ensures in

@@ -1,6 +1,6 @@
 use Rattle.std.proofs.Common.{inr, ◌+◌, drop, refl, subst}
 use Rattle.xet_shards.specs.Section.{total_rows}
-use Rattle.xet_core_structures.specs.Placed.{CountsRows, IsTurn}
+use Rattle.xet_core_structures.specs.Placed.{CountsRows, IsMergeStep}
 use Rattle.xet_core_structures.proofs.PlacedUnions.{uniting_start, uniting_on, united, no_record}
 use Rattle.xet_core_structures.proofs.set_operations.placed.unite_placed.Goals as goal
 
@@ -9,14 +9,14 @@ loop-made-init g c = λ xs ys first second. rw c.new-made.ensures.items (uniting
 
 pub returns-in-End : goal.returns-in-End
 returns-in-End g c = λ xs ys first second.
-    let turn = subst (IsTurn g.R.SectionRecord.kind g.U.PlacedUnion.makes c.args.first.now c.loop-made.at_1 c.args.second.now c.loop-made.at_2) c.in-End.is c.in_ok-next_turn.ensures in
+    let turn = subst (IsMergeStep g.R.SectionRecord.kind g.U.PlacedUnion.makes c.args.first.now c.loop-made.at_1 c.args.second.now c.loop-made.at_2) c.in-End.is c.in_ok-next_turn.ensures in
     united g.R.SectionRecord.kind c.laws.ensures g.U.PlacedUnion.makes xs ys (drop c.loop-made.at_1 c.args.first.now) (drop c.loop-made.at_2 c.args.second.now) c.loop-made.made.items c.loop-made.count (c.loop-made.invariant xs ys first second)
     turn.0 turn.1 (λ made. made.items) c.loop-made.made refl c.fitting.result c.fitting.ensures
 
 pub loop-made-preserved : goal.loop-made-preserved
 loop-made-preserved g c = λ xs ys first second.
     let K = g.R.SectionRecord.kind in
-    let turn = subst (IsTurn g.R.SectionRecord.kind g.U.PlacedUnion.makes c.args.first.now c.loop-made.at_1 c.args.second.now c.loop-made.at_2) c.in-Keep.is c.in_ok-next_turn.ensures in
+    let turn = subst (IsMergeStep g.R.SectionRecord.kind g.U.PlacedUnion.makes c.args.first.now c.loop-made.at_1 c.args.second.now c.loop-made.at_2) c.in-Keep.is c.in_ok-next_turn.ensures in
     let uniting = c.loop-made.invariant xs ys first second in
     let counted = subst (λ n. CountsRows (total_rows K uniting.zs + (1 + n)) c.add_rows-count.result) c.rows_after.ensures.rows (c.add_rows-count.ensures (total_rows K uniting.zs) uniting.counted) in
     rw c.in_ok-push-in-Keep.ensures.items
@@ -25,7 +25,7 @@ loop-made-preserved g c = λ xs ys first second.
 
 pub returns-in-Nothing : goal.returns-in-Nothing
 returns-in-Nothing g c = λ xs ys first second.
-    let never = subst (IsTurn g.R.SectionRecord.kind g.U.PlacedUnion.makes c.args.first.now c.loop-made.at_1 c.args.second.now c.loop-made.at_2) c.in-Nothing.is c.in_ok-next_turn.ensures in
+    let never = subst (IsMergeStep g.R.SectionRecord.kind g.U.PlacedUnion.makes c.args.first.now c.loop-made.at_1 c.args.second.now c.loop-made.at_2) c.in-Nothing.is c.in_ok-next_turn.ensures in
     inr (
       tt,
       no_record g.R.SectionRecord.kind c.laws.ensures g.U.PlacedUnion.makes xs ys (drop c.loop-made.at_1 c.args.first.now) (drop c.loop-made.at_2 c.args.second.now) c.loop-made.made.items c.loop-made.count (c.loop-made.invariant xs ys first second)

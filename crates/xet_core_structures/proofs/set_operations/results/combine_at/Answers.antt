@@ -1,8 +1,8 @@
 use Rattle.std.proofs.Common.{subst}
 use Rattle.std.proofs.lemmas.Result.{err_from_is_err_and}
-use Rattle.xet_core_structures.specs.SideBySide.{CombinesSections}
+use Rattle.xet_core_structures.specs.MergeJoin.{CombinesSections}
 use Rattle.xet_core_structures.specs.Streams.{streams}
-use Rattle.xet_core_structures.proofs.Operating.{first_not_moved, second_not_moved}
+use Rattle.xet_core_structures.proofs.SetOperationSteps.{first_not_moved, second_not_moved}
 use Rattle.xet_core_structures.proofs.set_operations.results.combine_at.Goals as goal
 
 pub returns-in_err-seek : goal.returns-in_err-seek

@@ -2,7 +2,7 @@ use Rattle.std.proofs.Common.{◌≡◌, rules, subst}
 use Rattle.std.specs.Prelude.{IfOk}
 use Rattle.std.proofs.lemmas.Result.{err_from_is_err_and}
 use Rattle.xet_core_structures.specs.ByteResults.{key_of, WritesEnd}
-use Rattle.xet_core_structures.proofs.Operating.{files_failed, xorbs_failed, tables_written}
+use Rattle.xet_core_structures.proofs.SetOperationSteps.{files_failed, xorbs_failed, tables_written}
 use Rattle.xet_core_structures.proofs.set_operations.results.operate.Goals as goal
 
 pub returns-in_err-files-clause-outcome : goal.returns-in_err-files-clause-outcome

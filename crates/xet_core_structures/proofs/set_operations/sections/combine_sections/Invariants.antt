@@ -1,6 +1,6 @@
 use Rattle.std.proofs.Common.{◌+◌}
 use Rattle.xet_core_structures.proofs.OneSection.{weight}
-use Rattle.xet_core_structures.proofs.SideBySide.{IsMerging}
+use Rattle.xet_core_structures.proofs.MergeJoin.{IsMerging}
 use Rattle.xet_core_structures.proofs.set_operations.sections.combine_sections.Given as goal
 
 abbrev pub invariant-loop-alloc : goal.invariant-loop-alloc

@@ -6,7 +6,7 @@ use Rattle.xet_base.proofs.HashOrder.{same_hash}
 use Rattle.xet_records.specs.Version.{version_of}
 use Rattle.xet_shards.specs.SectionReading.{files_of}
 use Rattle.xet_shards.proofs.Sections.{files_laws}
-use Rattle.xet_shards.specs.Lookup.{Visits, Missed, LookupAnswer}
+use Rattle.xet_shards.specs.Lookup.{Visits, NoneHasHash, LookupAnswer}
 use Rattle.xet_shards.proofs.Lookups.{visits_read, visits_read_not, missed_more, refusal_after}
 use Rattle.xet_shards.proofs.shard_format.file_lookup.first_with_hash.Goals as goal
 
@@ -19,7 +19,7 @@ returns-in_err-file_info-clause-refused g c =
       get_or rows i 0,
       Contains-get_or rows i 0 c.loop-row-test.true,
       refusal_after (files_of c.args.info.now) (files_laws (version_of c.args.info.now.header.version)) c.args.info.now.metadata.file_info_offset (get_or rows i 0) (g.S.ShardSource.meaning c.args.source.now) (g.S.ShardSource.meaning c.loop-row.source)
-          (g.S.ShardSource.meaning c.read_file_info.new.source) _ c.loop-row.invariant.visits.bytes c.loop-row.invariant.serves.failures c.in_err-file_info.ensures.cause,
+          (g.S.ShardSource.meaning c.read_file_info.new.source) _ c.loop-row.invariant.visits.bytes c.loop-row.invariant.no_failure.failures c.in_err-file_info.ensures.cause,
     )
 
 pub returns-in_err-file_info-clause-visits : goal.returns-in_err-file_info-clause-visits
@@ -47,7 +47,7 @@ loop-row-preserved g c =
     let rows = c.args.rows.now in
     let i = c.loop-row.row-index in
     let offset = c.args.info.now.metadata.file_info_offset in
-    subst (λ rs. Missed (files_of c.args.info.now) offset c.args.hash.now rs (g.S.ShardSource.meaning c.args.source.now) (g.S.ShardSource.meaning c.read_file_info.new.source)) (sym (take_more rows i 0 c.loop-row-test.true))
+    subst (λ rs. NoneHasHash (files_of c.args.info.now) offset c.args.hash.now rs (g.S.ShardSource.meaning c.args.source.now) (g.S.ShardSource.meaning c.read_file_info.new.source)) (sym (take_more rows i 0 c.loop-row-test.true))
     (missed_more (files_of c.args.info.now) (files_laws (version_of c.args.info.now.header.version)) offset (get_or rows i 0) c.args.hash.now (take i rows) _ (g.S.ShardSource.meaning c.loop-row.source) _ _ c.loop-row.invariant c.in_ok-file_info.ensures
     (λ same. both_ways c.eq.result c.if-eq.false (c.eq.ensures ∙ (same_hash _ _).1 same)))
 

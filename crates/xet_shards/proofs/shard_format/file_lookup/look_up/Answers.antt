@@ -17,5 +17,5 @@ returns-clause-read g c =
     let found = c.in_ok-found.ensures.looks in
     let visits = c.first_with_hash.ensures.visits in
     MatchResult-from_both c.first_with_hash.result _ _
-    (IfOk-weaker c.first_with_hash.result _ _ (finding (files_of c.args.info.now) (files_laws (version_of c.args.info.now.header.version)) t offset c.in_ok-found.found hash old mid new _ _ found.found found.serves found.bounds visits) c.first_with_hash.ensures.answer)
-    (IfErr-weaker c.first_with_hash.result _ _ (finding_not (files_of c.args.info.now) (files_laws (version_of c.args.info.now.header.version)) t offset c.in_ok-found.found hash old mid new _ _ found.found found.serves found.bounds visits) c.first_with_hash.ensures.refused)
+    (IfOk-weaker c.first_with_hash.result _ _ (finding (files_of c.args.info.now) (files_laws (version_of c.args.info.now.header.version)) t offset c.in_ok-found.found hash old mid new _ _ found.found found.no_failure found.bounds visits) c.first_with_hash.ensures.answer)
+    (IfErr-weaker c.first_with_hash.result _ _ (finding_not (files_of c.args.info.now) (files_laws (version_of c.args.info.now.header.version)) t offset c.in_ok-found.found hash old mid new _ _ found.found found.no_failure found.bounds visits) c.first_with_hash.ensures.refused)

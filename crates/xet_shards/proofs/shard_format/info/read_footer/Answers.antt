@@ -1,10 +1,10 @@
 use Rattle.std.proofs.Common.{◌++◌, sym, ap, ◌∙◌, subst}
-use Rattle.xet_base.specs.Source.{Takes}
-use Rattle.xet_base.specs.InputLaws.{Takes-trans}
+use Rattle.xet_base.specs.Source.{ReadsBytes}
+use Rattle.xet_base.specs.InputLaws.{ReadsBytes-trans}
 use Rattle.xet_shards.proofs.shard_format.info.read_footer.Goals as goal
 
 pub returns-clause-read : goal.returns-clause-read
 returns-clause-read g c =
-    subst (Takes (g.S.ShardSource.meaning c.args.source.now) (g.S.ShardSource.meaning c.read_full-2.new.source))
+    subst (ReadsBytes (g.S.ShardSource.meaning c.args.source.now) (g.S.ShardSource.meaning c.read_full-2.new.source))
     (ap (λ bs. bs ++ c.read_full-2.new.slice) c.in_ok-check_version.ensures.ok ∙ sym c.after_version.ensures.bytes)
-    (Takes-trans _ (g.S.ShardSource.meaning c.read_full.new.source) _ _ _ c.in_ok-read_full.ensures c.in_ok-read_full-2.ensures)
+    (ReadsBytes-trans _ (g.S.ShardSource.meaning c.read_full.new.source) _ _ _ c.in_ok-read_full.ensures c.in_ok-read_full-2.ensures)

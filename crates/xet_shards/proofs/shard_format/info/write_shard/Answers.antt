@@ -30,7 +30,7 @@ returns-clause-bytes g c =
     let rs_are = map-id (values_of c.file_content.result.now.entries) in
     let xs_are = owned-values c.xorb_content.result.now.entries in
     let end = c.in_ok-metadata.ensures.bytes _ _ (subst (All FitsRecord) (sym rs_are) (widths_of_values _ files.files)) c.in_ok-files.ensures.written (written_for _ _ _ c.in_ok-xorbs.ensures.written) in
-    subst (Appends old new) (λ i. layout_of ((rs_are ∙ ap values_of files.entries) i) ((xs_are ∙ ap values_of c.xorb_content.ensures.entries) i) c.args.form.now)
+    subst (Appends old new) (λ i. layout_of ((rs_are ∙ ap values_of files.entries) i) ((xs_are ∙ ap values_of c.xorb_content.ensures.entries) i) c.args.options.now)
     (whole_layout _ _ _ _ _ _ _ _ header c.in_ok-files.ensures.bytes c.in_ok-xorbs.ensures.bytes end)
 
 pub returns-clause-info : goal.returns-clause-info
@@ -39,5 +39,5 @@ returns-clause-info g c =
     let rs_are = map-id (values_of c.file_content.result.now.entries) in
     let xs_are = owned-values c.xorb_content.result.now.entries in
     let footer = c.in_ok-metadata.ensures.footer _ _ (subst (All FitsRecord) (sym rs_are) (widths_of_values _ files.files)) c.in_ok-files.ensures.written (written_for _ _ _ c.in_ok-xorbs.ensures.written)
-    ∙ (λ i. footer_value ((rs_are ∙ ap values_of files.entries) i) ((xs_are ∙ ap values_of c.xorb_content.ensures.entries) i) c.args.form.now) in
+    ∙ (λ i. footer_value ((rs_are ∙ ap values_of files.entries) i) ((xs_are ∙ ap values_of c.xorb_content.ensures.entries) i) c.args.options.now) in
     λ i. record { header = c.of_version-header.ensures i; metadata = footer i }

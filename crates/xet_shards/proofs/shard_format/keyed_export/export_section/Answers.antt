@@ -4,8 +4,8 @@ use Rattle.std.proofs.lemmas.Result.{err_from_is_err_and}
 use Rattle.std.proofs.KnownBytes.{Appends-nil, Appends-trans}
 use Rattle.xet_records.specs.RecordKind.{in_version}
 use Rattle.xet_records.proofs.RecordKinds.{laws_in, stored_ever}
-use Rattle.xet_base.specs.Source.{Takes}
-use Rattle.xet_base.specs.InputLaws.{Takes-nil, Takes-trans}
+use Rattle.xet_base.specs.Source.{ReadsBytes}
+use Rattle.xet_base.specs.InputLaws.{ReadsBytes-nil, ReadsBytes-trans}
 use Rattle.xet_records.specs.Reading.{ReadsEnd}
 use Rattle.xet_records.specs.ViewReading.{ReadsNextView}
 use Rattle.xet_shards.specs.Section.{section_bytes}
@@ -18,14 +18,14 @@ export-requires g c =
     let now = g.S.ShardSource.meaning c.loop-buffer.source in
     let new = g.S.ShardSource.meaning c.read.new.source in
     let before = c.loop-buffer.invariant in
-    let next = subst (ReadsNextView (in_version kind c.args.version) g.E.ExportedRecord.stored (Takes now new) c.loop-buffer.rows_left c.read.new.left) c.in-Some.is c.in_ok-next.ensures in
+    let next = subst (ReadsNextView (in_version kind c.args.version) g.E.ExportedRecord.stored (ReadsBytes now new) c.loop-buffer.rows_left c.read.new.left) c.in-Some.is c.in_ok-next.ensures in
     record {
       stored = stored_ever kind c.args.version _ next.is_stored;
       rows = omega (
         arith,
         next_fits (in_version kind c.args.version) (laws_in kind g.met.E.ExportedRecord.laws c.args.version) _ _ _ _ _ (g.E.ExportedRecord.stored c.in-Some.next) before next,
-        g.met.E.ExportedRecord.counts_rows c.args.form.now _ _ before.made.collected,
-        fewer_rows kind (g.E.ExportedRecord.exports c.args.aux_ext c.args.form.now) (g.met.E.ExportedRecord.no_more_rows c.args.aux_ext c.args.form.now) before.stored,
+        g.met.E.ExportedRecord.counts_rows c.args.options.now _ _ before.made.collected,
+        fewer_rows kind (g.E.ExportedRecord.exports c.args.aux_ext c.args.options.now) (g.met.E.ExportedRecord.no_more_rows c.args.aux_ext c.args.options.now) before.stored,
       );
     }
 
@@ -33,9 +33,9 @@ pub loop-buffer-init : goal.loop-buffer-init
 loop-buffer-init g c = record {
   stored = [];
   are_stored = All-nil _;
-  taken = Takes-nil _;
+  taken = ReadsBytes-nil _;
   rows = omega (arith, c.from-rows_left.ensures);
-  made = record { collected = g.met.E.ExportedRecord.begins c.args.form.now c.new-written.result c.new-written.ensures; bytes = Appends-nil _ };
+  made = record { collected = g.met.E.ExportedRecord.begins c.args.options.now c.new-written.result c.new-written.ensures; bytes = Appends-nil _ };
 }
 
 pub loop-buffer-preserved : goal.loop-buffer-preserved
@@ -44,10 +44,10 @@ loop-buffer-preserved g c =
     let now = g.S.ShardSource.meaning c.loop-buffer.source in
     let new = g.S.ShardSource.meaning c.read.new.source in
     let before = c.loop-buffer.invariant in
-    let next = subst (ReadsNextView (in_version kind c.args.version) g.E.ExportedRecord.stored (Takes now new) c.loop-buffer.rows_left c.read.new.left) c.in-Some.is c.in_ok-next.ensures in
+    let next = subst (ReadsNextView (in_version kind c.args.version) g.E.ExportedRecord.stored (ReadsBytes now new) c.loop-buffer.rows_left c.read.new.left) c.in-Some.is c.in_ok-next.ensures in
     let wrote = c.in_ok-export.ensures in
-    one_exported (in_version kind c.args.version) (laws_in kind g.met.E.ExportedRecord.laws c.args.version) _ _ _ _ _ _ _ (g.E.ExportedRecord.stored c.in-Some.next) (Takes-trans (g.S.ShardSource.meaning c.args.source.now) now new) before next
-    (more_written kind (g.E.ExportedRecord.exports c.args.aux_ext c.args.form.now) _ _ _ (g.W.Write.contents c.loop-buffer.writer) _ before.stored _ before.made wrote.written wrote.appended)
+    one_exported (in_version kind c.args.version) (laws_in kind g.met.E.ExportedRecord.laws c.args.version) _ _ _ _ _ _ _ (g.E.ExportedRecord.stored c.in-Some.next) (ReadsBytes-trans (g.S.ShardSource.meaning c.args.source.now) now new) before next
+    (more_written kind (g.E.ExportedRecord.exports c.args.aux_ext c.args.options.now) _ _ _ (g.W.Write.contents c.loop-buffer.writer) _ before.stored _ before.made wrote.written wrote.appended)
 
 pub returns-in_err-next : goal.returns-in_err-next
 returns-in_err-next g c =
@@ -59,20 +59,20 @@ returns-in_err-export g c =
     let kind = g.E.Section.Record.SectionRecord.kind in
     let now = g.S.ShardSource.meaning c.loop-buffer.source in
     let new = g.S.ShardSource.meaning c.read.new.source in
-    let next = subst (ReadsNextView (in_version kind c.args.version) g.E.ExportedRecord.stored (Takes now new) c.loop-buffer.rows_left c.read.new.left) c.in-Some.is c.in_ok-next.ensures in
+    let next = subst (ReadsNextView (in_version kind c.args.version) g.E.ExportedRecord.stored (ReadsBytes now new) c.loop-buffer.rows_left c.read.new.left) c.in-Some.is c.in_ok-next.ensures in
     let p = err_from_is_err_and c.from_residual-in_err-export.result c.from_residual-in_err-export.ensures.1 in
     rw (p.1, p.2) (inr (writing_failed (g.S.ShardSource.meaning c.args.source.now) new _ _
-    (Takes-trans (g.S.ShardSource.meaning c.args.source.now) now new _ _ c.loop-buffer.invariant.taken next.taken) c.in_err-export.ensures.causes))
+    (ReadsBytes-trans (g.S.ShardSource.meaning c.args.source.now) now new _ _ c.loop-buffer.invariant.taken next.taken) c.in_err-export.ensures.causes))
 
 pub returns-in_err-write_bookend : goal.returns-in_err-write_bookend
 returns-in_err-write_bookend g c =
     let kind = g.E.Section.Record.SectionRecord.kind in
     let now = g.S.ShardSource.meaning c.loop-buffer.source in
     let new = g.S.ShardSource.meaning c.read.new.source in
-    let last : ReadsEnd (in_version kind c.args.version) (Takes now new) c.loop-buffer.rows_left c.read.new.left = search rules in
+    let last : ReadsEnd (in_version kind c.args.version) (ReadsBytes now new) c.loop-buffer.rows_left c.read.new.left = search rules in
     let p = err_from_is_err_and c.from_residual-in_err-write_bookend.result c.from_residual-in_err-write_bookend.ensures.1 in
     rw (p.1, p.2) (inr (writing_failed (g.S.ShardSource.meaning c.args.source.now) new _ _
-    (Takes-trans (g.S.ShardSource.meaning c.args.source.now) now new _ _ c.loop-buffer.invariant.taken last.bookend.taken) c.in_err-write_bookend.ensures.causes))
+    (ReadsBytes-trans (g.S.ShardSource.meaning c.args.source.now) now new _ _ c.loop-buffer.invariant.taken last.bookend.taken) c.in_err-write_bookend.ensures.causes))
 
 pub returns : goal.returns
 unfolding section_bytes
@@ -81,7 +81,7 @@ returns g c =
     let now = g.S.ShardSource.meaning c.loop-buffer.source in
     let new = g.S.ShardSource.meaning c.read.new.source in
     let before = c.loop-buffer.invariant in
-    let last : ReadsEnd (in_version kind c.args.version) (Takes now new) c.loop-buffer.rows_left c.read.new.left = search rules in
+    let last : ReadsEnd (in_version kind c.args.version) (ReadsBytes now new) c.loop-buffer.rows_left c.read.new.left = search rules in
     record {
       stored = before.stored;
       passed = all_passed (in_version kind c.args.version) (laws_in kind g.met.E.ExportedRecord.laws c.args.version) _ now _ _ before new last.bookend;

@@ -23,7 +23,7 @@ returns-in_err-files g c =
 pub returns-in_err-xorbs : goal.returns-in_err-xorbs
 returns-in_err-xorbs g c =
     let read = c.in_ok-read_header.ensures in
-    let as_stored = record c.args.form.now { file_table = true; key = c.default.result } in
+    let as_stored = record c.args.options.now { file_table = true; key = c.default.result } in
     let files = section_exported (λ rs. rs) (files_as_stored as_stored refl) (rw c.format_version-version.ensures at c.in_ok-files.ensures) in
     let p = err_from_is_err_and c.from_residual-in_err-xorbs.result c.from_residual-in_err-xorbs.ensures.1 in
     rw (p.1, p.2) (xorbs_not_exported c.in_ok-read_header.field-0 read.read read.known.1 files.passed _ _ c.in_err-xorbs.ensures)
@@ -33,8 +33,8 @@ returns g c =
     let contents = g.W.Write.contents in
     let read = c.in_ok-read_header.ensures in
     let h = c.in_ok-read_header.field-0 in
-    let form = c.args.form.now in
-    let as_stored = record form { file_table = true; key = c.default.result } in
+    let options = c.args.options.now in
+    let as_stored = record options { file_table = true; key = c.default.result } in
     let files = section_exported (λ rs. rs) (files_as_stored as_stored refl) (rw c.format_version-version.ensures at c.in_ok-files.ensures) in
     let d = c.default.ensures in
     let none : c.default.result ≡ no_key = λ i. record { word0 = d.0 i; word1 = d.1.0 i; word2 = d.1.1.0 i; word3 = d.1.1.1 i } in
@@ -46,7 +46,7 @@ returns g c =
       files = files.stored;
       xorbs = xorbs.stored;
       sections = sections_there h read.read read.known.1 files.passed xorbs.passed;
-      written = whole_layout (contents c.args.writer.now) (contents c.serialize.new.writer) (contents c.export_section.new.writer) (contents c.export_section-2.new.writer) _ files.stored xorbs.stored form
+      written = whole_layout (contents c.args.writer.now) (contents c.serialize.new.writer) (contents c.export_section.new.writer) (contents c.export_section-2.new.writer) _ files.stored xorbs.stored options
           header files.written xorbs.written (end files.stored xorbs.stored fit files.collected xorbs.collected);
       footer_is = is files.stored xorbs.stored fit files.collected xorbs.collected;
     })

@@ -13,7 +13,7 @@ returns g c =
     subst (λ width. Searches (table_at old c.args.start c.args.rows width) c.args.word g.V.TableValue.Spells (length c.args.dest.now) c.args.dest.now c.search_on_sorted_u64s.new.results old new result) c.WIDTH.ensures (record {
       found = finds_weaker _ c.args.word _ g.V.TableValue.Spells c.args.dest.now _ result (λ bytes v given. search rules) found.found;
       count = found.count;
-      serves = found.serves;
+      no_failure = found.no_failure;
       fits = found.fits;
       refused = found.refused;
       kept = found.kept;

@@ -11,7 +11,7 @@ use Rattle.xet_shards.proofs.shard_format.writer.footer_of.Goals as goal
 pub returns-clause-value : goal.returns-clause-value
 returns-clause-value c = λ rs xs fit files xorbs.
     let plain = c.default.ensures in
-    let form = c.args.form.now in
+    let options = c.args.options.now in
     search (
       rules,
       plain,
@@ -19,11 +19,11 @@ returns-clause-value c = λ rs xs fit files xorbs.
       length-xorb_section xs,
       files,
       xorbs,
-      rows_of_table form.file_table (starts file_records rs) _ (files.table.records ∙ sym (length-starts file_records rs)),
-      bytes_of_table file_records form.file_table rs,
-      rows_of_table form.xorb_table (starts xorb_records xs) _ (xorbs.table.records ∙ sym (length-starts xorb_records xs)),
-      bytes_of_table xorb_records form.xorb_table xs,
-      rows_of_table form.chunk_table (chunk_table xs) (c.args.xorbs.now.table.rows - c.args.xorbs.now.table.records)
+      rows_of_table options.file_table (starts file_records rs) _ (files.table.records ∙ sym (length-starts file_records rs)),
+      bytes_of_table file_records options.file_table rs,
+      rows_of_table options.xorb_table (starts xorb_records xs) _ (xorbs.table.records ∙ sym (length-starts xorb_records xs)),
+      bytes_of_table xorb_records options.xorb_table xs,
+      rows_of_table options.chunk_table (chunk_table xs) (c.args.xorbs.now.table.rows - c.args.xorbs.now.table.records)
           (omega (arith, xorbs.table.records, xorbs.table.rows, xorb_rows-chunks xs, length-chunk_table xs)),
-      length-chunks_in form.chunk_table xs,
+      length-chunks_in options.chunk_table xs,
     )

@@ -2,8 +2,8 @@ use Rattle.std.proofs.Common.{sym, subst}
 use Rattle.std.proofs.lemmas.Result.{err_from_is_err_and}
 use Rattle.xet_records.specs.FileRecord.{file_records, file_records_in}
 use Rattle.xet_shards.proofs.Sections.{fits_ever}
-use Rattle.xet_shards.specs.MinimalReading.SectionsFail.{no_xorbs}
-use Rattle.xet_shards.specs.InForm.{FitsSection}
+use Rattle.xet_shards.specs.MinimalReading.SectionsNotRead.{no_xorbs}
+use Rattle.xet_shards.specs.WithOptions.{FitsSection}
 use Rattle.xet_shards.proofs.MinimalReading.{reads_fit, kept_fit}
 use Rattle.xet_shards.proofs.streaming_shard.minimal_reader.read_sections.Goals as goal
 

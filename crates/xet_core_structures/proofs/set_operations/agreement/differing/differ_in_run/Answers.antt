@@ -2,7 +2,7 @@ use Rattle.std.proofs.Common.{◌≡◌, ◌+◌, ◌<◌, ◌≤◌, [], ◌∷
 use Rattle.std.specs.Prelude.{MatchOption}
 use Rattle.std.proofs.lemmas.Option.{slice_get-get_or}
 use Rattle.xet_core_structures.specs.declared.set_operations.agreement.differing.ReadRecord.{ReadRecord}
-use Rattle.xet_core_structures.specs.Differing.{AgreeWithin, PassesPlace, DiffersAt}
+use Rattle.xet_core_structures.specs.Differing.{AgreeWithin, ComparesPlace, DiffersAt}
 use Rattle.xet_core_structures.proofs.Differing.{IsComparing, comparing_first, compared_on, compared_unlike, one_agrees, differ_before}
 use Rattle.xet_core_structures.proofs.HashRuns.{no_place}
 use Rattle.xet_core_structures.proofs.set_operations.agreement.differing.differ_in_run.Goals as goal
@@ -41,7 +41,7 @@ loop-at-preserved g c =
       omega (arith, below),
       compared_on K c.laws.ensures lists agree places c.args.from g.met.A.Agreement.agrees_with_itself g.met.A.Agreement.either_way at c.loop-at.kept.items c.loop-at.invariant.2 here (slice_get-get_or places at no_place low)
           c.loop-at.invariant.0 first (slice_get-get_or places c.args.from no_place first_low) c.compare_place.new.kept.items
-          (subst (λ o. MatchOption o (PassesPlace K agree lists first here c.loop-at.kept.items c.compare_place.new.kept.items) (DiffersAt K agree lists here c.loop-at.kept.items)) c.in-None.is c.in_ok-differing.ensures),
+          (subst (λ o. MatchOption o (ComparesPlace K agree lists first here c.loop-at.kept.items c.compare_place.new.kept.items) (DiffersAt K agree lists here c.loop-at.kept.items)) c.in-None.is c.in_ok-differing.ensures),
     )
 
 pub returns-in-Some : goal.returns-in-Some
@@ -57,7 +57,7 @@ returns-in-Some g c =
     let here = get_or places at no_place in
     differ_before K c.laws.ensures lists agree places c.args.from (at + 1) c.args.to c.in-Some.differing (omega (arith, below))
     (compared_unlike K c.laws.ensures lists agree places c.args.from g.met.A.Agreement.agrees_with_itself g.met.A.Agreement.either_way at c.loop-at.kept.items c.loop-at.invariant.2 here (slice_get-get_or places at no_place low) c.args.to c.requires.run below c.in-Some.differing
-    (subst (λ o. MatchOption o (PassesPlace K agree lists first here c.loop-at.kept.items c.compare_place.new.kept.items) (DiffersAt K agree lists here c.loop-at.kept.items)) c.in-Some.is c.in_ok-differing.ensures))
+    (subst (λ o. MatchOption o (ComparesPlace K agree lists first here c.loop-at.kept.items c.compare_place.new.kept.items) (DiffersAt K agree lists here c.loop-at.kept.items)) c.in-Some.is c.in_ok-differing.ensures))
 
 pub returns : goal.returns
 returns g c =

@@ -1,7 +1,7 @@
 use Rattle.std.proofs.Common.{None, Some, refl, sym, subst}
 use Rattle.std.specs.Prelude.{IfSome}
-use Rattle.xet_core_structures.specs.Combining.{IsRest}
-use Rattle.xet_core_structures.specs.SideBySide.{IsRecordHeader}
+use Rattle.xet_core_structures.specs.RecordPairs.{IsRest}
+use Rattle.xet_core_structures.specs.MergeJoin.{IsRecordHeader}
 use Rattle.xet_core_structures.proofs.Pairs.{keeps_second, nothing_kept}
 use Rattle.xet_core_structures.proofs.set_operations.record_operation.OfDifferenceRecordOperation.write.Goals as goal
 
@@ -10,8 +10,8 @@ returns-in-Some-default g c =
     let K = g.Sec.Record.SectionRecord.kind in
     rw (c.in-Some-default.is-0)
     (nothing_kept K c.laws.ensures IsRest (Some c.in-Some-default.field-0-0) c.args.second _ _ _ _ (g.Sec.WrittenSection.rows c.args.written.now) (g.Sec.WrittenSection.has_written c.args.written.now) _
-    (λ one other first second. subst (λ o. IsRest o other None) (sym first.1) refl) c.pass_both.result
-    (rw c.in-Some-default.is-0 at c.pass_both.ensures))
+    (λ one other first second. subst (λ o. IsRest o other None) (sym first.1) refl) c.skip_both.result
+    (rw c.in-Some-default.is-0 at c.skip_both.ensures))
 
 pub returns-in-None-Some : goal.returns-in-None-Some
 returns-in-None-Some g c =

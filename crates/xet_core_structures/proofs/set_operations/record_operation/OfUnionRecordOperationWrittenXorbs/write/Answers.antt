@@ -3,8 +3,8 @@ use Rattle.std.specs.Prelude.{IfSome}
 use Rattle.xet_records.specs.XorbRecord.{xorb_records}
 use Rattle.xet_records.proofs.RecordKinds.{xorb_laws}
 use Rattle.xet_core_structures.specs.ByteUnion.{IsEitherXorb}
-use Rattle.xet_core_structures.specs.Combining.{AreOfOneHash}
-use Rattle.xet_core_structures.specs.SideBySide.{IsRecordHeader}
+use Rattle.xet_core_structures.specs.RecordPairs.{AreOfOneHash}
+use Rattle.xet_core_structures.specs.MergeJoin.{IsRecordHeader}
 use Rattle.xet_core_structures.proofs.Pairs.{keeps_first, keeps_second}
 use Rattle.xet_core_structures.proofs.set_operations.record_operation.OfUnionRecordOperationWrittenXorbs.write.Goals as goal
 

@@ -8,5 +8,5 @@ use Rattle.xet_records.proofs.file_structs.view.MDBFileInfoView.of_front.Goals a
 pub cut-requires : goal.cut-requires
 cut-requires c =
     let read = c.in_ok-header.ensures in
-    header_begins file_records IsWholeFile _ _ (subst FitsHeader read.handed read.widths)
-    (ap (take 48) (sym c.as_slice.ensures) ∙ sym read.taken.1 ∙ ap header_row read.handed)
+    header_begins file_records IsWholeFile _ _ (subst FitsHeader read.returned read.widths)
+    (ap (take 48) (sym c.as_slice.ensures) ∙ sym read.taken.1 ∙ ap header_row read.returned)

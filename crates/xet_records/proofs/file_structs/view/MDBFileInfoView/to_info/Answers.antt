@@ -6,7 +6,7 @@ use Rattle.xet_records.specs.FileRecord.{file_records}
 use Rattle.xet_records.specs.View.{IsWholeFile}
 use Rattle.xet_records.proofs.RowsWithin.{segment_laws, hash_laws, rows_within, rows_from_index}
 use Rattle.xet_records.proofs.Views.{shown_as, part_count, has_segments, has_part_rows}
-use Rattle.xet_records.proofs.Parts.{row-handed}
+use Rattle.xet_records.proofs.Parts.{row-returned}
 use Rattle.xet_records.proofs.file_structs.view.MDBFileInfoView.to_info.Goals as goal
 
 pub rows-requires : goal.rows-requires
@@ -35,6 +35,6 @@ returns-clause-ok c =
       metadata = sym shown.same_header i;
       segments = (segments ∙ map-id _) i;
       verification = verification i;
-      metadata_ext = (c.metadata_ext.ensures ∙ sym (row-handed c.args.self.now.metadata_ext)) i;
-      aux_ext = (c.aux_ext.ensures ∙ sym (row-handed c.args.self.now.aux_ext)) i;
+      metadata_ext = (c.metadata_ext.ensures ∙ sym (row-returned c.args.self.now.metadata_ext)) i;
+      aux_ext = (c.aux_ext.ensures ∙ sym (row-returned c.args.self.now.aux_ext)) i;
     }

@@ -8,5 +8,5 @@ use Rattle.xet_records.proofs.xorb_structs.view.MDBXorbInfoView.of_front.Goals a
 pub cut-requires : goal.cut-requires
 cut-requires c =
     let read = c.in_ok-header.ensures in
-    header_begins xorb_records IsWholeXorb _ _ (subst FitsXorbHeader read.handed read.widths)
-    (ap (take 48) (sym c.as_slice.ensures) ∙ sym read.taken.1 ∙ ap xorb_header_row read.handed)
+    header_begins xorb_records IsWholeXorb _ _ (subst FitsXorbHeader read.returned read.widths)
+    (ap (take 48) (sym c.as_slice.ensures) ∙ sym read.taken.1 ∙ ap xorb_header_row read.returned)

@@ -2,7 +2,7 @@ use Rattle.std.proofs.Common.{sym, ap, ◌∙◌, subst}
 use Rattle.std.specs.FinMap.{get, get-entries, get-from_sorted}
 use Rattle.std.specs.Option.{option_or}
 use Rattle.xet_base.specs.Hash.{hash_cmp}
-use Rattle.xet_shards.specs.Joining.{but, entry, CanJoinFiles, own_file}
+use Rattle.xet_shards.specs.Joining.{unless_in, entry, CanJoinFiles, own_file}
 use Rattle.xet_shards.proofs.FileUnions.{united}
 use Rattle.xet_shards.proofs.shard_in_memory.file_store.FileStore.union.Goals as goal
 
@@ -18,5 +18,5 @@ returns-clause-ok c =
     (λ q. c.in_ok-joined.ensures.ok q
     ∙ ap (λ o. own_file o (get other q)) (sym (get-from_sorted hash_cmp _ q c.self.invariant.sorted) ∙ ap (λ m. get m q) c.self.view_is))
     (λ q. c.in_ok-append_missing.ensures.ok q
-    ∙ ap (λ es. option_or (get c.in_ok-joined.joined q) (but none (entry es) q)) c.content.ensures.entries
-    ∙ ap (λ f. option_or (get c.in_ok-joined.joined q) (but none (λ _. f) q)) (sym (get-entries other q)))
+    ∙ ap (λ es. option_or (get c.in_ok-joined.joined q) (unless_in none (entry es) q)) c.content.ensures.entries
+    ∙ ap (λ f. option_or (get c.in_ok-joined.joined q) (unless_in none (λ _. f) q)) (sym (get-entries other q)))

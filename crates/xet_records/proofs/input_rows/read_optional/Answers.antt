@@ -1,5 +1,0 @@
-use Rattle.xet_records.proofs.Reading.{a_row}
-use Rattle.xet_records.proofs.input_rows.read_optional.Goals as goal
-
-pub returns-in_ok-read_row-clause-value : goal.returns-in_ok-read_row-clause-value
-returns-in_ok-read_row-clause-value g c = rw c.if-wanted.true (a_row _ _ _ _ _ c.in_ok-read_row.ensures)
