@@ -15,13 +15,13 @@ use Rattle.xet_core_structures.specs.declared.set_operations.MergePlan.{MergePla
 use Rattle.xet_core_structures.specs.declared.source.MemorySource.{MemorySource}
 use Rattle.xet_core_structures.specs.Ends.{HasHeaderAndFooter, Loads}
 use Rattle.xet_core_structures.specs.Errors.{CoreResult}
-use Rattle.xet_core_structures.specs.ExportTrees.{IsExportOf, IsMergeOfExports}
+use Rattle.xet_core_structures.specs.Trees.ExportTrees.{IsExportOf, IsMergeOfExports}
 use Rattle.xet_core_structures.specs.FileRecord.{file_records}
 use Rattle.xet_core_structures.specs.Hash.{IsHash}
 use Rattle.xet_core_structures.specs.Joins.{IsJoinOf, AgreePairwise}
 use Rattle.xet_core_structures.specs.KeyedExport.{exported, export_options}
 use Rattle.xet_core_structures.specs.Lookup.{FoundInShard, LookupFailsAmong, WithinBounds}
-use Rattle.xet_core_structures.specs.MergeTrees.{HasUnion, leaves, InputIs}
+use Rattle.xet_core_structures.specs.Trees.MergeTrees.{HasUnion, leaves, InputIs}
 use Rattle.xet_core_structures.specs.Layout.{layout, plain_options}
 use Rattle.xet_core_structures.specs.Shard.{Shard, IsShard}
 use Rattle.xet_core_structures.specs.Source.{Source, DeviceFailure}

@@ -19,7 +19,7 @@ use Rattle.xet_records.specs.RecordKind.{RecordKind}
 use Rattle.shard_bytes.proofs.Combining.{in_memory}
 use Rattle.mdb_report.specs.Records.{HoldsFiles, FilesRefusal}
 use Rattle.xet_records.proofs.RecordKinds.{file_laws, laws_in, stored_ever}
-use Rattle.xet_core_structures.proofs.RecordsAsRead.{all_handed}
+use Rattle.xet_core_structures.proofs.Records.RecordsAsRead.{all_handed}
 
 pub read_files_fit : {Z : Type 0} (version : FormatVersion) (old new : Source) (at : ℕ) (result : CoreResult (Vec MDBFileInfo Z)) → ReadsAll (file_records_in version) old new at result
     → IfOk result (λ files. All FitsItsHeader files.items)

@@ -7,7 +7,7 @@ use Rattle.xet_core_structures.specs.declared.file_structs.FileDataSequenceEntry
 use Rattle.xet_core_structures.specs.declared.file_structs.MDBFileInfo.{MDBFileInfo}
 use Rattle.xet_core_structures.specs.declared.xorb_structs.MDBXorbInfo.{MDBXorbInfo}
 use Rattle.xet_core_structures.specs.declared.xorb_structs.XorbChunkSequenceEntry.{XorbChunkSequenceEntry}
-use Rattle.xet_core_structures.specs.ByteResults.{LoadRefusal}
+use Rattle.xet_core_structures.specs.TwoShards.ByteResults.{LoadRefusal}
 use Rattle.xet_core_structures.specs.FileRecord.{size_of_file}
 use Rattle.xet_core_structures.specs.SectionReading.{ReadsSection, SectionFails, files_of}
 use Rattle.xet_records.specs.XorbRow.{IsEligibleChunk}

@@ -3,15 +3,15 @@ use Rattle.std.proofs.Common.{inl, inr, ℕ, ◌<◌, List, [], ◌∷◌, lengt
 use Rattle.std.specs.Prelude.{Contains}
 use Rattle.std.specs.List.{AllZip}
 use Rattle.xet_core_structures.specs.declared.set_operations.agreement.Disagreement.{Disagreement}
-use Rattle.xet_core_structures.specs.Agreement.{IsHeld, InputsAgree, InputsDisagree, HasAllDisagreements}
-use Rattle.xet_core_structures.specs.ShardContents.{HoldsShard}
+use Rattle.xet_core_structures.specs.Agreement.Agreement.{IsHeld, InputsAgree, InputsDisagree, HasAllDisagreements}
+use Rattle.xet_core_structures.specs.Records.ShardContents.{HoldsShard}
 use Rattle.xet_core_structures.specs.Joins.{IsJoinOf, AgreePairwise}
 use Rattle.xet_core_structures.specs.KeyedHash.{no_key}
 use Rattle.xet_core_structures.specs.Shard.{Shard, IsShard}
-use Rattle.xet_core_structures.proofs.AgreeingTrees.{of_hash, held_agree}
-use Rattle.xet_core_structures.proofs.ShardContents.{only_shard}
-use Rattle.xet_core_structures.proofs.Items.{has_at, at_of}
-use Rattle.xet_core_structures.proofs.Zipped.{zip_at, zip_back}
+use Rattle.xet_core_structures.proofs.Agreement.AgreeingTrees.{of_hash, held_agree}
+use Rattle.xet_core_structures.proofs.Records.ShardContents.{only_shard}
+use Rattle.xet_core_structures.proofs.Records.Items.{has_at, at_of}
+use Rattle.xet_core_structures.proofs.Records.Zipped.{zip_at, zip_back}
 use Rattle.shard_bytes.specs.Merging.{IsMergePlan, MergesBytes, IsMergeOfList}
 
 module _ (shards : List Shard) (inputs : List (List ℕ)) (hold : AllZip (HoldsShard no_key) shards inputs) where

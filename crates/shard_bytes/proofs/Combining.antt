@@ -8,7 +8,7 @@ use Rattle.xet_core_structures.specs.Errors.{IsWriteError}
 use Rattle.xet_core_structures.specs.Source.{Source}
 use Rattle.xet_core_structures.specs.Ends.{HasHeaderAndFooter}
 use Rattle.xet_core_structures.specs.Shard.{Shard}
-use Rattle.xet_core_structures.specs.ByteResults.{keyed_layout, key_of, HaveResult, WritesResult, InputsFail}
+use Rattle.xet_core_structures.specs.TwoShards.ByteResults.{keyed_layout, key_of, HaveResult, WritesResult, InputsFail}
 use Rattle.shard_bytes.proofs.MemoryErrors.{from_memory}
 use Rattle.shard_bytes.specs.Combining.{CombinesBytes, NotCombined, CombiningRefusal}
 

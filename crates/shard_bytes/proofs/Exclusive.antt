@@ -8,13 +8,13 @@ use Rattle.xet_core_structures.specs.FileRecord.{file_records_in}
 use Rattle.xet_core_structures.specs.KeyedExport.{xorbs_after}
 use Rattle.xet_core_structures.specs.SectionReading.{IsSection, IsRefusedSection, IsTruncatedSection}
 use Rattle.xet_core_structures.specs.XorbRecord.{xorb_records}
-use Rattle.xet_core_structures.proofs.SectionWays.{one_way}
+use Rattle.xet_core_structures.proofs.Records.SectionWays.{one_way}
 use Rattle.xet_records.proofs.RecordKinds.{xorb_laws}
-use Rattle.xet_shards.specs.Rewriting.{HasSections}
-use Rattle.xet_shards.proofs.EndsUnique.{not_unsupported, not_too_short}
-use Rattle.xet_shards.proofs.Loading.{one_version}
-use Rattle.xet_shards.proofs.Sections.{files_laws}
-use Rattle.xet_shards.proofs.SectionUnique.{only_list, section_or_passes, section_or_cut}
+use Rattle.xet_shards.specs.Export.Rewriting.{HasSections}
+use Rattle.xet_shards.proofs.Ends.EndsUnique.{not_unsupported, not_too_short}
+use Rattle.xet_shards.proofs.Ends.Loading.{one_version}
+use Rattle.xet_shards.proofs.Write.Sections.{files_laws}
+use Rattle.xet_shards.proofs.Read.SectionUnique.{only_list, section_or_passes, section_or_cut}
 use Rattle.shard_bytes.specs.declared.format.Format.{Format}
 use Rattle.shard_bytes.specs.Format.{IsUnsupportedFor}
 use Rattle.shard_bytes.proofs.Formats.{unsupported_so, one_reason}

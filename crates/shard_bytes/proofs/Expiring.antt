@@ -11,12 +11,12 @@ use Rattle.xet_core_structures.specs.Shard.{Shard}
 use Rattle.xet_core_structures.specs.WrittenShard.{IsBytesWithoutExpiry}
 use Rattle.xet_core_structures.specs.XorbRecord.{xorb_records}
 use Rattle.xet_shards.specs.declared.shard_writer.LayoutOptions.{LayoutOptions}
-use Rattle.xet_shards.specs.Section.{section_bytes}
-use Rattle.xet_shards.specs.Tables.{table_bytes, chunk_table_bytes}
-use Rattle.xet_shards.proofs.EndsUnique.{only_info, not_unsupported, not_too_short, ends_of_bytes, bytes_without_expiry}
-use Rattle.xet_shards.proofs.Layouts.{length-shard_footer_bytes}
+use Rattle.xet_shards.specs.Write.Section.{section_bytes}
+use Rattle.xet_shards.specs.Write.Tables.{table_bytes, chunk_table_bytes}
+use Rattle.xet_shards.proofs.Ends.EndsUnique.{only_info, not_unsupported, not_too_short, ends_of_bytes, bytes_without_expiry}
+use Rattle.xet_shards.proofs.Write.Layouts.{length-shard_footer_bytes}
 use Rattle.xet_core_structures.specs.declared.error.CoreError.{CoreError}
-use Rattle.xet_core_structures.specs.ByteResults.{LoadRefusal}
+use Rattle.xet_core_structures.specs.TwoShards.ByteResults.{LoadRefusal}
 use Rattle.shard_bytes.specs.Expiry.{HasNewExpiry}
 
 -- all but the last bytes, which are as many

@@ -8,7 +8,7 @@ use Rattle.xet_base.proofs.Lists.{front_is}
 use Rattle.xet_core_structures.specs.Layout.{header_tag}
 use Rattle.xet_records.specs.declared.record_reader.FormatVersion.{FormatVersion}
 use Rattle.xet_records.specs.Version.{number_of, IsVersion}
-use Rattle.xet_shards.proofs.Versions.{number_fits}
+use Rattle.xet_shards.proofs.Ends.Versions.{number_fits}
 use Rattle.shard_bytes.specs.declared.format.Format.{Format}
 use Rattle.shard_bytes.specs.declared.format.Format.TheVariants.{NoTag, OtherVersion, NoFooter}
 use Rattle.shard_bytes.specs.Format.{HasVersion, IsUnsupportedFor}

@@ -1,7 +1,7 @@
 -- What a filter keeps.
 use Rattle.std.proofs.Common.{◌≡◌, ◌↔◌, Bool, true, false, ℕ, ◌+◌, ◌<◌, List, [], ◌∷◌, ◌++◌, length, take, get_or, sym, subst, IsTrue, rules}
 use Rattle.std.proofs.lemmas.List.{take_more}
-use Rattle.xet_shards.proofs.MinimalWriting.{one_kept, none_kept}
+use Rattle.xet_shards.proofs.StreamingShard.MinimalWriting.{one_kept, none_kept}
 use Rattle.xet_core_structures.specs.MinimalShard.{IsKept}
 
 pub kept_so : {X : Type 0} (Narrow Wide : X → Bool → Type 0) → ((x : X) (b : Bool) → Narrow x b → Wide x b) → (xs kept : List X) → IsKept Narrow xs kept → IsKept Wide xs kept

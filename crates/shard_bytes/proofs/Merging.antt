@@ -7,13 +7,13 @@ use Rattle.std.proofs.lemmas.Bool.{cases_lt}
 use Rattle.std.proofs.lemmas.List.Elements.{Contains-push, Contains-append_left, Contains-append_right, Contains-append_cases, Contains-get_or}
 use Rattle.xet_core_structures.specs.declared.set_operations.MergePlan.{MergePlan}
 use Rattle.xet_core_structures.specs.declared.set_operations.MergePlan.TheVariants.{Leaf, Both'}
-use Rattle.xet_core_structures.specs.ShardContents.{HoldsShard}
+use Rattle.xet_core_structures.specs.Records.ShardContents.{HoldsShard}
 use Rattle.xet_core_structures.specs.Joins.{HasWhatAnyHas, IsJoinOf}
 use Rattle.xet_core_structures.specs.KeyedHash.{no_key}
-use Rattle.xet_core_structures.specs.MergeTrees.{leaves, HasUnion, InputIs, IsMerge}
+use Rattle.xet_core_structures.specs.Trees.MergeTrees.{leaves, HasUnion, InputIs, IsMerge}
 use Rattle.xet_core_structures.specs.Shard.{Shard, empty_shard}
-use Rattle.xet_shards.proofs.MappedShards.{mapped_member, unmapped_member}
-use Rattle.xet_core_structures.proofs.Zipped.{zipped_made}
+use Rattle.xet_shards.proofs.Content.MappedShards.{mapped_member, unmapped_member}
+use Rattle.xet_core_structures.proofs.Records.Zipped.{zipped_made}
 use Rattle.shard_bytes.specs.Merging.{IsBalanced, IsMergePlan, IsMergeOfList}
 
 only_member : (i j : ℕ) → Contains (j ∷ []) i → j ≡ i

@@ -12,13 +12,13 @@ use Rattle.xet_core_structures.specs.SectionReading.{IsSection, IsRefusedSection
 use Rattle.xet_core_structures.specs.Source.{Source, DeviceFailure, FailedBy, bytes_left, moved}
 use Rattle.xet_core_structures.specs.XorbRecord.{xorb_records}
 use Rattle.xet_records.proofs.RecordKinds.{xorb_laws}
-use Rattle.xet_shards.specs.FileRanges.{FileRanges, ReadsFileRanges, FileRangesFail}
-use Rattle.xet_shards.specs.Rewriting.{HasSections}
-use Rattle.xet_shards.specs.SectionWalk.{KeepsSection}
-use Rattle.xet_shards.specs.Tables.{hash_in}
-use Rattle.xet_shards.specs.XorbHeaders.{header_at}
-use Rattle.xet_shards.proofs.SectionHashes.{ReadsHashes, file_hashes, files_refused, hashes_of_section}
-use Rattle.xet_shards.proofs.WholeSections.{same_files}
+use Rattle.xet_shards.specs.Read.FileRanges.{FileRanges, ReadsFileRanges, FileRangesFail}
+use Rattle.xet_shards.specs.Export.Rewriting.{HasSections}
+use Rattle.xet_shards.specs.Read.SectionWalk.{KeepsSection}
+use Rattle.xet_shards.specs.Write.Tables.{hash_in}
+use Rattle.xet_shards.specs.Read.XorbHeaders.{header_at}
+use Rattle.xet_shards.proofs.Read.SectionHashes.{ReadsHashes, file_hashes, files_refused, hashes_of_section}
+use Rattle.xet_shards.proofs.Read.WholeSections.{same_files}
 use Rattle.shard_bytes.specs.declared.check.Section.TheVariants.{Files, Xorbs}
 use Rattle.shard_bytes.specs.declared.check.Finding.{Finding}
 use Rattle.shard_bytes.specs.declared.check.Finding.TheVariants.{Unsupported, TooShort}

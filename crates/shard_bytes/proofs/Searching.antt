@@ -13,11 +13,11 @@ use Rattle.std.proofs.lemmas.List.Sorted.{searchable_from_sorted, Contains-permu
 use Rattle.xet_base.specs.declared.merklehash.DataHash.{DataHash}
 use Rattle.xet_base.specs.Hash.{hash_cmp}
 use Rattle.xet_base.proofs.HashOrder.{hash_cmp-IsTotalOrder, hash_cmp-IsAntisymmetric}
-use Rattle.xet_core_structures.proofs.Items.{below_or_from, has_mapped, mapped_back}
+use Rattle.xet_core_structures.proofs.Records.Items.{below_or_from, has_mapped, mapped_back}
 use Rattle.xet_core_structures.specs.Shard.{xorb_hash_of}
 use Rattle.xet_core_structures.specs.declared.xorb_structs.MDBXorbInfo.{MDBXorbInfo}
 use Rattle.xet_core_structures.specs.MinimalShard.{MinimalShard}
-use Rattle.xet_shards.proofs.MinimalShard.{one_more}
+use Rattle.xet_shards.proofs.StreamingShard.MinimalShard.{one_more}
 use Rattle.shard_bytes.specs.Minimal.{HasXorb}
 
 module _ (hash : DataHash) where

@@ -4,10 +4,10 @@ use Rattle.std.specs.Prelude.{sum_by, slice_get, slice_index_or}
 use Rattle.std.proofs.lemmas.List.Sums.{sum_by-append, sum_by-cons}
 use Rattle.xet_core_structures.specs.declared.set_operations.MergePlan.{MergePlan}
 use Rattle.xet_core_structures.specs.declared.set_operations.MergePlan.TheVariants.{Leaf, Both'}
-use Rattle.xet_core_structures.specs.ByteResults.{UnitesBytes}
-use Rattle.xet_core_structures.specs.MergeTrees.{leaves, TreeWrites}
-use Rattle.xet_core_structures.specs.Sizes.{bytes_at}
-use Rattle.xet_core_structures.proofs.UnionSizes.{bytes_of_union, bytes_of_tree, bytes_of_difference, bytes_of_repetition}
+use Rattle.xet_core_structures.specs.TwoShards.ByteResults.{UnitesBytes}
+use Rattle.xet_core_structures.specs.Trees.MergeTrees.{leaves, TreeWrites}
+use Rattle.xet_core_structures.specs.Records.Sizes.{bytes_at}
+use Rattle.xet_core_structures.proofs.Laws.UnionSizes.{bytes_of_union, bytes_of_tree, bytes_of_difference, bytes_of_repetition}
 use Rattle.shard_bytes.specs.declared.combine.Operation.{Operation}
 use Rattle.shard_bytes.specs.declared.combine.Operation.TheVariants.{Union, Difference}
 use Rattle.shard_bytes.specs.Combining.{IsResultOf, CombinesBytes}

@@ -12,8 +12,8 @@ use Rattle.xet_core_structures.specs.KeyedExport.{ExportCase, ExportFails}
 use Rattle.xet_core_structures.specs.Layout.{layout_of}
 use Rattle.xet_core_structures.specs.SectionReading.{IsSection, ReadsSection, files_of}
 use Rattle.xet_core_structures.specs.Source.{Source, FailedBy, bytes_left, moved}
-use Rattle.xet_shards.specs.Rewriting.{HasSections, WritesAgain}
-use Rattle.xet_shards.proofs.WholeSections.{same_files}
+use Rattle.xet_shards.specs.Export.Rewriting.{HasSections, WritesAgain}
+use Rattle.xet_shards.proofs.Read.WholeSections.{same_files}
 use Rattle.shard_bytes.specs.Versions.{have_aux_rows, options_in_2, IsInVersion2, NotInVersion2, RefusesVersion2, FindsAuxRows}
 use Rattle.shard_bytes.proofs.Checking.{header_in}
 use Rattle.shard_bytes.proofs.MemoryErrors.{from_memory}

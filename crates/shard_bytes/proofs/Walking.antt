@@ -5,7 +5,7 @@ use Rattle.xet_core_structures.specs.declared.error.CoreError.{CoreError}
 use Rattle.xet_core_structures.specs.declared.error.CoreError.TheVariants.{InternalError}
 use Rattle.xet_core_structures.specs.declared.shard_format.MDBShardInfo.{MDBShardInfo}
 use Rattle.xet_core_structures.specs.declared.source.MemorySource.{MemorySource}
-use Rattle.xet_core_structures.specs.ByteResults.{LoadRefusal}
+use Rattle.xet_core_structures.specs.TwoShards.ByteResults.{LoadRefusal}
 use Rattle.xet_core_structures.specs.Ends.{HasHeaderAndFooter}
 use Rattle.xet_core_structures.specs.Errors.{CoreResult, variant_number}
 use Rattle.xet_core_structures.specs.Lookup.{RecordAt, row_at, InfoRefusal, ReadsInfo, ReadInfoFails}

@@ -11,12 +11,12 @@ use Rattle.xet_core_structures.specs.WithOptions.{FitsSection}
 use Rattle.xet_core_structures.specs.KeyedHash.{no_key}
 use Rattle.xet_core_structures.specs.Layout.{footer_value, info_of, layout_of}
 use Rattle.xet_core_structures.specs.XorbRecord.{xorb_records}
-use Rattle.xet_shards.specs.Rewriting.{HasSections, options_of}
-use Rattle.xet_shards.specs.Tables.{hash_in}
-use Rattle.xet_shards.proofs.EndsUnique.{only_info, not_unsupported, not_too_short}
-use Rattle.xet_shards.proofs.Rewriting.{only_sections, sections_of_layout, form_again}
-use Rattle.xet_shards.proofs.SectionHashes.{ascend_adjacent}
-use Rattle.xet_shards.proofs.WholeSections.{version_again, layout_ends, files_not_cut, files_not_refused, xorbs_not_cut, xorbs_not_refused}
+use Rattle.xet_shards.specs.Export.Rewriting.{HasSections, options_of}
+use Rattle.xet_shards.specs.Write.Tables.{hash_in}
+use Rattle.xet_shards.proofs.Ends.EndsUnique.{only_info, not_unsupported, not_too_short}
+use Rattle.xet_shards.proofs.Export.Rewriting.{only_sections, sections_of_layout, form_again}
+use Rattle.xet_shards.proofs.Read.SectionHashes.{ascend_adjacent}
+use Rattle.xet_shards.proofs.Read.WholeSections.{version_again, layout_ends, files_not_cut, files_not_refused, xorbs_not_cut, xorbs_not_refused}
 use Rattle.shard_bytes.proofs.Formats.{unsupported_so}
 use Rattle.shard_bytes.specs.declared.check.Section.TheVariants.{Files, Xorbs}
 use Rattle.shard_bytes.specs.declared.check.Part.{Part}

@@ -1,6 +1,6 @@
 -- The merge of a list of byte strings whose shards have to agree.
 use Rattle.std.specs.Prelude.{ℕ, ◌<◌, List, length, Contains}
-use Rattle.xet_core_structures.specs.Agreement.{InputsAgree, HasAllDisagreements}
+use Rattle.xet_core_structures.specs.Agreement.Agreement.{InputsAgree, HasAllDisagreements}
 use Rattle.xet_core_structures.specs.Joins.{IsJoinOf, AgreePairwise}
 use Rattle.xet_core_structures.specs.Shard.{Shard}
 use Rattle.xet_core_structures.specs.WrittenShard.{IsBytesWithoutExpiry}

@@ -21,8 +21,8 @@ use Rattle.xet_core_structures.specs.Layout.{footer_value, layout_of}
 use Rattle.xet_core_structures.specs.SectionReading.{IsSection, IsRefusedSection, IsTruncatedSection}
 use Rattle.xet_core_structures.specs.XorbRecord.{xorb_records}
 use Rattle.xet_shards.specs.declared.shard_writer.LayoutOptions.{LayoutOptions}
-use Rattle.xet_shards.specs.Rewriting.{HasSections, options_of}
-use Rattle.xet_shards.specs.Tables.{hash_in}
+use Rattle.xet_shards.specs.Export.Rewriting.{HasSections, options_of}
+use Rattle.xet_shards.specs.Write.Tables.{hash_in}
 use Rattle.shard_bytes.specs.declared.format.Format.{Format}
 use Rattle.shard_bytes.specs.Format.{IsUnsupportedFor}
 use Rattle.shard_bytes.specs.declared.check.Section.{Section}

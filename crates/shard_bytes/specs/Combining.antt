@@ -5,8 +5,8 @@ use Rattle.xet_core_structures.specs.declared.shard_format.MDBShardInfo.{MDBShar
 use Rattle.xet_core_structures.specs.Ends.{HasHeaderAndFooter}
 use Rattle.xet_core_structures.specs.Shard.{Shard}
 use Rattle.xet_core_structures.specs.SetOperations.{IsDifference}
-use Rattle.xet_core_structures.specs.ByteUnion.{IsByteUnion}
-use Rattle.xet_core_structures.specs.ByteResults.{keyed_layout, key_of, HaveResult, LoadRefusal, UnionRefusal, DifferenceRefusal}
+use Rattle.xet_core_structures.specs.Records.ByteUnion.{IsByteUnion}
+use Rattle.xet_core_structures.specs.TwoShards.ByteResults.{keyed_layout, key_of, HaveResult, LoadRefusal, UnionRefusal, DifferenceRefusal}
 use Rattle.shard_bytes.specs.Outcomes.{InMemory}
 use Rattle.shard_bytes.specs.declared.combine.Operation.{Operation}
 use Rattle.shard_bytes.specs.declared.combine.Operation.TheVariants.{Union, Difference}

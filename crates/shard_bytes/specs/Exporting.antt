@@ -12,7 +12,7 @@ use Rattle.xet_core_structures.specs.KeyedExport.{ExportsWith, export_options, e
 use Rattle.xet_core_structures.specs.SectionReading.{IsSection}
 use Rattle.xet_core_structures.specs.Source.{Source}
 use Rattle.xet_core_structures.specs.View.{auxes_as_wanted}
-use Rattle.xet_core_structures.specs.ByteResults.{LoadRefusal}
+use Rattle.xet_core_structures.specs.TwoShards.ByteResults.{LoadRefusal}
 use Rattle.shard_bytes.specs.declared.export.Export.{Export}
 use Rattle.shard_bytes.specs.Outcomes.{InMemory}
 

@@ -5,10 +5,10 @@ use Rattle.xet_core_structures.specs.declared.error.CoreError.{CoreError}
 use Rattle.xet_core_structures.specs.declared.error.CoreError.TheVariants.{InvalidArguments, OutOfMemory}
 use Rattle.xet_core_structures.specs.declared.set_operations.MergePlan.{MergePlan}
 use Rattle.xet_core_structures.specs.declared.set_operations.MergePlan.TheVariants.{Leaf, Both'}
-use Rattle.xet_core_structures.specs.ShardContents.{HoldsShard}
+use Rattle.xet_core_structures.specs.Records.ShardContents.{HoldsShard}
 use Rattle.xet_core_structures.specs.Joins.{IsJoinOf, AgreePairwise}
 use Rattle.xet_core_structures.specs.KeyedHash.{no_key}
-use Rattle.xet_core_structures.specs.MergeTrees.{TreeWrites, TreeRefusal}
+use Rattle.xet_core_structures.specs.Trees.MergeTrees.{TreeWrites, TreeRefusal}
 use Rattle.xet_core_structures.specs.Shard.{Shard}
 
 -- a tree over so many inputs from an index on: of two or more, half of them are at its left

@@ -6,7 +6,7 @@ use Rattle.xet_core_structures.specs.declared.error.CoreError.TheVariants.{Inval
 use Rattle.xet_core_structures.specs.declared.file_structs.MDBFileInfo.{MDBFileInfo}
 use Rattle.xet_core_structures.specs.declared.xorb_structs.MDBXorbInfo.{MDBXorbInfo}
 use Rattle.xet_core_structures.specs.declared.shard_format.MDBShardInfo.{MDBShardInfo}
-use Rattle.xet_core_structures.specs.ByteResults.{LoadRefusal}
+use Rattle.xet_core_structures.specs.TwoShards.ByteResults.{LoadRefusal}
 use Rattle.xet_core_structures.specs.Ends.{HasHeader, HasHeaderAndFooter}
 use Rattle.xet_core_structures.specs.FileRecord.{file_records_in, has_aux_ext}
 use Rattle.xet_core_structures.specs.KeyedExport.{ExportCase}
@@ -14,7 +14,7 @@ use Rattle.xet_core_structures.specs.Layout.{layout_of}
 use Rattle.xet_core_structures.specs.SectionReading.{IsSection}
 use Rattle.xet_records.specs.declared.record_reader.FormatVersion.TheVariants.{V2}
 use Rattle.xet_shards.specs.declared.shard_writer.LayoutOptions.{LayoutOptions}
-use Rattle.xet_shards.specs.Rewriting.{options_of}
+use Rattle.xet_shards.specs.Export.Rewriting.{options_of}
 use Rattle.shard_bytes.specs.Checking.{IsReadAs}
 use Rattle.shard_bytes.specs.Outcomes.{InMemory}
 

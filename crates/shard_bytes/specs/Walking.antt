@@ -5,7 +5,7 @@ use Rattle.xet_core_structures.specs.declared.error.CoreError.TheVariants.{Inter
 use Rattle.xet_core_structures.specs.declared.file_structs.MDBFileInfo.{MDBFileInfo}
 use Rattle.xet_core_structures.specs.declared.xorb_structs.MDBXorbInfo.{MDBXorbInfo}
 use Rattle.xet_core_structures.specs.declared.shard_format.MDBShardInfo.{MDBShardInfo}
-use Rattle.xet_core_structures.specs.ByteResults.{LoadRefusal}
+use Rattle.xet_core_structures.specs.TwoShards.ByteResults.{LoadRefusal}
 use Rattle.xet_core_structures.specs.Ends.{HasHeaderAndFooter}
 use Rattle.xet_core_structures.specs.Errors.{CoreResult}
 use Rattle.xet_core_structures.specs.Lookup.{RecordAt, row_at}

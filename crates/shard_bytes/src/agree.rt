@@ -2,8 +2,8 @@
 
 ghost use Rattle.std.specs.Prelude.{◌⊎◌, List, map, Contains, IfOk, MatchResult};
 ghost use Rattle.std.specs.List.{AllZip};
-ghost use Rattle.xet_core_structures.specs.Agreement.{InputsRefusal};
-ghost use Rattle.xet_core_structures.specs.ShardContents.{HoldsShard};
+ghost use Rattle.xet_core_structures.specs.Agreement.Agreement.{InputsRefusal};
+ghost use Rattle.xet_core_structures.specs.Records.ShardContents.{HoldsShard};
 ghost use Rattle.xet_core_structures.specs.KeyedHash.{no_key};
 ghost use Rattle.xet_core_structures.specs.Shard.{Shard};
 ghost use Rattle.shard_bytes.specs.Agreeing.{MergesAgreeing, GivesJoin};

@@ -6,7 +6,7 @@ ghost use Rattle.std.specs.List.Sorted.{IsStrictlySortedBy};
 ghost use Rattle.std.specs.declared.cmp.Ordering.TheVariants.{Less};
 ghost use Rattle.xet_core_structures.specs.declared.merklehash.DataHash.{DataHash};
 ghost use Rattle.xet_core_structures.specs.Ends.{HasHeaderAndFooter};
-ghost use Rattle.xet_core_structures.specs.ByteResults.{LoadRefusal};
+ghost use Rattle.xet_core_structures.specs.TwoShards.ByteResults.{LoadRefusal};
 ghost use Rattle.xet_core_structures.specs.Hash.{hash_cmp};
 ghost use Rattle.shard_bytes.specs.declared.check.Finding.{Finding};
 ghost use Rattle.shard_bytes.specs.Checking.{IsWhole, IsFinding, IsReport, IsUnloaded, IsUnreadable, IsOutOfOrder, IsSamePart, AddsPart, AddsSize, AddsDisorder, AddsDifferences, Compares};

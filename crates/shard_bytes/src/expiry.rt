@@ -1,7 +1,7 @@
 //! The expiry of a shard.
 
 ghost use Rattle.std.specs.Prelude.{◌≡◌, ◌⊎◌, Some, MatchResult};
-ghost use Rattle.xet_core_structures.specs.ByteResults.{LoadRefusal};
+ghost use Rattle.xet_core_structures.specs.TwoShards.ByteResults.{LoadRefusal};
 ghost use Rattle.xet_core_structures.specs.Layout.{layout};
 ghost use Rattle.xet_core_structures.specs.Shard.{Shard};
 ghost use Rattle.xet_core_structures.specs.WrittenShard.{IsBytesWithoutExpiry};

@@ -2,7 +2,7 @@
 
 ghost use Rattle.std.specs.Prelude.{MatchResult};
 ghost use Rattle.xet_core_structures.specs.Ends.{HasHeaderAndFooter};
-ghost use Rattle.xet_core_structures.specs.ByteResults.{LoadRefusal};
+ghost use Rattle.xet_core_structures.specs.TwoShards.ByteResults.{LoadRefusal};
 
 use std::alloc::Global;
 use xet_core_structures::error::Result;

@@ -1,8 +1,8 @@
 //! The union of a list of shards.
 
 ghost use Rattle.std.specs.Prelude.{◌≡◌, ◌⊎◌, ◌+◌, ◌<◌, ◌^◌, List, map, length, IfOk, IfErr, MatchResult};
-ghost use Rattle.xet_core_structures.specs.Filling.{FillsWith};
-ghost use Rattle.xet_core_structures.specs.MergeTrees.{MergeRefused};
+ghost use Rattle.xet_core_structures.specs.Trees.Filling.{FillsWith};
+ghost use Rattle.xet_core_structures.specs.Trees.MergeTrees.{MergeRefused};
 ghost use Rattle.xet_core_structures.specs.Shard.{Shard};
 ghost use Rattle.xet_core_structures.specs.WrittenShard.{IsBytesWithoutExpiry};
 ghost use Rattle.shard_bytes.specs.Merging.{IsBalanced, IsPlanOfBoth, IsMergePlan, MergesBytes, RefusesMerge, IsMergeOfList};

@@ -8,7 +8,7 @@ use Rattle.xet_core_structures.specs.declared.error.CoreError.{CoreError}
 use Rattle.xet_core_structures.specs.declared.error.CoreError.TheVariants.{OutOfMemory}
 use Rattle.xet_core_structures.specs.declared.set_operations.MergePlan.{MergePlan}
 use Rattle.xet_core_structures.specs.declared.set_operations.MergePlan.TheVariants.{Leaf, Both' as both_plans}
-use Rattle.xet_core_structures.specs.MergeTrees.{TreeWrites, TreeRefusal}
+use Rattle.xet_core_structures.specs.Trees.MergeTrees.{TreeWrites, TreeRefusal}
 use Rattle.shardtool.specs.declared.stop.Stop.{Stop}
 use Rattle.shardtool.specs.declared.tree.NameTree.{NameTree}
 use Rattle.shardtool.specs.declared.tree.NameTree.TheVariants.{Name, Both'}

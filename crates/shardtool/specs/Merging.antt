@@ -9,7 +9,7 @@ use Rattle.xet_core_structures.specs.declared.error.CoreError.{CoreError}
 use Rattle.xet_core_structures.specs.declared.error.CoreError.TheVariants.{OutOfMemory}
 use Rattle.xet_core_structures.specs.declared.set_operations.MergePlan.{MergePlan}
 use Rattle.xet_core_structures.specs.declared.set_operations.MergePlan.TheVariants.{Leaf, Both' as both_plans}
-use Rattle.xet_core_structures.specs.ByteResults.{UnitesBytes, BytesRefusal}
+use Rattle.xet_core_structures.specs.TwoShards.ByteResults.{UnitesBytes, BytesRefusal}
 use Rattle.shardtool.specs.declared.stop.Stop.{Stop}
 use Rattle.shardtool.specs.declared.stop.Stop.TheVariants.{Refused, Unreadable, Failed}
 use Rattle.shardtool.specs.declared.tree.NameTree.{NameTree}

@@ -4,7 +4,7 @@ use Rattle.std.specs.Prelude.{IfOk}
 use Rattle.std.specs.declared.vec.Vec.{Vec}
 use Rattle.xet_core_structures.specs.declared.error.CoreError.{CoreError}
 use Rattle.xet_core_structures.specs.Errors.{variant_number}
-use Rattle.xet_core_structures.specs.Filling.{FillsWith}
+use Rattle.xet_core_structures.specs.Trees.Filling.{FillsWith}
 use Rattle.xet_c.specs.Output.{Answers, Delivers, Refuses, Outcome}
 
 pub outcome : {X Z : Type 0} (IsMade : List X → Type 0) (IsCause : CoreError → Type 0) (old new : List X) (written answer : ℕ) (made : Result (Vec X Z) CoreError)

@@ -4,10 +4,10 @@ use Rattle.std.specs.List.{AllZip}
 use Rattle.xet_core_structures.specs.declared.set_operations.agreement.Disagreement.{Disagreement}
 use Rattle.xet_core_structures.specs.declared.set_operations.agreement.RecordHash.{RecordHash}
 use Rattle.xet_core_structures.specs.declared.set_operations.agreement.RecordHash.TheVariants.{File, Xorb}
-use Rattle.xet_core_structures.specs.Agreement.{InputsRefusal}
+use Rattle.xet_core_structures.specs.Agreement.Agreement.{InputsRefusal}
 use Rattle.xet_core_structures.specs.Errors.{CoreResult}
 use Rattle.xet_core_structures.specs.Hash.{words_of}
-use Rattle.xet_core_structures.specs.ShardContents.{HoldsShard}
+use Rattle.xet_core_structures.specs.Records.ShardContents.{HoldsShard}
 use Rattle.xet_core_structures.specs.KeyedHash.{no_key}
 use Rattle.xet_core_structures.specs.Shard.{Shard}
 use Rattle.shard_bytes.specs.declared.agree.AgreeingMerge.{AgreeingMerge}

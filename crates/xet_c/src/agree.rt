@@ -3,7 +3,7 @@
 ghost use Rattle.std.specs.Prelude.{◌≡◌, ◌⊎◌, List, map};
 ghost use Rattle.xet_core_structures.specs.declared.error.CoreError.{CoreError};
 ghost use Rattle.xet_core_structures.specs.declared.set_operations.agreement.Disagreement.{Disagreement};
-ghost use Rattle.xet_core_structures.specs.Agreement.{HasAllDisagreements, InputsRefusal};
+ghost use Rattle.xet_core_structures.specs.Agreement.Agreement.{HasAllDisagreements, InputsRefusal};
 ghost use Rattle.xet_core_structures.specs.Errors.{CoreResult, variant_number};
 ghost use Rattle.shard_bytes.specs.declared.agree.AgreeingMerge.{AgreeingMerge};
 ghost use Rattle.xet_c.specs.Agreeing.{c_disagreement, ShowsFirst, MergesIfAgreeing, ShowsMerge};

@@ -5,7 +5,7 @@ ghost use Rattle.xet_core_structures.specs.declared.error.CoreError.{CoreError};
 ghost use Rattle.xet_core_structures.specs.declared.shard_format.MDBShardInfo.{MDBShardInfo};
 ghost use Rattle.xet_core_structures.specs.Errors.{variant_number};
 ghost use Rattle.xet_core_structures.specs.Ends.{HasHeaderAndFooter};
-ghost use Rattle.xet_core_structures.specs.ByteResults.{LoadRefusal};
+ghost use Rattle.xet_core_structures.specs.TwoShards.ByteResults.{LoadRefusal};
 ghost use Rattle.xet_c.specs.Arguments.{c_info};
 
 use crate::output::error_number;

@@ -1,7 +1,7 @@
 //! The union of a list of shards.
 
 ghost use Rattle.std.specs.Prelude.{◌≡◌, ◌⊎◌, List, map};
-ghost use Rattle.xet_core_structures.specs.MergeTrees.{MergeRefused};
+ghost use Rattle.xet_core_structures.specs.Trees.MergeTrees.{MergeRefused};
 ghost use Rattle.xet_core_structures.specs.Shard.{Shard};
 ghost use Rattle.xet_core_structures.specs.WrittenShard.{IsBytesWithoutExpiry};
 ghost use Rattle.shard_bytes.specs.Merging.{MergesBytes, RefusesMerge, IsMergeOfList};

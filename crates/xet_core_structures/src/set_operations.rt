@@ -1,32 +1,27 @@
 //! Union and difference of shards as bytes, and trees of unions.
 
 ghost use Rattle.std.specs.Prelude.{◌≡◌, ◌≢◌, ◌⊎◌, ◌<◌, ◌≤◌, Some, length, map, slice_get, IsErrAnd, MatchResult, List};
-ghost use Rattle.xet_shards.specs.Shard.{Shard};
-ghost use Rattle.xet_shards.specs.WrittenShard.{IsBytesWithoutExpiry};
-ghost use Rattle.xet_core_structures.specs.ByteResults.{key_of};
-ghost use Rattle.xet_core_structures.specs.Filling.{FillsWith};
-ghost use Rattle.xet_core_structures.specs.SetOutcomes.{Unites, Subtracts};
-ghost use Rattle.xet_core_structures.specs.Streams.{streams};
-ghost use Rattle.xet_core_structures.specs.MergeTrees.{TreeWrites, TreeRefusal, IsMerge, MergeRefused};
+ghost use Rattle.xet_shards.specs.Content.Shard.{Shard};
+ghost use Rattle.xet_shards.specs.Write.WrittenShard.{IsBytesWithoutExpiry};
+ghost use Rattle.xet_core_structures.specs.TwoShards.ByteResults.{key_of};
+ghost use Rattle.xet_core_structures.specs.Trees.Filling.{FillsWith};
+ghost use Rattle.xet_core_structures.specs.TwoShards.SetOutcomes.{Unites, Subtracts};
+ghost use Rattle.xet_core_structures.specs.TwoShards.Streams.{streams};
+ghost use Rattle.xet_core_structures.specs.Trees.MergeTrees.{TreeWrites, TreeRefusal, IsMerge, MergeRefused};
 
 mod agreement;
-mod filling;
-mod mix;
-mod parts;
-mod placed;
-mod record_operation;
-mod results;
-mod sections;
+mod trees;
+mod two_shards;
 
 pub use agreement::{
     Disagreement, Merged, RecordHash, find_disagreement, find_disagreements, merge_agreeing,
 };
 use bumpalo::Bump;
-use parts::{fill_with_part, part_bytes, place_tree};
-use record_operation::{OfDifference, OfUnion};
-use results::operate;
 use std::alloc::Global;
 use std::io::Write;
+use trees::parts::{fill_with_part, part_bytes, place_tree};
+use two_shards::record_operation::{OfDifference, OfUnion};
+use two_shards::results::operate;
 use xet_base::error::{CoreError, Result};
 use xet_base::source::ShardSource;
 use xet_shards::shard_format::MDBShardInfo;

@@ -1,30 +1,11 @@
 //! Shards as bytes: header, footer, writing and reading.
 
-mod chunk_query;
-mod file_lookup;
-mod file_ranges;
-mod file_writer;
-mod footer;
-mod footer_facts;
-mod header;
-pub(crate) mod info;
-mod keyed_chunks;
-mod keyed_export;
-pub(crate) mod options;
-mod record_table;
-pub(crate) mod rewriting;
-mod run_reader;
-mod section_reader;
-mod section_walk;
-mod table_reader;
-mod table_search;
-mod truncated_hashes;
-pub(crate) mod view_writer;
-pub(crate) mod writer;
-pub(crate) mod written;
-mod xorb_lookup;
-pub(crate) mod xorb_writer;
+pub(crate) mod ends;
+pub(crate) mod export;
+mod lookup;
+mod read;
+pub(crate) mod write;
 
-pub use footer::MDBShardFileFooter;
-pub use header::MDBShardFileHeader;
-pub use info::MDBShardInfo;
+pub use ends::footer::MDBShardFileFooter;
+pub use ends::header::MDBShardFileHeader;
+pub use ends::info::MDBShardInfo;

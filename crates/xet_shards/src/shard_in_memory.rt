@@ -6,14 +6,14 @@ ghost use Rattle.xet_base.specs.declared.merklehash.DataHash.{DataHash};
 ghost use Rattle.xet_base.specs.Errors.{Admits};
 ghost use Rattle.xet_records.specs.FileRecord.{file_records, size_of_file, IsWellFormed};
 ghost use Rattle.xet_records.specs.XorbRecord.{xorb_records, IsXorb};
-ghost use Rattle.xet_shards.specs.Section.{total_rows};
-ghost use Rattle.xet_shards.specs.Shard.{IsShard, has_aux_rows, empty_shard, AreFiles, AreXorbs, add_file, add_xorb, CanAddFile, CanAddXorb};
-ghost use Rattle.xet_shards.specs.ChunkLookup.{IsChunkLookup};
-ghost use Rattle.xet_shards.specs.XorbStore.{shown_xorbs, location_in};
-ghost use Rattle.xet_shards.specs.SetOperations.{IsUnion, IsDifference, RowsFitU32, CanUnite, ShardsAgree};
-ghost use Rattle.xet_shards.specs.Joins.{IsJoinOf};
-ghost use Rattle.xet_shards.specs.ChunkQuery.{query_answer, HasNoChunk};
-ghost use Rattle.xet_shards.specs.Layout.{layout};
+ghost use Rattle.xet_shards.specs.Write.Section.{total_rows};
+ghost use Rattle.xet_shards.specs.Content.Shard.{IsShard, has_aux_rows, empty_shard, AreFiles, AreXorbs, add_file, add_xorb, CanAddFile, CanAddXorb};
+ghost use Rattle.xet_shards.specs.ShardInMemory.ChunkLookup.{IsChunkLookup};
+ghost use Rattle.xet_shards.specs.ShardInMemory.XorbStore.{shown_xorbs, location_in};
+ghost use Rattle.xet_shards.specs.Content.SetOperations.{IsUnion, IsDifference, RowsFitU32, CanUnite, ShardsAgree};
+ghost use Rattle.xet_shards.specs.Content.Joins.{IsJoinOf};
+ghost use Rattle.xet_shards.specs.ShardInMemory.ChunkQuery.{query_answer, HasNoChunk};
+ghost use Rattle.xet_shards.specs.Write.Layout.{layout};
 ghost use Rattle.xet_records.specs.Limits.{MAX_ROWS};
 
 mod chunk_query;
@@ -52,8 +52,8 @@ pub struct MDBInMemoryShard {
 }
 
 impl Model for MDBInMemoryShard {
-    ghost use Rattle.xet_shards.specs.ChunkLookup.{ShardWithLookup, coded_shard_with_lookup};
-    ghost use Rattle.xet_shards.specs.InMemoryShard.{shard_inside, IsCounted};
+    ghost use Rattle.xet_shards.specs.ShardInMemory.ChunkLookup.{ShardWithLookup, coded_shard_with_lookup};
+    ghost use Rattle.xet_shards.specs.ShardInMemory.InMemoryShard.{shard_inside, IsCounted};
 
     ghost Value = { ShardWithLookup };
 

@@ -3,7 +3,7 @@
 ghost use Rattle.std.specs.Prelude.{◌≡◌, ◌+◌, ◌^◌, ◌<◌, ◌≤◌, ◌↔◌, MatchResult, IsSome, IfSome, IfOk, IfErr, Some, string_bytes};
 ghost use Rattle.xet_base.specs.Hash.{IsHash};
 ghost use Rattle.xet_base.specs.declared.merklehash.DataHash.{DataHash};
-ghost use Rattle.xet_shards.specs.Names.{shard_name, IsShardName, NamesShard};
+ghost use Rattle.xet_shards.specs.Content.Names.{shard_name, IsShardName, NamesShard};
 
 use std::alloc::Global;
 use xet_base::error::{CoreError, Result};

@@ -1,10 +1,10 @@
 //! Exporting shards under a key, and merging the exports.
 
 ghost use Rattle.std.specs.Prelude.{◌≡◌, true, [], ◌∷◌, Contains, IfOk, IsErrAnd};
-ghost use Rattle.xet_core_structures.specs.ExportTrees.{IsExportOf};
+ghost use Rattle.xet_core_structures.specs.Trees.ExportTrees.{IsExportOf};
 ghost use Rattle.xet_core_structures.specs.Joins.{IsJoinOf, AgreePairwise};
 ghost use Rattle.xet_core_structures.specs.KeyedExport.{ExpiresTooLate};
-ghost use Rattle.xet_core_structures.specs.MergeTrees.{HasUnion, leaves};
+ghost use Rattle.xet_core_structures.specs.Trees.MergeTrees.{HasUnion, leaves};
 ghost use Rattle.xet_core_structures.specs.Shard.{Shard};
 ghost use Rattle.xet_core_structures.specs.WrittenShard.{IsBytesOf};
 ghost use Rattle.library_tests.specs.Callers.{export_of, EqualButForTimes};

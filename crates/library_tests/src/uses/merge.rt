@@ -4,7 +4,7 @@ ghost use Rattle.std.specs.Prelude.{◌≡◌, ◌⊎◌, ◌≤◌, List, lengt
 ghost use Rattle.std.specs.FinMap as finite;
 ghost use Rattle.xet_core_structures.specs.FileRecord.{file_records};
 ghost use Rattle.xet_core_structures.specs.Lookup.{FoundInShard, with_first_word};
-ghost use Rattle.xet_core_structures.specs.MergeTrees.{IsMerge, MergeRefused};
+ghost use Rattle.xet_core_structures.specs.Trees.MergeTrees.{IsMerge, MergeRefused};
 ghost use Rattle.xet_core_structures.specs.Shard.{Shard};
 ghost use Rattle.xet_core_structures.specs.WrittenShard.{IsBytesWithoutExpiry};
 

@@ -3,13 +3,13 @@
 ghost use Rattle.std.specs.Prelude.{◌≡◌, ℕ, List, Contains};
 ghost use Rattle.std.specs.List.{AllZip};
 ghost use Rattle.xet_base.specs.declared.merklehash.DataHash.{DataHash};
-ghost use Rattle.xet_shards.specs.Joins.{IsJoinOf, AgreePairwise};
-ghost use Rattle.xet_shards.specs.Shard.{Shard, IsShard};
+ghost use Rattle.xet_shards.specs.Content.Joins.{IsJoinOf, AgreePairwise};
+ghost use Rattle.xet_shards.specs.Content.Shard.{Shard, IsShard};
 ghost use Rattle.xet_core_structures.specs.declared.set_operations.agreement.Disagreement.{Disagreement};
 ghost use Rattle.xet_core_structures.specs.declared.set_operations.MergePlan.{MergePlan};
-ghost use Rattle.xet_core_structures.specs.Agreement.{HoldsAt, IsHeld, HaveKey, InputsAgree, InputsDisagree};
-ghost use Rattle.xet_core_structures.specs.ByteResults.{keyed_layout};
-ghost use Rattle.xet_core_structures.specs.MergeTrees.{leaves, HasUnion, TreeWrites};
+ghost use Rattle.xet_core_structures.specs.Agreement.Agreement.{HoldsAt, IsHeld, HaveKey, InputsAgree, InputsDisagree};
+ghost use Rattle.xet_core_structures.specs.TwoShards.ByteResults.{keyed_layout};
+ghost use Rattle.xet_core_structures.specs.Trees.MergeTrees.{leaves, HasUnion, TreeWrites};
 
 /// Of inputs, each of which holds a shard, either each two agree or two do not. If they agree, the
 /// bytes that a tree with a union writes are the layout, under the key that all its leaves have, of

@@ -13,22 +13,22 @@ ghost use Rattle.xet_records.specs.declared.file_structs.rows.FileDataSequenceEn
 ghost use Rattle.xet_records.specs.View.{without_aux, auxes_as_wanted};
 ghost use Rattle.xet_records.specs.declared.xorb_structs.MDBXorbInfo.{MDBXorbInfo};
 ghost use Rattle.xet_records.specs.declared.xorb_structs.XorbChunkSequenceEntry.{XorbChunkSequenceEntry};
-ghost use Rattle.xet_shards.specs.ChunkLookup.{ChunkLocation};
-ghost use Rattle.xet_shards.specs.ChunkQuery.{run_length};
-ghost use Rattle.xet_shards.specs.Joins.{IsJoinOf, AgreePairwise};
-ghost use Rattle.xet_shards.specs.ShardsWithoutAux.{shard_without_aux};
-ghost use Rattle.xet_shards.specs.KeyedExport.{keyed_chunk, exported, export_options, Exports, ExportsWith};
-ghost use Rattle.xet_shards.specs.KeyedShards.{keyed_shard};
-ghost use Rattle.xet_shards.specs.declared.shard_format.options.LayoutOptions.{LayoutOptions};
-ghost use Rattle.xet_shards.specs.Layout.{if_included, layout_of};
-ghost use Rattle.xet_shards.specs.SetOperations.{IsUnion, ShardsAgree};
-ghost use Rattle.xet_shards.specs.Shard.{Shard, IsShard};
-ghost use Rattle.xet_shards.specs.WrittenQueries.{HasChunkAt, RunAmong};
-ghost use Rattle.xet_shards.specs.WrittenShard.{IsBytesOf, IsBytesWithoutExpiry};
+ghost use Rattle.xet_shards.specs.ShardInMemory.ChunkLookup.{ChunkLocation};
+ghost use Rattle.xet_shards.specs.ShardInMemory.ChunkQuery.{run_length};
+ghost use Rattle.xet_shards.specs.Content.Joins.{IsJoinOf, AgreePairwise};
+ghost use Rattle.xet_shards.specs.Content.ShardsWithoutAux.{shard_without_aux};
+ghost use Rattle.xet_shards.specs.Export.KeyedExport.{keyed_chunk, exported, export_options, Exports, ExportsWith};
+ghost use Rattle.xet_shards.specs.Content.KeyedShards.{keyed_shard};
+ghost use Rattle.xet_shards.specs.declared.shard_format.ends.options.LayoutOptions.{LayoutOptions};
+ghost use Rattle.xet_shards.specs.Write.Layout.{if_included, layout_of};
+ghost use Rattle.xet_shards.specs.Content.SetOperations.{IsUnion, ShardsAgree};
+ghost use Rattle.xet_shards.specs.Content.Shard.{Shard, IsShard};
+ghost use Rattle.xet_shards.specs.Lookup.WrittenQueries.{HasChunkAt, RunAmong};
+ghost use Rattle.xet_shards.specs.Write.WrittenShard.{IsBytesOf, IsBytesWithoutExpiry};
 ghost use Rattle.xet_core_structures.specs.declared.set_operations.MergePlan.{MergePlan};
-ghost use Rattle.xet_core_structures.specs.ByteResults.{keyed_layout};
-ghost use Rattle.xet_core_structures.specs.ExportTrees.{shard_as_wanted, IsExportedAt, IsMergeOfExports, run_under};
-ghost use Rattle.xet_core_structures.specs.MergeTrees.{leaves, TreeWrites, TreeRefusal, IsMerge, IsMergeOfWritten, MergeRefused};
+ghost use Rattle.xet_core_structures.specs.TwoShards.ByteResults.{keyed_layout};
+ghost use Rattle.xet_core_structures.specs.Trees.ExportTrees.{shard_as_wanted, IsExportedAt, IsMergeOfExports, run_under};
+ghost use Rattle.xet_core_structures.specs.Trees.MergeTrees.{leaves, TreeWrites, TreeRefusal, IsMerge, IsMergeOfWritten, MergeRefused};
 
 /// A shard with its chunk hashes under a key is a shard, and an export with files is its layout.
 pub fn keyed_shards_are_exported()

@@ -8,8 +8,8 @@ ghost use Rattle.xet_base.specs.declared.merklehash.DataHash.{DataHash};
 ghost use Rattle.xet_base.specs.Source.{Source, bytes_left};
 ghost use Rattle.xet_records.specs.declared.file_structs.view.KeptParts.{KeptParts};
 ghost use Rattle.xet_records.specs.View.{as_kept};
-ghost use Rattle.xet_shards.specs.MinimalReading.{ReadsMinimal, ReadsEligible};
-ghost use Rattle.xet_shards.specs.MinimalShard.{MinimalShard, is_start, mark_starts, eligible_in, eligible_hashes, ascending_hashes, minimal_options, WritesMinimalKept, WritesKept};
+ghost use Rattle.xet_shards.specs.StreamingShard.MinimalReading.{ReadsMinimal, ReadsEligible};
+ghost use Rattle.xet_shards.specs.StreamingShard.MinimalShard.{MinimalShard, is_start, mark_starts, eligible_in, eligible_hashes, ascending_hashes, minimal_options, WritesMinimalKept, WritesKept};
 
 use xet_records::xorb_structs::MDBXorbInfoView;
 

@@ -1,15 +1,15 @@
 //! A law of the sizes of unions.
 
 ghost use Rattle.std.specs.Prelude.{ℕ, ◌+◌, ◌*◌, ◌≤◌, List, length};
-ghost use Rattle.xet_shards.specs.Shard.{Shard};
+ghost use Rattle.xet_shards.specs.Content.Shard.{Shard};
 ghost use Rattle.xet_core_structures.specs.declared.set_operations.MergePlan.{MergePlan};
-ghost use Rattle.xet_shards.specs.declared.shard_format.info.MDBShardInfo.{MDBShardInfo};
-ghost use Rattle.xet_shards.specs.Ends.{HasHeaderAndFooter};
-ghost use Rattle.xet_shards.specs.SetOperations.{IsDifference};
-ghost use Rattle.xet_core_structures.specs.ByteResults.{keyed_layout, key_of, HaveResult, UnitesBytes};
-ghost use Rattle.xet_core_structures.specs.ByteUnion.{IsByteUnion};
-ghost use Rattle.xet_core_structures.specs.MergeTrees.{leaves, HasUnion, TreeWrites};
-ghost use Rattle.xet_core_structures.specs.Sizes.{rows_of_shard, bytes_at};
+ghost use Rattle.xet_shards.specs.declared.shard_format.ends.info.MDBShardInfo.{MDBShardInfo};
+ghost use Rattle.xet_shards.specs.Ends.Ends.{HasHeaderAndFooter};
+ghost use Rattle.xet_shards.specs.Content.SetOperations.{IsDifference};
+ghost use Rattle.xet_core_structures.specs.TwoShards.ByteResults.{keyed_layout, key_of, HaveResult, UnitesBytes};
+ghost use Rattle.xet_core_structures.specs.Records.ByteUnion.{IsByteUnion};
+ghost use Rattle.xet_core_structures.specs.Trees.MergeTrees.{leaves, HasUnion, TreeWrites};
+ghost use Rattle.xet_core_structures.specs.Records.Sizes.{rows_of_shard, bytes_at};
 
 /// A union has at most the rows of both shards. So the union of two byte strings, and what a tree
 /// with a union writes of the inputs at its leaves, have at most 344 bytes and 8/3 of the inputs',

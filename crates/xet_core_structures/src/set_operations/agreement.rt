@@ -3,17 +3,17 @@
 
 ghost use Rattle.std.specs.Prelude.{◌≡◌, ◌⊎◌, ◌<◌, ◌++◌, ℕ, List, length, map, Some, slice_get, MatchOption, MatchResult, OnOk, IfErr};
 ghost use Rattle.xet_base.specs.declared.error.CoreError.TheVariants.{OutOfMemory};
-ghost use Rattle.xet_core_structures.specs.MergeTrees.{TreeRefusal};
-ghost use Rattle.xet_core_structures.specs.Agreement.{ArePlaced, IsPlacedOf, InputsAgree, InputsDisagree, HasAllDisagreements, InputsRefusal, ShardRefusal, IsMerged, disagreement_of};
+ghost use Rattle.xet_core_structures.specs.Trees.MergeTrees.{TreeRefusal};
+ghost use Rattle.xet_core_structures.specs.Agreement.Agreement.{ArePlaced, IsPlacedOf, InputsAgree, InputsDisagree, HasAllDisagreements, InputsRefusal, ShardRefusal, IsMerged, disagreement_of};
 
 mod differing;
 mod kinds;
 mod runs;
 
-use super::parts::{PlacedShard, place_shard};
-use super::placed::PlacedRecord;
-use super::record_operation::OfUnion;
 use super::{MergePlan, shard_union_tree};
+use crate::set_operations::trees::parts::{PlacedShard, place_shard};
+use crate::set_operations::trees::placed::PlacedRecord;
+use crate::set_operations::two_shards::record_operation::OfUnion;
 use differing::{Differing, find_differing};
 use kinds::Agreement;
 use std::alloc::Global;

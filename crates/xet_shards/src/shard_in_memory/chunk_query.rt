@@ -3,7 +3,7 @@
 ghost use Rattle.std.specs.Prelude.{◌≡◌, ◌≤◌, ◌↔◌, None, length};
 ghost use Rattle.xet_base.specs.KeyedHash.{no_key};
 ghost use Rattle.xet_records.specs.XorbRecord.{IsXorb};
-ghost use Rattle.xet_shards.specs.ChunkQuery.{run_length, run_at, query_answer, HasNoChunk};
+ghost use Rattle.xet_shards.specs.ShardInMemory.ChunkQuery.{run_length, run_at, query_answer, HasNoChunk};
 
 use super::xorb_store::XorbStore;
 use xet_base::merklehash::MerkleHash;

@@ -9,9 +9,9 @@ ghost use Rattle.xet_base.specs.Hash.{hash_cmp};
 ghost use Rattle.xet_records.specs.FileRecord.{row_count, FitsItsHeader, FitsRecord, IsWellFormed};
 ghost use Rattle.xet_records.specs.Merging.{IsSameFile, merged};
 ghost use Rattle.xet_records.specs.Part.{rows_of, optional_rows};
-ghost use Rattle.xet_shards.specs.FileStore.{HasAnnounced, AreClear};
-ghost use Rattle.xet_shards.specs.Shard.{AreFiles, file_hash_of};
-ghost use Rattle.xet_shards.specs.Joining.{unless_in, entry, CanJoinFile, CanJoinFiles, either_file, own_file};
+ghost use Rattle.xet_shards.specs.ShardInMemory.FileStore.{HasAnnounced, AreClear};
+ghost use Rattle.xet_shards.specs.Content.Shard.{AreFiles, file_hash_of};
+ghost use Rattle.xet_shards.specs.Content.Joining.{unless_in, entry, CanJoinFile, CanJoinFiles, either_file, own_file};
 
 use std::alloc::Global;
 use std::collections::BTreeMap;
@@ -28,14 +28,14 @@ pub struct FileStore {
 }
 
 impl Model for FileStore {
-    ghost use Rattle.xet_shards.specs.Shard.{FileMap, coded_files};
+    ghost use Rattle.xet_shards.specs.Content.Shard.{FileMap, coded_files};
 
     ghost Value = { FileMap };
 
     ghost coded = { coded_files };
 
     ghost use Rattle.std.specs.FinMap.{from_sorted};
-    ghost use Rattle.xet_shards.specs.FileStore.{IsSoundFileStore};
+    ghost use Rattle.xet_shards.specs.ShardInMemory.FileStore.{IsSoundFileStore};
 
     ghost view = { λ t. from_sorted t.content.entries };
 
@@ -255,7 +255,7 @@ fn has_clear_parts(file_info: &MDBFileInfo) -> bool
         & is_clear(file_info, OptionalPart::AuxExt)
 }
 
-#[tactic(auto, using(crate::proofs::StoredParts::one_clear, crate::proofs::StoredParts::none_clear))]
+#[tactic(auto, using(crate::proofs::Write::StoredParts::one_clear, crate::proofs::Write::StoredParts::none_clear))]
 fn is_clear(file_info: &MDBFileInfo, part: OptionalPart) -> bool
     ensures { IsTrue result ↔ AreClear (rows_of part file_info.now) }
 {

@@ -5,9 +5,9 @@ ghost use Rattle.std.specs.BTreeMap.{values};
 ghost use Rattle.std.specs.List.{list_any};
 ghost use Rattle.xet_records.specs.FileRecord.{file_records, has_aux_ext, size_of_file};
 ghost use Rattle.xet_records.specs.XorbRecord.{xorb_records};
-ghost use Rattle.xet_shards.specs.Section.{total_rows};
-ghost use Rattle.xet_shards.specs.Shard.{AreFiles, AreXorbs};
-ghost use Rattle.xet_shards.specs.XorbStore.{shown_xorbs, xorbs_of};
+ghost use Rattle.xet_shards.specs.Write.Section.{total_rows};
+ghost use Rattle.xet_shards.specs.Content.Shard.{AreFiles, AreXorbs};
+ghost use Rattle.xet_shards.specs.ShardInMemory.XorbStore.{shown_xorbs, xorbs_of};
 ghost use Rattle.xet_records.specs.Limits.{MAX_ROWS};
 
 use std::collections::BTreeMap;

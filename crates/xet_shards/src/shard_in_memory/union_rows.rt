@@ -11,10 +11,10 @@ ghost use Rattle.xet_base.specs.Hash.{hash_cmp};
 ghost use Rattle.xet_records.specs.FileRecord.{file_records, row_count, IsWellFormed};
 ghost use Rattle.xet_records.specs.Merging.{IsSameFile};
 ghost use Rattle.xet_records.specs.XorbRecord.{xorb_records};
-ghost use Rattle.xet_shards.specs.Section.{total_rows};
-ghost use Rattle.xet_shards.specs.Shard.{FileMap, XorbMap, AreFiles, AreXorbs};
-ghost use Rattle.xet_shards.specs.Joining.{entry, CanJoinFile, CanJoinFiles, either_file};
-ghost use Rattle.xet_shards.specs.XorbStore.{shown_xorbs};
+ghost use Rattle.xet_shards.specs.Write.Section.{total_rows};
+ghost use Rattle.xet_shards.specs.Content.Shard.{FileMap, XorbMap, AreFiles, AreXorbs};
+ghost use Rattle.xet_shards.specs.Content.Joining.{entry, CanJoinFile, CanJoinFiles, either_file};
+ghost use Rattle.xet_shards.specs.ShardInMemory.XorbStore.{shown_xorbs};
 ghost use Rattle.xet_records.specs.Limits.{MAX_ROWS};
 
 use super::file_store::{FileStore, can_join, joined_rows};

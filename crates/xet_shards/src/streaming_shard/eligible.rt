@@ -6,14 +6,14 @@ ghost use Rattle.std.specs.List.Sorted.{IsSorted};
 ghost use Rattle.xet_base.specs.Hash.{hash_cmp};
 ghost use Rattle.xet_base.specs.declared.merklehash.DataHash.{DataHash};
 ghost use Rattle.xet_records.specs.XorbRecord.{IsStoredXorb};
-ghost use Rattle.xet_shards.specs.MinimalShard.{start_cmp, has_start, ascending_hashes, eligible_hashes, eligible_in};
-ghost use Rattle.xet_shards.specs.MinimalReading.{ReadsEligible, EligibleFails};
+ghost use Rattle.xet_shards.specs.StreamingShard.MinimalShard.{start_cmp, has_start, ascending_hashes, eligible_hashes, eligible_in};
+ghost use Rattle.xet_shards.specs.StreamingShard.MinimalReading.{ReadsEligible, EligibleFails};
 
 use super::file_start::{FileStart, is_start, starts_of};
 use super::minimal_reader::read_sections;
 use super::minimal_shard::MDBMinimalShard;
 use crate::shard_format::MDBShardInfo;
-use crate::shard_format::info::read_header;
+use crate::shard_format::ends::info::read_header;
 use std::alloc::Global;
 use std::collections::BTreeSet;
 use xet_base::error::{CoreError, Result};

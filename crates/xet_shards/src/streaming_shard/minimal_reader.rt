@@ -2,8 +2,8 @@
 
 ghost use Rattle.std.specs.Prelude.{◌≡◌, List, [], ◌∷◌, ◌++◌, MatchResult, OnOk, IfErr, if◌then◌else◌};
 ghost use Rattle.xet_records.specs.RecordKind.{in_version};
-ghost use Rattle.xet_shards.specs.Layout.{if_included};
-ghost use Rattle.xet_shards.specs.MinimalReading.{ReadsViews, StopsAfterViews, ReadsSections, SectionsNotRead};
+ghost use Rattle.xet_shards.specs.Write.Layout.{if_included};
+ghost use Rattle.xet_shards.specs.StreamingShard.MinimalReading.{ReadsViews, StopsAfterViews, ReadsSections, SectionsNotRead};
 
 use super::minimal_shard::MDBMinimalShard;
 use bytes::BytesMut;

@@ -10,9 +10,9 @@ ghost use Rattle.xet_records.specs.View.{as_kept};
 ghost use Rattle.std.specs.Option.{option_copied};
 ghost use Rattle.xet_base.specs.Input.{ReaderFails};
 ghost use Rattle.std.specs.Io.KnownBytes.{Consumes};
-ghost use Rattle.xet_shards.specs.WithOptions.{FitsSection};
-ghost use Rattle.xet_shards.specs.MinimalShard.{FitsSections, has_file_verification, serialized_size, size_of_kept};
-ghost use Rattle.xet_shards.specs.MinimalReading.{ReadsMinimal, MinimalFails, ReaderHeaderFails};
+ghost use Rattle.xet_shards.specs.Write.WithOptions.{FitsSection};
+ghost use Rattle.xet_shards.specs.StreamingShard.MinimalShard.{FitsSections, has_file_verification, serialized_size, size_of_kept};
+ghost use Rattle.xet_shards.specs.StreamingShard.MinimalReading.{ReadsMinimal, MinimalFails, ReaderHeaderFails};
 ghost use Rattle.xet_records.specs.FileRecord.{file_records, file_record_bytes, row_count};
 ghost use Rattle.xet_records.specs.XorbRecord.{xorb_records, xorb_record_bytes, xorb_row_count};
 ghost use Rattle.xet_records.specs.Limits.{MAX_ROWS};
@@ -36,7 +36,7 @@ pub struct MDBMinimalShard {
 }
 
 impl Model for MDBMinimalShard {
-    ghost use Rattle.xet_shards.specs.MinimalShard.{MinimalShard, coded_minimal, FitsSections};
+    ghost use Rattle.xet_shards.specs.StreamingShard.MinimalShard.{MinimalShard, coded_minimal, FitsSections};
 
     ghost Value = { MinimalShard };
 

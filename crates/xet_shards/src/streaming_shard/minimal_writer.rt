@@ -9,18 +9,18 @@ ghost use Rattle.xet_base.specs.Errors.{IsWriteError};
 ghost use Rattle.xet_records.specs.FileRecord.{file_records, has_verification};
 ghost use Rattle.xet_records.specs.XorbRecord.{xorb_records};
 ghost use Rattle.xet_records.specs.View.{as_kept, LacksVerification, IsIoOther};
-ghost use Rattle.xet_shards.specs.WithOptions.{FitsSection};
-ghost use Rattle.xet_shards.specs.Section.{section_bytes};
-ghost use Rattle.xet_shards.specs.Written.{HasWritten};
-ghost use Rattle.xet_shards.specs.MinimalShard.{start_cmp, has_start, minimal_options, HasNoTables, WritesMinimal, WritesMinimalKept, WritesKept, FiltersAt};
-ghost use Rattle.xet_shards.specs.MinimalWriting.{WritesMarked};
+ghost use Rattle.xet_shards.specs.Write.WithOptions.{FitsSection};
+ghost use Rattle.xet_shards.specs.Write.Section.{section_bytes};
+ghost use Rattle.xet_shards.specs.Write.Written.{HasWritten};
+ghost use Rattle.xet_shards.specs.StreamingShard.MinimalShard.{start_cmp, has_start, minimal_options, HasNoTables, WritesMinimal, WritesMinimalKept, WritesKept, FiltersAt};
+ghost use Rattle.xet_shards.specs.StreamingShard.MinimalWriting.{WritesMarked};
 
 use super::file_start::{FileStart, starts_of, write_marked};
 use super::minimal_shard::MDBMinimalShard;
-use crate::shard_format::options::LayoutOptions;
-use crate::shard_format::view_writer::write_file_view;
-use crate::shard_format::writer::write_end;
-use crate::shard_format::written::{WrittenFiles, WrittenSection, WrittenXorbs};
+use crate::shard_format::ends::options::LayoutOptions;
+use crate::shard_format::write::view_writer::write_file_view;
+use crate::shard_format::write::writer::write_end;
+use crate::shard_format::write::written::{WrittenFiles, WrittenSection, WrittenXorbs};
 use crate::shard_format::{MDBShardFileHeader, MDBShardInfo};
 use std::alloc::Global;
 use std::io;
@@ -209,7 +209,7 @@ fn minimal_options(now: u64, expiry: Option<u64>) -> LayoutOptions
 }
 
 // Writes the file section, with these parts of each file.
-#[tactic(auto, unfolding(crate::specs::Section::section_bytes))]
+#[tactic(auto, unfolding(crate::specs::Write::Section::section_bytes))]
 fn write_files<W: Write>(
     alloc: Global,
     writer: &mut W,

@@ -1,7 +1,7 @@
 use Rattle.std.proofs.Common.{◌≡◌, ◌<◌, ℕ, List, length, map, Bor, rules}
 use Rattle.std.proofs.lemmas.List.{nil_from_length}
-use Rattle.xet_core_structures.specs.Agreement.{InputsAgree}
-use Rattle.xet_core_structures.proofs.AgreeingInputs.{none_found}
+use Rattle.xet_core_structures.specs.Agreement.Agreement.{InputsAgree}
+use Rattle.xet_core_structures.proofs.Agreement.AgreeingInputs.{none_found}
 use Rattle.shard_bytes.proofs.Agreeing.{all_agree, some_disagree, have_join}
 use Rattle.shard_bytes.proofs.agree.merge_agreeing_bytes.Goals as goal
 

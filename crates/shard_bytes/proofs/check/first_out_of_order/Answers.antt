@@ -1,6 +1,6 @@
 use Rattle.std.proofs.Common.{map, IsTrue, arith, rules}
 use Rattle.std.proofs.lemmas.List.{length-map}
-use Rattle.xet_shards.proofs.SectionHashes.{adjacent_ascend}
+use Rattle.xet_shards.proofs.Read.SectionHashes.{adjacent_ascend}
 use Rattle.shard_bytes.proofs.Checking.{one_more}
 use Rattle.shard_bytes.proofs.check.first_out_of_order.Goals as goal
 

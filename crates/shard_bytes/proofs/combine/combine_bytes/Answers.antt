@@ -2,7 +2,7 @@ use Rattle.std.proofs.Common.{◌≡◌, inl, inr, ap, ◌∙◌, subst}
 use Rattle.std.proofs.lemmas.Result.{err_from_is_err_and}
 use Rattle.xet_core_structures.specs.Source.{Source}
 use Rattle.xet_core_structures.specs.Ends.{HasHeaderAndFooter}
-use Rattle.xet_core_structures.proofs.InMemory.{not_loaded}
+use Rattle.xet_core_structures.proofs.TwoShards.InMemory.{not_loaded}
 use Rattle.shard_bytes.specs.Combining.{IsResultOf, RefusalOf}
 use Rattle.shard_bytes.proofs.MemoryErrors.{load_no_write}
 use Rattle.shard_bytes.proofs.Combining.{bytes_combined, combining_refused}

@@ -3,7 +3,7 @@ use Rattle.std.specs.Prelude.{IfOk}
 use Rattle.std.specs.declared.result.Result.{Result}
 use Rattle.std.proofs.lemmas.List.{length-map}
 use Rattle.xet_core_structures.specs.declared.error.CoreError.{CoreError}
-use Rattle.xet_core_structures.specs.Filling.{FillsWith}
+use Rattle.xet_core_structures.specs.Trees.Filling.{FillsWith}
 use Rattle.shard_bytes.specs.Merging.{IsMergePlan}
 use Rattle.shard_bytes.specs.Sizes.{IsResultSize}
 use Rattle.shard_bytes.proofs.Merging.{plan_covers, at_leaves, merges}

@@ -1,4 +1,4 @@
-use Rattle.xet_shards.proofs.TableOrder.{chunk_table-sorted, in_table_rows, in_table}
+use Rattle.xet_shards.proofs.Write.TableOrder.{chunk_table-sorted, in_table_rows, in_table}
 use Rattle.xet_core_structures.proofs.laws.chunk_table_is_sorted.Goals as goal
 
 pub returns-clause-sorted : goal.returns-clause-sorted

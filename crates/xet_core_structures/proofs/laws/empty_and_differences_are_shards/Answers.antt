@@ -1,4 +1,4 @@
-use Rattle.xet_core_structures.proofs.SmallerShards.{empty_is_shard, difference_is_shard}
+use Rattle.xet_core_structures.proofs.Records.SmallerShards.{empty_is_shard, difference_is_shard}
 use Rattle.xet_core_structures.proofs.laws.empty_and_differences_are_shards.Goals as goal
 
 pub returns-clause-empty : goal.returns-clause-empty

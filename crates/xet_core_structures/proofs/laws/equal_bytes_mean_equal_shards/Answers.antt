@@ -1,6 +1,6 @@
 use Rattle.std.proofs.Common.{None, ap}
-use Rattle.xet_shards.specs.Layout.{layout}
-use Rattle.xet_shards.proofs.SameBytes.{same_bytes, same_expiry, same_layout}
+use Rattle.xet_shards.specs.Write.Layout.{layout}
+use Rattle.xet_shards.proofs.Write.SameBytes.{same_bytes, same_expiry, same_layout}
 use Rattle.xet_core_structures.proofs.laws.equal_bytes_mean_equal_shards.Goals as goal
 
 pub returns-clause-contents : goal.returns-clause-contents

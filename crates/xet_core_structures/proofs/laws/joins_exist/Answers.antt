@@ -1,7 +1,7 @@
 use Rattle.std.specs.Prelude.{Contains, ◌++◌}
 use Rattle.std.proofs.lemmas.List.Elements.{Contains-append_left}
-use Rattle.xet_shards.proofs.Joins.{join-unique, join-append}
-use Rattle.xet_shards.proofs.AgreeingJoins.{joins_exist, lists_agree, fewer_if_more}
+use Rattle.xet_shards.proofs.Content.Joins.{join-unique, join-append}
+use Rattle.xet_shards.proofs.Content.AgreeingJoins.{joins_exist, lists_agree, fewer_if_more}
 use Rattle.xet_core_structures.proofs.laws.joins_exist.Goals as goal
 
 pub returns-clause-exists : goal.returns-clause-exists

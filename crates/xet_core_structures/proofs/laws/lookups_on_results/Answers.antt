@@ -1,6 +1,6 @@
-use Rattle.xet_core_structures.proofs.FileLookups.{tree_under, loaded_under, found_under}
-use Rattle.xet_core_structures.proofs.Readable.{united_xorbs, left_xorbs}
-use Rattle.xet_core_structures.proofs.TreeXorbs.{held_under, tree_xorbs}
+use Rattle.xet_core_structures.proofs.Laws.FileLookups.{tree_under, loaded_under, found_under}
+use Rattle.xet_core_structures.proofs.TwoShards.Readable.{united_xorbs, left_xorbs}
+use Rattle.xet_core_structures.proofs.Trees.TreeXorbs.{held_under, tree_xorbs}
 use Rattle.xet_core_structures.proofs.laws.lookups_on_results.Goals as goal
 
 pub returns-clause-trees : goal.returns-clause-trees

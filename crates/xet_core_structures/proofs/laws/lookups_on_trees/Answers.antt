@@ -1,9 +1,9 @@
 use Rattle.std.proofs.Common.{sym, subst}
-use Rattle.xet_shards.specs.Ends.{HasHeaderAndFooter}
-use Rattle.xet_shards.specs.WrittenShard.{IsBytesWithoutExpiry}
-use Rattle.xet_shards.proofs.EndsUnique.{bytes_without_expiry}
-use Rattle.xet_core_structures.proofs.FileLookups.{found_in_layout}
-use Rattle.xet_core_structures.proofs.MergeTrees.{one_layout}
+use Rattle.xet_shards.specs.Ends.Ends.{HasHeaderAndFooter}
+use Rattle.xet_shards.specs.Write.WrittenShard.{IsBytesWithoutExpiry}
+use Rattle.xet_shards.proofs.Ends.EndsUnique.{bytes_without_expiry}
+use Rattle.xet_core_structures.proofs.Laws.FileLookups.{found_in_layout}
+use Rattle.xet_core_structures.proofs.Trees.MergeTrees.{one_layout}
 use Rattle.xet_core_structures.proofs.laws.lookups_on_trees.Goals as goal
 
 pub returns-clause-premises : goal.returns-clause-premises

@@ -1,6 +1,6 @@
 use Rattle.xet_records.specs.FileRecord.{file_records}
 use Rattle.xet_records.specs.XorbRecord.{xorb_records}
-use Rattle.xet_shards.proofs.TableOrder.{records_start}
+use Rattle.xet_shards.proofs.Write.TableOrder.{records_start}
 use Rattle.xet_core_structures.proofs.laws.records_start_after_smaller_hashes.Goals as goal
 
 pub returns-clause-files : goal.returns-clause-files

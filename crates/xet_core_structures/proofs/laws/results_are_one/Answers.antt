@@ -1,4 +1,4 @@
-use Rattle.xet_core_structures.proofs.OneResult.{one_union, one_difference, one_string}
+use Rattle.xet_core_structures.proofs.Records.OneResult.{one_union, one_difference, one_string}
 use Rattle.xet_core_structures.proofs.laws.results_are_one.Goals as goal
 
 pub returns-clause-union : goal.returns-clause-union

@@ -1,9 +1,9 @@
 use Rattle.xet_records.specs.FileRecord.{file_records_in}
 use Rattle.xet_records.specs.XorbRecord.{xorb_records}
 use Rattle.xet_records.proofs.RecordKinds.{xorb_laws}
-use Rattle.xet_shards.proofs.Sections.{files_laws}
-use Rattle.xet_core_structures.proofs.ShardContents.{held_once, held_whole, held_well}
-use Rattle.xet_core_structures.proofs.SectionWays.{one_way, one_cause}
+use Rattle.xet_shards.proofs.Write.Sections.{files_laws}
+use Rattle.xet_core_structures.proofs.Records.ShardContents.{held_once, held_whole, held_well}
+use Rattle.xet_core_structures.proofs.Records.SectionWays.{one_way, one_cause}
 use Rattle.xet_core_structures.proofs.laws.sections_are_read_in_one_way.Goals as goal
 
 pub returns-clause-files : goal.returns-clause-files

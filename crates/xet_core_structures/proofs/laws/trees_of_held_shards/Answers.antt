@@ -1,6 +1,6 @@
-use Rattle.xet_core_structures.proofs.ByteUnions.{form_held, written_held}
-use Rattle.xet_core_structures.proofs.MergeTrees.{keyed_tree, tree_refused}
-use Rattle.xet_core_structures.proofs.TreesOfExports.{any_export_held}
+use Rattle.xet_core_structures.proofs.Records.ByteUnions.{form_held, written_held}
+use Rattle.xet_core_structures.proofs.Trees.MergeTrees.{keyed_tree, tree_refused}
+use Rattle.xet_core_structures.proofs.Trees.TreesOfExports.{any_export_held}
 use Rattle.xet_core_structures.proofs.laws.trees_of_held_shards.Goals as goal
 
 pub returns-clause-written : goal.returns-clause-written

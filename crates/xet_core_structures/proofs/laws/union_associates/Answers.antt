@@ -1,4 +1,4 @@
-use Rattle.xet_shards.proofs.Unions.{union-assoc}
+use Rattle.xet_shards.proofs.Content.Unions.{union-assoc}
 use Rattle.xet_core_structures.proofs.laws.union_associates.Goals as goal
 
 pub returns : goal.returns

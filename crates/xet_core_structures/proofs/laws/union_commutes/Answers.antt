@@ -1,5 +1,5 @@
-use Rattle.xet_shards.proofs.Joins.{union_is_join}
-use Rattle.xet_shards.proofs.Unions.{union-comm}
+use Rattle.xet_shards.proofs.Content.Joins.{union_is_join}
+use Rattle.xet_shards.proofs.Content.Unions.{union-comm}
 use Rattle.xet_core_structures.proofs.laws.union_commutes.Goals as goal
 
 pub returns-clause-join : goal.returns-clause-join

@@ -1,4 +1,4 @@
-use Rattle.xet_shards.proofs.Unions.{union-empty, union-of_empty}
+use Rattle.xet_shards.proofs.Content.Unions.{union-empty, union-of_empty}
 use Rattle.xet_core_structures.proofs.laws.union_with_nothing.Goals as goal
 
 pub returns-clause-right : goal.returns-clause-right

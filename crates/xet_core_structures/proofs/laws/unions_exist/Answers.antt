@@ -1,4 +1,4 @@
-use Rattle.xet_shards.proofs.Overlays.{united_shard, union_exists, union_unique}
+use Rattle.xet_shards.proofs.Content.Overlays.{united_shard, union_exists, union_unique}
 use Rattle.xet_core_structures.proofs.laws.unions_exist.Goals as goal
 
 pub returns-clause-exists : goal.returns-clause-exists

@@ -1,6 +1,6 @@
 use Rattle.std.proofs.Common.{ℕ, List, map}
 use Rattle.std.specs.Borrow.{Bor}
-use Rattle.xet_core_structures.proofs.Parts.{tree_written}
+use Rattle.xet_core_structures.proofs.Trees.Parts.{tree_written}
 use Rattle.xet_core_structures.proofs.set_operations.merge.Goals as goal
 
 pub returns : goal.returns

@@ -1,6 +1,6 @@
 use Rattle.std.proofs.Common.{ℕ, List, map}
 use Rattle.std.specs.Borrow.{Bor}
-use Rattle.xet_core_structures.proofs.Parts.{tree_filled}
+use Rattle.xet_core_structures.proofs.Trees.Parts.{tree_filled}
 use Rattle.xet_core_structures.proofs.set_operations.merge_into.Goals as goal
 
 pub returns : goal.returns

@@ -1,7 +1,7 @@
 use Rattle.std.proofs.lemmas.Result.{err_from_is_err_and}
-use Rattle.xet_core_structures.specs.ByteResults.{UnionRefusal}
-use Rattle.xet_core_structures.specs.ByteUnion.{IsByteUnion}
-use Rattle.xet_core_structures.proofs.SetOperationSteps.{operated, operation_failed}
+use Rattle.xet_core_structures.specs.TwoShards.ByteResults.{UnionRefusal}
+use Rattle.xet_core_structures.specs.Records.ByteUnion.{IsByteUnion}
+use Rattle.xet_core_structures.proofs.TwoShards.SetOperationSteps.{operated, operation_failed}
 use Rattle.xet_core_structures.proofs.set_operations.shard_set_union.Goals as goal
 
 pub returns-in_err-operate-clause-outcome : goal.returns-in_err-operate-clause-outcome

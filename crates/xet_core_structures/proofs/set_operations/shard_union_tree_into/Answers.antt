@@ -1,6 +1,6 @@
 use Rattle.std.proofs.Common.{ℕ, List, map}
 use Rattle.std.specs.Borrow.{Bor}
-use Rattle.xet_core_structures.proofs.MergeTrees.{one_string_filled}
+use Rattle.xet_core_structures.proofs.Trees.MergeTrees.{one_string_filled}
 use Rattle.xet_core_structures.proofs.set_operations.shard_union_tree_into.Goals as goal
 
 pub returns-clause-one_byte_string : goal.returns-clause-one_byte_string

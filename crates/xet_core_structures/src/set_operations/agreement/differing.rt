@@ -4,8 +4,8 @@ ghost use Rattle.std.specs.Prelude.{◌≡◌, ◌+◌, ◌<◌, ◌≤◌, ℕ,
 ghost use Rattle.std.specs.List.{AllZip};
 ghost use Rattle.std.specs.List.Sorted.{IsSorted};
 ghost use Rattle.xet_base.specs.declared.error.CoreError.TheVariants.{OutOfMemory};
-ghost use Rattle.xet_core_structures.specs.Placed.{Places, MayUnite};
-ghost use Rattle.xet_core_structures.specs.Differing.{place_cmp, IsPlace, IsRun, IsRecordAt, ComparesRun, AgreeWithin, DifferWithin, ComparesPlace, DiffersAt, FindsDiffering, Covers, KeepsRecord, IsAgainst};
+ghost use Rattle.xet_core_structures.specs.Trees.Placed.{Places, MayUnite};
+ghost use Rattle.xet_core_structures.specs.Agreement.Differing.{place_cmp, IsPlace, IsRun, IsRecordAt, ComparesRun, AgreeWithin, DifferWithin, ComparesPlace, DiffersAt, FindsDiffering, Covers, KeepsRecord, IsAgainst};
 
 use super::super::placed::{PlacedRecord, copied};
 use super::kinds::Agreement;

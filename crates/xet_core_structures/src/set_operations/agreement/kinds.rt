@@ -6,7 +6,7 @@ ghost use Rattle.xet_base.specs.declared.merklehash.DataHash.{DataHash};
 ghost use Rattle.xet_records.specs.Merging.{Agree};
 ghost use Rattle.xet_core_structures.specs.declared.set_operations.agreement.RecordHash.{RecordHash};
 ghost use Rattle.xet_core_structures.specs.declared.set_operations.agreement.RecordHash.TheVariants.{File, Xorb};
-ghost use Rattle.xet_core_structures.specs.Agreement.{AreEqual};
+ghost use Rattle.xet_core_structures.specs.Agreement.Agreement.{AreEqual};
 
 use super::super::record_operation::OfUnion;
 use super::RecordHash;

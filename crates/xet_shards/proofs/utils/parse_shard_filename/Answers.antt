@@ -1,7 +1,7 @@
 use Rattle.std.proofs.Common.{rules, ◌∙◌, sym, ap, subst, Some, take, true≢false}
 use Rattle.std.specs.Prelude.{is_some}
 use Rattle.xet_base.specs.Hex.{IsHexText, Spells}
-use Rattle.xet_shards.proofs.Names.{name_split, digits_before, ending_stripped, named-unique}
+use Rattle.xet_shards.proofs.Content.Names.{name_split, digits_before, ending_stripped, named-unique}
 use Rattle.xet_shards.proofs.utils.parse_shard_filename.Goals as goal
 
 pub returns-in_err-digits-clause-accepted : goal.returns-in_err-digits-clause-accepted

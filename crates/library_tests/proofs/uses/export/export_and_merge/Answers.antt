@@ -1,6 +1,6 @@
 use Rattle.std.proofs.Common.{true, [], ◌∷◌, sym, subst}
 use Rattle.std.proofs.lemmas.Result.{MatchResult-weaker}
-use Rattle.xet_core_structures.specs.ExportTrees.{IsExportOf}
+use Rattle.xet_core_structures.specs.Trees.ExportTrees.{IsExportOf}
 use Rattle.library_tests.proofs.Callers.{both_exported, other_times}
 use Rattle.library_tests.proofs.uses.export.export_and_merge.Goals as goal
 

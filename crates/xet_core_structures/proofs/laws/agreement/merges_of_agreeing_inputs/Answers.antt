@@ -1,4 +1,4 @@
-use Rattle.xet_core_structures.proofs.AgreeingTrees.{not_both, held_agree, agreeing_tree}
+use Rattle.xet_core_structures.proofs.Agreement.AgreeingTrees.{not_both, held_agree, agreeing_tree}
 use Rattle.xet_core_structures.proofs.laws.agreement.merges_of_agreeing_inputs.Goals as goal
 
 pub returns-clause-not_both : goal.returns-clause-not_both

@@ -1,4 +1,4 @@
-use Rattle.xet_shards.proofs.KeyedShards.{run_no_shorter}
+use Rattle.xet_shards.proofs.Content.KeyedShards.{run_no_shorter}
 use Rattle.xet_core_structures.proofs.laws.exports.joins_keep_runs.Goals as goal
 
 pub returns-clause-xorbs : goal.returns-clause-xorbs

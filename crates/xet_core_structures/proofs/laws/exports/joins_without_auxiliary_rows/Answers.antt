@@ -1,4 +1,4 @@
-use Rattle.xet_shards.proofs.ShardsWithoutAux.{without_aux-is_shard, values-without_aux, without_aux-agree, without_aux-join}
+use Rattle.xet_shards.proofs.Content.ShardsWithoutAux.{without_aux-is_shard, values-without_aux, without_aux-agree, without_aux-join}
 use Rattle.xet_core_structures.proofs.laws.exports.joins_without_auxiliary_rows.Goals as goal
 
 pub returns-clause-shards : goal.returns-clause-shards

@@ -1,4 +1,4 @@
-use Rattle.xet_shards.proofs.KeyedShards.{keyed_union, keyed_join, keyed_agree}
+use Rattle.xet_shards.proofs.Content.KeyedShards.{keyed_union, keyed_join, keyed_agree}
 use Rattle.xet_core_structures.proofs.laws.exports.keys_pass_to_joins.Goals as goal
 
 pub returns-clause-union : goal.returns-clause-union

@@ -1,8 +1,8 @@
 use Rattle.std.proofs.Common.{◌++◌, ◌<◌, ◌∷◌, [], length, map, take_all, get_or, rules, sym, ap, ◌∙◌}
 use Rattle.std.proofs.lemmas.Option.{slice_get-get_or, get_or_from_slice_get}
 use Rattle.xet_core_structures.specs.declared.set_operations.agreement.differing.Differing.{Differing}
-use Rattle.xet_core_structures.specs.Agreement.{disagreement_of}
-use Rattle.xet_core_structures.proofs.Items.{one_more_mapped}
+use Rattle.xet_core_structures.specs.Agreement.Agreement.{disagreement_of}
+use Rattle.xet_core_structures.proofs.Records.Items.{one_more_mapped}
 use Rattle.xet_core_structures.proofs.set_operations.agreement.add_all.Goals as goal
 
 -- what stands for an item that a list does not have

@@ -1,5 +1,5 @@
 use Rattle.std.proofs.Common.{◌≡◌, ◌++◌, map, take}
-use Rattle.xet_core_structures.specs.Agreement.{disagreement_of}
+use Rattle.xet_core_structures.specs.Agreement.Agreement.{disagreement_of}
 use Rattle.xet_core_structures.proofs.set_operations.agreement.add_all.Given as goal
 
 abbrev pub invariant-loop-one : goal.invariant-loop-one

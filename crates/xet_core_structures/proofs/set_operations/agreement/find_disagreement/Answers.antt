@@ -5,7 +5,7 @@ use Rattle.std.proofs.lemmas.List.{nil_from_length}
 use Rattle.std.proofs.lemmas.List.Elements.{Contains-get_or}
 use Rattle.xet_core_structures.specs.declared.set_operations.agreement.Disagreement.{Disagreement}
 use Rattle.xet_core_structures.specs.declared.set_operations.agreement.RecordHash.TheVariants.{File}
-use Rattle.xet_core_structures.proofs.AgreeingInputs.{none_found}
+use Rattle.xet_core_structures.proofs.Agreement.AgreeingInputs.{none_found}
 use Rattle.xet_core_structures.proofs.set_operations.agreement.find_disagreement.Goals as goal
 
 -- what stands for an item that a list does not have

@@ -3,10 +3,10 @@ use Rattle.std.specs.FinMap.{insert, values}
 use Rattle.xet_base.proofs.HashOrder.{hash_cmp-IsTotalOrder, hash_cmp-IsAntisymmetric}
 use Rattle.xet_records.specs.FileRecord.{file_records, row_count, IsWellFormed}
 use Rattle.xet_records.proofs.Record.{rows_whole}
-use Rattle.xet_shards.specs.Section.{total_rows}
-use Rattle.xet_shards.specs.Shard.{FileMap, file_hash_of}
-use Rattle.xet_shards.specs.ChunkLookup.{ShardWithLookup}
-use Rattle.xet_shards.proofs.Maps.{sum-insert}
+use Rattle.xet_shards.specs.Write.Section.{total_rows}
+use Rattle.xet_shards.specs.Content.Shard.{FileMap, file_hash_of}
+use Rattle.xet_shards.specs.ShardInMemory.ChunkLookup.{ShardWithLookup}
+use Rattle.xet_shards.proofs.Content.Maps.{sum-insert}
 use Rattle.xet_shards.proofs.shard_in_memory.MDBInMemoryShard.add_file_reconstruction_info.Goals as goal
 
 pub overflow_sub-self : goal.overflow_sub-self

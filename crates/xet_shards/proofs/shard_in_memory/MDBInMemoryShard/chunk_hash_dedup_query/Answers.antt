@@ -1,7 +1,7 @@
 use Rattle.std.proofs.Common.{◌≡◌, None, subst}
 use Rattle.std.specs.Prelude.{◌↔◌}
-use Rattle.xet_shards.specs.ChunkLookup.{ShardWithLookup}
-use Rattle.xet_shards.specs.ChunkQuery.{HasNoChunk}
+use Rattle.xet_shards.specs.ShardInMemory.ChunkLookup.{ShardWithLookup}
+use Rattle.xet_shards.specs.ShardInMemory.ChunkQuery.{HasNoChunk}
 use Rattle.xet_shards.proofs.shard_in_memory.MDBInMemoryShard.chunk_hash_dedup_query.Goals as goal
 
 pub returns-clause-none : goal.returns-clause-none

@@ -3,8 +3,8 @@ use Rattle.std.specs.FinMap.{get}
 use Rattle.xet_base.proofs.HashOrder.{hash_cmp-IsTotalOrder, hash_cmp-IsAntisymmetric}
 use Rattle.xet_records.specs.FileRecord.{row_count}
 use Rattle.xet_records.specs.XorbRecord.{xorb_row_count}
-use Rattle.xet_shards.proofs.Joining.{but_found}
-use Rattle.xet_shards.proofs.Sums.{sub-sum}
+use Rattle.xet_shards.proofs.Content.Joining.{but_found}
+use Rattle.xet_shards.proofs.ShardInMemory.Sums.{sub-sum}
 use Rattle.xet_shards.proofs.shard_in_memory.MDBInMemoryShard.difference.Goals as goal
 
 pub from_stores-requires : goal.from_stores-requires

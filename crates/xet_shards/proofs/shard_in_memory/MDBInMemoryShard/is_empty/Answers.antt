@@ -3,9 +3,9 @@ use Rattle.std.specs.FinMap.{len, len-entries, len-empty, empty_of_len}
 use Rattle.xet_base.specs.Hash.{hash_cmp}
 use Rattle.xet_records.specs.declared.file_structs.MDBFileInfo.{MDBFileInfo}
 use Rattle.xet_records.specs.declared.xorb_structs.MDBXorbInfo.{MDBXorbInfo}
-use Rattle.xet_shards.specs.ChunkLookup.{ShardWithLookup}
-use Rattle.xet_shards.specs.Shard.{Shard}
-use Rattle.xet_shards.proofs.Xorbs.{length-shown}
+use Rattle.xet_shards.specs.ShardInMemory.ChunkLookup.{ShardWithLookup}
+use Rattle.xet_shards.specs.Content.Shard.{Shard}
+use Rattle.xet_shards.proofs.ShardInMemory.Xorbs.{length-shown}
 use Rattle.xet_shards.proofs.shard_in_memory.MDBInMemoryShard.is_empty.Goals as goal
 
 pub returns-then-is_empty : goal.returns-then-is_empty

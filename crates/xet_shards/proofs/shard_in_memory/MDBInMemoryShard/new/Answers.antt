@@ -5,10 +5,10 @@ use Rattle.xet_records.specs.declared.file_structs.MDBFileInfo.{MDBFileInfo}
 use Rattle.xet_records.specs.declared.xorb_structs.MDBXorbInfo.{MDBXorbInfo}
 use Rattle.xet_records.specs.FileRecord.{file_records}
 use Rattle.xet_records.specs.XorbRecord.{xorb_records}
-use Rattle.xet_shards.specs.Section.{total_rows}
-use Rattle.xet_shards.specs.Shard.{FileMap}
-use Rattle.xet_shards.specs.ChunkLookup.{XorbsWithLookup}
-use Rattle.xet_shards.proofs.Maps.{values-empty}
+use Rattle.xet_shards.specs.Write.Section.{total_rows}
+use Rattle.xet_shards.specs.Content.Shard.{FileMap}
+use Rattle.xet_shards.specs.ShardInMemory.ChunkLookup.{XorbsWithLookup}
+use Rattle.xet_shards.proofs.Content.Maps.{values-empty}
 use Rattle.xet_shards.proofs.shard_in_memory.MDBInMemoryShard.new.Goals as goal
 
 pub invariant_of-result : goal.invariant_of-result

@@ -1,6 +1,6 @@
 use Rattle.std.proofs.Common.{length, sym, ap, ◌∙◌}
 use Rattle.std.specs.FinMap.{len, len-entries}
-use Rattle.xet_shards.specs.ChunkLookup.{ShardWithLookup}
+use Rattle.xet_shards.specs.ShardInMemory.ChunkLookup.{ShardWithLookup}
 use Rattle.xet_shards.proofs.shard_in_memory.MDBInMemoryShard.num_file_entries.Goals as goal
 
 pub returns : goal.returns

@@ -2,10 +2,10 @@ use Rattle.std.proofs.Common.{ap, arith}
 use Rattle.std.specs.FinMap.{insert, values}
 use Rattle.xet_base.proofs.HashOrder.{hash_cmp-IsTotalOrder, hash_cmp-IsAntisymmetric}
 use Rattle.xet_records.specs.XorbRecord.{xorb_records, xorb_row_count}
-use Rattle.xet_shards.specs.Section.{total_rows}
-use Rattle.xet_shards.specs.Shard.{xorb_hash_of}
-use Rattle.xet_shards.specs.ChunkLookup.{ShardWithLookup}
-use Rattle.xet_shards.proofs.Maps.{sum-insert}
+use Rattle.xet_shards.specs.Write.Section.{total_rows}
+use Rattle.xet_shards.specs.Content.Shard.{xorb_hash_of}
+use Rattle.xet_shards.specs.ShardInMemory.ChunkLookup.{ShardWithLookup}
+use Rattle.xet_shards.proofs.Content.Maps.{sum-insert}
 use Rattle.xet_shards.proofs.shard_in_memory.MDBInMemoryShard.rows_with_xorb.Goals as goal
 
 pub overflow_sub-result : goal.overflow_sub-result

@@ -7,11 +7,11 @@ use Rattle.xet_base.specs.declared.merklehash.DataHash.{DataHash}
 use Rattle.xet_records.specs.declared.file_structs.MDBFileInfo.{MDBFileInfo}
 use Rattle.xet_records.specs.declared.xorb_structs.MDBXorbInfo.{MDBXorbInfo}
 use Rattle.xet_records.specs.FileRecord.{FitsRecord}
-use Rattle.xet_shards.specs.ChunkLookup.{ShardWithLookup}
-use Rattle.xet_shards.specs.Layout.{layout}
-use Rattle.xet_shards.proofs.Files.{widths_of_values, length-le-rows}
-use Rattle.xet_shards.proofs.XorbLayouts.{length-layout_of, xorb_rows-chunks}
-use Rattle.xet_shards.proofs.Xorbs.{length-shown}
+use Rattle.xet_shards.specs.ShardInMemory.ChunkLookup.{ShardWithLookup}
+use Rattle.xet_shards.specs.Write.Layout.{layout}
+use Rattle.xet_shards.proofs.ShardInMemory.Files.{widths_of_values, length-le-rows}
+use Rattle.xet_shards.proofs.Write.XorbLayouts.{length-layout_of, xorb_rows-chunks}
+use Rattle.xet_shards.proofs.ShardInMemory.Xorbs.{length-shown}
 use Rattle.xet_shards.proofs.shard_in_memory.MDBInMemoryShard.shard_file_size.Goals.{After-len-xorbs}
 use Rattle.xet_shards.proofs.shard_in_memory.MDBInMemoryShard.shard_file_size.Goals as goal
 

@@ -2,11 +2,11 @@ use Rattle.std.proofs.Common.{[], ◌∷◌, sym, subst, ◌∙◌}
 use Rattle.std.specs.Prelude.{Contains}
 use Rattle.std.specs.FinMap.{get}
 use Rattle.std.specs.Option.{option_or}
-use Rattle.xet_shards.specs.ChunkLookup.{ShardWithLookup}
-use Rattle.xet_shards.specs.Joining.{CanJoinFiles, either_file}
-use Rattle.xet_shards.specs.Joins.{IsJoinOf}
-use Rattle.xet_shards.proofs.Overlays.{can_join_united}
-use Rattle.xet_shards.proofs.Joins.{union_is_join}
+use Rattle.xet_shards.specs.ShardInMemory.ChunkLookup.{ShardWithLookup}
+use Rattle.xet_shards.specs.Content.Joining.{CanJoinFiles, either_file}
+use Rattle.xet_shards.specs.Content.Joins.{IsJoinOf}
+use Rattle.xet_shards.proofs.Content.Overlays.{can_join_united}
+use Rattle.xet_shards.proofs.Content.Joins.{union_is_join}
 use Rattle.xet_shards.proofs.shard_in_memory.MDBInMemoryShard.union.Goals as goal
 
 pub union-requires : goal.union-requires

@@ -5,9 +5,9 @@ use Rattle.std.proofs.lemmas.Option.{none-some}
 use Rattle.xet_base.specs.KeyedHash.{no_key}
 use Rattle.xet_records.specs.declared.xorb_structs.MDBXorbInfo.{MDBXorbInfo}
 use Rattle.xet_records.specs.XorbRecord.{IsXorb}
-use Rattle.xet_shards.specs.XorbStore.{shown_location}
-use Rattle.xet_shards.specs.ChunkQuery.{run_at}
-use Rattle.xet_shards.proofs.ChunkQueries.{location_within, answer_kept, unknown}
+use Rattle.xet_shards.specs.ShardInMemory.XorbStore.{shown_location}
+use Rattle.xet_shards.specs.ShardInMemory.ChunkQuery.{run_at}
+use Rattle.xet_shards.proofs.ShardInMemory.ChunkQueries.{location_within, answer_kept, unknown}
 use Rattle.xet_shards.proofs.shard_in_memory.chunk_query.chunk_hash_dedup_query.Goals.{In_ok-xorb}
 use Rattle.xet_shards.proofs.shard_in_memory.chunk_query.chunk_hash_dedup_query.Goals as goal
 

@@ -1,6 +1,6 @@
 use Rattle.std.proofs.Common.{◌-◌, length, ap, arith}
 use Rattle.xet_records.specs.XorbRecord.{total_bytes}
-use Rattle.xet_shards.proofs.ChunkQueries.{bytes_of_part}
+use Rattle.xet_shards.proofs.ShardInMemory.ChunkQueries.{bytes_of_part}
 use Rattle.xet_shards.proofs.shard_in_memory.chunk_query.run_at.Goals as goal
 
 pub from_xorb_entries-segment-requires : goal.from_xorb_entries-segment-requires

@@ -4,7 +4,7 @@ use Rattle.std.proofs.lemmas.Iterator.{YieldsList-from_slice, YieldsList-from_zi
 use Rattle.std.proofs.lemmas.Iterator.Consumers.{count_from_yields_List}
 use Rattle.std.proofs.lemmas.Iterator.Search.{YieldsList-from_take_while}
 use Rattle.std.proofs.lemmas.List.Folds.{length-prefix_len}
-use Rattle.xet_shards.proofs.ChunkQueries.{is_hit, prefix_is_run}
+use Rattle.xet_shards.proofs.ShardInMemory.ChunkQueries.{is_hit, prefix_is_run}
 use Rattle.xet_shards.proofs.shard_in_memory.chunk_query.run_length.Goals as goal
 
 pub returns-clause-count : goal.returns-clause-count

@@ -6,10 +6,10 @@ use Rattle.xet_base.specs.Hash.{hash_cmp}
 use Rattle.xet_records.specs.declared.file_structs.MDBFileInfo.{MDBFileInfo}
 use Rattle.xet_records.specs.FileRecord.{IsWellFormed}
 use Rattle.xet_records.specs.Merging.{IsSameFile, merged}
-use Rattle.xet_shards.specs.Shard.{file_hash_of}
-use Rattle.xet_shards.specs.Joining.{entry, own_file}
-use Rattle.xet_shards.proofs.Walks.{entry_turn, entry_turned, entry_holds}
-use Rattle.xet_shards.proofs.FileUnions.{IsOwn, own_merged, own_copied, merged-more, entry_of}
+use Rattle.xet_shards.specs.Content.Shard.{file_hash_of}
+use Rattle.xet_shards.specs.Content.Joining.{entry, own_file}
+use Rattle.xet_shards.proofs.ShardInMemory.Walks.{entry_turn, entry_turned, entry_holds}
+use Rattle.xet_shards.proofs.ShardInMemory.FileUnions.{IsOwn, own_merged, own_copied, merged-more, entry_of}
 use Rattle.xet_shards.proofs.shard_in_memory.file_store.merged_files.Goals as goal
 use Rattle.xet_shards.proofs.shard_in_memory.file_store.merged_files.Goals.{Joined-get, in-Some-get+in_ok-merge_from, in_default}
 

@@ -1,6 +1,6 @@
 use Rattle.std.proofs.Common.{◌≡◌, ◌++◌, map}
 use Rattle.std.specs.Map.Iter.{deref_pair}
-use Rattle.xet_shards.proofs.FileUnions.{IsMerged}
+use Rattle.xet_shards.proofs.ShardInMemory.FileUnions.{IsMerged}
 use Rattle.xet_shards.proofs.shard_in_memory.file_store.merged_files.Given as goal
 
 abbrev pub invariant-loop-file_hash : goal.invariant-loop-file_hash

@@ -4,9 +4,9 @@ use Rattle.std.proofs.lemmas.List.Sums.{sum_by_push}
 use Rattle.std.specs.Map.Iter.{deref}
 use Rattle.xet_records.specs.FileRecord.{file_records, row_count, IsWellFormed}
 use Rattle.xet_records.proofs.Record.{rows_whole}
-use Rattle.xet_shards.specs.Section.{total_rows}
-use Rattle.xet_shards.proofs.Files.{well_formed_values}
-use Rattle.xet_shards.proofs.Walks.{entry_turn, entry_turned, entry_holds}
+use Rattle.xet_shards.specs.Write.Section.{total_rows}
+use Rattle.xet_shards.proofs.ShardInMemory.Files.{well_formed_values}
+use Rattle.xet_shards.proofs.ShardInMemory.Walks.{entry_turn, entry_turned, entry_holds}
 use Rattle.xet_shards.proofs.shard_in_memory.sums.file_rows.Goals as goal
 
 pub loop-file_info-preserved : goal.loop-file_info-preserved

@@ -2,7 +2,7 @@ use Rattle.std.proofs.Common.{◌≡◌, ◌++◌, map}
 use Rattle.std.specs.BTreeMap.{values}
 use Rattle.std.specs.Map.Iter.{deref}
 use Rattle.xet_records.specs.FileRecord.{file_records}
-use Rattle.xet_shards.specs.Section.{total_rows}
+use Rattle.xet_shards.specs.Write.Section.{total_rows}
 use Rattle.xet_shards.proofs.shard_in_memory.sums.file_rows.Given as goal
 
 abbrev pub invariant-loop-file_info : goal.invariant-loop-file_info

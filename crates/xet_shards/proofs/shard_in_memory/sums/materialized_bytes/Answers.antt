@@ -3,8 +3,8 @@ use Rattle.std.specs.Prelude.{sum_by}
 use Rattle.std.specs.Map.Iter.{deref}
 use Rattle.std.proofs.Math.Facts.{Fits-of_lt}
 use Rattle.xet_records.specs.FileRecord.{size_of_file, IsWellFormed}
-use Rattle.xet_shards.proofs.Files.{files_bound, well_formed_values, widths_of_values}
-use Rattle.xet_shards.proofs.Walks.{entry_turn, entry_holds, sum-middle}
+use Rattle.xet_shards.proofs.ShardInMemory.Files.{files_bound, well_formed_values, widths_of_values}
+use Rattle.xet_shards.proofs.ShardInMemory.Walks.{entry_turn, entry_holds, sum-middle}
 use Rattle.xet_shards.proofs.shard_in_memory.sums.materialized_bytes.Goals as goal
 
 pub file_size-bytes-requires : goal.file_size-bytes-requires

@@ -1,7 +1,7 @@
 use Rattle.std.proofs.Common.{ap, arith}
 use Rattle.std.proofs.Math.Facts.{Fits-of_lt}
 use Rattle.xet_records.specs.declared.xorb_structs.MDBXorbInfo.{MDBXorbInfo}
-use Rattle.xet_shards.proofs.Xorbs.{sum_fits}
+use Rattle.xet_shards.proofs.ShardInMemory.Xorbs.{sum_fits}
 use Rattle.xet_shards.proofs.shard_in_memory.sums.stored_bytes_on_disk.Goals as goal
 
 pub overflow_add-bytes : goal.overflow_add-bytes

@@ -2,7 +2,7 @@ use Rattle.std.proofs.Common.{◌≡◌, ◌++◌, map, sum_by}
 use Rattle.std.specs.BTreeMap.{values}
 use Rattle.std.specs.Map.Iter.{deref}
 use Rattle.xet_records.specs.declared.xorb_structs.MDBXorbInfo.{MDBXorbInfo}
-use Rattle.xet_shards.proofs.Xorbs.{seen}
+use Rattle.xet_shards.proofs.ShardInMemory.Xorbs.{seen}
 use Rattle.xet_shards.proofs.shard_in_memory.sums.stored_bytes_on_disk.Given as goal
 
 abbrev pub invariant-loop-xorb : goal.invariant-loop-xorb

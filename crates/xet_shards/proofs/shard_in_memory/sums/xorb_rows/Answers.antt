@@ -2,9 +2,9 @@ use Rattle.std.proofs.Common.{length, ap, arith}
 use Rattle.std.proofs.Math.Facts.{Fits-of_lt}
 use Rattle.xet_records.specs.declared.xorb_structs.MDBXorbInfo.{MDBXorbInfo}
 use Rattle.xet_records.specs.XorbRecord.{xorb_records, xorb_row_count, IsXorb}
-use Rattle.xet_shards.specs.Section.{total_rows}
-use Rattle.xet_shards.proofs.Walks.{entry_holds, sum-middle}
-use Rattle.xet_shards.proofs.Xorbs.{owned, seen, seen_turn, xorb_values}
+use Rattle.xet_shards.specs.Write.Section.{total_rows}
+use Rattle.xet_shards.proofs.ShardInMemory.Walks.{entry_holds, sum-middle}
+use Rattle.xet_shards.proofs.ShardInMemory.Xorbs.{owned, seen, seen_turn, xorb_values}
 use Rattle.xet_shards.proofs.shard_in_memory.sums.xorb_rows.Goals as goal
 
 pub overflow_add-rows : goal.overflow_add-rows

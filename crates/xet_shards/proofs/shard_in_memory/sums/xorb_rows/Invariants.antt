@@ -2,8 +2,8 @@ use Rattle.std.proofs.Common.{◌≡◌, ◌++◌, map}
 use Rattle.std.specs.BTreeMap.{values}
 use Rattle.std.specs.Map.Iter.{deref}
 use Rattle.xet_records.specs.XorbRecord.{xorb_records}
-use Rattle.xet_shards.specs.Section.{total_rows}
-use Rattle.xet_shards.proofs.Xorbs.{seen}
+use Rattle.xet_shards.specs.Write.Section.{total_rows}
+use Rattle.xet_shards.proofs.ShardInMemory.Xorbs.{seen}
 use Rattle.xet_shards.proofs.shard_in_memory.sums.xorb_rows.Given as goal
 
 abbrev pub invariant-loop-xorb : goal.invariant-loop-xorb

@@ -4,9 +4,9 @@ use Rattle.std.specs.Map.Iter.{deref_pair}
 use Rattle.std.specs.FinMap.{values}
 use Rattle.xet_records.specs.Merging.{merged}
 use Rattle.xet_records.specs.FileRecord.{file_records}
-use Rattle.xet_shards.specs.Section.{total_rows}
-use Rattle.xet_shards.proofs.FileUnions.{CanJoinEntries}
-use Rattle.xet_shards.proofs.Overlays.{overlay}
+use Rattle.xet_shards.specs.Write.Section.{total_rows}
+use Rattle.xet_shards.proofs.ShardInMemory.FileUnions.{CanJoinEntries}
+use Rattle.xet_shards.proofs.Content.Overlays.{overlay}
 use Rattle.xet_shards.proofs.shard_in_memory.union_rows.united_file_rows.Given as goal
 
 abbrev pub invariant-loop-file_hash : goal.invariant-loop-file_hash

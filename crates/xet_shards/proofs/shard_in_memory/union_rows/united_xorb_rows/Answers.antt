@@ -7,11 +7,11 @@ use Rattle.std.specs.Map.{values_of}
 use Rattle.xet_base.specs.declared.merklehash.DataHash.{DataHash}
 use Rattle.xet_records.specs.declared.xorb_structs.MDBXorbInfo.{MDBXorbInfo}
 use Rattle.xet_records.specs.XorbRecord.{xorb_records, xorb_row_count, IsXorb}
-use Rattle.xet_shards.specs.Section.{total_rows}
-use Rattle.xet_shards.specs.XorbStore.{shown_xorbs}
-use Rattle.xet_shards.proofs.Walks.{entry_turn, entry_turned, entry_end}
-use Rattle.xet_shards.proofs.Joining.{shown_push, shown_at}
-use Rattle.xet_shards.proofs.Overlays.{with_twin, overlay, other_xorb, sum-overlay, sum-entries, new_key, shown_whole, are_united_xorbs}
+use Rattle.xet_shards.specs.Write.Section.{total_rows}
+use Rattle.xet_shards.specs.ShardInMemory.XorbStore.{shown_xorbs}
+use Rattle.xet_shards.proofs.ShardInMemory.Walks.{entry_turn, entry_turned, entry_end}
+use Rattle.xet_shards.proofs.Content.Joining.{shown_push, shown_at}
+use Rattle.xet_shards.proofs.Content.Overlays.{with_twin, overlay, other_xorb, sum-overlay, sum-entries, new_key, shown_whole, are_united_xorbs}
 use Rattle.xet_shards.proofs.shard_in_memory.union_rows.united_xorb_rows.Goals.{After-contains}
 use Rattle.xet_shards.proofs.shard_in_memory.union_rows.united_xorb_rows.Goals as goal
 

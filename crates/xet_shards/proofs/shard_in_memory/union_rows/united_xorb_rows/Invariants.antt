@@ -3,9 +3,9 @@ use Rattle.std.specs.Map.{values_of}
 use Rattle.std.specs.Map.Iter.{deref_pair}
 use Rattle.std.specs.FinMap.{values}
 use Rattle.xet_records.specs.XorbRecord.{xorb_records}
-use Rattle.xet_shards.specs.Section.{total_rows}
-use Rattle.xet_shards.specs.XorbStore.{shown_xorbs}
-use Rattle.xet_shards.proofs.Overlays.{overlay, other_xorb}
+use Rattle.xet_shards.specs.Write.Section.{total_rows}
+use Rattle.xet_shards.specs.ShardInMemory.XorbStore.{shown_xorbs}
+use Rattle.xet_shards.proofs.Content.Overlays.{overlay, other_xorb}
 use Rattle.xet_shards.proofs.shard_in_memory.union_rows.united_xorb_rows.Given as goal
 
 abbrev pub invariant-loop-xorb_hash : goal.invariant-loop-xorb_hash

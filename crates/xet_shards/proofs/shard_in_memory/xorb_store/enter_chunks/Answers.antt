@@ -8,10 +8,10 @@ use Rattle.std.proofs.lemmas.Result.{IfOk-at_ok}
 use Rattle.xet_base.specs.Hash.{hash_eq}
 use Rattle.xet_records.specs.declared.xorb_structs.XorbChunkSequenceEntry.{XorbChunkSequenceEntry}
 use Rattle.xet_records.specs.declared.xorb_structs.MDBXorbInfo.{MDBXorbInfo}
-use Rattle.xet_shards.specs.XorbStore.{shown_location, location_in}
-use Rattle.xet_shards.proofs.ChunkTableRows.{no_chunk}
-use Rattle.xet_shards.proofs.Walks.{All-middle}
-use Rattle.xet_shards.proofs.ChunkLookups.{All-front, entered-more, cond-shown}
+use Rattle.xet_shards.specs.ShardInMemory.XorbStore.{shown_location, location_in}
+use Rattle.xet_shards.proofs.Write.ChunkTableRows.{no_chunk}
+use Rattle.xet_shards.proofs.ShardInMemory.Walks.{All-middle}
+use Rattle.xet_shards.proofs.ShardInMemory.ChunkLookups.{All-front, entered-more, cond-shown}
 use Rattle.xet_shards.proofs.shard_in_memory.xorb_store.enter_chunks.Goals as goal
 
 pub loop-chunk-preserved : goal.loop-chunk-preserved

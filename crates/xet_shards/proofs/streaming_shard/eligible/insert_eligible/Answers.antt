@@ -1,8 +1,8 @@
 use Rattle.std.proofs.Common.{◌∙◌, ◌++◌, ◌∷◌, [], sym, ap}
 use Rattle.std.specs.Prelude.{◌||◌, if◌then◌else◌}
 use Rattle.std.proofs.lemmas.List.{append_assoc}
-use Rattle.xet_shards.specs.MinimalShard.{has_start, ascending_hashes}
-use Rattle.xet_shards.proofs.MinimalShard.{eligible_to, one_eligible, row_is_eligible, ascending_hashes-if}
+use Rattle.xet_shards.specs.StreamingShard.MinimalShard.{has_start, ascending_hashes}
+use Rattle.xet_shards.proofs.StreamingShard.MinimalShard.{eligible_to, one_eligible, row_is_eligible, ascending_hashes-if}
 use Rattle.xet_shards.proofs.streaming_shard.eligible.insert_eligible.Goals as goal
 
 pub loop-index-preserved : goal.loop-index-preserved

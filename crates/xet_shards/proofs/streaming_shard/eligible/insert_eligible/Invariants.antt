@@ -1,7 +1,7 @@
 use Rattle.std.proofs.Common.{◌≡◌, ◌++◌, List}
 use Rattle.xet_base.specs.declared.merklehash.DataHash.{DataHash}
-use Rattle.xet_shards.specs.MinimalShard.{has_start, ascending_hashes}
-use Rattle.xet_shards.proofs.MinimalShard.{eligible_to}
+use Rattle.xet_shards.specs.StreamingShard.MinimalShard.{has_start, ascending_hashes}
+use Rattle.xet_shards.proofs.StreamingShard.MinimalShard.{eligible_to}
 use Rattle.xet_shards.proofs.streaming_shard.eligible.insert_eligible.Given as goal
 
 abbrev pub invariant-loop-index : goal.invariant-loop-index

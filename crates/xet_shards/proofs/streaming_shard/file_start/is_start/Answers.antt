@@ -1,5 +1,5 @@
 use Rattle.std.proofs.Common.{◌∙◌}
-use Rattle.xet_shards.proofs.FileStarts.{search_finds}
+use Rattle.xet_shards.proofs.StreamingShard.FileStarts.{search_finds}
 use Rattle.xet_shards.proofs.streaming_shard.file_start.is_start.Goals as goal
 
 pub returns : goal.returns

@@ -1,4 +1,4 @@
-use Rattle.xet_shards.proofs.FileStarts.{placed_at, placed_between, searchable}
+use Rattle.xet_shards.proofs.StreamingShard.FileStarts.{placed_at, placed_between, searchable}
 use Rattle.xet_shards.proofs.streaming_shard.file_start.place_of.Goals as goal
 
 pub returns-in-Ok : goal.returns-in-Ok

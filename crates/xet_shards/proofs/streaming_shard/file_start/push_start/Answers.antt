@@ -1,7 +1,7 @@
 use Rattle.std.proofs.Common.{map, sym, ap, ◌∙◌, ◌++◌}
 use Rattle.xet_records.specs.declared.file_structs.rows.FileDataSequenceEntry.{FileDataSequenceEntry}
 use Rattle.xet_shards.specs.declared.streaming_shard.file_start.FileStart.{FileStart}
-use Rattle.xet_shards.proofs.MinimalShard.{one_more}
+use Rattle.xet_shards.proofs.StreamingShard.MinimalShard.{one_more}
 use Rattle.xet_shards.proofs.streaming_shard.file_start.push_start.Goals as goal
 
 pub returns-clause-ok : goal.returns-clause-ok

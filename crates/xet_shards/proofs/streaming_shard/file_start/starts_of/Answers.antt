@@ -1,9 +1,9 @@
 use Rattle.std.proofs.Common.{◌++◌, take, take_all, flat_map, sym, ap, ◌∙◌}
 use Rattle.std.specs.Ordering.{eq_by_cmp}
 use Rattle.std.proofs.lemmas.List.Sorted.{list_any-IsPermutation}
-use Rattle.xet_shards.specs.MinimalShard.{start_cmp, start_of_file, has_start}
-use Rattle.xet_shards.proofs.MinimalShard.{one_more_item}
-use Rattle.xet_shards.proofs.Walks.{flat_map-push}
+use Rattle.xet_shards.specs.StreamingShard.MinimalShard.{start_cmp, start_of_file, has_start}
+use Rattle.xet_shards.proofs.StreamingShard.MinimalShard.{one_more_item}
+use Rattle.xet_shards.proofs.ShardInMemory.Walks.{flat_map-push}
 use Rattle.xet_shards.proofs.streaming_shard.file_start.starts_of.Goals as goal
 
 pub loop-file-preserved : goal.loop-file-preserved

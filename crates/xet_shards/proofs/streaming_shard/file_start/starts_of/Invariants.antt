@@ -1,5 +1,5 @@
 use Rattle.std.proofs.Common.{◌≡◌, take, flat_map}
-use Rattle.xet_shards.specs.MinimalShard.{start_of_file}
+use Rattle.xet_shards.specs.StreamingShard.MinimalShard.{start_of_file}
 use Rattle.xet_shards.proofs.streaming_shard.file_start.starts_of.Given as goal
 
 abbrev pub invariant-loop-file : goal.invariant-loop-file

@@ -8,8 +8,8 @@ use Rattle.std.proofs.lemmas.Result.{on_ok_weaker}
 use Rattle.xet_records.specs.declared.xorb_structs.XorbChunkSequenceEntry.{XorbChunkSequenceEntry}
 use Rattle.xet_records.specs.XorbRow.{xorb_header_row, chunk_row}
 use Rattle.xet_records.specs.XorbRecord.{xorb_record_bytes}
-use Rattle.xet_shards.specs.MinimalShard.{has_start, chunk_of, marked_if}
-use Rattle.xet_shards.proofs.MinimalShard.{marks_to, none_marked_to, one_marked}
+use Rattle.xet_shards.specs.StreamingShard.MinimalShard.{has_start, chunk_of, marked_if}
+use Rattle.xet_shards.proofs.StreamingShard.MinimalShard.{marks_to, none_marked_to, one_marked}
 use Rattle.xet_shards.proofs.streaming_shard.file_start.write_marked.Goals as goal
 
 pub loop-start-preserved : goal.loop-start-preserved

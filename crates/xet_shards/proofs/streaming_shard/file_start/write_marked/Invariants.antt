@@ -1,8 +1,8 @@
 use Rattle.std.proofs.Common.{◌-◌, ◌≤◌, length, flat_map, ◌++◌}
 use Rattle.std.specs.Io.KnownBytes.{Appends}
 use Rattle.xet_records.specs.XorbRow.{xorb_header_row, chunk_row}
-use Rattle.xet_shards.specs.MinimalShard.{has_start}
-use Rattle.xet_shards.proofs.MinimalShard.{marks_to}
+use Rattle.xet_shards.specs.StreamingShard.MinimalShard.{has_start}
+use Rattle.xet_shards.proofs.StreamingShard.MinimalShard.{marks_to}
 use Rattle.xet_shards.proofs.streaming_shard.file_start.write_marked.Given as goal
 
 abbrev pub invariant-loop-start : goal.invariant-loop-start

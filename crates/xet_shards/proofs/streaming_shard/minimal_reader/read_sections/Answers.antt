@@ -1,10 +1,10 @@
 use Rattle.std.proofs.Common.{sym, subst}
 use Rattle.std.proofs.lemmas.Result.{err_from_is_err_and}
 use Rattle.xet_records.specs.FileRecord.{file_records, file_records_in}
-use Rattle.xet_shards.proofs.Sections.{fits_ever}
-use Rattle.xet_shards.specs.MinimalReading.SectionsNotRead.{no_xorbs}
-use Rattle.xet_shards.specs.WithOptions.{FitsSection}
-use Rattle.xet_shards.proofs.MinimalReading.{reads_fit, kept_fit}
+use Rattle.xet_shards.proofs.Write.Sections.{fits_ever}
+use Rattle.xet_shards.specs.StreamingShard.MinimalReading.SectionsNotRead.{no_xorbs}
+use Rattle.xet_shards.specs.Write.WithOptions.{FitsSection}
+use Rattle.xet_shards.proofs.StreamingShard.MinimalReading.{reads_fit, kept_fit}
 use Rattle.xet_shards.proofs.streaming_shard.minimal_reader.read_sections.Goals as goal
 
 pub of_views-requires-clause-files : goal.of_views-requires-clause-files

@@ -4,7 +4,7 @@ use Rattle.xet_records.specs.RecordKind.{in_version}
 use Rattle.xet_records.proofs.RecordKinds.{laws_in}
 use Rattle.xet_records.specs.Reading.NextRecordNotRead.{no_header}
 use Rattle.xet_records.specs.ViewReading.{ReadsNextView}
-use Rattle.xet_shards.proofs.MinimalReading.{no_views, more_views, kept_more}
+use Rattle.xet_shards.proofs.StreamingShard.MinimalReading.{no_views, more_views, kept_more}
 use Rattle.xet_shards.proofs.streaming_shard.minimal_reader.read_views.Goals as goal
 
 pub loop-buffer-preserved : goal.loop-buffer-preserved

@@ -1,7 +1,7 @@
 use Rattle.std.proofs.Common.{◌≡◌, List}
 use Rattle.xet_records.specs.RecordKind.{in_version}
-use Rattle.xet_shards.specs.Layout.{if_included}
-use Rattle.xet_shards.specs.MinimalReading.{HasReadViews}
+use Rattle.xet_shards.specs.Write.Layout.{if_included}
+use Rattle.xet_shards.specs.StreamingShard.MinimalReading.{HasReadViews}
 use Rattle.xet_shards.proofs.streaming_shard.minimal_reader.read_views.Given as goal
 
 abbrev pub invariant-loop-buffer : goal.invariant-loop-buffer

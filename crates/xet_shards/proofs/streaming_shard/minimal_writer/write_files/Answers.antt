@@ -3,7 +3,7 @@ use Rattle.std.proofs.lemmas.List.Sums.{sum_by_more_le_part}
 use Rattle.xet_records.specs.declared.file_structs.MDBFileInfo.{MDBFileInfo}
 use Rattle.xet_records.specs.FileRecord.{row_count}
 use Rattle.xet_records.specs.View.{as_kept}
-use Rattle.xet_shards.proofs.MinimalWriting.{as_kept-rows, sum_as_kept}
+use Rattle.xet_shards.proofs.StreamingShard.MinimalWriting.{as_kept-rows, sum_as_kept}
 use Rattle.xet_shards.proofs.streaming_shard.minimal_writer.write_files.Goals as goal
 
 pub write_file_view-requires : goal.write_file_view-requires

@@ -6,14 +6,14 @@ use Rattle.std.proofs.lemmas.List.{map-append}
 use Rattle.std.proofs.lemmas.List.Sums.{sum_by_more_le}
 use Rattle.xet_records.specs.declared.xorb_structs.XorbChunkSequenceHeader.{XorbChunkSequenceHeader}
 use Rattle.xet_records.specs.XorbRecord.{xorb_record_bytes, xorb_row_count, IsStoredXorb}
-use Rattle.xet_shards.specs.Section.{section_bytes}
-use Rattle.xet_shards.specs.Shard.{xorb_hash_of}
-use Rattle.xet_shards.specs.Written.{AddsRecord, HasWrittenFor}
-use Rattle.xet_shards.specs.MinimalShard.{has_start, mark_starts, IsKept}
-use Rattle.xet_shards.proofs.Walks.{flat_map-push}
-use Rattle.xet_shards.proofs.MinimalShard.{one_more_item}
-use Rattle.xet_shards.proofs.Written.{xorb_written}
-use Rattle.xet_shards.proofs.MinimalWriting.{rows_marked, one_kept, none_kept, says_at, rows_kept}
+use Rattle.xet_shards.specs.Write.Section.{section_bytes}
+use Rattle.xet_shards.specs.Content.Shard.{xorb_hash_of}
+use Rattle.xet_shards.specs.Write.Written.{AddsRecord, HasWrittenFor}
+use Rattle.xet_shards.specs.StreamingShard.MinimalShard.{has_start, mark_starts, IsKept}
+use Rattle.xet_shards.proofs.ShardInMemory.Walks.{flat_map-push}
+use Rattle.xet_shards.proofs.StreamingShard.MinimalShard.{one_more_item}
+use Rattle.xet_shards.proofs.Write.Written.{xorb_written}
+use Rattle.xet_shards.proofs.StreamingShard.MinimalWriting.{rows_marked, one_kept, none_kept, says_at, rows_kept}
 use Rattle.xet_shards.proofs.streaming_shard.minimal_writer.write_xorbs.Goals as goal
 use Rattle.xet_shards.proofs.streaming_shard.minimal_writer.write_xorbs.Goals.{then-filter+in_ok-add+in_ok-write_marked, else-filter}
 

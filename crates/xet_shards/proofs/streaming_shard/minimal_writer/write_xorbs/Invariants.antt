@@ -3,8 +3,8 @@ use Rattle.std.specs.Fn.{FnReturnsAt}
 use Rattle.std.specs.Io.KnownBytes.{Appends}
 use Rattle.xet_records.specs.declared.xorb_structs.MDBXorbInfo.{MDBXorbInfo}
 use Rattle.xet_records.specs.XorbRecord.{xorb_record_bytes}
-use Rattle.xet_shards.specs.Written.{HasWrittenFor}
-use Rattle.xet_shards.specs.MinimalShard.{has_start, mark_starts, IsKept}
+use Rattle.xet_shards.specs.Write.Written.{HasWrittenFor}
+use Rattle.xet_shards.specs.StreamingShard.MinimalShard.{has_start, mark_starts, IsKept}
 use Rattle.xet_shards.proofs.streaming_shard.minimal_writer.write_xorbs.Given as goal
 
 abbrev pub invariant-loop-xorb : goal.invariant-loop-xorb

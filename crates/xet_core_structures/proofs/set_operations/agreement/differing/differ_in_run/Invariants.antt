@@ -1,5 +1,5 @@
 use Rattle.std.proofs.Common.{◌-◌, ◌<◌, ◌≤◌, map}
-use Rattle.xet_core_structures.proofs.Differing.{IsComparing}
+use Rattle.xet_core_structures.proofs.Agreement.Differing.{IsComparing}
 use Rattle.xet_core_structures.proofs.set_operations.agreement.differing.differ_in_run.Given as goal
 
 abbrev pub invariant-loop-at : goal.invariant-loop-at

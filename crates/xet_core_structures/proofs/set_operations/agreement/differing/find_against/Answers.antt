@@ -1,7 +1,7 @@
 use Rattle.std.proofs.Common.{◌≡◌, inl, inr, ◌<◌, ◌≤◌, length, false, rules, refl, sym, ap, ◌∙◌, subst, arith, true≢false}
 use Rattle.std.specs.Prelude.{slice_get}
 use Rattle.std.proofs.lemmas.Option.{same_Some, slice_get_read, slice_get_within}
-use Rattle.xet_core_structures.proofs.Items.{has_at, at_of, below_or_at}
+use Rattle.xet_core_structures.proofs.Records.Items.{has_at, at_of, below_or_at}
 use Rattle.xet_core_structures.proofs.set_operations.agreement.differing.find_against.Goals as goal
 
 pub returns-then-not-are_agreed : goal.returns-then-not-are_agreed

@@ -1,5 +1,5 @@
 use Rattle.std.proofs.Common.{◌-◌, length, map}
-use Rattle.xet_core_structures.proofs.DifferingFound.{HasCompared}
+use Rattle.xet_core_structures.proofs.Agreement.DifferingFound.{HasCompared}
 use Rattle.xet_core_structures.proofs.set_operations.agreement.differing.find_differing.Given as goal
 
 abbrev pub invariant-loop-from : goal.invariant-loop-from

@@ -1,5 +1,5 @@
 use Rattle.std.proofs.Common.{◌*◌, ap}
-use Rattle.xet_core_structures.proofs.Differing.{copied_at}
+use Rattle.xet_core_structures.proofs.Agreement.Differing.{copied_at}
 use Rattle.xet_core_structures.proofs.set_operations.agreement.differing.is_copy.Goals as goal
 
 pub returns-then-are_one_header : goal.returns-then-are_one_header

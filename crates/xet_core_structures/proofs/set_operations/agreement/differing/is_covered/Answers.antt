@@ -1,6 +1,6 @@
 use Rattle.std.proofs.Common.{◌<◌, length, rules, refl}
 use Rattle.std.proofs.lemmas.Option.{slice_get_read}
-use Rattle.xet_core_structures.proofs.Items.{has_at}
+use Rattle.xet_core_structures.proofs.Records.Items.{has_at}
 use Rattle.xet_core_structures.proofs.set_operations.agreement.differing.is_covered.Goals as goal
 
 pub returns-then-has_parts_of : goal.returns-then-has_parts_of

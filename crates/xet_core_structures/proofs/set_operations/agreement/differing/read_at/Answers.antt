@@ -1,8 +1,8 @@
 use Rattle.std.proofs.Common.{sym, ap}
 use Rattle.xet_base.specs.Source.{Source, bytes_left}
-use Rattle.xet_core_structures.proofs.Differing.{placed_here}
-use Rattle.xet_core_structures.proofs.InMemory.{in_memory}
-use Rattle.xet_core_structures.proofs.PlacedWriting.{placed_read}
+use Rattle.xet_core_structures.proofs.Agreement.Differing.{placed_here}
+use Rattle.xet_core_structures.proofs.TwoShards.InMemory.{in_memory}
+use Rattle.xet_core_structures.proofs.Trees.PlacedWriting.{placed_read}
 use Rattle.xet_core_structures.proofs.set_operations.agreement.differing.read_at.Goals as goal
 
 pub returns-in-Ok : goal.returns-in-Ok

@@ -1,5 +1,5 @@
 use Rattle.std.proofs.lemmas.Slice.Eq.{slice_eq-Decides}
-use Rattle.xet_core_structures.proofs.Equalities.{chunks_decide}
+use Rattle.xet_core_structures.proofs.Records.Equalities.{chunks_decide}
 use Rattle.xet_core_structures.proofs.set_operations.agreement.kinds.same_chunks.Goals as goal
 
 pub returns : goal.returns

@@ -1,5 +1,5 @@
 use Rattle.std.proofs.Common.{◌-◌, length}
-use Rattle.xet_core_structures.proofs.HashRuns.{IsAdding}
+use Rattle.xet_core_structures.proofs.Agreement.HashRuns.{IsAdding}
 use Rattle.xet_core_structures.proofs.set_operations.agreement.runs.add_places.Given as goal
 
 abbrev pub invariant-loop-index : goal.invariant-loop-index

@@ -1,7 +1,7 @@
 use Rattle.std.proofs.Common.{◌<◌, ◌≤◌, length, get_or, rules, sym, ap, ◌∙◌, arith, true≢false}
 use Rattle.std.proofs.lemmas.Option.{same_Some, slice_get_within, slice_get-get_or}
 use Rattle.xet_core_structures.specs.declared.set_operations.agreement.runs.Place.{Place}
-use Rattle.xet_core_structures.proofs.HashRuns.{no_place, running_on, run_ends}
+use Rattle.xet_core_structures.proofs.Agreement.HashRuns.{no_place, running_on, run_ends}
 use Rattle.xet_core_structures.proofs.set_operations.agreement.runs.run_end.Goals as goal
 
 pub loop-end-preserved : goal.loop-end-preserved

@@ -1,5 +1,5 @@
 use Rattle.std.proofs.Common.{◌-◌, length}
-use Rattle.xet_core_structures.proofs.HashRuns.{IsRunning}
+use Rattle.xet_core_structures.proofs.Agreement.HashRuns.{IsRunning}
 use Rattle.xet_core_structures.proofs.set_operations.agreement.runs.run_end.Given as goal
 
 abbrev pub invariant-loop-end : goal.invariant-loop-end

@@ -1,5 +1,5 @@
 use Rattle.std.proofs.Common.{◌-◌, length, map}
-use Rattle.xet_core_structures.proofs.HashRuns.{HasPlacesUpTo}
+use Rattle.xet_core_structures.proofs.Agreement.HashRuns.{HasPlacesUpTo}
 use Rattle.xet_core_structures.proofs.set_operations.agreement.runs.sorted_places.Given as goal
 
 abbrev pub invariant-loop-input : goal.invariant-loop-input

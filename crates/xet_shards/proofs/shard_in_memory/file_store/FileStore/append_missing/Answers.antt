@@ -3,9 +3,9 @@ use Rattle.std.specs.Map.Iter.{deref_pair}
 use Rattle.std.specs.FinMap.{get, insert}
 use Rattle.std.proofs.lemmas.List.{map-append}
 use Rattle.xet_records.specs.FileRecord.{IsWellFormed}
-use Rattle.xet_shards.specs.Shard.{file_hash_of}
-use Rattle.xet_shards.proofs.Walks.{entry_turn, entry_turned, entry_holds}
-use Rattle.xet_shards.proofs.Joining.{filled-skip, filled-add}
+use Rattle.xet_shards.specs.Content.Shard.{file_hash_of}
+use Rattle.xet_shards.proofs.ShardInMemory.Walks.{entry_turn, entry_turned, entry_holds}
+use Rattle.xet_shards.proofs.Content.Joining.{filled-skip, filled-add}
 use Rattle.xet_shards.proofs.shard_in_memory.file_store.FileStore.append_missing.Goals as goal
 
 pub put-requires : goal.put-requires

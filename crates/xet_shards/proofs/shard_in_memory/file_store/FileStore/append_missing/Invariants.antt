@@ -1,7 +1,7 @@
 use Rattle.std.proofs.Common.{◌≡◌, ◌++◌, map}
 use Rattle.std.specs.Map.Iter.{deref_pair}
 use Rattle.std.specs.FinMap.{get}
-use Rattle.xet_shards.proofs.Joining.{IsFilled}
+use Rattle.xet_shards.proofs.Content.Joining.{IsFilled}
 use Rattle.xet_shards.proofs.shard_in_memory.file_store.FileStore.append_missing.Given as goal
 
 abbrev pub invariant-loop-file_hash : goal.invariant-loop-file_hash

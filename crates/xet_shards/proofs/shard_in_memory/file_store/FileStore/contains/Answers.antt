@@ -1,7 +1,7 @@
 use Rattle.std.proofs.Common.{ap, ◌∙◌, is_some}
 use Rattle.std.specs.FinMap.{get}
 use Rattle.xet_base.proofs.HashOrder.{hash_cmp-IsTotalOrder, hash_cmp-IsAntisymmetric}
-use Rattle.xet_shards.proofs.Maps.{found}
+use Rattle.xet_shards.proofs.Content.Maps.{found}
 use Rattle.xet_shards.proofs.shard_in_memory.file_store.FileStore.contains.Goals as goal
 
 pub returns : goal.returns

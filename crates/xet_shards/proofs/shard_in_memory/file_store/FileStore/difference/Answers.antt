@@ -1,4 +1,4 @@
-use Rattle.xet_shards.proofs.Joining.{filled-new}
+use Rattle.xet_shards.proofs.Content.Joining.{filled-new}
 use Rattle.xet_shards.proofs.shard_in_memory.file_store.FileStore.difference.Goals as goal
 
 pub returns-clause-ok : goal.returns-clause-ok

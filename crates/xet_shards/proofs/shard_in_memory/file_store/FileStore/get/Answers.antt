@@ -3,7 +3,7 @@ use Rattle.std.specs.FinMap.{get}
 use Rattle.std.proofs.lemmas.Map.Entries.{All-lookup}
 use Rattle.xet_base.proofs.HashOrder.{hash_cmp-IsTotalOrder, hash_cmp-IsAntisymmetric}
 use Rattle.xet_records.specs.FileRecord.{IsWellFormed}
-use Rattle.xet_shards.proofs.Maps.{found, lent}
+use Rattle.xet_shards.proofs.Content.Maps.{found, lent}
 use Rattle.xet_shards.proofs.shard_in_memory.file_store.FileStore.get.Goals as goal
 
 pub returns-clause-value : goal.returns-clause-value

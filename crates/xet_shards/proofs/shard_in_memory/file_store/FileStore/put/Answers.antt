@@ -5,8 +5,8 @@ use Rattle.std.proofs.lemmas.Map.Entries.{All-lookup}
 use Rattle.xet_base.specs.Hash.{hash_cmp}
 use Rattle.xet_base.proofs.HashOrder.{hash_cmp-IsTotalOrder, hash_cmp-IsAntisymmetric}
 use Rattle.xet_records.specs.FileRecord.{row_count, IsWellFormed}
-use Rattle.xet_shards.specs.Shard.{AreFiles, file_hash_of}
-use Rattle.xet_shards.proofs.Maps.{found, lent, lent_map, from_sorted-insert_entry, sorted-insert_entry, All-insert_entry}
+use Rattle.xet_shards.specs.Content.Shard.{AreFiles, file_hash_of}
+use Rattle.xet_shards.proofs.Content.Maps.{found, lent, lent_map, from_sorted-insert_entry, sorted-insert_entry, All-insert_entry}
 use Rattle.xet_shards.proofs.shard_in_memory.file_store.FileStore.put.Goals as goal
 
 pub invariant_of-self-2 : goal.invariant_of-self-2

@@ -4,7 +4,7 @@ use Rattle.std.specs.FinMap.{get}
 use Rattle.std.proofs.lemmas.Map.Entries.{All-lookup}
 use Rattle.xet_base.proofs.HashOrder.{hash_cmp-IsTotalOrder, hash_cmp-IsAntisymmetric}
 use Rattle.xet_records.specs.FileRecord.{row_count, IsWellFormed}
-use Rattle.xet_shards.proofs.Maps.{found, lent, lent_map}
+use Rattle.xet_shards.proofs.Content.Maps.{found, lent, lent_map}
 use Rattle.xet_shards.proofs.shard_in_memory.file_store.FileStore.rows_of.Goals as goal
 
 pub row_count-requires : goal.row_count-requires

@@ -1,8 +1,8 @@
 use Rattle.std.proofs.Common.{sym, ap, ◌∙◌, subst, T}
 use Rattle.std.specs.FinMap.{from_sorted, is_sorted}
 use Rattle.xet_base.specs.Hash.{hash_cmp}
-use Rattle.xet_shards.specs.Shard.{AreFiles}
-use Rattle.xet_shards.proofs.Clones.{cloned}
+use Rattle.xet_shards.specs.Content.Shard.{AreFiles}
+use Rattle.xet_shards.proofs.ShardInMemory.Clones.{cloned}
 use Rattle.xet_shards.proofs.shard_in_memory.file_store.FileStore.try_clone.Goals as goal
 
 pub invariant_of-result : goal.invariant_of-result

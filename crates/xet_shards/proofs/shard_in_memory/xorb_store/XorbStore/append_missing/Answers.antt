@@ -4,9 +4,9 @@ use Rattle.std.specs.declared.rc.Rc.{Rc}
 use Rattle.std.specs.FinMap.{get, insert}
 use Rattle.xet_records.specs.declared.xorb_structs.MDBXorbInfo.{MDBXorbInfo}
 use Rattle.xet_records.specs.XorbRecord.{IsXorb}
-use Rattle.xet_shards.specs.Shard.{xorb_hash_of}
-use Rattle.xet_shards.proofs.Walks.{entry_turn, entry_turned}
-use Rattle.xet_shards.proofs.Joining.{filled-skip, filled-add, shown_push, shown_at, none_of}
+use Rattle.xet_shards.specs.Content.Shard.{xorb_hash_of}
+use Rattle.xet_shards.proofs.ShardInMemory.Walks.{entry_turn, entry_turned}
+use Rattle.xet_shards.proofs.Content.Joining.{filled-skip, filled-add, shown_push, shown_at, none_of}
 use Rattle.xet_shards.proofs.shard_in_memory.xorb_store.XorbStore.append_missing.Goals as goal
 
 pub append-requires-clause-absent : goal.append-requires-clause-absent

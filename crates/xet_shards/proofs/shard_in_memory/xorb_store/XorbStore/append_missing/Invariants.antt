@@ -1,8 +1,8 @@
 use Rattle.std.proofs.Common.{◌≡◌, ◌++◌, map}
 use Rattle.std.specs.Map.Iter.{deref_pair}
 use Rattle.std.specs.FinMap.{get}
-use Rattle.xet_shards.specs.XorbStore.{shown_xorbs}
-use Rattle.xet_shards.proofs.Joining.{IsFilled}
+use Rattle.xet_shards.specs.ShardInMemory.XorbStore.{shown_xorbs}
+use Rattle.xet_shards.proofs.Content.Joining.{IsFilled}
 use Rattle.xet_shards.proofs.shard_in_memory.xorb_store.XorbStore.append_missing.Given as goal
 
 abbrev pub invariant-loop-xorb_hash : goal.invariant-loop-xorb_hash

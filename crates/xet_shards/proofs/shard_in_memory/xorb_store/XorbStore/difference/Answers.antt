@@ -1,6 +1,6 @@
 use Rattle.std.proofs.Common.{ap}
-use Rattle.xet_shards.specs.ChunkLookup.{XorbsWithLookup}
-use Rattle.xet_shards.proofs.Joining.{filled-new}
+use Rattle.xet_shards.specs.ShardInMemory.ChunkLookup.{XorbsWithLookup}
+use Rattle.xet_shards.proofs.Content.Joining.{filled-new}
 use Rattle.xet_shards.proofs.shard_in_memory.xorb_store.XorbStore.difference.Goals as goal
 
 pub returns-clause-ok : goal.returns-clause-ok

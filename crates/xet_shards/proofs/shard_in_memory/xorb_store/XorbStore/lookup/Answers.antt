@@ -3,10 +3,10 @@ use Rattle.std.specs.FinMap.{get, get-from_sorted}
 use Rattle.xet_base.specs.Hash.{hash_cmp}
 use Rattle.xet_base.proofs.HashMaps.{get-shown}
 use Rattle.xet_records.specs.XorbRecord.{IsXorb}
-use Rattle.xet_shards.specs.ChunkLookup.{XorbsWithLookup, IsChunkLookup}
-use Rattle.xet_shards.specs.XorbStore.{shown_location, location_in}
-use Rattle.xet_shards.proofs.ChunkLookups.{lookup-same}
-use Rattle.xet_shards.proofs.FileUnions.{entry-holds}
+use Rattle.xet_shards.specs.ShardInMemory.ChunkLookup.{XorbsWithLookup, IsChunkLookup}
+use Rattle.xet_shards.specs.ShardInMemory.XorbStore.{shown_location, location_in}
+use Rattle.xet_shards.proofs.ShardInMemory.ChunkLookups.{lookup-same}
+use Rattle.xet_shards.proofs.ShardInMemory.FileUnions.{entry-holds}
 use Rattle.xet_shards.proofs.shard_in_memory.xorb_store.XorbStore.lookup.Goals as goal
 
 pub returns-clause-locations : goal.returns-clause-locations

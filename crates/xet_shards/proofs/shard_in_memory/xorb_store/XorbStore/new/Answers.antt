@@ -8,10 +8,10 @@ use Rattle.xet_base.specs.declared.merklehash.DataHash.{DataHash}
 use Rattle.xet_base.specs.Hash.{hash_cmp, hash_eq}
 use Rattle.xet_base.proofs.HashOrder.{hash_cmp-IsTotalOrder, hash_cmp-IsAntisymmetric}
 use Rattle.xet_records.specs.declared.xorb_structs.MDBXorbInfo.{MDBXorbInfo}
-use Rattle.xet_shards.specs.Shard.{AreXorbs}
-use Rattle.xet_shards.specs.XorbStore.{shown_xorbs, shown_location}
-use Rattle.xet_shards.proofs.Maps.{from_sorted-nil}
-use Rattle.xet_shards.proofs.ChunkLookups.{lookup-none}
+use Rattle.xet_shards.specs.Content.Shard.{AreXorbs}
+use Rattle.xet_shards.specs.ShardInMemory.XorbStore.{shown_xorbs, shown_location}
+use Rattle.xet_shards.proofs.Content.Maps.{from_sorted-nil}
+use Rattle.xet_shards.proofs.ShardInMemory.ChunkLookups.{lookup-none}
 use Rattle.xet_shards.proofs.shard_in_memory.xorb_store.XorbStore.new.Goals as goal
 
 pub invariant_of-result : goal.invariant_of-result

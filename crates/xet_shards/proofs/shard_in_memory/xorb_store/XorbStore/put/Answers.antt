@@ -1,9 +1,9 @@
 use Rattle.std.proofs.Common.{ap, ◌∙◌}
 use Rattle.std.specs.FinMap.{get, insert, get-empty}
 use Rattle.xet_base.specs.Hash.{hash_cmp}
-use Rattle.xet_shards.specs.Shard.{xorb_hash_of}
-use Rattle.xet_shards.specs.ChunkLookup.{XorbsWithLookup}
-use Rattle.xet_shards.proofs.Joining.{filled-all, replaced}
+use Rattle.xet_shards.specs.Content.Shard.{xorb_hash_of}
+use Rattle.xet_shards.specs.ShardInMemory.ChunkLookup.{XorbsWithLookup}
+use Rattle.xet_shards.proofs.Content.Joining.{filled-all, replaced}
 use Rattle.xet_shards.proofs.shard_in_memory.xorb_store.XorbStore.put.Goals as goal
 
 pub append-requires-2-clause-absent : goal.append-requires-2-clause-absent

@@ -5,10 +5,10 @@ use Rattle.std.specs.FinMap.{get, get-from_sorted}
 use Rattle.xet_base.specs.Hash.{hash_cmp}
 use Rattle.xet_records.specs.declared.xorb_structs.MDBXorbInfo.{MDBXorbInfo}
 use Rattle.xet_records.specs.XorbRecord.{xorb_row_count, IsXorb}
-use Rattle.xet_shards.specs.ChunkLookup.{XorbsWithLookup}
-use Rattle.xet_shards.specs.XorbStore.{shown_xorbs}
-use Rattle.xet_shards.proofs.FileUnions.{entry-holds}
-use Rattle.xet_shards.proofs.Xorbs.{found_shown}
+use Rattle.xet_shards.specs.ShardInMemory.ChunkLookup.{XorbsWithLookup}
+use Rattle.xet_shards.specs.ShardInMemory.XorbStore.{shown_xorbs}
+use Rattle.xet_shards.proofs.ShardInMemory.FileUnions.{entry-holds}
+use Rattle.xet_shards.proofs.ShardInMemory.Xorbs.{found_shown}
 use Rattle.xet_shards.proofs.shard_in_memory.xorb_store.XorbStore.rows_of.Goals as goal
 
 pub returns-in-Some : goal.returns-in-Some

@@ -3,11 +3,11 @@ use Rattle.std.specs.declared.rc.Rc.{Rc}
 use Rattle.std.specs.FinMap.{from_sorted, from_entries, is_sorted}
 use Rattle.xet_base.specs.Hash.{hash_cmp}
 use Rattle.xet_records.specs.declared.xorb_structs.MDBXorbInfo.{MDBXorbInfo}
-use Rattle.xet_shards.specs.Shard.{AreXorbs}
-use Rattle.xet_shards.specs.ChunkLookup.{IsChunkLookup}
-use Rattle.xet_shards.specs.XorbStore.{shown_location, location_in}
-use Rattle.xet_shards.proofs.ChunkLookups.{lookup-same}
-use Rattle.xet_shards.proofs.Clones.{shown-cloned, lookup-shown}
+use Rattle.xet_shards.specs.Content.Shard.{AreXorbs}
+use Rattle.xet_shards.specs.ShardInMemory.ChunkLookup.{IsChunkLookup}
+use Rattle.xet_shards.specs.ShardInMemory.XorbStore.{shown_location, location_in}
+use Rattle.xet_shards.proofs.ShardInMemory.ChunkLookups.{lookup-same}
+use Rattle.xet_shards.proofs.ShardInMemory.Clones.{shown-cloned, lookup-shown}
 use Rattle.xet_shards.proofs.shard_in_memory.xorb_store.XorbStore.try_clone.Goals as goal
 
 pub invariant_of-result : goal.invariant_of-result

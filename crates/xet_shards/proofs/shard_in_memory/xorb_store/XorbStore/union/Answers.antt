@@ -1,8 +1,8 @@
 use Rattle.std.proofs.Common.{ap, ◌∙◌}
 use Rattle.std.specs.FinMap.{get}
 use Rattle.std.specs.Option.{option_or}
-use Rattle.xet_shards.specs.ChunkLookup.{XorbsWithLookup}
-use Rattle.xet_shards.proofs.Joining.{filled-all}
+use Rattle.xet_shards.specs.ShardInMemory.ChunkLookup.{XorbsWithLookup}
+use Rattle.xet_shards.proofs.Content.Joining.{filled-all}
 use Rattle.xet_shards.proofs.shard_in_memory.xorb_store.XorbStore.union.Goals as goal
 
 pub returns-clause-ok : goal.returns-clause-ok

@@ -1,7 +1,7 @@
 use Rattle.std.specs.Io.KnownBytes.{Consumes}
 use Rattle.xet_base.specs.Input.{ReaderFails}
-use Rattle.xet_shards.specs.MinimalReading.{ReaderHeaderFails}
-use Rattle.xet_shards.proofs.MinimalReading.{after_header}
+use Rattle.xet_shards.specs.StreamingShard.MinimalReading.{ReaderHeaderFails}
+use Rattle.xet_shards.proofs.StreamingShard.MinimalReading.{after_header}
 use Rattle.xet_shards.proofs.streaming_shard.minimal_shard.MDBMinimalShard.from_reader.Goals as goal
 
 pub returns : goal.returns

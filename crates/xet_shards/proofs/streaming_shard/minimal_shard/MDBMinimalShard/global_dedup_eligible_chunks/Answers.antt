@@ -1,5 +1,5 @@
 use Rattle.std.proofs.Common.{sym, ◌∙◌}
-use Rattle.xet_shards.proofs.MinimalShard.{ascending_hashes-nil}
+use Rattle.xet_shards.proofs.StreamingShard.MinimalShard.{ascending_hashes-nil}
 use Rattle.xet_shards.proofs.streaming_shard.minimal_shard.MDBMinimalShard.global_dedup_eligible_chunks.Goals as goal
 
 pub loop-xorb-init : goal.loop-xorb-init

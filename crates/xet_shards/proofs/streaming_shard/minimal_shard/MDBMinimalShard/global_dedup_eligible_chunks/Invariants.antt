@@ -1,5 +1,5 @@
 use Rattle.std.proofs.Common.{◌≡◌, take, flat_map}
-use Rattle.xet_shards.specs.MinimalShard.{has_start, ascending_hashes, eligible_in}
+use Rattle.xet_shards.specs.StreamingShard.MinimalShard.{has_start, ascending_hashes, eligible_in}
 use Rattle.xet_shards.proofs.streaming_shard.minimal_shard.MDBMinimalShard.global_dedup_eligible_chunks.Given as goal
 
 abbrev pub invariant-loop-xorb : goal.invariant-loop-xorb

@@ -1,8 +1,8 @@
 use Rattle.std.proofs.Common.{map, None, subst}
 use Rattle.std.specs.Prelude.{IfOk}
 use Rattle.xet_records.specs.View.{as_kept}
-use Rattle.xet_shards.specs.MinimalShard.{minimal_options, WritesKept}
-use Rattle.xet_shards.proofs.MinimalWriting.{all_written}
+use Rattle.xet_shards.specs.StreamingShard.MinimalShard.{minimal_options, WritesKept}
+use Rattle.xet_shards.proofs.StreamingShard.MinimalWriting.{all_written}
 use Rattle.xet_shards.proofs.streaming_shard.minimal_shard.MDBMinimalShard.serialize_kept.Goals as goal
 
 pub returns-clause-written : goal.returns-clause-written

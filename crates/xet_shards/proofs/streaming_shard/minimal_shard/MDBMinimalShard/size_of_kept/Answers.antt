@@ -1,5 +1,5 @@
 use Rattle.std.proofs.Common.{arith}
-use Rattle.xet_shards.proofs.MinimalWriting.{few_as_kept}
+use Rattle.xet_shards.proofs.StreamingShard.MinimalWriting.{few_as_kept}
 use Rattle.xet_shards.proofs.streaming_shard.minimal_shard.MDBMinimalShard.size_of_kept.Goals as goal
 
 pub bytes_of-files-requires : goal.bytes_of-files-requires

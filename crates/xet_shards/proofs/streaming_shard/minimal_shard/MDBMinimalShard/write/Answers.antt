@@ -1,8 +1,8 @@
 use Rattle.std.proofs.Common.{ap, ◌∙◌, subst}
 use Rattle.std.specs.Io.KnownBytes.{Appends}
-use Rattle.xet_shards.specs.Layout.{shard_header_bytes}
-use Rattle.xet_shards.specs.MinimalShard.{has_start, is_start}
-use Rattle.xet_shards.proofs.MinimalWriting.{shard_written, fit_as_kept}
+use Rattle.xet_shards.specs.Write.Layout.{shard_header_bytes}
+use Rattle.xet_shards.specs.StreamingShard.MinimalShard.{has_start, is_start}
+use Rattle.xet_shards.proofs.StreamingShard.MinimalWriting.{shard_written, fit_as_kept}
 use Rattle.xet_shards.proofs.streaming_shard.minimal_shard.MDBMinimalShard.write.Goals as goal
 
 pub returns-clause-written : goal.returns-clause-written

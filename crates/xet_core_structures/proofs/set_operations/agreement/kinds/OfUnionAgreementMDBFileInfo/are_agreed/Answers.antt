@@ -1,5 +1,5 @@
 use Rattle.xet_records.specs.declared.file_structs.part.OptionalPart.TheVariants.{Verification, MetadataExt, AuxExt}
-use Rattle.xet_core_structures.proofs.Equalities.{row_agreed, part_agreed, files_agreed}
+use Rattle.xet_core_structures.proofs.Records.Equalities.{row_agreed, part_agreed, files_agreed}
 use Rattle.xet_core_structures.proofs.set_operations.agreement.kinds.OfUnionAgreementMDBFileInfo.are_agreed.Goals as goal
 
 pub returns : goal.returns

@@ -1,0 +1,7 @@
+-- Whether shards agree, and where they do not.
+
+pub mod AgreeingInputs
+pub mod AgreeingTrees
+pub mod Differing
+pub mod DifferingFound
+pub mod HashRuns

@@ -1,0 +1,14 @@
+-- Trees of unions.
+
+pub mod MergeTrees
+pub mod MergesByIndex
+pub mod MappedJoins
+pub mod TreeXorbs
+pub mod TreesOfExports
+pub mod Parts
+pub mod PlacedMixes
+pub mod PlacedShards
+pub mod PlacedUnions
+pub mod PlacedWriting
+pub mod Placing
+pub mod Filling

@@ -1,7 +1,0 @@
-use Rattle.std.proofs.Common.{subst}
-use Rattle.xet_core_structures.specs.Parts.{IsOpened}
-use Rattle.xet_core_structures.proofs.Parts.{united_lists}
-use Rattle.xet_core_structures.proofs.set_operations.parts.lists.Goals as goal
-
-pub returns-in-United : goal.returns-in-United
-returns-in-United c = λ bytes info is. united_lists bytes info c.in-United.shard (subst (IsOpened bytes info) c.in-United.is is)

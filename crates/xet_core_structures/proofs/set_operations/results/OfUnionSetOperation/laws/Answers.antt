@@ -1,5 +1,0 @@
-use Rattle.xet_core_structures.proofs.Results.{union_laws}
-use Rattle.xet_core_structures.proofs.set_operations.results.OfUnionSetOperation.laws.Goals as goal
-
-pub returns : goal.returns
-returns c = union_laws

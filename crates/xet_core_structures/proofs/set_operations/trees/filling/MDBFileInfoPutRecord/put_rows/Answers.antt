@@ -1,0 +1,16 @@
+use Rattle.std.proofs.Common.{◌*◌, take, drop, sym, ap, ◌∙◌, subst, arith, length-drop}
+use Rattle.std.proofs.Math.Seq.{take-length}
+use Rattle.xet_core_structures.specs.Trees.Filling.{Puts}
+use Rattle.xet_core_structures.proofs.Trees.Filling.{puts_then, file_rows_placed}
+use Rattle.xet_core_structures.proofs.set_operations.trees.filling.MDBFileInfoPutRecord.put_rows.Goals as goal
+
+pub returns : goal.returns
+returns c = λ r places.
+    let entries = c.args.placed.now.header.num_entries in
+    let bytes = c.args.placed.now.rows.now in
+    let rows = file_rows_placed c.args.placed.now r places in
+    subst (Puts c.args.out.now c.put_cleared.new.out c.args.at c.put_cleared.result) (sym rows.bytes)
+    (puts_then c.args.out.now c.put_bytes-end.new.out c.put_cleared.new.out c.args.at c.put_bytes-end.result c.put_cleared.result _ _
+    (subst (Puts c.args.out.now c.put_bytes-end.new.out c.args.at c.put_bytes-end.result) rows.segments c.put_bytes-end.ensures)
+    (c.put_cleared.ensures rows.optional rows.rest rows.fit (omega (arith, rows.count))
+    (ap (λ n. take n (drop (48 * entries) bytes)) (sym (length-drop (48 * entries) bytes)) ∙ take-length (drop (48 * entries) bytes) ∙ rows.others)))

@@ -1,0 +1,7 @@
+use Rattle.std.proofs.Common.{subst}
+use Rattle.xet_core_structures.specs.Trees.Parts.{IsOpened}
+use Rattle.xet_core_structures.proofs.Trees.Parts.{united_lists}
+use Rattle.xet_core_structures.proofs.set_operations.trees.parts.lists.Goals as goal
+
+pub returns-in-United : goal.returns-in-United
+returns-in-United c = λ bytes info is. united_lists bytes info c.in-United.shard (subst (IsOpened bytes info) c.in-United.is is)

@@ -1,0 +1,10 @@
+use Rattle.std.proofs.Common.{◌∙◌}
+use Rattle.xet_core_structures.proofs.Trees.PlacedMixes.{mix_placed}
+use Rattle.xet_core_structures.proofs.set_operations.trees.placed.place_mix.Goals as goal
+
+pub returns : goal.returns
+returns c = (
+  c.mixed-header.ensures,
+  λ r s one other. mix_placed c.args.first.now c.args.second.now c.requires.hash c.requires.count _ c.mixed-header.ensures r s one other
+      (c.in_ok-rows.ensures ∙ c.as_slice.ensures.value ∙ c.in_ok-bytes.ensures r s one other),
+)

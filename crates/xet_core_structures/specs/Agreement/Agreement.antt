@@ -1,0 +1,134 @@
+-- Whether shards in memory agree, and where they do not.
+use Rattle.std.specs.Prelude.{◌≡◌, ◌⊎◌, ℕ, ◌<◌, List, ◌++◌, length, map, Contains, Some, slice_get}
+use Rattle.std.specs.FinMap.{get}
+use Rattle.std.specs.List.{AllZip}
+use Rattle.std.specs.List.Sorted.{IsStrictlySortedBy}
+use Rattle.xet_base.specs.declared.error.CoreError.{CoreError}
+use Rattle.xet_base.specs.declared.error.CoreError.TheVariants.{OutOfMemory}
+use Rattle.xet_base.specs.declared.merklehash.DataHash.{DataHash}
+use Rattle.xet_base.specs.Hash.{hash_cmp}
+use Rattle.xet_records.specs.declared.file_structs.MDBFileInfo.{MDBFileInfo}
+use Rattle.xet_records.specs.declared.xorb_structs.MDBXorbInfo.{MDBXorbInfo}
+use Rattle.xet_records.specs.Merging.{Agree}
+use Rattle.xet_shards.specs.declared.shard_format.ends.info.MDBShardInfo.{MDBShardInfo}
+use Rattle.xet_shards.specs.Ends.Ends.{HasHeaderAndFooter}
+use Rattle.xet_shards.specs.Content.SetOperations.{ShardsAgree}
+use Rattle.xet_shards.specs.Content.Shard.{Shard}
+use Rattle.xet_core_structures.specs.declared.set_operations.agreement.Disagreement.{Disagreement}
+use Rattle.xet_core_structures.specs.declared.set_operations.agreement.PlacedInputs.{PlacedInputs}
+use Rattle.xet_core_structures.specs.declared.set_operations.agreement.RecordHash.{RecordHash}
+use Rattle.xet_core_structures.specs.declared.set_operations.agreement.RecordHash.TheVariants.{File, Xorb}
+use Rattle.xet_core_structures.specs.declared.set_operations.agreement.differing.Differing.{Differing}
+use Rattle.xet_core_structures.specs.declared.set_operations.MergePlan.{MergePlan}
+use Rattle.xet_core_structures.specs.declared.set_operations.agreement.Merged.{Merged}
+use Rattle.xet_core_structures.specs.declared.set_operations.agreement.Merged.TheVariants.{Bytes, Disagreement as Disagreed}
+use Rattle.xet_core_structures.specs.declared.set_operations.trees.parts.PlacedShard.{PlacedShard}
+use Rattle.xet_core_structures.specs.TwoShards.ByteResults.{key_of, LoadRefusal}
+use Rattle.xet_core_structures.specs.Records.ShardContents.{HasShard}
+use Rattle.xet_core_structures.specs.Trees.MergeTrees.{leaves, TreeWrites, InputIs}
+use Rattle.xet_core_structures.specs.Trees.Parts.{PlacesShard, SectionsRefusal}
+
+-- two xorbs agree if they are equal
+abbrev pub AreEqual : MDBXorbInfo → MDBXorbInfo → Type 0
+AreEqual r s = r ≡ s
+
+-- two shards have records with this hash that do not agree
+abbrev pub DisagreeShards : Shard → Shard → RecordHash → Type 0
+DisagreeShards s t (File q) =
+    (a b : MDBFileInfo) × (get s.files q ≡ Some a) × (get t.files q ≡ Some b) × (¬ Agree a b)
+DisagreeShards s t (Xorb q) =
+    (a b : MDBXorbInfo) × (get s.xorbs q ≡ Some a) × (get t.xorbs q ≡ Some b) × (¬ (a ≡ b))
+
+-- the input with this number holds a shard
+abbrev pub HoldsAt : List (List ℕ) → ℕ → Shard → Type 0
+HoldsAt inputs i s = InputIs inputs (HasShard s) i
+
+-- one of the inputs holds a shard
+abbrev pub IsHeld : List (List ℕ) → Shard → Type 0
+IsHeld inputs s = (i : ℕ) × HoldsAt inputs i s
+
+-- why no shard is read from bytes: header and footer are not read; or they are, and then a section
+-- is not read
+abbrev pub ShardRefusal : List ℕ → CoreError → Type 0
+ShardRefusal bytes e =
+    LoadRefusal bytes e ⊎ ((info : MDBShardInfo) × HasHeaderAndFooter bytes info × SectionsRefusal bytes info e)
+
+-- a shard in memory is one that bytes hold
+abbrev pub IsPlacedOf : PlacedShard → List ℕ → Type 0
+IsPlacedOf shard bytes =
+    (info : MDBShardInfo) × HasHeaderAndFooter bytes info × PlacesShard bytes info shard
+
+-- these are the records of inputs in memory
+pub record ArePlaced (inputs : List (List ℕ)) (placed : PlacedInputs) : Type 0 where
+  pub shards : List PlacedShard
+  pub each : AllZip IsPlacedOf shards inputs
+  pub files : placed.files.items ≡ map (λ s. s.files) shards
+  pub xorbs : placed.xorbs.items ≡ map (λ s. s.xorbs) shards
+
+-- the shards that two inputs hold agree
+abbrev pub AgreeAt : List (List ℕ) → ℕ → ℕ → Type 0
+AgreeAt inputs i j =
+    (s t : Shard) → HoldsAt inputs i s → HoldsAt inputs j t → ShardsAgree s t
+
+-- each input holds a shard, and each two of these agree
+pub record InputsAgree (inputs : List (List ℕ)) : Type 0 where
+  pub held : (i : ℕ) → i < length inputs → (s : Shard) × HoldsAt inputs i s
+  pub pairs : (i j : ℕ) → AgreeAt inputs i j
+
+-- two inputs hold shards that have records with this hash that do not agree
+pub record InputsDisagree (inputs : List (List ℕ)) (d : Disagreement) : Type 0 where
+  pub one : Shard
+  pub other : Shard
+  pub is_first : HoldsAt inputs d.first one
+  pub is_second : HoldsAt inputs d.second other
+  pub differ : DisagreeShards one other d.record_hash
+
+-- each two records with this hash of the shards that inputs hold agree
+abbrev pub AgreeOn : List (List ℕ) → RecordHash → Type 0
+AgreeOn inputs (File q) =
+    (i j : ℕ) (s t : Shard) (a b : MDBFileInfo) → HoldsAt inputs i s → HoldsAt inputs j t
+    → get s.files q ≡ Some a → get t.files q ≡ Some b → Agree a b
+AgreeOn inputs (Xorb q) =
+    (i j : ℕ) (s t : Shard) (a b : MDBXorbInfo) → HoldsAt inputs i s → HoldsAt inputs j t
+    → get s.xorbs q ≡ Some a → get t.xorbs q ≡ Some b → a ≡ b
+
+-- a disagreement, by the hash and the numbers of two inputs
+abbrev pub disagreement_of : (DataHash → RecordHash) → Differing → Disagreement
+disagreement_of named d = record { record_hash = named d.hash; first = d.first; second = d.second }
+
+-- disagreements of files in ascending order of their hashes, then those of xorbs
+pub record AreInOrder (found : List Disagreement) : Type 0 where
+  pub files : List Differing
+  pub xorbs : List Differing
+  pub are : found ≡ map (disagreement_of File) files ++ map (disagreement_of Xorb) xorbs
+  pub files_ascend : IsStrictlySortedBy hash_cmp (map (λ d. d.hash) files)
+  pub xorbs_ascend : IsStrictlySortedBy hash_cmp (map (λ d. d.hash) xorbs)
+
+-- each input holds a shard; these are disagreements of them, in order, each with another hash; and
+-- records with any other hash agree
+pub record HasAllDisagreements (inputs : List (List ℕ)) (found : List Disagreement) : Type 0 where
+  pub held : (i : ℕ) → i < length inputs → (s : Shard) × HoldsAt inputs i s
+  pub each : (d : Disagreement) → Contains found d → InputsDisagree inputs d
+  pub in_order : AreInOrder found
+  pub others : (h : RecordHash) → ¬ Contains (map (λ d. d.record_hash) found) h → AgreeOn inputs h
+
+-- an allocation failed, or no shard is read from an input
+abbrev pub InputsRefusal : List (List ℕ) → CoreError → Type 0
+InputsRefusal inputs e =
+    (e ≡ OutOfMemory)
+    ⊎ ((i : ℕ) × (bytes : List ℕ) × (slice_get inputs i ≡ Some bytes) × ShardRefusal bytes e)
+
+-- the bytes have this key in their footer, if they have a header and a footer
+abbrev pub HasKey : List ℕ → DataHash → Type 0
+HasKey bytes key = (info : MDBShardInfo) → HasHeaderAndFooter bytes info → key_of info ≡ key
+
+-- each input at a leaf has this key in its footer, if it has a header and a footer
+abbrev pub HaveKey : List (List ℕ) → MergePlan → DataHash → Type 0
+HaveKey inputs plan key =
+    (i : ℕ) (bytes : List ℕ) → Contains (leaves plan) i → slice_get inputs i ≡ Some bytes
+    → HasKey bytes key
+
+-- what a merge of inputs that have to agree gives: the bytes that the tree writes, if they do
+abbrev pub IsMerged : List (List ℕ) → MergePlan → Merged → Type 0
+IsMerged inputs plan (Bytes bytes) = InputsAgree inputs × TreeWrites inputs plan bytes.items
+IsMerged inputs plan (Disagreed d) = InputsDisagree inputs d

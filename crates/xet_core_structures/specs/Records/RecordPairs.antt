@@ -1,0 +1,69 @@
+-- Lists of records whose hashes strictly ascend, combined hash by hash.
+use Rattle.std.specs.Prelude.{◌≡◌, ◌⊎◌, ℕ, ◌+◌, ◌≤◌, List, map, All, Option, None, Some, is_some, if◌then◌else◌}
+use Rattle.std.specs.List.{AllByRecursion}
+use Rattle.std.specs.declared.cmp.Ordering.TheVariants.{Less}
+use Rattle.xet_base.specs.Hash.{hash_cmp}
+use Rattle.xet_base.specs.declared.merklehash.DataHash.{DataHash}
+use Rattle.xet_records.specs.RecordKind.{RecordKind}
+use Rattle.xet_shards.specs.Content.Joining.{entry}
+use Rattle.xet_shards.specs.Write.WithOptions.{Ascends}
+
+-- the second's record, unless the first has one
+abbrev pub IsRest : {R : Type 0} → Option R → Option R → Option R → Type 0
+IsRest a b c = c ≡ (if is_some a then None else b)
+
+-- of the next headers of two sections, if any, those with the lesser hash, or both
+abbrev pub IsNextPair : {H : Type 0} → (H → DataHash) → Option H → Option H → Option H → Option H
+    → Type 0
+IsNextPair hash None q a b = (a ≡ None) × (b ≡ q)
+IsNextPair hash (Some g) None a b = (a ≡ Some g) × (b ≡ None)
+IsNextPair hash (Some g) (Some h) a b =
+    ((hash_cmp (hash g) (hash h) ≡ Less) × (a ≡ Some g) × (b ≡ None))
+    ⊎ ((hash_cmp (hash h) (hash g) ≡ Less) × (a ≡ None) × (b ≡ Some h))
+    ⊎ ((hash g ≡ hash h) × (a ≡ Some g) × (b ≡ Some h))
+
+-- headers with one hash, where there are any
+abbrev pub AreOfOneHash : {H : Type 0} → (H → DataHash) → Option H → Option H → Type 0
+AreOfOneHash hash (Some g) (Some h) = hash g ≡ hash h
+AreOfOneHash hash a b = Unit {0}
+
+module _ {H R : Type 0} (K : RecordKind H R) where
+  -- the hash of a record
+  abbrev pub key_of_record : R → DataHash
+  key_of_record r = K.hash_of (K.header_of r)
+
+  -- the records of a list, each paired with its hash
+  abbrev pub by_hash : List R → List (DataHash × R)
+  by_hash rs = map (λ r. (key_of_record r, r)) rs
+
+  -- the record of a list that has this hash
+  abbrev pub with_hash : List R → DataHash → Option R
+  with_hash rs q = entry (by_hash rs) q
+
+  -- a list has under each hash what is made of the records that two lists have there
+  pub record Combines (IsEither : Option R → Option R → Option R → Type 0) (xs ys zs : List R)
+      : Type 0 where
+    pub ascends : Ascends K zs
+    pub each : (q : DataHash) → IsEither (with_hash xs q) (with_hash ys q) (with_hash zs q)
+    pub stored : All K.IsStored zs
+
+  -- the records of a list have smaller hashes
+  abbrev pub ComeBefore : DataHash → List R → Type 0
+  ComeBefore k rs = AllByRecursion (λ r. hash_cmp (key_of_record r) k ≡ Less) rs
+
+  -- the records of two lists have smaller hashes, and so have those that were made of them
+  pub record ArePassed (firsts seconds made : List R) (k : DataHash) : Type 0 where
+    pub first : ComeBefore k firsts
+    pub second : ComeBefore k seconds
+    pub combined : ComeBefore k made
+
+  -- the rows of a record, if there is one
+  abbrev pub rows_in : Option R → ℕ
+  rows_in None = 0
+  rows_in (Some r) = K.row_count r
+
+  -- a record that may be stored, with the hash of one of two others, and no more rows than both
+  pub record IsMadeOf (a b : Option R) (r : R) : Type 0 where
+    pub stored : K.IsStored r
+    pub rows : K.row_count r ≤ rows_in a + rows_in b
+    pub hash : (x : R) → ((a ≡ Some x) ⊎ (b ≡ Some x)) → key_of_record r ≡ key_of_record x

@@ -1,0 +1,7 @@
+-- Trees of unions.
+
+pub mod MergeTrees
+pub mod ExportTrees
+pub mod Parts
+pub mod Placed
+pub mod Filling

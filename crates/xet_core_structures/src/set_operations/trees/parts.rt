@@ -1,0 +1,268 @@
+//! A tree of unions over inputs in memory. Records stay where they are until the tree is done, and
+//! are written once.
+
+ghost use Rattle.std.specs.Prelude.{◌≡◌, ◌⊎◌, ◌↔◌, ℕ, IsTrue, List, map, MatchResult};
+ghost use Rattle.xet_base.specs.declared.error.CoreError.TheVariants.{OutOfMemory};
+ghost use Rattle.xet_base.specs.Errors.{IsInvalidShard};
+ghost use Rattle.xet_shards.specs.declared.shard_format.ends.info.MDBShardInfo.{MDBShardInfo};
+ghost use Rattle.xet_shards.specs.Ends.Ends.{HasHeaderAndFooter};
+ghost use Rattle.xet_shards.specs.Write.Layout.{layout_of};
+ghost use Rattle.xet_core_structures.specs.Records.ByteUnion.{IsEitherFile, IsEitherXorb};
+ghost use Rattle.xet_core_structures.specs.TwoShards.ByteResults.{keyed_options, key_of, Records, AreCombined, UnitesBytes, BytesRefusal, LoadRefusal};
+ghost use Rattle.xet_core_structures.specs.Trees.Filling.{Fills, FillsWith};
+ghost use Rattle.xet_core_structures.specs.Trees.MergeTrees.{TreeWrites, TreeRefusal};
+ghost use Rattle.xet_core_structures.specs.Trees.Parts.{PlacesRecords, MayBeUnited, MayBeWritten, PlacesShard, SectionsRefusal, HaveNoRecordUnion, IsPart, IsOpened};
+
+use super::MergePlan;
+use crate::set_operations::trees::filling::{frame_of, put_shard};
+use crate::set_operations::trees::placed::{PlacedRecord, place_records, unite_placed};
+use crate::set_operations::two_shards::record_operation::OfUnion;
+use crate::set_operations::two_shards::results::seek;
+use bumpalo::Bump;
+use std::alloc::Global;
+use xet_base::error::{CoreError, Result};
+use xet_base::merklehash::HMACKey;
+use xet_base::source::MemorySource;
+use xet_records::file_structs::{FileDataSequenceHeader, MDBFileInfo};
+use xet_records::record_reader::FormatVersion;
+use xet_records::xorb_structs::{MDBXorbInfo, XorbChunkSequenceHeader};
+use xet_shards::shard_format::MDBShardInfo;
+
+/// The records of a shard in memory, and the key of its chunk hashes.
+#[derive(Drop)]
+pub struct PlacedShard<'a> {
+    pub key: HMACKey,
+    pub files: Vec<PlacedRecord<'a, FileDataSequenceHeader>>,
+    pub xorbs: Vec<PlacedRecord<'a, XorbChunkSequenceHeader>>,
+}
+
+/// What a tree gives: an input, or a union of which no byte is written yet.
+#[derive(Drop)]
+pub enum Part<'a> {
+    Input(&'a [u8]),
+    United(PlacedShard<'a>),
+}
+
+/// The same, with the header and the footer of an input.
+#[derive(Drop)]
+pub enum Opened<'a> {
+    Input(&'a [u8], MDBShardInfo),
+    United(PlacedShard<'a>),
+}
+
+/// What a tree gives. Records that are in no input are placed in the arena.
+pub fn place_tree<'a>(
+    alloc: Global,
+    arena: &'a Bump,
+    plan: &MergePlan,
+    inputs: &[&'a [u8]],
+) -> Result<Part<'a>>
+    ensures { MatchResult result
+        (λ part. (bytes : List ℕ) × TreeWrites (map (λ x. x.now) inputs.now) plan.now bytes
+        × IsPart bytes part)
+        (TreeRefusal (map (λ x. x.now) inputs.now) plan.now) }
+{
+    match plan {
+        MergePlan::Leaf(index) => {
+            if *index >= inputs.len() {
+                return Err(CoreError::InvalidArguments);
+            }
+            Ok(Part::Input(inputs[*index]))
+        }
+        MergePlan::Both(left, right) => {
+            let one = place_tree(alloc, arena, left, inputs)?;
+            let other = place_tree(alloc, arena, right, inputs)?;
+            unite_parts(alloc, arena, one, other)
+        }
+    }
+}
+
+// The union of two parts.
+fn unite_parts<'a>(
+    alloc: Global,
+    arena: &'a Bump,
+    left: Part<'a>,
+    right: Part<'a>,
+) -> Result<Part<'a>>
+    ensures { (x y : List ℕ) → IsPart x left.entry → IsPart y right.entry → MatchResult result
+        (λ part. (bytes : List ℕ) × UnitesBytes x y bytes × IsPart bytes part)
+        (BytesRefusal x y) }
+{
+    let one = open(alloc, left)?;
+    let other = open(alloc, right)?;
+    let first_key = key(&one);
+    let second_key = key(&other);
+    if !are_equal(first_key, second_key) {
+        return Err(CoreError::InvalidArguments);
+    }
+    let first = lists(alloc, one)?;
+    let second = lists(alloc, other)?;
+    let shard = unite_lists(alloc, arena, &first, &second)?;
+    Ok(Part::United(shard))
+}
+
+// A part, and the header and the footer if it is an input.
+fn open<'a>(alloc: Global, part: Part<'a>) -> Result<Opened<'a>>
+    ensures { (bytes : List ℕ) → IsPart bytes part.entry → MatchResult result
+        (λ opened. (info : MDBShardInfo) × HasHeaderAndFooter bytes info × IsOpened bytes info opened)
+        (LoadRefusal bytes) }
+{
+    match part {
+        Part::Input(bytes) => {
+            let mut source = MemorySource::new(bytes);
+            let info = MDBShardInfo::load_from_reader(alloc, &mut source)?;
+            Ok(Opened::Input(bytes, info))
+        }
+        Part::United(shard) => Ok(Opened::United(shard)),
+    }
+}
+
+// The key of the chunk hashes.
+fn key(opened: &Opened<'_>) -> HMACKey
+    ensures { (bytes : List ℕ) (info : MDBShardInfo) → IsOpened bytes info opened.now
+        → result ≡ key_of info }
+{
+    match opened {
+        Opened::Input(_, info) => info.metadata.chunk_hash_hmac_key,
+        Opened::United(shard) => shard.key,
+    }
+}
+
+// Whether two keys are equal.
+fn are_equal(first: HMACKey, second: HMACKey) -> bool
+    ensures { IsTrue result ↔ (first ≡ second) }
+{
+    first == second
+}
+
+// The records of a part.
+fn lists<'a>(alloc: Global, opened: Opened<'a>) -> Result<PlacedShard<'a>>
+    ensures { (bytes : List ℕ) (info : MDBShardInfo) → IsOpened bytes info opened.entry
+        → MatchResult result (PlacesShard bytes info) (SectionsRefusal bytes info) }
+{
+    match opened {
+        Opened::Input(bytes, info) => place_shard(alloc, bytes, &info),
+        Opened::United(shard) => Ok(shard),
+    }
+}
+
+/// The records of an input, at the offsets of its footer.
+pub fn place_shard<'a>(
+    alloc: Global,
+    bytes: &'a [u8],
+    info: &MDBShardInfo,
+) -> Result<PlacedShard<'a>>
+    ensures { MatchResult result (PlacesShard bytes.now info.now)
+        (SectionsRefusal bytes.now info.now) }
+{
+    let mut source = MemorySource::new(bytes);
+    seek(&mut source, info.metadata.file_info_offset)?;
+    let version = FormatVersion::of_header(info.header.version);
+    let files = place_records::<MDBFileInfo, MemorySource<'_>>(alloc, &mut source, bytes, version)?;
+    seek(&mut source, info.metadata.xorb_info_offset)?;
+    let xorbs = place_records::<MDBXorbInfo, MemorySource<'_>>(
+        alloc,
+        &mut source,
+        bytes,
+        FormatVersion::V3,
+    )?;
+    Ok(PlacedShard {
+        key: info.metadata.chunk_hash_hmac_key,
+        files,
+        xorbs,
+    })
+}
+
+/// The union of the records of two shards.
+pub fn unite_lists<'a>(
+    alloc: Global,
+    arena: &'a Bump,
+    first: &PlacedShard<'a>,
+    second: &PlacedShard<'a>,
+) -> Result<PlacedShard<'a>>
+    ensures { (one other : Records) → MayBeUnited first.now one → MayBeUnited second.now other
+        → MatchResult result
+        (λ shard. (made : Records) × AreCombined IsEitherFile IsEitherXorb one other made
+        × PlacesRecords shard made × (shard.key ≡ first.now.key))
+        (λ e. (e ≡ OutOfMemory) ⊎ (IsInvalidShard e × HaveNoRecordUnion one other)) }
+{
+    let files = unite_placed::<MDBFileInfo, OfUnion>(
+        alloc,
+        arena,
+        first.files.as_slice(),
+        second.files.as_slice(),
+    )?;
+    let xorbs = unite_placed::<MDBXorbInfo, OfUnion>(
+        alloc,
+        arena,
+        first.xorbs.as_slice(),
+        second.xorbs.as_slice(),
+    )?;
+    Ok(PlacedShard {
+        key: first.key,
+        files,
+        xorbs,
+    })
+}
+
+/// The bytes of a part.
+pub fn part_bytes(alloc: Global, part: Part<'_>) -> Result<Vec<u8>>
+    requires { (bytes : List ℕ) × IsPart bytes part }
+    ensures { (bytes : List ℕ) → IsPart bytes part.entry → MatchResult result
+        (λ written. written.items ≡ bytes) (λ e. e ≡ OutOfMemory) }
+{
+    match part {
+        Part::Input(bytes) => Ok(Vec::from_slice(alloc, bytes)?),
+        Part::United(shard) => shard_bytes(alloc, &shard),
+    }
+}
+
+// The bytes of a shard.
+fn shard_bytes(alloc: Global, shard: &PlacedShard<'_>) -> Result<Vec<u8>>
+    requires { (records : Records) × MayBeWritten shard.now records }
+    ensures { (records : Records) → MayBeWritten shard.now records → MatchResult result
+        (λ written. written.items
+        ≡ layout_of records.files records.xorbs (keyed_options shard.now.key))
+        (λ e. e ≡ OutOfMemory) }
+{
+    let frame = frame_of(alloc, shard)?;
+    let mut bytes = vec![in alloc; 0; frame.size]?;
+    put_shard(bytes.as_mut_slice(), shard, &frame);
+    Ok(bytes)
+}
+
+/// Writes the bytes of a part to the front of a slice, if they fit, and returns their number.
+pub fn fill_with_part(alloc: Global, part: Part<'_>, out: &mut [u8]) -> Result<usize>
+    requires { (bytes : List ℕ) × IsPart bytes part }
+    ensures { (bytes : List ℕ) → IsPart bytes part.entry
+        → FillsWith (λ made. made ≡ bytes) (λ e. e ≡ OutOfMemory) out.old out.new result }
+{
+    match part {
+        Part::Input(bytes) => Ok(fill_with(out, bytes)),
+        Part::United(shard) => fill_with_shard(alloc, &shard, out),
+    }
+}
+
+// Writes bytes to the front of a slice, if they fit, and returns their number.
+fn fill_with(out: &mut [u8], bytes: &[u8]) -> usize
+    ensures { Fills bytes.now out.old out.new result }
+{
+    if bytes.len() <= out.len() {
+        out[..bytes.len()].copy_from_slice(bytes);
+    }
+    bytes.len()
+}
+
+// Writes a shard to the front of a slice, if it fits, and returns its size.
+fn fill_with_shard(alloc: Global, shard: &PlacedShard<'_>, out: &mut [u8]) -> Result<usize>
+    requires { (records : Records) × MayBeWritten shard.now records }
+    ensures { (records : Records) → MayBeWritten shard.now records → FillsWith
+        (λ made. made ≡ layout_of records.files records.xorbs (keyed_options shard.now.key))
+        (λ e. e ≡ OutOfMemory) out.old out.new result }
+{
+    let frame = frame_of(alloc, shard)?;
+    if frame.size <= out.len() {
+        put_shard(out, shard, &frame);
+    }
+    Ok(frame.size)
+}

@@ -1,0 +1,4 @@
+-- Shards that are written again of what is read.
+
+pub mod KeyedExport
+pub mod Rewriting

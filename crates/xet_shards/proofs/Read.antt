@@ -1,0 +1,11 @@
+-- Sections and tables that are read whole.
+
+pub mod Readback
+pub mod SectionReading
+pub mod SectionWalks
+pub mod SectionHashes
+pub mod SectionUnique
+pub mod WholeSections
+pub mod TableReading
+pub mod FileRanges
+pub mod TruncatedHashes

@@ -1,0 +1,16 @@
+-- The bytes of a shard: sections, tables and the whole layout.
+
+pub mod StoredParts
+pub mod Sections
+pub mod Layouts
+pub mod XorbLayouts
+pub mod Tables
+pub mod TableOrder
+pub mod ChunkTableRows
+pub mod ChunkSorting
+pub mod WrittenTables
+pub mod Written
+pub mod Copying
+pub mod WithOptions
+pub mod SameBytes
+pub mod Worked

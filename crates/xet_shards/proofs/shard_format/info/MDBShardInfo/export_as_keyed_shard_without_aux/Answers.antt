@@ -1,6 +1,0 @@
-use Rattle.xet_shards.proofs.KeyedExport.{export_unkeyed}
-use Rattle.xet_shards.proofs.shard_format.info.MDBShardInfo.export_as_keyed_shard_without_aux.Goals as goal
-
-pub returns : goal.returns
-returns g c =
-    export_unkeyed c.args.now c.args.valid_seconds c.args.self.now c.chunk_hashes_protected-keyed.ensures c.if-keyed.false c.export_as_keyed_shard_streaming_without_aux.ensures

@@ -1,0 +1,5 @@
+-- Shards that are written again of what is read.
+
+pub mod KeyedExport
+pub mod ExportLaws
+pub mod Rewriting

@@ -1,0 +1,44 @@
+-- A shard that is written again with layout options, of the records that are read.
+use Rattle.std.specs.Prelude.{◌≡◌, ℕ, List, drop, nat_lt, Option}
+use Rattle.std.specs.Io.KnownBytes.{Appends}
+use Rattle.xet_base.specs.Source.{Source, bytes_left}
+use Rattle.xet_records.specs.declared.file_structs.MDBFileInfo.{MDBFileInfo}
+use Rattle.xet_records.specs.declared.xorb_structs.MDBXorbInfo.{MDBXorbInfo}
+use Rattle.xet_records.specs.FileRecord.{file_records_in}
+use Rattle.xet_records.specs.Version.{version_of}
+use Rattle.xet_records.specs.XorbRecord.{xorb_records}
+use Rattle.xet_shards.specs.declared.shard_format.ends.footer.MDBShardFileFooter.{MDBShardFileFooter}
+use Rattle.xet_shards.specs.declared.shard_format.ends.info.MDBShardInfo.{MDBShardInfo}
+use Rattle.xet_shards.specs.Ends.Ends.{HasHeader}
+use Rattle.xet_shards.specs.Export.KeyedExport.{xorbs_after}
+use Rattle.xet_shards.specs.Write.Layout.{LayoutOptions, footer_value, layout_of}
+use Rattle.xet_shards.specs.Read.SectionReading.{IsSection}
+
+-- the bytes begin with a header and the sections of these files and xorbs
+pub record HasSections (bytes : List ℕ) (files : List MDBFileInfo) (xorbs : List MDBXorbInfo)
+    : Type 0 where
+  pub header : HasHeader bytes
+  pub file_section : IsSection (file_records_in header.version) (drop 48 bytes) files
+  pub xorb_section : IsSection xorb_records (drop (xorbs_after files) bytes) xorbs
+
+-- the records from the source's position on were written with layout options, and this is the
+-- footer
+pub record WritesAgain (options : LayoutOptions) (old : Source) (before after : Option (List ℕ))
+    (footer : MDBShardFileFooter) : Type 0 where
+  pub files : List MDBFileInfo
+  pub xorbs : List MDBXorbInfo
+  pub sections : HasSections (bytes_left old) files xorbs
+  pub written : Appends before after (layout_of files xorbs options)
+  pub footer_is : footer ≡ footer_value files xorbs options
+
+-- the layout options that a header and a footer name: a table is in if it has a row
+abbrev pub options_of : MDBShardInfo → LayoutOptions
+options_of info = record {
+  version = version_of info.header.version;
+  file_table = nat_lt 0 info.metadata.file_lookup_num_entry;
+  xorb_table = nat_lt 0 info.metadata.xorb_lookup_num_entry;
+  chunk_table = nat_lt 0 info.metadata.chunk_lookup_num_entry;
+  key = info.metadata.chunk_hash_hmac_key;
+  creation = info.metadata.shard_creation_timestamp;
+  expiry = info.metadata.shard_key_expiry;
+}

@@ -1,0 +1,7 @@
+-- Shards in memory.
+
+pub mod InMemoryShard
+pub mod FileStore
+pub mod XorbStore
+pub mod ChunkLookup
+pub mod ChunkQuery

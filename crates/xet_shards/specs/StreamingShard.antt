@@ -1,0 +1,5 @@
+-- Minimal shards.
+
+pub mod MinimalShard
+pub mod MinimalReading
+pub mod MinimalWriting

@@ -1,0 +1,10 @@
+-- The bytes of a shard: sections, tables and the whole layout.
+
+pub mod Section
+pub mod Tables
+pub mod Layout
+pub mod WithOptions
+pub mod WrittenShard
+pub mod Written
+pub mod WrittenLaws
+pub mod Copying

@@ -1,0 +1,280 @@
+//! Header and footer of a shard, writing a shard, and reading its sections.
+
+ghost use Rattle.std.specs.Prelude.{◌≡◌, ◌⊎◌, ℕ, Option, ◌+◌, ◌*◌, ◌^◌, ◌<◌, ◌≤◌, ◌++◌, length, List, [], IsTrue, IsErrAnd, false, All, MatchResult, OnOk, IfOk, IfErr, IfSome};
+ghost use Rattle.std.specs.FinMap as finite;
+ghost use Rattle.std.specs.Io.KnownBytes.{Appends};
+ghost use Rattle.xet_base.specs.Errors.{IsWriteError};
+ghost use Rattle.xet_base.specs.Table.{IsBareInvalidShard};
+ghost use Rattle.xet_shards.specs.Content.Shard.{Shard, IsShard, has_aux_rows};
+ghost use Rattle.xet_shards.specs.Write.Layout.{layout, layout_in, layout_of, info_of, info_value, info_value_in, header_tag, shard_header_bytes, shard_footer_bytes};
+ghost use Rattle.xet_shards.specs.Write.WrittenShard.{IsBytesWithInfo, ReadsBack, ReadsOfShard};
+ghost use Rattle.xet_base.specs.Source.{ReadsBytes, DeviceFailure};
+ghost use Rattle.xet_records.specs.Version.{IsVersion};
+ghost use Rattle.xet_records.specs.declared.record_reader.FormatVersion.{FormatVersion};
+ghost use Rattle.xet_records.specs.XorbRecord.{xorb_records};
+ghost use Rattle.xet_shards.specs.Read.SectionReading.{ReadsFiles, ReadsXorbs, SectionFails};
+ghost use Rattle.xet_shards.specs.Read.XorbHeaders.{xorb_headers, ReadsXorbHeaders};
+ghost use Rattle.xet_shards.specs.Ends.Ends.{HasHeaderAndFooter, HasUnsupportedHeader, EndsInHeader, HasUnsupportedFooter, EndsInFooter, FitsFooter, PartFails, Loads, LoadFails};
+
+use crate::shard_format::ends::footer::{FOOTER_SIZE, MDBShardFileFooter, check_version};
+use crate::shard_format::ends::header::{MDBShardFileHeader, check_tag};
+use crate::shard_format::ends::options::LayoutOptions;
+use crate::shard_format::read::section_reader::{read_section_at, read_xorb_headers};
+use crate::shard_format::write::writer::{write_end, write_values};
+use crate::shard_format::write::written::{WrittenFiles, WrittenXorbs};
+use crate::shard_in_memory::MDBInMemoryShard;
+use std::alloc::Global;
+use std::io;
+use std::io::{ErrorKind, Write};
+use xet_base::error::{CoreError, Result};
+use xet_base::source::{ShardSource, read_full};
+use xet_records::file_structs::MDBFileInfo;
+use xet_records::record_reader::FormatVersion;
+use xet_records::xorb_structs::{MDBXorbInfo, XorbChunkSequenceHeader};
+
+/// The header and the footer of a shard.
+///
+/// Calls that read file sections take the version from the header. One that was read has version 2
+/// or 3; one that was made by hand with any other number is taken for version 3.
+#[derive(Clone, Copy, Default, Debug, PartialEq, Eq)]
+pub struct MDBShardInfo {
+    pub header: MDBShardFileHeader,
+    pub metadata: MDBShardFileFooter,
+}
+
+impl MDBShardInfo {
+    /// Reads the header at the front of the source and the footer in its last 200 bytes. Does not
+    /// allocate.
+    ///
+    /// `ShardVersion` if the tag differs, the header's version is neither 2 nor 3 or the footer's
+    /// is not 1, `UnexpectedEof` if the source has too few bytes. Any other error is the source's.
+    pub fn load_from_reader<S: ShardSource>(alloc: Global, source: &mut S) -> Result<Self>
+        ensures read { MatchResult result (Loads (S.meaning source.old) (S.meaning source.new))
+            (LoadFails (S.meaning source.old) (S.meaning source.new)) }
+        ensures ends { (info : MDBShardInfo) → HasHeaderAndFooter (S.meaning source.old).bytes info
+            → MatchResult result (λ found. found ≡ info)
+            (DeviceFailure (S.meaning source.old) (S.meaning source.new)) }
+        ensures written { (version : FormatVersion) → (s : Shard) → (expiry : Option ℕ) → IsShard s
+            → IfSome expiry (λ e. e < 2 ^ 64)
+            → (S.meaning source.old).bytes ≡ layout_in version s expiry
+            → MatchResult result (λ info. info ≡ info_value_in version s expiry)
+            (DeviceFailure (S.meaning source.old) (S.meaning source.new)) }
+    {
+        read_ends(alloc, source)
+    }
+
+    /// Writes a shard in version 3: header, sections, tables and footer. The expiry is a timestamp
+    /// in seconds, or none. Returns the header and the footer, as `load_from_reader` reads them
+    /// from these bytes.
+    ///
+    /// The error is the writer's, or `OutOfMemory` if an allocation fails.
+    pub fn serialize_from<W: Write>(
+        alloc: Global,
+        writer: &mut W,
+        shard: &MDBInMemoryShard,
+        expiry: Option<u64>,
+    ) -> Result<Self>
+        ensures bytes { OnOk result
+            (Appends (W.contents writer.old) (W.contents writer.new)
+            (layout shard.now.content expiry)) }
+        ensures info { IfOk result (λ info. info ≡ info_value shard.now.content expiry) }
+        ensures widths { IfOk result (λ info. FitsFooter info.metadata) }
+        ensures shard { IfOk result (λ _. IsShard shard.now.content) }
+        ensures causes { IfErr result IsWriteError }
+    {
+        write_shard(alloc, writer, shard, &LayoutOptions::plain(expiry))
+    }
+
+    /// Writes a shard as `serialize_from` does, but in version 2, which has no auxiliary rows.
+    ///
+    /// `InvalidArguments` if a file has one, and then nothing is written. Else the error is the
+    /// writer's, or `OutOfMemory` if an allocation fails.
+    pub fn serialize_from_v2<W: Write>(
+        alloc: Global,
+        writer: &mut W,
+        shard: &MDBInMemoryShard,
+        expiry: Option<u64>,
+    ) -> Result<Self>
+        ensures bytes { OnOk result
+            (Appends (W.contents writer.old) (W.contents writer.new)
+            (layout_in FormatVersion.V2 shard.now.content expiry)) }
+        ensures info { IfOk result
+            (λ info. info ≡ info_value_in FormatVersion.V2 shard.now.content expiry) }
+        ensures widths { IfOk result (λ info. FitsFooter info.metadata) }
+        ensures shard { IfOk result (λ _. IsShard shard.now.content) }
+        ensures files { IfOk result (λ _. has_aux_rows shard.now.content ≡ false) }
+        ensures refused { IsTrue (has_aux_rows shard.now.content)
+            → IsErrAnd result (λ e. e ≡ CoreError.InvalidArguments) × (writer.new ≡ writer.old) }
+        ensures causes { IfErr result
+            (λ e. IsWriteError e
+            ⊎ ((e ≡ CoreError.InvalidArguments) × IsTrue (has_aux_rows shard.now.content))) }
+    {
+        if shard.has_aux_rows() {
+            return Err(CoreError::InvalidArguments);
+        }
+        let options = LayoutOptions {
+            version: FormatVersion::V2,
+            ..LayoutOptions::plain(expiry)
+        };
+        write_shard(alloc, writer, shard, &options)
+    }
+
+    /// The number of rows of the file table, 0 if the shard has none.
+    pub fn num_file_entries(&self) -> u64
+        ensures { result ≡ self.now.metadata.file_lookup_num_entry }
+    {
+        self.metadata.file_lookup_num_entry
+    }
+
+    /// The size of the shard, in bytes: the footer's offset and its size. `InvalidShard` if it does
+    /// not fit `u64`.
+    pub fn num_bytes(&self, alloc: Global) -> Result<u64>
+        ensures { MatchResult result (λ n. n ≡ self.now.metadata.footer_offset + 200)
+            (λ e. IsBareInvalidShard e × (2 ^ 64 ≤ self.now.metadata.footer_offset + 200)) }
+    {
+        match self.metadata.footer_offset.checked_add(FOOTER_SIZE) {
+            Some(bytes) => Ok(bytes),
+            None => Err(CoreError::InvalidShard(String::new(alloc))),
+        }
+    }
+
+    /// Reads all records of the file section, in order.
+    ///
+    /// `UnexpectedEof` if the source ends before the bookend, `InvalidShard` if the shard's version
+    /// does not have a record's header or the rows pass 4294967295, `OutOfMemory` if an allocation
+    /// fails. Any other error is the source's.
+    pub fn read_all_file_info_sections<S: ShardSource>(
+        &self,
+        alloc: Global,
+        source: &mut S,
+    ) -> Result<Vec<MDBFileInfo>>
+        ensures read { ReadsFiles self.now (S.meaning source.old) (S.meaning source.new) result }
+        ensures written { ReadsOfShard (λ s. finite.values s.files) (S.meaning source.old)
+            (S.meaning source.new) self.now result }
+    {
+        let version = self.header.format_version();
+        read_section_at(alloc, source, version, self.metadata.file_info_offset)
+    }
+
+    /// Reads all headers of the xorb section, in order, each with its offset in the source, and no
+    /// chunks.
+    ///
+    /// `UnexpectedEof` if the source ends before the bookend, `InvalidShard` if the rows pass
+    /// 4294967295, `OutOfMemory` if an allocation fails. Any other error is the source's.
+    pub fn read_all_xorb_blocks<S: ShardSource>(
+        &self,
+        alloc: Global,
+        source: &mut S,
+    ) -> Result<Vec<(XorbChunkSequenceHeader, u64)>>
+        ensures read { MatchResult result
+            (λ found. ReadsXorbHeaders (S.meaning source.old) (S.meaning source.new)
+            self.now.metadata.xorb_info_offset found.items)
+            (SectionFails xorb_records (S.meaning source.old) (S.meaning source.new)
+            self.now.metadata.xorb_info_offset) }
+        ensures written { (s : Shard)
+            → IsBytesWithInfo s (S.meaning source.old).bytes self.now
+            → ReadsBack
+            (xorb_headers self.now.metadata.xorb_info_offset (finite.values s.xorbs))
+            (S.meaning source.old) (S.meaning source.new) result }
+    {
+        read_xorb_headers(alloc, source, self.metadata.xorb_info_offset)
+    }
+
+    /// Reads all records of the xorb section, in order.
+    ///
+    /// `UnexpectedEof` if the source ends before the bookend, `InvalidShard` if the rows pass
+    /// 4294967295, `OutOfMemory` if an allocation fails. Any other error is the source's.
+    pub fn read_all_xorb_blocks_full<S: ShardSource>(
+        &self,
+        alloc: Global,
+        source: &mut S,
+    ) -> Result<Vec<MDBXorbInfo>>
+        ensures read { ReadsXorbs self.now (S.meaning source.old) (S.meaning source.new) result }
+        ensures written { ReadsOfShard (λ s. finite.values s.xorbs) (S.meaning source.old)
+            (S.meaning source.new) self.now result }
+    {
+        let offset = self.metadata.xorb_info_offset;
+        read_section_at(alloc, source, FormatVersion::V3, offset)
+    }
+}
+
+// Writes a shard with layout options: header, sections, tables and footer.
+fn write_shard<W: Write>(
+    alloc: Global,
+    writer: &mut W,
+    shard: &MDBInMemoryShard,
+    options: &LayoutOptions,
+) -> Result<MDBShardInfo>
+    ensures bytes { OnOk result
+        (Appends (W.contents writer.old) (W.contents writer.new)
+        (layout_of (finite.values shard.now.content.files)
+        (finite.values shard.now.content.xorbs) options.now)) }
+    ensures info { IfOk result
+        (λ info. info ≡ info_of (finite.values shard.now.content.files)
+        (finite.values shard.now.content.xorbs) options.now) }
+    ensures widths { IfOk result (λ info. FitsFooter info.metadata) }
+    ensures shard { IfOk result (λ _. IsShard shard.now.content) }
+    ensures causes { IfErr result IsWriteError }
+{
+    let header = MDBShardFileHeader::of_version(options.version);
+    header.serialize(writer)?;
+    let files: WrittenFiles = write_values(alloc, writer, shard.file_content())?;
+    let xorbs: WrittenXorbs = write_values(alloc, writer, shard.xorb_content())?;
+    let metadata = write_end(writer, &files, xorbs, options)?;
+    Ok(MDBShardInfo { header, metadata })
+}
+
+// Reads the header at the front and the footer at the end.
+fn read_ends<S: ShardSource>(alloc: Global, source: &mut S) -> Result<MDBShardInfo>
+    ensures { MatchResult result (Loads (S.meaning source.old) (S.meaning source.new))
+        (LoadFails (S.meaning source.old) (S.meaning source.new)) }
+{
+    source.seek_to(0)?;
+    let header = read_header(alloc, source)?;
+    let length = source.length()?;
+    if length < FOOTER_SIZE {
+        return Err(CoreError::Io(io::Error::from(ErrorKind::UnexpectedEof)));
+    }
+    source.seek_to(length - FOOTER_SIZE)?;
+    let metadata = read_footer(alloc, source)?;
+    Ok(MDBShardInfo { header, metadata })
+}
+
+/// Reads a header from the source's position on.
+#[tactic(auto, unfolding(crate::specs::Write::Layout::shard_header_bytes))]
+pub(crate) fn read_header<S: ShardSource>(
+    alloc: Global,
+    source: &mut S,
+) -> Result<MDBShardFileHeader>
+    ensures read { IfOk result
+        (λ h. ReadsBytes (S.meaning source.old) (S.meaning source.new) (shard_header_bytes h)) }
+    ensures known { IfOk result
+        (λ h. (h.tag ≡ header_tag) × IsVersion h.version × (h.footer_size < 2 ^ 64)) }
+    ensures refused { IfErr result
+        (PartFails HasUnsupportedHeader EndsInHeader 48 (S.meaning source.old)
+        (S.meaning source.new)) }
+{
+    let mut tag = [0u8; 32];
+    read_full(source, &mut tag)?;
+    check_tag(alloc, &tag)?;
+    let mut rest = [0u8; 16];
+    read_full(source, &mut rest)?;
+    MDBShardFileHeader::after_tag(alloc, &rest)
+}
+
+// Reads a footer from the source's position on.
+fn read_footer<S: ShardSource>(alloc: Global, source: &mut S) -> Result<MDBShardFileFooter>
+    ensures read { IfOk result
+        (λ f. ReadsBytes (S.meaning source.old) (S.meaning source.new) (shard_footer_bytes f)) }
+    ensures known { IfOk result (λ f. (f.version ≡ 1) × FitsFooter f) }
+    ensures refused { IfErr result
+        (PartFails HasUnsupportedFooter EndsInFooter 200 (S.meaning source.old)
+        (S.meaning source.new)) }
+{
+    let mut version = [0u8; 8];
+    read_full(source, &mut version)?;
+    check_version(alloc, &version)?;
+    let mut rest = [0u8; 192];
+    read_full(source, &mut rest)?;
+    Ok(MDBShardFileFooter::after_version(&rest))
+}

@@ -1,0 +1,39 @@
+//! What is written of a shard beside its records.
+
+ghost use Rattle.std.specs.Prelude.{◌≡◌};
+ghost use Rattle.xet_shards.specs.Write.Layout.{plain_options};
+
+use xet_base::merklehash::HMACKey;
+use xet_records::record_reader::FormatVersion;
+
+/// The version, the lookup tables that are written, the key of the chunk hashes, and two timestamps
+/// in seconds.
+#[derive(Clone, Copy, Debug, PartialEq, Eq)]
+pub struct LayoutOptions {
+    pub version: FormatVersion,
+    pub file_table: bool,
+    pub xorb_table: bool,
+    pub chunk_table: bool,
+    /// The key of the chunk hashes; if all zero, they are not keyed.
+    pub key: HMACKey,
+    pub creation: u64,
+    /// In seconds; `u64::MAX` for no expiry, 0 in a minimal shard without one.
+    pub expiry: u64,
+}
+
+impl LayoutOptions {
+    /// Version 3, all tables, no key, creation 0, and an expiry, or `u64::MAX` if there is none.
+    pub fn plain(expiry: Option<u64>) -> LayoutOptions
+        ensures { result ≡ plain_options expiry }
+    {
+        LayoutOptions {
+            version: FormatVersion::V3,
+            file_table: true,
+            xorb_table: true,
+            chunk_table: true,
+            key: HMACKey::default(),
+            creation: 0,
+            expiry: expiry.unwrap_or(u64::MAX),
+        }
+    }
+}

@@ -1,0 +1,149 @@
+//! Lookup of one file on the bytes of a shard.
+
+ghost use Rattle.std.specs.Prelude.{◌≡◌, ℕ, List, Option, MatchResult, OnOk, IfOk, IfErr, IfSome};
+ghost use Rattle.std.specs.FinMap as finite;
+ghost use Rattle.xet_base.specs.Table.{NoFailure};
+ghost use Rattle.xet_records.specs.declared.file_structs.MDBFileInfo.{MDBFileInfo};
+ghost use Rattle.xet_records.specs.declared.xorb_structs.MDBXorbInfo.{MDBXorbInfo};
+ghost use Rattle.xet_records.specs.FileRecord.{file_records, FitsItsHeader};
+ghost use Rattle.xet_shards.specs.Read.SectionReading.{files_of};
+ghost use Rattle.xet_shards.specs.Content.Shard.{Shard};
+ghost use Rattle.xet_shards.specs.Write.Layout.{LayoutOptions};
+ghost use Rattle.xet_shards.specs.Write.WithOptions.{IsBytesWithFileTable};
+ghost use Rattle.xet_shards.specs.Lookup.Lookup.{FindsStarts, FindsFileAmong, FindsInShard, file_table, LooksUpIndex, LooksUpFile, ReadsInfo, ReadInfoFails, VisitsSome, FindsRecord, FindRecordFails, LookupAnswer, LookupRefused};
+ghost use Rattle.xet_shards.specs.Write.WrittenShard.{IsBytesWithInfo};
+
+use crate::shard_format::ends::info::MDBShardInfo;
+use crate::shard_format::lookup::table_search::find_rows;
+use crate::shard_format::read::section_reader::read_record_at;
+use crate::utils::truncate_hash;
+use std::alloc::Global;
+use xet_base::error::{CoreError, Result};
+use xet_base::merklehash::MerkleHash;
+use xet_base::source::ShardSource;
+use xet_records::file_structs::MDBFileInfo;
+
+impl MDBShardInfo {
+    /// Looks in the file table for the first word of `hash`, and puts the row numbers of the
+    /// records that share it at the front of `dest`. Returns how many these are; entries of `dest`
+    /// past them are unchanged. Does not allocate.
+    ///
+    /// `TruncatedHashCollision` of the word if eight or more share it, `InvalidShard` if the
+    /// table's end does not fit `u64`, `UnexpectedEof` if the search reads past the end of the
+    /// source. Any other error is the source's.
+    pub fn get_file_info_index_by_hash<S: ShardSource>(
+        &self,
+        alloc: Global,
+        source: &mut S,
+        hash: &MerkleHash,
+        dest: &mut [u32; 8],
+    ) -> Result<usize>
+        ensures looks { LooksUpIndex (file_table self.now.metadata (S.meaning source.old))
+            hash.now.word0 dest.old dest.new (S.meaning source.old) (S.meaning source.new) result }
+        ensures with_options { (files : List MDBFileInfo) → (xorbs : List MDBXorbInfo) → (options : LayoutOptions)
+            → IsBytesWithFileTable files xorbs options (S.meaning source.old).bytes self.now
+            → FindsStarts file_records files hash.now.word0 dest.new (S.meaning source.old)
+            (S.meaning source.new) result }
+        ensures written { (s : Shard)
+            → IsBytesWithInfo s (S.meaning source.old).bytes self.now
+            → FindsStarts file_records (finite.values s.files) hash.now.word0 dest.new
+            (S.meaning source.old) (S.meaning source.new) result }
+    {
+        let start = self.metadata.file_lookup_offset;
+        let rows = self.metadata.file_lookup_num_entry;
+        find_rows(alloc, source, start, rows, truncate_hash(hash), dest)
+    }
+
+    /// Reads the record at a row of the file section.
+    ///
+    /// `InvalidShard` if the row's offset does not fit `u64`, the shard's version does not have the
+    /// record's header, or the rows after it do not fit `u32`; `InternalError` if there is a
+    /// bookend at the row, `UnexpectedEof` if the source ends before the record does, `OutOfMemory`
+    /// if an allocation fails. Any other error is the source's.
+    pub fn read_file_info<S: ShardSource>(
+        &self,
+        alloc: Global,
+        source: &mut S,
+        row: u32,
+    ) -> Result<MDBFileInfo>
+        ensures { MatchResult result
+            (ReadsInfo (files_of self.now) self.now.metadata.file_info_offset row
+            (S.meaning source.old) (S.meaning source.new))
+            (ReadInfoFails (files_of self.now) self.now.metadata.file_info_offset row
+            (S.meaning source.old) (S.meaning source.new)) }
+    {
+        let version = self.header.format_version();
+        read_record_at(alloc, source, version, self.metadata.file_info_offset, row)
+    }
+
+    /// Looks for the file with this hash: the record, or `None`.
+    ///
+    /// `TruncatedHashCollision` if eight or more files share the first word of the hash. Else the
+    /// errors of [`MDBShardInfo::get_file_info_index_by_hash`] and
+    /// [`MDBShardInfo::read_file_info`].
+    pub fn get_file_reconstruction_info<S: ShardSource>(
+        &self,
+        alloc: Global,
+        source: &mut S,
+        hash: &MerkleHash,
+    ) -> Result<Option<MDBFileInfo>>
+        ensures looks { LooksUpFile self.now hash.now (S.meaning source.old) (S.meaning source.new)
+            result }
+        ensures fits { IfOk result (λ found. IfSome found FitsItsHeader) }
+        ensures with_options { (files : List MDBFileInfo) → (xorbs : List MDBXorbInfo) → (options : LayoutOptions)
+            → IsBytesWithFileTable files xorbs options (S.meaning source.old).bytes self.now
+            → FindsFileAmong files hash.now (S.meaning source.old) (S.meaning source.new) result }
+        ensures written { (s : Shard)
+            → IsBytesWithInfo s (S.meaning source.old).bytes self.now
+            → FindsInShard s hash.now (S.meaning source.old) (S.meaning source.new) result }
+    {
+        look_up(self, alloc, source, hash)
+    }
+}
+
+// Reads the records that the file table has for the hash's first word.
+fn look_up<S: ShardSource>(
+    info: &MDBShardInfo,
+    alloc: Global,
+    source: &mut S,
+    hash: &MerkleHash,
+) -> Result<Option<MDBFileInfo>>
+    ensures read { MatchResult result
+        (FindsRecord (files_of info.now) (file_table info.now.metadata (S.meaning source.old))
+        info.now.metadata.file_info_offset hash.now (S.meaning source.old) (S.meaning source.new))
+        (FindRecordFails (files_of info.now) (file_table info.now.metadata (S.meaning source.old))
+        info.now.metadata.file_info_offset hash.now (S.meaning source.old) (S.meaning source.new)) }
+    ensures no_failure { OnOk result (NoFailure (S.meaning source.old) (S.meaning source.new)) }
+    ensures kept { (S.meaning source.new).bytes ≡ (S.meaning source.old).bytes }
+{
+    let mut rows = [0; 8];
+    let found = info.get_file_info_index_by_hash(alloc, source, hash, &mut rows)?;
+    first_with_hash(info, alloc, source, hash, &rows[..found])
+}
+
+// Reads the records at these rows of the file section up to the first with this hash.
+fn first_with_hash<S: ShardSource>(
+    info: &MDBShardInfo,
+    alloc: Global,
+    source: &mut S,
+    hash: &MerkleHash,
+    rows: &[u32],
+) -> Result<Option<MDBFileInfo>>
+    ensures answer { IfOk result
+        (λ answer. LookupAnswer (files_of info.now) (S.meaning source.old).bytes
+        info.now.metadata.file_info_offset hash.now answer rows.now) }
+    ensures refused { IfErr result
+        (λ e. LookupRefused (files_of info.now) info.now.metadata.file_info_offset
+        (S.meaning source.old) (S.meaning source.new) e rows.now) }
+    ensures no_failure { OnOk result (NoFailure (S.meaning source.old) (S.meaning source.new)) }
+    ensures visits { VisitsSome (files_of info.now) 1 info.now.metadata.file_info_offset rows.now
+        (S.meaning source.old) (S.meaning source.new) }
+{
+    for row in rows {
+        let file_info = info.read_file_info(alloc, source, *row)?;
+        if file_info.metadata.file_hash == *hash {
+            return Ok(Some(file_info));
+        }
+    }
+    Ok(None)
+}

@@ -1,0 +1,113 @@
+//! Lookups of xorbs and chunks in the tables of a shard: the rows at which their xorbs start.
+
+ghost use Rattle.std.specs.Prelude.{◌≡◌, ℕ, List, Option, true, ◌+◌, ◌≤◌, min, MatchResult, OnOk, IfOk, IfErr};
+ghost use Rattle.std.specs.FinMap as finite;
+ghost use Rattle.xet_base.specs.KeyedHash.{under_key};
+ghost use Rattle.xet_base.specs.Table.{IsSorted, NoFailure};
+ghost use Rattle.xet_records.specs.declared.file_structs.MDBFileInfo.{MDBFileInfo as File};
+ghost use Rattle.xet_records.specs.declared.xorb_structs.MDBXorbInfo.{MDBXorbInfo as Xorb};
+ghost use Rattle.xet_records.specs.XorbRecord.{xorb_records};
+ghost use Rattle.xet_shards.specs.Content.Shard.{Shard};
+ghost use Rattle.xet_shards.specs.Write.Layout.{LayoutOptions};
+ghost use Rattle.xet_shards.specs.Write.WithOptions.{Ascends, IsBytesWithOptions};
+ghost use Rattle.xet_shards.specs.Lookup.Lookup.{FindsStarts, Searches, xorb_table, chunk_lookup_table, IsRowAndIndex, LooksUpIndex, ReadsInfo, ReadInfoFails};
+ghost use Rattle.xet_shards.specs.Lookup.WrittenChunks.{FindsRows};
+ghost use Rattle.xet_shards.specs.Write.WrittenShard.{IsBytesWithInfo};
+
+use crate::shard_format::ends::info::MDBShardInfo;
+use crate::shard_format::lookup::table_search::{find_rows, search_table};
+use crate::shard_format::read::section_reader::read_record_at;
+use crate::utils::truncate_hash;
+use std::alloc::Global;
+use xet_base::error::Result;
+use xet_base::merklehash::MerkleHash;
+use xet_base::source::ShardSource;
+use xet_records::record_reader::FormatVersion;
+use xet_records::xorb_structs::MDBXorbInfo;
+
+impl MDBShardInfo {
+    /// Reads the record at a row of the xorb section.
+    ///
+    /// `InvalidShard` if the row's offset does not fit `u64`, or the rows after the record's header
+    /// do not fit `u32`; `InternalError` if there is a bookend at the row, `UnexpectedEof` if the
+    /// source ends before the record does, `OutOfMemory` if an allocation fails. Any other error is
+    /// the source's.
+    pub fn read_xorb_info<S: ShardSource>(
+        &self,
+        alloc: Global,
+        source: &mut S,
+        row: u32,
+    ) -> Result<MDBXorbInfo>
+        ensures { MatchResult result
+            (ReadsInfo xorb_records self.now.metadata.xorb_info_offset row (S.meaning source.old)
+            (S.meaning source.new))
+            (ReadInfoFails xorb_records self.now.metadata.xorb_info_offset row
+            (S.meaning source.old) (S.meaning source.new)) }
+    {
+        let offset = self.metadata.xorb_info_offset;
+        read_record_at(alloc, source, FormatVersion::V3, offset, row)
+    }
+
+    /// Looks in the chunk table for the first word of a chunk's hash, under the shard's key if it
+    /// has one, and puts up to eight locations at the front of `dest`: the row at which a xorb
+    /// starts, and an index among its chunks. Returns how many these are; entries of `dest` past
+    /// them are unchanged. Eight are no error. Does not allocate.
+    ///
+    /// `InvalidShard` if the table's end does not fit `u64`, `UnexpectedEof` if the search reads
+    /// past the end of the source. Any other error is the source's.
+    pub fn get_xorb_info_index_by_chunk<S: ShardSource>(
+        &self,
+        alloc: Global,
+        source: &mut S,
+        unkeyed_hash: &MerkleHash,
+        dest: &mut [(u32, u32); 8],
+    ) -> Result<usize>
+        ensures looks { Searches (chunk_lookup_table self.now.metadata (S.meaning source.old))
+            (under_key self.now.metadata.chunk_hash_hmac_key unkeyed_hash.now).word0 IsRowAndIndex 8
+            dest.old dest.new (S.meaning source.old) (S.meaning source.new) result }
+        ensures with_options { (files : List File) → (xorbs : List Xorb) → (options : LayoutOptions)
+            → IsBytesWithOptions files xorbs options (S.meaning source.old).bytes self.now.metadata
+            → options.chunk_table ≡ true
+            → FindsRows xorbs (under_key options.key unkeyed_hash.now).word0 dest.old dest.new
+            (S.meaning source.old) (S.meaning source.new) result }
+        ensures written { (s : Shard) → IsBytesWithInfo s (S.meaning source.old).bytes self.now
+            → FindsRows (finite.values s.xorbs) unkeyed_hash.now.word0 dest.old dest.new
+            (S.meaning source.old) (S.meaning source.new) result }
+    {
+        let start = self.metadata.chunk_lookup_offset;
+        let rows = self.metadata.chunk_lookup_num_entry;
+        let word = truncate_hash(&self.keyed_chunk_hash(unkeyed_hash));
+        search_table::<(u32, u32), S>(alloc, source, start, rows, word, dest)
+    }
+
+    /// Looks in the xorb table for the first word of `hash`, and puts the row numbers of the xorbs
+    /// that share it at the front of `dest`. Returns how many these are; entries of `dest` past
+    /// them are unchanged. Does not allocate.
+    ///
+    /// `TruncatedHashCollision` of the word if eight or more share it, `InvalidShard` if the
+    /// table's end does not fit `u64`, `UnexpectedEof` if the search reads past the end of the
+    /// source. Any other error is the source's.
+    pub fn get_xorb_info_index_by_hash<S: ShardSource>(
+        &self,
+        alloc: Global,
+        source: &mut S,
+        hash: &MerkleHash,
+        dest: &mut [u32; 8],
+    ) -> Result<usize>
+        ensures looks { LooksUpIndex (xorb_table self.now.metadata (S.meaning source.old))
+            hash.now.word0 dest.old dest.new (S.meaning source.old) (S.meaning source.new) result }
+        ensures with_options { (files : List File) → (xorbs : List Xorb) → (options : LayoutOptions)
+            → IsBytesWithOptions files xorbs options (S.meaning source.old).bytes self.now.metadata
+            → Ascends xorb_records xorbs → options.xorb_table ≡ true
+            → FindsStarts xorb_records xorbs hash.now.word0 dest.new (S.meaning source.old)
+            (S.meaning source.new) result }
+        ensures written { (s : Shard)
+            → IsBytesWithInfo s (S.meaning source.old).bytes self.now
+            → FindsStarts xorb_records (finite.values s.xorbs) hash.now.word0 dest.new
+            (S.meaning source.old) (S.meaning source.new) result }
+    {
+        let start = self.metadata.xorb_lookup_offset;
+        let rows = self.metadata.xorb_lookup_num_entry;
+        find_rows(alloc, source, start, rows, truncate_hash(hash), dest)
+    }
+}

@@ -1,0 +1,113 @@
+//! What is collected while the sections of a shard are written.
+
+ghost use Rattle.std.specs.Prelude.{◌≡◌, ◌≢◌, ℕ, ◌+◌, ◌*◌, ◌≤◌, List, [], ◌∷◌, ◌++◌, OnOk, IfErr, MatchResult, IsTrue, ◌↔◌};
+ghost use Rattle.std.specs.Io.KnownBytes.{Appends};
+ghost use Rattle.xet_base.specs.Errors.{IsWriteError};
+ghost use Rattle.xet_base.specs.Hash.{all_ones};
+ghost use Rattle.xet_records.specs.Copying.{CopyFails};
+ghost use Rattle.xet_shards.specs.Write.Section.{total_rows};
+ghost use Rattle.xet_shards.specs.Write.Copying.{CopiesRecord};
+ghost use Rattle.xet_records.specs.Limits.{MAX_ROWS};
+
+use crate::shard_format::write::xorb_writer::ChunkTableRow;
+use std::alloc::Global;
+use std::io::Write;
+use xet_base::error::Result;
+use xet_base::input::ByteInput;
+use xet_records::record_reader::SectionRecord;
+use xet_records::row_copier::CopyResult;
+
+/// What is collected while a section is written, of files or of xorbs.
+pub trait WrittenSection {
+    type Record: SectionRecord;
+
+    // it has the rows that its header announces
+    ghost is_whole: { Self.Record → Type 0 };
+
+    // these records were written
+    ghost has_written: { Self → List Self.Record → Type 0 };
+
+    // the rows written so far
+    ghost rows: { Self → ℕ };
+
+    /// Before the first record.
+    fn new(alloc: Global) -> Self
+        ensures { has_written result [] };
+
+    /// Whether so many rows more fit the section.
+    fn has_room(&self, more: u64) -> bool
+        ensures { IsTrue result ↔ (rows self.now + more ≤ MAX_ROWS) };
+
+    /// Adds and writes the next record. The error is the writer's, or `OutOfMemory` if an
+    /// allocation fails.
+    fn write<W: Write>(&mut self, writer: &mut W, next: &Self::Record) -> Result<()>
+        requires whole { is_whole next.now }
+        requires rows { rows self.old + Self.Record.kind.row_count next.now ≤ MAX_ROWS }
+        ensures appended { OnOk result
+            (Appends (W.contents writer.old) (W.contents writer.new)
+            (Self.Record.kind.record_bytes next.now)) }
+        ensures written { OnOk result
+            ((before : List Self.Record) → has_written self.old before
+            → has_written self.new (before ++ next.now ∷ [])) }
+        ensures causes { IfErr result IsWriteError };
+
+    /// Adds and writes the record of a header that was read, each row after it as it is read, as
+    /// reading returns it. The failure is the input's, `UnexpectedEof` if fewer rows are left; or
+    /// the output's, `OutOfMemory` if an allocation fails.
+    fn copy<M, I: ByteInput<M>, W: Write>(
+        &mut self,
+        input: &mut I,
+        writer: &mut W,
+        header: <Self::Record as SectionRecord>::Header,
+    ) -> CopyResult<()>
+        requires is_record { Self.Record.kind.hash_of header ≢ all_ones }
+        requires fits { Self.Record.kind.Fits header }
+        requires rows { rows self.old + (1 + Self.Record.kind.rows_after header) ≤ MAX_ROWS }
+        ensures { MatchResult result
+            (λ _. CopiesRecord Self.Record.kind header (I.reads input.old input.new)
+            (W.contents writer.old) (W.contents writer.new) (has_written self.old)
+            (has_written self.new))
+            (CopyFails I.reads I.fails input.old input.new
+            (48 * Self.Record.kind.rows_after header)) };
+
+    /// Writes the bookend, which ends the section. The error is the writer's.
+    fn write_bookend<W: Write>(writer: &mut W) -> Result<()>
+        ensures bytes { OnOk result
+            (Appends (W.contents writer.old) (W.contents writer.new)
+            (Self.Record.kind.header_bytes Self.Record.kind.bookend)) }
+        ensures causes { IfErr result IsWriteError };
+
+    ghost counts_rows: { (written : Self) (records : List Self.Record)
+        → has_written written records → rows written ≡ total_rows Self.Record.kind records };
+}
+
+/// The records written so far: how many there are, their rows, and the bytes of their lookup table.
+#[derive(Drop)]
+pub struct RecordTable {
+    pub records: u64,
+    pub rows: u64,
+    pub bytes: Vec<u8>,
+    ghost records_fit: { records ≤ rows },
+    ghost rows_fit: { rows ≤ MAX_ROWS },
+}
+
+/// The files written so far: their lookup table, and their sizes in sum.
+#[derive(Drop)]
+pub struct WrittenFiles {
+    pub table: RecordTable,
+    pub materialized_bytes: u64,
+    ghost bytes_fit: { materialized_bytes ≤ 4294967295 * table.rows },
+}
+
+/// The xorbs written so far: their lookup table, the rows of the chunk table, in the order of the
+/// section, if they are wanted, and the sums of their sizes, unpacked and on disk, by their
+/// headers.
+#[derive(Drop)]
+pub struct WrittenXorbs {
+    pub table: RecordTable,
+    pub chunk_rows: Vec<ChunkTableRow>,
+    pub stored_bytes: u64,
+    pub stored_bytes_on_disk: u64,
+    ghost bytes_fit: { stored_bytes ≤ 4294967295 * table.rows },
+    ghost bytes_on_disk_fit: { stored_bytes_on_disk ≤ 4294967295 * table.rows },
+}
