@@ -39,7 +39,8 @@ use Rattle.shard_bytes.specs.declared.check.Part.{Part}
 use Rattle.shard_bytes.specs.declared.check.Part.TheVariants.{Header, FileSection, XorbSection, FileTable, XorbTable, ChunkTable, Footer}
 use Rattle.shard_bytes.specs.declared.check.Finding.{Finding}
 use Rattle.shard_bytes.specs.declared.check.Finding.TheVariants.{Unsupported, TooShort, Cut, Refused, OutOfOrder, Differs, Size}
-use Rattle.shard_bytes.specs.Checking.{IsWhole, IsReadAs, IsOutOfOrder, IsSamePart, IsFinding, IsReport, Adds, IsUnreadable, AddsDisorder, AddsPart, AddsSize, IsDifference, IsSame, Compares, AddsDifferences}
+use Rattle.shard_bytes.specs.Checking.{IsWhole, IsReadAs, IsOutOfOrder, IsSamePart, IsFinding}
+use Rattle.shard_bytes.specs.Steps.Checking.{IsReport, Adds, IsUnreadable, AddsDisorder, AddsPart, AddsSize, IsDifference, IsSame, Compares, AddsDifferences}
 
 -- what is known of a success, weakened
 pub if_ok : {T E : Type 0} (r : Result T E) (P Q : T → Type 0) → ((v : T) → P v → Q v) → IfOk r P → IfOk r Q

@@ -9,7 +9,8 @@ use Rattle.xet_core_structures.specs.KeyedExport.{ExportCase, ExportFails, Canno
 use Rattle.xet_core_structures.specs.View.{auxes_as_wanted}
 use Rattle.xet_core_structures.specs.Source.{FailedBy, bytes_left, moved}
 use Rattle.shard_bytes.specs.declared.export.Export.{Export}
-use Rattle.shard_bytes.specs.Exporting.{WritesExport, ExportsBytes, NotExported, RefusesExport}
+use Rattle.shard_bytes.specs.Exporting.{ExportsBytes, NotExported, RefusesExport}
+use Rattle.shard_bytes.specs.Steps.Exporting.{WritesExport}
 use Rattle.shard_bytes.proofs.Combining.{in_memory}
 use Rattle.shard_bytes.proofs.MemoryErrors.{from_memory, no_argument}
 use Rattle.xet_core_structures.specs.Errors.{IsWriteError}

@@ -7,7 +7,7 @@ use Rattle.xet_core_structures.specs.declared.set_operations.MergePlan.TheVarian
 use Rattle.xet_core_structures.specs.TwoShards.ByteResults.{UnitesBytes}
 use Rattle.xet_core_structures.specs.Trees.MergeTrees.{leaves, TreeWrites}
 use Rattle.xet_core_structures.specs.Records.Sizes.{bytes_at}
-use Rattle.xet_core_structures.proofs.Laws.UnionSizes.{bytes_of_union, bytes_of_tree, bytes_of_difference, bytes_of_repetition}
+use Rattle.xet_core_structures.proofs.LawProofs.UnionSizes.{bytes_of_union, bytes_of_tree, bytes_of_difference, bytes_of_repetition}
 use Rattle.shard_bytes.specs.declared.combine.Operation.{Operation}
 use Rattle.shard_bytes.specs.declared.combine.Operation.TheVariants.{Union, Difference}
 use Rattle.shard_bytes.specs.Combining.{IsResultOf, CombinesBytes}

@@ -14,7 +14,8 @@ use Rattle.xet_core_structures.specs.SectionReading.{IsSection, ReadsSection, fi
 use Rattle.xet_core_structures.specs.Source.{Source, FailedBy, bytes_left, moved}
 use Rattle.xet_shards.specs.Export.Rewriting.{HasSections, WritesAgain}
 use Rattle.xet_shards.proofs.Read.WholeSections.{same_files}
-use Rattle.shard_bytes.specs.Versions.{have_aux_rows, options_in_2, IsInVersion2, NotInVersion2, RefusesVersion2, FindsAuxRows}
+use Rattle.shard_bytes.specs.Versions.{have_aux_rows, options_in_2, IsInVersion2, NotInVersion2, RefusesVersion2}
+use Rattle.shard_bytes.specs.Steps.Versions.{FindsAuxRows}
 use Rattle.shard_bytes.proofs.Checking.{header_in}
 use Rattle.shard_bytes.proofs.MemoryErrors.{from_memory}
 use Rattle.shard_bytes.proofs.Reading.{source_of}

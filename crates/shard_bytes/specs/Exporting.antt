@@ -1,5 +1,5 @@
 -- What a keyed export of a shard's bytes is, and why there is none.
-use Rattle.std.specs.Prelude.{◌≡◌, ◌⊎◌, ℕ, List, drop, Option}
+use Rattle.std.specs.Prelude.{◌≡◌, ◌⊎◌, ℕ, List, drop}
 use Rattle.xet_core_structures.specs.declared.error.CoreError.{CoreError}
 use Rattle.xet_core_structures.specs.declared.error.CoreError.TheVariants.{InvalidArguments}
 use Rattle.xet_core_structures.specs.declared.file_structs.MDBFileInfo.{MDBFileInfo}
@@ -8,19 +8,12 @@ use Rattle.xet_core_structures.specs.declared.shard_format.MDBShardInfo.{MDBShar
 use Rattle.xet_core_structures.specs.Ends.{HasHeader, HasHeaderAndFooter}
 use Rattle.xet_core_structures.specs.FileRecord.{file_records_in}
 use Rattle.xet_core_structures.specs.XorbRecord.{xorb_records}
-use Rattle.xet_core_structures.specs.KeyedExport.{ExportsWith, export_options, exported, xorbs_after, ExportCase, CannotExport}
+use Rattle.xet_core_structures.specs.KeyedExport.{export_options, exported, xorbs_after, ExportCase, CannotExport}
 use Rattle.xet_core_structures.specs.SectionReading.{IsSection}
-use Rattle.xet_core_structures.specs.Source.{Source}
 use Rattle.xet_core_structures.specs.View.{auxes_as_wanted}
 use Rattle.xet_core_structures.specs.TwoShards.ByteResults.{LoadRefusal}
 use Rattle.shard_bytes.specs.declared.export.Export.{Export}
 use Rattle.shard_bytes.specs.Outcomes.{InMemory}
-
--- the export that is asked for was made of a source
-abbrev pub WritesExport : Export → Source → Source → Option (List ℕ) → Option (List ℕ) → ℕ → Type 0
-WritesExport x =
-    ExportsWith x.parts.aux_ext
-    (export_options x.key x.now x.valid_seconds x.parts.files x.parts.xorb_table x.parts.chunk_table)
 
 -- the bytes have a footer with which the shard can be exported, a header and both sections, and
 -- what these hold is written with the layout options that is asked for, with the files' auxiliary

@@ -10,5 +10,6 @@ pub mod Minimal
 pub mod Outcomes
 pub mod Query
 pub mod Sizes
+pub mod Steps
 pub mod Versions
 pub mod Walking

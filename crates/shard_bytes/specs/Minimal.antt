@@ -52,10 +52,6 @@ abbrev pub Accepts : Filter → DataHash → Type 0
 Accepts all_hashes hash = ⊤
 Accepts (listed hashes) hash = Contains hashes.hashes.items hash
 
--- a filter accepts the hashes of the xorbs that a subset keeps
-abbrev pub FiltersAs : KeptXorbs → Filter → Type 0
-FiltersAs kept filter = (hash : DataHash) → Accepts filter hash ↔ Keeps kept hash
-
 -- one of the xorbs has the hash
 abbrev pub HasXorb : MinimalShard → DataHash → Type 0
 HasXorb m hash = (x : MDBXorbInfo) × Contains m.xorbs x × (xorb_hash_of x ≡ hash)

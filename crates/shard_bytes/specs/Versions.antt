@@ -1,5 +1,5 @@
 -- A shard's bytes in version 2 of the format, from those in either version.
-use Rattle.std.specs.Prelude.{◌≡◌, ◌⊎◌, ℕ, Bool, true, false, List, drop}
+use Rattle.std.specs.Prelude.{◌≡◌, ◌⊎◌, ℕ, Bool, true, false, List}
 use Rattle.std.specs.List.{list_any}
 use Rattle.xet_core_structures.specs.declared.error.CoreError.{CoreError}
 use Rattle.xet_core_structures.specs.declared.error.CoreError.TheVariants.{InvalidArguments}
@@ -7,11 +7,10 @@ use Rattle.xet_core_structures.specs.declared.file_structs.MDBFileInfo.{MDBFileI
 use Rattle.xet_core_structures.specs.declared.xorb_structs.MDBXorbInfo.{MDBXorbInfo}
 use Rattle.xet_core_structures.specs.declared.shard_format.MDBShardInfo.{MDBShardInfo}
 use Rattle.xet_core_structures.specs.TwoShards.ByteResults.{LoadRefusal}
-use Rattle.xet_core_structures.specs.Ends.{HasHeader, HasHeaderAndFooter}
-use Rattle.xet_core_structures.specs.FileRecord.{file_records_in, has_aux_ext}
+use Rattle.xet_core_structures.specs.Ends.{HasHeaderAndFooter}
+use Rattle.xet_core_structures.specs.FileRecord.{has_aux_ext}
 use Rattle.xet_core_structures.specs.KeyedExport.{ExportCase}
 use Rattle.xet_core_structures.specs.Layout.{layout_of}
-use Rattle.xet_core_structures.specs.SectionReading.{IsSection}
 use Rattle.xet_records.specs.declared.record_reader.FormatVersion.TheVariants.{V2}
 use Rattle.xet_shards.specs.declared.shard_writer.LayoutOptions.{LayoutOptions}
 use Rattle.xet_shards.specs.Export.Rewriting.{options_of}
@@ -54,10 +53,3 @@ NotInVersion2 bytes e =
 -- read, a section is not read, or a file has an auxiliary row
 abbrev pub RefusesVersion2 : List ℕ → CoreError → Type 0
 RefusesVersion2 bytes = InMemory (NotInVersion2 bytes)
-
--- it was found whether one of the files of the section after the header has an auxiliary row
-abbrev pub FindsAuxRows : List ℕ → Bool → Type 0
-FindsAuxRows bytes found =
-    (header : HasHeader bytes) × (files : List MDBFileInfo)
-    × IsSection (file_records_in header.version) (drop 48 bytes) files
-    × (found ≡ have_aux_rows files)

@@ -1,13 +1,11 @@
 -- The record at a row of a section.
-use Rattle.std.specs.Prelude.{◌≡◌, ◌⊎◌, ℕ, ◌^◌, ◌≤◌, List, drop, Option, None, Some, Ok, Err}
+use Rattle.std.specs.Prelude.{◌⊎◌, ℕ, ◌^◌, ◌≤◌, List, drop, Option, None, Some}
 use Rattle.xet_core_structures.specs.declared.error.CoreError.{CoreError}
-use Rattle.xet_core_structures.specs.declared.error.CoreError.TheVariants.{InternalError}
 use Rattle.xet_core_structures.specs.declared.file_structs.MDBFileInfo.{MDBFileInfo}
 use Rattle.xet_core_structures.specs.declared.xorb_structs.MDBXorbInfo.{MDBXorbInfo}
 use Rattle.xet_core_structures.specs.declared.shard_format.MDBShardInfo.{MDBShardInfo}
 use Rattle.xet_core_structures.specs.TwoShards.ByteResults.{LoadRefusal}
 use Rattle.xet_core_structures.specs.Ends.{HasHeaderAndFooter}
-use Rattle.xet_core_structures.specs.Errors.{CoreResult}
 use Rattle.xet_core_structures.specs.Lookup.{RecordAt, row_at}
 use Rattle.xet_core_structures.specs.SectionReading.{SectionCase, BeginsWithBookend, BeginsRefused, EndsEarly, files_of}
 use Rattle.xet_core_structures.specs.Table.{IsBareInvalidShard}
@@ -58,9 +56,3 @@ abbrev pub RefusesXorbAt : List ℕ → ℕ → CoreError → Type 0
 RefusesXorbAt bytes row e =
     LoadRefusal bytes e
     ⊎ WithEnds bytes (λ info. NotAtRow xorb_records bytes info.metadata.xorb_info_offset row e)
-
--- what was read, where an `InternalError` means that there is none
-abbrev pub IsRead : {R : Type 0} → CoreResult R → CoreResult (Option R) → Type 0
-IsRead (Ok r) found = found ≡ Ok (Some r)
-IsRead (Err (InternalError text)) found = found ≡ Ok None
-IsRead (Err e) found = found ≡ Err e

@@ -9,7 +9,8 @@ ghost use Rattle.xet_core_structures.specs.Ends.{HasHeaderAndFooter};
 ghost use Rattle.xet_core_structures.specs.TwoShards.ByteResults.{LoadRefusal};
 ghost use Rattle.xet_core_structures.specs.Hash.{hash_cmp};
 ghost use Rattle.shard_bytes.specs.declared.check.Finding.{Finding};
-ghost use Rattle.shard_bytes.specs.Checking.{IsWhole, IsFinding, IsReport, IsUnloaded, IsUnreadable, IsOutOfOrder, IsSamePart, AddsPart, AddsSize, AddsDisorder, AddsDifferences, Compares};
+ghost use Rattle.shard_bytes.specs.Checking.{IsWhole, IsFinding, IsOutOfOrder, IsSamePart};
+ghost use Rattle.shard_bytes.specs.Steps.Checking.{IsReport, IsUnloaded, IsUnreadable, AddsPart, AddsSize, AddsDisorder, AddsDifferences, Compares};
 
 use crate::format::{Format, unsupported_for};
 use crate::load::load_bytes;

@@ -3,7 +3,8 @@
 ghost use Rattle.std.specs.Prelude.{◌≡◌, ◌⊎◌, IsErrAnd, MatchResult};
 ghost use Rattle.xet_core_structures.specs.declared.error.CoreError.{CoreError};
 ghost use Rattle.xet_core_structures.specs.KeyedExport.{ExportFails, CannotExport};
-ghost use Rattle.shard_bytes.specs.Exporting.{WritesExport, ExportsBytes, RefusesExport};
+ghost use Rattle.shard_bytes.specs.Exporting.{ExportsBytes, RefusesExport};
+ghost use Rattle.shard_bytes.specs.Steps.Exporting.{WritesExport};
 
 use crate::memory::in_memory;
 use crate::room::with_room;

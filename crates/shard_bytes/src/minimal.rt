@@ -6,7 +6,8 @@ ghost use Rattle.xet_core_structures.specs.Errors.{IsWriteError};
 ghost use Rattle.xet_core_structures.specs.MinimalShard.{WritesMinimalKept};
 ghost use Rattle.xet_core_structures.specs.Shard.{xorb_hash_of};
 ghost use Rattle.xet_core_structures.specs.View.{LacksVerification, IsIoOther};
-ghost use Rattle.shard_bytes.specs.Minimal.{HoldsMinimal, RefusesMinimal, MinimalBytes, RefusesMinimalBytes, Accepts, FiltersAs, AreLacked, LackXorbs, SubsetBytes, EligibleIn};
+ghost use Rattle.shard_bytes.specs.Minimal.{HoldsMinimal, RefusesMinimal, MinimalBytes, RefusesMinimalBytes, Accepts, AreLacked, LackXorbs, SubsetBytes, EligibleIn};
+ghost use Rattle.shard_bytes.specs.Steps.Minimal.{FiltersAs};
 ghost use Rattle.shard_bytes.specs.Outcomes.{InMemory};
 
 use crate::memory::in_memory;

@@ -3,7 +3,8 @@
 ghost use Rattle.std.specs.Prelude.{◌≡◌, IfErr, IfOk, MatchResult};
 ghost use Rattle.xet_core_structures.specs.declared.error.CoreError.{CoreError};
 ghost use Rattle.xet_core_structures.specs.Ends.{HasHeaderAndFooter};
-ghost use Rattle.shard_bytes.specs.Versions.{have_aux_rows, FindsAuxRows, IsInVersion2, RefusesVersion2};
+ghost use Rattle.shard_bytes.specs.Versions.{have_aux_rows, IsInVersion2, RefusesVersion2};
+ghost use Rattle.shard_bytes.specs.Steps.Versions.{FindsAuxRows};
 
 use crate::load::load_bytes;
 use crate::memory::in_memory;

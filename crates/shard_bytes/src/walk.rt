@@ -1,7 +1,8 @@
 //! Walking through a section of a shard, one record after another.
 
 ghost use Rattle.std.specs.Prelude.{◌≡◌, MatchResult};
-ghost use Rattle.shard_bytes.specs.Walking.{HasFileAt, RefusesFileAt, HasXorbAt, RefusesXorbAt, IsRead};
+ghost use Rattle.shard_bytes.specs.Walking.{HasFileAt, RefusesFileAt, HasXorbAt, RefusesXorbAt};
+ghost use Rattle.shard_bytes.specs.Steps.Walking.{IsRead};
 
 use std::alloc::Global;
 use xet_core_structures::error::{CoreError, Result};

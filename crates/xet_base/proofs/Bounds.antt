@@ -4,7 +4,7 @@ use Rattle.xet_base.specs.declared.interpolation_search.window.Window.{Window}
 use Rattle.std.specs.declared.io.Error.{Error}
 use Rattle.xet_base.specs.Source.{Source, Fails, moved}
 use Rattle.xet_base.specs.Table.{Table, row_offset, IsSorted, hits_below, hits, Bounded}
-use Rattle.xet_base.specs.Search.{ReadsKey, StopsWithin, IsRow, Counts, ReadsThrough, Runs}
+use Rattle.xet_base.specs.Steps.Search.{ReadsKey, StopsWithin, IsRow, Counts, ReadsThrough, Runs}
 use Rattle.xet_base.proofs.Progress.{AllSmaller, Searches}
 use Rattle.xet_base.proofs.Tables.{offset_of_row-add, hits_below-le, hits_below-none}
 use Rattle.xet_base.proofs.Course.{course_end}

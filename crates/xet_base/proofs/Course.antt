@@ -1,7 +1,7 @@
 -- The seeks of a search on a sorted table: how each turn shortens the window.
 use Rattle.std.proofs.Common.{◌≡◌, inl, inr, ℕ, ◌+◌, ◌-◌, ◌*◌, ◌/◌, ◌<◌, ◌≤◌, min, max, refl, arith, mul-le-mul_right}
 use Rattle.std.proofs.lemmas.Bool.{cases_lt}
-use Rattle.xet_base.specs.Probes.{guess_of, Around, AfterBelow, AfterAbove}
+use Rattle.xet_base.specs.Steps.Probes.{guess_of, Around, AfterBelow, AfterAbove}
 use Rattle.xet_base.proofs.Progress.{Shrinks, Chosen, Matching, Course}
 use Rattle.xet_base.proofs.Quarter.{left_below, left_above}
 use Rattle.xet_base.proofs.Probing.{guess_quotient, guess_most, below_within, above_within}

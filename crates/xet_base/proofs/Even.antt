@@ -4,7 +4,7 @@ use Rattle.std.proofs.lemmas.Bool.{cases_lt}
 use Rattle.std.proofs.Math.Nat.{lt-div-mul-add}
 use Rattle.xet_base.specs.declared.interpolation_search.window.Window.{Window}
 use Rattle.xet_base.specs.Table.{Table, even_step, IsEven}
-use Rattle.xet_base.specs.Probes.{guess_of, AroundKey, IsWhole, NarrowsBelow, NarrowsAbove, NarrowsEqual, Narrows, OnEven, KeepsEven}
+use Rattle.xet_base.specs.Steps.Probes.{guess_of, AroundKey, IsWhole, NarrowsBelow, NarrowsAbove, NarrowsEqual, Narrows, OnEven, KeepsEven}
 use Rattle.xet_base.proofs.Probing.{guess_quotient}
 
 -- the quotient q of the first guess, in a table of `all` - 1 keys that are s apart: q * s is not past the key

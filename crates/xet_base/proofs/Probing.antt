@@ -3,7 +3,7 @@ use Rattle.std.proofs.Common.{◌≡◌, inl, inr, ℕ, ◌+◌, ◌-◌, ◌*�
 use Rattle.std.proofs.lemmas.Bool.{cases_lt}
 use Rattle.std.proofs.Math.Nat.{lt-div-mul-add, add-mul}
 use Rattle.xet_base.specs.declared.interpolation_search.window.Window.{Window}
-use Rattle.xet_base.specs.Probes.{guess_of, AfterBelow, AfterAbove, NarrowsBelow, NarrowsAbove, NarrowsEqual}
+use Rattle.xet_base.specs.Steps.Probes.{guess_of, AfterBelow, AfterAbove, NarrowsBelow, NarrowsAbove, NarrowsEqual}
 
 -- the quotient that a guess takes, in a window of `all` rows with keys d apart, for a key k past the lower
 pub guess_quotient : (low low_key high high_key key k all d : ℕ) → low_key + k ≡ key → low + all ≡ high → low_key + d ≡ high_key → 0 < d

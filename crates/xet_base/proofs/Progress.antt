@@ -3,8 +3,8 @@ use Rattle.std.specs.Prelude.{◌≡◌, ◌⊎◌, ℕ, ◌+◌, ◌-◌, ◌*�
 use Rattle.xet_base.specs.declared.interpolation_search.window.Window.{Window}
 use Rattle.xet_base.specs.Source.{Source}
 use Rattle.xet_base.specs.Table.{Table, row_offset, key_at, HasKey, IsSorted, hits_below, hits, Finds, NoFailure, IsEven}
-use Rattle.xet_base.specs.Search.{IsRow, FindsFrom, Counts}
-use Rattle.xet_base.specs.Probes.{guess_of, AroundKey, OnEven}
+use Rattle.xet_base.specs.Steps.Search.{IsRow, FindsFrom, Counts}
+use Rattle.xet_base.specs.Steps.Probes.{guess_of, AroundKey, OnEven}
 
 -- the results are the values of rows from `from` to before `i`, and of rows from `to` on
 pub record FindsAround {V : Type 0} (t : Table) (key : ℕ) (Gives : List ℕ → V → Type 0) (from i to : ℕ) (old new : List V) (count : ℕ) : Type 0 where

@@ -6,8 +6,9 @@ use Rattle.std.specs.declared.result.Result.{Result}
 use Rattle.std.specs.declared.io.Error.{Error}
 use Rattle.xet_base.specs.Source.{Source, advanced, moved, next_bytes, FillFailure, FillFails}
 use Rattle.xet_base.specs.Bytes.{u64_from_bytes}
-use Rattle.xet_base.specs.Table.{Table, table_at, Answers, Finds, row_offset, key_at, NoFailure, TableFailure, ReadsCount}
-use Rattle.xet_base.specs.Search.{table_in, ReadsKey, StopsWithin}
+use Rattle.xet_base.specs.Table.{Table, table_at, Answers, Finds, row_offset, key_at, NoFailure, ReadsCount}
+use Rattle.xet_base.specs.Steps.Table.{TableFailure}
+use Rattle.xet_base.specs.Steps.Search.{table_in, ReadsKey, StopsWithin}
 use Rattle.xet_base.proofs.Tables.{offset_of_row-next, offset_of_row-le}
 
 -- the bytes of a row are within the table

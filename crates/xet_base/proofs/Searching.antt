@@ -3,8 +3,8 @@ use Rattle.std.proofs.Common.{◌≡◌, inl, inr, ℕ, ◌+◌, ◌-◌, ◌*�
 use Rattle.xet_base.specs.declared.interpolation_search.window.Window.{Window}
 use Rattle.xet_base.specs.Source.{Source}
 use Rattle.xet_base.specs.Table.{Table, row_offset, key_at, HasKey, IsSorted, hits_below, hits, NoFailure, even_step, IsEven}
-use Rattle.xet_base.specs.Search.{ReadsKey, IsRow, FindsFrom, Counts, Runs}
-use Rattle.xet_base.specs.Probes.{guess_of, IsWhole, NarrowsBelow, NarrowsAbove, NarrowsEqual, OnEven, KeepsEven}
+use Rattle.xet_base.specs.Steps.Search.{ReadsKey, IsRow, FindsFrom, Counts, Runs}
+use Rattle.xet_base.specs.Steps.Probes.{guess_of, IsWhole, NarrowsBelow, NarrowsAbove, NarrowsEqual, OnEven, KeepsEven}
 use Rattle.xet_base.proofs.Progress.{Matching, OnSorted, Searches}
 use Rattle.xet_base.proofs.Tables.{offset_of_row-add, offset_of_row-le, hits_below-hit, hits_below-le, keys_ascend, none_after}
 use Rattle.xet_base.proofs.Search.{serves_still, serves_moved, serves_advanced}

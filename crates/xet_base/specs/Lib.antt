@@ -5,8 +5,6 @@ pub mod Hex
 pub mod Input
 pub mod InputLaws
 pub mod KeyedHash
-pub mod Lanes
-pub mod Probes
-pub mod Search
 pub mod Source
+pub mod Steps
 pub mod Table

@@ -1,10 +1,8 @@
 -- A table of rows in the bytes of a source, each an eight byte key and a value of one width: the
 -- rows that hold a key, what a search may answer, and what it may cost.
-use Rattle.std.specs.Prelude.{◌≡◌, ◌≢◌, ◌⊎◌, ◌&&◌, ◌==◌, ℕ, zero, suc, ◌+◌, ◌-◌, ◌*◌, ◌/◌, ◌^◌, ◌<◌, ◌≤◌, ◌++◌, List, length, take, drop, map, All, AllPairs, nat_le, string_bytes, [], Some, Ok, Err, if◌then◌else◌}
+use Rattle.std.specs.Prelude.{◌≡◌, ◌≢◌, ◌⊎◌, ◌&&◌, ◌==◌, ℕ, zero, suc, ◌+◌, ◌-◌, ◌*◌, ◌/◌, ◌^◌, ◌<◌, ◌≤◌, ◌++◌, List, length, take, drop, map, All, AllPairs, nat_le, string_bytes, [], Ok, Err, if◌then◌else◌}
 use Rattle.std.specs.declared.result.Result.{Result}
-use Rattle.std.specs.IoError.{error_kind}
 use Rattle.std.specs.declared.io.Error.{Error}
-use Rattle.std.specs.declared.io.ErrorKind.TheVariants.{UnexpectedEof}
 use Rattle.xet_base.specs.Bytes.{u64_from_bytes}
 use Rattle.xet_base.specs.declared.error.CoreError.{CoreError}
 use Rattle.xet_base.specs.declared.error.CoreError.TheVariants.{InvalidShard}
@@ -110,14 +108,6 @@ pub record NoFailure (old new : Source) : Type 0 where
   pub bytes : new.bytes ≡ old.bytes
   pub failures : new.failures ≡ old.failures
   pub last_failure : new.last_failure ≡ old.last_failure
-
--- why rows were not read: the device failed, and the error is its own; or there are rows, and the
--- bytes end before the table does
-abbrev pub TableFailure : Table → Source → Source → Error → Type 0
-TableFailure t old new e =
-    ((new.failures ≡ old.failures + 1) × (new.last_failure ≡ Some e))
-    ⊎ ((new.failures ≡ old.failures) × (error_kind e ≡ UnexpectedEof) × (0 < t.rows)
-    × (length old.bytes < row_offset t t.rows))
 
 -- `InvalidShard` without a message
 abbrev pub IsBareInvalidShard : CoreError → Type 0

@@ -3,8 +3,9 @@
 ghost use Rattle.std.specs.Prelude.{◌≡◌, ◌+◌, ◌<◌, ◌≤◌, List, length, min, MatchResult, IfOk, OnOk, IfErr};
 ghost use Rattle.xet_base.specs.Source.{FillFails, next_bytes};
 ghost use Rattle.xet_base.specs.Bytes.{u64_from_bytes};
-ghost use Rattle.xet_base.specs.Table.{table_at, row_offset, hits_below, hits, IsSorted, Finds, FitsTable, NoFailure, TableFailure, SearchRefused, Bounded, ReadsCount, ActsAsReadFull, Answers, IsEven};
-ghost use Rattle.xet_base.specs.Search.{table_in, ReadsKey, ReadsValues, StopsWithin, IsRow, Kept, Extends, Counts, ReadsThrough, Runs};
+ghost use Rattle.xet_base.specs.Table.{table_at, row_offset, hits_below, hits, IsSorted, Finds, FitsTable, NoFailure, SearchRefused, Bounded, ReadsCount, ActsAsReadFull, Answers, IsEven};
+ghost use Rattle.xet_base.specs.Steps.Table.{TableFailure};
+ghost use Rattle.xet_base.specs.Steps.Search.{table_in, ReadsKey, ReadsValues, StopsWithin, IsRow, Kept, Extends, Counts, ReadsThrough, Runs};
 
 mod table_range;
 mod window;

@@ -2,7 +2,7 @@
 
 ghost use Rattle.std.specs.Prelude.{◌≡◌, ℕ, ◌+◌, ◌*◌, ◌<◌, ◌≤◌, [], ◌∷◌, length, slice_index};
 ghost use Rattle.xet_base.specs.KeyedHash.{add32, xor_rotate, mix, mix_columns, mix_diagonals, permuted, state_after, message_after, word_at, words_before, initial_state, message_of, digest, keyed_bytes};
-ghost use Rattle.xet_base.specs.Lanes.{words_in};
+ghost use Rattle.xet_base.specs.Steps.Lanes.{words_in};
 
 mod four;
 

@@ -2,4 +2,4 @@ pub mod Records
 pub mod TwoShards
 pub mod Trees
 pub mod Agreement
-pub mod Laws
+pub mod LawProofs

@@ -1,4 +1,3 @@
 -- Whether shards agree, and where they do not.
 
 pub mod Agreement
-pub mod Differing

@@ -3,5 +3,4 @@
 pub mod MergeTrees
 pub mod ExportTrees
 pub mod Parts
-pub mod Placed
 pub mod Filling

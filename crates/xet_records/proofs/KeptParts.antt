@@ -13,7 +13,8 @@ use Rattle.xet_records.specs.declared.file_structs.MDBFileInfo.{MDBFileInfo}
 use Rattle.xet_records.specs.FileRow.{header_row, segment_row, hash_row, FitsHashRow}
 use Rattle.xet_records.specs.Part.{parts, with_parts, announces, flags_of, size_of_part, rows_of, optional_rows, all_but, with_flag}
 use Rattle.xet_records.specs.FileRecord.{has_verification, has_aux_ext, file_record_bytes, file_rows_bytes, row_count, FitsItsHeader, FitsRecord, IsStored, IsWellFormed}
-use Rattle.xet_records.specs.View.{KeptParts, keeping, without_verification, without_aux, as_wanted, aux_as_wanted, as_kept, keeps}
+use Rattle.xet_records.specs.View.{KeptParts, keeping, without_verification, without_aux, as_wanted, aux_as_wanted, as_kept}
+use Rattle.xet_records.specs.Steps.View.{keeps}
 use Rattle.xet_records.proofs.Merging.{one, one_announced, part_absent}
 use Rattle.xet_records.proofs.Parts.{for_parts, rows_bytes, fewer, fewer_rows, rows_of-keeping, same_record, All-part, All-parts}
 

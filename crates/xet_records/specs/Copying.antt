@@ -24,11 +24,6 @@ pub record CopiesRows {T : Type 0} (row_bytes : T → List ℕ) (Fits : T → Ty
   pub read : ReadsRows row_bytes Fits as_read Took count rows
   pub written : Appends old new (flat_map row_bytes rows)
 
--- the error of a failure, whether the input's or the output's
-abbrev pub error_of : CopyFailure → CoreError
-error_of (Input e) = e
-error_of (Output e) = e
-
 -- copying failed: reading up to n bytes did, or the output did, after reads that did not fail
 abbrev pub CopyFails : {I : Type 0} → (I → I → List ℕ → Type 0) → (I → I → ℕ → CoreError → Type 0)
     → I → I → ℕ → CopyFailure → Type 0

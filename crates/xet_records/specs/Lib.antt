@@ -10,6 +10,7 @@ pub mod Processing
 pub mod Reading
 pub mod RecordKind
 pub mod Rows
+pub mod Steps
 pub mod Version
 pub mod View
 pub mod ViewReading

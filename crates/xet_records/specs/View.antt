@@ -1,6 +1,6 @@
 -- What some bytes are to a view: the record that they begin with, whatever follows it, or why they
 -- begin with none.
-use Rattle.std.specs.Prelude.{◌≡◌, ◌≢◌, ◌⊎◌, ℕ, ◌+◌, ◌*◌, ◌<◌, ◌≤◌, Bool, false, not, ◌&&◌, ◌||◌, IsTrue, List, [], ◌∷◌, ◌++◌, length, map, slice_get, Some, if◌then◌else◌}
+use Rattle.std.specs.Prelude.{◌≡◌, ◌≢◌, ◌⊎◌, ℕ, ◌+◌, ◌*◌, ◌<◌, ◌≤◌, Bool, false, not, ◌&&◌, IsTrue, List, [], ◌∷◌, ◌++◌, length, map, slice_get, Some, if◌then◌else◌}
 use Rattle.std.specs.IoError.{error_kind}
 use Rattle.std.specs.declared.io.ErrorKind.TheVariants.{Other}
 use Rattle.xet_base.specs.declared.error.CoreError.{CoreError}
@@ -137,11 +137,6 @@ auxes_as_wanted wanted rs = if wanted then rs else map without_aux rs
 -- the record that is written where these parts are kept
 abbrev pub as_kept : KeptParts → MDBFileInfo → MDBFileInfo
 as_kept kept r = aux_as_wanted kept.aux_ext (as_wanted kept.verification r)
-
--- whether the rows of a part stay where these parts are kept; a metadata row always does
-abbrev pub keeps : KeptParts → OptionalPart → Bool
-keeps kept part =
-    (kept.verification || all_but Verification part) && (kept.aux_ext || all_but AuxExt part)
 
 -- verification rows are wanted, and the record has none
 abbrev pub LacksVerification : Bool → MDBFileInfo → Type 0

@@ -1,7 +1,5 @@
 -- What reading views from an input takes from it.
-use Rattle.std.specs.Prelude.{◌≡◌, ℕ, ◌+◌, ◌*◌, ◌≤◌, List, ◌++◌, length, Option, MatchOption}
-use Rattle.xet_base.specs.declared.error.CoreError.{CoreError}
-use Rattle.xet_base.specs.declared.error.CoreError.TheVariants.{OutOfMemory}
+use Rattle.std.specs.Prelude.{◌≡◌, ℕ, ◌+◌, List, Option, MatchOption}
 use Rattle.xet_records.specs.RecordKind.{RecordKind}
 use Rattle.xet_records.specs.Reading.{ReadsEnd}
 
@@ -18,17 +16,3 @@ abbrev pub ReadsNextView : {H R V : Type 0} → RecordKind H R → (V → R) →
 ReadsNextView K record_of Took left after found =
     MatchOption found (ReadsEnd K Took left after)
     (λ view. CountsStored K Took left after (record_of view))
-
--- so many rows were read, and are the bytes after these
-pub record AddsRows (Took : List ℕ → Type 0) (count : ℕ) (first bytes : List ℕ) : Type 0 where
-  pub added : List ℕ
-  pub size : length added ≡ 48 * count
-  pub taken : Took added
-  pub bytes_are : bytes ≡ first ++ added
-
--- memory ran out when so many rows or fewer were read
-pub record LacksMemory (Took : List ℕ → Type 0) (count : ℕ) (e : CoreError) : Type 0 where
-  pub added : List ℕ
-  pub size : length added ≤ 48 * count
-  pub taken : Took added
-  pub memory : e ≡ OutOfMemory

@@ -6,7 +6,8 @@ ghost use Rattle.xet_records.specs.Processing.{ProcessesSection, RefusesRecord, 
 ghost use Rattle.xet_records.specs.Reading.{NextRecordNotRead};
 ghost use Rattle.xet_records.specs.RecordKind.{in_version};
 ghost use Rattle.xet_records.specs.View.{BeginsWithHeaderRow, ShowsRecord};
-ghost use Rattle.xet_records.specs.ViewReading.{ReadsNextView, AddsRows, LacksMemory};
+ghost use Rattle.xet_records.specs.ViewReading.{ReadsNextView};
+ghost use Rattle.xet_records.specs.Steps.ViewReading.{AddsRows, LacksMemory};
 ghost use Rattle.xet_records.specs.Limits.{MAX_ROWS};
 
 use crate::record_reader::{FormatVersion, SectionRecord, read_header};

@@ -6,4 +6,3 @@ pub mod Read
 pub mod Lookup
 pub mod Export
 pub mod StreamingShard
-mod Clones

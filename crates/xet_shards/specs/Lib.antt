@@ -5,4 +5,5 @@ pub mod Write
 pub mod Read
 pub mod Lookup
 pub mod Export
+pub mod Steps
 pub mod StreamingShard

@@ -4,4 +4,3 @@ pub mod Lookup
 pub mod WrittenChunks
 pub mod WrittenQueries
 pub mod RunReading
-pub mod RunSteps

@@ -1,7 +1,7 @@
 //! The rows that a search has still to look at, and which of them it probes next.
 
 ghost use Rattle.std.specs.Prelude.{◌≡◌, ◌+◌, ◌^◌, ◌<◌};
-ghost use Rattle.xet_base.specs.Probes.{guess_of, Around, AroundKey, AfterBelow, AfterAbove, IsWhole, Narrows, KeepsEven};
+ghost use Rattle.xet_base.specs.Steps.Probes.{guess_of, Around, AroundKey, AfterBelow, AfterAbove, IsWhole, Narrows, KeepsEven};
 
 /// The rows after `low` and before `high`, counted from 1, with the keys at both ends. Row 0,
 /// before the table, has the key 0, and the row after the table the key `u64::MAX`. Row `probe` is
@@ -79,7 +79,7 @@ impl Window {
 }
 
 // Where the key is, if keys rise evenly from `low` to `high`; never one of these two.
-#[tactic(auto, unfolding(crate::specs::Probes::guess_of))]
+#[tactic(auto, unfolding(crate::specs::Steps::Probes::guess_of))]
 fn guess(low: u64, low_key: u64, high: u64, high_key: u64, key: u64) -> u64
     requires { Around low low_key high high_key key }
     ensures { result ≡ guess_of low low_key high high_key key }
@@ -90,7 +90,7 @@ fn guess(low: u64, low_key: u64, high: u64, high_key: u64, key: u64) -> u64
 
 // The row to probe after row `probe` had a greater key: the guess, or 256 rows further down if that
 // is nearer.
-#[tactic(auto, unfolding(crate::specs::Probes::guess_of))]
+#[tactic(auto, unfolding(crate::specs::Steps::Probes::guess_of))]
 fn probe_below(low: u64, low_key: u64, probe: u64, found: u64, key: u64) -> u64
     requires { Around low low_key probe found key }
     ensures { AfterBelow low probe (guess_of low low_key probe found key) result }
@@ -104,7 +104,7 @@ fn probe_below(low: u64, low_key: u64, probe: u64, found: u64, key: u64) -> u64
 
 // The row to probe after row `probe` had a smaller key: the guess, or 256 rows further up if that
 // is nearer.
-#[tactic(auto, unfolding(crate::specs::Probes::guess_of))]
+#[tactic(auto, unfolding(crate::specs::Steps::Probes::guess_of))]
 fn probe_above(probe: u64, found: u64, high: u64, high_key: u64, key: u64) -> u64
     requires { Around probe found high high_key key }
     ensures { AfterAbove high probe (guess_of probe found high high_key key) result }

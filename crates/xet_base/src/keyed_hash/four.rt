@@ -2,7 +2,7 @@
 
 ghost use Rattle.std.specs.Prelude.{◌≡◌, ℕ, ◌<◌, [], ◌∷◌, map, slice_index, slice_index_or};
 ghost use Rattle.xet_base.specs.KeyedHash.{mix_columns, mix_diagonals, permuted, state_after, initial_state, message_of, keyed_bytes};
-ghost use Rattle.xet_base.specs.Lanes.{lane};
+ghost use Rattle.xet_base.specs.Steps.Lanes.{lane};
 
 use super::{Words, digest, mix, words_of};
 use std::simd::u32x4;

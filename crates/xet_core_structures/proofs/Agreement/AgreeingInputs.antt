@@ -25,13 +25,15 @@ use Rattle.xet_core_structures.specs.declared.set_operations.agreement.RecordHas
 use Rattle.xet_core_structures.specs.declared.set_operations.agreement.differing.Differing.{Differing}
 use Rattle.xet_core_structures.specs.declared.set_operations.trees.parts.PlacedShard.{PlacedShard}
 use Rattle.xet_core_structures.specs.declared.set_operations.trees.placed.PlacedRecord.{PlacedRecord}
-use Rattle.xet_core_structures.specs.Agreement.Agreement.{AreEqual, HoldsAt, IsPlacedOf, ArePlaced, InputsAgree, InputsDisagree, AgreeOn, HasAllDisagreements, disagreement_of}
-use Rattle.xet_core_structures.specs.TwoShards.ByteResults.{Records}
+use Rattle.xet_core_structures.specs.Agreement.Agreement.{HoldsAt, InputsAgree, InputsDisagree, AgreeOn, HasAllDisagreements, disagreement_of}
+use Rattle.xet_core_structures.specs.Steps.Agreement.{AreEqual, IsPlacedOf, ArePlaced}
+use Rattle.xet_core_structures.specs.Steps.ByteResults.{Records}
 use Rattle.xet_core_structures.specs.Records.RecordPairs.{key_of_record, with_hash}
-use Rattle.xet_core_structures.specs.Agreement.Differing.{HasRecord, Differ, AgreeUnder, FindsDiffering}
+use Rattle.xet_core_structures.specs.Steps.Differing.{Differ, AgreeUnder, FindsDiffering}
+use Rattle.xet_core_structures.specs.Steps.Differing.{HasRecord}
 use Rattle.xet_core_structures.specs.Records.ShardContents.{HasShard}
-use Rattle.xet_core_structures.specs.Trees.Parts.{MayBeUnited}
-use Rattle.xet_core_structures.specs.Trees.Placed.{MayUnite}
+use Rattle.xet_core_structures.specs.Steps.Parts.{MayBeUnited}
+use Rattle.xet_core_structures.specs.Steps.Placed.{MayUnite}
 use Rattle.xet_core_structures.proofs.Records.Items.{has_mapped, mapped_back}
 use Rattle.xet_core_structures.proofs.Records.ShardContents.{only_shard}
 use Rattle.xet_core_structures.proofs.Records.ListMaps.{list_map, get-list_map, with_hash_of, shard_of, lists_hold}

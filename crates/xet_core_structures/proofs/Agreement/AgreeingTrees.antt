@@ -19,7 +19,7 @@ use Rattle.xet_core_structures.specs.TwoShards.ByteResults.{keyed_layout, keyed_
 use Rattle.xet_core_structures.specs.Records.ShardContents.{HoldsShard}
 use Rattle.xet_core_structures.specs.Trees.MergeTrees.{leaves, HasUnion, TreeWrites, InputIs}
 use Rattle.xet_core_structures.specs.TwoShards.Readable.{IsBytesUnderKey}
-use Rattle.xet_core_structures.proofs.Laws.FileLookups.{union_under, tree_under}
+use Rattle.xet_core_structures.proofs.LawProofs.FileLookups.{union_under, tree_under}
 use Rattle.xet_core_structures.proofs.Trees.MergeTrees.{keyed_tree}
 use Rattle.xet_core_structures.proofs.Records.Zipped.{zipped_append, zipped_member, zipped_and}
 

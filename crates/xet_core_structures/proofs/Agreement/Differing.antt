@@ -10,9 +10,10 @@ use Rattle.xet_core_structures.specs.declared.set_operations.agreement.differing
 use Rattle.xet_core_structures.specs.declared.set_operations.agreement.differing.ReadRecord.{ReadRecord}
 use Rattle.xet_core_structures.specs.declared.set_operations.agreement.runs.Place.{Place}
 use Rattle.xet_core_structures.specs.declared.set_operations.trees.placed.PlacedRecord.{PlacedRecord}
-use Rattle.xet_core_structures.specs.Agreement.Differing.{IsRun, IsPlace, IsRecordAt, Covers, KeepsRecord, IsAgainst, AgreeWithin, DifferWithin, ComparesPlace, DiffersAt}
-use Rattle.xet_core_structures.specs.Trees.Placed.{Places}
-use Rattle.xet_core_structures.specs.TwoShards.MergeJoin.{IsRecordHeader}
+use Rattle.xet_core_structures.specs.Steps.Differing.{AgreeWithin, DifferWithin, ComparesPlace, DiffersAt}
+use Rattle.xet_core_structures.specs.Steps.Differing.{IsRun, IsPlace, IsRecordAt, Covers, KeepsRecord, IsAgainst}
+use Rattle.xet_core_structures.specs.Steps.Placed.{Places}
+use Rattle.xet_core_structures.specs.Steps.MergeJoin.{IsRecordHeader}
 use Rattle.xet_core_structures.proofs.Records.Items.{below_or_at}
 use Rattle.xet_core_structures.proofs.Trees.PlacedWriting.{placed_once}
 

@@ -14,8 +14,9 @@ use Rattle.xet_core_structures.specs.declared.set_operations.agreement.differing
 use Rattle.xet_core_structures.specs.declared.set_operations.agreement.runs.Place.{Place}
 use Rattle.xet_core_structures.specs.declared.set_operations.trees.placed.PlacedRecord.{PlacedRecord}
 use Rattle.xet_core_structures.specs.Records.RecordPairs.{key_of_record}
-use Rattle.xet_core_structures.specs.Agreement.Differing.{IsRun, IsPlace, HasPlaces, IsRecordAt, AgreeWithin, DifferWithin, ComparesRun, HasRecord, Differ, FindsDiffering}
-use Rattle.xet_core_structures.specs.Trees.Placed.{Places, MayUnite, hash_at}
+use Rattle.xet_core_structures.specs.Steps.Differing.{AgreeWithin, DifferWithin, ComparesRun, Differ, FindsDiffering}
+use Rattle.xet_core_structures.specs.Steps.Differing.{IsRun, IsPlace, HasPlaces, IsRecordAt, HasRecord}
+use Rattle.xet_core_structures.specs.Steps.Placed.{Places, MayUnite, hash_at}
 use Rattle.xet_core_structures.proofs.Agreement.HashRuns.{less_apart, ascends_more}
 use Rattle.xet_core_structures.proofs.Records.Items.{has_at, at_of, mapped_back, below_or_from}
 use Rattle.xet_core_structures.proofs.Trees.PlacedUnions.{key_placed}

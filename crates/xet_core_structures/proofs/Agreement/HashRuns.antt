@@ -17,8 +17,8 @@ use Rattle.xet_base.proofs.HashOrder.{hash_cmp-IsTotalOrder, hash_cmp-IsAntisymm
 use Rattle.xet_records.specs.RecordKind.{RecordKind}
 use Rattle.xet_core_structures.specs.declared.set_operations.agreement.runs.Place.{Place}
 use Rattle.xet_core_structures.specs.declared.set_operations.trees.placed.PlacedRecord.{PlacedRecord}
-use Rattle.xet_core_structures.specs.Agreement.Differing.{place_cmp, IsRun, IsIn, IsPlace, AddsPlaces, HasPlaces}
-use Rattle.xet_core_structures.specs.Trees.Placed.{hash_at}
+use Rattle.xet_core_structures.specs.Steps.Differing.{place_cmp, IsRun, IsIn, IsPlace, AddsPlaces, HasPlaces}
+use Rattle.xet_core_structures.specs.Steps.Placed.{hash_at}
 use Rattle.xet_core_structures.proofs.Records.Items.{below_or_at}
 
 -- what stands for a place that a list does not have

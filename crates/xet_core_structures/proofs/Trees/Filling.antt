@@ -36,10 +36,11 @@ use Rattle.xet_shards.proofs.Write.Written.{layout-parts}
 use Rattle.xet_core_structures.specs.declared.set_operations.trees.filling.Frame.{Frame}
 use Rattle.xet_core_structures.specs.declared.set_operations.trees.parts.PlacedShard.{PlacedShard}
 use Rattle.xet_core_structures.specs.declared.set_operations.trees.placed.PlacedRecord.{PlacedRecord}
-use Rattle.xet_core_structures.specs.TwoShards.ByteResults.{keyed_options, Records}
-use Rattle.xet_core_structures.specs.Trees.Filling.{Puts, IsFrame}
-use Rattle.xet_core_structures.specs.Trees.Parts.{MayBeWritten}
-use Rattle.xet_core_structures.specs.Trees.Placed.{Places, PlacesAll}
+use Rattle.xet_core_structures.specs.TwoShards.ByteResults.{keyed_options}
+use Rattle.xet_core_structures.specs.Steps.ByteResults.{Records}
+use Rattle.xet_core_structures.specs.Steps.Filling.{Puts, IsFrame}
+use Rattle.xet_core_structures.specs.Steps.Parts.{MayBeWritten}
+use Rattle.xet_core_structures.specs.Steps.Placed.{Places, PlacesAll}
 use Rattle.xet_core_structures.proofs.Trees.PlacedUnions.{HasFirst, first_placed, none_placed, rows_placed, header_placed, stored_placed}
 
 pub puts_nothing : (old : List ℕ) (at : ℕ) → Puts old old at at []

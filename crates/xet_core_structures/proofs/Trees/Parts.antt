@@ -30,18 +30,22 @@ use Rattle.xet_core_structures.specs.declared.set_operations.MergePlan.TheVarian
 use Rattle.xet_core_structures.specs.declared.set_operations.trees.parts.PlacedShard.{PlacedShard}
 use Rattle.xet_core_structures.specs.declared.set_operations.trees.parts.Part.{Part}
 use Rattle.xet_core_structures.specs.Records.ByteUnion.{IsEitherFile, IsEitherXorb, IsByteUnion}
-use Rattle.xet_core_structures.specs.TwoShards.ByteResults.{keyed_layout, keyed_info, key_of, HaveResult, HaveNoUnionOf, HaveNoUnion, InputRefusal, UnitesBytes, BytesRefusal, Records, HaveInputs, AreCombined}
+use Rattle.xet_core_structures.specs.TwoShards.ByteResults.{keyed_layout, keyed_info, key_of, HaveResult, HaveNoUnionOf, HaveNoUnion, InputRefusal, UnitesBytes, BytesRefusal}
+use Rattle.xet_core_structures.specs.Steps.ByteResults.{Records, HaveInputs, AreCombined}
 use Rattle.xet_core_structures.specs.Records.RecordPairs.{key_of_record, with_hash, Combines}
 use Rattle.xet_core_structures.specs.Trees.Filling.{FillsWith}
-use Rattle.xet_core_structures.specs.Records.ShardContents.{IsSectionOf, IsListOf, HasFiles, HoldsLists, files_at, xorbs_at}
+use Rattle.xet_core_structures.specs.Records.ShardContents.{IsSectionOf, HasFiles, files_at, xorbs_at}
+use Rattle.xet_core_structures.specs.Steps.ShardContents.{IsListOf, HoldsLists}
 use Rattle.xet_core_structures.specs.Trees.MergeTrees.{TreeWrites, TreeRefusal}
-use Rattle.xet_core_structures.specs.Trees.Parts.{PlacesRecords, MayBeUnited, MayBeWritten, PlacesShard, SectionsRefusal, HaveNoRecordUnion, IsUnited, IsPart}
-use Rattle.xet_core_structures.specs.Trees.Placed.{PlacesAll, HaveNoListUnion}
-use Rattle.xet_core_structures.specs.TwoShards.MergeJoin.{SectionRefusal}
+use Rattle.xet_core_structures.specs.Trees.Parts.{SectionsRefusal}
+use Rattle.xet_core_structures.specs.Steps.Parts.{PlacesRecords, MayBeUnited, MayBeWritten, PlacesShard, HaveNoRecordUnion, IsUnited, IsPart}
+use Rattle.xet_core_structures.specs.Steps.Placed.{HaveNoListUnion}
+use Rattle.xet_core_structures.specs.Steps.Placed.{PlacesAll}
+use Rattle.xet_core_structures.specs.Steps.MergeJoin.{SectionRefusal}
 use Rattle.xet_core_structures.proofs.Records.RecordsAsRead.{all_handed}
 use Rattle.xet_core_structures.proofs.Records.ShardContents.{one_map}
 use Rattle.xet_core_structures.proofs.Records.ListMaps.{list_map, values-list_map, get-list_map, with_hash_of, section_of_list, combined_maps, shard_of, lists_hold}
-use Rattle.xet_core_structures.proofs.Laws.FileLookups.{union_under}
+use Rattle.xet_core_structures.proofs.LawProofs.FileLookups.{union_under}
 use Rattle.xet_core_structures.proofs.TwoShards.Refusals.{mapped_at}
 use Rattle.xet_core_structures.proofs.TwoShards.Results.{files_unique, xorbs_unique}
 use Rattle.xet_core_structures.proofs.Trees.TreeXorbs.{held_under}

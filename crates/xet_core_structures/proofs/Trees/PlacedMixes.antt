@@ -8,8 +8,9 @@ use Rattle.xet_records.specs.Merging.{IncludesBits, mixed_header}
 use Rattle.xet_records.proofs.RecordKinds.{file_laws}
 use Rattle.xet_core_structures.specs.declared.set_operations.trees.placed.PlacedRecord.{PlacedRecord}
 use Rattle.xet_core_structures.specs.Records.ByteUnion.{mixed, IsEitherFile}
-use Rattle.xet_core_structures.specs.Trees.Placed.{Places, MakesPlaced}
-use Rattle.xet_core_structures.specs.TwoShards.MergeJoin.{IsRecordHeader}
+use Rattle.xet_core_structures.specs.Steps.Placed.{MakesPlaced}
+use Rattle.xet_core_structures.specs.Steps.Placed.{Places}
+use Rattle.xet_core_structures.specs.Steps.MergeJoin.{IsRecordHeader}
 use Rattle.xet_core_structures.proofs.Trees.PlacedUnions.{header_placed, stored_placed}
 use Rattle.xet_core_structures.proofs.TwoShards.Readable.{IsReadableAs, handed_twice, mixed_readable}
 use Rattle.xet_core_structures.proofs.TwoShards.UnitedFiles.{makes_mix}

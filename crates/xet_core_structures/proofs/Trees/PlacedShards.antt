@@ -15,10 +15,12 @@ use Rattle.xet_shards.specs.Read.SectionReading.{files_of, IsSection, StreamsSec
 use Rattle.xet_core_structures.specs.declared.set_operations.trees.parts.PlacedShard.{PlacedShard}
 use Rattle.xet_core_structures.specs.declared.set_operations.trees.placed.PlacedRecord.{PlacedRecord}
 use Rattle.xet_core_structures.specs.TwoShards.ByteResults.{key_of}
-use Rattle.xet_core_structures.specs.Records.ShardContents.{HasFiles, HoldsLists, files_at, xorbs_at}
-use Rattle.xet_core_structures.specs.Trees.Parts.{PlacesShard, SectionsRefusal}
-use Rattle.xet_core_structures.specs.Trees.Placed.{PlacesAll, ReadsPlaced}
-use Rattle.xet_core_structures.specs.TwoShards.MergeJoin.{SectionRefusal, AscendingNotStreamed}
+use Rattle.xet_core_structures.specs.Records.ShardContents.{HasFiles, files_at, xorbs_at}
+use Rattle.xet_core_structures.specs.Steps.ShardContents.{HoldsLists}
+use Rattle.xet_core_structures.specs.Trees.Parts.{SectionsRefusal}
+use Rattle.xet_core_structures.specs.Steps.Parts.{PlacesShard}
+use Rattle.xet_core_structures.specs.Steps.Placed.{PlacesAll, ReadsPlaced}
+use Rattle.xet_core_structures.specs.Steps.MergeJoin.{SectionRefusal, AscendingNotStreamed}
 use Rattle.xet_core_structures.proofs.Records.ShardContents.{stored_ascend}
 use Rattle.xet_core_structures.proofs.TwoShards.InMemory.{in_memory}
 use Rattle.xet_core_structures.proofs.Records.Lists.{lists_read}

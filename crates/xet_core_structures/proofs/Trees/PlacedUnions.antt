@@ -17,8 +17,9 @@ use Rattle.xet_shards.specs.Write.Section.{total_rows}
 use Rattle.xet_shards.proofs.Write.Copying.{rows_returned}
 use Rattle.xet_core_structures.specs.declared.set_operations.trees.placed.PlacedRecord.{PlacedRecord}
 use Rattle.xet_core_structures.specs.Records.RecordPairs.{key_of_record, ArePassed, Combines}
-use Rattle.xet_core_structures.specs.Trees.Placed.{CountsRows, Places, PlacesAll, MayUnite, hash_at, IsBefore, MakesNothing, KeepsNext, HaveNoListUnion}
-use Rattle.xet_core_structures.specs.Trees.Placed.KeepsNext.{takes_first, takes_second, takes_both}
+use Rattle.xet_core_structures.specs.Steps.Placed.{MakesNothing, KeepsNext, HaveNoListUnion}
+use Rattle.xet_core_structures.specs.Steps.Placed.{CountsRows, Places, PlacesAll, MayUnite, hash_at, IsBefore}
+use Rattle.xet_core_structures.specs.Steps.Placed.KeepsNext.{takes_first, takes_second, takes_both}
 use Rattle.xet_core_structures.proofs.Records.RecordPairs.{HasHash, IsUnder, none_combined, more_combined, passed_on}
 use Rattle.xet_core_structures.proofs.TwoShards.OneSection.{header_of_found}
 use Rattle.xet_core_structures.proofs.Records.Zipped.{zipped_append}

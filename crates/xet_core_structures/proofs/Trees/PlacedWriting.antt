@@ -11,7 +11,7 @@ use Rattle.xet_records.specs.Reading.{ReadsRowsAfter}
 use Rattle.xet_shards.specs.Write.Copying.{CopiesRecord}
 use Rattle.xet_shards.specs.Write.Section.{total_rows, section_bytes}
 use Rattle.xet_core_structures.specs.declared.set_operations.trees.placed.PlacedRecord.{PlacedRecord}
-use Rattle.xet_core_structures.specs.Trees.Placed.{Places, PlacesAll}
+use Rattle.xet_core_structures.specs.Steps.Placed.{Places, PlacesAll}
 use Rattle.xet_core_structures.proofs.Trees.PlacedUnions.{HasFirst, first_placed, none_placed, rows_placed}
 
 module _ {H R : Type 0} (K : RecordKind H R) where

@@ -15,8 +15,8 @@ use Rattle.xet_shards.specs.Write.WithOptions.{Ascends}
 use Rattle.xet_shards.proofs.Read.SectionReading.{section_ends}
 use Rattle.xet_core_structures.specs.declared.set_operations.trees.placed.PlacedRecord.{PlacedRecord}
 use Rattle.xet_core_structures.specs.Records.RecordPairs.{ComeBefore}
-use Rattle.xet_core_structures.specs.Trees.Placed.{Places, PlacesAll, ReadsPlaced}
-use Rattle.xet_core_structures.specs.TwoShards.MergeJoin.{Follows, ReadsFollowing, FollowingFails, AscendingNotStreamed}
+use Rattle.xet_core_structures.specs.Steps.Placed.{Places, PlacesAll, ReadsPlaced}
+use Rattle.xet_core_structures.specs.Steps.MergeJoin.{Follows, ReadsFollowing, FollowingFails, AscendingNotStreamed}
 use Rattle.xet_core_structures.proofs.Records.RecordPairs.{IsUnder, before_later, before_push, ascends_push}
 use Rattle.xet_core_structures.proofs.TwoShards.OneSection.{HasPending, pending_start, pending_on, pending_header, pending_serves, under_pending, no_next}
 use Rattle.xet_core_structures.proofs.Records.Zipped.{zipped_append}

@@ -17,7 +17,7 @@ use Rattle.xet_core_structures.specs.Records.ShardContents.{Holds, HasShard}
 use Rattle.xet_core_structures.specs.Trees.MergeTrees.{leaves, TreeWrites, HaveXorbs}
 use Rattle.xet_core_structures.specs.TwoShards.Readable.{IsBytesUnderKey}
 use Rattle.xet_core_structures.proofs.Records.ShardContents.{only_shard}
-use Rattle.xet_core_structures.proofs.Laws.FileLookups.{union_under}
+use Rattle.xet_core_structures.proofs.LawProofs.FileLookups.{union_under}
 use Rattle.xet_core_structures.proofs.TwoShards.Readable.{united_xorbs}
 
 -- what stays as it is in each element stays in the list

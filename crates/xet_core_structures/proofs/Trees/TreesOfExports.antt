@@ -20,7 +20,7 @@ use Rattle.xet_core_structures.specs.declared.set_operations.MergePlan.{MergePla
 use Rattle.xet_core_structures.specs.Trees.ExportTrees.{shard_as_wanted, IsExportOf, IsExportedAt, IsMergeOfExports}
 use Rattle.xet_core_structures.specs.Records.ShardContents.{HoldsShard}
 use Rattle.xet_core_structures.specs.Trees.MergeTrees.{leaves, TreeWrites, TreeRefusal, InputIs, IsMergeOfWritten, MergeRefused}
-use Rattle.xet_core_structures.proofs.Laws.ExportTrees.{export_held, export_of_join, export_of_bytes, exports_refused, before_timestamps, after_timestamps, split_at_timestamps, after_timestamps_size}
+use Rattle.xet_core_structures.proofs.LawProofs.ExportTrees.{export_held, export_of_join, export_of_bytes, exports_refused, before_timestamps, after_timestamps, split_at_timestamps, after_timestamps_size}
 use Rattle.xet_core_structures.proofs.Trees.MappedJoins.{PreservesJoins, mapped_merge}
 use Rattle.xet_core_structures.proofs.Trees.MergeTrees.{one_layout, merge_of_written}
 use Rattle.xet_core_structures.proofs.Records.Zipped.{zipped_and}

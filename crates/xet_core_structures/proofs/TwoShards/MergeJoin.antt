@@ -24,11 +24,13 @@ use Rattle.xet_shards.specs.Write.WithOptions.{Ascends}
 use Rattle.xet_shards.specs.Write.Section.{total_rows, section_bytes}
 use Rattle.xet_shards.specs.Read.SectionReading.{StreamsSection}
 use Rattle.xet_shards.proofs.Read.SectionReading.{section_ends}
-use Rattle.xet_core_structures.specs.Records.RecordPairs.{key_of_record, IsNextPair, AreOfOneHash, ComeBefore, ArePassed, Combines, IsMadeOf, rows_in}
-use Rattle.xet_core_structures.specs.TwoShards.MergeJoin.{Follows, ReadsFollowing, Advances, AdvanceFails, ReadsOptionalRecord, WritesMade, CannotMake, PairFails, WritesCombined, AscendingNotStreamed, CannotCombine, SectionsFail}
-use Rattle.xet_core_structures.specs.TwoShards.MergeJoin.PairFails.{output_fails as pair_output_fails, first_fails as pair_first_fails, second_fails as pair_second_fails, refused as pair_refused}
-use Rattle.xet_core_structures.specs.TwoShards.MergeJoin.SectionsFail.{output_fails, first_fails, second_fails, refused}
-use Rattle.xet_core_structures.specs.TwoShards.Streams.{sources, streams}
+use Rattle.xet_core_structures.specs.Records.RecordPairs.{key_of_record, ComeBefore, ArePassed, Combines, IsMadeOf, rows_in}
+use Rattle.xet_core_structures.specs.Steps.RecordPairs.{IsNextPair, AreOfOneHash}
+use Rattle.xet_core_structures.specs.Steps.MergeJoin.{Follows, ReadsFollowing, Advances, AdvanceFails, ReadsOptionalRecord, WritesMade, CannotMake, PairFails, WritesCombined, AscendingNotStreamed, CannotCombine, SectionsFail}
+use Rattle.xet_core_structures.specs.Steps.MergeJoin.PairFails.{output_fails as pair_output_fails, first_fails as pair_first_fails, second_fails as pair_second_fails, refused as pair_refused}
+use Rattle.xet_core_structures.specs.Steps.MergeJoin.SectionsFail.{output_fails, first_fails, second_fails, refused}
+use Rattle.xet_core_structures.specs.TwoShards.Streams.{streams}
+use Rattle.xet_core_structures.specs.Steps.Streams.{sources}
 use Rattle.xet_core_structures.proofs.Records.RecordPairs.{IsUnder, hash_under, none_combined, passed_on, more_combined, still_ascending}
 use Rattle.xet_core_structures.proofs.TwoShards.OneSection.{serves_on, weight, passed_serves, HasPending, pending_start, pending_serves, pending_on, under_pending, front_of, weight_on, rows_not_read, no_next}
 

@@ -29,11 +29,12 @@ use Rattle.xet_records.proofs.RecordKinds.{file_laws, parts_read}
 use Rattle.xet_shards.specs.declared.shard_format.write.written.WrittenFiles.{WrittenFiles}
 use Rattle.xet_shards.specs.Write.Written.{IsFileOf, HasWritten}
 use Rattle.xet_core_structures.specs.Records.ByteUnion.{mixed}
-use Rattle.xet_core_structures.specs.TwoShards.MixedFiles.{WritesMix, WritesMixRows, WritesEither, EitherFails}
-use Rattle.xet_core_structures.specs.TwoShards.MixedFiles.EitherFails.{output_fails as either_output_fails, first_fails as either_first_fails, second_fails as either_second_fails}
-use Rattle.xet_core_structures.specs.TwoShards.MergeJoin.{IsRecordHeader, PairFails}
-use Rattle.xet_core_structures.specs.TwoShards.MergeJoin.PairFails.{output_fails, first_fails, second_fails}
-use Rattle.xet_core_structures.specs.TwoShards.Streams.{Sources, sources, streams}
+use Rattle.xet_core_structures.specs.Steps.MixedFiles.{WritesMix, WritesMixRows, WritesEither, EitherFails}
+use Rattle.xet_core_structures.specs.Steps.MixedFiles.EitherFails.{output_fails as either_output_fails, first_fails as either_first_fails, second_fails as either_second_fails}
+use Rattle.xet_core_structures.specs.Steps.MergeJoin.{IsRecordHeader, PairFails}
+use Rattle.xet_core_structures.specs.Steps.MergeJoin.PairFails.{output_fails, first_fails, second_fails}
+use Rattle.xet_core_structures.specs.TwoShards.Streams.{streams}
+use Rattle.xet_core_structures.specs.Steps.Streams.{Sources, sources}
 use Rattle.xet_core_structures.proofs.TwoShards.Mixing.{rows_of_mix, rows_chosen}
 use Rattle.xet_core_structures.proofs.TwoShards.Pairs.{record_of}
 use Rattle.xet_core_structures.proofs.TwoShards.OneSection.{serves_on, taken_serves, header_of_found}

@@ -22,9 +22,10 @@ use Rattle.xet_records.specs.Merging.{has_part, joined, mixed_header}
 use Rattle.xet_records.proofs.Merging.{joined_whole, flags_fit, All-joined}
 use Rattle.xet_records.proofs.Parts.{for_parts}
 use Rattle.xet_core_structures.specs.Records.ByteUnion.{mixed}
-use Rattle.xet_core_structures.specs.TwoShards.MixedFiles.{WritesEither, EitherFails}
-use Rattle.xet_core_structures.specs.TwoShards.MixedFiles.EitherFails.{output_fails, first_fails, second_fails}
-use Rattle.xet_core_structures.specs.TwoShards.Streams.{sources, streams}
+use Rattle.xet_core_structures.specs.Steps.MixedFiles.{WritesEither, EitherFails}
+use Rattle.xet_core_structures.specs.Steps.MixedFiles.EitherFails.{output_fails, first_fails, second_fails}
+use Rattle.xet_core_structures.specs.TwoShards.Streams.{streams}
+use Rattle.xet_core_structures.specs.Steps.Streams.{sources}
 use Rattle.xet_core_structures.proofs.TwoShards.OneSection.{serves_same, taken_serves}
 
 -- a mix has the parts of a join

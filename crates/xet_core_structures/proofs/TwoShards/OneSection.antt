@@ -21,13 +21,14 @@ use Rattle.xet_records.specs.Reading.NextRecordNotRead.{no_rows}
 use Rattle.xet_records.proofs.RecordKinds.{laws_in}
 use Rattle.xet_records.proofs.SectionRecords.{nothing_read, more_read, rows_after_header}
 use Rattle.xet_shards.specs.Write.WithOptions.{Ascends}
-use Rattle.xet_shards.specs.Read.SectionReading.{HoldsRecords, BeginsRefused, EndsEarly, rows_left, SectionCase, RecordFails}
+use Rattle.xet_shards.specs.Read.SectionReading.{HoldsRecords, BeginsRefused, EndsEarly, rows_left, SectionCase}
+use Rattle.xet_shards.specs.Steps.SectionReading.{RecordFails}
 use Rattle.xet_shards.specs.Read.SectionReading.SectionCase.{not_read, passes_limit}
 use Rattle.xet_shards.proofs.Read.SectionReading.{holds, section_failure, record_fails}
 use Rattle.xet_core_structures.specs.Records.RecordPairs.{key_of_record, ComeBefore}
 use Rattle.xet_core_structures.specs.Records.ShardContents.{BeginsInOrder, IsTruncatedInOrder, IsRefusedInOrder}
-use Rattle.xet_core_structures.specs.TwoShards.MergeJoin.{IsRecordHeader, ReadsFollowing, FollowingFails, Advances, ReadsOptionalRecord, SectionRefusal, AscendingNotStreamed, GoesOnAfter}
-use Rattle.xet_core_structures.specs.TwoShards.MergeJoin.FollowingFails.{not_read as next_not_read, falls}
+use Rattle.xet_core_structures.specs.Steps.MergeJoin.{IsRecordHeader, ReadsFollowing, FollowingFails, Advances, ReadsOptionalRecord, SectionRefusal, AscendingNotStreamed, GoesOnAfter}
+use Rattle.xet_core_structures.specs.Steps.MergeJoin.FollowingFails.{not_read as next_not_read, falls}
 use Rattle.xet_core_structures.proofs.Records.RecordPairs.{ascends_push, IsUnder}
 use Rattle.xet_core_structures.proofs.Records.ShardContents.{hashes_handed, stored_ascend}
 

@@ -22,10 +22,11 @@ use Rattle.xet_shards.specs.Read.SectionReading.{HoldsRecords}
 use Rattle.xet_shards.proofs.Read.SectionUnique.{first_of_section}
 use Rattle.xet_shards.proofs.ShardInMemory.Sums.{sub-sum}
 use Rattle.xet_core_structures.specs.TwoShards.ByteResults.{HaveNoUnionOf}
-use Rattle.xet_core_structures.specs.Records.RecordPairs.{key_of_record, with_hash, Combines, IsMadeOf, IsRest, rows_in}
+use Rattle.xet_core_structures.specs.Records.RecordPairs.{key_of_record, with_hash, Combines, IsMadeOf, rows_in}
+use Rattle.xet_core_structures.specs.Steps.RecordPairs.{IsRest}
 use Rattle.xet_core_structures.specs.Records.ShardContents.{IsSectionOf}
-use Rattle.xet_core_structures.specs.TwoShards.MergeJoin.{CannotMake, GoesOnAfter, CannotCombine}
-use Rattle.xet_core_structures.specs.TwoShards.MergeJoin.CannotMake.{nothing_made, too_many_rows}
+use Rattle.xet_core_structures.specs.Steps.MergeJoin.{CannotMake, GoesOnAfter, CannotCombine}
+use Rattle.xet_core_structures.specs.Steps.MergeJoin.CannotMake.{nothing_made, too_many_rows}
 use Rattle.xet_core_structures.proofs.Records.RecordPairs.{ComeAfter, IsUnder, hash_under, after_earlier, same_before, more_combined, up_to}
 use Rattle.xet_core_structures.proofs.Records.ShardContents.{hashes_handed, rows_handed, section_ascends, sorted_front, one_map}
 use Rattle.xet_core_structures.proofs.Records.ListMaps.{list_map, values-list_map, get-list_map, with_hash_of, section_of_list, combined_maps}

@@ -9,7 +9,7 @@ use Rattle.xet_records.specs.declared.file_structs.MDBFileInfo.{MDBFileInfo}
 use Rattle.xet_records.specs.declared.xorb_structs.MDBXorbInfo.{MDBXorbInfo}
 use Rattle.xet_records.specs.declared.row_copier.CopyFailure.{CopyFailure}
 use Rattle.xet_records.specs.declared.row_copier.CopyFailure.TheVariants.{Input, Output}
-use Rattle.xet_records.specs.Copying.{error_of}
+use Rattle.xet_records.specs.Steps.Copying.{error_of}
 use Rattle.xet_records.specs.declared.record_reader.FormatVersion.{FormatVersion}
 use Rattle.xet_records.specs.declared.record_reader.FormatVersion.TheVariants.{V3}
 use Rattle.xet_records.specs.Version.{version_of}
@@ -24,15 +24,16 @@ use Rattle.xet_shards.specs.Read.SectionReading.{StreamsSection}
 use Rattle.xet_shards.specs.Content.SetOperations.{IsDifference}
 use Rattle.xet_shards.specs.Content.Shard.{Shard}
 use Rattle.xet_core_structures.specs.Records.ByteUnion.{IsUnitedFile, IsEitherFile, IsEitherXorb, IsByteUnion}
-use Rattle.xet_core_structures.specs.TwoShards.ByteResults.{keyed_options, key_of, InputRefusal, DifferenceRefusal, UnionRefusal, InputsFail, FailsBy, WritesResult, Records, HaveInputs, AreCombined, WritesRecords}
-use Rattle.xet_core_structures.specs.Records.RecordPairs.{IsRest}
+use Rattle.xet_core_structures.specs.TwoShards.ByteResults.{keyed_options, key_of, InputRefusal, DifferenceRefusal, UnionRefusal, InputsFail, WritesResult}
+use Rattle.xet_core_structures.specs.Steps.ByteResults.{FailsBy, Records, HaveInputs, AreCombined, WritesRecords}
+use Rattle.xet_core_structures.specs.Steps.RecordPairs.{IsRest}
 use Rattle.xet_core_structures.specs.Records.ShardContents.{HasFiles, files_at, xorbs_at}
-use Rattle.xet_core_structures.specs.TwoShards.SetOutcomes.{OperationLaws}
-use Rattle.xet_core_structures.specs.TwoShards.MergeJoin.{SectionRefusal, CannotCombine, SectionsFail}
-use Rattle.xet_core_structures.specs.TwoShards.MergeJoin.SectionsFail.{output_fails, first_fails, second_fails, refused}
-use Rattle.xet_core_structures.specs.TwoShards.Streams.{sources}
+use Rattle.xet_core_structures.specs.Steps.SetOutcomes.{OperationLaws}
+use Rattle.xet_core_structures.specs.Steps.MergeJoin.{SectionRefusal, CannotCombine, SectionsFail}
+use Rattle.xet_core_structures.specs.Steps.MergeJoin.SectionsFail.{output_fails, first_fails, second_fails, refused}
+use Rattle.xet_core_structures.specs.Steps.Streams.{sources}
 use Rattle.xet_core_structures.proofs.Records.ListMaps.{values-list_map, combined_maps, shard_of, lists_hold}
-use Rattle.xet_core_structures.proofs.Laws.FileLookups.{union_in_form, difference_in_form}
+use Rattle.xet_core_structures.proofs.LawProofs.FileLookups.{union_in_form, difference_in_form}
 use Rattle.xet_core_structures.proofs.TwoShards.Refusals.{no_union, always_rest}
 
 -- at most one record is made of two

@@ -19,10 +19,11 @@ use Rattle.xet_records.specs.Reading.{ReadsRowsAfter}
 use Rattle.xet_records.proofs.RecordKinds.{file_laws}
 use Rattle.xet_core_structures.specs.Records.ByteUnion.{mixed, IsEitherFile}
 use Rattle.xet_core_structures.specs.Records.RecordPairs.{IsMadeOf}
-use Rattle.xet_core_structures.specs.TwoShards.MixedFiles.{MixesFiles, MixHasTooManyRows}
-use Rattle.xet_core_structures.specs.TwoShards.MergeJoin.{IsRecordHeader, ReadsOptionalRecord, MakesRecord, CannotMake}
-use Rattle.xet_core_structures.specs.TwoShards.MergeJoin.CannotMake.{nothing_made, too_many_rows}
-use Rattle.xet_core_structures.specs.TwoShards.Streams.{sources, streams}
+use Rattle.xet_core_structures.specs.Steps.MixedFiles.{MixesFiles, MixHasTooManyRows}
+use Rattle.xet_core_structures.specs.Steps.MergeJoin.{IsRecordHeader, ReadsOptionalRecord, MakesRecord, CannotMake}
+use Rattle.xet_core_structures.specs.Steps.MergeJoin.CannotMake.{nothing_made, too_many_rows}
+use Rattle.xet_core_structures.specs.TwoShards.Streams.{streams}
+use Rattle.xet_core_structures.specs.Steps.Streams.{sources}
 use Rattle.xet_core_structures.proofs.TwoShards.Mixing.{mixed_stored, rows_of_mix, rows_of-mixed}
 use Rattle.xet_core_structures.proofs.TwoShards.Pairs.{fails_so, record_of}
 use Rattle.xet_core_structures.proofs.TwoShards.OneSection.{header_of_found}

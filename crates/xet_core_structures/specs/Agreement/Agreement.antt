@@ -1,7 +1,6 @@
 -- Whether shards in memory agree, and where they do not.
 use Rattle.std.specs.Prelude.{◌≡◌, ◌⊎◌, ℕ, ◌<◌, List, ◌++◌, length, map, Contains, Some, slice_get}
 use Rattle.std.specs.FinMap.{get}
-use Rattle.std.specs.List.{AllZip}
 use Rattle.std.specs.List.Sorted.{IsStrictlySortedBy}
 use Rattle.xet_base.specs.declared.error.CoreError.{CoreError}
 use Rattle.xet_base.specs.declared.error.CoreError.TheVariants.{OutOfMemory}
@@ -15,22 +14,16 @@ use Rattle.xet_shards.specs.Ends.Ends.{HasHeaderAndFooter}
 use Rattle.xet_shards.specs.Content.SetOperations.{ShardsAgree}
 use Rattle.xet_shards.specs.Content.Shard.{Shard}
 use Rattle.xet_core_structures.specs.declared.set_operations.agreement.Disagreement.{Disagreement}
-use Rattle.xet_core_structures.specs.declared.set_operations.agreement.PlacedInputs.{PlacedInputs}
 use Rattle.xet_core_structures.specs.declared.set_operations.agreement.RecordHash.{RecordHash}
 use Rattle.xet_core_structures.specs.declared.set_operations.agreement.RecordHash.TheVariants.{File, Xorb}
 use Rattle.xet_core_structures.specs.declared.set_operations.agreement.differing.Differing.{Differing}
 use Rattle.xet_core_structures.specs.declared.set_operations.MergePlan.{MergePlan}
 use Rattle.xet_core_structures.specs.declared.set_operations.agreement.Merged.{Merged}
 use Rattle.xet_core_structures.specs.declared.set_operations.agreement.Merged.TheVariants.{Bytes, Disagreement as Disagreed}
-use Rattle.xet_core_structures.specs.declared.set_operations.trees.parts.PlacedShard.{PlacedShard}
 use Rattle.xet_core_structures.specs.TwoShards.ByteResults.{key_of, LoadRefusal}
 use Rattle.xet_core_structures.specs.Records.ShardContents.{HasShard}
 use Rattle.xet_core_structures.specs.Trees.MergeTrees.{leaves, TreeWrites, InputIs}
-use Rattle.xet_core_structures.specs.Trees.Parts.{PlacesShard, SectionsRefusal}
-
--- two xorbs agree if they are equal
-abbrev pub AreEqual : MDBXorbInfo → MDBXorbInfo → Type 0
-AreEqual r s = r ≡ s
+use Rattle.xet_core_structures.specs.Trees.Parts.{SectionsRefusal}
 
 -- two shards have records with this hash that do not agree
 abbrev pub DisagreeShards : Shard → Shard → RecordHash → Type 0
@@ -52,18 +45,6 @@ IsHeld inputs s = (i : ℕ) × HoldsAt inputs i s
 abbrev pub ShardRefusal : List ℕ → CoreError → Type 0
 ShardRefusal bytes e =
     LoadRefusal bytes e ⊎ ((info : MDBShardInfo) × HasHeaderAndFooter bytes info × SectionsRefusal bytes info e)
-
--- a shard in memory is one that bytes hold
-abbrev pub IsPlacedOf : PlacedShard → List ℕ → Type 0
-IsPlacedOf shard bytes =
-    (info : MDBShardInfo) × HasHeaderAndFooter bytes info × PlacesShard bytes info shard
-
--- these are the records of inputs in memory
-pub record ArePlaced (inputs : List (List ℕ)) (placed : PlacedInputs) : Type 0 where
-  pub shards : List PlacedShard
-  pub each : AllZip IsPlacedOf shards inputs
-  pub files : placed.files.items ≡ map (λ s. s.files) shards
-  pub xorbs : placed.xorbs.items ≡ map (λ s. s.xorbs) shards
 
 -- the shards that two inputs hold agree
 abbrev pub AgreeAt : List (List ℕ) → ℕ → ℕ → Type 0

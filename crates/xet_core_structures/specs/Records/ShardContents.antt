@@ -73,15 +73,6 @@ pub record IsSectionOf {H R : Type 0} (K : RecordKind H R) (bytes : List ℕ) (m
   pub returned : map K.as_read stored ≡ values m
   pub keyed : All (λ e. e.0 ≡ K.hash_of (K.header_of e.1)) (entries m)
 
--- the bytes are a section: these are its records, as reading returns them, and they may be written
--- as a section whose hashes strictly ascend
-pub record IsListOf {H R : Type 0} (K : RecordKind H R) (bytes : List ℕ) (found : List R)
-    : Type 0 where
-  pub stored : List R
-  pub section : IsSection K bytes stored
-  pub returned : map K.as_read stored ≡ found
-  pub writable : AreWritable K found
-
 -- the bytes from the file section on
 abbrev pub files_at : List ℕ → MDBShardInfo → List ℕ
 files_at bytes info = drop info.metadata.file_info_offset bytes
@@ -128,12 +119,6 @@ abbrev pub IsMalformed : List ℕ → MDBShardInfo → Type 0
 IsMalformed bytes info =
     IsMalformedSection (files_of info) (files_at bytes info)
     ⊎ (HasFiles bytes info × IsMalformedSection xorb_records (xorbs_at bytes info))
-
--- the bytes have both sections, with the records of these lists
-pub record HoldsLists (bytes : List ℕ) (info : MDBShardInfo) (fs : List MDBFileInfo)
-    (xs : List MDBXorbInfo) : Type 0 where
-  pub files : IsListOf (files_of info) (files_at bytes info) fs
-  pub xorbs : IsListOf xorb_records (xorbs_at bytes info) xs
 
 -- the bytes have both sections, and of these no more bytes were read than they have, with at most
 -- two seeks

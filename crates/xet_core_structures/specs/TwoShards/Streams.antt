@@ -2,15 +2,6 @@
 use Rattle.std.specs.Prelude.{ℕ, List, Option}
 use Rattle.xet_base.specs.Source.{Source}
 
--- the states of two sources
-pub record Sources : Type 0 where
-  pub first : Source
-  pub second : Source
-
--- the pair of these two sources
-abbrev pub sources : Source → Source → Sources
-sources first second = record { first = first; second = second }
-
 -- the state of both sources, and the bytes of the output, if they are known
 pub record Streams : Type 0 where
   pub first : Source
@@ -20,7 +11,3 @@ pub record Streams : Type 0 where
 -- the state that has these sources and this output
 abbrev pub streams : Source → Source → Option (List ℕ) → Streams
 streams first second out = record { first = first; second = second; out = out }
-
--- the sources of a state of both sources and the output
-abbrev pub inputs_of : Streams → Sources
-inputs_of s = sources s.first s.second

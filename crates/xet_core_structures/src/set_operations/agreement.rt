@@ -4,7 +4,8 @@
 ghost use Rattle.std.specs.Prelude.{◌≡◌, ◌⊎◌, ◌<◌, ◌++◌, ℕ, List, length, map, Some, slice_get, MatchOption, MatchResult, OnOk, IfErr};
 ghost use Rattle.xet_base.specs.declared.error.CoreError.TheVariants.{OutOfMemory};
 ghost use Rattle.xet_core_structures.specs.Trees.MergeTrees.{TreeRefusal};
-ghost use Rattle.xet_core_structures.specs.Agreement.Agreement.{ArePlaced, IsPlacedOf, InputsAgree, InputsDisagree, HasAllDisagreements, InputsRefusal, ShardRefusal, IsMerged, disagreement_of};
+ghost use Rattle.xet_core_structures.specs.Agreement.Agreement.{InputsAgree, InputsDisagree, HasAllDisagreements, InputsRefusal, ShardRefusal, IsMerged, disagreement_of};
+ghost use Rattle.xet_core_structures.specs.Steps.Agreement.{ArePlaced, IsPlacedOf};
 
 mod differing;
 mod kinds;

@@ -8,7 +8,7 @@ use Rattle.std.proofs.lemmas.List.Sums.{sum_by-cons}
 use Rattle.xet_base.specs.declared.merklehash.DataHash.{DataHash}
 use Rattle.xet_base.specs.Bytes.{u32_bytes, u64_from_bytes, AreBytes}
 use Rattle.xet_base.specs.Hash.{IsHash, hash_bytes, hash_eq}
-use Rattle.xet_base.specs.KeyedHash.{hmac, hash_of, keyed_bytes, digest, state_after, start_of, message_of, no_key, under_key}
+use Rattle.xet_base.specs.KeyedHash.{hmac, hash_of, keyed_bytes, digest, state_after, initial_state, message_of, no_key, under_key}
 use Rattle.xet_base.proofs.Bytes.{take-bytes, drop-bytes, append-bytes}
 use Rattle.xet_records.specs.declared.xorb_structs.MDBXorbInfo.{MDBXorbInfo}
 use Rattle.xet_records.specs.declared.xorb_structs.XorbChunkSequenceEntry.{XorbChunkSequenceEntry}
@@ -41,7 +41,7 @@ digest_are v =
 
 keyed_are : (key message : List ℕ) → AreBytes (keyed_bytes key message)
 unfolding keyed_bytes
-keyed_are key message = digest_are (state_after 7 (start_of key) (message_of message))
+keyed_are key message = digest_are (state_after 7 (initial_state key) (message_of message))
 
 below_64 : (bytes : List ℕ) → AreBytes bytes → u64_from_bytes bytes < 2 ^ 64
 unfolding u64_from_bytes

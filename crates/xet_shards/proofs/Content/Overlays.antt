@@ -16,7 +16,8 @@ use Rattle.xet_records.specs.XorbRecord.{xorb_records}
 use Rattle.xet_records.specs.Merging.{merged}
 use Rattle.xet_shards.specs.Write.Section.{total_rows}
 use Rattle.xet_shards.specs.Content.Shard.{Shard, FileMap, XorbMap}
-use Rattle.xet_shards.specs.Content.Joining.{entry, either_file, CanJoinFiles}
+use Rattle.xet_shards.specs.Content.Joining.{entry, either_file}
+use Rattle.xet_shards.specs.Steps.Joining.{CanJoinFiles}
 use Rattle.xet_shards.specs.Content.SetOperations.{IsUnion, CanUnite}
 use Rattle.xet_shards.proofs.Content.Maps.{sum-insert}
 use Rattle.xet_shards.proofs.ShardInMemory.Sums.{sum-remove}

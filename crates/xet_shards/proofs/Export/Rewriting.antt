@@ -17,7 +17,8 @@ use Rattle.xet_shards.specs.declared.shard_format.ends.footer.MDBShardFileFooter
 use Rattle.xet_shards.specs.declared.shard_format.ends.info.MDBShardInfo.{MDBShardInfo}
 use Rattle.xet_shards.specs.Ends.Ends.{HasHeaderAndFooter, FitsFooter}
 use Rattle.xet_shards.specs.Write.WithOptions.{FitsSection}
-use Rattle.xet_shards.specs.Export.KeyedExport.{keyed_xorb, exported_file, exported_xorb, xorbs_after}
+use Rattle.xet_shards.specs.Export.KeyedExport.{keyed_xorb, xorbs_after}
+use Rattle.xet_shards.specs.Steps.KeyedExport.{exported_file, exported_xorb}
 use Rattle.xet_shards.specs.Write.Layout.{LayoutOptions, if_included, footer_value, header_value, info_of, layout_of, shard_footer_bytes}
 use Rattle.xet_shards.specs.Export.Rewriting.{HasSections, options_of}
 use Rattle.xet_shards.specs.Write.Section.{section_bytes}

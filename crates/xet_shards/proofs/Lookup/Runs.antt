@@ -20,7 +20,7 @@ use Rattle.xet_records.specs.XorbRecord.{total_bytes}
 use Rattle.xet_records.proofs.Lengths.{length-chunk_rows}
 use Rattle.xet_shards.specs.ShardInMemory.ChunkQuery.{run_length}
 use Rattle.xet_shards.specs.Lookup.RunReading.{DetermineRun}
-use Rattle.xet_shards.specs.Lookup.RunSteps.{RowFailure, RowNotRead, ReadsRun, RunFailure, ReadRunFails, HasReadRun}
+use Rattle.xet_shards.specs.Steps.RunSteps.{RowFailure, RowNotRead, ReadsRun, RunFailure, ReadRunFails, HasReadRun}
 use Rattle.xet_shards.proofs.ShardInMemory.Walks.{flat_map-push}
 
 -- what a test for difference shows

@@ -13,7 +13,7 @@ use Rattle.xet_records.proofs.Lengths.{length-chunk_rows}
 use Rattle.xet_shards.specs.ShardInMemory.ChunkQuery.{Run}
 use Rattle.xet_shards.specs.Lookup.Lookup.{row_at}
 use Rattle.xet_shards.specs.Lookup.RunReading.{QueryAt, chunks_at, chunks_left, IsRun, FoundRun}
-use Rattle.xet_shards.specs.Lookup.RunSteps.{SeeksToRow, ReadsRun, ReadsRunAt}
+use Rattle.xet_shards.specs.Steps.RunSteps.{SeeksToRow, ReadsRun, ReadsRunAt}
 use Rattle.xet_shards.proofs.Lookup.Runs.{run_within}
 
 -- the segment of some chunks

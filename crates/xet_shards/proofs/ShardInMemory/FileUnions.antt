@@ -15,7 +15,8 @@ use Rattle.xet_records.specs.FileRecord.{IsWellFormed}
 use Rattle.xet_records.specs.Merging.{merged}
 use Rattle.xet_records.proofs.Merging.{merged_well_formed}
 use Rattle.xet_shards.specs.Content.Shard.{FileMap, file_hash_of}
-use Rattle.xet_shards.specs.Content.Joining.{unless_in, entry, CanJoinFile, CanJoinFiles, either_file, own_file}
+use Rattle.xet_shards.specs.Content.Joining.{unless_in, entry, either_file}
+use Rattle.xet_shards.specs.Steps.Joining.{CanJoinFile, CanJoinFiles, own_file}
 use Rattle.xet_shards.proofs.Content.Found.{found_entry, entry_found}
 use Rattle.xet_shards.proofs.Content.Maps.{less, both_left, both_right}
 use Rattle.xet_shards.proofs.Content.Joining.{entry-append}

@@ -20,7 +20,7 @@ use Rattle.xet_base.proofs.HashOrder.{hash_cmp-IsTotalOrder, hash_cmp-IsAntisymm
 use Rattle.xet_records.specs.declared.xorb_structs.MDBXorbInfo.{MDBXorbInfo}
 use Rattle.xet_shards.specs.declared.streaming_shard.file_start.FileStart.{FileStart}
 use Rattle.xet_shards.specs.StreamingShard.MinimalShard.{start_cmp, has_start, chunk_of}
-use Rattle.xet_shards.specs.StreamingShard.MinimalWriting.{StartsNowhere, IsNextStart, IsPlaceOf}
+use Rattle.xet_shards.specs.Steps.MinimalWriting.{StartsNowhere, IsNextStart, IsPlaceOf}
 use Rattle.xet_shards.specs.Content.Shard.{xorb_hash_of}
 use Rattle.xet_shards.proofs.StreamingShard.MinimalShard.{start_total}
 

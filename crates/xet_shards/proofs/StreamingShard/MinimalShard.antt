@@ -18,7 +18,7 @@ use Rattle.xet_records.specs.declared.xorb_structs.MDBXorbInfo.{MDBXorbInfo}
 use Rattle.xet_records.specs.XorbRow.{is_marked, IsEligibleChunk}
 use Rattle.xet_shards.specs.declared.streaming_shard.file_start.FileStart.{FileStart}
 use Rattle.xet_shards.specs.StreamingShard.MinimalShard.{start_cmp, chunk_of, marked_if, is_eligible, ascending_hashes}
-use Rattle.xet_shards.specs.StreamingShard.MinimalWriting.{StartsNowhere}
+use Rattle.xet_shards.specs.Steps.MinimalWriting.{StartsNowhere}
 use Rattle.xet_shards.proofs.Write.ChunkTableRows.{keys-push, enumerate_from-push}
 use Rattle.xet_shards.proofs.Content.Maps.{entries-empty}
 

@@ -28,11 +28,12 @@ use Rattle.xet_shards.specs.declared.shard_format.write.written.WrittenXorbs.{Wr
 use Rattle.xet_shards.specs.Write.Section.{total_rows, section_bytes}
 use Rattle.xet_shards.specs.Write.Tables.{table_bytes, chunk_table_bytes}
 use Rattle.xet_shards.specs.Write.Written.{HasWritten, HasWrittenFor, end_of_layout}
-use Rattle.xet_shards.specs.StreamingShard.MinimalWriting.{WritesMarked}
+use Rattle.xet_shards.specs.Steps.MinimalWriting.{WritesMarked}
 use Rattle.xet_shards.proofs.Write.Written.{whole_layout}
 use Rattle.xet_shards.specs.Write.WithOptions.{FitsSection}
 use Rattle.xet_shards.specs.Write.Layout.{LayoutOptions, if_included, layout_of, header_value, footer_value, shard_header_bytes}
-use Rattle.xet_shards.specs.StreamingShard.MinimalShard.{MinimalShard, is_start, chunk_of, marked_if, mark_starts, minimal_options, HasNoTables, IsKept, WritesBytes, WritesKept, WritesMinimalKept}
+use Rattle.xet_shards.specs.StreamingShard.MinimalShard.{MinimalShard, is_start, chunk_of, marked_if, mark_starts, minimal_options, IsKept, WritesBytes, WritesKept, WritesMinimalKept}
+use Rattle.xet_shards.specs.Steps.MinimalShard.{HasNoTables}
 use Rattle.xet_shards.proofs.Write.Layouts.{length-file_section, length-xorb_section, length-shard_header_bytes, length-shard_footer_bytes}
 use Rattle.xet_shards.proofs.ShardInMemory.Sums.{sum-mapped}
 use Rattle.xet_shards.proofs.Write.XorbLayouts.{length-parts}

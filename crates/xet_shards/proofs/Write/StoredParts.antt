@@ -7,7 +7,7 @@ use Rattle.xet_records.specs.declared.file_structs.rows.HashRow.{HashRow}
 use Rattle.xet_records.specs.declared.file_structs.MDBFileInfo.{MDBFileInfo}
 use Rattle.xet_records.specs.Part.{rows_of, optional_rows}
 use Rattle.xet_records.proofs.Parts.{for_parts, All-part, All-parts}
-use Rattle.xet_shards.specs.ShardInMemory.FileStore.{AreClear}
+use Rattle.xet_shards.specs.Steps.FileStore.{AreClear}
 
 -- a test of each part is one of all
 pub each_part : (P : OptionalPart → Type 0) (v m x : Bool) → (IsTrue v ↔ P Verification) → (IsTrue m ↔ P MetadataExt) → (IsTrue x ↔ P AuxExt)

@@ -1,13 +1,10 @@
 -- Union and difference of maps from hashes.
-use Rattle.std.specs.Prelude.{◌≡◌, ◌≤◌, List, Option, None, Some, is_some, if◌then◌else◌}
+use Rattle.std.specs.Prelude.{List, Option, None, Some, is_some, if◌then◌else◌}
 use Rattle.std.specs.FinMap.{FinMap, get, find}
 use Rattle.xet_base.specs.declared.merklehash.DataHash.{DataHash}
 use Rattle.xet_base.specs.Hash.{hash_cmp}
 use Rattle.xet_records.specs.declared.file_structs.MDBFileInfo.{MDBFileInfo}
-use Rattle.xet_records.specs.FileRecord.{row_count}
-use Rattle.xet_records.specs.Merging.{IsSameFile, merged}
-use Rattle.xet_shards.specs.Content.Shard.{FileMap}
-use Rattle.xet_records.specs.Limits.{MAX_ROWS}
+use Rattle.xet_records.specs.Merging.{merged}
 
 -- the value of a hash, unless a map has the hash
 abbrev pub unless_in : {X : Type 0} → FinMap hash_cmp X → (DataHash → Option X) → DataHash → Option X
@@ -17,23 +14,8 @@ unless_in except f q = if is_some (get except q) then None else f q
 abbrev pub entry : {X : Type 0} → List (DataHash × X) → DataHash → Option X
 entry es q = find hash_cmp q es
 
--- two records of one file; the rows of the first with the parts that only the second has fit `u32`
-pub record CanJoinFile (a b : MDBFileInfo) : Type 0 where
-  pub same : IsSameFile a.metadata b.metadata
-  pub rows : row_count (merged a b) ≤ MAX_ROWS
-
--- the files that both maps have can be joined
-abbrev pub CanJoinFiles : FileMap → FileMap → Type 0
-CanJoinFiles a b =
-    (q : DataHash) → (r s : MDBFileInfo) → get a q ≡ Some r → get b q ≡ Some s → CanJoinFile r s
-
 -- the file of a union: if both maps have one, the first with the parts that only the second has
 abbrev pub either_file : Option MDBFileInfo → Option MDBFileInfo → Option MDBFileInfo
 either_file None b = b
 either_file (Some a) None = Some a
 either_file (Some a) (Some b) = Some (merged a b)
-
--- the first file, if any, with the parts that only the second has, if any
-abbrev pub own_file : Option MDBFileInfo → Option MDBFileInfo → Option MDBFileInfo
-own_file None b = None
-own_file (Some a) b = either_file (Some a) b

@@ -9,7 +9,8 @@ use Rattle.xet_records.proofs.KeptParts.{without_aux-rows}
 use Rattle.xet_records.specs.XorbRecord.{xorb_records, xorb_row_count}
 use Rattle.xet_shards.specs.Write.Section.{total_rows}
 use Rattle.xet_shards.specs.Write.Layout.{LayoutOptions, if_included}
-use Rattle.xet_shards.specs.Export.KeyedExport.{exported_file, exported_xorb, keyed_chunk}
+use Rattle.xet_shards.specs.Export.KeyedExport.{keyed_chunk}
+use Rattle.xet_shards.specs.Steps.KeyedExport.{exported_file, exported_xorb}
 
 pub file_rows : (aux : Bool) (options : LayoutOptions) (r : MDBFileInfo)
     → total_rows file_records (exported_file aux options r) ≤ row_count r

@@ -235,13 +235,6 @@ LookupAnswer {R = R} K bytes offset hash None rows =
     All (λ row. (found : R) × RecordAt K bytes (row_at offset row) found × (hash_in K found ≢ hash))
     rows
 
--- the records at these rows were read, and none of them has the hash
-pub record NoneHasHash {H R : Type 0} (K : RecordKind H R) (offset : ℕ) (hash : DataHash) (rows : List ℕ)
-    (old new : Source) : Type 0 where
-  pub visits : Visits K 1 offset rows old new
-  pub no_failure : NoFailure old new
-  pub others : LookupAnswer K old.bytes offset hash None rows
-
 -- the record at one of the rows was not read
 abbrev pub LookupRefused : {H R : Type 0} → RecordKind H R → ℕ → Source → Source → CoreError
     → List ℕ → Type 0

@@ -1,6 +1,6 @@
 -- A run in the bytes of a xorb: what reading it from a source returns, why it fails, and what a
 -- chunk query makes of it.
-use Rattle.std.specs.Prelude.{◌≡◌, ◌≢◌, ◌⊎◌, ℕ, ◌+◌, ◌-◌, ◌^◌, ◌<◌, ◌≤◌, min, List, [], ◌∷◌, ◌++◌, length, take, drop, map, flat_map, All, AllPairs, Contains, Option, None, Some, Ok, MatchResult, IfOk, IfErr, OnOk}
+use Rattle.std.specs.Prelude.{◌≡◌, ◌≢◌, ◌⊎◌, ℕ, ◌+◌, ◌-◌, ◌^◌, ◌<◌, ◌≤◌, min, List, [], ◌∷◌, ◌++◌, length, take, drop, map, flat_map, All, AllPairs, Contains, Option, None, Some, MatchResult}
 use Rattle.xet_base.specs.declared.error.CoreError.{CoreError}
 use Rattle.xet_base.specs.declared.merklehash.DataHash.{DataHash}
 use Rattle.xet_base.specs.Errors.{CoreResult, IsEndOfInput}
@@ -14,7 +14,7 @@ use Rattle.xet_records.specs.XorbRow.{chunk_row, FitsChunk}
 use Rattle.xet_records.specs.XorbRecord.{xorb_records, total_bytes, default_segment, segment_of}
 use Rattle.xet_shards.specs.declared.shard_format.ends.footer.MDBShardFileFooter.{MDBShardFileFooter}
 use Rattle.xet_shards.specs.ShardInMemory.ChunkQuery.{Run, run_length}
-use Rattle.xet_shards.specs.Lookup.Lookup.{row_at, chunk_lookup_table, IsRowAndIndex, Visit, Visits, VisitsSome}
+use Rattle.xet_shards.specs.Lookup.Lookup.{row_at, chunk_lookup_table, IsRowAndIndex, VisitsSome}
 use Rattle.xet_shards.specs.Read.SectionReading.{BeginsWithBookend}
 
 -- chunks in front of some bytes, no more than are left of their xorb
@@ -157,16 +157,6 @@ RefusalAt Absent q old new e =
 abbrev pub RefusedAt : (CoreError → Type 0) → QueryAt → Source → Source → CoreError → Type 0
 RefusedAt Absent q old new e = (q.hashes ≢ []) × RefusalAt Absent q old new e
 
--- the outcome: the answer or why there is none, that without hashes nothing is done, that the
--- device did not fail, and what was read
-pub record OutcomeAt (Absent : CoreError → Type 0) (q : QueryAt) (old new : Source)
-    (result : CoreResult (Option Run)) : Type 0 where
-  pub answer : IfOk result (AnswerAt q old.bytes)
-  pub refused : IfErr result (RefusedAt Absent q old new)
-  pub nothing : q.hashes ≡ [] → (result ≡ Ok None) × (new ≡ old)
-  pub no_failure : OnOk result (NoFailure old new)
-  pub visit : Visit xorb_records 2 q.section q.row old new
-
 -- the first word of a hash under a footer's key, by which the chunk table is searched
 abbrev pub keyed_word : MDBShardFileFooter → DataHash → ℕ
 keyed_word footer hash = (under_key footer.chunk_hash_hmac_key hash).word0
@@ -214,15 +204,6 @@ TriedRefused footer hashes old new e locations =
     (location : ℕ × ℕ) × Contains locations location
     × RefusedAt IsBareInvalidShard (query_at footer hashes location) old new e
 
--- the outcome of queries at some locations, of which the first few are tried
-pub record OutcomeOfTries (footer : MDBShardFileFooter) (hashes : List DataHash)
-    (locations : List (ℕ × ℕ)) (old new : Source) (result : CoreResult (Option Run)) : Type 0 where
-  pub answer : IfOk result (λ answer. TriedAnswer footer hashes old.bytes answer locations)
-  pub refused : IfErr result (λ e. TriedRefused footer hashes old new e locations)
-  pub no_failure : OnOk result (NoFailure old new)
-  pub visits : VisitsSome xorb_records 2 footer.xorb_info_offset
-      (map (λ location. location.0) locations) old new
-
 -- the answer to a query: none without hashes or without rows of the chunk table, which it then does
 -- not search
 abbrev pub QueryAnswer : MDBShardFileFooter → List DataHash → Source → Source → Option Run → Type 0
@@ -248,11 +229,3 @@ abbrev pub QueryOutcome : MDBShardFileFooter → List DataHash → Source → So
     → CoreResult (Option Run) → Type 0
 QueryOutcome footer hashes old new result =
     MatchResult result (QueryAnswer footer hashes old new) (QueryRefused footer hashes old new)
-
--- the locations at the front were tried, and have no run
-pub record NoneTried (footer : MDBShardFileFooter) (hashes : List DataHash)
-    (locations : List (ℕ × ℕ)) (old new : Source) : Type 0 where
-  pub visits : Visits xorb_records 2 footer.xorb_info_offset
-      (map (λ location. location.0) locations) old new
-  pub no_failure : NoFailure old new
-  pub none : TriedAnswer footer hashes old.bytes None locations

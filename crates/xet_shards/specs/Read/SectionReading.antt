@@ -1,10 +1,10 @@
 -- What bytes are to a reader of a section, of files or of xorbs: the bytes of a list of records and
 -- a bookend, or such bytes and then a header that is refused, or such bytes and then too few bytes.
-use Rattle.std.specs.Prelude.{◌≡◌, ◌⊎◌, ℕ, ◌+◌, ◌-◌, ◌*◌, ◌≤◌, List, ◌++◌, map, flat_map, sum_by, All, Option, MatchResult}
+use Rattle.std.specs.Prelude.{◌≡◌, ◌⊎◌, ℕ, ◌+◌, ◌-◌, ◌*◌, ◌≤◌, List, ◌++◌, map, flat_map, sum_by, All, MatchResult}
 use Rattle.std.specs.declared.vec.Vec.{Vec}
 use Rattle.xet_base.specs.declared.error.CoreError.{CoreError}
 use Rattle.xet_base.specs.Errors.{CoreResult}
-use Rattle.xet_base.specs.Source.{Source, ReadsBytes, FailedBy, ReadCase, advanced, moved, bytes_left}
+use Rattle.xet_base.specs.Source.{Source, FailedBy, ReadCase, advanced, moved, bytes_left}
 use Rattle.xet_base.specs.Table.{IsBareInvalidShard}
 use Rattle.xet_records.specs.declared.file_structs.MDBFileInfo.{MDBFileInfo}
 use Rattle.xet_records.specs.declared.xorb_structs.MDBXorbInfo.{MDBXorbInfo}
@@ -14,7 +14,7 @@ use Rattle.xet_records.specs.Version.{version_of}
 use Rattle.xet_records.specs.FileRecord.{file_records_in}
 use Rattle.xet_records.specs.XorbRecord.{xorb_records}
 use Rattle.xet_shards.specs.declared.shard_format.ends.info.MDBShardInfo.{MDBShardInfo}
-use Rattle.xet_records.specs.Reading.{CountsRecord, ReadsNextRecord, BeginsWithHeader}
+use Rattle.xet_records.specs.Reading.{BeginsWithHeader}
 pub use Rattle.xet_records.specs.Reading.{BeginsWithBookend, BeginsRefused, EndsEarly}
 use Rattle.xet_records.specs.Limits.{MAX_ROWS}
 
@@ -95,24 +95,6 @@ pub record SectionNotStreamed {H R : Type 0} (K : RecordKind H R) (old new : Sou
 -- offset
 abbrev pub SectionFails : {H R : Type 0} → RecordKind H R → Source → Source → ℕ → CoreError → Type 0
 SectionFails K old new at e = SectionNotStreamed K (moved old at) new e
-
--- a record that was read, and its rows counted down
-abbrev pub ReadsNext : {H R : Type 0} → RecordKind H R → Source → Source → ℕ → ℕ → R → Type 0
-ReadsNext K old new left after found = CountsRecord K (ReadsBytes old new) left after found
-
--- the bookend was read, or the next record
-abbrev pub ReadsOne : {H R : Type 0} → RecordKind H R → Source → Source → ℕ → ℕ → Option R → Type 0
-ReadsOne K old new left after found = ReadsNextRecord K (ReadsBytes old new) left after found
-
--- neither a bookend nor the next record was read; the source may be at any offset
-pub record RecordFails {H R : Type 0} (K : RecordKind H R) (left : ℕ) (old new : Source)
-    (e : CoreError) : Type 0 where
-  pub bytes : new.bytes ≡ old.bytes
-  pub seeks : new.seeks ≡ old.seeks
-  pub taken : ℕ
-  pub read : new.read ≤ old.read + taken
-  pub may_take : MayRead K (bytes_left old) taken
-  pub cause : SectionFailure (BeginsRefused K left) (EndsEarly K left) (bytes_left old) old new e
 
 -- all records of the section at an offset were read, or it failed
 abbrev pub ReadsAll : {H R Z : Type 0} → RecordKind H R → Source → Source → ℕ → CoreResult (Vec R Z)

@@ -2,7 +2,7 @@
 use Rattle.std.specs.Prelude.{◌≡◌, ◌⊎◌, ℕ, ◌+◌, ◌*◌, ◌^◌, ◌<◌, ◌≤◌, List, ◌++◌, length, flat_map, drop, All}
 use Rattle.xet_base.specs.declared.error.CoreError.{CoreError}
 use Rattle.xet_base.specs.Bytes.{u32_bytes, u64_bytes}
-use Rattle.xet_base.specs.Source.{Source, ReadsBytes, FailedBy, ReadCase}
+use Rattle.xet_base.specs.Source.{Source, FailedBy, ReadCase}
 use Rattle.xet_base.specs.Table.{IsBareInvalidShard}
 use Rattle.xet_shards.specs.Write.Tables.{ChunkTableRow}
 use Rattle.xet_records.specs.Limits.{MAX_ROWS}
@@ -27,13 +27,6 @@ pub record FitsTriple (row : ℕ × (ℕ × ℕ)) : Type 0 where
   pub word : row.0 < 2 ^ 64
   pub row_number : row.1.0 < 2 ^ 32
   pub index : row.1.1 < 2 ^ 32
-
--- the next row was read
-pub record ReadsNextRow {T : Type 0} (row_bytes : T → List ℕ) (Fits : T → Type 0) (size : ℕ)
-    (old new : Source) (row : T) : Type 0 where
-  pub widths : Fits row
-  pub bytes : length (row_bytes row) ≡ size
-  pub taken : ReadsBytes old new (row_bytes row)
 
 -- the rows of a table at an offset were read, by one seek and no byte past the table
 pub record ReadsTable {T : Type 0} (row_bytes : T → List ℕ) (Fits : T → Type 0) (size : ℕ)

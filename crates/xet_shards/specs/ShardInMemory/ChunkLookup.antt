@@ -1,6 +1,6 @@
 -- The chunks of a shard's xorbs, and the lookup that keeps a location for each chunk hash.
 use Rattle.std.specs.Prelude.{◌≡◌, ℕ, Option, Some, IsSome, option_map, slice_get, refl}
-use Rattle.std.specs.FinMap.{FinMap, get, insert}
+use Rattle.std.specs.FinMap.{FinMap, get}
 use Rattle.std.specs.FinMap as finite
 use Rattle.std.specs.Coded.{Coded, code_by, coded×, coded_ℕ}
 use Rattle.xet_base.specs.declared.merklehash.DataHash.{DataHash}
@@ -8,7 +8,7 @@ use Rattle.xet_base.specs.contracts.merklehash.DataHash as hash
 use Rattle.xet_base.specs.Hash.{hash_cmp}
 use Rattle.xet_records.specs.declared.xorb_structs.MDBXorbInfo.{MDBXorbInfo}
 use Rattle.xet_records.specs.contracts.xorb_structs.MDBXorbInfo as xorb
-use Rattle.xet_shards.specs.Content.Shard.{XorbMap, coded_xorbs, xorb_hash_of, Shard, coded_shard}
+use Rattle.xet_shards.specs.Content.Shard.{XorbMap, xorb_hash_of, Shard, coded_shard}
 
 -- the location of a chunk: a xorb, and the chunk's index in it
 abbrev pub ChunkLocation : Type 0
@@ -18,20 +18,9 @@ ChunkLocation = MDBXorbInfo × ℕ
 abbrev pub LocationMap : Type 0
 LocationMap = FinMap hash_cmp ChunkLocation
 
--- the xorbs of a shard, and their chunk lookup
-pub record XorbsWithLookup : Type 0 where
-  pub xorbs : XorbMap
-  pub locations : LocationMap
-
 -- the encoding by which proofs distinguish chunk lookups
 abbrev pub coded_locations : Coded LocationMap
 coded_locations = finite.code hash.the_row.coded (coded× xorb.the_row.coded coded_ℕ)
-
--- the encoding by which proofs distinguish xorbs with their chunk lookup
-abbrev pub coded_xorbs_with_lookup : Coded XorbsWithLookup
-coded_xorbs_with_lookup =
-    code_by (XorbMap × LocationMap) (coded× coded_xorbs coded_locations)
-    (λ t. (t.xorbs, t.locations)) (λ p. record { xorbs = p.0; locations = p.1 }) (λ _. refl)
 
 -- a shard, and its chunk lookup
 pub record ShardWithLookup : Type 0 where
@@ -58,7 +47,3 @@ pub record IsChunkLookup (xorbs : XorbMap) (locations : DataHash → Option Chun
     : Type 0 where
   pub present : (q : DataHash) → (p : ChunkLocation) → locations q ≡ Some p → IsLocation xorbs q p
   pub complete : (q : DataHash) → (p : ChunkLocation) → IsLocation xorbs q p → IsSome (locations q)
-
--- a xorb inserted or replaced
-abbrev pub put_xorb : XorbMap → MDBXorbInfo → XorbMap
-put_xorb xorbs r = insert xorbs (xorb_hash_of r) r

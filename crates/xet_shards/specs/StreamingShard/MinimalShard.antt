@@ -127,11 +127,6 @@ minimal_options now expiry = record {
   expiry = unwrap_or expiry 0;
 }
 
--- layout options without tables
-abbrev pub HasNoTables : LayoutOptions → Type 0
-HasNoTables options =
-    (options.file_table ≡ false) × (options.xorb_table ≡ false) × (options.chunk_table ≡ false)
-
 -- bytes were appended, and their number returned
 pub record WritesBytes (old new : Option (List ℕ)) (bytes : List ℕ) (n : ℕ) : Type 0 where
   pub appended : Appends old new bytes

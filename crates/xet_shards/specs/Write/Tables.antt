@@ -1,6 +1,6 @@
 -- The lookup tables: by the first word of a hash, the row at which the record with this hash
 -- starts; for a chunk's hash, the row at which the xorb starts and the chunk's index in it.
-use Rattle.std.specs.Prelude.{◌≡◌, ℕ, List, [], ◌++◌, map, filter, flat_map}
+use Rattle.std.specs.Prelude.{ℕ, List, [], ◌++◌, map, filter, flat_map}
 use Rattle.std.specs.List.{enumerate_from}
 use Rattle.std.specs.Ordering.{is_lt, nat_cmp, ordering_then}
 use Rattle.std.specs.declared.cmp.Ordering.{Ordering}
@@ -55,10 +55,6 @@ chunk_table_rows xorbs =
 abbrev pub ascending : List ChunkTableRow → List ChunkTableRow
 ascending rows =
     finite.keys (finite.from_entries {R = chunk_table_row_cmp} (map (λ row. (row, tt {0})) rows))
-
--- the new rows are the old ones, and then those of the chunks of a xorb that starts at a row
-abbrev pub AddsChunkRows : (old new : List ChunkTableRow) → ℕ → List XorbChunkSequenceEntry → Type 0
-AddsChunkRows old new row chunks = new ≡ old ++ chunk_table_rows_from row chunks
 
 -- the rows of the chunk table for all chunks of a list of xorbs, in ascending order
 abbrev pub chunk_table : List MDBXorbInfo → List ChunkTableRow

@@ -9,9 +9,10 @@ ghost use Rattle.xet_base.specs.Hash.{hash_cmp};
 ghost use Rattle.xet_records.specs.FileRecord.{row_count, FitsItsHeader, FitsRecord, IsWellFormed};
 ghost use Rattle.xet_records.specs.Merging.{IsSameFile, merged};
 ghost use Rattle.xet_records.specs.Part.{rows_of, optional_rows};
-ghost use Rattle.xet_shards.specs.ShardInMemory.FileStore.{HasAnnounced, AreClear};
+ghost use Rattle.xet_shards.specs.Steps.FileStore.{HasAnnounced, AreClear};
 ghost use Rattle.xet_shards.specs.Content.Shard.{AreFiles, file_hash_of};
-ghost use Rattle.xet_shards.specs.Content.Joining.{unless_in, entry, CanJoinFile, CanJoinFiles, either_file, own_file};
+ghost use Rattle.xet_shards.specs.Content.Joining.{unless_in, entry, either_file};
+ghost use Rattle.xet_shards.specs.Steps.Joining.{CanJoinFile, CanJoinFiles, own_file};
 
 use std::alloc::Global;
 use std::collections::BTreeMap;
@@ -35,7 +36,7 @@ impl Model for FileStore {
     ghost coded = { coded_files };
 
     ghost use Rattle.std.specs.FinMap.{from_sorted};
-    ghost use Rattle.xet_shards.specs.ShardInMemory.FileStore.{IsSoundFileStore};
+    ghost use Rattle.xet_shards.specs.Steps.FileStore.{IsSoundFileStore};
 
     ghost view = { λ t. from_sorted t.content.entries };
 

@@ -7,7 +7,8 @@ ghost use Rattle.xet_records.specs.FileRecord.{file_records, has_aux_ext, size_o
 ghost use Rattle.xet_records.specs.XorbRecord.{xorb_records};
 ghost use Rattle.xet_shards.specs.Write.Section.{total_rows};
 ghost use Rattle.xet_shards.specs.Content.Shard.{AreFiles, AreXorbs};
-ghost use Rattle.xet_shards.specs.ShardInMemory.XorbStore.{shown_xorbs, xorbs_of};
+ghost use Rattle.xet_shards.specs.ShardInMemory.XorbStore.{shown_xorbs};
+ghost use Rattle.xet_shards.specs.Steps.XorbStore.{xorbs_of};
 ghost use Rattle.xet_records.specs.Limits.{MAX_ROWS};
 
 use std::collections::BTreeMap;

@@ -6,7 +6,7 @@ ghost use Rattle.std.specs.List.Sorted.{IsSorted};
 ghost use Rattle.xet_base.specs.Errors.{IsWriteError};
 ghost use Rattle.xet_records.specs.XorbRecord.{xorb_record_bytes, IsStoredXorb};
 ghost use Rattle.xet_shards.specs.StreamingShard.MinimalShard.{start_cmp, start_of_file, has_start, is_start, chunk_of, mark_starts};
-ghost use Rattle.xet_shards.specs.StreamingShard.MinimalWriting.{StartsNowhere, IsNextStart, IsPlaceOf};
+ghost use Rattle.xet_shards.specs.Steps.MinimalWriting.{StartsNowhere, IsNextStart, IsPlaceOf};
 
 use std::alloc::Global;
 use std::io::Write;

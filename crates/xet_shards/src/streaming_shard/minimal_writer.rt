@@ -12,8 +12,9 @@ ghost use Rattle.xet_records.specs.View.{as_kept, LacksVerification, IsIoOther};
 ghost use Rattle.xet_shards.specs.Write.WithOptions.{FitsSection};
 ghost use Rattle.xet_shards.specs.Write.Section.{section_bytes};
 ghost use Rattle.xet_shards.specs.Write.Written.{HasWritten};
-ghost use Rattle.xet_shards.specs.StreamingShard.MinimalShard.{start_cmp, has_start, minimal_options, HasNoTables, WritesMinimal, WritesMinimalKept, WritesKept, FiltersAt};
-ghost use Rattle.xet_shards.specs.StreamingShard.MinimalWriting.{WritesMarked};
+ghost use Rattle.xet_shards.specs.StreamingShard.MinimalShard.{start_cmp, has_start, minimal_options, WritesMinimal, WritesMinimalKept, WritesKept, FiltersAt};
+ghost use Rattle.xet_shards.specs.Steps.MinimalShard.{HasNoTables};
+ghost use Rattle.xet_shards.specs.Steps.MinimalWriting.{WritesMarked};
 
 use super::file_start::{FileStart, starts_of, write_marked};
 use super::minimal_shard::MDBMinimalShard;

@@ -1,7 +1,8 @@
 use Rattle.std.proofs.Common.{◌≡◌, ◌↔◌, [], ◌∷◌}
 use Rattle.std.specs.Prelude.{All, Contains}
 use Rattle.shard_bytes.specs.declared.check.Finding.{Finding}
-use Rattle.shard_bytes.specs.Checking.{IsWhole, IsFinding, IsReport}
+use Rattle.shard_bytes.specs.Checking.{IsWhole, IsFinding}
+use Rattle.shard_bytes.specs.Steps.Checking.{IsReport}
 use Rattle.shard_bytes.proofs.Checking.{if_ok}
 use Rattle.shard_bytes.proofs.Reading.{not_loaded}
 use Rattle.shard_bytes.proofs.Whole.{nothing_wrong}

@@ -2,7 +2,7 @@ use Rattle.std.proofs.Common.{ℕ, map, ap, ◌∙◌, subst, arith}
 use Rattle.xet_core_structures.specs.declared.xorb_structs.XorbChunkSequenceHeader.{XorbChunkSequenceHeader}
 use Rattle.xet_shards.specs.Read.FileRanges.{FileRanges}
 use Rattle.shard_bytes.specs.declared.check.Section.TheVariants.{Files, Xorbs}
-use Rattle.shard_bytes.specs.Checking.{IsReport, IsUnreadable, AddsDisorder}
+use Rattle.shard_bytes.specs.Steps.Checking.{IsReport, IsUnreadable, AddsDisorder}
 use Rattle.shard_bytes.proofs.Checking.{if_ok, reported}
 use Rattle.shard_bytes.proofs.Combining.{in_memory}
 use Rattle.shard_bytes.proofs.Reading.{files_unread, xorbs_unread, files_read, xorbs_read}

@@ -1,4 +1,4 @@
-use Rattle.shard_bytes.specs.Checking.{AddsSize, Compares}
+use Rattle.shard_bytes.specs.Steps.Checking.{AddsSize, Compares}
 use Rattle.shard_bytes.proofs.Checking.{on_ok, compared}
 use Rattle.shard_bytes.proofs.check.compare.Goals as goal
 

@@ -2,7 +2,7 @@ use Rattle.std.proofs.Common.{◌++◌, ap, ◌∙◌, subst}
 use Rattle.xet_core_structures.specs.Layout.{layout_of, footer_value}
 use Rattle.xet_core_structures.specs.Source.{bytes_left}
 use Rattle.xet_shards.specs.Export.Rewriting.{HasSections}
-use Rattle.shard_bytes.specs.Checking.{Compares, AddsDifferences}
+use Rattle.shard_bytes.specs.Steps.Checking.{Compares, AddsDifferences}
 use Rattle.shard_bytes.proofs.Checking.{on_ok}
 use Rattle.shard_bytes.proofs.check.push_differences.Goals as goal
 

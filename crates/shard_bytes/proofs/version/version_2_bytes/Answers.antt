@@ -1,7 +1,7 @@
 use Rattle.std.proofs.Common.{Some, subst}
 use Rattle.xet_records.specs.declared.record_reader.FormatVersion.TheVariants.{V2}
 use Rattle.xet_shards.specs.Export.Rewriting.{WritesAgain}
-use Rattle.shard_bytes.specs.Versions.{FindsAuxRows}
+use Rattle.shard_bytes.specs.Steps.Versions.{FindsAuxRows}
 use Rattle.shard_bytes.proofs.Combining.{in_memory}
 use Rattle.shard_bytes.proofs.Versions.{written_in_2, not_in_2}
 use Rattle.shard_bytes.proofs.version.version_2_bytes.Goals as goal

@@ -1,4 +1,4 @@
-use Rattle.xet_core_structures.proofs.Laws.FileLookups.{tree_under, loaded_under, found_under}
+use Rattle.xet_core_structures.proofs.LawProofs.FileLookups.{tree_under, loaded_under, found_under}
 use Rattle.xet_core_structures.proofs.TwoShards.Readable.{united_xorbs, left_xorbs}
 use Rattle.xet_core_structures.proofs.Trees.TreeXorbs.{held_under, tree_xorbs}
 use Rattle.xet_core_structures.proofs.laws.lookups_on_results.Goals as goal

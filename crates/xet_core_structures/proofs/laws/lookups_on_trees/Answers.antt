@@ -2,7 +2,7 @@ use Rattle.std.proofs.Common.{sym, subst}
 use Rattle.xet_shards.specs.Ends.Ends.{HasHeaderAndFooter}
 use Rattle.xet_shards.specs.Write.WrittenShard.{IsBytesWithoutExpiry}
 use Rattle.xet_shards.proofs.Ends.EndsUnique.{bytes_without_expiry}
-use Rattle.xet_core_structures.proofs.Laws.FileLookups.{found_in_layout}
+use Rattle.xet_core_structures.proofs.LawProofs.FileLookups.{found_in_layout}
 use Rattle.xet_core_structures.proofs.Trees.MergeTrees.{one_layout}
 use Rattle.xet_core_structures.proofs.laws.lookups_on_trees.Goals as goal
 

@@ -1,4 +1,4 @@
-use Rattle.xet_core_structures.proofs.Laws.ByteLaws.{bytes_commute, bytes_associate, bytes_repeat, bytes_with_nothing, bytes_of_nothing}
+use Rattle.xet_core_structures.proofs.LawProofs.ByteLaws.{bytes_commute, bytes_associate, bytes_repeat, bytes_with_nothing, bytes_of_nothing}
 use Rattle.xet_core_structures.proofs.laws.unions_of_bytes.Goals as goal
 
 pub returns-clause-order : goal.returns-clause-order

@@ -4,12 +4,13 @@ ghost use Rattle.std.specs.Prelude.{◌≡◌, ◌+◌, ◌<◌, ◌≤◌, ℕ,
 ghost use Rattle.std.specs.List.{AllZip};
 ghost use Rattle.std.specs.List.Sorted.{IsSorted};
 ghost use Rattle.xet_base.specs.declared.error.CoreError.TheVariants.{OutOfMemory};
-ghost use Rattle.xet_core_structures.specs.Trees.Placed.{Places, MayUnite};
-ghost use Rattle.xet_core_structures.specs.Agreement.Differing.{place_cmp, IsPlace, IsRun, IsRecordAt, ComparesRun, AgreeWithin, DifferWithin, ComparesPlace, DiffersAt, FindsDiffering, Covers, KeepsRecord, IsAgainst};
+ghost use Rattle.xet_core_structures.specs.Steps.Placed.{Places, MayUnite};
+ghost use Rattle.xet_core_structures.specs.Steps.Differing.{ComparesRun, AgreeWithin, DifferWithin, ComparesPlace, DiffersAt, FindsDiffering};
+ghost use Rattle.xet_core_structures.specs.Steps.Differing.{place_cmp, IsPlace, IsRun, IsRecordAt, Covers, KeepsRecord, IsAgainst};
 
-use super::super::placed::{PlacedRecord, copied};
 use super::kinds::Agreement;
 use super::runs::{Place, run_end, sorted_places};
+use crate::set_operations::trees::placed::{PlacedRecord, copied};
 use std::alloc::Global;
 use xet_base::error::{CoreError, Result};
 use xet_base::input::OfSource;

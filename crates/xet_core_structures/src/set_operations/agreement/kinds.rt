@@ -6,10 +6,10 @@ ghost use Rattle.xet_base.specs.declared.merklehash.DataHash.{DataHash};
 ghost use Rattle.xet_records.specs.Merging.{Agree};
 ghost use Rattle.xet_core_structures.specs.declared.set_operations.agreement.RecordHash.{RecordHash};
 ghost use Rattle.xet_core_structures.specs.declared.set_operations.agreement.RecordHash.TheVariants.{File, Xorb};
-ghost use Rattle.xet_core_structures.specs.Agreement.Agreement.{AreEqual};
+ghost use Rattle.xet_core_structures.specs.Steps.Agreement.{AreEqual};
 
-use super::super::record_operation::OfUnion;
 use super::RecordHash;
+use crate::set_operations::two_shards::record_operation::OfUnion;
 use xet_base::merklehash::MerkleHash;
 use xet_records::file_structs::{FileDataSequenceHeader, MDBFileInfo, SupersetResult};
 use xet_records::record_reader::SectionRecord;

@@ -4,9 +4,9 @@
 ghost use Rattle.std.specs.Prelude.{◌≡◌, ◌↔◌, ◌<◌, IsTrue, length, map, MatchResult, OnOk, IfErr};
 ghost use Rattle.std.specs.List.Sorted.{IsSorted};
 ghost use Rattle.xet_base.specs.declared.error.CoreError.TheVariants.{OutOfMemory};
-ghost use Rattle.xet_core_structures.specs.Agreement.Differing.{place_cmp, AddsPlaces, HasPlaces, IsRun};
+ghost use Rattle.xet_core_structures.specs.Steps.Differing.{place_cmp, AddsPlaces, HasPlaces, IsRun};
 
-use super::super::placed::PlacedRecord;
+use crate::set_operations::trees::placed::PlacedRecord;
 use std::alloc::Global;
 use xet_base::error::Result;
 use xet_base::merklehash::MerkleHash;

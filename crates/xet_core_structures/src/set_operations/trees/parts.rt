@@ -8,14 +8,16 @@ ghost use Rattle.xet_shards.specs.declared.shard_format.ends.info.MDBShardInfo.{
 ghost use Rattle.xet_shards.specs.Ends.Ends.{HasHeaderAndFooter};
 ghost use Rattle.xet_shards.specs.Write.Layout.{layout_of};
 ghost use Rattle.xet_core_structures.specs.Records.ByteUnion.{IsEitherFile, IsEitherXorb};
-ghost use Rattle.xet_core_structures.specs.TwoShards.ByteResults.{keyed_options, key_of, Records, AreCombined, UnitesBytes, BytesRefusal, LoadRefusal};
+ghost use Rattle.xet_core_structures.specs.TwoShards.ByteResults.{keyed_options, key_of, UnitesBytes, BytesRefusal, LoadRefusal};
+ghost use Rattle.xet_core_structures.specs.Steps.ByteResults.{Records, AreCombined};
 ghost use Rattle.xet_core_structures.specs.Trees.Filling.{Fills, FillsWith};
 ghost use Rattle.xet_core_structures.specs.Trees.MergeTrees.{TreeWrites, TreeRefusal};
-ghost use Rattle.xet_core_structures.specs.Trees.Parts.{PlacesRecords, MayBeUnited, MayBeWritten, PlacesShard, SectionsRefusal, HaveNoRecordUnion, IsPart, IsOpened};
+ghost use Rattle.xet_core_structures.specs.Trees.Parts.{SectionsRefusal};
+ghost use Rattle.xet_core_structures.specs.Steps.Parts.{PlacesRecords, MayBeUnited, MayBeWritten, PlacesShard, HaveNoRecordUnion, IsPart, IsOpened};
 
-use super::MergePlan;
-use crate::set_operations::trees::filling::{frame_of, put_shard};
-use crate::set_operations::trees::placed::{PlacedRecord, place_records, unite_placed};
+use super::filling::{frame_of, put_shard};
+use super::placed::{PlacedRecord, place_records, unite_placed};
+use crate::set_operations::MergePlan;
 use crate::set_operations::two_shards::record_operation::OfUnion;
 use crate::set_operations::two_shards::results::seek;
 use bumpalo::Bump;

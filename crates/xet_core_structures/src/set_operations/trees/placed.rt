@@ -8,10 +8,11 @@ ghost use Rattle.xet_base.specs.Errors.{IsInvalidShard};
 ghost use Rattle.xet_records.specs.FileRecord.{file_records, file_rows_bytes};
 ghost use Rattle.xet_records.specs.Merging.{mixed_header};
 ghost use Rattle.xet_shards.specs.Write.Section.{total_rows, section_bytes};
-ghost use Rattle.xet_core_structures.specs.TwoShards.MergeJoin.{AscendingNotStreamed};
+ghost use Rattle.xet_core_structures.specs.Steps.MergeJoin.{AscendingNotStreamed};
 ghost use Rattle.xet_core_structures.specs.Records.RecordPairs.{Combines};
 ghost use Rattle.xet_core_structures.specs.Records.ByteUnion.{mixed, IsEitherFile, IsEitherXorb};
-ghost use Rattle.xet_core_structures.specs.Trees.Placed.{Places, PlacesAll, ReadsPlaced, MakesPlaced, MakesNothing, IsMergeStep, HaveNoListUnion, MayUnite, CountsRows};
+ghost use Rattle.xet_core_structures.specs.Steps.Placed.{MakesPlaced, MakesNothing, IsMergeStep, HaveNoListUnion};
+ghost use Rattle.xet_core_structures.specs.Steps.Placed.{Places, PlacesAll, ReadsPlaced, MayUnite, CountsRows};
 ghost use Rattle.xet_records.specs.Limits.{MAX_ROWS};
 
 use crate::set_operations::two_shards::mix::mix_rows;

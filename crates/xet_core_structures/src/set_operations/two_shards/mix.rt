@@ -5,11 +5,11 @@ ghost use Rattle.xet_records.specs.FileRow.{hash_row, FitsHashRow, clear};
 ghost use Rattle.xet_records.specs.Part.{part_rows};
 ghost use Rattle.xet_records.specs.FileRecord.{file_records};
 ghost use Rattle.xet_shards.specs.Write.Written.{HasWritten};
-ghost use Rattle.xet_core_structures.specs.TwoShards.MergeJoin.{IsRecordHeader};
-ghost use Rattle.xet_core_structures.specs.TwoShards.MixedFiles.{MixesFiles, MixesRows, CopiesEither};
+ghost use Rattle.xet_core_structures.specs.Steps.MergeJoin.{IsRecordHeader};
+ghost use Rattle.xet_core_structures.specs.Steps.MixedFiles.{MixesFiles, MixesRows, CopiesEither};
 ghost use Rattle.xet_core_structures.specs.TwoShards.Streams.{streams};
 
-use crate::set_operations::two_shards::record_operation::refuse;
+use super::record_operation::refuse;
 use std::alloc::Global;
 use std::io::Write;
 use xet_base::input::OfSource;

@@ -14,13 +14,14 @@ ghost use Rattle.xet_shards.specs.Write.Layout.{shard_header_bytes, header_value
 ghost use Rattle.xet_shards.specs.Content.SetOperations.{IsDifference};
 ghost use Rattle.xet_shards.specs.Content.Shard.{Shard};
 ghost use Rattle.xet_core_structures.specs.Records.ByteUnion.{IsByteUnion};
-ghost use Rattle.xet_core_structures.specs.TwoShards.ByteResults.{key_of, WritesEnd, IsOutput, UnionRefusal, DifferenceRefusal};
-ghost use Rattle.xet_core_structures.specs.TwoShards.SetOutcomes.{OperatesOn, OperationLaws};
-ghost use Rattle.xet_core_structures.specs.TwoShards.MergeJoin.{CombinesSections};
+ghost use Rattle.xet_core_structures.specs.TwoShards.ByteResults.{key_of, UnionRefusal, DifferenceRefusal};
+ghost use Rattle.xet_core_structures.specs.Steps.ByteResults.{WritesEnd, IsOutput};
+ghost use Rattle.xet_core_structures.specs.Steps.SetOutcomes.{OperatesOn, OperationLaws};
+ghost use Rattle.xet_core_structures.specs.Steps.MergeJoin.{CombinesSections};
 ghost use Rattle.xet_core_structures.specs.TwoShards.Streams.{streams};
 
-use crate::set_operations::two_shards::record_operation::{OfDifference, OfUnion, RecordOperation};
-use crate::set_operations::two_shards::sections::combine_sections;
+use super::record_operation::{OfDifference, OfUnion, RecordOperation};
+use super::sections::combine_sections;
 use std::alloc::Global;
 use std::io::Write;
 use xet_base::error::{CoreError, Result};

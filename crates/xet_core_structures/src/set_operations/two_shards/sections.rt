@@ -5,11 +5,11 @@ ghost use Rattle.std.specs.Prelude.{◌≤◌, ◌⊎◌, ◌↔◌, IsTrue, IfS
 ghost use Rattle.std.specs.Io.KnownBytes.{Appends};
 ghost use Rattle.xet_records.specs.RecordKind.{in_version};
 ghost use Rattle.xet_records.specs.Copying.{IsOutputFailure};
-ghost use Rattle.xet_core_structures.specs.Records.RecordPairs.{IsNextPair};
-ghost use Rattle.xet_core_structures.specs.TwoShards.MergeJoin.{Follows, ReadsFollowing, FollowingFails, Advances, AdvanceFails, CombinesSections};
+ghost use Rattle.xet_core_structures.specs.Steps.RecordPairs.{IsNextPair};
+ghost use Rattle.xet_core_structures.specs.Steps.MergeJoin.{Follows, ReadsFollowing, FollowingFails, Advances, AdvanceFails, CombinesSections};
 ghost use Rattle.xet_core_structures.specs.TwoShards.Streams.{streams};
 
-use crate::set_operations::two_shards::record_operation::RecordOperation;
+use super::record_operation::RecordOperation;
 use std::alloc::Global;
 use std::cmp::Ordering;
 use std::io::Write;

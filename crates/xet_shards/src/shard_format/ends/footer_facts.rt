@@ -5,9 +5,9 @@ ghost use Rattle.std.specs.Prelude.{◌≡◌, ◌≢◌, ◌↔◌, IsTrue, Non
 ghost use Rattle.xet_base.specs.Hash.{hash_eq};
 ghost use Rattle.xet_base.specs.KeyedHash.{no_key, under_key};
 
-use crate::shard_format::ends::footer::FOOTER_SIZE;
-use crate::shard_format::ends::header::HEADER_SIZE;
-use crate::shard_format::ends::info::MDBShardInfo;
+use super::footer::FOOTER_SIZE;
+use super::header::HEADER_SIZE;
+use super::info::MDBShardInfo;
 use xet_base::merklehash::{HMACKey, MerkleHash};
 use xet_records::rows::ROW_SIZE;
 

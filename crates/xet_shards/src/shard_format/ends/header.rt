@@ -9,7 +9,7 @@ ghost use Rattle.xet_records.specs.declared.record_reader.FormatVersion.{FormatV
 ghost use Rattle.xet_records.specs.Version.{number_of, IsVersion, version_of};
 ghost use Rattle.xet_shards.specs.Write.Layout.{header_tag, shard_header_bytes, header_value};
 
-use crate::shard_format::ends::footer::FOOTER_SIZE;
+use super::footer::FOOTER_SIZE;
 use std::alloc::Global;
 use std::io::{Read, Write};
 use xet_base::error::{CoreError, Result};

@@ -12,16 +12,17 @@ ghost use Rattle.xet_shards.specs.declared.shard_format.ends.options.LayoutOptio
 ghost use Rattle.xet_shards.specs.Write.Section.{section_bytes, total_rows};
 ghost use Rattle.xet_shards.specs.Write.Written.{HasWritten, HasWrittenFor};
 ghost use Rattle.xet_shards.specs.Write.WrittenLaws.{written_for};
-ghost use Rattle.xet_shards.specs.Read.SectionReading.{RecordFails};
-ghost use Rattle.xet_shards.specs.Export.KeyedExport.{ExportsWith, ExportFails, OutcomeOfExport, ExportsSection, CannotExport, ExportsNoSection, ExpiresTooLate, export_options, exported_file, exported_xorb};
+ghost use Rattle.xet_shards.specs.Steps.SectionReading.{RecordFails};
+ghost use Rattle.xet_shards.specs.Export.KeyedExport.{ExportsWith, ExportFails, OutcomeOfExport, CannotExport, ExpiresTooLate, export_options};
+ghost use Rattle.xet_shards.specs.Steps.KeyedExport.{ExportsSection, ExportsNoSection, exported_file, exported_xorb};
 ghost use Rattle.xet_shards.specs.Export.ExportLaws.{file_rows, xorb_rows};
 ghost use Rattle.xet_records.specs.Limits.{MAX_ROWS};
 
+use super::keyed_chunks::with_keyed_hashes;
 use crate::shard_format::ends::footer::FOOTER_SIZE;
 use crate::shard_format::ends::header::MDBShardFileHeader;
 use crate::shard_format::ends::info::{MDBShardInfo, read_header};
 use crate::shard_format::ends::options::LayoutOptions;
-use crate::shard_format::export::keyed_chunks::with_keyed_hashes;
 use crate::shard_format::write::view_writer::write_file_view;
 use crate::shard_format::write::writer::write_end;
 use crate::shard_format::write::written::{WrittenFiles, WrittenSection, WrittenXorbs};

@@ -4,11 +4,11 @@ ghost use Rattle.std.specs.Prelude.{◌≡◌, MatchResult};
 ghost use Rattle.xet_shards.specs.Export.KeyedExport.{ExportFails};
 ghost use Rattle.xet_shards.specs.Export.Rewriting.{WritesAgain, options_of};
 
+use super::keyed_export::export_section;
 use crate::shard_format::ends::footer::MDBShardFileFooter;
 use crate::shard_format::ends::header::MDBShardFileHeader;
 use crate::shard_format::ends::info::{MDBShardInfo, read_header};
 use crate::shard_format::ends::options::LayoutOptions;
-use crate::shard_format::export::keyed_export::export_section;
 use crate::shard_format::write::writer::write_end;
 use std::alloc::Global;
 use std::io::Write;

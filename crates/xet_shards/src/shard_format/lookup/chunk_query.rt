@@ -14,11 +14,12 @@ ghost use Rattle.xet_shards.specs.Write.Layout.{LayoutOptions};
 ghost use Rattle.xet_shards.specs.Write.WithOptions.{IsBytesWithOptions};
 ghost use Rattle.xet_shards.specs.Lookup.Lookup.{Visit};
 ghost use Rattle.xet_shards.specs.Lookup.WrittenQueries.{RunInXorb, QueryFailsInXorb, RunAmong, QueryCosts};
-ghost use Rattle.xet_shards.specs.Lookup.RunReading.{query_at, AnswerAt, RefusedAt, OutcomeAt, OutcomeOfTries, QueryOutcome};
+ghost use Rattle.xet_shards.specs.Lookup.RunReading.{query_at, AnswerAt, RefusedAt, QueryOutcome};
+ghost use Rattle.xet_shards.specs.Steps.RunReading.{OutcomeAt, OutcomeOfTries};
 ghost use Rattle.xet_shards.specs.Write.WrittenShard.{IsBytesWithInfo};
 
+use super::run_reader::{read_header_at, read_run_at};
 use crate::shard_format::ends::info::MDBShardInfo;
-use crate::shard_format::lookup::run_reader::{read_header_at, read_run_at};
 use std::alloc::Global;
 use xet_base::error::{CoreError, Result};
 use xet_base::merklehash::MerkleHash;

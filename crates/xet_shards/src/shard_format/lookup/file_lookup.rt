@@ -13,8 +13,8 @@ ghost use Rattle.xet_shards.specs.Write.WithOptions.{IsBytesWithFileTable};
 ghost use Rattle.xet_shards.specs.Lookup.Lookup.{FindsStarts, FindsFileAmong, FindsInShard, file_table, LooksUpIndex, LooksUpFile, ReadsInfo, ReadInfoFails, VisitsSome, FindsRecord, FindRecordFails, LookupAnswer, LookupRefused};
 ghost use Rattle.xet_shards.specs.Write.WrittenShard.{IsBytesWithInfo};
 
+use super::table_search::find_rows;
 use crate::shard_format::ends::info::MDBShardInfo;
-use crate::shard_format::lookup::table_search::find_rows;
 use crate::shard_format::read::section_reader::read_record_at;
 use crate::utils::truncate_hash;
 use std::alloc::Global;

@@ -4,7 +4,7 @@ ghost use Rattle.std.specs.Prelude.{◌*◌, ◌^◌, ◌<◌, ◌≤◌, MatchR
 ghost use Rattle.xet_base.specs.Source.{ReadsBytes};
 ghost use Rattle.xet_records.specs.Rows.{ReadsRow};
 ghost use Rattle.xet_shards.specs.Lookup.RunReading.{query_at};
-ghost use Rattle.xet_shards.specs.Lookup.RunSteps.{RowNotRead, RowFails, ReadsHeaderAt, ReadsRun, ReadRunFails, ReadsRunAt, RunFails, SeeksToRow, NotSought};
+ghost use Rattle.xet_shards.specs.Steps.RunSteps.{RowNotRead, RowFails, ReadsHeaderAt, ReadsRun, ReadRunFails, ReadsRunAt, RunFails, SeeksToRow, NotSought};
 
 use crate::shard_format::ends::info::MDBShardInfo;
 use std::alloc::Global;

@@ -14,8 +14,8 @@ ghost use Rattle.xet_shards.specs.Lookup.Lookup.{FindsStarts, Searches, xorb_tab
 ghost use Rattle.xet_shards.specs.Lookup.WrittenChunks.{FindsRows};
 ghost use Rattle.xet_shards.specs.Write.WrittenShard.{IsBytesWithInfo};
 
+use super::table_search::{find_rows, search_table};
 use crate::shard_format::ends::info::MDBShardInfo;
-use crate::shard_format::lookup::table_search::{find_rows, search_table};
 use crate::shard_format::read::section_reader::read_record_at;
 use crate::utils::truncate_hash;
 use std::alloc::Global;

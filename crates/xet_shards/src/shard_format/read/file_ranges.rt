@@ -8,8 +8,8 @@ ghost use Rattle.xet_shards.specs.Content.Shard.{Shard};
 ghost use Rattle.xet_shards.specs.Write.WrittenShard.{IsBytesOf};
 ghost use Rattle.xet_shards.specs.Read.FileRanges.{file_ranges, ranges_after, ranges_at, ReadsFileRanges, FileRangesFail};
 
+use super::section_walk::{Kept, walk_section};
 use crate::shard_format::ends::info::{MDBShardInfo, read_header};
-use crate::shard_format::read::section_walk::{Kept, walk_section};
 use std::alloc::Global;
 use xet_base::error::{CoreError, Result};
 use xet_base::merklehash::MerkleHash;

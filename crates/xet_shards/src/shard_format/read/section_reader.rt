@@ -7,7 +7,7 @@ ghost use Rattle.xet_shards.specs.Read.SectionReading.{ReadsSection, SectionFail
 ghost use Rattle.xet_shards.specs.Lookup.Lookup.{ReadsInfo, ReadInfoFails};
 ghost use Rattle.xet_shards.specs.Read.XorbHeaders.{header_at, ReadsXorbHeaders};
 
-use crate::shard_format::read::section_walk::{Kept, walk_section};
+use super::section_walk::{Kept, walk_section};
 use std::alloc::Global;
 use xet_base::error::{CoreError, Result};
 use xet_base::input::OfSource;

@@ -6,11 +6,12 @@ ghost use Rattle.xet_shards.specs.Content.Shard.{Shard};
 ghost use Rattle.xet_shards.specs.Write.Tables.{chunk_table_rows_from, chunk_table};
 ghost use Rattle.xet_shards.specs.Write.WrittenShard.{IsBytesWithInfo, ReadsBack};
 ghost use Rattle.xet_shards.specs.Read.TableReading.{triple_of, triple_row, FitsTriple, ReadsTable, TableFails};
-ghost use Rattle.xet_shards.specs.Read.TruncatedHashes.{ReadsHashes, HashesFail, ReadsBefore, XorbBeforeFails};
+ghost use Rattle.xet_shards.specs.Read.TruncatedHashes.{ReadsHashes, HashesFail};
+ghost use Rattle.xet_shards.specs.Steps.TruncatedHashes.{ReadsBefore, XorbBeforeFails};
 ghost use Rattle.xet_records.specs.Limits.{MAX_ROWS};
 
+use super::table_reader::read_chunk_table;
 use crate::shard_format::ends::info::MDBShardInfo;
-use crate::shard_format::read::table_reader::read_chunk_table;
 use crate::utils::truncate_hash;
 use std::alloc::Global;
 use xet_base::error::{CoreError, Result};

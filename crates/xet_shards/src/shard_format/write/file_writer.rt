@@ -8,7 +8,7 @@ ghost use Rattle.xet_records.specs.FileRecord.{file_record_bytes, row_count, Fit
 ghost use Rattle.xet_shards.specs.Write.Written.{IsFileOf, HasWritten};
 ghost use Rattle.xet_records.specs.Limits.{MAX_ROWS};
 
-use crate::shard_format::write::written::{RecordTable, WrittenFiles, WrittenSection};
+use super::written::{RecordTable, WrittenFiles, WrittenSection};
 use std::alloc::Global;
 use std::io::Write;
 use xet_base::error::{CoreError, Result};

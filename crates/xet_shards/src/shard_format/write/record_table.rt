@@ -4,7 +4,7 @@ ghost use Rattle.std.specs.Prelude.{◌≡◌, ◌+◌, ◌≤◌, [], IsTrue, �
 ghost use Rattle.xet_shards.specs.Write.Written.{AddsRecord};
 ghost use Rattle.xet_records.specs.Limits.{MAX_ROWS};
 
-use crate::shard_format::write::written::RecordTable;
+use super::written::RecordTable;
 use std::alloc::Global;
 use xet_base::error::{CoreError, Result};
 use xet_base::fields::{put_u32, put_u64};

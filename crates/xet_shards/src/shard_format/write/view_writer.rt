@@ -9,7 +9,7 @@ ghost use Rattle.xet_records.specs.View.{as_kept};
 ghost use Rattle.xet_shards.specs.Write.Written.{HasWritten};
 ghost use Rattle.xet_records.specs.Limits.{MAX_ROWS};
 
-use crate::shard_format::write::written::WrittenFiles;
+use super::written::WrittenFiles;
 use std::io::Write;
 use xet_base::error::Result;
 use xet_records::file_structs::{KeptParts, MDBFileInfoView};

@@ -15,14 +15,12 @@ ghost use Rattle.xet_shards.specs.Write.Layout.{if_included, layout, footer_valu
 ghost use Rattle.xet_shards.specs.Ends.Ends.{FitsFooter};
 ghost use Rattle.xet_records.specs.Limits.{MAX_ROWS};
 
+use super::written::{RecordTable, WrittenFiles, WrittenSection, WrittenXorbs};
+use super::xorb_writer::ChunkTableRow;
 use crate::shard_format::ends::footer::MDBShardFileFooter;
 use crate::shard_format::ends::header::HEADER_SIZE;
 use crate::shard_format::ends::info::MDBShardInfo;
 use crate::shard_format::ends::options::LayoutOptions;
-use crate::shard_format::write::written::{
-    RecordTable, WrittenFiles, WrittenSection, WrittenXorbs,
-};
-use crate::shard_format::write::xorb_writer::ChunkTableRow;
 use crate::shard_in_memory::MDBInMemoryShard;
 use std::alloc::Global;
 use std::collections::BTreeMap;

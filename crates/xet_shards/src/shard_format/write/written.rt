@@ -9,7 +9,7 @@ ghost use Rattle.xet_shards.specs.Write.Section.{total_rows};
 ghost use Rattle.xet_shards.specs.Write.Copying.{CopiesRecord};
 ghost use Rattle.xet_records.specs.Limits.{MAX_ROWS};
 
-use crate::shard_format::write::xorb_writer::ChunkTableRow;
+use super::xorb_writer::ChunkTableRow;
 use std::alloc::Global;
 use std::io::Write;
 use xet_base::error::Result;

@@ -9,11 +9,12 @@ ghost use Rattle.xet_records.specs.declared.xorb_structs.XorbChunkSequenceEntry.
 ghost use Rattle.xet_records.specs.Copying.{CopiesRows, CopyFails, IsOutputFailure};
 ghost use Rattle.xet_records.specs.XorbRecord.{xorb_record_bytes, xorb_row_count, HasItsChunks};
 ghost use Rattle.xet_records.specs.XorbRow.{chunk_row, FitsChunk};
-ghost use Rattle.xet_shards.specs.Write.Tables.{chunk_table_row_bytes, AddsChunkRows};
+ghost use Rattle.xet_shards.specs.Write.Tables.{chunk_table_row_bytes};
+ghost use Rattle.xet_shards.specs.Steps.Tables.{AddsChunkRows};
 ghost use Rattle.xet_shards.specs.Write.Written.{AddsRecord, HasWrittenFor, HasWrittenXorbs};
 ghost use Rattle.xet_records.specs.Limits.{MAX_ROWS};
 
-use crate::shard_format::write::written::{RecordTable, WrittenSection, WrittenXorbs};
+use super::written::{RecordTable, WrittenSection, WrittenXorbs};
 use std::alloc::Global;
 use std::io::Write;
 use xet_base::error::{CoreError, Result};

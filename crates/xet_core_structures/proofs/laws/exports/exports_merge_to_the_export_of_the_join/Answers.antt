@@ -1,4 +1,4 @@
-use Rattle.xet_core_structures.proofs.Laws.ExportTrees.{export_of_bytes}
+use Rattle.xet_core_structures.proofs.LawProofs.ExportTrees.{export_of_bytes}
 use Rattle.xet_core_structures.proofs.Trees.TreesOfExports.{timestamps_differ, tree_of_exports_with, refused_with, exchanged}
 use Rattle.xet_core_structures.proofs.laws.exports.exports_merge_to_the_export_of_the_join.Goals as goal
 

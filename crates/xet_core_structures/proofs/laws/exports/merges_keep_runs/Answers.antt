@@ -1,6 +1,6 @@
 use Rattle.xet_base.specs.KeyedHash.{no_key}
 use Rattle.xet_shards.proofs.Ends.EndsUnique.{bytes_without_expiry}
-use Rattle.xet_core_structures.proofs.Laws.ExportTrees.{tree_of_exports, keyed_leaves, run_kept, run_from, same_chunks, answer_from, longer_run, longer_under, export_written}
+use Rattle.xet_core_structures.proofs.LawProofs.ExportTrees.{tree_of_exports, keyed_leaves, run_kept, run_from, same_chunks, answer_from, longer_run, longer_under, export_written}
 use Rattle.xet_core_structures.proofs.Trees.MergeTrees.{one_layout}
 use Rattle.xet_core_structures.proofs.laws.exports.merges_keep_runs.Goals as goal
 

@@ -1,4 +1,4 @@
-use Rattle.xet_core_structures.proofs.Laws.MinimalAgain.{read_fits, shard_read, shard_again}
+use Rattle.xet_core_structures.proofs.LawProofs.MinimalAgain.{read_fits, shard_read, shard_again}
 use Rattle.xet_core_structures.proofs.laws.minimal.minimal_shards_are_written_again.Goals as goal
 
 pub returns-clause-read : goal.returns-clause-read

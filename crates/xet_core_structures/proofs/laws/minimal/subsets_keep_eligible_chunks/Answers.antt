@@ -1,6 +1,6 @@
 use Rattle.std.specs.Fn.{FnReturnsAt}
 use Rattle.xet_shards.specs.StreamingShard.MinimalShard.{minimal_options}
-use Rattle.xet_core_structures.proofs.Laws.MinimalAgain.{read_fits, subset_read, subset_eligible}
+use Rattle.xet_core_structures.proofs.LawProofs.MinimalAgain.{read_fits, subset_read, subset_eligible}
 use Rattle.xet_core_structures.proofs.laws.minimal.subsets_keep_eligible_chunks.Goals as goal
 
 pub returns-clause-read : goal.returns-clause-read

@@ -1,4 +1,4 @@
-use Rattle.xet_core_structures.proofs.Laws.UnionSizes.{rows_of_union, bytes_of_union, bytes_of_tree, bytes_of_difference, bytes_of_repetition}
+use Rattle.xet_core_structures.proofs.LawProofs.UnionSizes.{rows_of_union, bytes_of_union, bytes_of_tree, bytes_of_difference, bytes_of_repetition}
 use Rattle.xet_core_structures.proofs.laws.sizes.results_are_bounded.Goals as goal
 
 pub returns-clause-rows : goal.returns-clause-rows

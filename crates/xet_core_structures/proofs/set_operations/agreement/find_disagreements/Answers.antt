@@ -2,7 +2,7 @@ use Rattle.std.proofs.Common.{◌≡◌, ℕ, List, ◌++◌, map, sym, ◌∙�
 use Rattle.std.specs.Borrow.{Bor}
 use Rattle.xet_core_structures.specs.declared.set_operations.agreement.RecordHash.TheVariants.{File, Xorb}
 use Rattle.xet_core_structures.specs.Agreement.Agreement.{HasAllDisagreements, disagreement_of}
-use Rattle.xet_core_structures.specs.TwoShards.ByteResults.{Records}
+use Rattle.xet_core_structures.specs.Steps.ByteResults.{Records}
 use Rattle.xet_core_structures.proofs.Agreement.AgreeingInputs.{lists_of, files_lie, xorbs_lie, all_disagreements}
 use Rattle.xet_core_structures.proofs.set_operations.agreement.find_disagreements.Goals as goal
 

@@ -2,7 +2,7 @@ use Rattle.std.proofs.Common.{◌≤◌, inr, ℕ, List, length, map, take_all, 
 use Rattle.std.specs.Borrow.{Bor}
 use Rattle.std.proofs.lemmas.List.{length-map}
 use Rattle.std.proofs.lemmas.Result.{err_from_is_err_and}
-use Rattle.xet_core_structures.specs.Agreement.Agreement.{ArePlaced}
+use Rattle.xet_core_structures.specs.Steps.Agreement.{ArePlaced}
 use Rattle.xet_core_structures.proofs.Agreement.AgreeingInputs.{inputs_more}
 use Rattle.xet_core_structures.proofs.set_operations.agreement.place_inputs.Goals as goal
 

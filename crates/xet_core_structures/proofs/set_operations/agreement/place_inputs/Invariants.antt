@@ -1,5 +1,5 @@
 use Rattle.std.proofs.Common.{◌-◌, length, map, take}
-use Rattle.xet_core_structures.specs.Agreement.Agreement.{ArePlaced}
+use Rattle.xet_core_structures.specs.Steps.Agreement.{ArePlaced}
 use Rattle.xet_core_structures.proofs.set_operations.agreement.place_inputs.Given as goal
 
 abbrev pub invariant-loop-at : goal.invariant-loop-at

@@ -1,4 +1,4 @@
-use Rattle.xet_shards.specs.ShardInMemory.FileStore.{HasAnnounced}
+use Rattle.xet_shards.specs.Steps.FileStore.{HasAnnounced}
 use Rattle.xet_shards.proofs.Write.StoredParts.{each_part}
 use Rattle.xet_shards.proofs.shard_in_memory.file_store.has_announced_parts.Goals as goal
 

@@ -1,5 +1,5 @@
 use Rattle.xet_records.specs.Part.{rows_of}
-use Rattle.xet_shards.specs.ShardInMemory.FileStore.{AreClear}
+use Rattle.xet_shards.specs.Steps.FileStore.{AreClear}
 use Rattle.xet_shards.proofs.Write.StoredParts.{each_part, clear_parts}
 use Rattle.xet_shards.proofs.shard_in_memory.file_store.has_clear_parts.Goals as goal
 

@@ -7,7 +7,8 @@ use Rattle.xet_records.specs.declared.file_structs.MDBFileInfo.{MDBFileInfo}
 use Rattle.xet_records.specs.FileRecord.{IsWellFormed}
 use Rattle.xet_records.specs.Merging.{IsSameFile, merged}
 use Rattle.xet_shards.specs.Content.Shard.{file_hash_of}
-use Rattle.xet_shards.specs.Content.Joining.{entry, own_file}
+use Rattle.xet_shards.specs.Content.Joining.{entry}
+use Rattle.xet_shards.specs.Steps.Joining.{own_file}
 use Rattle.xet_shards.proofs.ShardInMemory.Walks.{entry_turn, entry_turned, entry_holds}
 use Rattle.xet_shards.proofs.ShardInMemory.FileUnions.{IsOwn, own_merged, own_copied, merged-more, entry_of}
 use Rattle.xet_shards.proofs.shard_in_memory.file_store.merged_files.Goals as goal

@@ -2,7 +2,7 @@ use Rattle.std.proofs.Common.{◌≡◌, length, Some, sym, ap, ◌∙◌, subst
 use Rattle.std.specs.Prelude.{slice_get}
 use Rattle.std.proofs.lemmas.Option.{slice_get-get_or}
 use Rattle.xet_base.proofs.HashOrder.{same_hash}
-use Rattle.xet_shards.specs.StreamingShard.MinimalWriting.{IsPlaceOf}
+use Rattle.xet_shards.specs.Steps.MinimalWriting.{IsPlaceOf}
 use Rattle.xet_shards.specs.Content.Shard.{xorb_hash_of}
 use Rattle.xet_shards.proofs.StreamingShard.FileStarts.{none_before, next_start, none_of_xorb}
 use Rattle.xet_shards.proofs.streaming_shard.file_start.next_start.Goals as goal

@@ -1,6 +1,6 @@
 use Rattle.std.proofs.Common.{inl, inr, refl, subst}
 use Rattle.std.specs.Prelude.{MatchOption}
-use Rattle.xet_core_structures.specs.Agreement.Differing.{KeepsRecord, IsAgainst}
+use Rattle.xet_core_structures.specs.Steps.Differing.{KeepsRecord, IsAgainst}
 use Rattle.xet_core_structures.proofs.set_operations.agreement.differing.compare_place.Goals as goal
 
 pub returns-then-is_copy : goal.returns-then-is_copy

@@ -2,7 +2,7 @@ use Rattle.std.proofs.Common.{◌≡◌, ◌+◌, ◌<◌, ◌≤◌, [], ◌∷
 use Rattle.std.specs.Prelude.{MatchOption}
 use Rattle.std.proofs.lemmas.Option.{slice_get-get_or}
 use Rattle.xet_core_structures.specs.declared.set_operations.agreement.differing.ReadRecord.{ReadRecord}
-use Rattle.xet_core_structures.specs.Agreement.Differing.{AgreeWithin, ComparesPlace, DiffersAt}
+use Rattle.xet_core_structures.specs.Steps.Differing.{AgreeWithin, ComparesPlace, DiffersAt}
 use Rattle.xet_core_structures.proofs.Agreement.Differing.{IsComparing, comparing_first, compared_on, compared_unlike, one_agrees, differ_before}
 use Rattle.xet_core_structures.proofs.Agreement.HashRuns.{no_place}
 use Rattle.xet_core_structures.proofs.set_operations.agreement.differing.differ_in_run.Goals as goal

@@ -1,5 +1,6 @@
 use Rattle.std.proofs.Common.{◌≤◌, length, map, rules, sym, subst}
-use Rattle.xet_core_structures.specs.Agreement.Differing.{IsRun, ComparesRun}
+use Rattle.xet_core_structures.specs.Steps.Differing.{ComparesRun}
+use Rattle.xet_core_structures.specs.Steps.Differing.{IsRun}
 use Rattle.xet_core_structures.proofs.Agreement.DifferingFound.{HasCompared, compared_start, compared_on, found_differing}
 use Rattle.xet_core_structures.proofs.set_operations.agreement.differing.find_differing.Goals as goal
 

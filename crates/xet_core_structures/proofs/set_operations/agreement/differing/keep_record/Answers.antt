@@ -1,7 +1,7 @@
 use Rattle.std.proofs.Common.{inl, inr, refl, subst}
 use Rattle.std.specs.Prelude.{Contains, MatchOption}
 use Rattle.xet_core_structures.specs.declared.set_operations.agreement.differing.ReadRecord.{ReadRecord}
-use Rattle.xet_core_structures.specs.Agreement.Differing.{Covers, IsAgainst}
+use Rattle.xet_core_structures.specs.Steps.Differing.{Covers, IsAgainst}
 use Rattle.xet_core_structures.proofs.set_operations.agreement.differing.keep_record.Goals as goal
 
 pub returns-in-Some : goal.returns-in-Some

@@ -1,5 +1,5 @@
 use Rattle.std.proofs.Common.{◌<◌, ◌≤◌, length, rules, refl, sym, ap, ◌∙◌}
-use Rattle.xet_core_structures.specs.Trees.Placed.{hash_at}
+use Rattle.xet_core_structures.specs.Steps.Placed.{hash_at}
 use Rattle.std.proofs.lemmas.Option.{slice_get_read}
 use Rattle.xet_core_structures.proofs.Agreement.HashRuns.{adding_on, all_added}
 use Rattle.xet_core_structures.proofs.set_operations.agreement.runs.add_places.Goals as goal

@@ -2,7 +2,7 @@ use Rattle.std.proofs.Common.{◌<◌, ◌≤◌, length, map, rules, refl, ap, 
 use Rattle.std.proofs.lemmas.List.{length-map}
 use Rattle.std.specs.Prelude.{option_map}
 use Rattle.std.proofs.lemmas.Option.{slice_get_read, slice_get-map}
-use Rattle.xet_core_structures.specs.Agreement.Differing.{AddsPlaces}
+use Rattle.xet_core_structures.specs.Steps.Differing.{AddsPlaces}
 use Rattle.xet_core_structures.proofs.Agreement.HashRuns.{places_on, all_places, places_permuted}
 use Rattle.xet_core_structures.proofs.set_operations.agreement.runs.sorted_places.Goals as goal
 

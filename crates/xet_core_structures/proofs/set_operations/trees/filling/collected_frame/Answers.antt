@@ -1,8 +1,8 @@
 use Rattle.std.proofs.Common.{◌≡◌, ℕ, List, [], ◌++◌, Some, sym, ap, ◌∙◌, subst, arith}
 use Rattle.xet_records.specs.FileRecord.{file_records}
 use Rattle.xet_records.specs.XorbRecord.{xorb_records}
-use Rattle.xet_core_structures.specs.TwoShards.ByteResults.{WritesEnd}
-use Rattle.xet_core_structures.specs.Trees.Placed.{PlacesAll}
+use Rattle.xet_core_structures.specs.Steps.ByteResults.{WritesEnd}
+use Rattle.xet_core_structures.specs.Steps.Placed.{PlacesAll}
 use Rattle.xet_core_structures.proofs.Trees.Filling.{frame_made}
 use Rattle.xet_core_structures.proofs.set_operations.trees.filling.collected_frame.Goals as goal
 

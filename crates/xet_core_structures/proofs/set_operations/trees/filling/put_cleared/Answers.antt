@@ -1,7 +1,7 @@
 use Rattle.std.proofs.Common.{◌≡◌, suc, ◌+◌, ◌-◌, ◌*◌, ◌<◌, length, take, drop, flat_map, sym, ap, ◌∙◌, subst, arith}
 use Rattle.std.specs.Prelude.{map}
 use Rattle.xet_records.specs.FileRow.{hash_row, clear}
-use Rattle.xet_core_structures.specs.Trees.Filling.{Puts}
+use Rattle.xet_core_structures.specs.Steps.Filling.{Puts}
 use Rattle.xet_core_structures.proofs.Trees.Filling.{puts_then, next_cleared}
 use Rattle.xet_core_structures.proofs.set_operations.trees.filling.put_cleared.Goals as goal
 

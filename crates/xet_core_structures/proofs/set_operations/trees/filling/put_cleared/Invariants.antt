@@ -2,7 +2,7 @@ use Rattle.std.proofs.Common.{◌≡◌, ℕ, ◌+◌, ◌*◌, List, ◌++◌, 
 use Rattle.std.specs.Prelude.{All, map}
 use Rattle.xet_records.specs.declared.file_structs.rows.HashRow.{HashRow}
 use Rattle.xet_records.specs.FileRow.{hash_row, FitsHashRow, clear}
-use Rattle.xet_core_structures.specs.Trees.Filling.{Puts}
+use Rattle.xet_core_structures.specs.Steps.Filling.{Puts}
 use Rattle.xet_core_structures.proofs.set_operations.trees.filling.put_cleared.Given as goal
 
 abbrev pub invariant-loop-i : goal.invariant-loop-i

@@ -1,5 +1,5 @@
 use Rattle.std.proofs.Common.{◌∙◌, subst}
-use Rattle.xet_core_structures.specs.Trees.Filling.{Puts}
+use Rattle.xet_core_structures.specs.Steps.Filling.{Puts}
 use Rattle.xet_core_structures.proofs.Trees.Filling.{record_put}
 use Rattle.xet_core_structures.proofs.set_operations.trees.filling.put_record.Goals as goal
 

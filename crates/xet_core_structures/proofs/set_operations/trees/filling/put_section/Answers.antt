@@ -1,6 +1,6 @@
 use Rattle.std.proofs.Common.{◌+◌, ◌<◌, ◌≤◌, drop, length, rules, ap, ◌∙◌, subst}
 use Rattle.std.proofs.Math.ListN.{drop_of_length-le}
-use Rattle.xet_core_structures.specs.Trees.Filling.{Puts}
+use Rattle.xet_core_structures.specs.Steps.Filling.{Puts}
 use Rattle.xet_core_structures.proofs.Records.Turns.{drop_first}
 use Rattle.xet_core_structures.proofs.Trees.Filling.{IsPutting, putting_on, putting_ends}
 use Rattle.xet_core_structures.proofs.set_operations.trees.filling.put_section.Goals as goal

@@ -1,5 +1,5 @@
 use Rattle.std.proofs.Common.{List, drop}
-use Rattle.xet_core_structures.specs.Trees.Placed.{PlacesAll}
+use Rattle.xet_core_structures.specs.Steps.Placed.{PlacesAll}
 use Rattle.xet_core_structures.proofs.Trees.Filling.{IsPutting}
 use Rattle.xet_core_structures.proofs.set_operations.trees.filling.put_section.Given as goal
 

@@ -1,8 +1,8 @@
 use Rattle.std.proofs.Common.{length, sym, ap, subst, arith}
 use Rattle.xet_records.specs.FileRecord.{file_records}
 use Rattle.xet_records.specs.XorbRecord.{xorb_records}
-use Rattle.xet_core_structures.specs.Trees.Filling.{Puts}
-use Rattle.xet_core_structures.specs.Trees.Placed.{PlacesAll}
+use Rattle.xet_core_structures.specs.Steps.Filling.{Puts}
+use Rattle.xet_core_structures.specs.Steps.Placed.{PlacesAll}
 use Rattle.xet_core_structures.proofs.Trees.Filling.{sizes_of, shard_put}
 use Rattle.xet_core_structures.proofs.set_operations.trees.filling.put_shard.Goals as goal
 

@@ -2,7 +2,7 @@ use Rattle.std.proofs.Common.{ℕ, List, map, sym, subst}
 use Rattle.std.specs.Borrow.{Bor}
 use Rattle.std.specs.Prelude.{MatchResult}
 use Rattle.xet_core_structures.specs.Trees.MergeTrees.{TreeWrites, TreeRefusal}
-use Rattle.xet_core_structures.specs.Trees.Parts.{IsPart}
+use Rattle.xet_core_structures.specs.Steps.Parts.{IsPart}
 use Rattle.xet_core_structures.proofs.Trees.Parts.{both_parts}
 use Rattle.xet_core_structures.proofs.set_operations.trees.parts.+place_tree.Goals as goal
 

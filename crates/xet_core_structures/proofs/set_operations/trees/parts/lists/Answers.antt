@@ -1,5 +1,5 @@
 use Rattle.std.proofs.Common.{subst}
-use Rattle.xet_core_structures.specs.Trees.Parts.{IsOpened}
+use Rattle.xet_core_structures.specs.Steps.Parts.{IsOpened}
 use Rattle.xet_core_structures.proofs.Trees.Parts.{united_lists}
 use Rattle.xet_core_structures.proofs.set_operations.trees.parts.lists.Goals as goal
 

@@ -2,7 +2,7 @@ use Rattle.std.proofs.Common.{◌≡◌, sym, subst}
 use Rattle.std.specs.Prelude.{MatchResult}
 use Rattle.std.specs.FinMap.{values}
 use Rattle.xet_base.specs.declared.error.CoreError.TheVariants.{OutOfMemory}
-use Rattle.xet_core_structures.specs.Trees.Parts.{IsPart}
+use Rattle.xet_core_structures.specs.Steps.Parts.{IsPart}
 use Rattle.xet_core_structures.proofs.Trees.Parts.{union_may_be_written}
 use Rattle.xet_core_structures.proofs.set_operations.trees.parts.part_bytes.Goals as goal
 

@@ -1,7 +1,8 @@
 use Rattle.std.proofs.Common.{◌≡◌, rules, subst}
 use Rattle.std.specs.Prelude.{MatchOption}
-use Rattle.xet_core_structures.specs.Trees.Placed.{hash_at, MakesPlaced, MakesNothing}
-use Rattle.xet_core_structures.specs.Trees.Placed.KeepsNext.{takes_both}
+use Rattle.xet_core_structures.specs.Steps.Placed.{MakesPlaced, MakesNothing}
+use Rattle.xet_core_structures.specs.Steps.Placed.{hash_at}
+use Rattle.xet_core_structures.specs.Steps.Placed.KeepsNext.{takes_both}
 use Rattle.xet_core_structures.proofs.Records.Turns.{drop_first}
 use Rattle.xet_core_structures.proofs.set_operations.trees.placed.next_turn.Goals as goal
 

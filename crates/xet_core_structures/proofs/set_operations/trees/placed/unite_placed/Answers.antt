@@ -1,6 +1,7 @@
 use Rattle.std.proofs.Common.{inr, ◌+◌, drop, refl, subst}
 use Rattle.xet_shards.specs.Write.Section.{total_rows}
-use Rattle.xet_core_structures.specs.Trees.Placed.{CountsRows, IsMergeStep}
+use Rattle.xet_core_structures.specs.Steps.Placed.{IsMergeStep}
+use Rattle.xet_core_structures.specs.Steps.Placed.{CountsRows}
 use Rattle.xet_core_structures.proofs.Trees.PlacedUnions.{uniting_start, uniting_on, united, no_record}
 use Rattle.xet_core_structures.proofs.set_operations.trees.placed.unite_placed.Goals as goal
 

@@ -1,5 +1,5 @@
 use Rattle.std.proofs.Common.{◌+◌, List, length, drop}
-use Rattle.xet_core_structures.specs.Trees.Placed.{MayUnite}
+use Rattle.xet_core_structures.specs.Steps.Placed.{MayUnite}
 use Rattle.xet_core_structures.proofs.Trees.PlacedUnions.{IsUniting}
 use Rattle.xet_core_structures.proofs.set_operations.trees.placed.unite_placed.Given as goal
 

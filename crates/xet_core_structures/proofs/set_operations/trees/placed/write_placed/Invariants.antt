@@ -1,5 +1,5 @@
 use Rattle.std.proofs.Common.{List, drop}
-use Rattle.xet_core_structures.specs.Trees.Placed.{PlacesAll}
+use Rattle.xet_core_structures.specs.Steps.Placed.{PlacesAll}
 use Rattle.xet_core_structures.proofs.Trees.PlacedWriting.{IsWriting}
 use Rattle.xet_core_structures.proofs.set_operations.trees.placed.write_placed.Given as goal
 

@@ -1,6 +1,6 @@
 use Rattle.std.proofs.Common.{refl}
 use Rattle.std.proofs.lemmas.Result.{err_from_is_err_and}
-use Rattle.xet_core_structures.specs.TwoShards.MixedFiles.EitherFails.{second_fails}
+use Rattle.xet_core_structures.specs.Steps.MixedFiles.EitherFails.{second_fails}
 use Rattle.xet_core_structures.proofs.TwoShards.Mixing.{first_copied, second_copied, first_not_copied, second_not_copied}
 use Rattle.xet_core_structures.proofs.TwoShards.OneSection.{taken_serves}
 use Rattle.xet_core_structures.proofs.set_operations.two_shards.mix.copy_either.Goals as goal

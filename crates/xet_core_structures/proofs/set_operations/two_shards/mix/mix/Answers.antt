@@ -4,7 +4,7 @@ use Rattle.std.proofs.Math.Nat.{lt_of_not-le}
 use Rattle.std.proofs.lemmas.Result.{err_from_is_err_and}
 use Rattle.xet_records.specs.FileRecord.{file_records, rows_after}
 use Rattle.xet_records.specs.FileRow.{header_row}
-use Rattle.xet_core_structures.specs.TwoShards.MixedFiles.{MixHasTooManyRows}
+use Rattle.xet_core_structures.specs.Steps.MixedFiles.{MixHasTooManyRows}
 use Rattle.xet_core_structures.proofs.TwoShards.MixWriting.{no_output, not_added, mix_written}
 use Rattle.xet_core_structures.proofs.TwoShards.OneSection.{taken_serves}
 use Rattle.xet_core_structures.proofs.TwoShards.Pairs.{fails_so, refused_so}

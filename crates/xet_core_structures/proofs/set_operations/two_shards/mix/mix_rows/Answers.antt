@@ -3,7 +3,7 @@ use Rattle.std.proofs.lemmas.List.{length-append}
 use Rattle.std.proofs.lemmas.Result.{err_from_is_err_and}
 use Rattle.xet_base.specs.InputLaws.{ReadsBytes-nil, ReadsBytes-trans}
 use Rattle.xet_records.specs.FileRow.{segment_row, hash_row}
-use Rattle.xet_core_structures.specs.TwoShards.MixedFiles.EitherFails.{second_fails}
+use Rattle.xet_core_structures.specs.Steps.MixedFiles.EitherFails.{second_fails}
 use Rattle.xet_core_structures.proofs.TwoShards.Mixing.{first_not_copied}
 use Rattle.xet_core_structures.proofs.TwoShards.MixWriting.{part_fails, rows_mixed}
 use Rattle.xet_core_structures.proofs.TwoShards.OneSection.{serves_same}

@@ -1,5 +1,5 @@
 use Rattle.std.proofs.Common.{Some, refl, sym, subst}
-use Rattle.xet_core_structures.specs.TwoShards.MergeJoin.{ReadsOptionalRecord}
+use Rattle.xet_core_structures.specs.Steps.MergeJoin.{ReadsOptionalRecord}
 use Rattle.xet_core_structures.proofs.set_operations.two_shards.record_operation.pass.Goals as goal
 
 pub returns-in_ok-skip_rows_after-in-Some : goal.returns-in_ok-skip_rows_after-in-Some

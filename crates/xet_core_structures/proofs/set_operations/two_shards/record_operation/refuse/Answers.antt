@@ -1,7 +1,7 @@
 use Rattle.std.proofs.Common.{refl}
 use Rattle.std.specs.Prelude.{⊤}
 use Rattle.std.proofs.lemmas.Result.{err_from_is_err_and}
-use Rattle.xet_core_structures.specs.TwoShards.MergeJoin.PairFails.{refused}
+use Rattle.xet_core_structures.specs.Steps.MergeJoin.PairFails.{refused}
 use Rattle.xet_core_structures.proofs.TwoShards.Pairs.{fails_so}
 use Rattle.xet_core_structures.proofs.set_operations.two_shards.record_operation.refuse.Goals as goal
 

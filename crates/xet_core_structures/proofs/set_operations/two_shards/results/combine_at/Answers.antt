@@ -1,6 +1,6 @@
 use Rattle.std.proofs.Common.{subst}
 use Rattle.std.proofs.lemmas.Result.{err_from_is_err_and}
-use Rattle.xet_core_structures.specs.TwoShards.MergeJoin.{CombinesSections}
+use Rattle.xet_core_structures.specs.Steps.MergeJoin.{CombinesSections}
 use Rattle.xet_core_structures.specs.TwoShards.Streams.{streams}
 use Rattle.xet_core_structures.proofs.TwoShards.SetOperationSteps.{first_not_moved, second_not_moved}
 use Rattle.xet_core_structures.proofs.set_operations.two_shards.results.combine_at.Goals as goal

@@ -8,8 +8,8 @@ use Rattle.xet_records.specs.Reading.NextRecordNotRead.{no_rows}
 use Rattle.xet_records.proofs.RecordKinds.{laws_in}
 use Rattle.xet_records.proofs.SectionRecords.{rows_after_header}
 use Rattle.xet_shards.proofs.Read.SectionReading.{record_fails}
-use Rattle.xet_core_structures.specs.TwoShards.MergeJoin.{Follows}
-use Rattle.xet_core_structures.specs.TwoShards.MergeJoin.FollowingFails.{not_read, falls}
+use Rattle.xet_core_structures.specs.Steps.MergeJoin.{Follows}
+use Rattle.xet_core_structures.specs.Steps.MergeJoin.FollowingFails.{not_read, falls}
 use Rattle.xet_core_structures.proofs.TwoShards.OneSection.{header_of_found}
 use Rattle.xet_core_structures.proofs.set_operations.two_shards.sections.next_header.Goals as goal
 

@@ -1,5 +1,5 @@
 use Rattle.std.proofs.Common.{◌≡◌}
-use Rattle.xet_shards.specs.Lookup.RunSteps.{HasReadRun}
+use Rattle.xet_shards.specs.Steps.RunSteps.{HasReadRun}
 use Rattle.xet_shards.proofs.shard_format.lookup.run_reader.read_run.Given as goal
 
 abbrev pub invariant-loop-query_hash : goal.invariant-loop-query_hash

@@ -2,7 +2,8 @@ use Rattle.std.proofs.Common.{sym, ap, ◌∙◌, subst}
 use Rattle.std.specs.FinMap.{get, get-entries, get-from_sorted}
 use Rattle.std.specs.Option.{option_or}
 use Rattle.xet_base.specs.Hash.{hash_cmp}
-use Rattle.xet_shards.specs.Content.Joining.{unless_in, entry, CanJoinFiles, own_file}
+use Rattle.xet_shards.specs.Content.Joining.{unless_in, entry}
+use Rattle.xet_shards.specs.Steps.Joining.{CanJoinFiles, own_file}
 use Rattle.xet_shards.proofs.ShardInMemory.FileUnions.{united}
 use Rattle.xet_shards.proofs.shard_in_memory.file_store.FileStore.union.Goals as goal
 

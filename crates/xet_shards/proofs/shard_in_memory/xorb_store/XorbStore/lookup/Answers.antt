@@ -3,7 +3,8 @@ use Rattle.std.specs.FinMap.{get, get-from_sorted}
 use Rattle.xet_base.specs.Hash.{hash_cmp}
 use Rattle.xet_base.proofs.HashMaps.{get-shown}
 use Rattle.xet_records.specs.XorbRecord.{IsXorb}
-use Rattle.xet_shards.specs.ShardInMemory.ChunkLookup.{XorbsWithLookup, IsChunkLookup}
+use Rattle.xet_shards.specs.ShardInMemory.ChunkLookup.{IsChunkLookup}
+use Rattle.xet_shards.specs.Steps.ChunkLookup.{XorbsWithLookup}
 use Rattle.xet_shards.specs.ShardInMemory.XorbStore.{shown_location, location_in}
 use Rattle.xet_shards.proofs.ShardInMemory.ChunkLookups.{lookup-same}
 use Rattle.xet_shards.proofs.ShardInMemory.FileUnions.{entry-holds}

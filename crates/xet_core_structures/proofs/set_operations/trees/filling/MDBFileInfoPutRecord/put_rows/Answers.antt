@@ -1,6 +1,6 @@
 use Rattle.std.proofs.Common.{◌*◌, take, drop, sym, ap, ◌∙◌, subst, arith, length-drop}
 use Rattle.std.proofs.Math.Seq.{take-length}
-use Rattle.xet_core_structures.specs.Trees.Filling.{Puts}
+use Rattle.xet_core_structures.specs.Steps.Filling.{Puts}
 use Rattle.xet_core_structures.proofs.Trees.Filling.{puts_then, file_rows_placed}
 use Rattle.xet_core_structures.proofs.set_operations.trees.filling.MDBFileInfoPutRecord.put_rows.Goals as goal
 

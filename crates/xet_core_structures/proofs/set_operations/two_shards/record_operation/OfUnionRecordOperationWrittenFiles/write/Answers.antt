@@ -3,7 +3,7 @@ use Rattle.std.specs.Prelude.{IfSome}
 use Rattle.xet_records.specs.FileRecord.{file_records}
 use Rattle.xet_records.proofs.RecordKinds.{file_laws}
 use Rattle.xet_core_structures.specs.Records.ByteUnion.{IsEitherFile}
-use Rattle.xet_core_structures.specs.TwoShards.MergeJoin.{IsRecordHeader}
+use Rattle.xet_core_structures.specs.Steps.MergeJoin.{IsRecordHeader}
 use Rattle.xet_core_structures.proofs.TwoShards.Pairs.{keeps_first, keeps_second}
 use Rattle.xet_core_structures.proofs.set_operations.two_shards.record_operation.OfUnionRecordOperationWrittenFiles.write.Goals as goal
 

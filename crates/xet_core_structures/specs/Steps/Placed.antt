@@ -15,7 +15,7 @@ use Rattle.xet_core_structures.specs.declared.set_operations.trees.placed.Placed
 use Rattle.xet_core_structures.specs.declared.set_operations.trees.placed.MergeStep.{MergeStep}
 use Rattle.xet_core_structures.specs.declared.set_operations.trees.placed.MergeStep.TheVariants.{End, Keep, Nothing}
 use Rattle.xet_core_structures.specs.Records.RecordPairs.{key_of_record, Combines}
-use Rattle.xet_core_structures.specs.TwoShards.MergeJoin.{IsRecordHeader}
+use Rattle.xet_core_structures.specs.Steps.MergeJoin.{IsRecordHeader}
 use Rattle.xet_records.specs.Limits.{MAX_ROWS}
 
 -- bytes begin with others

@@ -40,7 +40,7 @@ use Rattle.xet_core_structures.specs.Trees.MergeTrees.{leaves, HasUnion, TreeWri
 use Rattle.xet_core_structures.specs.TwoShards.Readable.{IsBytesUnderKey}
 use Rattle.xet_core_structures.specs.Records.Sizes.{rows_of_shard, bytes_at}
 use Rattle.xet_core_structures.proofs.Records.ShardContents.{rows_handed, only_shard}
-use Rattle.xet_core_structures.proofs.Laws.FileLookups.{tree_under, union_under, difference_under}
+use Rattle.xet_core_structures.proofs.LawProofs.FileLookups.{tree_under, union_under, difference_under}
 use Rattle.xet_core_structures.proofs.Trees.TreeXorbs.{shard_under}
 
 -- each part of a mix has at most the rows that both records have of it

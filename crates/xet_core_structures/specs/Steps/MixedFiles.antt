@@ -14,8 +14,9 @@ use Rattle.xet_records.specs.FileRecord.{file_records, file_record_bytes, file_r
 use Rattle.xet_records.specs.Reading.{ReadsRowsAfter}
 use Rattle.xet_records.specs.Rows.{ReadsRows}
 use Rattle.xet_core_structures.specs.Records.ByteUnion.{mixed}
-use Rattle.xet_core_structures.specs.TwoShards.MergeJoin.{PairFails}
-use Rattle.xet_core_structures.specs.TwoShards.Streams.{Sources, Streams, inputs_of}
+use Rattle.xet_core_structures.specs.Steps.MergeJoin.{PairFails}
+use Rattle.xet_core_structures.specs.TwoShards.Streams.{Streams}
+use Rattle.xet_core_structures.specs.Steps.Streams.{Sources, inputs_of}
 use Rattle.xet_records.specs.Limits.{MAX_ROWS}
 
 -- both records were read, and a mix of them was written and gathered, with rows that fit a section

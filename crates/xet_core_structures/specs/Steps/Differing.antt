@@ -13,7 +13,7 @@ use Rattle.xet_core_structures.specs.declared.set_operations.agreement.differing
 use Rattle.xet_core_structures.specs.declared.set_operations.agreement.runs.Place.{Place}
 use Rattle.xet_core_structures.specs.declared.set_operations.trees.placed.PlacedRecord.{PlacedRecord}
 use Rattle.xet_core_structures.specs.Records.RecordPairs.{key_of_record}
-use Rattle.xet_core_structures.specs.Trees.Placed.{Places, hash_at}
+use Rattle.xet_core_structures.specs.Steps.Placed.{Places, hash_at}
 
 -- places in the order of hashes, inputs and indices
 abbrev pub place_cmp : Place → Place → Ordering

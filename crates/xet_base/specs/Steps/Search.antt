@@ -4,7 +4,8 @@ use Rattle.std.specs.declared.io.Error.{Error}
 use Rattle.std.specs.declared.result.Result.{Result}
 use Rattle.xet_base.specs.declared.interpolation_search.table_range.TableRange.{TableRange}
 use Rattle.xet_base.specs.Source.{Source, advanced, moved}
-use Rattle.xet_base.specs.Table.{Table, row_offset, key_at, HasKey, hits_below, Finds, TableFailure, ActsAsReadFull}
+use Rattle.xet_base.specs.Table.{Table, row_offset, key_at, HasKey, hits_below, Finds, ActsAsReadFull}
+use Rattle.xet_base.specs.Steps.Table.{TableFailure}
 
 -- the table of a range of these bytes
 abbrev pub table_in : TableRange → List ℕ → Table

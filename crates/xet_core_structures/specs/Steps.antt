@@ -1,0 +1,14 @@
+-- Words that only contracts inside the crate and proofs speak of.
+
+pub mod Agreement
+pub mod ByteResults
+pub mod Differing
+pub mod Filling
+pub mod MergeJoin
+pub mod MixedFiles
+pub mod Parts
+pub mod Placed
+pub mod RecordPairs
+pub mod SetOutcomes
+pub mod ShardContents
+pub mod Streams

@@ -1,0 +1,68 @@
+-- Steps towards what `Parts` defines, which only contracts inside the crate speak of.
+use Rattle.std.specs.Prelude.{◌≡◌, ◌⊎◌, ℕ, List}
+use Rattle.std.specs.FinMap.{values}
+use Rattle.xet_records.specs.FileRecord.{file_records}
+use Rattle.xet_records.specs.XorbRecord.{xorb_records}
+use Rattle.xet_shards.specs.declared.shard_format.ends.info.MDBShardInfo.{MDBShardInfo}
+use Rattle.xet_shards.specs.Write.WithOptions.{Ascends, FitsSection}
+use Rattle.xet_shards.specs.Content.Shard.{Shard}
+use Rattle.xet_core_structures.specs.declared.set_operations.trees.parts.PlacedShard.{PlacedShard}
+use Rattle.xet_core_structures.specs.declared.set_operations.trees.parts.Part.{Part}
+use Rattle.xet_core_structures.specs.declared.set_operations.trees.parts.Part.TheVariants.{Input, United}
+use Rattle.xet_core_structures.specs.declared.set_operations.trees.parts.Opened.{Opened}
+use Rattle.xet_core_structures.specs.declared.set_operations.trees.parts.Opened.TheVariants.{Input as OpenedInput, United as OpenedUnion}
+use Rattle.xet_core_structures.specs.TwoShards.ByteResults.{key_of, keyed_info}
+use Rattle.xet_core_structures.specs.Steps.ByteResults.{Records}
+use Rattle.xet_core_structures.specs.Records.ByteUnion.{IsEitherFile, IsEitherXorb}
+use Rattle.xet_core_structures.specs.Steps.ShardContents.{HoldsLists}
+use Rattle.xet_core_structures.specs.Steps.Placed.{HaveNoListUnion}
+use Rattle.xet_core_structures.specs.Steps.Placed.{PlacesAll}
+use Rattle.xet_core_structures.specs.TwoShards.Readable.{IsBytesUnderKey}
+
+-- these are the records of a shard in memory
+pub record PlacesRecords (shard : PlacedShard) (records : Records) : Type 0 where
+  pub files : PlacesAll file_records shard.files.items records.files
+  pub xorbs : PlacesAll xorb_records shard.xorbs.items records.xorbs
+
+-- these are the records of a shard in memory, and their hashes strictly ascend
+pub record MayBeUnited (shard : PlacedShard) (records : Records) : Type 0 where
+  pub places : PlacesRecords shard records
+  pub files_ascend : Ascends file_records records.files
+  pub xorbs_ascend : Ascends xorb_records records.xorbs
+
+-- these are the records of a shard in memory, and they may be written as sections
+pub record MayBeWritten (shard : PlacedShard) (records : Records) : Type 0 where
+  pub places : PlacesRecords shard records
+  pub files : FitsSection file_records records.files
+  pub xorbs : FitsSection xorb_records records.xorbs
+
+-- the records of a shard in memory are those that these bytes have
+pub record PlacesShard (bytes : List ℕ) (info : MDBShardInfo) (shard : PlacedShard) : Type 0 where
+  pub records : Records
+  pub lists : HoldsLists bytes info records.files records.xorbs
+  pub places : PlacesRecords shard records
+  pub key : shard.key ≡ key_of info
+
+-- files or xorbs have no union within the rows of a section
+abbrev pub HaveNoRecordUnion : Records → Records → Type 0
+HaveNoRecordUnion one other =
+    HaveNoListUnion file_records IsEitherFile one.files other.files
+    ⊎ HaveNoListUnion xorb_records IsEitherXorb one.xorbs other.xorbs
+
+-- the bytes of a union under a key, of which these are the records in memory
+pub record IsUnited (bytes : List ℕ) (info : MDBShardInfo) (shard : PlacedShard) : Type 0 where
+  pub union : Shard
+  pub info_is : info ≡ keyed_info union shard.key
+  pub written : IsBytesUnderKey shard.key union bytes info
+  pub files : PlacesAll file_records shard.files.items (values union.files)
+  pub xorbs : PlacesAll xorb_records shard.xorbs.items (values union.xorbs)
+
+-- a part stands for these bytes
+abbrev pub IsPart : List ℕ → Part → Type 0
+IsPart bytes (Input x) = x.now ≡ bytes
+IsPart bytes (United shard) = (info : MDBShardInfo) × IsUnited bytes info shard
+
+-- a part stands for these bytes, in which these are the header and the footer
+abbrev pub IsOpened : List ℕ → MDBShardInfo → Opened → Type 0
+IsOpened bytes info (OpenedInput x i) = (x.now ≡ bytes) × (i ≡ info)
+IsOpened bytes info (OpenedUnion shard) = IsUnited bytes info shard

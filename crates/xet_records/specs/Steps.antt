@@ -1,0 +1,5 @@
+-- Words that only contracts inside the crate and proofs speak of.
+
+pub mod Copying
+pub mod View
+pub mod ViewReading

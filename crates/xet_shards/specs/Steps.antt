@@ -1,0 +1,16 @@
+-- Words that only contracts inside the crate and proofs speak of.
+
+pub mod ChunkLookup
+pub mod FileStore
+pub mod Joining
+pub mod KeyedExport
+pub mod Lookup
+pub mod MinimalShard
+pub mod MinimalWriting
+pub mod RunReading
+pub mod RunSteps
+pub mod SectionReading
+pub mod TableReading
+pub mod Tables
+pub mod TruncatedHashes
+pub mod XorbStore

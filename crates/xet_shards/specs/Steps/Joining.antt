@@ -1,0 +1,25 @@
+-- Steps towards what `Joining` defines, which only contracts inside the crate speak of.
+use Rattle.std.specs.Prelude.{◌≡◌, ◌≤◌, Option, None, Some}
+use Rattle.std.specs.FinMap.{get}
+use Rattle.xet_base.specs.declared.merklehash.DataHash.{DataHash}
+use Rattle.xet_records.specs.declared.file_structs.MDBFileInfo.{MDBFileInfo}
+use Rattle.xet_records.specs.FileRecord.{row_count}
+use Rattle.xet_records.specs.Merging.{IsSameFile, merged}
+use Rattle.xet_shards.specs.Content.Shard.{FileMap}
+use Rattle.xet_records.specs.Limits.{MAX_ROWS}
+use Rattle.xet_shards.specs.Content.Joining.{either_file}
+
+-- two records of one file; the rows of the first with the parts that only the second has fit `u32`
+pub record CanJoinFile (a b : MDBFileInfo) : Type 0 where
+  pub same : IsSameFile a.metadata b.metadata
+  pub rows : row_count (merged a b) ≤ MAX_ROWS
+
+-- the files that both maps have can be joined
+abbrev pub CanJoinFiles : FileMap → FileMap → Type 0
+CanJoinFiles a b =
+    (q : DataHash) → (r s : MDBFileInfo) → get a q ≡ Some r → get b q ≡ Some s → CanJoinFile r s
+
+-- the first file, if any, with the parts that only the second has, if any
+abbrev pub own_file : Option MDBFileInfo → Option MDBFileInfo → Option MDBFileInfo
+own_file None b = None
+own_file (Some a) b = either_file (Some a) b
