@@ -1,5 +1,15 @@
 //! Whether shards in memory agree: each two xorbs with one hash are equal, and each two files with
 //! one hash have equal segments, and equal optional parts wherever both have them.
+//!
+//! Whether inputs agree is found by sorting. `sorted_places` brings the places of all records, each
+//! the number of an input and an index in its list, into the order of their hashes, so that those
+//! with one hash are a run (`run_end`). `differ_in_run` passes over records whose bytes are those
+//! of the first of the run; it reads the others, and of those that agree it keeps one for each set
+//! of optional parts (`keep_record`). So a record is read at most once and compared with few,
+//! whether the inputs agree or not, and each hash under which some do not is found
+//! (`find_differing`, of files and of xorbs). All bytes of records with one hash are looked at,
+//! which a union passes: of shards that are mostly the same it takes longer than their merge
+//! (`bench/README.md`).
 
 ghost use Rattle.std.specs.Prelude.{◌≡◌, ◌⊎◌, ◌<◌, ◌++◌, ℕ, List, length, map, Some, slice_get, MatchOption, MatchResult, OnOk, IfErr};
 ghost use Rattle.xet_base.specs.declared.error.CoreError.TheVariants.{OutOfMemory};

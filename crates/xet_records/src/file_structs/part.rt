@@ -1,4 +1,9 @@
 //! The optional parts of a file's record.
+//!
+//! Optional parts are said once. `OptionalPart` has the three, and `rows_of`, `with_parts` and
+//! `flags_of` of `specs/Part.antt` are the rows of one, a record of given parts and the flags that
+//! announce some. Definitions and lemmas that merge, join, drop or copy parts are about any of
+//! them, and contracts see the rows of each as `HashRow`s.
 
 ghost use Rattle.std.specs.Prelude.{◌≡◌, ◌^◌, if◌then◌else◌};
 ghost use Rattle.xet_records.specs.Part.{bit_of, size_of_part};

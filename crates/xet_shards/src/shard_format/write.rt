@@ -1,4 +1,28 @@
 //! Sections, tables and footer as they are written.
+//!
+//! `serialize_from` requires nothing of its caller: that the records fit their headers and that row
+//! numbers fit `u32` is known of every `MDBInMemoryShard`, since its contract has an invariant that
+//! each call keeps. `file_content` and `xorb_content` give this as their `ensures` clauses, and
+//! `write_values` takes it as its `requires` and gives the bytes of a section and what was
+//! collected. It is written once for both sections, over the trait `WrittenSection`, which
+//! `WrittenFiles` and `WrittenXorbs` implement: it writes and adds a record, writes the bookend,
+//! and says which records were written.
+//!
+//! They collect a `RecordTable` for each section, which is the number of its records, their rows
+//! and the bytes of their table; sums; and the rows of the chunk table, if it will be in. The
+//! export without a chunk table and `MDBMinimalShard` collect no rows of it
+//! (`WrittenXorbs::write_for`). `write_end` writes the tables that the `LayoutOptions` include, and
+//! the footer. It takes what was collected of the xorbs by value, and sorts the rows of the chunk
+//! table in place, without allocation. That the sorted rows are the chunk table is
+//! `sorted_is_table` in `proofs/Write/ChunkSorting.antt`: the table is the keys of a map, and has
+//! as many as there are rows, so no two rows tie.
+//!
+//! Header, sections and end are `layout_of` the records with these options (`whole_layout` in
+//! `proofs/Write/Written.antt`), and so `layout` where the options are plain. A writer that has no
+//! maps adds one record after another to `WrittenFiles` and `WrittenXorbs`, and then calls
+//! `write_end`: so do the keyed export and `MDBMinimalShard`, and union, difference and trees of
+//! unions of bytes, which call `WrittenSection::copy`: it writes the rows of a record as they are
+//! read, so that no record is held.
 
 pub(super) mod file_writer;
 pub(super) mod record_table;
