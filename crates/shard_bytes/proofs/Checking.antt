@@ -78,7 +78,7 @@ both_empty [] ys empty = (refl, empty)
 both_empty (x ∷ xs) ys empty = cc
 
 -- the same findings under another name, and those of two calls
-pub adds_as : (Well : Type 0) (One Other : Finding → Type 0) (a b : List Finding) → ((f : Finding) → One f → Other f) → ((f : Finding) → Other f → One f) → Adds Well One a b → Adds Well Other a b
+adds_as : (Well : Type 0) (One Other : Finding → Type 0) (a b : List Finding) → ((f : Finding) → One f → Other f) → ((f : Finding) → Other f → One f) → Adds Well One a b → Adds Well Other a b
 adds_as Well One Other a b to from adds = record {
   more = adds.more;
   added = adds.added;
@@ -87,7 +87,7 @@ adds_as Well One Other a b to from adds = record {
   none = adds.none;
 }
 
-pub adds_then : (P Q : Type 0) (V W : Finding → Type 0) (a b c : List Finding) → Adds P V a b → Adds Q W b c → Adds (P × Q) (λ f. V f ⊎ W f) a c
+adds_then : (P Q : Type 0) (V W : Finding → Type 0) (a b c : List Finding) → Adds P V a b → Adds Q W b c → Adds (P × Q) (λ f. V f ⊎ W f) a c
 adds_then P Q V W a b c first next = record {
   more = first.more ++ next.more;
   added = next.added ∙ ap (λ zs. zs ++ next.more) first.added ∙ append_assoc a first.more next.more;
@@ -101,14 +101,14 @@ adds_then P Q V W a b c first next = record {
     either f (inr so) = Contains-append_right first.more next.more f (next.all f so)
 
 -- nothing was added, or one finding
-pub adds_none : (Well : Type 0) (IsSo : Finding → Type 0) (old new : List Finding) → Well → ((f : Finding) → ¬ IsSo f) → new ≡ old → Adds Well IsSo old new
+adds_none : (Well : Type 0) (IsSo : Finding → Type 0) (old new : List Finding) → Well → ((f : Finding) → ¬ IsSo f) → new ≡ old → Adds Well IsSo old new
 adds_none Well IsSo old new well never is =
     record { more = []; added = is ∙ sym (append-nil old); each = All-nil IsSo; all = λ f so. absurd (never f so); none = λ empty. well }
 
 some : (f : Finding) → f ∷ [] ≢ []
 some f empty = cc
 
-pub adds_one : (Well : Type 0) (IsSo : Finding → Type 0) (f : Finding) (old new : List Finding) → IsSo f → ((g : Finding) → IsSo g → g ≡ f) → new ≡ old ++ f ∷ [] → Adds Well IsSo old new
+adds_one : (Well : Type 0) (IsSo : Finding → Type 0) (f : Finding) (old new : List Finding) → IsSo f → ((g : Finding) → IsSo g → g ≡ f) → new ≡ old ++ f ∷ [] → Adds Well IsSo old new
 adds_one Well IsSo f old new so only is = record {
   more = f ∷ [];
   added = is;

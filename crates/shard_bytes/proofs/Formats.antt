@@ -49,7 +49,7 @@ long_enough bytes (inl (inl (some, other))) = some
 long_enough bytes (inl (inr (some, other))) = omega (arith, some)
 long_enough bytes (inr (header, more, footer)) = omega (arith, header.size)
 
-pub long_with_tag : (bytes : List ℕ) → IsUnsupported bytes → take 32 bytes ≡ header_tag → 48 ≤ length bytes
+long_with_tag : (bytes : List ℕ) → IsUnsupported bytes → take 32 bytes ≡ header_tag → 48 ≤ length bytes
 long_with_tag bytes (inl (inl (some, other))) tag = absurd (other tag)
 long_with_tag bytes (inl (inr (some, other))) tag = some
 long_with_tag bytes (inr (header, more, footer)) tag = header.size

@@ -60,10 +60,3 @@ module _ (bytes : List ℕ) (info : MDBShardInfo) (ends : HasHeaderAndFooter byt
     pub not_in_2 : FindsAuxRows bytes true → RefusesVersion2 bytes InvalidArguments
     not_in_2 finds =
         inr (λ write. write.0, inr (inr (refl, (info, again.files, again.xorbs, record { ends = ends; sections = have }, sym (same_rows true finds)))))
-
-  -- or it was not
-  pub not_written_in_2 : (new : Source) (e r : CoreError) → ExportFails old new e → ((r ≡ OutOfMemory) × IsWriteError e) ⊎ ((r ≡ e) × (¬ IsWriteError e)) → new.failures ≡ old.failures → RefusesVersion2 bytes r
-  not_written_in_2 new e r fails becomes works = from_memory (NotInVersion2 bytes) e r becomes (λ none. go fails.cause) where
-    go : FailedBy (ExportCase (bytes_left old)) old new e → NotInVersion2 bytes e
-    go (inl failed) = absurd (omega (arith, failed.0, works))
-    go (inr (same, why)) = inr (inl (info, ends, subst (λ bs. ExportCase bs e) left why))

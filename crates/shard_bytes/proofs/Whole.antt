@@ -89,7 +89,7 @@ module _ (bytes : List ℕ) (w : IsWhole bytes) where
       let same = same_records other files xorbs read in
       subst (λ p. p) (λ j. IsSamePart part bytes (i j) (layout_of (sym same.0 j) (sym same.1 j) (options_of (i j))) (footer_value (sym same.0 j) (sym same.1 j) (options_of (i j)))) (part_same part)
 
-  pub no_finding : (f : Finding) → ¬ IsFinding bytes f
+  no_finding : (f : Finding) → ¬ IsFinding bytes f
   no_finding (Unsupported reason) so = not_unsupported bytes info ends (unsupported_so bytes reason so)
   no_finding TooShort so = not_too_short bytes info ends so
   no_finding (Cut Files) (i, e, header, cut) = files_not_cut bytes w.files w.xorbs have header cut

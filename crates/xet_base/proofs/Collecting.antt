@@ -39,7 +39,7 @@ finds_none t key Gives results = record {
 }
 
 -- one more hit, of another row than those before
-pub finds_push : {V : Type 0} (t : Table) (key : ℕ) (Gives : List ℕ → V → Type 0) (old new : List V) (count : ℕ) (hit : Hit V)
+finds_push : {V : Type 0} (t : Table) (key : ℕ) (Gives : List ℕ → V → Type 0) (old new : List V) (count : ℕ) (hit : Hit V)
     → (so_far : Finds t key Gives old new count) → count < length new → IsHit t key Gives hit → All (λ h. OtherRow h hit) so_far.found
     → Finds t key Gives old (set new count hit.value) (count + 1)
 finds_push t key Gives old new count hit so_far room is_hit others =
@@ -56,7 +56,7 @@ finds_push t key Gives old new count hit so_far room is_hit others =
     }
 
 -- bytes that were read are there
-pub reads_within : (old new : Source) (n : ℕ) → ReadsCount old new n → old.at ≤ length old.bytes → old.at + n ≤ length old.bytes
+reads_within : (old new : Source) (n : ℕ) → ReadsCount old new n → old.at ≤ length old.bytes → old.at + n ≤ length old.bytes
 reads_within old new n reads inside = elim (eq-zero-or-pos n) [
   | inl none ↦ omega (arith, none, inside)
   | inr some ↦ reads.within some
@@ -75,7 +75,7 @@ unfolding finds_none
 from_none t key Gives from results = record { finds = finds_none t key Gives results; rows = All-nil (λ h. from ≤ h.row) }
 
 module _ {V : Type 0} (t : Table) (key : ℕ) (Gives : List ℕ → V → Type 0) (from i to : ℕ) (old results : List V) (count : ℕ) where
-  pub around_start : FindsFrom t key Gives to old results count → FindsAround t key Gives from i to old results count
+  around_start : FindsFrom t key Gives to old results count → FindsAround t key Gives from i to old results count
   around_start found = record {
     finds = found.finds;
     rows = All-weaker (λ h. to ≤ h.row) (λ h. ((from ≤ h.row) × (h.row < i)) ⊎ (to ≤ h.row)) (λ h past. inr past) found.finds.found found.rows;
@@ -88,14 +88,14 @@ module _ {V : Type 0} (t : Table) (key : ℕ) (Gives : List ℕ → V → Type 0
         found.finds.found found.rows;
   }
 
-  pub around_skip : FindsAround t key Gives from i to old results count → FindsAround t key Gives from (i + 1) to old results count
+  around_skip : FindsAround t key Gives from i to old results count → FindsAround t key Gives from (i + 1) to old results count
   around_skip found = record {
     finds = found.finds;
     rows = All-weaker (λ h. ((from ≤ h.row) × (h.row < i)) ⊎ (to ≤ h.row)) (λ h. ((from ≤ h.row) × (h.row < i + 1)) ⊎ (to ≤ h.row))
         (λ h at. elim at [ inl here ↦ inl (here.0, omega (arith, here.1)) | inr past ↦ inr past ]) found.finds.found found.rows;
   }
 
-  pub around_keep : (value : V) (new : List V) (count_new : ℕ) → FindsAround t key Gives from i to old results count → from ≤ i → i < to
+  around_keep : (value : V) (new : List V) (count_new : ℕ) → FindsAround t key Gives from i to old results count → from ≤ i → i < to
       → IsHit t key Gives (record { row = i; value = value }) → Kept results new count value count_new → FindsAround t key Gives from (i + 1) to old new count_new
   unfolding finds_push around_skip
   around_keep value new count_new found le lt is_hit kept = elim (cases_lt count (length results)) [
@@ -119,7 +119,7 @@ module _ (t : Table) (i : ℕ) (now mid : Source) (same : now.bytes ≡ t.bytes)
   pub key_there : HasKey t i
   key_there = omega (arith, reads.within (omega arith), at, ap length same)
 
-  pub past_key : mid.at ≡ row_offset t i + 8
+  past_key : mid.at ≡ row_offset t i + 8
   past_key = omega (arith, ap (λ s. s.at) reads.after, at)
 
   pub key_bytes : mid.bytes ≡ t.bytes
@@ -130,7 +130,7 @@ module _ (t : Table) (i : ℕ) (mid after : Source) (same : mid.bytes ≡ t.byte
   pub value_is : next_bytes mid t.width ≡ value_at t i
   value_is = λ j. take t.width (drop (at j) (same j))
 
-  pub row_there : HasKey t i → row_offset t (i + 1) ≤ length t.bytes
+  row_there : HasKey t i → row_offset t (i + 1) ≤ length t.bytes
   row_there there = omega (
     arith,
     there,
@@ -140,7 +140,7 @@ module _ (t : Table) (i : ℕ) (mid after : Source) (same : mid.bytes ≡ t.byte
     offset_of_row-next t.start t.width i,
   )
 
-  pub past_row : after.at ≡ row_offset t (i + 1)
+  past_row : after.at ≡ row_offset t (i + 1)
   past_row = omega (arith, ap (λ s. s.at) reads.after, at, offset_of_row-next t.start t.width i)
 
 pub collected_start : {V : Type 0} (t : Table) (key : ℕ) (Gives : List ℕ → V → Type 0) (from to : ℕ) (old : Source) (results : List V) (had : ℕ)

@@ -41,7 +41,7 @@ digits_fit i word value below fits = rw (add-one, pow-suc) (omega arith)
 pub digits_fit_word : (i : ℕ) → i ≤ 16 → 16 ^ i ≤ 2 ^ 64
 digits_fit_word i within = pow-le-pow_right {n = 16} (omega arith) within
 
-pub length-hex_digits : (count n : ℕ) → length (hex_digits count n) ≡ count
+length-hex_digits : (count n : ℕ) → length (hex_digits count n) ≡ count
 unfolding hex_digits
 length-hex_digits zero n = refl
 length-hex_digits (suc count) n = length-append (hex_digits count (n / 16)) _ ∙ ap (λ k. k + 1) (length-hex_digits count (n / 16)) ∙ add-one count

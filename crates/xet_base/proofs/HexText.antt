@@ -52,7 +52,7 @@ padded_onto (suc count) (suc k) n acc fuel fits (inr some) =
     ∙ last_digit (suc count) n acc
 
 -- one word alone
-pub sixteen_digits : (n : ℕ) → n < 2 ^ 64 → padded_integral (format_spec 32 0 4 16 (2 ^ 64 - 1)) false [] (digits 16 false n) ≡ hex_digits 16 n
+sixteen_digits : (n : ℕ) → n < 2 ^ 64 → padded_integral (format_spec 32 0 4 16 (2 ^ 64 - 1)) false [] (digits 16 false n) ≡ hex_digits 16 n
 unfolding padded_integral char_count digits
 sixteen_digits n fits =
     let ds = digits_onto 64 16 false n [] in

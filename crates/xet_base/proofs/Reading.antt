@@ -19,7 +19,7 @@ taken_more a b c filled k n slice part within fits taken read =
     subst (Consumes a c) (sym (take-put_mid_part filled k n slice part within fits)) (Consumes-trans a b c (take filled slice) (take n part) taken read)
 
 -- known bytes from which some were consumed had at least these
-pub HasBytes-consumed : (a b : Option (List ℕ)) (bytes : List ℕ) (n : ℕ) → length bytes ≡ n → Consumes a b bytes → HasBytes a n
+HasBytes-consumed : (a b : Option (List ℕ)) (bytes : List ℕ) (n : ℕ) → length bytes ≡ n → Consumes a b bytes → HasBytes a n
 HasBytes-consumed None b bytes n len taken = tt
 HasBytes-consumed (Some xs) None bytes n len taken = absurd taken
 HasBytes-consumed (Some xs) (Some ys) bytes n len taken = omega (arith, ap length taken ∙ length-append bytes ys)

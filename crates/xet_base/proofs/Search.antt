@@ -58,7 +58,7 @@ key_read t i old mid new (Err e) same within sought fails = record {
 }
 
 -- a range of these numbers is the table that they determine
-abbrev pub IsRange : TableRange → ℕ → ℕ → ℕ → Type 0
+abbrev IsRange : TableRange → ℕ → ℕ → ℕ → Type 0
 IsRange range start rows width = (range.start ≡ start) × (range.rows ≡ rows) × (range.width ≡ width)
 
 pub same_table : (range : TableRange) (source : Source) (start rows width : ℕ) → IsRange range start rows width

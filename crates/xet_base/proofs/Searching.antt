@@ -112,7 +112,7 @@ module _ {V : Type 0} (t : Table) (key : ℕ) (Gives : List ℕ → V → Type 0
   pub mid_serves : NoFailure old mid
   mid_serves = serves_advanced old _ mid 8 (serves_moved old now _ (row_offset t (w.probe - 1)) so_far.no_failure refl) reads.after
 
-  pub mid_seeks : mid.seeks ≡ old.seeks + (so_far.made + 1)
+  mid_seeks : mid.seeks ≡ old.seeks + (so_far.made + 1)
   mid_seeks = omega (arith, ap (λ s. s.seeks) reads.after, so_far.seeks)
 
   mid_read : mid.read ≡ now.read + 8

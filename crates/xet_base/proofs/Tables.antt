@@ -37,13 +37,13 @@ hits_below-miss t key i other =
     ∙ ap (λ n. hits_below t key i + n) (cond-false _ 1 0 (and_right _ _ (ne_eqb _ _ other))) ∙ omega arith
 
 -- nor does one that is not there
-pub hits_below-absent : (t : Table) (key i : ℕ) → length t.bytes < row_offset t i + 8 → hits_below t key (i + 1) ≡ hits_below t key i
+hits_below-absent : (t : Table) (key i : ℕ) → length t.bytes < row_offset t i + 8 → hits_below t key (i + 1) ≡ hits_below t key i
 hits_below-absent t key i absent =
     ap (hits_below t key) (add-one i) ∙ hits_below-suc t key i
     ∙ ap (λ n. hits_below t key i + n) (cond-false _ 1 0 (and_left _ _ (lt-leb _ _ absent))) ∙ omega arith
 
 -- the next row either counts or does not
-pub hits_below-more : (t : Table) (key i : ℕ) → hits_below t key i ≤ hits_below t key (i + 1)
+hits_below-more : (t : Table) (key i : ℕ) → hits_below t key i ≤ hits_below t key (i + 1)
 hits_below-more t key i = omega (arith, ap (hits_below t key) (add-one i), hits_below-suc t key i)
 
 hits_below-add : (t : Table) (key i n : ℕ) → hits_below t key i ≤ hits_below t key (i + n)

@@ -23,7 +23,7 @@ masked flags part =
     pow_above AuxExt = lit< tt
 
 -- a bit that is not set is added
-pub or_unset : (n k : ℕ) → bit_at n k ≡ 0 → bit_or n (2 ^ k) ≡ n + 2 ^ k
+or_unset : (n k : ℕ) → bit_at n k ≡ 0 → bit_or n (2 ^ k) ≡ n + 2 ^ k
 or_unset n k unset = or_disjoint n (2 ^ k) (and_pow n k ∙ ap (λ b. b * 2 ^ k) unset ∙ omega arith)
 
 -- the mark of a chunk, tested, taken away and set

@@ -43,7 +43,7 @@ rows_of-aux : (wanted : Bool) (r : MDBFileInfo) (part : OptionalPart) → rows_o
 rows_of-aux true r part = refl
 rows_of-aux false r part = rows_of-keeping (all_but AuxExt) _ r part
 
-pub rows_of-kept : (kept : KeptParts) (r : MDBFileInfo) → FitsItsHeader r → (part : OptionalPart) → rows_of part (as_kept kept r) ≡ (if keeps kept part then rows_of part r else [])
+rows_of-kept : (kept : KeptParts) (r : MDBFileInfo) → FitsItsHeader r → (part : OptionalPart) → rows_of part (as_kept kept r) ≡ (if keeps kept part then rows_of part r else [])
 rows_of-kept kept r whole part =
     rows_of-aux kept.aux_ext (as_wanted kept.verification r) part
     ∙ ap (λ (xs : List HashRow). if kept.aux_ext || all_but AuxExt part then xs else []) (rows_of-wanted kept.verification r whole part)
@@ -128,7 +128,7 @@ both_true false b holds = cc
 
 -- a record that keeps some of its parts has no more rows, and fits a header that announces what is kept
 module _ (stays : OptionalPart → Bool) (h : FileDataSequenceHeader) (r : MDBFileInfo) where
-  pub keeping-rows : length (optional_rows (keeping stays h r)) ≤ length (optional_rows r)
+  keeping-rows : length (optional_rows (keeping stays h r)) ≤ length (optional_rows r)
   keeping-rows =
       fewer_rows (λ p. rows_of p (keeping stays h r)) (λ p. rows_of p r)
       (λ p. omega (arith, ap length (rows_of-keeping stays h r p), fewer (stays p) (rows_of p r))) parts
@@ -190,7 +190,7 @@ cleared-known flags known = omega (arith, known)
 
 -- a record without its auxiliary row is as good as the record
 module _ (r : MDBFileInfo) where
-  pub without_aux-whole : FitsItsHeader r → FitsItsHeader (without_aux r)
+  without_aux-whole : FitsItsHeader r → FitsItsHeader (without_aux r)
   without_aux-whole whole = keeping-whole (all_but AuxExt) (without_aux r).metadata r whole refl (cleared r.metadata.file_flags)
 
   pub without_aux-fits : FitsRecord r → FitsRecord (without_aux r)

@@ -25,7 +25,7 @@ one_small : (b : Bool) → one b < 2
 one_small true = omega arith
 one_small false = omega arith
 
-pub flag_is : (b : Bool) (n : ℕ) → (if b then n else 0) ≡ one b * n
+flag_is : (b : Bool) (n : ℕ) → (if b then n else 0) ≡ one b * n
 flag_is true n = omega arith
 flag_is false n = omega arith
 
@@ -73,7 +73,7 @@ announces-flags_of wanted part =
     none AuxExt = refl
 
 -- flags whose other bits are zero are those of the parts that they announce
-pub flags_are_known : (wanted : OptionalPart → Bool) → flags_of wanted ≡ flags_of (announces (flags_of wanted))
+flags_are_known : (wanted : OptionalPart → Bool) → flags_of wanted ≡ flags_of (announces (flags_of wanted))
 flags_are_known wanted = λ i. flags_of (λ part. sym (announces-flags_of wanted part) i)
 
 -- sums over parts
@@ -150,7 +150,7 @@ module _ (a b : MDBFileInfo) where
   pub rows_of-merged : (part : OptionalPart) → rows_of part (merged a b) ≡ (if has_part b part && not (has_part a part) then rows_of part b else rows_of part a)
   rows_of-merged part = rows_of-with_parts _ _ _ (λ p. either_holds p (has_part b p && not (has_part a p)) (rows_of p b) (rows_of p a) (held b p) (held a p)) part
 
-  pub has_part-joined : (part : OptionalPart) → has_part (joined a b) part ≡ (has_part a part || has_part b part)
+  has_part-joined : (part : OptionalPart) → has_part (joined a b) part ≡ (has_part a part || has_part b part)
   has_part-joined part = announces-flags_of (λ p. has_part a p || has_part b p) part
 
   pub rows_of-joined : (part : OptionalPart) → rows_of part (joined a b) ≡ (if has_part a part then rows_of part a else rows_of part b)
@@ -312,7 +312,7 @@ pub All-joined : (P : HashRow → Type 0) (a b : MDBFileInfo) → All P (optiona
 All-joined P a b first second = All-parts P (λ part. rows_of part (joined a b)) (λ part. subst (All P) (sym (rows_of-joined a b part))
     (either_part (All P) (has_part a part) (rows_of part a) (rows_of part b) (All-part P (λ p. rows_of p a) first part) (All-part P (λ p. rows_of p b) second part)))
 
-pub joined_well_formed : (a b : MDBFileInfo) → IsWellFormed a → IsWellFormed b → IsSameFile a.metadata b.metadata → row_count (joined a b) ≤ 4294967295 → IsWellFormed (joined a b)
+joined_well_formed : (a b : MDBFileInfo) → IsWellFormed a → IsWellFormed b → IsSameFile a.metadata b.metadata → row_count (joined a b) ≤ 4294967295 → IsWellFormed (joined a b)
 joined_well_formed a b a_formed b_formed same few = record {
   is_file = a_formed.is_file;
   known_flags = flags_are_known (λ part. has_part a part || has_part b part);

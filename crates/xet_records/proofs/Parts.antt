@@ -119,7 +119,7 @@ held r Verification = tt
 held r MetadataExt = one_row r.metadata_ext
 held r AuxExt = one_row r.aux_ext
 
-pub holds_as_many : (part : OptionalPart) (xs ys : List HashRow) → length ys ≤ length xs → Holds part xs → Holds part ys
+holds_as_many : (part : OptionalPart) (xs ys : List HashRow) → length ys ≤ length xs → Holds part xs → Holds part ys
 holds_as_many Verification xs ys few holds = tt
 holds_as_many MetadataExt xs ys few holds = omega arith
 holds_as_many AuxExt xs ys few holds = omega arith

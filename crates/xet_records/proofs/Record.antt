@@ -13,7 +13,7 @@ use Rattle.xet_records.proofs.Lengths.{length-header_row}
 use Rattle.xet_records.proofs.Parts.{length-optional_rows}
 
 -- the bytes determine the header
-pub header_row-injective : (g h : FileDataSequenceHeader) → FitsHeader g → FitsHeader h → header_row g ≡ header_row h → g ≡ h
+header_row-injective : (g h : FileDataSequenceHeader) → FitsHeader g → FitsHeader h → header_row g ≡ header_row h → g ≡ h
 unfolding header_row
 header_row-injective g h g_fits h_fits same =
     let last = same_parts ((hash_bytes g.file_hash ++ u32_bytes g.file_flags) ++ u32_bytes g.num_entries) ((hash_bytes h.file_hash ++ u32_bytes h.file_flags) ++ u32_bytes h.num_entries) _ _

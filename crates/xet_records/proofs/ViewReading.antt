@@ -11,7 +11,7 @@ use Rattle.xet_records.specs.Steps.ViewReading.{LacksMemory}
 
 module _ {H R : Type 0} (K : RecordKind H R) (laws : KindLaws K) where
   -- memory that runs out after a header: that of the rows after it, or of the header if it announces none
-  pub lacks_memory_after : {I : Type 0} (reads : I → I → List ℕ → Type 0) (fails : I → I → ℕ → CoreError → Type 0)
+  lacks_memory_after : {I : Type 0} (reads : I → I → List ℕ → Type 0) (fails : I → I → ℕ → CoreError → Type 0)
       → ((a b c : I) (xs ys : List ℕ) → reads a b xs → reads b c ys → reads a c (xs ++ ys))
       → ((a b : I) (xs : List ℕ) (most : ℕ) (e : CoreError) → reads a b xs → length xs ≤ most → 0 < most → e ≡ OutOfMemory → fails a b most e)
       → (left after : ℕ) (old mid new : I) (h : H) (e : CoreError) → CountsHeader K (reads old mid) left after h

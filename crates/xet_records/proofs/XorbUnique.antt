@@ -11,7 +11,7 @@ use Rattle.xet_records.proofs.Lengths.{length-xorb_header_row, length-chunk_row}
 use Rattle.xet_records.proofs.Unique.{hash_and_numbers}
 
 -- the bytes determine the row
-pub xorb_header_row-injective : (g h : XorbChunkSequenceHeader) → FitsXorbHeader g → FitsXorbHeader h → xorb_header_row g ≡ xorb_header_row h → g ≡ h
+xorb_header_row-injective : (g h : XorbChunkSequenceHeader) → FitsXorbHeader g → FitsXorbHeader h → xorb_header_row g ≡ xorb_header_row h → g ≡ h
 unfolding xorb_header_row
 xorb_header_row-injective g h g_fits h_fits same =
     let e = hash_and_numbers g.xorb_hash h.xorb_hash g.xorb_flags h.xorb_flags g.num_entries h.num_entries g.num_bytes_in_xorb h.num_bytes_in_xorb g.num_bytes_on_disk h.num_bytes_on_disk

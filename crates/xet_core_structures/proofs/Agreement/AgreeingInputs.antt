@@ -49,19 +49,19 @@ module _ {H R : Type 0} (K : RecordKind H R) where
       let rest = later found in
       ((suc rest.0.0, omega (arith, rest.0.1), rest.0.2), rest.1)
 
-  pub found_in : (q : DataHash) (xs : List R) (r : R) → with_hash K xs q ≡ Some r → Contains xs r × (key_of_record K r ≡ q)
+  found_in : (q : DataHash) (xs : List R) (r : R) → with_hash K xs q ≡ Some r → Contains xs r × (key_of_record K r ≡ q)
   found_in q [] r found = absurd (none-some r found)
   found_in q (x ∷ xs) r found = found_here q x xs r (eq_by_cmp hash_cmp q (key_of_record K x)) refl found (found_in q xs r)
 
 -- the shard of records in memory
 module _ (shard : PlacedShard) (bytes : List ℕ) (is : IsPlacedOf shard bytes) where
-  abbrev pub records_in : Records
+  abbrev records_in : Records
   records_in = is.2.records
 
-  pub united_in : MayBeUnited shard records_in
+  united_in : MayBeUnited shard records_in
   united_in = may_be_united bytes is.0 shard is.2
 
-  pub has_shard : HasShard (shard_of records_in) bytes
+  has_shard : HasShard (shard_of records_in) bytes
   has_shard = record { info = is.0; ends = is.1; holds = lists_hold bytes is.0 records_in is.2.lists }
 
 -- one input more
@@ -133,14 +133,14 @@ module _ {R : Type 0} (listed : Records → List R) where
         let found = found_in K q (listed records) r (sym (get-list_map K (listed records) (ascend list.0 x list.1) q) ∙ sym (ap (λ m. get m q) (are records)) ∙ ap (λ t. get (records_of t) q) (sym s_is) ∙ r_at) in
         ((listed records, list.2, found.0), found.1)
 
-    pub differ_in : (d : Differing) → Differ K agree (lists_of shards inputs all) d
+    differ_in : (d : Differing) → Differ K agree (lists_of shards inputs all) d
         → (s t : Shard) × (a b : R) × HoldsAt inputs d.first s × HoldsAt inputs d.second t × (get (records_of s) d.hash ≡ Some a) × (get (records_of t) d.hash ≡ Some b) × (¬ agree a b)
     differ_in d differ =
         let one = held_by d.first differ.one differ.has_one in
         let other = held_by d.second differ.other differ.has_other in
         (one.shard, other.shard, differ.one, differ.other, one.holds, other.holds, subst (λ h. get (records_of one.shard) h ≡ Some differ.one) differ.one_hash one.has, subst (λ h. get (records_of other.shard) h ≡ Some differ.other) differ.other_hash other.has, differ.differ)
 
-    pub agree_in : (q : DataHash) → AgreeUnder K agree (lists_of shards inputs all) q → (i j : ℕ) (s t : Shard) (a b : R) → HoldsAt inputs i s → HoldsAt inputs j t → get (records_of s) q ≡ Some a → get (records_of t) q ≡ Some b → agree a b
+    agree_in : (q : DataHash) → AgreeUnder K agree (lists_of shards inputs all) q → (i j : ℕ) (s t : Shard) (a b : R) → HoldsAt inputs i s → HoldsAt inputs j t → get (records_of s) q ≡ Some a → get (records_of t) q ≡ Some b → agree a b
     agree_in q agrees i j s t a b one other a_at b_at =
         let left = has_record i s q a one a_at in
         let right = has_record j t q b other b_at in
@@ -153,12 +153,12 @@ files_ascend p x is = (united_in p x is).files_ascend
 xorbs_ascend : (p : PlacedShard) (x : List ℕ) (is : IsPlacedOf p x) → Ascends xorb_records (records_in p x is).xorbs
 xorbs_ascend p x is = (united_in p x is).xorbs_ascend
 
-pub placed_files : (shards : List PlacedShard) (inputs : List (List ℕ)) (all : AllZip IsPlacedOf shards inputs) → AllZip (MayUnite file_records) (map (λ s. s.files.items) shards) (lists_of (λ (r : Records). r.files) shards inputs all)
+placed_files : (shards : List PlacedShard) (inputs : List (List ℕ)) (all : AllZip IsPlacedOf shards inputs) → AllZip (MayUnite file_records) (map (λ s. s.files.items) shards) (lists_of (λ (r : Records). r.files) shards inputs all)
 placed_files [] inputs all = tt
 placed_files (p ∷ shards) [] all = absurd all
 placed_files (p ∷ shards) (x ∷ inputs) all = (record { places = (united_in p x all.0).places.files; ascends = (united_in p x all.0).files_ascend }, placed_files shards inputs all.1)
 
-pub placed_xorbs : (shards : List PlacedShard) (inputs : List (List ℕ)) (all : AllZip IsPlacedOf shards inputs) → AllZip (MayUnite xorb_records) (map (λ s. s.xorbs.items) shards) (lists_of (λ (r : Records). r.xorbs) shards inputs all)
+placed_xorbs : (shards : List PlacedShard) (inputs : List (List ℕ)) (all : AllZip IsPlacedOf shards inputs) → AllZip (MayUnite xorb_records) (map (λ s. s.xorbs.items) shards) (lists_of (λ (r : Records). r.xorbs) shards inputs all)
 placed_xorbs [] inputs all = tt
 placed_xorbs (p ∷ shards) [] all = absurd all
 placed_xorbs (p ∷ shards) (x ∷ inputs) all = (record { places = (united_in p x all.0).places.xorbs; ascends = (united_in p x all.0).xorbs_ascend }, placed_xorbs shards inputs all.1)

@@ -18,7 +18,7 @@ use Rattle.xet_core_structures.proofs.Records.Items.{below_or_at}
 use Rattle.xet_core_structures.proofs.Trees.PlacedWriting.{placed_once}
 
 -- a record lies where its header and the bytes of its rows do
-pub copied_placed : {H R : Type 0} (K : RecordKind H R) (one other : PlacedRecord H) (n : ℕ) → one.header ≡ other.header → n ≡ 48 * K.rows_after one.header → take n one.rows.now ≡ take n other.rows.now → (r : R)
+copied_placed : {H R : Type 0} (K : RecordKind H R) (one other : PlacedRecord H) (n : ℕ) → one.header ≡ other.header → n ≡ 48 * K.rows_after one.header → take n one.rows.now ≡ take n other.rows.now → (r : R)
     → Places K other r → Places K one r
 copied_placed {H} {R} K one other n same size front r is =
     let stored = is.rows.stored in
@@ -56,7 +56,7 @@ module _ {H R : Type 0} (K : RecordKind H R) (agree : R → R → Type 0) where
 
 module _ {H R : Type 0} (K : RecordKind H R) (laws : KindLaws K) (lists : List (List (PlacedRecord H))) where
   -- what the code finds at a place is what is there
-  abbrev pub FoundAt : Place → PlacedRecord H → Type 0
+  abbrev FoundAt : Place → PlacedRecord H → Type 0
   FoundAt p placed = (l : List (PlacedRecord H)) → slice_get lists p.input ≡ Some l → slice_get l p.index ≡ Some placed
 
   pub placed_is : (p : Place) (placed : PlacedRecord H) (is : IsPlace K lists p) → FoundAt p placed → is.is_in.placed ≡ placed

@@ -76,7 +76,7 @@ module _ {H R : Type 0} (K : RecordKind H R) (agree : R → R → Type 0) (lists
       of (inr i_here) (inl j_before) = absurd (less_apart q.hash p.hash (compared.apart j i q p j_before i_here q_at p_at) (sym same))
       of (inr i_here) (inr j_here) = here i j p q r s i_here i_low j_here j_low p_at q_at none r_at s_at
 
-    pub compared_agreeing : AgreeWithin K agree lists places at to → HasCompared to found
+    compared_agreeing : AgreeWithin K agree lists places at to → HasCompared to found
     compared_agreeing agrees = record {
       within = run.within;
       apart = apart_on;
@@ -99,7 +99,7 @@ module _ {H R : Type 0} (K : RecordKind H R) (agree : R → R → Type 0) (lists
           subst (λ k. hash_cmp k d.hash ≡ Less) (before.hashes.1 ∙ e.2)
           (subst (λ k. hash_cmp before.other.hash k ≡ Less) differ.hashes.1 (compared.apart before.j differ.j before.other differ.other before.is_other.1 differ.is_other.0 before.is_other.2 differ.is_other.2))
 
-      pub compared_differing : HasCompared to (found ++ d ∷ [])
+      compared_differing : HasCompared to (found ++ d ∷ [])
       compared_differing = record {
         within = run.within;
         apart = apart_on;

@@ -52,13 +52,6 @@ module _ (places : List Place) where
     pub within : end ≤ length places
     pub same : (i : ℕ) (p : Place) → from ≤ i → i < end → slice_get places i ≡ Some p → p.hash ≡ hash
 
-  pub running_start : (from : ℕ) (first : Place) → slice_get places from ≡ Some first → IsRunning from (from + 1) first.hash
-  running_start from first at = record {
-    some = omega arith;
-    within = omega (arith, slice_get_within places from first at);
-    same = λ i p low high p_at. let is : i ≡ from = omega (arith, low, high) in ap (λ (q : Place). q.hash) (same_Some p first (sym p_at ∙ ap (slice_get places) is ∙ at));
-  }
-
   pub running_on : (from end : ℕ) (hash : DataHash) (next : Place) → IsRunning from end hash → slice_get places end ≡ Some next → next.hash ≡ hash → IsRunning from (end + 1) hash
   running_on from end hash next running at is = record {
     some = omega (arith, running.some);
@@ -83,7 +76,7 @@ module _ (places : List Place) (sorted : IsSorted place_cmp places) where
   less_on k p q less (inr more) = hash_cmp-IsTotalOrder.trans k p.hash q.hash less more
 
   -- after a place with another hash all have greater ones
-  pub later_hashes : (from to : ℕ) (first : Place) → from ≤ to → slice_get places from ≡ Some first → ((q : Place) → slice_get places to ≡ Some q → ¬ (q.hash ≡ first.hash))
+  later_hashes : (from to : ℕ) (first : Place) → from ≤ to → slice_get places from ≡ Some first → ((q : Place) → slice_get places to ≡ Some q → ¬ (q.hash ≡ first.hash))
       → (i : ℕ) (p : Place) → to ≤ i → slice_get places i ≡ Some p → hash_cmp first.hash p.hash ≡ Less
   later_hashes from to first before first_at other i p after p_at =
       let low = slice_get_within places i p p_at in
@@ -124,7 +117,7 @@ module _ {H R : Type 0} (K : RecordKind H R) where
     pub each : (p : Place) → Contains new p → Contains old p ⊎ ((p.input ≡ input) × IsIn K list p)
 
   module _ (input : ℕ) (list : List (PlacedRecord H)) (old : List Place) where
-    pub adding_start : IsAdding input list 0 old old
+    adding_start : IsAdding input list 0 old old
     adding_start = record { kept = λ p has. has; added = λ p is low here. absurd (omega (arith, low)); each = λ p has. inl has }
 
     module _ (index : ℕ) (new : List Place) (adding : IsAdding input list index old new) where
@@ -161,7 +154,7 @@ module _ {H R : Type 0} (K : RecordKind H R) where
     pub each : (p : Place) → Contains places p → IsPlace K lists p
 
   module _ (lists : List (List (PlacedRecord H))) where
-    pub no_places : HasPlacesUpTo lists 0 []
+    no_places : HasPlacesUpTo lists 0 []
     no_places = record { all = λ p low is. absurd (omega (arith, low)); each = λ p has. absurd (omega (arith, has.1)) }
 
     pub places_on : (n : ℕ) (list : List (PlacedRecord H)) (old new : List Place) → slice_get lists n ≡ Some list → HasPlacesUpTo lists n old → AddsPlaces K n list old new → HasPlacesUpTo lists (n + 1) new

@@ -23,7 +23,7 @@ use Rattle.xet_core_structures.specs.Records.ShardContents.{HoldsShard}
 use Rattle.xet_core_structures.proofs.Records.ByteUnions.{held_union}
 
 -- agreement has no order, and a shard agrees with itself
-pub agree_turned : (a b : Shard) → ShardsAgree a b → ShardsAgree b a
+agree_turned : (a b : Shard) → ShardsAgree a b → ShardsAgree b a
 agree_turned a b agree = record {
   files = λ q r s r_at s_at.
       let pair = agree.files q s r s_at r_at in
@@ -31,7 +31,7 @@ agree_turned a b agree = record {
   xorbs = λ q r s r_at s_at. sym (agree.xorbs q s r s_at r_at);
 }
 
-pub agree_itself : (a : Shard) → ShardsAgree a a
+agree_itself : (a : Shard) → ShardsAgree a a
 agree_itself a = record {
   files = λ q r s r_at s_at.
       let same = same_Some r s (sym r_at ∙ s_at) in
@@ -92,7 +92,7 @@ module _ (a b d : Shard) (is : IsDifference a b d) where
   none_in_both None p c r s it o_at c_at = none-some r o_at
   none_in_both (Some x) p c r s it o_at c_at = none-some s (sym it ∙ c_at)
 
-  pub difference_agrees : ShardsAgree a d
+  difference_agrees : ShardsAgree a d
   difference_agrees = record {
     files = λ q r s r_at s_at. absurd (none_in_both (get a.files q) (get b.files q) (get d.files q) r s (is.files q) r_at s_at);
     xorbs = λ q r s r_at s_at. absurd (none_in_both (get a.xorbs q) (get b.xorbs q) (get d.xorbs q) r s (is.xorbs q) r_at s_at);
@@ -121,7 +121,7 @@ module _ (a b c d : Shard) (first : IsShard a) (second : IsShard b) (agree : Sha
   same_xorbs q (Some r) None o_at p_at = refl
   same_xorbs q (Some r) (Some s) o_at p_at = ap Some (sym (agree.xorbs q r s o_at p_at))
 
-  pub union_of_difference : IsUnion a d c
+  union_of_difference : IsUnion a d c
   union_of_difference = record {
     files = λ q. union.files q ∙ same_files q (get a.files q) (get b.files q) refl refl ∙ ap (either_file (get a.files q)) (sym (is.files q));
     xorbs = λ q. union.xorbs q ∙ same_xorbs q (get a.xorbs q) (get b.xorbs q) refl refl ∙ ap (λ o. option_or o (get a.xorbs q)) (sym (is.xorbs q));

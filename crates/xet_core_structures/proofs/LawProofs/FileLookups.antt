@@ -70,7 +70,7 @@ module _ (key : DataHash) (s : Shard) (info : MDBShardInfo) (old : Source) (is :
   loaded_under new found loads = only_info old.bytes found info loads.ends is.ends
 
 -- a readable shard is written so
-pub written_under : (key : DataHash) (s : Shard) → IsReadable s → FitsFooter (keyed_info s key).metadata → IsBytesUnderKey key s (keyed_layout s key) (keyed_info s key)
+written_under : (key : DataHash) (s : Shard) → IsReadable s → FitsFooter (keyed_info s key).metadata → IsBytesUnderKey key s (keyed_layout s key) (keyed_info s key)
 written_under key s is fits = record {
   files = is.files;
   xorbs = is.xorbs;

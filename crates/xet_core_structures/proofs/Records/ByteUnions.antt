@@ -104,7 +104,7 @@ module _ (q : DataHash) (a b : MDBFileInfo) (one : IsKnown q a) (other : IsKnown
       (λ n k. part_absent a one.well_formed.whole part n ∙ sym (part_absent b other.well_formed.whole part k)) i))
       ∙ with_parts-rows_of a
 
-  pub mixed_is_joined : mixed a b ≡ joined a b
+  mixed_is_joined : mixed a b ≡ joined a b
   mixed_is_joined = λ i. record (joined a b) { metadata = record (joined a b).metadata { _unused = sym one.well_formed.reserved i } }
 
 module _ (q : DataHash) (a b : MDBFileInfo) (one : IsKnown q a) (other : IsKnown q b) (agree : Agree a b) where
@@ -151,13 +151,13 @@ module _ (q : DataHash) where
       (joined x y, ap Some (merged_is_joined x y own.well_formed others.well_formed), joined_is_united q x y own others (agree x y refl refl))
 
 module _ (a b c : Shard) (first : IsShard a) (second : IsShard b) (agree : ShardsAgree a b) where
-  pub byte_union_is_union : IsByteUnion a b c → IsUnion a b c
+  byte_union_is_union : IsByteUnion a b c → IsUnion a b c
   byte_union_is_union union = record {
     files = λ q. either_is q (get a.files q) (get b.files q) (get c.files q) (λ r. known a q r first) (λ r. known b q r second) (agree.files q) (union.files q);
     xorbs = λ q. union.xorbs q ∙ sym (same_either (get a.xorbs q) (get b.xorbs q) (agree.xorbs q));
   }
 
-  pub union_is_byte_union : IsUnion a b c → IsByteUnion a b c
+  union_is_byte_union : IsUnion a b c → IsByteUnion a b c
   union_is_byte_union union = record {
     files = λ q. subst (IsEitherFile (get a.files q) (get b.files q)) (sym (union.files q))
         (is_either q (get a.files q) (get b.files q) (λ r. known a q r first) (λ r. known b q r second) (agree.files q));

@@ -1,5 +1,5 @@
 -- Derived equality of rows decides whether they are equal.
-use Rattle.std.proofs.Common.{◌≡◌, ℕ, Bool, true, false, List, [], ◌∷◌, Option, None, Some, refl, sym, ap, ◌∙◌, subst, arith, true≢false, rules}
+use Rattle.std.proofs.Common.{◌≡◌, ℕ, Bool, true, false, List, [], ◌∷◌, Option, None, Some, refl, sym, ap, subst, arith, true≢false, rules}
 use Rattle.std.specs.Prelude.{◌↔◌, IsTrue, option_to_list}
 use Rattle.std.specs.Bool.{Decides}
 use Rattle.std.specs.Int.{bit_at}
@@ -79,9 +79,3 @@ announces_more f g part includes = of (announces g part) (announces f part) (one
   of v true g_bit f_bit has = refl
   of true false g_bit f_bit has = absurd (omega (arith, f_bit, includes (bit_of part) (bit_within part) g_bit))
   of false false g_bit f_bit has = absurd (true≢false (sym has))
-
-pub agrees_with_less : (a b : MDBFileInfo) → IncludesBits a.metadata.file_flags b.metadata.file_flags → Agree a b → (r : MDBFileInfo) → Agree a r → Agree b r
-agrees_with_less a b includes agree r other = record {
-  segments = sym agree.segments ∙ other.segments;
-  parts = λ part has_b has_r. let has_a = announces_more a.metadata.file_flags b.metadata.file_flags part includes has_b in sym (agree.parts part has_a has_b) ∙ other.parts part has_a has_r;
-}

@@ -31,7 +31,7 @@ module _ (IsResult : Shard → Shard → Shard → Type 0) (unique : (a b c d : 
       let second = held_once y j other.second other.holds_second one.second one.holds_second in
       unique one.first one.second c d one.result (subst (λ p. p) (λ k. IsResult (sym first k) (sym second k) d) other.result)
 
-  pub same_result : (i j k l : MDBShardInfo) (c d : Shard) → i ≡ k → j ≡ l → HaveResult IsResult x i y j c → HaveResult IsResult x k y l d → c ≡ d
+  same_result : (i j k l : MDBShardInfo) (c d : Shard) → i ≡ k → j ≡ l → HaveResult IsResult x i y j c → HaveResult IsResult x k y l d → c ≡ d
   same_result i j k l c d first second one other =
       one_result i j c d one (subst (λ p. p) (λ m. HaveResult IsResult x (sym first m) y (sym second m) d) other)
 

@@ -42,7 +42,7 @@ sorted_front R [] ys sorted = tt
 sorted_front R (x ∷ xs) ys sorted = (all_front _ xs ys sorted.0, sorted_front R xs ys sorted.1)
 
 module _ {H R : Type 0} (K : RecordKind H R) (laws : KindLaws K) where
-  abbrev pub hash_of_record : R → DataHash
+  abbrev hash_of_record : R → DataHash
   hash_of_record r = K.hash_of (K.header_of r)
 
   pub hashes_handed : (rs : List R) → map hash_of_record (map K.as_read rs) ≡ map hash_of_record rs
@@ -84,7 +84,7 @@ module _ {H R : Type 0} (K : RecordKind H R) (laws : KindLaws K) where
     pub not_cut : ¬ IsTruncatedInOrder K bytes
     not_cut (xs, rest, front, ends) = section_or_cut K laws bytes is.stored is.section (xs, rest, front.records, ends)
 
-    pub not_bad : ¬ IsMalformedSection K bytes
+    not_bad : ¬ IsMalformedSection K bytes
     not_bad (inl (xs, rest, front, passes)) = section_or_passes K laws bytes is.stored is.section (xs, rest, front.records, passes)
     not_bad (inr front) =
         let xs = front.stored ++ front.last ∷ [] in

@@ -13,13 +13,10 @@ use Rattle.xet_records.specs.declared.file_structs.header.FileDataSequenceHeader
 use Rattle.xet_records.specs.declared.file_structs.part.OptionalPart.{OptionalPart}
 use Rattle.xet_records.specs.declared.file_structs.rows.HashRow.{HashRow}
 use Rattle.xet_records.specs.declared.file_structs.MDBFileInfo.{MDBFileInfo}
-use Rattle.xet_records.specs.declared.xorb_structs.XorbChunkSequenceHeader.{XorbChunkSequenceHeader}
-use Rattle.xet_records.specs.declared.xorb_structs.MDBXorbInfo.{MDBXorbInfo}
 use Rattle.xet_records.specs.RecordKind.{RecordKind, KindLaws}
 use Rattle.xet_records.specs.FileRow.{segment_row, hash_row, FitsHashRow, clear}
 use Rattle.xet_records.specs.Part.{parts, rows_of, optional_rows}
 use Rattle.xet_records.specs.FileRecord.{file_records, file_rows_bytes, as_read, rows_after}
-use Rattle.xet_records.specs.XorbRow.{chunk_row}
 use Rattle.xet_records.specs.XorbRecord.{xorb_records}
 use Rattle.xet_records.proofs.Lengths.{length-segment_rows, length-hash_row, length-hash_rows}
 use Rattle.xet_records.proofs.Parts.{rows_of-returned}
@@ -41,9 +38,9 @@ use Rattle.xet_core_structures.specs.Steps.ByteResults.{Records}
 use Rattle.xet_core_structures.specs.Steps.Filling.{Puts, IsFrame}
 use Rattle.xet_core_structures.specs.Steps.Parts.{MayBeWritten}
 use Rattle.xet_core_structures.specs.Steps.Placed.{Places, PlacesAll}
-use Rattle.xet_core_structures.proofs.Trees.PlacedUnions.{HasFirst, first_placed, none_placed, rows_placed, header_placed, stored_placed}
+use Rattle.xet_core_structures.proofs.Trees.PlacedUnions.{HasFirst, first_placed, none_placed, header_placed, stored_placed}
 
-pub puts_nothing : (old : List ℕ) (at : ℕ) → Puts old old at at []
+puts_nothing : (old : List ℕ) (at : ℕ) → Puts old old at at []
 puts_nothing old at = record { end_is = omega arith; front = sym (append-nil (take at old)); rest = refl }
 
 pub puts_then : (old mid new : List ℕ) (at m end : ℕ) (xs ys : List ℕ) → Puts old mid at m xs → Puts mid new m end ys → Puts old new at end (xs ++ ys)
@@ -54,7 +51,7 @@ puts_then old mid new at m end xs ys first second = record {
 }
 
 -- what is put at the front of a slice
-pub put_at_front : (old new : List ℕ) (end : ℕ) (bytes : List ℕ) → Puts old new 0 end bytes → new ≡ bytes ++ drop end old
+put_at_front : (old new : List ℕ) (end : ℕ) (bytes : List ℕ) → Puts old new 0 end bytes → new ≡ bytes ++ drop end old
 put_at_front old new end bytes puts = sym (take-append-drop end new) ∙ (λ i. puts.front i ++ puts.rest i)
 
 pub puts_word : (old new : List ℕ) (at end value : ℕ) → end ≡ at + 8 → take end new ≡ take at old ++ u64_bytes value → drop end new ≡ drop end old → Puts old new at end (u64_bytes value)
@@ -142,12 +139,6 @@ file_rows_placed p r places =
           ∙ (λ i. flat_map segment_row (same i).segments ++ flat_map hash_row (optional_rows-cleared stored i));
     }
 
--- the rows of a xorb that is placed
-pub xorb_rows_placed : (p : PlacedRecord XorbChunkSequenceHeader) (r : MDBXorbInfo) → Places xorb_records p r → take (48 * p.header.num_entries) p.rows.now ≡ flat_map chunk_row r.chunks
-xorb_rows_placed p r places =
-    front_is (48 * p.header.num_entries) p.rows.now (flat_map chunk_row places.rows.stored.chunks) places.rows.taken.0 places.rows.size places.rows.taken.1
-    ∙ ap (λ (x : MDBXorbInfo). flat_map chunk_row x.chunks) places.rows.returned
-
 module _ {H R : Type 0} (K : RecordKind H R) where
   -- the front of a list is put, and these are left
   pub record IsPutting (rs : List R) (ps : List (PlacedRecord H)) (old new : List ℕ) (at end : ℕ) : Type 0 where
@@ -159,7 +150,7 @@ module _ {H R : Type 0} (K : RecordKind H R) where
     pub size : end ≡ at + 48 * total_rows K front
 
 module _ {H R : Type 0} (K : RecordKind H R) (laws : KindLaws K) where
-  pub putting_start : (rs : List R) (ps : List (PlacedRecord H)) (old : List ℕ) (at : ℕ) → PlacesAll K ps rs → IsPutting K rs ps old old at at
+  putting_start : (rs : List R) (ps : List (PlacedRecord H)) (old : List ℕ) (at : ℕ) → PlacesAll K ps rs → IsPutting K rs ps old old at at
   putting_start rs ps old at places = record { front = []; rest = rs; is = refl; places = places; puts = puts_nothing old at; size = omega arith }
 
   -- header and rows of a record
@@ -171,13 +162,6 @@ module _ {H R : Type 0} (K : RecordKind H R) (laws : KindLaws K) where
   module _ (rs : List R) (p : PlacedRecord H) (ps : List (PlacedRecord H)) (old mid : List ℕ) (at m : ℕ) (putting : IsPutting K rs (p ∷ ps) old mid at m) where
     pub next : HasFirst K laws p ps putting.rest
     next = first_placed K laws p ps putting.rest putting.places
-
-    -- there is room for the next
-    pub room_for_next : (most : ℕ) → at + 48 * (total_rows K rs + 1) ≤ most → m + 48 * (1 + K.rows_after p.header) ≤ most
-    room_for_next most room =
-        let all : total_rows K rs ≡ total_rows K putting.front + total_rows K putting.rest = ap (total_rows K) putting.is ∙ sum_by-append K.row_count putting.front putting.rest in
-        let one : total_rows K putting.rest ≡ K.row_count next.record_of + total_rows K next.others = ap (total_rows K) next.is ∙ sum_by-cons K.row_count next.record_of next.others in
-        omega (arith, room, putting.size, all, one, rows_placed K laws p next.record_of next.here)
 
     pub putting_on : (new : List ℕ) (end : ℕ) → ((r : R) → Places K p r → Puts mid new m end (K.record_bytes r)) → IsPutting K rs ps old new at end
     putting_on new end put =

@@ -27,7 +27,7 @@ use Rattle.xet_core_structures.proofs.Records.Zipped.{zipped_parts, zipped_as}
 
 module _ (inputs : List (List ℕ)) (key : DataHash) where
   -- the inputs at all leaves are
-  abbrev pub AreInputs : MergePlan → List Shard → Type 0
+  abbrev AreInputs : MergePlan → List Shard → Type 0
   AreInputs plan shards = AllZip (λ i s. InputIs inputs (HoldsShard key s) i) (leaves plan) shards
 
   -- the shards at the leaves of both sides of a union

@@ -115,7 +115,7 @@ module _ {H R : Type 0} (K : RecordKind H R) (laws : KindLaws K) (v w : FormatVe
         let other = at_list w y ys second b b_is k ∙ ap (with_hash K ys) same ∙ with_hash_of K ys s second.writable.ascends s_in in
         never (get c k) (subst (λ p. p) (λ n. makes (one n) (other n) (get c k)) (each k))
 
-    pub no_list_union : HaveNoUnionOf K v w makes x y
+    no_list_union : HaveNoUnionOf K v w makes x y
     no_list_union = record {
       firsts = first.stored;
       seconds = second.stored;
@@ -127,7 +127,7 @@ module _ {H R : Type 0} (K : RecordKind H R) (laws : KindLaws K) (v w : FormatVe
       none = refused none;
     }
 
-pub no_shard_union : (x : List ℕ) (i : MDBShardInfo) (y : List ℕ) (j : MDBShardInfo) (one other : Records) → HoldsLists x i one.files one.xorbs → HoldsLists y j other.files other.xorbs → HaveNoRecordUnion one other → HaveNoUnion x i y j
+no_shard_union : (x : List ℕ) (i : MDBShardInfo) (y : List ℕ) (j : MDBShardInfo) (one other : Records) → HoldsLists x i one.files one.xorbs → HoldsLists y j other.files other.xorbs → HaveNoRecordUnion one other → HaveNoUnion x i y j
 no_shard_union x i y j one other first second (inl none) =
     inl (no_list_union file_records file_laws (version_of i.header.version) (version_of j.header.version) IsEitherFile files_unique (files_at x i) (files_at y j) one.files other.files first.files second.files none)
 no_shard_union x i y j one other first second (inr none) =
@@ -228,7 +228,7 @@ both_parts inputs left right x y (Ok part) x_written y_written (bytes, unites, i
 both_parts inputs left right x y (Err e) x_written y_written refusal = inr (x, x_written, inr (y, y_written, refusal))
 
 -- an allocation may fail after a tree is done
-pub no_memory_after : (inputs : List (List ℕ)) (plan : MergePlan) (bytes : List ℕ) → TreeWrites inputs plan bytes → TreeRefusal inputs plan OutOfMemory
+no_memory_after : (inputs : List (List ℕ)) (plan : MergePlan) (bytes : List ℕ) → TreeWrites inputs plan bytes → TreeRefusal inputs plan OutOfMemory
 no_memory_after inputs (Leaf i) bytes is = inr (refl, slice_get_within inputs i bytes is)
 no_memory_after inputs (Both' p left q right) bytes (x, y, x_written, y_written, (i, j, c, x_ends, y_ends, have, is)) =
     inr (x, x_written, inr (y, y_written, inr (inr (i, j, x_ends, y_ends, inr (have.same_key, inl (inl refl))))))

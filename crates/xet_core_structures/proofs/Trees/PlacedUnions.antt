@@ -26,24 +26,24 @@ use Rattle.xet_core_structures.proofs.Records.Zipped.{zipped_append}
 
 module _ {H R : Type 0} (K : RecordKind H R) (makes : Option R → Option R → Option R → Type 0) where
   -- what comes first of a list comes after what two others and their union have
-  abbrev pub IsPassed : List R → List R → List R → List R → Type 0
+  abbrev IsPassed : List R → List R → List R → List R → Type 0
   IsPassed xs ys zs [] = ⊤
   IsPassed xs ys zs (r ∷ rs) = ArePassed K xs ys zs (key_of_record K r)
 
   -- the fronts of two lists are united, and these are left
   pub record IsUniting (xs ys : List R) (ps qs made : List (PlacedRecord H)) (rows : ℕ) : Type 0 where
-    pub before_1 : List R
+    before_1 : List R
     pub after_1 : List R
-    pub before_2 : List R
+    before_2 : List R
     pub after_2 : List R
     pub zs : List R
     pub first_is : xs ≡ before_1 ++ after_1
     pub second_is : ys ≡ before_2 ++ after_2
-    pub places_1 : PlacesAll K ps after_1
-    pub places_2 : PlacesAll K qs after_2
+    places_1 : PlacesAll K ps after_1
+    places_2 : PlacesAll K qs after_2
     pub places : PlacesAll K made zs
-    pub ascends_1 : Ascends K after_1
-    pub ascends_2 : Ascends K after_2
+    ascends_1 : Ascends K after_1
+    ascends_2 : Ascends K after_2
     pub combined : Combines K makes before_1 before_2 zs
     pub passed_1 : IsPassed before_1 before_2 zs after_1
     pub passed_2 : IsPassed before_1 before_2 zs after_2
@@ -204,7 +204,7 @@ module _ {H R : Type 0} (K : RecordKind H R) (laws : KindLaws K) where
               (after_first first.record_of first.others ascends_1) (subst (λ k. ComesAfter k second.others) one_key (after_first second.record_of second.others ascends_2)) counts
 
       -- nothing is left
-      pub uniting_ends : ps ≡ [] → qs ≡ [] → Combines K makes xs ys uniting.zs
+      uniting_ends : ps ≡ [] → qs ≡ [] → Combines K makes xs ys uniting.zs
       uniting_ends ps_none qs_none =
           let first = none_placed uniting.after_1 (subst (λ l. PlacesAll K l uniting.after_1) ps_none uniting.places_1) in
           let second = none_placed uniting.after_2 (subst (λ l. PlacesAll K l uniting.after_2) qs_none uniting.places_2) in
@@ -224,7 +224,7 @@ module _ {H R : Type 0} (K : RecordKind H R) (laws : KindLaws K) where
         of_count (inl is) = omega (arith, is, many)
         of_count (inr (more, _)) = more
 
-      pub too_many : ps ≡ [] → qs ≡ [] → 4294967295 < rows → HaveNoListUnion K makes xs ys
+      too_many : ps ≡ [] → qs ≡ [] → 4294967295 < rows → HaveNoListUnion K makes xs ys
       too_many ps_none qs_none many = inl (uniting.zs, uniting_ends ps_none qs_none, many_rows many)
 
       -- what a call returns that refuses a list with too many rows

@@ -51,7 +51,7 @@ module _ {H R : Type 0} (K : RecordKind H R) (laws : KindLaws K) where
         };
       }) here
 
-  pub writing_start : (rs : List R) (ps : List (PlacedRecord H)) (Written : List R → Type 0) (old : Option (List ℕ)) → PlacesAll K ps rs → Written [] → IsWriting K rs ps Written old old
+  writing_start : (rs : List R) (ps : List (PlacedRecord H)) (Written : List R → Type 0) (old : Option (List ℕ)) → PlacesAll K ps rs → Written [] → IsWriting K rs ps Written old old
   writing_start rs ps Written old places written = record { front = []; rest = rs; is = refl; places = places; written = written; bytes = Appends-nil old }
 
   module _ (rs : List R) (p : PlacedRecord H) (ps : List (PlacedRecord H)) (Before : List R → Type 0) (start old : Option (List ℕ)) (writing : IsWriting K rs (p ∷ ps) Before start old) where

@@ -1,10 +1,9 @@
 -- The turns of the loop that reads a section as a list of records that stay where they are.
-use Rattle.std.proofs.Common.{◌≡◌, inl, inr, ℕ, ◌+◌, List, [], ◌∷◌, ◌++◌, Option, None, Some, IfSome, refl, sym, ap, ◌∙◌, subst}
+use Rattle.std.proofs.Common.{◌≡◌, ℕ, List, [], ◌∷◌, ◌++◌, Option, None, Some, IfSome, refl, sym, ap, ◌∙◌, subst}
 use Rattle.std.specs.List.Sorted.{IsStrictlySortedBy}
 use Rattle.std.proofs.lemmas.Option.{same_Some}
 use Rattle.xet_base.specs.declared.error.CoreError.{CoreError}
-use Rattle.xet_base.specs.declared.error.CoreError.TheVariants.{OutOfMemory}
-use Rattle.xet_base.specs.Source.{Source, ReadsBytes, DeviceFailure, bytes_left}
+use Rattle.xet_base.specs.Source.{Source, ReadsBytes, bytes_left}
 use Rattle.xet_base.specs.Table.{NoFailure}
 use Rattle.xet_base.proofs.Reading.{ReadsBytes-consumes}
 use Rattle.xet_records.specs.declared.record_reader.FormatVersion.{FormatVersion}
@@ -97,16 +96,3 @@ module _ {H R : Type 0} (K : RecordKind H R) (laws : KindLaws K) (version : Form
       placing.ascends,
       placing.places,
     )
-
-    -- an allocation fails, or the device does
-    pub placing_no_memory : (new : Source) (e : CoreError) → new ≡ now → e ≡ OutOfMemory → AscendingNotStreamed K version start new e
-    placing_no_memory new e same is = record {
-      bytes = ap (λ (s : Source). s.bytes) same ∙ placing_serves.bytes;
-      cause = inr (ap (λ (s : Source). s.failures) same ∙ placing_serves.failures, inl is);
-    }
-
-    pub placing_device : (new : Source) (e : CoreError) → new.bytes ≡ now.bytes → DeviceFailure now new e → AscendingNotStreamed K version start new e
-    placing_device new e same failed = record {
-      bytes = same ∙ placing_serves.bytes;
-      cause = inl (failed.0 ∙ ap (λ n. n + 1) placing_serves.failures, failed.1, failed.2, failed.3);
-    }

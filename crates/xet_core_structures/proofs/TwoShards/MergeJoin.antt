@@ -25,7 +25,7 @@ use Rattle.xet_shards.specs.Write.Section.{total_rows, section_bytes}
 use Rattle.xet_shards.specs.Read.SectionReading.{StreamsSection}
 use Rattle.xet_shards.proofs.Read.SectionReading.{section_ends}
 use Rattle.xet_core_structures.specs.Records.RecordPairs.{key_of_record, ComeBefore, ArePassed, Combines, IsMadeOf, rows_in}
-use Rattle.xet_core_structures.specs.Steps.RecordPairs.{IsNextPair, AreOfOneHash}
+use Rattle.xet_core_structures.specs.Steps.RecordPairs.{IsNextPair}
 use Rattle.xet_core_structures.specs.Steps.MergeJoin.{Follows, ReadsFollowing, Advances, AdvanceFails, ReadsOptionalRecord, WritesMade, CannotMake, PairFails, WritesCombined, AscendingNotStreamed, CannotCombine, SectionsFail}
 use Rattle.xet_core_structures.specs.Steps.MergeJoin.PairFails.{output_fails as pair_output_fails, first_fails as pair_first_fails, second_fails as pair_second_fails, refused as pair_refused}
 use Rattle.xet_core_structures.specs.Steps.MergeJoin.SectionsFail.{output_fails, first_fails, second_fails, refused}
@@ -96,11 +96,6 @@ module _ {H R : Type 0} (K : RecordKind H R) (laws : KindLaws K) where
       some = λ none _. is_none g a none one;
     },
   )
-
-  pub pair_hash : (p q a b : Option H) (k : DataHash) → IsPair K p q a b k → AreOfOneHash K.hash_of a b
-  pair_hash p q None b k pair = tt
-  pair_hash p q (Some g) None k pair = tt
-  pair_hash p q (Some g) (Some h) k pair = (pair.first g refl).1 ∙ sym (pair.second h refl).1
 
   -- no section goes on
   pub none_left : (p q : Option H) (b : Bool) → ((is_some p ≡ true) ⊎ (is_some q ≡ true) → b ≡ true) → b ≡ false → (p ≡ None) × (q ≡ None)
@@ -254,7 +249,7 @@ module _ {H R : Type 0} (K : RecordKind H R) (laws : KindLaws K) (v w : FormatVe
             }
 
         -- nothing can be made of the pair
-        pub none_made : (new_1 new_2 : Source) (rows : ℕ) (x y : Option R) → rows ≡ total_rows K merging.made → ReadsOptionalRecord K one now_1 new_1 x → ReadsOptionalRecord K two now_2 new_2 y
+        none_made : (new_1 new_2 : Source) (rows : ℕ) (x y : Option R) → rows ≡ total_rows K merging.made → ReadsOptionalRecord K one now_1 new_1 x → ReadsOptionalRecord K two now_2 new_2 y
             → CannotMake K makes rows x y → CannotCombine K v w makes (bytes_left start_1) (bytes_left start_2)
         none_made new_1 new_2 rows x y counted first second cannot =
             let front_1 = front_of K laws v start_1 now_1 left_1 next_1 merging.firsts merging.first new_1 k one x (λ h is. (pair.first h is).0) pair.later_1 first in

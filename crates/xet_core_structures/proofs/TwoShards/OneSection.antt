@@ -97,16 +97,8 @@ module _ {H R : Type 0} (K : RecordKind H R) (laws : KindLaws K) (version : Form
     pub pending_header : (h : H) → next ≡ Some h → IsRecordHeader K h
     pending_header h is = let header = begun h is in record { is_record = header.read.is_record; fits = header.read.widths }
 
-    pub pending_left : (h : H) → next ≡ Some h → left ≤ 4294967296
+    pending_left : (h : H) → next ≡ Some h → left ≤ 4294967296
     pending_left h is = let header = begun h is in omega (arith, header.rows, pending.records.rows)
-
-    pub passed_header : (passed : Option H) → ((h : H) → passed ≡ Some h → next ≡ Some h) → IfSome passed (IsRecordHeader K)
-    passed_header None is = tt
-    passed_header (Some h) is = pending_header h (is h refl)
-
-    pub passed_left : (passed : Option H) → ((h : H) → passed ≡ Some h → next ≡ Some h) → IfSome passed (λ _. left ≤ 4294967296)
-    passed_left None is = tt
-    passed_left (Some h) is = pending_left h (is h refl)
 
     pub pending_serves : NoFailure start now
     pending_serves = serves_on start pending.mid now (taken_serves start pending.mid _ pending.records.taken) (next_serves next pending.header) where

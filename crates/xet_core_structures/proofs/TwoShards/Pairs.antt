@@ -33,7 +33,7 @@ module _ {H R : Type 0} (K : RecordKind H R) where
     fails_so Narrow Wide wider failure (second_fails e is h at fails no_failure) = second_fails e is h at fails no_failure
     fails_so Narrow Wide wider failure (refused e is invalid one other p q narrow) = refused e is invalid one other p q (wider one other p q narrow)
 
-    pub fails_turned : (Refused : Option R → Option R → Type 0) (failure : CopyFailure) → PairFails K first second old new Refused failure
+    fails_turned : (Refused : Option R → Option R → Type 0) (failure : CopyFailure) → PairFails K first second old new Refused failure
         → PairFails K second first (sources old.second old.first) (sources new.second new.first) (λ other one. Refused one other) failure
     fails_turned Refused failure (output_fails e is device one two) = output_fails e is device two one
     fails_turned Refused failure (first_fails e is h at fails no_failure) = second_fails e is h at fails no_failure
@@ -95,7 +95,7 @@ module _ {H R : Type 0} (K : RecordKind H R) where
       made_of_kept r other read q x (inl is) = ap (key_of_record K) (same_Some r x is)
       made_of_kept r other read q x (inr is) = ap K.hash_of (header_returned K laws (ReadsBytes old_1 new_1) kept r read) ∙ key_of_other passed hash other q x is
 
-      pub kept_first : ((r : R) (other : Option R) → ReadsRowsAfter K kept (ReadsBytes old_1 new_1) r → ReadsOptionalRecord K passed old_2 new_2 other → makes (Some r) other (Some r))
+      kept_first : ((r : R) (other : Option R) → ReadsRowsAfter K kept (ReadsBytes old_1 new_1) r → ReadsOptionalRecord K passed old_2 new_2 other → makes (Some r) other (Some r))
           → (Before After : List R → Type 0) (old new : Option (List ℕ)) → CopiesKept K kept passed (streams old_1 old_2 old) (streams new_1 new_2 new) rows Before After
           → WritesMade K makes (Some kept) passed (streams old_1 old_2 old) (streams new_1 new_2 new) rows Before After
       kept_first is_made Before After old new keeps =
@@ -114,7 +114,7 @@ module _ {H R : Type 0} (K : RecordKind H R) where
             written = keeps.copied.written;
           }
 
-      pub kept_second : ((r : R) (other : Option R) → ReadsRowsAfter K kept (ReadsBytes old_1 new_1) r → ReadsOptionalRecord K passed old_2 new_2 other → makes other (Some r) (Some r))
+      kept_second : ((r : R) (other : Option R) → ReadsRowsAfter K kept (ReadsBytes old_1 new_1) r → ReadsOptionalRecord K passed old_2 new_2 other → makes other (Some r) (Some r))
           → (Before After : List R → Type 0) (old new : Option (List ℕ)) → CopiesKept K kept passed (streams old_1 old_2 old) (streams new_1 new_2 new) rows Before After
           → WritesMade K makes passed (Some kept) (streams old_2 old_1 old) (streams new_2 new_1 new) rows Before After
       kept_second is_made Before After old new keeps =
@@ -137,14 +137,14 @@ module _ {H R : Type 0} (K : RecordKind H R) where
             turned x (inr is) = inl is
 
       -- it has too many rows
-      pub cannot_first : ((r : R) (other : Option R) → ReadsRowsAfter K kept (ReadsBytes old_1 new_1) r → ReadsOptionalRecord K passed old_2 new_2 other → makes (Some r) other (Some r))
+      cannot_first : ((r : R) (other : Option R) → ReadsRowsAfter K kept (ReadsBytes old_1 new_1) r → ReadsOptionalRecord K passed old_2 new_2 other → makes (Some r) other (Some r))
           → (one other : Option R) → ReadsOptionalRecord K (Some kept) old_1 new_1 one → ReadsOptionalRecord K passed old_2 new_2 other → HasTooManyRows K rows one → CannotMake K makes rows one other
       cannot_first is_made one other (r, is, read) q many =
           let facts = record_of kept old_1 new_1 r read header in
           subst (λ o. CannotMake K makes rows o other) (sym is)
           (too_many_rows r (is_made r other read q) (record { stored = facts.2; rows = omega arith; hash = made_of_kept r other read q }) (subst (HasTooManyRows K rows) is many))
 
-      pub cannot_second : ((r : R) (other : Option R) → ReadsRowsAfter K kept (ReadsBytes old_1 new_1) r → ReadsOptionalRecord K passed old_2 new_2 other → makes other (Some r) (Some r))
+      cannot_second : ((r : R) (other : Option R) → ReadsRowsAfter K kept (ReadsBytes old_1 new_1) r → ReadsOptionalRecord K passed old_2 new_2 other → makes other (Some r) (Some r))
           → (one other : Option R) → ReadsOptionalRecord K (Some kept) old_1 new_1 one → ReadsOptionalRecord K passed old_2 new_2 other → HasTooManyRows K rows one → CannotMake K makes rows other one
       cannot_second is_made one other (r, is, read) q many =
           let facts = record_of kept old_1 new_1 r read header in

@@ -75,7 +75,7 @@ module _ {H R : Type 0} (K : RecordKind H R) where
   -- the records of a section are such
   module _ (laws : KindLaws K) (twice : (r : R) → K.as_read (K.as_read r) ≡ K.as_read r)
       (bytes : List ℕ) (m : FinMap hash_cmp R) (is : IsSectionOf K bytes m) where
-    pub section_readable : (q : DataHash) (r : R) → get m q ≡ Some r → IsReadableAs q r
+    section_readable : (q : DataHash) (r : R) → get m q ≡ Some r → IsReadableAs q r
     section_readable q r at =
         let all_stored = all_handed K laws is.stored (values m) is.section.records.are_stored is.returned in
         let all_unchanged = subst (All (λ s. K.as_read s ≡ s)) is.returned (All-map (λ s. K.as_read s ≡ s) K.as_read is.stored (λ k s below. twice (get_or is.stored k s))) in
@@ -85,7 +85,7 @@ module _ {H R : Type 0} (K : RecordKind H R) where
           unchanged = each_value (λ s. K.as_read s ≡ s) m all_unchanged q r at;
         }
 
-  pub readable_if_each : (m : FinMap hash_cmp R) → ((q : DataHash) (r : R) → get m q ≡ Some r → IsReadableAs q r) → total_rows K (values m) ≤ 4294967295 → AreReadable K m
+  readable_if_each : (m : FinMap hash_cmp R) → ((q : DataHash) (r : R) → get m q ≡ Some r → IsReadableAs q r) → total_rows K (values m) ≤ 4294967295 → AreReadable K m
   readable_if_each m each rows = record {
     keyed = all_of_map hash_cmp-IsTotalOrder hash_cmp-IsAntisymmetric (λ e. e.0 ≡ hash_in K e.1) m (λ q r at. (each q r at).keyed);
     fits = record {
@@ -100,11 +100,11 @@ module _ {H R : Type 0} (K : RecordKind H R) where
   Keeps IsEither = (q : DataHash) (o p c : Option R) (t : R) → ((r : R) → o ≡ Some r → IsReadableAs q r) → ((r : R) → p ≡ Some r → IsReadableAs q r) → IsEither o p c → c ≡ Some t
       → IsReadableAs q t
 
-  pub rest_readable : Keeps IsRest
+  rest_readable : Keeps IsRest
   rest_readable q None p c t first second is at = second t (sym is ∙ at)
   rest_readable q (Some a) p c t first second is at = absurd (none-some t (sym is ∙ at))
 
-pub xorb_readable : Keeps xorb_records IsEitherXorb
+xorb_readable : Keeps xorb_records IsEitherXorb
 xorb_readable q None p c t first second is at = second t (sym is ∙ at)
 xorb_readable q (Some a) p c t first second is at = first t (sym is ∙ at)
 
@@ -130,7 +130,7 @@ united_readable q a b t one other (inl (all, is)) = subst (IsReadableAs file_rec
 united_readable q a b t one other (inr (inl (lacks, all, is))) = subst (IsReadableAs file_records q) (sym is) other
 united_readable q a b t one other (inr (inr (lacks, wants, counts, is))) = subst (IsReadableAs file_records q) (sym is) (mixed_readable q a b one other counts)
 
-pub file_readable : Keeps file_records IsEitherFile
+file_readable : Keeps file_records IsEitherFile
 file_readable q None p c t first second is at = second t (sym is ∙ at)
 file_readable q (Some a) None c t first second is at = first t (sym is ∙ at)
 file_readable q (Some a) (Some b) c t first second (r, is, united) at =

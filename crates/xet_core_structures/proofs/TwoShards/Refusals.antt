@@ -92,7 +92,7 @@ module _ {H R : Type 0} (K : RecordKind H R) (laws : KindLaws K) where
     all_ascend : Ascends K ((found ++ option_to_list one) ++ more)
     all_ascend = subst (Ascends K) all_records (subst (IsStrictlySortedBy hash_cmp) (sym (hashes_handed K laws is.stored)) (section_ascends (in_version K version) (laws_in K laws version) bytes a is))
 
-    pub front_ascends : Ascends K (found ++ option_to_list one)
+    front_ascends : Ascends K (found ++ option_to_list one)
     front_ascends = front (found ++ option_to_list one) more all_ascend where
       front : (xs ys : List R) → Ascends K (xs ++ ys) → Ascends K xs
       front xs ys ascends = sorted_front hash_cmp (map (key_of_record K) xs) (map (key_of_record K) ys) (subst (IsStrictlySortedBy hash_cmp) (map-append (key_of_record K) xs ys) ascends)
@@ -121,7 +121,7 @@ module _ {H R : Type 0} (K : RecordKind H R) (laws : KindLaws K) where
       at (Some r) hash goes ascends = subst (λ j. ComeAfter K j more) hash (after_last found r more ascends)
 
     -- so the map has at each hash up to theirs what they have
-    pub get_up_to : (q : DataHash) → (hash_cmp q k ≡ Less) ⊎ (q ≡ k) → get a q ≡ with_hash K (found ++ option_to_list one) q
+    get_up_to : (q : DataHash) → (hash_cmp q k ≡ Less) ⊎ (q ≡ k) → get a q ≡ with_hash K (found ++ option_to_list one) q
     get_up_to q below =
         ap (λ m. get m q) (one_map (in_version K version) (laws_in K laws version) bytes (list_map K _) (section_of_list (in_version K version) _ all_ascend bytes is.stored is.section all_records) a is)
         ∙ get-list_map K ((found ++ option_to_list one) ++ more) all_ascend q ∙ same_before K q (found ++ option_to_list one) more (after q below)

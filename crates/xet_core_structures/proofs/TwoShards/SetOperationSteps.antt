@@ -43,12 +43,12 @@ use Rattle.xet_core_structures.proofs.Records.Lists.{sections_read, lists_read}
 use Rattle.xet_core_structures.proofs.TwoShards.Results.{failed_by, sections_failed, sections_kept, section_serves, files_of_first, files_of_second, xorbs_of_first, xorbs_of_second}
 use Rattle.xet_core_structures.proofs.TwoShards.OneSection.{serves_on, serves_same}
 
-pub output_fails_by : (Cause : CoreError → Type 0) (failure : CopyFailure) → IsOutputFailure failure → FailsBy Cause failure
+output_fails_by : (Cause : CoreError → Type 0) (failure : CopyFailure) → IsOutputFailure failure → FailsBy Cause failure
 output_fails_by Cause (Input e) none = absurd none
 output_fails_by Cause (Output e) is = is
 
 -- an operation that failed
-pub not_operated : {E : Type 0} (IsResult : Shard → Shard → Shard → Type 0) (Fails : E → Type 0) (i j : MDBShardInfo) (old new : Streams) (e : E) → Fails e
+not_operated : {E : Type 0} (IsResult : Shard → Shard → Shard → Type 0) (Fails : E → Type 0) (i j : MDBShardInfo) (old new : Streams) (e : E) → Fails e
     → (new.first.bytes ≡ old.first.bytes) × (new.second.bytes ≡ old.second.bytes) → Operates IsResult Fails i j old new (Err e)
 not_operated IsResult Fails i j old new e fails same = record { written = fails; with_options = tt; costs = tt; no_failure = tt; sources = same; widths = tt }
 

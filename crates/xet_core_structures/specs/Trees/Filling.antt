@@ -1,5 +1,5 @@
 -- Bytes that are put into a slice which has room for them.
-use Rattle.std.specs.Prelude.{◌≡◌, ◌⊎◌, ℕ, ◌+◌, ◌<◌, ◌≤◌, List, ◌++◌, length, drop, MatchResult}
+use Rattle.std.specs.Prelude.{◌≡◌, ◌⊎◌, ℕ, ◌<◌, ◌≤◌, List, ◌++◌, length, drop, MatchResult}
 use Rattle.std.specs.declared.result.Result.{Result}
 use Rattle.xet_base.specs.declared.error.CoreError.{CoreError}
 

@@ -52,7 +52,7 @@ module _ (A B : Shard → Type 0) (a b : Shard) (first : IsJoinOf A a) (second :
         (rows_of part r) (rows_of part s) (ap (option_and_then (part_in part)) own ∙ part_is part r v) (ap (option_and_then (part_in part)) other ∙ part_is part s w);
   }
 
-  pub joins_agree : ShardsAgree a b
+  joins_agree : ShardsAgree a b
   joins_agree = record {
     files = agreeing_files;
     xorbs = λ q r s own other. from_members (λ t. get t.xorbs q) (first.xorbs q) (second.xorbs q) (λ u v m n x y at there. (agree u v m n).xorbs q x y at there) r s own other;

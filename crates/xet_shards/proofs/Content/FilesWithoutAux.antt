@@ -12,7 +12,7 @@ use Rattle.xet_shards.proofs.ShardInMemory.Sums.{sum-mapped}
 pub rows-without_aux : (files : List MDBFileInfo) → total_rows file_records (map without_aux files) ≤ total_rows file_records files
 rows-without_aux files = sum-mapped without_aux row_count without_aux-rows files
 
-pub section-without_aux : (files : List MDBFileInfo) → FitsSection file_records files → FitsSection file_records (map without_aux files)
+section-without_aux : (files : List MDBFileInfo) → FitsSection file_records files → FitsSection file_records (map without_aux files)
 section-without_aux files fits = record {
   stored = All-map IsStored without_aux files (All-weaker IsStored (λ r. IsStored (without_aux r)) without_aux-stored files fits.stored);
   rows = omega (arith, rows-without_aux files, fits.rows);

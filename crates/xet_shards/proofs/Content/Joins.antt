@@ -39,7 +39,7 @@ part_in-merged part a b =
 
 -- a file that its parts determine
 module _ (q : DataHash) where
-  abbrev pub IsPlain : MDBFileInfo → Type 0
+  abbrev IsPlain : MDBFileInfo → Type 0
   IsPlain r = r ≡ file_with q r.segments (λ part. part_in part r)
 
   pub record HasPlainHeader (r : MDBFileInfo) : Type 0 where
@@ -65,7 +65,7 @@ module _ (q : DataHash) where
       ∙ (λ i. with_parts (record { file_hash = sym has.keyed i; file_flags = flags i; num_entries = sym has.segments i; _unused = has.reserved i }) r.segments
       (λ part. rows_there (has_part r part) (rows_of part r) (has.absent part) i))
 
-  pub plain_header : (r : MDBFileInfo) → IsPlain r → HasPlainHeader r
+  plain_header : (r : MDBFileInfo) → IsPlain r → HasPlainHeader r
   plain_header r is =
       let header = (file_with q r.segments (λ part. part_in part r)).metadata in
       record {
@@ -77,7 +77,7 @@ module _ (q : DataHash) where
             ∙ rows_of-keeping (has_part r) header r part ∙ ap (λ (v : Bool). if v then rows_of part r else []) none;
       }
 
-  pub known_header : (r : MDBFileInfo) → IsKnown q r → HasPlainHeader r
+  known_header : (r : MDBFileInfo) → IsKnown q r → HasPlainHeader r
   known_header r known = record {
     keyed = known.keyed;
     reserved = known.well_formed.reserved;
@@ -108,7 +108,7 @@ module _ (q : DataHash) where
   part_either part (Some r) None = sym (or_none (part_in part r))
   part_either part (Some r) (Some s) = part_in-merged part r s
 
-  abbrev pub IsPlainFile : Option MDBFileInfo → Type 0
+  abbrev IsPlainFile : Option MDBFileInfo → Type 0
   IsPlainFile o = (r : MDBFileInfo) → o ≡ Some r → HasPlainHeader r
 
   plain_either : (o p : Option MDBFileInfo) → IsPlainFile o → IsPlainFile p → IsPlainFile (either_file o p)

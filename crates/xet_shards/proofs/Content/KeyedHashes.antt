@@ -56,10 +56,10 @@ hash_of_fits bytes are = record {
   word3 = below_64 (take 8 (drop 24 bytes)) (take-bytes 8 (drop 24 bytes) (drop-bytes 24 bytes are));
 }
 
-pub hmac_fits : (key hash : DataHash) → IsHash (hmac key hash)
+hmac_fits : (key hash : DataHash) → IsHash (hmac key hash)
 hmac_fits key hash = hash_of_fits (keyed_bytes (hash_bytes key) (hash_bytes hash)) (keyed_are (hash_bytes key) (hash_bytes hash))
 
-pub under_key_fits : (key hash : DataHash) → IsHash hash → IsHash (under_key key hash)
+under_key_fits : (key hash : DataHash) → IsHash hash → IsHash (under_key key hash)
 under_key_fits key hash fits = by_key (hash_eq key no_key)
   where
     by_key : (none : Bool) → IsHash (if none then hash else hmac key hash)

@@ -46,7 +46,7 @@ keyed_bytes key (c ∷ cs) = omega (
 )
 
 -- so a well-formed xorb stays one
-pub keyed_well_formed : (key : DataHash) (r : MDBXorbInfo) → IsXorb r → IsXorb (keyed_xorb key r)
+keyed_well_formed : (key : DataHash) (r : MDBXorbInfo) → IsXorb r → IsXorb (keyed_xorb key r)
 keyed_well_formed key r xorb =
     let stored = keyed_stored key r (record { is_xorb = xorb.is_xorb; count = xorb.count; widths = xorb.widths }) in
     record {

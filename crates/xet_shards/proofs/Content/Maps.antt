@@ -34,7 +34,7 @@ lent_map f o p same = grind (arith, same)
 
 module _ {K X : Type 0} (R : K → K → Ordering) where
   -- insertion into the entries is insertion into the map
-  pub put_is : (k : K) (v : X) (es : List (K × X)) → insert_entry R es k v ≡ put R k v es
+  put_is : (k : K) (v : X) (es : List (K × X)) → insert_entry R es k v ≡ put R k v es
   put_is k v [] = refl
   put_is k v (e ∷ es) = grind (arith, put_is k v es)
 

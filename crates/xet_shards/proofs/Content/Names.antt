@@ -28,7 +28,7 @@ digits_before name digits split is =
     digits_taken name digits split (omega (arith, long, named, ap length split, ap length (name_split name is), is.digits.length))
 
 -- 64 digits and the ending are a name
-pub digits_and_ending : (name digits : List ℕ) → name ≡ digits ++ codes ".mdb" → IsHexText digits → IsShardName name
+digits_and_ending : (name digits : List ℕ) → name ≡ digits ++ codes ".mdb" → IsHexText digits → IsShardName name
 digits_and_ending name digits split is = record {
   digits = subst IsHexText (sym (digits_taken name digits split is.length)) is;
   ending = digits_dropped name digits split is.length;

@@ -32,7 +32,7 @@ module _ {X : Type 0} (join : X → X → X) where
   with_twin x (Some y) = join x y
 
   -- the join of two optional values
-  abbrev pub either_joined : Option X → Option X → Option X
+  abbrev either_joined : Option X → Option X → Option X
   either_joined None p = p
   either_joined (Some x) p = Some (with_twin x p)
 
@@ -41,13 +41,13 @@ module _ {X : Type 0} (join : X → X → X) where
   overlay [] m = m
   overlay (e ∷ es) m = insert (overlay es m) e.0 (with_twin e.1 (get m e.0))
 
-  pub get-overlay : (es : List (DataHash × X)) (m : FinMap hash_cmp X) (q : DataHash) → get (overlay es m) q ≡ either_joined (entry es q) (get m q)
+  get-overlay : (es : List (DataHash × X)) (m : FinMap hash_cmp X) (q : DataHash) → get (overlay es m) q ≡ either_joined (entry es q) (get m q)
   get-overlay [] m q = refl
   get-overlay (e ∷ es) m q =
       grind (arith, get-insert hash_cmp-IsTotalOrder (overlay es m) e.0 (with_twin e.1 (get m e.0)) q, get-overlay es m q, same_key q e.0)
 
   -- the overlay is the only map with these values
-  pub is_overlay : (es : List (DataHash × X)) (m c : FinMap hash_cmp X) → ((q : DataHash) → get c q ≡ either_joined (entry es q) (get m q)) → c ≡ overlay es m
+  is_overlay : (es : List (DataHash × X)) (m c : FinMap hash_cmp X) → ((q : DataHash) → get c q ≡ either_joined (entry es q) (get m q)) → c ≡ overlay es m
   is_overlay es m c is = same_map hash_cmp-IsTotalOrder hash_cmp-IsAntisymmetric c (overlay es m) (λ q. is q ∙ sym (get-overlay es m q))
 
   module _ (es fs : List (DataHash × X)) (k : DataHash) (x : X) (push : fs ≡ es ++ (k, x) ∷ []) (m : FinMap hash_cmp X) (new : entry es k ≡ None) where
@@ -89,7 +89,7 @@ sum-entries f es fs e push = ap (λ gs. sum_by f (values_of gs)) push ∙ ap (su
 abbrev pub other_xorb : MDBXorbInfo → MDBXorbInfo → MDBXorbInfo
 other_xorb own other = other
 
-pub either_file_is : (o p : Option MDBFileInfo) → either_joined merged o p ≡ either_file o p
+either_file_is : (o p : Option MDBFileInfo) → either_joined merged o p ≡ either_file o p
 either_file_is o p = grind arith
 
 either_xorb_is : (o p : Option MDBXorbInfo) → either_joined other_xorb o p ≡ option_or p o
@@ -102,7 +102,7 @@ are_united_files es b c is = is_overlay merged es b c (λ q. is q ∙ sym (eithe
 pub are_united_xorbs : (es : List (DataHash × MDBXorbInfo)) (b c : XorbMap) → ((q : DataHash) → get c q ≡ option_or (get b q) (entry es q)) → c ≡ overlay other_xorb es b
 are_united_xorbs es b c is = is_overlay other_xorb es b c (λ q. is q ∙ sym (either_xorb_is (entry es q) (get b q)))
 
-abbrev pub united_files : FileMap → FileMap → FileMap
+abbrev united_files : FileMap → FileMap → FileMap
 united_files a b = overlay merged (entries a) b
 
 abbrev pub united_xorbs : XorbMap → XorbMap → XorbMap

@@ -80,7 +80,7 @@ same_taken old (Some zs) xs ys rest len are taken =
     (sym parts.0, ap Some (sym parts.1))
 
 -- a header, or a footer, that is read from its own bytes is itself
-pub header_again : (old new : Option (List ℕ)) (found h : MDBShardFileHeader) (rest : List ℕ) → found.tag ≡ header_tag → IsVersion found.version → found.footer_size < 2 ^ 64
+header_again : (old new : Option (List ℕ)) (found h : MDBShardFileHeader) (rest : List ℕ) → found.tag ≡ header_tag → IsVersion found.version → found.footer_size < 2 ^ 64
     → h.tag ≡ header_tag → IsVersion h.version → h.footer_size < 2 ^ 64 → old ≡ Some (shard_header_bytes h ++ rest) → Consumes old new (shard_header_bytes found)
     → (found ≡ h) × (new ≡ Some rest)
 header_again old new found h rest found_tag found_known found_fits tag known fits are taken =

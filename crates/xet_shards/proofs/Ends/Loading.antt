@@ -24,7 +24,7 @@ use Rattle.xet_shards.proofs.Ends.Ends.{unsupported_version}
 use Rattle.xet_shards.proofs.Write.Layouts.{length-shard_header_bytes, length-shard_footer_bytes}
 
 -- why a part failed, after calls that did not fail, is why the whole failed
-pub refusal_of : (Unsupported Short Unsupported' Short' : List ℕ → Type 0) (bytes bytes' : List ℕ) (old mid new : Source) (e : CoreError)
+refusal_of : (Unsupported Short Unsupported' Short' : List ℕ → Type 0) (bytes bytes' : List ℕ) (old mid new : Source) (e : CoreError)
     → mid.failures ≡ old.failures → (Unsupported bytes → Unsupported' bytes') → (Short bytes → Short' bytes')
     → Refusal Unsupported Short bytes mid new e → Refusal Unsupported' Short' bytes' old new e
 refusal_of Unsupported Short Unsupported' Short' bytes bytes' old mid new e same unsupported short cause =

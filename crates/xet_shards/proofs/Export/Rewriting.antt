@@ -100,7 +100,7 @@ module _ (bytes : List ℕ) (info : MDBShardInfo) (files : List MDBFileInfo) (xo
       let at : length written - 200 ≡ footer.footer_offset = omega (arith, footer_last files xorbs options) in
       ap (λ n. drop n bytes) (sym at ∙ ap (λ n. n - 200) (sym size)) ∙ ends.footer ∙ ap shard_footer_bytes same ∙ sym other.footer ∙ ap (λ n. drop n written) at
 
-  abbrev pub SamePart : ℕ → ℕ → Type 0
+  abbrev SamePart : ℕ → ℕ → Type 0
   SamePart a b = slice_range bytes a b ≡ slice_range written a b
 
   pub is_layout : SamePart 0 48 → SamePart 48 footer.xorb_info_offset → SamePart footer.xorb_info_offset footer.file_lookup_offset → SamePart footer.file_lookup_offset footer.xorb_lookup_offset

@@ -118,7 +118,7 @@ module _ (files : List MDBFileInfo) (xorbs : List MDBXorbInfo) (options : Layout
   values_are word (h ∷ found) each =
       λ i. (hit_row word h (each 0 h (omega arith))).2 i ∷ values_are word found (All-drop (IsHit table word IsRowAndIndex) 1 (h ∷ found) each) i
 
-  pub rows_found : (word count : ℕ) (dest_old dest_new : List (ℕ × ℕ)) → Finds table word IsRowAndIndex dest_old dest_new count → count ≡ min (hits table word) 8
+  rows_found : (word count : ℕ) (dest_old dest_new : List (ℕ × ℕ)) → Finds table word IsRowAndIndex dest_old dest_new count → count ≡ min (hits table word) 8
       → RowsAmong xorbs word dest_old dest_new count
   rows_found word count dest_old dest_new finds all = record {
     found = map row_of_hit finds.found;

@@ -77,7 +77,7 @@ sum_marked p weight xs d (suc n) within =
     (omega (arith, sum_marked p weight xs d n (omega (arith, within)), one_marked weight x (p x)))
 
 -- a list of ones
-pub sum-of_ones : {X : Type 0} (f : X → ℕ) (xs : List X) → All (λ x. f x ≡ 1) xs → sum_by f xs ≡ length xs
+sum-of_ones : {X : Type 0} (f : X → ℕ) (xs : List X) → All (λ x. f x ≡ 1) xs → sum_by f xs ≡ length xs
 sum-of_ones f [] ones = refl
 sum-of_ones f (x ∷ xs) ones = sum_by-cons f x xs ∙ omega (arith, ones 0 x (omega arith), sum-of_ones f xs (All-drop (λ y. f y ≡ 1) 1 (x ∷ xs) ones))
 

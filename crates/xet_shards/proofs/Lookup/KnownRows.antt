@@ -35,10 +35,10 @@ module _ {X : Type 0} (key : X → ℕ) (value : X → List ℕ) (width : ℕ) (
   pub rows_is : table.rows ≡ length rows
   rows_is = is.count_is
 
-  pub row_key : (i : ℕ) → i < length rows → key_at table i ≡ key (row_of i)
+  row_key : (i : ℕ) → i < length rows → key_at table i ≡ key (row_of i)
   row_key i within = key_is key value width is.sizes table rows is.after is.table_is refl i d within (is.keys_fit i d within)
 
-  pub row_value : (i : ℕ) → i < length rows → value_at table i ≡ value (row_of i)
+  row_value : (i : ℕ) → i < length rows → value_at table i ≡ value (row_of i)
   row_value i within = value_is key value width is.sizes table rows is.after is.table_is refl i d within
 
   row_has_key : (i : ℕ) → i < length rows → HasKey table i
@@ -51,7 +51,7 @@ module _ {X : Type 0} (key : X → ℕ) (value : X → List ℕ) (width : ℕ) (
   abbrev mark : ℕ → ℕ → ℕ
   mark word i = if key (row_of i) == word then 1 else 0
 
-  abbrev pub rows_with : ℕ → List X
+  abbrev rows_with : ℕ → List X
   rows_with word = filter (λ x. key x == word) rows
 
   sum-marks : (word : ℕ) → sum_below (mark word) (length rows) ≡ length (rows_with word)
@@ -90,7 +90,7 @@ module _ {X : Type 0} (key : X → ℕ) (value : X → List ℕ) (width : ℕ) (
     row_hit h hit = search (rules, rows_is, row_key, row_value)
 
     module _ (found : List (Hit V)) (each : All (IsHit table word Gives) found) (distinct : AllPairs OtherRow found) where
-      pub hits_below_end : All (λ h. h.row < length rows) found
+      hits_below_end : All (λ h. h.row < length rows) found
       hits_below_end = All-weaker (IsHit table word Gives) (λ h. h.row < length rows) (λ h hit. (row_hit h hit).0) found each
 
       marked : All (λ h. (key (row_of h.row) == word) ≡ true) found

@@ -38,7 +38,7 @@ module _ (key : DataHash) where
   run_of_none qs = omega (arith, run_within qs [])
 
   -- a run that all chunks are in goes on with the next chunk if that has the next hash
-  pub run_push : (qs : List DataHash) (cs : List XorbChunkSequenceEntry) (c : XorbChunkSequenceEntry) (d : DataHash) → run_length key qs cs ≡ length cs → length cs < length qs
+  run_push : (qs : List DataHash) (cs : List XorbChunkSequenceEntry) (c : XorbChunkSequenceEntry) (d : DataHash) → run_length key qs cs ≡ length cs → length cs < length qs
       → run_length key qs (cs ++ c ∷ []) ≡ length cs + cond (hash_eq (under_key key (get_or qs (length cs) d)) c.chunk_hash) 1 0
   run_push [] cs c d same below = absurd (omega (arith, below))
   run_push (q ∷ qs) [] c d same below = grind (arith, run_of_none qs)

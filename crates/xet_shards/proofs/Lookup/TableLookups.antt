@@ -141,7 +141,7 @@ module _ {H R : Type 0} (K : RecordKind H R) (laws : KindLaws K) (d : R) (record
   table_hits word = rows_hit word_of start_bytes 4 (0, 0) (starts K records) start count old known_rows word ∙ length-with_first_word K word [] records
 
   -- a hit of the table: a record that shares the word, and its start
-  pub hit_is : (word : ℕ) (h : Hit ℕ) → IsHit table word IsRowNumber h
+  hit_is : (word : ℕ) (h : Hit ℕ) → IsHit table word IsRowNumber h
       → (h.row < length records) × ((hash_in K (record_at h.row)).word0 ≡ word) × (h.value ≡ start_at h.row)
   hit_is word h hit =
       let row = row_hit word_of start_bytes 4 (0, 0) (starts K records) start count old known_rows IsRowNumber word h hit in
@@ -155,7 +155,7 @@ module _ {H R : Type 0} (K : RecordKind H R) (laws : KindLaws K) (d : R) (record
     rows_below : All (λ h. h.row < length records) found
     rows_below = All-weaker (IsHit table word IsRowNumber) (λ h. h.row < length records) (λ h hit. (hit_is word h hit).0) found each
 
-    pub hits_share : length found ≤ length (with_first_word K word records)
+    hits_share : length found ≤ length (with_first_word K word records)
     hits_share =
         omega (arith, hits_few word_of start_bytes 4 (0, 0) (starts K records) start count old known_rows IsRowNumber word found each distinct, length-with_first_word K word [] records)
 
@@ -190,7 +190,7 @@ module _ {H R : Type 0} (K : RecordKind H R) (laws : KindLaws K) (d : R) (record
         other.2 (ap (hash_in K) (hit_reads h other.0 (each at.0 no_hit at.1) other.1) ∙ ap K.hash_of (laws.same_header (record_at h.row)) ∙ ap (λ j. hash_in K (record_at j)) (at.2 no_hit) ∙ same)
 
     -- their values are starts of records that share the word, and where they are all hits, all of these
-    pub starts_of_hits : length found ≡ hits table word → AreStarts K records word (map (λ h. h.value) found)
+    starts_of_hits : length found ≡ hits table word → AreStarts K records word (map (λ h. h.value) found)
     starts_of_hits all = (in_starts, of_starts)
       where
         in_starts : (row : ℕ) → Contains (map (λ (h : Hit ℕ). h.value) found) row → Contains (starts K records) (word, row)
@@ -216,7 +216,7 @@ module _ {H R : Type 0} (K : RecordKind H R) (laws : KindLaws K) (d : R) (record
             subst (Contains values) value (Contains-get_or values at.0 0 (omega (arith, at.1, length-map found (λ (g : Hit ℕ). g.value))))
 
     -- the record at one of the rows is read, unless the device fails or an allocation does
-    pub hits_are_read : (new : Source) (e : CoreError) (row : ℕ) → Contains (map (λ h. h.value) found) row → InfoRefusal K offset row old new e
+    hits_are_read : (new : Source) (e : CoreError) (row : ℕ) → Contains (map (λ h. h.value) found) row → InfoRefusal K offset row old new e
         → DeviceFailure old new e ⊎ (e ≡ OutOfMemory)
     hits_are_read new e row contains refusal =
         All-contains (λ v. InfoRefusal K offset v old new e → DeviceFailure old new e ⊎ (e ≡ OutOfMemory)) (map (λ h. h.value) found) row
@@ -226,7 +226,7 @@ module _ {H R : Type 0} (K : RecordKind H R) (laws : KindLaws K) (d : R) (record
         contains refusal
 
     -- the bytes of the records that were read are those of records that share the word
-    pub records_share : (n : ℕ) (taken : List ℕ) → AllZip (λ row k. MayRead K (drop (row_at offset row) old.bytes) k) (take n (map (λ h. h.value) found)) taken
+    records_share : (n : ℕ) (taken : List ℕ) → AllZip (λ row k. MayRead K (drop (row_at offset row) old.bytes) k) (take n (map (λ h. h.value) found)) taken
         → sum taken ≤ length (flat_map K.record_bytes (with_first_word K word records))
     records_share n taken zip =
         let weight : R → ℕ = λ r. length (K.record_bytes r) in
@@ -252,11 +252,11 @@ module _ {H R : Type 0} (K : RecordKind H R) (laws : KindLaws K) (d : R) (record
   search_answers = search_served word_of start_bytes 4 (0, 0) (starts K records) start count old known_rows
 
   -- what the search costs, and what the lookup does
-  pub search_costs : (word : ℕ) (new : Source) → Bounded table word old new → SearchWithinBounds K records word old new
+  search_costs : (word : ℕ) (new : Source) → Bounded table word old new → SearchWithinBounds K records word old new
   search_costs word new bounded = search (rules, rows_is, table_hits)
 
   -- a lookup reads at most the records of the records that share the first word
-  pub lookup_costs : (word : ℕ) (new : Source) (Answer : List ℕ → Type 0) → LooksUp K table offset word old new Answer → WithinBounds K records word old new
+  lookup_costs : (word : ℕ) (new : Source) (Answer : List ℕ → Type 0) → LooksUp K table offset word old new Answer → WithinBounds K records word old new
   lookup_costs word new Answer looks =
       let bounded = looks.bounded table_sorted in
       let visits = looks.visits.1 in
@@ -308,14 +308,14 @@ module _ {H R : Type 0} (K : RecordKind H R) (laws : KindLaws K) (d : R) (record
       one : 0 < length looks.found
       one = omega (arith, looks.answer.1.1, length-map looks.found (λ (h : Hit ℕ). h.value))
 
-  pub costs_refused : (hash : DataHash) (new : Source) (e : CoreError) → FindRecordFails K table offset hash old new e → WithinBounds K records hash.word0 old new
+  costs_refused : (hash : DataHash) (new : Source) (e : CoreError) → FindRecordFails K table offset hash old new e → WithinBounds K records hash.word0 old new
   costs_refused hash new e (inl (refused, bounded)) =
       let costs = search_costs hash.word0 new (bounded table_sorted) in
       record { made = costs.made; more = 0; few = costs.few; few_more = omega arith; seeks = omega (arith, costs.seeks); read = omega (arith, costs.read) }
   costs_refused hash new e (inr looks) = lookup_costs hash.word0 new (LookupRefused K offset old new e) looks
 
   -- a collision is answered after the search alone
-  pub costs_collision : (hash : DataHash) (new : Source) (e : CoreError) → FindRecordFails K table offset hash old new e → e ≡ TruncatedHashCollision hash.word0
+  costs_collision : (hash : DataHash) (new : Source) (e : CoreError) → FindRecordFails K table offset hash old new e → e ≡ TruncatedHashCollision hash.word0
       → SearchWithinBounds K records hash.word0 old new
   costs_collision hash new e (inl (refused, bounded)) collision = search_costs hash.word0 new (bounded table_sorted)
   costs_collision hash new e (inr looks) collision = search rules

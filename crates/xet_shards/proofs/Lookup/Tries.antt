@@ -139,11 +139,11 @@ module _ (footer : MDBShardFileFooter) (hash : DataHash) {count : ℕ} {old mid 
     answer = subst Answer in_front answer;
   }
 
-  pub query_refused : (e : CoreError) → TriedRefused footer hashes mid new e (take count dest_new) → Queries footer hash old new (TriedRefused footer hashes old new e)
+  query_refused : (e : CoreError) → TriedRefused footer hashes mid new e (take count dest_new) → Queries footer hash old new (TriedRefused footer hashes old new e)
   query_refused e (location, contains, refused) =
       queried (TriedRefused footer hashes old new e) (location, contains, refused_later (query_at footer hashes location) old mid new e search_gave.no_failure refused)
 
-  pub query_answered : (answer : Option Run) → TriedAnswer footer hashes mid.bytes answer (take count dest_new)
+  query_answered : (answer : Option Run) → TriedAnswer footer hashes mid.bytes answer (take count dest_new)
       → Queries footer hash old new (TriedAnswer footer hashes old.bytes answer)
   query_answered answer found =
       queried (TriedAnswer footer hashes old.bytes answer) (subst (λ bytes. TriedAnswer footer hashes bytes answer (take count dest_new)) search_gave.no_failure.bytes found)

@@ -52,7 +52,7 @@ module _ (old new : Source) (files : List MDBFileInfo) (xorbs : List MDBXorbInfo
       search (rules, taken.after, why_not (file_records_in (version_of header.version)) (files_laws (version_of header.version)) mid new files (section header mid known taken) e fails.cause)
 
   -- is read so, unless the device fails or an allocation does
-  pub ranges_in_layout : {Z : Type 0} (r : Result (Vec FileRanges Z) CoreError) → map file_records.as_read files ≡ files → MatchResult r (λ found. ReadsFileRanges old new found.items) (FileRangesFail old new)
+  ranges_in_layout : {Z : Type 0} (r : Result (Vec FileRanges Z) CoreError) → map file_records.as_read files ≡ files → MatchResult r (λ found. ReadsFileRanges old new found.items) (FileRangesFail old new)
       → MatchResult r (λ found. found.items ≡ file_ranges (old.at + 48) files) (λ e. DeviceFailure old new e ⊎ (e ≡ OutOfMemory))
   ranges_in_layout (Ok found) same read =
       let mid = read.after_header in

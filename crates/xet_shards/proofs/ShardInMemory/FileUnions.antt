@@ -36,7 +36,7 @@ module _ {X : Type 0} where
       ap (λ b. cond b (Some d.1) (entry front e.0)) (apart d.0 e.0 (below_front d.0 front rest e (both_left _ _ sorted)))
       ∙ entry-before front rest e (both_right _ _ sorted)
 
-  pub entry-here : (front rest : List (DataHash × X)) (e : DataHash × X) → T (is_sorted hash_cmp (front ++ e ∷ rest)) → entry (front ++ e ∷ rest) e.0 ≡ Some e.1
+  entry-here : (front rest : List (DataHash × X)) (e : DataHash × X) → T (is_sorted hash_cmp (front ++ e ∷ rest)) → entry (front ++ e ∷ rest) e.0 ≡ Some e.1
   entry-here front rest e sorted =
       entry_found hash_cmp hash_cmp-IsTotalOrder (front ++ e ∷ rest) (length front + 0) e.0 e.1 e sorted (omega (arith, length-append front (e ∷ rest)))
       (get_or-append-add front (e ∷ rest) 0 e)

@@ -165,7 +165,7 @@ module _ (x : MDBXorbInfo) (starts : List FileStart) (from at : ℕ) (place : Is
   no_start i true is none = absurd (none refl)
   no_start i false is none = refl
 
-  pub none_from : length starts ≤ at → (to : ℕ) → StartsNowhere (has_start starts) x from to
+  none_from : length starts ≤ at → (to : ℕ) → StartsNowhere (has_start starts) x from to
   none_from past to i above below = no_start i (has_start starts (chunk_of x i)) refl (λ is. omega (arith, past, (place.least (chunk_of x i) is (chunks_rise x from i above)).1))
 
   module _ (k : FileStart) (there : slice_get starts at ≡ Some k) where

@@ -60,7 +60,7 @@ module _ (starts : FileStart → Bool) (x : MDBXorbInfo) where
       picked _ _ (n, mark (n, c)) (n, c) _ _ (same_test (starts (chunk_of x n)) c) (marked_hash (starts (chunk_of x n)) c) (same_chunks (n + 1) cs)
 
   -- read again, a xorb with marks has the eligible chunks that it had
-  pub eligible_again : eligible_in (is_start []) (mark_starts starts x) ≡ eligible_in starts x
+  eligible_again : eligible_in (is_start []) (mark_starts starts x) ≡ eligible_in starts x
   eligible_again = same_chunks 0 x.chunks
 
 -- so has a subset of xorbs that was written without files
@@ -124,7 +124,7 @@ same_starts : (kept : KeptParts) (files : List MDBFileInfo) → flat_map start_o
 same_starts kept [] = refl
 same_starts kept (r ∷ files) = λ i. same_start kept r i ++ same_starts kept files i
 
-pub is_start-as_kept : (kept : KeptParts) (files : List MDBFileInfo) → is_start (map (as_kept kept) files) ≡ is_start files
+is_start-as_kept : (kept : KeptParts) (files : List MDBFileInfo) → is_start (map (as_kept kept) files) ≡ is_start files
 is_start-as_kept kept files = λ i at. list_any (eq_by_cmp start_cmp at) (same_starts kept files i)
 
 -- marks that are set are set once

@@ -34,7 +34,7 @@ pub start_total : IsTotalOrder start_cmp
 start_total = then_total (on_total (λ (s : FileStart). s.xorb_hash) hash_cmp-IsTotalOrder) (on_total (λ (s : FileStart). s.chunk_index) nat_cmp_total)
 
 -- one more chunk, with its index
-pub enumerated-more : (cs : List XorbChunkSequenceEntry) (i : ℕ) (c : XorbChunkSequenceEntry) → slice_get cs i ≡ Some c
+enumerated-more : (cs : List XorbChunkSequenceEntry) (i : ℕ) (c : XorbChunkSequenceEntry) → slice_get cs i ≡ Some c
     → enumerate_from 0 (take (i + 1) cs) ≡ enumerate_from 0 (take i cs) ++ (i, c) ∷ []
 enumerated-more cs i c there =
     let count : 0 + length (take i cs) ≡ i = omega (arith, length-take i cs, slice_get_within cs i c there) in
@@ -91,7 +91,7 @@ module _ (starts : FileStart → Bool) (x : MDBXorbInfo) where
       last false = refl
 
 -- one more hash
-pub ascending_hashes-push : (hashes : List DataHash) (h : DataHash) → insert_key hash_cmp (ascending_hashes hashes) h ≡ ascending_hashes (hashes ++ h ∷ [])
+ascending_hashes-push : (hashes : List DataHash) (h : DataHash) → insert_key hash_cmp (ascending_hashes hashes) h ≡ ascending_hashes (hashes ++ h ∷ [])
 ascending_hashes-push = keys-push hash_cmp hash_cmp-IsTotalOrder hash_cmp-IsAntisymmetric
 
 pub ascending_hashes-nil : ascending_hashes [] ≡ []

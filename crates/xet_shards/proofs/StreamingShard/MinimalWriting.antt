@@ -105,7 +105,7 @@ as_wanted-fits wanted r fits = either (has_verification r.metadata.file_flags &&
     either false = fits
 
 -- nor do the parts that are kept, and theirs fit
-pub as_kept-fits : (kept : KeptParts) (r : MDBFileInfo) → FitsRecord r → FitsRecord (as_kept kept r)
+as_kept-fits : (kept : KeptParts) (r : MDBFileInfo) → FitsRecord r → FitsRecord (as_kept kept r)
 as_kept-fits kept r fits = either kept.aux_ext
   where
     either : (b : Bool) → FitsRecord (aux_as_wanted b (as_wanted kept.verification r))
@@ -136,7 +136,7 @@ fit_as_kept kept files stored =
 none_in : {X : Type 0} (is_in : Bool) (xs : List X) → is_in ≡ false → length (if_included is_in xs) ≡ 0
 none_in is_in xs out = ap (λ b. length (if_included b xs)) out
 
-pub length-without_tables : (files : List MDBFileInfo) (xorbs : List MDBXorbInfo) (options : LayoutOptions) → HasNoTables options → All FitsRecord files
+length-without_tables : (files : List MDBFileInfo) (xorbs : List MDBXorbInfo) (options : LayoutOptions) → HasNoTables options → All FitsRecord files
     → length (layout_of files xorbs options) ≡ 344 + 48 * total_rows file_records files + 48 * total_rows xorb_records xorbs
 length-without_tables files xorbs options tables fit =
     omega (

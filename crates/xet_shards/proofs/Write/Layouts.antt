@@ -16,7 +16,7 @@ use Rattle.xet_shards.specs.Write.Section.{total_rows, section_bytes}
 use Rattle.xet_shards.specs.Write.Layout.{shard_header_bytes, shard_footer_bytes}
 
 -- a row has 48 bytes, the bookend too
-pub length-section : {H R : Type 0} (K : RecordKind H R) (Fits : R → Type 0) → length (K.header_bytes K.bookend) ≡ 48 → ((r : R) → Fits r → length (K.record_bytes r) ≡ 48 * K.row_count r)
+length-section : {H R : Type 0} (K : RecordKind H R) (Fits : R → Type 0) → length (K.header_bytes K.bookend) ≡ 48 → ((r : R) → Fits r → length (K.record_bytes r) ≡ 48 * K.row_count r)
     → (records : List R) → All Fits records → length (section_bytes K records) ≡ 48 * total_rows K records + 48
 unfolding section_bytes
 length-section K Fits bookend each records fit =

@@ -18,11 +18,11 @@ module _ {X : Type 0} where
       ap (λ es. (front, y) ∷ es) (with_fronts-push (front ++ y ∷ []) xs x
       ∙ ap (λ (before : List X). with_fronts (front ++ y ∷ []) xs ++ (before, x) ∷ []) (append_assoc front (y ∷ []) xs))
 
-  pub length-with_fronts : (front xs : List X) → length (with_fronts front xs) ≡ length xs
+  length-with_fronts : (front xs : List X) → length (with_fronts front xs) ≡ length xs
   length-with_fronts front [] = refl
   length-with_fronts front (x ∷ xs) = ap (λ n. suc n) (length-with_fronts (front ++ x ∷ []) xs)
 
-pub length-start_rows : (rows : List (ℕ × ℕ)) → length (flat_map start_row rows) ≡ 12 * length rows
+length-start_rows : (rows : List (ℕ × ℕ)) → length (flat_map start_row rows) ≡ 12 * length rows
 length-start_rows [] = refl
 length-start_rows (row ∷ rows) =
     length-append (start_row row) (flat_map start_row rows)

@@ -77,7 +77,7 @@ module _ (files : List MDBFileInfo) (xorbs : List MDBXorbInfo) (options : Layout
       omega (arith, xorb_table_fits, in_size options.xorb_table (table_bytes xorb_records xorbs), length-table_bytes xorb_records xorbs, xorb_rows-chunks xorbs, is.xorbs_fit.rows)
 
   -- the sections are there, whatever tables are in
-  pub files_stored : AreStoredAt (file_records_in options.version) files footer.file_info_offset old.bytes
+  files_stored : AreStoredAt (file_records_in options.version) files footer.file_info_offset old.bytes
   files_stored =
       subst (λ (f : MDBShardFileFooter). AreStoredAt (file_records_in options.version) files f.file_info_offset old.bytes) (sym is.footer_is) (record {
         fits = is.files_fit;

@@ -27,7 +27,7 @@ module _ {H R : Type 0} (K : RecordKind H R) where
   pub table_of_none : (table : RecordTable) → table.records ≡ 0 → table.rows ≡ 0 → table.bytes.items ≡ [] → IsTableOf K table []
   table_of_none table records rows bytes = record { records = records; rows = rows; bytes = bytes ∙ sym (table_bytes-nil K) }
 
-  pub table_of_more : (v w : RecordTable) (records : List R) (r : R) → IsTableOf K v records → AddsRecord v w (hash_in K r).word0 (K.row_count r) → IsTableOf K w (records ++ r ∷ [])
+  table_of_more : (v w : RecordTable) (records : List R) (r : R) → IsTableOf K v records → AddsRecord v w (hash_in K r).word0 (K.row_count r) → IsTableOf K w (records ++ r ∷ [])
   table_of_more v w records r before added =
       search (rules, length-append, sum_by_push, table_bytes-push)
 

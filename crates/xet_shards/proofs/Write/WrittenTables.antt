@@ -155,7 +155,7 @@ table_rows_fit front (x ∷ xorbs) fit few =
 
 -- the tables of a list of xorbs that may be in a section
 module _ (xorbs : List MDBXorbInfo) (fit : All FitsXorb xorbs) (few : total_rows xorb_records xorbs ≤ 4294967295) where
-  pub xorb_starts_fit : All FitsStart (starts xorb_records xorbs)
+  xorb_starts_fit : All FitsStart (starts xorb_records xorbs)
   xorb_starts_fit = starts_fit xorb_records [] xorbs (λ k r below. (fit k r below).metadata.xorb_hash.word0) (λ r. omega arith) (omega (arith, few))
 
   pub chunk_table_fits : All FitsTriple (map triple_of (chunk_table xorbs))
@@ -191,7 +191,7 @@ module _ (files : List MDBFileInfo) (xorbs : List MDBXorbInfo) (options : Layout
   widths : All FitsXorb xorbs
   widths k r below = (fits.stored k r below).widths
 
-  pub xorb_table_in : {Z : Type 0} (r : Result (Vec (ℕ × ℕ) Z) CoreError)
+  xorb_table_in : {Z : Type 0} (r : Result (Vec (ℕ × ℕ) Z) CoreError)
       → ReadsOrFails start_row FitsStart 12 old new written.xorb_lookup_offset written.xorb_lookup_num_entry r → IsReadAs old new (if_included options.xorb_table (starts xorb_records xorbs)) r
   xorb_table_in r read =
       search (
@@ -207,7 +207,7 @@ module _ (files : List MDBFileInfo) (xorbs : List MDBXorbInfo) (options : Layout
         xorb_table_is_at,
       )
 
-  pub chunk_table_in : {Z : Type 0} (r : Result (Vec (ℕ × (ℕ × ℕ)) Z) CoreError)
+  chunk_table_in : {Z : Type 0} (r : Result (Vec (ℕ × (ℕ × ℕ)) Z) CoreError)
       → ReadsOrFails triple_row FitsTriple 16 old new written.chunk_lookup_offset written.chunk_lookup_num_entry r → IsReadAs old new (map triple_of (if_included options.chunk_table (chunk_table xorbs))) r
   chunk_table_in r read =
       search (

@@ -38,7 +38,7 @@ rows_of e = chunk_table_rows_from (total_rows xorb_records e.0) e.1.chunks
 abbrev pub table_rows_after : List MDBXorbInfo → List MDBXorbInfo → List ChunkTableRow
 table_rows_after front xorbs = flat_map rows_of (with_fronts front xorbs)
 
-pub length-table_rows_after : (front xorbs : List MDBXorbInfo) → length (table_rows_after front xorbs) ≡ total_chunks xorbs
+length-table_rows_after : (front xorbs : List MDBXorbInfo) → length (table_rows_after front xorbs) ≡ total_chunks xorbs
 length-table_rows_after front [] = refl
 length-table_rows_after front (x ∷ xorbs) =
     length-append (rows_of (front, x)) (table_rows_after (front ++ x ∷ []) xorbs)

@@ -1,11 +1,8 @@
 -- Steps towards what `ChunkLookup` defines, which only contracts inside the crate speak of.
 use Rattle.std.specs.Prelude.{refl}
 use Rattle.std.specs.FinMap.{insert}
-use Rattle.std.specs.FinMap as finite
 use Rattle.std.specs.Coded.{Coded, code_by, coded×}
-use Rattle.xet_base.specs.contracts.merklehash.DataHash as hash
 use Rattle.xet_records.specs.declared.xorb_structs.MDBXorbInfo.{MDBXorbInfo}
-use Rattle.xet_records.specs.contracts.xorb_structs.MDBXorbInfo as xorb
 use Rattle.xet_shards.specs.Content.Shard.{XorbMap, coded_xorbs, xorb_hash_of}
 use Rattle.xet_shards.specs.ShardInMemory.ChunkLookup.{LocationMap, coded_locations}
 

@@ -13,7 +13,7 @@ use Rattle.xet_shards.specs.Write.Section.{section_bytes}
 use Rattle.xet_shards.specs.Read.SectionReading.{IsSection, SectionNotStreamed}
 use Rattle.xet_shards.specs.Write.Layout.{LayoutOptions, if_included}
 use Rattle.xet_records.specs.Limits.{MAX_ROWS}
-use Rattle.xet_shards.specs.Export.KeyedExport.{exported, keyed_xorb}
+use Rattle.xet_shards.specs.Export.KeyedExport.{keyed_xorb}
 
 -- what an export with layout options writes for a file: the file, with or without its auxiliary
 -- row, or nothing if the options have no file table

@@ -1,9 +1,5 @@
 -- Steps towards what `MinimalShard` defines, which only contracts inside the crate speak of.
 use Rattle.std.specs.Prelude.{◌≡◌, false}
-use Rattle.std.specs.FinMap as finite
-use denote.Ref.{Bor}
-use Rattle.xet_records.specs.contracts.file_structs.MDBFileInfo as file
-use Rattle.xet_records.specs.contracts.xorb_structs.MDBXorbInfo as xorb
 use Rattle.xet_shards.specs.Write.Layout.{LayoutOptions}
 
 -- layout options without tables

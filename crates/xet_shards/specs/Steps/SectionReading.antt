@@ -1,5 +1,5 @@
 -- Steps towards what `SectionReading` defines, which only contracts inside the crate speak of.
-use Rattle.std.specs.Prelude.{◌≡◌, ℕ, ◌+◌, ◌-◌, ◌≤◌, Option}
+use Rattle.std.specs.Prelude.{◌≡◌, ℕ, ◌+◌, ◌≤◌, Option}
 use Rattle.xet_base.specs.declared.error.CoreError.{CoreError}
 use Rattle.xet_base.specs.Source.{Source, ReadsBytes, bytes_left}
 use Rattle.xet_records.specs.RecordKind.{RecordKind}

@@ -1,7 +1,6 @@
 -- Steps towards what `XorbStore` defines, which only contracts inside the crate speak of.
 use Rattle.std.specs.Prelude.{◌≡◌, ◌⊎◌, ℕ, ◌<◌, List, map, Option, Some, IsSome, T}
 use Rattle.std.specs.FinMap.{is_sorted, from_sorted, from_entries}
-use Rattle.std.specs.HashMap as hash_map
 use Rattle.std.specs.Map.{values_of}
 use Rattle.std.specs.declared.rc.Rc.{Rc}
 use Rattle.xet_base.specs.declared.merklehash.DataHash.{DataHash}

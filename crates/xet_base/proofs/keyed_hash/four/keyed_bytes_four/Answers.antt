@@ -1,4 +1,4 @@
-use Rattle.std.proofs.Common.{◌≡◌, ℕ, ◌<◌, List, [], ◌∷◌, ap, ap₂, ◌∙◌, arith}
+use Rattle.std.proofs.Common.{ℕ, ◌<◌, [], ◌∷◌, ap, ap₂, ◌∙◌, arith}
 use Rattle.xet_base.specs.KeyedHash.{digest, state_after, keyed_bytes}
 use Rattle.xet_base.proofs.Lanes.{map_four}
 use Rattle.xet_base.proofs.keyed_hash.four.keyed_bytes_four.Goals as goal
