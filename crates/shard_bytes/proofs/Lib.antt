@@ -8,7 +8,9 @@ pub mod Formats
 pub mod Keeping
 pub mod MemoryErrors
 pub mod Merging
+pub mod MinimalSizes
 pub mod Reading
+pub mod RewriteSizes
 pub mod Searching
 pub mod Sizes
 pub mod Versions

@@ -8,6 +8,7 @@ ghost use Rattle.xet_core_structures.specs.KeyedHash.{no_key};
 ghost use Rattle.xet_core_structures.specs.Shard.{Shard};
 ghost use Rattle.shard_bytes.specs.Agreeing.{MergesAgreeing, GivesJoin};
 ghost use Rattle.shard_bytes.specs.Merging.{RefusesMerge};
+ghost use Rattle.shard_bytes.specs.Sizes.{HasResultSize};
 
 use crate::merge::merge_bytes;
 use std::alloc::Global;
@@ -38,6 +39,7 @@ pub fn merge_agreeing_bytes(alloc: Global, shards: &[&[u8]]) -> Result<AgreeingM
     ensures one_byte_string { (all : List Shard)
         → AllZip (HoldsShard no_key) all (map (λ x. x.now) shards.now)
         → IfOk result (GivesJoin all) }
+    ensures size { IfOk result (HasResultSize (map (λ x. x.now) shards.now)) }
 {
     let found = find_disagreements(alloc, shards)?;
     if !found.is_empty() {

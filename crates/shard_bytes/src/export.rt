@@ -1,9 +1,10 @@
 //! Exporting a shard under a key.
 
-ghost use Rattle.std.specs.Prelude.{◌≡◌, ◌⊎◌, IsErrAnd, MatchResult};
+ghost use Rattle.std.specs.Prelude.{◌≡◌, ◌⊎◌, length, IfOk, IsErrAnd, MatchResult};
 ghost use Rattle.xet_core_structures.specs.declared.error.CoreError.{CoreError};
 ghost use Rattle.xet_core_structures.specs.KeyedExport.{ExportFails, CannotExport};
 ghost use Rattle.shard_bytes.specs.Exporting.{ExportsBytes, RefusesExport};
+ghost use Rattle.shard_bytes.specs.Sizes.{IsRewriteSize};
 ghost use Rattle.shard_bytes.specs.Steps.Exporting.{WritesExport};
 
 use crate::memory::in_memory;
@@ -34,15 +35,16 @@ pub struct ExportParts {
     pub chunk_table: bool,
 }
 
-/// The bytes of a keyed export of a shard, from its bytes.
+/// The bytes of a keyed export of a shard, from its bytes: at most 344 and 4/3 of those.
 ///
 /// The errors are those of [`MDBShardInfo::load_from_reader`], and of
 /// [`MDBShardInfo::export_as_keyed_shard`] or
 /// [`MDBShardInfo::export_as_keyed_shard_without_aux`].
 pub fn export_bytes(alloc: Global, bytes: &[u8], export: &Export) -> Result<Vec<u8>>
-    ensures { MatchResult result
+    ensures exported { MatchResult result
         (λ exported. ExportsBytes export.entry.now bytes.now exported.items)
         (RefusesExport export.entry.now bytes.now) }
+    ensures size { IfOk result (λ exported. IsRewriteSize bytes.now (length exported.items)) }
 {
     let mut source = MemorySource::new(bytes);
     let info = MDBShardInfo::load_from_reader(alloc, &mut source)?;

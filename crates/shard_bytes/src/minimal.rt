@@ -1,7 +1,7 @@
 //! Minimal shards, and the chunks that the global index keeps.
 
 ghost use Rattle.std.specs.List.{Any};
-ghost use Rattle.std.specs.Prelude.{◌≡◌, ◌⊎◌, ◌↔◌, IfErr, IfOk, IsErrAnd, IsTrue, MatchResult, map};
+ghost use Rattle.std.specs.Prelude.{◌≡◌, ◌⊎◌, ◌↔◌, length, IfErr, IfOk, IsErrAnd, IsTrue, MatchResult, map};
 ghost use Rattle.xet_core_structures.specs.Errors.{IsWriteError};
 ghost use Rattle.xet_core_structures.specs.MinimalShard.{WritesMinimalKept};
 ghost use Rattle.xet_core_structures.specs.Shard.{xorb_hash_of};
@@ -9,6 +9,7 @@ ghost use Rattle.xet_core_structures.specs.View.{LacksVerification, IsIoOther};
 ghost use Rattle.shard_bytes.specs.Minimal.{HoldsMinimal, RefusesMinimal, MinimalBytes, RefusesMinimalBytes, Accepts, AreLacked, LackXorbs, SubsetBytes, EligibleIn};
 ghost use Rattle.shard_bytes.specs.Steps.Minimal.{FiltersAs};
 ghost use Rattle.shard_bytes.specs.Outcomes.{InMemory};
+ghost use Rattle.shard_bytes.specs.Sizes.{IsMinimalSize};
 
 use crate::memory::in_memory;
 use crate::room::with_room;
@@ -66,13 +67,15 @@ pub struct Subset {
     pub kept: KeptXorbs,
 }
 
-/// The bytes of the minimal shard of a shard, with these parts of its files, from its bytes.
+/// The bytes of the minimal shard of a shard, with these parts of its files, from its bytes: at most
+/// 200 more.
 ///
 /// The errors are those of [`MDBMinimalShard::from_reader`], and of [`MDBMinimalShard::serialize`]
 /// or [`MDBMinimalShard::serialize_without_aux`].
 pub fn minimal_bytes(alloc: Global, bytes: &[u8], now: u64, kept: KeptParts) -> Result<Vec<u8>>
-    ensures { MatchResult result (λ minimal. MinimalBytes kept now bytes.now minimal.items)
+    ensures minimal { MatchResult result (λ minimal. MinimalBytes kept now bytes.now minimal.items)
         (RefusesMinimalBytes kept bytes.now) }
+    ensures size { IfOk result (λ minimal. IsMinimalSize bytes.now (length minimal.items)) }
 {
     let shard = read_minimal(alloc, bytes)?;
     let mut minimal = with_room(alloc, bytes.len())?;
@@ -115,14 +118,15 @@ fn writing_error(kept: KeptParts, error: CoreError) -> CoreError
     }
 }
 
-/// The bytes of a shard with some of the xorbs and none of the files of a shard, from its bytes.
-/// The listed hashes may be in any order.
+/// The bytes of a shard with some of the xorbs and none of the files of a shard, from its bytes: at
+/// most 200 more. The listed hashes may be in any order.
 ///
 /// The errors are those of [`MDBMinimalShard::from_reader`] and
 /// [`MDBMinimalShard::serialize_xorb_subset_with_expiry`].
 pub fn subset_bytes(alloc: Global, bytes: &[u8], subset: &Subset) -> Result<Vec<u8>>
-    ensures { MatchResult result (λ written. SubsetBytes subset.entry.now bytes.now written.items)
+    ensures subset { MatchResult result (λ written. SubsetBytes subset.entry.now bytes.now written.items)
         (InMemory (RefusesMinimal bytes.now)) }
+    ensures size { IfOk result (λ written. IsMinimalSize bytes.now (length written.items)) }
 {
     let shard = read_minimal(alloc, bytes)?;
     let filter = Filter::new(alloc, &subset.kept)?;

@@ -1,9 +1,10 @@
 //! The same shard in version 2 of the format.
 
-ghost use Rattle.std.specs.Prelude.{◌≡◌, IfErr, IfOk, MatchResult};
+ghost use Rattle.std.specs.Prelude.{◌≡◌, length, IfErr, IfOk, MatchResult};
 ghost use Rattle.xet_core_structures.specs.declared.error.CoreError.{CoreError};
 ghost use Rattle.xet_core_structures.specs.Ends.{HasHeaderAndFooter};
 ghost use Rattle.shard_bytes.specs.Versions.{have_aux_rows, IsInVersion2, RefusesVersion2};
+ghost use Rattle.shard_bytes.specs.Sizes.{IsRewriteSize};
 ghost use Rattle.shard_bytes.specs.Steps.Versions.{FindsAuxRows};
 
 use crate::load::load_bytes;
@@ -19,13 +20,14 @@ use xet_shards::shard_writer::{LayoutOptions, write_again};
 
 /// The bytes of the same shard in version 2, from its bytes in either version: its records, in
 /// their order, under its key and with its timestamps, and the tables of which its footer says that
-/// they have rows.
+/// they have rows. They are at most 344 and 4/3 of those.
 ///
 /// `InvalidArguments` if a file has an auxiliary row, which version 2 does not have. Else the
 /// errors are those of [`MDBShardInfo::load_from_reader`], and of reading header and sections.
 pub fn version_2_bytes(alloc: Global, bytes: &[u8]) -> Result<Vec<u8>>
-    ensures { MatchResult result (λ written. IsInVersion2 bytes.now written.items)
+    ensures written { MatchResult result (λ written. IsInVersion2 bytes.now written.items)
         (RefusesVersion2 bytes.now) }
+    ensures size { IfOk result (λ written. IsRewriteSize bytes.now (length written.items)) }
 {
     let info = load_bytes(alloc, bytes)?;
     let options = LayoutOptions {

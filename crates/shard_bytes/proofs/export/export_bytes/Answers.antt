@@ -1,25 +1,36 @@
-use Rattle.std.proofs.Common.{◌≡◌, inl, ap, ◌∙◌, subst}
+use Rattle.std.proofs.Common.{◌≡◌, inl, ℕ, List, length, sym, ap, ◌∙◌, subst}
 use Rattle.std.proofs.lemmas.Result.{err_from_is_err_and}
 use Rattle.xet_core_structures.specs.Source.{Source}
 use Rattle.xet_core_structures.specs.Ends.{HasHeaderAndFooter}
 use Rattle.shard_bytes.proofs.Exporting.{export_refused, export_made}
+use Rattle.xet_core_structures.specs.KeyedExport.{export_options}
+use Rattle.shard_bytes.specs.Sizes.{IsRewriteSize}
+use Rattle.shard_bytes.proofs.RewriteSizes.{size_of_export}
 use Rattle.shard_bytes.proofs.export.export_bytes.Goals as goal
 
-pub returns-in_err-exported : goal.returns-in_err-exported
-returns-in_err-exported c =
+pub returns-in_err-exported-clause-exported : goal.returns-in_err-exported-clause-exported
+returns-in_err-exported-clause-exported c =
     let p = err_from_is_err_and c.from_residual-in_err-exported.result c.from_residual-in_err-exported.ensures.1 in
     rw (p.1, p.2) (inl c.in_err-exported.ensures.causes)
 
-pub returns-in-Ok : goal.returns-in-Ok
-returns-in-Ok c =
+pub returns-in-Ok-clause-exported : goal.returns-in-Ok-clause-exported
+returns-in-Ok-clause-exported c =
     let x : c.new-source.result.bytes.now ≡ c.args.bytes.now = ap (λ (s : Source). s.bytes) c.new-source.ensures in
     export_made c.args.export.now c.args.bytes.now c.in_ok-info.info (subst (λ bytes. HasHeaderAndFooter bytes c.in_ok-info.info) x c.in_ok-info.ensures.read.ends) c.in-Ok.ensures.refused
     c.load_from_reader.new.source c.seek_to.new.self c.write_export.new.source c.in_ok-exported.exported.items c.write_export.new.writer.items c.in-Ok.field-0
     (c.in_ok-info.ensures.read.bytes ∙ x) c.in_ok-seek_to.ensures c.in_ok-exported.ensures.empty c.in-Ok.ensures.made
 
-pub returns-in-Err : goal.returns-in-Err
-returns-in-Err c =
+pub returns-in-Err-clause-exported : goal.returns-in-Err-clause-exported
+returns-in-Err-clause-exported c =
     let x : c.new-source.result.bytes.now ≡ c.args.bytes.now = ap (λ (s : Source). s.bytes) c.new-source.ensures in
     export_refused c.args.export.now c.args.bytes.now c.in_ok-info.info c.load_from_reader.new.source c.seek_to.new.self c.write_export.new.source
     c.in-Err.error c.in_memory.result (subst (λ bytes. HasHeaderAndFooter bytes c.in_ok-info.info) x c.in_ok-info.ensures.read.ends) (c.in_ok-info.ensures.read.bytes ∙ x)
     c.in_ok-seek_to.ensures c.in-Err.ensures.made c.in-Err.ensures.refused c.in_memory.ensures
+
+pub returns-in-Ok-clause-size : goal.returns-in-Ok-clause-size
+returns-in-Ok-clause-size c =
+    let made = returns-in-Ok-clause-exported c in
+    let x = c.args.export.now in
+    subst (λ (zs : List ℕ). IsRewriteSize c.args.bytes.now (length zs)) (sym made.written)
+    (size_of_export c.args.bytes.now made.header.version made.files made.xorbs made.file_section made.xorb_section x.parts.aux_ext
+    (export_options x.key x.now x.valid_seconds x.parts.files x.parts.xorb_table x.parts.chunk_table))
