@@ -1,3 +1,4 @@
+pub mod Merges
 pub mod Outcomes
 pub mod Segments
 pub mod Texts

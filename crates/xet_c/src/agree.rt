@@ -6,6 +6,7 @@ ghost use Rattle.xet_core_structures.specs.declared.set_operations.agreement.Dis
 ghost use Rattle.xet_core_structures.specs.Agreement.Agreement.{HasAllDisagreements, InputsRefusal};
 ghost use Rattle.xet_core_structures.specs.Errors.{CoreResult, variant_number};
 ghost use Rattle.shard_bytes.specs.declared.agree.AgreeingMerge.{AgreeingMerge};
+ghost use Rattle.shard_bytes.specs.Sizes.{IsResultSize};
 ghost use Rattle.xet_c.specs.Agreeing.{c_disagreement, ShowsFirst, MergesIfAgreeing, ShowsMerge};
 
 use crate::output::{XET_DISAGREE, error_number, give};
@@ -63,9 +64,10 @@ pub extern "C" fn xet_merge_agreeing(
     differing: &mut usize,
     found: &mut XetDisagreement,
 ) -> u32
-    ensures { (merged : CoreResult AgreeingMerge)
+    ensures merged { (merged : CoreResult AgreeingMerge)
         × MergesIfAgreeing (map (λ x. x.now) shards.now) merged
         × ShowsMerge merged out.old out.new written.new found.old found.new differing.new result }
+    ensures size { IsResultSize (map (λ x. x.now) shards.now) written.new }
 {
     let merged = merge_agreeing_bytes(alloc, shards);
     show_merge(&merged, out, written, differing, found)

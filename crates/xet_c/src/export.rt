@@ -2,6 +2,7 @@
 
 ghost use Rattle.shard_bytes.specs.declared.export.Export.{Export};
 ghost use Rattle.shard_bytes.specs.Exporting.{ExportsBytes, RefusesExport};
+ghost use Rattle.shard_bytes.specs.Sizes.{IsRewriteSize};
 ghost use Rattle.xet_c.specs.Arguments.{AsksFor};
 ghost use Rattle.xet_c.specs.Output.{Outcome};
 
@@ -33,9 +34,10 @@ pub extern "C" fn xet_export(
     out: &mut [u8],
     written: &mut usize,
 ) -> u32
-    ensures { (x : Export) × AsksFor options.entry.now x
+    ensures exported { (x : Export) × AsksFor options.entry.now x
         × Outcome (ExportsBytes x shard.now) (RefusesExport x shard.now) out.old out.new
         written.new result }
+    ensures size { IsRewriteSize shard.now written.new }
 {
     let export = asked_for(options);
     let exported = export_bytes(alloc, shard, &export);

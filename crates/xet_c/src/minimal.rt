@@ -1,6 +1,7 @@
 //! Minimal shards.
 
 ghost use Rattle.shard_bytes.specs.Minimal.{MinimalBytes, RefusesMinimalBytes};
+ghost use Rattle.shard_bytes.specs.Sizes.{IsMinimalSize};
 ghost use Rattle.xet_c.specs.Output.{Outcome};
 
 use crate::output::deliver;
@@ -21,10 +22,11 @@ pub extern "C" fn xet_minimal(
     out: &mut [u8],
     written: &mut usize,
 ) -> u32
-    ensures { Outcome
+    ensures minimal { Outcome
         (MinimalBytes (record { verification = verification; aux_ext = aux_rows }) now shard.now)
         (RefusesMinimalBytes (record { verification = verification; aux_ext = aux_rows }) shard.now)
         out.old out.new written.new result }
+    ensures size { IsMinimalSize shard.now written.new }
 {
     let kept = KeptParts {
         verification,

@@ -1,8 +1,9 @@
 //! Subsets of xorbs.
 
-ghost use Rattle.std.specs.Prelude.{◌≡◌, ◌⊎◌, MatchResult, IfOk, IfErr};
+ghost use Rattle.std.specs.Prelude.{◌≡◌, ◌⊎◌, length, MatchResult, IfOk, IfErr};
 ghost use Rattle.shard_bytes.specs.Minimal.{RefusesMinimal};
 ghost use Rattle.shard_bytes.specs.Outcomes.{InMemory};
+ghost use Rattle.shard_bytes.specs.Sizes.{IsMinimalSize};
 ghost use Rattle.xet_c.specs.Arguments.{KeepsXorbs, WritesSubset};
 ghost use Rattle.xet_c.specs.Output.{Outcome};
 
@@ -32,17 +33,19 @@ pub extern "C" fn xet_subset(
     out: &mut [u8],
     written: &mut usize,
 ) -> u32
-    ensures { Outcome (WritesSubset options.entry.now xorbs.now shard.now) (InMemory (RefusesMinimal shard.now))
-        out.old out.new written.new result }
+    ensures subset { Outcome (WritesSubset options.entry.now xorbs.now shard.now)
+        (InMemory (RefusesMinimal shard.now)) out.old out.new written.new result }
+    ensures size { IsMinimalSize shard.now written.new }
 {
     let subset = subset(alloc, shard, options, xorbs);
     deliver(subset, out, written)
 }
 
 fn subset(alloc: Global, shard: &[u8], options: &XetSubset, xorbs: &[XetHash]) -> Result<Vec<u8>>
-    ensures { MatchResult result
+    ensures subset { MatchResult result
         (λ bytes. WritesSubset options.entry.now xorbs.now shard.now bytes.items)
         (InMemory (RefusesMinimal shard.now)) }
+    ensures size { IfOk result (λ bytes. IsMinimalSize shard.now (length bytes.items)) }
 {
     let subset = Subset {
         now: options.now,

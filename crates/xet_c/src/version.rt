@@ -1,5 +1,6 @@
 //! The same shard in version 2 of the format.
 
+ghost use Rattle.shard_bytes.specs.Sizes.{IsRewriteSize};
 ghost use Rattle.shard_bytes.specs.Versions.{IsInVersion2, RefusesVersion2};
 ghost use Rattle.xet_c.specs.Output.{Outcome};
 
@@ -16,8 +17,9 @@ pub extern "C" fn xet_write_v2(
     out: &mut [u8],
     written: &mut usize,
 ) -> u32
-    ensures { Outcome (IsInVersion2 shard.now) (RefusesVersion2 shard.now) out.old out.new
+    ensures written { Outcome (IsInVersion2 shard.now) (RefusesVersion2 shard.now) out.old out.new
         written.new result }
+    ensures size { IsRewriteSize shard.now written.new }
 {
     let bytes = version_2_bytes(alloc, shard);
     deliver(bytes, out, written)
