@@ -281,6 +281,30 @@ def terminal_gets_no_shard(place):
     wants("it says why", (run.returncode, run.stderr) == (1, said))
 
 
+def terminal_shows_progress(place):
+    os.mkfifo(place.path("slow"))
+
+    def feed():
+        with open(place.path("slow"), "wb") as pipe:
+            time.sleep(1.2)
+            pipe.write(place.made["both.mdb"])
+
+    feeder = threading.Thread(target=feed)
+    feeder.start()
+    ours, terminal = os.openpty()
+    run = subprocess.run(
+        [place.program, "merge", "both.mdb", "slow", "both_3.mdb", "-o", "made.mdb"], stderr=terminal,
+        cwd=place.folder, timeout=20, check=False,
+    )
+    feeder.join()
+    os.close(terminal)
+    said = os.read(ours, 4096)
+    os.close(ours)
+    wants("status", run.returncode == 0)
+    wants("what is made", place.read("made.mdb") == place.made["both_3.mdb"])
+    wants("lines", said == b"\r\x1b[K2 of 3 shards read\r\x1b[Kmerging 3 shards\r\x1b[K")
+
+
 def now_is_the_clock(place):
     before = int(time.time())
     wants("status", place.run("minimal", "both.mdb", "-o", "out.mdb").returncode == 0)
@@ -293,7 +317,7 @@ ROWS = (
     pipe_is_written_to, link_is_followed, link_to_nothing_is_refused, folder_is_refused, taken_names_block_nothing,
     full_disk_leaves_the_target, killed_run_leaves_the_target, word_that_is_no_text, standard_input_is_a_shard,
     lists_name_shards, large_file_is_not_read_whole, controls_are_not_printed,
-    closed_pipe_ends_quietly, terminal_gets_no_shard, now_is_the_clock,
+    closed_pipe_ends_quietly, terminal_gets_no_shard, terminal_shows_progress, now_is_the_clock,
 )
 
 

@@ -2,7 +2,7 @@
 use Rattle.std.proofs.Common.{◌≡◌, ℕ, zero, suc, ◌+◌, refl, add-one}
 use Rattle.std.specs.Fn.{iterate}
 
-pub applied_once_more : {A : Type 0} (h : A → A) (n : ℕ) (x : A) → iterate h (suc n) x ≡ h (iterate h n x)
+applied_once_more : {A : Type 0} (h : A → A) (n : ℕ) (x : A) → iterate h (suc n) x ≡ h (iterate h n x)
 applied_once_more h zero x = refl
 applied_once_more h (suc n) x = applied_once_more h n (h x)
 

@@ -41,7 +41,7 @@ as_written s old new info is loads = record {
 }
 
 -- a failure of the second call is one of both
-pub failed_later : (old mid new : Source) (e : CoreError) → mid.failures ≡ old.failures → DeviceFailure mid new e → DeviceFailure old new e
+failed_later : (old mid new : Source) (e : CoreError) → mid.failures ≡ old.failures → DeviceFailure mid new e → DeviceFailure old new e
 failed_later old mid new e same (one, failure, last, from) = (one ∙ ap (λ n. n + 1) same, failure, last, from)
 
 pub found_later : (s : Shard) (hash : DataHash) (result : CoreResult (Option MDBFileInfo)) (old mid new : Source) → mid.failures ≡ old.failures

@@ -12,16 +12,25 @@ use shard_bytes::minimal::{KeptXorbs, Subset};
 use std::alloc::{AllocError, AllocFailed, Global};
 use xet_core_structures::file_structs::KeptParts;
 use xet_core_structures::merklehash::MerkleHash;
+use xet_records::record_reader::FormatVersion;
 
 /// What is asked for.
 #[derive(Drop)]
 pub enum Request<'a> {
     /// To print what shards are asked.
     Inspect(Sources<'a>, Inquiry, Style),
-    /// To write a shard to a path.
-    Make(Making<'a>, &'a str),
-    /// To write a merge of shards to a path.
-    Merge(Sources<'a>, Merge, &'a str),
+    /// To write a shard.
+    Make(Making<'a>, Target<'a>),
+    /// To write a merge of shards.
+    Merge(Sources<'a>, Merge<'a>),
+}
+
+/// Where a shard is written, and in which version of the format.
+#[derive(Clone, Copy, Debug, PartialEq, Eq)]
+pub struct Target<'a> {
+    /// A path, or `-` for standard output; of a merge by keys a folder.
+    pub path: &'a str,
+    pub version: FormatVersion,
 }
 
 /// What says which shards are read.
@@ -44,7 +53,8 @@ pub enum Making<'a> {
 
 /// How shards are merged.
 #[derive(Clone, Copy, Debug, PartialEq, Eq)]
-pub struct Merge {
+pub struct Merge<'a> {
+    pub target: Target<'a>,
     pub strictness: Strictness,
     /// Whether each file is reported as it is read.
     pub verbose: bool,
@@ -136,10 +146,10 @@ fn request_in<'a>(
     };
     if name == "merge" {
         let sources = sources_in(alloc, matches)?;
-        return Ok(Request::Merge(sources, merge_in(matches)?, output_in(matches)?));
+        return Ok(Request::Merge(sources, merge_in(matches)?));
     }
     match making_in(alloc, name, matches, now)? {
-        Some(making) => Ok(Request::Make(making, text_of(matches, id::OUTPUT)?)),
+        Some(making) => Ok(Request::Make(making, target_in(matches)?)),
         None => inspection_in(alloc, name, matches),
     }
 }
@@ -253,12 +263,24 @@ fn pair_in<'a>(operation: Operation, matches: &ArgMatches<'a>) -> Result<Making<
     Ok(Making::Combine(operation, first, second))
 }
 
-fn merge_in<'a>(matches: &ArgMatches<'a>) -> Result<Merge, Refusal<'a>> {
+fn merge_in<'a>(matches: &ArgMatches<'a>) -> Result<Merge<'a>, Refusal<'a>> {
     Ok(Merge {
+        target: target_in(matches)?,
         strictness: strictness_in(matches),
         verbose: matches.get_flag(id::VERBOSE),
         by_key: matches.contains_id(id::FOLDER),
         expiry: time_in(matches, id::EXPIRY)?,
+    })
+}
+
+fn target_in<'a>(matches: &ArgMatches<'a>) -> Result<Target<'a>, Refusal<'a>> {
+    let version = match matches.get_str(id::VERSION) {
+        Some("2") => FormatVersion::V2,
+        _ => FormatVersion::V3,
+    };
+    Ok(Target {
+        path: output_in(matches)?,
+        version,
     })
 }
 

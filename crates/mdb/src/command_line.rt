@@ -40,6 +40,8 @@ pub mod id {
 
     pub const FOLDER: &str = "FOLDER";
 
+    pub const VERSION: &str = "VERSION";
+
     pub const VERBOSE: &str = "verbose";
 
     pub const STRICT: &str = "strict";
@@ -58,6 +60,9 @@ pub mod id {
 /// The help on the time of creation.
 const NOW: &str =
     "The time of creation, in seconds or as 2024-01-31T12:00:00Z; by default that of the clock";
+
+/// The versions of the format that can be written.
+const VERSIONS: &[&str] = &["2", "3"];
 
 /// The version of the program.
 const VERSION: &str = "0.1.0, for versions 2 and 3 of the format";
@@ -190,6 +195,7 @@ fn union<'a>(alloc: Global) -> Result<Command<'a>, AllocError> {
         .after_help(help::UNION)
         .arg(positional(alloc, id::FIRST, "The first shard"))?
         .arg(positional(alloc, id::SECOND, "The second shard"))?
+        .arg(version(alloc))?
         .arg(output(alloc))
 }
 
@@ -199,6 +205,7 @@ fn diff<'a>(alloc: Global) -> Result<Command<'a>, AllocError> {
         .after_help(help::DIFF)
         .arg(positional(alloc, id::FIRST, "The first shard"))?
         .arg(positional(alloc, id::SECOND, "The second shard"))?
+        .arg(version(alloc))?
         .arg(output(alloc))
 }
 
@@ -220,6 +227,7 @@ fn merge<'a>(alloc: Global) -> Result<Command<'a>, AllocError> {
             "expiry",
             "The time of expiry of what is written; without, there is none",
         ))?
+        .arg(version(alloc))?
         .arg(option(
             alloc,
             id::FOLDER,
@@ -246,6 +254,7 @@ fn export<'a>(alloc: Global) -> Result<Command<'a>, AllocError> {
         .arg(flag(alloc, id::NO_AUX, "Leaves the files' auxiliary rows out"))?
         .arg(flag(alloc, id::NO_XORB_TABLE, "Leaves the xorb table out"))?
         .arg(flag(alloc, id::NO_CHUNK_TABLE, "Leaves the chunk table out"))?
+        .arg(version(alloc))?
         .arg(output(alloc))
 }
 
@@ -261,6 +270,7 @@ fn minimal<'a>(alloc: Global) -> Result<Command<'a>, AllocError> {
             "Keeps the files' verification rows",
         ))?
         .arg(flag(alloc, id::NO_AUX, "Leaves the files' auxiliary rows out"))?
+        .arg(version(alloc))?
         .arg(output(alloc))
 }
 
@@ -278,6 +288,7 @@ fn subset<'a>(alloc: Global) -> Result<Command<'a>, AllocError> {
         .arg(option(alloc, id::NOW, "now", NOW))?
         .arg(option(alloc, id::EXPIRY, "expiry", "The time of expiry"))?
         .arg(xorbs.action(ArgAction::Append))?
+        .arg(version(alloc))?
         .arg(output(alloc))
 }
 
@@ -341,6 +352,16 @@ fn option<'a>(alloc: Global, id: &'a str, long: &'a str, help: &'a str) -> Arg<'
 
 fn number<'a>(alloc: Global, id: &'a str, long: &'a str, help: &'a str) -> Arg<'a> {
     option(alloc, id, long, help).value_parser(value_parser!(u64))
+}
+
+fn version<'a>(alloc: Global) -> Arg<'a> {
+    option(
+        alloc,
+        id::VERSION,
+        "format",
+        "The version of the format that is written, 3 by default; files with auxiliary rows need it",
+    )
+    .value_parser(VERSIONS)
 }
 
 fn output<'a>(alloc: Global) -> Arg<'a> {

@@ -1,5 +1,6 @@
 //! Why a command ends without what was asked for.
 
+use crate::files::STANDARD_STREAM;
 use mdb_report::fault::Fault;
 use mdb_report::shown::Shown;
 use std::fmt;
@@ -52,6 +53,15 @@ impl<'a> Failure<'a> {
         Failure {
             subject: Subject::CommandLine,
             fault,
+        }
+    }
+
+    /// A failure on a path to which is written, or on standard output if it is `-`.
+    pub fn on_target(path: &'a str, fault: Fault) -> Failure<'a> {
+        if path == STANDARD_STREAM {
+            Failure::on_output(fault)
+        } else {
+            Failure::on_file(path, fault)
         }
     }
 

@@ -143,6 +143,7 @@ fn failure_of<'a>(alloc: Global, file: &'a str, bytes: &[u8], trouble: Trouble) 
         Trouble::Section(section, error) => section_fault(section, error),
         Trouble::NoTable(table) => Fault::NoTable(table),
         Trouble::Input(error) => Fault::from(error),
+        Trouble::TooManyRounds => Fault::TooManyRounds,
         Trouble::Output(error) => return Failure::on_output(Fault::from(error)),
     };
     Failure::on_file(file, fault)

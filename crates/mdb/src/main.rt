@@ -13,13 +13,19 @@ mod inputs;
 mod inspect;
 mod make;
 mod merge;
+mod progress;
 mod run;
+mod terminals;
 mod words;
 
 use std::io::IsTerminal;
 use std::process::ExitCode;
+use terminals::Terminals;
 
 fn main(rt: HostRuntime) -> ExitCode {
-    let terminal = rt.stdout().is_terminal();
-    ExitCode::from(run::run(&rt, terminal))
+    let terminals = Terminals {
+        output: rt.stdout().is_terminal(),
+        error: rt.stderr().is_terminal(),
+    };
+    ExitCode::from(run::run(&rt, terminals))
 }

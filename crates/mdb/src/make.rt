@@ -1,33 +1,54 @@
 //! The commands that write a shard.
 
-use crate::arguments::Making;
+use crate::arguments::{Making, Target};
 use crate::beside::leftovers;
 use crate::blame::blamed;
 use crate::failure::Failure;
 use crate::files::{STANDARD_STREAM, read, write};
-use mdb_report::fault::{Fault, export_fault, fault_of, minimal_fault};
+use mdb_report::fault::{Fault, export_fault, fault_of, minimal_fault, version_2_fault};
 use shard_bytes::combine::{Operation, combine_bytes};
 use shard_bytes::export::{Export, export_bytes};
 use shard_bytes::minimal::{KeptXorbs, Subset, hashes_without_xorb, minimal_bytes, subset_bytes};
+use shard_bytes::version::version_2_bytes;
+use std::alloc::Global;
 use std::fs;
 use std::random::RandomSource;
 use std::rt::Files;
 use xet_core_structures::file_structs::KeptParts;
 use xet_core_structures::merklehash::MerkleHash;
+use xet_records::record_reader::FormatVersion;
 
-/// Writes the shard that a command makes to a path, or to standard output if it is `-`. Reports on
-/// standard error what runs that were ended have left there. Standard output is a terminal or not.
+/// Writes the shard that a command makes to a target. Reports on standard error what runs that were
+/// ended have left there. Standard output is a terminal or not.
 pub fn make<'a, R: Files + Input + Print + Eprint + RandomSource + AllocGlobal + Clone + Drop>(
     rt: &R,
     making: &Making<'a>,
-    output: &'a str,
+    target: Target<'a>,
     terminal: bool,
 ) -> Result<(), Failure<'a>> {
-    if terminal && output == STANDARD_STREAM {
+    if terminal && target.path == STANDARD_STREAM {
         return Err(Failure::on_output(Fault::Terminal));
     }
-    let bytes = made(rt, making)?;
-    put(rt, output, bytes.as_slice())
+    let bytes = in_version(rt.alloc(), made(rt, making)?, target)?;
+    put(rt, target.path, bytes.as_slice())
+}
+
+/// The bytes of a shard in the version of a target, from those in version 3.
+pub fn in_version<'a>(
+    alloc: Global,
+    bytes: Vec<u8>,
+    target: Target<'a>,
+) -> Result<Vec<u8>, Failure<'a>> {
+    match target.version {
+        FormatVersion::V3 => Ok(bytes),
+        FormatVersion::V2 => match version_2_bytes(alloc, bytes.as_slice()) {
+            Ok(bytes) => Ok(bytes),
+            Err(error) => {
+                let fault = version_2_fault(alloc, bytes.as_slice(), error);
+                Err(Failure::on_target(target.path, fault))
+            }
+        },
+    }
 }
 
 /// Writes bytes to a path, or to standard output, and reports what is left there.
@@ -42,8 +63,7 @@ pub fn put<'a, R: Files + Print + Eprint + RandomSource + AllocGlobal + Clone + 
     }
     match written {
         Ok(()) => Ok(()),
-        Err(error) if output == STANDARD_STREAM => Err(Failure::on_output(Fault::from(error))),
-        Err(error) => Err(Failure::on_file(output, Fault::from(error))),
+        Err(error) => Err(Failure::on_target(output, Fault::from(error))),
     }
 }
 

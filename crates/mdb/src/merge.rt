@@ -4,7 +4,9 @@ use crate::arguments::{Merge, Strictness};
 use crate::blame::{blamed, disagreement, on_all};
 use crate::failure::Failure;
 use crate::files::STANDARD_STREAM;
-use crate::make::{bytes_of, put};
+use crate::make::{bytes_of, in_version, put};
+use crate::progress::{Progress, Stage};
+use crate::terminals::Terminals;
 use mdb_report::fault::{Fault, fault_of};
 use mdb_report::shown::Shown;
 use shard_bytes::expiry::with_expiry;
@@ -12,30 +14,44 @@ use shard_bytes::load::load_bytes;
 use shard_bytes::merge::merge_bytes;
 use std::alloc::{AllocError, Global};
 use std::random::RandomSource;
-use std::rt::Files;
+use std::rt::{Clock, Files};
 use xet_core_structures::error::CoreError;
 use xet_core_structures::merklehash::MerkleHash;
 
-/// Writes the merge of the shards in some files to a path, or to standard output if it is `-`. With
-/// `by_key` it writes a merge of those under each key to the folder at that path, by the digits of
-/// the key. Standard output is a terminal or not.
+/// Writes the merge of the shards in some files to a target. With `by_key` it writes a merge of those
+/// under each key to the folder at the target's path, by the digits of the key. If standard error is
+/// a terminal, it says there how far it has come.
 pub fn merge_files<
     'a,
-    R: Files + Input + Print + Eprint + RandomSource + AllocGlobal + Clone + Drop,
->(
-    rt: &R,
-    files: &[&'a str],
-    merge: Merge,
-    output: &'a str,
-    terminal: bool,
-) -> Result<(), Failure<'a>> {
-    if terminal && output == STANDARD_STREAM {
+    R: Files + Input + Clock + Print + Eprint + RandomSource + AllocGlobal + Clone + Drop,
+>(rt: &R, files: &[&'a str], merge: Merge<'a>, terminals: Terminals) -> Result<(), Failure<'a>> {
+    if terminals.output && merge.target.path == STANDARD_STREAM {
         return Err(Failure::on_output(Fault::Terminal));
     }
     if files.is_empty() {
         return Err(Failure::on_words(Fault::NoFiles));
     }
-    let contents = contents_of(rt, files, merge.verbose)?;
+    let mut progress = Progress::new(rt, terminals.error && !merge.verbose);
+    let contents = contents_of(rt, files, merge.verbose, &mut progress);
+    let made = match contents {
+        Ok(contents) => {
+            progress.show(rt, Stage::Merging(files.len()));
+            merge_contents(rt, files, contents.as_slice(), merge, &mut progress)
+        }
+        Err(failure) => Err(failure),
+    };
+    progress.clear(rt);
+    made
+}
+
+// Merges the shards with these bytes.
+fn merge_contents<'a, R: Files + Print + Eprint + RandomSource + AllocGlobal + Clone + Drop>(
+    rt: &R,
+    files: &[&'a str],
+    contents: &[Vec<u8>],
+    merge: Merge<'a>,
+    progress: &mut Progress,
+) -> Result<(), Failure<'a>> {
     let inputs: Result<Vec<&[u8]>, AllocError> = contents
         .iter()
         .map(|bytes| bytes.as_slice())
@@ -44,20 +60,26 @@ pub fn merge_files<
         return Err(on_all(files, Fault::OutOfMemory));
     };
     if merge.by_key {
-        return merge_by_key(rt, files, inputs.as_slice(), merge, output);
+        return merge_by_key(rt, files, inputs.as_slice(), merge, progress);
     }
-    let bytes = merged(rt, files, inputs.as_slice(), merge)?;
-    put(rt, output, bytes.as_slice())
+    let bytes = merged(rt, files, inputs.as_slice(), merge, progress)?;
+    put(rt, merge.target.path, bytes.as_slice())
 }
 
 // The bytes of each file. All are read once, since standard input and pipes cannot be read again.
-fn contents_of<'a, R: Files + Input + Eprint + AllocGlobal>(
+fn contents_of<'a, R: Files + Input + Clock + Eprint + AllocGlobal>(
     rt: &R,
     files: &[&'a str],
     verbose: bool,
+    progress: &mut Progress,
 ) -> Result<Vec<Vec<u8>>, Failure<'a>> {
     let mut contents = Vec::new(rt.alloc());
     for file in files {
+        let stage = Stage::Reading {
+            read: contents.len(),
+            all: files.len(),
+        };
+        progress.show_after_pause(rt, stage);
         let bytes = bytes_of(rt, file)?;
         if verbose {
             report_size(rt, file, bytes.len());
@@ -74,8 +96,8 @@ fn merge_by_key<'a, R: Files + Print + Eprint + RandomSource + AllocGlobal + Clo
     rt: &R,
     files: &[&'a str],
     inputs: &[&[u8]],
-    merge: Merge,
-    folder: &'a str,
+    merge: Merge<'a>,
+    progress: &mut Progress,
 ) -> Result<(), Failure<'a>> {
     let alloc = rt.alloc();
     let keys = keys_of(alloc, files, inputs)?;
@@ -84,7 +106,7 @@ fn merge_by_key<'a, R: Files + Print + Eprint + RandomSource + AllocGlobal + Clo
         if done.as_slice().contains(key) {
             continue;
         }
-        write_under(rt, files, inputs, keys.as_slice(), key, merge, folder)?;
+        write_under(rt, files, inputs, keys.as_slice(), key, merge, progress)?;
         if done.push(*key).is_err() {
             return Err(on_all(files, Fault::OutOfMemory));
         }
@@ -99,10 +121,11 @@ fn write_under<'a, R: Files + Print + Eprint + RandomSource + AllocGlobal + Clon
     inputs: &[&[u8]],
     keys: &[MerkleHash],
     key: &MerkleHash,
-    merge: Merge,
-    folder: &'a str,
+    merge: Merge<'a>,
+    progress: &mut Progress,
 ) -> Result<(), Failure<'a>> {
     let alloc = rt.alloc();
+    let folder = merge.target.path;
     let (Ok(files_under), Ok(inputs_under), Ok(path)) = (
         those_under(alloc, files, keys, key),
         those_under(alloc, inputs, keys, key),
@@ -110,7 +133,13 @@ fn write_under<'a, R: Files + Print + Eprint + RandomSource + AllocGlobal + Clon
     ) else {
         return Err(on_all(files, Fault::OutOfMemory));
     };
-    let bytes = merged(rt, files_under.as_slice(), inputs_under.as_slice(), merge)?;
+    let bytes = merged(
+        rt,
+        files_under.as_slice(),
+        inputs_under.as_slice(),
+        merge,
+        progress,
+    )?;
     match put(rt, path.as_str(), bytes.as_slice()) {
         Ok(()) => Ok(()),
         Err(failure) => Err(Failure::on_file(folder, failure.fault)),
@@ -152,16 +181,18 @@ fn those_under<T: Copy>(
     Ok(found)
 }
 
-// The union of the inputs, with an expiry if one is wanted.
+// The union of the inputs, with an expiry if one is wanted, in the version of the target.
 fn merged<'a, R: Eprint + AllocGlobal>(
     rt: &R,
     files: &[&'a str],
     inputs: &[&[u8]],
-    merge: Merge,
+    merge: Merge<'a>,
+    progress: &mut Progress,
 ) -> Result<Vec<u8>, Failure<'a>> {
-    let bytes = united(rt, files, inputs, merge.strictness)?;
+    let bytes = united(rt, files, inputs, merge.strictness, progress)?;
+    progress.clear(rt);
     match expiring(rt.alloc(), bytes, merge.expiry) {
-        Ok(bytes) => Ok(bytes),
+        Ok(bytes) => in_version(rt.alloc(), bytes, merge.target),
         Err(_) => Err(on_all(files, Fault::OutOfMemory)),
     }
 }
@@ -173,6 +204,7 @@ fn united<'a, R: Eprint + AllocGlobal>(
     files: &[&'a str],
     inputs: &[&[u8]],
     strictness: Strictness,
+    progress: &mut Progress,
 ) -> Result<Vec<u8>, Failure<'a>> {
     let alloc = rt.alloc();
     let choice = match (disagreement(alloc, files, inputs)?, strictness) {
@@ -182,6 +214,7 @@ fn united<'a, R: Eprint + AllocGlobal>(
     match merge_bytes(alloc, inputs) {
         Ok(bytes) => {
             if let Some(disagreement) = &choice {
+                progress.clear(rt);
                 report_choice(rt, disagreement);
             }
             Ok(bytes)

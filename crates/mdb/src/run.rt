@@ -9,6 +9,7 @@ use crate::inputs::inputs_of;
 use crate::inspect::inspect;
 use crate::make::make;
 use crate::merge::merge_files;
+use crate::terminals::Terminals;
 use crate::words::{Words, WordsError, read_words};
 use mdb_report::fault::Fault;
 use mdb_report::moment::seconds_now;
@@ -55,14 +56,14 @@ impl Status {
     }
 }
 
-/// Runs the program on its words; standard output is a terminal or not.
+/// Runs the program on its words; which streams are terminals is given.
 pub fn run<
     R: Env + Files + Input + Clock + Print + Eprint + RandomSource + AllocGlobal + Clone + Drop,
->(rt: &R, terminal: bool) -> u8
+>(rt: &R, terminals: Terminals) -> u8
     ensures { result ≤ 3 }
 {
     match read_words(rt) {
-        Ok(words) => status_of_words(rt, &words, terminal).number(),
+        Ok(words) => status_of_words(rt, &words, terminals).number(),
         Err(WordsError::OutOfMemory) => failed(rt, &Failure::on_words(Fault::OutOfMemory)).number(),
         Err(WordsError::TooLong) => failed(rt, &Failure::on_words(Fault::LongWord)).number(),
     }
@@ -70,9 +71,9 @@ pub fn run<
 
 fn status_of_words<
     R: Files + Input + Clock + Print + Eprint + RandomSource + AllocGlobal + Clone + Drop,
->(rt: &R, words: &Words, terminal: bool) -> Status {
+>(rt: &R, words: &Words, terminals: Terminals) -> Status {
     match request_of(rt.alloc(), words.texts.as_slice(), seconds_now(rt)) {
-        Ok(request) => status_of(rt, &request, words.unreadable.as_slice(), terminal),
+        Ok(request) => status_of(rt, &request, words.unreadable.as_slice(), terminals),
         Err(error) => {
             if error.print(rt).is_err() {
                 return Status::Failed;
@@ -86,62 +87,53 @@ fn status_of_words<
     }
 }
 
-fn status_of<R: Files + Input + Print + Eprint + RandomSource + AllocGlobal + Clone + Drop>(
+fn status_of<R: Files + Input + Clock + Print + Eprint + RandomSource + AllocGlobal + Clone + Drop>(
     rt: &R,
     request: &Request<'_>,
     unreadable: &[String],
-    terminal: bool,
+    terminals: Terminals,
 ) -> Status {
     match request {
         Request::Inspect(sources, inquiry, style) => match inputs_of(rt, sources, unreadable) {
             Ok(inputs) => inspect(rt, &inputs, inquiry, *style),
             Err(_) => failed(rt, &Failure::on_words(Fault::OutOfMemory)),
         },
-        Request::Make(making, output) => {
+        Request::Make(making, target) => {
             if let Some(word) = unreadable.first() {
                 return failed(rt, &Failure::on_file(word.as_str(), Fault::NoText));
             }
-            status_of_making(rt, make(rt, making, output, terminal))
+            status_of_making(rt, make(rt, making, *target, terminals.output))
         }
-        Request::Merge(sources, merge, output) => {
+        Request::Merge(sources, merge) => {
             if let Some(word) = unreadable.first() {
                 return failed(rt, &Failure::on_file(word.as_str(), Fault::NoText));
             }
-            status_of_merge(rt, sources, *merge, output, terminal)
+            status_of_merge(rt, sources, *merge, terminals)
         }
     }
 }
 
 // Merges shards, if none of what names them failed.
-fn status_of_merge<R: Files + Input + Print + Eprint + RandomSource + AllocGlobal + Clone + Drop>(
-    rt: &R,
-    sources: &Sources<'_>,
-    merge: Merge,
-    output: &str,
-    terminal: bool,
-) -> Status {
+fn status_of_merge<
+    R: Files + Input + Clock + Print + Eprint + RandomSource + AllocGlobal + Clone + Drop,
+>(rt: &R, sources: &Sources<'_>, merge: Merge<'_>, terminals: Terminals) -> Status {
     match inputs_of(rt, sources, &[]) {
         Ok(inputs) if inputs.failed => Status::Failed,
-        Ok(inputs) => status_of_files(rt, inputs.paths.as_slice(), merge, output, terminal),
+        Ok(inputs) => status_of_files(rt, inputs.paths.as_slice(), merge, terminals),
         Err(_) => failed(rt, &Failure::on_words(Fault::OutOfMemory)),
     }
 }
 
 fn status_of_files<
     'a,
-    R: Files + Input + Print + Eprint + RandomSource + AllocGlobal + Clone + Drop,
->(rt: &R, paths: &'a [String], merge: Merge, output: &'a str, terminal: bool) -> Status {
+    R: Files + Input + Clock + Print + Eprint + RandomSource + AllocGlobal + Clone + Drop,
+>(rt: &R, paths: &'a [String], merge: Merge<'a>, terminals: Terminals) -> Status {
     let files: Result<Vec<&'a str>, AllocError> = paths
         .iter()
         .map(|path| path.as_str())
         .collect(rt.alloc());
     match files {
-        Ok(files) => {
-            status_of_making(
-                rt,
-                merge_files(rt, files.as_slice(), merge, output, terminal),
-            )
-        }
+        Ok(files) => { status_of_making(rt, merge_files(rt, files.as_slice(), merge, terminals)) }
         Err(_) => failed(rt, &Failure::on_words(Fault::OutOfMemory)),
     }
 }

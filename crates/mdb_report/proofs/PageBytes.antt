@@ -8,7 +8,7 @@ use Rattle.mdb_report.specs.declared.pages.Page.{Page}
 use Rattle.mdb_report.specs.declared.pages.Pages.{Pages}
 use Rattle.mdb_report.specs.Pages.{page_bytes, bytes_in}
 
-pub length_of_all : {A : Type 0} (P : ℕ) (f : A → List ℕ) → ((a : A) → length (f a) ≡ P) → (xs : List A) → length (concat (map f xs)) ≡ length xs * P
+length_of_all : {A : Type 0} (P : ℕ) (f : A → List ℕ) → ((a : A) → length (f a) ≡ P) → (xs : List A) → length (concat (map f xs)) ≡ length xs * P
 length_of_all P f len [] = omega arith
 length_of_all P f len (x ∷ xs) =
     let rest = length_of_all P f len xs in
@@ -23,7 +23,7 @@ in_first P r n xs ys long fits =
 past_first : (P m : ℕ) (xs ys : List ℕ) → length xs ≡ P → drop (P + m) (xs ++ ys) ≡ drop m ys
 past_first P m xs ys long = ap (λ q. drop (q + m) (xs ++ ys)) (sym long) ∙ drop-append-add xs ys m
 
-pub in_page : {A : Type 0} (P : ℕ) (f : A → List ℕ) → ((a : A) → length (f a) ≡ P) → (d : A) (xs : List A) (k r n : ℕ) → k < length xs → r + n ≤ P
+in_page : {A : Type 0} (P : ℕ) (f : A → List ℕ) → ((a : A) → length (f a) ≡ P) → (d : A) (xs : List A) (k r n : ℕ) → k < length xs → r + n ≤ P
     → take n (drop (k * P + r) (concat (map f xs))) ≡ take n (drop r (f (get_or xs k d)))
 in_page P f len d [] k r n below fits = absurd (omega (arith, below))
 in_page P f len d (x ∷ xs) zero r n below fits =
@@ -37,7 +37,7 @@ in_page P f len d (x ∷ xs) (suc k) r n below fits =
     ∙ in_page P f len d xs k r n (omega (arith, below)) fits
 
 -- a page has its length, whether it is in memory or not
-pub page_length : (p : Option Page) → length (page_bytes p) ≡ 16384
+page_length : (p : Option Page) → length (page_bytes p) ≡ 16384
 page_length None = length-replicate {A = ℕ} 16384 0
 page_length (Some page) = page.whole
 

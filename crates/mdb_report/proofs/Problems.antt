@@ -36,7 +36,7 @@ of_map f xs x (k, below, at) =
     (k, subst (λ n. k < n) (sym (length-map xs f)) below, get_or-map f xs k x (f x) below ∙ ap f at)
 
 -- no finding is lost
-pub all_findings_are : (bytes : List ℕ) (fs : List Finding) (problems : List Problem) → ((f : Finding) → IsFinding bytes f → Contains fs f) → problems ≡ map Bytes fs
+all_findings_are : (bytes : List ℕ) (fs : List Finding) (problems : List Problem) → ((f : Finding) → IsFinding bytes f → Contains fs f) → problems ≡ map Bytes fs
     → (f : Finding) → IsFinding bytes f → Contains problems (Bytes f)
 all_findings_are bytes fs problems all are f true_of = subst (λ ps. Contains ps (Bytes f)) (sym are) (of_map Bytes fs f (all f true_of))
 

@@ -10,7 +10,7 @@ use Rattle.xet_core_structures.specs.SectionReading.{files_of}
 use Rattle.xet_core_structures.specs.declared.shard_format.MDBShardInfo.{MDBShardInfo}
 use Rattle.xet_core_structures.specs.RunReading.{QueryAnswer}
 use Rattle.xet_core_structures.specs.Source.{Source}
-use Rattle.shard_bytes.specs.FindsRecord.{RefusesFile}
+use Rattle.shard_bytes.specs.Finding.{RefusesFile}
 use Rattle.shard_bytes.specs.Outcomes.{HasOutcome}
 use Rattle.shard_bytes.specs.Query.{AnswersQuery}
 use Rattle.mdb_report.specs.declared.lookup.Costs.{Costs}

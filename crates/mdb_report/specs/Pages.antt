@@ -1,6 +1,12 @@
 -- Bytes of which some pages are in memory.
-use Rattle.std.specs.Prelude.{◌≡◌, ℕ, ◌*◌, List, map, length, take, replicate, Option, None, Some}
+use Rattle.std.specs.Prelude.{◌≡◌, Bool, false, is_some, ℕ, ◌*◌, ◌<◌, ◌≤◌, List, map, length, take, replicate, slice_get, set, Option, None, Some}
 use Rattle.std.specs.List.{concat}
+use Rattle.xet_core_structures.specs.Source.{Source}
+use Rattle.xet_core_structures.specs.declared.merklehash.DataHash.{DataHash}
+use Rattle.xet_core_structures.specs.declared.shard_format.MDBShardInfo.{MDBShardInfo}
+use Rattle.mdb_report.specs.declared.lookup.FoundReport.{FoundReport}
+use Rattle.mdb_report.specs.declared.lookup.RunReport.{RunReport}
+use Rattle.mdb_report.specs.Lookups.{ReportsFinding, ReportsRun}
 use Rattle.mdb_report.specs.declared.pages.Page.{Page}
 use Rattle.mdb_report.specs.declared.pages.Pages.{Pages}
 
@@ -12,3 +18,40 @@ page_bytes (Some page) = page.bytes.items
 -- the bytes of all pages, up to the size of the whole
 abbrev pub bytes_in : Pages → List ℕ
 bytes_in pages = take pages.size (concat (map page_bytes pages.pages.items))
+
+-- whether there is a place, and a page in it
+abbrev pub is_page : Option (Option Page) → Bool
+is_page None = false
+is_page (Some page) = is_some page
+
+-- whether a page with this number is in memory
+abbrev pub has_page : Pages → ℕ → Bool
+has_page pages number = is_page (slice_get pages.pages.items number)
+
+-- a page was put in its place; past the last place nothing changed
+pub record PutsPage (old : Pages) (number : ℕ) (page : Page) (new : Pages) : Type 0 where
+  pub size : new.size ≡ old.size
+  pub there : number < length old.pages.items
+      → new.pages.items ≡ set old.pages.items number (Some page)
+  pub past : length old.pages.items ≤ number → new.pages.items ≡ old.pages.items
+
+-- a source over pages, at position 0
+abbrev pub source_of : Pages → Source
+source_of pages = record {
+  bytes = bytes_in pages;
+  at = 0;
+  seeks = 0;
+  read = 0;
+  failures = 0;
+  last_failure = None;
+}
+
+-- the report of a lookup of the hash in the pages, with its costs if they are wanted
+abbrev pub FindsInPages : MDBShardInfo → DataHash → Bool → Pages → FoundReport → Type 0
+FindsInPages info hash costs pages report =
+    (after : Source) × ReportsFinding info hash costs (source_of pages) after report
+
+-- the report of a query of the chunks in the pages
+abbrev pub QueriesPages : MDBShardInfo → List DataHash → Pages → RunReport → Type 0
+QueriesPages info hashes pages report =
+    (after : Source) × ReportsRun info hashes (source_of pages) after report

@@ -38,10 +38,14 @@ pub enum Fault {
     LateExpiry,
     /// Verification rows are asked for that a file does not have.
     NoVerification,
+    /// A file has an auxiliary row, which the version that is asked for does not have.
+    HasAuxRow,
     /// The shard has records, but not the table by which they are looked up.
     NoTable(Table),
     /// No xorb of the shard has this hash.
     NoXorb(MerkleHash),
+    /// A lookup still lacks pages of the file after all the rounds in which they are read.
+    TooManyRounds,
     /// There is nothing to merge.
     NoFiles,
     /// A word is no UTF-8, so that no file can be opened by it.
@@ -80,10 +84,17 @@ impl fmt::Display for Fault {
             Fault::HasKey => write!(f, "its chunk hashes are under a key already"),
             Fault::LateExpiry => write!(f, "the expiry is past the last timestamp"),
             Fault::NoVerification => write!(f, "a file has no verification rows"),
+            Fault::HasAuxRow => {
+                write!(
+                    f,
+                    "a file has an auxiliary row, which version 2 of the format does not have"
+                )
+            }
             Fault::NoTable(table) => {
                 write!(f, "it has no {table}, by which its records would be found")
             }
             Fault::NoXorb(hash) => write!(f, "no xorb has the hash {hash}"),
+            Fault::TooManyRounds => write!(f, "it was read in too many rounds, and more is needed"),
             Fault::NoFiles => write!(f, "no file is named that could be merged"),
             Fault::NoText => write!(f, "the word is no UTF-8, so no file can be opened by it"),
             Fault::LongWord => write!(f, "a word is too long"),
@@ -273,5 +284,16 @@ fn lacks_verification(error: &CoreError) -> bool {
     match error {
         CoreError::Io(error) => error.kind() == io::ErrorKind::Other,
         _ => false,
+    }
+}
+
+/// The fault behind an error of writing a shard's bytes in version 2.
+pub fn version_2_fault(alloc: Global, bytes: &[u8], error: CoreError) -> Fault
+    ensures is { (result ≡ Fault.HasAuxRow) ⊎ IsFaultOf bytes.now error result }
+    ensures aux_row { result ≡ Fault.HasAuxRow → error ≡ CoreError.InvalidArguments }
+{
+    match error {
+        CoreError::InvalidArguments => Fault::HasAuxRow,
+        error => fault_of(alloc, bytes, error),
     }
 }

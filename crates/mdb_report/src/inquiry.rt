@@ -1,6 +1,6 @@
 //! What a shard can be asked, and printing its answers.
 
-ghost use Rattle.std.specs.Prelude.{◌≡◌, ◌≢◌, ◌↔◌, IfOk, IsTrue};
+ghost use Rattle.std.specs.Prelude.{◌≡◌, ◌≢◌, ◌↔◌, is_some, IfOk, IsTrue};
 ghost use Rattle.shard_bytes.specs.Checking.{IsWhole};
 ghost use Rattle.mdb_report.specs.Parts.{PartsAscend};
 ghost use Rattle.mdb_report.specs.Answers.{FindsProblems, LooksUp, IsClean, HasAscendingParts};
@@ -95,6 +95,8 @@ pub enum Trouble {
     Section(Section, CoreError),
     /// The file could not be read.
     Input(io::Error),
+    /// A call still lacks pages of the file after all the rounds in which they are read.
+    TooManyRounds,
     /// The shard has records, but not the table by which they are looked up.
     NoTable(Table),
     /// The output failed.
@@ -306,7 +308,9 @@ pub(crate) fn print_lookup<W: Write>(
     layout: Layout<'_>,
     tally: &mut Tally,
     output: &mut W,
-) -> Result<bool, Trouble> {
+) -> Result<bool, Trouble>
+    ensures { IfOk result (λ found. found ≡ is_some report.now.found) }
+{
     let found = report.found.is_some();
     if found {
         tally.add_found(report.hash.0)?;

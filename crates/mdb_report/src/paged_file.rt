@@ -1,5 +1,9 @@
 //! A file of which pages are read as they are needed.
 
+ghost use Rattle.std.specs.Prelude.{IfOk};
+ghost use Rattle.xet_core_structures.specs.Ends.{HasHeaderAndFooter};
+ghost use Rattle.mdb_report.specs.Pages.{bytes_in, FindsInPages, QueriesPages};
+
 use crate::counting::CountingSource;
 use crate::inquiry::Trouble;
 use crate::lookup::{FoundReport, RunReport};
@@ -8,7 +12,6 @@ use crate::pages::{PAGE_SIZE, Page, Pages};
 use std::alloc::{AllocError, Global};
 use std::io;
 use std::io::{Read, Seek, SeekFrom};
-use xet_core_structures::error::CoreError;
 use xet_core_structures::merklehash::MerkleHash;
 use xet_core_structures::shard_format::MDBShardInfo;
 
@@ -40,7 +43,9 @@ impl<F: Read + Seek + Drop> PagedFile<F> {
     }
 
     /// The header and the footer of the shard in the file. `Trouble::Ends` if they are not read.
-    pub fn load(&mut self, alloc: Global) -> Result<MDBShardInfo, Trouble> {
+    pub fn load(&mut self, alloc: Global) -> Result<MDBShardInfo, Trouble>
+        ensures { IfOk result (HasHeaderAndFooter (bytes_in self.new.pages)) }
+    {
         for round in 0..ROUNDS {
             let mut source = PagedSource::new(&self.pages);
             let error = match MDBShardInfo::load_from_reader(alloc, &mut source) {
@@ -52,7 +57,7 @@ impl<F: Read + Seek + Drop> PagedFile<F> {
                 None => return Err(Trouble::Ends(error)),
             }
         }
-        Err(Trouble::Shard(CoreError::OutOfMemory))
+        Err(Trouble::TooManyRounds)
     }
 
     /// Looks up a file in the shard, which has this header and footer.
@@ -62,7 +67,9 @@ impl<F: Read + Seek + Drop> PagedFile<F> {
         info: &MDBShardInfo,
         hash: MerkleHash,
         costs: bool,
-    ) -> Result<FoundReport, Trouble> {
+    ) -> Result<FoundReport, Trouble>
+        ensures { IfOk result (FindsInPages info.now hash costs self.new.pages) }
+    {
         for round in 0..ROUNDS {
             let mut source = CountingSource::new(PagedSource::new(&self.pages));
             let error = match FoundReport::in_source(alloc, info, &mut source, hash, costs) {
@@ -74,7 +81,7 @@ impl<F: Read + Seek + Drop> PagedFile<F> {
                 None => return Err(Trouble::Shard(error)),
             }
         }
-        Err(Trouble::Shard(CoreError::OutOfMemory))
+        Err(Trouble::TooManyRounds)
     }
 
     /// Looks for a run of chunks in the shard, which has this header and footer.
@@ -83,7 +90,9 @@ impl<F: Read + Seek + Drop> PagedFile<F> {
         alloc: Global,
         info: &MDBShardInfo,
         hashes: &[MerkleHash],
-    ) -> Result<RunReport, Trouble> {
+    ) -> Result<RunReport, Trouble>
+        ensures { IfOk result (QueriesPages info.now hashes.now self.new.pages) }
+    {
         for round in 0..ROUNDS {
             let mut source = PagedSource::new(&self.pages);
             let error = match RunReport::in_source(alloc, info, &mut source, hashes) {
@@ -95,7 +104,7 @@ impl<F: Read + Seek + Drop> PagedFile<F> {
                 None => return Err(Trouble::Shard(error)),
             }
         }
-        Err(Trouble::Shard(CoreError::OutOfMemory))
+        Err(Trouble::TooManyRounds)
     }
 
     /// The file from an offset on, to be read to its end.

@@ -1,7 +1,7 @@
 //! A source of which only some pages are in memory.
 
-ghost use Rattle.std.specs.Prelude.{◌≡◌, None};
-ghost use Rattle.mdb_report.specs.Pages.{bytes_in};
+ghost use Rattle.std.specs.Prelude.{◌≡◌};
+ghost use Rattle.mdb_report.specs.Pages.{bytes_in, source_of};
 
 use crate::pages::{PAGE_SIZE, Pages};
 use std::io;
@@ -25,14 +25,7 @@ pub struct PagedSource<'a> {
 impl<'a> PagedSource<'a> {
     /// A source over pages, at position 0.
     pub fn new(pages: &'a Pages) -> PagedSource<'a>
-        ensures { ⟦<PagedSource<'a> as ShardSource>⟧.meaning result ≡ record {
-          bytes = bytes_in pages.now;
-          at = 0;
-          seeks = 0;
-          read = 0;
-          failures = 0;
-          last_failure = None;
-        } }
+        ensures { ⟦<PagedSource<'a> as ShardSource>⟧.meaning result ≡ source_of pages.now }
     {
         PagedSource {
             pages,
@@ -46,7 +39,9 @@ impl<'a> PagedSource<'a> {
     }
 
     /// The number of the page that a read lacked.
-    pub fn missing(&self) -> Option<usize> {
+    pub fn missing(&self) -> Option<usize>
+        ensures { result ≡ self.now.missing }
+    {
         self.missing
     }
 }

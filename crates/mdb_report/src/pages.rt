@@ -23,6 +23,8 @@ pub struct Pages {
 }
 
 impl Pages {
+    ghost use Rattle.mdb_report.specs.Pages.{has_page, PutsPage};
+
     /// So many bytes, of which no page is in memory.
     pub fn new(alloc: Global, size: u64) -> Result<Pages, AllocError>
         ensures { IfOk result (λ pages. pages.size ≡ size) }
@@ -43,13 +45,18 @@ impl Pages {
     }
 
     /// Whether a page is in memory.
-    pub fn has(&self, number: usize) -> bool {
-        matches!(self.pages.as_slice().get(number), Some(Some(_)))
+    pub fn has(&self, number: usize) -> bool
+        ensures { result ≡ has_page self.now number }
+    {
+        match self.pages.as_slice().get(number) {
+            Some(page) => page.is_some(),
+            None => false,
+        }
     }
 
     /// Puts a page in its place, unless it is past the last one.
     pub fn put(&mut self, number: usize, page: Page)
-        ensures { self.new.size ≡ self.old.size }
+        ensures { PutsPage self.old number page self.new }
     {
         if number < self.pages.len() {
             self.pages.as_mut_slice()[number] = Some(page);

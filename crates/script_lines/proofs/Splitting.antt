@@ -74,12 +74,12 @@ part_of_cut pattern left part rest agrees whole cut = found_part left part rest 
 -- ---- words
 
 -- the word of a part, unless it is empty
-abbrev pub word_in : List ℕ → List (List ℕ)
+abbrev word_in : List ℕ → List (List ℕ)
 word_in [] = []
 word_in (byte ∷ bytes) = (byte ∷ bytes) ∷ []
 
 -- the parenthesis that ends a part, if there is one
-abbrev pub end_in : Option (Bor (List ℕ)) → List (List ℕ)
+abbrev end_in : Option (Bor (List ℕ)) → List (List ℕ)
 end_in None = []
 end_in (Some end) = end.now ∷ []
 
@@ -126,7 +126,7 @@ part_without part rest word words p (inr is) h =
     subst (λ xs. AreWordsOf (part ++ rest) (word_in xs ++ words)) is.0
     (after_word part rest words all.0 (subst EndsWord (sym all.1) tt) h)
 
-pub words_of_part : (part rest word : List ℕ) (end : Option (Bor (List ℕ))) (words : List (List ℕ)) → IsPart part rest
+words_of_part : (part rest word : List ℕ) (end : Option (Bor (List ℕ))) (words : List (List ℕ)) → IsPart part rest
     → IfSome end (λ e. IsParenthesis e.now × (part ≡ word ++ e.now))
     → IfNone end ((part ≡ word ++ 32 ∷ []) ⊎ ((part ≡ word) × ¬ (EndsInSeparator part)))
     → AreWordsOf rest words → AreWordsOf (part ++ rest) (word_in word ++ (end_in end ++ words))

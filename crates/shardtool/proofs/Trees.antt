@@ -55,7 +55,7 @@ some_words [] (Name name) rest none same = omega (arith, ap (λ (words : List (L
 some_words [] (Both' p left q right) rest none same = omega (arith, ap (λ (words : List (List ℕ)). length words) same)
 some_words (word ∷ words) tree rest none same = omega (arith, none)
 
-pub words_of_pair : (left right : NameTree) (words after_left after_right rest : List (List ℕ)) → words ≡ words_of_line left ++ after_left → after_left ≡ words_of_line right ++ after_right → after_right ≡ closing ∷ rest
+words_of_pair : (left right : NameTree) (words after_left after_right rest : List (List ℕ)) → words ≡ words_of_line left ++ after_left → after_left ≡ words_of_line right ++ after_right → after_right ≡ closing ∷ rest
     → opening ∷ words ≡ opening ∷ ((words_of_line left ++ (words_of_line right ++ (closing ∷ []))) ++ rest)
 words_of_pair left right words after_left after_right rest first second end =
     ap (λ (zs : List (List ℕ)). opening ∷ zs) (first ∙ ap (λ zs. words_of_line left ++ zs) (second ∙ ap (λ zs. words_of_line right ++ zs) end) ∙ sym (pair_words (words_of_line left) (words_of_line right) rest))

@@ -1,0 +1,77 @@
+//! How far a command has come, on a terminal.
+
+use std::fmt;
+use std::rt::Clock;
+use std::time::{Duration, Instant};
+
+/// The seconds that pass before something is said, and before it is said anew.
+const PAUSE: u64 = 1;
+
+/// What a merge does.
+#[derive(Clone, Copy, Debug, PartialEq, Eq)]
+pub enum Stage {
+    /// So many of all the shards are read.
+    Reading { read: usize, all: usize },
+    /// So many shards are merged.
+    Merging(usize),
+}
+
+impl fmt::Display for Stage {
+    fn fmt<W: fmt::Write>(&self, f: &mut fmt::Formatter<W>) -> fmt::Result {
+        match self {
+            Stage::Reading { read, all } => write!(f, "{read} of {all} shards read"),
+            Stage::Merging(all) => write!(f, "merging {all} shards"),
+        }
+    }
+}
+
+/// A line on standard error that says how far a merge has come, for one that takes over a second.
+#[derive(Clone, Copy)]
+pub struct Progress {
+    /// When the line was shown last, or the command began; none if nothing is to be said.
+    last: Option<Instant>,
+    shown: bool,
+}
+
+impl Progress {
+    /// The progress of a command that begins. Nothing is said if standard error is no terminal, or
+    /// the clock cannot be read.
+    pub fn new<R: Clock>(rt: &R, terminal: bool) -> Progress {
+        let last = if terminal {
+            Instant::now(rt).ok()
+        } else {
+            None
+        };
+        Progress { last, shown: false }
+    }
+
+    /// Shows a stage in place of the last one, if that has stood for a second.
+    pub fn show_after_pause<R: Clock + Eprint>(&mut self, rt: &R, stage: Stage) {
+        let Some(last) = self.last else {
+            return;
+        };
+        let Ok(now) = Instant::now(rt) else {
+            return;
+        };
+        if now.saturating_duration_since(last) >= Duration::from_secs(PAUSE) {
+            self.last = Some(now);
+            self.show(rt, stage);
+        }
+    }
+
+    /// Shows a stage in place of the last one: one that may take long, and cannot say how far it is.
+    pub fn show<R: Eprint>(&mut self, rt: &R, stage: Stage) {
+        if self.last.is_some() {
+            let _ = rt.eprint(format_args!("\r\u{1b}[K{stage}"));
+            self.shown = true;
+        }
+    }
+
+    /// Removes the line, so that others stand where it was.
+    pub fn clear<R: Eprint>(&mut self, rt: &R) {
+        if self.shown {
+            let _ = rt.eprint(format_args!("\r\u{1b}[K"));
+            self.shown = false;
+        }
+    }
+}

@@ -1,0 +1,8 @@
+//! Which of the standard streams are terminals.
+
+/// Whether standard output and standard error are terminals.
+#[derive(Clone, Copy, Debug, PartialEq, Eq)]
+pub struct Terminals {
+    pub output: bool,
+    pub error: bool,
+}
