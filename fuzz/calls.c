@@ -48,9 +48,13 @@ struct filling {
 
 #define SHARD(at) input->shards[at].bytes, input->shards[at].length
 
-static uint32_t within_room(uint32_t error, size_t bytes, size_t written) {
-    require(written <= xet_union_room(bytes), "the result needs more than xet_union_room");
+static uint32_t within(size_t room, uint32_t error, size_t written) {
+    require(written <= room, "the result needs more room than xet.h says");
     return error;
+}
+
+static uint32_t within_room(uint32_t error, size_t bytes, size_t written) {
+    return within(xet_union_room(bytes), error, written);
 }
 
 static uint32_t call_union(const struct input *input, void *out, size_t capacity, size_t *written) {
@@ -68,14 +72,18 @@ static void list_shards(const struct input *input, xet_bytes list[SHARDS]) {
         list[at] = (xet_bytes){SHARD(at)};
 }
 
+static size_t bytes_of(const xet_bytes *list, size_t count) {
+    size_t bytes = 0;
+    for (size_t at = 0; at < count; at++)
+        bytes += list[at].length;
+    return bytes;
+}
+
 static uint32_t call_merge(const struct input *input, void *out, size_t capacity, size_t *written) {
     xet_bytes list[SHARDS];
     list_shards(input, list);
-    size_t bytes = 0;
-    for (size_t at = 0; at < input->count; at++)
-        bytes += list[at].length;
     uint32_t error = xet_merge(list, input->count, out, capacity, written);
-    return within_room(error, bytes, *written);
+    return within_room(error, bytes_of(list, input->count), *written);
 }
 
 /* A disagreement is told exactly if there is one, and names two shards of the list. */
@@ -97,25 +105,30 @@ static uint32_t call_merge_agreeing(const struct input *input, void *out, size_t
     uint32_t error = xet_merge_agreeing(list, input->count, out, capacity, written, &differing, first);
     check_disagreement(input, &found, differing, error == XET_DISAGREE);
     free_block(&found);
-    return error;
+    return within_room(error, bytes_of(list, input->count), *written);
 }
 
 static uint32_t call_export(const struct input *input, void *out, size_t capacity, size_t *written) {
-    return xet_export(SHARD(0), &input->export, out, capacity, written);
+    uint32_t error = xet_export(SHARD(0), &input->export, out, capacity, written);
+    return within(xet_export_room(input->shards[0].length), error, *written);
 }
 
 static uint32_t call_minimal(const struct input *input, void *out, size_t capacity, size_t *written) {
-    return xet_minimal(SHARD(0), input->subset.now, input->verification, input->aux_rows, out, capacity, written);
+    uint64_t now = input->subset.now;
+    uint32_t error = xet_minimal(SHARD(0), now, input->verification, input->aux_rows, out, capacity, written);
+    return within(xet_minimal_room(input->shards[0].length), error, *written);
 }
 
 static uint32_t call_subset(const struct input *input, void *out, size_t capacity, size_t *written) {
     const void *xorbs = input->xorbs.bytes;
     size_t count = input->xorbs.length / sizeof(xet_hash);
-    return xet_subset(SHARD(0), &input->subset, xorbs, count, out, capacity, written);
+    uint32_t error = xet_subset(SHARD(0), &input->subset, xorbs, count, out, capacity, written);
+    return within(xet_minimal_room(input->shards[0].length), error, *written);
 }
 
 static uint32_t call_write_v2(const struct input *input, void *out, size_t capacity, size_t *written) {
-    return xet_write_v2(SHARD(0), out, capacity, written);
+    uint32_t error = xet_write_v2(SHARD(0), out, capacity, written);
+    return within(xet_export_room(input->shards[0].length), error, *written);
 }
 
 static uint32_t call_eligible(const struct input *input, void *out, size_t capacity, size_t *written) {

@@ -126,10 +126,20 @@ typedef struct xet_export_options {
  * XET_IO: there are too few bytes for a header and a footer. */
 uint32_t xet_load(const uint8_t *shard, size_t length, xet_info *info);
 
-/* The room that is enough for xet_union and xet_merge of shards of so many bytes in all, whatever they hold, and for
- * xet_difference where its second shard has so many: 344 bytes, and 8/3 of these. */
+/* The room that is enough for xet_union, xet_merge and xet_merge_agreeing of shards of so many bytes in all, whatever
+ * they hold, and for xet_difference where its second shard has so many: 344 bytes, and 8/3 of these. */
 static inline size_t xet_union_room(size_t bytes) {
     return bytes / 3 > (SIZE_MAX - 352) / 8 ? SIZE_MAX : 352 + bytes / 3 * 8;
+}
+
+/* The room that is enough for xet_export and xet_write_v2 of a shard of so many bytes: 344 bytes, and 4/3 of these. */
+static inline size_t xet_export_room(size_t bytes) {
+    return bytes / 3 > (SIZE_MAX - 348) / 4 ? SIZE_MAX : 348 + bytes / 3 * 4;
+}
+
+/* The room that is enough for xet_minimal and xet_subset of a shard of so many bytes: 200 bytes more. */
+static inline size_t xet_minimal_room(size_t bytes) {
+    return bytes > SIZE_MAX - 200 ? SIZE_MAX : bytes + 200;
 }
 
 /* Writes the union of two shards of one key: the records of both. Creation is 0, and there is no expiry. Of shards that

@@ -2,6 +2,7 @@
 
 use crate::answer::{Answer, Call, Export, NOW};
 use crate::exceptions::Exception::{self, ExportFraming, KeyCarried};
+use crate::port;
 use crate::sections::{ends, footer_size, version};
 
 const FOOTER_SIZE: usize = 200;
@@ -47,11 +48,18 @@ fn compare_shards(call: &Call, first: &[u8], mut theirs: Vec<u8>, ours: Vec<u8>)
         }
         _ => set_times(&mut theirs, &ours, NOW, None),
     };
-    if is_right && theirs == ours {
+    if is_right && theirs == ours && is_written_in_version_2(theirs) {
         Comparison::Same(exceptions)
     } else {
         Comparison::Differ
     }
+}
+
+/// The original writes version 2, which differs in the header alone: so does the port, if it is to.
+fn is_written_in_version_2(mut theirs: Vec<u8>) -> bool {
+    let ours = port::version_2(&theirs);
+    theirs[32..40].copy_from_slice(&2u64.to_le_bytes());
+    ours == Answer::Shard(theirs)
 }
 
 /// The original sorts by first words alone.

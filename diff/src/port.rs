@@ -127,6 +127,13 @@ unsafe extern "C" {
         count: *mut usize,
         run: *mut Segment,
     ) -> u32;
+    fn xet_write_v2(
+        shard: *const u8,
+        length: usize,
+        out: *mut u8,
+        capacity: usize,
+        written: *mut usize,
+    ) -> u32;
     fn xet_eligible(
         shard: *const u8,
         length: usize,
@@ -200,6 +207,13 @@ pub fn answer(call: &Call, first: &[u8], second: &[u8]) -> Answer {
             xet_eligible(first.as_ptr(), first.len(), out, room, written)
         }),
     }
+}
+
+/// What the port answers if it is to write a shard in version 2.
+pub fn version_2(bytes: &[u8]) -> Answer {
+    shard(|out, room, written| unsafe {
+        xet_write_v2(bytes.as_ptr(), bytes.len(), out, room, written)
+    })
 }
 
 fn load(shard: &[u8]) -> Answer {

@@ -16,7 +16,7 @@ use Rattle.shard_bytes.specs.declared.export.Export.{Export}
 use Rattle.shard_bytes.specs.Outcomes.{InMemory}
 
 -- the bytes have a footer with which the shard can be exported, a header and both sections, and
--- what these hold is written with the layout options that is asked for, with the files' auxiliary
+-- what these hold is written with the layout options that are asked for, with the files' auxiliary
 -- rows or without
 pub record ExportsBytes (x : Export) (bytes out : List ℕ) : Type 0 where
   pub info : MDBShardInfo
@@ -30,7 +30,7 @@ pub record ExportsBytes (x : Export) (bytes out : List ℕ) : Type 0 where
   pub file_section : IsSection (file_records_in header.version) (drop 48 bytes) files
   -- the xorb section comes after the file section
   pub xorb_section : IsSection xorb_records (drop (xorbs_after files) bytes) xorbs
-  -- what is written is the layout with the layout options that is asked for
+  -- what is written is the layout with the options that are asked for
   pub written : out ≡ exported (auxes_as_wanted x.parts.aux_ext files) xorbs
       (export_options x.key x.now x.valid_seconds x.parts.files x.parts.xorb_table
       x.parts.chunk_table)
