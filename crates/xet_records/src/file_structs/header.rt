@@ -53,7 +53,7 @@ impl FileDataSequenceHeader {
     }
 
     // The same with any of the optional parts.
-    pub(crate) fn with_parts(
+    pub(super) fn with_parts(
         file_hash: MerkleHash,
         num_entries: u32,
         contains_verification: bool,
@@ -118,7 +118,7 @@ impl FileDataSequenceHeader {
     // Whether the flags announce a part.
     #[tactic(auto, using(crate::proofs::Flags::masked))]
     #[inline(always)]
-    pub(crate) fn contains(&self, part: OptionalPart) -> bool
+    fn contains(&self, part: OptionalPart) -> bool
         ensures { result ≡ announces self.now.file_flags part }
     {
         self.file_flags & part.flag() != 0
@@ -212,7 +212,7 @@ impl FileDataSequenceHeader {
     }
 
     // The number of rows of the optional parts before one of them.
-    pub(crate) fn rows_before(&self, part: OptionalPart) -> usize
+    pub(super) fn rows_before(&self, part: OptionalPart) -> usize
         ensures rows { result ≡ rows_before part self.now }
         ensures bound { result < 2 ^ 33 }
     {
@@ -242,7 +242,7 @@ impl FileDataSequenceHeader {
     }
 
     // The flags with those of each part that only `other` announces.
-    pub(crate) fn merged_flags(&self, other: &Self) -> u32
+    pub(super) fn merged_flags(&self, other: &Self) -> u32
         ensures { result ≡ self.now.file_flags + flags_of
             (λ part. announces other.now.file_flags part
             && not (announces self.now.file_flags part)) }
@@ -254,7 +254,7 @@ impl FileDataSequenceHeader {
     }
 
     // Whether only `other` announces a part.
-    pub(crate) fn gains(&self, other: &Self, part: OptionalPart) -> bool
+    pub(super) fn gains(&self, other: &Self, part: OptionalPart) -> bool
         ensures { result ≡ (announces other.now.file_flags part
             && not (announces self.now.file_flags part)) }
     {

@@ -38,7 +38,7 @@ impl OptionalPart {
 
     // The flag if it is wanted, else 0.
     #[inline(always)]
-    pub(crate) fn flag_if(self, wanted: bool) -> u32
+    pub(super) fn flag_if(self, wanted: bool) -> u32
         ensures { result ≡ (if wanted then 2 ^ bit_of self else 0) }
     {
         if wanted { self.flag() } else { 0 }

@@ -1,6 +1,6 @@
 //! A file record as a view of its bytes.
 //!
-//! Rows that are left out. Which of a file's verification rows and auxiliary row are written is a
+//! Rows may be left out. Which of a file's verification rows and auxiliary row are written is a
 //! value, `KeptParts`, which `serialize_kept` of a view and the writing of minimal shards take;
 //! exports always keep verification rows, and take the choice of auxiliary rows. What is written of
 //! a record is one function, `as_kept`. If all is kept, it computes to the record itself, so the
