@@ -10,6 +10,7 @@ ghost use Rattle.xet_core_structures.specs.TwoShards.Streams.{streams};
 ghost use Rattle.xet_core_structures.specs.Trees.MergeTrees.{TreeWrites, TreeRefusal, IsMerge, MergeRefused};
 
 mod agreement;
+mod table_order;
 mod trees;
 mod two_shards;
 
@@ -143,7 +144,7 @@ fn merge<'a>(alloc: Global, plan: &MergePlan, inputs: &'a [&'a [u8]]) -> Result<
 {
     let arena = Bump::new(alloc);
     let part = place_tree(alloc, &arena, plan, inputs)?;
-    part_bytes(alloc, part)
+    part_bytes(alloc, inputs, part)
 }
 
 // The same to a slice.
@@ -158,5 +159,5 @@ fn merge_into<'a>(
 {
     let arena = Bump::new(alloc);
     let part = place_tree(alloc, &arena, plan, inputs)?;
-    fill_with_part(alloc, part, out)
+    fill_with_part(alloc, inputs, part, out)
 }

@@ -3,6 +3,7 @@
 pub mod StoredParts
 pub mod Sections
 pub mod Layouts
+pub mod RowOrder
 pub mod XorbLayouts
 pub mod Tables
 pub mod TableOrder

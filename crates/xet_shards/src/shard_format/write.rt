@@ -15,7 +15,10 @@
 //! the footer. It takes what was collected of the xorbs by value, and sorts the rows of the chunk
 //! table in place, without allocation. That the sorted rows are the chunk table is
 //! `sorted_is_table` in `proofs/Write/ChunkSorting.antt`: the table is the keys of a map, and has
-//! as many as there are rows, so no two rows tie.
+//! as many as there are rows, so no two rows tie. A tree of unions knows from its inputs in which
+//! order the rows may stand (`order`), and `in_order` merges them by it. What an input says is
+//! checked: rows that strictly ascend, as many as the rows of the table and each one of these, are
+//! the table (`members_are_table` in `proofs/Write/RowOrder.antt`).
 //!
 //! Header, sections and end are `layout_of` the records with these options (`whole_layout` in
 //! `proofs/Write/Written.antt`), and so `layout` where the options are plain. A writer that has no
@@ -26,6 +29,7 @@
 
 pub(super) mod file_writer;
 pub(super) mod record_table;
+pub(super) mod row_order;
 pub(crate) mod view_writer;
 pub(crate) mod writer;
 pub(crate) mod written;

@@ -15,6 +15,7 @@ ghost use Rattle.xet_shards.specs.Write.Layout.{if_included, layout, footer_valu
 ghost use Rattle.xet_shards.specs.Ends.Ends.{FitsFooter};
 ghost use Rattle.xet_records.specs.Limits.{MAX_ROWS};
 
+use super::row_order::in_order;
 use super::written::{RecordTable, WrittenFiles, WrittenSection, WrittenXorbs};
 use super::xorb_writer::ChunkTableRow;
 use crate::shard_format::ends::footer::MDBShardFileFooter;
@@ -100,7 +101,9 @@ pub fn write_values<S: WrittenSection + Drop, V: HoldsRecord<S::Record>, W: Writ
 }
 
 /// Writes the end of a shard, after its sections: the tables that are in, and the footer, which it
-/// returns. The rows of the chunk table are sorted here, if it is in. The error is the writer's.
+/// returns. The rows of the chunk table are put in order here, if it is in. The error is the
+/// writer's, or `OutOfMemory` if an allocation fails, of which there is one only if the xorbs have
+/// an `order`.
 pub fn write_end<W: Write>(
     writer: &mut W,
     files: &WrittenFiles,
@@ -121,7 +124,12 @@ pub fn write_end<W: Write>(
     let footer = footer_of(files, &xorbs, options);
     write_table(writer, options.file_table, &files.table)?;
     write_table(writer, options.xorb_table, &xorbs.table)?;
-    write_chunk_table(writer, options.chunk_table, xorbs.chunk_rows)?;
+    write_chunk_table(
+        writer,
+        options.chunk_table,
+        xorbs.chunk_rows,
+        xorbs.order.as_slice(),
+    )?;
     footer.serialize(writer)?;
     Ok(footer)
 }
@@ -140,7 +148,12 @@ fn write_table<W: Write>(writer: &mut W, is_in: bool, table: &RecordTable) -> Re
 }
 
 // Writes the chunk table, if it is in.
-fn write_chunk_table<W: Write>(writer: &mut W, is_in: bool, rows: Vec<ChunkTableRow>) -> Result<()>
+fn write_chunk_table<W: Write>(
+    writer: &mut W,
+    is_in: bool,
+    rows: Vec<ChunkTableRow>,
+    order: &[u32],
+) -> Result<()>
     ensures bytes { OnOk result ((xorbs : List MDBXorbInfo)
         → (is_in ≡ true → rows.items ≡ chunk_table_rows xorbs)
         → Appends (W.contents writer.old) (W.contents writer.new)
@@ -148,19 +161,19 @@ fn write_chunk_table<W: Write>(writer: &mut W, is_in: bool, rows: Vec<ChunkTable
     ensures causes { IfErr result IsWriteError }
 {
     if is_in {
-        write_sorted(writer, rows)?;
+        write_sorted(writer, rows, order)?;
     }
     Ok(())
 }
 
-// Writes the chunk table: its rows, which are sorted in place.
-fn write_sorted<W: Write>(writer: &mut W, mut rows: Vec<ChunkTableRow>) -> Result<()>
+// Writes the chunk table: its rows in ascending order.
+fn write_sorted<W: Write>(writer: &mut W, rows: Vec<ChunkTableRow>, order: &[u32]) -> Result<()>
     ensures bytes { OnOk result ((xorbs : List MDBXorbInfo) → rows.items ≡ chunk_table_rows xorbs
         → Appends (W.contents writer.old) (W.contents writer.new) (chunk_table_bytes xorbs)) }
     ensures causes { IfErr result IsWriteError }
 {
-    rows.sort_unstable();
-    write_chunk_rows(writer, rows.as_slice())?;
+    let sorted = in_order(rows, order)?;
+    write_chunk_rows(writer, sorted.as_slice())?;
     Ok(())
 }
 

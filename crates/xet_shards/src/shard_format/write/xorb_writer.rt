@@ -115,6 +115,7 @@ impl WrittenSection for WrittenXorbs {
         WrittenXorbs {
             table: RecordTable::new(alloc),
             chunk_rows: Vec::new(alloc),
+            order: Vec::new(alloc),
             stored_bytes: 0,
             stored_bytes_on_disk: 0,
         }
