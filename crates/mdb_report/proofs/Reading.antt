@@ -1,9 +1,10 @@
 -- Files that are read fit their headers, and each gets its report.
-use Rattle.std.proofs.Common.{◌≡◌, inl, inr, ℕ, ◌+◌, ◌<◌, List, [], ◌∷◌, ◌++◌, take, get_or, Ok, Err, sym, refl, ap, ◌∙◌, subst, length}
+use Rattle.std.proofs.Common.{◌≡◌, inl, inr, ℕ, ◌+◌, ◌<◌, ◌≤◌, List, [], ◌∷◌, ◌++◌, take, get_or, Ok, Err, sym, refl, arith, ap, ◌∙◌, subst, length}
 use Rattle.std.specs.Prelude.{All, IfOk, IfSome, MatchResult, Option, None, Some}
 use Rattle.std.specs.List.{AllZip}
 use Rattle.std.proofs.lemmas.List.{take_more}
 use Rattle.std.specs.declared.vec.Vec.{Vec}
+use Rattle.std.specs.declared.result.Result.{Result}
 use Rattle.xet_core_structures.specs.declared.shard_format.MDBShardInfo.{MDBShardInfo}
 use Rattle.xet_core_structures.specs.declared.source.MemorySource.{MemorySource}
 use Rattle.xet_core_structures.specs.Ends.{HasHeaderAndFooter}
@@ -12,13 +13,16 @@ use Rattle.xet_core_structures.specs.Source.{Source}
 use Rattle.xet_core_structures.specs.FileRecord.{file_records, file_records_in, FitsItsHeader}
 use Rattle.xet_core_structures.specs.SectionReading.{ReadsAll, ReadsFiles}
 use Rattle.xet_core_structures.specs.declared.file_structs.MDBFileInfo.{MDBFileInfo}
+use Rattle.xet_core_structures.specs.XorbRecord.{xorb_records, HasItsChunks}
+use Rattle.xet_core_structures.specs.declared.xorb_structs.MDBXorbInfo.{MDBXorbInfo}
+use Rattle.xet_core_structures.specs.declared.xorb_structs.XorbChunkSequenceHeader.{XorbChunkSequenceHeader}
 use Rattle.xet_records.specs.declared.record_reader.FormatVersion.{FormatVersion}
 use Rattle.xet_records.specs.declared.file_structs.header.FileDataSequenceHeader.{FileDataSequenceHeader}
 use Rattle.xet_records.specs.Reading.{ReadsNextRecord}
-use Rattle.xet_records.specs.RecordKind.{RecordKind}
+use Rattle.xet_records.specs.RecordKind.{RecordKind, in_version}
 use Rattle.shard_bytes.proofs.Combining.{in_memory}
 use Rattle.mdb_report.specs.Records.{HoldsFiles, FilesRefusal}
-use Rattle.xet_records.proofs.RecordKinds.{file_laws, laws_in, stored_ever}
+use Rattle.xet_records.proofs.RecordKinds.{file_laws, xorb_laws, laws_in, stored_ever}
 use Rattle.xet_core_structures.proofs.Records.RecordsAsRead.{all_handed}
 
 pub read_files_fit : {Z : Type 0} (version : FormatVersion) (old new : Source) (at : ℕ) (result : CoreResult (Vec MDBFileInfo Z)) → ReadsAll (file_records_in version) old new at result
@@ -58,3 +62,22 @@ next_file_fits Took version left after (Some file) reads =
     let K : RecordKind FileDataSequenceHeader MDBFileInfo = file_records_in version in
     let read = reads.reads in
     (stored_ever file_records version file (subst K.IsStored read.returned ((laws_in file_records file_laws version).as_read_stored read.stored read.is_stored))).whole
+
+-- and the next xorb has its chunks
+pub next_xorb_whole : (Took : List ℕ → Type 0) (version : FormatVersion) (left after : ℕ) (found : Option MDBXorbInfo)
+    → ReadsNextRecord (in_version xorb_records version) Took left after found → IfSome found HasItsChunks
+next_xorb_whole Took version left after None reads = tt
+next_xorb_whole Took version left after (Some xorb) reads =
+    let K : RecordKind XorbChunkSequenceHeader MDBXorbInfo = in_version xorb_records version in
+    let read = reads.reads in
+    (stored_ever xorb_records version xorb (subst K.IsStored read.returned ((laws_in xorb_records xorb_laws version).as_read_stored read.stored read.is_stored))).count
+
+-- what is said of a record that was read is said of the result
+pub of_result : {T E : Type 0} (r : Result T E) (P Q : T → Type 0) (Fails : E → Type 0) → ((v : T) → P v → Q v) → MatchResult r P Fails → IfOk r Q
+of_result (Ok v) P Q Fails weaker is = weaker v is
+of_result (Err e) P Q Fails weaker is = tt
+
+-- no more rows are left than before
+pub no_more_rows : {H R : Type 0} (K : RecordKind H R) (Took : List ℕ → Type 0) (left after : ℕ) (found : Option R) → ReadsNextRecord K Took left after found → after ≤ left
+no_more_rows K Took left after None reads = omega (arith, reads.stays)
+no_more_rows K Took left after (Some found) reads = omega (arith, reads.rows)

@@ -1,10 +1,10 @@
 -- What the answer to an inquiry says.
-use Rattle.std.specs.Prelude.{⊤, ℕ, List, length}
+use Rattle.std.specs.Prelude.{◌≡◌, ◌⊎◌, ⊤, Bool, true, false, ℕ, List, length}
 use Rattle.xet_core_structures.specs.declared.shard_format.MDBShardInfo.{MDBShardInfo}
 use Rattle.xet_core_structures.specs.Ends.{HasHeaderAndFooter}
 use Rattle.shard_bytes.specs.Checking.{IsWhole}
 use Rattle.mdb_report.specs.declared.inquiry.Inquiry.{Inquiry}
-use Rattle.mdb_report.specs.declared.inquiry.Inquiry.TheVariants.{Summary, Check, Find, Query}
+use Rattle.mdb_report.specs.declared.inquiry.Inquiry.TheVariants.{Summary, Brief, Check, Find, Query}
 use Rattle.mdb_report.specs.declared.parts.Parts.{Parts}
 use Rattle.mdb_report.specs.Parts.{PartsAscend}
 use Rattle.mdb_report.specs.Summary.{ArePartsOf}
@@ -20,6 +20,14 @@ abbrev pub LooksUp : Inquiry → Type 0
 LooksUp (Find hashes costs) = ⊤
 LooksUp (Query hashes) = ⊤
 LooksUp _ = ⊥
+
+-- nothing is to be said once all shards were asked, with their names or without: neither a total
+-- nor what was found in none
+abbrev pub SaysNoMore : Inquiry → Bool → Type 0
+SaysNoMore Brief named = ⊥
+SaysNoMore (Find hashes costs) named = (costs ≡ true) ⊎ (named ≡ false)
+SaysNoMore (Query hashes) named = named ≡ false
+SaysNoMore _ named = ⊤
 
 -- the parts that the footer of the bytes says ascend within them
 abbrev pub HasAscendingParts : List ℕ → Type 0

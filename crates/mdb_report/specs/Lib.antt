@@ -6,5 +6,6 @@ pub mod Pages
 pub mod Parts
 pub mod Problems
 pub mod Records
+pub mod Sections
 pub mod Summary
 pub mod Tables

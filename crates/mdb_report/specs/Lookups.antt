@@ -5,7 +5,7 @@ use Rattle.xet_core_structures.specs.declared.error.CoreError.TheVariants.{OutOf
 use Rattle.xet_core_structures.specs.declared.file_structs.FileDataSequenceEntry.{FileDataSequenceEntry}
 use Rattle.xet_core_structures.specs.declared.file_structs.MDBFileInfo.{MDBFileInfo}
 use Rattle.xet_core_structures.specs.declared.merklehash.DataHash.{DataHash}
-use Rattle.xet_core_structures.specs.Lookup.{FindsRecord, file_table}
+use Rattle.xet_core_structures.specs.Lookup.{FindsRecord, FindRecordFails, file_table}
 use Rattle.xet_core_structures.specs.SectionReading.{files_of}
 use Rattle.xet_core_structures.specs.declared.shard_format.MDBShardInfo.{MDBShardInfo}
 use Rattle.xet_core_structures.specs.RunReading.{QueryAnswer}
@@ -77,6 +77,14 @@ pub record ReportsFinding (info : MDBShardInfo) (hash : DataHash) (with_costs : 
   pub has_costs : is_some report.costs ≡ with_costs
   -- the costs in the report are those of the lookup
   pub costs_are : IfSome report.costs (λ c. c ≡ costs)
+
+-- why there is no report of a lookup between two states of a source: the lookup is refused, or
+-- memory is lacking
+abbrev pub FindingFails : MDBShardInfo → DataHash → Source → Source → CoreError → Type 0
+FindingFails info hash before after e =
+    FindRecordFails (files_of info) (file_table info.metadata before) info.metadata.file_info_offset
+    hash before after e
+    ⊎ (e ≡ OutOfMemory)
 
 -- the report of a run: how many chunks it has, and its segment
 abbrev pub run_of : ℕ × FileDataSequenceEntry → Run

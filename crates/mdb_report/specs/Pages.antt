@@ -1,9 +1,13 @@
 -- Bytes of which some pages are in memory.
-use Rattle.std.specs.Prelude.{◌≡◌, Bool, false, is_some, ℕ, ◌*◌, ◌<◌, ◌≤◌, List, map, length, take, replicate, slice_get, set, Option, None, Some}
+use Rattle.std.specs.Prelude.{◌≡◌, ⊤, Bool, false, is_some, ℕ, ◌*◌, ◌<◌, ◌≤◌, List, map, length, take, replicate, slice_get, set, Option, None, Some}
 use Rattle.std.specs.List.{concat}
 use Rattle.xet_core_structures.specs.Source.{Source}
+use Rattle.xet_core_structures.specs.declared.error.CoreError.{CoreError}
+use Rattle.xet_core_structures.specs.TwoShards.ByteResults.{LoadRefusal}
 use Rattle.xet_core_structures.specs.declared.merklehash.DataHash.{DataHash}
 use Rattle.xet_core_structures.specs.declared.shard_format.MDBShardInfo.{MDBShardInfo}
+use Rattle.mdb_report.specs.declared.inquiry.Trouble.{Trouble}
+use Rattle.mdb_report.specs.declared.inquiry.Trouble.TheVariants.{Shard, Ends, Input, TooManyRounds}
 use Rattle.mdb_report.specs.declared.lookup.FoundReport.{FoundReport}
 use Rattle.mdb_report.specs.declared.lookup.RunReport.{RunReport}
 use Rattle.mdb_report.specs.Lookups.{ReportsFinding, ReportsRun}
@@ -45,6 +49,27 @@ source_of pages = record {
   failures = 0;
   last_failure = None;
 }
+
+-- why there is no answer from pages: a call on what they have failed, for a cause that is none of
+-- theirs; or the file was not read, or after all rounds a page is still lacking
+abbrev pub IsTroubleWith : (CoreError → Type 0) → Trouble → Type 0
+IsTroubleWith Cause (Shard e) = Cause e
+IsTroubleWith Cause (Input e) = ⊤
+IsTroubleWith Cause TooManyRounds = ⊤
+IsTroubleWith Cause _ = ⊥
+
+-- why header and footer are not read from pages: the bytes have none; or the file was not read, or
+-- after all rounds a page is still lacking
+abbrev pub IsEndsTrouble : List ℕ → Trouble → Type 0
+IsEndsTrouble bytes (Ends e) = LoadRefusal bytes e
+IsEndsTrouble bytes (Input e) = ⊤
+IsEndsTrouble bytes TooManyRounds = ⊤
+IsEndsTrouble bytes _ = ⊥
+
+-- a call on pages failed, for a cause and not for a page that is lacking
+abbrev pub FailsInPages : (Source → Source → CoreError → Type 0) → Pages → CoreError → Type 0
+FailsInPages Fails pages e =
+    (after : Source) × (after.failures ≡ 0) × Fails (source_of pages) after e
 
 -- the report of a lookup of the hash in the pages, with its costs if they are wanted
 abbrev pub FindsInPages : MDBShardInfo → DataHash → Bool → Pages → FoundReport → Type 0

@@ -1,6 +1,6 @@
 //! Why a command failed, in words.
 
-ghost use Rattle.std.specs.Prelude.{◌≡◌, ◌⊎◌, ◌↔◌, ℕ, All, Contains, IsTrue, MatchOption, MatchResult};
+ghost use Rattle.std.specs.Prelude.{◌≡◌, ◌≢◌, ◌⊎◌, ◌↔◌, ℕ, All, Contains, IsTrue, MatchOption, MatchResult};
 ghost use Rattle.shard_bytes.specs.Checking.{IsFinding, IsWhole};
 ghost use Rattle.mdb_report.specs.Faults.{IsFaultOf, KeepsFrom, IsObstacle, IsUnderKey, IsUnderNoKey};
 
@@ -289,8 +289,8 @@ fn lacks_verification(error: &CoreError) -> bool {
 
 /// The fault behind an error of writing a shard's bytes in version 2.
 pub fn version_2_fault(alloc: Global, bytes: &[u8], error: CoreError) -> Fault
-    ensures is { (result ≡ Fault.HasAuxRow) ⊎ IsFaultOf bytes.now error result }
-    ensures aux_row { result ≡ Fault.HasAuxRow → error ≡ CoreError.InvalidArguments }
+    ensures aux_row { (result ≡ Fault.HasAuxRow) ↔ (error ≡ CoreError.InvalidArguments) }
+    ensures others { error ≢ CoreError.InvalidArguments → IsFaultOf bytes.now error result }
 {
     match error {
         CoreError::InvalidArguments => Fault::HasAuxRow,

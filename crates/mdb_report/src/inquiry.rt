@@ -1,9 +1,9 @@
 //! What a shard can be asked, and printing its answers.
 
-ghost use Rattle.std.specs.Prelude.{◌≡◌, ◌≢◌, ◌↔◌, is_some, IfOk, IsTrue};
+ghost use Rattle.std.specs.Prelude.{◌≡◌, ◌≢◌, ◌↔◌, is_some, IfOk, IsOk, IsTrue};
 ghost use Rattle.shard_bytes.specs.Checking.{IsWhole};
 ghost use Rattle.mdb_report.specs.Parts.{PartsAscend};
-ghost use Rattle.mdb_report.specs.Answers.{FindsProblems, LooksUp, IsClean, HasAscendingParts};
+ghost use Rattle.mdb_report.specs.Answers.{FindsProblems, LooksUp, IsClean, HasAscendingParts, SaysNoMore};
 
 use crate::brief::Brief;
 use crate::hex::{HashReport, Hex};
@@ -188,7 +188,9 @@ pub fn print_end<W: Write>(
     named: bool,
     tally: &Tally,
     output: &mut W,
-) -> io::Result<()> {
+) -> io::Result<()>
+    ensures { SaysNoMore inquiry.now named → IsOk result × (output.new ≡ output.old) }
+{
     let layout = Layout::plain(style);
     match inquiry {
         Inquiry::Brief => print(alloc, &tally.total, layout, output),

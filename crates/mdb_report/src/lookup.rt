@@ -2,9 +2,10 @@
 
 ghost use Rattle.std.specs.Prelude.{◌≡◌, None, IfOk, IfSome, IsNone, MatchResult, option_map};
 ghost use Rattle.xet_core_structures.specs.FileRecord.{FitsItsHeader};
+ghost use Rattle.xet_core_structures.specs.RunReading.{QueryRefused};
 ghost use Rattle.shard_bytes.specs.Finding.{RefusesFile};
 ghost use Rattle.shard_bytes.specs.Query.{RefusesQuery};
-ghost use Rattle.mdb_report.specs.Lookups.{FindsAt, FindsIn, ReportsLookup, ReportsFinding, ReportsQuery, ReportsRun, LookupRefusal, run_of};
+ghost use Rattle.mdb_report.specs.Lookups.{FindsAt, FindsIn, FindingFails, ReportsLookup, ReportsFinding, ReportsQuery, ReportsRun, LookupRefusal, run_of};
 
 use crate::counting::CountingSource;
 use crate::hex::Hex;
@@ -87,8 +88,10 @@ impl FoundReport {
         hash: MerkleHash,
         with_costs: bool,
     ) -> Result<FoundReport>
-        ensures { IfOk result (ReportsFinding info.now hash with_costs
-            (S.meaning source.old.source) (S.meaning source.new.source)) }
+        ensures { MatchResult result (ReportsFinding info.now hash with_costs
+            (S.meaning source.old.source) (S.meaning source.new.source))
+            (FindingFails info.now hash (S.meaning source.old.source)
+            (S.meaning source.new.source)) }
     {
         let (file, costs) = find_in(alloc, info, source, &hash)?;
         let found = match file {
@@ -110,8 +113,10 @@ fn find_in<S: ShardSource>(
     source: &mut CountingSource<S>,
     hash: &MerkleHash,
 ) -> Result<(Option<MDBFileInfo>, Costs)>
-    ensures finds { IfOk result (λ found. FindsIn info.now hash.now
-        (S.meaning source.old.source) (S.meaning source.new.source) found.0 found.1) }
+    ensures finds { MatchResult result (λ found. FindsIn info.now hash.now
+        (S.meaning source.old.source) (S.meaning source.new.source) found.0 found.1)
+        (FindingFails info.now hash.now (S.meaning source.old.source)
+        (S.meaning source.new.source)) }
     ensures fits { IfOk result (λ found. IfSome found.0 FitsItsHeader) }
 {
     let seeks = source.seeks();
@@ -195,8 +200,10 @@ impl RunReport {
         source: &mut S,
         hashes: &[MerkleHash],
     ) -> Result<RunReport>
-        ensures { IfOk result (ReportsRun info.now hashes.now
-            (S.meaning source.old) (S.meaning source.new)) }
+        ensures { MatchResult result (ReportsRun info.now hashes.now
+            (S.meaning source.old) (S.meaning source.new))
+            (QueryRefused info.now.metadata hashes.now (S.meaning source.old)
+            (S.meaning source.new)) }
     {
         let answer = info.chunk_hash_dedup_query(alloc, source, hashes)?;
         Ok(RunReport::of_answer(answer))

@@ -1,8 +1,12 @@
 //! A file of which pages are read as they are needed.
 
-ghost use Rattle.std.specs.Prelude.{IfOk};
+ghost use Rattle.std.specs.Prelude.{◌≡◌, ℕ, false, Some, IfOk, IfErr, IfSome, MatchResult};
+ghost use Rattle.std.specs.Io.KnownBytes.{Keeps};
+ghost use Rattle.std.specs.declared.io.Error.{Error as DeviceError};
 ghost use Rattle.xet_core_structures.specs.Ends.{HasHeaderAndFooter};
-ghost use Rattle.mdb_report.specs.Pages.{bytes_in, FindsInPages, QueriesPages};
+ghost use Rattle.xet_core_structures.specs.RunReading.{QueryRefused};
+ghost use Rattle.mdb_report.specs.Lookups.{FindingFails};
+ghost use Rattle.mdb_report.specs.Pages.{bytes_in, has_page, FindsInPages, QueriesPages, IsEndsTrouble, IsTroubleWith, FailsInPages};
 
 use crate::counting::CountingSource;
 use crate::inquiry::Trouble;
@@ -35,16 +39,23 @@ pub struct PagedFile<F: Read + Seek + Drop> {
 
 impl<F: Read + Seek + Drop> PagedFile<F> {
     /// A file of so many bytes, of which none is in memory.
-    pub fn new(alloc: Global, file: F, size: u64) -> Result<PagedFile<F>, AllocError> {
+    pub fn new(alloc: Global, file: F, size: u64) -> Result<PagedFile<F>, AllocError>
+        ensures file { IfOk result (λ paged. paged.file ≡ file) }
+        ensures size { IfOk result (λ paged. paged.pages.size ≡ size) }
+        ensures none { IfOk result (λ paged. (number : ℕ) → has_page paged.pages number ≡ false) }
+    {
         Ok(PagedFile {
             file,
             pages: Pages::new(alloc, size)?,
         })
     }
 
-    /// The header and the footer of the shard in the file. `Trouble::Ends` if they are not read.
+    /// The header and the footer of the shard in the file. `Trouble::Ends` if the bytes have none,
+    /// `Trouble::Input` if the file is not read, `Trouble::TooManyRounds` if a page is still
+    /// lacking after all the rounds.
     pub fn load(&mut self, alloc: Global) -> Result<MDBShardInfo, Trouble>
-        ensures { IfOk result (HasHeaderAndFooter (bytes_in self.new.pages)) }
+        ensures { MatchResult result (HasHeaderAndFooter (bytes_in self.new.pages))
+            (IsEndsTrouble (bytes_in self.new.pages)) }
     {
         for round in 0..ROUNDS {
             let mut source = PagedSource::new(&self.pages);
@@ -60,7 +71,9 @@ impl<F: Read + Seek + Drop> PagedFile<F> {
         Err(Trouble::TooManyRounds)
     }
 
-    /// Looks up a file in the shard, which has this header and footer.
+    /// Looks up a file in the shard, which has this header and footer. `Trouble::Shard` with an
+    /// error of the lookup, of the pages that are in memory then; `Trouble::Input` if the file is
+    /// not read, `Trouble::TooManyRounds` if a page is still lacking after all the rounds.
     pub fn find(
         &mut self,
         alloc: Global,
@@ -68,7 +81,8 @@ impl<F: Read + Seek + Drop> PagedFile<F> {
         hash: MerkleHash,
         costs: bool,
     ) -> Result<FoundReport, Trouble>
-        ensures { IfOk result (FindsInPages info.now hash costs self.new.pages) }
+        ensures { MatchResult result (FindsInPages info.now hash costs self.new.pages)
+            (IsTroubleWith (FailsInPages (FindingFails info.now hash) self.new.pages)) }
     {
         for round in 0..ROUNDS {
             let mut source = CountingSource::new(PagedSource::new(&self.pages));
@@ -84,14 +98,17 @@ impl<F: Read + Seek + Drop> PagedFile<F> {
         Err(Trouble::TooManyRounds)
     }
 
-    /// Looks for a run of chunks in the shard, which has this header and footer.
+    /// Looks for a run of chunks in the shard, which has this header and footer. The errors are
+    /// those of `find`.
     pub fn query(
         &mut self,
         alloc: Global,
         info: &MDBShardInfo,
         hashes: &[MerkleHash],
     ) -> Result<RunReport, Trouble>
-        ensures { IfOk result (QueriesPages info.now hashes.now self.new.pages) }
+        ensures { MatchResult result (QueriesPages info.now hashes.now self.new.pages)
+            (IsTroubleWith
+            (FailsInPages (QueryRefused info.now.metadata hashes.now) self.new.pages)) }
     {
         for round in 0..ROUNDS {
             let mut source = PagedSource::new(&self.pages);
@@ -107,8 +124,13 @@ impl<F: Read + Seek + Drop> PagedFile<F> {
         Err(Trouble::TooManyRounds)
     }
 
-    /// The file from an offset on, to be read to its end.
-    pub fn reader_at(self, offset: u64) -> Result<F, Trouble> {
+    /// The file from an offset on, to be read to its end. `Trouble::Input` if it cannot be sought.
+    pub fn reader_at(self, offset: u64) -> Result<F, Trouble>
+        ensures bytes { IfOk result (λ file. Keeps (F.stream_bytes self.file) (F.stream_bytes file)) }
+        ensures moved { IfOk result (λ file. IfSome (F.stream_position self.file)
+            (λ _. F.stream_position file ≡ Some offset)) }
+        ensures causes { IfErr result (λ trouble. (e : DeviceError) × (trouble ≡ Trouble.Input e)) }
+    {
         let PagedFile { mut file, .. } = self;
         match file.seek(SeekFrom::Start(offset)) {
             Ok(_) => Ok(file),
@@ -118,7 +140,9 @@ impl<F: Read + Seek + Drop> PagedFile<F> {
 
     // Reads pages from one on that a call lacked: one in each of the first rounds, and later twice
     // as many as in the round before, so that few rounds suffice for a long record.
-    fn read_from(&mut self, alloc: Global, first: usize, round: u32) -> Result<(), Trouble> {
+    fn read_from(&mut self, alloc: Global, first: usize, round: u32) -> Result<(), Trouble>
+        ensures { IfErr result (λ trouble. (e : DeviceError) × (trouble ≡ Trouble.Input e)) }
+    {
         let doubled = round.saturating_sub(SINGLE_ROUNDS).min(MOST_PAGES_LOG);
         let count = 1usize << doubled;
         for number in first..first.saturating_add(count) {

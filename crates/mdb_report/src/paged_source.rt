@@ -1,6 +1,6 @@
 //! A source of which only some pages are in memory.
 
-ghost use Rattle.std.specs.Prelude.{◌≡◌};
+ghost use Rattle.std.specs.Prelude.{◌≡◌, None};
 ghost use Rattle.mdb_report.specs.Pages.{bytes_in, source_of};
 
 use crate::pages::{PAGE_SIZE, Pages};
@@ -20,6 +20,7 @@ pub struct PagedSource<'a> {
     read: Count,
     failures: Count,
     last_failure: Option<io::Error>,
+    ghost works: { missing ≡ None → failures.value ≡ 0 },
 }
 
 impl<'a> PagedSource<'a> {

@@ -1,6 +1,6 @@
 //! Pages of a file that are in memory.
 
-ghost use Rattle.std.specs.Prelude.{◌≡◌, ◌+◌, ◌*◌, ◌<◌, ◌≤◌, length, take, drop, is_some, nat_eq, IfOk};
+ghost use Rattle.std.specs.Prelude.{◌≡◌, ℕ, false, ◌+◌, ◌*◌, ◌<◌, ◌≤◌, length, take, drop, is_some, nat_eq, IfOk};
 
 use std::alloc::{AllocError, Global};
 
@@ -27,7 +27,8 @@ impl Pages {
 
     /// So many bytes, of which no page is in memory.
     pub fn new(alloc: Global, size: u64) -> Result<Pages, AllocError>
-        ensures { IfOk result (λ pages. pages.size ≡ size) }
+        ensures size { IfOk result (λ pages. pages.size ≡ size) }
+        ensures none { IfOk result (λ pages. (number : ℕ) → has_page pages number ≡ false) }
     {
         let count = size as usize / PAGE_SIZE + 1;
         let mut pages = Vec::new(alloc);

@@ -1,7 +1,10 @@
 //! A section that is read from a file, one record after another.
 
-ghost use Rattle.std.specs.Prelude.{IfOk, IfSome};
-ghost use Rattle.xet_core_structures.specs.FileRecord.{FitsItsHeader};
+ghost use Rattle.std.specs.Prelude.{◌≡◌, IfOk, IfSome, MatchResult};
+ghost use Rattle.xet_core_structures.specs.FileRecord.{FitsItsHeader, file_records};
+ghost use Rattle.xet_core_structures.specs.XorbRecord.{HasItsChunks, xorb_records};
+ghost use Rattle.xet_records.specs.Limits.{MAX_ROWS};
+ghost use Rattle.mdb_report.specs.Sections.{ReadsNext, NextFails};
 
 use std::alloc::Global;
 use std::io::Read;
@@ -9,7 +12,7 @@ use xet_base::input::OfReader;
 use xet_core_structures::error::Result;
 use xet_core_structures::file_structs::MDBFileInfo;
 use xet_core_structures::xorb_structs::MDBXorbInfo;
-use xet_records::record_reader::{FormatVersion, read_record};
+use xet_records::record_reader::{FormatVersion, SectionRecord, read_record};
 
 /// A section of a shard, of which no more than a record is in memory.
 #[derive(Drop)]
@@ -22,7 +25,11 @@ pub struct Section<R: Read + Drop> {
 
 impl<R: Read + Drop> Section<R> {
     /// The section that a reader has next, in a version of the format.
-    pub fn new(reader: R, version: FormatVersion) -> Section<R> {
+    pub fn new(reader: R, version: FormatVersion) -> Section<R>
+        ensures reader { result.reader ≡ reader }
+        ensures version { result.version ≡ version }
+        ensures rows { result.rows_left ≡ MAX_ROWS }
+    {
         Section {
             reader,
             version,
@@ -36,22 +43,44 @@ impl<R: Read + Drop> Section<R> {
     /// file's header or the rows pass 4294967295. May fail with `OutOfMemory`. Any other error is
     /// the reader's.
     pub fn next_file(&mut self, alloc: Global) -> Result<Option<MDBFileInfo>>
-        ensures { IfOk result (λ found. IfSome found FitsItsHeader) }
+        ensures read { MatchResult result
+            (ReadsNext file_records R.remaining self.old.version self.old.rows_left self.old.reader
+            self.new.reader self.new.rows_left)
+            (NextFails file_records R.remaining self.old.version self.old.rows_left self.old.reader
+            self.new.reader) }
+        ensures version { self.new.version ≡ self.old.version }
+        ensures fits { IfOk result (λ found. IfSome found FitsItsHeader) }
     {
-        let mut rows = u64::from(self.rows_left);
-        let reader = &mut self.reader;
-        let file = read_record::<MDBFileInfo, OfReader, R>(alloc, reader, self.version, &mut rows)?;
-        self.rows_left = u32::try_from(rows).unwrap_or(0);
-        Ok(file)
+        self.next::<MDBFileInfo>(alloc)
     }
 
     /// The next xorb of a xorb section, or `None` at its bookend. The errors are those of
     /// `next_file`.
-    pub fn next_xorb(&mut self, alloc: Global) -> Result<Option<MDBXorbInfo>> {
+    pub fn next_xorb(&mut self, alloc: Global) -> Result<Option<MDBXorbInfo>>
+        ensures read { MatchResult result
+            (ReadsNext xorb_records R.remaining self.old.version self.old.rows_left self.old.reader
+            self.new.reader self.new.rows_left)
+            (NextFails xorb_records R.remaining self.old.version self.old.rows_left self.old.reader
+            self.new.reader) }
+        ensures version { self.new.version ≡ self.old.version }
+        ensures whole { IfOk result (λ found. IfSome found HasItsChunks) }
+    {
+        self.next::<MDBXorbInfo>(alloc)
+    }
+
+    // The next record, or `None` at the bookend.
+    fn next<T: SectionRecord>(&mut self, alloc: Global) -> Result<Option<T>>
+        ensures read { MatchResult result
+            (ReadsNext T.kind R.remaining self.old.version self.old.rows_left self.old.reader
+            self.new.reader self.new.rows_left)
+            (NextFails T.kind R.remaining self.old.version self.old.rows_left self.old.reader
+            self.new.reader) }
+        ensures version { self.new.version ≡ self.old.version }
+    {
         let mut rows = u64::from(self.rows_left);
         let reader = &mut self.reader;
-        let xorb = read_record::<MDBXorbInfo, OfReader, R>(alloc, reader, self.version, &mut rows)?;
+        let record = read_record::<T, OfReader, R>(alloc, reader, self.version, &mut rows)?;
         self.rows_left = u32::try_from(rows).unwrap_or(0);
-        Ok(xorb)
+        Ok(record)
     }
 }

@@ -1,6 +1,6 @@
-use Rattle.std.proofs.Common.{◌≡◌, length}
+use Rattle.std.proofs.Common.{◌≡◌, ℕ, length, replicate, None}
 use Rattle.mdb_report.proofs.pages.Pages.new.Given as goal
 
--- so many pages so far
+-- so many places so far, and no page in them
 abbrev pub invariant-loop : goal.invariant-loop
-invariant-loop l = length l.pages.items ≡ l.counter
+invariant-loop l = l.pages.items ≡ replicate l.counter None
