@@ -67,43 +67,44 @@ const VERSIONS: &[&str] = &["2", "3"];
 /// The version of the program.
 const VERSION: &str = "0.1.0, for versions 2 and 3 of the format";
 
+/// The names of the commands, in the order of the help.
+const NAMES: [&str; 14] = [
+    "info", "files", "xorbs", "chunks", "find", "query", "check", "union", "diff", "merge",
+    "export", "minimal", "subset", "eligible",
+];
+
 /// The command line of the program.
 pub fn command_line<'a>(alloc: Global) -> Result<Command<'a>, AllocError> {
-    let command = Command::new(alloc, "mdb")
+    let mut command = Command::new(alloc, "mdb")
         .bin_name("mdb")?
         .about("Looks into .mdb files, checks them, and makes new ones of them")
         .version(VERSION)
         .subcommand_required(true)
-        .arg_required_else_help(true)
-        .subcommand(info(alloc)?)?
-        .subcommand(listing(alloc, "files", "Lists the files", help::FILES)?)?
-        .subcommand(listing(alloc, "xorbs", "Lists the xorbs", help::XORBS)?)?
-        .subcommand(listing(
-            alloc,
-            "chunks",
-            "Lists the chunks of the xorbs",
-            help::CHUNKS,
-        )?)?
-        .subcommand(find(alloc)?)?
-        .subcommand(query(alloc)?)?
-        .subcommand(check(alloc)?)?;
-    command
-        .subcommand(union(alloc)?)?
-        .subcommand(diff(alloc)?)?
-        .subcommand(merge(alloc)?)?
-        .subcommand(export(alloc)?)?
-        .subcommand(minimal(alloc)?)?
-        .subcommand(subset(alloc)?)?
-        .subcommand(eligible(alloc)?)
+        .arg_required_else_help(true);
+    for name in NAMES {
+        if let Some(named) = subcommand(alloc, name)? {
+            command = command.subcommand(named)?;
+        }
+    }
+    Ok(command)
 }
 
 /// A command by its name, or the whole command line if none has it.
 pub fn command_named<'a>(alloc: Global, name: &str) -> Result<Command<'a>, AllocError> {
+    let Some(command) = subcommand(alloc, name)? else {
+        return command_line(alloc);
+    };
+    let bin_name = format!(in alloc; "mdb {name}")?;
+    command.bin_name(bin_name.as_str())
+}
+
+// A command by its name.
+fn subcommand<'a>(alloc: Global, name: &str) -> Result<Option<Command<'a>>, AllocError> {
     let command = match name {
         "info" => info(alloc)?,
         "files" => listing(alloc, "files", "Lists the files", help::FILES)?,
         "xorbs" => listing(alloc, "xorbs", "Lists the xorbs", help::XORBS)?,
-        "chunks" => listing(alloc, "chunks", "Lists the chunks", help::CHUNKS)?,
+        "chunks" => chunks(alloc)?,
         "find" => find(alloc)?,
         "query" => query(alloc)?,
         "check" => check(alloc)?,
@@ -114,20 +115,21 @@ pub fn command_named<'a>(alloc: Global, name: &str) -> Result<Command<'a>, Alloc
         "minimal" => minimal(alloc)?,
         "subset" => subset(alloc)?,
         "eligible" => eligible(alloc)?,
-        _ => return command_line(alloc),
+        _ => return Ok(None),
     };
-    let bin_name = format!(in alloc; "mdb {name}")?;
-    command.bin_name(bin_name.as_str())
+    Ok(Some(command))
 }
 
 fn info<'a>(alloc: Global) -> Result<Command<'a>, AllocError> {
     Command::new(alloc, "info")
         .about("Prints what headers and footers say")
         .after_help(help::INFO)
-        .arg(files(alloc)?)?
-        .arg(list(alloc))?
-        .arg(flag(alloc, id::BRIEF, "Prints a line for each, and a total"))?
-        .arg(json(alloc))
+        .args(vec![in alloc;
+            files(alloc)?,
+            list(alloc),
+            flag(alloc, id::BRIEF, "Prints a line for each, and a total"),
+            json(alloc),
+        ]?)
 }
 
 fn listing<'a>(
@@ -139,10 +141,21 @@ fn listing<'a>(
     Command::new(alloc, name)
         .about(about)
         .after_help(example)
-        .arg(files(alloc)?)?
-        .arg(list(alloc))?
-        .arg(flag(alloc, id::LONG, "Prints all that is known of each"))?
-        .arg(json(alloc))
+        .args(vec![in alloc;
+            files(alloc)?,
+            list(alloc),
+            flag(alloc, id::LONG, "Prints all that is known of each"),
+            json(alloc),
+        ]?)
+}
+
+fn chunks<'a>(alloc: Global) -> Result<Command<'a>, AllocError> {
+    listing(
+        alloc,
+        "chunks",
+        "Lists the chunks of the xorbs",
+        help::CHUNKS,
+    )
 }
 
 fn find<'a>(alloc: Global) -> Result<Command<'a>, AllocError> {
@@ -150,15 +163,17 @@ fn find<'a>(alloc: Global) -> Result<Command<'a>, AllocError> {
         .about("Looks files up by their hashes")
         .after_help(help::FIND)
         .override_usage(help::FIND_USAGE)
-        .arg(looked_in(alloc)?)?
-        .arg(list(alloc))?
-        .arg(hashes(alloc, "The files' hashes, of 64 hexadecimal digits each"))?
-        .arg(flag(
-            alloc,
-            id::COSTS,
-            "Prints the seeks and the bytes read of each lookup",
-        ))?
-        .arg(json(alloc))
+        .args(vec![in alloc;
+            looked_in(alloc)?,
+            list(alloc),
+            hashes(alloc, "The files' hashes, of 64 hexadecimal digits each"),
+            flag(
+                alloc,
+                id::COSTS,
+                "Prints the seeks and the bytes read of each lookup",
+            ),
+            json(alloc),
+        ]?)
 }
 
 fn query<'a>(alloc: Global) -> Result<Command<'a>, AllocError> {
@@ -166,112 +181,126 @@ fn query<'a>(alloc: Global) -> Result<Command<'a>, AllocError> {
         .about("Looks for a run of chunks in one xorb")
         .after_help(help::QUERY)
         .override_usage(help::QUERY_USAGE)
-        .arg(looked_in(alloc)?)?
-        .arg(list(alloc))?
-        .arg(hashes(
-            alloc,
-            "The chunks' hashes in order, of 64 hexadecimal digits each",
-        ))?
-        .arg(json(alloc))
+        .args(vec![in alloc;
+            looked_in(alloc)?,
+            list(alloc),
+            hashes(
+                alloc,
+                "The chunks' hashes in order, of 64 hexadecimal digits each",
+            ),
+            json(alloc),
+        ]?)
 }
 
 fn check<'a>(alloc: Global) -> Result<Command<'a>, AllocError> {
     Command::new(alloc, "check")
         .about("Checks that files are as the library would write them; exit status 3 if one is not")
         .after_help(help::CHECK)
-        .arg(files(alloc)?)?
-        .arg(list(alloc))?
-        .arg(flag(
-            alloc,
-            id::NAME,
-            "Checks too that each name is 64 hexadecimal digits and .mdb",
-        ))?
-        .arg(json(alloc))
+        .args(vec![in alloc;
+            files(alloc)?,
+            list(alloc),
+            flag(
+                alloc,
+                id::NAME,
+                "Checks too that each name is 64 hexadecimal digits and .mdb",
+            ),
+            json(alloc),
+        ]?)
 }
 
 fn union<'a>(alloc: Global) -> Result<Command<'a>, AllocError> {
     Command::new(alloc, "union")
         .about("Writes the union of two shards")
         .after_help(help::UNION)
-        .arg(positional(alloc, id::FIRST, "The first shard"))?
-        .arg(positional(alloc, id::SECOND, "The second shard"))?
-        .arg(version(alloc))?
-        .arg(output(alloc))
+        .args(vec![in alloc;
+            positional(alloc, id::FIRST, "The first shard"),
+            positional(alloc, id::SECOND, "The second shard"),
+            version(alloc),
+            output(alloc),
+        ]?)
 }
 
 fn diff<'a>(alloc: Global) -> Result<Command<'a>, AllocError> {
     Command::new(alloc, "diff")
         .about("Writes what the second of two shards has and the first has not")
         .after_help(help::DIFF)
-        .arg(positional(alloc, id::FIRST, "The first shard"))?
-        .arg(positional(alloc, id::SECOND, "The second shard"))?
-        .arg(version(alloc))?
-        .arg(output(alloc))
+        .args(vec![in alloc;
+            positional(alloc, id::FIRST, "The first shard"),
+            positional(alloc, id::SECOND, "The second shard"),
+            version(alloc),
+            output(alloc),
+        ]?)
 }
 
 fn merge<'a>(alloc: Global) -> Result<Command<'a>, AllocError> {
+    let by_key = option(
+        alloc,
+        id::FOLDER,
+        "by-key",
+        "The folder to write to, a shard for each key, by the key's name",
+    )
+    .conflicts_with(id::OUTPUT)?;
+    let output = output(alloc)
+        .required(false)
+        .required_unless_present(id::FOLDER)?;
     Command::new(alloc, "merge")
         .about("Writes the union of any number of shards; their expiries are not kept")
         .after_help(help::MERGE)
-        .arg(files(alloc)?)?
-        .arg(list(alloc))?
-        .arg(flag(
-            alloc,
-            id::STRICT,
-            "Fails with status 3 if two shards have different records with one hash",
-        ))?
-        .arg(flag(alloc, id::VERBOSE, "Reports each file as it is read"))?
-        .arg(option(
-            alloc,
-            id::EXPIRY,
-            "expiry",
-            "The time of expiry of what is written; without, there is none",
-        ))?
-        .arg(version(alloc))?
-        .arg(option(
-            alloc,
-            id::FOLDER,
-            "by-key",
-            "The folder to write to, a shard for each key, by the key's name",
-        )
-        .conflicts_with(id::OUTPUT)?)?
-        .arg(
-            output(alloc)
-                .required(false)
-                .required_unless_present(id::FOLDER)?,
-        )
+        .args(vec![in alloc;
+            files(alloc)?,
+            list(alloc),
+            flag(
+                alloc,
+                id::STRICT,
+                "Fails with status 3 if two shards have different records with one hash",
+            ),
+            flag(alloc, id::VERBOSE, "Reports each file as it is read"),
+            option(
+                alloc,
+                id::EXPIRY,
+                "expiry",
+                "The time of expiry of what is written; without, there is none",
+            ),
+            version(alloc),
+            by_key,
+            output,
+        ]?)
 }
 
 fn export<'a>(alloc: Global) -> Result<Command<'a>, AllocError> {
     Command::new(alloc, "export")
         .about("Writes a shard with its chunk hashes under a key")
         .after_help(help::EXPORT)
-        .arg(file(alloc))?
-        .arg(option(alloc, id::KEY, "key", "The key: 64 hexadecimal digits").required(true))?
-        .arg(option(alloc, id::NOW, "now", NOW))?
-        .arg(number(alloc, id::VALID, "valid", "The seconds until the expiry").required(true))?
-        .arg(flag(alloc, id::NO_FILES, "Leaves the files out"))?
-        .arg(flag(alloc, id::NO_AUX, "Leaves the files' auxiliary rows out"))?
-        .arg(flag(alloc, id::NO_XORB_TABLE, "Leaves the xorb table out"))?
-        .arg(flag(alloc, id::NO_CHUNK_TABLE, "Leaves the chunk table out"))?
-        .arg(version(alloc))?
-        .arg(output(alloc))
+        .args(vec![in alloc;
+            file(alloc),
+            option(alloc, id::KEY, "key", "The key: 64 hexadecimal digits").required(true),
+            option(alloc, id::NOW, "now", NOW),
+            number(alloc, id::VALID, "valid", "The seconds until the expiry").required(true),
+            flag(alloc, id::NO_FILES, "Leaves the files out"),
+            flag(alloc, id::NO_AUX, "Leaves the files' auxiliary rows out"),
+            flag(alloc, id::NO_XORB_TABLE, "Leaves the xorb table out"),
+            flag(alloc, id::NO_CHUNK_TABLE, "Leaves the chunk table out"),
+            version(alloc),
+            output(alloc),
+        ]?)
 }
 
 fn minimal<'a>(alloc: Global) -> Result<Command<'a>, AllocError> {
     Command::new(alloc, "minimal")
         .about("Writes a shard without tables, with marks on the chunks at which files start")
         .after_help(help::MINIMAL)
-        .arg(file(alloc))?
-        .arg(option(alloc, id::NOW, "now", NOW))?
-        .arg(flag(
-            alloc,
-            id::VERIFICATION,
-            "Keeps the files' verification rows",
-        ))?
-        .arg(flag(alloc, id::NO_AUX, "Leaves the files' auxiliary rows out"))?
-        .arg(version(alloc))?
-        .arg(output(alloc))
+        .args(vec![in alloc;
+            file(alloc),
+            option(alloc, id::NOW, "now", NOW),
+            flag(
+                alloc,
+                id::VERIFICATION,
+                "Keeps the files' verification rows",
+            ),
+            flag(alloc, id::NO_AUX, "Leaves the files' auxiliary rows out"),
+            version(alloc),
+            output(alloc),
+        ]?)
 }
 
 fn subset<'a>(alloc: Global) -> Result<Command<'a>, AllocError> {
@@ -284,21 +313,21 @@ fn subset<'a>(alloc: Global) -> Result<Command<'a>, AllocError> {
     Command::new(alloc, "subset")
         .about("Writes some of the xorbs of a shard, without files and tables")
         .after_help(help::SUBSET)
-        .arg(file(alloc))?
-        .arg(option(alloc, id::NOW, "now", NOW))?
-        .arg(option(alloc, id::EXPIRY, "expiry", "The time of expiry"))?
-        .arg(xorbs.action(ArgAction::Append))?
-        .arg(version(alloc))?
-        .arg(output(alloc))
+        .args(vec![in alloc;
+            file(alloc),
+            option(alloc, id::NOW, "now", NOW),
+            option(alloc, id::EXPIRY, "expiry", "The time of expiry"),
+            xorbs.action(ArgAction::Append),
+            version(alloc),
+            output(alloc),
+        ]?)
 }
 
 fn eligible<'a>(alloc: Global) -> Result<Command<'a>, AllocError> {
     Command::new(alloc, "eligible")
         .about("Lists the hashes of the chunks that the global index keeps, in ascending order")
         .after_help(help::ELIGIBLE)
-        .arg(files(alloc)?)?
-        .arg(list(alloc))?
-        .arg(json(alloc))
+        .args(vec![in alloc; files(alloc)?, list(alloc), json(alloc)]?)
 }
 
 fn positional<'a>(alloc: Global, id: &'a str, help: &'a str) -> Arg<'a> {

@@ -18,9 +18,9 @@ use std::rt::{Clock, Files};
 use xet_core_structures::error::CoreError;
 use xet_core_structures::merklehash::MerkleHash;
 
-/// Writes the merge of the shards in some files to a target. With `by_key` it writes a merge of those
-/// under each key to the folder at the target's path, by the digits of the key. If standard error is
-/// a terminal, it says there how far it has come.
+/// Writes the merge of the shards in some files to a target. With `by_key` it writes a merge of
+/// those under each key to the folder at the target's path, by the digits of the key. If standard
+/// error is a terminal, it says there how far it has come.
 pub fn merge_files<
     'a,
     R: Files + Input + Clock + Print + Eprint + RandomSource + AllocGlobal + Clone + Drop,

@@ -59,7 +59,7 @@ impl Progress {
         }
     }
 
-    /// Shows a stage in place of the last one: one that may take long, and cannot say how far it is.
+    /// Shows a stage in place of the last one, which may take long and cannot say how far it is.
     pub fn show<R: Eprint>(&mut self, rt: &R, stage: Stage) {
         if self.last.is_some() {
             let _ = rt.eprint(format_args!("\r\u{1b}[K{stage}"));

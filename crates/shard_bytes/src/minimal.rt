@@ -67,8 +67,8 @@ pub struct Subset {
     pub kept: KeptXorbs,
 }
 
-/// The bytes of the minimal shard of a shard, with these parts of its files, from its bytes: at most
-/// 200 more.
+/// The bytes of the minimal shard of a shard, with these parts of its files, from its bytes: at
+/// most 200 more.
 ///
 /// The errors are those of [`MDBMinimalShard::from_reader`], and of [`MDBMinimalShard::serialize`]
 /// or [`MDBMinimalShard::serialize_without_aux`].
