@@ -1,15 +1,17 @@
 //! Whether a shard has the tables by which lookups find its records.
 
-ghost use Rattle.std.specs.Prelude.{◌≡◌, true, false, IfOk, IfErr};
+ghost use Rattle.std.specs.Prelude.{◌≡◌, true, false, All, IfOk, IfErr};
 ghost use Rattle.mdb_report.specs.Records.{FilesRefusal};
-ghost use Rattle.mdb_report.specs.Tables.{LacksFileTable, HasFileTable};
+ghost use Rattle.mdb_report.specs.Tables.{LacksFileTable, HasFileTable, LacksChunkTable, HasChunkTable, XorbsRefusal, HaveChunks, HasNoChunks};
 
 use crate::records::read_files;
 use shard_bytes::load::load_bytes;
 use std::alloc::Global;
 use std::fmt;
 use xet_core_structures::error::Result;
+use xet_core_structures::shard_format::MDBShardInfo;
 use xet_core_structures::source::MemorySource;
+use xet_core_structures::xorb_structs::XorbChunkSequenceHeader;
 
 /// A table of a shard.
 #[derive(Clone, Copy, Debug, PartialEq, Eq)]
@@ -47,13 +49,30 @@ pub fn lacks_file_table(alloc: Global, bytes: &[u8]) -> Result<bool>
 /// Whether the bytes of a shard have chunks, but no rows in the chunk table, by which they would be
 /// found.
 ///
-/// The errors are those of [`load_bytes`] and of reading the xorb section.
-pub fn lacks_chunk_table(alloc: Global, bytes: &[u8]) -> Result<bool> {
-    let info = load_bytes(alloc, bytes)?;
+/// The errors are those of [`MDBShardInfo::load_from_reader`] and of reading the xorb section.
+pub fn lacks_chunk_table(alloc: Global, bytes: &[u8]) -> Result<bool>
+    ensures lacks { IfOk result (λ lacks. lacks ≡ true → LacksChunkTable bytes.now) }
+    ensures has { IfOk result (λ lacks. lacks ≡ false → HasChunkTable bytes.now) }
+    ensures refused { IfErr result (XorbsRefusal bytes.now) }
+{
+    let mut source = MemorySource::new(bytes);
+    let info = MDBShardInfo::load_from_reader(alloc, &mut source)?;
     if info.metadata.chunk_lookup_num_entry != 0 {
         return Ok(false);
     }
-    let mut source = MemorySource::new(bytes);
     let xorbs = info.read_all_xorb_blocks(alloc, &mut source)?;
-    Ok(xorbs.iter().any(|(header, _)| header.num_entries != 0))
+    Ok(any_has_chunks(xorbs.as_slice()))
+}
+
+// Whether one of these headers announces chunks.
+fn any_has_chunks(xorbs: &[(XorbChunkSequenceHeader, u64)]) -> bool
+    ensures some { result ≡ true → HaveChunks xorbs.now }
+    ensures none { result ≡ false → All HasNoChunks xorbs.now }
+{
+    for (header, _) in xorbs {
+        if header.num_entries != 0 {
+            return true;
+        }
+    }
+    false
 }
