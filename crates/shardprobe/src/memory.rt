@@ -30,13 +30,13 @@ pub fn run_on_shards(
             let xorb = parse_xorb(alloc, record)?;
             workspace.shard_mut(name)?.add_xorb_block(alloc, xorb)?;
         }
-        ["union", first, second, name] => {
+        ["union_in_memory", first, second, name] => {
             let union = workspace
                 .shard(first)?
                 .union(alloc, workspace.shard(second)?)?;
             workspace.put_shard(alloc, name, union)?;
         }
-        ["difference", first, second, name] => {
+        ["difference_in_memory", first, second, name] => {
             let difference = workspace
                 .shard(first)?
                 .difference(alloc, workspace.shard(second)?)?;
@@ -67,7 +67,7 @@ pub fn show_shards(
                 .get_file_reconstruction_info(alloc, &hash)?;
             print_found(&found, out)?;
         }
-        ["query", name, hashes @ ..] => {
+        ["query_in_memory", name, hashes @ ..] => {
             let hashes = parse_hashes(alloc, hashes)?;
             let run = workspace
                 .shard(name)?

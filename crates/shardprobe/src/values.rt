@@ -62,7 +62,7 @@ fn hash_of_bytes(alloc: Global, digits: &[&str]) -> Result<MerkleHash, Stop> {
 pub fn run_on_records(alloc: Global, words: &[&str], out: &mut Vec<u8>) -> Result<bool, Stop> {
     match words {
         ["flags", first, second] => print_flags(parse_u32(first)?, parse_u32(second)?, out)?,
-        ["merge", records @ ..] => print_merged(alloc, records, out)?,
+        ["merge_files", records @ ..] => print_merged(alloc, records, out)?,
         ["clone_file", record @ ..] => clone_file(alloc, record, out)?,
         ["clone_xorb", record @ ..] => clone_xorb(alloc, record, out)?,
         ["boundaries", record @ ..] => print_boundaries(alloc, record, out)?,
