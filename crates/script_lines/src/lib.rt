@@ -2,6 +2,7 @@
 //! output. For programs that read scripts; not part of the library.
 #![tactic(auto)]
 
+pub mod files_and_xorbs;
 pub mod lines;
 pub mod print;
 pub mod ranges;

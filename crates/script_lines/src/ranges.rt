@@ -3,7 +3,7 @@
 ghost use Rattle.std.specs.Prelude.{◌≡◌, ◌≤◌, ◌+◌, ◌↔◌, length, slice_range, string_bytes, IsOk, IfOk, IfErr};
 ghost use Rattle.script_lines.specs.Printed.{hex_text};
 
-use crate::words::ParseError;
+use crate::words::{ParseError, parse_u64};
 use std::alloc::{AllocError, Global};
 
 /// A range of `len` bytes, from the index `from` on.
@@ -11,6 +11,20 @@ use std::alloc::{AllocError, Global};
 pub struct ByteRange {
     pub from: u64,
     pub len: u64,
+}
+
+/// The range of words `FROM LEN`, or none if they are left out. `Unreadable` if there are other
+/// words.
+pub fn parse_range(words: &[&str]) -> Result<Option<ByteRange>, ParseError> {
+    match words {
+        [] => Ok(None),
+        [from, len] => {
+            let from = parse_u64(from)?;
+            let len = parse_u64(len)?;
+            Ok(Some(ByteRange { from, len }))
+        }
+        _ => Err(ParseError::Unreadable),
+    }
 }
 
 /// The bytes of a range. `Unreadable` if the range ends past the end of the bytes.

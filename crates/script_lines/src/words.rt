@@ -127,6 +127,20 @@ pub fn parse_flag(character: u8, letter: u8) -> Result<bool, ParseError>
     }
 }
 
+/// Whether each of these letters stands in a word at its place, or `-` in its stead. `Unreadable`
+/// if the word has anything else.
+pub fn parse_flags<const N: usize>(word: &str, letters: &[u8; N]) -> Result<[bool; N], ParseError> {
+    let characters = word.as_bytes();
+    if characters.len() != N {
+        return Err(ParseError::Unreadable);
+    }
+    let mut flags = [false; N];
+    for i in 0..N {
+        flags[i] = parse_flag(characters[i], letters[i])?;
+    }
+    Ok(flags)
+}
+
 /// The small hash of a number: the hash with the words number, 1, 0 and 0.
 pub fn small_hash(number: u64) -> MerkleHash
     ensures { words_of result ≡ small_words number }
@@ -153,4 +167,22 @@ pub fn parse_u32(word: &str) -> Result<u32, ParseError>
     ensures causes { IfErr result (λ e. e ≡ ParseError.Unreadable) }
 {
     u32::try_from(parse_u64(word)?).map_err(|_| ParseError::Unreadable)
+}
+
+/// The number of a word that may be left out. `Unreadable` if there are more words, or the word
+/// spells no number.
+pub fn parse_optional_u64(words: &[&str]) -> Result<Option<u64>, ParseError> {
+    match words {
+        [] => Ok(None),
+        [word] => Ok(Some(parse_u64(word)?)),
+        _ => Err(ParseError::Unreadable),
+    }
+}
+
+/// The number that a word spells, or none if it is `-`. `Unreadable` if it is neither.
+pub fn parse_u64_or_dash(word: &str) -> Result<Option<u64>, ParseError> {
+    if word == "-" {
+        return Ok(None);
+    }
+    Ok(Some(parse_u64(word)?))
 }

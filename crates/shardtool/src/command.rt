@@ -5,22 +5,21 @@ ghost use Rattle.script_lines.specs.Words.{IsSkipped};
 
 use crate::tree::{NameTree, parse_tree};
 use crate::write::Version;
+use script_lines::files_and_xorbs::{parse_file, parse_xorb};
 use script_lines::lines::{is_skipped, split_words};
-use script_lines::ranges::ByteRange;
-use script_lines::records::{
-    SizedChunk, parse_chunks, parse_hashes, parse_segments, parse_verification,
-};
+use script_lines::ranges::{ByteRange, parse_range};
+use script_lines::records::{Form, parse_hashes, parse_listed};
 use script_lines::words::{
-    ParseError, parse_flag, parse_hash, parse_key, parse_name, parse_u64, split_option,
+    ParseError, parse_flags, parse_hash, parse_key, parse_name, parse_optional_u64, parse_u64,
+    parse_u64_or_dash,
 };
 use shard_bytes::combine::Operation;
 use shard_bytes::export::{Export, ExportParts};
 use shard_bytes::minimal::{KeptXorbs, Subset};
 use std::alloc::Global;
-use xet_core_structures::file_structs::{
-    FileAuxExt, FileDataSequenceEntry, FileMetadataExt, FileVerificationEntry, KeptParts,
-};
+use xet_core_structures::file_structs::{KeptParts, MDBFileInfo};
 use xet_core_structures::merklehash::MerkleHash;
+use xet_core_structures::xorb_structs::MDBXorbInfo;
 
 /// A command. Its names are those in the line; whether they exist is not checked here.
 #[derive(Drop)]
@@ -32,13 +31,13 @@ pub enum Command<'a> {
     /// `xorb S HASH CHUNK:SIZE ..`: adds a xorb to a shard.
     Xorb {
         shard: &'a str,
-        xorb: XorbLine,
+        xorb: MDBXorbInfo,
     },
     /// `file S HASH [v=HASH,HASH..] [s=HASH] [x=HASH] XORB:START:END:BYTES ..`: adds a file to a
     /// shard.
     File {
         shard: &'a str,
-        file: FileLine,
+        file: MDBFileInfo,
     },
     /// `write S B [EXPIRY]`, or `write2 S B [EXPIRY]` for version 2: a shard's bytes into a buffer.
     Write {
@@ -107,26 +106,6 @@ pub enum Command<'a> {
     },
 }
 
-/// The xorb of a `xorb` line.
-#[derive(Drop)]
-pub struct XorbLine {
-    pub hash: MerkleHash,
-    pub chunks: Vec<SizedChunk>,
-}
-
-/// The file of a `file` line.
-#[derive(Drop)]
-pub struct FileLine {
-    pub hash: MerkleHash,
-    /// The rows of `v=`, if the line has it.
-    pub verification: Option<Vec<FileVerificationEntry>>,
-    /// The row of `s=`, if the line has it.
-    pub metadata_ext: Option<FileMetadataExt>,
-    /// The row of `x=`, if the line has it.
-    pub aux_ext: Option<FileAuxExt>,
-    pub segments: Vec<FileDataSequenceEntry>,
-}
-
 /// The command of a line without its line end, or `None` for an empty line or one that begins with
 /// `#`. `Unreadable` if the line is not UTF-8 or not a command.
 pub fn parse_line(alloc: Global, line: &[u8]) -> Result<Option<Command<'_>>, ParseError>
@@ -152,8 +131,8 @@ fn parse_words<'a>(alloc: Global, words: &[&'a str]) -> Result<Command<'a>, Pars
     };
     match *command {
         "shard" => parse_shard(arguments),
-        "xorb" => parse_xorb(alloc, arguments),
-        "file" => parse_file(alloc, arguments),
+        "xorb" => parse_xorb_line(alloc, arguments),
+        "file" => parse_file_line(alloc, arguments),
         "write" => parse_write(Version::V3, arguments),
         "write2" => parse_write(Version::V2, arguments),
         "union" => parse_combine(Operation::Union, arguments),
@@ -181,60 +160,33 @@ fn parse_shard<'a>(arguments: &[&'a str]) -> Result<Command<'a>, ParseError> {
     Ok(Command::Shard { shard })
 }
 
-fn parse_xorb<'a>(alloc: Global, arguments: &[&'a str]) -> Result<Command<'a>, ParseError> {
-    let [shard, hash, rest @ ..] = arguments else {
+fn parse_xorb_line<'a>(alloc: Global, arguments: &[&'a str]) -> Result<Command<'a>, ParseError> {
+    let [shard, record @ ..] = arguments else {
         return Err(ParseError::Unreadable);
     };
     let shard = parse_name(shard)?;
-    let hash = parse_hash(hash)?;
-    let chunks = parse_chunks(alloc, rest)?;
-    let xorb = XorbLine { hash, chunks };
+    let xorb = parse_xorb(alloc, record, Form::Plain)?;
     Ok(Command::Xorb { shard, xorb })
 }
 
-fn parse_file<'a>(alloc: Global, arguments: &[&'a str]) -> Result<Command<'a>, ParseError> {
-    let [shard, hash, rest @ ..] = arguments else {
+fn parse_file_line<'a>(alloc: Global, arguments: &[&'a str]) -> Result<Command<'a>, ParseError> {
+    let [shard, record @ ..] = arguments else {
         return Err(ParseError::Unreadable);
     };
     let shard = parse_name(shard)?;
-    let hash = parse_hash(hash)?;
-    let (list, rest) = split_option(rest, "v=");
-    let verification = match list {
-        Some(list) => Some(parse_verification(alloc, list)?),
-        None => None,
-    };
-    let (sha256, rest) = split_option(rest, "s=");
-    let metadata_ext = match sha256 {
-        Some(sha256) => Some(FileMetadataExt::new(parse_hash(sha256)?)),
-        None => None,
-    };
-    let (aux_hash, rest) = split_option(rest, "x=");
-    let aux_ext = match aux_hash {
-        Some(aux_hash) => Some(FileAuxExt::new(parse_hash(aux_hash)?)),
-        None => None,
-    };
-    let segments = parse_segments(alloc, rest)?;
-    let file = FileLine {
-        hash,
-        verification,
-        metadata_ext,
-        aux_ext,
-        segments,
-    };
+    let file = parse_file(alloc, record, Form::Plain)?;
     Ok(Command::File { shard, file })
 }
 
 fn parse_write<'a>(version: Version, arguments: &[&'a str]) -> Result<Command<'a>, ParseError> {
-    let (shard, buffer, expiry) = match arguments {
-        [shard, buffer] => (*shard, *buffer, None),
-        [shard, buffer, expiry] => (*shard, *buffer, Some(parse_u64(expiry)?)),
-        _ => return Err(ParseError::Unreadable),
+    let [shard, buffer, expiry @ ..] = arguments else {
+        return Err(ParseError::Unreadable);
     };
     Ok(Command::Write {
         version,
         shard: parse_name(shard)?,
         buffer: parse_name(buffer)?,
-        expiry,
+        expiry: parse_optional_u64(expiry)?,
     })
 }
 
@@ -282,14 +234,12 @@ fn parse_export<'a>(aux_ext: bool, arguments: &[&'a str]) -> Result<Command<'a>,
 }
 
 fn parse_parts(aux_ext: bool, word: &str) -> Result<ExportParts, ParseError> {
-    let [files, xorb_table, chunk_table] = word.as_bytes() else {
-        return Err(ParseError::Unreadable);
-    };
+    let [files, xorb_table, chunk_table] = parse_flags(word, b"fxc")?;
     Ok(ExportParts {
-        files: parse_flag(*files, b'f')?,
+        files,
         aux_ext,
-        xorb_table: parse_flag(*xorb_table, b'x')?,
-        chunk_table: parse_flag(*chunk_table, b'c')?,
+        xorb_table,
+        chunk_table,
     })
 }
 
@@ -297,15 +247,13 @@ fn parse_minimal<'a>(aux_ext: bool, arguments: &[&'a str]) -> Result<Command<'a>
     let [from, buffer, now, option] = arguments else {
         return Err(ParseError::Unreadable);
     };
-    let [verification] = option.as_bytes() else {
-        return Err(ParseError::Unreadable);
-    };
+    let [verification] = parse_flags(option, b"v")?;
     Ok(Command::Minimal {
         from: parse_name(from)?,
         buffer: parse_name(buffer)?,
         now: parse_u64(now)?,
         kept: KeptParts {
-            verification: parse_flag(*verification, b'v')?,
+            verification,
             aux_ext,
         },
     })
@@ -318,26 +266,17 @@ fn parse_subset<'a>(alloc: Global, arguments: &[&'a str]) -> Result<Command<'a>,
     let from = parse_name(from)?;
     let buffer = parse_name(buffer)?;
     let now = parse_u64(now)?;
-    let expiry = match *expiry {
-        "-" => None,
-        expiry => Some(parse_u64(expiry)?),
+    let expiry = parse_u64_or_dash(expiry)?;
+    let kept = match parse_listed(alloc, list)? {
+        Some(hashes) => KeptXorbs::Listed(hashes),
+        None => KeptXorbs::All,
     };
-    let kept = parse_kept(alloc, list)?;
     let subset = Subset { now, expiry, kept };
     Ok(Command::Subset {
         from,
         buffer,
         subset,
     })
-}
-
-// The xorbs of a list: `*` alone is all of them.
-fn parse_kept(alloc: Global, list: &[&str]) -> Result<KeptXorbs, ParseError> {
-    match list {
-        [] => Err(ParseError::Unreadable),
-        ["*"] => Ok(KeptXorbs::All),
-        list => Ok(KeptXorbs::Listed(parse_hashes(alloc, list)?)),
-    }
 }
 
 fn parse_eligible<'a>(arguments: &[&'a str]) -> Result<Command<'a>, ParseError> {
@@ -375,15 +314,10 @@ fn parse_size<'a>(arguments: &[&'a str]) -> Result<Command<'a>, ParseError> {
 }
 
 fn parse_hex<'a>(arguments: &[&'a str]) -> Result<Command<'a>, ParseError> {
-    let (buffer, range) = match arguments {
-        [buffer] => (*buffer, None),
-        [buffer, from, len] => {
-            let from = parse_u64(from)?;
-            let len = parse_u64(len)?;
-            (*buffer, Some(ByteRange { from, len }))
-        }
-        _ => return Err(ParseError::Unreadable),
+    let [buffer, range @ ..] = arguments else {
+        return Err(ParseError::Unreadable);
     };
     let buffer = parse_name(buffer)?;
+    let range = parse_range(range)?;
     Ok(Command::Hex { buffer, range })
 }
