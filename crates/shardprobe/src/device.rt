@@ -3,6 +3,8 @@
 
 ghost use Rattle.std.specs.Prelude.{◌≡◌, ◌≤◌, ◌<◌, ◌+◌, IfNone, IfSome, Some};
 
+use crate::stop::Stop;
+use script_lines::words::parse_u64;
 use std::alloc::{AllocError, Global};
 use std::io;
 use std::io::{ErrorKind, Read, Write};
@@ -57,6 +59,16 @@ impl Plan {
         Plan { fault, ..self }
     }
 
+    /// The same plan, but with the failure of the call of this number, of whatever kind.
+    pub fn failing_at(self, turn: u64) -> Plan {
+        let fault = Some(Fault {
+            operation: Operation::Call,
+            turn,
+            kind: ErrorKind::Other,
+        });
+        Plan { fault, ..self }
+    }
+
     // The failure of the next call, if it is the one that fails.
     fn failure_of(&mut self, operation: Operation) -> Option<io::Error> {
         let fault = self.fault?;
@@ -91,6 +103,34 @@ pub struct Fault {
     pub kind: ErrorKind,
 }
 
+impl Fault {
+    /// The failure that words `OPERATION TURN KIND` tell; its kind is `Other` if it is left out.
+    pub fn parse(words: &[&str]) -> Result<Fault, Stop> {
+        let (operation, turn, kind) = match words {
+            [operation, turn] => (operation, turn, "Other"),
+            [operation, turn, kind] => (operation, turn, *kind),
+            _ => return Err(Stop::Unreadable),
+        };
+        Ok(Fault {
+            operation: Operation::parse(operation)?,
+            turn: parse_u64(turn)?,
+            kind: parse_kind(kind)?,
+        })
+    }
+}
+
+fn parse_kind(word: &str) -> Result<ErrorKind, Stop> {
+    match word {
+        "Other" => Ok(ErrorKind::Other),
+        "Interrupted" => Ok(ErrorKind::Interrupted),
+        "BrokenPipe" => Ok(ErrorKind::BrokenPipe),
+        "UnexpectedEof" => Ok(ErrorKind::UnexpectedEof),
+        "OutOfMemory" => Ok(ErrorKind::OutOfMemory),
+        "WriteZero" => Ok(ErrorKind::WriteZero),
+        _ => Err(Stop::Unreadable),
+    }
+}
+
 /// A kind of call of a device.
 #[derive(Clone, Copy, PartialEq, Eq)]
 pub enum Operation {
@@ -103,22 +143,42 @@ pub enum Operation {
     Call,
 }
 
+impl Operation {
+    fn parse(word: &str) -> Result<Operation, Stop> {
+        match word {
+            "read" => Ok(Operation::Read),
+            "seek" => Ok(Operation::Seek),
+            "length" => Ok(Operation::Length),
+            "position" => Ok(Operation::Position),
+            "write" => Ok(Operation::Write),
+            "call" => Ok(Operation::Call),
+            _ => Err(Stop::Unreadable),
+        }
+    }
+}
+
 /// A source that counts its seeks and bytes, and fails once by its plan.
 #[derive(Drop)]
 pub struct Device<'a> {
+    /// The bytes of the source.
+    pub bytes: &'a [u8],
     inner: MemorySource<'a>,
     plan: Plan,
-    seeks_made: u64,
-    bytes_read: u64,
+    /// The seeks that were made, failed ones too.
+    pub seeks_made: u64,
+    /// The bytes that were read.
+    pub bytes_read: u64,
     seeks: Count,
     failures: Count,
-    last_failure: Option<io::Error>,
+    /// The error of the last call that failed by the plan.
+    pub last_failure: Option<io::Error>,
 }
 
 impl<'a> Device<'a> {
     /// A source at the first of these bytes.
     pub fn new(bytes: &'a [u8], plan: Plan) -> Device<'a> {
         Device {
+            bytes,
             inner: MemorySource::new(bytes),
             plan,
             seeks_made: 0,
@@ -127,21 +187,6 @@ impl<'a> Device<'a> {
             failures: Count::new(),
             last_failure: None,
         }
-    }
-
-    /// The seeks that were made, failed ones too.
-    pub fn seeks_made(&self) -> u64 {
-        self.seeks_made
-    }
-
-    /// The bytes that were read.
-    pub fn bytes_read(&self) -> u64 {
-        self.bytes_read
-    }
-
-    /// Whether a call failed.
-    pub fn has_failed(&self) -> bool {
-        self.last_failure.is_some()
     }
 
     // The failure of this call, if the plan has one.
@@ -213,9 +258,11 @@ impl Read for Device<'_> {
 /// An output to memory that fails once by its plan.
 #[derive(Drop)]
 pub struct Output {
-    bytes: Vec<u8>,
+    /// What was written.
+    pub bytes: Vec<u8>,
     plan: Plan,
-    has_failed: bool,
+    /// Whether a write failed.
+    pub has_failed: bool,
 }
 
 impl Output {
@@ -226,21 +273,6 @@ impl Output {
             plan,
             has_failed: false,
         })
-    }
-
-    /// Whether a write failed.
-    pub fn has_failed(&self) -> bool {
-        self.has_failed
-    }
-
-    /// Drops what was written.
-    pub fn clear(&mut self) {
-        self.bytes.clear();
-    }
-
-    /// What was written.
-    pub fn into_bytes(self) -> Vec<u8> {
-        self.bytes
     }
 }
 
@@ -262,13 +294,4 @@ impl Write for Output {
     fn flush(&mut self) -> io::Result<()> {
         Ok(())
     }
-}
-
-// More bytes than any machine has.
-const MARK: usize = 1 << 46;
-
-/// Asks for memory that is never there. `.ci/refusals` sees by such requests where a call of the
-/// library begins and ends.
-pub fn mark(alloc: Global) {
-    let _refused: Result<Vec<u8>, AllocError> = Vec::with_capacity(alloc, MARK);
 }

@@ -2,16 +2,11 @@
 //! calls the library and compares. So a worked example is a line of data.
 #![tactic(auto)]
 
-mod agreement;
 mod buffers;
-mod codecs;
 mod device;
-mod exports;
 mod fields;
-mod lookup;
-mod memory;
 mod minimal;
-mod parse;
+mod probe;
 mod reading;
 mod rows;
 mod runs;
@@ -19,11 +14,11 @@ mod script;
 mod search;
 mod sections;
 mod sets;
+mod shards;
 mod show;
 mod stop;
 mod values;
 mod views;
-mod workspace;
 mod writing;
 
 use std::io;

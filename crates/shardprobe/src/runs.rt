@@ -1,128 +1,199 @@
-//! Runs of a command through devices: one, or one for each call of a device that can fail.
+//! Commands that run through devices: once, or once for each call of a device that can fail.
 
-use crate::device::{Fault, Operation, Plan};
-use crate::reading::run_reading;
+use crate::device::{Device, Output, Plan, Target};
+use crate::probe::Probe;
 use crate::stop::Stop;
-use crate::workspace::Workspace;
-use crate::writing::{output_of, run_writing};
 use std::alloc::Global;
-use std::io;
-use std::io::{ErrorKind, Write};
+use std::io::Write;
+use xet_core_structures::source::ShardSource;
 
-/// The result of a run, what it cost, and the bytes that it wrote, also if it failed.
+/// A command that runs through devices: a source for each input, an output, and its result.
 #[derive(Drop)]
-pub struct Report {
-    pub answer: Result<(), Stop>,
-    pub seeks_made: u64,
-    pub bytes_read: u64,
-    /// Whether a device failed.
-    pub has_failed: bool,
-    pub written: Vec<u8>,
+pub struct Run<'a> {
+    pub alloc: Global,
+    pub first: Device<'a>,
+    pub second: Device<'a>,
+    pub output: Output,
+    answer: Result<(), Stop>,
 }
 
-/// Runs a command through devices.
-pub fn run_once(
-    workspace: &Workspace,
-    alloc: Global,
-    plan: Plan,
-    words: &[&str],
-    out: &mut Vec<u8>,
-) -> Result<Report, Stop> {
-    match output_of(words) {
-        Some(_) => run_writing(workspace, alloc, plan, words, out),
-        None => run_reading(workspace, alloc, plan, words, out),
+impl Run<'_> {
+    fn has_failed(&self) -> bool {
+        self.first.last_failure.is_some()
+            || self.second.last_failure.is_some()
+            || self.output.has_failed
+    }
+
+    // Makes the call of a command, and prints what it returns.
+    fn call(&mut self, words: &[&str], out: &mut Vec<u8>) -> Result<(), Stop> {
+        match kind_of(words) {
+            Kind::Combining => self.combine(words, out),
+            Kind::Exporting => self.export(words, out),
+            Kind::WritingMinimal => self.write_minimal(words, out),
+            Kind::ReadingOn | Kind::Reading => self.read(words, out),
+        }
     }
 }
 
-/// Runs a command with each call of a device failing in turn, until a run meets no failure. Prints
-/// how many failed and the last results of these runs, one if they are all the same, `as below` if
-/// they are that of the run without failure, and then the output of that run. The result of a
-/// command that ran once more ends in `other bytes` if it did not write those of that run.
-pub fn run_each_failure(
-    workspace: &Workspace,
-    alloc: Global,
-    plan: Plan,
-    words: &[&str],
-    out: &mut Vec<u8>,
-) -> Result<(), Stop> {
-    let works = Plan {
-        fault: None,
-        ..plan
-    };
-    let wanted = run_once(workspace, alloc, works, words, &mut Vec::new(alloc))?;
-    let mut answers = Vec::new(alloc);
-    let mut last = Vec::new(alloc);
-    for turn in 1..u64::MAX {
-        let mut printed = Vec::new(alloc);
-        let plan = failing(plan, turn);
-        let report = run_once(workspace, alloc, plan, words, &mut printed)?;
-        let Report {
-            answer,
-            has_failed,
-            written,
+// What a command does with its devices.
+#[derive(Clone, Copy, PartialEq, Eq)]
+enum Kind {
+    // Reads two sources, and writes.
+    Combining,
+    // These two read one source from where it is, and write.
+    Exporting,
+    WritingMinimal,
+    // Reads one source from where it is.
+    ReadingOn,
+    // Reads one source at any place.
+    Reading,
+}
+
+fn kind_of(words: &[&str]) -> Kind {
+    match words {
+        ["set_union" | "set_difference", ..] => Kind::Combining,
+        [
+            "export" | "drop" | "export_streaming" | "drop_streaming",
             ..
-        } = report;
-        if !has_failed {
-            return finish(
-                turn - 1,
-                answers.as_slice(),
-                answer,
-                printed.as_slice(),
-                out,
-            );
-        }
-        if let Err(stop) = answer {
-            write!(printed, "{stop}")?;
-        }
-        if plan.runs_again && written != wanted.written {
-            write!(printed, "other bytes")?;
-        }
-        if printed != last {
-            write_separated(&mut answers, printed.as_slice())?;
-            last = printed;
-        }
-    }
-    Ok(())
-}
-
-// The plan in which the call of this number fails.
-fn failing(plan: Plan, turn: u64) -> Plan {
-    Plan {
-        fault: Some(Fault {
-            operation: Operation::Call,
-            turn,
-            kind: ErrorKind::Other,
-        }),
-        ..plan
+        ] => Kind::Exporting,
+        ["minimal" | "dropmin" | "subset" | "subset_only", ..] => Kind::WritingMinimal,
+        ["minimal_sums" | "minimal_records" | "minimal_eligible", ..] => Kind::ReadingOn,
+        ["eligible_chunks", ..] => Kind::ReadingOn,
+        _ => Kind::Reading,
     }
 }
 
-// Prints the results of the runs with a failure, and then the output of the run without one.
-fn finish(
-    count: u64,
-    answers: &[u8],
-    last: Result<(), Stop>,
-    printed: &[u8],
-    out: &mut Vec<u8>,
-) -> Result<(), Stop> {
-    if let Err(Stop::Unreadable) = last {
-        return last;
+// The buffer that a command writes, or `None` if it writes none.
+fn output_of<'a>(words: &[&'a str]) -> Option<&'a str> {
+    match (kind_of(words), words) {
+        (Kind::Combining, [_, _, _, name, ..]) => Some(*name),
+        (Kind::Exporting | Kind::WritingMinimal, [_, _, name, ..]) => Some(*name),
+        _ => None,
     }
-    let is_same = last.is_ok() && answers == printed;
-    print_failures(count, if is_same { b"as below" } else { answers }, out)?;
-    out.extend_from_slice(printed)?;
-    last
 }
 
-fn write_separated(answers: &mut Vec<u8>, answer: &[u8]) -> io::Result<()> {
-    if !answers.is_empty() {
-        write!(answers, "; ")?;
+impl Probe {
+    /// Runs a command through devices, and stores what it wrote, also if it failed. Prints why it
+    /// failed, and its costs if they are switched on.
+    pub fn run_through_devices(&mut self, words: &[&str], out: &mut Vec<u8>) -> Result<(), Stop> {
+        let written = self.run_shown(words, out)?;
+        match output_of(words) {
+            Some(name) => self.put_buffer(name, written),
+            None => Ok(()),
+        }
     }
-    answers.write_all(answer)
-}
 
-fn print_failures(count: u64, answers: &[u8], out: &mut Vec<u8>) -> io::Result<()> {
-    write!(out, "failed {count}: ")?;
-    out.write_all(answers)?;
-    writeln!(out)
+    // The bytes that a command writes through devices.
+    fn run_shown(&self, words: &[&str], out: &mut Vec<u8>) -> Result<Vec<u8>, Stop> {
+        let run = self.run_once(words, self.plan, out)?;
+        match &run.answer {
+            Ok(()) => {}
+            Err(Stop::Unreadable) => return Err(Stop::Unreadable),
+            Err(stop) => writeln!(out, "{stop}")?,
+        }
+        if self.shows_costs {
+            let seeks = run.first.seeks_made.saturating_add(run.second.seeks_made);
+            let read = run.first.bytes_read.saturating_add(run.second.bytes_read);
+            writeln!(out, "seeks {seeks} read {read}")?;
+        }
+        Ok(run.output.bytes)
+    }
+
+    // Runs a command through devices that work by a plan, once more if one fails and the plan says
+    // so. Stores nothing.
+    fn run_once(&self, words: &[&str], plan: Plan, out: &mut Vec<u8>) -> Result<Run<'_>, Stop> {
+        let kind = kind_of(words);
+        let (first, second): (&[u8], &[u8]) = match (kind, words) {
+            (Kind::Combining, [_, first, second, ..]) => {
+                (self.buffer(first)?, self.buffer(second)?)
+            }
+            (_, [_, first, ..]) => (self.buffer(first)?, &[]),
+            _ => return Err(Stop::Unreadable),
+        };
+        let mut run = Run {
+            alloc: self.alloc,
+            first: Device::new(first, plan.of(Target::First)),
+            second: Device::new(second, plan.of(Target::Second)),
+            output: Output::new(self.alloc, plan.of(Target::Output))?,
+            answer: Ok(()),
+        };
+        let start = out.len();
+        run.answer = run.call(words, out);
+        if plan.runs_again && run.has_failed() {
+            if !matches!(kind, Kind::Combining | Kind::Reading) {
+                run.first.seek_to(0)?;
+            }
+            run.output.bytes.clear();
+            out.truncate(start);
+            run.answer = run.call(words, out);
+        }
+        Ok(run)
+    }
+
+    /// Runs a command with each call of a device failing in turn, by `each_failure COMMAND ..` or
+    /// `each_failure_again COMMAND ..`, and prints what these runs print, `as below` if it is that
+    /// of the run without failure, and then what this prints. `false` if the words are no such
+    /// command.
+    pub fn run_each_failure(&self, words: &[&str], out: &mut Vec<u8>) -> Result<bool, Stop> {
+        let (words, runs_again) = match words {
+            ["each_failure", words @ ..] => (words, false),
+            ["each_failure_again", words @ ..] => (words, true),
+            _ => return Ok(false),
+        };
+        let plan = Plan {
+            fault: None,
+            runs_again,
+            ..self.plan
+        };
+        let mut printed = Vec::new(self.alloc);
+        let wanted = self.run_once(words, plan, &mut printed)?;
+        if let Err(Stop::Unreadable) = wanted.answer {
+            return Err(Stop::Unreadable);
+        }
+        let (count, answers) = self.run_failing(words, plan, wanted.output.bytes.as_slice())?;
+        let is_same = wanted.answer.is_ok() && answers == printed;
+        write!(out, "failed {count}: ")?;
+        match is_same {
+            true => write!(out, "as below")?,
+            false => out.write_all(answers.as_slice())?,
+        }
+        writeln!(out)?;
+        out.write_all(printed.as_slice())?;
+        wanted.answer?;
+        Ok(true)
+    }
+
+    // Runs a command with the 1st, 2nd .. call of a device failing, until a run meets no failure:
+    // how many failed, and what these runs printed, once if it is the same. What a command prints
+    // that ran once more ends in `other bytes` if it did not write these.
+    fn run_failing(
+        &self,
+        words: &[&str],
+        plan: Plan,
+        wanted: &[u8],
+    ) -> Result<(u64, Vec<u8>), Stop> {
+        let mut answers = Vec::new(self.alloc);
+        let mut last = Vec::new(self.alloc);
+        for turn in 1..u64::MAX {
+            let mut printed = Vec::new(self.alloc);
+            let run = self.run_once(words, plan.failing_at(turn), &mut printed)?;
+            if !run.has_failed() {
+                return Ok((turn - 1, answers));
+            }
+            if let Err(stop) = &run.answer {
+                write!(printed, "{stop}")?;
+            }
+            if plan.runs_again && run.output.bytes.as_slice() != wanted {
+                write!(printed, "other bytes")?;
+            }
+            if printed != last {
+                if !answers.is_empty() {
+                    write!(answers, "; ")?;
+                }
+                answers.write_all(printed.as_slice())?;
+                last = printed;
+            }
+        }
+        Ok((u64::MAX, answers))
+    }
 }

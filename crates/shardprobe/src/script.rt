@@ -1,29 +1,14 @@
-//! Running a script line by line.
+//! Running a script line by line. A row is a command, and behind ` => ` what it has to print.
 
-use crate::agreement::run_on_agreement;
-use crate::buffers::{run_on_buffers, show_buffers};
-use crate::codecs::run_codecs;
-use crate::device::{Fault, Operation, Plan, Target};
-use crate::memory::{run_on_shards, show_shards};
-use crate::minimal::print_endless;
-use crate::rows::{push_printed, split_row};
-use crate::runs::{Report, run_each_failure, run_once};
-use crate::search::make_table;
-use crate::sections::show_sections;
-use crate::sets::unite_tree;
+use crate::probe::Probe;
 use crate::stop::Stop;
-use crate::values::{run_on_records, run_on_values};
-use crate::views::show_views;
-use crate::workspace::Workspace;
-use crate::writing::output_of;
 use script_lines::lines::{is_skipped, split_words, without_end};
-use script_lines::words::parse_u64;
 use std::alloc::{AllocError, Global};
-use std::io::{BufRead, BufReader, ErrorKind, Read, Write};
+use std::io::{BufRead, BufReader, Read, Write};
 use std::{io, str};
 
 // The bytes of a line, and of what it prints, for which there is room before the first line is
-// read.
+// read. So all that is allocated while a line runs is allocated by its command.
 const ROOM: usize = 1 << 20;
 
 /// Runs the rows of `input`, one a line, and writes to `output` the headings, a line for each row
@@ -42,9 +27,12 @@ pub fn run_script<R: Read, W: Write>(
         if lines.read_until(b'\n', &mut line)? == 0 {
             break;
         }
-        script.run_line(alloc, number, without_end(line.as_slice()), output)?;
+        script.run_line(number, without_end(line.as_slice()), output)?;
     }
-    script.print_count(output)?;
+    if script.compares {
+        let rows = script.rows;
+        writeln!(output, "{rows} rows")?;
+    }
     output.flush()
 }
 
@@ -59,7 +47,6 @@ struct Script {
 }
 
 impl Script {
-    // With this room, all that is allocated while a line runs is allocated by its command.
     fn new(alloc: Global) -> Result<Script, AllocError> {
         Ok(Script {
             probe: Probe::new(alloc),
@@ -70,13 +57,7 @@ impl Script {
         })
     }
 
-    fn run_line<W: Write>(
-        &mut self,
-        alloc: Global,
-        number: u64,
-        line: &[u8],
-        output: &mut W,
-    ) -> io::Result<()> {
+    fn run_line<W: Write>(&mut self, number: u64, line: &[u8], output: &mut W) -> io::Result<()> {
         if is_skipped(line) {
             return Ok(());
         }
@@ -90,37 +71,19 @@ impl Script {
             self.compares = false;
             return Ok(());
         }
-        self.run_row(alloc, number, text, output)
+        self.run_row(number, text, output)
     }
 
-    fn run_row<W: Write>(
-        &mut self,
-        alloc: Global,
-        number: u64,
-        row: &str,
-        output: &mut W,
-    ) -> io::Result<()> {
+    fn run_row<W: Write>(&mut self, number: u64, row: &str, output: &mut W) -> io::Result<()> {
         let (command, wanted) = split_row(row);
         self.printed.clear();
-        if let Err(stop) = self.probe.run(alloc, command, &mut self.printed) {
+        if let Err(stop) = self.run_command(command) {
             writeln!(self.printed, "{stop}")?;
         }
         self.rows = self.rows.saturating_add(1);
-        if self.compares {
-            self.compare(number, command, wanted, output)
-        } else {
-            output.write_all(self.printed.as_slice())
+        if !self.compares {
+            return output.write_all(self.printed.as_slice());
         }
-    }
-
-    // Prints a line if the last command printed anything else than it had to.
-    fn compare<W: Write>(
-        &mut self,
-        number: u64,
-        command: &str,
-        wanted: &str,
-        output: &mut W,
-    ) -> io::Result<()> {
         self.came.clear();
         push_printed(self.printed.as_slice(), &mut self.came)?;
         if self.came.as_slice() == wanted.as_bytes() {
@@ -131,162 +94,33 @@ impl Script {
         writeln!(output)
     }
 
-    fn print_count<W: Write>(&self, output: &mut W) -> io::Result<()> {
-        if !self.compares {
-            return Ok(());
-        }
-        let rows = self.rows;
-        writeln!(output, "{rows} rows")
+    fn run_command(&mut self, command: &str) -> Result<(), Stop> {
+        let words = split_words(self.probe.alloc, command)?;
+        self.probe.run(words.as_slice(), &mut self.printed)
     }
 }
 
-/// The shards and buffers made so far, and how the device works.
-#[derive(Drop)]
-struct Probe {
-    workspace: Workspace,
-    plan: Plan,
-    shows_costs: bool,
-}
+// How a row says that its command prints nothing.
+const NOTHING: &str = "nothing";
 
-impl Probe {
-    fn new(alloc: Global) -> Probe {
-        Probe {
-            workspace: Workspace::new(alloc),
-            plan: Plan::new(),
-            shows_costs: false,
-        }
-    }
-
-    // Runs a command and appends what it prints.
-    fn run(&mut self, alloc: Global, text: &str, out: &mut Vec<u8>) -> Result<(), Stop> {
-        let words = split_words(alloc, text)?;
-        self.run_command(alloc, words.as_slice(), out)
-    }
-
-    fn run_command(
-        &mut self,
-        alloc: Global,
-        words: &[&str],
-        out: &mut Vec<u8>,
-    ) -> Result<(), Stop> {
-        let is_run = self.switch(words)?
-            || run_on_shards(&mut self.workspace, alloc, words)?
-            || show_shards(&self.workspace, alloc, words, out)?
-            || run_on_buffers(&mut self.workspace, alloc, words)?
-            || show_buffers(&self.workspace, alloc, words, out)?
-            || run_codecs(&mut self.workspace, alloc, words, out)?
-            || show_views(&self.workspace, alloc, words, out)?
-            || show_sections(&self.workspace, alloc, words, out)?
-            || run_on_agreement(&mut self.workspace, alloc, words, out)?
-            || run_on_values(alloc, words, out)?
-            || run_on_records(alloc, words, out)?;
-        if is_run {
-            return Ok(());
-        }
-        match words {
-            ["table", name, width, rows @ ..] => {
-                make_table(&mut self.workspace, alloc, name, width, rows)
-            }
-            ["set_tree", name, words @ ..] => {
-                unite_tree(&mut self.workspace, alloc, name, words)
-            }
-            ["endless_minimal", parts] => print_endless(alloc, parts, out),
-            ["each_failure", command @ ..] => {
-                run_each_failure(&self.workspace, alloc, self.plan, command, out)
-            }
-            ["each_failure_again", command @ ..] => {
-                let plan = Plan {
-                    runs_again: true,
-                    ..self.plan
-                };
-                run_each_failure(&self.workspace, alloc, plan, command, out)
-            }
-            _ => self.run_through_devices(alloc, words, out),
-        }
-    }
-
-    // Runs a command through devices, and stores what it wrote, also if it failed.
-    fn run_through_devices(
-        &mut self,
-        alloc: Global,
-        words: &[&str],
-        out: &mut Vec<u8>,
-    ) -> Result<(), Stop> {
-        let report = run_once(&self.workspace, alloc, self.plan, words, out)?;
-        self.show(&report, out)?;
-        match output_of(words) {
-            Some(name) => self.workspace.put_buffer(alloc, name, report.written),
-            None => Ok(()),
-        }
-    }
-
-    // Prints why a command failed, and its costs if they are switched on.
-    fn show(&self, report: &Report, out: &mut Vec<u8>) -> Result<(), Stop> {
-        match &report.answer {
-            Ok(()) => {}
-            Err(Stop::Unreadable) => return Err(Stop::Unreadable),
-            Err(stop) => writeln!(out, "{stop}")?,
-        }
-        if self.shows_costs {
-            let seeks = report.seeks_made;
-            let read = report.bytes_read;
-            writeln!(out, "seeks {seeks} read {read}")?;
-        }
-        Ok(())
-    }
-
-    // Switches how the device works. `false` if the words are no such switch.
-    fn switch(&mut self, words: &[&str]) -> Result<bool, Stop> {
-        match words {
-            ["fail", "none"] => self.plan.fault = None,
-            ["fail", operation, turn] => {
-                self.plan.fault = Some(parse_fault(operation, turn, "Other")?);
-            }
-            ["fail", operation, turn, kind] => {
-                self.plan.fault = Some(parse_fault(operation, turn, kind)?);
-            }
-            ["fail_in", "first"] => self.plan.target = Target::First,
-            ["fail_in", "second"] => self.plan.target = Target::Second,
-            ["fail_in", "output"] => self.plan.target = Target::Output,
-            ["slow", "on"] => self.plan.is_slow = true,
-            ["slow", "off"] => self.plan.is_slow = false,
-            ["room", bytes] => self.plan.room = parse_u64(bytes)?,
-            ["costs", "on"] => self.shows_costs = true,
-            ["costs", "off"] => self.shows_costs = false,
-            _ => return Ok(false),
-        }
-        Ok(true)
+// The command of a row, and what it has to print: the lines, joined by ` | `, or `nothing`.
+fn split_row(row: &str) -> (&str, &str) {
+    match row.split_once(" =>") {
+        Some((command, wanted)) => (command, wanted.strip_prefix(' ').unwrap_or(wanted)),
+        None => (row, NOTHING),
     }
 }
 
-fn parse_fault(operation: &str, turn: &str, kind: &str) -> Result<Fault, Stop> {
-    Ok(Fault {
-        operation: parse_operation(operation)?,
-        turn: parse_u64(turn)?,
-        kind: parse_kind(kind)?,
-    })
-}
-
-fn parse_operation(word: &str) -> Result<Operation, Stop> {
-    match word {
-        "read" => Ok(Operation::Read),
-        "seek" => Ok(Operation::Seek),
-        "length" => Ok(Operation::Length),
-        "position" => Ok(Operation::Position),
-        "write" => Ok(Operation::Write),
-        "call" => Ok(Operation::Call),
-        _ => Err(Stop::Unreadable),
+// Appends what a command printed in the form in which a row has it.
+fn push_printed(printed: &[u8], row: &mut Vec<u8>) -> Result<(), AllocError> {
+    if printed.is_empty() {
+        return row.extend_from_slice(NOTHING.as_bytes());
     }
-}
-
-fn parse_kind(word: &str) -> Result<ErrorKind, Stop> {
-    match word {
-        "Other" => Ok(ErrorKind::Other),
-        "Interrupted" => Ok(ErrorKind::Interrupted),
-        "BrokenPipe" => Ok(ErrorKind::BrokenPipe),
-        "UnexpectedEof" => Ok(ErrorKind::UnexpectedEof),
-        "OutOfMemory" => Ok(ErrorKind::OutOfMemory),
-        "WriteZero" => Ok(ErrorKind::WriteZero),
-        _ => Err(Stop::Unreadable),
+    for byte in printed.strip_suffix(b"\n").unwrap_or(printed) {
+        match *byte {
+            b'\n' => row.extend_from_slice(b" | ")?,
+            byte => row.push(byte)?,
+        }
     }
+    Ok(())
 }

@@ -5,11 +5,11 @@ ghost use Rattle.xet_core_structures.specs.Source.{FillFails};
 ghost use Rattle.xet_core_structures.specs.Table.{ReadsCount};
 
 use crate::device::Device;
-use crate::parse::parse_u64s;
+use crate::probe::Probe;
+use crate::runs::Run;
+use crate::show::show_counted;
 use crate::stop::Stop;
-use crate::workspace::Workspace;
 use script_lines::words::parse_u64;
-use std::alloc::Global;
 use std::io;
 use std::io::Write;
 use xet_core_structures::interpolation_search::search_on_sorted_u64s;
@@ -21,31 +21,21 @@ const MAX_WIDTH: u64 = 64;
 /// The value of a table's first row.
 const FIRST_VALUE: u64 = 100;
 
-/// Makes a table of these rows. `KEY` is a row with this key, `KEYxN` so many, and `even:N` so many
-/// with the keys i * s, s the greatest for which all of them are below the end of 64 bits. The
-/// values count up.
-pub fn make_table(
-    workspace: &mut Workspace,
-    alloc: Global,
-    name: &str,
-    width: &str,
-    rows: &[&str],
-) -> Result<(), Stop> {
-    let width = parse_width(width)?;
-    let mut bytes = Vec::new(alloc);
-    let mut value = FIRST_VALUE;
-    for row in rows {
-        let (first, step, count) = parse_rows(row)?;
-        push_rows(&mut bytes, width, first, step, count, value)?;
-        value = value.wrapping_add(count);
+impl Probe {
+    /// Makes a table of these rows. `KEY` is a row with this key, `KEYxN` so many, and `even:N` so
+    /// many with the keys i * s, s the greatest for which all of them are below the end of 64 bits.
+    /// The values count up.
+    pub fn make_table(&mut self, name: &str, width: &str, rows: &[&str]) -> Result<(), Stop> {
+        let width = checked_width(parse_u64(width)?)?;
+        let mut bytes = Vec::new(self.alloc);
+        let mut value = FIRST_VALUE;
+        for row in rows {
+            let (first, step, count) = parse_rows(row)?;
+            push_rows(&mut bytes, width, first, step, count, value)?;
+            value = value.wrapping_add(count);
+        }
+        self.put_buffer(name, bytes)
     }
-    workspace.put_buffer(alloc, name, bytes)
-}
-
-fn parse_width(word: &str) -> Result<usize, Stop>
-    ensures { IfOk result (λ width. width ≤ 64) }
-{
-    checked_width(parse_u64(word)?)
 }
 
 fn checked_width(width: u64) -> Result<usize, Stop>
@@ -99,31 +89,34 @@ fn value_bytes(value: u64) -> [u8; 64] {
     bytes
 }
 
-/// Searches a table from byte START on, of so many rows, for a key, and prints the values,
-/// ascending.
-pub fn search(
-    alloc: Global,
-    source: &mut Device<'_>,
-    numbers: &[&str],
-    out: &mut Vec<u8>,
-) -> Result<(), Stop> {
-    let [start, rows, width, key, results_len] = parse_u64s::<5>(numbers)?;
-    let width = checked_width(width)?;
-    let mut results = vec![in alloc; 0u64; results_len as usize]?;
-    let found = search_on_sorted_u64s(
-        alloc,
-        source,
-        start,
-        rows,
-        key,
-        width as u64,
-        |source: &mut Device<'_>| read_value(source, width),
-        results.as_mut_slice(),
-    )?;
-    results.truncate(found);
-    results.sort_unstable();
-    print_results(results.as_slice(), out)?;
-    Ok(())
+impl Run<'_> {
+    /// Searches a table from byte START on, of so many rows, for a key, by words `START ROWS WIDTH
+    /// KEY RESULTS`, and prints the values, ascending.
+    pub fn search(&mut self, numbers: &[&str], out: &mut Vec<u8>) -> Result<(), Stop> {
+        let [start, rows, width, key, most] = numbers else {
+            return Err(Stop::Unreadable);
+        };
+        let start = parse_u64(start)?;
+        let rows = parse_u64(rows)?;
+        let width = checked_width(parse_u64(width)?)?;
+        let key = parse_u64(key)?;
+        let mut results = vec![in self.alloc; 0u64; parse_u64(most)? as usize]?;
+        let found = search_on_sorted_u64s(
+            self.alloc,
+            &mut self.first,
+            start,
+            rows,
+            key,
+            width as u64,
+            |source: &mut Device<'_>| read_value(source, width),
+            results.as_mut_slice(),
+        )?;
+        results.truncate(found);
+        results.sort_unstable();
+        write!(out, "found ")?;
+        show_counted(results.as_slice(), out)?;
+        Ok(())
+    }
 }
 
 // Reads a value of so many bytes: the number that its first eight spell.
@@ -137,15 +130,4 @@ fn read_value<S: ShardSource>(source: &mut S, width: usize) -> io::Result<u64>
     let mut first = [0u8; 8];
     first.copy_from_slice(&bytes[..8]);
     Ok(u64::from_le_bytes(first))
-}
-
-fn print_results(results: &[u64], out: &mut Vec<u8>) -> io::Result<()> {
-    let count = results.len();
-    write!(out, "found {count}")?;
-    let mut separator = ": ";
-    for value in results {
-        write!(out, "{separator}{value}")?;
-        separator = " ";
-    }
-    writeln!(out)
 }

@@ -1,91 +1,73 @@
-//! Unions and differences of buffers.
+//! Unions of many buffers, by a tree, and whether buffers agree.
 
-use crate::device::{Device, Output, mark};
-use crate::fields::print_info;
-use crate::parse::split_at_with;
-use crate::reading::info_of;
+use crate::probe::Probe;
+use crate::show::{Show, show_line};
 use crate::stop::Stop;
-use crate::workspace::Workspace;
 use script_lines::words::parse_u64;
 use std::alloc::Global;
-use xet_core_structures::error::Result as CoreResult;
+use std::io;
+use std::io::Write;
 use xet_core_structures::set_operations::{
-    MergePlan, shard_set_difference, shard_set_union, shard_union_tree,
+    Disagreement, MergePlan, Merged, RecordHash, find_disagreement, find_disagreements,
+    merge_agreeing, shard_union_tree,
 };
-use xet_core_structures::shard_format::MDBShardInfo;
 
-/// Runs `set_union B1 B2 B [FIELD ..]` or `set_difference ..` on the sources of B1 and B2, and
-/// prints the named fields of the header and the footer that the call returns. The headers and
-/// footers of B1 and B2 are read before, from their bytes.
-pub fn combine(
-    workspace: &Workspace,
-    alloc: Global,
-    words: &[&str],
-    r1: &mut Device<'_>,
-    r2: &mut Device<'_>,
-    output: &mut Output,
-    out: &mut Vec<u8>,
-) -> Result<(), Stop> {
-    let [command, first, second, _name, fields @ ..] = words else {
-        return Err(Stop::Unreadable);
-    };
-    let s1 = info_of(alloc, workspace.buffer(first)?)?;
-    let s2 = info_of(alloc, workspace.buffer(second)?)?;
-    mark(alloc);
-    let answer = match *command {
-        "set_union" => shard_set_union(alloc, &s1, r1, &s2, r2, output),
-        _ => shard_set_difference(alloc, &s1, r1, &s2, r2, output),
-    };
-    mark(alloc);
-    print_returned(answer, fields, out)
-}
-
-fn print_returned(
-    answer: CoreResult<MDBShardInfo>,
-    fields: &[&str],
-    out: &mut Vec<u8>,
-) -> Result<(), Stop> {
-    print_info(&answer?, fields, out)
-}
-
-/// Makes the union that a tree describes, `B TREE with B1 B2 ..`, in buffer B.
-pub fn unite_tree(
-    workspace: &mut Workspace,
-    alloc: Global,
-    name: &str,
-    words: &[&str],
-) -> Result<(), Stop> {
-    let bytes = united(workspace, alloc, words)?;
-    workspace.put_buffer(alloc, name, bytes)
-}
-
-fn united(workspace: &Workspace, alloc: Global, words: &[&str]) -> Result<Vec<u8>, Stop> {
-    let (tree, names) = split_at_with(words)?;
-    let tree = parse_tree(alloc, tree)?;
-    let inputs = inputs_of(workspace, alloc, names)?;
-    Ok(shard_union_tree(alloc, &tree, inputs.as_slice())?)
-}
-
-/// The bytes of the buffers of these names. `Unreadable` if there is none of a name.
-pub fn inputs_of<'a>(
-    workspace: &'a Workspace,
-    alloc: Global,
-    names: &[&str],
-) -> Result<Vec<&'a [u8]>, Stop> {
-    let mut inputs = Vec::new(alloc);
-    for name in names {
-        inputs.push(workspace.buffer(name)?)?;
+impl Probe {
+    /// Runs a command on many buffers. `false` if the words are no such command.
+    pub fn run_on_sets(&mut self, words: &[&str], out: &mut Vec<u8>) -> Result<bool, Stop> {
+        let alloc = self.alloc;
+        match words {
+            ["set_tree", name, words @ ..] => {
+                let (tree, names) = split_at_with(words)?;
+                let tree = parse_tree(alloc, tree)?;
+                let bytes = shard_union_tree(alloc, &tree, self.buffers(names)?.as_slice())?;
+                self.put_buffer(name, bytes)?;
+            }
+            ["set_agreeing", name, words @ ..] => {
+                let (tree, names) = split_at_with(words)?;
+                let tree = parse_tree(alloc, tree)?;
+                let merged = merge_agreeing(alloc, &tree, self.buffers(names)?.as_slice())?;
+                match merged {
+                    Merged::Bytes(bytes) => self.put_buffer(name, bytes)?,
+                    Merged::Disagreement(found) => show_line(&found, out)?,
+                }
+            }
+            ["disagreements", names @ ..] => {
+                let found = find_disagreements(alloc, self.buffers(names)?.as_slice())?;
+                show_line(&found, out)?;
+            }
+            ["disagreement", names @ ..] => {
+                let found = find_disagreement(alloc, self.buffers(names)?.as_slice())?;
+                show_line(&found, out)?;
+            }
+            _ => return Ok(false),
+        }
+        Ok(true)
     }
-    Ok(inputs)
 }
 
-/// The tree of words in postfix order: a number is a leaf, and `+` the union of the two trees
-/// before it.
-pub fn parse_tree(alloc: Global, words: &[&str]) -> Result<MergePlan, Stop> {
+/// The words before and after the word `with`. `Unreadable` if the word is missing.
+pub fn split_at_with<'w, 'a>(words: &'w [&'a str]) -> Result<(&'w [&'a str], &'w [&'a str]), Stop> {
+    for (i, word) in words.iter().enumerate() {
+        if *word == "with" {
+            return Ok((&words[..i], &words[i + 1..]));
+        }
+    }
+    Err(Stop::Unreadable)
+}
+
+// The tree of words in postfix order: a number is a leaf, and `+` the union of the two trees before
+// it.
+fn parse_tree(alloc: Global, words: &[&str]) -> Result<MergePlan, Stop> {
     let mut trees = Vec::new(alloc);
     for word in words {
         let tree = match *word {
-            "+" => parse_union(alloc, &mut trees)?,
+            "+" => {
+                let (Some(right), Some(left)) = (trees.pop(), trees.pop()) else {
+                    return Err(Stop::Unreadable);
+                };
+                MergePlan::Both(Box::new(alloc, left)?, Box::new(alloc, right)?)
+            }
             index => MergePlan::Leaf(parse_u64(index)? as usize),
         };
         trees.push(tree)?;
@@ -96,12 +78,15 @@ pub fn parse_tree(alloc: Global, words: &[&str]) -> Result<MergePlan, Stop> {
     }
 }
 
-// The union of the last two trees, which are taken off.
-fn parse_union(alloc: Global, trees: &mut Vec<MergePlan>) -> Result<MergePlan, Stop> {
-    let (Some(right), Some(left)) = (trees.pop(), trees.pop()) else {
-        return Err(Stop::Unreadable);
-    };
-    let left = Box::new(alloc, left)?;
-    let right = Box::new(alloc, right)?;
-    Ok(MergePlan::Both(left, right))
+// Whose the hash is, the hash, and the numbers of the two buffers.
+impl Show for Disagreement {
+    fn show(&self, out: &mut Vec<u8>) -> io::Result<()> {
+        let (kind, hash) = match self.record_hash {
+            RecordHash::File(hash) => ("file ", hash),
+            RecordHash::Xorb(hash) => ("xorb ", hash),
+        };
+        out.write_all(kind.as_bytes())?;
+        hash.show(out)?;
+        write!(out, " {} {}", self.first, self.second)
+    }
 }

@@ -1,245 +1,294 @@
-//! Hashes, rows and records as words, in the form in which commands take them.
+//! How values are printed: short, and in the form in which commands take them.
 
+use script_lines::ranges::hex_digits;
 use std::alloc::Global;
+use std::io;
 use std::io::Write;
-use std::{fmt, io};
+use std::rc::Rc;
 use xet_core_structures::file_structs::{
-    FileDataSequenceEntry, FileDataSequenceHeader, FileVerificationEntry, MDBFileInfo,
+    FileAuxExt, FileDataSequenceEntry, FileDataSequenceHeader, FileMetadataExt,
+    FileVerificationEntry, MDBFileInfo,
 };
 use xet_core_structures::merklehash::{HMACKey, MerkleHash};
 use xet_core_structures::xorb_structs::{
     MDBXorbInfo, XorbChunkSequenceEntry, XorbChunkSequenceHeader,
 };
 
-/// A hash as a word: n for the small hash n, with the words n, 1, 0, 0, else 64 digits.
-#[derive(Clone, Copy)]
-pub struct Short(pub MerkleHash);
-
-impl fmt::Display for Short {
-    fn fmt<W: fmt::Write>(&self, f: &mut fmt::Formatter<W>) -> fmt::Result {
-        let hash = self.0;
-        let word = hash[0];
-        if hash == MerkleHash::from([word, 1, 0, 0]) {
-            write!(f, "{word}")
-        } else {
-            write!(f, "{hash}")
-        }
-    }
+/// What is printed as a word, or as words of a line.
+pub trait Show {
+    /// Appends the words, and no end of line. The error is that of an allocation.
+    fn show(&self, out: &mut Vec<u8>) -> io::Result<()>;
 }
 
-/// A key as a word: `0` for the key that is all zero, else as a hash.
-#[derive(Clone, Copy)]
-pub struct ShortKey(pub HMACKey);
-
-impl fmt::Display for ShortKey {
-    fn fmt<W: fmt::Write>(&self, f: &mut fmt::Formatter<W>) -> fmt::Result {
-        if self.0 == HMACKey::default() {
-            return write!(f, "0");
-        }
-        let key = Short(self.0);
-        write!(f, "{key}")
-    }
-}
-
-/// Two reserved words after a hash, if they are not both zero.
-#[derive(Clone, Copy)]
-struct Reserved([u64; 2]);
-
-impl fmt::Display for Reserved {
-    fn fmt<W: fmt::Write>(&self, f: &mut fmt::Formatter<W>) -> fmt::Result {
-        let [first, second] = self.0;
-        if first == 0 && second == 0 {
-            return Ok(());
-        }
-        write!(f, "/{first}/{second}")
-    }
-}
-
-/// A segment as a word, with its flags if they are not zero.
-#[derive(Clone, Copy)]
-pub struct Segment(pub FileDataSequenceEntry);
-
-impl fmt::Display for Segment {
-    fn fmt<W: fmt::Write>(&self, f: &mut fmt::Formatter<W>) -> fmt::Result {
-        let xorb = Short(self.0.xorb_hash);
-        let start = self.0.chunk_index_start;
-        let end = self.0.chunk_index_end;
-        let bytes = self.0.unpacked_segment_bytes;
-        write!(f, "{xorb}:{start}:{end}:{bytes}")?;
-        let flags = self.0.xorb_flags;
-        if flags != 0 {
-            write!(f, ":{flags}")?;
-        }
-        Ok(())
-    }
-}
-
-/// A row with a hash and two reserved words, as a word.
-#[derive(Clone, Copy)]
-pub struct HashRow(pub MerkleHash, pub [u64; 2]);
-
-impl fmt::Display for HashRow {
-    fn fmt<W: fmt::Write>(&self, f: &mut fmt::Formatter<W>) -> fmt::Result {
-        let hash = Short(self.0);
-        let reserved = Reserved(self.1);
-        write!(f, "{hash}{reserved}")
-    }
-}
-
-/// A chunk as a word, with flags and reserved word if they are not both zero.
-#[derive(Clone, Copy)]
-pub struct Chunk(pub XorbChunkSequenceEntry);
-
-impl fmt::Display for Chunk {
-    fn fmt<W: fmt::Write>(&self, f: &mut fmt::Formatter<W>) -> fmt::Result {
-        let hash = Short(self.0.chunk_hash);
-        let size = self.0.unpacked_segment_bytes;
-        let start = self.0.chunk_byte_range_start;
-        write!(f, "{hash}:{size}:{start}")?;
-        let flags = self.0.flags;
-        let unused = self.0._unused;
-        if flags != 0 || unused != 0 {
-            write!(f, ":{flags}:{unused}")?;
-        }
-        Ok(())
-    }
-}
-
-/// Prints a file record on a line.
-pub fn print_file(file: &MDBFileInfo, out: &mut Vec<u8>) -> io::Result<()> {
-    print_file_header(&file.metadata, file.segments.len(), out)?;
-    print_verification(file.verification.as_slice(), out)?;
-    if let Some(row) = file.metadata_ext {
-        let row = HashRow(row.sha256, row._unused);
-        write!(out, " s={row}")?;
-    }
-    if let Some(row) = file.aux_ext {
-        let row = HashRow(row.aux_hash, row._unused);
-        write!(out, " x={row}")?;
-    }
-    for segment in file.segments.as_slice() {
-        let segment = Segment(*segment);
-        write!(out, " {segment}")?;
-    }
+/// Prints a value on a line.
+pub fn show_line<T: Show>(value: &T, out: &mut Vec<u8>) -> io::Result<()> {
+    value.show(out)?;
     writeln!(out)
 }
 
-/// Prints the words of a file's header, of which `segments` follow.
-pub fn print_file_header(
+/// Prints values one after another, with `front` before the first and `between` before each other.
+pub fn show_joined<T: Show>(
+    front: &str,
+    values: &[T],
+    between: &str,
+    out: &mut Vec<u8>,
+) -> io::Result<()> {
+    let mut before = front;
+    for value in values {
+        write!(out, "{before}")?;
+        value.show(out)?;
+        before = between;
+    }
+    Ok(())
+}
+
+/// Prints how many values there are, and then these, on a line.
+pub fn show_counted<T: Show>(values: &[T], out: &mut Vec<u8>) -> io::Result<()> {
+    let count = values.len();
+    write!(out, "{count}")?;
+    show_joined(": ", values, " ", out)?;
+    writeln!(out)
+}
+
+/// Prints bytes as hexadecimal digits on a line.
+pub fn show_bytes(alloc: Global, bytes: &[u8], out: &mut Vec<u8>) -> io::Result<()> {
+    let digits = hex_digits(alloc, bytes)?;
+    writeln!(out, "{digits}")
+}
+
+// Prints a field of a header unless it has its usual value.
+fn show_unless(usual: u64, name: &str, value: u64, out: &mut Vec<u8>) -> io::Result<()> {
+    if value == usual {
+        return Ok(());
+    }
+    write!(out, " {name}={value}")
+}
+
+// One a line, or `none`.
+impl<T: Show> Show for Vec<T> {
+    fn show(&self, out: &mut Vec<u8>) -> io::Result<()> {
+        if self.is_empty() {
+            return write!(out, "none");
+        }
+        show_joined("", self.as_slice(), "\n", out)
+    }
+}
+
+impl<T: Show> Show for Option<T> {
+    fn show(&self, out: &mut Vec<u8>) -> io::Result<()> {
+        match self {
+            Some(value) => value.show(out),
+            None => write!(out, "none"),
+        }
+    }
+}
+
+impl<T: Show> Show for Rc<T> {
+    fn show(&self, out: &mut Vec<u8>) -> io::Result<()> {
+        self.as_ref().show(out)
+    }
+}
+
+impl Show for u32 {
+    fn show(&self, out: &mut Vec<u8>) -> io::Result<()> {
+        write!(out, "{self}")
+    }
+}
+
+impl Show for u64 {
+    fn show(&self, out: &mut Vec<u8>) -> io::Result<()> {
+        write!(out, "{self}")
+    }
+}
+
+// A range of bytes.
+impl Show for (u64, u64) {
+    fn show(&self, out: &mut Vec<u8>) -> io::Result<()> {
+        write!(out, "{}-{}", self.0, self.1)
+    }
+}
+
+// The row of a xorb, and the index of a chunk.
+impl Show for (u32, u32) {
+    fn show(&self, out: &mut Vec<u8>) -> io::Result<()> {
+        write!(out, "{}:{}", self.0, self.1)
+    }
+}
+
+// A row of the table of xorbs.
+impl Show for (u64, u32) {
+    fn show(&self, out: &mut Vec<u8>) -> io::Result<()> {
+        write!(out, "{} {}", self.0, self.1)
+    }
+}
+
+// A row of the table of chunks.
+impl Show for (u64, (u32, u32)) {
+    fn show(&self, out: &mut Vec<u8>) -> io::Result<()> {
+        let (word, (row, index)) = *self;
+        write!(out, "{word} {row} {index}")
+    }
+}
+
+// n for the small hash n, with the words n, 1, 0, 0, else 64 digits.
+impl Show for MerkleHash {
+    fn show(&self, out: &mut Vec<u8>) -> io::Result<()> {
+        let word = self[0];
+        if *self == MerkleHash::from([word, 1, 0, 0]) {
+            write!(out, "{word}")
+        } else {
+            write!(out, "{self}")
+        }
+    }
+}
+
+/// Prints a key as a word: `0` for the key that is all zero, else as a hash.
+pub fn show_key(key: HMACKey, out: &mut Vec<u8>) -> io::Result<()> {
+    if key == HMACKey::default() {
+        return write!(out, "0");
+    }
+    key.show(out)
+}
+
+// A chunk's hash, and where the chunk ends.
+impl Show for (MerkleHash, u32) {
+    fn show(&self, out: &mut Vec<u8>) -> io::Result<()> {
+        self.0.show(out)?;
+        write!(out, ":{}", self.1)
+    }
+}
+
+impl Show for FileDataSequenceEntry {
+    fn show(&self, out: &mut Vec<u8>) -> io::Result<()> {
+        self.xorb_hash.show(out)?;
+        let start = self.chunk_index_start;
+        let end = self.chunk_index_end;
+        let bytes = self.unpacked_segment_bytes;
+        write!(out, ":{start}:{end}:{bytes}")?;
+        let flags = self.xorb_flags;
+        if flags != 0 {
+            write!(out, ":{flags}")?;
+        }
+        Ok(())
+    }
+}
+
+// A run of chunks: their number, and their segment.
+impl Show for (usize, FileDataSequenceEntry) {
+    fn show(&self, out: &mut Vec<u8>) -> io::Result<()> {
+        write!(out, "run {} ", self.0)?;
+        self.1.show(out)
+    }
+}
+
+impl Show for FileVerificationEntry {
+    fn show(&self, out: &mut Vec<u8>) -> io::Result<()> {
+        show_row(self.range_hash, self._unused, out)
+    }
+}
+
+impl Show for FileMetadataExt {
+    fn show(&self, out: &mut Vec<u8>) -> io::Result<()> {
+        show_row(self.sha256, self._unused, out)
+    }
+}
+
+impl Show for FileAuxExt {
+    fn show(&self, out: &mut Vec<u8>) -> io::Result<()> {
+        show_row(self.aux_hash, self._unused, out)
+    }
+}
+
+// Prints a hash, and the two reserved words behind it, if they are not both zero.
+fn show_row(hash: MerkleHash, reserved: [u64; 2], out: &mut Vec<u8>) -> io::Result<()> {
+    hash.show(out)?;
+    let [first, second] = reserved;
+    if first != 0 || second != 0 {
+        write!(out, "/{first}/{second}")?;
+    }
+    Ok(())
+}
+
+impl Show for XorbChunkSequenceEntry {
+    fn show(&self, out: &mut Vec<u8>) -> io::Result<()> {
+        self.chunk_hash.show(out)?;
+        let size = self.unpacked_segment_bytes;
+        let start = self.chunk_byte_range_start;
+        write!(out, ":{size}:{start}")?;
+        let flags = self.flags;
+        let unused = self._unused;
+        if flags != 0 || unused != 0 {
+            write!(out, ":{flags}:{unused}")?;
+        }
+        Ok(())
+    }
+}
+
+impl Show for FileDataSequenceHeader {
+    fn show(&self, out: &mut Vec<u8>) -> io::Result<()> {
+        show_file_header(self, 0, out)
+    }
+}
+
+// Prints the words of a file's header, of which so many segments follow.
+fn show_file_header(
     header: &FileDataSequenceHeader,
     segments: usize,
     out: &mut Vec<u8>,
 ) -> io::Result<()> {
-    let hash = Short(header.file_hash);
-    write!(out, "{hash}")?;
-    let flags = header.file_flags;
-    if flags != 0 {
-        write!(out, " flags={flags}")?;
-    }
-    print_count(header.num_entries, segments, out)?;
-    let unused = header._unused;
-    if unused != 0 {
-        write!(out, " unused={unused}")?;
-    }
-    Ok(())
+    header.file_hash.show(out)?;
+    show_unless(0, "flags", u64::from(header.file_flags), out)?;
+    show_unless(segments as u64, "count", u64::from(header.num_entries), out)?;
+    show_unless(0, "unused", header._unused, out)
 }
 
-// Prints a header's count if it is not the number of rows.
-fn print_count(count: u32, rows: usize, out: &mut Vec<u8>) -> io::Result<()> {
-    if count as usize == rows {
-        return Ok(());
+impl Show for MDBFileInfo {
+    fn show(&self, out: &mut Vec<u8>) -> io::Result<()> {
+        show_file_header(&self.metadata, self.segments.len(), out)?;
+        show_joined(" v=", self.verification.as_slice(), ",", out)?;
+        if let Some(row) = &self.metadata_ext {
+            write!(out, " s=")?;
+            row.show(out)?;
+        }
+        if let Some(row) = &self.aux_ext {
+            write!(out, " x=")?;
+            row.show(out)?;
+        }
+        show_joined(" ", self.segments.as_slice(), " ", out)
     }
-    write!(out, " count={count}")
 }
 
-// Prints the verification rows, if there are any.
-fn print_verification(rows: &[FileVerificationEntry], out: &mut Vec<u8>) -> io::Result<()> {
-    let mut separator = " v=";
-    for row in rows {
-        let row = HashRow(row.range_hash, row._unused);
-        write!(out, "{separator}{row}")?;
-        separator = ",";
+impl Show for XorbChunkSequenceHeader {
+    fn show(&self, out: &mut Vec<u8>) -> io::Result<()> {
+        show_xorb_header(self, 0, out)
     }
-    Ok(())
 }
 
-/// Prints a xorb record on a line.
-pub fn print_xorb(xorb: &MDBXorbInfo, out: &mut Vec<u8>) -> io::Result<()> {
-    print_xorb_header(&xorb.metadata, xorb.chunks.len(), out)?;
-    for chunk in xorb.chunks.as_slice() {
-        let chunk = Chunk(*chunk);
-        write!(out, " {chunk}")?;
-    }
-    writeln!(out)
-}
-
-/// Prints the words of a xorb's header, of which `chunks` follow.
-pub fn print_xorb_header(
+// Prints the words of a xorb's header, of which so many chunks follow.
+fn show_xorb_header(
     header: &XorbChunkSequenceHeader,
     chunks: usize,
     out: &mut Vec<u8>,
 ) -> io::Result<()> {
-    let hash = Short(header.xorb_hash);
-    write!(out, "{hash}")?;
-    let flags = header.xorb_flags;
-    if flags != 0 {
-        write!(out, " flags={flags}")?;
-    }
-    print_count(header.num_entries, chunks, out)?;
+    header.xorb_hash.show(out)?;
+    show_unless(0, "flags", u64::from(header.xorb_flags), out)?;
+    show_unless(chunks as u64, "count", u64::from(header.num_entries), out)?;
     let bytes = header.num_bytes_in_xorb;
     let disk = header.num_bytes_on_disk;
     write!(out, " bytes={bytes} disk={disk}")
 }
 
-/// Prints a record on a line, or `none`.
-pub fn print_found(file: &Option<MDBFileInfo>, out: &mut Vec<u8>) -> io::Result<()> {
-    match file {
-        Some(file) => print_file(file, out),
-        None => writeln!(out, "none"),
+// The offset of a header, and the header.
+impl Show for (XorbChunkSequenceHeader, u64) {
+    fn show(&self, out: &mut Vec<u8>) -> io::Result<()> {
+        write!(out, "{} ", self.1)?;
+        self.0.show(out)
     }
 }
 
-/// Prints a run of chunks: their number, and their segment; or `none`.
-pub fn print_run(
-    run: &Option<(usize, FileDataSequenceEntry)>,
-    out: &mut Vec<u8>,
-) -> io::Result<()> {
-    match run {
-        Some((count, segment)) => {
-            let segment = Segment(*segment);
-            writeln!(out, "run {count} {segment}")
-        }
-        None => writeln!(out, "none"),
+impl Show for MDBXorbInfo {
+    fn show(&self, out: &mut Vec<u8>) -> io::Result<()> {
+        show_xorb_header(&self.metadata, self.chunks.len(), out)?;
+        show_joined(" ", self.chunks.as_slice(), " ", out)
     }
-}
-
-/// Prints a hash, or `none`.
-pub fn print_hash(hash: Option<MerkleHash>, out: &mut Vec<u8>) -> io::Result<()> {
-    match hash {
-        Some(hash) => {
-            let hash = Short(hash);
-            writeln!(out, "{hash}")
-        }
-        None => writeln!(out, "none"),
-    }
-}
-
-/// Prints `none` for an empty list.
-pub fn print_if_empty(is_empty: bool, out: &mut Vec<u8>) -> io::Result<()> {
-    if is_empty {
-        return writeln!(out, "none");
-    }
-    Ok(())
-}
-
-/// Prints the four words of a hash in decimal.
-pub fn print_words(hash: MerkleHash, out: &mut Vec<u8>) -> io::Result<()> {
-    let (first, second, third, fourth) = (hash[0], hash[1], hash[2], hash[3]);
-    writeln!(out, "{first} {second} {third} {fourth}")
-}
-
-/// Prints bytes as hexadecimal digits on a line.
-pub fn print_bytes(alloc: Global, bytes: &[u8], out: &mut Vec<u8>) -> io::Result<()> {
-    let digits = script_lines::ranges::hex_digits(alloc, bytes)?;
-    writeln!(out, "{digits}")
 }

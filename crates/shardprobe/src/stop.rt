@@ -49,27 +49,15 @@ impl From<ParseError> for Stop {
     }
 }
 
+// The name of the error's variant, and the kind of a device's error, or the text, if there is one.
 impl fmt::Display for Stop {
     fn fmt<W: fmt::Write>(&self, f: &mut fmt::Formatter<W>) -> fmt::Result {
-        match self {
-            Stop::Unreadable => write!(f, "unreadable"),
-            Stop::Refused(error) => {
-                let refusal = Refusal(error);
-                let details = Details(error);
-                write!(f, "refused: {refusal}{details}")
-            }
-        }
-    }
-}
-
-/// The parts of an error besides its variant: the kind of a device's error, and the text, if there
-/// is one.
-#[derive(Clone, Copy)]
-struct Details<'a>(&'a CoreError);
-
-impl fmt::Display for Details<'_> {
-    fn fmt<W: fmt::Write>(&self, f: &mut fmt::Formatter<W>) -> fmt::Result {
-        match self.0 {
+        let Stop::Refused(error) = self else {
+            return write!(f, "unreadable");
+        };
+        let refusal = Refusal(error);
+        write!(f, "refused: {refusal}")?;
+        match error {
             CoreError::Io(error) => {
                 let kind = error.kind();
                 write!(f, " {kind:?}")
@@ -77,12 +65,8 @@ impl fmt::Display for Details<'_> {
             CoreError::InternalError(text)
             | CoreError::Other(text)
             | CoreError::ShardVersion(text)
-            | CoreError::InvalidShard(text) => {
-                if text.is_empty() {
-                    return Ok(());
-                }
-                write!(f, ": {text}")
-            }
+            | CoreError::InvalidShard(text)
+                if !text.is_empty() => { write!(f, ": {text}") }
             _ => Ok(()),
         }
     }
