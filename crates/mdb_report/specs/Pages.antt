@@ -1,5 +1,5 @@
 -- Bytes of which some pages are in memory.
-use Rattle.std.specs.Prelude.{◌≡◌, ⊤, Bool, false, is_some, ℕ, ◌*◌, ◌<◌, ◌≤◌, List, map, length, take, replicate, slice_get, set, Option, None, Some}
+use Rattle.std.specs.Prelude.{◌≡◌, ⊤, Bool, false, is_some, ℕ, ◌<◌, ◌≤◌, List, map, length, take, replicate, slice_get, set, Option, None, Some}
 use Rattle.std.specs.List.{concat}
 use Rattle.xet_core_structures.specs.Source.{Source}
 use Rattle.xet_core_structures.specs.declared.error.CoreError.{CoreError}

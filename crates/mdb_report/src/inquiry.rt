@@ -153,8 +153,9 @@ pub fn print_answer<W: Write>(
             return check(alloc, file, *named, bytes, layout.style, output);
         }
         Inquiry::Files { long } => print_files(alloc, bytes, *long, layout, output)?,
-        Inquiry::Xorbs { long } => print_xorbs(alloc, bytes, *long, layout, output)?,
-        Inquiry::Chunks { long } => print_chunks(alloc, bytes, *long, layout, output)?,
+        Inquiry::Xorbs { .. } | Inquiry::Chunks { .. } => {
+            print_xorbs(alloc, inquiry, bytes, layout, output)?;
+        }
         Inquiry::Find { hashes, costs } => {
             return find(
                 alloc,
@@ -375,10 +376,11 @@ fn print_files<W: Write>(
     Ok(())
 }
 
+// Prints the xorbs of a shard, or their chunks.
 fn print_xorbs<W: Write>(
     alloc: Global,
+    inquiry: &Inquiry,
     bytes: &[u8],
-    long: bool,
     layout: Layout<'_>,
     output: &mut W,
 ) -> Result<(), Trouble> {
@@ -386,34 +388,32 @@ fn print_xorbs<W: Write>(
     let mut source = MemorySource::new(bytes);
     let xorbs = info.read_all_xorb_blocks_full(alloc, &mut source)?;
     for xorb in &xorbs {
-        print(
-            alloc,
-            &XorbReport::of_xorb(alloc, xorb, long)?,
-            layout,
-            output,
-        )?;
+        print_xorb(alloc, inquiry, xorb, layout, output)?;
     }
     Ok(())
 }
 
-fn print_chunks<W: Write>(
+// Prints a xorb, or its chunks, as the inquiry asks.
+pub(crate) fn print_xorb<W: Write>(
     alloc: Global,
-    bytes: &[u8],
-    long: bool,
+    inquiry: &Inquiry,
+    xorb: &MDBXorbInfo,
     layout: Layout<'_>,
     output: &mut W,
 ) -> Result<(), Trouble> {
-    let info = load_bytes(alloc, bytes)?;
-    let mut source = MemorySource::new(bytes);
-    let xorbs = info.read_all_xorb_blocks_full(alloc, &mut source)?;
-    for xorb in &xorbs {
-        print_chunks_of(alloc, xorb, long, layout, output)?;
+    match inquiry {
+        Inquiry::Xorbs { long } => {
+            let report = XorbReport::of_xorb(alloc, xorb, *long)?;
+            print(alloc, &report, layout, output)?;
+        }
+        Inquiry::Chunks { long } => print_chunks_of(alloc, xorb, *long, layout, output)?,
+        _ => {}
     }
     Ok(())
 }
 
 // Prints the chunks of a xorb.
-pub(crate) fn print_chunks_of<W: Write>(
+fn print_chunks_of<W: Write>(
     alloc: Global,
     xorb: &MDBXorbInfo,
     long: bool,

@@ -5,11 +5,11 @@ ghost use Rattle.mdb_report.specs.Answers.{FindsProblems, LooksUp};
 
 use crate::brief::Brief;
 use crate::inquiry::{
-    Answer, Inquiry, Trouble, print_chunks_of, print_lookup, print_run, print_summary,
+    Answer, Inquiry, Trouble, print_lookup, print_run, print_summary, print_xorb,
 };
 use crate::line::{Layout, print};
 use crate::paged_file::PagedFile;
-use crate::records::{FileReport, XorbReport};
+use crate::records::FileReport;
 use crate::section::Section;
 use crate::summary::Summary;
 use crate::tally::Tally;
@@ -145,18 +145,7 @@ fn list_xorbs<F: Read + Drop, W: Write>(
             Ok(None) => break,
             Err(error) => return Err(Trouble::Section(Part::Xorbs, error)),
         };
-        match inquiry {
-            Inquiry::Chunks { long } => print_chunks_of(alloc, &xorb, *long, layout, output)?,
-            Inquiry::Xorbs { long } => {
-                print(
-                    alloc,
-                    &XorbReport::of_xorb(alloc, &xorb, *long)?,
-                    layout,
-                    output,
-                )?;
-            }
-            _ => {}
-        }
+        print_xorb(alloc, inquiry, &xorb, layout, output)?;
     }
     Ok(())
 }

@@ -1,4 +1,4 @@
-use Rattle.std.proofs.Common.{◌≡◌, inl, inr, All, List, refl, ap, ◌∙◌, subst}
+use Rattle.std.proofs.Common.{◌≡◌, inr, All, refl, ap, ◌∙◌, subst}
 use Rattle.std.proofs.lemmas.Result.{err_from_is_err_and}
 use Rattle.xet_core_structures.specs.Ends.{HasHeaderAndFooter}
 use Rattle.xet_core_structures.specs.Source.{Source}

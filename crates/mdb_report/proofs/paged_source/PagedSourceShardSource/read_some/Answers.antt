@@ -1,7 +1,6 @@
-use Rattle.std.proofs.Common.{rules, ◌≡◌, ℕ, ◌+◌, ◌-◌, ◌*◌, ◌/◌, ◌%◌, ◌<◌, ◌≤◌, length, get_or, sym, ap, ◌∙◌, arith}
+use Rattle.std.proofs.Common.{rules, ◌≡◌, ◌+◌, ◌*◌, ◌/◌, ◌%◌, ◌<◌, ◌≤◌, sym, ◌∙◌, arith}
 use Rattle.std.proofs.lemmas.Nat.{div-add-mod'}
-use Rattle.std.specs.Prelude.{Option, Some}
-use Rattle.mdb_report.specs.declared.pages.Page.{Page}
+use Rattle.std.specs.Prelude.{Some}
 use Rattle.mdb_report.proofs.PageBytes.{size_of, bytes_of_page}
 use Rattle.mdb_report.proofs.paged_source.PagedSourceShardSource.read_some.Goals as goal
 

@@ -1,5 +1,5 @@
-use Rattle.std.proofs.Common.{◌≡◌, ℕ, length, replicate, is_some, None, Some, true, false, refl, sym, ap, ◌∙◌, subst, arith, true≢false}
-use Rattle.std.specs.Prelude.{List, Option, unwrap_or, slice_get}
+use Rattle.std.proofs.Common.{◌≡◌, ℕ, replicate, is_some, None, Some, false, refl, sym, ap, ◌∙◌, subst, arith, true≢false}
+use Rattle.std.specs.Prelude.{Option, unwrap_or, slice_get}
 use Rattle.std.proofs.lemmas.List.{get_or-replicate, length-replicate}
 use Rattle.std.proofs.lemmas.Option.{slice_get_within, unwrap_or-slice_get}
 use Rattle.mdb_report.specs.declared.pages.Page.{Page}

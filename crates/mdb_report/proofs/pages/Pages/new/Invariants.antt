@@ -1,4 +1,4 @@
-use Rattle.std.proofs.Common.{◌≡◌, ℕ, length, replicate, None}
+use Rattle.std.proofs.Common.{◌≡◌, replicate, None}
 use Rattle.mdb_report.proofs.pages.Pages.new.Given as goal
 
 -- so many places so far, and no page in them

@@ -1,4 +1,3 @@
-use Rattle.xet_core_structures.specs.FileRecord.{FitsItsHeader}
 use Rattle.mdb_report.proofs.Reading.{next_file_fits, of_result}
 use Rattle.mdb_report.proofs.section.Section.next_file.Goals as goal
 
