@@ -1,6 +1,7 @@
 //! Timestamps as dates.
 
-ghost use Rattle.std.specs.Prelude.{◌≡◌, IfOk, IfSome, IsNone, OnOk, pos, ◌*ℤ◌};
+ghost use Rattle.std.specs.Prelude.{◌≡◌, ◌<◌, ◌^◌, Some, IfOk, IfSome, IsNone, OnOk, pos, ◌*ℤ◌};
+ghost use Rattle.std.specs.Str.Parse.{IsNumeral, digits_value, without_leading_plus};
 
 use jiff::Timestamp;
 use serde::{Described, Serialize, Serializer};
@@ -75,9 +76,14 @@ pub fn seconds_now<R: Clock>(rt: &R) -> Option<u64> {
     u64::try_from(now.as_second()).ok()
 }
 
-/// The seconds since the start of 1970 that a text says: their digits, or a date and a time of RFC
-/// 3339, of which a fraction of a second is left out. None if it is neither, or before 1970.
-pub fn seconds_of(text: &str) -> Option<u64> {
+/// The seconds since the start of 1970 that a text says: their digits, before which a plus may
+/// stand, or a date and a time of RFC 3339, of which a fraction of a second is left out. None if it
+/// is neither, or before 1970.
+pub fn seconds_of(text: &str) -> Option<u64>
+    ensures { IsNumeral 10 (without_leading_plus text.now)
+        → digits_value 10 (without_leading_plus text.now) < 2 ^ 64
+        → result ≡ Some (digits_value 10 (without_leading_plus text.now)) }
+{
     match text.parse::<u64>() {
         Ok(seconds) => Some(seconds),
         Err(_) => {
