@@ -20,6 +20,7 @@ use Rattle.xet_records.specs.declared.record_reader.FormatVersion.{FormatVersion
 use Rattle.xet_records.specs.declared.file_structs.header.FileDataSequenceHeader.{FileDataSequenceHeader}
 use Rattle.xet_records.specs.Reading.{ReadsNextRecord}
 use Rattle.xet_records.specs.RecordKind.{RecordKind, in_version}
+use Rattle.shard_bytes.specs.Outcomes.{HasOutcome}
 use Rattle.shard_bytes.proofs.Combining.{in_memory}
 use Rattle.mdb_report.specs.Records.{HoldsFiles, FilesRefusal}
 use Rattle.xet_records.proofs.RecordKinds.{file_laws, xorb_laws, laws_in, stored_ever}
@@ -32,13 +33,19 @@ read_files_fit version old new at (Ok files) reads = λ k r below.
     (stored_ever file_records version _ (all_handed K (laws_in file_records file_laws version) reads.stored files.items reads.section.records.are_stored reads.returned k r below)).whole
 read_files_fit version old new at (Err e) reads = tt
 
+-- what a call on a source in memory gives is an outcome over its bytes
+pub outcome_in_memory : {Outcome : MDBShardInfo → Source → Source → Type 0} (bytes : List ℕ) (info : MDBShardInfo) (before after : MemorySource) → HasHeaderAndFooter bytes info
+    → before.bytes.now ≡ bytes → Outcome info (in_memory before) (in_memory after) → HasOutcome bytes Outcome
+outcome_in_memory bytes info before after ends same is =
+    record { info = info; ends = ends; before = in_memory before; after = in_memory after; bytes_are = same; works = refl; outcome = is }
+
 -- what is read of a source in memory is what its bytes hold
 pub files_in_memory : {Z : Type 0} (bytes : List ℕ) (info : MDBShardInfo) (old new : MemorySource) (result : CoreResult (Vec MDBFileInfo Z)) → HasHeaderAndFooter bytes info → old.bytes.now ≡ bytes
     → ReadsFiles info (in_memory old) (in_memory new) result → MatchResult result (λ files. HoldsFiles bytes files.items) (FilesRefusal bytes)
 files_in_memory bytes info old new (Ok files) ends same reads =
-    record { info = info; ends = ends; before = in_memory old; after = in_memory new; bytes_are = same; works = refl; outcome = reads }
+    outcome_in_memory bytes info old new ends same reads
 files_in_memory bytes info old new (Err e) ends same fails =
-    inr (inl (record { info = info; ends = ends; before = in_memory old; after = in_memory new; bytes_are = same; works = refl; outcome = fails }))
+    inr (inl (outcome_in_memory bytes info old new ends same fails))
 
 -- one more of each
 all_zip_pushed : {A B : Type 0} (R : A → B → Type 0) (xs : List A) (ys : List B) (x : A) (y : B) → AllZip R xs ys → R x y → AllZip R (xs ++ x ∷ []) (ys ++ y ∷ [])
