@@ -1,6 +1,7 @@
 //! What a command line asks for.
 
-use crate::command_line::{self, id};
+use crate::command_line;
+use crate::command_table::id;
 use clap::error::ErrorKind;
 use clap::{ArgMatches, Error};
 use mdb_report::inquiry::Inquiry;
@@ -109,16 +110,23 @@ pub fn request_of<'a>(
     let matches = command.try_get_matches_from_mut(words)?;
     match request_in(alloc, &matches, now) {
         Ok(request) => Ok(request),
-        Err(refusal) => {
-            let message = message_of(alloc, &refusal)?;
-            let name = match matches.subcommand() {
-                Some((name, _)) => name,
-                None => "",
-            };
-            let mut of = command_line::command_named(alloc, name)?;
-            Err(of.error(ErrorKind::ValueValidation, message.as_str())?)
-        }
+        Err(refusal) => Err(error_of(alloc, &matches, &refusal)?),
     }
+}
+
+// The error of the command that words name.
+fn error_of(
+    alloc: Global,
+    matches: &ArgMatches<'_>,
+    refusal: &Refusal<'_>,
+) -> Result<Error, Error> {
+    let message = message_of(alloc, refusal)?;
+    let name = match matches.subcommand() {
+        Some((name, _)) => name,
+        None => "",
+    };
+    let mut command = command_line::command_named(alloc, name)?;
+    Ok(command.error(ErrorKind::ValueValidation, message.as_str())?)
 }
 
 fn message_of(alloc: Global, refusal: &Refusal<'_>) -> Result<String, AllocError> {

@@ -6,6 +6,7 @@ mod arguments;
 mod beside;
 mod blame;
 mod command_line;
+mod command_table;
 mod failure;
 mod files;
 mod help;

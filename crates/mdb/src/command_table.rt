@@ -1,0 +1,377 @@
+//! The commands of the program and their arguments, as a table.
+
+use crate::help;
+
+/// The ids of arguments, which usage shows as the names of values.
+pub mod id {
+    pub const FILE: &str = "FILE";
+
+    pub const FIRST: &str = "A";
+
+    pub const SECOND: &str = "B";
+
+    pub const LIST: &str = "LIST";
+
+    pub const HASHES: &str = "HASH";
+
+    pub const OUTPUT: &str = "OUT";
+
+    pub const KEY: &str = "HEX";
+
+    pub const NOW: &str = "NOW";
+
+    pub const VALID: &str = "VALID";
+
+    pub const EXPIRY: &str = "EXPIRY";
+
+    pub const XORBS: &str = "XORB";
+
+    pub const JSON: &str = "json";
+
+    pub const LONG: &str = "long";
+
+    pub const COSTS: &str = "costs";
+
+    pub const BRIEF: &str = "brief";
+
+    pub const NAME: &str = "name";
+
+    pub const FOLDER: &str = "FOLDER";
+
+    pub const VERSION: &str = "VERSION";
+
+    pub const VERBOSE: &str = "verbose";
+
+    pub const STRICT: &str = "strict";
+
+    pub const VERIFICATION: &str = "verification";
+
+    pub const NO_FILES: &str = "no-files";
+
+    pub const NO_AUX: &str = "no-aux";
+
+    pub const NO_XORB_TABLE: &str = "no-xorb-table";
+
+    pub const NO_CHUNK_TABLE: &str = "no-chunk-table";
+}
+
+/// The versions of the format that can be written.
+pub const VERSIONS: &[&str] = &["2", "3"];
+
+/// An argument.
+#[derive(Clone, Copy)]
+pub struct Argument {
+    pub id: &'static str,
+    /// Its name behind `--`; without, it is a word.
+    pub long: Option<&'static str>,
+    pub help: &'static str,
+    pub takes: Takes,
+}
+
+/// What an argument takes.
+#[derive(Clone, Copy)]
+pub enum Takes {
+    /// Nothing: it is a flag.
+    Nothing,
+    /// A value that may be left out.
+    Value,
+    /// A value that has to be there.
+    NeededValue,
+    /// A number that has to be there.
+    NeededNumber,
+    /// Values that have to be there, if no list is.
+    ValuesOrList,
+    /// A value, each time that it is given.
+    EachValue,
+    /// Any number of values, each time that it is given.
+    EachValues,
+    /// A version of the format.
+    Version,
+    /// Where to write.
+    Output,
+    /// Where to write, if no folder is given.
+    OutputOrFolder,
+    /// The folder to write to, in place of an output.
+    Folder,
+}
+
+/// A command.
+#[derive(Clone, Copy)]
+pub struct Row {
+    pub name: &'static str,
+    pub about: &'static str,
+    pub examples: &'static str,
+    /// Its usage; without, it is made of the arguments.
+    pub usage: Option<&'static str>,
+    pub arguments: &'static [Argument],
+}
+
+// A word without a name.
+macro_rules! word {
+    ($id:ident, $takes:ident, $help:expr) => {
+        Argument { id: id::$id, long: None, help: $help, takes: Takes::$takes }
+    };
+}
+
+macro_rules! option {
+    ($id:ident, $long:expr, $takes:ident, $help:expr) => {
+        Argument { id: id::$id, long: Some($long), help: $help, takes: Takes::$takes }
+    };
+}
+
+// A flag, whose name is its id.
+macro_rules! flag {
+    ($id:ident, $help:expr) => {
+        option!($id, id::$id, Nothing, $help)
+    };
+}
+
+const FILE: Argument = word!(FILE, NeededValue, "The shard, or - for standard input");
+
+const FIRST: Argument = word!(FIRST, NeededValue, "The first shard");
+
+const SECOND: Argument = word!(SECOND, NeededValue, "The second shard");
+
+const FILES: Argument = word!(
+    FILE,
+    ValuesOrList,
+    "The shards; a folder stands for its .mdb files, and - for standard input"
+);
+
+const LOOKED_IN: Argument = word!(
+    FILE,
+    ValuesOrList,
+    "The shards to look in, or without --hash a shard and the hashes; \
+    a folder stands for its .mdb files, and - for standard input"
+);
+
+const LIST: Argument = option!(
+    LIST,
+    "files-from",
+    Value,
+    "A list of shards and folders, a path a line, or - for standard input"
+);
+
+const NOW: Argument = option!(
+    NOW,
+    "now",
+    Value,
+    "The time of creation, in seconds or as 2024-01-31T12:00:00Z; by default that of the clock"
+);
+
+const NO_AUX: Argument = flag!(NO_AUX, "Leaves the files' auxiliary rows out");
+
+const LONG: Argument = flag!(LONG, "Prints all that is known of each");
+
+const JSON: Argument = flag!(JSON, "Prints one JSON value a line");
+
+const FORMAT: Argument = option!(
+    VERSION,
+    "format",
+    Version,
+    "The version of the format that is written, 3 by default; files with auxiliary rows need it"
+);
+
+const OUTPUT: Argument = option!(
+    OUTPUT,
+    "output",
+    Output,
+    "The file to write, or - for standard output"
+);
+
+/// The commands, in the order of the help.
+pub fn commands() -> &'static [Row] {
+    COMMANDS
+}
+
+const COMMANDS: &[Row] = &[
+    Row {
+        name: "info",
+        about: "Prints what headers and footers say",
+        examples: help::INFO,
+        usage: None,
+        arguments: &[
+            FILES,
+            LIST,
+            flag!(BRIEF, "Prints a line for each, and a total"),
+            JSON,
+        ],
+    },
+    Row {
+        name: "files",
+        about: "Lists the files",
+        examples: help::FILES,
+        usage: None,
+        arguments: &[FILES, LIST, LONG, JSON],
+    },
+    Row {
+        name: "xorbs",
+        about: "Lists the xorbs",
+        examples: help::XORBS,
+        usage: None,
+        arguments: &[FILES, LIST, LONG, JSON],
+    },
+    Row {
+        name: "chunks",
+        about: "Lists the chunks of the xorbs",
+        examples: help::CHUNKS,
+        usage: None,
+        arguments: &[FILES, LIST, LONG, JSON],
+    },
+    Row {
+        name: "find",
+        about: "Looks files up by their hashes",
+        examples: help::FIND,
+        usage: Some(help::FIND_USAGE),
+        arguments: &[
+            LOOKED_IN,
+            LIST,
+            option!(
+                HASHES,
+                "hash",
+                EachValues,
+                "The files' hashes, of 64 hexadecimal digits each"
+            ),
+            flag!(COSTS, "Prints the seeks and the bytes read of each lookup"),
+            JSON,
+        ],
+    },
+    Row {
+        name: "query",
+        about: "Looks for a run of chunks in one xorb",
+        examples: help::QUERY,
+        usage: Some(help::QUERY_USAGE),
+        arguments: &[
+            LOOKED_IN,
+            LIST,
+            option!(
+                HASHES,
+                "hash",
+                EachValues,
+                "The chunks' hashes in order, of 64 hexadecimal digits each"
+            ),
+            JSON,
+        ],
+    },
+    Row {
+        name: "check",
+        about: "Checks that files are as the library would write them; exit status 3 if one is not",
+        examples: help::CHECK,
+        usage: None,
+        arguments: &[
+            FILES,
+            LIST,
+            flag!(
+                NAME,
+                "Checks too that each name is 64 hexadecimal digits and .mdb"
+            ),
+            JSON,
+        ],
+    },
+    Row {
+        name: "union",
+        about: "Writes the union of two shards",
+        examples: help::UNION,
+        usage: None,
+        arguments: &[FIRST, SECOND, FORMAT, OUTPUT],
+    },
+    Row {
+        name: "diff",
+        about: "Writes what the second of two shards has and the first has not",
+        examples: help::DIFF,
+        usage: None,
+        arguments: &[FIRST, SECOND, FORMAT, OUTPUT],
+    },
+    Row {
+        name: "merge",
+        about: "Writes the union of any number of shards; their expiries are not kept",
+        examples: help::MERGE,
+        usage: None,
+        arguments: &[
+            FILES,
+            LIST,
+            flag!(
+                STRICT,
+                "Fails with status 3 if two shards have different records with one hash"
+            ),
+            flag!(VERBOSE, "Reports each file as it is read"),
+            option!(
+                EXPIRY,
+                "expiry",
+                Value,
+                "The time of expiry of what is written; without, there is none"
+            ),
+            FORMAT,
+            option!(
+                FOLDER,
+                "by-key",
+                Folder,
+                "The folder to write to, a shard for each key, by the key's name"
+            ),
+            option!(
+                OUTPUT,
+                "output",
+                OutputOrFolder,
+                "The file to write, or - for standard output"
+            ),
+        ],
+    },
+    Row {
+        name: "export",
+        about: "Writes a shard with its chunk hashes under a key",
+        examples: help::EXPORT,
+        usage: None,
+        arguments: &[
+            FILE,
+            option!(KEY, "key", NeededValue, "The key: 64 hexadecimal digits"),
+            NOW,
+            option!(VALID, "valid", NeededNumber, "The seconds until the expiry"),
+            flag!(NO_FILES, "Leaves the files out"),
+            NO_AUX,
+            flag!(NO_XORB_TABLE, "Leaves the xorb table out"),
+            flag!(NO_CHUNK_TABLE, "Leaves the chunk table out"),
+            FORMAT,
+            OUTPUT,
+        ],
+    },
+    Row {
+        name: "minimal",
+        about: "Writes a shard without tables, with marks on the chunks at which files start",
+        examples: help::MINIMAL,
+        usage: None,
+        arguments: &[
+            FILE,
+            NOW,
+            flag!(VERIFICATION, "Keeps the files' verification rows"),
+            NO_AUX,
+            FORMAT,
+            OUTPUT,
+        ],
+    },
+    Row {
+        name: "subset",
+        about: "Writes some of the xorbs of a shard, without files and tables",
+        examples: help::SUBSET,
+        usage: None,
+        arguments: &[
+            FILE,
+            NOW,
+            option!(EXPIRY, "expiry", Value, "The time of expiry"),
+            option!(
+                XORBS,
+                "xorb",
+                EachValue,
+                "The hash of a xorb to keep; without, all are kept"
+            ),
+            FORMAT,
+            OUTPUT,
+        ],
+    },
+    Row {
+        name: "eligible",
+        about: "Lists the hashes of the chunks that the global index keeps, in ascending order",
+        examples: help::ELIGIBLE,
+        usage: None,
+        arguments: &[FILES, LIST, JSON],
+    },
+];
