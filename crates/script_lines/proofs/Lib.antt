@@ -1,3 +1,4 @@
 pub mod HexBytes
 pub mod SpelledHashes
 pub mod Splitting
+pub mod Trees

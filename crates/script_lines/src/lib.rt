@@ -2,10 +2,14 @@
 //! output. For programs that read scripts; not part of the library.
 #![tactic(auto)]
 
+pub mod command;
+pub mod fields;
 pub mod files_and_xorbs;
 pub mod lines;
 pub mod print;
 pub mod ranges;
 pub mod records;
 pub mod refusal;
+pub mod show;
+pub mod tree;
 pub mod words;

@@ -32,16 +32,6 @@ pub fn parse_hashes(alloc: Global, words: &[&str]) -> Result<Vec<MerkleHash>, Pa
     Ok(hashes)
 }
 
-/// The hashes of a list, or none if it is `*`, which stands for all. `Unreadable` if it is empty or
-/// has another word that is not a hash.
-pub fn parse_listed(alloc: Global, list: &[&str]) -> Result<Option<Vec<MerkleHash>>, ParseError> {
-    match list {
-        [] => Err(ParseError::Unreadable),
-        ["*"] => Ok(None),
-        list => Ok(Some(parse_hashes(alloc, list)?)),
-    }
-}
-
 /// The chunks of words, in order, each after the one before it, the first from byte 0. `Unreadable`
 /// if a word does not have the form of [`parse_chunk`] or [`parse_full_chunk`].
 pub fn parse_chunks(

@@ -3,51 +3,35 @@
 ghost use Rattle.std.specs.Prelude.{◌<◌, IfOk};
 
 use crate::probe::Probe;
-use crate::show::show_bytes;
 use crate::stop::Stop;
-use script_lines::ranges::{bytes_in, parse_range};
-use script_lines::words::{parse_optional_u64, parse_u64};
+use script_lines::words::parse_u64;
 use std::io::Write;
-use xet_core_structures::shard_format::MDBShardInfo;
 
 impl Probe {
-    /// Runs a command that makes or changes a buffer. `false` if the words are no such command.
-    pub fn run_on_buffers(&mut self, words: &[&str]) -> Result<bool, Stop> {
-        let alloc = self.alloc;
+    /// Runs a command that makes, changes or compares buffers. `false` if the words are no such
+    /// command.
+    pub fn run_on_buffers(&mut self, words: &[&str], out: &mut Vec<u8>) -> Result<bool, Stop> {
         match words {
-            ["write", shard, name, expiry @ ..] => {
-                let mut bytes = Vec::new(alloc);
-                let expiry = parse_optional_u64(expiry)?;
-                MDBShardInfo::serialize_from(alloc, &mut bytes, self.shard(shard)?, expiry)?;
-                self.put_buffer(name, bytes)?;
-            }
-            ["write2", shard, name, expiry @ ..] => {
-                let mut bytes = Vec::new(alloc);
-                let expiry = parse_optional_u64(expiry)?;
-                MDBShardInfo::serialize_from_v2(alloc, &mut bytes, self.shard(shard)?, expiry)?;
-                self.put_buffer(name, bytes)?;
-            }
-            ["to_bytes", shard, name] => {
-                let bytes = self.shard(shard)?.to_bytes(alloc)?;
-                self.put_buffer(name, bytes)?;
-            }
-            ["bytes", name, digits @ ..] => {
-                let bytes = self.parse_bytes(digits)?;
-                self.put_buffer(name, bytes)?;
-            }
-            ["join", name, parts @ ..] => {
-                let joined = self.joined(parts)?;
-                self.put_buffer(name, joined)?;
-            }
-            ["table", name, width, rows @ ..] => self.make_table(name, width, rows)?,
-            ["cut", name, len] => self.cut(name, parse_u64(len)?)?,
-            ["put", name, offset, digits @ ..] => {
-                let bytes = self.parse_bytes(digits)?;
-                self.put(name, parse_u64(offset)?, bytes.as_slice())?;
-            }
+            ["to_bytes", shard, name] => self.put_bytes_of(shard, name),
+            ["bytes", name, digits @ ..] => self.put_bytes(name, digits),
+            ["join", name, parts @ ..] => self.join(name, parts),
+            ["table", name, width, rows @ ..] => self.make_table(name, width, rows),
+            ["cut", name, len] => self.cut(name, len),
+            ["put", name, offset, digits @ ..] => self.overwrite(name, offset, digits),
+            ["same", first, second] => self.show_same(first, second, out),
             _ => return Ok(false),
-        }
+        }?;
         Ok(true)
+    }
+
+    fn put_bytes_of(&mut self, shard: &str, name: &str) -> Result<(), Stop> {
+        let bytes = self.shard(shard)?.to_bytes(self.alloc)?;
+        self.put_buffer(name, bytes)
+    }
+
+    fn put_bytes(&mut self, name: &str, digits: &[&str]) -> Result<(), Stop> {
+        let bytes = self.parse_bytes(digits)?;
+        self.put_buffer(name, bytes)
     }
 
     /// The bytes that hexadecimal digits spell, in one word or several.
@@ -59,15 +43,16 @@ impl Probe {
         Ok(bytes)
     }
 
-    fn joined(&self, parts: &[&str]) -> Result<Vec<u8>, Stop> {
+    fn join(&mut self, name: &str, parts: &[&str]) -> Result<(), Stop> {
         let mut bytes = Vec::new(self.alloc);
         for part in parts {
             bytes.extend_from_slice(self.buffer(part)?)?;
         }
-        Ok(bytes)
+        self.put_buffer(name, bytes)
     }
 
-    fn cut(&mut self, name: &str, len: u64) -> Result<(), Stop> {
+    fn cut(&mut self, name: &str, len: &str) -> Result<(), Stop> {
+        let len = parse_u64(len)?;
         let bytes = self.buffer_mut(name)?;
         if len > bytes.len() as u64 {
             return Err(Stop::Unreadable);
@@ -76,39 +61,22 @@ impl Probe {
         Ok(())
     }
 
-    fn put(&mut self, name: &str, offset: u64, new: &[u8]) -> Result<(), Stop> {
+    fn overwrite(&mut self, name: &str, offset: &str, digits: &[&str]) -> Result<(), Stop> {
+        let new = self.parse_bytes(digits)?;
+        let offset = parse_u64(offset)?;
         let bytes = self.buffer_mut(name)?;
         let size = bytes.len() as u64;
         if offset > size || new.len() as u64 > size - offset {
             return Err(Stop::Unreadable);
         }
         let start = offset as usize;
-        bytes[start..start + new.len()].copy_from_slice(new);
+        bytes[start..start + new.len()].copy_from_slice(new.as_slice());
         Ok(())
     }
 
-    /// Runs a command that prints the contents of a buffer. `false` if the words are no such
-    /// command.
-    pub fn show_buffers(&self, words: &[&str], out: &mut Vec<u8>) -> Result<bool, Stop> {
-        match words {
-            ["same", first, second] => {
-                let is_same = self.buffer(first)? == self.buffer(second)?;
-                writeln!(out, "{is_same}")?;
-            }
-            ["size", name] => {
-                let size = self.buffer(name)?.len();
-                writeln!(out, "{size}")?;
-            }
-            ["hex", name, range @ ..] => {
-                let bytes = self.buffer(name)?;
-                match parse_range(range)? {
-                    Some(range) => show_bytes(self.alloc, bytes_in(bytes, range)?, out)?,
-                    None => show_bytes(self.alloc, bytes, out)?,
-                }
-            }
-            _ => return Ok(false),
-        }
-        Ok(true)
+    fn show_same(&self, first: &str, second: &str, out: &mut Vec<u8>) -> Result<(), Stop> {
+        let is_same = self.buffer(first)? == self.buffer(second)?;
+        Ok(writeln!(out, "{is_same}")?)
     }
 }
 

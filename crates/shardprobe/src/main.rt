@@ -4,7 +4,6 @@
 
 mod buffers;
 mod device;
-mod fields;
 mod minimal;
 mod probe;
 mod reading;
@@ -15,7 +14,7 @@ mod search;
 mod sections;
 mod sets;
 mod shards;
-mod show;
+mod shared;
 mod stop;
 mod values;
 mod views;

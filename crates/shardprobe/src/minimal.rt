@@ -2,53 +2,62 @@
 
 use crate::runs::Run;
 use crate::sections::Zeros;
-use crate::show::show_line;
 use crate::stop::Stop;
-use script_lines::records::parse_listed;
-use script_lines::words::{parse_flags, parse_u64, parse_u64_or_dash};
+use script_lines::command::{Command, parse_kept, parse_words};
+use script_lines::records::Form;
+use script_lines::show::show_line;
+use script_lines::words::{parse_flags, parse_u64};
+use shard_bytes::minimal::{KeptXorbs, Subset};
 use std::alloc::Global;
-use std::io;
-use std::io::{Read, Write};
+use std::io::{self, Read, Write};
+use xet_core_structures::file_structs::KeptParts;
 use xet_core_structures::merklehash::MerkleHash;
 use xet_core_structures::streaming_shard::MDBMinimalShard;
 use xet_core_structures::xorb_structs::MDBXorbInfoView;
+
+// The number that a call that writes returns.
+type Written = Result<usize, Stop>;
 
 impl Run<'_> {
     /// Runs `minimal B1 B2 NOW OPT`, or `dropmin ..` without auxiliary rows, `subset B1 B2 NOW
     /// EXPIRY LIST` or `subset_only B1 B2 NOW LIST` on the minimal shard that is read from the
     /// source of B1, and prints the number that the call returns.
     pub fn write_minimal(&mut self, words: &[&str], out: &mut Vec<u8>) -> Result<(), Stop> {
-        let [command, _, _, now, options @ ..] = words else {
-            return Err(Stop::Unreadable);
-        };
-        let alloc = self.alloc;
-        let shard = minimal_shard(alloc, &mut self.first, "fx")?;
-        let output = &mut self.output;
-        let now = parse_u64(now)?;
-        let size = match (*command, options) {
-            ("minimal", [rows]) => {
-                let [verification] = parse_flags(rows, b"v")?;
-                shard.serialize(alloc, output, now, verification)?
-            }
-            ("dropmin", [rows]) => {
-                let [verification] = parse_flags(rows, b"v")?;
-                shard.serialize_without_aux(alloc, output, now, verification)?
-            }
-            ("subset", [expiry, list @ ..]) => {
-                let expiry = parse_u64_or_dash(expiry)?;
-                let kept = parse_listed(alloc, list)?;
-                let is_kept = |xorb: &MDBXorbInfoView| has(&kept, &xorb.xorb_hash());
-                shard.serialize_xorb_subset_with_expiry(alloc, output, now, expiry, is_kept)?
-            }
-            ("subset_only", list) => {
-                let kept = parse_listed(alloc, list)?;
-                let is_kept = |xorb: &MDBXorbInfoView| has(&kept, &xorb.xorb_hash());
-                shard.serialize_xorb_subset_only(alloc, output, now, is_kept)?
-            }
-            _ => return Err(Stop::Unreadable),
-        };
+        let shard = minimal_shard(self.alloc, &mut self.first, "fx")?;
+        let command = parse_words(self.alloc, words, Form::Full)?;
+        let size = match &command {
+            Some(Command::Minimal { now, kept, .. }) => self.write_whole(&shard, *now, *kept),
+            Some(Command::Subset { subset, .. }) => self.write_subset(&shard, subset),
+            _ => self.write_subset_only(&shard, words),
+        }?;
         writeln!(out, "{size}")?;
         Ok(())
+    }
+
+    fn write_whole(&mut self, shard: &MDBMinimalShard, now: u64, kept: KeptParts) -> Written {
+        let output = &mut self.output;
+        match kept.aux_ext {
+            true => Ok(shard.serialize(self.alloc, output, now, kept.verification)?),
+            false => Ok(shard.serialize_without_aux(self.alloc, output, now, kept.verification)?),
+        }
+    }
+
+    fn write_subset(&mut self, shard: &MDBMinimalShard, subset: &Subset) -> Written {
+        let kept = &subset.kept;
+        let is_kept = |xorb: &MDBXorbInfoView| has(kept, &xorb.xorb_hash());
+        let (now, expiry) = (subset.now, subset.expiry);
+        let output = &mut self.output;
+        Ok(shard.serialize_xorb_subset_with_expiry(self.alloc, output, now, expiry, is_kept)?)
+    }
+
+    fn write_subset_only(&mut self, shard: &MDBMinimalShard, words: &[&str]) -> Written {
+        let [_, _, _, now, list @ ..] = words else {
+            return Err(Stop::Unreadable);
+        };
+        let now = parse_u64(now)?;
+        let kept = parse_kept(self.alloc, list)?;
+        let is_kept = |xorb: &MDBXorbInfoView| has(&kept, &xorb.xorb_hash());
+        Ok(shard.serialize_xorb_subset_only(self.alloc, &mut self.output, now, is_kept)?)
     }
 
     /// Prints what the minimal shard has that is read from the first source. The word names its
@@ -71,11 +80,11 @@ impl Run<'_> {
     }
 }
 
-// Whether a list of xorbs has one. No list is that of all.
-fn has(listed: &Option<Vec<MerkleHash>>, hash: &MerkleHash) -> bool {
-    match listed {
-        Some(hashes) => hashes.as_slice().contains(hash),
-        None => true,
+// Whether one of the xorbs that are kept has a hash.
+fn has(kept: &KeptXorbs, hash: &MerkleHash) -> bool {
+    match kept {
+        KeptXorbs::All => true,
+        KeptXorbs::Listed(hashes) => hashes.as_slice().contains(hash),
     }
 }
 

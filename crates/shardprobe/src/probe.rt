@@ -33,10 +33,10 @@ impl Probe {
     /// Runs a command and appends what it prints.
     pub fn run(&mut self, words: &[&str], out: &mut Vec<u8>) -> Result<(), Stop> {
         let is_run = self.switch(words)?
+            || self.run_shared(words, out)?
             || self.run_on_shards(words)?
             || self.show_shards(words, out)?
-            || self.run_on_buffers(words)?
-            || self.show_buffers(words, out)?
+            || self.run_on_buffers(words, out)?
             || self.run_on_rows(words, out)?
             || self.show_views(words, out)?
             || self.show_sections(words, out)?

@@ -1,15 +1,15 @@
 //! Commands that read a buffer through a device.
 
-use crate::fields::show_info;
 use crate::runs::Run;
-use crate::show::{Show, show_counted, show_joined, show_line};
 use crate::stop::Stop;
-use script_lines::records::parse_hashes;
+use script_lines::command::{Command, parse_words};
+use script_lines::fields::{footer_fields, header_fields};
+use script_lines::records::{Form, parse_hashes};
+use script_lines::show::{Show, show_counted, show_joined, show_line};
 use script_lines::words::{parse_hash, parse_optional_u64, parse_u32};
 use std::alloc::Global;
-use std::io;
-use std::io::Write;
-use xet_core_structures::merklehash::MerkleHash;
+use std::io::{self, Write};
+use xet_core_structures::error::Result as CoreResult;
 use xet_core_structures::shard_format::MDBShardInfo;
 use xet_core_structures::source::{MemorySource, ShardSource};
 
@@ -45,12 +45,34 @@ impl Run<'_> {
                 _,
                 parts,
             ] => { self.show_minimal(words[0], parts, out) }
+            ["find" | "query", ..] => self.find_or_query(words, out),
             [command, _, arguments @ ..] => {
                 let info = info_of(alloc, source.bytes)?;
                 self.read_known(&info, command, arguments, out)
             }
             _ => Err(Stop::Unreadable),
         }
+    }
+
+    // Makes the call of a command that `shardtool` has too.
+    fn find_or_query(&mut self, words: &[&str], out: &mut Vec<u8>) -> Result<(), Stop> {
+        let alloc = self.alloc;
+        let source = &mut self.first;
+        let info = info_of(alloc, source.bytes)?;
+        match parse_words(alloc, words, Form::Full)? {
+            Some(Command::Find { hash, .. }) => {
+                show_line(
+                    &info.get_file_reconstruction_info(alloc, source, &hash)?,
+                    out,
+                )?;
+            }
+            Some(Command::Query { hashes, .. }) => {
+                let run = info.chunk_hash_dedup_query(alloc, source, hashes.as_slice())?;
+                show_line(&run, out)?;
+            }
+            _ => return Err(Stop::Unreadable),
+        }
+        Ok(())
     }
 
     // Makes a call that takes header and footer.
@@ -63,34 +85,50 @@ impl Run<'_> {
     ) -> Result<(), Stop> {
         let alloc = self.alloc;
         macro_rules! show {
-            ($call:ident $(, $argument:expr)*) => {
-                show_line(&info.$call(alloc, &mut self.first $(, $argument)*)?, out)?
+            ($call:ident) => {
+                show_answer(info.$call(alloc, &mut self.first), out)
             };
         }
         match (command, arguments) {
-            ("ranges", []) => show_ranges(info, out)?,
+            ("ranges", []) => Ok(show_ranges(info, out)?),
             ("read_files", []) => show!(read_all_file_info_sections),
             ("read_xorbs", []) => show!(read_all_xorb_blocks_full),
             ("read_xorb_headers", []) => show!(read_all_xorb_blocks),
             ("read_xorb_table", []) => show!(read_full_xorb_lookup),
             ("read_words", []) => show!(read_all_truncated_hashes),
-            ("find", [hash]) => show!(get_file_reconstruction_info, &parse_hash(hash)?),
-            ("file_at", [row]) => show!(read_file_info, parse_u32(row)?),
-            ("run", hashes) => {
-                show!(
-                    chunk_hash_dedup_query,
-                    parse_hashes(alloc, hashes)?.as_slice()
-                );
+            ("file_at", [row]) => self.show_file_at(info, row, out),
+            ("query_at", [row, index, hashes @ ..]) => {
+                self.show_query_at(info, row, index, hashes, out)
             }
-            ("run_at", [row, index, hashes @ ..]) => {
-                let hashes = parse_hashes(alloc, hashes)?;
-                let (row, index) = (parse_u32(row)?, parse_u32(index)?);
-                show!(chunk_hash_dedup_query_direct, hashes.as_slice(), row, index);
-            }
-            (_, [hash]) => self.look_up(info, command, parse_hash(hash)?, out)?,
-            _ => return Err(Stop::Unreadable),
+            (_, [hash]) => self.look_up(info, command, hash, out),
+            _ => Err(Stop::Unreadable),
         }
-        Ok(())
+    }
+
+    fn show_file_at(
+        &mut self,
+        info: &MDBShardInfo,
+        row: &str,
+        out: &mut Vec<u8>,
+    ) -> Result<(), Stop> {
+        let row = parse_u32(row)?;
+        show_answer(info.read_file_info(self.alloc, &mut self.first, row), out)
+    }
+
+    fn show_query_at(
+        &mut self,
+        info: &MDBShardInfo,
+        row: &str,
+        index: &str,
+        hashes: &[&str],
+        out: &mut Vec<u8>,
+    ) -> Result<(), Stop> {
+        let alloc = self.alloc;
+        let hashes = parse_hashes(alloc, hashes)?;
+        let (row, index) = (parse_u32(row)?, parse_u32(index)?);
+        let source = &mut self.first;
+        let run = info.chunk_hash_dedup_query_direct(alloc, source, hashes.as_slice(), row, index);
+        show_answer(run, out)
     }
 
     // Makes a call that puts what it finds of a hash, up to 8 rows or locations, into an array.
@@ -98,9 +136,10 @@ impl Run<'_> {
         &mut self,
         info: &MDBShardInfo,
         command: &str,
-        hash: MerkleHash,
+        hash: &str,
         out: &mut Vec<u8>,
     ) -> Result<(), Stop> {
+        let hash = parse_hash(hash)?;
         macro_rules! show_found {
             ($call:ident, $none:expr) => {{
                 let mut found = [$none; 8];
@@ -119,6 +158,11 @@ impl Run<'_> {
     }
 }
 
+/// Prints what a call returns, if it does not fail.
+pub fn show_answer<T: Show + Drop>(answer: CoreResult<T>, out: &mut Vec<u8>) -> Result<(), Stop> {
+    Ok(show_line(&answer?, out)?)
+}
+
 fn show_ranges(info: &MDBShardInfo, out: &mut Vec<u8>) -> io::Result<()> {
     let ranges = [
         info.file_info_byte_range(),
@@ -131,18 +175,26 @@ fn show_ranges(info: &MDBShardInfo, out: &mut Vec<u8>) -> io::Result<()> {
     writeln!(out)
 }
 
-// A file's hash, the bytes of its segments and of its verification rows, and its SHA-256.
-impl Show
-    for (
-        MerkleHash,
-        (u64, u64),
-        Option<(u64, u64)>,
-        Option<MerkleHash>,
-    ) {
-    fn show(&self, out: &mut Vec<u8>) -> io::Result<()> {
-        let (hash, segments, verification, sha256) = self;
-        hash.show(out)?;
-        show_joined(" ", &[Some(*segments), *verification], " ", out)?;
-        show_joined(" ", &[*sha256], "", out)
+/// Prints the fields that are named, on one line, or if none is all fields of the header on a line
+/// and all fields of the footer on the next. `Unreadable` if a field has another name.
+pub fn show_info(info: &MDBShardInfo, names: &[&str], out: &mut Vec<u8>) -> Result<(), Stop> {
+    if names.is_empty() {
+        show_line(&info.header, out)?;
+        show_line(&info.metadata, out)?;
+        return Ok(());
     }
+    let header = header_fields(&info.header);
+    let footer = footer_fields(&info.metadata);
+    let mut before = "";
+    for name in names {
+        write!(out, "{before}")?;
+        let field = header
+            .iter()
+            .chain(footer.iter())
+            .find(|field| field.name == *name);
+        field.ok_or(Stop::Unreadable)?.show(out)?;
+        before = " ";
+    }
+    writeln!(out)?;
+    Ok(())
 }

@@ -4,12 +4,12 @@ ghost use Rattle.std.specs.Prelude.{IsTrue};
 ghost use Rattle.xet_core_structures.specs.FileRecord.{FitsItsHeader};
 
 use crate::probe::Probe;
-use crate::show::show_line;
 use crate::stop::Stop;
 use script_lines::files_and_xorbs::{parse_file, parse_xorb};
 use script_lines::records::{
     Form, parse_aux, parse_full_chunk, parse_full_segment, parse_metadata, parse_verification_row,
 };
+use script_lines::show::show_line;
 use script_lines::words::parse_optional_u64;
 use std::alloc::Global;
 use std::io::{ErrorKind, Write};
@@ -27,24 +27,39 @@ impl Probe {
     /// Runs a command that writes or reads a row or a record. `false` if the words are no such
     /// command.
     pub fn run_on_rows(&mut self, words: &[&str], out: &mut Vec<u8>) -> Result<bool, Stop> {
-        let alloc = self.alloc;
         match words {
-            ["append", kind, name, value @ ..] => {
-                // The buffer stays as it is if serializing fails.
-                let mut written = Vec::new(alloc);
-                let count = write_value(alloc, kind, value, &mut written)?;
-                self.buffer_mut(name)?
-                    .extend_from_slice(written.as_slice())?;
-                writeln!(out, "{count}")?;
-            }
-            ["read", kind, name, from @ ..] => {
-                let from = parse_optional_u64(from)?.unwrap_or(0);
-                show_value(alloc, kind, self.buffer_from(name, from)?, out)?;
-            }
-            ["cuts", kind, name] => show_cuts(alloc, kind, self.buffer(name)?, out)?,
+            ["append", kind, name, value @ ..] => self.append(kind, name, value, out),
+            ["read", kind, name, from @ ..] => self.show_read(kind, name, from, out),
+            ["cuts", kind, name] => show_cuts(self.alloc, kind, self.buffer(name)?, out),
             _ => return Ok(false),
-        }
+        }?;
         Ok(true)
+    }
+
+    // The buffer stays as it is if serializing fails.
+    fn append(
+        &mut self,
+        kind: &str,
+        name: &str,
+        value: &[&str],
+        out: &mut Vec<u8>,
+    ) -> Result<(), Stop> {
+        let mut written = Vec::new(self.alloc);
+        let count = write_value(self.alloc, kind, value, &mut written)?;
+        self.buffer_mut(name)?
+            .extend_from_slice(written.as_slice())?;
+        Ok(writeln!(out, "{count}")?)
+    }
+
+    fn show_read(
+        &self,
+        kind: &str,
+        name: &str,
+        from: &[&str],
+        out: &mut Vec<u8>,
+    ) -> Result<(), Stop> {
+        let from = parse_optional_u64(from)?.unwrap_or(0);
+        show_value(self.alloc, kind, self.buffer_from(name, from)?, out)
     }
 
     /// The bytes of a buffer from an offset on. `Unreadable` if it is past their end.

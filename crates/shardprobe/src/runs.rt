@@ -50,15 +50,16 @@ enum Kind {
 }
 
 fn kind_of(words: &[&str]) -> Kind {
-    match words {
-        ["set_union" | "set_difference", ..] => Kind::Combining,
-        [
-            "export" | "drop" | "export_streaming" | "drop_streaming",
-            ..
-        ] => Kind::Exporting,
-        ["minimal" | "dropmin" | "subset" | "subset_only", ..] => Kind::WritingMinimal,
-        ["minimal_sums" | "minimal_records" | "minimal_eligible", ..] => Kind::ReadingOn,
-        ["eligible_chunks", ..] => Kind::ReadingOn,
+    let Some(command) = words.first() else {
+        return Kind::Reading;
+    };
+    match *command {
+        "set_union" | "set_difference" => Kind::Combining,
+        "export" | "drop" | "export_streaming" | "drop_streaming" => Kind::Exporting,
+        "minimal" | "dropmin" | "subset" | "subset_only" => Kind::WritingMinimal,
+        "minimal_sums" | "minimal_records" | "minimal_eligible" | "eligible_chunks" => {
+            Kind::ReadingOn
+        }
         _ => Kind::Reading,
     }
 }

@@ -2,8 +2,8 @@
 
 use crate::minimal::show_endless;
 use crate::probe::Probe;
-use crate::show::{Show, show_line};
 use crate::stop::Stop;
+use script_lines::show::{Show, show_line};
 use script_lines::words::{parse_optional_u64, parse_u64};
 use std::alloc::Global;
 use std::io;
@@ -19,42 +19,63 @@ use xet_core_structures::xorb_structs::MDBXorbInfoView;
 impl Probe {
     /// Runs a command that reads a section in one pass. `false` if the words are no such command.
     pub fn show_sections(&self, words: &[&str], out: &mut Vec<u8>) -> Result<bool, Stop> {
-        let alloc = self.alloc;
-        // Prints the record of each call, and then how many bytes are left.
-        macro_rules! show_each {
-            ($section:ident, $process:ident, $view:ty $(, $version:expr)?) => {{
-                let (mut left, mut calls) = $section;
-                let mut show = |view: $view| calls.show(&view.to_info(alloc)?, out);
-                let answer = $process(alloc, &mut left, $($version,)? &mut show);
-                let left = left.len();
-                writeln!(out, "left {left}")?;
-                answer?;
-            }};
-        }
         match words {
-            ["each_file", name, from, last @ ..] => {
-                let section = self.section(name, from, last)?;
-                show_each!(section, process_shard_file_info_section, MDBFileInfoView);
-            }
+            ["each_file", name, from, last @ ..] => self.show_files(name, from, last, out),
             ["each_file_in", version, name, from, last @ ..] => {
-                let section = self.section(name, from, last)?;
-                let version = parse_u64(version)?;
-                show_each!(
-                    section,
-                    process_shard_file_info_section_versioned,
-                    MDBFileInfoView,
-                    version
-                );
+                self.show_files_in(version, name, from, last, out)
             }
-            ["each_xorb", name, from, last @ ..] => {
-                let section = self.section(name, from, last)?;
-                show_each!(section, process_shard_xorb_info_section, MDBXorbInfoView);
-            }
-            ["endless_files", last] => count_files(alloc, Calls::parse(&[*last])?, out)?,
-            ["endless_minimal", parts] => show_endless(alloc, parts, out)?,
+            ["each_xorb", name, from, last @ ..] => self.show_xorbs(name, from, last, out),
+            ["endless_files", last] => count_files(self.alloc, last, out),
+            ["endless_minimal", parts] => show_endless(self.alloc, parts, out),
             _ => return Ok(false),
-        }
+        }?;
         Ok(true)
+    }
+
+    fn show_files(
+        &self,
+        name: &str,
+        from: &str,
+        last: &[&str],
+        out: &mut Vec<u8>,
+    ) -> Result<(), Stop> {
+        let (mut left, mut calls) = self.section(name, from, last)?;
+        let alloc = self.alloc;
+        let mut show = |view: MDBFileInfoView| calls.show(&view.to_info(alloc)?, out);
+        let answer = process_shard_file_info_section(alloc, &mut left, &mut show);
+        show_left(answer, left, out)
+    }
+
+    fn show_files_in(
+        &self,
+        version: &str,
+        name: &str,
+        from: &str,
+        last: &[&str],
+        out: &mut Vec<u8>,
+    ) -> Result<(), Stop> {
+        let (mut left, mut calls) = self.section(name, from, last)?;
+        let version = parse_u64(version)?;
+        let alloc = self.alloc;
+        let mut show = |view: MDBFileInfoView| calls.show(&view.to_info(alloc)?, out);
+        let answer = process_shard_file_info_section_versioned(
+            alloc, &mut left, version, &mut show,
+        );
+        show_left(answer, left, out)
+    }
+
+    fn show_xorbs(
+        &self,
+        name: &str,
+        from: &str,
+        last: &[&str],
+        out: &mut Vec<u8>,
+    ) -> Result<(), Stop> {
+        let (mut left, mut calls) = self.section(name, from, last)?;
+        let alloc = self.alloc;
+        let mut show = |view: MDBXorbInfoView| calls.show(&view.to_info(alloc)?, out);
+        let answer = process_shard_xorb_info_section(alloc, &mut left, &mut show);
+        show_left(answer, left, out)
     }
 
     // The bytes of a section, and its calls.
@@ -62,6 +83,13 @@ impl Probe {
         let bytes = self.buffer_from(name, parse_u64(from)?)?;
         Ok((bytes, Calls::parse(last)?))
     }
+}
+
+// Prints how many bytes are left behind a section.
+fn show_left(answer: CoreResult<()>, left: &[u8], out: &mut Vec<u8>) -> Result<(), Stop> {
+    let left = left.len();
+    writeln!(out, "left {left}")?;
+    Ok(answer?)
 }
 
 // The calls that were made, and the one that fails, from 1, or 0 if none does.
@@ -94,7 +122,8 @@ impl Calls {
 }
 
 // Prints how many files of a section without an end are read.
-fn count_files(alloc: Global, mut calls: Calls, out: &mut Vec<u8>) -> Result<(), Stop> {
+fn count_files(alloc: Global, last: &str, out: &mut Vec<u8>) -> Result<(), Stop> {
+    let mut calls = Calls::parse(&[last])?;
     let mut count = |_view: MDBFileInfoView| calls.count();
     let answer = process_shard_file_info_section(alloc, &mut Zeros {}, &mut count);
     let made = calls.made;

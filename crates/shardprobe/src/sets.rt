@@ -1,48 +1,57 @@
 //! Unions of many buffers, by a tree, and whether buffers agree.
 
 use crate::probe::Probe;
-use crate::show::{Show, show_line};
 use crate::stop::Stop;
+use script_lines::show::show_line;
 use script_lines::words::parse_u64;
 use std::alloc::Global;
-use std::io;
-use std::io::Write;
 use xet_core_structures::set_operations::{
-    Disagreement, MergePlan, Merged, RecordHash, find_disagreement, find_disagreements,
-    merge_agreeing, shard_union_tree,
+    MergePlan, Merged, find_disagreement, find_disagreements, merge_agreeing, shard_union_tree,
 };
 
 impl Probe {
     /// Runs a command on many buffers. `false` if the words are no such command.
     pub fn run_on_sets(&mut self, words: &[&str], out: &mut Vec<u8>) -> Result<bool, Stop> {
-        let alloc = self.alloc;
         match words {
-            ["set_tree", name, words @ ..] => {
-                let (tree, names) = split_at_with(words)?;
-                let tree = parse_tree(alloc, tree)?;
-                let bytes = shard_union_tree(alloc, &tree, self.buffers(names)?.as_slice())?;
-                self.put_buffer(name, bytes)?;
-            }
-            ["set_agreeing", name, words @ ..] => {
-                let (tree, names) = split_at_with(words)?;
-                let tree = parse_tree(alloc, tree)?;
-                let merged = merge_agreeing(alloc, &tree, self.buffers(names)?.as_slice())?;
-                match merged {
-                    Merged::Bytes(bytes) => self.put_buffer(name, bytes)?,
-                    Merged::Disagreement(found) => show_line(&found, out)?,
-                }
-            }
-            ["disagreements", names @ ..] => {
-                let found = find_disagreements(alloc, self.buffers(names)?.as_slice())?;
-                show_line(&found, out)?;
-            }
-            ["disagreement", names @ ..] => {
-                let found = find_disagreement(alloc, self.buffers(names)?.as_slice())?;
-                show_line(&found, out)?;
-            }
+            ["set_tree", name, words @ ..] => self.unite(name, words),
+            ["set_agreeing", name, words @ ..] => self.unite_agreeing(name, words, out),
+            ["disagreements", names @ ..] => self.show_disagreements(names, out),
+            ["disagreement", names @ ..] => self.show_disagreement(names, out),
             _ => return Ok(false),
-        }
+        }?;
         Ok(true)
+    }
+
+    fn unite(&mut self, name: &str, words: &[&str]) -> Result<(), Stop> {
+        let (tree, names) = split_at_with(words)?;
+        let tree = parse_tree(self.alloc, tree)?;
+        let bytes = shard_union_tree(self.alloc, &tree, self.buffers(names)?.as_slice())?;
+        self.put_buffer(name, bytes)
+    }
+
+    fn unite_agreeing(
+        &mut self,
+        name: &str,
+        words: &[&str],
+        out: &mut Vec<u8>,
+    ) -> Result<(), Stop> {
+        let (tree, names) = split_at_with(words)?;
+        let tree = parse_tree(self.alloc, tree)?;
+        let merged = merge_agreeing(self.alloc, &tree, self.buffers(names)?.as_slice())?;
+        match merged {
+            Merged::Bytes(bytes) => self.put_buffer(name, bytes),
+            Merged::Disagreement(found) => Ok(show_line(&found, out)?),
+        }
+    }
+
+    fn show_disagreements(&self, names: &[&str], out: &mut Vec<u8>) -> Result<(), Stop> {
+        let found = find_disagreements(self.alloc, self.buffers(names)?.as_slice())?;
+        Ok(show_line(&found, out)?)
+    }
+
+    fn show_disagreement(&self, names: &[&str], out: &mut Vec<u8>) -> Result<(), Stop> {
+        let found = find_disagreement(self.alloc, self.buffers(names)?.as_slice())?;
+        Ok(show_line(&found, out)?)
     }
 }
 
@@ -75,18 +84,5 @@ fn parse_tree(alloc: Global, words: &[&str]) -> Result<MergePlan, Stop> {
     match trees.pop() {
         Some(tree) if trees.is_empty() => Ok(tree),
         _ => Err(Stop::Unreadable),
-    }
-}
-
-// Whose the hash is, the hash, and the numbers of the two buffers.
-impl Show for Disagreement {
-    fn show(&self, out: &mut Vec<u8>) -> io::Result<()> {
-        let (kind, hash) = match self.record_hash {
-            RecordHash::File(hash) => ("file ", hash),
-            RecordHash::Xorb(hash) => ("xorb ", hash),
-        };
-        out.write_all(kind.as_bytes())?;
-        hash.show(out)?;
-        write!(out, " {} {}", self.first, self.second)
     }
 }

@@ -5,15 +5,15 @@ ghost use Rattle.xet_core_structures.specs.XorbRecord.{end_of_chunk};
 
 use crate::probe::Probe;
 use crate::sets::split_at_with;
-use crate::show::{show_joined, show_line};
 use crate::stop::Stop;
 use script_lines::files_and_xorbs::{parse_file, parse_xorb};
 use script_lines::records::Form;
+use script_lines::show::{show_joined, show_line};
 use script_lines::words::{parse_hash, parse_key, parse_u32};
 use std::alloc::Global;
 use std::io::{self, Write};
 use xet_core_structures::error::CoreError;
-use xet_core_structures::file_structs::{FileDataSequenceHeader, MDBFileInfo};
+use xet_core_structures::file_structs::FileDataSequenceHeader;
 use xet_core_structures::merklehash::MerkleHash;
 use xet_core_structures::utils::{parse_shard_filename, shard_file_name};
 use xet_core_structures::xorb_structs::XorbChunkSequenceEntry;
@@ -23,68 +23,77 @@ impl Probe {
     pub fn show_values(&self, words: &[&str], out: &mut Vec<u8>) -> Result<bool, Stop> {
         let alloc = self.alloc;
         match words {
-            ["digits", hash] => {
-                let digits = parse_hash(hash)?.hex(alloc)?;
-                writeln!(out, "{digits}")?;
-            }
-            ["from_hex", text @ ..] => {
-                let hash = MerkleHash::from_hex(text.first().copied().unwrap_or(""));
-                let hash = hash.map_err(|error| CoreError::of_hex_error(alloc, error))?;
-                show_words(hash, out)?;
-            }
-            ["from_bytes", digits @ ..] => {
-                let hash = MerkleHash::from_slice(self.parse_bytes(digits)?.as_slice());
-                let hash = hash.map_err(|error| CoreError::of_bytes_error(alloc, error))?;
-                show_words(hash, out)?;
-            }
-            ["hmac", key, hash] => {
-                let keyed = parse_hash(hash)?.hmac(parse_key(key)?);
-                writeln!(out, "{keyed}")?;
-            }
-            ["name", hash] => {
-                let name = shard_file_name(alloc, &parse_hash(hash)?)?;
-                writeln!(out, "{name}")?;
-            }
-            ["parse_name", text] => show_line(&parse_shard_filename(text), out)?,
-            ["error", "other", text] => return Err(Stop::Refused(CoreError::other(alloc, text))),
+            ["digits", hash] => show_digits(alloc, hash, out),
+            ["from_hex", text @ ..] => show_from_hex(alloc, text, out),
+            ["from_bytes", digits @ ..] => self.show_from_bytes(digits, out),
+            ["hmac", key, hash] => show_hmac(key, hash, out),
+            ["name", hash] => show_name(alloc, hash, out),
+            ["parse_name", text] => Ok(show_line(&parse_shard_filename(text), out)?),
+            ["error", "other", text] => Err(Stop::Refused(CoreError::other(alloc, text))),
             ["error", "invalid_shard", text] => {
-                return Err(Stop::Refused(CoreError::invalid_shard(alloc, text)));
+                Err(Stop::Refused(CoreError::invalid_shard(alloc, text)))
             }
             _ => return Ok(false),
-        }
+        }?;
         Ok(true)
+    }
+
+    fn show_from_bytes(&self, digits: &[&str], out: &mut Vec<u8>) -> Result<(), Stop> {
+        let alloc = self.alloc;
+        match MerkleHash::from_slice(self.parse_bytes(digits)?.as_slice()) {
+            Ok(hash) => Ok(show_words(hash, out)?),
+            Err(error) => Err(Stop::Refused(CoreError::of_bytes_error(alloc, error))),
+        }
     }
 
     /// Runs a command on records alone. `false` if the words are no such command.
     pub fn show_records(&self, words: &[&str], out: &mut Vec<u8>) -> Result<bool, Stop> {
         let alloc = self.alloc;
         match words {
-            ["flags", first, second] => {
-                let first = header_with(parse_u32(first)?);
-                let second = header_with(parse_u32(second)?);
-                let compared = FileDataSequenceHeader::compare_flag_superset(&first, &second);
-                writeln!(out, "{compared:?}")?;
-            }
-            ["merge_files", records @ ..] => show_line(&merged(alloc, records)?, out)?,
-            ["clone_file", record @ ..] => {
-                let file = parse_file(alloc, record, Form::Full)?;
-                show_line(&file.try_clone(alloc)?, out)?;
-            }
-            ["clone_xorb", record @ ..] => {
-                let xorb = parse_xorb(alloc, record, Form::Full)?;
-                show_line(&xorb.try_clone(alloc)?, out)?;
-            }
-            ["boundaries", record @ ..] => show_boundaries(alloc, record, out)?,
+            ["flags", first, second] => show_compared(first, second, out),
+            ["merge_files", records @ ..] => show_merged(alloc, records, out),
+            ["clone_file", record @ ..] => show_cloned_file(alloc, record, out),
+            ["clone_xorb", record @ ..] => show_cloned_xorb(alloc, record, out),
+            ["boundaries", record @ ..] => show_boundaries(alloc, record, out),
             _ => return Ok(false),
-        }
+        }?;
         Ok(true)
     }
+}
+
+fn show_digits(alloc: Global, hash: &str, out: &mut Vec<u8>) -> Result<(), Stop> {
+    let digits = parse_hash(hash)?.hex(alloc)?;
+    Ok(writeln!(out, "{digits}")?)
+}
+
+fn show_from_hex(alloc: Global, text: &[&str], out: &mut Vec<u8>) -> Result<(), Stop> {
+    match MerkleHash::from_hex(text.first().copied().unwrap_or("")) {
+        Ok(hash) => Ok(show_words(hash, out)?),
+        Err(error) => Err(Stop::Refused(CoreError::of_hex_error(alloc, error))),
+    }
+}
+
+fn show_hmac(key: &str, hash: &str, out: &mut Vec<u8>) -> Result<(), Stop> {
+    let keyed = parse_hash(hash)?.hmac(parse_key(key)?);
+    Ok(writeln!(out, "{keyed}")?)
+}
+
+fn show_name(alloc: Global, hash: &str, out: &mut Vec<u8>) -> Result<(), Stop> {
+    let name = shard_file_name(alloc, &parse_hash(hash)?)?;
+    Ok(writeln!(out, "{name}")?)
 }
 
 // Prints the four words of a hash in decimal.
 fn show_words(hash: MerkleHash, out: &mut Vec<u8>) -> io::Result<()> {
     show_joined("", &[hash[0], hash[1], hash[2], hash[3]], " ", out)?;
     writeln!(out)
+}
+
+fn show_compared(first: &str, second: &str, out: &mut Vec<u8>) -> Result<(), Stop> {
+    let first = header_with(parse_u32(first)?);
+    let second = header_with(parse_u32(second)?);
+    let compared = FileDataSequenceHeader::compare_flag_superset(&first, &second);
+    Ok(writeln!(out, "{compared:?}")?)
 }
 
 fn header_with(file_flags: u32) -> FileDataSequenceHeader {
@@ -94,9 +103,9 @@ fn header_with(file_flags: u32) -> FileDataSequenceHeader {
     }
 }
 
-// The first of two records after the other is merged into it. `Unreadable` if they are not of one
-// file.
-fn merged(alloc: Global, records: &[&str]) -> Result<MDBFileInfo, Stop> {
+// Prints the first of two records after the other is merged into it. `Unreadable` if they are not of
+// one file.
+fn show_merged(alloc: Global, records: &[&str], out: &mut Vec<u8>) -> Result<(), Stop> {
     let (first, second) = split_at_with(records)?;
     let mut file = parse_file(alloc, first, Form::Full)?;
     let other = parse_file(alloc, second, Form::Full)?;
@@ -104,7 +113,17 @@ fn merged(alloc: Global, records: &[&str]) -> Result<MDBFileInfo, Stop> {
         return Err(Stop::Unreadable);
     }
     file.merge_from(alloc, &other)?;
-    Ok(file)
+    Ok(show_line(&file, out)?)
+}
+
+fn show_cloned_file(alloc: Global, record: &[&str], out: &mut Vec<u8>) -> Result<(), Stop> {
+    let file = parse_file(alloc, record, Form::Full)?;
+    Ok(show_line(&file.try_clone(alloc)?, out)?)
+}
+
+fn show_cloned_xorb(alloc: Global, record: &[&str], out: &mut Vec<u8>) -> Result<(), Stop> {
+    let xorb = parse_xorb(alloc, record, Form::Full)?;
+    Ok(show_line(&xorb.try_clone(alloc)?, out)?)
 }
 
 fn show_boundaries(alloc: Global, xorb: &[&str], out: &mut Vec<u8>) -> Result<(), Stop> {

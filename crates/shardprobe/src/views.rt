@@ -1,11 +1,12 @@
 //! Commands on views of records.
 
 use crate::probe::Probe;
-use crate::show::{show_bytes, show_line};
+use crate::reading::show_answer;
 use crate::stop::Stop;
 use bytes::Bytes;
 use script_lines::files_and_xorbs::{parse_file, parse_xorb};
 use script_lines::records::Form;
+use script_lines::show::{show_bytes, show_line};
 use script_lines::words::parse_u64;
 use std::alloc::Global;
 use std::io::Write;
@@ -17,30 +18,37 @@ impl Probe {
     /// Runs a command on a view of the record that a buffer begins with. `false` if the words are
     /// no such command.
     pub fn show_views(&self, words: &[&str], out: &mut Vec<u8>) -> Result<bool, Stop> {
-        let alloc = self.alloc;
         match words {
-            ["file_view", name, call @ ..] => {
-                let view = MDBFileInfoView::new(alloc, self.copied(name)?)?;
-                show_file_view(&view, alloc, call, out)?;
-            }
-            ["file_view_under", name, record @ ..] => {
-                let header = parse_file(alloc, record, Form::Full)?.metadata;
-                let bytes = self.copied(name)?;
-                let view = MDBFileInfoView::from_data_and_header(alloc, header, bytes)?;
-                show_line(view.header(), out)?;
-            }
-            ["xorb_view", name, call @ ..] => {
-                let view = MDBXorbInfoView::new(self.copied(name)?)?;
-                show_xorb_view(&view, alloc, call, out)?;
-            }
-            ["xorb_view_under", name, record @ ..] => {
-                let header = parse_xorb(alloc, record, Form::Full)?.metadata;
-                let view = MDBXorbInfoView::from_data_and_header(header, self.copied(name)?)?;
-                show_line(view.header(), out)?;
-            }
+            ["file_view", name, call @ ..] => self.view_file(name, call, out),
+            ["file_view_under", name, record @ ..] => self.view_file_under(name, record, out),
+            ["xorb_view", name, call @ ..] => self.view_xorb(name, call, out),
+            ["xorb_view_under", name, record @ ..] => self.view_xorb_under(name, record, out),
             _ => return Ok(false),
-        }
+        }?;
         Ok(true)
+    }
+
+    fn view_file(&self, name: &str, call: &[&str], out: &mut Vec<u8>) -> Result<(), Stop> {
+        let view = MDBFileInfoView::new(self.alloc, self.copied(name)?)?;
+        show_file_view(&view, self.alloc, call, out)
+    }
+
+    fn view_file_under(&self, name: &str, record: &[&str], out: &mut Vec<u8>) -> Result<(), Stop> {
+        let header = parse_file(self.alloc, record, Form::Full)?.metadata;
+        let bytes = self.copied(name)?;
+        let view = MDBFileInfoView::from_data_and_header(self.alloc, header, bytes)?;
+        Ok(show_line(view.header(), out)?)
+    }
+
+    fn view_xorb(&self, name: &str, call: &[&str], out: &mut Vec<u8>) -> Result<(), Stop> {
+        let view = MDBXorbInfoView::new(self.copied(name)?)?;
+        show_xorb_view(&view, self.alloc, call, out)
+    }
+
+    fn view_xorb_under(&self, name: &str, record: &[&str], out: &mut Vec<u8>) -> Result<(), Stop> {
+        let header = parse_xorb(self.alloc, record, Form::Full)?.metadata;
+        let view = MDBXorbInfoView::from_data_and_header(header, self.copied(name)?)?;
+        Ok(show_line(view.header(), out)?)
     }
 
     fn copied(&self, name: &str) -> Result<Bytes, Stop> {
@@ -55,19 +63,30 @@ fn show_file_view(
     call: &[&str],
     out: &mut Vec<u8>,
 ) -> Result<(), Stop> {
-    let mut bytes = Vec::new(alloc);
     match call {
-        [] => show_line(view.header(), out)?,
-        ["bytes"] => show_bytes(alloc, view.bytes()?.as_slice(), out)?,
-        ["serialize", rows @ ("with" | "without")] => {
-            let written = view.serialize(&mut bytes, *rows == "with");
-            show_written(alloc, written, bytes.as_slice(), out)?;
-        }
-        ["to_info"] => show_line(&view.to_info(alloc)?, out)?,
-        ["copy"] => show_line(&view.try_clone()?.to_info(alloc)?, out)?,
-        _ => return Err(Stop::Unreadable),
+        [] => show_answer(Ok(*view.header()), out),
+        ["bytes"] => show_data(view, alloc, out),
+        ["serialize", "with"] => show_serialized(view, alloc, true, out),
+        ["serialize", "without"] => show_serialized(view, alloc, false, out),
+        ["to_info"] => show_answer(view.to_info(alloc), out),
+        ["copy"] => show_answer(view.try_clone()?.to_info(alloc), out),
+        _ => Err(Stop::Unreadable),
     }
-    Ok(())
+}
+
+fn show_data(view: &MDBFileInfoView, alloc: Global, out: &mut Vec<u8>) -> Result<(), Stop> {
+    Ok(show_bytes(alloc, view.bytes()?.as_slice(), out)?)
+}
+
+fn show_serialized(
+    view: &MDBFileInfoView,
+    alloc: Global,
+    verification: bool,
+    out: &mut Vec<u8>,
+) -> Result<(), Stop> {
+    let mut bytes = Vec::new(alloc);
+    let written = view.serialize(&mut bytes, verification);
+    show_written(alloc, written, bytes.as_slice(), out)
 }
 
 fn show_xorb_view(
@@ -76,26 +95,39 @@ fn show_xorb_view(
     call: &[&str],
     out: &mut Vec<u8>,
 ) -> Result<(), Stop> {
-    let mut bytes = Vec::new(alloc);
     match call {
-        [] => show_line(view.header(), out)?,
-        ["serialize"] => {
-            let written = view.serialize(&mut bytes);
-            show_written(alloc, written, bytes.as_slice(), out)?;
-        }
-        ["mark", index] => {
-            let marked = parse_u64(index)?;
-            let mark = |index: usize, chunk: XorbChunkSequenceEntry| {
-                chunk.with_global_dedup_flag(index as u64 == marked)
-            };
-            let count = view.serialize_with_chunk_rewrite(&mut bytes, mark)?;
-            show_written(alloc, Ok(count), bytes.as_slice(), out)?;
-        }
-        ["to_info"] => show_line(&view.to_info(alloc)?, out)?,
-        ["copy"] => show_line(&view.try_clone()?.to_info(alloc)?, out)?,
-        _ => return Err(Stop::Unreadable),
+        [] => show_answer(Ok(*view.header()), out),
+        ["serialize"] => show_serialized_xorb(view, alloc, out),
+        ["mark", index] => show_marked(view, alloc, parse_u64(index)?, out),
+        ["to_info"] => show_answer(view.to_info(alloc), out),
+        ["copy"] => show_answer(view.try_clone()?.to_info(alloc), out),
+        _ => Err(Stop::Unreadable),
     }
-    Ok(())
+}
+
+fn show_serialized_xorb(
+    view: &MDBXorbInfoView,
+    alloc: Global,
+    out: &mut Vec<u8>,
+) -> Result<(), Stop> {
+    let mut bytes = Vec::new(alloc);
+    let written = view.serialize(&mut bytes);
+    show_written(alloc, written, bytes.as_slice(), out)
+}
+
+// Serializes a xorb with the mark on one chunk, by its index.
+fn show_marked(
+    view: &MDBXorbInfoView,
+    alloc: Global,
+    marked: u64,
+    out: &mut Vec<u8>,
+) -> Result<(), Stop> {
+    let mut bytes = Vec::new(alloc);
+    let mark = |index: usize, chunk: XorbChunkSequenceEntry| {
+        chunk.with_global_dedup_flag(index as u64 == marked)
+    };
+    let count = view.serialize_with_chunk_rewrite(&mut bytes, mark)?;
+    show_written(alloc, Ok(count), bytes.as_slice(), out)
 }
 
 // Prints the count that a call returned, and the bytes that it wrote, also if it failed.

@@ -1,10 +1,9 @@
 //! Commands that read buffers through devices, and write another through one.
 
-use crate::fields::show_info;
-use crate::reading::info_of;
+use crate::reading::{info_of, show_info};
 use crate::runs::Run;
 use crate::stop::Stop;
-use script_lines::words::{parse_flags, parse_key, parse_u64};
+use script_lines::command::{Command, parse_export};
 use std::alloc::{AllocError, Global};
 use std::io::Write;
 use xet_core_structures::set_operations::{shard_set_difference, shard_set_union};
@@ -36,30 +35,33 @@ impl Run<'_> {
     /// before, by a source that does not fail, but not for `export_streaming ..` and
     /// `drop_streaming ..`.
     pub fn export(&mut self, words: &[&str], out: &mut Vec<u8>) -> Result<(), Stop> {
-        let [command, _, _, key, now, valid, parts] = words else {
+        let [command, arguments @ ..] = words else {
             return Err(Stop::Unreadable);
         };
-        let key = parse_key(key)?;
-        let now = parse_u64(now)?;
-        let valid = parse_u64(valid)?;
-        let [files, xorb_table, chunk_table] = parse_flags(parts, b"fxc")?;
+        let has_info = matches!(*command, "export" | "drop");
+        let aux_ext = matches!(*command, "export" | "export_streaming");
+        let Command::Export { export, .. } = parse_export(aux_ext, arguments)? else {
+            return Err(Stop::Unreadable);
+        };
+        let parts = export.parts;
         macro_rules! exported {
             ($call:ident $(, $info:expr)?) => {
                 MDBShardInfo::$call(
-                    $($info,)? self.alloc, &mut self.first, &mut self.output, key, now, valid,
-                    files, xorb_table, chunk_table,
+                    $($info,)? self.alloc, &mut self.first, &mut self.output, export.key,
+                    export.now, export.valid_seconds, parts.files, parts.xorb_table,
+                    parts.chunk_table,
                 )
             };
         }
-        let info = match *command {
-            "export" | "drop" => Some(info_of(self.alloc, self.first.bytes)?),
-            _ => None,
+        let info = match has_info {
+            true => Some(info_of(self.alloc, self.first.bytes)?),
+            false => None,
         };
-        let size = match (*command, &info) {
-            ("export", Some(info)) => exported!(export_as_keyed_shard, info),
-            (_, Some(info)) => exported!(export_as_keyed_shard_without_aux, info),
-            ("export_streaming", None) => exported!(export_as_keyed_shard_streaming),
-            (_, None) => exported!(export_as_keyed_shard_streaming_without_aux),
+        let size = match (&info, aux_ext) {
+            (Some(info), true) => exported!(export_as_keyed_shard, info),
+            (Some(info), false) => exported!(export_as_keyed_shard_without_aux, info),
+            (None, true) => exported!(export_as_keyed_shard_streaming),
+            (None, false) => exported!(export_as_keyed_shard_streaming_without_aux),
         }?;
         writeln!(out, "{size}")?;
         Ok(())

@@ -3,5 +3,4 @@ pub mod Lines
 pub mod Merging
 pub mod Naming
 pub mod Printed
-pub mod Trees
 pub mod Writing

@@ -12,8 +12,8 @@ use Rattle.xet_core_structures.specs.declared.set_operations.MergePlan.TheVarian
 use Rattle.xet_core_structures.specs.TwoShards.ByteResults.{UnitesBytes, BytesRefusal}
 use Rattle.shardtool.specs.declared.stop.Stop.{Stop}
 use Rattle.shardtool.specs.declared.stop.Stop.TheVariants.{Refused, Unreadable, Failed}
-use Rattle.shardtool.specs.declared.tree.NameTree.{NameTree}
-use Rattle.shardtool.specs.declared.tree.NameTree.TheVariants.{Name, Both'}
+use Rattle.script_lines.specs.declared.tree.NameTree.{NameTree}
+use Rattle.script_lines.specs.declared.tree.NameTree.TheVariants.{Name, Both'}
 
 -- the bytes under each name, if there are any
 abbrev pub Buffers : Type 0

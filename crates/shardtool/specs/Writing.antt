@@ -3,8 +3,8 @@ use Rattle.std.specs.Prelude.{ℕ, List, Option, IsTrue}
 use Rattle.xet_core_structures.specs.Layout.{layout, layout_in}
 use Rattle.xet_core_structures.specs.Shard.{Shard, has_aux_rows}
 use Rattle.xet_core_structures.specs.Version.{version_of}
-use Rattle.shardtool.specs.declared.write.Version.{Version}
-use Rattle.shardtool.specs.declared.write.Version.TheVariants.{V2, V3}
+use Rattle.script_lines.specs.declared.command.Version.{Version}
+use Rattle.script_lines.specs.declared.command.Version.TheVariants.{V2, V3}
 
 -- the bytes of a shard in a version, with an expiry or none
 abbrev pub layout_for : Version → Shard → Option ℕ → List ℕ

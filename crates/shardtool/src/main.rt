@@ -2,14 +2,12 @@
 //! standard output, and returns an exit status that says how the script ended.
 #![tactic(auto)]
 
-mod command;
 mod merge;
 mod print_run;
 mod run;
 mod stop;
 #[cfg(test)]
 mod tests;
-mod tree;
 mod workspace;
 mod write;
 

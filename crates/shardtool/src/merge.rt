@@ -4,7 +4,7 @@ ghost use Rattle.std.specs.Prelude.{map, MatchResult, IsErrAnd};
 ghost use Rattle.shardtool.specs.Merging.{bytes_under, HasUnknown, StopsAtUnknown, MergesTo, MergeStops, AddsInputs, IsPlanOf, PlanStops};
 
 use crate::stop::Stop;
-use crate::tree::NameTree;
+use script_lines::tree::NameTree;
 use std::alloc::Global;
 use std::collections::BTreeMap;
 use xet_core_structures::set_operations::{MergePlan, shard_union_tree};

@@ -3,7 +3,6 @@
 
 use crate::run::run_script;
 use script_lines::refusal::Refusal;
-use std::alloc::Global;
 use std::io::{Read, Write};
 use std::process::Abort;
 use std::test::Fail;

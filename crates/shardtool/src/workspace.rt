@@ -13,8 +13,8 @@ mod buffers;
 mod printing;
 mod shards;
 
-use crate::command::{Command, parse_line};
 use crate::stop::Stop;
+use script_lines::command::{Command, parse_line};
 use script_lines::lines::without_end;
 use std::alloc::Global;
 use std::collections::BTreeMap;

@@ -4,18 +4,11 @@ ghost use Rattle.std.specs.Prelude.{◌≡◌, ◌⊎◌, IfOk, IfErr, IsErrOf};
 ghost use Rattle.xet_core_structures.specs.Errors.{IsWriteError};
 ghost use Rattle.shardtool.specs.Writing.{layout_for, HasNoLayout};
 
+use script_lines::command::Version;
 use std::alloc::Global;
 use xet_core_structures::error::{CoreError, Result};
 use xet_core_structures::shard_format::MDBShardInfo;
 use xet_core_structures::shard_in_memory::MDBInMemoryShard;
-
-/// The version of the format that a shard is written in.
-#[derive(Clone, Copy)]
-pub enum Version {
-    /// It has no auxiliary rows.
-    V2,
-    V3,
-}
 
 /// The bytes of a shard in a version. The expiry is a timestamp in seconds, or none.
 ///

@@ -10,8 +10,9 @@ ghost use Rattle.shardtool.specs.Merging.{bytes_under, HasUnknown, StopsAtUnknow
 use super::Workspace;
 use crate::merge::merge_buffers;
 use crate::stop::Stop;
-use crate::tree::NameTree;
-use crate::write::{Version, written_bytes};
+use crate::write::written_bytes;
+use script_lines::command::Version;
+use script_lines::tree::NameTree;
 use shard_bytes::combine::{Operation, combine_bytes};
 use shard_bytes::export::{Export, export_bytes};
 use shard_bytes::minimal::{Subset, minimal_bytes, subset_bytes};

@@ -3,9 +3,9 @@ use Rattle.std.proofs.Common.{◌≡◌, inl, inr, ℕ, ◌-◌, ◌<◌, List, 
 use Rattle.std.specs.Borrow.{Bor}
 use Rattle.std.proofs.lemmas.List.{append_assoc}
 use Rattle.script_lines.specs.Words.{IsName, IsNameByte}
-use Rattle.shardtool.specs.declared.tree.NameTree.{NameTree}
-use Rattle.shardtool.specs.declared.tree.NameTree.TheVariants.{Name, Both'}
-use Rattle.shardtool.specs.Trees.{words_of_line, IsTree}
+use Rattle.script_lines.specs.declared.tree.NameTree.{NameTree}
+use Rattle.script_lines.specs.declared.tree.NameTree.TheVariants.{Name, Both'}
+use Rattle.script_lines.specs.Trees.{words_of_line, IsTree}
 
 abbrev pub opening : List ℕ
 opening = 40 ∷ []

@@ -1,8 +1,8 @@
 use Rattle.std.proofs.Common.{rules, ◌≡◌, ◌∷◌, ◌++◌, ℕ, List, map, Bor, sym, ap, ◌∙◌, arith}
 use Rattle.std.proofs.lemmas.Result.{err_from_is_err_and}
-use Rattle.shardtool.specs.Trees.{words_of_line}
-use Rattle.shardtool.proofs.Trees.{opening, closing, pair_after, name_before, some_words, pair_found}
-use Rattle.shardtool.proofs.tree.+parse_front.Goals as goal
+use Rattle.script_lines.specs.Trees.{words_of_line}
+use Rattle.script_lines.proofs.Trees.{opening, closing, pair_after, name_before, some_words, pair_found}
+use Rattle.script_lines.proofs.tree.+parse_front.Goals as goal
 
 pub returns-in_default-clause-every : goal.returns-in_default-clause-every
 returns-in_default-clause-every t c = λ tree rest is same. absurd (some_words c.args.words.now tree rest c.in_default.ensures.cases same)

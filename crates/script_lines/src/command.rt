@@ -1,15 +1,14 @@
-//! The commands of a script, parsed from its lines.
+//! The commands of scripts, parsed from lines or their words.
 
 ghost use Rattle.std.specs.Prelude.{IfOk, IsOkAnd, IsNone, IsErrOf, IsUtf8};
 ghost use Rattle.script_lines.specs.Words.{IsSkipped};
 
+use crate::files_and_xorbs::{parse_file, parse_xorb};
+use crate::lines::{is_skipped, split_words};
+use crate::ranges::{ByteRange, parse_range};
+use crate::records::{Form, parse_hashes};
 use crate::tree::{NameTree, parse_tree};
-use crate::write::Version;
-use script_lines::files_and_xorbs::{parse_file, parse_xorb};
-use script_lines::lines::{is_skipped, split_words};
-use script_lines::ranges::{ByteRange, parse_range};
-use script_lines::records::{Form, parse_hashes, parse_listed};
-use script_lines::words::{
+use crate::words::{
     ParseError, parse_flags, parse_hash, parse_key, parse_name, parse_optional_u64, parse_u64,
     parse_u64_or_dash,
 };
@@ -20,6 +19,14 @@ use std::alloc::Global;
 use xet_core_structures::file_structs::{KeptParts, MDBFileInfo};
 use xet_core_structures::merklehash::MerkleHash;
 use xet_core_structures::xorb_structs::MDBXorbInfo;
+
+/// The version of the format that a shard is written in.
+#[derive(Clone, Copy)]
+pub enum Version {
+    /// It has no auxiliary rows.
+    V2,
+    V3,
+}
 
 /// A command. Its names are those in the line; whether they exist is not checked here.
 #[derive(Drop)]
@@ -106,8 +113,8 @@ pub enum Command<'a> {
     },
 }
 
-/// The command of a line without its line end, or `None` for an empty line or one that begins with
-/// `#`. `Unreadable` if the line is not UTF-8 or not a command.
+/// The command of a line without its line end, its records in the plain form, or `None` for an
+/// empty line or one that begins with `#`. `Unreadable` if the line is not UTF-8 or not a command.
 pub fn parse_line(alloc: Global, line: &[u8]) -> Result<Option<Command<'_>>, ParseError>
     ensures skipped { IsSkipped line.now → IsOkAnd result IsNone }
     ensures others { IfOk result (λ command. IsNone command → IsSkipped line.now) }
@@ -121,18 +128,26 @@ pub fn parse_line(alloc: Global, line: &[u8]) -> Result<Option<Command<'_>>, Par
         return Err(ParseError::Unreadable);
     };
     let words = split_words(alloc, text)?;
-    let command = parse_words(alloc, words.as_slice())?;
-    Ok(Some(command))
+    match parse_words(alloc, words.as_slice(), Form::Plain)? {
+        None => Err(ParseError::Unreadable),
+        command => Ok(command),
+    }
 }
 
-fn parse_words<'a>(alloc: Global, words: &[&'a str]) -> Result<Command<'a>, ParseError> {
+/// The command of the words of a line, its records read in a form. `None` if the first word is no
+/// command, `Unreadable` if the others are not what it takes.
+pub fn parse_words<'a>(
+    alloc: Global,
+    words: &[&'a str],
+    form: Form,
+) -> Result<Option<Command<'a>>, ParseError> {
     let Some((command, arguments)) = words.split_first() else {
-        return Err(ParseError::Unreadable);
+        return Ok(None);
     };
-    match *command {
+    let command = match *command {
         "shard" => parse_shard(arguments),
-        "xorb" => parse_xorb_line(alloc, arguments),
-        "file" => parse_file_line(alloc, arguments),
+        "xorb" => parse_xorb_line(alloc, arguments, form),
+        "file" => parse_file_line(alloc, arguments, form),
         "write" => parse_write(Version::V3, arguments),
         "write2" => parse_write(Version::V2, arguments),
         "union" => parse_combine(Operation::Union, arguments),
@@ -148,8 +163,9 @@ fn parse_words<'a>(alloc: Global, words: &[&'a str]) -> Result<Command<'a>, Pars
         "query" => parse_query(alloc, arguments),
         "size" => parse_size(arguments),
         "hex" => parse_hex(arguments),
-        _ => Err(ParseError::Unreadable),
-    }
+        _ => return Ok(None),
+    };
+    Ok(Some(command?))
 }
 
 fn parse_shard<'a>(arguments: &[&'a str]) -> Result<Command<'a>, ParseError> {
@@ -160,21 +176,29 @@ fn parse_shard<'a>(arguments: &[&'a str]) -> Result<Command<'a>, ParseError> {
     Ok(Command::Shard { shard })
 }
 
-fn parse_xorb_line<'a>(alloc: Global, arguments: &[&'a str]) -> Result<Command<'a>, ParseError> {
+fn parse_xorb_line<'a>(
+    alloc: Global,
+    arguments: &[&'a str],
+    form: Form,
+) -> Result<Command<'a>, ParseError> {
     let [shard, record @ ..] = arguments else {
         return Err(ParseError::Unreadable);
     };
     let shard = parse_name(shard)?;
-    let xorb = parse_xorb(alloc, record, Form::Plain)?;
+    let xorb = parse_xorb(alloc, record, form)?;
     Ok(Command::Xorb { shard, xorb })
 }
 
-fn parse_file_line<'a>(alloc: Global, arguments: &[&'a str]) -> Result<Command<'a>, ParseError> {
+fn parse_file_line<'a>(
+    alloc: Global,
+    arguments: &[&'a str],
+    form: Form,
+) -> Result<Command<'a>, ParseError> {
     let [shard, record @ ..] = arguments else {
         return Err(ParseError::Unreadable);
     };
     let shard = parse_name(shard)?;
-    let file = parse_file(alloc, record, Form::Plain)?;
+    let file = parse_file(alloc, record, form)?;
     Ok(Command::File { shard, file })
 }
 
@@ -214,7 +238,8 @@ fn parse_merge<'a>(alloc: Global, arguments: &[&'a str]) -> Result<Command<'a>, 
     Ok(Command::Merge { buffer, tree })
 }
 
-fn parse_export<'a>(aux_ext: bool, arguments: &[&'a str]) -> Result<Command<'a>, ParseError> {
+/// The command of the words behind `export`, or without auxiliary rows behind `drop`.
+pub fn parse_export<'a>(aux_ext: bool, arguments: &[&'a str]) -> Result<Command<'a>, ParseError> {
     let [from, buffer, key, now, valid, parts] = arguments else {
         return Err(ParseError::Unreadable);
     };
@@ -267,16 +292,23 @@ fn parse_subset<'a>(alloc: Global, arguments: &[&'a str]) -> Result<Command<'a>,
     let buffer = parse_name(buffer)?;
     let now = parse_u64(now)?;
     let expiry = parse_u64_or_dash(expiry)?;
-    let kept = match parse_listed(alloc, list)? {
-        Some(hashes) => KeptXorbs::Listed(hashes),
-        None => KeptXorbs::All,
-    };
+    let kept = parse_kept(alloc, list)?;
     let subset = Subset { now, expiry, kept };
     Ok(Command::Subset {
         from,
         buffer,
         subset,
     })
+}
+
+/// The xorbs of a list: all if it is `*`, else those with its hashes. `Unreadable` if it is empty or
+/// has another word that is not a hash.
+pub fn parse_kept(alloc: Global, list: &[&str]) -> Result<KeptXorbs, ParseError> {
+    match list {
+        [] => Err(ParseError::Unreadable),
+        ["*"] => Ok(KeptXorbs::All),
+        list => Ok(KeptXorbs::Listed(parse_hashes(alloc, list)?)),
+    }
 }
 
 fn parse_eligible<'a>(arguments: &[&'a str]) -> Result<Command<'a>, ParseError> {

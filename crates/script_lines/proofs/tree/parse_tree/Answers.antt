@@ -1,9 +1,9 @@
 use Rattle.std.proofs.Common.{rules, [], sym, ◌∙◌}
 use Rattle.std.proofs.lemmas.List.{append-nil}
 use Rattle.std.proofs.lemmas.Result.{err_from_is_err_and}
-use Rattle.shardtool.specs.Trees.{words_of_line}
-use Rattle.shardtool.proofs.Trees.{none_if_no_words}
-use Rattle.shardtool.proofs.tree.parse_tree.Goals as goal
+use Rattle.script_lines.specs.Trees.{words_of_line}
+use Rattle.script_lines.proofs.Trees.{none_if_no_words}
+use Rattle.script_lines.proofs.tree.parse_tree.Goals as goal
 
 pub returns-in_err-tree-clause-every : goal.returns-in_err-tree-clause-every
 returns-in_err-tree-clause-every c = λ tree is same.

@@ -1,10 +1,10 @@
 //! The trees of `merge` lines.
 
 ghost use Rattle.std.specs.Prelude.{◌≡◌, ◌∷◌, ◌++◌, ℕ, List, [], map, IfOk, IfErr, IsOkAnd, MatchResult};
-ghost use Rattle.shardtool.specs.declared.tree.NameTree.{NameTree as Tree};
-ghost use Rattle.shardtool.specs.Trees.{words_of_line, IsTree};
+ghost use Rattle.script_lines.specs.declared.tree.NameTree.{NameTree as Tree};
+ghost use Rattle.script_lines.specs.Trees.{words_of_line, IsTree};
 
-use script_lines::words::{ParseError, parse_name};
+use crate::words::{ParseError, parse_name};
 use std::alloc::Global;
 
 /// A tree of unions, with the names of buffers at its leaves.

@@ -1,15 +1,17 @@
 //! The fields of a shard's header and footer, by name.
 
-use crate::show::{Show, show_joined, show_key, show_line};
-use crate::stop::Stop;
+use crate::show::{Show, show_joined, show_key};
 use std::io;
 use std::io::Write;
 use xet_core_structures::merklehash::HMACKey;
-use xet_core_structures::shard_format::{MDBShardFileFooter, MDBShardFileHeader, MDBShardInfo};
+use xet_core_structures::shard_format::{MDBShardFileFooter, MDBShardFileHeader};
 
-/// A field, as `NAME=VALUE`.
+/// A field, which is printed as `NAME=VALUE`.
 #[derive(Clone, Copy)]
-struct Field(&'static str, Value);
+pub struct Field {
+    pub name: &'static str,
+    value: Value,
+}
 
 #[derive(Clone, Copy)]
 enum Value {
@@ -21,9 +23,9 @@ enum Value {
 
 impl Show for Field {
     fn show(&self, out: &mut Vec<u8>) -> io::Result<()> {
-        let Field(name, value) = *self;
+        let name = self.name;
         write!(out, "{name}=")?;
-        match value {
+        match self.value {
             Value::Number(number) => write!(out, "{number}"),
             Value::Numbers(numbers) => show_numbers(numbers, out),
             Value::Key(key) => show_key(key, out),
@@ -46,37 +48,33 @@ fn show_tag(tag: [u8; 32], out: &mut Vec<u8>) -> io::Result<()> {
 // All fields are printed on one line.
 impl Show for MDBShardFileHeader {
     fn show(&self, out: &mut Vec<u8>) -> io::Result<()> {
-        show_joined(
-            "",
-            &fields_of(self, &MDBShardFileFooter::default())[..3],
-            " ",
-            out,
-        )
+        show_joined("", &header_fields(self), " ", out)
     }
 }
 
 impl Show for MDBShardFileFooter {
     fn show(&self, out: &mut Vec<u8>) -> io::Result<()> {
-        show_joined(
-            "",
-            &fields_of(&MDBShardFileHeader::default(), self)[3..],
-            " ",
-            out,
-        )
+        show_joined("", &footer_fields(self), " ", out)
     }
 }
 
-// The three fields of a header, and those of a footer, in their order.
-fn fields_of(header: &MDBShardFileHeader, footer: &MDBShardFileFooter) -> [Field; 20] {
+/// The fields of a header, in their order.
+pub fn header_fields(header: &MDBShardFileHeader) -> [Field; 3] {
+    [
+        named("tag", Value::Tag(header.tag)),
+        named("header_version", Value::Number(header.version)),
+        named("footer_size", Value::Number(header.footer_size)),
+    ]
+}
+
+/// The fields of a footer, in their order.
+pub fn footer_fields(footer: &MDBShardFileFooter) -> [Field; 17] {
     macro_rules! number {
         ($name:ident) => {
-            Field(stringify!($name), Value::Number(footer.$name))
+            named(stringify!($name), Value::Number(footer.$name))
         };
     }
     [
-        Field("tag", Value::Tag(header.tag)),
-        Field("header_version", Value::Number(header.version)),
-        Field("footer_size", Value::Number(header.footer_size)),
         number!(version),
         number!(file_info_offset),
         number!(xorb_info_offset),
@@ -86,13 +84,13 @@ fn fields_of(header: &MDBShardFileHeader, footer: &MDBShardFileFooter) -> [Field
         number!(xorb_lookup_num_entry),
         number!(chunk_lookup_offset),
         number!(chunk_lookup_num_entry),
-        Field(
+        named(
             "chunk_hash_hmac_key",
             Value::Key(footer.chunk_hash_hmac_key),
         ),
         number!(shard_creation_timestamp),
         number!(shard_key_expiry),
-        Field("_buffer", Value::Numbers(footer._buffer)),
+        named("_buffer", Value::Numbers(footer._buffer)),
         number!(stored_bytes_on_disk),
         number!(materialized_bytes),
         number!(stored_bytes),
@@ -100,22 +98,6 @@ fn fields_of(header: &MDBShardFileHeader, footer: &MDBShardFileFooter) -> [Field
     ]
 }
 
-/// Prints the fields that are named, on one line, or if none is all fields of the header on a line
-/// and all fields of the footer on the next. `Unreadable` if a field has another name.
-pub fn show_info(info: &MDBShardInfo, names: &[&str], out: &mut Vec<u8>) -> Result<(), Stop> {
-    if names.is_empty() {
-        show_line(&info.header, out)?;
-        show_line(&info.metadata, out)?;
-        return Ok(());
-    }
-    let fields = fields_of(&info.header, &info.metadata);
-    let mut before = "";
-    for name in names {
-        write!(out, "{before}")?;
-        let field = fields.iter().find(|field| field.0 == *name);
-        field.ok_or(Stop::Unreadable)?.show(out)?;
-        before = " ";
-    }
-    writeln!(out)?;
-    Ok(())
+fn named(name: &'static str, value: Value) -> Field {
+    Field { name, value }
 }

@@ -1,15 +1,15 @@
 //! How values are printed: short, and in the form in which commands take them.
 
-use script_lines::ranges::hex_digits;
+use crate::ranges::hex_digits;
 use std::alloc::Global;
-use std::io;
-use std::io::Write;
+use std::io::{self, Write};
 use std::rc::Rc;
 use xet_core_structures::file_structs::{
     FileAuxExt, FileDataSequenceEntry, FileDataSequenceHeader, FileMetadataExt,
     FileVerificationEntry, MDBFileInfo,
 };
 use xet_core_structures::merklehash::{HMACKey, MerkleHash};
+use xet_core_structures::set_operations::{Disagreement, RecordHash};
 use xet_core_structures::xorb_structs::{
     MDBXorbInfo, XorbChunkSequenceEntry, XorbChunkSequenceHeader,
 };
@@ -290,5 +290,34 @@ impl Show for MDBXorbInfo {
     fn show(&self, out: &mut Vec<u8>) -> io::Result<()> {
         show_xorb_header(&self.metadata, self.chunks.len(), out)?;
         show_joined(" ", self.chunks.as_slice(), " ", out)
+    }
+}
+
+// A file's hash, the bytes of its segments and of its verification rows, and its SHA-256.
+impl Show
+    for (
+        MerkleHash,
+        (u64, u64),
+        Option<(u64, u64)>,
+        Option<MerkleHash>,
+    ) {
+    fn show(&self, out: &mut Vec<u8>) -> io::Result<()> {
+        let (hash, segments, verification, sha256) = self;
+        hash.show(out)?;
+        show_joined(" ", &[Some(*segments), *verification], " ", out)?;
+        show_joined(" ", &[*sha256], "", out)
+    }
+}
+
+// Whose the hash is, the hash, and the numbers of the two buffers.
+impl Show for Disagreement {
+    fn show(&self, out: &mut Vec<u8>) -> io::Result<()> {
+        let (kind, hash) = match self.record_hash {
+            RecordHash::File(hash) => ("file ", hash),
+            RecordHash::Xorb(hash) => ("xorb ", hash),
+        };
+        out.write_all(kind.as_bytes())?;
+        hash.show(out)?;
+        write!(out, " {} {}", self.first, self.second)
     }
 }

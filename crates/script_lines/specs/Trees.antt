@@ -1,8 +1,8 @@
 -- The words of trees of names.
 use Rattle.std.specs.Prelude.{ℕ, ◌-◌, ◌<◌, List, [], ◌∷◌, ◌++◌}
 use Rattle.script_lines.specs.Words.{IsName}
-use Rattle.shardtool.specs.declared.tree.NameTree.{NameTree}
-use Rattle.shardtool.specs.declared.tree.NameTree.TheVariants.{Name, Both'}
+use Rattle.script_lines.specs.declared.tree.NameTree.{NameTree}
+use Rattle.script_lines.specs.declared.tree.NameTree.TheVariants.{Name, Both'}
 
 -- a name, or the words of two trees in parentheses
 abbrev pub words_of_line : NameTree → List (List ℕ)
