@@ -27,35 +27,10 @@ pub fn inspect<R: Files + Input + Print + Eprint + AllocGlobal>(
         Err(error) => return failed(rt, &Failure::on_output(Fault::from(error))),
     };
     let mut tally = Tally::new(rt.alloc());
-    let mut status = if inputs.failed {
-        Status::Failed
-    } else {
-        Status::Done
+    let status = match inspect_all(rt, inputs, inquiry, style, &mut tally, &mut output) {
+        Ok(status) => status,
+        Err(status) => return status,
     };
-    // Whether all lookups so far found nothing.
-    let mut nothing = !inputs.failed && inquiry.looks_up();
-    for file in &inputs.paths {
-        let layout = Layout {
-            style,
-            shard: if inputs.named {
-                Some(file.as_str())
-            } else {
-                None
-            },
-        };
-        match inspect_file(rt, file.as_str(), inquiry, layout, &mut tally, &mut output) {
-            Ok(Answer::FoundNothing) => continue,
-            Ok(Answer::Printed) => {}
-            Ok(Answer::FoundProblems) => status = status.and_found(),
-            // Whoever reads has seen enough.
-            Err(failure) if failure.is_closed_pipe() => return status,
-            Err(failure) if failure.subject == Subject::StandardOutput => {
-                return failed(rt, &failure);
-            }
-            Err(failure) => status = failed(rt, &failure),
-        }
-        nothing = false;
-    }
     let end = print_end(
         rt.alloc(),
         inquiry,
@@ -65,10 +40,49 @@ pub fn inspect<R: Files + Input + Print + Eprint + AllocGlobal>(
         &mut output,
     );
     match end.and_then(|()| output.flush()) {
-        Ok(()) if nothing => Status::Nothing,
         Ok(()) => status,
         Err(error) if error.kind() == ErrorKind::BrokenPipe => status,
         Err(error) => failed(rt, &Failure::on_output(Fault::from(error))),
+    }
+}
+
+// How the run ends once the rest is printed. The error is how it ends at once.
+fn inspect_all<R: Files + Input + Eprint + AllocGlobal, W: Write>(
+    rt: &R,
+    inputs: &Inputs,
+    inquiry: &Inquiry,
+    style: Style,
+    tally: &mut Tally,
+    output: &mut W,
+) -> Result<Status, Status> {
+    let mut status = match inputs.failed {
+        true => Status::Failed,
+        false => Status::Done,
+    };
+    // Whether all lookups so far found nothing.
+    let mut nothing = !inputs.failed && inquiry.looks_up();
+    for file in &inputs.paths {
+        let shard = match inputs.named {
+            true => Some(file.as_str()),
+            false => None,
+        };
+        let layout = Layout { style, shard };
+        match inspect_file(rt, file.as_str(), inquiry, layout, tally, output) {
+            Ok(Answer::FoundNothing) => continue,
+            Ok(Answer::Printed) => {}
+            Ok(Answer::FoundProblems) => status = status.and_found(),
+            // Whoever reads has seen enough.
+            Err(failure) if failure.is_closed_pipe() => return Err(status),
+            Err(failure) if failure.subject == Subject::StandardOutput => {
+                return Err(failed(rt, &failure));
+            }
+            Err(failure) => status = failed(rt, &failure),
+        }
+        nothing = false;
+    }
+    match nothing {
+        true => Ok(Status::Nothing),
+        false => Ok(status),
     }
 }
 
