@@ -12,6 +12,7 @@ VERSIONS = {
     "bindings/c/xet.h": r'^#define XET_VERSION "(.*)"$',
     "bindings/python/xet_shards/__init__.py": r'^__version__ = "(.*)"$',
     "bindings/rust/Cargo.toml": r'^version = "(.*)"$',
+    "crates/mdb/src/command_line.rt": r'^const VERSION: &str = "(\S+), ',
     "diff/Cargo.toml": r'^version = "(.*)"$',
 }
 

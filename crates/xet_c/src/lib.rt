@@ -3,7 +3,8 @@
 //! handle and nothing to free. `bindings/c/xet.h` declares them.
 //!
 //! A function returns 0, or the number of an error: 1 to 18 are the variants of `CoreError` in
-//! their order, and 19 means that the output does not fit the memory that was given.
+//! their order, 19 means that the output does not fit the memory that was given, and 20 that shards
+//! that have to agree do not.
 #![tactic(auto)]
 
 mod agree;

@@ -1,7 +1,6 @@
 -- Trees of unions.
 
 pub mod MergeTrees
-pub mod MergesByIndex
 pub mod MappedJoins
 pub mod TreeXorbs
 pub mod TreesOfExports

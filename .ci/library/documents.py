@@ -1,0 +1,53 @@
+"""Checks of what documents say of the sources, where it can be compared as text."""
+import glob
+import re
+
+from .common import TOP, read
+
+# The pages that quote contracts.
+QUOTING = ("README.md", "docs/HEADLINE.md", "crates/xet_core_structures/CALLING.md")
+
+
+def flat(text):
+    return re.sub(r"\s+", "", text)
+
+
+def used():
+    """Returns the crates of crates.txt, and what each uses."""
+    lines = re.findall(r"^(\w+)(?: staticlib)?:(.*)$", read(f"{TOP}/crates.txt"), re.M)
+    return {name: set(libraries.split()) for name, libraries in lines}
+
+
+def check_quotes():
+    """Each contract that a page quotes stands in a source, word by word."""
+    sources = "".join(flat(read(it)) for it in glob.glob(f"{TOP}/crates/*/src/**/*.rt", recursive=True))
+    for page in QUOTING:
+        for kind, block in re.findall(r"^```(\w*)\n(.*?)^```", read(f"{TOP}/{page}"), re.S | re.M):
+            if kind not in ("", "rust"):
+                continue
+            for item in block.split("\n\n"):
+                lines = "\n".join(it for it in item.split("\n") if not it.lstrip().startswith("///"))
+                # A quote may leave clauses out, so each is looked for by itself.
+                for part in re.split(r"(?=\n +ensures )", lines) if "ensures" in item else ():
+                    if flat(part) not in sources:
+                        return f"{page} quotes what is in no source: {part.strip()[:80]}"
+    return None
+
+
+def check_crates():
+    """The table of crates in docs/ARCHITECTURE.md says what crates.txt does."""
+    page = read(f"{TOP}/docs/ARCHITECTURE.md")
+    table = page[page.index("| Crate | Uses |") : page.index("`crates.txt` lists")]
+    rows = re.findall(r"^\| `(\w+)` \| (.*?) \| .* \|$", table, re.M)
+    said = {name: set(re.findall(r"`(\w+)`", libraries)) for name, libraries in rows}
+    wrong = sorted(name for name, libraries in used().items() if said.get(name) != libraries)
+    return f"docs/ARCHITECTURE.md says otherwise than crates.txt what these use: {', '.join(wrong)}" if wrong else None
+
+
+def check_trusted():
+    """docs/PROVED.md names each library of the toolchain that a crate uses."""
+    crates = used()
+    page = read(f"{TOP}/docs/PROVED.md")
+    page = page[page.index("## What is trusted") :]
+    lacking = sorted({it for names in crates.values() for it in names - set(crates) if f"`{it}`" not in page})
+    return f"docs/PROVED.md does not name as trusted: {', '.join(lacking)}" if lacking else None
